@@ -1,0 +1,5 @@
+pub mod Number
+pub mod Block
+pub mod Due
+pub mod Path
+pub mod Fault

@@ -1,0 +1,64 @@
+//! Blocks, and the list of blocks that a file has.
+ghost use Rattle.std.specs.Prelude.{◌≡◌, ◌++◌, ◌∷◌, [], OnOk, OnErr, IfOk};
+
+use crate::number::{BlockId, GenerationStamp, Length};
+use std::alloc::{AllocError, Global};
+use std::marker::Model;
+
+/// One block of a file, as the log names it.
+#[derive(Clone, Copy, Debug, PartialEq, Eq)]
+pub struct Block {
+    pub id: BlockId,
+    pub stamp: GenerationStamp,
+    pub len: Length,
+}
+
+/// Blocks in file order.
+#[derive(Drop)]
+pub struct Blocks {
+    items: Vec<Block>,
+}
+
+impl Model for Blocks {
+    ghost use Rattle.std.specs.Prelude.{List};
+    ghost use Rattle.nn_types.specs.declared.block.Block.{Block};
+
+    ghost Value = { List Block };
+
+    ghost view = { λ b. b.items.items };
+}
+
+impl Blocks {
+    /// No blocks, which takes no memory.
+    pub fn new(alloc: Global) -> Blocks
+        ensures { result ≡ [] }
+    {
+        Blocks {
+            items: Vec::new(alloc),
+        }
+    }
+
+    /// The blocks in file order.
+    pub fn as_slice(&self) -> &[Block]
+        ensures { result.now ≡ self.now }
+    {
+        &self.items
+    }
+
+    /// Adds a block at the end. After want of memory the list is as it was.
+    pub fn push(&mut self, block: Block) -> Result<(), AllocError>
+        ensures ok { OnOk result (self.new ≡ self.old ++ block ∷ []) }
+        ensures err { OnErr result (self.new ≡ self.old) }
+    {
+        self.items.push(block)?;
+        Ok(())
+    }
+
+    /// A second list of the same blocks.
+    pub fn copied(&self) -> Result<Blocks, AllocError>
+        ensures { IfOk result (λ list. list ≡ self.now) }
+    {
+        let items = self.items.clone()?;
+        Ok(Blocks { items })
+    }
+}

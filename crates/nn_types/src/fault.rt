@@ -1,0 +1,46 @@
+//! The number of every fault, in one table. A fault's `number()` and the definitions cite these names.
+
+/// A line is no JSON object.
+pub const NOT_JSON: u8 = 1;
+/// A key that the line needs is missing.
+pub const MISSING_FIELD: u8 = 2;
+/// A value is no whole number in range.
+pub const BAD_NUMBER: u8 = 3;
+/// The operation is unknown.
+pub const UNKNOWN_OP: u8 = 4;
+/// A text is no path.
+pub const BAD_PATH: u8 = 5;
+/// A line is longer than 65,536 bytes.
+pub const LINE_TOO_LONG: u8 = 6;
+/// The kind of a report is unknown.
+pub const UNKNOWN_KIND: u8 = 7;
+/// The input could not be read, or is longer than 16,777,216 bytes.
+pub const INPUT_FAULT: u8 = 8;
+
+/// The path is there already.
+pub const EXISTS: u8 = 21;
+/// The path, or a parent of it, is missing.
+pub const MISSING: u8 = 22;
+/// A parent of the path is a file.
+pub const NOT_DIRECTORY: u8 = 23;
+/// The path is a directory.
+pub const NOT_FILE: u8 = 24;
+/// The path is the root.
+pub const IS_ROOT: u8 = 25;
+/// A rename would put a path below itself.
+pub const INTO_ITSELF: u8 = 26;
+/// The file is closed.
+pub const NOT_OPEN: u8 = 27;
+/// The list does not have the ids of the file's blocks.
+pub const WRONG_BLOCKS: u8 = 28;
+/// A generation stamp is out of its range.
+pub const BAD_GENERATION: u8 = 29;
+/// A block id does not await, or was issued before.
+pub const BAD_BLOCK_ID: u8 = 30;
+/// A replication is outside 1 to 512.
+pub const BAD_REPLICATION: u8 = 31;
+
+/// Memory was refused.
+pub const MEMORY: u8 = 55;
+/// A transaction is not the next one.
+pub const DISORDER: u8 = 57;

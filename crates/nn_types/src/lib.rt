@@ -1,0 +1,22 @@
+//! The words that every crate of the standby speaks: numbers, paths, blocks, reports and events.
+//!
+//! Each type is seen by contracts as plain data: a number as a natural number below 2^63, a path as its
+//! list of names, a list of blocks as a list.
+#![tactic(auto)]
+
+mod block;
+mod event;
+pub mod fault;
+mod number;
+mod path;
+mod replica;
+mod report;
+mod status;
+
+pub use block::{Block, Blocks};
+pub use event::{Cause, Event};
+pub use number::{BlockId, GenerationStamp, Length, Replication, Txid};
+pub use path::{Path, PathFault, one_spelling, text_of};
+pub use replica::{Class, Replica};
+pub use report::{Kind, Message, Report};
+pub use status::{Status, due};

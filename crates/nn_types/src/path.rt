@@ -1,0 +1,196 @@
+//! Paths of the namespace, seen as lists of names.
+ghost use Rattle.std.specs.Prelude.{◌≡◌, List, ℕ, Some, None, IfOk, IsErrOf, string_bytes, map, true, false};
+ghost use Rattle.std.specs.List.{list_all};
+ghost use Rattle.nn_types.specs.Fault.{number_of};
+ghost use Rattle.nn_types.specs.Path.{is_name, is_name_byte, parts, path_of, path_text, joined, IsPath};
+
+use crate::fault;
+use std::alloc::{AllocError, AllocFailed, Global};
+use std::marker::Model;
+use thiserror::Error;
+
+/// The bytes that a name may have.
+const MAX_NAME_LEN: usize = 255;
+
+/// The names that a path may have.
+const MAX_NAMES: usize = 1000;
+
+/// The bytes that a path's text may have.
+const MAX_PATH_LEN: usize = 8000;
+
+/// An absolute path: its names from the root down. The root has none.
+#[derive(Drop)]
+pub struct Path {
+    names: Vec<String>,
+}
+
+impl Model for Path {
+    ghost use Rattle.std.specs.Prelude.{List, ℕ, map, string_bytes};
+    ghost use Rattle.nn_types.specs.Path.{IsPath};
+
+    ghost Value = { List (List ℕ) };
+
+    ghost view = { λ p. map string_bytes p.names.items };
+
+    ghost invariant = { λ p. IsPath (map string_bytes p.names.items) };
+}
+
+/// Why a text is not read as a path.
+#[derive(Debug, Drop, Error)]
+pub enum PathFault {
+    #[error("not a path")]
+    BadPath,
+    #[error("out of memory")]
+    OutOfMemory,
+}
+
+impl PathFault {
+    /// The fault's number.
+    pub fn number(&self) -> u8
+        ensures { result ≡ number_of self.now }
+    {
+        match self {
+            PathFault::BadPath => fault::BAD_PATH,
+            PathFault::OutOfMemory => fault::MEMORY,
+        }
+    }
+}
+
+impl From<AllocError> for PathFault {
+    ghost use Rattle.nn_types.specs.declared.path.PathFault.TheVariants.{OutOfMemory};
+
+    ghost from_gives = { λ _ e. e ≡ OutOfMemory };
+
+    fn from(_e: AllocError) -> PathFault {
+        PathFault::OutOfMemory
+    }
+}
+
+impl<T: Drop> From<AllocFailed<T>> for PathFault {
+    ghost use Rattle.nn_types.specs.declared.path.PathFault.TheVariants.{OutOfMemory};
+
+    ghost from_gives = { λ _ e. e ≡ OutOfMemory };
+
+    fn from(_e: AllocFailed<T>) -> PathFault {
+        PathFault::OutOfMemory
+    }
+}
+
+impl Path {
+    /// Reads a path: `/` is the root, and any other path is a slash and a name, repeated.
+    ///
+    /// A name has 1 to 255 bytes, holds no slash and no colon, and is neither `.` nor `..`. A path has at
+    /// most 1000 names and 8000 bytes. Time and memory are linear in the text.
+    pub fn parse(alloc: Global, text: &str) -> Result<Path, PathFault>
+        // What is read is a lawful path, and the text is its spelling.
+        ensures ok { IfOk result (λ p. IsPath p × (text.now ≡ path_text p)) }
+        ensures exact { IfOk result (λ p. path_of text.now ≡ Some p) }
+        // What spells a path is read.
+        ensures bad { IsErrOf result PathFault.BadPath → path_of text.now ≡ None }
+    {
+        if text.len() > MAX_PATH_LEN {
+            return Err(PathFault::BadPath);
+        }
+        let Some(rest) = text.strip_prefix('/') else {
+            return Err(PathFault::BadPath);
+        };
+        let names = names_between(alloc, rest)?;
+        if names.len() > MAX_NAMES {
+            return Err(PathFault::BadPath);
+        }
+        Ok(Path { names })
+    }
+
+    /// The names, from the root down.
+    pub fn names(&self) -> &[String]
+        ensures names { map string_bytes result.now ≡ self.now }
+        ensures lawful { IsPath self.now }
+    {
+        self.names.as_slice()
+    }
+
+    /// The names themselves.
+    pub fn into_names(self) -> Vec<String>
+        ensures names { map string_bytes result.items ≡ self }
+        ensures lawful { IsPath self }
+    {
+        let Path { names } = self;
+        names
+    }
+
+    /// The one text of the path.
+    pub fn to_text(&self, alloc: Global) -> Result<String, AllocError>
+        ensures text { IfOk result (λ s. string_bytes s ≡ path_text self.now) }
+        ensures lawful { IsPath self.now }
+    {
+        text_of(alloc, &self.names)
+    }
+}
+
+/// The text of a path with these names, which may go past the limits of a `Path`: a rename can move
+/// what lies below a directory there.
+pub fn text_of(alloc: Global, names: &[String]) -> Result<String, AllocError>
+    ensures { IfOk result (λ s. string_bytes s ≡ path_text (map string_bytes names.now)) }
+{
+    if names.is_empty() {
+        return String::from_str(alloc, "/");
+    }
+    joined(alloc, names)
+}
+
+/// Each lawful list of names is read from its text, and each text that is read is the text of the names
+/// that were read: a path has one spelling, and no text spells two paths.
+pub fn one_spelling()
+    ensures reads { (names : List (List ℕ)) → IsPath names → path_of (path_text names) ≡ Some names }
+    ensures spells { (text : List ℕ) (names : List (List ℕ)) → path_of text ≡ Some names
+        → IsPath names × (text ≡ path_text names) }
+{}
+
+// A slash before each name.
+fn joined(alloc: Global, names: &[String]) -> Result<String, AllocError>
+    ensures { IfOk result (λ s. string_bytes s ≡ joined (map string_bytes names.now)) }
+{
+    let mut text = String::new(alloc);
+    for name in names {
+        text.push('/')?;
+        text.push_str(name.as_str())?;
+    }
+    Ok(text)
+}
+
+// The parts of a text between slashes, if each is a name. An empty text has none.
+fn names_between(alloc: Global, text: &str) -> Result<Vec<String>, PathFault>
+    ensures ok { IfOk result
+        (λ v. (map string_bytes v.items ≡ parts text.now) × (list_all is_name (parts text.now) ≡ true)) }
+    ensures bad { IsErrOf result PathFault.BadPath → list_all is_name (parts text.now) ≡ false }
+{
+    let mut names = Vec::new(alloc);
+    if text.is_empty() {
+        return Ok(names);
+    }
+    for name in text.split('/') {
+        if !is_name(name) {
+            return Err(PathFault::BadPath);
+        }
+        names.push(String::from_str(alloc, name)?)?;
+    }
+    Ok(names)
+}
+
+fn is_name(name: &str) -> bool
+    ensures { result ≡ is_name name.now }
+{
+    if name.is_empty() || name.len() > MAX_NAME_LEN {
+        return false;
+    }
+    if name == "." || name == ".." {
+        return false;
+    }
+    has_name_bytes(name)
+}
+
+fn has_name_bytes(name: &str) -> bool
+    ensures { result ≡ list_all is_name_byte name.now }
+{
+    name.bytes().all(|b| b != b'/' && b != b':')
+}

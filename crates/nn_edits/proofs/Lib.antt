@@ -1,0 +1,11 @@
+pub mod Results
+pub mod Outcomes
+pub mod Covering
+pub mod Members
+pub mod BlockGrammar
+pub mod EditGrammar
+pub mod ReportGrammar
+pub mod JsonLines
+pub mod LineGrammar
+pub mod BlockLists
+pub mod Written

@@ -1,0 +1,86 @@
+-- The class of a replica, and the counts that decide on safe mode.
+use Rattle.std.specs.Prelude.{ℕ, zero, suc, ◌+◌, ◌*◌, ◌/◌, Bool, true, false, List, [], length, filter, flat_map, Option, Some, None, nat_lt, nat_le, ◌==◌, if◌then◌else◌}
+use Rattle.nn_types.specs.declared.block.Block.{Block}
+use Rattle.nn_types.specs.declared.report.Kind.{Kind}
+use Rattle.nn_types.specs.declared.report.Kind.TheVariants.{Receiving, Received, Deleted}
+use Rattle.nn_model.specs.declared.form.Form.{Form}
+use Rattle.nn_model.specs.declared.form.Form.TheVariants.{Dir, File}
+use Rattle.nn_types.specs.declared.replica.Replica.{Replica}
+use Rattle.nn_types.specs.declared.replica.Class.{Class}
+use Rattle.nn_types.specs.declared.replica.Class.TheVariants.{Stale, Ahead, Building, Live, WrongLength}
+use Rattle.nn_model.specs.Namespace.{Namespace}
+
+-- ---- One replica.
+
+-- The class of a replica with the block's own generation stamp. One that was deleted is no replica, and no table keeps it; it counts
+-- as one that is not complete.
+abbrev pub class_of_kind : Kind → Replica → Block → Class
+class_of_kind Receiving r b = Building
+class_of_kind Received r b = if r.len == b.len then Live else WrongLength
+class_of_kind Deleted r b = Building
+
+-- a lower generation stamp than the block's is stale, a higher one ahead
+abbrev pub class_of : Replica → Block → Class
+class_of r b = if nat_lt r.stamp b.stamp then Stale else if nat_lt b.stamp r.stamp then Ahead else class_of_kind r.kind r b
+
+abbrev pub is_live_class : Class → Bool
+is_live_class Live = true
+is_live_class Stale = false
+is_live_class Ahead = false
+is_live_class Building = false
+is_live_class WrongLength = false
+
+abbrev pub is_live : Option Replica → Block → Bool
+is_live None b = false
+is_live (Some r) b = is_live_class (class_of r b)
+
+-- ---- The counts. `replicas` gives the replica of a DataNode and a block.
+
+-- the blocks of closed files
+abbrev pub closed_blocks_of : Form → List Block
+closed_blocks_of Dir = []
+closed_blocks_of (File file) = if file.closed then file.blocks else []
+
+abbrev pub closed_blocks : Namespace → List Block
+closed_blocks n = flat_map (λ row. closed_blocks_of row.1) n.rows
+
+-- how many of the DataNodes from 1 to this one have a live replica of the block
+abbrev pub live_up_to : ℕ → (ℕ → ℕ → Option Replica) → Block → ℕ
+live_up_to zero replicas b = 0
+live_up_to (suc dn) replicas b = (if is_live (replicas (suc dn) b.id) b then 1 else 0) + live_up_to dn replicas b
+
+-- DataNodes are 1 to 256
+abbrev pub live_count : (ℕ → ℕ → Option Replica) → Block → ℕ
+live_count replicas b = live_up_to 256 replicas b
+
+-- how many blocks closed files have
+abbrev pub total_of : Namespace → ℕ
+total_of n = length (closed_blocks n)
+
+-- how many of them have at least this many live replicas
+abbrev pub safe_of : ℕ → Namespace → (ℕ → ℕ → Option Replica) → ℕ
+safe_of min n replicas = length (filter (λ b. nat_le min (live_count replicas b)) (closed_blocks n))
+
+-- how many have to be safe: so many of each thousand, rounded down
+abbrev pub needed_of : ℕ → ℕ → ℕ
+needed_of permille total = total * permille / 1000
+
+-- ---- Safe mode.
+
+pub record SafeMode : Type 0 where
+  pub total : ℕ
+  pub safe : ℕ
+  pub needed : ℕ
+  pub on : Bool
+
+-- safe mode is on while fewer blocks are safe than have to be
+abbrev pub safe_mode_from : ℕ → ℕ → ℕ → SafeMode
+safe_mode_from permille total safe = record {
+  total = total;
+  safe = safe;
+  needed = needed_of permille total;
+  on = nat_lt safe (needed_of permille total);
+}
+
+abbrev pub safe_mode_of : ℕ → ℕ → Namespace → (ℕ → ℕ → Option Replica) → SafeMode
+safe_mode_of permille min n replicas = safe_mode_from permille (total_of n) (safe_of min n replicas)

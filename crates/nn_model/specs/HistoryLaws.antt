@@ -1,0 +1,55 @@
+-- What lawful histories and standings say, as statements; the functions of the crate prove them.
+use Rattle.std.specs.Prelude.{◌↔◌, ℕ, ◌≤◌, List, []}
+use Rattle.std.specs.List.Sorted.{IsStrictlySortedBy}
+use Rattle.std.specs.Ordering.{nat_cmp}
+use Rattle.nn_edits.specs.declared.tx.Tx.{Tx}
+use Rattle.nn_model.specs.Namespace.{Namespace}
+use Rattle.nn_model.specs.WellFormed.{HasWellFormedBlocks}
+use Rattle.nn_model.specs.Log.{namespace_after, IsLog}
+use Rattle.nn_model.specs.Lanes.{Lanes, AreLanes, no_messages}
+use Rattle.nn_model.specs.Held.{without_held}
+use Rattle.nn_model.specs.History.{History, IsBeforeFlush, numbers_of, times_processed}
+use Rattle.nn_model.specs.Lawful.{IsLawful, IsWhole, IsLooselyLawful}
+use Rattle.nn_model.specs.Replay.{replay}
+use Rattle.nn_model.specs.Picture.{ShowsPicture}
+use Rattle.nn_model.specs.Stands.{Standby, Stands, tables_of, fresh}
+
+-- a lawful and whole history ends in the picture of all messages, whatever its order was
+abbrev pub EndsInPicture : Type 0
+EndsInPicture =
+    (start : Namespace) (base : ℕ) (txs : List Tx) (lanes : Lanes) (events : History) → HasWellFormedBlocks start → IsLog start base txs → AreLanes lanes →
+    IsLawful start txs lanes events → IsWhole start txs lanes events → ShowsPicture (namespace_after start txs) lanes (replay start txs lanes events)
+
+-- before the flush, the history of a standby that stands ends in the picture of the messages that are not held
+abbrev pub ReplaysPicture : Type 0
+ReplaysPicture =
+    (start : Namespace) (base : ℕ) (txs : List Tx) (lanes : Lanes) (x : Standby) → Stands start base txs lanes x → IsBeforeFlush x.history →
+    ShowsPicture x.namespace (without_held x.namespace lanes) (replay start txs lanes x.history)
+
+-- and so its tables show that picture
+abbrev pub TablesShowPicture : Type 0
+TablesShowPicture =
+    (start : Namespace) (base : ℕ) (txs : List Tx) (lanes : Lanes) (x : Standby) → Stands start base txs lanes x → IsBeforeFlush x.history →
+    ShowsPicture x.namespace (without_held x.namespace lanes) (tables_of x)
+
+-- a lawful history processes each message at most once
+abbrev pub ProcessedOnce : Type 0
+ProcessedOnce =
+    (start : Namespace) (txs : List Tx) (lanes : Lanes) (events : History) → IsLawful start txs lanes events →
+    (dn number : ℕ) → times_processed dn number events ≤ 1
+
+-- and the messages of one DataNode about one block in the order in which they were sent
+abbrev pub InSendingOrder : Type 0
+InSendingOrder =
+    (start : Namespace) (txs : List Tx) (lanes : Lanes) (events : History) → IsLawful start txs lanes events →
+    (dn block : ℕ) → IsStrictlySortedBy nat_cmp (numbers_of dn block events)
+
+-- a whole history is lawful in both readings of the waiting rule, or in none
+abbrev pub SameWhenWhole : Type 0
+SameWhenWhole =
+    (start : Namespace) (base : ℕ) (txs : List Tx) (lanes : Lanes) (events : History) → HasWellFormedBlocks start → IsLog start base txs → AreLanes lanes →
+    IsWhole start txs lanes events → IsLooselyLawful start txs lanes events ↔ IsLawful start txs lanes events
+
+-- a standby that did nothing yet stands at the empty log and at no messages, over any base with well formed blocks
+abbrev pub FreshStands : Type 0
+FreshStands = (n : Namespace) (base : ℕ) → HasWellFormedBlocks n → Stands n base [] no_messages (fresh n base)

@@ -1,0 +1,221 @@
+-- Standbys that stand, and what is wrong with some that do not.
+use Rattle.std.specs.Prelude.{◌≡◌, Bool, true, false, List, [], ◌∷◌, ◌&&◌, length, Some, None, refl, ◌==◌, if◌then◌else◌}
+use Rattle.std.specs.List.Sorted.{IsStrictlySortedBy}
+use Rattle.std.proofs.Common.{subst, inl, inr, ap, arith, rules}
+use Rattle.std.proofs.lemmas.Bool.{both_ways}
+use Rattle.nn_types.specs.declared.report.Message.{Message}
+use Rattle.nn_types.specs.declared.report.Kind.TheVariants.{Received}
+use Rattle.nn_types.specs.declared.event.Event.TheVariants.{Applied, Processed}
+use Rattle.nn_types.specs.declared.event.Cause.TheVariants.{Due, Flush}
+use Rattle.nn_edits.specs.declared.tx.Edit.TheVariants.{StartSegment}
+use Rattle.nn_edits.specs.declared.tx.Tx.{Tx}
+use Rattle.nn_model.specs.declared.form.Form.TheVariants.{Dir, File}
+use Rattle.nn_model.specs.Namespace.{Namespace, root_alone}
+use Rattle.nn_model.specs.WellFormed.{Has, HasWellFormedBlocks}
+use Rattle.nn_model.specs.Lanes.{Lanes, no_messages}
+use Rattle.nn_model.specs.Held.{IsFree}
+use Rattle.nn_model.specs.History.{processed}
+use Rattle.nn_model.specs.Stands.{Standby, IsLeft, Stands, fresh}
+use Rattle.nn_model.specs.MessageRows.{tx, b, c, f, block, message, received, two_lanes, of_sent, are_lanes}
+use Rattle.nn_model.specs.MessageRowsLater.{unnamed_log, unnamed_lanes, unnamed_report, unnamed_history, promotion_flushes_unnamed_lawful}
+
+root_blocks : HasWellFormedBlocks root_alone
+unfolding IsStrictlySortedBy
+root_blocks = record {
+  in_order = refl;
+  last_block_from = omega arith;
+  awaiting_in_order = tt;
+  awaiting_from = λ id e. absurd (both_ways _ refl e);
+  once = λ id. omega arith;
+  issued = λ block none. absurd none;
+}
+
+-- ---- Held messages, by block and then as they came.
+
+abbrev report_of_c : Message
+report_of_c = message 1 1 Received c 1002 5
+
+abbrev first_of_b : Message
+first_of_b = message 1 2 Received b 1001 5
+
+abbrev second_of_b : Message
+second_of_b = message 1 3 Received b 1001 6
+
+abbrev other_of_b : Message
+other_of_b = message 2 1 Received b 1001 7
+
+abbrev waiting_lanes : Lanes
+waiting_lanes = two_lanes (report_of_c ∷ first_of_b ∷ second_of_b ∷ []) (other_of_b ∷ [])
+
+-- after the start of a segment, with four messages about ids that are not issued yet
+abbrev waiting_log : List Tx
+waiting_log = tx 1 StartSegment ∷ []
+
+abbrev waiting : Standby
+waiting = record {
+  namespace = root_alone;
+  last = 1;
+  history = Applied 1 ∷ [];
+  replica = λ dn id. None;
+  has_order = λ dn id. false;
+  held = first_of_b ∷ other_of_b ∷ second_of_b ∷ report_of_c ∷ [];
+  last_number = λ dn. if dn == 1 then 3 else if dn == 2 then 1 else 0;
+}
+
+abbrev IsWaiting : Message → Type 0
+IsWaiting m = IsLeft root_alone waiting_log waiting_lanes (Applied 1 ∷ []) m
+
+is_left : (m : Message) → Has waiting.held m → IsWaiting m
+is_left m (inl same) = subst IsWaiting same (record { sent = refl; held = refl; not_flushed = λ here. search rules })
+is_left m (inr (inl same)) = subst IsWaiting same (record { sent = refl; held = refl; not_flushed = λ here. search rules })
+is_left m (inr (inr (inl same))) = subst IsWaiting same (record { sent = refl; held = refl; not_flushed = λ here. search rules })
+is_left m (inr (inr (inr (inl same)))) = subst IsWaiting same (record { sent = refl; held = refl; not_flushed = λ here. search rules })
+is_left m (inr (inr (inr (inr none)))) = absurd none
+
+waiting_stands : Stands root_alone 0 waiting_log waiting_lanes waiting
+waiting_stands = record {
+  log = search rules;
+  well_formed = root_blocks;
+  numbered = are_lanes (report_of_c ∷ first_of_b ∷ second_of_b ∷ []) (other_of_b ∷ []) (search rules) (search rules);
+  namespace = refl;
+  last = refl;
+  lawful = record {
+    applied_in_order = refl;
+    sent = search rules;
+    in_sending_order = search rules;
+    waited = search rules;
+    flush_last = search rules;
+    flush_held = search rules;
+    none_forgotten = of_sent (λ m. IsFree root_alone waiting_lanes m → Has (Applied 1 ∷ []) (processed Due m))
+        (report_of_c ∷ first_of_b ∷ second_of_b ∷ []) (other_of_b ∷ [])
+        ((λ free. absurd (both_ways _ free refl)), ((λ free. absurd (both_ways _ free refl)), ((λ free. absurd (both_ways _ free refl)), tt)))
+        ((λ free. absurd (both_ways _ free refl)), tt);
+  };
+  replicas = λ dn id. refl;
+  orders = λ dn id. refl;
+  held = λ m. (
+    is_left m,
+    (λ left. of_sent (Has waiting.held) (report_of_c ∷ first_of_b ∷ second_of_b ∷ []) (other_of_b ∷ [])
+        (search rules) (search rules) m left.sent),
+  );
+  by_block = search rules;
+  by_number = search rules;
+  last_numbers = λ dn. elim (dn == 1) as (λ t. (if t then 3 else if dn == 2 then 1 else 0)
+      ≡ length (if t then report_of_c ∷ first_of_b ∷ second_of_b ∷ [] else if dn == 2 then other_of_b ∷ [] else [])) [
+        | true ↦ refl
+        | false ↦ elim (dn == 2) as (λ t. (if t then 1 else 0) ≡ length (if t then other_of_b ∷ [] else [])) [ true ↦ refl | false ↦ refl ]
+      ];
+}
+
+-- ---- After the flush nothing is held.
+
+abbrev flushed : Standby
+flushed = record {
+  namespace = root_alone;
+  last = 2;
+  history = unnamed_history;
+  replica = λ dn id. None;
+  has_order = λ dn id. (dn == 1) && (id == b);
+  held = [];
+  last_number = λ dn. if dn == 1 then 1 else 0;
+}
+
+order_of : (t : Bool) → t ≡ (if t then true else false)
+order_of true = refl
+order_of false = refl
+
+flushed_stands : Stands root_alone 0 unnamed_log unnamed_lanes flushed
+flushed_stands = record {
+  log = search rules;
+  well_formed = root_blocks;
+  numbered = are_lanes (unnamed_report ∷ []) [] (search rules) tt;
+  namespace = refl;
+  last = refl;
+  lawful = promotion_flushes_unnamed_lawful;
+  replicas = λ dn id. refl;
+  orders = λ dn id. order_of ((dn == 1) && (id == b));
+  held = λ m. (
+    (λ none. absurd none),
+    (λ left. of_sent (λ y. (Has unnamed_history (processed Flush y) → ⊥) → ⊥) (unnamed_report ∷ []) []
+        ((λ unflushed. unflushed (search rules)), tt) tt m left.sent left.not_flushed),
+  );
+  by_block = tt;
+  by_number = tt;
+  last_numbers = λ dn. elim (dn == 1) as (λ t. (if t then 1 else 0) ≡ length (if t then unnamed_report ∷ [] else if dn == 2 then [] else [])) [
+    | true ↦ refl
+    | false ↦ elim (dn == 2) as (λ t. 0 ≡ length {A = Message} (if t then [] else [])) [ true ↦ refl | false ↦ refl ]
+  ];
+}
+
+-- ---- Standbys that do not stand, each for one reason.
+
+the_log_skips : Stands root_alone 0 (tx 2 StartSegment ∷ []) waiting_lanes waiting → ⊥
+the_log_skips s = omega (arith, s.log.0)
+
+abbrev twice : Namespace
+twice = record {
+  rows = ([], Dir) ∷ (f, File (record { replication = 1; closed = false; blocks = block b 1001 5 ∷ block b 1001 5 ∷ [] })) ∷ [];
+  last_block = b;
+  last_stamp = 1001;
+  awaiting = [];
+}
+
+the_base_has_an_id_twice : Stands twice 0 [] no_messages (fresh twice 0) → ⊥
+the_base_has_an_id_twice s = omega (arith, s.well_formed.once b)
+
+a_lane_begins_with_two : Stands root_alone 0 waiting_log (two_lanes (first_of_b ∷ []) []) waiting → ⊥
+a_lane_begins_with_two s = omega (arith, (s.numbered 1).1)
+
+a_lane_has_another_datanodes : Stands root_alone 0 waiting_log (two_lanes (other_of_b ∷ []) []) waiting → ⊥
+a_lane_has_another_datanodes s = omega (arith, (s.numbered 1).0)
+
+another_namespace : Stands root_alone 0 waiting_log waiting_lanes (record waiting { namespace = record root_alone { last_block = b } }) → ⊥
+another_namespace s = omega (arith, ap (λ n. n.last_block) s.namespace)
+
+another_last_txid : Stands root_alone 0 waiting_log waiting_lanes (record waiting { last = 2 }) → ⊥
+another_last_txid s = omega (arith, s.last)
+
+another_history : Stands root_alone 0 waiting_log waiting_lanes (record waiting { history = [] }) → ⊥
+another_history s = let e = s.lawful.applied_in_order in absurd (cc)
+
+a_replica_of_a_held_message : Stands root_alone 0 waiting_log waiting_lanes (record waiting { replica = λ dn id. Some (received 1001 5) }) → ⊥
+a_replica_of_a_held_message s = let e : Some (received 1001 5) ≡ None = s.replicas 1 b in absurd (cc)
+
+an_order_for_a_held_message : Stands root_alone 0 waiting_log waiting_lanes (record waiting { has_order = λ dn id. true }) → ⊥
+an_order_for_a_held_message s = both_ways _ (s.orders 1 b) refl
+
+holds_what_was_not_sent : Stands root_alone 0 waiting_log no_messages (record waiting { held = first_of_b ∷ [] }) → ⊥
+holds_what_was_not_sent s = let e : None ≡ Some first_of_b = ((s.held first_of_b).0 (inl refl)).sent in absurd (cc)
+
+-- an id from before the first one is retired
+abbrev free_report : Message
+free_report = message 1 1 Received 1 1001 5
+
+holds_what_is_free : Stands root_alone 0 waiting_log (two_lanes (free_report ∷ []) [])
+    (record waiting { history = Applied 1 ∷ Processed 1 1 1 Due ∷ []; held = free_report ∷ [] }) → ⊥
+holds_what_is_free s = both_ways _ refl ((s.held free_report).0 (inl refl)).held
+
+holds_what_was_flushed : Stands root_alone 0 unnamed_log unnamed_lanes (record flushed { held = unnamed_report ∷ [] }) → ⊥
+holds_what_was_flushed s = ((s.held unnamed_report).0 (inl refl)).not_flushed (inr (inr (inl refl)))
+
+lost_a_held_message : Stands root_alone 0 waiting_log waiting_lanes (record waiting { held = first_of_b ∷ other_of_b ∷ second_of_b ∷ [] }) → ⊥
+lost_a_held_message s = has_no_c ((s.held report_of_c).1 (is_left report_of_c (inr (inr (inr (inl refl))))))
+  where
+    has_no_c : Has (first_of_b ∷ other_of_b ∷ second_of_b ∷ []) report_of_c → ⊥
+    has_no_c (inl same) = omega (arith, ap (λ m. m.block) same)
+    has_no_c (inr (inl same)) = omega (arith, ap (λ m. m.block) same)
+    has_no_c (inr (inr (inl same))) = omega (arith, ap (λ m. m.block) same)
+    has_no_c (inr (inr (inr none))) = none
+
+not_by_block : Stands root_alone 0 waiting_log waiting_lanes (record waiting { held = report_of_c ∷ first_of_b ∷ other_of_b ∷ second_of_b ∷ [] }) → ⊥
+not_by_block s = both_ways _ s.by_block.0 refl
+
+not_by_number : Stands root_alone 0 waiting_log waiting_lanes (record waiting { held = second_of_b ∷ other_of_b ∷ first_of_b ∷ report_of_c ∷ [] }) → ⊥
+not_by_number s = both_ways _ s.by_number.0 refl
+
+holds_one_twice : Stands root_alone 0 waiting_log waiting_lanes
+    (record waiting { held = first_of_b ∷ other_of_b ∷ second_of_b ∷ second_of_b ∷ report_of_c ∷ [] }) → ⊥
+holds_one_twice s = both_ways _ s.by_number.1.1.0 refl
+
+forgot_the_numbers : Stands root_alone 0 waiting_log waiting_lanes (record waiting { last_number = λ dn. 0 }) → ⊥
+forgot_the_numbers s = omega (arith, s.last_numbers 1)

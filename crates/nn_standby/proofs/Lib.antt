@@ -1,0 +1,10 @@
+pub mod Lists
+pub mod Paths
+pub mod Ids
+pub mod Memory
+pub mod Moves
+pub mod Walks
+pub mod Edits
+pub mod LineLemmas
+pub mod RunLemmas
+pub mod WriteLemmas

@@ -1,0 +1,36 @@
+-- What the program prints for a scenario.
+use Rattle.std.specs.Prelude.{ℕ, List, [], ◌∷◌, ◌++◌, Result, Ok, Err, codes, decimal}
+use Rattle.nn_types.specs.declared.fault.TheConstants.{DISORDER}
+use Rattle.nn_edits.specs.Fault.{number_of as line_number_of}
+use Rattle.nn_edits.specs.declared.tx.Tx.{Tx}
+use Rattle.nn_model.specs.Fault.{number_of}
+use Rattle.nn_model.specs.Namespace.{root_alone}
+use Rattle.nn_standby.specs.Listing.{newline, listing_text}
+use Rattle.nn_standby.specs.LogEnd.{Cause, refused, disorder, Stop, LogEnd, end_of_log}
+use Rattle.nn_standby.specs.Scenario.{transactions_of}
+use Rattle.nn_standby.specs.declared.scenario.BadLine.{BadLine}
+
+-- a text and the program's exit status
+pub record Printed : Type 0 where
+  pub text : List ℕ
+  pub status : ℕ
+
+-- `fault N line L` or `fault N txid T`, where the place is ` line ` or ` txid `
+abbrev pub fault_at : List ℕ → ℕ → ℕ → Printed
+fault_at place number n = record { text = codes "fault " ++ decimal number ++ place ++ decimal n ++ newline ∷ []; status = 1 }
+
+abbrev pub stop_number : Cause → ℕ
+stop_number (refused fault) = number_of fault
+stop_number disorder = DISORDER
+
+abbrev pub after_log : Result LogEnd Stop → Printed
+after_log (Ok end) = record { text = listing_text end.last end.namespace; status = 0 }
+after_log (Err stop) = fault_at (codes " txid ") (stop_number stop.cause) stop.txid
+
+abbrev pub after_lines : Result (List Tx) BadLine → Printed
+after_lines (Ok txs) = after_log (end_of_log 0 root_alone txs)
+after_lines (Err bad) = fault_at (codes " line ") (line_number_of bad.fault) bad.line
+
+-- what is printed for an input: the first bad line, or the first transaction that does not apply, or the listing
+unfoldable pub output_of : List ℕ → Printed
+output_of text = after_lines (transactions_of text)

@@ -1,0 +1,301 @@
+//! Worked scenarios, and devices that fail.
+use crate::device::MAX_INPUT;
+use crate::run::run;
+use std::alloc::Global;
+use std::io;
+use std::io::{Read, Write};
+use std::test::Fail;
+
+const NOTHING: &str = "txid 0\ndir \"/\"\n";
+
+// What a run prints, and its status. No write fails here, so a failed write shows as status 9.
+fn printed(alloc: Global, reader: &mut impl Read) -> (Vec<u8>, u8) {
+    let mut writer = Vec::new(alloc);
+    let status = match run(alloc, reader, &mut writer) {
+        Ok(end) => end.status,
+        Err(_) => 9,
+    };
+    (writer, status)
+}
+
+#[test]
+fn empty_input(rt: HostRuntime) {
+    let mut reader: &[u8] = b"";
+    let (text, status) = printed(rt.alloc(), &mut reader);
+    assert_eq!(rt; text.as_slice(), NOTHING.as_bytes());
+    assert_eq!(rt; status, 0);
+}
+
+#[test]
+fn make_and_delete(rt: HostRuntime) {
+    let mut reader: &[u8] = br#"{"op":"OP_START_LOG_SEGMENT","txid":1}
+{"op":"OP_MKDIR","path":"/a","txid":2}
+{"op":"OP_MKDIR","path":"/a/b","txid":3}
+{"op":"OP_DELETE","path":"/a","txid":4}
+{"op":"OP_END_LOG_SEGMENT","txid":5}
+"#;
+    let (text, status) = printed(rt.alloc(), &mut reader);
+    assert_eq!(rt; text.as_slice(), b"txid 5\ndir \"/\"\n".as_slice());
+    assert_eq!(rt; status, 0);
+}
+
+#[test]
+fn one_file(rt: HostRuntime) {
+    let mut reader: &[u8] = br#"{"op":"OP_START_LOG_SEGMENT","txid":1}
+{"op":"OP_SET_GENSTAMP_V2","gen":1001,"txid":2}
+{"op":"OP_ALLOCATE_BLOCK_ID","id":1073741825,"txid":3}
+{"op":"OP_ADD","path":"/f","replication":3,"txid":4}
+{"op":"OP_ADD_BLOCK","gen":1001,"id":1073741825,"path":"/f","txid":5}
+{"op":"OP_CLOSE","blocks":[{"gen":1001,"id":1073741825,"len":5}],"path":"/f","txid":6}
+{"op":"OP_END_LOG_SEGMENT","txid":7}
+"#;
+    let (text, status) = printed(rt.alloc(), &mut reader);
+    let want = "txid 7\ndir \"/\"\nfile \"/f\" 3 closed 1073741825:1001:5\n";
+    assert_eq!(rt; text.as_slice(), want.as_bytes());
+    assert_eq!(rt; status, 0);
+}
+
+#[test]
+fn paths_in_path_order(rt: HostRuntime) {
+    let mut reader: &[u8] = br#"{"op":"OP_MKDIR","path":"/a-b","txid":1}
+{"op":"OP_MKDIR","path":"/a","txid":2}
+
+{"op":"OP_MKDIR","path":"/a/b","txid":3}
+{"zz":[1],"path":"/a/\u0001\"","txid":4,"op":"OP_MKDIR"}"#;
+    let (text, status) = printed(rt.alloc(), &mut reader);
+    let want =
+        "txid 4\ndir \"/\"\ndir \"/a\"\ndir \"/a/\\u0001\\\"\"\ndir \"/a/b\"\ndir \"/a-b\"\n";
+    assert_eq!(rt; text.as_slice(), want.as_bytes());
+    assert_eq!(rt; status, 0);
+}
+
+#[test]
+fn one_line_of_fault(rt: HostRuntime) {
+    for (name, input, want) in [
+        (
+            "missing_parent_stops",
+            "{\"op\":\"OP_START_LOG_SEGMENT\",\"txid\":1}\n{\"op\":\"OP_MKDIR\",\"path\":\"/a/b\",\"txid\":2}\n{\"op\":\"OP_END_LOG_SEGMENT\",\"txid\":3}\n",
+            "fault 22 txid 2\n",
+        ),
+        (
+            "log_begins_too_high",
+            "{\"op\":\"OP_START_LOG_SEGMENT\",\"txid\":2}\n{\"op\":\"OP_END_LOG_SEGMENT\",\"txid\":3}\n",
+            "fault 57 txid 1\n",
+        ),
+        (
+            "the root is there",
+            "{\"op\":\"OP_MKDIR\",\"path\":\"/\",\"txid\":1}\n",
+            "fault 25 txid 1\n",
+        ),
+        (
+            "a path is made once",
+            "{\"op\":\"OP_MKDIR\",\"path\":\"/a\",\"txid\":1}\n{\"op\":\"OP_MKDIR\",\"path\":\"/a\",\"txid\":2}\n",
+            "fault 21 txid 2\n",
+        ),
+        (
+            "a bad line behind a refused edit",
+            "{\"op\":\"OP_MKDIR\",\"path\":\"/\",\"txid\":1}\n \t\r\n\n[]",
+            "fault 1 line 4\n",
+        ),
+        ("line_faults", "{\"op\":\"OP_FOO\"}\n", "fault 4 line 1\n"),
+        (
+            "line_faults",
+            "{\"op\":\"OP_MKDIR\",\"txid\":1}\n",
+            "fault 2 line 1\n",
+        ),
+        (
+            "line_faults",
+            "{\"op\":\"OP_MKDIR\",\"txid\":9223372036854775808,\"path\":\"/a\"}\n",
+            "fault 3 line 1\n",
+        ),
+        (
+            "no operation",
+            "{\"dn\":1,\"block\":1,\"gen\":1,\"len\":1,\"kind\":\"received\"}\n",
+            "fault 2 line 1\n",
+        ),
+    ] {
+        let mut reader: &[u8] = input.as_bytes();
+        let (text, status) = printed(rt.alloc(), &mut reader);
+        assert_eq!(rt; text.as_slice(), want.as_bytes(), "at {name}");
+        assert_eq!(rt; status, 1, "at {name}");
+    }
+}
+
+#[test]
+fn path_grammar(rt: HostRuntime) -> Result<(), Fail> {
+    let name = [b'n'; 256];
+    let longest = String::from_utf8(name[..255].to_vec(rt.alloc())?);
+    let longer = String::from_utf8(name.to_vec(rt.alloc())?);
+    let (Ok(longest), Ok(longer)) = (longest, longer) else {
+        assert!(rt; false, "letters are text");
+        return Ok(());
+    };
+    for (path, want) in [
+        (longest.as_str(), "txid 1\n"),
+        (longer.as_str(), "fault 5 line 1\n"),
+        ("a/", "fault 5 line 1\n"),
+        ("a:b", "fault 5 line 1\n"),
+        ("a/../b", "fault 5 line 1\n"),
+        (".", "fault 5 line 1\n"),
+        ("/a", "fault 5 line 1\n"),
+    ] {
+        let line = format!(in rt.alloc();
+            "{{\"op\":\"OP_MKDIR\",\"path\":\"/{path}\",\"txid\":1}}"
+        )?;
+        let mut reader: &[u8] = line.as_bytes();
+        let (text, _) = printed(rt.alloc(), &mut reader);
+        assert!(rt; text.starts_with(want.as_bytes()), "at {path}");
+    }
+    for text in ["a", ""] {
+        let line = format!(in rt.alloc();
+            "{{\"op\":\"OP_MKDIR\",\"path\":\"{text}\",\"txid\":1}}"
+        )?;
+        let mut reader: &[u8] = line.as_bytes();
+        let (text, _) = printed(rt.alloc(), &mut reader);
+        assert_eq!(rt; text.as_slice(), b"fault 5 line 1\n".as_slice());
+    }
+    Ok(())
+}
+
+// A reader that gives one byte a time and fails at its read `fail_at`, counted from 0.
+#[derive(Drop)]
+struct Slow<'a> {
+    bytes: &'a [u8],
+    reads: u64,
+    fail_at: u64,
+}
+
+impl Read for Slow<'_> {
+    fn read(&mut self, buf: &mut [u8]) -> io::Result<usize> {
+        if self.reads == self.fail_at {
+            return Err(io::Error::from(io::ErrorKind::Other));
+        }
+        self.reads = self.reads.saturating_add(1);
+        match (self.bytes, buf) {
+            ([first, rest @ ..], [place, ..]) => {
+                *place = *first;
+                self.bytes = rest;
+                Ok(1)
+            }
+            _ => Ok(0),
+        }
+    }
+}
+
+// A writer that takes at most two bytes a time, and fails or takes nothing at its write `stop_at`, counted from 0.
+#[derive(Drop)]
+struct Stopping {
+    got: Vec<u8>,
+    writes: u64,
+    stop_at: u64,
+    fails: bool,
+}
+
+impl Write for Stopping {
+    fn write(&mut self, buf: &[u8]) -> io::Result<usize> {
+        if self.writes == self.stop_at {
+            if self.fails {
+                return Err(io::Error::from(io::ErrorKind::Other));
+            }
+            return Ok(0);
+        }
+        self.writes = self.writes.saturating_add(1);
+        let n = buf.len().min(2);
+        self.got.extend_from_slice(&buf[..n])?;
+        Ok(n)
+    }
+
+    fn flush(&mut self) -> io::Result<()> {
+        Ok(())
+    }
+}
+
+const LINE: &[u8] = b"{\"op\":\"OP_MKDIR\",\"path\":\"/a\",\"txid\":1}\n";
+
+const LISTING: &[u8] = b"txid 1\ndir \"/\"\ndir \"/a\"\n";
+
+#[test]
+fn failing_readers(rt: HostRuntime) {
+    // The reads are one for each byte and one for the end.
+    let calls = LINE.len() as u64 + 1;
+    for fail_at in 0..=calls {
+        let mut reader = Slow {
+            bytes: LINE,
+            reads: 0,
+            fail_at,
+        };
+        let (text, status) = printed(rt.alloc(), &mut reader);
+        if fail_at < calls {
+            assert_eq!(rt; text.as_slice(), b"fault 8\n".as_slice(), "at {fail_at}");
+            assert_eq!(rt; status, 1);
+        } else {
+            assert_eq!(rt; text.as_slice(), LISTING);
+            assert_eq!(rt; status, 0);
+        }
+    }
+}
+
+#[test]
+fn failing_writers(rt: HostRuntime) {
+    let calls = (LISTING.len() as u64).div_ceil(2);
+    for fails in [false, true] {
+        for stop_at in 0..=calls {
+            let mut reader: &[u8] = LINE;
+            let mut writer = Stopping {
+                got: Vec::new(rt.alloc()),
+                writes: 0,
+                stop_at,
+                fails,
+            };
+            let end = run(rt.alloc(), &mut reader, &mut writer);
+            let got = writer.got.len();
+            assert!(rt; LISTING.starts_with(&writer.got));
+            match end {
+                Ok(end) => {
+                    assert_eq!(rt; end.status, 0);
+                    assert_eq!(rt; got, LISTING.len());
+                    assert_eq!(rt; stop_at, calls);
+                }
+                Err(fault) => {
+                    assert_eq!(rt; fault.written, got);
+                    assert!(rt; stop_at < calls, "at {stop_at}");
+                }
+            }
+        }
+    }
+}
+
+// A reader that gives line feeds, up to `chunk` a time, until `left` are given.
+#[derive(Drop)]
+struct Feeds {
+    left: usize,
+    chunk: usize,
+}
+
+impl Read for Feeds {
+    fn read(&mut self, buf: &mut [u8]) -> io::Result<usize> {
+        let n = self.left.min(self.chunk).min(buf.len());
+        for place in buf[..n].iter_mut() {
+            *place = b'\n';
+        }
+        self.left -= n;
+        Ok(n)
+    }
+}
+
+#[test]
+fn longest_input(rt: HostRuntime) {
+    for (left, chunk, want) in [
+        (MAX_INPUT, 65_536, NOTHING),
+        (MAX_INPUT, 1_000_000, NOTHING),
+        (MAX_INPUT + 1, 65_536, "fault 8\n"),
+        (usize::MAX, 65_536, "fault 8\n"),
+        // One byte a time, the end has to be seen within 16,777,216 reads.
+        (MAX_INPUT - 1, 1, NOTHING),
+        (MAX_INPUT, 1, "fault 8\n"),
+    ] {
+        let mut reader = Feeds { left, chunk };
+        let (text, _) = printed(rt.alloc(), &mut reader);
+        assert_eq!(rt; text.as_slice(), want.as_bytes(), "at {left} by {chunk}");
+    }
+}

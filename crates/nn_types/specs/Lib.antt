@@ -3,3 +3,4 @@ pub mod Block
 pub mod Due
 pub mod Path
 pub mod Fault
+pub mod Settings

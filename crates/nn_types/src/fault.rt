@@ -17,6 +17,23 @@ pub const UNKNOWN_KIND: u8 = 7;
 /// The input could not be read, or is longer than 16,777,216 bytes.
 pub const INPUT_FAULT: u8 = 8;
 
+/// A name is no segment's name.
+pub const BAD_NAME: u8 = 11;
+/// A segment has no bytes, or its first line is no start mark.
+pub const NO_START: u8 = 12;
+/// A segment's last line is no end mark, or a mark stands between its first line and its last.
+pub const NO_END: u8 = 13;
+/// A transaction of a segment is not the one after the transaction before it.
+pub const GAP: u8 = 14;
+/// A segment's last line has no line feed.
+pub const TORN_LINE: u8 = 15;
+/// A segment's name does not give its first and last transaction.
+pub const NAME_MISMATCH: u8 = 16;
+/// A segment is longer than 16,777,216 bytes.
+pub const TOO_LONG: u8 = 17;
+/// A line of a segment is no transaction.
+pub const BAD_LINE: u8 = 18;
+
 /// The path is there already.
 pub const EXISTS: u8 = 21;
 /// The path, or a parent of it, is missing.
@@ -39,6 +56,11 @@ pub const BAD_GENERATION: u8 = 29;
 pub const BAD_BLOCK_ID: u8 = 30;
 /// A replication is outside 1 to 512.
 pub const BAD_REPLICATION: u8 = 31;
+
+/// Whoever gave segments is gone.
+pub const GONE: u8 = 46;
+/// A source of segments failed.
+pub const SOURCE_FAILED: u8 = 47;
 
 /// Memory was refused.
 pub const MEMORY: u8 = 55;

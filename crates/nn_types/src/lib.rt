@@ -11,6 +11,7 @@ mod number;
 mod path;
 mod replica;
 mod report;
+mod settings;
 mod status;
 
 pub use block::{Block, Blocks};
@@ -19,4 +20,5 @@ pub use number::{BlockId, GenerationStamp, Length, Replication, Txid};
 pub use path::{Path, PathFault, one_spelling, text_of};
 pub use replica::{Class, Replica};
 pub use report::{Kind, Message, Report};
+pub use settings::Settings;
 pub use status::{Status, due};

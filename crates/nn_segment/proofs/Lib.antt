@@ -1,0 +1,9 @@
+pub mod Digits
+pub mod Names
+pub mod LineLemmas
+pub mod ReadingLemmas
+pub mod SegmentLemmas
+pub mod Outcomes
+pub mod Asks
+pub mod Walks
+pub mod JoinedLines

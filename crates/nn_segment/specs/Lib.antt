@@ -1,0 +1,10 @@
+pub mod Fault
+pub mod Name
+pub mod Lines
+pub mod Reading
+pub mod Segment
+pub mod Outcome
+pub mod Source
+pub mod Walk
+pub mod NameRows
+pub mod ReadingRows

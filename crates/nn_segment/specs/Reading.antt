@@ -1,0 +1,79 @@
+-- The segment that bytes are under a name, or the first fault that applies.
+use Rattle.std.specs.Prelude.{ℕ, ◌+◌, List, [], ◌∷◌, length, drop, Bool, true, false, not, ◌==◌, ◌&&◌, nat_lt, if◌then◌else◌, Option, Some, None, is_none, Result, Ok, Err}
+use Rattle.nn_edits.specs.declared.fault.LineFault.{LineFault}
+use Rattle.nn_edits.specs.declared.fault.LineFault.TheVariants as line
+use Rattle.nn_edits.specs.declared.tx.Tx.{Tx}
+use Rattle.nn_segment.specs.declared.fault.SegmentFault.{SegmentFault}
+use Rattle.nn_segment.specs.declared.fault.SegmentFault.TheVariants.{BadName, TooLong, NoStart, TornLine, BadLine, Gap, NoEnd, NameMismatch, OutOfMemory}
+use Rattle.nn_segment.specs.Name.{txids_of}
+use Rattle.nn_segment.specs.Lines.{lines_of, is_ended, reads_of}
+use Rattle.nn_segment.specs.Segment.{Segment, max_bytes, is_start, ends_once, first_txid, last_txid}
+
+-- a fault where the test holds
+abbrev pub when : Bool → SegmentFault → Option SegmentFault
+when true fault = Some fault
+when false fault = None
+
+-- the first fault that was found
+abbrev pub first : List (Option SegmentFault) → Option SegmentFault
+first [] = None
+first (Some fault ∷ checks) = Some fault
+first (None ∷ checks) = first checks
+
+-- ---- Line by line.
+
+-- the first fault from line n on, which is to be the transaction with the expected txid
+abbrev pub later_fault : ℕ → ℕ → List (Result Tx LineFault) → Option SegmentFault
+later_fault n expected [] = None
+later_fault n expected (Err fault ∷ reads) = Some (BadLine n fault)
+later_fault n expected (Ok tx ∷ reads) = if tx.txid == expected then later_fault (n + 1) (tx.txid + 1) reads else Some (Gap expected)
+
+-- the first fault of the lines: each is a transaction, the first a start mark, each later one the next after the one before
+abbrev pub lines_fault : List (Result Tx LineFault) → Option SegmentFault
+lines_fault [] = None
+lines_fault (Err fault ∷ reads) = Some (BadLine 1 fault)
+lines_fault (Ok tx ∷ reads) = if is_start tx.edit then later_fault 2 (tx.txid + 1) reads else Some NoStart
+
+-- the transactions among what was read
+abbrev pub txs_in : List (Result Tx LineFault) → List Tx
+txs_in [] = []
+txs_in (Ok tx ∷ reads) = tx ∷ txs_in reads
+txs_in (Err fault ∷ reads) = txs_in reads
+
+-- whether these are the first and the last txid
+abbrev pub is_named : Option (ℕ × ℕ) → List Tx → Bool
+is_named (Some txids) txs = (txids.0 == first_txid txs) && (txids.1 == last_txid txs)
+is_named None txs = false
+
+-- the fault of a bad line; want of memory is no line's own
+abbrev pub fault_of_line : ℕ → LineFault → SegmentFault
+fault_of_line n line.OutOfMemory = OutOfMemory
+fault_of_line n fault = BadLine n fault
+
+-- ---- The checks in order, of which the first that finds a fault decides.
+
+-- of the bytes, before any line is read
+abbrev pub bytes_checks : List ℕ → List (Option SegmentFault)
+bytes_checks bytes =
+    when (nat_lt max_bytes (length bytes)) TooLong
+    ∷ when (length bytes == 0) NoStart
+    ∷ when (not (is_ended bytes)) (TornLine (length (lines_of bytes)))
+    ∷ []
+
+-- of the lines as they were read, under a name with these txids
+abbrev pub lines_checks : Option (ℕ × ℕ) → List (Result Tx LineFault) → List (Option SegmentFault)
+lines_checks txids reads =
+    lines_fault reads ∷ when (not (ends_once (drop 1 (txs_in reads)))) NoEnd ∷ when (not (is_named txids (txs_in reads))) NameMismatch ∷ []
+
+-- why the bytes are no segment of that name
+unfoldable pub fault_of : List ℕ → List ℕ → Option SegmentFault
+fault_of name bytes = first (when (is_none (txids_of name)) BadName ∷ first (bytes_checks bytes) ∷ first (lines_checks (txids_of name) (reads_of bytes)) ∷ [])
+
+-- the value, unless there is a fault
+abbrev pub unless : {A : Type 0} → Option SegmentFault → A → Result A SegmentFault
+unless None value = Ok value
+unless (Some fault) value = Err fault
+
+-- the segment, or its first fault
+unfoldable pub read_segment : List ℕ → List ℕ → Result Segment SegmentFault
+read_segment name bytes = unless (fault_of name bytes) (record { name = name; bytes = bytes; txs = txs_in (reads_of bytes) })

@@ -1,0 +1,107 @@
+-- Segments and their faults, computed.
+use Rattle.std.specs.Prelude.{◌≡◌, ℕ, List, [], ◌∷◌, ◌++◌, Option, Some, None, Result, Ok, Err, codes, true, false, refl}
+use Rattle.nn_edits.specs.declared.fault.LineFault.{LineFault}
+use Rattle.nn_edits.specs.declared.fault.LineFault.TheVariants.{NotJson, MissingField}
+use Rattle.nn_edits.specs.declared.tx.Edit.{Edit}
+use Rattle.nn_edits.specs.declared.tx.Edit.TheVariants.{StartSegment, EndSegment, Mkdir, Delete}
+use Rattle.nn_edits.specs.declared.tx.Tx.{Tx}
+use Rattle.nn_segment.specs.declared.fault.SegmentFault.{SegmentFault}
+use Rattle.nn_segment.specs.declared.fault.SegmentFault.TheVariants.{BadName, NoStart, TornLine, BadLine, Gap, NoEnd, NameMismatch}
+use Rattle.nn_segment.specs.Name.{digits, name_text, txids_of}
+use Rattle.nn_segment.specs.Lines.{newline, lines_of, is_ended}
+use Rattle.nn_segment.specs.Segment.{ends_once, first_txid, last_txid}
+use Rattle.nn_segment.specs.Reading.{first, lines_checks, bytes_checks, fault_of, read_segment}
+
+-- ---- Lines.
+
+lines : (lines_of (codes "ab" ++ newline ∷ codes "c" ++ newline ∷ []) ≡ codes "ab" ∷ codes "c" ∷ [])
+    × (lines_of (newline ∷ newline ∷ []) ≡ [] ∷ [] ∷ [])
+    × (lines_of (codes "ab" ++ newline ∷ codes "c") ≡ codes "ab" ∷ codes "c" ∷ [])
+    × (lines_of [] ≡ [])
+lines = (refl, refl, refl, refl)
+
+ended : (is_ended (codes "ab" ++ newline ∷ []) ≡ true) × (is_ended (newline ∷ codes "ab") ≡ false) × (is_ended [] ≡ false)
+ended = (refl, refl, refl)
+
+-- ---- Before any line is read.
+
+no_bytes : first (bytes_checks []) ≡ Some NoStart
+no_bytes = refl
+
+torn_first_line : first (bytes_checks (codes "{}")) ≡ Some (TornLine 1)
+torn_first_line = refl
+
+torn_last_line : first (bytes_checks (codes "{}" ++ newline ∷ codes "{}" ++ newline ∷ codes "{")) ≡ Some (TornLine 3)
+torn_last_line = refl
+
+-- the name comes first
+bad_name_and_no_bytes : fault_of (codes "edits") [] ≡ Some BadName
+unfolding fault_of txids_of name_text digits
+bad_name_and_no_bytes = refl
+
+no_bytes_under_a_name : read_segment (codes "edits_0000000000000000001-0000000000000000003") [] ≡ Err NoStart
+unfolding read_segment fault_of txids_of name_text digits
+no_bytes_under_a_name = refl
+
+-- ---- Lines as they were read, under the txids of a name.
+
+abbrev tx : ℕ → Edit → Result Tx LineFault
+tx txid edit = Ok (record { txid = txid; edit = edit })
+
+abbrev fault_under : ℕ → ℕ → List (Result Tx LineFault) → Option SegmentFault
+fault_under f l reads = first (lines_checks (Some (f, l)) reads)
+
+abbrev a : List (List ℕ)
+a = codes "a" ∷ []
+
+whole : fault_under 1 3 (tx 1 StartSegment ∷ tx 2 (Mkdir a) ∷ tx 3 EndSegment ∷ []) ≡ None
+whole = refl
+
+gap_in_segment : fault_under 1 4 (tx 1 StartSegment ∷ tx 2 (Mkdir a) ∷ tx 4 EndSegment ∷ []) ≡ Some (Gap 3)
+gap_in_segment = refl
+
+-- a bad line behind a gap is not come to, and a gap behind a bad line is not either
+gap_before_bad_line : fault_under 1 4 (tx 1 StartSegment ∷ tx 3 (Mkdir a) ∷ Err NotJson ∷ []) ≡ Some (Gap 2)
+gap_before_bad_line = refl
+
+bad_line_before_gap : fault_under 1 4 (tx 1 StartSegment ∷ Err MissingField ∷ tx 5 EndSegment ∷ []) ≡ Some (BadLine 2 MissingField)
+bad_line_before_gap = refl
+
+-- a first line that is not read is a bad line, and not a missing start mark
+bad_first_line : fault_under 1 2 (Err NotJson ∷ tx 2 EndSegment ∷ []) ≡ Some (BadLine 1 NotJson)
+bad_first_line = refl
+
+end_mark_alone : fault_under 1 1 (tx 1 EndSegment ∷ []) ≡ Some NoStart
+end_mark_alone = refl
+
+start_mark_alone : fault_under 1 1 (tx 1 StartSegment ∷ []) ≡ Some NoEnd
+start_mark_alone = refl
+
+no_end_mark : fault_under 1 2 (tx 1 StartSegment ∷ tx 2 (Mkdir a) ∷ []) ≡ Some NoEnd
+no_end_mark = refl
+
+mark_inside_a_segment : (fault_under 1 5 (tx 1 StartSegment ∷ tx 2 (Mkdir a) ∷ tx 3 EndSegment ∷ tx 4 StartSegment ∷ tx 5 EndSegment ∷ []) ≡ Some NoEnd)
+    × (fault_under 1 3 (tx 1 StartSegment ∷ tx 2 StartSegment ∷ tx 3 EndSegment ∷ []) ≡ Some NoEnd)
+mark_inside_a_segment = (refl, refl)
+
+-- where the second segment begins below the first one's end, the gap is found first
+two_segments_as_one : fault_under 1 3 (tx 1 StartSegment ∷ tx 2 (Mkdir a) ∷ tx 3 EndSegment ∷ tx 2 StartSegment ∷ tx 3 EndSegment ∷ []) ≡ Some (Gap 4)
+two_segments_as_one = refl
+
+-- nothing follows the greatest txid
+after_the_greatest_txid : fault_under 9223372036854775807 9223372036854775807 (tx 9223372036854775807 StartSegment ∷ tx 9223372036854775807 EndSegment ∷ []) ≡ Some (Gap 9223372036854775808)
+after_the_greatest_txid = refl
+
+wrong_names : (fault_under 2 3 (tx 1 StartSegment ∷ tx 2 (Delete a) ∷ tx 3 EndSegment ∷ []) ≡ Some NameMismatch)
+    × (fault_under 1 4 (tx 1 StartSegment ∷ tx 2 (Delete a) ∷ tx 3 EndSegment ∷ []) ≡ Some NameMismatch)
+wrong_names = (refl, refl)
+
+-- ---- Parts of a segment.
+
+txids : (first_txid [] ≡ 0) × (last_txid [] ≡ 0) × (first_txid (record { txid = 7; edit = StartSegment } ∷ record { txid = 8; edit = EndSegment } ∷ []) ≡ 7)
+    × (last_txid (record { txid = 7; edit = StartSegment } ∷ record { txid = 8; edit = EndSegment } ∷ []) ≡ 8)
+txids = (refl, refl, refl, refl)
+
+ends : (ends_once (record { txid = 8; edit = EndSegment } ∷ []) ≡ true) × (ends_once [] ≡ false)
+    × (ends_once (record { txid = 8; edit = EndSegment } ∷ record { txid = 9; edit = EndSegment } ∷ []) ≡ false)
+ends = (refl, refl, refl)

@@ -1,0 +1,56 @@
+-- What a segment is.
+use Rattle.std.specs.Prelude.{◌≡◌, ℕ, ◌-◌, ◌≤◌, List, [], ◌∷◌, length, drop, map, Bool, true, false, ◌==◌, ◌&&◌, ◌||◌, if◌then◌else◌, Ok}
+use Rattle.nn_edits.specs.declared.tx.Edit.{Edit}
+use Rattle.nn_edits.specs.declared.tx.Edit.TheVariants.{StartSegment, EndSegment}
+use Rattle.nn_edits.specs.declared.tx.Tx.{Tx}
+use Rattle.nn_model.specs.Log.{CountsUp}
+use Rattle.nn_segment.specs.Name.{IsNameOf}
+use Rattle.nn_segment.specs.Lines.{is_ended, reads_of}
+
+-- what callers see of a segment
+pub record Segment : Type 0 where
+  pub name : List ℕ
+  pub bytes : List ℕ
+  pub txs : List Tx
+
+-- the bytes that a segment may have
+abbrev pub max_bytes : ℕ
+max_bytes = 16777216
+
+abbrev pub is_start : Edit → Bool
+is_start StartSegment = true
+is_start _ = false
+
+abbrev pub is_end : Edit → Bool
+is_end EndSegment = true
+is_end _ = false
+
+-- whether the first transaction is a start mark
+abbrev pub starts : List Tx → Bool
+starts [] = false
+starts (tx ∷ txs) = is_start tx.edit
+
+-- whether the first mark among these is an end mark, and the last of them
+abbrev pub ends_once : List Tx → Bool
+ends_once [] = false
+ends_once (tx ∷ txs) = if is_start tx.edit || is_end tx.edit then is_end tx.edit && (length txs == 0) else ends_once txs
+
+abbrev pub first_txid : List Tx → ℕ
+first_txid [] = 0
+first_txid (tx ∷ txs) = tx.txid
+
+abbrev pub last_txid : List Tx → ℕ
+last_txid [] = 0
+last_txid (tx ∷ []) = tx.txid
+last_txid (tx ∷ next ∷ txs) = last_txid (next ∷ txs)
+
+-- The bytes are whole lines, not too many. Each line is the transaction at its place. The txids count up by one, and
+-- the name gives the first and the last. A start mark comes first, an end mark last, and none between.
+pub record IsSegment (s : Segment) : Type 0 where
+  pub short : length s.bytes ≤ max_bytes
+  pub ended : is_ended s.bytes ≡ true
+  pub lines : reads_of s.bytes ≡ map Ok s.txs
+  pub counts_up : CountsUp (first_txid s.txs - 1) s.txs
+  pub named : IsNameOf s.name (first_txid s.txs) (last_txid s.txs)
+  pub starts : starts s.txs ≡ true
+  pub ends : ends_once (drop 1 s.txs) ≡ true

@@ -1,0 +1,22 @@
+//! Segments of the shared log: their names, their bytes as transactions, and where they come from.
+//!
+//! A segment holds its transactions as lines of JSON, between a start mark and an end mark. `Parsed` is one that
+//! was found whole; a `SegmentSource` gives one after another.
+#![tactic(auto)]
+
+mod fault;
+mod laws;
+mod lines;
+mod name;
+mod parsed;
+mod source;
+#[cfg(test)]
+mod tests;
+
+pub use fault::{SegmentFault, SourceFault};
+pub use laws::{
+    a_walk_goes_through, joined_lines_are_cut_back, memory_gives_in_order, reading_is_the_segment,
+};
+pub use name::{one_name, parse_name, segment_name};
+pub use parsed::Parsed;
+pub use source::{GatherFault, Item, MemorySource, SegmentSource, gather};

@@ -1,0 +1,255 @@
+//! A segment that was found whole.
+ghost use Rattle.std.specs.Prelude.{◌≡◌, ◌⊎◌, ◌≤◌, ◌<◌, ◌^◌, ◌+◌, ◌∷◌, [], ◌||◌, ℕ, None, Some, Ok, Err, length, map, drop, is_none, string_bytes, MatchResult};
+ghost use Rattle.nn_segment.specs.declared.fault.SegmentFault.TheVariants.{BadName};
+ghost use Rattle.nn_edits.specs.Outcome.{Fails};
+ghost use Rattle.nn_segment.specs.Name.{txids_of};
+ghost use Rattle.nn_segment.specs.Lines.{newline, lines_of, is_ended, reads_of};
+ghost use Rattle.nn_segment.specs.Segment.{is_start, is_end, ends_once, first_txid, last_txid, max_bytes, IsSegment};
+ghost use Rattle.nn_segment.specs.Reading.{first, when, bytes_checks, lines_fault, later_fault, is_named, read_segment, fault_of_line};
+ghost use Rattle.nn_segment.specs.Outcome.{Gives, StopsAt};
+
+use crate::fault::SegmentFault;
+use crate::lines::{read_lines, torn_line};
+use crate::name::parse_name;
+use nn_edits::{Edit, LineFault, Tx};
+use nn_types::Txid;
+use std::alloc::Global;
+use std::marker::Model;
+
+/// The bytes that a segment may have.
+const MAX_BYTES: usize = 16_777_216;
+
+/// A segment of the log: a name, bytes, and the transactions of its lines. A start mark comes first, an end mark
+/// last and none between; each transaction is the next one after the one before.
+#[derive(Drop)]
+pub struct Parsed {
+    name: String,
+    bytes: Vec<u8>,
+    txs: Vec<Tx>,
+}
+
+impl Model for Parsed {
+    ghost use Rattle.std.specs.Prelude.{string_bytes};
+    ghost use Rattle.nn_segment.specs.Segment.{Segment, IsSegment};
+
+    ghost Value = { Segment };
+
+    ghost view = { λ p. record { name = string_bytes p.name; bytes = p.bytes.items; txs = p.txs.items } };
+
+    ghost invariant = { λ p. IsSegment (record { name = string_bytes p.name; bytes = p.bytes.items; txs = p.txs.items }) };
+}
+
+impl Parsed {
+    /// The segment that the bytes are under a name, or the first fault that applies. Each line is read once; name
+    /// and bytes move into the segment.
+    ///
+    /// Time and memory are of the order of the bytes.
+    pub fn of(alloc: Global, name: String, bytes: Vec<u8>) -> Result<Parsed, SegmentFault>
+        ensures { Gives result (read_segment (string_bytes name) bytes.items) }
+    {
+        let txids = match before_lines(name.as_str(), &bytes) {
+            Ok(txids) => txids,
+            Err(fault) => return Err(fault),
+        };
+        let read = read_lines(alloc, &bytes);
+        after_lines(name, bytes, txids, read.txs, read.bad)
+    }
+
+    /// The same from lines that were read already: the transactions are those of the bytes' lines. Takes no
+    /// memory.
+    pub fn from_lines(name: String, bytes: Vec<u8>, txs: Vec<Tx>) -> Result<Parsed, SegmentFault>
+        requires { reads_of bytes.items ≡ map Ok txs.items }
+        ensures { result ≡ read_segment (string_bytes name) bytes.items }
+    {
+        let txids = match before_lines(name.as_str(), &bytes) {
+            Ok(txids) => txids,
+            Err(fault) => return Err(fault),
+        };
+        after_lines(name, bytes, txids, txs, None)
+    }
+
+    /// The name.
+    pub fn name(&self) -> &str
+        ensures name { result.now ≡ self.now.name }
+        ensures whole { IsSegment self.now }
+    {
+        self.name.as_str()
+    }
+
+    /// The bytes.
+    pub fn bytes(&self) -> &[u8]
+        ensures bytes { result.now ≡ self.now.bytes }
+        ensures whole { IsSegment self.now }
+    {
+        self.bytes.as_slice()
+    }
+
+    /// The transactions.
+    pub fn txs(&self) -> &[Tx]
+        ensures txs { result.now ≡ self.now.txs }
+        ensures whole { IsSegment self.now }
+    {
+        self.txs.as_slice()
+    }
+
+    /// The transactions themselves.
+    pub fn into_txs(self) -> Vec<Tx>
+        ensures txs { result.items ≡ self.txs }
+        ensures whole { IsSegment self }
+    {
+        let Parsed { txs, .. } = self;
+        txs
+    }
+}
+
+// What can be told before any line is read: the txids of the name, or a fault of the name or the bytes.
+fn before_lines(name: &str, bytes: &[u8]) -> Result<(Txid, Txid), SegmentFault>
+    ensures { MatchResult result
+        (λ txids. (txids_of name.now ≡ Some txids) × (first (bytes_checks bytes.now) ≡ None))
+        (λ e. first (when (is_none (txids_of name.now)) BadName ∷ first (bytes_checks bytes.now) ∷ []) ≡ Some e) }
+{
+    let Some(txids) = parse_name(name) else {
+        return Err(SegmentFault::BadName);
+    };
+    if bytes.len() > MAX_BYTES {
+        return Err(SegmentFault::TooLong);
+    }
+    if bytes.is_empty() {
+        return Err(SegmentFault::NoStart);
+    }
+    if bytes[bytes.len() - 1] != b'\n' {
+        return Err(torn_line(bytes));
+    }
+    Ok(txids)
+}
+
+// The segment, where the lines were read up to the first bad one.
+fn after_lines(
+    name: String,
+    bytes: Vec<u8>,
+    txids: (Txid, Txid),
+    txs: Vec<Tx>,
+    bad: Option<LineFault>,
+) -> Result<Parsed, SegmentFault>
+    requires named { txids_of (string_bytes name) ≡ Some txids }
+    requires bytes { first (bytes_checks bytes.items) ≡ None }
+    requires read { StopsAt (reads_of bytes.items) txs.items bad }
+    ensures { (result ≡ read_segment (string_bytes name) bytes.items)
+        ⊎ ((bad ≡ Some LineFault.OutOfMemory) × (result ≡ Err SegmentFault.OutOfMemory)) }
+{
+    if let Some(fault) = order_fault(&txs) {
+        return Err(fault);
+    }
+    if let Some(fault) = bad {
+        return Err(bad_line(txs.len(), fault));
+    }
+    if !ends_once(later(&txs)) {
+        return Err(SegmentFault::NoEnd);
+    }
+    if !is_named(txids, &txs) {
+        return Err(SegmentFault::NameMismatch);
+    }
+    Ok(Parsed { name, bytes, txs })
+}
+
+// The fault of the line after so many.
+fn bad_line(before: usize, fault: LineFault) -> SegmentFault
+    requires { before < 2 ^ 63 }
+    ensures { result ≡ fault_of_line (before + 1) fault }
+{
+    match fault {
+        LineFault::OutOfMemory => SegmentFault::OutOfMemory,
+        fault => SegmentFault::BadLine {
+            line: before as u64 + 1,
+            fault,
+        },
+    }
+}
+
+// The fault of a first transaction that is no start mark, or of a later one that is not the next.
+fn order_fault(txs: &[Tx]) -> Option<SegmentFault>
+    ensures { result ≡ lines_fault (map Ok txs.now) }
+{
+    let Some(first) = txs.first() else {
+        return None;
+    };
+    if !is_start(&first.edit) {
+        return Some(SegmentFault::NoStart);
+    }
+    gap_in(first.txid.get() + 1, later(txs))
+}
+
+// The gap before the first transaction that is not the expected one.
+fn gap_in(expected: u64, txs: &[Tx]) -> Option<SegmentFault>
+    requires { expected ≤ 2 ^ 63 }
+    ensures { (n : ℕ) → result ≡ later_fault n expected (map Ok txs.now) }
+{
+    let mut next = expected;
+    for tx in txs {
+        if tx.txid.get() != next {
+            return Some(SegmentFault::Gap { expected: next });
+        }
+        next += 1;
+    }
+    None
+}
+
+// All transactions but the first.
+fn later(txs: &[Tx]) -> &[Tx]
+    ensures { result.now ≡ drop 1 txs.now }
+{
+    if txs.is_empty() { txs } else { &txs[1..] }
+}
+
+fn ends_once(txs: &[Tx]) -> bool
+    ensures { result ≡ ends_once txs.now }
+{
+    for (place, tx) in txs.iter().enumerate() {
+        if is_mark(&tx.edit) {
+            return is_end(&tx.edit) && place + 1 == txs.len();
+        }
+    }
+    false
+}
+
+fn is_named(txids: (Txid, Txid), txs: &[Tx]) -> bool
+    ensures { result ≡ is_named (Some txids) txs.now }
+{
+    txids.0.get() == first_txid(txs) && txids.1.get() == last_txid(txs)
+}
+
+fn first_txid(txs: &[Tx]) -> u64
+    ensures { result ≡ first_txid txs.now }
+{
+    match txs.first() {
+        Some(tx) => tx.txid.get(),
+        None => 0,
+    }
+}
+
+fn last_txid(txs: &[Tx]) -> u64
+    ensures { result ≡ last_txid txs.now }
+{
+    match txs.last() {
+        Some(tx) => tx.txid.get(),
+        None => 0,
+    }
+}
+
+fn is_mark(edit: &Edit) -> bool
+    ensures { result ≡ (is_start edit.now || is_end edit.now) }
+{
+    is_start(edit) || is_end(edit)
+}
+
+fn is_start(edit: &Edit) -> bool
+    ensures { result ≡ is_start edit.now }
+{
+    matches!(edit, Edit::StartSegment)
+}
+
+fn is_end(edit: &Edit) -> bool
+    ensures { result ≡ is_end edit.now }
+{
+    matches!(edit, Edit::EndSegment)
+}

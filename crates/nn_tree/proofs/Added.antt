@@ -1,0 +1,139 @@
+-- The index after a block was added.
+use Rattle.std.proofs.Common.{inl, inr, ◌≡◌, ℕ, true, false, cond, not, List, [], ◌∷◌, ◌++◌, Option, Some, None, refl, sym, ap, subst, ◌∙◌}
+use Rattle.std.specs.Prelude.{◌==◌, filter}
+use Rattle.std.specs.List.{AllByRecursion}
+use Rattle.std.specs.List.Sorted.{IsStrictlySortedBy}
+use Rattle.std.specs.declared.cmp.Ordering.TheVariants.{Less}
+use Rattle.std.specs.Ordering.{is_eq, nat_cmp}
+use Rattle.std.specs.BTreeMap.{is_at}
+use Rattle.std.specs.Set.{remove_key}
+use Rattle.std.proofs.lemmas.Bool.{both_ways, cases_Bool, eqb-true, eq-eqb, ne_eqb, not-false}
+use Rattle.std.proofs.lemmas.Map.Keys.{sorted_head, sorted_tail}
+use Rattle.nn_types.specs.declared.block.Block.{Block}
+use Rattle.nn_edits.specs.declared.tx.Edit.TheVariants as edit
+use Rattle.nn_edits.specs.Lawful.{IsLawfulEdit}
+use Rattle.nn_model.proofs.Trees.{stays_well_formed}
+use Rattle.nn_model.specs.declared.form.Form.TheVariants.{File}
+use Rattle.nn_model.specs.declared.form.FileRow.{FileRow}
+use Rattle.nn_model.specs.Namespace.{Namespace, lookup, with_row, all_blocks, file_at, file_or_none}
+use Rattle.nn_model.specs.Apply.{refusal, effect, checks, has_id, in_path_order}
+use Rattle.nn_model.specs.WellFormed.{Has}
+use Rattle.nn_model.proofs.Dues.{all_none, when_none, has_left, has_right, has_either, file_has}
+use Rattle.nn_model.proofs.Wells.{blocks_of_found}
+use Rattle.nn_model.specs.declared.form.Form.{Form}
+use Rattle.nn_model.specs.Namespace.{Path}
+use Rattle.nn_tree.specs.At.{at, IsSubtree, IsGrafted, IsSame}
+use Rattle.nn_tree.specs.declared.index.BlockRow.{BlockRow}
+use Rattle.nn_tree.specs.View.{seen, Stands, IsKept}
+use Rattle.nn_tree.proofs.Bridge.{tied}
+use Rattle.nn_tree.proofs.Deleted.{tie}
+use Rattle.nn_tree.proofs.Renamed.{same, same_true}
+use Rattle.nn_tree.proofs.Prefix.{append_nil}
+use Rattle.nn_tree.proofs.Indexed.{old_blocks, apart}
+use Rattle.nn_tree.proofs.Kept.{put_index, file_seen, file_was}
+use Rattle.nn_tree.proofs.Edited.{set_twice}
+
+-- ---- the ids that wait
+others : (ks : List ℕ) (i : ℕ) → AllByRecursion (λ y. nat_cmp i y ≡ Less) ks → filter (λ k. not (k == i)) ks ≡ ks
+others [] i a = refl
+others (k ∷ ks) i a = ap (λ b. cond (not b) (k ∷ filter (λ j. not (j == i)) ks) (filter (λ j. not (j == i)) ks)) (sym (tied i k) ∙ ap is_eq a.0) ∙ ap (λ r. k ∷ r) (others ks i a.1)
+
+pub without_id : (ks : List ℕ) (i : ℕ) → IsStrictlySortedBy nat_cmp ks → remove_key (is_at (nat_cmp i)) ks ≡ filter (λ k. not (k == i)) ks
+without_id [] i s = refl
+without_id (k ∷ ks) i s =
+    ap (λ b. cond b ks (k ∷ remove_key (is_at (nat_cmp i)) ks)) (tied i k)
+    ∙ elim (cases_Bool (k == i)) [
+      | inl e ↦ ap (λ b. cond b ks (k ∷ remove_key (is_at (nat_cmp i)) ks)) e ∙ sym (others ks i (subst (λ x. AllByRecursion (λ y. nat_cmp x y ≡ Less) ks) (eqb-true k i e) (sorted_head nat_cmp _ _ s)))
+          ∙ sym (ap (λ b. cond (not b) (k ∷ filter (λ j. not (j == i)) ks) (filter (λ j. not (j == i)) ks)) e)
+      | inr e ↦ ap (λ b. cond b ks (k ∷ remove_key (is_at (nat_cmp i)) ks)) e ∙ ap (λ r. k ∷ r) (without_id ks i (sorted_tail nat_cmp _ _ s))
+          ∙ sym (ap (λ b. cond (not b) (k ∷ filter (λ j. not (j == i)) ks) (filter (λ j. not (j == i)) ks)) e)
+    ]
+
+-- ---- the index
+pub waits : (n : Namespace) (p : Path) (i stamp : ℕ) → refusal n (edit.AddBlock p i stamp) ≡ None → has_id n.awaiting i ≡ true
+waits n p i stamp lawful = let a = all_none (checks n (edit.AddBlock p i stamp)) lawful in not-false _ (when_none _ _ a.1.1.1.1.1.0)
+
+pub open_file : (n : Namespace) (p : Path) (i stamp : ℕ) → refusal n (edit.AddBlock p i stamp) ≡ None → (file_at n p).closed ≡ false
+open_file n p i stamp lawful = let a = all_none (checks n (edit.AddBlock p i stamp)) lawful in when_none _ _ a.1.1.1.1.0
+
+pub stands_in : (n : Namespace) (b : BlockRow) → Stands (lookup n) b → Has (all_blocks n) b.block
+stands_in n b s = file_has s.0 n.rows b.block (subst (λ o. Has (old_blocks o) b.block) (sym s.2) (subst (λ bs. Has bs b.block) (sym (blocks_of_found s.1)) s.3.1))
+
+pub not_yet : (n : Namespace) (i : ℕ) (look : ℕ → Option BlockRow) → has_id n.awaiting i ≡ true → IsKept n look → look i ≡ None
+not_yet n i look waiting k =
+    elim (look i) as (λ o. look i ≡ o → o ≡ None) [
+      | None ↦ λ e. refl
+      | Some b ↦ λ e. let s = k.index.sound i b e in
+          let is = k.well.blocks.issued b.block (stands_in n b s.1) in
+          absurd (both_ways _ (subst (λ j. has_id n.awaiting j ≡ false) s.0 is.not_awaiting) waiting)
+    ] refl
+
+pub add_block_kept : (n : Namespace) (p : Path) (i stamp : ℕ) (x : FileRow) (look next : ℕ → Option BlockRow) → IsLawfulEdit (edit.AddBlock p i stamp) → refusal n (edit.AddBlock p i stamp) ≡ None → lookup n p ≡ Some (File x) →
+    ((q : ℕ) → next q ≡ cond (i == q) (Some (record { block = record { id = i; stamp = stamp; len = 0 }; closed = false })) (look q)) → IsKept n look → IsKept (effect n (edit.AddBlock p i stamp)) next
+add_block_kept n p i stamp x look next l lawful was goes k =
+    let b : Block = record { id = i; stamp = stamp; len = 0 } in
+    let row : BlockRow = record { block = b; closed = false } in
+    let f = file_at n p in
+    let y : FileRow = record { replication = f.replication; closed = false; blocks = f.blocks ++ b ∷ [] } in
+    let none = not_yet n i look (waits n p i stamp lawful) k in
+    let is_open : x.closed ≡ false = sym (ap (λ o. (file_or_none o).closed) was) ∙ open_file n p i stamp lawful in
+    let new : (c : BlockRow) → Stands (lookup n) c → c.block.id ≡ i → ⊥ = λ c s e. (let here = k.index.complete c s in let there : look c.block.id ≡ None = ap look e ∙ none in (cc (here, there))) in
+    record {
+      well = stays_well_formed n (edit.AddBlock p i stamp) l lawful k.well;
+      index = put_index n p (File y) look next (record {
+        own = λ z here c q r at_q in_row is. elim here [
+          | inl added ↦ elim (has_either f.blocks (b ∷ []) z added) [
+            | inl old ↦ apart n p q z r c.block k.well.blocks old at_q in_row.1 is
+            | inr last ↦ elim last [ inl e ↦ absurd (new c (q, r, at_q, in_row) (is ∙ sym (ap (λ w. w.id) e))) | inr no_more ↦ absurd no_more ]
+          ]
+          | inr old ↦ apart n p q z r c.block k.well.blocks old at_q in_row.1 is
+        ];
+        written = λ c h. elim (has_either f.blocks (b ∷ []) c.block h.1) [
+          | inl old ↦
+              (let stands : Stands (lookup n) c = (p, File x, was, (h.0 ∙ sym is_open, subst (λ o. Has (old_blocks o) c.block) was old)) in
+              goes c.block.id ∙ ap (λ t. cond t (Some row) (look c.block.id)) (ne_eqb i c.block.id (λ e. new c stands (sym e))) ∙ k.index.complete c stands)
+          | inr last ↦ elim last [
+            | inl e ↦
+                (let is : row ≡ c = (λ j. record { block = e j; closed = sym h.0 j }) in
+                goes c.block.id ∙ ap (λ t. cond t (Some row) (look c.block.id)) (eq-eqb i c.block.id (ap (λ w. w.id) e)) ∙ ap Some is)
+            | inr no_more ↦ absurd no_more
+          ]
+        ];
+        kept = λ id away before. goes id ∙ ap (λ t. cond t (Some row) (look id)) (ne_eqb i id (away b (has_right f.blocks (b ∷ []) b (inl refl))));
+        gone = λ z old away. absurd (away z (has_left f.blocks (b ∷ []) z old) refl);
+      }) k.index;
+    }
+
+-- ---- what is seen
+pub add_block_seen : (es mid new : List (Path × Form)) (last stamp : ℕ) (ks keys : List ℕ) (p ns : Path) (i g : ℕ) (x y w z : FileRow) → ns ≡ p → IsSubtree es ns (Some (([], File x) ∷ [])) → IsGrafted es ns (Some (([], File y) ∷ [])) mid →
+    IsSubtree mid ns (Some (([], File w) ∷ [])) → IsGrafted mid ns (Some (([], File z) ∷ [])) new → IsStrictlySortedBy nat_cmp ks → keys ≡ remove_key (is_at (nat_cmp i)) ks →
+    z ≡ record { replication = x.replication; closed = false; blocks = x.blocks ++ record { id = i; stamp = g; len = 0 } ∷ [] } →
+    seen new last stamp keys ≡ effect (seen es last stamp ks) (edit.AddBlock p i g)
+add_block_seen es mid new last stamp ks keys p ns i g x y w z e h k l m sorted is zx =
+    let s = seen es last stamp ks in
+    let was : x ≡ file_at s p = sym (ap file_or_none (file_was es last stamp ks p ns x e h)) in
+    let rows_are : in_path_order new ≡ (with_row s p (File z)).rows = ap (λ n. n.rows) (file_seen es mid new last stamp ks p ns x y w z e h k l m) in
+    (λ j. record { rows = rows_are j; last_block = last; last_stamp = stamp; awaiting = (is ∙ without_id ks i sorted) j })
+    ∙ ap (λ (f : FileRow). record { rows = (with_row s p (File f)).rows; last_block = last; last_stamp = stamp; awaiting = filter (λ k. not (k == i)) ks }) zx
+    ∙ ap (λ (f : FileRow). record { rows = (with_row s p (File (record { replication = f.replication; closed = false; blocks = f.blocks ++ record { id = i; stamp = g; len = 0 } ∷ [] }))).rows; last_block = last; last_stamp = stamp; awaiting = filter (λ k. not (k == i)) ks }) was
+
+-- a file put back
+pub back : (es mid new : List (Path × Form)) (ns : Path) (x y w : FileRow) → IsSubtree es ns (Some (([], File x) ∷ [])) → IsGrafted es ns (Some (([], File y) ∷ [])) mid → IsSubtree mid ns (Some (([], File w) ∷ [])) → IsGrafted mid ns (Some (([], File x) ∷ [])) new → IsSame es new
+back es mid new ns x y w h k l m q =
+    set_twice es mid new ns (File x) (File y) (File x) (File w) h k l m q
+    ∙ elim (cases_Bool (same q ns)) [
+      | inl e ↦ ap (λ b. cond b (Some (File x)) (at es q)) e ∙ sym (ap (at es) (same_true q ns e ∙ sym (append_nil ns)) ∙ h [])
+      | inr e ↦ ap (λ b. cond b (Some (File x)) (at es q)) e
+    ]
+
+pub kept_looks : (n : Namespace) (look next : ℕ → Option BlockRow) → ((id : ℕ) → next id ≡ look id) → IsKept n look → IsKept n next
+kept_looks n look next h k = subst (λ (f : ℕ → Option BlockRow). IsKept n f) (λ j id. sym (h id) j) k
+
+-- an entry that was put in and taken out again
+pub undone : (i : ℕ) (row : BlockRow) (look mid next : ℕ → Option BlockRow) → look i ≡ None → ((q : ℕ) → mid q ≡ cond (is_eq (nat_cmp i q)) (Some row) (look q)) → ((q : ℕ) → next q ≡ cond (is_eq (nat_cmp i q)) None (mid q)) → (q : ℕ) → next q ≡ look q
+undone i row look mid next none h k q =
+    k q ∙ ap (λ b. cond b None (mid q)) (tie i q)
+    ∙ elim (cases_Bool (i == q)) [
+      | inl e ↦ ap (λ b. cond b None (mid q)) e ∙ sym (sym (ap look (eqb-true i q e)) ∙ none)
+      | inr e ↦ ap (λ b. cond b None (mid q)) e ∙ h q ∙ ap (λ b. cond b (Some row) (look q)) (tie i q ∙ e)
+    ]

@@ -1,0 +1,221 @@
+-- What an edit of the fields shows, and that it keeps the index.
+use Rattle.std.proofs.Common.{inl, inr, ◌≡◌, ℕ, true, false, cond, not, List, [], ◌∷◌, ◌++◌, ◌<◌, length, String, Global, Option, Some, None, is_some, refl, sym, ap, subst, ◌∙◌, arith}
+use Rattle.std.specs.Prelude.{◌⊎◌, ◌==◌}
+use Rattle.std.specs.Ordering.{nat_cmp, match_ordering}
+use Rattle.std.specs.declared.cmp.Ordering.TheVariants.{Greater}
+use Rattle.std.specs.Cmp.{nat_cmp_is}
+use Rattle.std.specs.BTreeSet.{insert_key}
+use Rattle.std.proofs.lemmas.Bool.{both_ways, leb-false, eq-eqb, or_left, or_right}
+use Rattle.nn_types.specs.declared.block.Block.{Block}
+use Rattle.nn_edits.specs.declared.tx.Edit.TheVariants as edit
+use Rattle.nn_edits.specs.Lawful.{IsLawfulEdit}
+use Rattle.nn_model.proofs.Moves.{nothing_below}
+use Rattle.nn_model.proofs.Trees.{stays_well_formed, absent}
+use Rattle.nn_model.specs.declared.fault.EditFault.TheVariants.{IsRoot}
+use Rattle.nn_model.specs.declared.form.Form.TheVariants.{Dir, File}
+use Rattle.nn_model.specs.declared.form.FileRow.{FileRow}
+use Rattle.nn_model.proofs.Equals.{root_alone_is_well_formed}
+use Rattle.nn_model.specs.Namespace.{Namespace, root_alone, lookup, with_row, blocks_of, file_at, file_or_none}
+use Rattle.nn_model.specs.Apply.{refusal, effect, checks, list_checks, first, when, in_path_order, has_id, is_dir}
+use Rattle.nn_model.specs.Apply as apply
+use Rattle.nn_model.specs.WellFormed.{Has, HasWellFormedBlocks, IsWellFormed}
+use Rattle.nn_model.proofs.Dues.{all_none, when_none}
+use Rattle.nn_model.proofs.Lookups.{lookup_put, find_in_order}
+use Rattle.nn_model.specs.declared.form.Form.{Form}
+use Rattle.nn_model.specs.Namespace.{Path}
+use Rattle.nn_tree.specs.At.{at, names_of, IsSubtree, IsGrafted, IsSame}
+use Rattle.nn_tree.specs.Walks.{IsFree, is_file, rename_fault, moved_rows, IsRenamed}
+use Rattle.nn_tree.specs.declared.index.BlockRow.{BlockRow}
+use Rattle.nn_tree.specs.View.{seen, InRow, Stands, IsIndex, IsKept}
+use Rattle.nn_tree.proofs.Prefix.{append_nil, can_move}
+use Rattle.nn_tree.proofs.Renamed.{same, same_self, moved_there}
+use Rattle.nn_tree.proofs.Bridge.{looks}
+use Rattle.nn_tree.proofs.Edited.{graft_leaf, put_there, same_there, set_once, set_twice}
+use Rattle.nn_tree.proofs.Indexed.{old_blocks, Writes, index_written, index_renamed, index_alike, apart}
+
+-- nothing stands where an edit makes something, or below it
+pub mkdir_free : (n : Namespace) (p : Path) → refusal n (edit.Mkdir p) ≡ None → lookup n p ≡ None
+mkdir_free n p applies = absent n p (all_none (checks n (edit.Mkdir p)) applies).1.1.0
+
+pub mkdir_room : (n : Namespace) (p : Path) → IsWellFormed n → refusal n (edit.Mkdir p) ≡ None → IsFree (lookup n) p
+mkdir_room n p w applies rest = nothing_below (lookup n) w.parents p rest (mkdir_free n p applies)
+
+pub rename_room : (n : Namespace) (s d : Path) → IsWellFormed n → refusal n (edit.Rename s d) ≡ None → IsFree (lookup n) d
+rename_room n s d w applies rest = nothing_below (lookup n) w.parents d rest (absent n d (all_none (checks n (edit.Rename s d)) applies).1.1.1.1.1.1.0)
+
+pub free_here : (es : List (Path × Form)) (n : Namespace) (p ns : Path) → in_path_order es ≡ n.rows → ns ≡ p → IsFree (lookup n) p → IsSubtree es ns None
+free_here es n p ns e h k q = (λ j. looks es n e j (h j ++ q)) ∙ k q
+
+-- ---- the namespace before the first edit
+no_block_stands : (b : BlockRow) → Stands (lookup root_alone) b → ⊥
+no_block_stands b ([], r, e, here) = let is : Dir ≡ r = cc in subst (λ form. Has (blocks_of form) b.block) (sym is) here.1
+no_block_stands b (name ∷ p, r, e, here) = absurd (cc)
+
+pub new_kept : (n : Namespace) (look : ℕ → Option BlockRow) → n ≡ root_alone → ((id : ℕ) → look id ≡ None) → IsKept n look
+new_kept n look e none = record {
+  well = subst IsWellFormed (sym e) root_alone_is_well_formed;
+  index = record {
+    sound = λ id b h. absurd (let m = none id in (cc (m, h)));
+    complete = λ b stands. absurd (no_block_stands b (subst (λ m. Stands (lookup m) b) e stands));
+  };
+}
+
+-- ---- nothing changes
+pub still_seen : (es new : List (Path × Form)) (last stamp : ℕ) (ks : List ℕ) → IsSame es new → seen new last stamp ks ≡ seen es last stamp ks
+still_seen es new last stamp ks h = ap (λ r. record { rows = r; last_block = last; last_stamp = stamp; awaiting = ks }) (same_there es new h)
+
+pub still_kept : (es new : List (Path × Form)) (last stamp : ℕ) (ks : List ℕ) (look : ℕ → Option BlockRow) → IsSame es new → IsKept (seen es last stamp ks) look → IsKept (seen new last stamp ks) look
+still_kept es new last stamp ks look h k = subst (λ n. IsKept n look) (sym (still_seen es new last stamp ks h)) k
+
+-- ---- a row in place of another
+pub put_seen : (es new : List (Path × Form)) (last stamp : ℕ) (ks : List ℕ) (p : Path) (r : Form) → ((q : Path) → at new q ≡ cond (same q p) (Some r) (at es q)) → seen new last stamp ks ≡ with_row (seen es last stamp ks) p r
+put_seen es new last stamp ks p r h = ap (λ x. record { rows = x; last_block = last; last_stamp = stamp; awaiting = ks }) (put_there es new p r h)
+
+pub put_index : (n : Namespace) (p : Path) (r : Form) (look next : ℕ → Option BlockRow) → Writes (lookup n) p r look next → IsIndex (lookup n) look → IsIndex (lookup (with_row n p r)) next
+put_index n p r look next w x = index_written (lookup n) (lookup (with_row n p r)) p r look next (λ q. lookup_put n p q r) (same_self p) w x
+
+-- a row without blocks where nothing stood
+pub fresh_writes : (f : Path → Option Form) (p : Path) (r : Form) (look : ℕ → Option BlockRow) → f p ≡ None → blocks_of r ≡ [] → Writes f p r look look
+fresh_writes f p r look e z = record {
+  own = λ x h c q s at_q in_row is. elim h [ inl a ↦ absurd (subst (λ bs. Has bs x) z a) | inr b ↦ absurd (subst (λ o. Has (old_blocks o) x) e b) ];
+  written = λ b h. absurd (subst (λ bs. Has bs b.block) z h.1);
+  kept = λ id a b. refl;
+  gone = λ x b a. absurd (subst (λ o. Has (old_blocks o) x) e b);
+}
+
+pub free_top : (f : Path → Option Form) (p : Path) → IsFree f p → f p ≡ None
+free_top f p h = ap f (sym (append_nil p)) ∙ h []
+
+pub made : (es new : List (Path × Form)) (last stamp : ℕ) (ks : List ℕ) (p ns : Path) (r : Form) → ns ≡ p → IsFree (lookup (seen es last stamp ks)) p → IsGrafted es ns (Some (([], r) ∷ [])) new → seen new last stamp ks ≡ with_row (seen es last stamp ks) p r
+made es new last stamp ks p ns r e free h =
+    put_seen es new last stamp ks p r (λ q. h q ∙ graft_leaf (at es) ns r (λ n x. free_here es (seen es last stamp ks) p ns refl e free (n ∷ x)) q ∙ ap (λ x. cond (same q x) (Some r) (at es q)) e)
+
+pub mkdir_kept : (n : Namespace) (p : Path) (look : ℕ → Option BlockRow) → IsLawfulEdit (edit.Mkdir p) → refusal n (edit.Mkdir p) ≡ None → IsKept n look → IsKept (effect n (edit.Mkdir p)) look
+mkdir_kept n p look l lawful k = record {
+  well = stays_well_formed n (edit.Mkdir p) l lawful k.well;
+  index = put_index n p Dir look look (fresh_writes (lookup n) p Dir look (mkdir_free n p lawful) refl) k.index;
+}
+
+-- what Add asks of the path is what Mkdir asks
+pub add_mkdir : (n : Namespace) (p : Path) (r : ℕ) → refusal n (edit.Add p r) ≡ None → refusal n (edit.Mkdir p) ≡ None
+add_mkdir n p r h =
+    let a = all_none (checks n (edit.Add p r)) h in
+    ap (λ o. first (o ∷ apply.walk n p ∷ apply.exists n p ∷ [])) a.0 ∙ ap (λ o. first (o ∷ apply.exists n p ∷ [])) a.1.1.0 ∙ ap (λ o. first (o ∷ [])) a.1.1.1.0
+
+pub add_kept : (n : Namespace) (p : Path) (r : ℕ) (look : ℕ → Option BlockRow) → IsLawfulEdit (edit.Add p r) → refusal n (edit.Add p r) ≡ None → IsKept n look → IsKept (effect n (edit.Add p r)) look
+add_kept n p r look l lawful k =
+    let row = File (record { replication = r; closed = false; blocks = [] }) in record {
+      well = stays_well_formed n (edit.Add p r) l lawful k.well;
+      index = put_index n p row look look (fresh_writes (lookup n) p row look (mkdir_free n p (add_mkdir n p r lawful)) refl) k.index;
+    }
+
+-- ---- a rename
+pub renamed_seen : (es new : List (Path × Form)) (last stamp : ℕ) (ks : List ℕ) (s d ss ds : Path) → ss ≡ s → ds ≡ d → IsFree (lookup (seen es last stamp ks)) d → IsRenamed es ss ds new → seen new last stamp ks ≡ effect (seen es last stamp ks) (edit.Rename s d)
+renamed_seen es new last stamp ks s d ss ds e f free h =
+    ap (λ x. record { rows = x; last_block = last; last_stamp = stamp; awaiting = ks })
+    (moved_there es new s d (free_here es (seen es last stamp ks) d d refl refl free) (λ q. h q ∙ (λ j. moved_rows (at es) (e j) (f j) q)))
+
+pub rename_kept : (es new : List (Path × Form)) (last stamp : ℕ) (ks : List ℕ) (look : ℕ → Option BlockRow) (s d ss ds : Path) → ss ≡ s → ds ≡ d → IsLawfulEdit (edit.Rename s d) → refusal (seen es last stamp ks) (edit.Rename s d) ≡ None → rename_fault (at es) ss ds ≡ None →
+    IsFree (lookup (seen es last stamp ks)) d → IsRenamed es ss ds new → IsKept (seen es last stamp ks) look → IsKept (seen new last stamp ks) look
+rename_kept es new last stamp ks look s d ss ds e f l lawful fault free h k =
+    let n = seen es last stamp ks in
+    let is = renamed_seen es new last stamp ks s d ss ds e f free h in
+    let move = can_move (at es) ss ds fault (free_here es n d ds refl f free) in
+    let same_rows : (q : Path) → at es q ≡ lookup n q = λ q. sym (find_in_order q es) in
+    record {
+      well = subst IsWellFormed (sym is) (stays_well_formed n (edit.Rename s d) l lawful k.well);
+      index = index_alike (at new) (lookup (seen new last stamp ks)) look (λ q. find_in_order q new)
+          (index_alike (moved_rows (at es) ss ds) (at new) look h (index_renamed (at es) ss ds look move (index_alike (lookup n) (at es) look same_rows k.index)));
+    }
+
+-- ---- a file in place of a file
+is_file_by : (o : Option Form) → not (is_some o) ≡ false → is_dir o ≡ false → is_file o ≡ true
+is_file_by None h k = absurd (both_ways _ h refl)
+is_file_by (Some Dir) h k = absurd (both_ways _ k refl)
+is_file_by (Some (File x)) h k = refl
+
+pub set_replication_file : (n : Namespace) (p : Path) (r : ℕ) → refusal n (edit.SetReplication p r) ≡ None → is_file (lookup n p) ≡ true
+set_replication_file n p r h = let a = all_none (checks n (edit.SetReplication p r)) h in is_file_by (lookup n p) (when_none _ _ a.1.1.1.0) (when_none _ _ a.1.1.1.1.0)
+
+pub add_block_file : (n : Namespace) (p : Path) (i stamp : ℕ) → refusal n (edit.AddBlock p i stamp) ≡ None → is_file (lookup n p) ≡ true
+add_block_file n p i stamp h = let a = all_none (checks n (edit.AddBlock p i stamp)) h in is_file_by (lookup n p) (when_none _ _ a.1.1.0) (when_none _ _ a.1.1.1.0)
+
+pub list_file : (n : Namespace) (p : Path) (bs : List Block) → first (list_checks n p bs) ≡ None → is_file (lookup n p) ≡ true
+list_file n p bs h = let a = all_none (list_checks n p bs) h in is_file_by (lookup n p) (when_none _ _ a.1.1.0) (when_none _ _ a.1.1.1.0)
+
+pub file_here : (es : List (Path × Form)) (last stamp : ℕ) (ks : List ℕ) (p ns : Path) → ns ≡ p → is_file (lookup (seen es last stamp ks) p) ≡ true → is_file (at es ns) ≡ true
+file_here es last stamp ks p ns e h = ap is_file (λ j. looks es (seen es last stamp ks) refl j (e j)) ∙ h
+
+-- the file that stood there
+pub file_was : (es : List (Path × Form)) (last stamp : ℕ) (ks : List ℕ) (p ns : Path) (x : FileRow) → ns ≡ p → IsSubtree es ns (Some (([], File x) ∷ [])) → lookup (seen es last stamp ks) p ≡ Some (File x)
+file_was es last stamp ks p ns x e h = sym (λ j. looks es (seen es last stamp ks) refl j (e j)) ∙ ap (at es) (sym (append_nil ns)) ∙ h []
+
+pub is_file_there : (es mid : List (Path × Form)) (p : Path) (x y : FileRow) → IsSubtree es p (Some (([], File x) ∷ [])) → IsGrafted es p (Some (([], File y) ∷ [])) mid → is_file (at mid p) ≡ true
+is_file_there es mid p x y h k = ap is_file (set_once es mid p (File x) (File y) h k p ∙ ap (λ b. cond b (Some (File y)) (at es p)) (same_self p))
+
+pub file_seen : (es mid new : List (Path × Form)) (last stamp : ℕ) (ks : List ℕ) (p ns : Path) (x y w z : FileRow) → ns ≡ p → IsSubtree es ns (Some (([], File x) ∷ [])) → IsGrafted es ns (Some (([], File y) ∷ [])) mid →
+    IsSubtree mid ns (Some (([], File w) ∷ [])) → IsGrafted mid ns (Some (([], File z) ∷ [])) new → seen new last stamp ks ≡ with_row (seen es last stamp ks) p (File z)
+file_seen es mid new last stamp ks p ns x y w z e h k l m =
+    put_seen es new last stamp ks p (File z) (λ q. set_twice es mid new ns (File x) (File y) (File z) (File w) h k l m q ∙ ap (λ s. cond (same q s) (Some (File z)) (at es q)) e)
+
+-- the blocks of a file that is written stand nowhere else, if they are old ones
+pub old_own : (n : Namespace) (p : Path) (y : Form) → HasWellFormedBlocks n → ((x : Block) → Has (blocks_of y) x → (o : Block) × Has (old_blocks (lookup n p)) o × (o.id ≡ x.id)) →
+    (x : Block) → Has (blocks_of y) x ⊎ Has (old_blocks (lookup n p)) x → (c : BlockRow) (q : Path) (r : Form) → lookup n q ≡ Some r → InRow c r → c.block.id ≡ x.id → same q p ≡ true
+old_own n p y w old x here c q r at_q in_row is =
+    elim here [
+      | inl new ↦ (let o = old x new in apart n p q o.0 r c.block w o.1 at_q in_row.1 (is ∙ sym o.2))
+      | inr was ↦ apart n p q x r c.block w was at_q in_row.1 is
+    ]
+
+pub set_replication_kept : (n : Namespace) (p : Path) (r : ℕ) (x : FileRow) (look : ℕ → Option BlockRow) → IsLawfulEdit (edit.SetReplication p r) → refusal n (edit.SetReplication p r) ≡ None → lookup n p ≡ Some (File x) → IsKept n look → IsKept (effect n (edit.SetReplication p r)) look
+set_replication_kept n p r x look l lawful was k =
+    let row = File (record { replication = r; closed = (file_at n p).closed; blocks = (file_at n p).blocks }) in
+    let old : file_at n p ≡ x = ap file_or_none was in
+    record {
+      well = stays_well_formed n (edit.SetReplication p r) l lawful k.well;
+      index = put_index n p row look look (record {
+        own = old_own n p row k.well.blocks (λ b here. (b, here, refl));
+        written = λ b h. k.index.complete b (p, File x, was, (h.0 ∙ ap (λ f. f.closed) old, subst (λ f. Has f.blocks b.block) old h.1));
+        kept = λ id a b. refl;
+        gone = λ b here away. absurd (away b here refl);
+      }) k.index;
+    }
+
+-- ---- ids and stamps
+insert_last : (ks : List ℕ) (i : ℕ) → ((k : ℕ) → has_id ks k ≡ true → k < i) → insert_key nat_cmp ks i ≡ ks ++ i ∷ []
+insert_last [] i below = refl
+insert_last (k ∷ ks) i below =
+    ap (λ o. match_ordering o (i ∷ k ∷ ks) (k ∷ ks) (k ∷ insert_key nat_cmp ks i)) (sym (nat_cmp_is i k Greater (below k (or_left (k == k) (has_id ks k) (eq-eqb k k refl)))))
+    ∙ ap (λ r. k ∷ r) (insert_last ks i (λ j h. below j (or_right (k == j) (has_id ks j) h)))
+
+pub allocated : (n : Namespace) (i : ℕ) (keys : List ℕ) → HasWellFormedBlocks n → refusal n (edit.AllocateBlockId i) ≡ None → keys ≡ insert_key nat_cmp n.awaiting i → keys ≡ n.awaiting ++ i ∷ []
+allocated n i keys w lawful e =
+    let found = all_none (checks n (edit.AllocateBlockId i)) lawful in
+    let above : n.last_block < i = leb-false _ _ (when_none _ _ found.0) in
+    e ∙ insert_last n.awaiting i (λ k h. omega (arith, (w.awaiting_from k h).1))
+
+pub allocated_seen : (es : List (Path × Form)) (last stamp i : ℕ) (ks keys : List ℕ) → HasWellFormedBlocks (seen es last stamp ks) → refusal (seen es last stamp ks) (edit.AllocateBlockId i) ≡ None → keys ≡ insert_key nat_cmp ks i →
+    seen es i stamp keys ≡ effect (seen es last stamp ks) (edit.AllocateBlockId i)
+allocated_seen es last stamp i ks keys w lawful e = ap (λ x. record { rows = in_path_order es; last_block = i; last_stamp = stamp; awaiting = x }) (allocated (seen es last stamp ks) i keys w lawful e)
+
+pub allocate_kept : (es : List (Path × Form)) (last stamp i : ℕ) (ks keys : List ℕ) (look : ℕ → Option BlockRow) → IsLawfulEdit (edit.AllocateBlockId i) → refusal (seen es last stamp ks) (edit.AllocateBlockId i) ≡ None → keys ≡ insert_key nat_cmp ks i →
+    IsKept (seen es last stamp ks) look → IsKept (seen es i stamp keys) look
+allocate_kept es last stamp i ks keys look l lawful e k = record {
+  well = subst IsWellFormed (sym (allocated_seen es last stamp i ks keys k.well.blocks lawful e)) (stays_well_formed (seen es last stamp ks) (edit.AllocateBlockId i) l lawful k.well);
+  index = k.index;
+}
+
+pub genstamp_kept : (n : Namespace) (stamp : ℕ) (look : ℕ → Option BlockRow) → IsLawfulEdit (edit.SetGenstamp stamp) → refusal n (edit.SetGenstamp stamp) ≡ None → IsKept n look → IsKept (effect n (edit.SetGenstamp stamp)) look
+genstamp_kept n stamp look l lawful k = record { well = stays_well_formed n (edit.SetGenstamp stamp) l lawful k.well; index = k.index }
+
+-- ---- a delete
+pub not_gone : (es : List (Path × Form)) (last stamp : ℕ) (ks : List ℕ) (p ns : Path) → ns ≡ p → refusal (seen es last stamp ks) (edit.Delete p) ≡ None → IsSubtree es ns None → ⊥
+not_gone es last stamp ks p ns e lawful h =
+    let n = seen es last stamp ks in
+    let a = all_none (checks n (edit.Delete p)) lawful in
+    let none : lookup n p ≡ None = sym (λ j. looks es n refl j (e j)) ∙ free_top (at es) ns h in
+    both_ways _ (when_none _ _ a.1.1.0) (ap (λ o. not (is_some o)) none)
+
+pub delete_has_name : (n : Namespace) (p : Path) (xs : List (String Global)) → names_of xs ≡ p → refusal n (edit.Delete p) ≡ None → 0 < length xs
+delete_has_name n p [] e lawful = absurd (let a = all_none (checks n (edit.Delete p)) lawful in let r : apply.is_root p ≡ Some IsRoot = ap apply.is_root (sym e) in (cc (r, a.0)))
+delete_has_name n p (x ∷ xs) e lawful = omega arith

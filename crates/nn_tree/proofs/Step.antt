@@ -1,0 +1,92 @@
+-- A directory in which one child changes.
+use Rattle.std.proofs.Common.{◌≡◌, Result, Ok, Err, OnOk, OnErr, ℕ, Bool, true, false, cond, List, [], ◌∷◌, ◌++◌, Option, Some, None, IsSome, refl, sym, ap, subst, ◌∙◌}
+use Rattle.std.specs.BTreeMap.{get_by_text, IsOrdered, UpdatesBy, WritesThrough}
+use Rattle.std.specs.Ordering.{is_eq, nat_cmp}
+use Rattle.std.specs.Cmp.Lexicographic.{slice_cmp}
+use Rattle.std.specs.String.{string_bytes, string_cmp}
+use Rattle.std.proofs.lemmas.Map.Text.{is_eq-slice_cmp, btree_map_updates_text}
+use Rattle.nn_model.specs.declared.form.Form.{Form}
+use Rattle.nn_model.specs.Namespace.{Path}
+use Rattle.nn_tree.specs.At.{at, rows, name_cmp, grafted, IsSubtree, IsGrafted, IsSame}
+use Rattle.nn_tree.specs.declared.tree.Tree.{Tree}
+use Rattle.nn_tree.proofs.Below.{at-below}
+use Rattle.nn_tree.proofs.Subtree.{Children, dir_rows, IsDir, at_top, at_child}
+use Rattle.std.specs.declared.cmp.Ordering.{Ordering}
+use Rattle.std.specs.declared.cmp.Ordering.TheVariants.{Less, Equal, Greater}
+use Rattle.std.specs.FinMap.{slice_cmp-IsAntisymmetric, nat_cmp-IsAntisymmetric}
+
+pub equal : (o : Ordering) → is_eq o ≡ true → o ≡ Equal
+equal Less e = cc
+equal Equal e = refl
+equal Greater e = cc
+
+rows_cond : (b : Bool) (o p : Option Tree) (q : Path) → rows (cond b o p) q ≡ cond b (rows o q) (rows p q)
+rows_cond true o p q = refl
+rows_cond false o p q = refl
+
+-- the children k are m with o at the name n
+pub record Becomes (m k : Children) (n : List ℕ) (o : Option Tree) : Type 0 where
+  pub updates : UpdatesBy string_cmp (λ s. slice_cmp nat_cmp n (string_bytes s)) m k o
+  pub ordered : IsOrdered string_cmp k
+
+-- after a write through `get_mut`
+pub written : (m k : Children) (n : List ℕ) (t w : Tree) → Some t ≡ get_by_text m n → WritesThrough string_cmp (λ s. slice_cmp nat_cmp n (string_bytes s)) m w k → Becomes m k n (Some w)
+written m k n t w g h = record { updates = h.3 (subst IsSome g refl); ordered = h.4 }
+
+-- a directory's rows below a name, after its child of the name n has become o
+pub at_changed : (es : List (Path × Form)) (m k : Children) (n : List ℕ) (o : Option Tree) → IsDir es m → Becomes m k n o → (x : List ℕ) (q : Path) → at (dir_rows k) (x ∷ q) ≡ cond (is_eq (name_cmp n x)) (rows o q) (at es (x ∷ q))
+at_changed es m k n o d b x q =
+    at-below x q k.entries b.ordered
+    ∙ ap (λ p. rows p q) (btree_map_updates_text n m k o b.updates x)
+    ∙ ap (λ c. rows (cond c o (get_by_text m x)) q) (sym (is_eq-slice_cmp n x))
+    ∙ rows_cond (is_eq (name_cmp n x)) o (get_by_text m x) q
+    ∙ ap (λ r. cond (is_eq (name_cmp n x)) (rows o q) r) (sym (at_child es m x q d))
+
+-- the child of the name n becomes o
+pub graft_here : (es : List (Path × Form)) (m k : Children) (n : List ℕ) (o : Option Tree) → IsDir es m → Becomes m k n o → IsGrafted es (n ∷ []) o (dir_rows k)
+graft_here es m k n o d b [] = sym (at_top es m d)
+graft_here es m k n o d b (x ∷ q) = at_changed es m k n o d b x q
+
+graft_cons : (es : List (Path × Form)) (m k : Children) (n : List ℕ) (ns : Path) (t w : Tree) (o : Option Tree) → IsDir es m → Becomes m k n (Some w) → ((q : Path) → at es (n ∷ q) ≡ at t q) → IsGrafted t ns o w → IsGrafted es (n ∷ ns) o (dir_rows k)
+graft_cons es m k n ns t w o d b f h [] = sym (at_top es m d)
+graft_cons es m k n ns t w o d b f h (x ∷ q) =
+    at_changed es m k n (Some w) d b x q
+    ∙ ap (λ r. cond (is_eq (name_cmp n x)) r (at es (x ∷ q))) (h q ∙ (λ j. grafted (λ r. sym (f r) j) ns (rows o) q))
+
+-- the child t of the name n becomes w, in which the rest of the path is changed
+pub graft_below : (es : List (Path × Form)) (m k : Children) (n : List ℕ) (ns ps : Path) (t w : Tree) (o : Option Tree) → ps ≡ n ∷ ns → IsDir es m → Becomes m k n (Some w) → ((q : Path) → at es (n ∷ q) ≡ at t q) → IsGrafted t ns o w → IsGrafted es ps o (dir_rows k)
+graft_below es m k n ns ps t w o e d b f h q = graft_cons es m k n ns t w o d b f h q ∙ (λ j. grafted (at es) (sym e j) (rows o) q)
+
+pub same_name : (n x : List ℕ) → is_eq (name_cmp n x) ≡ true → n ≡ x
+same_name n x e = slice_cmp-IsAntisymmetric nat_cmp-IsAntisymmetric n x (equal (name_cmp n x) e)
+
+-- the same, where nothing changes
+pub same_below : (es : List (Path × Form)) (m k : Children) (n : List ℕ) (t w : Tree) → IsDir es m → Becomes m k n (Some w) → ((q : Path) → at es (n ∷ q) ≡ at t q) → IsSame t w → IsSame es (dir_rows k)
+same_below es m k n t w d b f h [] = sym (at_top es m d)
+same_below es m k n t w d b f h (x ∷ q) =
+    at_changed es m k n (Some w) d b x q
+    ∙ elim (is_eq (name_cmp n x)) as (λ c. is_eq (name_cmp n x) ≡ c → cond c (at w q) (at es (x ∷ q)) ≡ at es (x ∷ q)) [
+      | true ↦ λ e. h q ∙ sym (f q) ∙ ap (λ y. at es (y ∷ q)) (same_name n x e)
+      | false ↦ λ e. refl
+    ] refl
+
+pub on_ok : {X E P Q : Type 0} (r : Result X E) → (P → Q) → OnOk r P → OnOk r Q
+on_ok (Ok x) f p = f p
+on_ok (Err e) f p = p
+
+pub on_err : {X E P Q : Type 0} (r : Result X E) → (P → Q) → OnErr r P → OnErr r Q
+on_err (Ok x) f p = p
+on_err (Err e) f p = f p
+
+-- nothing in place of nothing
+pub graft_nothing : (f : Path → Option Form) (p : Path) → ((q : Path) → f (p ++ q) ≡ None) → (q : Path) → grafted f p (rows None) q ≡ f q
+graft_nothing f [] h q = sym (h q)
+graft_nothing f (n ∷ ns) h [] = refl
+graft_nothing f (n ∷ ns) h (x ∷ q) =
+    elim (is_eq (name_cmp n x)) as (λ c. is_eq (name_cmp n x) ≡ c → cond c (grafted (λ r. f (n ∷ r)) ns (rows None) q) (f (x ∷ q)) ≡ f (x ∷ q)) [
+      | true ↦ λ e. graft_nothing (λ r. f (n ∷ r)) ns (λ r. h r) q ∙ ap (λ y. f (y ∷ q)) (same_name n x e)
+      | false ↦ λ e. refl
+    ] refl
+
+pub nothing_taken : (es new : List (Path × Form)) (p : Path) → new ≡ es → IsSubtree es p None → IsGrafted es p None new
+nothing_taken es new p e h q = ap (λ z. at z q) e ∙ sym (graft_nothing (at es) p h q)

@@ -1,0 +1,11 @@
+use Rattle.std.proofs.Common.{ap}
+use Rattle.std.specs.Map.{lookup as lookup_by}
+use Rattle.std.specs.BTreeMap.{is_at}
+use Rattle.std.specs.Ordering.{nat_cmp}
+use Rattle.nn_tree.specs.View.{seen}
+use Rattle.nn_tree.proofs.Kept.{new_kept}
+use Rattle.nn_tree.proofs.namespace.Namespace.new.Goals as goal
+
+pub invariant_of-result : goal.invariant_of-result
+invariant_of-result c =
+    new_kept _ _ (λ j. seen (c.new_dir.ensures j) (c.no_block.ensures j) (c.no_stamp.ensures j) (c.new-2.ensures.empty j)) (λ id. ap (lookup_by (is_at (nat_cmp id))) c.new.ensures.empty)

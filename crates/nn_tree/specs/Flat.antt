@@ -1,0 +1,35 @@
+-- A tree as the list of its paths, each with its row.
+use Rattle.std.specs.Prelude.{ℕ, List, [], ◌∷◌, ◌++◌}
+use Rattle.std.specs.String.{string_bytes, string_cmp}
+use Rattle.std.specs.declared.string.String.{String}
+use Rattle.std.specs.BTreeMap.{IsOrdered}
+use Rattle.nn_model.specs.declared.form.Form.{Form}
+use Rattle.nn_model.specs.Namespace.{Path}
+use Rattle.nn_model.specs.declared.form.Form.TheVariants.{Dir, File}
+use Rattle.nn_tree.specs.declared.tree.Node.{Node}
+use Rattle.nn_tree.specs.declared.tree.Node.TheVariants.{Folder, Leaf}
+
+-- each path, below the name n
+abbrev pub under : List ℕ → List (Path × Form) → List (Path × Form)
+under n [] = []
+under n (e ∷ es) = (n ∷ e.0, e.1) ∷ under n es
+
+-- each path, below the path p
+abbrev pub under_all : Path → List (Path × Form) → List (Path × Form)
+under_all [] es = es
+under_all (n ∷ p) es = under n (under_all p es)
+
+-- the paths of a directory's children, one after another
+abbrev pub below : {Y : Type 0} → List (String Y × List (Path × Form)) → List (Path × Form)
+below [] = []
+below (c ∷ cs) = under (string_bytes c.0) c.1 ++ below cs
+
+-- the paths of a node, itself first
+abbrev pub flat : Node → List (Path × Form)
+flat (Folder m) = ([], Dir) ∷ below m.entries
+flat (Leaf f) = ([], File f) ∷ []
+
+-- the names in a directory are in order
+abbrev pub IsInOrder : Node → Type 0
+IsInOrder (Folder m) = IsOrdered string_cmp m
+IsInOrder (Leaf f) = Unit {0}

@@ -1,0 +1,10 @@
+pub mod Flat
+pub mod Falls
+pub mod At
+pub mod Walks
+pub mod Ids
+pub mod View
+pub mod Found
+pub mod Touched
+pub mod Listing
+pub mod BlockRow

@@ -1,0 +1,42 @@
+-- How a tree and its index show a namespace.
+use Rattle.std.specs.Prelude.{◌≡◌, ℕ, Bool, false, List, [], ◌∷◌, Option, Some, None, cond, option_map, ◌==◌}
+use Rattle.nn_types.specs.declared.block.Block.{Block}
+use Rattle.nn_model.specs.declared.form.Form.{Form}
+use Rattle.nn_model.specs.declared.form.Form.TheVariants.{Dir, File}
+use Rattle.nn_model.specs.Namespace.{Path, Namespace, lookup, blocks_of}
+use Rattle.nn_model.specs.Apply.{in_path_order}
+use Rattle.nn_model.specs.WellFormed.{Has, IsWellFormed}
+use Rattle.nn_tree.specs.declared.index.BlockRow.{BlockRow}
+
+-- the namespace of a tree's paths
+abbrev pub seen : List (Path × Form) → ℕ → ℕ → List ℕ → Namespace
+seen es last_block last_stamp awaiting = record { rows = in_path_order es; last_block = last_block; last_stamp = last_stamp; awaiting = awaiting }
+
+-- whether it is a closed file
+abbrev pub closed_of : Form → Bool
+closed_of Dir = false
+closed_of (File x) = x.closed
+
+-- it is a file with the block, closed or open as the index says
+abbrev pub InRow : BlockRow → Form → Type 0
+InRow b r = (b.closed ≡ closed_of r) × Has (blocks_of r) b.block
+
+-- the block stands in some file
+abbrev pub Stands : (Path → Option Form) → BlockRow → Type 0
+Stands f b = (p : Path) × (r : Form) × (f p ≡ Some r) × InRow b r
+
+-- the index has the blocks of the files, and no others
+pub record IsIndex (f : Path → Option Form) (look : ℕ → Option BlockRow) : Type 0 where
+  pub sound : (id : ℕ) (b : BlockRow) → look id ≡ Some b → (b.block.id ≡ id) × Stands f b
+  pub complete : (b : BlockRow) → Stands f b → look b.block.id ≡ Some b
+
+-- what holds between two calls: the namespace is well formed, and the index is its own
+pub record IsKept (n : Namespace) (look : ℕ → Option BlockRow) : Type 0 where
+  pub well : IsWellFormed n
+  pub index : IsIndex (lookup n) look
+
+-- The index after a file's list `old` was replaced by `new`, which has the ids of the old one, all of them or all but the last.
+abbrev pub renewed : (ℕ → Option BlockRow) → List Block → List Block → Bool → ℕ → Option BlockRow
+renewed look [] new closed id = look id
+renewed look (a ∷ old) [] closed id = cond (a.id == id) None (look id)
+renewed look (a ∷ old) (b ∷ new) closed id = cond (b.id == id) (option_map (λ _. record { block = b; closed = closed }) (renewed look old new closed id)) (renewed look old new closed id)

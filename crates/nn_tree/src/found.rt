@@ -1,0 +1,9 @@
+//! What a look-up finds.
+use nn_model::FileRow;
+
+/// What stands at a path.
+#[derive(Clone, Copy)]
+pub enum Found<'a> {
+    Dir,
+    File(&'a FileRow),
+}

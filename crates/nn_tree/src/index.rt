@@ -1,0 +1,43 @@
+//! The index of the blocks that files have, by id. It names no path, so that a rename leaves it alone.
+ghost use Rattle.std.specs.Prelude.{◌≡◌, ℕ, None, cond};
+ghost use Rattle.std.specs.BTreeMap.{get};
+ghost use Rattle.std.specs.Ordering.{nat_cmp};
+ghost use Rattle.nn_model.specs.Apply.{has_id};
+ghost use Rattle.nn_tree.specs.View.{renewed};
+
+use nn_types::{Block, BlockId};
+use std::collections::BTreeMap;
+
+/// A block of a file, and whether the file is closed.
+#[derive(Clone, Copy, Debug, PartialEq, Eq)]
+pub struct BlockRow {
+    pub block: Block,
+    pub closed: bool,
+}
+
+// Takes ids out of an index.
+pub(crate) fn forget(index: &mut BTreeMap<u64, BlockRow>, ids: &[BlockId])
+    ensures { (q : ℕ) → get nat_cmp index.new q ≡ cond (has_id ids.now q) None (get nat_cmp index.old q) }
+{
+    for id in ids {
+        let _row = index.remove(&id.get());
+    }
+}
+
+// Puts a new list of blocks in an index in place of an old one, which has the same ids and perhaps one more.
+pub(crate) fn renew(index: &mut BTreeMap<u64, BlockRow>, old: &[Block], new: &[Block], closed: bool)
+    ensures { (q : ℕ) → get nat_cmp index.new q ≡ renewed (λ id. get nat_cmp index.old id) old.now new.now closed q }
+{
+    let Some((a, old_rest)) = old.split_first() else {
+        return;
+    };
+    let Some((b, new_rest)) = new.split_first() else {
+        let _row = index.remove(&a.id.get());
+        return;
+    };
+    renew(index, old_rest, new_rest, closed);
+    let Some(row) = index.get_mut(&b.id.get()) else {
+        return;
+    };
+    *row = BlockRow { block: *b, closed };
+}

@@ -1,0 +1,26 @@
+//! The namespace as a directory tree, with an index of the blocks that its files have.
+//!
+//! An edit walks down the paths that it names and looks at nothing else: a rename moves one node, whatever
+//! lies below it, and the status of a block is one look-up. Contracts see neither tree nor index. They see the
+//! path map of the definitions, and an edit does to it what the definitions say.
+//!
+//! Every call takes time in the depth of a path times the logarithm of a directory's width, and in the
+//! logarithm of the number of blocks. A delete and a listing take time in the size of what they go through,
+//! and stack in its depth, as dropping a namespace does.
+#![tactic(auto)]
+
+mod found;
+mod index;
+mod listing;
+mod namespace;
+#[cfg(test)]
+mod tests;
+mod touched;
+mod tree;
+
+pub use found::Found;
+pub use index::BlockRow;
+pub use listing::PathRow;
+pub use namespace::Namespace;
+pub use nn_model::{EditFault, FileRow, Form};
+pub use touched::Touched;

@@ -1,0 +1,263 @@
+//! The namespace: a directory tree, seen as its rows in path order, and an index of the blocks in its files.
+ghost use Rattle.std.specs.Prelude.{◌≡◌, OnOk, OnErr, IfOk, IfErr, IfSome, IsErrOf, None, Ok, option_map, nat_le};
+ghost use Rattle.nn_edits.specs.Lawful.{IsLawfulEdit};
+ghost use Rattle.nn_types.specs.Block.{AreBlocks};
+ghost use Rattle.nn_model.specs.Namespace.{root_alone, no_block, no_stamp, lookup};
+ghost use Rattle.nn_model.specs.Apply.{applied, refusal};
+ghost use Rattle.nn_model.specs.Fault.{IsFault};
+ghost use Rattle.nn_model.specs.Status.{block_at, status_of};
+ghost use Rattle.nn_model.specs.Touched.{touched};
+ghost use Rattle.nn_tree.specs.Found.{form_of};
+ghost use Rattle.nn_tree.specs.Listing.{rows_of};
+ghost use Rattle.nn_model.specs.WellFormed.{IsWellFormed};
+ghost use Rattle.nn_tree.specs.BlockRow.{IsInFile};
+ghost use Rattle.nn_tree.specs.Touched.{shown};
+
+mod checks;
+mod edits;
+
+use crate::found::Found;
+use crate::index::BlockRow;
+use crate::listing::PathRow;
+use crate::touched::Touched;
+use crate::tree::Tree;
+use nn_edits::Edit;
+use nn_model::EditFault;
+use nn_types::{Block, BlockId, GenerationStamp, Path, Status};
+use std::alloc::{AllocError, Global};
+use std::collections::{BTreeMap, BTreeSet};
+use std::marker::Model;
+
+/// The last id before the first one that a log issues.
+const NO_BLOCK: u64 = 1_073_741_824;
+
+/// The last generation stamp before the first one that a log issues.
+const NO_STAMP: u64 = 1000;
+
+/// A namespace. Contracts see it as the definition's own record.
+#[derive(Drop)]
+pub struct Namespace {
+    root: Tree,
+    // The blocks of all files by id. No row names a path, so that a rename changes none.
+    index: BTreeMap<u64, BlockRow>,
+    // The ids that were issued and that no file has got yet.
+    waiting: BTreeSet<u64>,
+    last_block: BlockId,
+    last_stamp: GenerationStamp,
+    alloc: Global,
+}
+
+impl Model for Namespace {
+    ghost use Rattle.std.specs.BTreeMap.{get};
+    ghost use Rattle.std.specs.Ordering.{nat_cmp};
+    ghost use Rattle.nn_model.specs.Namespace.{Namespace as Seen};
+    ghost use Rattle.nn_tree.specs.View.{seen, IsKept};
+
+    ghost Value = { Seen };
+
+    ghost view = { λ a. seen a.root a.last_block a.last_stamp a.waiting.keys };
+
+    ghost invariant = { λ a. IsKept (seen a.root a.last_block a.last_stamp a.waiting.keys) (λ id. get nat_cmp a.index id) };
+}
+
+impl Namespace {
+    /// The namespace before the first edit: the root alone. It takes no memory.
+    pub fn new(alloc: Global) -> Namespace
+        ensures { result ≡ root_alone }
+    {
+        Namespace {
+            root: Tree::new_dir(alloc),
+            index: BTreeMap::new(alloc),
+            waiting: BTreeSet::new(alloc),
+            last_block: no_block(),
+            last_stamp: no_stamp(),
+            alloc,
+        }
+    }
+
+    /// Applies the edit, and tells what it touched. After a fault nothing has changed, after want of memory too.
+    pub fn apply(&mut self, edit: &Edit) -> Result<Touched, EditFault>
+        ensures ok { OnOk result (applied self.old edit.now ≡ Ok self.new) }
+        ensures touched { IfOk result (λ t. shown t ≡ touched self.old edit.now) }
+        ensures fault { IfErr result (λ fault. IsFault fault (refusal self.old edit.now)) }
+        ensures memory { IsErrOf result EditFault.OutOfMemory → refusal self.old edit.now ≡ None }
+        ensures err { OnErr result (self.new ≡ self.old) }
+        ensures well_formed { IsWellFormed self.old × IsWellFormed self.new }
+    {
+        self.well_formed();
+        if let Some(fault) = self.refusal(edit) {
+            return Err(fault);
+        }
+        lawful(edit);
+        let done = self.change(edit);
+        self.well_formed();
+        done
+    }
+
+    /// Every namespace is well formed. This does nothing: it is there for the proofs of callers.
+    pub fn well_formed(&self)
+        ensures { IsWellFormed self.now }
+    {
+        let _ = &self.root;
+    }
+
+    /// The fault that `apply` would answer where memory does not run out. It takes no memory itself.
+    pub fn refusal(&self, edit: &Edit) -> Option<EditFault>
+        ensures { result ≡ refusal self.now edit.now }
+    {
+        match edit {
+            Edit::StartSegment | Edit::EndSegment => None,
+            Edit::Mkdir { path } => self.mkdir_refusal(path),
+            Edit::Add { path, replication } => self.add_refusal(path, *replication),
+            Edit::AddBlock { path, id, stamp } => self.add_block_refusal(path, *id, *stamp),
+            Edit::UpdateBlocks { path, blocks } | Edit::Close { path, blocks } => {
+                self.list_refusal(path, blocks)
+            }
+            Edit::Rename { src, dst } => self.rename_refusal(src, dst),
+            Edit::Delete { path } => self.delete_refusal(path),
+            Edit::SetReplication { path, replication } => {
+                self.set_replication_refusal(path, *replication)
+            }
+            Edit::AllocateBlockId { id } => self.allocate_refusal(*id),
+            Edit::SetGenstamp { stamp } => self.set_genstamp_refusal(*stamp),
+        }
+    }
+
+    /// What stands at a path. Nothing is copied.
+    pub fn lookup(&self, path: &Path) -> Option<Found<'_>>
+        ensures { option_map form_of result ≡ lookup self.now path.now }
+    {
+        let Some(tree) = self.root.node(path.names()) else {
+            return None;
+        };
+        Some(tree.top())
+    }
+
+    /// A copy of all rows in path order, the root first.
+    pub fn list(&self) -> Result<Vec<PathRow>, AllocError>
+        ensures { IfOk result (λ rows. rows_of rows.items ≡ self.now.rows) }
+    {
+        let mut names = Vec::new(self.alloc);
+        let mut rows = Vec::new(self.alloc);
+        self.root.list(self.alloc, &mut names, &mut rows)?;
+        Ok(rows)
+    }
+
+    /// The block that a file holds under this id, and whether that file is closed.
+    pub fn block(&self, id: BlockId) -> Option<BlockRow>
+        ensures file { IfSome result (IsInFile self.now) }
+        ensures block { option_map (λ row. row.block) result ≡ block_at self.now id }
+    {
+        self.index.get(&id.get()).copied()
+    }
+
+    /// What the log has said of a block.
+    pub fn status(&self, id: BlockId) -> Status
+        ensures { result ≡ status_of self.now id }
+    {
+        let key = id.get();
+        if let Some(row) = self.index.get(&key) {
+            return Status::Named(row.block.stamp);
+        }
+        if self.waiting.contains(&key) {
+            return Status::Awaiting;
+        }
+        if was_issued(self.last_block, id) {
+            return Status::Retired;
+        }
+        Status::Unnamed
+    }
+
+    /// The ids that were issued and that no file has got yet, ascending.
+    pub fn awaiting(&self, alloc: Global) -> Result<Vec<BlockId>, AllocError>
+        ensures { IfOk result (λ ids. ids.items ≡ self.now.awaiting) }
+    {
+        let mut ids = Vec::new(alloc);
+        for key in self.waiting.iter() {
+            let Some(id) = BlockId::new(*key) else {
+                unreachable!()
+            };
+            ids.push(id)?;
+        }
+        Ok(ids)
+    }
+
+    /// The last block id that the log issued.
+    pub fn last_block(&self) -> BlockId
+        ensures { result ≡ self.now.last_block }
+    {
+        self.last_block
+    }
+
+    /// The last generation stamp that the log issued.
+    pub fn last_stamp(&self) -> GenerationStamp
+        ensures { result ≡ self.now.last_stamp }
+    {
+        self.last_stamp
+    }
+}
+
+fn no_block() -> BlockId
+    ensures { result ≡ no_block }
+{
+    BlockId::new(NO_BLOCK).unwrap()
+}
+
+fn no_stamp() -> GenerationStamp
+    ensures { result ≡ no_stamp }
+{
+    GenerationStamp::new(NO_STAMP).unwrap()
+}
+
+fn was_issued(last: BlockId, id: BlockId) -> bool
+    ensures { result ≡ nat_le id last }
+{
+    id <= last
+}
+
+// The paths and numbers of an edit keep their limits. This does nothing.
+fn lawful(edit: &Edit)
+    ensures { IsLawfulEdit edit.now }
+{
+    match edit {
+        Edit::StartSegment | Edit::EndSegment => {}
+        Edit::Mkdir { path } | Edit::Delete { path } => {
+            path.names();
+        }
+        Edit::Add { path, replication } | Edit::SetReplication { path, replication } => {
+            path.names();
+            replication.get();
+        }
+        Edit::AddBlock { path, id, stamp } => {
+            path.names();
+            id.get();
+            stamp.get();
+        }
+        Edit::UpdateBlocks { path, blocks } | Edit::Close { path, blocks } => {
+            path.names();
+            lawful_blocks(blocks.as_slice());
+        }
+        Edit::Rename { src, dst } => {
+            src.names();
+            dst.names();
+        }
+        Edit::AllocateBlockId { id } => {
+            id.get();
+        }
+        Edit::SetGenstamp { stamp } => {
+            stamp.get();
+        }
+    }
+}
+
+fn lawful_blocks(blocks: &[Block])
+    ensures { AreBlocks blocks.now }
+{
+    let Some((block, rest)) = blocks.split_first() else {
+        return;
+    };
+    block.id.get();
+    block.stamp.get();
+    block.len.get();
+    lawful_blocks(rest)
+}

@@ -1,0 +1,172 @@
+//! Why an edit is refused: the checks of each edit in order, with no memory taken.
+ghost use Rattle.std.specs.Prelude.{◌≡◌, not, ◌||◌, nat_lt, nat_le};
+ghost use Rattle.nn_edits.specs.declared.tx.Edit.TheVariants as edit;
+ghost use Rattle.nn_model.specs.Namespace.{no_stamp};
+ghost use Rattle.nn_model.specs.Apply.{refusal, first, list_checks, keeps_ids, keeps_stamps};
+
+use super::{NO_STAMP, Namespace};
+use nn_model::EditFault;
+use nn_types::{Block, BlockId, Blocks, GenerationStamp, Path, Replication};
+
+impl Namespace {
+    pub(super) fn mkdir_refusal(&self, path: &Path) -> Option<EditFault>
+        ensures { result ≡ refusal self.now (edit.Mkdir path.now) }
+    {
+        self.root.mkdir_refusal(path.names())
+    }
+
+    pub(super) fn add_refusal(&self, path: &Path, replication: Replication) -> Option<EditFault>
+        ensures { result ≡ refusal self.now (edit.Add path.now replication) }
+    {
+        let names = path.names();
+        if names.is_empty() {
+            return Some(EditFault::IsRoot);
+        }
+        if !is_replication(replication) {
+            return Some(EditFault::BadReplication);
+        }
+        self.root.mkdir_refusal(names)
+    }
+
+    pub(super) fn add_block_refusal(
+        &self,
+        path: &Path,
+        id: BlockId,
+        stamp: GenerationStamp,
+    ) -> Option<EditFault>
+        ensures { result ≡ refusal self.now (edit.AddBlock path.now id stamp) }
+    {
+        let file = match self.root.file(path.names()) {
+            Err(fault) => return Some(fault),
+            Ok(file) => file,
+        };
+        if file.closed {
+            return Some(EditFault::NotOpen);
+        }
+        if !self.waiting.contains(&id.get()) {
+            return Some(EditFault::BadBlockId);
+        }
+        if !is_issued(self.last_stamp, stamp) {
+            return Some(EditFault::BadGeneration);
+        }
+        None
+    }
+
+    pub(super) fn list_refusal(&self, path: &Path, blocks: &Blocks) -> Option<EditFault>
+        ensures { result ≡ first (list_checks self.now path.now blocks.now) }
+    {
+        let file = match self.root.file(path.names()) {
+            Err(fault) => return Some(fault),
+            Ok(file) => file,
+        };
+        if file.closed {
+            return Some(EditFault::NotOpen);
+        }
+        let old = file.blocks.as_slice();
+        let new = blocks.as_slice();
+        if !keeps_ids(old, new) {
+            return Some(EditFault::WrongBlocks);
+        }
+        if !keeps_stamps(self.last_stamp, old, new) {
+            return Some(EditFault::BadGeneration);
+        }
+        None
+    }
+
+    pub(super) fn rename_refusal(&self, src: &Path, dst: &Path) -> Option<EditFault>
+        ensures { result ≡ refusal self.now (edit.Rename src.now dst.now) }
+    {
+        self.root.rename_refusal(src.names(), dst.names())
+    }
+
+    pub(super) fn delete_refusal(&self, path: &Path) -> Option<EditFault>
+        ensures { result ≡ refusal self.now (edit.Delete path.now) }
+    {
+        self.root.delete_refusal(path.names())
+    }
+
+    pub(super) fn set_replication_refusal(
+        &self,
+        path: &Path,
+        replication: Replication,
+    ) -> Option<EditFault>
+        ensures { result ≡ refusal self.now (edit.SetReplication path.now replication) }
+    {
+        let names = path.names();
+        if names.is_empty() {
+            return Some(EditFault::IsRoot);
+        }
+        if !is_replication(replication) {
+            return Some(EditFault::BadReplication);
+        }
+        if let Err(fault) = self.root.file(names) {
+            return Some(fault);
+        }
+        None
+    }
+
+    pub(super) fn allocate_refusal(&self, id: BlockId) -> Option<EditFault>
+        ensures { result ≡ refusal self.now (edit.AllocateBlockId id) }
+    {
+        if id <= self.last_block {
+            return Some(EditFault::BadBlockId);
+        }
+        None
+    }
+
+    pub(super) fn set_genstamp_refusal(&self, stamp: GenerationStamp) -> Option<EditFault>
+        ensures { result ≡ refusal self.now (edit.SetGenstamp stamp) }
+    {
+        if stamp <= self.last_stamp {
+            return Some(EditFault::BadGeneration);
+        }
+        None
+    }
+}
+
+// Whether a file may have this replication.
+fn is_replication(replication: Replication) -> bool
+    ensures { (nat_lt replication 1 || nat_lt 512 replication) ≡ not result }
+{
+    let replicas = replication.get();
+    1 <= replicas && replicas <= 512
+}
+
+// Whether the log has issued the generation stamp, where this is the last one.
+fn is_issued(last: GenerationStamp, stamp: GenerationStamp) -> bool
+    ensures { (nat_le stamp no_stamp || nat_lt last stamp) ≡ not result }
+{
+    NO_STAMP < stamp.get() && stamp <= last
+}
+
+// Whether the new list has the ids of the old one, all of them or all but the last.
+fn keeps_ids(old: &[Block], new: &[Block]) -> bool
+    ensures { result ≡ keeps_ids old.now new.now }
+{
+    let Some((a, old_rest)) = old.split_first() else {
+        return new.is_empty();
+    };
+    let Some((b, new_rest)) = new.split_first() else {
+        return old_rest.is_empty();
+    };
+    if a.id != b.id {
+        return false;
+    }
+    keeps_ids(old_rest, new_rest)
+}
+
+// Whether each new generation stamp is at least the old one, and at most the last one issued.
+fn keeps_stamps(last: GenerationStamp, old: &[Block], new: &[Block]) -> bool
+    ensures { result ≡ keeps_stamps last old.now new.now }
+{
+    let Some((b, new_rest)) = new.split_first() else {
+        return true;
+    };
+    let Some((a, old_rest)) = old.split_first() else {
+        return true;
+    };
+    if b.stamp < a.stamp || last < b.stamp {
+        return false;
+    }
+    keeps_stamps(last, old_rest, new_rest)
+}

@@ -1,0 +1,132 @@
+//! What an edit touched.
+ghost use Rattle.std.specs.Prelude.{◌≡◌, ◌+◌, ◌-◌, ◌++◌, ◌∷◌, [], ◌<◌, nat_lt, if◌then◌else◌, map, drop, length, IfOk, IfErr, OnOk, Some, None};
+ghost use Rattle.nn_model.specs.Apply.{new_block};
+ghost use Rattle.nn_model.specs.Touched.{nothing};
+ghost use Rattle.nn_tree.specs.Touched.{shown};
+
+use nn_types::{Block, BlockId, Blocks, GenerationStamp, Length};
+use std::alloc::{AllocError, Global};
+
+/// What an edit touched: all that a table of replicas has to follow.
+#[derive(Drop)]
+pub struct Touched {
+    /// The blocks that the edit added or wrote anew, in file order.
+    pub changed: Blocks,
+    /// The ids of the blocks that left the namespace, ascending.
+    pub retired: Vec<BlockId>,
+    /// The first and the last of the ids that the issue of a higher one passed over.
+    pub skipped: Option<(BlockId, BlockId)>,
+}
+
+impl Touched {
+    /// Nothing, which takes no memory.
+    pub(crate) fn nothing(alloc: Global) -> Touched
+        ensures { shown result ≡ nothing }
+    {
+        Touched {
+            changed: Blocks::new(alloc),
+            retired: Vec::new(alloc),
+            skipped: None,
+        }
+    }
+
+    /// One block that is new.
+    pub(crate) fn added(
+        alloc: Global,
+        id: BlockId,
+        stamp: GenerationStamp,
+    ) -> Result<Touched, AllocError>
+        ensures { IfOk result (λ t. shown t ≡ record nothing { changed = new_block id stamp ∷ [] }) }
+    {
+        let mut changed = Blocks::new(alloc);
+        changed.push(empty_block(id, stamp))?;
+        Ok(Touched {
+            changed,
+            retired: Vec::new(alloc),
+            skipped: None,
+        })
+    }
+
+    /// A list of blocks in place of another one, which may have more of them.
+    pub(crate) fn listed(alloc: Global, old: &[Block], new: &Blocks) -> Result<Touched, AllocError>
+        ensures { IfOk result (λ t. shown t
+            ≡ record { changed = new.now; retired = map (λ b. b.id) (drop (length new.now) old.now); skipped = None }) }
+    {
+        let changed = new.copied()?;
+        let mut retired = Vec::new(alloc);
+        push_ids(&mut retired, past(old, new.as_slice()))?;
+        Ok(Touched {
+            changed,
+            retired,
+            skipped: None,
+        })
+    }
+
+    /// Ids that left the namespace.
+    pub(crate) fn deleted(alloc: Global, retired: Vec<BlockId>) -> Touched
+        ensures { shown result ≡ record nothing { retired = retired.items } }
+    {
+        Touched {
+            changed: Blocks::new(alloc),
+            retired,
+            skipped: None,
+        }
+    }
+
+    /// The ids between the last one that was issued and a higher one.
+    pub(crate) fn issued(alloc: Global, last: BlockId, id: BlockId) -> Touched
+        ensures { shown result ≡ record nothing { skipped = if nat_lt (last + 1) id then Some (last + 1, id - 1) else None } }
+    {
+        Touched {
+            changed: Blocks::new(alloc),
+            retired: Vec::new(alloc),
+            skipped: between(last, id),
+        }
+    }
+}
+
+/// A block that was just added.
+pub(crate) fn empty_block(id: BlockId, stamp: GenerationStamp) -> Block
+    ensures { result ≡ new_block id stamp }
+{
+    Block {
+        id,
+        stamp,
+        len: Length::new(0).unwrap(),
+    }
+}
+
+// The first and the last id between two.
+fn between(last: BlockId, id: BlockId) -> Option<(BlockId, BlockId)>
+    ensures { result ≡ (if nat_lt (last + 1) id then Some (last + 1, id - 1) else None) }
+{
+    let first = last.get() + 1;
+    let end = id.get();
+    if end <= first {
+        return None;
+    }
+    Some((BlockId::new(first).unwrap(), BlockId::new(end - 1).unwrap()))
+}
+
+// What the first list has past the length of the second.
+fn past<'a>(old: &'a [Block], new: &[Block]) -> &'a [Block]
+    ensures { result.now ≡ drop (length new.now) old.now }
+{
+    let Some((_, old_rest)) = old.split_first() else {
+        return old;
+    };
+    let Some((_, new_rest)) = new.split_first() else {
+        return old;
+    };
+    past(old_rest, new_rest)
+}
+
+/// Adds the ids of blocks at the end.
+pub(crate) fn push_ids(out: &mut Vec<BlockId>, blocks: &[Block]) -> Result<(), AllocError>
+    ensures { OnOk result (out.new.items ≡ out.old.items ++ map (λ b. b.id) blocks.now) }
+{
+    for block in blocks {
+        out.push(block.id)?;
+    }
+    Ok(())
+}

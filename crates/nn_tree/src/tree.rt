@@ -1,0 +1,357 @@
+//! A directory tree, seen as the list of its paths with what stands there. It knows no ids and no index.
+ghost use Rattle.std.specs.Prelude.{◌≡◌, [], ◌∷◌, ◌++◌, OnOk, OnErr, ◌<◌, length, IsSome, is_some, Some, None, true, MatchResult, IfOk};
+ghost use Rattle.nn_tree.specs.Walks.{is_file, file_fault, walk_fault, mkdir_fault, delete_fault, rename_fault, starts_with, IsRenamed};
+ghost use Rattle.std.specs.String.{string_bytes};
+ghost use Rattle.std.specs.Option.{option_copied};
+ghost use Rattle.nn_model.specs.declared.form.Form.TheVariants.{Dir, File};
+ghost use Rattle.nn_tree.specs.Ids.{ids_of};
+ghost use Rattle.nn_tree.specs.Flat.{under_all};
+ghost use Rattle.nn_tree.specs.Listing.{rows_of};
+ghost use Rattle.nn_tree.specs.Found.{form_of};
+ghost use Rattle.std.specs.FinMap.Entries.{is_sorted};
+ghost use Rattle.nn_model.specs.Namespace.{path_cmp};
+ghost use Rattle.nn_tree.specs.At.{at, names_of, IsSubtree, IsGrafted, IsSame};
+
+use crate::found::Found;
+use crate::listing::{PathRow, push_dir, push_file};
+use crate::touched::push_ids;
+use nn_model::{EditFault, FileRow};
+use nn_types::BlockId;
+use std::alloc::{AllocError, Global};
+use std::collections::BTreeMap;
+use std::marker::Model;
+use std::mem;
+
+/// A file, or a directory with all that lies below it.
+#[cycle(tree)]
+#[derive(Drop)]
+pub(crate) struct Tree {
+    node: Node,
+}
+
+#[cycle(tree)]
+#[derive(Drop)]
+enum Node {
+    // The children of a directory by their names.
+    Folder(BTreeMap<String, Tree>),
+    Leaf(FileRow),
+}
+
+impl Model for Tree {
+    ghost use Rattle.std.specs.Prelude.{List, length};
+    ghost use Rattle.nn_model.specs.declared.form.Form.{Form};
+    ghost use Rattle.nn_model.specs.Namespace.{Path};
+
+    ghost Value = { List (Path × Form) };
+
+    ghost use Rattle.nn_tree.specs.Flat.{flat, IsInOrder};
+
+    ghost view = { λ a. flat a.node };
+
+    ghost invariant = { λ a. IsInOrder a.node };
+
+    ghost size = { length };
+
+    ghost use Rattle.nn_tree.specs.Falls.{deep_le-length-flat};
+
+    ghost size_decreases = { λ a h. deep_le-length-flat a.node };
+}
+
+impl Tree {
+    /// An empty directory.
+    pub(crate) fn new_dir(alloc: Global) -> Tree
+        ensures { result ≡ ([], Dir) ∷ [] }
+    {
+        Tree {
+            node: Node::Folder(BTreeMap::new(alloc)),
+        }
+    }
+
+    /// A file alone.
+    pub(crate) fn new_file(file: FileRow) -> Tree
+        ensures { result ≡ ([], File file) ∷ [] }
+    {
+        Tree {
+            node: Node::Leaf(file),
+        }
+    }
+
+    /// The tree at a path, if something stands there.
+    pub(crate) fn node(&self, names: &[String]) -> Option<&Tree>
+        ensures { IsSubtree self.now (names_of names.now) (option_copied result) }
+    {
+        let Some((first, rest)) = names.split_first() else {
+            return Some(self);
+        };
+        let Node::Folder(children) = &self.node else {
+            return None;
+        };
+        let Some(child) = children.get(first.as_str()) else {
+            return None;
+        };
+        child.node(rest)
+    }
+
+    /// Puts a tree at a name in the directory at `parent`.
+    pub(crate) fn insert(
+        &mut self,
+        parent: &[String],
+        name: String,
+        tree: Tree,
+    ) -> Result<(), AllocError>
+        requires { at self.old (names_of parent.now) ≡ Some Dir }
+        ensures ok { OnOk result (IsGrafted self.old (names_of parent.now ++ string_bytes name ∷ []) (Some tree) self.new) }
+        ensures err { OnErr result (IsSame self.old self.new) }
+    {
+        let Node::Folder(children) = &mut self.node else {
+            unreachable!()
+        };
+        let Some((first, rest)) = parent.split_first() else {
+            children.insert(name, tree)?;
+            return Ok(());
+        };
+        let Some(child) = children.get_mut(first.as_str()) else {
+            unreachable!()
+        };
+        child.insert(rest, name, tree)
+    }
+
+    /// Takes out what stands at the path.
+    pub(crate) fn take(&mut self, names: &[String]) -> Option<Tree>
+        requires { 0 < length names.now }
+        ensures taken { IsSubtree self.old (names_of names.now) result }
+        ensures gone { IsGrafted self.old (names_of names.now) None self.new }
+    {
+        let Node::Folder(children) = &mut self.node else {
+            return None;
+        };
+        let Some((first, rest)) = names.split_first() else {
+            return None;
+        };
+        if rest.is_empty() {
+            return children.remove(first.as_str());
+        }
+        let Some(child) = children.get_mut(first.as_str()) else {
+            return None;
+        };
+        child.take(rest)
+    }
+
+    /// Puts a tree in place of what stands at the path, and gives that back.
+    pub(crate) fn put(&mut self, names: &[String], tree: Tree) -> Tree
+        requires { IsSome (at self.old (names_of names.now)) }
+        ensures old { IsSubtree self.old (names_of names.now) (Some result) }
+        ensures new { IsGrafted self.old (names_of names.now) (Some tree) self.new }
+    {
+        let Some((first, rest)) = names.split_first() else {
+            return mem::replace(self, tree);
+        };
+        let Node::Folder(children) = &mut self.node else {
+            unreachable!()
+        };
+        let Some(child) = children.get_mut(first.as_str()) else {
+            unreachable!()
+        };
+        child.put(rest, tree)
+    }
+
+    /// Walks the parents of a path, and then gives what stands at it.
+    pub(crate) fn reach(&self, names: &[String]) -> Result<Option<&Tree>, EditFault>
+        ensures walked { MatchResult result (λ o. walk_fault (at self.now) (names_of names.now) ≡ None) (λ e. walk_fault (at self.now) (names_of names.now) ≡ Some e) }
+        ensures found { IfOk result (λ o. IsSubtree self.now (names_of names.now) (option_copied o)) }
+        ensures present { IfOk result (λ o. is_some (at self.now (names_of names.now)) ≡ is_some o) }
+    {
+        let Some((first, rest)) = names.split_first() else {
+            let _ = &self.node;
+            return Ok(Some(self));
+        };
+        let Node::Folder(children) = &self.node else {
+            return Err(EditFault::NotDirectory);
+        };
+        let Some(child) = children.get(first.as_str()) else {
+            if rest.is_empty() {
+                return Ok(None);
+            }
+            return Err(EditFault::Missing);
+        };
+        child.reach(rest)
+    }
+
+    /// The fault of making a directory.
+    pub(crate) fn mkdir_refusal(&self, names: &[String]) -> Option<EditFault>
+        ensures { result ≡ mkdir_fault (at self.now) (names_of names.now) }
+    {
+        if names.is_empty() {
+            return Some(EditFault::IsRoot);
+        }
+        match self.reach(names) {
+            Err(fault) => Some(fault),
+            Ok(Some(_)) => Some(EditFault::Exists),
+            Ok(None) => None,
+        }
+    }
+
+    /// The fault of a removal.
+    pub(crate) fn delete_refusal(&self, names: &[String]) -> Option<EditFault>
+        ensures { result ≡ delete_fault (at self.now) (names_of names.now) }
+    {
+        if names.is_empty() {
+            return Some(EditFault::IsRoot);
+        }
+        match self.reach(names) {
+            Err(fault) => Some(fault),
+            Ok(Some(_)) => None,
+            Ok(None) => Some(EditFault::Missing),
+        }
+    }
+
+    /// What stands at the top of the tree.
+    pub(crate) fn top(&self) -> Found<'_>
+        ensures { at self.now [] ≡ Some (form_of result) }
+    {
+        match &self.node {
+            Node::Folder(_) => Found::Dir,
+            Node::Leaf(file) => Found::File(file),
+        }
+    }
+
+    /// The file at a path, or why there is none.
+    pub(crate) fn file(&self, names: &[String]) -> Result<&FileRow, EditFault>
+        ensures found { MatchResult result (λ x. file_fault (at self.now) (names_of names.now) ≡ None) (λ e. file_fault (at self.now) (names_of names.now) ≡ Some e) }
+        ensures file { IfOk result (λ x. at self.now (names_of names.now) ≡ Some (File x.now)) }
+    {
+        if names.is_empty() {
+            return Err(EditFault::IsRoot);
+        }
+        let found = match self.reach(names) {
+            Err(fault) => return Err(fault),
+            Ok(found) => found,
+        };
+        let Some(tree) = found else {
+            return Err(EditFault::Missing);
+        };
+        let Node::Leaf(file) = &tree.node else {
+            return Err(EditFault::NotFile);
+        };
+        Ok(file)
+    }
+
+    /// Puts a file in place of the file at the path, and gives that back.
+    pub(crate) fn set_file(&mut self, names: &[String], file: FileRow) -> FileRow
+        requires { is_file (at self.old (names_of names.now)) ≡ true }
+        ensures old { IsSubtree self.old (names_of names.now) (Some (([], File result) ∷ [])) }
+        ensures new { IsGrafted self.old (names_of names.now) (Some (([], File file) ∷ [])) self.new }
+    {
+        let old = self.put(names, Tree::new_file(file));
+        let Tree { node } = old;
+        let Node::Leaf(file) = node else {
+            unreachable!()
+        };
+        file
+    }
+
+    /// Puts a tree at a path where nothing stands.
+    pub(crate) fn make(&mut self, names: &[String], tree: Tree) -> Result<(), AllocError>
+        requires { mkdir_fault (at self.old) (names_of names.now) ≡ None }
+        ensures ok { OnOk result (IsGrafted self.old (names_of names.now) (Some tree) self.new) }
+        ensures err { OnErr result (IsSame self.old self.new) }
+    {
+        let Some((last, parent)) = names.split_last() else {
+            unreachable!()
+        };
+        let name = last.clone()?;
+        self.insert(parent, name, tree)
+    }
+
+    /// The fault of a rename.
+    pub(crate) fn rename_refusal(&self, src: &[String], dst: &[String]) -> Option<EditFault>
+        ensures { result ≡ rename_fault (at self.now) (names_of src.now) (names_of dst.now) }
+    {
+        if dst.is_empty() {
+            return Some(EditFault::IsRoot);
+        }
+        if let Some(fault) = self.delete_refusal(src) {
+            return Some(fault);
+        }
+        if src.len() < dst.len() && begins_with(dst, src) {
+            return Some(EditFault::IntoItself);
+        }
+        self.mkdir_refusal(dst)
+    }
+
+    /// Moves what stands at `src` to `dst`. The place is made first, so that a want of memory changes nothing.
+    pub(crate) fn rename(
+        &mut self,
+        alloc: Global,
+        src: &[String],
+        dst: &[String],
+    ) -> Result<(), AllocError>
+        requires lawful { rename_fault (at self.old) (names_of src.now) (names_of dst.now) ≡ None }
+        requires free { IsSubtree self.old (names_of dst.now) None }
+        ensures ok { OnOk result (IsRenamed self.old (names_of src.now) (names_of dst.now) self.new) }
+        ensures err { OnErr result (IsSame self.old self.new) }
+    {
+        self.make(dst, Tree::new_dir(alloc))?;
+        let Some(tree) = self.take(src) else {
+            unreachable!()
+        };
+        let _placeholder = self.put(dst, tree);
+        Ok(())
+    }
+
+    /// Adds the rows of the tree in path order, where these names lead to it.
+    pub(crate) fn list(
+        &self,
+        alloc: Global,
+        names: &mut Vec<String>,
+        out: &mut Vec<PathRow>,
+    ) -> Result<(), AllocError>
+        ensures rows { OnOk result (rows_of out.new.items ≡ rows_of out.old.items ++ under_all (names_of names.old.items) self.now) }
+        ensures names { OnOk result (names_of names.new.items ≡ names_of names.old.items) }
+        ensures sorted { OnOk result (is_sorted path_cmp self.now ≡ true) }
+    {
+        let children = match &self.node {
+            Node::Leaf(file) => return push_file(alloc, names, file, out),
+            Node::Folder(children) => children,
+        };
+        push_dir(alloc, names, out)?;
+        for (name, child) in children.iter() {
+            let depth = names.len();
+            names.push(String::from_str(alloc, name.as_str())?)?;
+            child.list(alloc, names, out)?;
+            names.truncate(depth);
+        }
+        Ok(())
+    }
+
+    /// Appends the ids of the blocks in the tree, in path order.
+    pub(crate) fn collect_ids(&self, out: &mut Vec<BlockId>) -> Result<(), AllocError>
+        ensures ids { OnOk result (out.new.items ≡ out.old.items ++ ids_of self.now) }
+        ensures sorted { OnOk result (is_sorted path_cmp self.now ≡ true) }
+    {
+        let children = match &self.node {
+            Node::Leaf(file) => return push_ids(out, file.blocks.as_slice()),
+            Node::Folder(children) => children,
+        };
+        for child in children.values() {
+            child.collect_ids(out)?;
+        }
+        Ok(())
+    }
+}
+
+// Whether the path begins with the prefix.
+fn begins_with(names: &[String], prefix: &[String]) -> bool
+    ensures { result ≡ starts_with (names_of prefix.now) (names_of names.now) }
+{
+    let Some((p, ps)) = prefix.split_first() else {
+        return true;
+    };
+    let Some((n, ns)) = names.split_first() else {
+        return false;
+    };
+    if p.as_str() != n.as_str() {
+        return false;
+    }
+    begins_with(ns, ps)
+}

@@ -1,0 +1,130 @@
+-- The table and its counts after the entry of one block id changed.
+use Rattle.std.proofs.Common.{◌≡◌, ℕ, ◌+◌, ◌-◌, ◌<◌, ◌≤◌, ◌^◌, Bool, true, false, cond, List, [], length, Option, Some, None, is_some, Result, Ok, Err, OnErr, refl, sym, ap, ◌∙◌, arith, Fits, w64, nat_cmp, add-zero}
+use Rattle.std.specs.Prelude.{unwrap_or}
+use Rattle.std.specs.BTreeMap.{insert_entry, is_at}
+use Rattle.std.specs.Map.{keys_of, lookup, set_value}
+use Rattle.std.specs.List.Sorted.{IsStrictlySortedBy}
+use Rattle.std.specs.FinMap.Entries.{find, put, is_sorted}
+use Rattle.std.proofs.lemmas.Bool.{both_ways}
+use Rattle.std.proofs.lemmas.List.Sums.{count_by-le-length}
+use Rattle.nn_replicas.specs.Table.{BlockEntry, Table}
+use Rattle.nn_replicas.specs.Entry.{is_ordered, replicas_in, no_entry, no_cell, has_cell, cell_of, with_cell, cell_erased, with_place, with_erased, is_closed}
+use Rattle.nn_replicas.specs.Calls.{entry_or_none, row_at, replicas_at, has_order, is_placed, with_entry, changed_from, changed_at}
+use Rattle.nn_replicas.proofs.Entries.{weight, counted, counted_there, counted_put, sorted_of, lookup_is_find, insert_is_put, set_is_put, put_same}
+use mir.Val.{bool_byte}
+
+abbrev pub Entries : Type 0
+Entries = List (ℕ × BlockEntry)
+
+abbrev pub table : ℕ → Entries → Table
+table min es = record { min = min; entries = es }
+
+-- the entry of a block id, `old` before, is w now
+pub record Becomes (es fs : Entries) (b : ℕ) (old : Option BlockEntry) (w : BlockEntry) : Type 0 where
+  pub sorted : is_sorted nat_cmp es ≡ true
+  pub found : find nat_cmp b es ≡ old
+  pub put : fs ≡ put nat_cmp b w es
+
+pub written : (es fs : Entries) (b : ℕ) (v w : BlockEntry) → Some v ≡ lookup (is_at (nat_cmp b)) es → IsStrictlySortedBy nat_cmp (keys_of es) → fs ≡ set_value (is_at (nat_cmp b)) es w → Becomes es fs b (Some v) w
+written es fs b v w h s f =
+    let k = sorted_of es s in
+    let g = sym (lookup_is_find b es) ∙ sym h in
+    record { sorted = k; found = g; put = f ∙ set_is_put b v w es g k }
+
+pub added : (es fs : Entries) (b : ℕ) (w : BlockEntry) → None ≡ lookup (is_at (nat_cmp b)) es → IsStrictlySortedBy nat_cmp (keys_of es) → fs ≡ insert_entry nat_cmp es b w → Becomes es fs b None w
+added es fs b w h s f = record { sorted = sorted_of es s; found = sym (lookup_is_find b es) ∙ sym h; put = f ∙ insert_is_put b w es }
+
+-- ---- the counts
+
+one_le : (b : Bool) → cond b 1 0 ≤ 1
+one_le true = omega arith
+one_le false = omega arith
+
+pub byte_one : (n : ℕ) (b : Bool) → n ≡ bool_byte b → n ≡ cond b 1 0
+byte_one n true h = h
+byte_one n false h = h
+
+module _ (p : BlockEntry → Bool) where
+  -- what counted is counted
+  pub was_counted : {es fs : Entries} {b : ℕ} {old : Option BlockEntry} {w : BlockEntry} → Becomes es fs b old w → (n a : ℕ) → n ≡ counted p es → a ≡ weight p old → a ≤ n
+  was_counted {es} {fs} {b} {old} {w} h n a e i = omega (arith, e, i, counted_there p b es, ap (weight p) h.found)
+
+  pub count_now : {es fs : Entries} {b : ℕ} {old : Option BlockEntry} {w : BlockEntry} → Becomes es fs b old w → (n a z : ℕ) → n ≡ counted p es → a ≡ weight p old → z ≡ cond (p w) 1 0 → (n - a) + z ≡ counted p fs
+  count_now {es} {fs} {b} {old} {w} h n a z e i j =
+      omega (arith, e, i, j, was_counted h n a e i, counted_put p b w es h.sorted, ap (weight p) h.found, ap (counted p) h.put)
+
+  pub count_more : {es fs : Entries} {b : ℕ} {w : BlockEntry} → Becomes es fs b None w → (n z : ℕ) → n ≡ counted p es → z ≡ cond (p w) 1 0 → n + z ≡ counted p fs
+  count_more {es} {fs} {b} {w} h n z e j = omega (arith, e, j, counted_put p b w es h.sorted, ap (weight p) h.found, ap (counted p) h.put)
+
+  pub count_less : {es fs : Entries} {b : ℕ} {old : Option BlockEntry} {w : BlockEntry} → Becomes es fs b old w → (n a : ℕ) → n ≡ counted p es → a ≡ weight p old → p w ≡ false → n - a ≡ counted p fs
+  count_less {es} {fs} {b} {old} {w} h n a e i j = sym (add-zero (n - a)) ∙ count_now h n a 0 e i (sym (ap (λ b. cond b 1 0) j))
+
+  pub count_kept : {es fs : Entries} {b : ℕ} {old : Option BlockEntry} {w : BlockEntry} → Becomes es fs b old w → (n : ℕ) → n ≡ counted p es → weight p old ≡ cond (p w) 1 0 → n ≡ counted p fs
+  count_kept {es} {fs} {b} {old} {w} h n e i =
+      omega (arith, e, i, counted_put p b w es h.sorted, ap (weight p) h.found, ap (counted p) h.put)
+
+  -- no more are counted than there are
+  pub count_fits : (es : Entries) (n a z : ℕ) (b : Bool) → n ≡ counted p es → length es < 2 ^ 63 → z ≡ cond b 1 0 → Fits w64 ((n - a) + z)
+  count_fits es n a z b e h j = omega (arith, e, count_by-le-length (λ (x : ℕ × BlockEntry). p x.1) es, one_le b, j)
+
+  pub count_fits_more : (es : Entries) (n z : ℕ) (b : Bool) → n ≡ counted p es → length es < 2 ^ 63 → z ≡ cond b 1 0 → Fits w64 (n + z)
+  count_fits_more es n z b e h j = omega (arith, e, count_by-le-length (λ (x : ℕ × BlockEntry). p x.1) es, one_le b, j)
+
+-- ---- the table
+
+pub with_new : {es fs : Entries} {b : ℕ} {old : Option BlockEntry} {w : BlockEntry} → Becomes es fs b old w → (t : Table) (min : ℕ) (g : BlockEntry → BlockEntry) → table min es ≡ t → w ≡ g (unwrap_or old no_entry) → table min fs ≡ with_entry t b (g (entry_or_none t b))
+with_new {es} {fs} {b} {old} {w} h t min g v m =
+    ap (table min) h.put ∙ ap (λ x. table min (put nat_cmp b x es)) (m ∙ ap (λ o. g (unwrap_or o no_entry)) (sym h.found)) ∙ ap (λ x. with_entry x b (g (entry_or_none x b))) v
+
+pub changed_new : {es fs : Entries} {b : ℕ} {v w : BlockEntry} → Becomes es fs b (Some v) w → (t : Table) (min : ℕ) (g : BlockEntry → BlockEntry) → table min es ≡ t → w ≡ g v → table min fs ≡ changed_at t b g
+changed_new {es} {fs} {b} {v} {w} h t min g e m =
+    ap (table min) h.put ∙ ap (λ x. table min (put nat_cmp b x es)) m ∙ ap (changed_from (table min es) b g) (sym h.found) ∙ ap (λ x. changed_at x b g) e
+
+pub not_changed : (t : Table) (min b : ℕ) (es : Entries) (g : BlockEntry → BlockEntry) → table min es ≡ t → None ≡ lookup (is_at (nat_cmp b)) es → t ≡ changed_at t b g
+not_changed t min b es g e h =
+    sym e ∙ ap (changed_from (table min es) b g) (h ∙ lookup_is_find b es) ∙ ap (λ x. changed_at x b g) e
+
+-- what was written back as it was
+pub same_new : {es fs : Entries} {b : ℕ} {v w : BlockEntry} → Becomes es fs b (Some v) w → (t : Table) (min : ℕ) → table min es ≡ t → w ≡ v → table min fs ≡ t
+same_new {es} {fs} {b} {v} {w} h t min e m = ap (table min) (h.put ∙ ap (λ x. put nat_cmp b x es) m ∙ put_same b v es h.found h.sorted) ∙ e
+
+-- ---- what stands at a block id
+
+pub no_row : {P : Type 0} (t : Table) (min b : ℕ) (es : Entries) → table min es ≡ t → None ≡ lookup (is_at (nat_cmp b)) es → is_some (row_at t b) ≡ true → P
+no_row t min b es e h has =
+    let none : is_some (row_at t b) ≡ false = ap (λ x. is_some (row_at x b)) (sym e) ∙ ap (λ o. is_some (unwrap_or o no_entry).row) (sym (lookup_is_find b es) ∙ sym h) in
+    absurd (both_ways _ none has)
+
+pub no_place : {P : Type 0} (t : Table) (min dn b : ℕ) (es : Entries) → table min es ≡ t → None ≡ lookup (is_at (nat_cmp b)) es → is_placed t dn b ≡ true → P
+no_place t min dn b es e h has =
+    let none : is_placed t dn b ≡ false = ap (λ x. is_placed x dn b) (sym e) ∙ ap (λ o. is_some (find nat_cmp dn (unwrap_or o no_entry).cells)) (sym (lookup_is_find b es) ∙ sym h) in
+    absurd (both_ways _ none has)
+
+pub placed_in : (t : Table) (min dn b : ℕ) (es : Entries) (v : BlockEntry) → table min es ≡ t → Some v ≡ lookup (is_at (nat_cmp b)) es → is_placed t dn b ≡ true → is_some (find nat_cmp dn v.cells) ≡ true
+placed_in t min dn b es v e h has =
+    ap (λ o. is_some (find nat_cmp dn (unwrap_or o no_entry).cells)) (h ∙ lookup_is_find b es) ∙ ap (λ x. is_placed x dn b) e ∙ has
+
+pub no_order : (t : Table) (min dn b : ℕ) (es : Entries) → table min es ≡ t → None ≡ lookup (is_at (nat_cmp b)) es → false ≡ has_order t dn b
+no_order t min dn b es e h = ap (λ o. is_ordered (find nat_cmp dn (unwrap_or o no_entry).cells)) (h ∙ lookup_is_find b es) ∙ ap (λ x. has_order x dn b) e
+
+pub order_of : (t : Table) (min dn b : ℕ) (es : Entries) (v : BlockEntry) → table min es ≡ t → Some v ≡ lookup (is_at (nat_cmp b)) es → is_ordered (find nat_cmp dn v.cells) ≡ has_order t dn b
+order_of t min dn b es v e h = ap (λ o. is_ordered (find nat_cmp dn (unwrap_or o no_entry).cells)) (h ∙ lookup_is_find b es) ∙ ap (λ x. has_order x dn b) e
+
+pub no_replicas : (t : Table) (min b : ℕ) (es : Entries) → table min es ≡ t → None ≡ lookup (is_at (nat_cmp b)) es → [] ≡ replicas_at t b
+no_replicas t min b es e h = ap (λ o. replicas_in (unwrap_or o no_entry).cells) (h ∙ lookup_is_find b es) ∙ ap (λ x. replicas_at x b) e
+
+pub replicas_there : (t : Table) (min b : ℕ) (es : Entries) (v : BlockEntry) → table min es ≡ t → Some v ≡ lookup (is_at (nat_cmp b)) es → replicas_in v.cells ≡ replicas_at t b
+replicas_there t min b es v e h = ap (λ o. replicas_in (unwrap_or o no_entry).cells) (h ∙ lookup_is_find b es) ∙ ap (λ x. replicas_at x b) e
+
+-- ---- what leaves the row
+
+pub closed_placed : (e : BlockEntry) (dn : ℕ) → is_closed (with_place e dn) ≡ is_closed e
+closed_placed e dn = elim (has_cell e dn) as (λ b. is_closed (cond b e (with_cell e dn no_cell)) ≡ is_closed e) [ true ↦ refl | false ↦ refl ]
+
+pub closed_erased : (e : BlockEntry) (dn : ℕ) → is_closed (with_erased e dn) ≡ is_closed e
+closed_erased e dn =
+    elim (has_cell e dn) as (λ b. is_closed (cond b (with_cell e dn (cell_erased (is_some e.row) (cell_of e dn))) e) ≡ is_closed e) [ true ↦ refl | false ↦ refl ]
+
+pub on_err_any : {X E P : Type 0} (r : Result X E) → P → OnErr r P
+on_err_any (Ok x) p = tt
+on_err_any (Err e) p = p

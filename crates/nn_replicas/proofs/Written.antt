@@ -1,0 +1,120 @@
+-- An entry after one of its cells was written, or a new one inserted.
+use Rattle.std.proofs.Common.{◌≡◌, ℕ, ◌<◌, ◌≤◌, ◌+◌, Bool, true, false, cond, List, [], ◌∷◌, ◌++◌, map, take, drop, length, get_or, set, Option, None, is_some, refl, sym, ap, subst, ◌∙◌, nat_cmp, nat_eq}
+use Rattle.std.specs.Prelude.{unwrap_or, ◌&&◌}
+use Rattle.std.specs.List.{insert, refill}
+use Rattle.std.proofs.Math.Seq.{take-append_seam}
+use Rattle.std.proofs.lemmas.List.{length-map}
+use Rattle.std.specs.FinMap.Entries.{find, put, below_all, is_sorted}
+use Rattle.std.specs.Ordering.{is_lt}
+use Rattle.std.proofs.lemmas.List.Edits.{map_over_more}
+use Rattle.std.proofs.lemmas.Bool.{both_ways}
+use Rattle.nn_replicas.specs.declared.entry.Row.{Row}
+use Rattle.nn_replicas.specs.declared.entry.Cell.{Cell}
+use Rattle.nn_replicas.specs.Table.{BlockEntry}
+use Rattle.nn_replicas.specs.Entry.{is_ordered, no_cell, cell_erased, cell_retired, cell_of, has_cell, with_cell, with_place, with_erased}
+use Rattle.nn_replicas.specs.Scan.{place, is_here}
+use Rattle.nn_replicas.proofs.Entries.{put_sorted}
+use Rattle.nn_replicas.proofs.Scanned.{put_here, put_new, find_here, find_gone, here_at, not_here}
+
+abbrev pub Cells : Type 0
+Cells = List (ℕ × Cell)
+
+abbrev pub entry : Option Row → Cells → BlockEntry
+entry row xs = record { row = row; cells = xs }
+
+-- ---- the cells stay in order
+
+pub sorted_here : (dn k : ℕ) (w : Cell) (x : ℕ × Cell) (xs : Cells) → is_sorted nat_cmp xs ≡ true → k ≡ place dn xs → is_here dn xs ≡ true → x ≡ get_or xs k x → is_sorted nat_cmp (set xs k (x.0, w)) ≡ true
+sorted_here dn k w x xs s p h g =
+    ap (λ y. is_sorted nat_cmp (set xs k (y.0, w))) g ∙ ap (λ j. is_sorted nat_cmp (set xs j ((get_or xs j x).0, w))) p ∙ ap (is_sorted nat_cmp) (sym (put_here dn w xs x h)) ∙ put_sorted dn w xs s
+
+pub sorted_new : (dn k : ℕ) (w : Cell) (xs fs : Cells) → is_sorted nat_cmp xs ≡ true → k ≡ place dn xs → is_here dn xs ≡ false → fs ≡ insert xs k (dn, w) → is_sorted nat_cmp fs ≡ true
+sorted_new dn k w xs fs s p h f =
+    ap (is_sorted nat_cmp) f ∙ ap (λ j. is_sorted nat_cmp (insert xs j (dn, w))) p ∙ ap (is_sorted nat_cmp) (sym (put_new dn w xs h)) ∙ put_sorted dn w xs s
+
+below_retired : (k : ℕ) (xs : Cells) → below_all nat_cmp k (map (λ c. (c.0, cell_retired c.1)) xs) ≡ below_all nat_cmp k xs
+below_retired k [] = refl
+below_retired k (x ∷ xs) = ap (λ b. is_lt (nat_cmp k x.0) && b) (below_retired k xs)
+
+pub sorted_retired : (xs : Cells) → is_sorted nat_cmp (map (λ c. (c.0, cell_retired c.1)) xs) ≡ is_sorted nat_cmp xs
+sorted_retired [] = refl
+sorted_retired (x ∷ xs) = ap (λ b. b && is_sorted nat_cmp (map (λ c. (c.0, cell_retired c.1)) xs)) (below_retired x.0 xs) ∙ ap (λ b. below_all nat_cmp x.0 xs && b) (sorted_retired xs)
+
+-- ---- a cell that stands is written
+
+-- what f makes of the DataNode's cell
+pub wrote_here : (e : BlockEntry) (row : Option Row) (xs : Cells) (dn k : ℕ) (named : Bool) (x : ℕ × Cell) (w : Cell) (f : Bool → Cell → Cell)
+    → entry row xs ≡ e → k ≡ place dn xs → is_here dn xs ≡ true → x ≡ get_or xs k x → named ≡ is_some row → w ≡ f named x.1
+    → entry row (set xs k (x.0, w)) ≡ with_cell e dn (f (is_some e.row) (cell_of e dn))
+wrote_here e row xs dn k named x w f v p h g n m =
+    let cell : w ≡ f (is_some row) (unwrap_or (find nat_cmp dn xs) no_cell) =
+    m ∙ ap (λ b. f b x.1) n ∙ ap (λ (y : ℕ × Cell). f (is_some row) y.1) g ∙ ap (λ j. f (is_some row) (get_or xs j x).1) p ∙ ap (λ o. f (is_some row) (unwrap_or o no_cell)) (sym (find_here dn xs x h)) in
+    ap (λ y. entry row (set xs k (y.0, w))) g ∙ ap (λ j. entry row (set xs j ((get_or xs j x).0, w))) p ∙ ap (entry row) (sym (put_here dn w xs x h))
+    ∙ ap (λ c. entry row (put nat_cmp dn c xs)) cell ∙ ap (λ y. with_cell y dn (f (is_some y.row) (cell_of y dn))) v
+
+pub wrote_new : (e : BlockEntry) (row : Option Row) (xs fs : Cells) (dn k : ℕ) (named : Bool) (w : Cell) (f : Bool → Cell → Cell)
+    → entry row xs ≡ e → is_sorted nat_cmp xs ≡ true → k ≡ place dn xs → is_here dn xs ≡ false → fs ≡ insert xs k (dn, w) → named ≡ is_some row → w ≡ f named no_cell
+    → entry row fs ≡ with_cell e dn (f (is_some e.row) (cell_of e dn))
+wrote_new e row xs fs dn k named w f v s p h g n m =
+    let cell : w ≡ f (is_some row) (unwrap_or (find nat_cmp dn xs) no_cell) = m ∙ ap (λ b. f b no_cell) n ∙ ap (λ o. f (is_some row) (unwrap_or o no_cell)) (sym (find_gone dn xs s h)) in
+    ap (entry row) g ∙ ap (λ j. entry row (insert xs j (dn, w))) p ∙ ap (entry row) (sym (put_new dn w xs h))
+    ∙ ap (λ c. entry row (put nat_cmp dn c xs)) cell ∙ ap (λ y. with_cell y dn (f (is_some y.row) (cell_of y dn))) v
+
+-- ---- whether there is a cell
+
+pub there : (e : BlockEntry) (row : Option Row) (xs : Cells) (dn : ℕ) → entry row xs ≡ e → is_here dn xs ≡ true → has_cell e dn ≡ true
+there e row xs dn v h = ap (λ y. has_cell y dn) (sym v) ∙ ap is_some (find_here dn xs (dn, no_cell) h)
+
+pub not_there : (e : BlockEntry) (row : Option Row) (xs : Cells) (dn : ℕ) → entry row xs ≡ e → is_sorted nat_cmp xs ≡ true → is_here dn xs ≡ false → has_cell e dn ≡ false
+not_there e row xs dn v s h = ap (λ y. has_cell y dn) (sym v) ∙ ap is_some (find_gone dn xs s h)
+
+pub placed_there : (e : BlockEntry) (dn : ℕ) → has_cell e dn ≡ true → e ≡ with_place e dn
+placed_there e dn h = ap (λ b. cond b e (with_cell e dn no_cell)) (sym h)
+
+pub placed_new : (e : BlockEntry) (dn : ℕ) → has_cell e dn ≡ false → with_cell e dn no_cell ≡ with_place e dn
+placed_new e dn h = ap (λ b. cond b e (with_cell e dn no_cell)) (sym h)
+
+pub erased_there : (e : BlockEntry) (dn : ℕ) → has_cell e dn ≡ true → with_cell e dn (cell_erased (is_some e.row) (cell_of e dn)) ≡ with_erased e dn
+erased_there e dn h = ap (λ b. cond b (with_cell e dn (cell_erased (is_some e.row) (cell_of e dn))) e) (sym h)
+
+pub erased_not : (e : BlockEntry) (dn : ℕ) → has_cell e dn ≡ false → e ≡ with_erased e dn
+erased_not e dn h = ap (λ b. cond b (with_cell e dn (cell_erased (is_some e.row) (cell_of e dn))) e) (sym h)
+
+-- ---- one more cell is retired
+
+pub retired_at : (xs ys : Cells) (i : ℕ) (x : ℕ × Cell) (w : Cell) → i < length xs → ys ≡ map (λ c. (c.0, cell_retired c.1)) (take i xs) ++ drop i xs → x ≡ get_or ys i x → w ≡ cell_retired (get_or ys i x).1
+    → set ys i ((get_or ys i x).0, w) ≡ map (λ c. (c.0, cell_retired c.1)) (take (i + 1) xs) ++ drop (i + 1) xs
+retired_at xs ys i x w l h g m =
+    ap (λ v. set ys i ((get_or ys i x).0, v)) m ∙ ap (λ (y : ℕ × Cell). set ys i (y.0, cell_retired y.1)) (sym g) ∙ map_over_more (λ (c : ℕ × Cell). (c.0, cell_retired c.1)) xs ys i x l h g
+
+pub empty_cell : (c : Cell) → c.replica ≡ None → c.ordered ≡ false → c ≡ no_cell
+empty_cell c r o = λ i. record { replica = r i; ordered = o i }
+
+pub is_not_here : {P : Type 0} {b : Bool} → b ≡ false → b ≡ true → P
+is_not_here no_cell_there h = absurd (both_ways _ no_cell_there h)
+
+-- what a write through all cells leaves
+pub refilled : (xs ws : Cells) → ws ≡ map (λ c. (c.0, cell_retired c.1)) xs → refill (length xs) xs ws ≡ map (λ c. (c.0, cell_retired c.1)) xs
+refilled xs ws h =
+    let same : length xs ≡ length ws = sym (ap length h ∙ length-map xs (λ (c : ℕ × Cell). (c.0, cell_retired c.1))) in
+    ap (λ n. take n (ws ++ drop (length ws) xs)) same ∙ take-append_seam ws (drop (length ws) xs) ∙ h
+
+pub sorted_refilled : (xs ws : Cells) → is_sorted nat_cmp xs ≡ true → ws ≡ map (λ c. (c.0, cell_retired c.1)) xs → is_sorted nat_cmp (refill (length xs) xs ws) ≡ true
+sorted_refilled xs ws s h = ap (is_sorted nat_cmp) (refilled xs ws h) ∙ sorted_retired xs ∙ s
+
+-- ---- whether the DataNode is to delete what it has
+
+pub order_none : (e : BlockEntry) (row : Option Row) (xs : Cells) (dn k : ℕ) → entry row xs ≡ e → is_sorted nat_cmp xs ≡ true → k ≡ place dn xs → length xs ≤ k → false ≡ is_ordered (find nat_cmp dn e.cells)
+order_none e row xs dn k v s p l =
+    sym (ap is_ordered (find_gone dn xs s (not_here dn xs (subst (λ (n : ℕ). length xs ≤ n) p l)))) ∙ ap (λ y. is_ordered (find nat_cmp dn y.cells)) v
+
+pub order_there : (e : BlockEntry) (row : Option Row) (xs : Cells) (dn k : ℕ) (x : ℕ × Cell) (same : Bool) → entry row xs ≡ e → is_sorted nat_cmp xs ≡ true → k ≡ place dn xs → k < length xs → x ≡ get_or xs k x → nat_eq x.0 dn ≡ same
+    → cond same x.1.ordered false ≡ is_ordered (find nat_cmp dn e.cells)
+order_there e row xs dn k x same v s p l g q =
+    let at : x ≡ get_or xs (place dn xs) x = g ∙ ap (λ j. get_or xs j x) p in
+    let here : is_here dn xs ≡ same = sym (here_at dn xs x (subst (λ (n : ℕ). n < length xs) p l)) ∙ ap (λ (y : ℕ × Cell). nat_eq y.0 dn) (sym at) ∙ q in
+    cases same at here ∙ ap (λ y. is_ordered (find nat_cmp dn y.cells)) v
+  where
+    cases : (b : Bool) → x ≡ get_or xs (place dn xs) x → is_here dn xs ≡ b → cond b x.1.ordered false ≡ is_ordered (find nat_cmp dn xs)
+    cases true at h = ap (λ (y : ℕ × Cell). y.1.ordered) at ∙ sym (ap is_ordered (find_here dn xs x h))
+    cases false at h = sym (ap is_ordered (find_gone dn xs s h))

@@ -1,0 +1,30 @@
+use Rattle.std.proofs.Common.{is_some, refl, sym, ap, ◌∙◌, arith}
+use Rattle.nn_replicas.specs.Entry.{no_cell}
+use Rattle.nn_replicas.specs.Scan.{place, is_here}
+use Rattle.nn_replicas.proofs.Scanned.{place_le}
+use Rattle.nn_replicas.proofs.Written.{sorted_new, wrote_new, there, not_there, placed_there, placed_new, empty_cell}
+use Rattle.nn_replicas.proofs.entry.Entry.place.Goals as goal
+
+pub returns-then-has_cell-clause-ok : goal.returns-then-has_cell-clause-ok
+returns-then-has_cell-clause-ok c =
+    let h = sym (c.if-has_cell.ensures ∙ ap (is_here c.args.dn) c.as_slice-2.ensures) in
+    placed_there c.args.self.now c.args.dn (there c.args.self.now c.self.inside.row c.self.inside.cells.items c.args.dn c.self.view_is h)
+
+pub insert-requires : goal.insert-requires
+insert-requires c =
+    let k = c.place_of-place.ensures ∙ ap (place c.args.dn) c.as_slice.ensures in
+    (omega arith, omega (arith, k, place_le c.args.dn c.self.inside.cells.items))
+
+pub invariant_of-self-2 : goal.invariant_of-self-2
+invariant_of-self-2 c =
+    let k = c.place_of-place.ensures ∙ ap (place c.args.dn) c.as_slice.ensures in
+    let h = sym (c.if-has_cell.ensures ∙ ap (is_here c.args.dn) c.as_slice-2.ensures) in
+    sorted_new c.args.dn c.place_of-place.result c.default.result c.self.inside.cells.items _ c.self.invariant k h c.in_ok-insert.ensures.ok
+
+pub returns-clause-ok : goal.returns-clause-ok
+returns-clause-ok c =
+    let k = c.place_of-place.ensures ∙ ap (place c.args.dn) c.as_slice.ensures in
+    let h = sym (c.if-has_cell.ensures ∙ ap (is_here c.args.dn) c.as_slice-2.ensures) in
+    wrote_new c.args.self.now c.self.inside.row c.self.inside.cells.items _ c.args.dn c.place_of-place.result (is_some c.self.inside.row) c.default.result (λ b x. no_cell)
+    c.self.view_is c.self.invariant k h c.in_ok-insert.ensures.ok refl (empty_cell c.default.result c.default.ensures.0 c.default.ensures.1)
+    ∙ placed_new c.args.self.now c.args.dn (not_there c.args.self.now c.self.inside.row c.self.inside.cells.items c.args.dn c.self.view_is c.self.invariant h)

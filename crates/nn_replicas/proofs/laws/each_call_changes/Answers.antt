@@ -1,0 +1,17 @@
+use Rattle.nn_replicas.proofs.Lookups.{set_block_names, place_places, put_writes, erase_writes, retire_retires}
+use Rattle.nn_replicas.proofs.laws.each_call_changes.Goals as goal
+
+pub returns-clause-set_block : goal.returns-clause-set_block
+returns-clause-set_block c = set_block_names
+
+pub returns-clause-place : goal.returns-clause-place
+returns-clause-place c = place_places
+
+pub returns-clause-put : goal.returns-clause-put
+returns-clause-put c = put_writes
+
+pub returns-clause-erase : goal.returns-clause-erase
+returns-clause-erase c = erase_writes
+
+pub returns-clause-retire : goal.returns-clause-retire
+returns-clause-retire c = retire_retires

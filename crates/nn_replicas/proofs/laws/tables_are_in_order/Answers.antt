@@ -1,0 +1,20 @@
+use Rattle.nn_replicas.proofs.Lookups.{new_in_order, set_block_in_order, place_in_order, put_in_order, erase_in_order, retire_in_order}
+use Rattle.nn_replicas.proofs.laws.tables_are_in_order.Goals as goal
+
+pub returns-clause-new : goal.returns-clause-new
+returns-clause-new c = new_in_order
+
+pub returns-clause-set_block : goal.returns-clause-set_block
+returns-clause-set_block c = set_block_in_order
+
+pub returns-clause-place : goal.returns-clause-place
+returns-clause-place c = place_in_order
+
+pub returns-clause-put : goal.returns-clause-put
+returns-clause-put c = put_in_order
+
+pub returns-clause-erase : goal.returns-clause-erase
+returns-clause-erase c = erase_in_order
+
+pub returns-clause-retire : goal.returns-clause-retire
+returns-clause-retire c = retire_in_order

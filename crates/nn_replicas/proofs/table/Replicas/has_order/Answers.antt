@@ -1,0 +1,12 @@
+use Rattle.std.proofs.Common.{ap, sym, ◌∙◌}
+use Rattle.std.specs.Option.{option_copied}
+use Rattle.nn_replicas.proofs.Tables.{no_order, order_of}
+use Rattle.nn_replicas.proofs.table.Replicas.has_order.Goals as goal
+
+pub returns-in_default : goal.returns-in_default
+returns-in_default c =
+    no_order c.args.self.now c.self.inside.min c.args.dn c.args.block c.self.inside.entries.entries c.self.view_is (sym (ap option_copied c.in_default.is) ∙ c.get.ensures.value)
+
+pub returns : goal.returns
+returns c =
+    c.has_order.ensures ∙ order_of c.args.self.now c.self.inside.min c.args.dn c.args.block c.self.inside.entries.entries c.in-Some.entry.now c.self.view_is c.in-Some.ensures.value

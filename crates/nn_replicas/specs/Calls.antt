@@ -1,0 +1,110 @@
+-- What the table answers, and what each call does to it.
+use Rattle.std.specs.Prelude.{ℕ, Bool, true, false, ◌&&◌, ◌||◌, ◌==◌, nat_lt, IsTrue, List, [], ◌∷◌, Option, Some, None, is_some, unwrap_or, option_and_then, count_by, flat_map}
+use Rattle.std.specs.List.{list_all}
+use Rattle.std.specs.FinMap.Entries.{find, put}
+use Rattle.std.specs.Ordering.{nat_cmp}
+use Rattle.nn_types.specs.declared.block.Block.{Block}
+use Rattle.nn_types.specs.declared.report.Kind.{Kind}
+use Rattle.nn_types.specs.declared.report.Kind.TheVariants.{Receiving, Received, Deleted}
+use Rattle.nn_types.specs.declared.replica.Replica.{Replica}
+use Rattle.nn_replicas.specs.declared.entry.Row.{Row}
+use Rattle.nn_replicas.specs.declared.entry.Cell.{Cell}
+use Rattle.nn_replicas.specs.Table.{BlockEntry, Table}
+use Rattle.nn_replicas.specs.Entry.{is_ordered, no_entry, with_row, with_place, with_put, with_erased, retired, replicas_in, orders_in, is_closed, is_safe}
+
+-- ---- What it answers.
+
+-- what is known of a block id, if a row or a placed DataNode ever made room for it
+abbrev pub entry_at : Table → ℕ → Option BlockEntry
+entry_at t id = find nat_cmp id t.entries
+
+abbrev pub entry_or_none : Table → ℕ → BlockEntry
+entry_or_none t id = unwrap_or (entry_at t id) no_entry
+
+-- the row of a block, where a file holds it
+abbrev pub row_at : Table → ℕ → Option Row
+row_at t id = (entry_or_none t id).row
+
+abbrev pub cell_at : Table → ℕ → ℕ → Option Cell
+cell_at t dn id = find nat_cmp dn (entry_or_none t id).cells
+
+-- the DataNode's replica of the block
+abbrev pub replica_at : Table → ℕ → ℕ → Option Replica
+replica_at t dn id = option_and_then (λ c. c.replica) (cell_at t dn id)
+
+-- whether the DataNode is to delete what it has of the block
+abbrev pub has_order : Table → ℕ → ℕ → Bool
+has_order t dn id = is_ordered (cell_at t dn id)
+
+-- whether there is room for what the DataNode says of the block
+abbrev pub is_placed : Table → ℕ → ℕ → Bool
+is_placed t dn id = is_some (cell_at t dn id)
+
+-- the DataNodes with a replica of the block, and the replicas
+abbrev pub replicas_at : Table → ℕ → List (ℕ × Replica)
+replicas_at t id = replicas_in (entry_or_none t id).cells
+
+-- all orders, as block ids and DataNodes
+abbrev pub orders_of : Table → List (ℕ × ℕ)
+orders_of t = flat_map (λ e. orders_in e.0 e.1.cells) t.entries
+
+-- a lower block id comes first, and of one block the lower DataNode
+abbrev pub comes_first : ℕ × ℕ → ℕ × ℕ → Bool
+comes_first x y = nat_lt x.0 y.0 || ((x.0 == y.0) && nat_lt x.1 y.1)
+
+-- block ids ascend, and the DataNodes of each
+abbrev pub AreAscending : List (ℕ × ℕ) → Type 0
+AreAscending [] = Unit {0}
+AreAscending (order ∷ orders) = IsTrue (list_all (comes_first order) orders) × AreAscending orders
+
+-- how many blocks closed files have
+abbrev pub total_of : Table → ℕ
+total_of t = count_by (λ e. is_closed e.1) t.entries
+
+-- how many of them have enough live replicas
+abbrev pub safe_of : Table → ℕ
+safe_of t = count_by (λ e. is_safe t.min e.1) t.entries
+
+-- ---- What it becomes.
+
+-- a table of which nothing is known
+abbrev pub empty_table : ℕ → Table
+empty_table min = record { min = min; entries = [] }
+
+-- this is known of the block id now
+abbrev pub with_entry : Table → ℕ → BlockEntry → Table
+with_entry t id e = record t { entries = put nat_cmp id e t.entries }
+
+abbrev pub changed_from : Table → ℕ → (BlockEntry → BlockEntry) → Option BlockEntry → Table
+changed_from t id change None = t
+changed_from t id change (Some e) = with_entry t id (change e)
+
+-- a change of what is known of a block id, where something is
+abbrev pub changed_at : Table → ℕ → (BlockEntry → BlockEntry) → Table
+changed_at t id change = changed_from t id change (entry_at t id)
+
+-- a file holds the block
+abbrev pub block_set : Table → Block → Bool → Table
+block_set t block closed = with_entry t block.id (with_row (entry_or_none t block.id) (record { block = block; closed = closed }))
+
+-- there is room for what the DataNode says of the block
+abbrev pub pair_placed : Table → ℕ → ℕ → Table
+pair_placed t dn id = with_entry t id (with_place (entry_or_none t id) dn)
+
+-- the DataNode has this replica: of a block that a file holds it is kept, of another it is ordered to be deleted
+abbrev pub replica_put : Table → ℕ → ℕ → Replica → Table
+replica_put t dn id r = with_entry t id (with_put (entry_or_none t id) dn r)
+
+-- the DataNode has no replica: of a block that a file holds none is kept, of another none is ordered to be deleted
+abbrev pub replica_erased : Table → ℕ → ℕ → Table
+replica_erased t dn id = changed_at t id (λ e. with_erased e dn)
+
+-- no file holds the block any more, and what DataNodes have of it is ordered to be deleted
+abbrev pub block_retired : Table → ℕ → Table
+block_retired t id = changed_at t id retired
+
+-- what a DataNode reports as deleted is no replica
+abbrev pub is_kept : Kind → Bool
+is_kept Receiving = true
+is_kept Received = true
+is_kept Deleted = false

@@ -1,0 +1,105 @@
+-- What is done to a block id, and how it counts.
+use Rattle.std.specs.Prelude.{ℕ, Bool, true, false, ◌&&◌, ◌||◌, nat_le, List, [], map, Option, Some, None, is_some, unwrap_or, count_by, filter_map, if◌then◌else◌}
+use Rattle.std.specs.Option.{option_map}
+use Rattle.std.specs.FinMap.Entries.{find, put}
+use Rattle.std.specs.Ordering.{nat_cmp}
+use Rattle.nn_types.specs.declared.block.Block.{Block}
+use Rattle.nn_types.specs.declared.replica.Replica.{Replica}
+use Rattle.nn_model.specs.Counts.{is_live}
+use Rattle.nn_replicas.specs.declared.entry.Row.{Row}
+use Rattle.nn_replicas.specs.declared.entry.Cell.{Cell}
+use Rattle.nn_replicas.specs.Table.{BlockEntry}
+
+-- ---- One cell.
+
+abbrev pub no_cell : Cell
+no_cell = record { replica = None; ordered = false }
+
+abbrev pub is_ordered : Option Cell → Bool
+is_ordered None = false
+is_ordered (Some c) = c.ordered
+
+-- a report of a replica: a replica where a file holds the block, an order where none does
+abbrev pub cell_put : Bool → Replica → Cell → Cell
+cell_put named r c = if named then (record c { replica = Some r }) else (record c { ordered = true })
+
+-- a report that it is gone: no replica where a file holds the block, no order where none does
+abbrev pub cell_erased : Bool → Cell → Cell
+cell_erased named c = if named then (record c { replica = None }) else (record c { ordered = false })
+
+-- the block leaves its file: a replica becomes an order
+abbrev pub cell_retired : Cell → Cell
+cell_retired c = record { replica = None; ordered = c.ordered || is_some c.replica }
+
+-- ---- One block id.
+
+-- nothing is known of a block id
+abbrev pub no_entry : BlockEntry
+no_entry = record { row = None; cells = [] }
+
+-- the block is named
+abbrev pub with_row : BlockEntry → Row → BlockEntry
+with_row e row = record e { row = Some row }
+
+abbrev pub cell_of : BlockEntry → ℕ → Cell
+cell_of e dn = unwrap_or (find nat_cmp dn e.cells) no_cell
+
+abbrev pub has_cell : BlockEntry → ℕ → Bool
+has_cell e dn = is_some (find nat_cmp dn e.cells)
+
+abbrev pub with_cell : BlockEntry → ℕ → Cell → BlockEntry
+with_cell e dn c = record e { cells = put nat_cmp dn c e.cells }
+
+-- the DataNode is placed: it has a cell from now on
+abbrev pub with_place : BlockEntry → ℕ → BlockEntry
+with_place e dn = if has_cell e dn then e else with_cell e dn no_cell
+
+-- the DataNode has a replica of the block
+abbrev pub with_put : BlockEntry → ℕ → Replica → BlockEntry
+with_put e dn r = with_cell e dn (cell_put (is_some e.row) r (cell_of e dn))
+
+-- the DataNode has none
+abbrev pub with_erased : BlockEntry → ℕ → BlockEntry
+with_erased e dn = if has_cell e dn then with_cell e dn (cell_erased (is_some e.row) (cell_of e dn)) else e
+
+-- the block leaves its file
+abbrev pub retired : BlockEntry → BlockEntry
+retired e = record { row = None; cells = map (λ c. (c.0, cell_retired c.1)) e.cells }
+
+-- ---- What it answers.
+
+abbrev pub replica_in : ℕ × Cell → Option (ℕ × Replica)
+replica_in c = option_map (λ r. (c.0, r)) c.1.replica
+
+-- the DataNodes with a replica of the block, and the replicas
+abbrev pub replicas_in : List (ℕ × Cell) → List (ℕ × Replica)
+replicas_in cells = filter_map replica_in cells
+
+abbrev pub order_in : ℕ → ℕ × Cell → Option (ℕ × ℕ)
+order_in id c = if c.1.ordered then Some (id, c.0) else None
+
+-- the DataNodes that are to delete what they have of the block with this id
+abbrev pub orders_in : ℕ → List (ℕ × Cell) → List (ℕ × ℕ)
+orders_in id cells = filter_map (order_in id) cells
+
+-- ---- How it counts.
+
+abbrev pub is_closed_row : Option Row → Bool
+is_closed_row None = false
+is_closed_row (Some row) = row.closed
+
+-- a block of a closed file
+abbrev pub is_closed : BlockEntry → Bool
+is_closed e = is_closed_row e.row
+
+-- how many DataNodes have a live replica of the block
+abbrev pub live_cells : Block → List (ℕ × Cell) → ℕ
+live_cells b cells = count_by (λ c. is_live c.1.replica b) cells
+
+abbrev pub is_safe_row : ℕ → Option Row → List (ℕ × Cell) → Bool
+is_safe_row min None cells = false
+is_safe_row min (Some row) cells = row.closed && nat_le min (live_cells row.block cells)
+
+-- a block of a closed file with at least so many live replicas
+abbrev pub is_safe : ℕ → BlockEntry → Bool
+is_safe min e = is_safe_row min e.row e.cells

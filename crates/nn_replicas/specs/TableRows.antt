@@ -1,0 +1,69 @@
+-- A table through its calls, computed.
+use Rattle.std.specs.Prelude.{◌≡◌, ℕ, true, false, [], ◌∷◌, map, Some, None, refl}
+use Rattle.nn_types.specs.declared.block.Block.{Block}
+use Rattle.nn_types.specs.declared.report.Kind.{Kind}
+use Rattle.nn_types.specs.declared.report.Kind.TheVariants.{Receiving, Received}
+use Rattle.nn_types.specs.declared.replica.Replica.{Replica}
+use Rattle.nn_replicas.specs.Table.{Table}
+use Rattle.nn_replicas.specs.Calls.{row_at, replica_at, has_order, is_placed, replicas_at, orders_of, total_of, safe_of, empty_table, block_set, pair_placed, replica_put, replica_erased, block_retired}
+
+-- ---- The blocks b and c, and reports of b by DataNodes 1, 2 and 3.
+
+abbrev b : ℕ
+b = 1073741825
+
+abbrev c : ℕ
+c = 1073741826
+
+abbrev block_b : ℕ → Block
+block_b stamp = record { id = b; stamp = stamp; len = 5 }
+
+abbrev replica : Kind → ℕ → ℕ → Replica
+replica kind stamp len = record { stamp = stamp; len = len; kind = kind }
+
+abbrev named : Table
+named = replica_put (block_set (empty_table 1) (block_b 1001) true) 1 b (replica Received 1001 5)
+
+-- the generation stamp is raised, and then DataNode 1 reports again
+abbrev raised : Table
+raised = block_set (replica_put named 2 b (replica Receiving 1001 5)) (block_b 1002) true
+
+abbrev reported : ℕ → Table
+reported len = replica_put raised 1 b (replica Received 1002 len)
+
+abbrev gone : Table
+gone = block_retired (replica_put (reported 5) 3 b (replica Receiving 9223372036854775807 0)) b
+
+totals : map total_of (empty_table 1 ∷ named ∷ raised ∷ reported 5 ∷ gone ∷ []) ≡ 0 ∷ 1 ∷ 1 ∷ 1 ∷ 0 ∷ []
+totals = refl
+
+safe_counts : map safe_of (empty_table 1 ∷ named ∷ raised ∷ reported 4 ∷ reported 5 ∷ gone ∷ []) ≡ 0 ∷ 1 ∷ 0 ∷ 0 ∷ 1 ∷ 0 ∷ []
+safe_counts = refl
+
+-- a block of an open file does not count, however many have it
+open_files : map (λ t. total_of (block_set t (block_b 1001) false)) (empty_table 1 ∷ named ∷ []) ≡ 0 ∷ 0 ∷ []
+open_files = refl
+
+replicas : replicas_at raised b ≡ (1, replica Received 1001 5) ∷ (2, replica Receiving 1001 5) ∷ []
+replicas = refl
+
+orders : (orders_of raised ≡ []) × (orders_of gone ≡ (b, 1) ∷ (b, 2) ∷ (b, 3) ∷ []) × (replicas_at gone b ≡ []) × (row_at gone b ≡ None)
+orders = (refl, refl, refl, refl)
+
+-- what no file holds is ordered to be deleted, until it is
+abbrev stray : Table
+stray = replica_put gone 3 c (replica Received 1001 0)
+
+strays : (has_order stray 3 c ≡ true) × (replica_at stray 3 c ≡ None) × (has_order (replica_erased stray 3 c) 3 c ≡ false) × (orders_of (replica_erased stray 3 c) ≡ orders_of gone)
+strays = (refl, refl, refl, refl)
+
+-- room alone is neither a replica nor an order, and stays
+abbrev placed : Table
+placed = pair_placed gone 4 b
+
+rooms : (orders_of placed ≡ orders_of gone) × (map (λ t. is_placed t 4 b) (gone ∷ placed ∷ replica_erased placed 4 b ∷ block_retired placed b ∷ []) ≡ false ∷ true ∷ true ∷ true ∷ [])
+rooms = (refl, refl)
+
+-- a block that is named again has its orders still, and no replicas
+again : let t = block_set gone (block_b 1003) true in (orders_of t ≡ orders_of gone) × (replicas_at t b ≡ []) × (replica_at (replica_put t 1 b (replica Received 1003 5)) 1 b ≡ Some (replica Received 1003 5))
+again = (refl, refl, refl)

@@ -1,0 +1,273 @@
+//! What is known of one block id: its row, and a cell for each DataNode that was placed.
+ghost use Rattle.std.specs.Prelude.{◌≡◌, ℕ, IsOk, OnOk, OnErr, is_some, true, map, ◌++◌, IsTrue};
+ghost use Rattle.std.specs.FinMap.Entries.{find, is_sorted};
+ghost use Rattle.std.specs.Ordering.{nat_cmp};
+ghost use Rattle.nn_model.specs.Counts.{is_live, is_live_class};
+ghost use Rattle.nn_replicas.specs.Scan.{place, is_here};
+ghost use Rattle.nn_replicas.specs.Entry.{replicas_in, orders_in, is_ordered, cell_put, cell_erased, cell_retired, no_entry, with_row, with_place, with_put, with_erased, retired, is_closed, is_safe};
+
+use crate::classes::class;
+use crate::replicas_of::ReplicasOf;
+use nn_types::{Block, BlockId, Class, Replica};
+use smallvec::SmallVec;
+use std::alloc::{AllocError, Global};
+use std::marker::Model;
+
+/// The row of a block that a file holds.
+#[derive(Clone, Copy, Debug, PartialEq, Eq)]
+pub struct Row {
+    pub block: Block,
+    /// Whether the file is closed. Blocks of open files do not count.
+    pub closed: bool,
+}
+
+/// What is known of a DataNode and a block.
+#[derive(Clone, Copy, Debug, Default, PartialEq, Eq)]
+pub struct Cell {
+    /// What the DataNode has of the block, where a file holds it.
+    pub replica: Option<Replica>,
+    /// Whether the DataNode is to delete what it has of the block.
+    pub ordered: bool,
+}
+
+// A cell stands for a DataNode that was placed, and stays: so a later report or a retirement is written in place
+// and takes no memory. Up to three cells lie in the entry itself.
+#[derive(Drop)]
+pub struct Entry {
+    row: Option<Row>,
+    cells: SmallVec<(u16, Cell), 3>,
+}
+
+impl Model for Entry {
+    ghost use Rattle.std.specs.Prelude.{IsTrue};
+    ghost use Rattle.std.specs.FinMap.Entries.{is_sorted};
+    ghost use Rattle.std.specs.Ordering.{nat_cmp};
+    ghost use Rattle.nn_replicas.specs.Table.{BlockEntry};
+
+    ghost Value = { BlockEntry };
+
+    ghost view = { λ e. record { row = e.row; cells = e.cells.items } };
+
+    ghost invariant = { λ e. IsTrue (is_sorted nat_cmp e.cells.items) };
+}
+
+impl Entry {
+    pub fn new(alloc: Global) -> Entry
+        ensures { result ≡ no_entry }
+    {
+        Entry {
+            row: None,
+            cells: SmallVec::new(alloc),
+        }
+    }
+
+    pub fn set_row(&mut self, row: Row)
+        ensures { self.new ≡ with_row self.old row }
+    {
+        self.row = Some(row);
+    }
+
+    pub fn is_closed(&self) -> bool
+        ensures { result ≡ is_closed self.now }
+    {
+        match self.row {
+            None => false,
+            Some(row) => row.closed,
+        }
+    }
+
+    pub fn is_safe(&self, min: u16) -> bool
+        ensures { result ≡ is_safe min self.now }
+    {
+        let Some(row) = self.row else {
+            return false;
+        };
+        let live = self
+            .cells
+            .as_slice()
+            .iter()
+            .filter(|cell| is_live(&row.block, &cell.1))
+            .count();
+        row.closed && usize::from(min) <= live
+    }
+
+    // Makes room for the DataNode, which stays.
+    pub fn place(&mut self, dn: u16) -> Result<(), AllocError>
+        ensures ok { OnOk result (self.new ≡ with_place self.old dn) }
+        ensures row { self.new.row ≡ self.old.row }
+        ensures safe { (min : ℕ) → is_safe min self.new ≡ is_safe min self.old }
+        ensures err { OnErr result (self.new ≡ self.old) }
+    {
+        let place = place_of(self.cells.as_slice(), dn);
+        if has_cell(self.cells.as_slice(), dn) {
+            return Ok(());
+        }
+        self.cells.insert(place, (dn, Cell::default()))?;
+        Ok(())
+    }
+
+    // Sets a replica where the block has a row, an order where it has none.
+    pub fn put(&mut self, dn: u16, replica: Replica) -> Result<(), AllocError>
+        ensures ok { OnOk result (self.new ≡ with_put self.old dn replica) }
+        ensures err { OnErr result (self.new ≡ self.old) }
+        ensures room { is_some (find nat_cmp dn self.old.cells) ≡ true → IsOk result }
+    {
+        let named = self.row.is_some();
+        let place = place_of(self.cells.as_slice(), dn);
+        if has_cell(self.cells.as_slice(), dn) {
+            let Some(spot) = self.cells.get_mut(place) else {
+                unreachable!()
+            };
+            spot.1 = put_cell(named, replica, spot.1);
+            return Ok(());
+        }
+        self.cells
+            .insert(place, (dn, put_cell(named, replica, Cell::default())))?;
+        Ok(())
+    }
+
+    // Takes away the replica where the block has a row, the order where it has none.
+    pub fn erase(&mut self, dn: u16)
+        ensures { self.new ≡ with_erased self.old dn }
+    {
+        let named = self.row.is_some();
+        let place = place_of(self.cells.as_slice(), dn);
+        if has_cell(self.cells.as_slice(), dn) {
+            let Some(spot) = self.cells.get_mut(place) else {
+                unreachable!()
+            };
+            spot.1 = erase_cell(named, spot.1);
+        }
+    }
+
+    // Whether the DataNode is to delete what it has.
+    pub fn has_order(&self, dn: u16) -> bool
+        ensures { result ≡ is_ordered (find nat_cmp dn self.now.cells) }
+    {
+        match self
+            .cells
+            .as_slice()
+            .get(place_of(self.cells.as_slice(), dn))
+        {
+            None => false,
+            Some(cell) => cell.0 == dn && cell.1.ordered,
+        }
+    }
+
+    // The replicas, in order of DataNode.
+    pub fn replicas(&self) -> ReplicasOf<'_>
+        ensures all { result ≡ replicas_in self.now.cells }
+        ensures order { IsTrue (is_sorted nat_cmp result) }
+    {
+        ReplicasOf::new(self.cells.as_slice())
+    }
+
+    // Adds the orders of this block, in order of DataNode.
+    pub fn push_orders(
+        &self,
+        block: BlockId,
+        orders: &mut Vec<(BlockId, u16)>,
+    ) -> Result<(), AllocError>
+        ensures ok { OnOk result (orders.new.items ≡ orders.old.items ++ orders_in block self.now.cells) }
+        ensures order { IsTrue (is_sorted nat_cmp self.now.cells) }
+    {
+        for cell in self.cells.as_slice() {
+            if cell.1.ordered {
+                orders.push((block, cell.0))?;
+            }
+        }
+        Ok(())
+    }
+
+    // Drops the row, and turns the replicas into orders.
+    pub fn retire(&mut self)
+        ensures { self.new ≡ retired self.old }
+    {
+        self.row = None;
+        retire_cells(self.cells.as_mut_slice());
+    }
+}
+
+// Where the DataNode's cell stands, or would stand.
+fn place_of(cells: &[(u16, Cell)], dn: u16) -> usize
+    ensures { result ≡ place dn cells.now }
+{
+    for (i, cell) in cells.iter().enumerate() {
+        if cell.0 >= dn {
+            return i;
+        }
+    }
+    cells.len()
+}
+
+// Whether the DataNode has a cell, in cells that are in order.
+fn has_cell(cells: &[(u16, Cell)], dn: u16) -> bool
+    ensures { result ≡ is_here dn cells.now }
+{
+    match cells.get(place_of(cells, dn)) {
+        None => false,
+        Some(cell) => cell.0 == dn,
+    }
+}
+
+fn put_cell(named: bool, replica: Replica, cell: Cell) -> Cell
+    ensures { result ≡ cell_put named replica cell }
+{
+    if named {
+        return Cell {
+            replica: Some(replica),
+            ordered: cell.ordered,
+        };
+    }
+    Cell {
+        replica: cell.replica,
+        ordered: true,
+    }
+}
+
+fn erase_cell(named: bool, cell: Cell) -> Cell
+    ensures { result ≡ cell_erased named cell }
+{
+    if named {
+        return Cell {
+            replica: None,
+            ordered: cell.ordered,
+        };
+    }
+    Cell {
+        replica: cell.replica,
+        ordered: false,
+    }
+}
+
+fn retire_cell(cell: Cell) -> Cell
+    ensures { result ≡ cell_retired cell }
+{
+    Cell {
+        replica: None,
+        ordered: cell.ordered || cell.replica.is_some(),
+    }
+}
+
+fn retire_cells(cells: &mut [(u16, Cell)])
+    ensures { cells.new ≡ map (λ c. (c.0, cell_retired c.1)) cells.old }
+{
+    for cell in cells.iter_mut() {
+        cell.1 = retire_cell(cell.1);
+    }
+}
+
+fn is_live(block: &Block, cell: &Cell) -> bool
+    ensures { result ≡ is_live cell.now.replica block.now }
+{
+    match cell.replica {
+        None => false,
+        Some(replica) => is_live_class(class(replica, *block)),
+    }
+}
+
+fn is_live_class(class: Class) -> bool
+    ensures { result ≡ is_live_class class }
+{
+    class == Class::Live
+}

@@ -1,0 +1,41 @@
+//! Laws over the definitions: functions that do nothing, whose contracts hold.
+ghost use Rattle.std.specs.Prelude.{◌≡◌, ℕ, Bool, Some, None};
+ghost use Rattle.nn_types.specs.declared.block.Block.{Block};
+ghost use Rattle.nn_types.specs.declared.replica.Replica.{Replica};
+ghost use Rattle.nn_replicas.specs.Table.{Table};
+ghost use Rattle.nn_replicas.specs.Calls.{empty_table, block_set, pair_placed, replica_put, replica_erased, block_retired};
+ghost use Rattle.nn_replicas.specs.Effects.{Names, Places, Writes, Retires};
+ghost use Rattle.nn_replicas.specs.Agreement.{CountsAgree};
+ghost use Rattle.nn_replicas.specs.Order.{IsInOrder};
+ghost use Rattle.nn_types.specs.Settings.{needed_of};
+ghost use Rattle.nn_model.specs.Counts.{needed_of as safe_mode_needed};
+
+/// What each call of the table changes, told by the four things that it is asked for: rows, replicas, orders and
+/// room.
+pub fn each_call_changes()
+    ensures set_block { (t : Table) (block : Block) (closed : Bool) → Names t block closed (block_set t block closed) }
+    ensures place { (t : Table) (dn id : ℕ) → Places t dn id (pair_placed t dn id) }
+    ensures put { (t : Table) (dn id : ℕ) (r : Replica) → Writes t dn id (Some r) (replica_put t dn id r) }
+    ensures erase { (t : Table) (dn id : ℕ) → Writes t dn id None (replica_erased t dn id) }
+    ensures retire { (t : Table) (id : ℕ) → Retires t id (block_retired t id) }
+{}
+
+/// Block ids are in order in every table that the calls make, and so are the DataNodes of each.
+pub fn tables_are_in_order()
+    ensures new { (min : ℕ) → IsInOrder (empty_table min) }
+    ensures set_block { (t : Table) (block : Block) (closed : Bool) → IsInOrder t → IsInOrder (block_set t block closed) }
+    ensures place { (t : Table) (dn id : ℕ) → IsInOrder t → IsInOrder (pair_placed t dn id) }
+    ensures put { (t : Table) (dn id : ℕ) (r : Replica) → IsInOrder t → IsInOrder (replica_put t dn id r) }
+    ensures erase { (t : Table) (dn id : ℕ) → IsInOrder t → IsInOrder (replica_erased t dn id) }
+    ensures retire { (t : Table) (id : ℕ) → IsInOrder t → IsInOrder (block_retired t id) }
+{}
+
+/// `Settings::needed` is the threshold of safe mode.
+pub fn needed_is_the_threshold()
+    ensures { (permille total : ℕ) → needed_of permille total ≡ safe_mode_needed permille total }
+{}
+
+/// A table that shows a namespace has its counts.
+pub fn counts_are_the_namespaces()
+    ensures { CountsAgree }
+{}

@@ -1,0 +1,19 @@
+//! The replica table: which DataNode has a replica of which block, which DataNodes are ordered to delete what they
+//! have, and the counts that decide on safe mode.
+#![tactic(auto)]
+
+mod classes;
+mod entry;
+mod laws;
+mod replicas_of;
+mod table;
+#[cfg(test)]
+mod tests;
+
+pub use classes::class;
+pub use entry::{Cell, Row};
+pub use laws::{
+    counts_are_the_namespaces, each_call_changes, needed_is_the_threshold, tables_are_in_order,
+};
+pub use replicas_of::ReplicasOf;
+pub use table::Replicas;

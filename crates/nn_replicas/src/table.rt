@@ -1,0 +1,202 @@
+//! The replica table.
+ghost use Rattle.std.specs.Prelude.{◌≡◌, IsOk, OnOk, OnErr, IfOk, IsTrue, is_some, true};
+ghost use Rattle.std.specs.FinMap.Entries.{is_sorted};
+ghost use Rattle.std.specs.Ordering.{nat_cmp};
+ghost use Rattle.nn_replicas.specs.Calls.{row_at, replicas_at, orders_of, AreAscending, has_order, is_placed, is_kept, total_of, safe_of, empty_table, block_set, pair_placed, replica_put, replica_erased, block_retired};
+
+use crate::entry::{Entry, Row};
+use crate::replicas_of::ReplicasOf;
+use nn_types::{Block, BlockId, Replica, Settings};
+use std::alloc::{AllocError, Global};
+use std::collections::BTreeMap;
+use std::marker::Model;
+
+/// The replicas of blocks, the orders to delete, and the counts that decide on safe mode.
+///
+/// A block has a row while a file holds it. A DataNode has a replica of a block with a row, or an order to delete
+/// what it has of a block without one. A DataNode that was once placed at a block keeps its room there, so a later
+/// report of it takes no memory.
+#[derive(Drop)]
+pub struct Replicas {
+    min: u16,
+    entries: BTreeMap<BlockId, Entry>,
+    // How many rows are of closed files, and how many of these are safe: kept at each change, so that reading them
+    // costs nothing.
+    total: u64,
+    safe: u64,
+    alloc: Global,
+}
+
+impl Model for Replicas {
+    ghost use Rattle.std.specs.Prelude.{◌≡◌};
+    ghost use Rattle.std.specs.BTreeMap.{IsOrdered};
+    ghost use Rattle.std.specs.Ordering.{nat_cmp};
+    ghost use Rattle.nn_replicas.specs.Table.{Table};
+    ghost use Rattle.nn_replicas.specs.Calls.{total_of, safe_of};
+
+    ghost Value = { Table };
+
+    ghost view = { λ t. record { min = t.min; entries = t.entries.entries } };
+
+    ghost invariant = { λ t. (t.total ≡ total_of (record { min = t.min; entries = t.entries.entries })) × (t.safe ≡ safe_of (record { min = t.min; entries = t.entries.entries })) × IsOrdered nat_cmp t.entries };
+}
+
+impl Replicas {
+    /// A table of which nothing is known. It takes no memory.
+    pub fn new(alloc: Global, settings: Settings) -> Replicas
+        ensures { result ≡ empty_table settings.min }
+    {
+        Replicas {
+            min: settings.min(),
+            entries: BTreeMap::new(alloc),
+            total: 0,
+            safe: 0,
+            alloc,
+        }
+    }
+
+    /// Names a block of a file, or changes its row. It takes no memory where the block has a row.
+    ///
+    /// After want of memory the table is as it was. O(log blocks + replicas of the block).
+    pub fn set_block(&mut self, block: Block, closed: bool) -> Result<(), AllocError>
+        ensures ok { OnOk result (self.new ≡ block_set self.old block closed) }
+        ensures err { OnErr result (self.new ≡ self.old) }
+        ensures room { IsTrue (is_some (row_at self.old block.id)) → IsOk result }
+    {
+        // Fewer blocks than 2^63 fit in memory, so the counters do not overflow.
+        let _count = self.entries.len();
+        let row = Row { block, closed };
+        let Some(entry) = self.entries.get_mut(&block.id) else {
+            let mut entry = Entry::new(self.alloc);
+            entry.set_row(row);
+            let safe = entry.is_safe(self.min);
+            self.entries.insert(block.id, entry)?;
+            self.total += u64::from(closed);
+            self.safe += u64::from(safe);
+            return Ok(());
+        };
+        let (was_closed, was_safe) = (entry.is_closed(), entry.is_safe(self.min));
+        entry.set_row(row);
+        let safe = entry.is_safe(self.min);
+        self.total = self.total - u64::from(was_closed) + u64::from(closed);
+        self.safe = self.safe - u64::from(was_safe) + u64::from(safe);
+        Ok(())
+    }
+
+    /// Makes room for what a DataNode says of a block. The room stays, and a `put` on it takes no memory.
+    ///
+    /// After want of memory the table is as it was. O(log blocks + replicas of the block).
+    pub fn place(&mut self, dn: u16, block: BlockId) -> Result<(), AllocError>
+        ensures ok { OnOk result (self.new ≡ pair_placed self.old dn block) }
+        ensures err { OnErr result (self.new ≡ self.old) }
+    {
+        let Some(entry) = self.entries.get_mut(&block) else {
+            let mut entry = Entry::new(self.alloc);
+            entry.place(dn)?;
+            self.entries.insert(block, entry)?;
+            return Ok(());
+        };
+        entry.place(dn)?;
+        Ok(())
+    }
+
+    /// Sets what a DataNode has of a block: a replica where the block has a row, an order where it has none.
+    /// It takes no memory where the DataNode was placed at the block.
+    ///
+    /// After want of memory the table is as it was. O(log blocks + replicas of the block).
+    pub fn put(&mut self, dn: u16, block: BlockId, replica: Replica) -> Result<(), AllocError>
+        requires { IsTrue (is_kept replica.kind) }
+        ensures ok { OnOk result (self.new ≡ replica_put self.old dn block replica) }
+        ensures err { OnErr result (self.new ≡ self.old) }
+        ensures room { IsTrue (is_placed self.old dn block) → IsOk result }
+    {
+        // Fewer blocks than 2^63 fit in memory, so the counters do not overflow.
+        let _count = self.entries.len();
+        let Some(entry) = self.entries.get_mut(&block) else {
+            let mut entry = Entry::new(self.alloc);
+            entry.put(dn, replica)?;
+            self.entries.insert(block, entry)?;
+            return Ok(());
+        };
+        let was_safe = entry.is_safe(self.min);
+        entry.put(dn, replica)?;
+        let safe = entry.is_safe(self.min);
+        self.safe = self.safe - u64::from(was_safe) + u64::from(safe);
+        Ok(())
+    }
+
+    /// Takes away what a DataNode has of a block: the replica where the block has a row, the order where it has none.
+    pub fn erase(&mut self, dn: u16, block: BlockId)
+        ensures { self.new ≡ replica_erased self.old dn block }
+    {
+        // Fewer blocks than 2^63 fit in memory, so the counters do not overflow.
+        let _count = self.entries.len();
+        let Some(entry) = self.entries.get_mut(&block) else {
+            return;
+        };
+        let was_safe = entry.is_safe(self.min);
+        entry.erase(dn);
+        let safe = entry.is_safe(self.min);
+        self.safe = self.safe - u64::from(was_safe) + u64::from(safe);
+    }
+
+    /// Drops the row of a block that no file holds any more, and turns its replicas into orders.
+    pub fn retire(&mut self, block: BlockId)
+        ensures { self.new ≡ block_retired self.old block }
+    {
+        let Some(entry) = self.entries.get_mut(&block) else {
+            return;
+        };
+        let (was_closed, was_safe) = (entry.is_closed(), entry.is_safe(self.min));
+        entry.retire();
+        self.total -= u64::from(was_closed);
+        self.safe -= u64::from(was_safe);
+    }
+
+    /// Whether a DataNode is ordered to delete what it has of a block.
+    pub fn has_order(&self, dn: u16, block: BlockId) -> bool
+        ensures { result ≡ has_order self.now dn block }
+    {
+        let Some(entry) = self.entries.get(&block) else {
+            return false;
+        };
+        entry.has_order(dn)
+    }
+
+    /// The replicas of a block, in order of DataNode.
+    pub fn replicas_of(&self, block: BlockId) -> ReplicasOf<'_>
+        ensures all { result ≡ replicas_at self.now block }
+        ensures order { IsTrue (is_sorted nat_cmp result) }
+    {
+        let Some(entry) = self.entries.get(&block) else {
+            return ReplicasOf::new(&[]);
+        };
+        entry.replicas()
+    }
+
+    /// All orders, by ascending block id and then by DataNode. The list is made in the given allocator.
+    pub fn orders(&self, alloc: Global) -> Result<Vec<(BlockId, u16)>, AllocError>
+        ensures all { IfOk result (λ orders. orders.items ≡ orders_of self.now) }
+        ensures order { IfOk result (λ orders. AreAscending orders.items) }
+    {
+        let mut orders = Vec::new(alloc);
+        for (block, entry) in &self.entries {
+            entry.push_orders(*block, &mut orders)?;
+        }
+        Ok(orders)
+    }
+
+    /// How many blocks closed files have. O(1).
+    pub fn total(&self) -> u64
+        ensures { result ≡ total_of self.now }
+    {
+        self.total
+    }
+
+    /// How many of them have enough live replicas. O(1).
+    pub fn safe_count(&self) -> u64
+        ensures { result ≡ safe_of self.now }
+    {
+        self.safe
+    }
+}

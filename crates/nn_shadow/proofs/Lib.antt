@@ -1,0 +1,9 @@
+pub mod Lists
+pub mod Settling
+pub mod Moves
+pub mod Flushing
+pub mod Replays
+pub mod Standings
+pub mod Refusing
+pub mod Turns
+pub mod Edits

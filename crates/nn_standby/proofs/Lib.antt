@@ -6,5 +6,6 @@ pub mod Moves
 pub mod Walks
 pub mod Edits
 pub mod LineLemmas
+pub mod SegmentLemmas
 pub mod RunLemmas
 pub mod WriteLemmas

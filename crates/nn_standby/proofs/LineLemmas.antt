@@ -1,5 +1,5 @@
 -- Lines, one after another.
-use Rattle.std.proofs.Common.{◌≡◌, ℕ, suc, ◌+◌, ◌<◌, List, [], ◌∷◌, ◌++◌, length, drop, get_or, Bool, true, false, Result, Ok, Err, refl, sym, ap, ◌∙◌, arith, append_assoc, drop-cons, add-one, eqb, cond, not, take, append-nil, ltb, ltb-true, ◌≤◌}
+use Rattle.std.proofs.Common.{◌≡◌, ℕ, suc, ◌+◌, ◌<◌, List, [], ◌∷◌, ◌++◌, length, drop, Bool, true, false, Result, Ok, Err, refl, sym, ap, ◌∙◌, subst, arith, append_assoc, eqb, cond, not, take, ltb, ltb-true, ◌≤◌}
 use Rattle.std.proofs.lemmas.Bool.{ltb-false}
 use Rattle.std.proofs.lemmas.List.{take_all}
 use Rattle.std.specs.Bool.{MatchBool}
@@ -8,49 +8,67 @@ use Rattle.std.proofs.lemmas.List.Splits.{slice_split_first}
 use Rattle.nn_edits.specs.Reading.{edit_of_line}
 use Rattle.nn_edits.specs.declared.fault.LineFault.{LineFault}
 use Rattle.nn_edits.specs.declared.tx.Tx.{Tx}
-use Rattle.nn_standby.specs.Scenario.{is_blank, and_later, with_line, lines_from, transactions_of}
+use Rattle.nn_segment.specs.Lines.{is_unbroken}
+use Rattle.nn_segment.specs.Segment.{is_end}
+use Rattle.nn_standby.specs.Cut.{EditLine, Part, no_lines, with_line, last_part, cut_from, Takes}
+use Rattle.nn_standby.specs.Scenario.{is_blank, and_later, with_read, lines_from, and_cut, parts_of}
+use Rattle.nn_standby.specs.declared.scenario.BadLine.{BadLine}
 use Rattle.nn_standby.specs.Listing.{newline}
 
 abbrev pub pieces : List ℕ → List (List ℕ)
 pieces text = slice_split (λ b. eqb b newline) text
 
--- the list, and then what was read
-abbrev pub prepend : {X E : Type 0} → List X → Result (List X) E → Result (List X) E
-prepend front (Ok xs) = Ok (front ++ xs)
-prepend front (Err e) = Err e
+-- the parts so far, and then those of the lines that were read
+abbrev pub follow : List Part → Part → Result (List EditLine) BadLine → Result (List Part) BadLine
+follow before in_hand (Ok lines) = Ok (before ++ cut_from in_hand lines)
+follow before in_hand (Err e) = Err e
 
-prepend_later : {X E : Type 0} (front : List X) (x : X) (r : Result (List X) E) → prepend front (and_later x r) ≡ prepend (front ++ x ∷ []) r
-prepend_later front x (Ok xs) = ap Ok (sym (append_assoc front (x ∷ []) xs))
-prepend_later front x (Err e) = refl
-
--- a line that was taken up
-pub turn : (n : ℕ) (line : List ℕ) (lines : List (List ℕ)) (front front' : List Tx)
-    → MatchBool (is_blank line) (front' ≡ front) ((x : Tx) × (edit_of_line line ≡ Ok x) × (front' ≡ front ++ x ∷ []))
-    → prepend front (lines_from n (line ∷ lines)) ≡ prepend front' (lines_from (n + 1) lines)
-unfolding lines_from
-turn n line lines front front' h = at (is_blank line) h
+taken : (before : List Part) (in_hand : Part) (line : EditLine) (after : List Part) (next : Part) (lines : List EditLine) → Takes before in_hand line after next
+    → before ++ cut_from in_hand (line ∷ lines) ≡ after ++ cut_from next lines
+unfolding cut_from
+taken before in_hand line after next lines h = at (is_end line.tx.edit) h
   where
-    at : (b : Bool) → MatchBool b (front' ≡ front) ((x : Tx) × (edit_of_line line ≡ Ok x) × (front' ≡ front ++ x ∷ []))
-        → prepend front (cond b (lines_from (n + 1) lines) (with_line n (edit_of_line line) (lines_from (n + 1) lines))) ≡ prepend front' (lines_from (n + 1) lines)
-    at true h = rw h refl
-    at false h = rw (h.1, h.2) (prepend_later front h.0 (lines_from (n + 1) lines))
+    at : (b : Bool) → MatchBool b ((after ≡ before ++ with_line in_hand line ∷ []) × (next ≡ no_lines)) ((after ≡ before) × (next ≡ with_line in_hand line))
+        → before ++ cond b (with_line in_hand line ∷ cut_from no_lines lines) (cut_from (with_line in_hand line) lines) ≡ after ++ cut_from next lines
+    at true h = rw (h.0, h.1) (sym (append_assoc before (with_line in_hand line ∷ []) (cut_from no_lines lines)))
+    at false h = rw (h.0, h.1) refl
+
+one_taken : (before : List Part) (in_hand : Part) (line : EditLine) (after : List Part) (next : Part) (r : Result (List EditLine) BadLine) → Takes before in_hand line after next
+    → follow before in_hand (and_later line r) ≡ follow after next r
+one_taken before in_hand line after next (Ok lines) h = ap Ok (taken before in_hand line after next lines h)
+one_taken before in_hand line after next (Err e) h = refl
+
+-- what a line that was taken up leaves
+abbrev pub Turned : List ℕ → List Part → Part → List Part → Part → Type 0
+Turned line before in_hand after next =
+    MatchBool (is_blank line) ((after ≡ before) × (next ≡ in_hand)) ((x : Tx) × (edit_of_line line ≡ Ok x) × Takes before in_hand (record { text = line; tx = x }) after next)
+
+pub turn : (n : ℕ) (line : List ℕ) (lines : List (List ℕ)) (before : List Part) (in_hand : Part) (after : List Part) (next : Part) → Turned line before in_hand after next
+    → follow before in_hand (lines_from n (line ∷ lines)) ≡ follow after next (lines_from (n + 1) lines)
+unfolding lines_from
+turn n line lines before in_hand after next h = at (is_blank line) h
+  where
+    at : (b : Bool) → MatchBool b ((after ≡ before) × (next ≡ in_hand)) ((x : Tx) × (edit_of_line line ≡ Ok x) × Takes before in_hand (record { text = line; tx = x }) after next)
+        → follow before in_hand (cond b (lines_from (n + 1) lines) (with_read n line (edit_of_line line) (lines_from (n + 1) lines))) ≡ follow after next (lines_from (n + 1) lines)
+    at true h = rw (h.0, h.1) refl
+    at false h = rw h.1 (one_taken before in_hand (record { text = line; tx = h.0 }) after next (lines_from (n + 1) lines) h.2)
 
 -- a line that was refused
-pub refused : (n : ℕ) (line : List ℕ) (lines : List (List ℕ)) (d : LineFault) (front : List Tx) → is_blank line ≡ false → edit_of_line line ≡ Err d
-    → prepend front (lines_from n (line ∷ lines)) ≡ Err (record { fault = d; line = n })
+pub refused : (n : ℕ) (line : List ℕ) (lines : List (List ℕ)) (d : LineFault) (before : List Part) (in_hand : Part) → is_blank line ≡ false → edit_of_line line ≡ Err d
+    → follow before in_hand (lines_from n (line ∷ lines)) ≡ Err (record { fault = d; line = n })
 unfolding lines_from
-refused n line lines d front e h = rw (e, h) refl
+refused n line lines d before in_hand e h = rw (e, h) refl
 
-pub no_more : (n : ℕ) (front : List Tx) → prepend front (lines_from n []) ≡ Ok front
-unfolding lines_from
-no_more n front = ap Ok (append-nil front)
+pub no_more : (n : ℕ) (before : List Part) (in_hand : Part) → follow before in_hand (lines_from n []) ≡ Ok (before ++ last_part in_hand)
+unfolding lines_from cut_from
+no_more n before in_hand = refl
 
-pub whole_input : (text : List ℕ) → prepend [] (lines_from 1 (pieces text)) ≡ transactions_of text
-unfolding transactions_of
+pub whole_input : (text : List ℕ) → follow [] no_lines (lines_from 1 (pieces text)) ≡ parts_of text
+unfolding parts_of
 whole_input text = same (lines_from 1 (pieces text))
   where
-    same : {E : Type 0} (r : Result (List Tx) E) → prepend [] r ≡ r
-    same (Ok xs) = refl
+    same : (r : Result (List EditLine) BadLine) → follow [] no_lines r ≡ and_cut r
+    same (Ok lines) = refl
     same (Err e) = refl
 
 -- ---- the first line's end
@@ -81,3 +99,15 @@ some_piece text n is within = at (ltb n (length text)) refl
     at false h =
         let all : n ≡ length text = omega (arith, ltb-false n (length text) h) in
         ([], last_piece text (sym is ∙ all) ∙ ap (λ l. l ∷ []) (sym (take_all n text (omega arith))))
+
+-- no line feed stands in the first line
+pub first_unbroken : (text : List ℕ) → is_unbroken (take (position_or_len ends text) text) ≡ true
+first_unbroken [] = refl
+first_unbroken (b ∷ text) = at (ends b) refl (first_unbroken text)
+  where
+    at : (t : Bool) → ends b ≡ t → is_unbroken (take (position_or_len ends text) text) ≡ true
+        → is_unbroken (take (cond (not t) (1 + position_or_len ends text) 0) (b ∷ text)) ≡ true
+    at true e later = refl
+    at false e later =
+        let one : suc (position_or_len ends text) ≡ 1 + position_or_len ends text = omega arith in
+        subst (λ k. is_unbroken (take k (b ∷ text)) ≡ true) one (rw e later)

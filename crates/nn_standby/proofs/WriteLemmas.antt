@@ -1,12 +1,12 @@
 -- What was written is an output.
-use Rattle.std.proofs.Common.{◌≡◌, ◌≤◌, ℕ, List, length, take, Result, Option, codes, refl, sym, ap, ◌∙◌, subst, inl, inr}
+use Rattle.std.proofs.Common.{◌≡◌, ◌≤◌, ℕ, List, length, take, Result, Option, codes, refl, ◌∙◌, subst, inl, inr}
 use Rattle.std.specs.Prelude.{IfOk, IfErr}
 use Rattle.std.specs.Io.KnownBytes.{Appends, Consumes, IsAtEnd}
 use Rattle.std.proofs.lemmas.Result.{IfOk-weaker, IfErr-weaker}
 use Rattle.nn_standby.specs.declared.device.RunFault.{RunFault}
 use Rattle.nn_standby.specs.declared.run.RunEnd.{RunEnd}
 use Rattle.nn_standby.specs.Output.{Printed, output_of}
-use Rattle.nn_standby.specs.Run.{max_input, IsOutputOfAll, IsOutput, Wrote, WroteFront, fault_alone}
+use Rattle.nn_standby.specs.Run.{max_input, IsOutput, Wrote, WroteFront, fault_alone}
 
 module _ (r : Result RunEnd RunFault) (reader reader' writer writer' : Option (List ℕ)) (p : Printed) (text : List ℕ) (status : ℕ) (same : text ≡ p.text) (right : IsOutput reader reader' p) where
   pub wrote : status ≡ p.status → IfOk r (λ end. Appends writer writer' text × (end.status ≡ status)) → IfOk r (λ end. Wrote reader reader' writer writer' end.status)

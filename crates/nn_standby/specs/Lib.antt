@@ -1,7 +1,9 @@
 pub mod Rows
 pub mod Listing
 pub mod Scenario
+pub mod Cut
 pub mod LogEnd
+pub mod CutRows
 pub mod Output
 pub mod Run
 pub mod Shown

@@ -1,11 +1,13 @@
--- Where a log ends: at its last transaction, or before the first one that is not the next or that is refused.
-use Rattle.std.specs.Prelude.{ℕ, ◌+◌, ◌==◌, List, [], ◌∷◌, Result, Ok, Err, if◌then◌else◌}
+-- Where a log of segments ends: at its last transaction, before the first one that is refused, or before a gap.
+use Rattle.std.specs.Prelude.{ℕ, ◌+◌, List, [], ◌∷◌, Result, Ok, Err, nat_lt, if◌then◌else◌}
 use Rattle.nn_edits.specs.declared.tx.Tx.{Tx}
 use Rattle.nn_model.specs.declared.fault.EditFault.{EditFault}
 use Rattle.nn_model.specs.Namespace.{Namespace}
 use Rattle.nn_model.specs.Apply.{applied}
+use Rattle.nn_model.specs.Log.{counted}
+use Rattle.nn_segment.specs.Segment.{Segment, first_txid}
 
--- why a log stops: its next transaction is refused, or is not the next one
+-- why a log stops: a transaction is refused, or the next one is not there
 pub data Cause : Type 0 where
   refused : EditFault → Cause
   disorder : Cause
@@ -23,10 +25,20 @@ abbrev pub go_on : ℕ → Result Namespace EditFault → (Namespace → Result 
 go_on txid (Ok n) rest = rest n
 go_on txid (Err fault) rest = Err (record { cause = refused fault; txid = txid })
 
--- the end of a log that goes on from a txid and a namespace, or where and why it stops
-unfoldable pub end_of_log : ℕ → Namespace → List Tx → Result LogEnd Stop
+-- the end of transactions that are applied one by one from a namespace
+unfoldable pub end_of_txs : ℕ → Namespace → List Tx → Result LogEnd Stop
+end_of_txs last n [] = Ok (record { last = last; namespace = n })
+end_of_txs last n (tx ∷ txs) = go_on tx.txid (applied n tx.edit) (λ next. end_of_txs tx.txid next txs)
+
+abbrev pub and_then : Result LogEnd Stop → (LogEnd → Result LogEnd Stop) → Result LogEnd Stop
+and_then (Ok end) rest = rest end
+and_then (Err stop) rest = Err stop
+
+-- The end of a log that goes on from a txid and a namespace, or where and why it stops. A segment may begin no higher
+-- than the next txid. Of its transactions those that are no higher than the last one are passed over.
+unfoldable pub end_of_log : ℕ → Namespace → List Segment → Result LogEnd Stop
 end_of_log last n [] = Ok (record { last = last; namespace = n })
-end_of_log last n (tx ∷ txs) =
-    if tx.txid == last + 1
-    then go_on (last + 1) (applied n tx.edit) (λ next. end_of_log (last + 1) next txs)
-    else Err (record { cause = disorder; txid = last + 1 })
+end_of_log last n (s ∷ segments) =
+    if nat_lt (last + 1) (first_txid s.txs)
+    then Err (record { cause = disorder; txid = last + 1 })
+    else and_then (end_of_txs last n (counted last s.txs)) (λ end. end_of_log end.last end.namespace segments)

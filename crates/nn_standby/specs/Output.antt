@@ -2,20 +2,23 @@
 use Rattle.std.specs.Prelude.{ℕ, List, [], ◌∷◌, ◌++◌, Result, Ok, Err, codes, decimal}
 use Rattle.nn_types.specs.declared.fault.TheConstants.{DISORDER}
 use Rattle.nn_edits.specs.Fault.{number_of as line_number_of}
-use Rattle.nn_edits.specs.declared.tx.Tx.{Tx}
 use Rattle.nn_model.specs.Fault.{number_of}
 use Rattle.nn_model.specs.Namespace.{root_alone}
+use Rattle.nn_segment.specs.Fault.{number_of as segment_number_of}
+use Rattle.nn_segment.specs.Segment.{Segment}
+use Rattle.nn_standby.specs.Cut.{Part, segments_from}
 use Rattle.nn_standby.specs.Listing.{newline, listing_text}
 use Rattle.nn_standby.specs.LogEnd.{Cause, refused, disorder, Stop, LogEnd, end_of_log}
-use Rattle.nn_standby.specs.Scenario.{transactions_of}
+use Rattle.nn_standby.specs.Scenario.{parts_of}
 use Rattle.nn_standby.specs.declared.scenario.BadLine.{BadLine}
+use Rattle.nn_standby.specs.declared.segments.BadSegment.{BadSegment}
 
 -- a text and the program's exit status
 pub record Printed : Type 0 where
   pub text : List ℕ
   pub status : ℕ
 
--- `fault N line L` or `fault N txid T`, where the place is ` line ` or ` txid `
+-- `fault N line L`, `fault N segment K` or `fault N txid T`, where the place is ` line `, ` segment ` or ` txid `
 abbrev pub fault_at : List ℕ → ℕ → ℕ → Printed
 fault_at place number n = record { text = codes "fault " ++ decimal number ++ place ++ decimal n ++ newline ∷ []; status = 1 }
 
@@ -27,10 +30,15 @@ abbrev pub after_log : Result LogEnd Stop → Printed
 after_log (Ok end) = record { text = listing_text end.last end.namespace; status = 0 }
 after_log (Err stop) = fault_at (codes " txid ") (stop_number stop.cause) stop.txid
 
-abbrev pub after_lines : Result (List Tx) BadLine → Printed
-after_lines (Ok txs) = after_log (end_of_log 0 root_alone txs)
+abbrev pub after_segments : Result (List Segment) BadSegment → Printed
+after_segments (Ok segments) = after_log (end_of_log 0 root_alone segments)
+after_segments (Err bad) = fault_at (codes " segment ") (segment_number_of bad.fault) bad.segment
+
+abbrev pub after_lines : Result (List Part) BadLine → Printed
+after_lines (Ok parts) = after_segments (segments_from 1 parts)
 after_lines (Err bad) = fault_at (codes " line ") (line_number_of bad.fault) bad.line
 
--- what is printed for an input: the first bad line, or the first transaction that does not apply, or the listing
+-- what is printed for an input: the first bad line, or the first bad segment, or the first transaction that is missing or
+-- refused, or the listing
 unfoldable pub output_of : List ℕ → Printed
-output_of text = after_lines (transactions_of text)
+output_of text = after_lines (parts_of text)

@@ -1,9 +1,10 @@
--- A scenario's bytes as transactions.
+-- A scenario's bytes as edit lines.
 use Rattle.std.specs.Prelude.{ℕ, ◌+◌, ◌==◌, ◌||◌, List, [], ◌∷◌, Bool, if◌then◌else◌, Result, Ok, Err}
 use Rattle.std.specs.List.{slice_split, list_all}
 use Rattle.nn_edits.specs.Reading.{edit_of_line}
 use Rattle.nn_edits.specs.declared.fault.LineFault.{LineFault}
 use Rattle.nn_edits.specs.declared.tx.Tx.{Tx}
+use Rattle.nn_standby.specs.Cut.{EditLine, Part, cut}
 use Rattle.nn_standby.specs.Listing.{newline}
 use Rattle.nn_standby.specs.declared.scenario.BadLine.{BadLine}
 
@@ -18,15 +19,19 @@ abbrev pub and_later : {X E : Type 0} → X → Result (List X) E → Result (Li
 and_later x (Ok xs) = Ok (x ∷ xs)
 and_later x (Err e) = Err e
 
-abbrev pub with_line : ℕ → Result Tx LineFault → Result (List Tx) BadLine → Result (List Tx) BadLine
-with_line n (Ok tx) later = and_later tx later
-with_line n (Err fault) later = Err (record { fault = fault; line = n })
+abbrev pub with_read : ℕ → List ℕ → Result Tx LineFault → Result (List EditLine) BadLine → Result (List EditLine) BadLine
+with_read n line (Ok tx) later = and_later (record { text = line; tx = tx }) later
+with_read n line (Err fault) later = Err (record { fault = fault; line = n })
 
--- the transactions of lines that are counted from n, blank ones passed over, or the first fault with its line
-unfoldable pub lines_from : ℕ → List (List ℕ) → Result (List Tx) BadLine
+-- the edit lines among lines that are counted from n, blank ones passed over, or the first fault with its line
+unfoldable pub lines_from : ℕ → List (List ℕ) → Result (List EditLine) BadLine
 lines_from n [] = Ok []
-lines_from n (line ∷ lines) = if is_blank line then lines_from (n + 1) lines else with_line n (edit_of_line line) (lines_from (n + 1) lines)
+lines_from n (line ∷ lines) = if is_blank line then lines_from (n + 1) lines else with_read n line (edit_of_line line) (lines_from (n + 1) lines)
 
--- the transactions of a scenario
-unfoldable pub transactions_of : List ℕ → Result (List Tx) BadLine
-transactions_of text = lines_from 1 (slice_split (λ b. b == newline) text)
+abbrev pub and_cut : Result (List EditLine) BadLine → Result (List Part) BadLine
+and_cut (Ok lines) = Ok (cut lines)
+and_cut (Err bad) = Err bad
+
+-- the parts that a scenario's lines are cut into, or the first line that is no edit line
+unfoldable pub parts_of : List ℕ → Result (List Part) BadLine
+parts_of text = and_cut (lines_from 1 (slice_split (λ b. b == newline) text))

@@ -6,6 +6,7 @@ mod listing;
 mod path_map;
 mod run;
 mod scenario;
+mod segments;
 #[cfg(test)]
 mod tests;
 

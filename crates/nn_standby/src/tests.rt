@@ -6,6 +6,10 @@ use std::io;
 use std::io::{Read, Write};
 use std::test::Fail;
 
+const START: &str = "{\"op\":\"OP_START_LOG_SEGMENT\",\"txid\":1}\n";
+
+const END: &str = "{\"op\":\"OP_END_LOG_SEGMENT\",\"txid\":3}\n";
+
 const NOTHING: &str = "txid 0\ndir \"/\"\n";
 
 // What a run prints, and its status. No write fails here, so a failed write shows as status 9.
@@ -57,16 +61,39 @@ fn one_file(rt: HostRuntime) {
 
 #[test]
 fn paths_in_path_order(rt: HostRuntime) {
-    let mut reader: &[u8] = br#"{"op":"OP_MKDIR","path":"/a-b","txid":1}
-{"op":"OP_MKDIR","path":"/a","txid":2}
+    let mut reader: &[u8] = br#"{"op":"OP_START_LOG_SEGMENT","txid":1}
+{"op":"OP_MKDIR","path":"/a-b","txid":2}
+{"op":"OP_MKDIR","path":"/a","txid":3}
 
-{"op":"OP_MKDIR","path":"/a/b","txid":3}
-{"zz":[1],"path":"/a/\u0001\"","txid":4,"op":"OP_MKDIR"}"#;
+{"op":"OP_MKDIR","path":"/a/b","txid":4}
+{"zz":[1],"path":"/a/\u0001\"","txid":5,"op":"OP_MKDIR"}
+{"op":"OP_END_LOG_SEGMENT","txid":6}"#;
     let (text, status) = printed(rt.alloc(), &mut reader);
     let want =
-        "txid 4\ndir \"/\"\ndir \"/a\"\ndir \"/a/\\u0001\\\"\"\ndir \"/a/b\"\ndir \"/a-b\"\n";
+        "txid 6\ndir \"/\"\ndir \"/a\"\ndir \"/a/\\u0001\\\"\"\ndir \"/a/b\"\ndir \"/a-b\"\n";
     assert_eq!(rt; text.as_slice(), want.as_bytes());
     assert_eq!(rt; status, 0);
+}
+
+#[test]
+fn segments_that_overlap(rt: HostRuntime) {
+    for (name, input, want) in [
+        (
+            "overlapping_segments",
+            "{\"op\":\"OP_START_LOG_SEGMENT\",\"txid\":1}\n{\"op\":\"OP_MKDIR\",\"path\":\"/a\",\"txid\":2}\n{\"op\":\"OP_END_LOG_SEGMENT\",\"txid\":3}\n{\"op\":\"OP_START_LOG_SEGMENT\",\"txid\":2}\n{\"op\":\"OP_MKDIR\",\"path\":\"/\",\"txid\":3}\n{\"op\":\"OP_END_LOG_SEGMENT\",\"txid\":4}\n",
+            "txid 4\ndir \"/\"\ndir \"/a\"\n",
+        ),
+        (
+            "old_segment_passed_over",
+            "{\"op\":\"OP_START_LOG_SEGMENT\",\"txid\":1}\n{\"op\":\"OP_END_LOG_SEGMENT\",\"txid\":2}\n{\"op\":\"OP_START_LOG_SEGMENT\",\"txid\":3}\n{\"op\":\"OP_MKDIR\",\"path\":\"/b\",\"txid\":4}\n{\"op\":\"OP_END_LOG_SEGMENT\",\"txid\":5}\n{\"op\":\"OP_START_LOG_SEGMENT\",\"txid\":1}\n{\"op\":\"OP_END_LOG_SEGMENT\",\"txid\":2}\n{\"op\":\"OP_START_LOG_SEGMENT\",\"txid\":4}\n{\"op\":\"OP_END_LOG_SEGMENT\",\"txid\":5}\n",
+            "txid 5\ndir \"/\"\ndir \"/b\"\n",
+        ),
+    ] {
+        let mut reader: &[u8] = input.as_bytes();
+        let (text, status) = printed(rt.alloc(), &mut reader);
+        assert_eq!(rt; text.as_slice(), want.as_bytes(), "at {name}");
+        assert_eq!(rt; status, 0, "at {name}");
+    }
 }
 
 #[test]
@@ -84,18 +111,78 @@ fn one_line_of_fault(rt: HostRuntime) {
         ),
         (
             "the root is there",
-            "{\"op\":\"OP_MKDIR\",\"path\":\"/\",\"txid\":1}\n",
-            "fault 25 txid 1\n",
+            "{\"op\":\"OP_START_LOG_SEGMENT\",\"txid\":1}\n{\"op\":\"OP_MKDIR\",\"path\":\"/\",\"txid\":2}\n{\"op\":\"OP_END_LOG_SEGMENT\",\"txid\":3}\n",
+            "fault 25 txid 2\n",
         ),
         (
             "a path is made once",
-            "{\"op\":\"OP_MKDIR\",\"path\":\"/a\",\"txid\":1}\n{\"op\":\"OP_MKDIR\",\"path\":\"/a\",\"txid\":2}\n",
-            "fault 21 txid 2\n",
+            "{\"op\":\"OP_START_LOG_SEGMENT\",\"txid\":1}\n{\"op\":\"OP_MKDIR\",\"path\":\"/a\",\"txid\":2}\n{\"op\":\"OP_MKDIR\",\"path\":\"/a\",\"txid\":3}\n{\"op\":\"OP_END_LOG_SEGMENT\",\"txid\":4}\n",
+            "fault 21 txid 3\n",
         ),
         (
             "a bad line behind a refused edit",
-            "{\"op\":\"OP_MKDIR\",\"path\":\"/\",\"txid\":1}\n \t\r\n\n[]",
-            "fault 1 line 4\n",
+            "{\"op\":\"OP_START_LOG_SEGMENT\",\"txid\":1}\n{\"op\":\"OP_MKDIR\",\"path\":\"/\",\"txid\":2}\n{\"op\":\"OP_END_LOG_SEGMENT\",\"txid\":3}\n \t\r\n\n[]",
+            "fault 1 line 6\n",
+        ),
+        (
+            "a bad line behind a bad segment",
+            "{\"op\":\"OP_MKDIR\",\"path\":\"/\",\"txid\":1}\n[]",
+            "fault 1 line 2\n",
+        ),
+        (
+            "gap_in_segment",
+            "{\"op\":\"OP_START_LOG_SEGMENT\",\"txid\":1}\n{\"op\":\"OP_MKDIR\",\"path\":\"/a\",\"txid\":2}\n{\"op\":\"OP_END_LOG_SEGMENT\",\"txid\":4}\n",
+            "fault 14 segment 1\n",
+        ),
+        (
+            "log_without_its_end_mark",
+            "{\"op\":\"OP_START_LOG_SEGMENT\",\"txid\":1}\n{\"op\":\"OP_END_LOG_SEGMENT\",\"txid\":2}\n{\"op\":\"OP_START_LOG_SEGMENT\",\"txid\":3}\n{\"op\":\"OP_MKDIR\",\"path\":\"/a\",\"txid\":4}\n",
+            "fault 13 segment 2\n",
+        ),
+        (
+            "a bad segment behind a refused edit",
+            "{\"op\":\"OP_START_LOG_SEGMENT\",\"txid\":1}\n{\"op\":\"OP_MKDIR\",\"path\":\"/\",\"txid\":2}\n{\"op\":\"OP_END_LOG_SEGMENT\",\"txid\":3}\n{\"op\":\"OP_END_LOG_SEGMENT\",\"txid\":4}\n",
+            "fault 12 segment 2\n",
+        ),
+        (
+            "mark_inside_a_segment",
+            "{\"op\":\"OP_START_LOG_SEGMENT\",\"txid\":1}\n{\"op\":\"OP_START_LOG_SEGMENT\",\"txid\":2}\n{\"op\":\"OP_END_LOG_SEGMENT\",\"txid\":3}\n",
+            "fault 13 segment 1\n",
+        ),
+        (
+            "an end mark alone",
+            "{\"op\":\"OP_END_LOG_SEGMENT\",\"txid\":1}\n",
+            "fault 12 segment 1\n",
+        ),
+        (
+            "a start mark alone",
+            "{\"op\":\"OP_START_LOG_SEGMENT\",\"txid\":1}\n",
+            "fault 13 segment 1\n",
+        ),
+        (
+            "an edit outside",
+            "{\"op\":\"OP_MKDIR\",\"path\":\"/a\",\"txid\":1}\n",
+            "fault 12 segment 1\n",
+        ),
+        (
+            "txids that go down",
+            "{\"op\":\"OP_START_LOG_SEGMENT\",\"txid\":3}\n{\"op\":\"OP_END_LOG_SEGMENT\",\"txid\":1}\n",
+            "fault 14 segment 1\n",
+        ),
+        (
+            "the second segment begins too high",
+            "{\"op\":\"OP_START_LOG_SEGMENT\",\"txid\":1}\n{\"op\":\"OP_END_LOG_SEGMENT\",\"txid\":2}\n{\"op\":\"OP_START_LOG_SEGMENT\",\"txid\":4}\n{\"op\":\"OP_END_LOG_SEGMENT\",\"txid\":5}\n",
+            "fault 57 txid 3\n",
+        ),
+        (
+            "a refusal before a gap",
+            "{\"op\":\"OP_START_LOG_SEGMENT\",\"txid\":1}\n{\"op\":\"OP_MKDIR\",\"path\":\"/\",\"txid\":2}\n{\"op\":\"OP_END_LOG_SEGMENT\",\"txid\":3}\n{\"op\":\"OP_START_LOG_SEGMENT\",\"txid\":9}\n{\"op\":\"OP_END_LOG_SEGMENT\",\"txid\":10}\n",
+            "fault 25 txid 2\n",
+        ),
+        (
+            "a gap before a refusal",
+            "{\"op\":\"OP_START_LOG_SEGMENT\",\"txid\":1}\n{\"op\":\"OP_END_LOG_SEGMENT\",\"txid\":2}\n{\"op\":\"OP_START_LOG_SEGMENT\",\"txid\":4}\n{\"op\":\"OP_MKDIR\",\"path\":\"/\",\"txid\":5}\n{\"op\":\"OP_END_LOG_SEGMENT\",\"txid\":6}\n",
+            "fault 57 txid 3\n",
         ),
         ("line_faults", "{\"op\":\"OP_FOO\"}\n", "fault 4 line 1\n"),
         (
@@ -131,17 +218,18 @@ fn path_grammar(rt: HostRuntime) -> Result<(), Fail> {
         return Ok(());
     };
     for (path, want) in [
-        (longest.as_str(), "txid 1\n"),
-        (longer.as_str(), "fault 5 line 1\n"),
-        ("a/", "fault 5 line 1\n"),
-        ("a:b", "fault 5 line 1\n"),
-        ("a/../b", "fault 5 line 1\n"),
-        (".", "fault 5 line 1\n"),
-        ("/a", "fault 5 line 1\n"),
+        (longest.as_str(), "txid 3\n"),
+        (longer.as_str(), "fault 5 line 2\n"),
+        ("a/", "fault 5 line 2\n"),
+        ("a:b", "fault 5 line 2\n"),
+        ("a/../b", "fault 5 line 2\n"),
+        (".", "fault 5 line 2\n"),
+        ("/a", "fault 5 line 2\n"),
     ] {
         let line = format!(in rt.alloc();
-            "{{\"op\":\"OP_MKDIR\",\"path\":\"/{path}\",\"txid\":1}}"
+            "{{\"op\":\"OP_MKDIR\",\"path\":\"/{path}\",\"txid\":2}}"
         )?;
+        let line = format!(in rt.alloc(); "{START}{line}\n{END}")?;
         let mut reader: &[u8] = line.as_bytes();
         let (text, _) = printed(rt.alloc(), &mut reader);
         assert!(rt; text.starts_with(want.as_bytes()), "at {path}");
@@ -210,17 +298,18 @@ impl Write for Stopping {
     }
 }
 
-const LINE: &[u8] = b"{\"op\":\"OP_MKDIR\",\"path\":\"/a\",\"txid\":1}\n";
+const LINES: &[u8] =
+    b"{\"op\":\"OP_START_LOG_SEGMENT\",\"txid\":1}\n{\"op\":\"OP_MKDIR\",\"path\":\"/a\",\"txid\":2}\n{\"op\":\"OP_END_LOG_SEGMENT\",\"txid\":3}\n";
 
-const LISTING: &[u8] = b"txid 1\ndir \"/\"\ndir \"/a\"\n";
+const LISTING: &[u8] = b"txid 3\ndir \"/\"\ndir \"/a\"\n";
 
 #[test]
 fn failing_readers(rt: HostRuntime) {
     // The reads are one for each byte and one for the end.
-    let calls = LINE.len() as u64 + 1;
+    let calls = LINES.len() as u64 + 1;
     for fail_at in 0..=calls {
         let mut reader = Slow {
-            bytes: LINE,
+            bytes: LINES,
             reads: 0,
             fail_at,
         };
@@ -240,7 +329,7 @@ fn failing_writers(rt: HostRuntime) {
     let calls = (LISTING.len() as u64).div_ceil(2);
     for fails in [false, true] {
         for stop_at in 0..=calls {
-            let mut reader: &[u8] = LINE;
+            let mut reader: &[u8] = LINES;
             let mut writer = Stopping {
                 got: Vec::new(rt.alloc()),
                 writes: 0,
@@ -298,4 +387,45 @@ fn longest_input(rt: HostRuntime) {
         let (text, _) = printed(rt.alloc(), &mut reader);
         assert_eq!(rt; text.as_slice(), want.as_bytes(), "at {left} by {chunk}");
     }
+}
+
+// Adds a line that is padded with spaces to so many bytes.
+fn push_padded(bytes: &mut Vec<u8>, line: &[u8], width: usize) -> Result<(), Fail> {
+    bytes.extend_from_slice(line)?;
+    for _ in line.len()..width {
+        bytes.push(b' ')?;
+    }
+    Ok(())
+}
+
+// One segment of 256 lines, of 65,536 bytes with their line feeds; the last one has none.
+fn long_segment(alloc: Global, last_width: usize) -> Result<Vec<u8>, Fail> {
+    let mut bytes = Vec::new(alloc);
+    let start = b"{\"op\":\"OP_START_LOG_SEGMENT\",\"txid\":1}";
+    push_padded(&mut bytes, start, 65_535)?;
+    for n in 2..256u64 {
+        bytes.push(b'\n')?;
+        let line = format!(in alloc; "{{\"op\":\"OP_MKDIR\",\"path\":\"/\",\"txid\":{n}}}")?;
+        push_padded(&mut bytes, line.as_bytes(), 65_535)?;
+    }
+    bytes.push(b'\n')?;
+    let end = b"{\"op\":\"OP_END_LOG_SEGMENT\",\"txid\":256}";
+    push_padded(&mut bytes, end, last_width)?;
+    Ok(bytes)
+}
+
+#[test]
+fn longest_segment(rt: HostRuntime) -> Result<(), Fail> {
+    for (last_width, want) in [
+        (65_535, "fault 25 txid 2\n"),
+        (65_536, "fault 17 segment 1\n"),
+    ] {
+        let input = long_segment(rt.alloc(), last_width)?;
+        assert_eq!(rt; input.len(), MAX_INPUT - 65_536 + last_width);
+        let mut reader: &[u8] = &input;
+        let (text, status) = printed(rt.alloc(), &mut reader);
+        assert_eq!(rt; text.as_slice(), want.as_bytes(), "at {last_width}");
+        assert_eq!(rt; status, 1);
+    }
+    Ok(())
 }

@@ -1,4 +1,4 @@
-use Rattle.std.proofs.Common.{◌≡◌, ◌<◌, ℕ, length, take, ◌++◌, arith, length-append}
+use Rattle.std.proofs.Common.{take, ◌++◌, arith, length-append}
 use Rattle.std.proofs.lemmas.List.{length-take}
 use Rattle.std.proofs.KnownBytes.{Consumes-trans}
 use Rattle.nn_standby.proofs.device.read_input.Goals as goal

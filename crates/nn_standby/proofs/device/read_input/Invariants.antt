@@ -1,4 +1,4 @@
-use Rattle.std.proofs.Common.{◌≡◌, ◌≤◌, ◌<◌, length}
+use Rattle.std.proofs.Common.{◌≤◌, ◌<◌, length}
 use Rattle.std.specs.Io.KnownBytes.{Consumes}
 use Rattle.nn_standby.proofs.device.read_input.Given as goal
 

@@ -1,6 +1,6 @@
-use Rattle.std.proofs.Common.{◌≡◌, sym, ap, ◌∙◌, refl, codes}
+use Rattle.std.proofs.Common.{◌≡◌, ap, ◌∙◌, refl, codes}
 use Rattle.nn_standby.specs.Output.{output_of}
-use Rattle.nn_standby.specs.Run.{IsOutput, fault_alone}
+use Rattle.nn_standby.specs.Run.{fault_alone}
 use Rattle.nn_standby.specs.Shown.{shown}
 use Rattle.nn_standby.proofs.WriteLemmas.{wrote, wrote_front, is_output_of_all, no_input, no_memory}
 use Rattle.nn_standby.proofs.run.run.Goals as goal

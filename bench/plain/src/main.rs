@@ -83,5 +83,6 @@ fn main() {
         text.push_str(&Value::String(path).to_string());
         text.push('\n');
     }
+    text.push_str("blocks 0 safe 0 needed 0 mode off\n");
     std::io::stdout().write_all(text.as_bytes()).unwrap();
 }

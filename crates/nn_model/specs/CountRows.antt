@@ -6,8 +6,9 @@ use Rattle.nn_types.specs.declared.report.Kind.TheVariants.{Receiving, Received,
 use Rattle.nn_model.specs.declared.form.Form.TheVariants.{Dir, File}
 use Rattle.nn_types.specs.declared.replica.Replica.{Replica}
 use Rattle.nn_types.specs.declared.replica.Class.TheVariants.{Stale, Ahead, Building, Live, WrongLength}
+use Rattle.nn_types.specs.Settings.{needed_of}
 use Rattle.nn_model.specs.Namespace.{Namespace}
-use Rattle.nn_model.specs.Counts.{class_of, is_live, live_count, closed_blocks, total_of, safe_of, needed_of, safe_mode_from, safe_mode_of}
+use Rattle.nn_model.specs.Counts.{class_of, is_live, live_count, closed_blocks, total_of, safe_of, safe_mode_from, safe_mode_of}
 use Rattle.nn_model.specs.MessageRows.{b, c, f, block, received}
 
 abbrev replica : ℕ → ℕ → Kind → Replica

@@ -1,5 +1,5 @@
 -- The class of a replica, and the counts that decide on safe mode.
-use Rattle.std.specs.Prelude.{ℕ, zero, suc, ◌+◌, ◌*◌, ◌/◌, Bool, true, false, List, [], length, filter, flat_map, Option, Some, None, nat_lt, nat_le, ◌==◌, if◌then◌else◌}
+use Rattle.std.specs.Prelude.{ℕ, zero, suc, ◌+◌, Bool, true, false, List, [], length, filter, flat_map, Option, Some, None, nat_lt, nat_le, ◌==◌, if◌then◌else◌}
 use Rattle.nn_types.specs.declared.block.Block.{Block}
 use Rattle.nn_types.specs.declared.report.Kind.{Kind}
 use Rattle.nn_types.specs.declared.report.Kind.TheVariants.{Receiving, Received, Deleted}
@@ -8,6 +8,7 @@ use Rattle.nn_model.specs.declared.form.Form.TheVariants.{Dir, File}
 use Rattle.nn_types.specs.declared.replica.Replica.{Replica}
 use Rattle.nn_types.specs.declared.replica.Class.{Class}
 use Rattle.nn_types.specs.declared.replica.Class.TheVariants.{Stale, Ahead, Building, Live, WrongLength}
+use Rattle.nn_types.specs.Settings.{needed_of}
 use Rattle.nn_model.specs.Namespace.{Namespace}
 
 -- ---- One replica.
@@ -60,10 +61,6 @@ total_of n = length (closed_blocks n)
 -- how many of them have at least this many live replicas
 abbrev pub safe_of : ℕ → Namespace → (ℕ → ℕ → Option Replica) → ℕ
 safe_of min n replicas = length (filter (λ b. nat_le min (live_count replicas b)) (closed_blocks n))
-
--- how many have to be safe: so many of each thousand, rounded down
-abbrev pub needed_of : ℕ → ℕ → ℕ
-needed_of permille total = total * permille / 1000
 
 -- ---- Safe mode.
 

@@ -1,5 +1,6 @@
 -- What the table answers, and what each call does to it.
-use Rattle.std.specs.Prelude.{ℕ, Bool, true, false, ◌&&◌, ◌||◌, ◌==◌, nat_lt, IsTrue, List, [], ◌∷◌, Option, Some, None, is_some, unwrap_or, option_and_then, count_by, flat_map}
+use Rattle.std.specs.Prelude.{ℕ, Bool, true, false, ◌&&◌, ◌||◌, ◌==◌, nat_lt, IsTrue, List, [], ◌∷◌, Option, Some, None, is_some, unwrap_or}
+use Rattle.std.specs.Prelude.{option_and_then, count_by, flat_map}
 use Rattle.std.specs.List.{list_all}
 use Rattle.std.specs.FinMap.Entries.{find, put}
 use Rattle.std.specs.Ordering.{nat_cmp}
@@ -10,7 +11,8 @@ use Rattle.nn_types.specs.declared.replica.Replica.{Replica}
 use Rattle.nn_replicas.specs.declared.entry.Row.{Row}
 use Rattle.nn_replicas.specs.declared.entry.Cell.{Cell}
 use Rattle.nn_replicas.specs.Table.{BlockEntry, Table}
-use Rattle.nn_replicas.specs.Entry.{is_ordered, no_entry, with_row, with_place, with_put, with_erased, retired, replicas_in, orders_in, is_closed, is_safe}
+use Rattle.nn_replicas.specs.Entry.{is_ordered, no_entry, with_row, with_place, with_put, with_erased, retired, rows_in, replicas_in, orders_in}
+use Rattle.nn_replicas.specs.Entry.{is_closed, is_safe}
 
 -- ---- What it answers.
 
@@ -24,6 +26,10 @@ entry_or_none t id = unwrap_or (entry_at t id) no_entry
 -- the row of a block, where a file holds it
 abbrev pub row_at : Table → ℕ → Option Row
 row_at t id = (entry_or_none t id).row
+
+-- the ids of all blocks that files hold, and the rows
+abbrev pub rows_of : Table → List (ℕ × Row)
+rows_of t = rows_in t.entries
 
 abbrev pub cell_at : Table → ℕ → ℕ → Option Cell
 cell_at t dn id = find nat_cmp dn (entry_or_none t id).cells

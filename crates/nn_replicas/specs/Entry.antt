@@ -1,5 +1,6 @@
 -- What is done to a block id, and how it counts.
-use Rattle.std.specs.Prelude.{ℕ, Bool, true, false, ◌&&◌, ◌||◌, nat_le, List, [], map, Option, Some, None, is_some, unwrap_or, count_by, filter_map, if◌then◌else◌}
+use Rattle.std.specs.Prelude.{ℕ, Bool, true, false, ◌&&◌, ◌||◌, nat_le, List, [], map, Option, Some, None, is_some, unwrap_or, count_by, filter_map}
+use Rattle.std.specs.Prelude.{if◌then◌else◌}
 use Rattle.std.specs.Option.{option_map}
 use Rattle.std.specs.FinMap.Entries.{find, put}
 use Rattle.std.specs.Ordering.{nat_cmp}
@@ -70,6 +71,13 @@ retired e = record { row = None; cells = map (λ c. (c.0, cell_retired c.1)) e.c
 
 abbrev pub replica_in : ℕ × Cell → Option (ℕ × Replica)
 replica_in c = option_map (λ r. (c.0, r)) c.1.replica
+
+abbrev pub row_in : ℕ × BlockEntry → Option (ℕ × Row)
+row_in e = option_map (λ row. (e.0, row)) e.1.row
+
+-- the ids of the blocks that files hold, and the rows
+abbrev pub rows_in : List (ℕ × BlockEntry) → List (ℕ × Row)
+rows_in entries = filter_map row_in entries
 
 -- the DataNodes with a replica of the block, and the replicas
 abbrev pub replicas_in : List (ℕ × Cell) → List (ℕ × Replica)

@@ -5,7 +5,8 @@ use Rattle.nn_types.specs.declared.report.Kind.{Kind}
 use Rattle.nn_types.specs.declared.report.Kind.TheVariants.{Receiving, Received}
 use Rattle.nn_types.specs.declared.replica.Replica.{Replica}
 use Rattle.nn_replicas.specs.Table.{Table}
-use Rattle.nn_replicas.specs.Calls.{row_at, replica_at, has_order, is_placed, replicas_at, orders_of, total_of, safe_of, empty_table, block_set, pair_placed, replica_put, replica_erased, block_retired}
+use Rattle.nn_replicas.specs.Calls.{row_at, rows_of, replica_at, has_order, is_placed, replicas_at, orders_of, total_of, safe_of, empty_table}
+use Rattle.nn_replicas.specs.Calls.{block_set, pair_placed, replica_put, replica_erased, block_retired}
 
 -- ---- The blocks b and c, and reports of b by DataNodes 1, 2 and 3.
 
@@ -67,3 +68,12 @@ rooms = (refl, refl)
 -- a block that is named again has its orders still, and no replicas
 again : let t = block_set gone (block_b 1003) true in (orders_of t ≡ orders_of gone) × (replicas_at t b ≡ []) × (replica_at (replica_put t 1 b (replica Received 1003 5)) 1 b ≡ Some (replica Received 1003 5))
 again = (refl, refl, refl)
+
+abbrev block : ℕ → ℕ → Block
+block id len = record { id = id; stamp = 1001; len = len }
+
+-- rows by ascending block id, of the blocks that files hold
+rows : let t = block_set (block_set stray (block 1073741828 7) false) (block 1073741827 6) true in
+    (rows_of t ≡ (1073741827, record { block = block 1073741827 6; closed = true }) ∷ (1073741828, record { block = block 1073741828 7; closed = false }) ∷ [])
+    × (rows_of stray ≡ [])
+rows = (refl, refl)

@@ -67,6 +67,12 @@ impl Entry {
         self.row = Some(row);
     }
 
+    pub fn row(&self) -> Option<Row>
+        ensures { result ≡ self.now.row }
+    {
+        self.row
+    }
+
     pub fn is_closed(&self) -> bool
         ensures { result ≡ is_closed self.now }
     {
@@ -99,7 +105,7 @@ impl Entry {
         ensures err { OnErr result (self.new ≡ self.old) }
     {
         let place = place_of(self.cells.as_slice(), dn);
-        if has_cell(self.cells.as_slice(), dn) {
+        if has_cell(self.cells.as_slice(), place, dn) {
             return Ok(());
         }
         self.cells.insert(place, (dn, Cell::default()))?;
@@ -114,7 +120,7 @@ impl Entry {
     {
         let named = self.row.is_some();
         let place = place_of(self.cells.as_slice(), dn);
-        if has_cell(self.cells.as_slice(), dn) {
+        if has_cell(self.cells.as_slice(), place, dn) {
             let Some(spot) = self.cells.get_mut(place) else {
                 unreachable!()
             };
@@ -132,7 +138,7 @@ impl Entry {
     {
         let named = self.row.is_some();
         let place = place_of(self.cells.as_slice(), dn);
-        if has_cell(self.cells.as_slice(), dn) {
+        if has_cell(self.cells.as_slice(), place, dn) {
             let Some(spot) = self.cells.get_mut(place) else {
                 unreachable!()
             };
@@ -200,11 +206,12 @@ fn place_of(cells: &[(u16, Cell)], dn: u16) -> usize
     cells.len()
 }
 
-// Whether the DataNode has a cell, in cells that are in order.
-fn has_cell(cells: &[(u16, Cell)], dn: u16) -> bool
+// Whether the cell where the DataNode's would stand is its own, in cells that are in order.
+fn has_cell(cells: &[(u16, Cell)], at: usize, dn: u16) -> bool
+    requires { at ≡ place dn cells.now }
     ensures { result ≡ is_here dn cells.now }
 {
-    match cells.get(place_of(cells, dn)) {
+    match cells.get(at) {
         None => false,
         Some(cell) => cell.0 == dn,
     }

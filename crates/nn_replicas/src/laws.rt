@@ -7,8 +7,6 @@ ghost use Rattle.nn_replicas.specs.Calls.{empty_table, block_set, pair_placed, r
 ghost use Rattle.nn_replicas.specs.Effects.{Names, Places, Writes, Retires};
 ghost use Rattle.nn_replicas.specs.Agreement.{CountsAgree};
 ghost use Rattle.nn_replicas.specs.Order.{IsInOrder};
-ghost use Rattle.nn_types.specs.Settings.{needed_of};
-ghost use Rattle.nn_model.specs.Counts.{needed_of as safe_mode_needed};
 
 /// What each call of the table changes, told by the four things that it is asked for: rows, replicas, orders and
 /// room.
@@ -28,11 +26,6 @@ pub fn tables_are_in_order()
     ensures put { (t : Table) (dn id : ℕ) (r : Replica) → IsInOrder t → IsInOrder (replica_put t dn id r) }
     ensures erase { (t : Table) (dn id : ℕ) → IsInOrder t → IsInOrder (replica_erased t dn id) }
     ensures retire { (t : Table) (id : ℕ) → IsInOrder t → IsInOrder (block_retired t id) }
-{}
-
-/// `Settings::needed` is the threshold of safe mode.
-pub fn needed_is_the_threshold()
-    ensures { (permille total : ℕ) → needed_of permille total ≡ safe_mode_needed permille total }
 {}
 
 /// A table that shows a namespace has its counts.

@@ -6,14 +6,14 @@ mod classes;
 mod entry;
 mod laws;
 mod replicas_of;
+mod rows;
 mod table;
 #[cfg(test)]
 mod tests;
 
 pub use classes::class;
 pub use entry::{Cell, Row};
-pub use laws::{
-    counts_are_the_namespaces, each_call_changes, needed_is_the_threshold, tables_are_in_order,
-};
+pub use laws::{counts_are_the_namespaces, each_call_changes, tables_are_in_order};
 pub use replicas_of::ReplicasOf;
+pub use rows::Rows;
 pub use table::Replicas;

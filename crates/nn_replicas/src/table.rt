@@ -2,10 +2,11 @@
 ghost use Rattle.std.specs.Prelude.{◌≡◌, IsOk, OnOk, OnErr, IfOk, IsTrue, is_some, true};
 ghost use Rattle.std.specs.FinMap.Entries.{is_sorted};
 ghost use Rattle.std.specs.Ordering.{nat_cmp};
-ghost use Rattle.nn_replicas.specs.Calls.{row_at, replicas_at, orders_of, AreAscending, has_order, is_placed, is_kept, total_of, safe_of, empty_table, block_set, pair_placed, replica_put, replica_erased, block_retired};
+ghost use Rattle.nn_replicas.specs.Calls.{row_at, rows_of, replicas_at, orders_of, AreAscending, has_order, is_placed, is_kept, total_of, safe_of, empty_table, block_set, pair_placed, replica_put, replica_erased, block_retired};
 
 use crate::entry::{Entry, Row};
 use crate::replicas_of::ReplicasOf;
+use crate::rows::Rows;
 use nn_types::{Block, BlockId, Replica, Settings};
 use std::alloc::{AllocError, Global};
 use std::collections::BTreeMap;
@@ -172,6 +173,14 @@ impl Replicas {
             return ReplicasOf::new(&[]);
         };
         entry.replicas()
+    }
+
+    /// The rows of the blocks that files hold, each with its block id, by ascending block id.
+    pub fn rows(&self) -> Rows<'_>
+        ensures all { result ≡ rows_of self.now }
+        ensures order { IsTrue (is_sorted nat_cmp result) }
+    {
+        Rows::new(self.entries.iter())
     }
 
     /// All orders, by ascending block id and then by DataNode. The list is made in the given allocator.

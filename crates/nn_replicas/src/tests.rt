@@ -2,7 +2,7 @@
 ghost use Rattle.std.specs.Prelude.{IsTrue, ◌<◌, ◌^◌};
 ghost use Rattle.nn_replicas.specs.Calls.{is_kept};
 
-use crate::{Replicas, class};
+use crate::{Replicas, Row, class};
 use nn_types::{Block, BlockId, Class, GenerationStamp, Kind, Length, Replica, Settings};
 use std::test::Fail;
 
@@ -143,6 +143,30 @@ fn replica_table_of_a_retired_block(rt: HostRuntime) -> Result<(), Fail> {
         orders(&rt, &table)?.as_slice(),
         [(B, 1), (B, 2), (B, 3), (B, 4)].as_slice()
     );
+    Ok(())
+}
+
+#[test]
+fn rows_of_named_blocks(rt: HostRuntime) -> Result<(), Fail> {
+    let mut table = Replicas::new(rt.alloc(), settings(999, 1)?);
+    assert!(rt; table.rows().next().is_none());
+    put(&mut table, 1, B + 2, Kind::Received, 1001, 5)?;
+    table.set_block(block(B + 3, 1001, 7)?, true)?;
+    table.set_block(block(C, 1001, 6)?, true)?;
+    table.set_block(block(B, 1001, 5)?, false)?;
+    table.retire(id(C)?);
+    let mut rows = table.rows();
+    let first = Row {
+        block: block(B, 1001, 5)?,
+        closed: false,
+    };
+    assert_eq!(rt; rows.next(), Some((id(B)?, first)));
+    let second = Row {
+        block: block(B + 3, 1001, 7)?,
+        closed: true,
+    };
+    assert_eq!(rt; rows.next(), Some((id(B + 3)?, second)));
+    assert!(rt; rows.next().is_none());
     Ok(())
 }
 

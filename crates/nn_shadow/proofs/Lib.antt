@@ -7,3 +7,9 @@ pub mod Standings
 pub mod Refusing
 pub mod Turns
 pub mod Edits
+pub mod Rows
+pub mod Tables
+pub mod Follows
+pub mod Filling
+pub mod Consistent
+pub mod Quiet

@@ -121,3 +121,10 @@ gave (t ∷ old) new s h =
 pub gave_end : (old new : List Segment) → GivesNext old end new → old ≡ []
 gave_end [] new h = refl
 gave_end (t ∷ old) new h = absurd (cc)
+
+pub gave_the_end : (old new : List Segment) → GivesNext old end new → (old ≡ []) × (new ≡ [])
+gave_the_end old new h = (gave_end old new h, left old new h)
+  where
+    left : (old new : List Segment) → GivesNext old end new → new ≡ []
+    left [] new h = h.1
+    left (t ∷ old) new h = absurd (cc)

@@ -1,6 +1,5 @@
 -- The edit lines of a scenario, cut into segments after each end mark.
 use Rattle.std.specs.Prelude.{◌≡◌, ◌≤◌, ℕ, ◌+◌, ◌==◌, List, [], ◌∷◌, ◌++◌, length, map, max, true, if◌then◌else◌, Result, Ok, Err}
-use Rattle.std.specs.Bool.{MatchBool}
 use Rattle.std.specs.List.{All, list_all}
 use Rattle.nn_edits.specs.Reading.{edit_of_line}
 use Rattle.nn_edits.specs.declared.tx.Tx.{Tx}
@@ -43,11 +42,6 @@ cut_from part (line ∷ lines) =
 -- lines, cut after each end mark
 abbrev pub cut : List EditLine → List Part
 cut lines = cut_from no_lines lines
-
--- the line was put into the part in hand, which an end mark put behind the parts before it
-abbrev pub Takes : List Part → Part → EditLine → List Part → Part → Type 0
-Takes before in_hand line after next =
-    MatchBool (is_end line.tx.edit) ((after ≡ before ++ with_line in_hand line ∷ []) × (next ≡ no_lines)) ((after ≡ before) × (next ≡ with_line in_hand line))
 
 -- the bytes of a part are whole lines that are read as its transactions, which are numbered from 1
 pub record AreRead (part : Part) : Type 0 where

@@ -1,54 +1,58 @@
-//! The program: a scenario on standard input, the namespace that it leaves on standard output.
+//! The program: a scenario on standard input; the namespace, replicas, orders and counts that it leaves on standard output.
 #![tactic(auto)]
 
 mod device;
+mod follow;
 mod listing;
-mod path_map;
+mod log;
+mod options;
 mod run;
 mod scenario;
 mod segments;
+mod tables;
 #[cfg(test)]
 mod tests;
 
-use clap::Command;
+use crate::options::Options;
 use clap::error::ErrorKind;
-use std::alloc::AllocError;
+use std::io;
 use std::process::ExitCode;
-use std::{env, io};
+use std::thread::Builder;
 
-const ABOUT: &str =
-    "Reads a scenario of edit lines, one JSON object a line, from standard input, and \
-prints the paths of the namespace that it leaves.";
+/// The bytes of the stack that a run has. Deleting, listing and dropping a namespace go one call deeper for each
+/// level of directories, in less than 280 bytes. An input of 16,777,216 bytes has at most some 380,000 lines that
+/// make a directory, so it nests no deeper than that: this is more than twice what it can ask for.
+const STACK: usize = 268_435_456;
 
 fn main(rt: HostRuntime) -> ExitCode {
-    match read_words(&rt) {
-        Ok(()) => run_scenario(&rt),
-        Err(error) => {
-            if error.kind() == ErrorKind::OutOfMemory {
-                return out_of_memory(&rt);
-            }
-            let _ = error.print(&rt);
-            ExitCode::from(error.exit_code() as u8)
-        }
+    let options = match options::read(&rt) {
+        Ok(options) => options,
+        Err(error) => return refuse_words(&rt, &error),
+    };
+    let Ok(engine_rt) = rt.clone() else {
+        return out_of_memory(&rt);
+    };
+    let engine = Builder::new()
+        .stack_size(STACK)
+        .spawn(&rt, move || run_scenario(&engine_rt, &options));
+    match engine {
+        Ok(thread) => thread.join(&rt),
+        Err(_) => out_of_memory(&rt),
     }
 }
 
-// The program takes no word but `--help`.
-fn read_words(rt: &HostRuntime) -> Result<(), clap::Error> {
-    let Ok(words) = env::args(rt) else {
-        return Err(clap::Error::from(AllocError));
-    };
-    let words: Vec<String> = words.collect(rt.alloc())?;
-    Command::new(rt.alloc(), "nn_standby")
-        .about(ABOUT)
-        .try_get_matches_from(words.as_slice())?;
-    Ok(())
+fn refuse_words(rt: &HostRuntime, error: &clap::Error) -> ExitCode {
+    if error.kind() == ErrorKind::OutOfMemory {
+        return out_of_memory(rt);
+    }
+    let _ = error.print(rt);
+    ExitCode::from(error.exit_code() as u8)
 }
 
-fn run_scenario(rt: &HostRuntime) -> ExitCode {
+fn run_scenario(rt: &HostRuntime, options: &Options) -> ExitCode {
     let mut reader = rt.reader();
     let mut writer = io::writer(rt);
-    match run::run(rt.alloc(), &mut reader, &mut writer) {
+    match run::run(rt.alloc(), options, &mut reader, &mut writer) {
         Ok(end) => ExitCode::from(end.status),
         Err(_) => ExitCode::FAILURE,
     }

@@ -1,18 +1,28 @@
-//! A scenario's bytes as the lines of segments: cut into lines, each line read.
-ghost use Rattle.std.specs.Prelude.{◌≡◌, ◌≢◌, ◌≤◌, ◌++◌, ◌∷◌, ◌==◌, [], true, false, length, take, Ok, Err, IfOk, IfErr, OnOk};
+//! A scenario's bytes as the lines of segments and as steps: cut into lines, each line read.
+ghost use Rattle.std.specs.Prelude.{◌≡◌, ◌≢◌, ◌≤◌, ◌==◌, ◌++◌, true, false, length, take, Ok, Err, IfOk, IfErr, OnOk};
 ghost use Rattle.std.specs.Bool.{MatchBool as IfElse};
 ghost use Rattle.std.specs.List.{position_or_len};
-ghost use Rattle.nn_edits.specs.Reading.{edit_of_line};
-ghost use Rattle.nn_edits.specs.declared.tx.Tx.{Tx as TxData};
+ghost use Rattle.nn_edits.specs.Grammar.{IsLawfulLine};
+ghost use Rattle.nn_edits.specs.Reading.{edit_of_line, either_of_line};
+ghost use Rattle.nn_edits.specs.declared.line.Line.{Line as LineData};
 ghost use Rattle.nn_segment.specs.Lines.{is_unbroken};
-ghost use Rattle.nn_standby.specs.Cut.{Takes, last_part};
-ghost use Rattle.nn_standby.specs.Scenario.{parts_of, is_blank};
+ghost use Rattle.nn_standby.specs.Cut.{last_part};
+ghost use Rattle.nn_standby.specs.Scenario.{scenario_of, seen, HasMessagesOf, IsLawfulScenario, is_blank, line_as, scenario_with};
+ghost use Rattle.nn_standby.specs.SoFar.{nothing_read, with_edit_line, followed_by_line};
 ghost use Rattle.nn_standby.specs.Listing.{newline};
 ghost use Rattle.nn_standby.specs.Run.{max_input};
 
+mod steps;
+#[cfg(test)]
+mod tests;
+
+use crate::scenario::steps::Steps;
 use crate::segments::{Piece, is_end};
-use nn_edits::{LineFault, Tx, read_edit};
+use nn_edits::{Line, LineFault, Tx, read_line};
 use std::alloc::{AllocError, Global};
+use std::marker::Model;
+use std::mem;
+pub use steps::Step;
 
 /// A line that was not read. Lines count from 1, the blank ones too.
 #[derive(Drop)]
@@ -21,42 +31,50 @@ pub struct BadLine {
     pub line: u64,
 }
 
-/// The edit lines of a scenario, cut after each end mark, or the first line that is refused. Lines end with a line
-/// feed, which the last may lack; a line of spaces, tabs and carriage returns alone is passed over.
-pub fn read_lines(alloc: Global, input: &[u8]) -> Result<Vec<Piece>, BadLine>
+/// What a scenario says.
+#[derive(Drop)]
+pub struct Scenario {
+    /// The edit lines, cut after each end mark.
+    pub pieces: Vec<Piece>,
+    /// Edits and messages in the order of their lines. The transactions stand in the pieces, in the same order.
+    pub steps: Vec<Step>,
+    /// The greatest DataNode of any message, and at least 1.
+    pub lanes: u16,
+}
+
+/// The scenario of a text, or its first line that is refused. Lines end with a line feed, which the last may lack; a
+/// line of spaces, tabs and carriage returns alone is passed over. Each line is parsed once, and the bytes of an edit
+/// line are copied once.
+pub fn read_lines(alloc: Global, input: &[u8]) -> Result<Scenario, BadLine>
     requires { length input.now ≤ max_input }
-    ensures ok { IfOk result (λ v. parts_of input.now ≡ Ok v.items) }
-    ensures bad { IfErr result (λ e. e.fault ≢ LineFault.OutOfMemory → parts_of input.now ≡ Err e) }
+    ensures ok { IfOk result (λ s. scenario_of input.now ≡ Ok (seen s)) }
+    ensures messages { IfOk result (λ s. HasMessagesOf input.now (seen s)) }
+    ensures lawful { IfOk result (λ s. IsLawfulScenario (seen s)) }
+    ensures bad { IfErr result (λ e. e.fault ≢ LineFault.OutOfMemory → scenario_of input.now ≡ Err e) }
 {
-    let mut pieces = Vec::new(alloc);
-    let mut in_hand = Piece::new(alloc);
+    let Ok(mut reading) = Reading::new(alloc) else {
+        return Err(no_memory(0));
+    };
     let mut line = 0u64;
     let mut rest = input;
     'lines: loop {
         let end = line_end(rest);
         line += 1;
-        in_hand = match push_line(alloc, &mut pieces, in_hand, &rest[..end], line) {
-            Ok(next) => next,
-            Err(bad) => return Err(bad),
-        };
+        if let Err(bad) = reading.push_text(alloc, &rest[..end], line) {
+            return Err(bad);
+        }
         if end == rest.len() {
-            return end_pieces(pieces, in_hand, line);
+            return reading.into_scenario(line);
         }
         rest = &rest[end + 1..];
     }
 }
 
-// The pieces with the one in hand.
-fn end_pieces(pieces: Vec<Piece>, in_hand: Piece, line: u64) -> Result<Vec<Piece>, BadLine>
-    ensures ok { IfOk result (λ v. v.items ≡ pieces.items ++ last_part in_hand) }
-    ensures bad { IfErr result (λ e. e.fault ≡ LineFault.OutOfMemory) }
+fn no_memory(line: u64) -> BadLine
+    ensures { result ≡ record { fault = LineFault.OutOfMemory; line = line } }
 {
-    let mut pieces = pieces;
-    if in_hand.end(&mut pieces).is_err() {
-        let fault = LineFault::OutOfMemory;
-        return Err(BadLine { fault, line });
-    }
-    Ok(pieces)
+    let fault = LineFault::OutOfMemory;
+    BadLine { fault, line }
 }
 
 // Where the first line ends: at its line feed, or with the bytes.
@@ -73,57 +91,106 @@ fn line_end(bytes: &[u8]) -> usize
     bytes.len()
 }
 
-// The piece in hand once a line was read, unless the line is blank.
-fn push_line(
-    alloc: Global,
-    pieces: &mut Vec<Piece>,
+// What was read so far: the pieces that ended, the one in hand, and the steps.
+#[derive(Drop)]
+struct Reading {
+    pieces: Vec<Piece>,
     in_hand: Piece,
-    text: &[u8],
-    line: u64,
-) -> Result<Piece, BadLine>
-    requires { is_unbroken text.now ≡ true }
-    ensures ok { IfOk result (λ next. IfElse (is_blank text.now) ((pieces.new.items ≡ pieces.old.items) × (next ≡ in_hand))
-        ((x : TxData) × (edit_of_line text.now ≡ Ok x)
-        × Takes pieces.old.items in_hand (record { text = text.now; tx = x }) pieces.new.items next)) }
-    ensures bad { IfErr result (λ e. (e.line ≡ line) × (is_blank text.now ≡ false)
-        × (e.fault ≢ LineFault.OutOfMemory → edit_of_line text.now ≡ Err e.fault)) }
-{
-    if is_blank(text) {
-        return Ok(in_hand);
-    }
-    let tx = match read_edit(alloc, text) {
-        Ok(tx) => tx,
-        Err(fault) => return Err(BadLine { fault, line }),
-    };
-    match take_line(alloc, pieces, in_hand, text, tx) {
-        Ok(next) => Ok(next),
-        Err(AllocError) => {
-            let fault = LineFault::OutOfMemory;
-            Err(BadLine { fault, line })
-        }
-    }
+    steps: Steps,
 }
 
-// The piece in hand once a line was added. An end mark ends its piece.
-fn take_line(
-    alloc: Global,
-    pieces: &mut Vec<Piece>,
-    in_hand: Piece,
-    text: &[u8],
-    tx: Tx,
-) -> Result<Piece, AllocError>
-    requires unbroken { is_unbroken text.now ≡ true }
-    requires read { edit_of_line text.now ≡ Ok tx }
-    requires from_one { 1 ≤ tx.txid }
-    ensures { IfOk result (λ next. Takes pieces.old.items in_hand (record { text = text.now; tx = tx }) pieces.new.items next) }
-{
-    let ends = is_end(&tx.edit);
-    let piece = in_hand.with_line(text, tx)?;
-    if !ends {
-        return Ok(piece);
+impl Model for Reading {
+    ghost use Rattle.nn_standby.specs.SoFar.{SoFar};
+
+    ghost Value = { SoFar };
+
+    ghost view = { λ r. record { parts = r.pieces.items; in_hand = r.in_hand; steps = r.steps } };
+}
+
+impl Reading {
+    fn new(alloc: Global) -> Result<Reading, AllocError>
+        ensures { IfOk result (λ reading. reading ≡ nothing_read) }
+    {
+        let steps = Steps::new(alloc)?;
+        Ok(Reading {
+            pieces: Vec::new(alloc),
+            in_hand: Piece::new(alloc),
+            steps,
+        })
     }
-    pieces.push(piece)?;
-    Ok(Piece::new(alloc))
+
+    // Reads one more line, unless it is blank.
+    fn push_text(&mut self, alloc: Global, text: &[u8], line: u64) -> Result<(), BadLine>
+        requires { is_unbroken text.now ≡ true }
+        ensures ok { OnOk result (IfElse (is_blank text.now) (self.new ≡ self.old)
+            ((x : LineData) × (either_of_line text.now ≡ Ok x) × (self.new ≡ followed_by_line self.old (line_as text.now x)))) }
+        ensures bad { IfErr result (λ e. (e.line ≡ line) × (is_blank text.now ≡ false)
+            × (e.fault ≢ LineFault.OutOfMemory → either_of_line text.now ≡ Err e.fault)) }
+    {
+        if is_blank(text) {
+            return Ok(());
+        }
+        let read = match read_line(alloc, text) {
+            Ok(read) => read,
+            Err(fault) => return Err(BadLine { fault, line }),
+        };
+        if let Err(_) = self.push_line(alloc, text, read) {
+            return Err(no_memory(line));
+        }
+        Ok(())
+    }
+
+    fn push_line(&mut self, alloc: Global, text: &[u8], read: Line) -> Result<(), AllocError>
+        requires unbroken { is_unbroken text.now ≡ true }
+        requires read { either_of_line text.now ≡ Ok read }
+        requires lawful { IsLawfulLine read }
+        ensures { OnOk result (self.new ≡ followed_by_line self.old (line_as text.now read)) }
+    {
+        match read {
+            Line::Edit(tx) => self.push_edit(alloc, text, tx),
+            Line::Report(report) => self.steps.push_report(report),
+        }
+    }
+
+    // An end mark ends the piece in hand.
+    fn push_edit(&mut self, alloc: Global, text: &[u8], tx: Tx) -> Result<(), AllocError>
+        requires unbroken { is_unbroken text.now ≡ true }
+        requires read { edit_of_line text.now ≡ Ok tx }
+        requires from_one { 1 ≤ tx.txid }
+        ensures { OnOk result (self.new ≡ with_edit_line self.old (record { text = text.now; tx = tx })) }
+    {
+        self.steps.push_edit()?;
+        let ends = is_end(&tx.edit);
+        let in_hand = mem::replace(&mut self.in_hand, Piece::new(alloc));
+        let piece = in_hand.with_line(text, tx)?;
+        if !ends {
+            self.in_hand = piece;
+            return Ok(());
+        }
+        self.pieces.push(piece)?;
+        Ok(())
+    }
+
+    // All that was read, at the last line.
+    fn into_scenario(self, line: u64) -> Result<Scenario, BadLine>
+        ensures ok { IfOk result (λ s. seen s ≡ scenario_with (self.parts ++ last_part self.in_hand) self.steps) }
+        ensures bad { IfErr result (λ e. e.fault ≡ LineFault.OutOfMemory) }
+    {
+        let Reading {
+            mut pieces,
+            in_hand,
+            steps,
+        } = self;
+        if in_hand.end(&mut pieces).is_err() {
+            return Err(no_memory(line));
+        }
+        let lanes = steps.lanes();
+        Ok(Scenario {
+            pieces,
+            steps: steps.into_vec(),
+            lanes,
+        })
+    }
 }
 
 fn is_blank(text: &[u8]) -> bool

@@ -1,6 +1,10 @@
 //! Worked scenarios, and devices that fail.
+mod messages;
+
 use crate::device::MAX_INPUT;
+use crate::options::Options;
 use crate::run::run;
+use nn_types::Settings;
 use std::alloc::Global;
 use std::io;
 use std::io::{Read, Write};
@@ -10,12 +14,25 @@ const START: &str = "{\"op\":\"OP_START_LOG_SEGMENT\",\"txid\":1}\n";
 
 const END: &str = "{\"op\":\"OP_END_LOG_SEGMENT\",\"txid\":3}\n";
 
-const NOTHING: &str = "txid 0\ndir \"/\"\n";
+const NOTHING: &str = "txid 0\ndir \"/\"\nblocks 0 safe 0 needed 0 mode off\n";
 
-// What a run prints, and its status. No write fails here, so a failed write shows as status 9.
+// What the program asks for where the command line has no words.
+fn usual_options() -> Options {
+    match Settings::new(999, 1) {
+        Some(settings) => Options { settings },
+        None => unreachable!(),
+    }
+}
+
+// What a run prints, and its status.
 fn printed(alloc: Global, reader: &mut impl Read) -> (Vec<u8>, u8) {
+    printed_with(alloc, usual_options(), reader)
+}
+
+// What a run with these options prints, and its status. No write fails here, so a failed write shows as status 9.
+fn printed_with(alloc: Global, options: Options, reader: &mut impl Read) -> (Vec<u8>, u8) {
     let mut writer = Vec::new(alloc);
-    let status = match run(alloc, reader, &mut writer) {
+    let status = match run(alloc, &options, reader, &mut writer) {
         Ok(end) => end.status,
         Err(_) => 9,
     };
@@ -39,7 +56,10 @@ fn make_and_delete(rt: HostRuntime) {
 {"op":"OP_END_LOG_SEGMENT","txid":5}
 "#;
     let (text, status) = printed(rt.alloc(), &mut reader);
-    assert_eq!(rt; text.as_slice(), b"txid 5\ndir \"/\"\n".as_slice());
+    assert_eq!(rt;
+        text.as_slice(),
+        b"txid 5\ndir \"/\"\nblocks 0 safe 0 needed 0 mode off\n".as_slice()
+    );
     assert_eq!(rt; status, 0);
 }
 
@@ -54,7 +74,8 @@ fn one_file(rt: HostRuntime) {
 {"op":"OP_END_LOG_SEGMENT","txid":7}
 "#;
     let (text, status) = printed(rt.alloc(), &mut reader);
-    let want = "txid 7\ndir \"/\"\nfile \"/f\" 3 closed 1073741825:1001:5\n";
+    let want =
+        "txid 7\ndir \"/\"\nfile \"/f\" 3 closed 1073741825:1001:5\nblocks 1 safe 0 needed 0 mode off\n";
     assert_eq!(rt; text.as_slice(), want.as_bytes());
     assert_eq!(rt; status, 0);
 }
@@ -70,7 +91,7 @@ fn paths_in_path_order(rt: HostRuntime) {
 {"op":"OP_END_LOG_SEGMENT","txid":6}"#;
     let (text, status) = printed(rt.alloc(), &mut reader);
     let want =
-        "txid 6\ndir \"/\"\ndir \"/a\"\ndir \"/a/\\u0001\\\"\"\ndir \"/a/b\"\ndir \"/a-b\"\n";
+        "txid 6\ndir \"/\"\ndir \"/a\"\ndir \"/a/\\u0001\\\"\"\ndir \"/a/b\"\ndir \"/a-b\"\nblocks 0 safe 0 needed 0 mode off\n";
     assert_eq!(rt; text.as_slice(), want.as_bytes());
     assert_eq!(rt; status, 0);
 }
@@ -81,12 +102,12 @@ fn segments_that_overlap(rt: HostRuntime) {
         (
             "overlapping_segments",
             "{\"op\":\"OP_START_LOG_SEGMENT\",\"txid\":1}\n{\"op\":\"OP_MKDIR\",\"path\":\"/a\",\"txid\":2}\n{\"op\":\"OP_END_LOG_SEGMENT\",\"txid\":3}\n{\"op\":\"OP_START_LOG_SEGMENT\",\"txid\":2}\n{\"op\":\"OP_MKDIR\",\"path\":\"/\",\"txid\":3}\n{\"op\":\"OP_END_LOG_SEGMENT\",\"txid\":4}\n",
-            "txid 4\ndir \"/\"\ndir \"/a\"\n",
+            "txid 4\ndir \"/\"\ndir \"/a\"\nblocks 0 safe 0 needed 0 mode off\n",
         ),
         (
             "old_segment_passed_over",
             "{\"op\":\"OP_START_LOG_SEGMENT\",\"txid\":1}\n{\"op\":\"OP_END_LOG_SEGMENT\",\"txid\":2}\n{\"op\":\"OP_START_LOG_SEGMENT\",\"txid\":3}\n{\"op\":\"OP_MKDIR\",\"path\":\"/b\",\"txid\":4}\n{\"op\":\"OP_END_LOG_SEGMENT\",\"txid\":5}\n{\"op\":\"OP_START_LOG_SEGMENT\",\"txid\":1}\n{\"op\":\"OP_END_LOG_SEGMENT\",\"txid\":2}\n{\"op\":\"OP_START_LOG_SEGMENT\",\"txid\":4}\n{\"op\":\"OP_END_LOG_SEGMENT\",\"txid\":5}\n",
-            "txid 5\ndir \"/\"\ndir \"/b\"\n",
+            "txid 5\ndir \"/\"\ndir \"/b\"\nblocks 0 safe 0 needed 0 mode off\n",
         ),
     ] {
         let mut reader: &[u8] = input.as_bytes();
@@ -196,8 +217,8 @@ fn one_line_of_fault(rt: HostRuntime) {
             "fault 3 line 1\n",
         ),
         (
-            "no operation",
-            "{\"dn\":1,\"block\":1,\"gen\":1,\"len\":1,\"kind\":\"received\"}\n",
+            "neither an edit nor a report",
+            "{\"block\":1,\"gen\":1,\"len\":1,\"kind\":\"received\"}\n",
             "fault 2 line 1\n",
         ),
     ] {
@@ -301,7 +322,7 @@ impl Write for Stopping {
 const LINES: &[u8] =
     b"{\"op\":\"OP_START_LOG_SEGMENT\",\"txid\":1}\n{\"op\":\"OP_MKDIR\",\"path\":\"/a\",\"txid\":2}\n{\"op\":\"OP_END_LOG_SEGMENT\",\"txid\":3}\n";
 
-const LISTING: &[u8] = b"txid 3\ndir \"/\"\ndir \"/a\"\n";
+const LISTING: &[u8] = b"txid 3\ndir \"/\"\ndir \"/a\"\nblocks 0 safe 0 needed 0 mode off\n";
 
 #[test]
 fn failing_readers(rt: HostRuntime) {
@@ -336,7 +357,7 @@ fn failing_writers(rt: HostRuntime) {
                 stop_at,
                 fails,
             };
-            let end = run(rt.alloc(), &mut reader, &mut writer);
+            let end = run(rt.alloc(), &usual_options(), &mut reader, &mut writer);
             let got = writer.got.len();
             assert!(rt; LISTING.starts_with(&writer.got));
             match end {

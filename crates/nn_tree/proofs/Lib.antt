@@ -20,3 +20,4 @@ pub mod Memory
 pub mod Ascending
 pub mod Retired
 pub mod Listings
+mod Extents

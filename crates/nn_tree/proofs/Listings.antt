@@ -1,10 +1,13 @@
 -- A listing goes on child by child.
 use Rattle.std.proofs.Common.{◌≡◌, ℕ, List, [], ◌∷◌, ◌++◌, length, take, append_assoc, refl, sym, ap, ◌∙◌, String, Global}
+use Rattle.std.specs.Borrow.{Bor}
+use Rattle.std.specs.List.{fold}
+use Rattle.std.proofs.lemmas.List.Sums.{fold-append}
 use Rattle.std.specs.FinMap.Entries.{is_sorted}
 use Rattle.std.specs.Map.{values_of}
 use Rattle.std.specs.String.{string_bytes}
 use Rattle.std.specs.Prelude.{◌==◌}
-use Rattle.std.proofs.Common.{true, arith, ◌<◌, ◌^◌}
+use Rattle.std.proofs.Common.{Some, ◌+◌, ◌-◌, true, arith, ◌<◌, ◌^◌}
 use Rattle.std.proofs.lemmas.Bool.{or_left, or_right, eq-eqb}
 use Rattle.nn_model.specs.WellFormed.{IsWellFormed}
 use Rattle.nn_model.specs.Namespace.{Namespace, path_cmp}
@@ -14,7 +17,8 @@ use Rattle.nn_model.proofs.Lookups.{same_rows, find_in_order}
 use Rattle.nn_model.proofs.Wells.{sorted_in_order, to_T}
 use Rattle.nn_model.specs.declared.form.Form.{Form}
 use Rattle.nn_model.specs.Namespace.{Path}
-use Rattle.nn_tree.specs.At.{names_of}
+use Rattle.nn_tree.specs.At.{at}
+use Rattle.nn_tree.specs.Listing.{lent_names}
 use Rattle.nn_tree.specs.Flat.{under, under_all, below}
 use Rattle.nn_tree.proofs.Sorted.{AllSorted}
 
@@ -38,7 +42,7 @@ pub under_all-one : (p : Path) (row : Form) → under_all p (([], row) ∷ []) �
 under_all-one [] row = refl
 under_all-one (n ∷ p) row = ap (under n) (under_all-one p row)
 
-below-push : (cs : List (String Global × List (Path × Form))) (k : String Global) (es : List (Path × Form)) → below (cs ++ (k, es) ∷ []) ≡ below cs ++ under (string_bytes k) es
+pub below-push : (cs : List (String Global × List (Path × Form))) (k : String Global) (es : List (Path × Form)) → below (cs ++ (k, es) ∷ []) ≡ below cs ++ under (string_bytes k) es
 below-push [] k es = rows_nil (under (string_bytes k) es)
 below-push (c ∷ cs) k es = ap (λ r. under (string_bytes c.0) c.1 ++ r) (below-push cs k es) ∙ sym (append_assoc (under (string_bytes c.0) c.1) (below cs) (under (string_bytes k) es))
 
@@ -54,13 +58,61 @@ sorted_more [] k es a h = (h, tt)
 sorted_more (c ∷ cs) k es a h = (a.0, sorted_more cs k es a.1 h)
 
 -- the names before one was pushed
-pub names_back : (before after : List (String Global)) (n : List ℕ) → names_of after ≡ names_of before ++ n ∷ [] → names_of (take (length before) after) ≡ names_of before
-names_back [] after n h = refl
-names_back (b ∷ before) [] n h = absurd (cc)
-names_back (b ∷ before) (a ∷ after) n h =
-    let head : string_bytes a ≡ string_bytes b = cc in
-    let tail : names_of after ≡ names_of before ++ n ∷ [] = cc in
-    (λ j. head j ∷ names_back before after n tail j)
+lent_back : (before after : List (Bor (List ℕ))) (n : List ℕ) → lent_names after ≡ lent_names before ++ n ∷ []
+    → lent_names (take (length before) after) ≡ lent_names before
+lent_back [] after n h = refl
+lent_back (b ∷ before) [] n h = absurd (cc)
+lent_back (b ∷ before) (a ∷ after) n h =
+    let head : a.now ≡ b.now = cc in
+    let tail : lent_names after ≡ lent_names before ++ n ∷ [] = cc in
+    (λ j. head j ∷ lent_back before after n tail j)
+
+lent_length : (before after : List (Bor (List ℕ))) (n : List ℕ) → lent_names after ≡ lent_names before ++ n ∷ [] → length after ≡ length before + 1
+lent_length [] [] n h = absurd (cc)
+lent_length [] (a ∷ []) n h = refl
+lent_length [] (a ∷ b ∷ after) n h = absurd (cc)
+lent_length (b ∷ before) [] n h = absurd (cc)
+lent_length (b ∷ before) (a ∷ after) n h =
+    let tail : lent_names after ≡ lent_names before ++ n ∷ [] = cc in
+    omega (arith, lent_length before after n tail)
+
+pub lent_popped : (before after popped : List (Bor (List ℕ))) (n : List ℕ) (len : ℕ) → length after ≡ len → popped ≡ take (len - 1) after
+    → lent_names after ≡ lent_names before ++ n ∷ []
+    → lent_names popped ≡ lent_names before
+lent_popped before after popped n len l e h =
+    let less : len - 1 ≡ length before = omega (arith, l, lent_length before after n h) in
+    ap lent_names e ∙ ap (λ k. lent_names (take k after)) less ∙ lent_back before after n h
+
+-- what stands at the top is the first row
+pub top_row : (es rest : List (Path × Form)) (d r : Form) → es ≡ ([], d) ∷ rest → at es [] ≡ Some r → r ≡ d
+top_row es rest d r e h =
+    let both : Some d ≡ Some r = ap (λ x. at x []) (sym e) ∙ h in
+    cc
+
+-- ---- what a sink has taken
+module _ {S : Type 0} (taking : S → Path × Form → S) where
+  pub first_taken : (s after : S) (p q : Path) (d r : Form) → after ≡ taking s (q, r) → q ≡ p → r ≡ d
+      → after ≡ fold taking s (under_all p (([], d) ∷ []))
+  first_taken s after p q d r h e f = h ∙ (λ j. taking s (e j, f j)) ∙ ap (fold taking s) (sym (under_all-one p d))
+
+  -- one more child
+  pub one_taken : (p : Path) (cs : List (String Global × List (Path × Form))) (k : String Global) (es : List (Path × Form)) (first before after : S) →
+      before ≡ fold taking first (under_all p (([], Dir) ∷ below cs))
+      → after ≡ fold taking before (under_all (p ++ string_bytes k ∷ []) es)
+      → after ≡ fold taking first (under_all p (([], Dir) ∷ below (cs ++ (k, es) ∷ [])))
+  one_taken p cs k es first before after h e =
+      let rows = under_all p (([], Dir) ∷ below cs) in
+      let more = under_all (p ++ string_bytes k ∷ []) es in
+      e ∙ ap (λ s. fold taking s more) h ∙ sym (fold-append taking first rows more)
+      ∙ ap (fold taking first) (one_listed p cs k es [] rows (rows ++ more) refl refl)
+
+-- a sink that adds each row at the end
+pushed : (before rows : List (Path × Form)) → fold (λ done row. done ++ row ∷ []) before rows ≡ before ++ rows
+pushed before [] = sym (rows_nil before)
+pushed before (row ∷ rows) = pushed (before ++ row ∷ []) rows ∙ append_assoc before (row ∷ []) rows
+
+pub all_pushed : (first after rows : List (Path × Form)) → first ≡ [] → after ≡ fold (λ done row. done ++ row ∷ []) first rows → after ≡ rows
+all_pushed first after rows none h = h ∙ pushed first rows ∙ ap (λ done. done ++ rows) none
 
 -- rows that are in order stay as they are
 pub in_order_already : (es : List (Path × Form)) → is_sorted path_cmp es ≡ true → in_path_order es ≡ es

@@ -8,3 +8,4 @@ pub mod Found
 pub mod Touched
 pub mod Listing
 pub mod BlockRow
+pub mod Extent

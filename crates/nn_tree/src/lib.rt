@@ -20,7 +20,7 @@ mod tree;
 
 pub use found::Found;
 pub use index::BlockRow;
-pub use listing::PathRow;
+pub use listing::{Extent, PathRow, RowSink};
 pub use namespace::Namespace;
 pub use nn_model::{EditFault, FileRow, Form};
 pub use touched::Touched;

@@ -1,11 +1,27 @@
-//! The rows of a namespace in path order.
-ghost use Rattle.std.specs.Prelude.{◌≡◌, ◌++◌, ◌∷◌, [], OnOk, IfOk};
-ghost use Rattle.nn_model.specs.declared.form.Form.TheVariants.{File};
+//! The rows of a namespace in path order, handed to a sink one after another.
+ghost use Rattle.std.specs.Prelude.{◌≡◌, ◌+◌, ◌++◌, ◌∷◌, [], List, OnOk, IfOk};
+ghost use Rattle.nn_model.specs.Namespace.{Path};
+ghost use Rattle.nn_model.specs.declared.form.Form.{Form as FormData};
 ghost use Rattle.nn_tree.specs.At.{names_of};
-ghost use Rattle.nn_tree.specs.Listing.{rows_of};
+ghost use Rattle.nn_tree.specs.Extent.{capped};
+ghost use Rattle.nn_tree.specs.Found.{form_of};
+ghost use Rattle.nn_tree.specs.Listing.{rows_of, lent_names};
 
+use crate::found::Found;
 use nn_model::{FileRow, Form};
 use std::alloc::{AllocError, Global};
+use std::marker::Model;
+
+/// Takes the rows of a listing, one after another.
+pub trait RowSink {
+    /// `taking s row`: the sink s, once it has taken the row.
+    ghost taking: { Self → Path × FormData → Self };
+
+    /// Takes one row: the names from the root down, and what stands there. A rename can make more names than
+    /// a `Path` may have.
+    fn row(&mut self, names: &[&str], found: Found<'_>) -> Result<(), AllocError>
+        ensures { OnOk result (self.new ≡ taking self.old (lent_names names.now, form_of found.entry)) };
+}
 
 /// A path and what stands there.
 #[derive(Drop)]
@@ -15,50 +31,100 @@ pub struct PathRow {
     pub form: Form,
 }
 
-/// Adds the row of a directory.
-pub(crate) fn push_dir(
-    alloc: Global,
-    names: &[String],
-    out: &mut Vec<PathRow>,
-) -> Result<(), AllocError>
-    ensures { OnOk result (rows_of out.new.items ≡ rows_of out.old.items ++ (names_of names.now, Form.Dir) ∷ []) }
-{
-    let names = copied(alloc, names)?;
-    out.push(PathRow {
-        names,
-        form: Form::Dir,
-    })?;
-    Ok(())
+/// How large a listing is. A count that would pass `usize::MAX` stays there.
+#[derive(Clone, Copy, Debug, PartialEq, Eq)]
+pub struct Extent {
+    pub paths: usize,
+    /// The bytes of all the paths' texts together.
+    pub path_bytes: usize,
+    /// The blocks of all files together.
+    pub blocks: usize,
 }
 
-/// Adds the row of a file.
-pub(crate) fn push_file(
-    alloc: Global,
-    names: &[String],
-    file: &FileRow,
-    out: &mut Vec<PathRow>,
-) -> Result<(), AllocError>
-    ensures { OnOk result (rows_of out.new.items ≡ rows_of out.old.items ++ (names_of names.now, File file.now) ∷ []) }
-{
-    let names = copied(alloc, names)?;
-    let blocks = file.blocks.copied()?;
-    out.push(PathRow {
-        names,
-        form: Form::File(FileRow {
-            replication: file.replication,
-            closed: file.closed,
-            blocks,
-        }),
-    })?;
-    Ok(())
+impl Extent {
+    // Counts a path whose text has these bytes, and its blocks.
+    pub(crate) fn add(&mut self, bytes: usize, blocks: usize)
+        ensures paths { self.new.paths ≡ capped (self.old.paths + 1) }
+        ensures path_bytes { self.new.path_bytes ≡ capped (self.old.path_bytes + bytes) }
+        ensures blocks { self.new.blocks ≡ capped (self.old.blocks + blocks) }
+    {
+        self.paths = self.paths.saturating_add(1);
+        self.path_bytes = self.path_bytes.saturating_add(bytes);
+        self.blocks = self.blocks.saturating_add(blocks);
+    }
 }
 
-fn copied(alloc: Global, names: &[String]) -> Result<Vec<String>, AllocError>
-    ensures { IfOk result (λ copy. names_of copy.items ≡ names_of names.now) }
+/// A copy of the rows that it takes.
+#[derive(Drop)]
+pub(crate) struct Copies {
+    rows: Vec<PathRow>,
+    alloc: Global,
+}
+
+impl Model for Copies {
+    ghost use Rattle.std.specs.Prelude.{List};
+    ghost use Rattle.nn_model.specs.declared.form.Form.{Form};
+    ghost use Rattle.nn_model.specs.Namespace.{Path};
+    ghost use Rattle.nn_tree.specs.Listing.{rows_of};
+
+    ghost Value = { List (Path × Form) };
+
+    ghost view = { λ c. rows_of c.rows.items };
+}
+
+impl Copies {
+    /// No rows.
+    pub(crate) fn new(alloc: Global) -> Copies
+        ensures { result ≡ [] }
+    {
+        Copies {
+            rows: Vec::new(alloc),
+            alloc,
+        }
+    }
+
+    /// The rows.
+    pub(crate) fn into_rows(self) -> Vec<PathRow>
+        ensures { rows_of result.items ≡ self }
+    {
+        let Copies { rows, alloc: _ } = self;
+        rows
+    }
+}
+
+impl RowSink for Copies {
+    ghost use Rattle.std.specs.Prelude.{◌++◌, ◌∷◌, []};
+
+    ghost taking = { λ rows row. rows ++ row ∷ [] };
+
+    fn row(&mut self, names: &[&str], found: Found<'_>) -> Result<(), AllocError> {
+        let names = copied(self.alloc, names)?;
+        let form = form(found)?;
+        self.rows.push(PathRow { names, form })?;
+        Ok(())
+    }
+}
+
+fn copied(alloc: Global, names: &[&str]) -> Result<Vec<String>, AllocError>
+    ensures { IfOk result (λ copy. names_of copy.items ≡ lent_names names.now) }
 {
     let mut copy = Vec::new(alloc);
     for name in names {
-        copy.push(String::from_str(alloc, name.as_str())?)?;
+        copy.push(String::from_str(alloc, name)?)?;
     }
     Ok(copy)
+}
+
+// A copy of what a look-up found.
+fn form(found: Found<'_>) -> Result<Form, AllocError>
+    ensures { IfOk result (λ form. form ≡ form_of found.entry) }
+{
+    match found {
+        Found::Dir => Ok(Form::Dir),
+        Found::File(file) => Ok(Form::File(FileRow {
+            replication: file.replication,
+            closed: file.closed,
+            blocks: file.blocks.copied()?,
+        })),
+    }
 }

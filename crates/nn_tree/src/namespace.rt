@@ -1,5 +1,6 @@
 //! The namespace: a directory tree, seen as its rows in path order, and an index of the blocks in its files.
-ghost use Rattle.std.specs.Prelude.{◌≡◌, OnOk, OnErr, IfOk, IfErr, IfSome, IsErrOf, None, Ok, option_map, nat_le};
+ghost use Rattle.std.specs.Prelude.{◌≡◌, OnOk, OnErr, IfOk, IfErr, IfSome, IsErrOf, None, Ok, option_map, nat_le, length};
+ghost use Rattle.std.specs.List.{fold};
 ghost use Rattle.nn_edits.specs.Lawful.{IsLawfulEdit};
 ghost use Rattle.nn_types.specs.Block.{AreBlocks};
 ghost use Rattle.nn_model.specs.Namespace.{root_alone, no_block, no_stamp, lookup};
@@ -7,6 +8,7 @@ ghost use Rattle.nn_model.specs.Apply.{applied, refusal};
 ghost use Rattle.nn_model.specs.Fault.{IsFault};
 ghost use Rattle.nn_model.specs.Status.{block_at, status_of};
 ghost use Rattle.nn_model.specs.Touched.{touched};
+ghost use Rattle.nn_tree.specs.Extent.{capped, path_bytes, block_count};
 ghost use Rattle.nn_tree.specs.Found.{form_of};
 ghost use Rattle.nn_tree.specs.Listing.{rows_of};
 ghost use Rattle.nn_model.specs.WellFormed.{IsWellFormed};
@@ -18,7 +20,7 @@ mod edits;
 
 use crate::found::Found;
 use crate::index::BlockRow;
-use crate::listing::PathRow;
+use crate::listing::{Copies, Extent, PathRow, RowSink};
 use crate::touched::Touched;
 use crate::tree::Tree;
 use nn_edits::Edit;
@@ -83,12 +85,13 @@ impl Namespace {
         ensures memory { IsErrOf result EditFault.OutOfMemory → refusal self.old edit.now ≡ None }
         ensures err { OnErr result (self.new ≡ self.old) }
         ensures well_formed { IsWellFormed self.old × IsWellFormed self.new }
+        ensures lawful { IsLawfulEdit edit.now }
     {
         self.well_formed();
+        lawful(edit);
         if let Some(fault) = self.refusal(edit) {
             return Err(fault);
         }
-        lawful(edit);
         let done = self.change(edit);
         self.well_formed();
         done
@@ -137,10 +140,35 @@ impl Namespace {
     pub fn list(&self) -> Result<Vec<PathRow>, AllocError>
         ensures { IfOk result (λ rows. rows_of rows.items ≡ self.now.rows) }
     {
+        let mut copies = Copies::new(self.alloc);
+        self.list_to(&mut copies)?;
+        Ok(copies.into_rows())
+    }
+
+    /// Hands all rows to the sink in path order, the root first. Nothing is copied. The first error of the sink
+    /// ends it, after the rows that the sink has taken by then.
+    pub fn list_to<S: RowSink>(&self, sink: &mut S) -> Result<(), AllocError>
+        ensures { OnOk result (sink.new ≡ fold S.taking sink.old self.now.rows) }
+    {
         let mut names = Vec::new(self.alloc);
-        let mut rows = Vec::new(self.alloc);
-        self.root.list(self.alloc, &mut names, &mut rows)?;
-        Ok(rows)
+        self.root.list_to(&mut names, sink)?;
+        Ok(())
+    }
+
+    /// How large a listing of all rows is. It looks at each path once, and at no name's bytes.
+    pub fn extent(&self) -> Extent
+        ensures paths { result.paths ≡ capped (length self.now.rows) }
+        ensures path_bytes { result.path_bytes ≡ capped (path_bytes self.now.rows) }
+        ensures blocks { result.blocks ≡ capped (block_count self.now.rows) }
+    {
+        // The root's text is one slash, and no slash of another path is counted for it.
+        let mut extent = Extent {
+            paths: 0,
+            path_bytes: 1,
+            blocks: 0,
+        };
+        self.root.measure(0, &mut extent);
+        extent
     }
 
     /// The block that a file holds under this id, and whether that file is closed.

@@ -3,97 +3,159 @@ use crate::{Found, Namespace, Touched};
 use nn_edits::Edit;
 use nn_types::{Block, BlockId, Blocks, GenerationStamp, Length, Path, Replication, Status};
 use std::alloc::Global;
+use std::process::Abort;
 use std::test::Fail;
 
-// Each fault, and which of two comes first. A fault changes nothing, so one namespace serves them all.
+// An edit in words, and the number of its fault, or 0.
+type Step = (&'static str, u8);
+
+// A test owns its namespace and lends it to the checks, each of which is short: whoever owns one shows at each of its
+// exits that it is dropped.
+
+// The faults of directories. A fault changes nothing, so one namespace serves each list of edits.
 #[test]
-fn faults_in_order(rt: HostRuntime) -> Result<(), Fail> {
-    let steps = [
+fn faults_of_directories(rt: HostRuntime) -> Result<(), Fail> {
+    let mut namespace = Namespace::new(rt.alloc());
+    answers(&rt, rt.alloc(), &mut namespace, &directories())
+}
+
+fn directories() -> [Step; 8] {
+    [
         ("mkdir /", 25),
         ("mkdir /a", 0),
         ("mkdir /a", 21),
         ("mkdir /x/y", 22),
         ("add /f 3", 0),
         ("mkdir /f/x", 23),
-        // A bad replication comes before the walk.
+        ("delete /", 25),
+        ("delete /x", 22),
+    ]
+}
+
+// A bad replication comes before the walk.
+#[test]
+fn faults_of_replications(rt: HostRuntime) -> Result<(), Fail> {
+    let mut namespace = Namespace::new(rt.alloc());
+    answers(&rt, rt.alloc(), &mut namespace, &replications())
+}
+
+fn replications() -> [Step; 6] {
+    [
+        ("mkdir /a", 0),
+        ("add /f 3", 0),
         ("add /x/f 0", 31),
         ("replicate /x/f 513", 31),
         ("replicate /f 512", 0),
-        ("replicate /f 3", 0),
         ("replicate /a 3", 24),
+    ]
+}
+
+// An id that does not await comes before a bad stamp.
+#[test]
+fn faults_of_blocks(rt: HostRuntime) -> Result<(), Fail> {
+    let mut namespace = Namespace::new(rt.alloc());
+    answers(&rt, rt.alloc(), &mut namespace, &blocks())
+}
+
+fn blocks() -> [Step; 12] {
+    [
+        ("mkdir /a", 0),
+        ("add /f 3", 0),
         ("allocate 1073741824", 30),
         ("allocate 1073741825", 0),
         ("stamp 1000", 29),
         ("stamp 1001", 0),
         ("block /a 1073741825 1001", 24),
-        // An id that does not await comes before a bad stamp.
         ("block /f 1073741826 1002", 30),
         ("block /f 1073741825 1002", 29),
         ("block /f 1073741825 1000", 29),
         ("block /f 1073741825 1001", 0),
         ("block /f 1073741825 1001", 30),
-        // A wrong id in the second place comes before a bad stamp in the first.
+    ]
+}
+
+// A wrong id in the second place comes before a bad stamp in the first, and a closed file before both.
+#[test]
+fn faults_of_lists(rt: HostRuntime) -> Result<(), Fail> {
+    let mut namespace = Namespace::new(rt.alloc());
+    answers(&rt, rt.alloc(), &mut namespace, &lists())
+}
+
+fn lists() -> [Step; 10] {
+    [
+        ("add /f 3", 0),
+        ("stamp 1001", 0),
+        ("allocate 1073741825", 0),
+        ("block /f 1073741825 1001", 0),
         ("update /f 1073741825 1000 0 1073741826 1001 0", 28),
         ("update /f 1073741825 1000 0", 29),
         ("update /f 1073741825 1001 4", 0),
         ("close /f 1073741825 1001 5", 0),
-        // A closed file comes before a bad id and a bad stamp.
         ("block /f 1 1", 27),
         ("close /f", 27),
-        // A missing source comes before a target below it, and that before the walk of the target.
+    ]
+}
+
+// A missing source comes before a target below it, and that before the walk of the target.
+#[test]
+fn faults_of_renames(rt: HostRuntime) -> Result<(), Fail> {
+    let mut namespace = Namespace::new(rt.alloc());
+    answers(&rt, rt.alloc(), &mut namespace, &renames())
+}
+
+fn renames() -> [Step; 8] {
+    [
+        ("mkdir /a", 0),
+        ("add /f 3", 0),
         ("rename /x /x/y", 22),
         ("rename /f /f/x/y", 26),
         ("rename /a /f/x", 23),
         ("rename /a /a", 21),
         ("rename / /b", 25),
         ("rename /a /", 25),
-        ("delete /", 25),
-        ("delete /x", 22),
-    ];
-    let mut namespace = Namespace::new(rt.alloc());
-    for (words, number) in steps {
-        let edit = edit_of(rt.alloc(), words)?;
-        let refused = namespace.refusal(&edit);
-        assert_eq!(rt;
-            refused.map_or(0, |fault| fault.number()),
-            number,
-            "before {words}"
-        );
-        let done = namespace.apply(&edit);
-        assert_eq!(rt;
-            done.map_or_else(|fault| fault.number(), |_touched| 0),
-            number,
-            "at {words}"
-        );
-    }
-    let text = listing(rt.alloc(), &namespace)?;
-    assert_eq!(rt; text.as_str(), "/ /a /f");
-    Ok(())
+    ]
 }
 
 // What a rename moves and what it refuses. Paths are in the order of their names: `/a-b` comes after `/a/b`.
 #[test]
 fn rename_rules(rt: HostRuntime) -> Result<(), Fail> {
     let mut namespace = Namespace::new(rt.alloc());
-    for words in ["mkdir /a", "mkdir /a/b", "add /a/b/f 1", "add /a-b 2"] {
-        apply(&mut namespace, rt.alloc(), words)?;
-    }
-    let text = listing(rt.alloc(), &namespace)?;
+    renames_are_refused(&rt, rt.alloc(), &mut namespace)?;
+    renames_move_what_lies_below(&rt, rt.alloc(), &mut namespace)
+}
+
+fn renames_are_refused(
+    rt: &impl Abort,
+    alloc: Global,
+    namespace: &mut Namespace,
+) -> Result<(), Fail> {
+    let made = ["mkdir /a", "mkdir /a/b", "add /a/b/f 1", "add /a-b 2"];
+    apply_all(namespace, alloc, &made)?;
+    let text = listing(alloc, namespace)?;
     assert_eq!(rt; text.as_str(), "/ /a /a/b /a/b/f /a-b");
-    assert_eq!(rt; fault(&mut namespace, rt.alloc(), "rename /a /a")?, 21);
-    assert_eq!(rt; fault(&mut namespace, rt.alloc(), "rename /a /a/b/c")?, 26);
-    assert_eq!(rt;
-        fault(&mut namespace, rt.alloc(), "rename /a-b /a-b/c")?,
-        26
-    );
-    assert_eq!(rt; fault(&mut namespace, rt.alloc(), "rename /a /x/y")?, 22);
-    assert_eq!(rt; fault(&mut namespace, rt.alloc(), "rename /a /a-b/c")?, 23);
-    apply(&mut namespace, rt.alloc(), "rename /a /c")?;
-    let text = listing(rt.alloc(), &namespace)?;
+    answers(rt, alloc, namespace, &refused_renames())
+}
+
+fn refused_renames() -> [Step; 5] {
+    [
+        ("rename /a /a", 21),
+        ("rename /a /a/b/c", 26),
+        ("rename /a-b /a-b/c", 26),
+        ("rename /a /x/y", 22),
+        ("rename /a /a-b/c", 23),
+    ]
+}
+
+fn renames_move_what_lies_below(
+    rt: &impl Abort,
+    alloc: Global,
+    namespace: &mut Namespace,
+) -> Result<(), Fail> {
+    apply_all(namespace, alloc, &["rename /a /c"])?;
+    let text = listing(alloc, namespace)?;
     assert_eq!(rt; text.as_str(), "/ /a-b /c /c/b /c/b/f");
-    apply(&mut namespace, rt.alloc(), "rename /c/b/f /a")?;
-    apply(&mut namespace, rt.alloc(), "delete /c")?;
-    let text = listing(rt.alloc(), &namespace)?;
+    apply_all(namespace, alloc, &["rename /c/b/f /a", "delete /c"])?;
+    let text = listing(alloc, namespace)?;
     assert_eq!(rt; text.as_str(), "/ /a /a-b");
     Ok(())
 }
@@ -101,25 +163,40 @@ fn rename_rules(rt: HostRuntime) -> Result<(), Fail> {
 // An id is unnamed, awaits, is named and is retired. An id that a higher one passes over is retired at once.
 #[test]
 fn status_of_ids(rt: HostRuntime) -> Result<(), Fail> {
+    let mut namespace = Namespace::new(rt.alloc());
+    ids_are_issued(&rt, rt.alloc(), &mut namespace)?;
+    ids_are_named(&rt, rt.alloc(), &mut namespace)?;
+    ids_are_retired(&rt, rt.alloc(), &mut namespace)
+}
+
+fn ids_are_issued(rt: &impl Abort, alloc: Global, namespace: &mut Namespace) -> Result<(), Fail> {
     let first = id_of("1073741825")?;
     let second = id_of("1073741826")?;
-    let mut namespace = Namespace::new(rt.alloc());
     assert_eq!(rt; namespace.status(id_of("1073741824")?), Status::Retired);
     assert_eq!(rt; namespace.status(first), Status::Unnamed);
-    let touched = apply(&mut namespace, rt.alloc(), "allocate 1073741826")?;
+    let touched = apply(namespace, alloc, "allocate 1073741826")?;
     assert_eq!(rt; touched.skipped, Some((first, first)));
     assert_eq!(rt; namespace.status(first), Status::Retired);
     assert_eq!(rt; namespace.status(second), Status::Awaiting);
     assert_eq!(rt; namespace.last_block(), second);
-    let awaiting = namespace.awaiting(rt.alloc())?;
+    let awaiting = namespace.awaiting(alloc)?;
     assert_eq!(rt; awaiting.as_slice(), [second].as_slice());
-    for words in ["stamp 1001", "add /f 3", "block /f 1073741826 1001"] {
-        apply(&mut namespace, rt.alloc(), words)?;
-    }
+    Ok(())
+}
+
+fn ids_are_named(rt: &impl Abort, alloc: Global, namespace: &mut Namespace) -> Result<(), Fail> {
+    let named = ["stamp 1001", "add /f 3", "block /f 1073741826 1001"];
+    apply_all(namespace, alloc, &named)?;
+    let second = id_of("1073741826")?;
     assert_eq!(rt; namespace.status(second), Status::Named(stamp_of("1001")?));
     assert_eq!(rt; namespace.last_stamp(), stamp_of("1001")?);
-    assert!(rt; namespace.awaiting(rt.alloc())?.is_empty());
-    let touched = apply(&mut namespace, rt.alloc(), "delete /f")?;
+    assert!(rt; namespace.awaiting(alloc)?.is_empty());
+    Ok(())
+}
+
+fn ids_are_retired(rt: &impl Abort, alloc: Global, namespace: &mut Namespace) -> Result<(), Fail> {
+    let second = id_of("1073741826")?;
+    let touched = apply(namespace, alloc, "delete /f")?;
     assert_eq!(rt; touched.retired.as_slice(), [second].as_slice());
     assert_eq!(rt; namespace.status(second), Status::Retired);
     assert!(rt; namespace.block(second).is_none());
@@ -129,10 +206,14 @@ fn status_of_ids(rt: HostRuntime) -> Result<(), Fail> {
 // A list of blocks writes the index anew, and takes out the block that it leaves out.
 #[test]
 fn left_out_block_is_retired(rt: HostRuntime) -> Result<(), Fail> {
-    let first = id_of("1073741825")?;
-    let second = id_of("1073741826")?;
     let mut namespace = Namespace::new(rt.alloc());
-    for words in [
+    apply_all(&mut namespace, rt.alloc(), &two_blocks())?;
+    a_block_is_left_out(&rt, rt.alloc(), &mut namespace)?;
+    the_other_block_is_kept(&rt, rt.alloc(), &mut namespace)
+}
+
+fn two_blocks() -> [&'static str; 7] {
+    [
         "add /f 3",
         "stamp 1001",
         "stamp 1002",
@@ -140,22 +221,36 @@ fn left_out_block_is_retired(rt: HostRuntime) -> Result<(), Fail> {
         "block /f 1073741825 1001",
         "allocate 1073741826",
         "block /f 1073741826 1001",
-    ] {
-        apply(&mut namespace, rt.alloc(), words)?;
-    }
-    let touched = apply(&mut namespace, rt.alloc(), "update /f 1073741825 1002 7")?;
-    assert_eq!(rt;
-        touched.changed.as_slice(),
-        [block_of("1073741825", "1002", "7")?].as_slice()
-    );
+    ]
+}
+
+fn a_block_is_left_out(
+    rt: &impl Abort,
+    alloc: Global,
+    namespace: &mut Namespace,
+) -> Result<(), Fail> {
+    let second = id_of("1073741826")?;
+    let kept = block_of("1073741825", "1002", "7")?;
+    let touched = apply(namespace, alloc, "update /f 1073741825 1002 7")?;
+    assert_eq!(rt; touched.changed.as_slice(), [kept].as_slice());
     assert_eq!(rt; touched.retired.as_slice(), [second].as_slice());
     assert_eq!(rt; namespace.status(second), Status::Retired);
+    Ok(())
+}
+
+fn the_other_block_is_kept(
+    rt: &impl Abort,
+    alloc: Global,
+    namespace: &mut Namespace,
+) -> Result<(), Fail> {
+    let first = id_of("1073741825")?;
+    let kept = block_of("1073741825", "1002", "7")?;
     let Some(row) = namespace.block(first) else {
         return Err(Fail::from("no block"));
     };
-    assert_eq!(rt; row.block, block_of("1073741825", "1002", "7")?);
+    assert_eq!(rt; row.block, kept);
     assert!(rt; !row.closed);
-    apply(&mut namespace, rt.alloc(), "close /f 1073741825 1002 9")?;
+    apply_all(namespace, alloc, &["close /f 1073741825 1002 9"])?;
     assert!(rt; namespace.block(first).is_some_and(|row| row.closed));
     Ok(())
 }
@@ -164,7 +259,13 @@ fn left_out_block_is_retired(rt: HostRuntime) -> Result<(), Fail> {
 #[test]
 fn look_ups_and_a_delete(rt: HostRuntime) -> Result<(), Fail> {
     let mut namespace = Namespace::new(rt.alloc());
-    for words in [
+    apply_all(&mut namespace, rt.alloc(), &two_files())?;
+    look_ups(&rt, rt.alloc(), &namespace)?;
+    a_delete(&rt, rt.alloc(), &mut namespace)
+}
+
+fn two_files() -> [&'static str; 8] {
+    [
         "mkdir /d",
         "add /d/b 2",
         "add /d/a 1",
@@ -173,31 +274,27 @@ fn look_ups_and_a_delete(rt: HostRuntime) -> Result<(), Fail> {
         "block /d/b 1073741825 1001",
         "allocate 1073741826",
         "block /d/a 1073741826 1001",
-    ] {
-        apply(&mut namespace, rt.alloc(), words)?;
-    }
-    assert!(rt;
-        matches!(
-            namespace.lookup(&Path::parse(rt.alloc(), "/d")?),
-            Some(Found::Dir)
-        )
-    );
-    let path = Path::parse(rt.alloc(), "/d/b")?;
+    ]
+}
+
+fn look_ups(rt: &impl Abort, alloc: Global, namespace: &Namespace) -> Result<(), Fail> {
+    let directory = Path::parse(alloc, "/d")?;
+    assert!(rt; matches!(namespace.lookup(&directory), Some(Found::Dir)));
+    let below = Path::parse(alloc, "/d/b/c")?;
+    assert!(rt; namespace.lookup(&below).is_none());
+    let path = Path::parse(alloc, "/d/b")?;
     let Some(Found::File(file)) = namespace.lookup(&path) else {
         return Err(Fail::from("no file"));
     };
     assert_eq!(rt; file.replication, replication_of("2")?);
-    assert!(rt;
-        namespace
-            .lookup(&Path::parse(rt.alloc(), "/d/b/c")?)
-            .is_none()
-    );
-    let touched = apply(&mut namespace, rt.alloc(), "delete /d")?;
-    assert_eq!(rt;
-        touched.retired.as_slice(),
-        [id_of("1073741825")?, id_of("1073741826")?].as_slice()
-    );
-    let text = listing(rt.alloc(), &namespace)?;
+    Ok(())
+}
+
+fn a_delete(rt: &impl Abort, alloc: Global, namespace: &mut Namespace) -> Result<(), Fail> {
+    let retired = [id_of("1073741825")?, id_of("1073741826")?];
+    let touched = apply(namespace, alloc, "delete /d")?;
+    assert_eq!(rt; touched.retired.as_slice(), retired.as_slice());
+    let text = listing(alloc, namespace)?;
     assert_eq!(rt; text.as_str(), "/");
     Ok(())
 }
@@ -219,13 +316,36 @@ fn apply(namespace: &mut Namespace, alloc: Global, words: &str) -> Result<Touche
     Ok(namespace.apply(&edit)?)
 }
 
-fn fault(namespace: &mut Namespace, alloc: Global, words: &str) -> Result<u8, Fail> {
-    let edit = edit_of(alloc, words)?;
-    Ok(
-        namespace
-            .apply(&edit)
-            .map_or_else(|fault| fault.number(), |_touched| 0),
-    )
+// Asks for the fault of each edit, applies it, and compares both numbers with the one that is wanted.
+fn answers(
+    rt: &impl Abort,
+    alloc: Global,
+    namespace: &mut Namespace,
+    steps: &[Step],
+) -> Result<(), Fail> {
+    for (words, number) in steps {
+        let edit = edit_of(alloc, words)?;
+        let refused = namespace.refusal(&edit);
+        let refused = refused.map_or(0, |fault| fault.number());
+        assert_eq!(rt; refused, *number, "before {words}");
+        let done = number_of(namespace, &edit);
+        assert_eq!(rt; done, *number, "at {words}");
+    }
+    Ok(())
+}
+
+fn apply_all(namespace: &mut Namespace, alloc: Global, steps: &[&str]) -> Result<(), Fail> {
+    for words in steps {
+        apply(namespace, alloc, words)?;
+    }
+    Ok(())
+}
+
+// Applies an edit, and gives the number of its fault, or 0.
+fn number_of(namespace: &mut Namespace, edit: &Edit) -> u8 {
+    namespace
+        .apply(edit)
+        .map_or_else(|fault| fault.number(), |_touched| 0)
 }
 
 fn edit_of(alloc: Global, line: &str) -> Result<Edit, Fail> {

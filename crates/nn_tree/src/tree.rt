@@ -1,19 +1,21 @@
 //! A directory tree, seen as the list of its paths with what stands there. It knows no ids and no index.
-ghost use Rattle.std.specs.Prelude.{◌≡◌, [], ◌∷◌, ◌++◌, OnOk, OnErr, ◌<◌, length, IsSome, is_some, Some, None, true, MatchResult, IfOk};
+ghost use Rattle.std.specs.Prelude.{◌≡◌, [], ◌∷◌, ◌++◌, OnOk, OnErr, ◌+◌, ◌<◌, length, IsSome, is_some, Some, None, true, MatchResult, IfOk};
 ghost use Rattle.nn_tree.specs.Walks.{is_file, file_fault, walk_fault, mkdir_fault, delete_fault, rename_fault, starts_with, IsRenamed};
 ghost use Rattle.std.specs.String.{string_bytes};
 ghost use Rattle.std.specs.Option.{option_copied};
 ghost use Rattle.nn_model.specs.declared.form.Form.TheVariants.{Dir, File};
 ghost use Rattle.nn_tree.specs.Ids.{ids_of};
+ghost use Rattle.nn_tree.specs.Extent.{capped, path_bytes, bytes_below, block_count};
 ghost use Rattle.nn_tree.specs.Flat.{under_all};
-ghost use Rattle.nn_tree.specs.Listing.{rows_of};
+ghost use Rattle.std.specs.List.{fold};
+ghost use Rattle.nn_tree.specs.Listing.{lent_names};
 ghost use Rattle.nn_tree.specs.Found.{form_of};
 ghost use Rattle.std.specs.FinMap.Entries.{is_sorted};
 ghost use Rattle.nn_model.specs.Namespace.{path_cmp};
 ghost use Rattle.nn_tree.specs.At.{at, names_of, IsSubtree, IsGrafted, IsSame};
 
 use crate::found::Found;
-use crate::listing::{PathRow, push_dir, push_file};
+use crate::listing::{Extent, RowSink};
 use crate::touched::push_ids;
 use nn_model::{EditFault, FileRow};
 use nn_types::BlockId;
@@ -299,29 +301,45 @@ impl Tree {
         Ok(())
     }
 
-    /// Adds the rows of the tree in path order, where these names lead to it.
-    pub(crate) fn list(
-        &self,
-        alloc: Global,
-        names: &mut Vec<String>,
-        out: &mut Vec<PathRow>,
+    /// Hands the rows of the tree to the sink in path order, where these names lead to it.
+    pub(crate) fn list_to<'a, S: RowSink>(
+        &'a self,
+        names: &mut Vec<&'a str>,
+        sink: &mut S,
     ) -> Result<(), AllocError>
-        ensures rows { OnOk result (rows_of out.new.items ≡ rows_of out.old.items ++ under_all (names_of names.old.items) self.now) }
-        ensures names { OnOk result (names_of names.new.items ≡ names_of names.old.items) }
+        ensures rows { OnOk result (sink.new ≡ fold S.taking sink.old (under_all (lent_names names.old.items) self.now)) }
+        ensures names { OnOk result (lent_names names.new.items ≡ lent_names names.old.items) }
         ensures sorted { OnOk result (is_sorted path_cmp self.now ≡ true) }
     {
-        let children = match &self.node {
-            Node::Leaf(file) => return push_file(alloc, names, file, out),
-            Node::Folder(children) => children,
+        sink.row(names, self.top())?;
+        let Node::Folder(children) = &self.node else {
+            return Ok(());
         };
-        push_dir(alloc, names, out)?;
         for (name, child) in children.iter() {
-            let depth = names.len();
-            names.push(String::from_str(alloc, name.as_str())?)?;
-            child.list(alloc, names, out)?;
-            names.truncate(depth);
+            names.push(name.as_str())?;
+            child.list_to(names, sink)?;
+            names.pop();
         }
         Ok(())
+    }
+
+    /// Counts the rows of the tree, where the text of its own path has these bytes, and the root's none.
+    pub(crate) fn measure(&self, bytes: usize, extent: &mut Extent)
+        ensures paths { extent.new.paths ≡ capped (extent.old.paths + length self.now) }
+        ensures path_bytes { extent.new.path_bytes ≡ capped (extent.old.path_bytes + bytes_below bytes self.now) }
+        ensures blocks { extent.new.blocks ≡ capped (extent.old.blocks + block_count self.now) }
+        ensures root { path_bytes self.now ≡ 1 + bytes_below 0 self.now }
+        ensures sorted { is_sorted path_cmp self.now ≡ true }
+    {
+        let children = match &self.node {
+            Node::Leaf(file) => return extent.add(bytes, file.blocks.as_slice().len()),
+            Node::Folder(children) => children,
+        };
+        extent.add(bytes, 0);
+        for (name, below) in children.iter() {
+            let bytes = bytes.saturating_add(1).saturating_add(name.len());
+            below.measure(bytes, extent);
+        }
     }
 
     /// Appends the ids of the blocks in the tree, in path order.

@@ -62,7 +62,15 @@ pub const GONE: u8 = 46;
 /// A source of segments failed.
 pub const SOURCE_FAILED: u8 = 47;
 
+/// The standby was stopped by an edit that does not apply.
+pub const STOPPED: u8 = 51;
+/// The standby is active.
+pub const ALREADY_ACTIVE: u8 = 53;
 /// Memory was refused.
 pub const MEMORY: u8 = 55;
+/// There is no such DataNode.
+pub const BAD_LANE: u8 = 56;
 /// A transaction is not the next one.
 pub const DISORDER: u8 = 57;
+/// A message is not the next one of its DataNode.
+pub const WRONG_NUMBER: u8 = 58;

@@ -1,13 +1,6 @@
-use Rattle.std.proofs.Common.{◌++◌, ap, sym, ◌∙◌}
-use Rattle.nn_tree.specs.At.{names_of}
-use Rattle.nn_tree.specs.Flat.{under_all}
-use Rattle.nn_tree.specs.Listing.{rows_of}
-use Rattle.nn_tree.proofs.Listings.{in_order_already}
+use Rattle.std.proofs.Common.{◌∙◌}
+use Rattle.nn_tree.proofs.Listings.{all_pushed}
 use Rattle.nn_tree.proofs.namespace.Namespace.list.Goals as goal
 
 pub returns : goal.returns
-returns c =
-    let i = c.self.inside in
-    c.in_ok-list.ensures.rows
-    ∙ (λ j. rows_of (c.new-rows.ensures.items j) ++ under_all (names_of (c.new-names.ensures.items j)) i.root)
-    ∙ sym (in_order_already i.root c.in_ok-list.ensures.sorted) ∙ ap (λ n. n.rows) c.self.view_is
+returns c = c.into_rows.ensures ∙ all_pushed c.new-copies.result c.list_to.new.sink c.args.self.now.rows c.new-copies.ensures c.in_ok-list_to.ensures

@@ -1,0 +1,50 @@
+//! The rows of all blocks that files hold, one block after another.
+ghost use Rattle.std.specs.Prelude.{◌≡◌};
+ghost use Rattle.std.specs.Iterator.{YieldsFirst, item_count};
+ghost use Rattle.nn_replicas.specs.Entry.{rows_in};
+
+use crate::entry::{Entry, Row};
+use nn_types::BlockId;
+use std::collections::btree_map::Iter;
+use std::marker::Model;
+
+/// The rows of the blocks that files hold, each with its block id, by ascending block id.
+#[derive(Drop)]
+pub struct Rows<'a> {
+    entries: Iter<'a, BlockId, Entry>,
+}
+
+impl<'a> Model for Rows<'a> {
+    ghost use Rattle.std.specs.Prelude.{ℕ, List};
+    ghost use Rattle.nn_replicas.specs.declared.entry.Row.{Row};
+    ghost use Rattle.nn_replicas.specs.Entry.{rows_in};
+
+    ghost Value = { List (ℕ × Row) };
+
+    ghost view = { λ s. rows_in s.entries };
+}
+
+impl<'a> Rows<'a> {
+    pub(crate) fn new(entries: Iter<'a, BlockId, Entry>) -> Rows<'a>
+        ensures { result ≡ rows_in entries.entry }
+    {
+        Rows { entries }
+    }
+}
+
+impl<'a> Iterator for Rows<'a> {
+    type Item = (BlockId, Row);
+
+    ghost next_gives = { YieldsFirst (λ s. s) };
+
+    ghost remaining = { item_count (λ s. s) };
+
+    fn next(&mut self) -> Option<(BlockId, Row)> {
+        while let Some((block, entry)) = self.entries.next() {
+            if let Some(row) = entry.row() {
+                return Some((*block, row));
+            }
+        }
+        None
+    }
+}

@@ -1,0 +1,79 @@
+use Rattle.std.proofs.Common.{◌≡◌, ◌∷◌, [], ◌++◌, None, ap, subst, sym, ◌∙◌}
+use Rattle.nn_types.specs.declared.event.Event.TheVariants.{Applied}
+use Rattle.nn_shadow.specs.contracts.shadow.Shadow.{the_view}
+use Rattle.nn_replicas.specs.Calls.{is_placed}
+use Rattle.nn_shadow.specs.Calls.{is_due_in, applied_to}
+use Rattle.nn_shadow.specs.Contents.{Contents, standby_of, Becomes}
+use Rattle.nn_shadow.specs.Refusals.{apply_refusal}
+use Rattle.nn_shadow.proofs.Consistent.{Leaves, edit_applied, edit_failed, edit_room}
+use Rattle.nn_model.specs.Namespace.{Namespace}
+use Rattle.nn_model.specs.Apply.{effect}
+use Rattle.nn_model.specs.Touched.{Touched}
+use Rattle.nn_tree.specs.Touched.{shown}
+use Rattle.nn_shadow.specs.Touching.{IsQuiet}
+use Rattle.nn_shadow.proofs.Quiet.{begins_quiet}
+use Rattle.nn_shadow.proofs.Refusing.{no_refusal_applies}
+use Rattle.nn_shadow.proofs.shadow.Shadow.apply_next.Goals as goal
+
+failed : (c : goal.In_default-change) → Leaves (the_view c.self.inside) (standby_of (the_view c.self.inside))
+    (record (the_view c.self.inside) { namespace = c.change.new.namespace; history = c.reserve.new.self.items; table = c.change.new.table })
+failed c =
+    edit_failed (the_view c.self.inside) c.args.tx.now c.change.new.namespace c.reserve.new.self.items c.change.new.table c.self.invariant
+    (subst (λ (x : Contents). apply_refusal x.phase (standby_of x) c.args.tx.now ≡ None) (sym c.self.view_is) c.requires)
+    c.in_default-change.ensures.kept c.in-Ok.ensures.items c.in_default-change.ensures.undone
+
+pub invariant_of-self-in_default-change : goal.invariant_of-self-in_default-change
+invariant_of-self-in_default-change c = (failed c).consistent
+
+pub returns-in_default-change-clause-err : goal.returns-in_default-change-clause-err
+returns-in_default-change-clause-err c =
+    subst (λ (x : Contents). Becomes x (standby_of x)
+    (record (the_view c.self.inside) { namespace = c.change.new.namespace; history = c.reserve.new.self.items; table = c.change.new.table }))
+    c.self.view_is (failed c).becomes
+
+pub settle-requires-clause-placed : goal.settle-requires-clause-placed
+settle-requires-clause-placed c =
+    let x = the_view c.self.inside in
+    let fits = subst (λ (y : Contents). apply_refusal y.phase (standby_of y) c.args.tx.now ≡ None) (sym c.self.view_is) c.requires in
+    λ m here. ap (λ t. is_placed t m.dn m.block) c.in-Ok-change.ensures.table
+    ∙ edit_room x c.args.tx.now c.self.invariant c.in-Ok-change.ensures.lawful (no_refusal_applies x.phase (standby_of x) c.args.tx.now fits).1 m here
+
+made : (c : goal.After-drop-touched-3) → Leaves (the_view c.self.inside) (applied_to (standby_of (the_view c.self.inside)) c.args.tx.now)
+    (record (the_view c.self.inside) {
+      namespace = c.change.new.namespace;
+      last = c.get-self-inside.result;
+      history = c.settle.new.history.items;
+      table = c.settle.new.table;
+      held = c.settle.new.held;
+    })
+made c =
+    edit_applied (the_view c.self.inside) c.args.tx.now c.change.new.namespace c.get-self-inside.result c.push.new.self.items
+    c.settle.new.history.items c.change.new.table c.settle.new.table c.settle.new.held c.self.invariant c.in-Ok-change.ensures.lawful
+    (subst (λ (x : Contents). apply_refusal x.phase (standby_of x) c.args.tx.now ≡ None) (sym c.self.view_is) c.requires)
+    c.get-self-inside.ensures.limit c.in-Ok-change.ensures.namespace c.get-self-inside.ensures.value
+    (c.in-Ok-push.ensures.items ∙ ap (λ h. h ++ Applied c.args.tx.now.txid ∷ []) c.in-Ok.ensures.items)
+    c.in-Ok-change.ensures.table c.settle.ensures.told c.settle.ensures.left c.settle.ensures.table
+
+pub invariant_of-self-2 : goal.invariant_of-self-2
+invariant_of-self-2 c = (made c).consistent
+
+pub returns-clause-ok : goal.returns-clause-ok
+returns-clause-ok c =
+    subst (λ (x : Contents). Becomes x (applied_to (standby_of x) c.args.tx.now)
+    (record (the_view c.self.inside) {
+      namespace = c.change.new.namespace;
+      last = c.get-self-inside.result;
+      history = c.settle.new.history.items;
+      table = c.settle.new.table;
+      held = c.settle.new.held;
+    }))
+    c.self.view_is (made c).becomes
+
+pub settle-requires-clause-quiet : goal.settle-requires-clause-quiet
+settle-requires-clause-quiet c =
+    let x = the_view c.self.inside in
+    let fits = subst (λ (y : Contents). apply_refusal y.phase (standby_of y) c.args.tx.now ≡ None) (sym c.self.view_is) c.requires in
+    subst (λ (n : Namespace). IsQuiet (shown c.in-Ok-change.touched) (is_due_in n) x.held) (sym c.in-Ok-change.ensures.namespace)
+    (subst (λ (t : Touched). IsQuiet t (is_due_in (effect x.namespace c.args.tx.now.edit)) x.held) (sym c.in-Ok-change.ensures.touched)
+    (begins_quiet x.namespace c.args.tx.now.edit x.held c.in-Ok-change.ensures.lawful (no_refusal_applies x.phase (standby_of x) c.args.tx.now fits).1
+    c.self.invariant.well_formed c.self.invariant.settled))

@@ -1,0 +1,119 @@
+//! Held messages are taken up. None of these takes memory: the history has room, and each message has its room
+//! in the table.
+ghost use Rattle.std.specs.Prelude.{◌≡◌, ◌+◌, ◌≤◌, ◌++◌, [], Bool, false, length, map, None, vec_len, vec_capacity};
+ghost use Rattle.std.specs.List.{list_any};
+ghost use Rattle.nn_types.specs.declared.report.Message.{Message};
+ghost use Rattle.nn_types.specs.declared.event.Cause.TheVariants.{Due, Flush};
+ghost use Rattle.nn_model.specs.History.{processed};
+ghost use Rattle.nn_model.specs.Stands.{AreByBlock};
+ghost use Rattle.nn_postponed.specs.Release.{due_at, first_free, freed, kept};
+ghost use Rattle.nn_shadow.specs.Calls.{is_due_in};
+ghost use Rattle.nn_shadow.specs.Rounds.{TakesBlock, FillsBlock, LeavesOthers};
+ghost use Rattle.nn_shadow.specs.Touching.{IsQuiet};
+ghost use Rattle.nn_tree.specs.Touched.{shown};
+ghost use Rattle.nn_shadow.specs.Steps.{messages_taken, HavePlaces};
+
+use crate::table::process;
+use crate::touching::next_touched;
+use nn_postponed::Postponed;
+use nn_replicas::Replicas;
+use nn_tree::{Namespace, Touched};
+use nn_types::{BlockId, Cause, Event, Message, Status};
+
+/// Processes the held messages that are free, by ascending block id and then in the order of arrival, where they
+/// are free only about blocks that an edit touched.
+///
+/// It leaps from a block that the edit touched to the next one that messages are held about, and back: where t
+/// blocks were touched and h messages are held about b blocks, it takes O((t + h) · min(t, b)), and no time where
+/// nothing is held or nothing was touched.
+pub(crate) fn settle(
+    namespace: &Namespace,
+    touched: &Touched,
+    history: &mut Vec<Event>,
+    held: &mut Postponed,
+    table: &mut Replicas,
+)
+    requires room { vec_len history.old + length held.old ≤ vec_capacity history.old }
+    requires placed { HavePlaces table.old held.old }
+    requires order { AreByBlock held.old }
+    requires quiet { IsQuiet (shown touched.now) (is_due_in namespace.now) held.old }
+    ensures told { history.new.items ≡ history.old.items ++ map (processed Due) (freed (is_due_in namespace.now) [] held.old) }
+    ensures left { held.new ≡ kept (is_due_in namespace.now) [] held.old }
+    ensures table { table.new ≡ messages_taken table.old (freed (is_due_in namespace.now) [] held.old) }
+{
+    let Some(mut from) = BlockId::new(0) else {
+        return;
+    };
+    if held.is_empty() {
+        return;
+    }
+    while let Some(block) = next_touched(touched, held, from) {
+        let Some(least) = held.next_held(block) else {
+            return;
+        };
+        if block < least {
+            from = least;
+            continue;
+        }
+        let status = namespace.status(block);
+        settle_block(block, &status, history, held, table);
+        let Some(next) = BlockId::new(block.get() + 1) else {
+            return;
+        };
+        from = next;
+    }
+}
+
+// Processes the messages about the block that are free.
+fn settle_block(
+    block: BlockId,
+    status: &Status,
+    history: &mut Vec<Event>,
+    held: &mut Postponed,
+    table: &mut Replicas,
+)
+    requires room { vec_len history.old + length held.old ≤ vec_capacity history.old }
+    requires placed { HavePlaces table.old held.old }
+    ensures done { first_free (due_at block status.now) [] held.new ≡ None }
+    ensures takes { TakesBlock block status.now history.old.items held.old history.new.items held.new }
+    ensures fills { FillsBlock block status.now table.old held.old table.new held.new }
+    ensures fewer { (p : Message → Bool) → list_any p held.old ≡ false → list_any p held.new ≡ false }
+    ensures others { LeavesOthers block held.old held.new }
+    ensures room { vec_len history.new + length held.new ≤ vec_capacity history.new }
+    ensures placed { HavePlaces table.new held.new }
+{
+    while let Some(m) = held.release(block, *status) {
+        let Ok(()) = history.push(processed(&m, Cause::Due)) else {
+            return;
+        };
+        process(table, &m);
+    }
+}
+
+/// Processes all that is held, by ascending block id and then in the order of arrival.
+pub(crate) fn empty(history: &mut Vec<Event>, held: &mut Postponed, table: &mut Replicas)
+    requires room { vec_len history.old + length held.old ≤ vec_capacity history.old }
+    requires placed { HavePlaces table.old held.old }
+    ensures told { history.new.items ≡ history.old.items ++ map (processed Flush) held.old }
+    ensures left { held.new ≡ [] }
+    ensures table { table.new ≡ messages_taken table.old held.old }
+{
+    while let Some(m) = held.take_first() {
+        let Ok(()) = history.push(processed(&m, Cause::Flush)) else {
+            return;
+        };
+        process(table, &m);
+    }
+}
+
+/// The event of a message that is processed.
+pub(crate) fn processed(m: &Message, cause: Cause) -> Event
+    ensures { result ≡ processed cause m.now }
+{
+    Event::Processed {
+        dn: m.dn,
+        number: m.number,
+        block: m.block,
+        cause,
+    }
+}

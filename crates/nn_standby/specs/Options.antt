@@ -1,0 +1,28 @@
+-- The command line, and what its words ask for.
+use Rattle.std.specs.Prelude.{◌≡◌, ℕ, pos, List, [], ◌∷◌, Option, Some, None, codes}
+use Rattle.std.specs.Str.Parse.{IsNumeral, digits_value, without_leading_plus}
+use Rattle.clap.specs.Words.{App, Rule, Text, matches_of, new_app, new_rule, one_of, with_rule}
+use Rattle.clap.specs.declared.builder.action.ArgAction.TheVariants.{Set}
+use Rattle.clap.specs.declared.builder.value_parser.ValueParser.{ValueParser}
+use Rattle.clap.specs.declared.builder.value_parser.ValueParser.TheVariants.{Signed}
+use Rattle.nn_types.specs.Settings.{Threshold}
+
+-- `--NAME VALUE`, and the value where the name is not there
+abbrev pub value_rule : Text → ValueParser → Text → Rule
+value_rule name parser default = record (new_rule name) { long = Some name; action = Some Set; defaults = default ∷ []; parser = Some parser }
+
+-- `--permille` with a number from 0 to 1000, and `--min` with one from 1 to 512
+unfoldable pub command_line : App
+command_line =
+    with_rule (with_rule (new_app (codes "nn_standby")) (value_rule (codes "permille") (Signed (pos 0) (pos 1000)) (codes "999")))
+    (value_rule (codes "min") (Signed (pos 1) (pos 512)) (codes "1"))
+
+-- the text is there, and reads as this number
+abbrev pub ReadsAs : Option Text → ℕ → Type 0
+ReadsAs None n = ⊥
+ReadsAs (Some text) n = IsNumeral 10 (without_leading_plus text) × (digits_value 10 (without_leading_plus text) ≡ n)
+
+-- the words ask for these settings: the numbers that stand behind the two names, or their defaults
+pub record AskFor (words : List Text) (settings : Threshold) : Type 0 where
+  pub permille : ReadsAs (one_of (codes "permille") (matches_of command_line words)) settings.permille
+  pub min : ReadsAs (one_of (codes "min") (matches_of command_line words)) settings.min

@@ -1,0 +1,110 @@
+//! What the command line asks for.
+ghost use Rattle.std.specs.Prelude.{◌≡◌, ℕ, false, IfOk, Some, codes, map, string_bytes};
+ghost use Rattle.clap.specs.Words.{app_of, found_of, one_text, rule_of};
+ghost use Rattle.nn_standby.specs.Options.{value_rule, command_line, ReadsAs, AskFor};
+
+#[cfg(test)]
+mod tests;
+
+use clap::builder::ValueParser;
+use clap::error::ErrorKind;
+use clap::{Arg, ArgAction, ArgMatches, Command, Error, value_parser};
+use nn_types::Settings;
+use std::alloc::{AllocError, Global};
+use std::env;
+
+const ABOUT: &str =
+    "Reads a scenario of edit lines and messages, one JSON object a line, from standard input, and \
+prints the namespace that it leaves, the replicas and orders, and the counts of safe mode.";
+
+const PERMILLE: &str =
+    "How many blocks of each thousand have to be safe before safe mode ends, 0 to 1000.";
+
+const MIN: &str = "How many live replicas make a block safe, 1 to 512.";
+
+/// What the command line asks for.
+#[derive(Clone, Copy, Debug, PartialEq, Eq)]
+pub struct Options {
+    /// When safe mode ends.
+    pub settings: Settings,
+}
+
+/// The options of the command line that the program was started with.
+///
+/// Where the words are refused, or ask for help, the error has the text to print, and says on which stream and with
+/// which status: 2, and 0 for help.
+pub fn read(rt: &HostRuntime) -> Result<Options, Error> {
+    let Ok(words) = env::args(rt) else {
+        return Err(Error::from(AllocError));
+    };
+    let words: Vec<String> = words.collect(rt.alloc())?;
+    parse(rt.alloc(), words.as_slice())
+}
+
+/// The options that words ask for, of which the first is the program's name.
+pub fn parse<'a>(alloc: Global, words: &'a [String]) -> Result<Options, Error>
+    ensures { IfOk result (λ options. AskFor (map string_bytes words.entry.now) options.settings) }
+{
+    let matches = command(alloc)?.try_get_matches_from(words)?;
+    match matched(&matches) {
+        Some(options) => Ok(options),
+        // The parsers of the two arguments refuse such words before.
+        None => Err(command(alloc)?.error(ErrorKind::InvalidValue, "a number is out of range")?),
+    }
+}
+
+// `--permille N` and `--min N`.
+fn command<'a>(alloc: Global) -> Result<Command<'a>, Error>
+    ensures { IfOk result (λ command. app_of command ≡ command_line) }
+{
+    let permille = value_parser!(u16).range(0..=1000);
+    let min = value_parser!(u16).range(1..=512);
+    let command = Command::new(alloc, "nn_standby")
+        .about(ABOUT)
+        .arg(valued(alloc, "permille", permille, "999", PERMILLE))?
+        .arg(valued(alloc, "min", min, "1", MIN))?;
+    Ok(command)
+}
+
+// `--NAME VALUE`.
+fn valued<'a>(
+    alloc: Global,
+    name: &'a str,
+    parser: ValueParser<'a>,
+    default: &'a str,
+    help: &'a str,
+) -> Arg<'a>
+    ensures rule { rule_of result ≡ value_rule name.entry.now parser.entry default.entry.now }
+    ensures own { result.global ≡ false }
+{
+    Arg::new(alloc, name)
+        .long(name)
+        .action(ArgAction::Set)
+        .value_parser(parser)
+        .default_value(default)
+        .help(help)
+}
+
+// The options that were matched, where they are two numbers in range.
+fn matched(matches: &ArgMatches<'_>) -> Option<Options>
+    ensures permille { (options : _) → result ≡ Some options → ReadsAs (one_text (found_of matches.now) (codes "permille")) options.settings.permille }
+    ensures min { (options : _) → result ≡ Some options → ReadsAs (one_text (found_of matches.now) (codes "min")) options.settings.min }
+{
+    let Some(permille) = number(matches, "permille") else {
+        return None;
+    };
+    let Some(min) = number(matches, "min") else {
+        return None;
+    };
+    let Some(settings) = Settings::new(permille, min) else {
+        return None;
+    };
+    Some(Options { settings })
+}
+
+// The number that was matched under the name.
+fn number(matches: &ArgMatches<'_>, name: &str) -> Option<u16>
+    ensures { (n : ℕ) → result ≡ Some n → ReadsAs (one_text (found_of matches.now) name.now) n }
+{
+    matches.get_one::<u16>(name)
+}

@@ -1,5 +1,5 @@
 -- An entry after one of its cells was written, or a new one inserted.
-use Rattle.std.proofs.Common.{◌≡◌, ℕ, ◌<◌, ◌≤◌, ◌+◌, Bool, true, false, cond, List, [], ◌∷◌, ◌++◌, map, take, drop, length, get_or, set, Option, None, is_some, refl, sym, ap, subst, ◌∙◌, nat_cmp, nat_eq}
+use Rattle.std.proofs.Common.{◌≡◌, ℕ, ◌<◌, ◌≤◌, ◌+◌, Bool, true, false, cond, List, [], ◌∷◌, ◌++◌, map, take, drop, length, get_or, set, Option, is_some, refl, sym, ap, subst, ◌∙◌, nat_cmp, nat_eq}
 use Rattle.std.specs.Prelude.{unwrap_or, ◌&&◌}
 use Rattle.std.specs.List.{insert, refill}
 use Rattle.std.proofs.Math.Seq.{take-append_seam}
@@ -24,13 +24,13 @@ entry row xs = record { row = row; cells = xs }
 
 -- ---- the cells stay in order
 
-pub sorted_here : (dn k : ℕ) (w : Cell) (x : ℕ × Cell) (xs : Cells) → is_sorted nat_cmp xs ≡ true → k ≡ place dn xs → is_here dn xs ≡ true → x ≡ get_or xs k x → is_sorted nat_cmp (set xs k (x.0, w)) ≡ true
-sorted_here dn k w x xs s p h g =
-    ap (λ y. is_sorted nat_cmp (set xs k (y.0, w))) g ∙ ap (λ j. is_sorted nat_cmp (set xs j ((get_or xs j x).0, w))) p ∙ ap (is_sorted nat_cmp) (sym (put_here dn w xs x h)) ∙ put_sorted dn w xs s
+pub sorted_here : (dn k : ℕ) (w : Cell) (x z : ℕ × Cell) (xs : Cells) → is_sorted nat_cmp xs ≡ true → k ≡ place dn xs → is_here dn xs ≡ true → x ≡ get_or xs k x → z ≡ (x.0, w) → is_sorted nat_cmp (set xs k z) ≡ true
+sorted_here dn k w x z xs s p h g m =
+    ap (λ y. is_sorted nat_cmp (set xs k y)) m ∙ ap (λ y. is_sorted nat_cmp (set xs k (y.0, w))) g ∙ ap (λ j. is_sorted nat_cmp (set xs j ((get_or xs j x).0, w))) p ∙ ap (is_sorted nat_cmp) (sym (put_here dn w xs x h)) ∙ put_sorted dn w xs s
 
-pub sorted_new : (dn k : ℕ) (w : Cell) (xs fs : Cells) → is_sorted nat_cmp xs ≡ true → k ≡ place dn xs → is_here dn xs ≡ false → fs ≡ insert xs k (dn, w) → is_sorted nat_cmp fs ≡ true
-sorted_new dn k w xs fs s p h f =
-    ap (is_sorted nat_cmp) f ∙ ap (λ j. is_sorted nat_cmp (insert xs j (dn, w))) p ∙ ap (is_sorted nat_cmp) (sym (put_new dn w xs h)) ∙ put_sorted dn w xs s
+pub sorted_new : (dn k : ℕ) (w : Cell) (z : ℕ × Cell) (xs fs : Cells) → is_sorted nat_cmp xs ≡ true → k ≡ place dn xs → is_here dn xs ≡ false → fs ≡ insert xs k z → z ≡ (dn, w) → is_sorted nat_cmp fs ≡ true
+sorted_new dn k w z xs fs s p h f m =
+    ap (is_sorted nat_cmp) f ∙ ap (λ y. is_sorted nat_cmp (insert xs k y)) m ∙ ap (λ j. is_sorted nat_cmp (insert xs j (dn, w))) p ∙ ap (is_sorted nat_cmp) (sym (put_new dn w xs h)) ∙ put_sorted dn w xs s
 
 below_retired : (k : ℕ) (xs : Cells) → below_all nat_cmp k (map (λ c. (c.0, cell_retired c.1)) xs) ≡ below_all nat_cmp k xs
 below_retired k [] = refl
@@ -43,21 +43,23 @@ sorted_retired (x ∷ xs) = ap (λ b. b && is_sorted nat_cmp (map (λ c. (c.0, c
 -- ---- a cell that stands is written
 
 -- what f makes of the DataNode's cell
-pub wrote_here : (e : BlockEntry) (row : Option Row) (xs : Cells) (dn k : ℕ) (named : Bool) (x : ℕ × Cell) (w : Cell) (f : Bool → Cell → Cell)
-    → entry row xs ≡ e → k ≡ place dn xs → is_here dn xs ≡ true → x ≡ get_or xs k x → named ≡ is_some row → w ≡ f named x.1
-    → entry row (set xs k (x.0, w)) ≡ with_cell e dn (f (is_some e.row) (cell_of e dn))
-wrote_here e row xs dn k named x w f v p h g n m =
+pub wrote_here : (e : BlockEntry) (row : Option Row) (xs : Cells) (dn k : ℕ) (named : Bool) (x z : ℕ × Cell) (f : Bool → Cell → Cell)
+    → entry row xs ≡ e → k ≡ place dn xs → is_here dn xs ≡ true → x ≡ get_or xs k x → named ≡ is_some row → z ≡ (x.0, f named x.1)
+    → entry row (set xs k z) ≡ with_cell e dn (f (is_some e.row) (cell_of e dn))
+wrote_here e row xs dn k named x z f v p h g n m =
+    let w = f named x.1 in
     let cell : w ≡ f (is_some row) (unwrap_or (find nat_cmp dn xs) no_cell) =
-    m ∙ ap (λ b. f b x.1) n ∙ ap (λ (y : ℕ × Cell). f (is_some row) y.1) g ∙ ap (λ j. f (is_some row) (get_or xs j x).1) p ∙ ap (λ o. f (is_some row) (unwrap_or o no_cell)) (sym (find_here dn xs x h)) in
-    ap (λ y. entry row (set xs k (y.0, w))) g ∙ ap (λ j. entry row (set xs j ((get_or xs j x).0, w))) p ∙ ap (entry row) (sym (put_here dn w xs x h))
+    ap (λ b. f b x.1) n ∙ ap (λ (y : ℕ × Cell). f (is_some row) y.1) g ∙ ap (λ j. f (is_some row) (get_or xs j x).1) p ∙ ap (λ o. f (is_some row) (unwrap_or o no_cell)) (sym (find_here dn xs x h)) in
+    ap (λ y. entry row (set xs k y)) m ∙ ap (λ y. entry row (set xs k (y.0, w))) g ∙ ap (λ j. entry row (set xs j ((get_or xs j x).0, w))) p ∙ ap (entry row) (sym (put_here dn w xs x h))
     ∙ ap (λ c. entry row (put nat_cmp dn c xs)) cell ∙ ap (λ y. with_cell y dn (f (is_some y.row) (cell_of y dn))) v
 
-pub wrote_new : (e : BlockEntry) (row : Option Row) (xs fs : Cells) (dn k : ℕ) (named : Bool) (w : Cell) (f : Bool → Cell → Cell)
-    → entry row xs ≡ e → is_sorted nat_cmp xs ≡ true → k ≡ place dn xs → is_here dn xs ≡ false → fs ≡ insert xs k (dn, w) → named ≡ is_some row → w ≡ f named no_cell
+pub wrote_new : (e : BlockEntry) (row : Option Row) (xs fs : Cells) (dn k : ℕ) (named : Bool) (z : ℕ × Cell) (f : Bool → Cell → Cell)
+    → entry row xs ≡ e → is_sorted nat_cmp xs ≡ true → k ≡ place dn xs → is_here dn xs ≡ false → fs ≡ insert xs k z → named ≡ is_some row → z ≡ (dn, f named no_cell)
     → entry row fs ≡ with_cell e dn (f (is_some e.row) (cell_of e dn))
-wrote_new e row xs fs dn k named w f v s p h g n m =
-    let cell : w ≡ f (is_some row) (unwrap_or (find nat_cmp dn xs) no_cell) = m ∙ ap (λ b. f b no_cell) n ∙ ap (λ o. f (is_some row) (unwrap_or o no_cell)) (sym (find_gone dn xs s h)) in
-    ap (entry row) g ∙ ap (λ j. entry row (insert xs j (dn, w))) p ∙ ap (entry row) (sym (put_new dn w xs h))
+wrote_new e row xs fs dn k named z f v s p h g n m =
+    let w = f named no_cell in
+    let cell : w ≡ f (is_some row) (unwrap_or (find nat_cmp dn xs) no_cell) = ap (λ b. f b no_cell) n ∙ ap (λ o. f (is_some row) (unwrap_or o no_cell)) (sym (find_gone dn xs s h)) in
+    ap (entry row) g ∙ ap (λ y. entry row (insert xs k y)) m ∙ ap (λ j. entry row (insert xs j (dn, w))) p ∙ ap (entry row) (sym (put_new dn w xs h))
     ∙ ap (λ c. entry row (put nat_cmp dn c xs)) cell ∙ ap (λ y. with_cell y dn (f (is_some y.row) (cell_of y dn))) v
 
 -- ---- whether there is a cell
@@ -82,13 +84,10 @@ erased_not e dn h = ap (λ b. cond b (with_cell e dn (cell_erased (is_some e.row
 
 -- ---- one more cell is retired
 
-pub retired_at : (xs ys : Cells) (i : ℕ) (x : ℕ × Cell) (w : Cell) → i < length xs → ys ≡ map (λ c. (c.0, cell_retired c.1)) (take i xs) ++ drop i xs → x ≡ get_or ys i x → w ≡ cell_retired (get_or ys i x).1
-    → set ys i ((get_or ys i x).0, w) ≡ map (λ c. (c.0, cell_retired c.1)) (take (i + 1) xs) ++ drop (i + 1) xs
-retired_at xs ys i x w l h g m =
-    ap (λ v. set ys i ((get_or ys i x).0, v)) m ∙ ap (λ (y : ℕ × Cell). set ys i (y.0, cell_retired y.1)) (sym g) ∙ map_over_more (λ (c : ℕ × Cell). (c.0, cell_retired c.1)) xs ys i x l h g
-
-pub empty_cell : (c : Cell) → c.replica ≡ None → c.ordered ≡ false → c ≡ no_cell
-empty_cell c r o = λ i. record { replica = r i; ordered = o i }
+pub retired_at : (xs ys : Cells) (i : ℕ) (x z : ℕ × Cell) → i < length xs → ys ≡ map (λ c. (c.0, cell_retired c.1)) (take i xs) ++ drop i xs → x ≡ get_or ys i x
+    → z ≡ ((get_or ys i x).0, cell_retired (get_or ys i x).1) → set ys i z ≡ map (λ c. (c.0, cell_retired c.1)) (take (i + 1) xs) ++ drop (i + 1) xs
+retired_at xs ys i x z l h g m =
+    ap (set ys i) m ∙ ap (λ (y : ℕ × Cell). set ys i (y.0, cell_retired y.1)) (sym g) ∙ map_over_more (λ (c : ℕ × Cell). (c.0, cell_retired c.1)) xs ys i x l h g
 
 pub is_not_here : {P : Type 0} {b : Bool} → b ≡ false → b ≡ true → P
 is_not_here no_cell_there h = absurd (both_ways _ no_cell_there h)

@@ -4,10 +4,11 @@ ghost use Rattle.std.specs.FinMap.Entries.{find, is_sorted};
 ghost use Rattle.std.specs.Ordering.{nat_cmp};
 ghost use Rattle.nn_model.specs.Counts.{is_live, is_live_class};
 ghost use Rattle.nn_replicas.specs.Scan.{place, is_here};
-ghost use Rattle.nn_replicas.specs.Entry.{replicas_in, orders_in, is_ordered, cell_put, cell_erased, cell_retired, no_entry, with_row, with_place, with_put, with_erased, retired, is_closed, is_safe};
+ghost use Rattle.nn_replicas.specs.Entry.{replicas_in, orders_in, is_ordered, cell_retired, no_entry, with_row, with_place, with_put, with_erased, retired, is_closed, is_safe};
 
 use crate::classes::class;
 use crate::replicas_of::ReplicasOf;
+use crate::slot::Slot;
 use nn_types::{Block, BlockId, Class, Replica};
 use smallvec::SmallVec;
 use std::alloc::{AllocError, Global};
@@ -35,7 +36,7 @@ pub struct Cell {
 #[derive(Drop)]
 pub struct Entry {
     row: Option<Row>,
-    cells: SmallVec<(u16, Cell), 3>,
+    cells: SmallVec<Slot, 3>,
 }
 
 impl Model for Entry {
@@ -92,7 +93,7 @@ impl Entry {
             .cells
             .as_slice()
             .iter()
-            .filter(|cell| is_live(&row.block, &cell.1))
+            .filter(|slot| is_live(&row.block, slot))
             .count();
         row.closed && usize::from(min) <= live
     }
@@ -108,7 +109,7 @@ impl Entry {
         if has_cell(self.cells.as_slice(), place, dn) {
             return Ok(());
         }
-        self.cells.insert(place, (dn, Cell::default()))?;
+        self.cells.insert(place, Slot::new(dn))?;
         Ok(())
     }
 
@@ -121,14 +122,15 @@ impl Entry {
         let named = self.row.is_some();
         let place = place_of(self.cells.as_slice(), dn);
         if has_cell(self.cells.as_slice(), place, dn) {
-            let Some(spot) = self.cells.get_mut(place) else {
+            let Some(slot) = self.cells.get_mut(place) else {
                 unreachable!()
             };
-            spot.1 = put_cell(named, replica, spot.1);
+            slot.put(named, replica);
             return Ok(());
         }
-        self.cells
-            .insert(place, (dn, put_cell(named, replica, Cell::default())))?;
+        let mut slot = Slot::new(dn);
+        slot.put(named, replica);
+        self.cells.insert(place, slot)?;
         Ok(())
     }
 
@@ -139,10 +141,10 @@ impl Entry {
         let named = self.row.is_some();
         let place = place_of(self.cells.as_slice(), dn);
         if has_cell(self.cells.as_slice(), place, dn) {
-            let Some(spot) = self.cells.get_mut(place) else {
+            let Some(slot) = self.cells.get_mut(place) else {
                 unreachable!()
             };
-            spot.1 = erase_cell(named, spot.1);
+            slot.erase(named);
         }
     }
 
@@ -156,7 +158,7 @@ impl Entry {
             .get(place_of(self.cells.as_slice(), dn))
         {
             None => false,
-            Some(cell) => cell.0 == dn && cell.1.ordered,
+            Some(slot) => slot.dn() == dn && slot.cell().ordered,
         }
     }
 
@@ -177,9 +179,9 @@ impl Entry {
         ensures ok { OnOk result (orders.new.items ≡ orders.old.items ++ orders_in block self.now.cells) }
         ensures order { IsTrue (is_sorted nat_cmp self.now.cells) }
     {
-        for cell in self.cells.as_slice() {
-            if cell.1.ordered {
-                orders.push((block, cell.0))?;
+        for slot in self.cells.as_slice() {
+            if slot.cell().ordered {
+                orders.push((block, slot.dn()))?;
             }
         }
         Ok(())
@@ -190,84 +192,45 @@ impl Entry {
         ensures { self.new ≡ retired self.old }
     {
         self.row = None;
-        retire_cells(self.cells.as_mut_slice());
+        retire_slots(self.cells.as_mut_slice());
     }
 }
 
 // Where the DataNode's cell stands, or would stand.
-fn place_of(cells: &[(u16, Cell)], dn: u16) -> usize
-    ensures { result ≡ place dn cells.now }
+fn place_of(slots: &[Slot], dn: u16) -> usize
+    ensures { result ≡ place dn slots.now }
 {
-    for (i, cell) in cells.iter().enumerate() {
-        if cell.0 >= dn {
+    for (i, slot) in slots.iter().enumerate() {
+        if slot.dn() >= dn {
             return i;
         }
     }
-    cells.len()
+    slots.len()
 }
 
 // Whether the cell where the DataNode's would stand is its own, in cells that are in order.
-fn has_cell(cells: &[(u16, Cell)], at: usize, dn: u16) -> bool
-    requires { at ≡ place dn cells.now }
-    ensures { result ≡ is_here dn cells.now }
+fn has_cell(slots: &[Slot], at: usize, dn: u16) -> bool
+    requires { at ≡ place dn slots.now }
+    ensures { result ≡ is_here dn slots.now }
 {
-    match cells.get(at) {
+    match slots.get(at) {
         None => false,
-        Some(cell) => cell.0 == dn,
+        Some(slot) => slot.dn() == dn,
     }
 }
 
-fn put_cell(named: bool, replica: Replica, cell: Cell) -> Cell
-    ensures { result ≡ cell_put named replica cell }
+fn retire_slots(slots: &mut [Slot])
+    ensures { slots.new ≡ map (λ c. (c.0, cell_retired c.1)) slots.old }
 {
-    if named {
-        return Cell {
-            replica: Some(replica),
-            ordered: cell.ordered,
-        };
-    }
-    Cell {
-        replica: cell.replica,
-        ordered: true,
+    for slot in slots.iter_mut() {
+        slot.retire();
     }
 }
 
-fn erase_cell(named: bool, cell: Cell) -> Cell
-    ensures { result ≡ cell_erased named cell }
+fn is_live(block: &Block, slot: &Slot) -> bool
+    ensures { result ≡ is_live slot.now.1.replica block.now }
 {
-    if named {
-        return Cell {
-            replica: None,
-            ordered: cell.ordered,
-        };
-    }
-    Cell {
-        replica: cell.replica,
-        ordered: false,
-    }
-}
-
-fn retire_cell(cell: Cell) -> Cell
-    ensures { result ≡ cell_retired cell }
-{
-    Cell {
-        replica: None,
-        ordered: cell.ordered || cell.replica.is_some(),
-    }
-}
-
-fn retire_cells(cells: &mut [(u16, Cell)])
-    ensures { cells.new ≡ map (λ c. (c.0, cell_retired c.1)) cells.old }
-{
-    for cell in cells.iter_mut() {
-        cell.1 = retire_cell(cell.1);
-    }
-}
-
-fn is_live(block: &Block, cell: &Cell) -> bool
-    ensures { result ≡ is_live cell.now.replica block.now }
-{
-    match cell.replica {
+    match slot.cell().replica {
         None => false,
         Some(replica) => is_live_class(class(replica, *block)),
     }

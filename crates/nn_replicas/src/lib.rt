@@ -7,6 +7,7 @@ mod entry;
 mod laws;
 mod replicas_of;
 mod rows;
+mod slot;
 mod table;
 #[cfg(test)]
 mod tests;

@@ -3,14 +3,14 @@ ghost use Rattle.std.specs.Prelude.{◌≡◌};
 ghost use Rattle.nn_replicas.specs.Entry.{replicas_in};
 ghost use Rattle.std.specs.Iterator.{YieldsFirst, item_count};
 
-use crate::entry::Cell;
+use crate::slot::Slot;
 use nn_types::Replica;
 use std::marker::Model;
 
 /// The replicas of a block, in order of DataNode.
 #[derive(Drop)]
 pub struct ReplicasOf<'a> {
-    cells: &'a [(u16, Cell)],
+    cells: &'a [Slot],
 }
 
 impl<'a> Model for ReplicasOf<'a> {
@@ -24,7 +24,7 @@ impl<'a> Model for ReplicasOf<'a> {
 }
 
 impl<'a> ReplicasOf<'a> {
-    pub(crate) fn new(cells: &'a [(u16, Cell)]) -> ReplicasOf<'a>
+    pub(crate) fn new(cells: &'a [Slot]) -> ReplicasOf<'a>
         ensures { result ≡ replicas_in cells.now }
     {
         ReplicasOf { cells }
@@ -41,8 +41,8 @@ impl<'a> Iterator for ReplicasOf<'a> {
     fn next(&mut self) -> Option<(u16, Replica)> {
         while let Some((first, others)) = self.cells.split_first() {
             self.cells = others;
-            if let Some(replica) = first.1.replica {
-                return Some((first.0, replica));
+            if let Some(replica) = first.cell().replica {
+                return Some((first.dn(), replica));
             }
         }
         None

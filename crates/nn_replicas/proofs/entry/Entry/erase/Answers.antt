@@ -15,14 +15,14 @@ pub invariant_of-self : goal.invariant_of-self
 invariant_of-self c =
     let k = c.place_of-place.ensures ∙ ap (place c.args.dn) c.as_slice.ensures in
     let h = sym (c.if-has_cell.ensures ∙ ap (is_here c.args.dn) c.as_slice-2.ensures) in
-    sorted_here c.args.dn c.place_of-place.result c.erase_cell-spot.result c.in-Some.spot.now c.self.inside.cells.items c.self.invariant k h c.in-Some.ensures.value
+    sorted_here c.args.dn c.place_of-place.result _ c.in-Some.slot.now c.erase.new.self c.self.inside.cells.items c.self.invariant k h c.in-Some.ensures.value c.erase.ensures
 
 pub returns-in-Some : goal.returns-in-Some
 returns-in-Some c =
     let k = c.place_of-place.ensures ∙ ap (place c.args.dn) c.as_slice.ensures in
     let h = sym (c.if-has_cell.ensures ∙ ap (is_here c.args.dn) c.as_slice-2.ensures) in
-    wrote_here c.args.self.now c.self.inside.row c.self.inside.cells.items c.args.dn c.place_of-place.result c.is_some-named.result c.in-Some.spot.now c.erase_cell-spot.result (λ b x. cell_erased b x)
-    c.self.view_is k h c.in-Some.ensures.value c.is_some-named.ensures c.erase_cell-spot.ensures
+    wrote_here c.args.self.now c.self.inside.row c.self.inside.cells.items c.args.dn c.place_of-place.result c.is_some-named.result c.in-Some.slot.now c.erase.new.self (λ b x. cell_erased b x)
+    c.self.view_is k h c.in-Some.ensures.value c.is_some-named.ensures c.erase.ensures
     ∙ erased_there c.args.self.now c.args.dn (there c.args.self.now c.self.inside.row c.self.inside.cells.items c.args.dn c.self.view_is h)
 
 pub returns-else-has_cell : goal.returns-else-has_cell

@@ -2,7 +2,7 @@ use Rattle.std.proofs.Common.{is_some, refl, sym, ap, ◌∙◌, arith}
 use Rattle.nn_replicas.specs.Entry.{no_cell}
 use Rattle.nn_replicas.specs.Scan.{place, is_here}
 use Rattle.nn_replicas.proofs.Scanned.{place_le}
-use Rattle.nn_replicas.proofs.Written.{sorted_new, wrote_new, there, not_there, placed_there, placed_new, empty_cell}
+use Rattle.nn_replicas.proofs.Written.{sorted_new, wrote_new, there, not_there, placed_there, placed_new}
 use Rattle.nn_replicas.proofs.entry.Entry.place.Goals as goal
 
 pub returns-then-has_cell-clause-ok : goal.returns-then-has_cell-clause-ok
@@ -19,12 +19,12 @@ pub invariant_of-self-2 : goal.invariant_of-self-2
 invariant_of-self-2 c =
     let k = c.place_of-place.ensures ∙ ap (place c.args.dn) c.as_slice.ensures in
     let h = sym (c.if-has_cell.ensures ∙ ap (is_here c.args.dn) c.as_slice-2.ensures) in
-    sorted_new c.args.dn c.place_of-place.result c.default.result c.self.inside.cells.items _ c.self.invariant k h c.in_ok-insert.ensures.ok
+    sorted_new c.args.dn c.place_of-place.result _ c.new.result c.self.inside.cells.items _ c.self.invariant k h c.in_ok-insert.ensures.ok c.new.ensures
 
 pub returns-clause-ok : goal.returns-clause-ok
 returns-clause-ok c =
     let k = c.place_of-place.ensures ∙ ap (place c.args.dn) c.as_slice.ensures in
     let h = sym (c.if-has_cell.ensures ∙ ap (is_here c.args.dn) c.as_slice-2.ensures) in
-    wrote_new c.args.self.now c.self.inside.row c.self.inside.cells.items _ c.args.dn c.place_of-place.result (is_some c.self.inside.row) c.default.result (λ b x. no_cell)
-    c.self.view_is c.self.invariant k h c.in_ok-insert.ensures.ok refl (empty_cell c.default.result c.default.ensures.0 c.default.ensures.1)
+    wrote_new c.args.self.now c.self.inside.row c.self.inside.cells.items _ c.args.dn c.place_of-place.result (is_some c.self.inside.row) c.new.result (λ b x. no_cell)
+    c.self.view_is c.self.invariant k h c.in_ok-insert.ensures.ok refl c.new.ensures
     ∙ placed_new c.args.self.now c.args.dn (not_there c.args.self.now c.self.inside.row c.self.inside.cells.items c.args.dn c.self.view_is c.self.invariant h)

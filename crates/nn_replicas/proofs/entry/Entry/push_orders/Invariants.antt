@@ -3,5 +3,5 @@ use Rattle.nn_replicas.specs.Entry.{orders_in}
 use Rattle.nn_replicas.proofs.entry.Entry.push_orders.Given as goal
 
 -- the orders of the cells passed were added
-abbrev pub invariant-loop-cell : goal.invariant-loop-cell
-invariant-loop-cell l = l.orders.items ≡ l.initial.orders.items ++ orders_in l.block (take l.cell-index l.cell-items)
+abbrev pub invariant-loop-slot : goal.invariant-loop-slot
+invariant-loop-slot l = l.orders.items ≡ l.initial.orders.items ++ orders_in l.block (take l.slot-index l.slot-items)

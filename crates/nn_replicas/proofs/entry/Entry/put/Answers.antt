@@ -2,7 +2,7 @@ use Rattle.std.proofs.Common.{sym, ap, ◌∙◌, arith}
 use Rattle.nn_replicas.specs.Entry.{cell_put}
 use Rattle.nn_replicas.specs.Scan.{place, is_here}
 use Rattle.nn_replicas.proofs.Scanned.{here_below, place_le}
-use Rattle.nn_replicas.proofs.Written.{sorted_here, sorted_new, wrote_here, wrote_new, not_there, is_not_here, empty_cell}
+use Rattle.nn_replicas.proofs.Written.{sorted_here, sorted_new, wrote_here, wrote_new, not_there, is_not_here}
 use Rattle.nn_replicas.proofs.entry.Entry.put.Goals as goal
 
 pub unreachable-requires : goal.unreachable-requires
@@ -15,14 +15,14 @@ pub invariant_of-self : goal.invariant_of-self
 invariant_of-self c =
     let k = c.place_of-place.ensures ∙ ap (place c.args.dn) c.as_slice.ensures in
     let h = sym (c.if-has_cell.ensures ∙ ap (is_here c.args.dn) c.as_slice-2.ensures) in
-    sorted_here c.args.dn c.place_of-place.result c.put_cell-spot.result c.in-Some.spot.now c.self.inside.cells.items c.self.invariant k h c.in-Some.ensures.value
+    sorted_here c.args.dn c.place_of-place.result _ c.in-Some.slot.now c.put.new.self c.self.inside.cells.items c.self.invariant k h c.in-Some.ensures.value c.put.ensures
 
 pub returns-then-has_cell-clause-ok : goal.returns-then-has_cell-clause-ok
 returns-then-has_cell-clause-ok c =
     let k = c.place_of-place.ensures ∙ ap (place c.args.dn) c.as_slice.ensures in
     let h = sym (c.if-has_cell.ensures ∙ ap (is_here c.args.dn) c.as_slice-2.ensures) in
-    wrote_here c.args.self.now c.self.inside.row c.self.inside.cells.items c.args.dn c.place_of-place.result c.is_some-named.result c.in-Some.spot.now c.put_cell-spot.result (λ b x. cell_put b c.args.replica x)
-    c.self.view_is k h c.in-Some.ensures.value c.is_some-named.ensures c.put_cell-spot.ensures
+    wrote_here c.args.self.now c.self.inside.row c.self.inside.cells.items c.args.dn c.place_of-place.result c.is_some-named.result c.in-Some.slot.now c.put.new.self (λ b x. cell_put b c.args.replica x)
+    c.self.view_is k h c.in-Some.ensures.value c.is_some-named.ensures c.put.ensures
 
 pub insert-requires : goal.insert-requires
 insert-requires c =
@@ -38,11 +38,13 @@ pub invariant_of-self-2 : goal.invariant_of-self-2
 invariant_of-self-2 c =
     let k = c.place_of-place.ensures ∙ ap (place c.args.dn) c.as_slice.ensures in
     let h = sym (c.if-has_cell.ensures ∙ ap (is_here c.args.dn) c.as_slice-2.ensures) in
-    sorted_new c.args.dn c.place_of-place.result c.put_cell.result c.self.inside.cells.items _ c.self.invariant k h c.in_ok-insert.ensures.ok
+    let new = c.put-2.ensures ∙ ap (λ s. (s.0, cell_put c.is_some-named.result c.args.replica s.1)) c.new-slot.ensures in
+    sorted_new c.args.dn c.place_of-place.result _ c.put-2.new.self c.self.inside.cells.items _ c.self.invariant k h c.in_ok-insert.ensures.ok new
 
 pub returns-clause-ok : goal.returns-clause-ok
 returns-clause-ok c =
     let k = c.place_of-place.ensures ∙ ap (place c.args.dn) c.as_slice.ensures in
     let h = sym (c.if-has_cell.ensures ∙ ap (is_here c.args.dn) c.as_slice-2.ensures) in
-    wrote_new c.args.self.now c.self.inside.row c.self.inside.cells.items _ c.args.dn c.place_of-place.result c.is_some-named.result c.put_cell.result (λ b x. cell_put b c.args.replica x)
-    c.self.view_is c.self.invariant k h c.in_ok-insert.ensures.ok c.is_some-named.ensures (c.put_cell.ensures ∙ ap (cell_put c.is_some-named.result c.args.replica) (empty_cell c.default.result c.default.ensures.0 c.default.ensures.1))
+    let new = c.put-2.ensures ∙ ap (λ s. (s.0, cell_put c.is_some-named.result c.args.replica s.1)) c.new-slot.ensures in
+    wrote_new c.args.self.now c.self.inside.row c.self.inside.cells.items _ c.args.dn c.place_of-place.result c.is_some-named.result c.put-2.new.self (λ b x. cell_put b c.args.replica x)
+    c.self.view_is c.self.invariant k h c.in_ok-insert.ensures.ok c.is_some-named.ensures new

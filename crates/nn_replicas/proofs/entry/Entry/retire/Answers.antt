@@ -5,4 +5,4 @@ use Rattle.nn_replicas.proofs.entry.Entry.retire.Goals as goal
 
 pub invariant_of-self : goal.invariant_of-self
 invariant_of-self c =
-    sorted_refilled c.self.inside.cells.items c.retire_cells.new.cells c.self.invariant (c.retire_cells.ensures ∙ ap (map (λ c. (c.0, cell_retired c.1))) c.as_mut_slice.ensures.value)
+    sorted_refilled c.self.inside.cells.items c.retire_slots.new.slots c.self.invariant (c.retire_slots.ensures ∙ ap (map (λ c. (c.0, cell_retired c.1))) c.as_mut_slice.ensures.value)

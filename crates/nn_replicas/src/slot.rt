@@ -1,0 +1,108 @@
+//! A DataNode that was placed at a block, and its cell.
+ghost use Rattle.std.specs.Prelude.{◌≡◌};
+ghost use Rattle.nn_replicas.specs.Entry.{no_cell, cell_put, cell_erased, cell_retired};
+
+use crate::entry::Cell;
+use nn_types::{GenerationStamp, Kind, Length, Replica};
+use std::marker::Model;
+
+// A DataNode and its cell, packed into 24 bytes: an option of a replica would take 32 of its own.
+#[derive(Drop)]
+pub struct Slot {
+    dn: u16,
+    ordered: bool,
+    // What kind of replica the DataNode has, if any. Without one the stamp and the length say nothing.
+    kind: Option<Kind>,
+    stamp: GenerationStamp,
+    len: Length,
+}
+
+impl Model for Slot {
+    ghost use Rattle.std.specs.Prelude.{ℕ};
+    ghost use Rattle.std.specs.Option.{option_map};
+    ghost use Rattle.nn_replicas.specs.declared.entry.Cell.{Cell};
+
+    ghost Value = { ℕ × Cell };
+
+    ghost view = { λ s. (s.dn, record { replica = option_map (λ kind. record { stamp = s.stamp; len = s.len; kind = kind }) s.kind; ordered = s.ordered }) };
+}
+
+// What the unused places of an entry hold.
+impl Default for Slot {
+    fn default() -> Slot {
+        Slot::new(0)
+    }
+}
+
+impl Slot {
+    // Of the DataNode nothing is known.
+    pub fn new(dn: u16) -> Slot
+        ensures { result ≡ (dn, no_cell) }
+    {
+        let (Some(stamp), Some(len)) = (GenerationStamp::new(0), Length::new(0)) else {
+            unreachable!()
+        };
+        Slot {
+            dn,
+            ordered: false,
+            kind: None,
+            stamp,
+            len,
+        }
+    }
+
+    pub fn dn(&self) -> u16
+        ensures { result ≡ self.now.0 }
+    {
+        self.dn
+    }
+
+    pub fn cell(&self) -> Cell
+        ensures { result ≡ self.now.1 }
+    {
+        let replica = match self.kind {
+            None => None,
+            Some(kind) => Some(Replica {
+                stamp: self.stamp,
+                len: self.len,
+                kind,
+            }),
+        };
+        Cell {
+            replica,
+            ordered: self.ordered,
+        }
+    }
+
+    // Sets a replica where the block is named, an order where it is not.
+    pub fn put(&mut self, named: bool, replica: Replica)
+        ensures { self.new ≡ (self.old.0, cell_put named replica self.old.1) }
+    {
+        if named {
+            self.kind = Some(replica.kind);
+            self.stamp = replica.stamp;
+            self.len = replica.len;
+        } else {
+            self.ordered = true;
+        }
+    }
+
+    // Takes away the replica where the block is named, the order where it is not.
+    pub fn erase(&mut self, named: bool)
+        ensures { self.new ≡ (self.old.0, cell_erased named self.old.1) }
+    {
+        if named {
+            self.kind = None;
+        } else {
+            self.ordered = false;
+        }
+    }
+
+    // Turns a replica into an order.
+    pub fn retire(&mut self)
+        ensures { self.new ≡ (self.old.0, cell_retired self.old.1) }
+    {
+        self.ordered = self.ordered || self.kind.is_some();
+        self.kind = None;
+    }
+}

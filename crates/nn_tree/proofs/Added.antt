@@ -22,16 +22,13 @@ use Rattle.nn_model.proofs.Dues.{all_none, when_none, has_left, has_right, has_e
 use Rattle.nn_model.proofs.Wells.{blocks_of_found}
 use Rattle.nn_model.specs.declared.form.Form.{Form}
 use Rattle.nn_model.specs.Namespace.{Path}
-use Rattle.nn_tree.specs.At.{at, IsSubtree, IsGrafted, IsSame}
+use Rattle.nn_tree.specs.At.{IsSubtree, IsGrafted}
 use Rattle.nn_tree.specs.declared.index.BlockRow.{BlockRow}
 use Rattle.nn_tree.specs.View.{seen, Stands, IsKept}
 use Rattle.nn_tree.proofs.Bridge.{tied}
 use Rattle.nn_tree.proofs.Deleted.{tie}
-use Rattle.nn_tree.proofs.Renamed.{same, same_true}
-use Rattle.nn_tree.proofs.Prefix.{append_nil}
 use Rattle.nn_tree.proofs.Indexed.{old_blocks, apart}
 use Rattle.nn_tree.proofs.Kept.{put_index, file_seen, file_was}
-use Rattle.nn_tree.proofs.Edited.{set_twice}
 
 -- ---- the ids that wait
 others : (ks : List ℕ) (i : ℕ) → AllByRecursion (λ y. nat_cmp i y ≡ Less) ks → filter (λ k. not (k == i)) ks ≡ ks
@@ -105,26 +102,16 @@ add_block_kept n p i stamp x look next l lawful was goes k =
     }
 
 -- ---- what is seen
-pub add_block_seen : (es mid new : List (Path × Form)) (last stamp : ℕ) (ks keys : List ℕ) (p ns : Path) (i g : ℕ) (x y w z : FileRow) → ns ≡ p → IsSubtree es ns (Some (([], File x) ∷ [])) → IsGrafted es ns (Some (([], File y) ∷ [])) mid →
-    IsSubtree mid ns (Some (([], File w) ∷ [])) → IsGrafted mid ns (Some (([], File z) ∷ [])) new → IsStrictlySortedBy nat_cmp ks → keys ≡ remove_key (is_at (nat_cmp i)) ks →
-    z ≡ record { replication = x.replication; closed = false; blocks = x.blocks ++ record { id = i; stamp = g; len = 0 } ∷ [] } →
+pub add_block_seen : (es new : List (Path × Form)) (last stamp : ℕ) (ks keys : List ℕ) (p ns : Path) (i g : ℕ) (x y : FileRow) → ns ≡ p → IsSubtree es ns (Some (([], File x) ∷ [])) → IsGrafted es ns (Some (([], File y) ∷ [])) new →
+    IsStrictlySortedBy nat_cmp ks → keys ≡ remove_key (is_at (nat_cmp i)) ks → y ≡ record { replication = x.replication; closed = false; blocks = x.blocks ++ record { id = i; stamp = g; len = 0 } ∷ [] } →
     seen new last stamp keys ≡ effect (seen es last stamp ks) (edit.AddBlock p i g)
-add_block_seen es mid new last stamp ks keys p ns i g x y w z e h k l m sorted is zx =
+add_block_seen es new last stamp ks keys p ns i g x y e h k sorted is yx =
     let s = seen es last stamp ks in
     let was : x ≡ file_at s p = sym (ap file_or_none (file_was es last stamp ks p ns x e h)) in
-    let rows_are : in_path_order new ≡ (with_row s p (File z)).rows = ap (λ n. n.rows) (file_seen es mid new last stamp ks p ns x y w z e h k l m) in
+    let rows_are : in_path_order new ≡ (with_row s p (File y)).rows = ap (λ n. n.rows) (file_seen es new last stamp ks p ns x y e h k) in
     (λ j. record { rows = rows_are j; last_block = last; last_stamp = stamp; awaiting = (is ∙ without_id ks i sorted) j })
-    ∙ ap (λ (f : FileRow). record { rows = (with_row s p (File f)).rows; last_block = last; last_stamp = stamp; awaiting = filter (λ k. not (k == i)) ks }) zx
+    ∙ ap (λ (f : FileRow). record { rows = (with_row s p (File f)).rows; last_block = last; last_stamp = stamp; awaiting = filter (λ k. not (k == i)) ks }) yx
     ∙ ap (λ (f : FileRow). record { rows = (with_row s p (File (record { replication = f.replication; closed = false; blocks = f.blocks ++ record { id = i; stamp = g; len = 0 } ∷ [] }))).rows; last_block = last; last_stamp = stamp; awaiting = filter (λ k. not (k == i)) ks }) was
-
--- a file put back
-pub back : (es mid new : List (Path × Form)) (ns : Path) (x y w : FileRow) → IsSubtree es ns (Some (([], File x) ∷ [])) → IsGrafted es ns (Some (([], File y) ∷ [])) mid → IsSubtree mid ns (Some (([], File w) ∷ [])) → IsGrafted mid ns (Some (([], File x) ∷ [])) new → IsSame es new
-back es mid new ns x y w h k l m q =
-    set_twice es mid new ns (File x) (File y) (File x) (File w) h k l m q
-    ∙ elim (cases_Bool (same q ns)) [
-      | inl e ↦ ap (λ b. cond b (Some (File x)) (at es q)) e ∙ sym (ap (at es) (same_true q ns e ∙ sym (append_nil ns)) ∙ h [])
-      | inr e ↦ ap (λ b. cond b (Some (File x)) (at es q)) e
-    ]
 
 pub kept_looks : (n : Namespace) (look next : ℕ → Option BlockRow) → ((id : ℕ) → next id ≡ look id) → IsKept n look → IsKept n next
 kept_looks n look next h k = subst (λ (f : ℕ → Option BlockRow). IsKept n f) (λ j id. sym (h id) j) k

@@ -1,5 +1,5 @@
 -- The rows of a namespace after an edit of its tree.
-use Rattle.std.proofs.Common.{◌≡◌, ℕ, Bool, true, false, cond, not, List, [], ◌∷◌, ◌++◌, Option, Some, None, refl, sym, ap, ◌∙◌}
+use Rattle.std.proofs.Common.{◌≡◌, ℕ, cond, not, List, [], ◌∷◌, ◌++◌, Option, Some, None, refl, sym, ap, ◌∙◌}
 use Rattle.std.specs.Prelude.{filter, T}
 use Rattle.std.specs.declared.cmp.Ordering.TheVariants.{Less, Equal, Greater}
 use Rattle.std.specs.Ordering.{is_eq, eq_by_cmp, ordering_then, ordering_reverse}
@@ -49,18 +49,9 @@ gone_there es new p h =
     (λ q. find_in_order q new ∙ h q ∙ graft_gone (at es) p q ∙ ap (λ b. cond (not b) (at es q) None) (starts_is p q)
     ∙ sym (lookup_delete (record { rows = in_path_order es; last_block = 0; last_stamp = 0; awaiting = [] }) p q ∙ ap (λ o. cond (not (begins_with p q)) o None) (find_in_order q es)))
 
--- ---- a file in place of a file, twice
+-- ---- a file in place of a file
 only : (f : Path → Option Form) (p : Path) (x : Form) → ((q : Path) → f (p ++ q) ≡ at (([], x) ∷ []) q) → (n : List ℕ) (q : Path) → f (p ++ n ∷ q) ≡ None
 only f p x h n q = h (n ∷ q)
 
 pub set_once : (es mid : List (Path × Form)) (p : Path) (x y : Form) → IsSubtree es p (Some (([], x) ∷ [])) → IsGrafted es p (Some (([], y) ∷ [])) mid → (q : Path) → at mid q ≡ cond (eq_by_cmp path_cmp q p) (Some y) (at es q)
 set_once es mid p x y h k q = k q ∙ graft_leaf (at es) p y (only (at es) p x h) q
-
-twice : (b : Bool) (y z o : Option Form) → cond b z (cond b y o) ≡ cond b z o
-twice true y z o = refl
-twice false y z o = refl
-
-pub set_twice : (es mid new : List (Path × Form)) (p : Path) (x y z w : Form) → IsSubtree es p (Some (([], x) ∷ [])) → IsGrafted es p (Some (([], y) ∷ [])) mid → IsSubtree mid p (Some (([], w) ∷ [])) → IsGrafted mid p (Some (([], z) ∷ [])) new →
-    (q : Path) → at new q ≡ cond (eq_by_cmp path_cmp q p) (Some z) (at es q)
-set_twice es mid new p x y z w h k l m q =
-    set_once mid new p w z l m q ∙ ap (cond (eq_by_cmp path_cmp q p) (Some z)) (set_once es mid p x y h k q) ∙ twice (eq_by_cmp path_cmp q p) (Some y) (Some z) (at es q)

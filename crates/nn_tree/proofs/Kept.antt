@@ -1,17 +1,15 @@
 -- What an edit of the fields shows, and that it keeps the index.
-use Rattle.std.proofs.Common.{inl, inr, ◌≡◌, ℕ, true, false, cond, not, List, [], ◌∷◌, ◌++◌, ◌<◌, length, String, Global, Option, Some, None, is_some, refl, sym, ap, subst, ◌∙◌, arith}
+use Rattle.std.proofs.Common.{inl, inr, ◌≡◌, ℕ, true, false, cond, List, [], ◌∷◌, ◌++◌, ◌<◌, Option, Some, None, refl, sym, ap, subst, ◌∙◌, arith}
 use Rattle.std.specs.Prelude.{◌⊎◌, ◌==◌}
 use Rattle.std.specs.Ordering.{nat_cmp, match_ordering}
 use Rattle.std.specs.declared.cmp.Ordering.TheVariants.{Greater}
 use Rattle.std.specs.Cmp.{nat_cmp_is}
 use Rattle.std.specs.BTreeSet.{insert_key}
-use Rattle.std.proofs.lemmas.Bool.{both_ways, leb-false, eq-eqb, or_left, or_right}
+use Rattle.std.proofs.lemmas.Bool.{leb-false, eq-eqb, or_left, or_right}
 use Rattle.nn_types.specs.declared.block.Block.{Block}
 use Rattle.nn_edits.specs.declared.tx.Edit.TheVariants as edit
 use Rattle.nn_edits.specs.Lawful.{IsLawfulEdit}
-use Rattle.nn_model.proofs.Moves.{nothing_below}
 use Rattle.nn_model.proofs.Trees.{stays_well_formed, absent}
-use Rattle.nn_model.specs.declared.fault.EditFault.TheVariants.{IsRoot}
 use Rattle.nn_model.specs.declared.form.Form.TheVariants.{Dir, File}
 use Rattle.nn_model.specs.declared.form.FileRow.{FileRow}
 use Rattle.nn_model.proofs.Equals.{root_alone_is_well_formed}
@@ -23,28 +21,19 @@ use Rattle.nn_model.proofs.Dues.{all_none, when_none}
 use Rattle.nn_model.proofs.Lookups.{lookup_put, find_in_order}
 use Rattle.nn_model.specs.declared.form.Form.{Form}
 use Rattle.nn_model.specs.Namespace.{Path}
-use Rattle.nn_tree.specs.At.{at, names_of, IsSubtree, IsGrafted, IsSame}
-use Rattle.nn_tree.specs.Walks.{IsFree, is_file, rename_fault, moved_rows, IsRenamed}
+use Rattle.nn_tree.specs.At.{at, IsSubtree, IsGrafted, IsSame}
+use Rattle.nn_tree.specs.Walks.{IsFree, rename_fault, moved_rows, IsRenamed}
 use Rattle.nn_tree.specs.declared.index.BlockRow.{BlockRow}
 use Rattle.nn_tree.specs.View.{seen, InRow, Stands, IsIndex, IsKept}
 use Rattle.nn_tree.proofs.Prefix.{append_nil, can_move}
 use Rattle.nn_tree.proofs.Renamed.{same, same_self, moved_there}
 use Rattle.nn_tree.proofs.Bridge.{looks}
-use Rattle.nn_tree.proofs.Edited.{graft_leaf, put_there, same_there, set_once, set_twice}
+use Rattle.nn_tree.proofs.Edited.{graft_leaf, put_there, same_there, set_once}
 use Rattle.nn_tree.proofs.Indexed.{old_blocks, Writes, index_written, index_renamed, index_alike, apart}
 
 -- nothing stands where an edit makes something, or below it
 pub mkdir_free : (n : Namespace) (p : Path) → refusal n (edit.Mkdir p) ≡ None → lookup n p ≡ None
 mkdir_free n p applies = absent n p (all_none (checks n (edit.Mkdir p)) applies).1.1.0
-
-pub mkdir_room : (n : Namespace) (p : Path) → IsWellFormed n → refusal n (edit.Mkdir p) ≡ None → IsFree (lookup n) p
-mkdir_room n p w applies rest = nothing_below (lookup n) w.parents p rest (mkdir_free n p applies)
-
-pub rename_room : (n : Namespace) (s d : Path) → IsWellFormed n → refusal n (edit.Rename s d) ≡ None → IsFree (lookup n) d
-rename_room n s d w applies rest = nothing_below (lookup n) w.parents d rest (absent n d (all_none (checks n (edit.Rename s d)) applies).1.1.1.1.1.1.0)
-
-pub free_here : (es : List (Path × Form)) (n : Namespace) (p ns : Path) → in_path_order es ≡ n.rows → ns ≡ p → IsFree (lookup n) p → IsSubtree es ns None
-free_here es n p ns e h k q = (λ j. looks es n e j (h j ++ q)) ∙ k q
 
 -- ---- the namespace before the first edit
 no_block_stands : (b : BlockRow) → Stands (lookup root_alone) b → ⊥
@@ -86,9 +75,9 @@ fresh_writes f p r look e z = record {
 pub free_top : (f : Path → Option Form) (p : Path) → IsFree f p → f p ≡ None
 free_top f p h = ap f (sym (append_nil p)) ∙ h []
 
-pub made : (es new : List (Path × Form)) (last stamp : ℕ) (ks : List ℕ) (p ns : Path) (r : Form) → ns ≡ p → IsFree (lookup (seen es last stamp ks)) p → IsGrafted es ns (Some (([], r) ∷ [])) new → seen new last stamp ks ≡ with_row (seen es last stamp ks) p r
+pub made : (es new : List (Path × Form)) (last stamp : ℕ) (ks : List ℕ) (p ns : Path) (r : Form) → ns ≡ p → IsSubtree es ns None → IsGrafted es ns (Some (([], r) ∷ [])) new → seen new last stamp ks ≡ with_row (seen es last stamp ks) p r
 made es new last stamp ks p ns r e free h =
-    put_seen es new last stamp ks p r (λ q. h q ∙ graft_leaf (at es) ns r (λ n x. free_here es (seen es last stamp ks) p ns refl e free (n ∷ x)) q ∙ ap (λ x. cond (same q x) (Some r) (at es q)) e)
+    put_seen es new last stamp ks p r (λ q. h q ∙ graft_leaf (at es) ns r (λ n x. free (n ∷ x)) q ∙ ap (λ x. cond (same q x) (Some r) (at es q)) e)
 
 pub mkdir_kept : (n : Namespace) (p : Path) (look : ℕ → Option BlockRow) → IsLawfulEdit (edit.Mkdir p) → refusal n (edit.Mkdir p) ≡ None → IsKept n look → IsKept (effect n (edit.Mkdir p)) look
 mkdir_kept n p look l lawful k = record {
@@ -110,17 +99,17 @@ add_kept n p r look l lawful k =
     }
 
 -- ---- a rename
-pub renamed_seen : (es new : List (Path × Form)) (last stamp : ℕ) (ks : List ℕ) (s d ss ds : Path) → ss ≡ s → ds ≡ d → IsFree (lookup (seen es last stamp ks)) d → IsRenamed es ss ds new → seen new last stamp ks ≡ effect (seen es last stamp ks) (edit.Rename s d)
+pub renamed_seen : (es new : List (Path × Form)) (last stamp : ℕ) (ks : List ℕ) (s d ss ds : Path) → ss ≡ s → ds ≡ d → IsSubtree es ds None → IsRenamed es ss ds new → seen new last stamp ks ≡ effect (seen es last stamp ks) (edit.Rename s d)
 renamed_seen es new last stamp ks s d ss ds e f free h =
     ap (λ x. record { rows = x; last_block = last; last_stamp = stamp; awaiting = ks })
-    (moved_there es new s d (free_here es (seen es last stamp ks) d d refl refl free) (λ q. h q ∙ (λ j. moved_rows (at es) (e j) (f j) q)))
+    (moved_there es new s d (subst (λ (p : Path). IsSubtree es p None) f free) (λ q. h q ∙ (λ j. moved_rows (at es) (e j) (f j) q)))
 
 pub rename_kept : (es new : List (Path × Form)) (last stamp : ℕ) (ks : List ℕ) (look : ℕ → Option BlockRow) (s d ss ds : Path) → ss ≡ s → ds ≡ d → IsLawfulEdit (edit.Rename s d) → refusal (seen es last stamp ks) (edit.Rename s d) ≡ None → rename_fault (at es) ss ds ≡ None →
-    IsFree (lookup (seen es last stamp ks)) d → IsRenamed es ss ds new → IsKept (seen es last stamp ks) look → IsKept (seen new last stamp ks) look
+    IsSubtree es ds None → IsRenamed es ss ds new → IsKept (seen es last stamp ks) look → IsKept (seen new last stamp ks) look
 rename_kept es new last stamp ks look s d ss ds e f l lawful fault free h k =
     let n = seen es last stamp ks in
     let is = renamed_seen es new last stamp ks s d ss ds e f free h in
-    let move = can_move (at es) ss ds fault (free_here es n d ds refl f free) in
+    let move = can_move (at es) ss ds fault free in
     let same_rows : (q : Path) → at es q ≡ lookup n q = λ q. sym (find_in_order q es) in
     record {
       well = subst IsWellFormed (sym is) (stays_well_formed n (edit.Rename s d) l lawful k.well);
@@ -129,34 +118,12 @@ rename_kept es new last stamp ks look s d ss ds e f l lawful fault free h k =
     }
 
 -- ---- a file in place of a file
-is_file_by : (o : Option Form) → not (is_some o) ≡ false → is_dir o ≡ false → is_file o ≡ true
-is_file_by None h k = absurd (both_ways _ h refl)
-is_file_by (Some Dir) h k = absurd (both_ways _ k refl)
-is_file_by (Some (File x)) h k = refl
-
-pub set_replication_file : (n : Namespace) (p : Path) (r : ℕ) → refusal n (edit.SetReplication p r) ≡ None → is_file (lookup n p) ≡ true
-set_replication_file n p r h = let a = all_none (checks n (edit.SetReplication p r)) h in is_file_by (lookup n p) (when_none _ _ a.1.1.1.0) (when_none _ _ a.1.1.1.1.0)
-
-pub add_block_file : (n : Namespace) (p : Path) (i stamp : ℕ) → refusal n (edit.AddBlock p i stamp) ≡ None → is_file (lookup n p) ≡ true
-add_block_file n p i stamp h = let a = all_none (checks n (edit.AddBlock p i stamp)) h in is_file_by (lookup n p) (when_none _ _ a.1.1.0) (when_none _ _ a.1.1.1.0)
-
-pub list_file : (n : Namespace) (p : Path) (bs : List Block) → first (list_checks n p bs) ≡ None → is_file (lookup n p) ≡ true
-list_file n p bs h = let a = all_none (list_checks n p bs) h in is_file_by (lookup n p) (when_none _ _ a.1.1.0) (when_none _ _ a.1.1.1.0)
-
-pub file_here : (es : List (Path × Form)) (last stamp : ℕ) (ks : List ℕ) (p ns : Path) → ns ≡ p → is_file (lookup (seen es last stamp ks) p) ≡ true → is_file (at es ns) ≡ true
-file_here es last stamp ks p ns e h = ap is_file (λ j. looks es (seen es last stamp ks) refl j (e j)) ∙ h
-
 -- the file that stood there
 pub file_was : (es : List (Path × Form)) (last stamp : ℕ) (ks : List ℕ) (p ns : Path) (x : FileRow) → ns ≡ p → IsSubtree es ns (Some (([], File x) ∷ [])) → lookup (seen es last stamp ks) p ≡ Some (File x)
 file_was es last stamp ks p ns x e h = sym (λ j. looks es (seen es last stamp ks) refl j (e j)) ∙ ap (at es) (sym (append_nil ns)) ∙ h []
 
-pub is_file_there : (es mid : List (Path × Form)) (p : Path) (x y : FileRow) → IsSubtree es p (Some (([], File x) ∷ [])) → IsGrafted es p (Some (([], File y) ∷ [])) mid → is_file (at mid p) ≡ true
-is_file_there es mid p x y h k = ap is_file (set_once es mid p (File x) (File y) h k p ∙ ap (λ b. cond b (Some (File y)) (at es p)) (same_self p))
-
-pub file_seen : (es mid new : List (Path × Form)) (last stamp : ℕ) (ks : List ℕ) (p ns : Path) (x y w z : FileRow) → ns ≡ p → IsSubtree es ns (Some (([], File x) ∷ [])) → IsGrafted es ns (Some (([], File y) ∷ [])) mid →
-    IsSubtree mid ns (Some (([], File w) ∷ [])) → IsGrafted mid ns (Some (([], File z) ∷ [])) new → seen new last stamp ks ≡ with_row (seen es last stamp ks) p (File z)
-file_seen es mid new last stamp ks p ns x y w z e h k l m =
-    put_seen es new last stamp ks p (File z) (λ q. set_twice es mid new ns (File x) (File y) (File z) (File w) h k l m q ∙ ap (λ s. cond (same q s) (Some (File z)) (at es q)) e)
+pub file_seen : (es new : List (Path × Form)) (last stamp : ℕ) (ks : List ℕ) (p ns : Path) (x y : FileRow) → ns ≡ p → IsSubtree es ns (Some (([], File x) ∷ [])) → IsGrafted es ns (Some (([], File y) ∷ [])) new → seen new last stamp ks ≡ with_row (seen es last stamp ks) p (File y)
+file_seen es new last stamp ks p ns x y e h k = put_seen es new last stamp ks p (File y) (λ q. set_once es new ns (File x) (File y) h k q ∙ ap (λ s. cond (same q s) (Some (File y)) (at es q)) e)
 
 -- the blocks of a file that is written stand nowhere else, if they are old ones
 pub old_own : (n : Namespace) (p : Path) (y : Form) → HasWellFormedBlocks n → ((x : Block) → Has (blocks_of y) x → (o : Block) × Has (old_blocks (lookup n p)) o × (o.id ≡ x.id)) →
@@ -207,15 +174,3 @@ allocate_kept es last stamp i ks keys look l lawful e k = record {
 
 pub genstamp_kept : (n : Namespace) (stamp : ℕ) (look : ℕ → Option BlockRow) → IsLawfulEdit (edit.SetGenstamp stamp) → refusal n (edit.SetGenstamp stamp) ≡ None → IsKept n look → IsKept (effect n (edit.SetGenstamp stamp)) look
 genstamp_kept n stamp look l lawful k = record { well = stays_well_formed n (edit.SetGenstamp stamp) l lawful k.well; index = k.index }
-
--- ---- a delete
-pub not_gone : (es : List (Path × Form)) (last stamp : ℕ) (ks : List ℕ) (p ns : Path) → ns ≡ p → refusal (seen es last stamp ks) (edit.Delete p) ≡ None → IsSubtree es ns None → ⊥
-not_gone es last stamp ks p ns e lawful h =
-    let n = seen es last stamp ks in
-    let a = all_none (checks n (edit.Delete p)) lawful in
-    let none : lookup n p ≡ None = sym (λ j. looks es n refl j (e j)) ∙ free_top (at es) ns h in
-    both_ways _ (when_none _ _ a.1.1.0) (ap (λ o. not (is_some o)) none)
-
-pub delete_has_name : (n : Namespace) (p : Path) (xs : List (String Global)) → names_of xs ≡ p → refusal n (edit.Delete p) ≡ None → 0 < length xs
-delete_has_name n p [] e lawful = absurd (let a = all_none (checks n (edit.Delete p)) lawful in let r : apply.is_root p ≡ Some IsRoot = ap apply.is_root (sym e) in (cc (r, a.0)))
-delete_has_name n p (x ∷ xs) e lawful = omega arith

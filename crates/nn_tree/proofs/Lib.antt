@@ -2,6 +2,8 @@ pub mod Below
 pub mod Subtree
 pub mod Step
 pub mod Walk
+pub mod Changed
+pub mod Applies
 pub mod Maps
 pub mod Prefix
 pub mod Files

@@ -1,5 +1,5 @@
 -- The index after a file's list was replaced.
-use Rattle.std.proofs.Common.{inl, inr, ◌≡◌, ℕ, Bool, true, false, cond, not, ◌≤◌, ◌+◌, List, drop, [], ◌∷◌, length, Option, Some, None, is_some, refl, sym, ap, subst, ◌∙◌, arith}
+use Rattle.std.proofs.Common.{inl, inr, ◌≡◌, ℕ, Bool, true, false, cond, ◌≤◌, ◌+◌, List, drop, [], ◌∷◌, length, Option, Some, None, is_some, refl, sym, ap, subst, ◌∙◌, arith}
 use Rattle.std.specs.Prelude.{◌==◌, option_map}
 use Rattle.std.proofs.lemmas.Bool.{both_ways, eqb-true, eq-eqb, ne_eqb, not-false, and_parts}
 use Rattle.nn_types.specs.declared.block.Block.{Block}
@@ -9,20 +9,14 @@ use Rattle.nn_model.proofs.Trees.{stays_well_formed}
 use Rattle.nn_model.specs.declared.form.Form.TheVariants.{Dir, File}
 use Rattle.nn_model.specs.declared.form.FileRow.{FileRow}
 use Rattle.nn_model.specs.Namespace.{Namespace, lookup, file_at, file_or_none}
-use Rattle.nn_model.specs.Apply.{first, list_checks, with_blocks, keeps_ids, keeps_stamps, when, closed as closed_at, in_path_order}
+use Rattle.nn_model.specs.Apply.{first, list_checks, with_blocks, keeps_ids}
 use Rattle.nn_model.specs.Touched.{listed, ids_of}
-use Rattle.nn_model.specs.declared.fault.EditFault.{EditFault}
-use Rattle.nn_model.specs.declared.fault.EditFault.TheVariants.{WrongBlocks, BadGeneration}
 use Rattle.nn_model.specs.WellFormed.{Has, times, IsWellFormed}
 use Rattle.nn_model.proofs.Dues.{all_none, when_none, stands_times}
 use Rattle.nn_model.proofs.Wells.{times_put}
-use Rattle.nn_model.specs.declared.form.Form.{Form}
 use Rattle.nn_model.specs.Namespace.{Path}
 use Rattle.nn_tree.specs.declared.index.BlockRow.{BlockRow}
 use Rattle.nn_tree.specs.View.{IsKept, renewed}
-use Rattle.nn_tree.specs.At.{at}
-use Rattle.nn_tree.specs.Walks.{file_fault}
-use Rattle.nn_tree.proofs.Bridge.{file_refused}
 use Rattle.nn_tree.proofs.Indexed.{old_blocks}
 use Rattle.nn_tree.proofs.Kept.{put_index, old_own}
 
@@ -107,13 +101,6 @@ list_kept n p bs closed x look next l lawful was goes k =
         gone = λ z old away. goes z.id ∙ renewed_gone look closed f.blocks bs z ids old away;
       }) k.index;
     }
-
--- the tree does find the file
-pub list_found : (es : List (Path × Form)) (n : Namespace) (p ns : Path) (bs : List Block) (e : EditFault) → in_path_order es ≡ n.rows → ns ≡ p → file_fault (at es) ns ≡ Some e → first (list_checks n p bs) ≡ None → ⊥
-list_found es n p ns bs e h k fault applies =
-    let found = file_refused es n p ns (closed_at n p ∷ when (not (keeps_ids (file_at n p).blocks bs)) WrongBlocks ∷ when (not (keeps_stamps n.last_stamp (file_at n p).blocks bs)) BadGeneration ∷ []) e h k fault in
-    let none : Some e ≡ None = found ∙ applies in
-    (cc none)
 
 -- what a new list touched
 pub list_touched : (n : Namespace) (p : Path) (bs : List Block) (x : FileRow) → lookup n p ≡ Some (File x) → record { changed = bs; retired = ids_of (drop (length bs) x.blocks); skipped = None } ≡ listed n p bs

@@ -2,6 +2,7 @@ pub mod Flat
 pub mod Falls
 pub mod At
 pub mod Walks
+pub mod Changes
 pub mod Ids
 pub mod View
 pub mod Found

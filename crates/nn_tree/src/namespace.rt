@@ -89,12 +89,22 @@ impl Namespace {
     {
         self.well_formed();
         lawful(edit);
-        if let Some(fault) = self.refusal(edit) {
-            return Err(fault);
-        }
-        let done = self.change(edit);
+        let Ok(touched) = self.change(edit) else {
+            return Err(self.why_not(edit));
+        };
         self.well_formed();
-        done
+        Ok(touched)
+    }
+
+    // Why an edit made no change.
+    fn why_not(&self, edit: &Edit) -> EditFault
+        ensures fault { IsFault result (refusal self.now edit.now) }
+        ensures memory { result ≡ EditFault.OutOfMemory → refusal self.now edit.now ≡ None }
+    {
+        let Some(fault) = self.refusal(edit) else {
+            return EditFault::OutOfMemory;
+        };
+        fault
     }
 
     /// Every namespace is well formed. This does nothing: it is there for the proofs of callers.

@@ -1,6 +1,6 @@
 //! A directory tree, seen as the list of its paths with what stands there. It knows no ids and no index.
-ghost use Rattle.std.specs.Prelude.{◌≡◌, [], ◌∷◌, ◌++◌, OnOk, OnErr, ◌+◌, ◌<◌, length, IsSome, is_some, Some, None, true, MatchResult, IfOk};
-ghost use Rattle.nn_tree.specs.Walks.{is_file, file_fault, walk_fault, mkdir_fault, delete_fault, rename_fault, starts_with, IsRenamed};
+ghost use Rattle.std.specs.Prelude.{◌≡◌, [], ◌∷◌, ◌++◌, OnOk, OnErr, ◌+◌, ◌<◌, length, IsSome, is_some, Some, None, true, cond, MatchResult, IfOk};
+ghost use Rattle.nn_tree.specs.Walks.{file_fault, walk_fault, mkdir_fault, delete_fault, into_itself_fault, rename_fault, starts_with, IsRenamed};
 ghost use Rattle.std.specs.String.{string_bytes};
 ghost use Rattle.std.specs.Option.{option_copied};
 ghost use Rattle.nn_model.specs.declared.form.Form.TheVariants.{Dir, File};
@@ -13,6 +13,9 @@ ghost use Rattle.nn_tree.specs.Found.{form_of};
 ghost use Rattle.std.specs.FinMap.Entries.{is_sorted};
 ghost use Rattle.nn_model.specs.Namespace.{path_cmp};
 ghost use Rattle.nn_tree.specs.At.{at, names_of, IsSubtree, IsGrafted, IsSame};
+ghost use Rattle.nn_tree.specs.Changes.{IsMade};
+
+pub(crate) mod files;
 
 use crate::found::Found;
 use crate::listing::{Extent, RowSink};
@@ -23,6 +26,10 @@ use std::alloc::{AllocError, Global};
 use std::collections::BTreeMap;
 use std::marker::Model;
 use std::mem;
+
+/// Nothing was changed: the edit is refused, or memory ran out. Which of both, and why, `refusal` knows.
+#[derive(Clone, Copy)]
+pub(crate) struct Unchanged;
 
 /// A file, or a directory with all that lies below it.
 #[cycle(tree)]
@@ -94,28 +101,33 @@ impl Tree {
         child.node(rest)
     }
 
-    /// Puts a tree at a name in the directory at `parent`.
-    pub(crate) fn insert(
-        &mut self,
-        parent: &[String],
-        name: String,
-        tree: Tree,
-    ) -> Result<(), AllocError>
-        requires { at self.old (names_of parent.now) ≡ Some Dir }
-        ensures ok { OnOk result (IsGrafted self.old (names_of parent.now ++ string_bytes name ∷ []) (Some tree) self.new) }
+    /// Puts a tree at a path where nothing stands, in a directory.
+    pub(crate) fn make(&mut self, names: &[String], tree: Tree) -> Result<(), Unchanged>
+        ensures ok { OnOk result (IsMade self.old (names_of names.now) tree self.new) }
         ensures err { OnErr result (IsSame self.old self.new) }
     {
         let Node::Folder(children) = &mut self.node else {
-            unreachable!()
+            return Err(Unchanged);
         };
-        let Some((first, rest)) = parent.split_first() else {
-            children.insert(name, tree)?;
+        let Some((first, rest)) = names.split_first() else {
+            return Err(Unchanged);
+        };
+        if rest.is_empty() {
+            if children.contains_key(first.as_str()) {
+                return Err(Unchanged);
+            }
+            let Ok(name) = first.clone() else {
+                return Err(Unchanged);
+            };
+            let Ok(_none) = children.insert(name, tree) else {
+                return Err(Unchanged);
+            };
             return Ok(());
-        };
+        }
         let Some(child) = children.get_mut(first.as_str()) else {
-            unreachable!()
+            return Err(Unchanged);
         };
-        child.insert(rest, name, tree)
+        child.make(rest, tree)
     }
 
     /// Takes out what stands at the path.
@@ -238,33 +250,6 @@ impl Tree {
         Ok(file)
     }
 
-    /// Puts a file in place of the file at the path, and gives that back.
-    pub(crate) fn set_file(&mut self, names: &[String], file: FileRow) -> FileRow
-        requires { is_file (at self.old (names_of names.now)) ≡ true }
-        ensures old { IsSubtree self.old (names_of names.now) (Some (([], File result) ∷ [])) }
-        ensures new { IsGrafted self.old (names_of names.now) (Some (([], File file) ∷ [])) self.new }
-    {
-        let old = self.put(names, Tree::new_file(file));
-        let Tree { node } = old;
-        let Node::Leaf(file) = node else {
-            unreachable!()
-        };
-        file
-    }
-
-    /// Puts a tree at a path where nothing stands.
-    pub(crate) fn make(&mut self, names: &[String], tree: Tree) -> Result<(), AllocError>
-        requires { mkdir_fault (at self.old) (names_of names.now) ≡ None }
-        ensures ok { OnOk result (IsGrafted self.old (names_of names.now) (Some tree) self.new) }
-        ensures err { OnErr result (IsSame self.old self.new) }
-    {
-        let Some((last, parent)) = names.split_last() else {
-            unreachable!()
-        };
-        let name = last.clone()?;
-        self.insert(parent, name, tree)
-    }
-
     /// The fault of a rename.
     pub(crate) fn rename_refusal(&self, src: &[String], dst: &[String]) -> Option<EditFault>
         ensures { result ≡ rename_fault (at self.now) (names_of src.now) (names_of dst.now) }
@@ -275,7 +260,7 @@ impl Tree {
         if let Some(fault) = self.delete_refusal(src) {
             return Some(fault);
         }
-        if src.len() < dst.len() && begins_with(dst, src) {
+        if lies_below(dst, src) {
             return Some(EditFault::IntoItself);
         }
         self.mkdir_refusal(dst)
@@ -287,13 +272,21 @@ impl Tree {
         alloc: Global,
         src: &[String],
         dst: &[String],
-    ) -> Result<(), AllocError>
-        requires lawful { rename_fault (at self.old) (names_of src.now) (names_of dst.now) ≡ None }
-        requires free { IsSubtree self.old (names_of dst.now) None }
+    ) -> Result<(), Unchanged>
+        ensures applies { OnOk result (rename_fault (at self.old) (names_of src.now) (names_of dst.now) ≡ None) }
+        ensures free { OnOk result (IsSubtree self.old (names_of dst.now) None) }
         ensures ok { OnOk result (IsRenamed self.old (names_of src.now) (names_of dst.now) self.new) }
         ensures err { OnErr result (IsSame self.old self.new) }
     {
-        self.make(dst, Tree::new_dir(alloc))?;
+        if self.delete_refusal(src).is_some() {
+            return Err(Unchanged);
+        }
+        if lies_below(dst, src) {
+            return Err(Unchanged);
+        }
+        let Ok(()) = self.make(dst, Tree::new_dir(alloc)) else {
+            return Err(Unchanged);
+        };
         let Some(tree) = self.take(src) else {
             unreachable!()
         };
@@ -356,6 +349,13 @@ impl Tree {
         }
         Ok(())
     }
+}
+
+// Whether the path lies below the other one.
+fn lies_below(names: &[String], above: &[String]) -> bool
+    ensures { into_itself_fault (names_of above.now) (names_of names.now) ≡ cond result (Some EditFault.IntoItself) None }
+{
+    above.len() < names.len() && begins_with(names, above)
 }
 
 // Whether the path begins with the prefix.

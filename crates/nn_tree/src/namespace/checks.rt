@@ -5,8 +5,9 @@ ghost use Rattle.nn_model.specs.Namespace.{no_stamp};
 ghost use Rattle.nn_model.specs.Apply.{refusal, first, list_checks, keeps_ids, keeps_stamps};
 
 use super::{NO_STAMP, Namespace};
+use crate::tree::files::{keeps_ids, keeps_stamps};
 use nn_model::EditFault;
-use nn_types::{Block, BlockId, Blocks, GenerationStamp, Path, Replication};
+use nn_types::{BlockId, Blocks, GenerationStamp, Path, Replication};
 
 impl Namespace {
     pub(super) fn mkdir_refusal(&self, path: &Path) -> Option<EditFault>
@@ -125,7 +126,7 @@ impl Namespace {
 }
 
 // Whether a file may have this replication.
-fn is_replication(replication: Replication) -> bool
+pub(super) fn is_replication(replication: Replication) -> bool
     ensures { (nat_lt replication 1 || nat_lt 512 replication) ≡ not result }
 {
     let replicas = replication.get();
@@ -133,40 +134,8 @@ fn is_replication(replication: Replication) -> bool
 }
 
 // Whether the log has issued the generation stamp, where this is the last one.
-fn is_issued(last: GenerationStamp, stamp: GenerationStamp) -> bool
+pub(super) fn is_issued(last: GenerationStamp, stamp: GenerationStamp) -> bool
     ensures { (nat_le stamp no_stamp || nat_lt last stamp) ≡ not result }
 {
     NO_STAMP < stamp.get() && stamp <= last
-}
-
-// Whether the new list has the ids of the old one, all of them or all but the last.
-fn keeps_ids(old: &[Block], new: &[Block]) -> bool
-    ensures { result ≡ keeps_ids old.now new.now }
-{
-    let Some((a, old_rest)) = old.split_first() else {
-        return new.is_empty();
-    };
-    let Some((b, new_rest)) = new.split_first() else {
-        return old_rest.is_empty();
-    };
-    if a.id != b.id {
-        return false;
-    }
-    keeps_ids(old_rest, new_rest)
-}
-
-// Whether each new generation stamp is at least the old one, and at most the last one issued.
-fn keeps_stamps(last: GenerationStamp, old: &[Block], new: &[Block]) -> bool
-    ensures { result ≡ keeps_stamps last old.now new.now }
-{
-    let Some((b, new_rest)) = new.split_first() else {
-        return true;
-    };
-    let Some((a, old_rest)) = old.split_first() else {
-        return true;
-    };
-    if b.stamp < a.stamp || last < b.stamp {
-        return false;
-    }
-    keeps_stamps(last, old_rest, new_rest)
 }

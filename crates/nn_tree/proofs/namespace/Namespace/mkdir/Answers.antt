@@ -1,36 +1,25 @@
 use Rattle.std.proofs.Common.{◌≡◌, List, Some, None, sym, ap, subst, ◌∙◌, refl}
 use Rattle.nn_edits.specs.declared.tx.Edit.TheVariants as edit
 use Rattle.nn_model.specs.declared.form.Form.TheVariants.{Dir}
-use Rattle.nn_model.specs.Namespace.{Namespace}
+use Rattle.nn_model.specs.Namespace.{Namespace, Path}
 use Rattle.nn_model.specs.Apply.{refusal, effect}
 use Rattle.nn_model.specs.declared.form.Form.{Form}
-use Rattle.nn_model.specs.Namespace.{Path}
 use Rattle.std.specs.BTreeMap.{get}
 use Rattle.std.specs.Ordering.{nat_cmp}
-use Rattle.nn_tree.specs.At.{at, names_of}
+use Rattle.nn_tree.specs.At.{names_of, IsGrafted}
 use Rattle.nn_tree.specs.View.{seen, IsKept}
 use Rattle.nn_tree.proofs.Bridge.{mkdir_refused}
-use Rattle.nn_tree.proofs.Kept.{mkdir_room, still_seen, still_kept, made, mkdir_kept}
+use Rattle.nn_tree.proofs.Kept.{still_seen, still_kept, made, mkdir_kept}
 use Rattle.nn_tree.proofs.namespace.Namespace.mkdir.Goals as goal
-
-pub make-requires : goal.make-requires
-make-requires c =
-    let i = c.self.inside in
-    let s = seen i.root i.last_block i.last_stamp i.waiting.keys in
-    let p = c.args.path.now in
-    let ns = names_of c.names.result.now in
-    mkdir_refused i.root s p ns refl c.names.ensures.names ∙ (subst (λ (n : Namespace). refusal n (edit.Mkdir c.args.path.now) ≡ None) (sym c.self.view_is) c.requires.applies)
 
 pub invariant_of-self : goal.invariant_of-self
 invariant_of-self c =
     let i = c.self.inside in
-    let s = seen i.root i.last_block i.last_stamp i.waiting.keys in
     still_kept i.root c.make.new.self i.last_block i.last_stamp i.waiting.keys _ c.in_default.ensures.err c.self.invariant
 
 pub returns-in_default-clause-err : goal.returns-in_default-clause-err
 returns-in_default-clause-err c =
     let i = c.self.inside in
-    let s = seen i.root i.last_block i.last_stamp i.waiting.keys in
     still_seen i.root c.make.new.self i.last_block i.last_stamp i.waiting.keys c.in_default.ensures.err ∙ c.self.view_is
 
 pub invariant_of-self-2 : goal.invariant_of-self-2
@@ -39,8 +28,18 @@ invariant_of-self-2 c =
     let s = seen i.root i.last_block i.last_stamp i.waiting.keys in
     let p = c.args.path.now in
     let ns = names_of c.names.result.now in
-    let is = made i.root c.make.new.self i.last_block i.last_stamp i.waiting.keys p ns (Dir) c.names.ensures.names (mkdir_room s p c.self.invariant.well (subst (λ (n : Namespace). refusal n (edit.Mkdir c.args.path.now) ≡ None) (sym c.self.view_is) c.requires.applies)) (subst (λ (es : List (Path × Form)). Rattle.nn_tree.specs.At.IsGrafted i.root ns (Some es) c.make.new.self) c.new_dir.ensures c.in-Ok.ensures.ok) in
-    subst (λ (n : Namespace). IsKept n (λ id. get nat_cmp i.index id)) (sym is) (mkdir_kept s p _ c.requires.lawful (subst (λ (n : Namespace). refusal n (edit.Mkdir c.args.path.now) ≡ None) (sym c.self.view_is) c.requires.applies) c.self.invariant)
+    let lawful : refusal s (edit.Mkdir p) ≡ None = sym (mkdir_refused i.root s p ns refl c.names.ensures.names) ∙ c.in-Ok.ensures.ok.0 in
+    let is : seen c.make.new.self i.last_block i.last_stamp i.waiting.keys ≡ effect s (edit.Mkdir c.args.path.now) = made i.root c.make.new.self i.last_block i.last_stamp i.waiting.keys p ns Dir c.names.ensures.names c.in-Ok.ensures.ok.1 (subst (λ (es : List (Path × Form)). IsGrafted i.root ns (Some es) c.make.new.self) c.new_dir.ensures c.in-Ok.ensures.ok.2) in
+    subst (λ (n : Namespace). IsKept n (λ id. get nat_cmp i.index id)) (sym is) (mkdir_kept s p _ c.requires.lawful lawful c.self.invariant)
+
+pub returns-clause-applies : goal.returns-clause-applies
+returns-clause-applies c =
+    let i = c.self.inside in
+    let s = seen i.root i.last_block i.last_stamp i.waiting.keys in
+    let p = c.args.path.now in
+    let ns = names_of c.names.result.now in
+    let lawful : refusal s (edit.Mkdir p) ≡ None = sym (mkdir_refused i.root s p ns refl c.names.ensures.names) ∙ c.in-Ok.ensures.ok.0 in
+    subst (λ (n : Namespace). refusal n (edit.Mkdir c.args.path.now) ≡ None) c.self.view_is lawful
 
 pub returns-clause-ok : goal.returns-clause-ok
 returns-clause-ok c =
@@ -48,4 +47,5 @@ returns-clause-ok c =
     let s = seen i.root i.last_block i.last_stamp i.waiting.keys in
     let p = c.args.path.now in
     let ns = names_of c.names.result.now in
-    made i.root c.make.new.self i.last_block i.last_stamp i.waiting.keys p ns (Dir) c.names.ensures.names (mkdir_room s p c.self.invariant.well (subst (λ (n : Namespace). refusal n (edit.Mkdir c.args.path.now) ≡ None) (sym c.self.view_is) c.requires.applies)) (subst (λ (es : List (Path × Form)). Rattle.nn_tree.specs.At.IsGrafted i.root ns (Some es) c.make.new.self) c.new_dir.ensures c.in-Ok.ensures.ok) ∙ ap (λ (n : Namespace). effect n (edit.Mkdir c.args.path.now)) c.self.view_is
+    let is : seen c.make.new.self i.last_block i.last_stamp i.waiting.keys ≡ effect s (edit.Mkdir c.args.path.now) = made i.root c.make.new.self i.last_block i.last_stamp i.waiting.keys p ns Dir c.names.ensures.names c.in-Ok.ensures.ok.1 (subst (λ (es : List (Path × Form)). IsGrafted i.root ns (Some es) c.make.new.self) c.new_dir.ensures c.in-Ok.ensures.ok.2) in
+    is ∙ ap (λ (n : Namespace). effect n (edit.Mkdir c.args.path.now)) c.self.view_is

@@ -1,4 +1,4 @@
-use Rattle.std.proofs.Common.{◌≡◌, Some, None, sym, ap, subst, ◌∙◌}
+use Rattle.std.proofs.Common.{◌≡◌, not, Some, None, refl, sym, ap, subst, ◌∙◌}
 use Rattle.nn_edits.specs.declared.tx.Edit.TheVariants as edit
 use Rattle.nn_model.specs.declared.form.Form.TheVariants.{File}
 use Rattle.nn_model.specs.declared.form.FileRow.{FileRow}
@@ -8,55 +8,60 @@ use Rattle.std.specs.BTreeMap.{get}
 use Rattle.std.specs.Ordering.{nat_cmp}
 use Rattle.nn_tree.specs.At.{names_of}
 use Rattle.nn_tree.specs.View.{seen, IsKept}
-use Rattle.nn_tree.proofs.Kept.{set_replication_file, file_here, is_file_there, file_was, file_seen, set_replication_kept}
+use Rattle.nn_tree.proofs.Applies.{HasFile, set_replication_applies}
+use Rattle.nn_tree.proofs.Kept.{still_seen, still_kept, file_was, file_seen, set_replication_kept}
+use Rattle.nn_tree.proofs.Maps.{not_root}
 use Rattle.nn_tree.proofs.namespace.Namespace.set_replication.Goals as goal
-
-pub set_file-file-requires : goal.set_file-file-requires
-set_file-file-requires c =
-    let i = c.self.inside in
-    let s = seen i.root i.last_block i.last_stamp i.waiting.keys in
-    let p = c.args.path.now in
-    let ns = names_of c.names-names.result.now in
-    let lawful : refusal s (edit.SetReplication c.args.path.now c.args.replication) ≡ None = subst (λ (n : Namespace). refusal n (edit.SetReplication c.args.path.now c.args.replication) ≡ None) (sym c.self.view_is) c.requires.applies in
-    file_here i.root i.last_block i.last_stamp i.waiting.keys p ns c.names-names.ensures.names (set_replication_file s p c.args.replication lawful)
-
-pub set_file-empty-requires : goal.set_file-empty-requires
-set_file-empty-requires c =
-    let i = c.self.inside in
-    let s = seen i.root i.last_block i.last_stamp i.waiting.keys in
-    let p = c.args.path.now in
-    let ns = names_of c.names-names.result.now in
-    let lawful : refusal s (edit.SetReplication c.args.path.now c.args.replication) ≡ None = subst (λ (n : Namespace). refusal n (edit.SetReplication c.args.path.now c.args.replication) ≡ None) (sym c.self.view_is) c.requires.applies in
-    is_file_there i.root c.set_file-file.new.self ns c.set_file-file.result _ c.set_file-file.ensures.old c.set_file-file.ensures.new
 
 pub invariant_of-self : goal.invariant_of-self
 invariant_of-self c =
     let i = c.self.inside in
-    let s = seen i.root i.last_block i.last_stamp i.waiting.keys in
-    let p = c.args.path.now in
-    let ns = names_of c.names-names.result.now in
-    let lawful : refusal s (edit.SetReplication c.args.path.now c.args.replication) ≡ None = subst (λ (n : Namespace). refusal n (edit.SetReplication c.args.path.now c.args.replication) ≡ None) (sym c.self.view_is) c.requires.applies in
-    let x = c.set_file-file.result in
-    let was : lookup s p ≡ Some (File x) = file_was i.root i.last_block i.last_stamp i.waiting.keys p ns x c.names-names.ensures.names c.set_file-file.ensures.old in
-    let z : FileRow = record { replication = c.args.replication; closed = x.closed; blocks = x.blocks } in
-    let old : x ≡ file_at s p = sym (ap file_or_none was) in
-    let is : seen c.set_file-empty.new.self i.last_block i.last_stamp i.waiting.keys ≡ effect s (edit.SetReplication p c.args.replication) =
-    file_seen i.root c.set_file-file.new.self c.set_file-empty.new.self i.last_block i.last_stamp i.waiting.keys p ns x _ c.set_file-empty.result z c.names-names.ensures.names c.set_file-file.ensures.old c.set_file-file.ensures.new c.set_file-empty.ensures.old c.set_file-empty.ensures.new
-    ∙ ap (λ (f : FileRow). with_row s p (File (record { replication = c.args.replication; closed = f.closed; blocks = f.blocks }))) old in
-    subst (λ (n : Namespace). IsKept n (λ id. get nat_cmp i.index id)) (sym is) (set_replication_kept s p c.args.replication x _ c.requires.lawful lawful was c.self.invariant)
+    still_kept i.root c.set_replication.new.self i.last_block i.last_stamp i.waiting.keys _ c.in_default.ensures.err c.self.invariant
 
-pub returns-clause-new : goal.returns-clause-new
-returns-clause-new c =
+pub returns-in_default-clause-err : goal.returns-in_default-clause-err
+returns-in_default-clause-err c =
+    let i = c.self.inside in
+    still_seen i.root c.set_replication.new.self i.last_block i.last_stamp i.waiting.keys c.in_default.ensures.err ∙ c.self.view_is
+
+pub invariant_of-self-2 : goal.invariant_of-self-2
+invariant_of-self-2 c =
     let i = c.self.inside in
     let s = seen i.root i.last_block i.last_stamp i.waiting.keys in
     let p = c.args.path.now in
     let ns = names_of c.names-names.result.now in
-    let lawful : refusal s (edit.SetReplication c.args.path.now c.args.replication) ≡ None = subst (λ (n : Namespace). refusal n (edit.SetReplication c.args.path.now c.args.replication) ≡ None) (sym c.self.view_is) c.requires.applies in
-    let x = c.set_file-file.result in
-    let was : lookup s p ≡ Some (File x) = file_was i.root i.last_block i.last_stamp i.waiting.keys p ns x c.names-names.ensures.names c.set_file-file.ensures.old in
-    let z : FileRow = record { replication = c.args.replication; closed = x.closed; blocks = x.blocks } in
-    let old : x ≡ file_at s p = sym (ap file_or_none was) in
-    let is : seen c.set_file-empty.new.self i.last_block i.last_stamp i.waiting.keys ≡ effect s (edit.SetReplication p c.args.replication) =
-    file_seen i.root c.set_file-file.new.self c.set_file-empty.new.self i.last_block i.last_stamp i.waiting.keys p ns x _ c.set_file-empty.result z c.names-names.ensures.names c.set_file-file.ensures.old c.set_file-file.ensures.new c.set_file-empty.ensures.old c.set_file-empty.ensures.new
+    let done = c.in-Ok.ensures.ok in
+    let has : HasFile i.root s p ns done.0 = record { rows = refl; names = c.names-names.ensures.names; root = not_root c.names-names.result.now c.if-is_empty.ensures; walked = done.2; stands = done.3 } in
+    let lawful : refusal s (edit.SetReplication p c.args.replication) ≡ None = set_replication_applies i.root s p ns done.0 c.args.replication has (c.is_replication.ensures ∙ ap not c.if-not-is_replication.false) in
+    let was : lookup s p ≡ Some (File done.0) = file_was i.root i.last_block i.last_stamp i.waiting.keys p ns done.0 c.names-names.ensures.names done.3 in
+    let old : done.0 ≡ file_at s p = sym (ap file_or_none was) in
+    let is : seen c.set_replication.new.self i.last_block i.last_stamp i.waiting.keys ≡ effect s (edit.SetReplication p c.args.replication) =
+    file_seen i.root c.set_replication.new.self i.last_block i.last_stamp i.waiting.keys p ns done.0 done.1 c.names-names.ensures.names done.3 done.4
+    ∙ ap (λ (f : FileRow). with_row s p (File f)) done.5
     ∙ ap (λ (f : FileRow). with_row s p (File (record { replication = c.args.replication; closed = f.closed; blocks = f.blocks }))) old in
-    is ∙ ap (λ (n : Namespace). effect n (edit.SetReplication c.args.path.now c.args.replication)) c.self.view_is
+    subst (λ (n : Namespace). IsKept n (λ id. get nat_cmp i.index id)) (sym is) (set_replication_kept s p c.args.replication done.0 _ c.requires.lawful lawful was c.self.invariant)
+
+pub returns-clause-applies : goal.returns-clause-applies
+returns-clause-applies c =
+    let i = c.self.inside in
+    let s = seen i.root i.last_block i.last_stamp i.waiting.keys in
+    let p = c.args.path.now in
+    let ns = names_of c.names-names.result.now in
+    let done = c.in-Ok.ensures.ok in
+    let has : HasFile i.root s p ns done.0 = record { rows = refl; names = c.names-names.ensures.names; root = not_root c.names-names.result.now c.if-is_empty.ensures; walked = done.2; stands = done.3 } in
+    let lawful : refusal s (edit.SetReplication p c.args.replication) ≡ None = set_replication_applies i.root s p ns done.0 c.args.replication has (c.is_replication.ensures ∙ ap not c.if-not-is_replication.false) in
+    subst (λ (n : Namespace). refusal n (edit.SetReplication p c.args.replication) ≡ None) c.self.view_is lawful
+
+pub returns-clause-ok : goal.returns-clause-ok
+returns-clause-ok c =
+    let i = c.self.inside in
+    let s = seen i.root i.last_block i.last_stamp i.waiting.keys in
+    let p = c.args.path.now in
+    let ns = names_of c.names-names.result.now in
+    let done = c.in-Ok.ensures.ok in
+    let was : lookup s p ≡ Some (File done.0) = file_was i.root i.last_block i.last_stamp i.waiting.keys p ns done.0 c.names-names.ensures.names done.3 in
+    let old : done.0 ≡ file_at s p = sym (ap file_or_none was) in
+    let is : seen c.set_replication.new.self i.last_block i.last_stamp i.waiting.keys ≡ effect s (edit.SetReplication p c.args.replication) =
+    file_seen i.root c.set_replication.new.self i.last_block i.last_stamp i.waiting.keys p ns done.0 done.1 c.names-names.ensures.names done.3 done.4
+    ∙ ap (λ (f : FileRow). with_row s p (File f)) done.5
+    ∙ ap (λ (f : FileRow). with_row s p (File (record { replication = c.args.replication; closed = f.closed; blocks = f.blocks }))) old in
+    is ∙ ap (λ (n : Namespace). effect n (edit.SetReplication p c.args.replication)) c.self.view_is

@@ -1,5 +1,5 @@
 -- The walk of a path's parents.
-use Rattle.std.proofs.Common.{◌≡◌, ℕ, false, List, [], ◌∷◌, ◌++◌, length, Option, Some, None, Result, MatchResult, IfOk, Ok, Err, refl, ap, ◌∙◌, String, Global}
+use Rattle.std.proofs.Common.{◌≡◌, ℕ, false, List, [], ◌∷◌, ◌++◌, length, Option, Some, None, Result, MatchResult, IfOk, IfSome, Ok, Err, refl, ap, ◌∙◌, String, Global}
 use Rattle.std.specs.Bool.{◌==◌}
 use Rattle.nn_model.specs.declared.form.Form.{Form}
 use Rattle.nn_model.specs.Namespace.{Path}
@@ -41,3 +41,15 @@ same_answer (Err x) a b e h = e ∙ h
 pub if_ok : {X E : Type 0} (r : Result X E) {P Q : X → Type 0} → ((x : X) → P x → Q x) → IfOk r P → IfOk r Q
 if_ok (Ok x) f p = f x p
 if_ok (Err e) f p = p
+
+pub if_some : {X : Type 0} (o : Option X) {P : X → Type 0} → ((x : X) → P x) → IfSome o P
+if_some None f = tt
+if_some (Some x) f = f x
+
+pub if_some_too : {X : Type 0} (o : Option X) {P Q : X → Type 0} → ((x : X) → P x → Q x) → IfSome o P → IfSome o Q
+if_some_too None f p = tt
+if_some_too (Some x) f p = f x p
+
+-- a path of one name
+pub walk_last : (es : List (Path × Form)) (n : List ℕ) (ps : Path) → ps ≡ n ∷ [] → at es [] ≡ Some Dir → walk_fault (at es) ps ≡ None
+walk_last es n ps e top = ap (walk_fault (at es)) e ∙ ap (λ o. parent_fault o None) top

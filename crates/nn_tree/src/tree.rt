@@ -1,6 +1,6 @@
 //! A directory tree, seen as the list of its paths with what stands there. It knows no ids and no index.
-ghost use Rattle.std.specs.Prelude.{◌≡◌, [], ◌∷◌, ◌++◌, OnOk, OnErr, ◌+◌, ◌<◌, length, IsSome, is_some, Some, None, true, cond, MatchResult, IfOk};
-ghost use Rattle.nn_tree.specs.Walks.{file_fault, walk_fault, mkdir_fault, delete_fault, into_itself_fault, rename_fault, starts_with, IsRenamed};
+ghost use Rattle.std.specs.Prelude.{◌≡◌, [], ◌∷◌, ◌++◌, OnOk, OnErr, ◌+◌, ◌<◌, length, IsSome, is_some, Some, None, true, MatchResult, IfOk, IfSome};
+ghost use Rattle.nn_tree.specs.Walks.{file_fault, walk_fault, mkdir_fault, delete_fault, rename_fault, starts_with, IsRenamed};
 ghost use Rattle.std.specs.String.{string_bytes};
 ghost use Rattle.std.specs.Option.{option_copied};
 ghost use Rattle.nn_model.specs.declared.form.Form.TheVariants.{Dir, File};
@@ -133,6 +133,7 @@ impl Tree {
     /// Takes out what stands at the path.
     pub(crate) fn take(&mut self, names: &[String]) -> Option<Tree>
         requires { 0 < length names.now }
+        ensures walked { IfSome result (λ t. walk_fault (at self.old) (names_of names.now) ≡ None) }
         ensures taken { IsSubtree self.old (names_of names.now) result }
         ensures gone { IsGrafted self.old (names_of names.now) None self.new }
     {
@@ -260,7 +261,7 @@ impl Tree {
         if let Some(fault) = self.delete_refusal(src) {
             return Some(fault);
         }
-        if lies_below(dst, src) {
+        if src.len() < dst.len() && begins_with(dst, src) {
             return Some(EditFault::IntoItself);
         }
         self.mkdir_refusal(dst)
@@ -278,18 +279,20 @@ impl Tree {
         ensures ok { OnOk result (IsRenamed self.old (names_of src.now) (names_of dst.now) self.new) }
         ensures err { OnErr result (IsSame self.old self.new) }
     {
-        if self.delete_refusal(src).is_some() {
+        if src.is_empty() {
             return Err(Unchanged);
         }
-        if lies_below(dst, src) {
+        if begins_with(dst, src) {
             return Err(Unchanged);
         }
         let Ok(()) = self.make(dst, Tree::new_dir(alloc)) else {
             return Err(Unchanged);
         };
         let Some(tree) = self.take(src) else {
-            unreachable!()
+            let _placeholder = self.take(dst);
+            return Err(Unchanged);
         };
+        let _found = tree.top();
         let _placeholder = self.put(dst, tree);
         Ok(())
     }
@@ -349,13 +352,6 @@ impl Tree {
         }
         Ok(())
     }
-}
-
-// Whether the path lies below the other one.
-fn lies_below(names: &[String], above: &[String]) -> bool
-    ensures { into_itself_fault (names_of above.now) (names_of names.now) ≡ cond result (Some EditFault.IntoItself) None }
-{
-    above.len() < names.len() && begins_with(names, above)
 }
 
 // Whether the path begins with the prefix.

@@ -19,7 +19,7 @@ use Rattle.nn_tree.specs.declared.tree.Tree.{Tree}
 use Rattle.nn_tree.specs.declared.tree.Node.{Node}
 use Rattle.nn_tree.specs.declared.tree.Node.TheVariants.{Leaf}
 use Rattle.nn_tree.proofs.Subtree.{Children, dir_rows, IsDir, at_top, found, no_names, subtree_below}
-use Rattle.nn_tree.proofs.Step.{Becomes, graft_here, graft_below, graft_nothing, same_name}
+use Rattle.nn_tree.proofs.Step.{Becomes, at_changed, graft_here, graft_below, graft_nothing, same_name}
 use Rattle.nn_tree.proofs.Walk.{walk_below}
 
 -- nothing was changed
@@ -40,6 +40,17 @@ made_here es m k n ps t e d g b =
     let free : (q : Path) → at es (n ∷ q) ≡ None = found es m n None d (sym g) in
     let walk : walk_fault (at es) (n ∷ []) ≡ None = ap (λ o. parent_fault o None) (at_top es m d) in
     subst (λ (p : Path). IsMade es p t (dir_rows k)) (sym e) (made_fault (at es) (n ∷ []) refl walk (free []), free, graft_here es m k n (Some t) d b)
+
+-- what stood there, put back in place of what came
+pub put_back : (es : List (Path × Form)) (m k l : Children) (n : List ℕ) (t w : Tree) → IsDir es m → Some w ≡ get_by_text m n → Becomes m k n (Some t) → Becomes k l n (Some w) → IsSame es (dir_rows l)
+put_back es m k l n t w d g b c [] = sym (at_top es m d)
+put_back es m k l n t w d g b c (x ∷ q) =
+    at_changed (dir_rows k) k l n (Some w) (record { is = refl; ordered = b.ordered }) c x q
+    ∙ ap (cond (is_eq (name_cmp n x)) (at w q)) (at_changed es m k n (Some t) d b x q)
+    ∙ elim (is_eq (name_cmp n x)) as (λ i. is_eq (name_cmp n x) ≡ i → cond i (at w q) (cond i (at t q) (at es (x ∷ q))) ≡ at es (x ∷ q)) [
+      | true ↦ λ e. sym (found es m n (Some w) d g q) ∙ ap (λ y. at es (y ∷ q)) (same_name n x e)
+      | false ↦ λ e. refl
+    ] refl
 
 -- in the child t of the name n, which becomes w
 pub made_below : (es : List (Path × Form)) (m k : Children) (n : List ℕ) (ns ps : Path) (t w x : Tree) → ps ≡ n ∷ ns → IsDir es m → Becomes m k n (Some w) → ((q : Path) → at es (n ∷ q) ≡ at t q) → IsMade t ns x w → IsMade es ps x (dir_rows k)

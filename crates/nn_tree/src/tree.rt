@@ -113,16 +113,21 @@ impl Tree {
             return Err(Unchanged);
         };
         if rest.is_empty() {
-            if children.contains_key(first.as_str()) {
-                return Err(Unchanged);
-            }
             let Ok(name) = first.clone() else {
                 return Err(Unchanged);
             };
-            let Ok(_none) = children.insert(name, tree) else {
+            let Ok(before) = children.insert(name, tree) else {
                 return Err(Unchanged);
             };
-            return Ok(());
+            let Some(before) = before else {
+                return Ok(());
+            };
+            // One search serves where nothing stood. What did stand is put back.
+            let Some(place) = children.get_mut(first.as_str()) else {
+                unreachable!()
+            };
+            *place = before;
+            return Err(Unchanged);
         }
         let Some(child) = children.get_mut(first.as_str()) else {
             return Err(Unchanged);

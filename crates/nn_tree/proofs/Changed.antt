@@ -1,10 +1,10 @@
 -- What a change in one walk comes to, a step further up.
-use Rattle.std.proofs.Common.{◌≡◌, ℕ, true, false, List, [], ◌∷◌, length, Option, is_some, Some, None, refl, sym, ap, subst, ◌∙◌, String, Global, cond, ◌&&◌, ◌++◌, drop, IsSome, nat_lt}
+use Rattle.std.proofs.Common.{◌≡◌, ℕ, true, false, List, [], ◌∷◌, length, Option, is_some, Some, None, refl, sym, ap, subst, ◌∙◌, cond, ◌&&◌, ◌++◌, drop, IsSome, nat_lt}
 use Rattle.nn_model.specs.declared.form.Form.{Form}
 use Rattle.nn_model.specs.declared.form.Form.TheVariants.{Dir, File}
 use Rattle.nn_model.specs.declared.form.FileRow.{FileRow}
 use Rattle.nn_model.specs.Namespace.{Path}
-use Rattle.nn_tree.specs.At.{at, rows, names_of, name_cmp, grafted, IsSame}
+use Rattle.nn_tree.specs.At.{at, rows, name_cmp, grafted, IsSame}
 use Rattle.nn_tree.specs.Changes.{IsMade, IsFileChanged}
 use Rattle.nn_tree.specs.Walks.{or_fault, starts_with, parent_fault, root_fault, walk_fault, exists_fault, mkdir_fault, delete_fault, into_itself_fault, rename_fault}
 use Rattle.nn_model.specs.declared.fault.EditFault.TheVariants.{IntoItself}
@@ -14,17 +14,10 @@ use Rattle.nn_tree.proofs.Renamed.{starts_append}
 use Rattle.nn_tree.proofs.Maps.{mkdir_lawful, or_None, delete_by_row}
 use Rattle.std.specs.BTreeMap.{get_by_text}
 use Rattle.std.proofs.lemmas.Bool.{both_ways}
-use Rattle.nn_tree.specs.Flat.{flat}
 use Rattle.nn_tree.specs.declared.tree.Tree.{Tree}
-use Rattle.nn_tree.specs.declared.tree.Node.{Node}
-use Rattle.nn_tree.specs.declared.tree.Node.TheVariants.{Leaf}
-use Rattle.nn_tree.proofs.Subtree.{Children, dir_rows, IsDir, at_top, found, no_names, subtree_below}
+use Rattle.nn_tree.proofs.Subtree.{Children, dir_rows, IsDir, at_top, found, subtree_below}
 use Rattle.nn_tree.proofs.Step.{Becomes, at_changed, graft_here, graft_below, graft_nothing, same_name}
 use Rattle.nn_tree.proofs.Walk.{walk_below}
-
--- nothing was changed
-pub same_rows : (es new : List (Path × Form)) → new ≡ es → IsSame es new
-same_rows es new e q = ap (λ z. at z q) e
 
 -- ---- a tree that is made
 pub none_at : {A : Type 0} (o : Option A) → false ≡ is_some o → o ≡ None
@@ -105,9 +98,3 @@ made_undone f g k l h s d free e none gone back q =
 pub file_below : (es : List (Path × Form)) (m k : Children) (n : List ℕ) (ns ps : Path) (t w : Tree) (R : FileRow → FileRow → Type 0) → ps ≡ n ∷ ns → IsDir es m → Becomes m k n (Some w) → ((q : Path) → at es (n ∷ q) ≡ at t q) → IsFileChanged t ns w R → IsFileChanged es ps (dir_rows k) R
 file_below es m k n ns ps t w R e d b f h =
     (h.0, h.1, walk_below es t n ns ps e (at_top es m d) f ∙ h.2, subtree_below es t n ns ps (Some (([], File h.0) ∷ [])) e f h.3, graft_below es m k n ns ps t w (Some (([], File h.1) ∷ [])) e d b f h.4, h.5)
-
--- the tree is a file itself
-pub file_itself : (es : List (Path × Form)) (node : Node) (x y : FileRow) (ps : List (String Global)) (R : FileRow → FileRow → Type 0) → flat node ≡ es → node ≡ Leaf x → length ps ≡ 0 → R x y → IsFileChanged es (names_of ps) (([], File y) ∷ []) R
-file_itself es node x y ps R v e z r =
-    subst (λ (p : Path). IsFileChanged es p (([], File y) ∷ []) R) (sym (no_names ps z))
-    (x, y, refl, (λ q. ap (λ rows. at rows q) (sym (sym (ap flat e) ∙ v))), (λ q. refl), r)

@@ -1,12 +1,12 @@
 -- Files of a tree.
-use Rattle.std.proofs.Common.{◌≡◌, true, List, [], Option, Some, None, sym, ap, subst, ◌∙◌, Bor}
+use Rattle.std.proofs.Common.{◌≡◌, List, [], Option, Some, None, sym, ap, subst, ◌∙◌, Bor}
 use Rattle.std.specs.Option.{option_copied}
 use Rattle.nn_model.specs.declared.form.Form.{Form}
 use Rattle.nn_model.specs.Namespace.{Path}
 use Rattle.nn_model.specs.declared.form.Form.TheVariants.{Dir}
 use Rattle.nn_tree.specs.At.{at, IsSubtree}
 use Rattle.nn_tree.specs.Flat.{flat}
-use Rattle.nn_tree.specs.Walks.{or_fault, root_fault, walk_fault, missing_fault, not_file_fault, file_fault, is_file}
+use Rattle.nn_tree.specs.Walks.{or_fault, root_fault, walk_fault, missing_fault, not_file_fault, file_fault}
 use Rattle.nn_tree.specs.declared.tree.Tree.{Tree}
 use Rattle.nn_tree.specs.declared.tree.Node.{Node}
 use Rattle.nn_tree.specs.declared.tree.Node.TheVariants.{Folder}
@@ -24,6 +24,3 @@ at_reached es p o t r is h e = at_found es t.now p r (subst (λ x. IsSubtree es 
 
 pub top_of_folder : (es : List (Path × Form)) (node : Node) (m : Children) → flat node ≡ es → node ≡ Folder m → at es [] ≡ Some Dir
 top_of_folder es node m v e = sym (ap (λ z. at z []) (sym (ap flat e) ∙ v))
-
-pub dir_no_file : (o : Option Form) → is_file o ≡ true → o ≡ Some Dir → ⊥
-dir_no_file o h e = (cc (ap is_file e, h))

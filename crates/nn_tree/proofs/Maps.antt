@@ -1,5 +1,5 @@
 -- The map of a list of paths.
-use Rattle.std.proofs.Common.{◌≡◌, ℕ, Bool, true, false, cond, not, ◌&&◌, List, [], ◌∷◌, ◌++◌, ◌<◌, length, Option, Some, None, is_some, refl, sym, ap, subst, ◌∙◌, String, Global, arith}
+use Rattle.std.proofs.Common.{◌≡◌, Bool, true, false, cond, not, ◌&&◌, List, [], ◌∷◌, ◌++◌, ◌<◌, length, Option, Some, None, is_some, refl, sym, ap, ◌∙◌, String, Global, arith}
 use Rattle.std.specs.declared.cmp.Ordering.TheVariants.{Less, Equal, Greater}
 use Rattle.std.specs.Ordering.{is_eq, eq_by_cmp, ordering_then, ordering_reverse}
 use Rattle.std.specs.Bool.{◌==◌}
@@ -9,16 +9,12 @@ use Rattle.std.specs.FinMap.{IsAntisymmetric, slice_cmp-IsAntisymmetric, nat_cmp
 use Rattle.std.proofs.lemmas.Cmp.{tied_back}
 use Rattle.nn_model.specs.declared.form.Form.{Form}
 use Rattle.nn_model.specs.Namespace.{Path}
-use Rattle.nn_model.specs.declared.form.Form.TheVariants.{Dir}
 use Rattle.nn_tree.specs.At.{at, rows, names_of, name_cmp, path_cmp, grafted}
 use Rattle.nn_tree.specs.Walks.{or_fault, root_fault, walk_fault, exists_fault, missing_fault, mkdir_fault, delete_fault, starts_with}
 use Rattle.nn_model.specs.declared.fault.EditFault.{EditFault}
 use Rattle.nn_model.specs.declared.fault.EditFault.TheVariants.{Exists, Missing, IsRoot}
 use Rattle.nn_tree.proofs.Step.{same_name}
 use Rattle.nn_tree.proofs.Subtree.{no_names}
-use Rattle.nn_tree.proofs.Walk.{walk_parent}
-use Rattle.std.specs.String.{string_bytes}
-use Rattle.std.proofs.lemmas.List.{map-append}
 use Rattle.std.proofs.lemmas.Bool.{eqb-true}
 
 pub path_total : IsTotalOrder path_cmp
@@ -80,13 +76,6 @@ graft_dir f (n ∷ ns) r h (x ∷ q) =
           ∙ ap (λ c. cond (is_eq (ordering_then c (path_cmp q ns))) (Some r) (f (x ∷ q))) (sym (tied_back nat_list_cmp_total n x e))
       | Greater ↦ λ e. ap (λ c. cond (is_eq (ordering_then c (path_cmp q ns))) (Some r) (f (x ∷ q))) (sym (nat_list_cmp_total.antisymm x n ∙ ap ordering_reverse e))
     ] refl
-
--- the parent of a directory to be made
-pub mkdir_parent : (f : Path → Option Form) (p : Path) (parent : Path) (n : List ℕ) → p ≡ parent ++ n ∷ [] → mkdir_fault f p ≡ None → f parent ≡ Some Dir
-mkdir_parent f p parent n e h = walk_parent f parent n (subst (λ (x : Path). walk_fault f x ≡ None) e (mkdir_lawful f p h).0)
-
-pub names_last : (ps parent : List (String Global)) (x : String Global) → ps ≡ parent ++ x ∷ [] → names_of ps ≡ names_of parent ++ string_bytes x ∷ []
-names_last ps parent x e = ap names_of e ∙ map-append string_bytes parent (x ∷ [])
 
 -- ---- removal
 pub graft_gone : (f : Path → Option Form) (p q : Path) → grafted f p (rows None) q ≡ cond (not (starts_with p q)) (f q) None

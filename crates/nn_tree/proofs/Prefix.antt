@@ -103,9 +103,6 @@ not_on_path f s d q c = decided _ (λ h. (cc (comparable d s q h (not_above f s 
 pub still_there : (f g : Path → Option Form) (s d q : Path) (h : Path → Option Form) → CanMove f s d → ((q : Path) → g q ≡ grafted f d h q) → g (s ++ q) ≡ f (s ++ q)
 still_there f g s d q h c e = e (s ++ q) ∙ graft_by f d h (s ++ q) ∙ ap (λ b. cond b (h (drop (length d) (s ++ q))) (f (s ++ q))) (not_on_path f s d q c)
 
-pub gone_is_false : (f g : Path → Option Form) (s d : Path) (h : Path → Option Form) → CanMove f s d → ((q : Path) → g q ≡ grafted f d h q) → ((q : Path) → g (s ++ q) ≡ None) → ⊥
-gone_is_false f g s d h c e n = some_none (f s) (ap f (sym (append_nil s)) ∙ sym (still_there f g s d [] h c e) ∙ n []) c.stands
-
 -- the place is kept while s is taken
 pub place_kept : (f g k : Path → Option Form) (s d : Path) (h : Path → Option Form) → CanMove f s d → ((q : Path) → g q ≡ grafted f d h q) → ((q : Path) → k q ≡ grafted g s (rows None) q) → k d ≡ h []
 place_kept f g k s d h c e n =

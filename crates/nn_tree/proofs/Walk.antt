@@ -1,12 +1,11 @@
 -- The walk of a path's parents.
-use Rattle.std.proofs.Common.{◌≡◌, ℕ, false, List, [], ◌∷◌, ◌++◌, length, Option, Some, None, Result, MatchResult, IfOk, IfSome, Ok, Err, refl, ap, ◌∙◌, String, Global}
+use Rattle.std.proofs.Common.{◌≡◌, ℕ, false, List, [], ◌∷◌, length, Option, Some, None, Result, MatchResult, IfOk, IfSome, Ok, Err, ap, ◌∙◌, String, Global}
 use Rattle.std.specs.Bool.{◌==◌}
 use Rattle.nn_model.specs.declared.form.Form.{Form}
 use Rattle.nn_model.specs.Namespace.{Path}
-use Rattle.nn_model.specs.declared.form.Form.TheVariants.{Dir, File}
+use Rattle.nn_model.specs.declared.form.Form.TheVariants.{Dir}
 use Rattle.nn_tree.specs.At.{at, names_of}
 use Rattle.nn_tree.specs.Walks.{walk_fault, parent_fault}
-use Rattle.nn_model.specs.declared.fault.EditFault.{EditFault}
 use Rattle.nn_model.specs.declared.fault.EditFault.TheVariants.{Missing}
 
 pub walk_below : (es t : List (Path × Form)) (n : List ℕ) (ns ps : Path) → ps ≡ n ∷ ns → at es [] ≡ Some Dir → ((q : Path) → at es (n ∷ q) ≡ at t q) → walk_fault (at es) ps ≡ walk_fault (at t) ns
@@ -18,21 +17,6 @@ walk_missing es n [] ps e top h z = cc
 walk_missing es n (r ∷ rs) ps e top h z =
     ap (walk_fault (at es)) e ∙ ap (λ o. parent_fault o (walk_fault (λ q. at es (n ∷ q)) (names_of (r ∷ rs)))) top
     ∙ ap (λ o. parent_fault o (walk_fault (λ q. at es (n ∷ (Rattle.std.specs.String.string_bytes r ∷ q))) (names_of rs))) (h [])
-
-through : (o : Option Form) (x : Option EditFault) → parent_fault o x ≡ None → o ≡ Some Dir
-through None x h = cc
-through (Some Dir) x h = refl
-through (Some (File f)) x h = cc
-
-through_rest : (o : Option Form) (x : Option EditFault) → parent_fault o x ≡ None → x ≡ None
-through_rest None x h = cc
-through_rest (Some Dir) x h = h
-through_rest (Some (File f)) x h = cc
-
--- a walk that went through ends in a directory
-pub walk_parent : (f : Path → Option Form) (p : Path) (n : List ℕ) → walk_fault f (p ++ n ∷ []) ≡ None → f p ≡ Some Dir
-walk_parent f [] n h = through (f []) None h
-walk_parent f (m ∷ ms) n h = walk_parent (λ q. f (m ∷ q)) ms n (through_rest (f []) _ h)
 
 pub same_answer : {X E : Type 0} (r : Result X E) (a b : Option E) → a ≡ b → MatchResult r (λ o. b ≡ None) (λ e. b ≡ Some e) → MatchResult r (λ o. a ≡ None) (λ e. a ≡ Some e)
 same_answer (Ok x) a b e h = e ∙ h

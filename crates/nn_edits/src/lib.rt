@@ -11,8 +11,6 @@ mod line;
 mod member;
 mod reading;
 mod report;
-#[cfg(test)]
-mod tests;
 mod tx;
 mod write;
 

@@ -11,8 +11,6 @@
 mod laws;
 mod lowest;
 mod postponed;
-#[cfg(test)]
-mod tests;
 mod turn;
 
 pub use laws::{lists_of_equal_queues, releases_in_turn};

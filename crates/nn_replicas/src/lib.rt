@@ -9,8 +9,6 @@ mod replicas_of;
 mod rows;
 mod slot;
 mod table;
-#[cfg(test)]
-mod tests;
 
 pub use classes::class;
 pub use entry::{Cell, Row};

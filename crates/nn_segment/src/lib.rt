@@ -10,8 +10,6 @@ mod lines;
 mod name;
 mod parsed;
 mod source;
-#[cfg(test)]
-mod tests;
 
 pub use fault::{SegmentFault, SourceFault};
 pub use laws::{

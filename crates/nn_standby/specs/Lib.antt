@@ -1,17 +1,2 @@
-pub mod Listing
-pub mod Steps
-pub mod Scenario
-pub mod SoFar
-pub mod Cut
-pub mod LogEnd
-pub mod LogLeft
-pub mod Follow
-pub mod CutRows
-pub mod StepRows
-pub mod Tables
-pub mod TablesRows
-pub mod Output
-pub mod Run
-pub mod Shown
 pub mod Options
 pub mod OptionsRows

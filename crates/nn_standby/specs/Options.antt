@@ -1,11 +1,11 @@
 -- The command line, and what its words ask for.
-use Rattle.std.specs.Prelude.{◌≡◌, ℕ, pos, List, [], ◌∷◌, Option, Some, None, codes}
+use Rattle.std.specs.Prelude.{◌≡◌, ◌<◌, ◌^◌, ℕ, pos, List, [], ◌∷◌, Option, Some, None, codes}
 use Rattle.std.specs.Str.Parse.{IsNumeral, digits_value, without_leading_plus}
 use Rattle.clap.specs.Words.{App, Rule, Text, matches_of, new_app, new_rule, one_of, with_rule}
 use Rattle.clap.specs.declared.builder.action.ArgAction.TheVariants.{Set}
 use Rattle.clap.specs.declared.builder.value_parser.ValueParser.{ValueParser}
 use Rattle.clap.specs.declared.builder.value_parser.ValueParser.TheVariants.{Signed}
-use Rattle.nn_types.specs.Settings.{Threshold}
+use Rattle.nn_types.specs.Settings.{Threshold, AreSettings}
 
 -- `--NAME VALUE`, and the value where the name is not there
 abbrev pub value_rule : Text → ValueParser → Text → Rule
@@ -22,7 +22,17 @@ abbrev pub ReadsAs : Option Text → ℕ → Type 0
 ReadsAs None n = ⊥
 ReadsAs (Some text) n = IsNumeral 10 (without_leading_plus text) × (digits_value 10 (without_leading_plus text) ≡ n)
 
--- the words ask for these settings: the numbers that stand behind the two names, or their defaults
-pub record AskFor (words : List Text) (settings : Threshold) : Type 0 where
-  pub permille : ReadsAs (one_of (codes "permille") (matches_of command_line words)) settings.permille
-  pub min : ReadsAs (one_of (codes "min") (matches_of command_line words)) settings.min
+-- the number of 16 bits that the text is, where it is there and is one
+abbrev pub IsNumberOf : Option Text → Option ℕ → Type 0
+IsNumberOf text (Some n) = ReadsAs text n
+IsNumberOf text None = (n : ℕ) → n < 2 ^ 16 → ReadsAs text n → ⊥
+
+-- the texts of the two options, `--permille` first, are these settings
+pub record AreReadAs (first second : Option Text) (settings : Threshold) : Type 0 where
+  pub permille : ReadsAs first settings.permille
+  pub min : ReadsAs second settings.min
+  pub lawful : AreSettings settings.permille settings.min
+
+-- the words ask for these settings, by what stands behind the two names, or by their defaults
+abbrev pub AskFor : List Text → Threshold → Type 0
+AskFor words = AreReadAs (one_of (codes "permille") (matches_of command_line words)) (one_of (codes "min") (matches_of command_line words))

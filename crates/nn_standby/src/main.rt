@@ -1,20 +1,12 @@
 //! The program: a scenario on standard input; the namespace, replicas, orders and counts that it leaves on standard output.
 #![tactic(auto)]
 
-mod device;
-mod follow;
-mod listing;
-mod log;
 mod options;
-mod run;
-mod scenario;
-mod segments;
-mod tables;
 #[cfg(test)]
 mod tests;
 
-use crate::options::Options;
 use clap::error::ErrorKind;
+use nn_engine::{Options, run, write_output};
 use std::io;
 use std::process::ExitCode;
 use std::thread::Builder;
@@ -52,7 +44,7 @@ fn refuse_words(rt: &HostRuntime, error: &clap::Error) -> ExitCode {
 fn run_scenario(rt: &HostRuntime, options: &Options) -> ExitCode {
     let mut reader = rt.reader();
     let mut writer = io::writer(rt);
-    match run::run(rt.alloc(), options, &mut reader, &mut writer) {
+    match run(rt.alloc(), options, &mut reader, &mut writer) {
         Ok(end) => ExitCode::from(end.status),
         Err(_) => ExitCode::FAILURE,
     }
@@ -60,6 +52,6 @@ fn run_scenario(rt: &HostRuntime, options: &Options) -> ExitCode {
 
 fn out_of_memory(rt: &HostRuntime) -> ExitCode {
     let mut writer = io::writer(rt);
-    let _ = device::write_output(&mut writer, b"fault 55\n");
+    let _ = write_output(&mut writer, b"fault 55\n");
     ExitCode::FAILURE
 }

@@ -1,7 +1,8 @@
 //! What the command line asks for.
-ghost use Rattle.std.specs.Prelude.{◌≡◌, ℕ, false, IfOk, Some, codes, map, string_bytes};
+ghost use Rattle.std.specs.Prelude.{◌≡◌, false, IfOk, IfSome, IfNone, codes, map, string_bytes};
 ghost use Rattle.clap.specs.Words.{app_of, found_of, one_text, rule_of};
-ghost use Rattle.nn_standby.specs.Options.{value_rule, command_line, ReadsAs, AskFor};
+ghost use Rattle.nn_types.specs.Settings.{Threshold};
+ghost use Rattle.nn_standby.specs.Options.{value_rule, command_line, IsNumberOf, AreReadAs, AskFor};
 
 #[cfg(test)]
 mod tests;
@@ -9,6 +10,7 @@ mod tests;
 use clap::builder::ValueParser;
 use clap::error::ErrorKind;
 use clap::{Arg, ArgAction, ArgMatches, Command, Error, value_parser};
+use nn_engine::Options;
 use nn_types::Settings;
 use std::alloc::{AllocError, Global};
 use std::env;
@@ -21,13 +23,6 @@ const PERMILLE: &str =
     "How many blocks of each thousand have to be safe before safe mode ends, 0 to 1000.";
 
 const MIN: &str = "How many live replicas make a block safe, 1 to 512.";
-
-/// What the command line asks for.
-#[derive(Clone, Copy, Debug, PartialEq, Eq)]
-pub struct Options {
-    /// When safe mode ends.
-    pub settings: Settings,
-}
 
 /// The options of the command line that the program was started with.
 ///
@@ -87,8 +82,8 @@ fn valued<'a>(
 
 // The options that were matched, where they are two numbers in range.
 fn matched(matches: &ArgMatches<'_>) -> Option<Options>
-    ensures permille { (options : _) → result ≡ Some options → ReadsAs (one_text (found_of matches.now) (codes "permille")) options.settings.permille }
-    ensures min { (options : _) → result ≡ Some options → ReadsAs (one_text (found_of matches.now) (codes "min")) options.settings.min }
+    ensures some { IfSome result (λ options. AreReadAs (one_text (found_of matches.now) (codes "permille")) (one_text (found_of matches.now) (codes "min")) options.settings) }
+    ensures none { IfNone result ((settings : Threshold) → AreReadAs (one_text (found_of matches.now) (codes "permille")) (one_text (found_of matches.now) (codes "min")) settings → ⊥) }
 {
     let Some(permille) = number(matches, "permille") else {
         return None;
@@ -104,7 +99,7 @@ fn matched(matches: &ArgMatches<'_>) -> Option<Options>
 
 // The number that was matched under the name.
 fn number(matches: &ArgMatches<'_>, name: &str) -> Option<u16>
-    ensures { (n : ℕ) → result ≡ Some n → ReadsAs (one_text (found_of matches.now) name.now) n }
+    ensures { IsNumberOf (one_text (found_of matches.now) name.now) result }
 {
     matches.get_one::<u16>(name)
 }

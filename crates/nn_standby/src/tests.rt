@@ -1,9 +1,8 @@
 //! Worked scenarios, and devices that fail.
 mod messages;
 
-use crate::device::MAX_INPUT;
-use crate::options::Options;
-use crate::run::run;
+use nn_engine::{Options, run};
+use nn_scenario::MAX_INPUT;
 use nn_types::Settings;
 use std::alloc::Global;
 use std::io;

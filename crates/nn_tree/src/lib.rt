@@ -13,8 +13,6 @@ mod found;
 mod index;
 mod listing;
 mod namespace;
-#[cfg(test)]
-mod tests;
 mod touched;
 mod tree;
 

@@ -1,6 +1,6 @@
 //! Worked scenarios in which DataNodes report.
 use super::{printed, printed_with};
-use crate::options::Options;
+use nn_engine::Options;
 use nn_types::Settings;
 use std::test::Fail;
 

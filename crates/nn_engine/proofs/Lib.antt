@@ -1,0 +1,4 @@
+pub mod LogLemmas
+pub mod FollowLemmas
+pub mod TellLemmas
+pub mod WriteLemmas

@@ -1,0 +1,16 @@
+use Rattle.std.proofs.Common.{length, refl, ap}
+use Rattle.nn_model.specs.Namespace.{root_alone}
+use Rattle.nn_engine.specs.LogEnd.{end_of_log}
+use Rattle.nn_engine.proofs.FollowLemmas.{sets_out}
+use Rattle.nn_engine.proofs.follow.follow.Goals as goal
+
+pub take_steps-requires : goal.take_steps-requires
+take_steps-requires c =
+    sets_out (length c.in-Ok.shadow.numbers) c.new-log.result c.args.steps.items c.in-Ok.shadow c.in-Ok.ensures.fresh c.in-Ok.ensures.phase refl
+    (ap (λ left. left.txs) c.new-log.ensures) c.requires.in_turn (rw c.in-Ok.ensures.settings.0 c.requires.within)
+
+pub returns-in-Err-follow_to_end-clause-halted : goal.returns-in-Err-follow_to_end-clause-halted
+returns-in-Err-follow_to_end-clause-halted c =
+    let following = c.in_default-take_steps.ensures.following in
+    rw (← ap (λ left. left.segments) c.new-log.ensures)
+    (c.in-Err-follow_to_end.ensures.halted (end_of_log 0 root_alone c.new-log.result.segments) following.lanes following.way)

@@ -1,0 +1,15 @@
+use Rattle.std.proofs.Common.{length}
+use Rattle.std.specs.Vec.Iter.{into_iter_items}
+use Rattle.nn_model.specs.Namespace.{root_alone}
+use Rattle.nn_shadow.specs.Contents.{KeepsSettings}
+use Rattle.nn_engine.specs.Follow.{IsFollowing}
+use Rattle.nn_engine.specs.LogEnd.{end_of_log}
+use Rattle.nn_scenario.specs.Steps.{lanes_of}
+use Rattle.nn_engine.proofs.follow.take_steps.Given as goal
+
+-- the steps that are left are ahead
+abbrev pub invariant-loop-step : goal.invariant-loop-step
+invariant-loop-step l = record {
+  following : IsFollowing (end_of_log 0 root_alone l.initial.log.segments) (length l.initial.shadow.numbers) (lanes_of l.fn.steps.items) l.log (into_iter_items l.step-iterator) l.shadow;
+  rest : KeepsSettings l.initial.shadow l.shadow;
+}

@@ -1,0 +1,61 @@
+-- A standby on its way through a log and the messages of a scenario.
+use Rattle.std.specs.Prelude.{◌≡◌, ℕ, false, List, length, Result, Ok, Err, None}
+use Rattle.std.specs.List.{All}
+use Rattle.nn_edits.specs.declared.tx.Tx.{Tx}
+use Rattle.nn_model.specs.declared.fault.EditFault.{EditFault}
+use Rattle.nn_model.specs.Lanes.{Lanes}
+use Rattle.nn_model.specs.Namespace.{Namespace, root_alone}
+use Rattle.nn_shadow.specs.Contents.{Contents, standby_of}
+use Rattle.nn_shadow.specs.Laws.{StandsBy}
+use Rattle.nn_shadow.specs.Refusals.{Phase, hand_refusal}
+use Rattle.nn_engine.specs.LogEnd.{refused, disorder, Stop, LogEnd}
+use Rattle.nn_engine.specs.LogLeft.{LogLeft, end_of_left}
+use Rattle.nn_scenario.specs.Steps.{lanes_after, AreInTurn, IsStepOf}
+use Rattle.nn_engine.specs.declared.follow.Halt.{Halt}
+use Rattle.nn_engine.specs.declared.follow.Halt.TheVariants as halt
+use Rattle.nn_scenario.specs.declared.steps.Step.{Step}
+use Rattle.nn_scenario.specs.declared.steps.Step.TheVariants as step
+
+-- neither stopped nor active
+abbrev pub serving : Phase
+serving = record { stopped = None; active = false }
+
+-- no message that is a step is refused
+abbrev pub IsWelcome : Contents → Step → Type 0
+IsWelcome x step.Edit = Unit {0}
+IsWelcome x (step.Message m) = hand_refusal (length x.numbers) x.phase (standby_of x) m ≡ None
+
+-- The standby stands where it has received these lanes and some of a log, of which this much is left. What is left ends
+-- as the whole log does.
+pub record IsOnItsWay (whole : Result LogEnd Stop) (left : LogLeft) (lanes : Lanes) (x : Contents) : Type 0 where
+  pub txs : List Tx
+  pub stands : StandsBy root_alone 0 txs lanes (standby_of x)
+  pub ends : end_of_left x.last x.namespace left ≡ whole
+
+-- the standby stands at these lanes, and at the end of the whole log
+pub record HasArrived (whole : Result LogEnd Stop) (lanes : Lanes) (x : Contents) : Type 0 where
+  pub txs : List Tx
+  pub stands : StandsBy root_alone 0 txs lanes (standby_of x)
+  pub ends : whole ≡ Ok (record { last = x.last; namespace = x.namespace })
+
+-- The standby is on its way, so many DataNodes being there and these steps ahead; after them it will have received these lanes.
+pub record IsFollowing (whole : Result LogEnd Stop) (count : ℕ) (all : Lanes) (left : LogLeft) (steps : List Step) (x : Contents) : Type 0 where
+  pub lanes : Lanes
+  pub way : IsOnItsWay whole left lanes x
+  pub in_turn : AreInTurn lanes steps
+  pub within : All (IsStepOf count) steps
+  pub ahead : lanes_after lanes steps ≡ all
+  pub phase : x.phase ≡ serving
+  pub count_is : length x.numbers ≡ count
+
+-- an edit is refused for this; want of memory says nothing
+abbrev pub IsRefusal : Halt → ℕ → Result Namespace EditFault → Type 0
+IsRefusal (halt.Refused fault txid) id outcome = (outcome ≡ Err fault) × (txid ≡ id)
+IsRefusal (halt.Missing txid) id outcome = ⊥
+IsRefusal halt.OutOfMemory id outcome = Unit {0}
+
+-- the whole log stops for this; want of memory says nothing
+abbrev pub StopsAs : Halt → Result LogEnd Stop → Type 0
+StopsAs (halt.Refused fault txid) whole = whole ≡ Err (record { cause = refused fault; txid = txid })
+StopsAs (halt.Missing txid) whole = whole ≡ Err (record { cause = disorder; txid = txid })
+StopsAs halt.OutOfMemory whole = Unit {0}

@@ -1,0 +1,35 @@
+-- Logs of segments, walked through.
+use Rattle.std.specs.Prelude.{◌≡◌, ℕ, List, [], ◌∷◌, Ok, Err, refl}
+use Rattle.nn_edits.specs.declared.tx.Edit.{Edit}
+use Rattle.nn_edits.specs.declared.tx.Edit.TheVariants.{StartSegment, EndSegment, Delete}
+use Rattle.nn_edits.specs.declared.tx.Tx.{Tx}
+use Rattle.nn_model.specs.declared.fault.EditFault.TheVariants.{IsRoot}
+use Rattle.nn_model.specs.Namespace.{root_alone}
+use Rattle.nn_segment.specs.Segment.{Segment}
+use Rattle.nn_engine.specs.LogEnd.{refused, disorder, end_of_txs, end_of_log}
+
+abbrev tx : ℕ → Edit → Tx
+tx txid edit = record { txid = txid; edit = edit }
+
+abbrev segment : List Tx → Segment
+segment txs = record { name = []; bytes = []; txs = txs }
+
+abbrev marks : ℕ → ℕ → Segment
+marks first last = segment (tx first StartSegment ∷ tx last EndSegment ∷ [])
+
+overlap : end_of_log 0 root_alone (segment (tx 1 StartSegment ∷ tx 2 EndSegment ∷ []) ∷ segment (tx 2 StartSegment ∷ tx 3 EndSegment ∷ []) ∷ []) ≡ Ok (record { last = 3; namespace = root_alone })
+unfolding end_of_log end_of_txs
+overlap = refl
+
+old_passed_over : end_of_log 2 root_alone (segment (tx 1 (Delete []) ∷ tx 2 (Delete []) ∷ []) ∷ []) ≡ Ok (record { last = 2; namespace = root_alone })
+unfolding end_of_log end_of_txs
+old_passed_over = refl
+
+too_high : end_of_log 2 root_alone (marks 4 5 ∷ []) ≡ Err (record { cause = disorder; txid = 3 })
+unfolding end_of_log end_of_txs
+too_high = refl
+
+-- what stands before a gap is applied first
+refused_before_the_gap : end_of_log 2 root_alone (segment (tx 3 (Delete []) ∷ []) ∷ marks 9 10 ∷ []) ≡ Err (record { cause = refused IsRoot; txid = 3 })
+unfolding end_of_log end_of_txs
+refused_before_the_gap = refl

@@ -1,0 +1,176 @@
+//! A run: from a reader's bytes to a writer's.
+ghost use Rattle.std.specs.Prelude.{◌≡◌, ◌≢◌, ◌≤◌, length, take, codes, Result, IfOk, IfErr};
+ghost use Rattle.std.specs.Io.KnownBytes.{Appends};
+ghost use Rattle.nn_types.specs.Settings.{Threshold};
+ghost use Rattle.nn_edits.specs.Fault.{number_of as line_number_of};
+ghost use Rattle.nn_model.specs.Lanes.{Lanes};
+ghost use Rattle.nn_model.specs.Namespace.{root_alone};
+ghost use Rattle.nn_segment.specs.Fault.{number_of as segment_number_of};
+ghost use Rattle.nn_scenario.specs.Cut.{segments_from};
+ghost use Rattle.nn_engine.specs.Follow.{serving, HasArrived, StopsAs};
+ghost use Rattle.nn_engine.specs.LogEnd.{LogEnd, Stop, end_of_log};
+ghost use Rattle.nn_engine.specs.Output.{output_of, after_segments, after_log, fault_at};
+ghost use Rattle.nn_engine.specs.Run.{Wrote, WroteFront};
+ghost use Rattle.nn_scenario.specs.Scenario.{max_input, seen, IsLawfulScenario};
+ghost use Rattle.nn_engine.specs.Shown.{shown};
+ghost use Rattle.nn_scenario.specs.Steps.{lanes_of};
+
+use crate::device::{InputFault, RunFault, read_input, write_output};
+use crate::follow::{Halt, follow};
+use nn_edits::LineFault;
+use nn_listing::{listing, push_tables};
+use nn_scenario::{BadLine, BadSegment, Scenario, read_lines, read_segments};
+use nn_segment::SegmentFault;
+use nn_shadow::{FlushFault, Shadow};
+use nn_types::{Settings, fault};
+use std::alloc::{AllocError, Global};
+use std::io::{Read, Write};
+
+/// What a run is asked for.
+#[derive(Clone, Copy, Debug, PartialEq, Eq)]
+pub struct Options {
+    /// When safe mode ends.
+    pub settings: Settings,
+}
+
+/// A run's text, and its status.
+#[derive(Drop)]
+pub struct Output {
+    pub text: String,
+    pub status: u8,
+}
+
+/// How a run ended: with status 0 after a listing, with status 1 after a fault line.
+#[derive(Clone, Copy, Debug, PartialEq, Eq)]
+pub struct RunEnd {
+    pub status: u8,
+}
+
+/// Reads a scenario to its end and writes its listing, or one fault line and nothing else. All of the
+/// output is made before its first byte is written.
+///
+/// `fault 8` says that a read failed, that the input has more than 16,777,216 bytes, or that the reader had
+/// not ended after 16,777,216 reads; `fault 55`, that memory was refused. Neither line takes memory.
+pub fn run<R: Read, W: Write>(
+    alloc: Global,
+    options: &Options,
+    reader: &mut R,
+    writer: &mut W,
+) -> Result<RunEnd, RunFault>
+    ensures written { IfOk result (λ end. Wrote options.now.settings (R.remaining reader.old) (R.remaining reader.new)
+        (W.contents writer.old) (W.contents writer.new) end.status) }
+    // After a failed write the writer has a front of the output.
+    ensures failed { IfErr result (λ e. WroteFront options.now.settings (R.remaining reader.old) (R.remaining reader.new)
+        (W.contents writer.old) (W.contents writer.new) e.written) }
+{
+    match read_input(alloc, reader) {
+        Ok(input) => match output_of(alloc, options.settings, input) {
+            Ok(output) => finish(writer, output.text.as_bytes(), output.status),
+            Err(AllocError) => finish(writer, b"fault 55\n", 1),
+        },
+        Err(InputFault::OutOfMemory) => finish(writer, b"fault 55\n", 1),
+        Err(_) => finish(writer, b"fault 8\n", 1),
+    }
+}
+
+fn finish<W: Write>(writer: &mut W, text: &[u8], status: u8) -> Result<RunEnd, RunFault>
+    ensures ok { IfOk result (λ end. Appends (W.contents writer.old) (W.contents writer.new) text.now
+        × (end.status ≡ status)) }
+    ensures err { IfErr result (λ e. (e.written ≤ length text.now)
+        × Appends (W.contents writer.old) (W.contents writer.new) (take e.written text.now)) }
+{
+    write_output(writer, text)?;
+    Ok(RunEnd { status })
+}
+
+/// The output of an input, which is gone once its lines are read.
+#[tactic(auto, unfolding(crate::specs::Output::output_of))]
+pub fn output_of(alloc: Global, settings: Settings, input: Vec<u8>) -> Result<Output, AllocError>
+    requires { length input.items ≤ max_input }
+    ensures { IfOk result (λ o. shown o ≡ output_of settings input.items) }
+{
+    let lines = read_lines(alloc, &input);
+    drop(input);
+    match lines {
+        Ok(scenario) => output_of_scenario(alloc, settings, scenario),
+        Err(bad) => output_of_bad(alloc, bad),
+    }
+}
+
+fn output_of_bad(alloc: Global, bad: BadLine) -> Result<Output, AllocError>
+    ensures { IfOk result (λ o. (bad.fault ≢ LineFault.OutOfMemory)
+        × (shown o ≡ fault_at (codes " line ") (line_number_of bad.fault) bad.line)) }
+{
+    if let LineFault::OutOfMemory = bad.fault {
+        return Err(AllocError);
+    }
+    fault_output(alloc, bad.fault.number(), " line ", bad.line)
+}
+
+fn output_of_scenario(
+    alloc: Global,
+    settings: Settings,
+    scenario: Scenario,
+) -> Result<Output, AllocError>
+    requires { IsLawfulScenario (seen scenario) }
+    ensures { IfOk result (λ o. shown o ≡ after_segments settings (lanes_of scenario.steps.items) (segments_from 1 scenario.pieces.items)) }
+{
+    let Scenario {
+        pieces,
+        steps,
+        lanes,
+    } = scenario;
+    match read_segments(alloc, pieces) {
+        Ok(segments) => match follow(alloc, settings, lanes, steps, segments) {
+            Ok(standby) => output_of_standby(alloc, standby),
+            Err(halt) => output_of_halt(alloc, halt),
+        },
+        Err(bad) => output_of_bad_segment(alloc, bad),
+    }
+}
+
+fn output_of_bad_segment(alloc: Global, bad: BadSegment) -> Result<Output, AllocError>
+    ensures { IfOk result (λ o. (bad.fault ≢ SegmentFault.OutOfMemory)
+        × (shown o ≡ fault_at (codes " segment ") (segment_number_of bad.fault) bad.segment)) }
+{
+    if let SegmentFault::OutOfMemory = bad.fault {
+        return Err(AllocError);
+    }
+    fault_output(alloc, bad.fault.number(), " segment ", bad.segment)
+}
+
+fn output_of_halt(alloc: Global, halt: Halt) -> Result<Output, AllocError>
+    ensures { IfOk result (λ o. (settings : Threshold) (lanes : Lanes) (whole : Result LogEnd Stop) → StopsAs halt whole → shown o ≡ after_log settings lanes whole) }
+{
+    match halt {
+        Halt::Refused { fault, txid } => fault_output(alloc, fault.number(), " txid ", txid),
+        Halt::Missing { txid } => fault_output(alloc, fault::DISORDER, " txid ", txid),
+        Halt::OutOfMemory => Err(AllocError),
+    }
+}
+
+// The standby followed its log to the end. It flushes what it holds, and then its tables are told.
+fn output_of_standby(alloc: Global, standby: Shadow) -> Result<Output, AllocError>
+    requires { standby.phase ≡ serving }
+    ensures { IfOk result (λ o. (lanes : Lanes) (whole : Result LogEnd Stop) → HasArrived whole lanes standby
+        → shown o ≡ after_log (record { permille = standby.permille; min = standby.table.min }) lanes whole) }
+{
+    let mut standby = standby;
+    if let Err(fault) = standby.flush() {
+        match fault {
+            FlushFault::OutOfMemory => return Err(AllocError),
+            FlushFault::Stopped(_) => unreachable!(),
+        }
+    }
+    standby.consistent();
+    let mut text = listing(alloc, standby.namespace(), standby.last_txid())?;
+    push_tables(alloc, &mut text, standby.replicas(), standby.safe_mode())?;
+    Ok(Output { text, status: 0 })
+}
+
+fn fault_output(alloc: Global, number: u8, place: &str, n: u64) -> Result<Output, AllocError>
+    ensures { IfOk result (λ o. shown o ≡ fault_at place.now number n) }
+{
+    let text = format!(in alloc; "fault {number}{place}{n}\n")?;
+    Ok(Output { text, status: 1 })
+}

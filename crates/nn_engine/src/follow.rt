@@ -1,0 +1,192 @@
+//! A standby follows the log and the DataNodes of a scenario, in the order of its lines.
+ghost use Rattle.std.specs.Prelude.{◌≡◌, ◌≤◌, ◌<◌, ◌^◌, ℕ, ◌+◌, List, ◌∷◌, ◌++◌, [], Result, Ok, None, true, false, length, IfOk, IfErr, OnOk};
+ghost use Rattle.std.specs.List.{All};
+ghost use Rattle.nn_edits.specs.declared.tx.Tx.{Tx as Transaction};
+ghost use Rattle.nn_model.specs.Apply.{applied};
+ghost use Rattle.nn_model.specs.Lanes.{Lanes, no_messages, followed_by};
+ghost use Rattle.nn_model.specs.Namespace.{Namespace, root_alone};
+ghost use Rattle.nn_shadow.specs.Contents.{KeepsSettings, standby_of};
+ghost use Rattle.nn_shadow.specs.Laws.{StandsBy};
+ghost use Rattle.nn_shadow.specs.Refusals.{hand_refusal};
+ghost use Rattle.nn_engine.specs.Follow.{serving, IsWelcome, IsOnItsWay, HasArrived, IsRefusal, StopsAs, IsFollowing};
+ghost use Rattle.nn_engine.specs.LogEnd.{LogEnd, Stop, end_of_log};
+ghost use Rattle.nn_scenario.specs.Steps.{lanes_after, lanes_of, AreInTurn, IsStepOf};
+
+use crate::log::{Log, Next};
+use nn_edits::Tx;
+use nn_model::EditFault;
+use nn_scenario::Step;
+use nn_segment::Parsed;
+use nn_shadow::{ApplyFault, HandCause, Shadow};
+use nn_types::{Message, Settings};
+use std::alloc::Global;
+
+/// Why a run halts.
+#[derive(Clone, Copy, Debug, PartialEq, Eq)]
+pub enum Halt {
+    /// The edit of this transaction doesn't apply.
+    Refused { fault: EditFault, txid: u64 },
+    /// The transaction with this txid should have come.
+    Missing { txid: u64 },
+    OutOfMemory,
+}
+
+/// A standby that has followed the log of these segments to its end, and has taken in each message where it stands
+/// among the edits. It has not flushed what it holds.
+pub fn follow(
+    alloc: Global,
+    settings: Settings,
+    lanes: u16,
+    steps: Vec<Step>,
+    segments: Vec<Parsed>,
+) -> Result<Shadow, Halt>
+    requires lanes { (1 ≤ lanes) × (lanes ≤ 256) }
+    requires in_turn { AreInTurn no_messages steps.items }
+    requires within { All (IsStepOf lanes) steps.items }
+    ensures arrived { IfOk result (λ shadow. HasArrived (end_of_log 0 root_alone segments.items) (lanes_of steps.items) shadow) }
+    ensures serving { IfOk result (λ shadow. shadow.phase ≡ serving) }
+    ensures settings { IfOk result (λ shadow. (shadow.table.min ≡ settings.min) × (shadow.permille ≡ settings.permille)) }
+    ensures halted { IfErr result (λ halt. StopsAs halt (end_of_log 0 root_alone segments.items)) }
+{
+    let Ok(mut shadow) = Shadow::new(alloc, lanes, settings) else {
+        return Err(Halt::OutOfMemory);
+    };
+    let mut log = Log::new(alloc, segments);
+    if let Err(halt) = take_steps(&mut shadow, &mut log, steps) {
+        return Err(halt);
+    }
+    if let Err(halt) = follow_to_end(&mut shadow, &mut log) {
+        return Err(halt);
+    }
+    Ok(shadow)
+}
+
+fn take_steps(shadow: &mut Shadow, log: &mut Log, steps: Vec<Step>) -> Result<(), Halt>
+    requires { IsFollowing (end_of_log 0 root_alone log.old.segments) (length shadow.old.numbers) (lanes_of steps.items) log.old steps.items shadow.old }
+    ensures following { OnOk result (IsFollowing (end_of_log 0 root_alone log.old.segments) (length shadow.old.numbers) (lanes_of steps.items) log.new [] shadow.new) }
+    ensures rest { OnOk result (KeepsSettings shadow.old shadow.new) }
+    ensures halted { IfErr result (λ halt. StopsAs halt (end_of_log 0 root_alone log.old.segments)) }
+{
+    for step in steps {
+        if let Err(halt) = take_step(shadow, log, step) {
+            return Err(halt);
+        }
+    }
+    Ok(())
+}
+
+// Each edit line was a step, so at the end of a scenario nothing of its log is left to follow.
+fn follow_to_end(shadow: &mut Shadow, log: &mut Log) -> Result<(), Halt>
+    requires { shadow.old.phase ≡ serving }
+    ensures arrived { OnOk result ((whole : Result LogEnd Stop) (lanes : Lanes) → IsOnItsWay whole log.old lanes shadow.old → HasArrived whole lanes shadow.new) }
+    ensures serving { OnOk result (shadow.new.phase ≡ serving) }
+    ensures rest { OnOk result (KeepsSettings shadow.old shadow.new) }
+    ensures halted { IfErr result (λ halt. (whole : Result LogEnd Stop) (lanes : Lanes) → IsOnItsWay whole log.old lanes shadow.old → StopsAs halt whole) }
+{
+    'rest: loop {
+        match follow_log(shadow, log) {
+            Ok(true) => {}
+            Ok(false) => return Ok(()),
+            Err(halt) => return Err(halt),
+        }
+    }
+}
+
+fn take_step(shadow: &mut Shadow, log: &mut Log, step: Step) -> Result<(), Halt>
+    requires serving { shadow.old.phase ≡ serving }
+    requires welcome { IsWelcome shadow.old step }
+    ensures goes_on { OnOk result ((whole : Result LogEnd Stop) (lanes : Lanes) → IsOnItsWay whole log.old lanes shadow.old
+        → IsOnItsWay whole log.new (lanes_after lanes (step ∷ [])) shadow.new) }
+    ensures serving { OnOk result (shadow.new.phase ≡ serving) }
+    ensures rest { OnOk result (KeepsSettings shadow.old shadow.new) }
+    ensures halted { IfErr result (λ halt. (whole : Result LogEnd Stop) (lanes : Lanes) → IsOnItsWay whole log.old lanes shadow.old → StopsAs halt whole) }
+{
+    match step {
+        Step::Edit => {
+            if let Err(halt) = follow_log(shadow, log) {
+                return Err(halt);
+            }
+        }
+        Step::Message(message) => {
+            if let Err(halt) = hand(shadow, message) {
+                return Err(halt);
+            }
+        }
+    }
+    Ok(())
+}
+
+// Applies the next transaction of the log. False says that the log is over.
+fn follow_log(shadow: &mut Shadow, log: &mut Log) -> Result<bool, Halt>
+    requires { shadow.old.phase ≡ serving }
+    ensures goes_on { OnOk result ((whole : Result LogEnd Stop) (lanes : Lanes) → IsOnItsWay whole log.old lanes shadow.old → IsOnItsWay whole log.new lanes shadow.new) }
+    ensures one { IfOk result (λ more. more ≡ true → shadow.new.last ≡ shadow.old.last + 1) }
+    ensures small { OnOk result (shadow.new.last < 2 ^ 63) }
+    ensures over { IfOk result (λ more. more ≡ false → (whole : Result LogEnd Stop) (lanes : Lanes) → IsOnItsWay whole log.old lanes shadow.old → HasArrived whole lanes shadow.new) }
+    ensures serving { OnOk result (shadow.new.phase ≡ serving) }
+    ensures rest { OnOk result (KeepsSettings shadow.old shadow.new) }
+    ensures halted { IfErr result (λ halt. (whole : Result LogEnd Stop) (lanes : Lanes) → IsOnItsWay whole log.old lanes shadow.old → StopsAs halt whole) }
+{
+    shadow.consistent();
+    let last = shadow.last_txid();
+    match log.next(last) {
+        Next::Transaction(tx) => {
+            if let Err(halt) = apply(shadow, tx) {
+                return Err(halt);
+            }
+            shadow.consistent();
+            Ok(true)
+        }
+        Next::Missing => Err(Halt::Missing { txid: last + 1 }),
+        Next::Over => Ok(false),
+    }
+}
+
+// Applies a transaction, the one after the last.
+fn apply(shadow: &mut Shadow, tx: Tx) -> Result<(), Halt>
+    requires serving { shadow.old.phase ≡ serving }
+    requires next { tx.txid ≡ shadow.old.last + 1 }
+    ensures applied { OnOk result (applied shadow.old.namespace tx.edit ≡ Ok shadow.new.namespace) }
+    ensures last { OnOk result (shadow.new.last ≡ tx.txid) }
+    ensures stands { OnOk result ((start : Namespace) (base : ℕ) (txs : List Transaction) (lanes : Lanes)
+        → StandsBy start base txs lanes (standby_of shadow.old) → StandsBy start base (txs ++ tx ∷ []) lanes (standby_of shadow.new)) }
+    ensures serving { OnOk result (shadow.new.phase ≡ serving) }
+    ensures rest { OnOk result (KeepsSettings shadow.old shadow.new) }
+    ensures refused { IfErr result (λ halt. IsRefusal halt tx.txid (applied shadow.old.namespace tx.edit)) }
+{
+    let Err(fault) = shadow.apply(&tx) else {
+        return Ok(());
+    };
+    match fault {
+        ApplyFault::Refused(fault) => Err(Halt::Refused {
+            fault,
+            txid: tx.txid.get(),
+        }),
+        ApplyFault::OutOfMemory => Err(Halt::OutOfMemory),
+        ApplyFault::Stopped(_) | ApplyFault::AlreadyActive | ApplyFault::Disorder { .. } => {
+            unreachable!()
+        }
+    }
+}
+
+// Hands over a message that only want of memory can refuse.
+fn hand(shadow: &mut Shadow, message: Message) -> Result<(), Halt>
+    requires { hand_refusal (length shadow.old.numbers) shadow.old.phase (standby_of shadow.old) message ≡ None }
+    ensures stands { OnOk result ((start : Namespace) (base : ℕ) (txs : List Transaction) (lanes : Lanes)
+        → StandsBy start base txs lanes (standby_of shadow.old) → StandsBy start base txs (followed_by lanes message) (standby_of shadow.new)) }
+    ensures same { OnOk result ((shadow.new.namespace ≡ shadow.old.namespace) × (shadow.new.last ≡ shadow.old.last)) }
+    ensures phase { shadow.new.phase ≡ shadow.old.phase }
+    ensures rest { KeepsSettings shadow.old shadow.new }
+    ensures memory { IfErr result (λ halt. halt ≡ Halt.OutOfMemory) }
+{
+    let Err(fault) = shadow.hand(message) else {
+        return Ok(());
+    };
+    match fault.cause {
+        HandCause::OutOfMemory => Err(Halt::OutOfMemory),
+        HandCause::Stopped(_)
+        | HandCause::AlreadyActive
+        | HandCause::BadLane
+        | HandCause::WrongNumber => unreachable!(),
+    }
+}

@@ -1,0 +1,4 @@
+pub mod ListingLemmas
+pub mod KeyTexts
+pub mod SaidIds
+pub mod TableLines

@@ -1,0 +1,194 @@
+-- What a table lists of a picture is the picture's text.
+use Rattle.std.proofs.Common.{◌≡◌, ℕ, ◌+◌, Bool, true, false, cond, List, [], ◌∷◌, ◌++◌, map, Option, Some, None, is_some, refl, sym, ap, ◌∙◌, arith}
+use Rattle.std.proofs.Common.{nat_cmp, append_assoc}
+use Rattle.std.specs.Prelude.{◌==◌, flat_map, unwrap_or, option_and_then}
+use Rattle.std.specs.Prelude as std
+use Rattle.std.specs.List.{range_with_len}
+use Rattle.std.specs.Option.{option_map}
+use Rattle.std.specs.FinMap.Entries.{find}
+use Rattle.nn_types.specs.declared.block.Block.{Block}
+use Rattle.nn_types.specs.declared.replica.Replica.{Replica}
+use Rattle.nn_model.specs.Counts.{SafeMode, safe_mode_of}
+use Rattle.nn_model.specs.Lanes.{Lanes}
+use Rattle.nn_model.specs.Namespace.{Namespace}
+use Rattle.nn_model.specs.Picture.{has_now, picture_replica, picture_order}
+use Rattle.nn_model.specs.Replay.{is_named}
+use Rattle.nn_model.specs.Status.{block_at}
+use Rattle.nn_replicas.specs.declared.entry.Row.{Row}
+use Rattle.nn_replicas.specs.declared.entry.Cell.{Cell}
+use Rattle.nn_replicas.specs.Agreement.{all_rows}
+use Rattle.nn_replicas.specs.Calls.{row_at, replica_at, has_order, entry_or_none, replicas_at}
+use Rattle.nn_replicas.specs.Entry.{is_ordered, no_entry, row_in, replica_in, order_in, orders_in}
+use Rattle.nn_replicas.specs.Table.{Table}
+use Rattle.nn_replicas.proofs.Ties.{block_of, blocks_of_rows}
+use Rattle.nn_listing.specs.Tables.{datanodes, said_by, said_ids, replica_line, replica_text, replica_lines, order_line, order_text, order_lines}
+use Rattle.nn_listing.specs.Tables.{blocks_line, lines_of_block, lines_of_replicas, lines_of_orders, IsPicture, tables_text}
+use Rattle.nn_listing.proofs.KeyTexts.{given, texts_of_some, texts_of_lists, same_texts, no_texts, Within, bound, below_bound, gathered}
+use Rattle.nn_listing.proofs.SaidIds.{marked, ids_sorted, silent}
+
+-- ---- the blocks of the rows
+
+found_block : (id : ℕ) (rs : List Row) → std.find (λ b. b.id == id) (map block_of rs) ≡ option_map block_of (std.find (λ r. r.block.id == id) rs)
+found_block id [] = refl
+found_block id (r ∷ rs) = cases (r.block.id == id) (found_block id rs)
+  where
+    cases : (same : Bool) → std.find (λ b. b.id == id) (map block_of rs) ≡ option_map block_of (std.find (λ r. r.block.id == id) rs)
+        → cond same (Some r.block) (std.find (λ b. b.id == id) (map block_of rs))
+        ≡ option_map block_of (cond same (Some r) (std.find (λ r. r.block.id == id) rs))
+    cases true next = refl
+    cases false next = next
+
+-- ---- texts over ids
+
+-- a text for each id of a list, where other ids have none
+abbrev marked_text : {A : Type 0} → (ℕ → List A) → ℕ → Option ℕ → List A
+marked_text text k None = []
+marked_text text k (Some mark) = text k
+
+over_marked : {A : Type 0} (text : ℕ → List A) (ids : List ℕ) → flat_map (λ e. marked_text text e.0 (Some e.1)) (marked ids) ≡ flat_map text ids
+over_marked text [] = refl
+over_marked text (id ∷ ids) = ap (λ r. text id ++ r) (over_marked text ids)
+
+-- ---- a table that shows the picture
+
+module _ (permille min : ℕ) (n : Namespace) (lanes : Lanes) (t : Table) (mode : SafeMode) (h : IsPicture permille min n lanes t mode)
+    (count : ℕ) (count_is : 256 ≡ count) (all : datanodes ≡ range_with_len 1 count) where
+  block_shown : (id : ℕ) → block_at n id ≡ option_map block_of (row_at t id)
+  block_shown id =
+      ap (std.find (λ b. b.id == id)) (sym (blocks_of_rows n.rows)) ∙ found_block id (all_rows n) ∙ ap (option_map block_of) (sym (h.shows.rows id))
+
+  -- the range of all ids that the table or a DataNode knows
+  abbrev last : ℕ
+  last = bound t.entries + bound (marked (said_ids lanes))
+
+  ids_within : Within t.entries 0 last
+  ids_within k g = let l = below_bound k t.entries g in (omega arith, omega (arith, l))
+
+  said_within : Within (marked (said_ids lanes)) 0 last
+  said_within k g = let l = below_bound k (marked (said_ids lanes)) g in (omega arith, omega (arith, l))
+
+  -- what DataNodes have of a block
+  abbrev cells_of : ℕ → List (ℕ × Cell)
+  cells_of id = (entry_or_none t id).cells
+
+  cells_within : (id : ℕ) → Within (cells_of id) 1 count
+  cells_within id dn g = let range = h.shows.datanodes dn id g in (range.0, omega (arith, range.1, count_is))
+
+  abbrev over_datanodes : (ℕ → ℕ → List ℕ) → ℕ → List ℕ
+  over_datanodes text id = flat_map (text id) datanodes
+
+  -- the text of each block and each DataNode, over all ids
+  over_ids : (text : ℕ → ℕ → List ℕ) → ((id dn : ℕ) → has_now lanes dn id ≡ None → text id dn ≡ [])
+      → flat_map (λ id. flat_map (text id) datanodes) (said_ids lanes) ≡ flat_map (λ id. flat_map (text id) datanodes) (range_with_len 0 last)
+  over_ids text none =
+      sym (over_marked (over_datanodes text) (said_ids lanes))
+      ∙ gathered (marked_text (over_datanodes text)) (λ k. refl) last 0 (marked (said_ids lanes))
+      (ids_sorted (flat_map (said_by lanes) datanodes)) said_within
+      ∙ same_texts _ (over_datanodes text) (range_with_len 0 last) (λ k. cases k (find nat_cmp k (marked (said_ids lanes))) refl)
+    where
+      cases : (k : ℕ) (o : Option ℕ) → find nat_cmp k (marked (said_ids lanes)) ≡ o → marked_text (over_datanodes text) k o ≡ over_datanodes text k
+      cases k None e = sym (silent lanes k (text k) (λ dn g. none k dn g) e)
+      cases k (Some mark) e = refl
+
+  -- ---- replicas
+
+  abbrev replica_here : ℕ → Block → ℕ × Replica → List ℕ
+  replica_here id b r = replica_line id b r.0 r.1
+
+  replicas_of_block : (id : ℕ) (b : Block)
+      → lines_of_block id b (replicas_at t id) ≡ flat_map (λ dn. replica_text id (Some b) dn (replica_at t dn id)) datanodes
+  replicas_of_block id b =
+      texts_of_some (replica_here id b) replica_in (cells_of id)
+      ∙ gathered (λ dn o. given (replica_here id b) (option_map (λ r. (dn, r)) (option_and_then (λ c. c.replica) o))) (λ dn. refl)
+      count 1 (cells_of id) (h.shows.in_order.datanodes id) (cells_within id)
+      ∙ same_texts _ _ (range_with_len 1 count) (λ dn. cases dn (replica_at t dn id))
+      ∙ ap (flat_map (λ dn. replica_text id (Some b) dn (replica_at t dn id))) (sym all)
+    where
+      cases : (dn : ℕ) (o : Option Replica) → given (replica_here id b) (option_map (λ r. (dn, r)) o) ≡ replica_text id (Some b) dn o
+      cases dn None = refl
+      cases dn (Some r) = refl
+
+  abbrev row_text : ℕ × Row → List ℕ
+  row_text row = lines_of_block row.0 row.1.block (replicas_at t row.0)
+
+  block_replicas : (id : ℕ) (o : Option Row) → row_at t id ≡ o
+      → given row_text (option_map (λ row. (id, row)) o) ≡ flat_map (λ dn. replica_text id (option_map block_of o) dn (replica_at t dn id)) datanodes
+  block_replicas id None e = sym (no_texts (λ dn. replica_text id None dn (replica_at t dn id)) datanodes (λ dn. refl))
+  block_replicas id (Some row) e = replicas_of_block id row.block
+
+  no_replica : (id dn : ℕ) (o : Option Block) (named : Bool) (r : Option Replica) → r ≡ None → replica_text id o dn (cond named r None) ≡ []
+  no_replica id dn None named r e = refl
+  no_replica id dn (Some b) true r e = ap (replica_text id (Some b) dn) e
+  no_replica id dn (Some b) false r e = refl
+
+  replicas_are : lines_of_replicas t ≡ replica_lines n lanes
+  replicas_are =
+      texts_of_some row_text row_in t.entries
+      ∙ gathered (λ id o. given row_text (option_map (λ row. (id, row)) (unwrap_or o no_entry).row)) (λ id. refl)
+      last 0 t.entries h.shows.in_order.blocks ids_within
+      ∙ same_texts _ _ (range_with_len 0 last) (λ id. block_replicas id (row_at t id) refl ∙ pictured id)
+      ∙ sym (over_ids (λ id dn. replica_text id (block_at n id) dn (picture_replica n lanes dn id))
+      (λ id dn g. no_replica id dn (block_at n id) (is_named n id) (has_now lanes dn id) g))
+    where
+      pictured : (id : ℕ)
+          → flat_map (λ dn. replica_text id (option_map block_of (row_at t id)) dn (replica_at t dn id)) datanodes
+          ≡ flat_map (λ dn. replica_text id (block_at n id) dn (picture_replica n lanes dn id)) datanodes
+      pictured id =
+          ap (λ o. flat_map (λ dn. replica_text id o dn (replica_at t dn id)) datanodes) (sym (block_shown id))
+          ∙ same_texts _ _ datanodes (λ dn. ap (replica_text id (block_at n id) dn) (h.replicas dn id))
+
+  -- ---- orders
+
+  abbrev order_here : ℕ × ℕ → List ℕ
+  order_here order = order_line order.0 order.1
+
+  orders_of_block : (id : ℕ)
+      → flat_map order_here (orders_in id (entry_or_none t id).cells) ≡ flat_map (λ dn. order_text id dn (has_order t dn id)) datanodes
+  orders_of_block id =
+      texts_of_some order_here (order_in id) (cells_of id)
+      ∙ gathered (λ dn o. given order_here (cond (is_ordered o) (Some (id, dn)) None)) (λ dn. refl)
+      count 1 (cells_of id) (h.shows.in_order.datanodes id) (cells_within id)
+      ∙ same_texts _ _ (range_with_len 1 count) (λ dn. cases dn (has_order t dn id))
+      ∙ ap (flat_map (λ dn. order_text id dn (has_order t dn id))) (sym all)
+    where
+      cases : (dn : ℕ) (b : Bool) → given order_here (cond b (Some (id, dn)) None) ≡ order_text id dn b
+      cases dn true = refl
+      cases dn false = refl
+
+  no_order : (id dn : ℕ) (named : Bool) (r : Option Replica) → r ≡ None → order_text id dn (cond named false (is_some r)) ≡ []
+  no_order id dn true r e = refl
+  no_order id dn false r e = ap (λ o. order_text id dn (is_some o)) e
+
+  orders_are : lines_of_orders t ≡ order_lines n lanes
+  orders_are =
+      texts_of_lists order_here (λ e. orders_in e.0 e.1.cells) t.entries
+      ∙ gathered (λ id o. flat_map order_here (orders_in id (unwrap_or o no_entry).cells)) (λ id. refl)
+      last 0 t.entries h.shows.in_order.blocks ids_within
+      ∙ same_texts _ _ (range_with_len 0 last) (λ id. orders_of_block id ∙ same_texts _ _ datanodes (λ dn. ap (order_text id dn) (h.orders dn id)))
+      ∙ sym (over_ids (λ id dn. order_text id dn (picture_order n lanes dn id)) (λ id dn g. no_order id dn (is_named n id) (has_now lanes dn id) g))
+
+  -- ---- all of it
+
+  tables_are : lines_of_replicas t ++ lines_of_orders t ++ blocks_line mode ≡ tables_text permille min n lanes
+  tables_are =
+      ap (λ r. r ++ lines_of_orders t ++ blocks_line mode) replicas_are
+      ∙ ap (λ r. replica_lines n lanes ++ r ++ blocks_line mode) orders_are
+      ∙ ap (λ m. replica_lines n lanes ++ order_lines n lanes ++ blocks_line m)
+      (h.counts ∙ ap (safe_mode_of permille min n) (λ i dn id. h.replicas dn id i))
+
+all_datanodes : datanodes ≡ range_with_len 1 256
+unfolding datanodes
+all_datanodes = refl
+
+pub pictured : (permille min : ℕ) (n : Namespace) (lanes : Lanes) (t : Table) (mode : SafeMode) → IsPicture permille min n lanes t mode
+    → lines_of_replicas t ++ lines_of_orders t ++ blocks_line mode ≡ tables_text permille min n lanes
+pictured permille min n lanes t mode h = tables_are permille min n lanes t mode h 256 refl all_datanodes
+
+-- three texts were pushed
+pub pushed : (old replicas orders counts after_replicas after_orders new whole : List ℕ) → after_replicas ≡ old ++ replicas
+    → after_orders ≡ after_replicas ++ orders → replicas ++ orders ++ counts ≡ whole → new ≡ after_orders ++ counts → new ≡ old ++ whole
+pushed old replicas orders counts after_replicas after_orders new whole r o w e =
+    e ∙ ap (λ x. x ++ counts) (o ∙ ap (λ x. x ++ orders) r) ∙ joined ∙ ap (λ x. old ++ x) w
+  where
+    joined : ((old ++ replicas) ++ orders) ++ counts ≡ old ++ (replicas ++ orders ++ counts)
+    joined = simp append_assoc

@@ -1,0 +1,11 @@
+use Rattle.std.proofs.Common.{◌∙◌, string_bytes}
+use Rattle.nn_listing.proofs.ListingLemmas.{all_lines}
+use Rattle.nn_listing.proofs.paths.listing.Goals as goal
+
+pub returns : goal.returns
+returns c =
+    let first = string_bytes c.in_ok-text.text in
+    let before = string_bytes c.reserve_exact.new.self in
+    c.lines.view_is
+    ∙ all_lines c.args.last first before c.list_to.new.sink c.args.namespace.now
+    c.in_ok-text.ensures.ok c.in_ok-reserve_exact.ensures.bytes c.in_ok-list_to.ensures

@@ -1,0 +1,125 @@
+-- What the program prints of replicas, orders and counts: told by the namespace, and by what each DataNode said last.
+use Rattle.std.specs.Prelude.{◌≡◌, ℕ, Bool, true, false, List, [], ◌∷◌, ◌++◌, map, flat_map, Option, Some, None, nat_lt, ◌==◌, codes, decimal}
+use Rattle.std.specs.Prelude.{if◌then◌else◌}
+use Rattle.std.specs.List.{range_with_len}
+use Rattle.nn_types.specs.declared.block.Block.{Block}
+use Rattle.nn_types.specs.declared.replica.Class.{Class}
+use Rattle.nn_types.specs.declared.replica.Class.TheVariants.{Stale, Ahead, Building, Live, WrongLength}
+use Rattle.nn_types.specs.declared.replica.Replica.{Replica}
+use Rattle.nn_edits.specs.Text.{kind_text}
+use Rattle.nn_model.specs.Counts.{class_of, SafeMode, safe_mode_of}
+use Rattle.nn_model.specs.Lanes.{Lanes}
+use Rattle.nn_model.specs.Namespace.{Namespace}
+use Rattle.nn_model.specs.Picture.{picture_replica, picture_order}
+use Rattle.nn_model.specs.Status.{block_at}
+use Rattle.nn_replicas.specs.Agreement.{Shows}
+use Rattle.nn_replicas.specs.Calls.{rows_of, replica_at, replicas_at, has_order, orders_of}
+use Rattle.nn_replicas.specs.Table.{Table}
+use Rattle.nn_listing.specs.Listing.{newline}
+
+-- ---- Which DataNodes and block ids there are.
+
+-- DataNodes are 1 to 256
+unfoldable pub datanodes : List ℕ
+datanodes = range_with_len 1 256
+
+-- an id in its place among ascending ids, where it is not there yet
+abbrev pub with_once : ℕ → List ℕ → List ℕ
+with_once id [] = id ∷ []
+with_once id (i ∷ ids) = if nat_lt id i then id ∷ i ∷ ids else if id == i then i ∷ ids else i ∷ with_once id ids
+
+-- the same ids, ascending, each once
+abbrev pub each_once : List ℕ → List ℕ
+each_once [] = []
+each_once (id ∷ ids) = with_once id (each_once ids)
+
+-- the ids of the blocks that the DataNode speaks of, as its messages come
+abbrev pub said_by : Lanes → ℕ → List ℕ
+said_by lanes dn = map (λ m. m.block) (lanes dn)
+
+-- the ids of all blocks that DataNodes speak of. Of another block there is no replica and no order
+abbrev pub said_ids : Lanes → List ℕ
+said_ids lanes = each_once (flat_map (said_by lanes) datanodes)
+
+-- a text for each of these ids and each DataNode, by ascending id and then by DataNode
+abbrev pub of_each : Lanes → (ℕ → ℕ → List ℕ) → List ℕ
+of_each lanes text = flat_map (λ id. flat_map (text id) datanodes) (said_ids lanes)
+
+-- ---- Replicas.
+
+abbrev pub class_text : Class → List ℕ
+class_text Live = codes "live"
+class_text Building = codes "building"
+class_text Stale = codes "stale"
+class_text Ahead = codes "ahead"
+class_text WrongLength = codes "wronglength"
+
+-- `replica BLOCK DN STAMP LEN KIND CLASS`, of a DataNode's replica of the block that a file holds
+abbrev pub replica_line : ℕ → Block → ℕ → Replica → List ℕ
+replica_line id b dn r =
+    codes "replica " ++ decimal id ++ codes " " ++ decimal dn ++ codes " " ++ decimal r.stamp ++ codes " " ++ decimal r.len
+    ++ codes " " ++ kind_text r.kind ++ codes " " ++ class_text (class_of r b) ++ newline ∷ []
+
+-- that line, where a file holds the block and the DataNode has a replica
+abbrev pub replica_text : ℕ → Option Block → ℕ → Option Replica → List ℕ
+replica_text id None dn r = []
+replica_text id (Some b) dn None = []
+replica_text id (Some b) dn (Some r) = replica_line id b dn r
+
+-- the lines of all replicas
+abbrev pub replica_lines : Namespace → Lanes → List ℕ
+replica_lines n lanes = of_each lanes (λ id dn. replica_text id (block_at n id) dn (picture_replica n lanes dn id))
+
+-- ---- Orders.
+
+-- `order BLOCK DN`
+abbrev pub order_line : ℕ → ℕ → List ℕ
+order_line id dn = codes "order " ++ decimal id ++ codes " " ++ decimal dn ++ newline ∷ []
+
+-- that line, where the DataNode is to delete what it has of the block
+abbrev pub order_text : ℕ → ℕ → Bool → List ℕ
+order_text id dn true = order_line id dn
+order_text id dn false = []
+
+-- the lines of all orders
+abbrev pub order_lines : Namespace → Lanes → List ℕ
+order_lines n lanes = of_each lanes (λ id dn. order_text id dn (picture_order n lanes dn id))
+
+-- ---- Counts.
+
+abbrev pub mode_text : Bool → List ℕ
+mode_text true = codes "on"
+mode_text false = codes "off"
+
+-- `blocks TOTAL safe S needed K mode on`, or `off`
+abbrev pub blocks_line : SafeMode → List ℕ
+blocks_line mode =
+    codes "blocks " ++ decimal mode.total ++ codes " safe " ++ decimal mode.safe ++ codes " needed " ++ decimal mode.needed
+    ++ codes " mode " ++ mode_text mode.on ++ newline ∷ []
+
+-- ---- All of it.
+
+-- replicas, orders and counts, where this namespace and these lanes are all that there is
+abbrev pub tables_text : ℕ → ℕ → Namespace → Lanes → List ℕ
+tables_text permille min n lanes = replica_lines n lanes ++ order_lines n lanes ++ blocks_line (safe_mode_of permille min n (picture_replica n lanes))
+
+-- ---- A table that shows them.
+
+-- the lines of a block's replicas, as a table lists them
+abbrev pub lines_of_block : ℕ → Block → List (ℕ × Replica) → List ℕ
+lines_of_block id b replicas = flat_map (λ r. replica_line id b r.0 r.1) replicas
+
+-- the lines of all replicas of a table
+abbrev pub lines_of_replicas : Table → List ℕ
+lines_of_replicas t = flat_map (λ row. lines_of_block row.0 row.1.block (replicas_at t row.0)) (rows_of t)
+
+-- the lines of all orders of a table
+abbrev pub lines_of_orders : Table → List ℕ
+lines_of_orders t = flat_map (λ order. order_line order.0 order.1) (orders_of t)
+
+-- the table shows the namespace, its replicas and orders are the picture's, and the mode is the one of its replicas
+pub record IsPicture (permille min : ℕ) (n : Namespace) (lanes : Lanes) (t : Table) (mode : SafeMode) : Type 0 where
+  pub shows : Shows n t
+  pub replicas : (dn id : ℕ) → replica_at t dn id ≡ picture_replica n lanes dn id
+  pub orders : (dn id : ℕ) → has_order t dn id ≡ picture_order n lanes dn id
+  pub counts : mode ≡ safe_mode_of permille min n (replica_at t)

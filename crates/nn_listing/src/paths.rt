@@ -1,0 +1,175 @@
+//! What the program prints of its namespace.
+ghost use Rattle.std.specs.Prelude.{◌≡◌, ◌++◌, ◌∷◌, [], IfOk, OnOk, codes, decimal, flat_map, string_bytes};
+ghost use Rattle.nn_types.specs.Path.{joined, path_text};
+ghost use Rattle.nn_model.specs.declared.form.Form.{Form};
+ghost use Rattle.nn_model.specs.declared.form.Form.TheVariants.{File};
+ghost use Rattle.nn_tree.specs.Found.{form_of};
+ghost use Rattle.nn_tree.specs.Listing.{lent_names};
+ghost use Rattle.nn_listing.specs.Listing.{listing_text, line_of, path_json, block_text, state_text};
+
+use nn_model::FileRow;
+use nn_tree::{Extent, Found, Namespace, RowSink};
+use nn_types::Block;
+use serde_json::Value;
+use std::alloc::{AllocError, Global};
+use std::fmt::Write;
+use std::marker::Model;
+
+/// About what a line has beside its path.
+const LINE: usize = 20;
+
+/// About what a line has for each block.
+const BLOCK: usize = 30;
+
+/// The last transaction's number and the line of each path in path order:
+///
+/// ```text
+/// txid 9
+/// dir "/"
+/// file "/f" 3 closed 1073741825:1001:5
+/// ```
+///
+/// Memory for about all of it is asked for at once, so that a listing that is larger than the memory is refused
+/// before it is begun.
+pub fn listing(alloc: Global, namespace: &Namespace, last: u64) -> Result<String, AllocError>
+    ensures { IfOk result (λ text. string_bytes text ≡ listing_text last namespace.now) }
+{
+    let mut text = format!(in alloc; "txid {last}\n")?;
+    text.reserve_exact(listing_bytes(namespace.extent()))?;
+    let mut lines = Lines { text, alloc };
+    namespace.list_to(&mut lines)?;
+    let Lines { text, alloc: _ } = lines;
+    Ok(text)
+}
+
+// About the bytes of a listing, an estimate that no contract speaks of.
+fn listing_bytes(extent: Extent) -> usize {
+    let lines = extent.paths.saturating_mul(LINE);
+    let blocks = extent.blocks.saturating_mul(BLOCK);
+    extent
+        .path_bytes
+        .saturating_add(lines)
+        .saturating_add(blocks)
+}
+
+// The lines of a listing so far.
+#[derive(Drop)]
+struct Lines {
+    text: String,
+    alloc: Global,
+}
+
+impl Model for Lines {
+    ghost use Rattle.std.specs.Prelude.{List, ℕ, string_bytes};
+
+    ghost Value = { List ℕ };
+
+    ghost view = { λ lines. string_bytes lines.text };
+}
+
+impl RowSink for Lines {
+    ghost use Rattle.std.specs.Prelude.{◌++◌};
+    ghost use Rattle.nn_listing.specs.Listing.{row_line};
+
+    ghost taking = { λ text row. text ++ row_line row };
+
+    fn row(&mut self, names: &[&str], found: Found<'_>) -> Result<(), AllocError> {
+        push_line(self.alloc, &mut self.text, names, found)?;
+        Ok(())
+    }
+}
+
+// Adds the line of what stands at the path with these names.
+fn push_line(
+    alloc: Global,
+    text: &mut String,
+    names: &[&str],
+    found: Found<'_>,
+) -> Result<(), AllocError>
+    ensures { OnOk result (string_bytes text.new ≡ string_bytes text.old ++ line_of (lent_names names.now) (form_of found.entry)) }
+{
+    match found {
+        Found::Dir => push_dir(alloc, text, names),
+        Found::File(file) => push_file(alloc, text, names, file),
+    }
+}
+
+fn push_dir(alloc: Global, text: &mut String, names: &[&str]) -> Result<(), AllocError>
+    ensures { OnOk result (string_bytes text.new ≡ string_bytes text.old ++ line_of (lent_names names.now) Form.Dir) }
+{
+    text.push_str("dir ")?;
+    push_path(alloc, text, names)?;
+    text.push_str("\n")
+}
+
+fn push_file(
+    alloc: Global,
+    text: &mut String,
+    names: &[&str],
+    file: &FileRow,
+) -> Result<(), AllocError>
+    ensures { OnOk result (string_bytes text.new ≡ string_bytes text.old ++ line_of (lent_names names.now) (File file.now)) }
+{
+    text.push_str("file ")?;
+    push_path(alloc, text, names)?;
+    let replication = file.replication.get();
+    let state = state(file.closed);
+    write!(text, " {replication} {state}")?;
+    push_blocks(text, file.blocks.as_slice())?;
+    text.push_str("\n")
+}
+
+fn push_path(alloc: Global, text: &mut String, names: &[&str]) -> Result<(), AllocError>
+    ensures { OnOk result (string_bytes text.new ≡ string_bytes text.old ++ path_json (lent_names names.now)) }
+{
+    let path = text_of(alloc, names)?;
+    let json = Value::String(path).to_string(alloc)?;
+    text.push_str(json.as_str())
+}
+
+// The text of the path with these names.
+fn text_of(alloc: Global, names: &[&str]) -> Result<String, AllocError>
+    ensures { IfOk result (λ path. string_bytes path ≡ path_text (lent_names names.now)) }
+{
+    if names.is_empty() {
+        return String::from_str(alloc, "/");
+    }
+    joined(alloc, names)
+}
+
+// A slash before each name.
+fn joined(alloc: Global, names: &[&str]) -> Result<String, AllocError>
+    ensures { IfOk result (λ path. string_bytes path ≡ joined (lent_names names.now)) }
+{
+    let mut path = String::new(alloc);
+    for name in names {
+        path.push('/')?;
+        path.push_str(name)?;
+    }
+    Ok(path)
+}
+
+fn push_blocks(text: &mut String, blocks: &[Block]) -> Result<(), AllocError>
+    ensures { OnOk result (string_bytes text.new ≡ string_bytes text.old ++ flat_map block_text blocks.now) }
+{
+    for block in blocks {
+        push_block(text, *block)?;
+    }
+    Ok(())
+}
+
+fn push_block(text: &mut String, block: Block) -> Result<(), AllocError>
+    ensures { OnOk result (string_bytes text.new ≡ string_bytes text.old ++ block_text block) }
+{
+    let id = block.id.get();
+    let stamp = block.stamp.get();
+    let len = block.len.get();
+    write!(text, " {id}:{stamp}:{len}")
+}
+
+// Whether a file is complete.
+fn state(closed: bool) -> &'static str
+    ensures { result.now ≡ state_text closed }
+{
+    if closed { "closed" } else { "open" }
+}

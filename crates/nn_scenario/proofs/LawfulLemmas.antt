@@ -1,0 +1,141 @@
+-- What every scenario is: its messages are lanes of its DataNodes, and each edit is a transaction of its parts.
+use Rattle.std.proofs.Common.{◌≡◌, ℕ, ◌+◌, ◌≤◌, Bool, true, false, cond, List, [], ◌∷◌, ◌++◌, length, map, Result, Ok, Err, refl, sym, ap, subst, ◌∙◌, arith}
+use Rattle.std.proofs.Common.{append_assoc, append-nil}
+use Rattle.std.specs.Prelude.{◌==◌, flat_map}
+use Rattle.std.specs.List.{All}
+use Rattle.std.proofs.lemmas.Bool.{eqb-true}
+use Rattle.std.proofs.lemmas.List.{nil_from_length}
+use Rattle.std.proofs.lemmas.List.Elements.{All-nil, All-cons}
+use Rattle.nn_edits.specs.Grammar.{IsLawfulReport}
+use Rattle.nn_edits.specs.Reading.{either_of_line}
+use Rattle.nn_edits.specs.declared.fault.LineFault.{LineFault}
+use Rattle.nn_edits.specs.declared.line.Line.{Line}
+use Rattle.nn_edits.specs.declared.line.Line.TheVariants as either
+use Rattle.nn_edits.specs.declared.tx.Tx.{Tx}
+use Rattle.nn_edits.proofs.LineGrammar.{either_line_ok, lawful_line}
+use Rattle.nn_model.specs.Lanes.{Lanes, no_messages, followed_by}
+use Rattle.nn_segment.specs.Segment.{is_end}
+use Rattle.nn_scenario.specs.Cut.{EditLine, Part, no_lines, with_line, cut_from, cut}
+use Rattle.nn_scenario.specs.Scenario.{ScenarioLine, edit, report, line_as, is_blank, and_later, with_read, lines_from, edit_lines, steps_from, steps_of}
+use Rattle.nn_scenario.specs.Scenario.{Scenario, lines_of, scenario_with, scenario_from, scenario_of, HasMessagesOf, IsLawfulScenario}
+use Rattle.nn_scenario.specs.Steps.{next_message, lanes_of, lane_count, edit_count, IsStepOf}
+use Rattle.nn_scenario.specs.declared.scenario.BadLine.{BadLine}
+use Rattle.nn_scenario.specs.declared.steps.Step.{Step}
+use Rattle.nn_scenario.specs.declared.steps.Step.TheVariants as step
+use Rattle.nn_scenario.proofs.StepLemmas.{steps_in_turn, lanes_of_lines, steps_are_lanes}
+
+-- ---- lines that were read
+
+abbrev IsLawfulRead : ScenarioLine → Type 0
+IsLawfulRead (edit line) = Unit {0}
+IsLawfulRead (report r) = IsLawfulReport r
+
+abbrev AreLawful : List ScenarioLine → Type 0
+AreLawful [] = Unit {0}
+AreLawful (line ∷ lines) = IsLawfulRead line × AreLawful lines
+
+lawful_read : (text : List ℕ) (line : Line) → either_of_line text ≡ Ok line → IsLawfulRead (line_as text line)
+lawful_read text (either.Edit tx) is = tt
+lawful_read text (either.Report r) is = lawful_line text (either.Report r) (either_line_ok text (either.Report r) is)
+
+later_lawful : (line : ScenarioLine) (r : Result (List ScenarioLine) BadLine) (lines : List ScenarioLine) → and_later line r ≡ Ok lines → IsLawfulRead line →
+    ((later : List ScenarioLine) → r ≡ Ok later → AreLawful later) → AreLawful lines
+later_lawful line (Ok later) lines is h rest = let same : line ∷ later ≡ lines = cc in subst AreLawful same (h, rest later refl)
+later_lawful line (Err e) lines is h rest = absurd (cc)
+
+lines_lawful : (n : ℕ) (texts : List (List ℕ)) (lines : List ScenarioLine) → lines_from n texts ≡ Ok lines → AreLawful lines
+unfolding lines_from
+lines_lawful n [] lines is = let same : [] ≡ lines = cc in subst AreLawful same tt
+lines_lawful n (text ∷ texts) lines is = at (is_blank text) (either_of_line text) refl is (lines_lawful (n + 1) texts)
+  where
+    at : (b : Bool) (o : Result Line LineFault) → either_of_line text ≡ o →
+        cond b (lines_from (n + 1) texts) (with_read n text o (lines_from (n + 1) texts)) ≡ Ok lines →
+        ((later : List ScenarioLine) → lines_from (n + 1) texts ≡ Ok later → AreLawful later) → AreLawful lines
+    at true o was is later = later lines is
+    at false (Ok line) was is later = later_lawful (line_as text line) (lines_from (n + 1) texts) lines is (lawful_read text line was) later
+    at false (Err e) was is later = absurd (cc)
+
+-- ---- their steps
+
+count_from : (steps : List Step) → 1 ≤ lane_count steps
+count_from [] = omega arith
+count_from (step.Edit ∷ steps) = count_from steps
+count_from (step.Message m ∷ steps) = omega (arith, count_from steps)
+
+count_to : (lanes : Lanes) (lines : List ScenarioLine) → AreLawful lines → lane_count (steps_from lanes lines) ≤ 256
+count_to lanes [] h = omega arith
+count_to lanes (edit line ∷ lines) h = count_to lanes lines h.1
+count_to lanes (report r ∷ lines) h = omega (arith, h.0.dn_to, count_to (followed_by lanes (next_message lanes r)) lines h.1)
+
+steps_within : (k : ℕ) (lanes : Lanes) (lines : List ScenarioLine) → AreLawful lines → lane_count (steps_from lanes lines) ≤ k →
+    All (IsStepOf k) (steps_from lanes lines)
+steps_within k lanes [] h below = All-nil (IsStepOf k)
+steps_within k lanes (edit line ∷ lines) h below = All-cons (IsStepOf k) step.Edit (steps_from lanes lines) tt (steps_within k lanes lines h.1 below)
+steps_within k lanes (report r ∷ lines) h below =
+    let m = next_message lanes r in
+    let more = followed_by lanes m in
+    All-cons (IsStepOf k) (step.Message m) (steps_from more lines) (h.0.dn_from, omega (arith, below)) (steps_within k more lines h.1 (omega (arith, below)))
+
+edits_of_steps : (lanes : Lanes) (lines : List ScenarioLine) → edit_count (steps_from lanes lines) ≡ length (edit_lines lines)
+edits_of_steps lanes [] = refl
+edits_of_steps lanes (edit line ∷ lines) = omega (arith, edits_of_steps lanes lines)
+edits_of_steps lanes (report r ∷ lines) = edits_of_steps (followed_by lanes (next_message lanes r)) lines
+
+-- ---- a cut keeps the transactions in order
+
+abbrev txs_in : List Part → List Tx
+txs_in parts = flat_map (λ part. part.txs) parts
+
+abbrev txs_of : List EditLine → List Tx
+txs_of lines = map (λ line. line.tx) lines
+
+pub cut_keeps : (part : Part) (lines : List EditLine) → txs_in (cut_from part lines) ≡ part.txs ++ txs_of lines
+unfolding cut_from
+cut_keeps part [] = at (length part.txs == 0) refl
+  where
+    at : (t : Bool) → (length part.txs == 0) ≡ t → txs_in (cond t [] (part ∷ [])) ≡ part.txs ++ []
+    at true none = sym (append-nil part.txs ∙ nil_from_length part.txs (eqb-true _ _ none))
+    at false some = refl
+cut_keeps part (line ∷ lines) = at (is_end line.tx.edit) (cut_keeps no_lines lines) (cut_keeps (with_line part line) lines)
+  where
+    at : (t : Bool) → txs_in (cut_from no_lines lines) ≡ txs_of lines →
+        txs_in (cut_from (with_line part line) lines) ≡ (part.txs ++ line.tx ∷ []) ++ txs_of lines →
+        txs_in (cond t (with_line part line ∷ cut_from no_lines lines) (cut_from (with_line part line) lines)) ≡ part.txs ++ txs_of (line ∷ lines)
+    at true rest more = ap (λ txs. (part.txs ++ line.tx ∷ []) ++ txs) rest ∙ append_assoc part.txs (line.tx ∷ []) (txs_of lines)
+    at false rest more = more ∙ append_assoc part.txs (line.tx ∷ []) (txs_of lines)
+
+txs_counted : (lines : List EditLine) → length (txs_of lines) ≡ length lines
+txs_counted [] = refl
+txs_counted (line ∷ lines) = omega (arith, txs_counted lines)
+
+-- ---- scenarios
+
+lawful_lines : (lines : List ScenarioLine) → AreLawful lines → IsLawfulScenario (scenario_with (cut (edit_lines lines)) (steps_of lines))
+lawful_lines lines h = record {
+  edits = edits_of_steps no_messages lines ∙ sym (txs_counted (edit_lines lines)) ∙ ap length (sym (cut_keeps no_lines (edit_lines lines)));
+  in_turn = steps_in_turn no_messages lines;
+  messages = steps_are_lanes lines;
+  within = steps_within (lane_count (steps_of lines)) no_messages lines h (omega arith);
+  lanes_from = count_from (steps_of lines);
+  lanes_to = count_to no_messages lines h;
+}
+
+pub has_messages : (text : List ℕ) (s : Scenario) → scenario_of text ≡ Ok s → HasMessagesOf text s
+unfolding scenario_of
+has_messages text s is = at (lines_of text) refl is
+  where
+    at : (r : Result (List ScenarioLine) BadLine) → lines_of text ≡ r → scenario_from r ≡ Ok s → HasMessagesOf text s
+    at (Ok lines) was is =
+        let same : scenario_with (cut (edit_lines lines)) (steps_of lines) ≡ s = cc in
+        (lines, was, λ dn. ap (λ (x : Scenario). lanes_of x.steps dn) (sym same) ∙ lanes_of_lines lines dn)
+    at (Err e) was is = absurd (cc)
+
+pub lawful_scenario : (text : List ℕ) (s : Scenario) → scenario_of text ≡ Ok s → IsLawfulScenario s
+unfolding scenario_of
+lawful_scenario text s is = at (lines_of text) refl is
+  where
+    at : (r : Result (List ScenarioLine) BadLine) → lines_of text ≡ r → scenario_from r ≡ Ok s → IsLawfulScenario s
+    at (Ok lines) was is =
+        let same : scenario_with (cut (edit_lines lines)) (steps_of lines) ≡ s = cc in
+        subst IsLawfulScenario same (lawful_lines lines (lines_lawful 1 _ lines was))
+    at (Err e) was is = absurd (cc)

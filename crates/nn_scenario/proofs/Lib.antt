@@ -1,0 +1,4 @@
+pub mod StepLemmas
+pub mod LineLemmas
+pub mod LawfulLemmas
+pub mod SegmentLemmas

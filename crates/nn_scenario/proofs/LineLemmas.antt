@@ -1,0 +1,169 @@
+-- Lines, one after another.
+use Rattle.std.proofs.Common.{◌≡◌, ℕ, suc, ◌+◌, ◌<◌, List, [], ◌∷◌, ◌++◌, length, drop, Bool, true, false, Result, Ok, Err, refl, sym, ap, ◌∙◌, subst, arith}
+use Rattle.std.proofs.Common.{append_assoc, append-nil, eqb, cond, not, take, ltb, ltb-true, ◌≤◌}
+use Rattle.std.proofs.lemmas.Bool.{ltb-false}
+use Rattle.std.proofs.lemmas.List.{take_all}
+use Rattle.std.specs.Bool.{MatchBool}
+use Rattle.std.specs.List.{slice_split, onto_first, position_or_len}
+use Rattle.std.proofs.lemmas.List.Splits.{slice_split_first}
+use Rattle.nn_types.specs.declared.report.Report.{Report}
+use Rattle.nn_edits.specs.Reading.{edit_of_line, either_of_line}
+use Rattle.nn_edits.specs.declared.fault.LineFault.{LineFault}
+use Rattle.nn_edits.specs.declared.line.Line.{Line}
+use Rattle.nn_edits.specs.declared.line.Line.TheVariants as either
+use Rattle.nn_edits.specs.declared.tx.Tx.{Tx}
+use Rattle.nn_edits.proofs.LineGrammar.{either_line_ok, edit_line_has}
+use Rattle.nn_model.specs.Lanes.{no_messages}
+use Rattle.nn_segment.specs.Lines.{is_unbroken}
+use Rattle.nn_segment.specs.Segment.{is_end}
+use Rattle.nn_scenario.specs.Cut.{no_lines, with_line, last_part, cut_from}
+use Rattle.nn_scenario.specs.Scenario.{ScenarioLine, edit, report, line_as, is_blank, and_later, with_read, lines_from, edit_lines, steps_from}
+use Rattle.nn_scenario.specs.Scenario.{Scenario, scenario_with, scenario_from, scenario_of}
+use Rattle.nn_scenario.specs.SoFar.{SoFar, nothing_read, followed_by_line}
+use Rattle.nn_scenario.specs.Steps.{next_message, lanes_of, with_report}
+use Rattle.nn_scenario.specs.declared.scenario.BadLine.{BadLine}
+use Rattle.nn_scenario.specs.declared.steps.Step.{Step}
+use Rattle.nn_scenario.specs.declared.steps.Step.TheVariants as step
+use Rattle.nn_segment.specs.Lines.{newline}
+use Rattle.nn_scenario.proofs.StepLemmas.{lanes_after_edit, lanes_after_message}
+
+abbrev pub pieces : List ℕ → List (List ℕ)
+pieces text = slice_split (λ b. eqb b newline) text
+
+-- a line that is an edit where both sorts stand together is that edit
+pub edit_alone : (line : List ℕ) (tx : Tx) → either_of_line line ≡ Ok (either.Edit tx) → edit_of_line line ≡ Ok tx
+edit_alone line tx is = edit_line_has line tx (either_line_ok line (either.Edit tx) is)
+
+pub edit_from_one : (line : List ℕ) (tx : Tx) → either_of_line line ≡ Ok (either.Edit tx) → 1 ≤ tx.txid
+edit_from_one line tx is = (either_line_ok line (either.Edit tx) is).2.from_one
+
+-- ---- what was read, and then the lines that are left
+
+abbrev pub and_lines : SoFar → List ScenarioLine → Scenario
+and_lines x lines = scenario_with (x.parts ++ cut_from x.in_hand (edit_lines lines)) (x.steps ++ steps_from (lanes_of x.steps) lines)
+
+abbrev pub follow : SoFar → Result (List ScenarioLine) BadLine → Result Scenario BadLine
+follow x (Ok lines) = Ok (and_lines x lines)
+follow x (Err e) = Err e
+
+edit_steps : (steps : List Step) (lines : List ScenarioLine) → steps ++ step.Edit ∷ steps_from (lanes_of steps) lines
+    ≡ (steps ++ step.Edit ∷ []) ++ steps_from (lanes_of (steps ++ step.Edit ∷ [])) lines
+edit_steps steps lines =
+    ap (λ lanes. steps ++ step.Edit ∷ steps_from lanes lines) (sym (lanes_after_edit no_messages steps))
+    ∙ sym (append_assoc steps (step.Edit ∷ []) (steps_from (lanes_of (steps ++ step.Edit ∷ [])) lines))
+
+report_steps : (steps : List Step) (r : Report) (lines : List ScenarioLine) → steps ++ steps_from (lanes_of steps) (report r ∷ lines)
+    ≡ with_report steps r ++ steps_from (lanes_of (with_report steps r)) lines
+report_steps steps r lines =
+    let m = next_message (lanes_of steps) r in
+    ap (λ lanes. steps ++ step.Message m ∷ steps_from lanes lines) (sym (lanes_after_message no_messages steps m))
+    ∙ sym (append_assoc steps (step.Message m ∷ []) (steps_from (lanes_of (with_report steps r)) lines))
+
+taken : (x : SoFar) (line : ScenarioLine) (lines : List ScenarioLine) → and_lines x (line ∷ lines) ≡ and_lines (followed_by_line x line) lines
+unfolding cut_from
+taken x (report r) lines = ap (λ steps. scenario_with (x.parts ++ cut_from x.in_hand (edit_lines lines)) steps) (report_steps x.steps r lines)
+taken x (edit line) lines =
+    ap (scenario_with (x.parts ++ cut_from x.in_hand (line ∷ edit_lines lines))) (edit_steps x.steps lines)
+    ∙ at (is_end line.tx.edit)
+  where
+    at : (b : Bool) →
+        scenario_with (x.parts ++ cond b (with_line x.in_hand line ∷ cut_from no_lines (edit_lines lines)) (cut_from (with_line x.in_hand line) (edit_lines lines)))
+        ((x.steps ++ step.Edit ∷ []) ++ steps_from (lanes_of (x.steps ++ step.Edit ∷ [])) lines)
+        ≡ and_lines (cond b (record { parts = x.parts ++ with_line x.in_hand line ∷ []; in_hand = no_lines; steps = x.steps ++ step.Edit ∷ [] })
+        (record { parts = x.parts; in_hand = with_line x.in_hand line; steps = x.steps ++ step.Edit ∷ [] })) lines
+    at true = ap (λ parts. scenario_with parts ((x.steps ++ step.Edit ∷ []) ++ steps_from (lanes_of (x.steps ++ step.Edit ∷ [])) lines))
+        (sym (append_assoc x.parts (with_line x.in_hand line ∷ []) (cut_from no_lines (edit_lines lines))))
+    at false = refl
+
+one_taken : (x : SoFar) (line : ScenarioLine) (r : Result (List ScenarioLine) BadLine) → follow x (and_later line r) ≡ follow (followed_by_line x line) r
+one_taken x line (Ok lines) = ap Ok (taken x line lines)
+one_taken x line (Err e) = refl
+
+-- what a line that was taken up leaves
+abbrev pub Turned : List ℕ → SoFar → SoFar → Type 0
+Turned text x next = MatchBool (is_blank text) (next ≡ x) ((line : Line) × (either_of_line text ≡ Ok line) × (next ≡ followed_by_line x (line_as text line)))
+
+pub turn : (n : ℕ) (text : List ℕ) (texts : List (List ℕ)) (x next : SoFar) → Turned text x next
+    → follow x (lines_from n (text ∷ texts)) ≡ follow next (lines_from (n + 1) texts)
+unfolding lines_from
+turn n text texts x next h = at (is_blank text) h
+  where
+    at : (b : Bool) → MatchBool b (next ≡ x) ((line : Line) × (either_of_line text ≡ Ok line) × (next ≡ followed_by_line x (line_as text line)))
+        → follow x (cond b (lines_from (n + 1) texts) (with_read n text (either_of_line text) (lines_from (n + 1) texts)))
+        ≡ follow next (lines_from (n + 1) texts)
+    at true h = ap (λ y. follow y (lines_from (n + 1) texts)) (sym h)
+    at false h =
+        ap (λ r. follow x (with_read n text r (lines_from (n + 1) texts))) h.1
+        ∙ one_taken x (line_as text h.0) (lines_from (n + 1) texts)
+        ∙ ap (λ y. follow y (lines_from (n + 1) texts)) (sym h.2)
+
+-- a line that was refused
+pub refused : (n : ℕ) (text : List ℕ) (texts : List (List ℕ)) (d : LineFault) (x : SoFar) → is_blank text ≡ false → either_of_line text ≡ Err d
+    → follow x (lines_from n (text ∷ texts)) ≡ Err (record { fault = d; line = n })
+unfolding lines_from
+refused n text texts d x e h = rw (e, h) refl
+
+pub no_more : (n : ℕ) (x : SoFar) → follow x (lines_from n []) ≡ Ok (scenario_with (x.parts ++ last_part x.in_hand) x.steps)
+unfolding lines_from cut_from
+no_more n x = ap (λ steps. Ok (scenario_with (x.parts ++ last_part x.in_hand) steps)) (append-nil x.steps)
+
+pub whole_input : (text : List ℕ) → follow nothing_read (lines_from 1 (pieces text)) ≡ scenario_of text
+unfolding scenario_of
+whole_input text = same (lines_from 1 (pieces text))
+  where
+    same : (r : Result (List ScenarioLine) BadLine) → follow nothing_read r ≡ scenario_from r
+    same (Ok lines) = refl
+    same (Err e) = refl
+
+-- ---- the first line's end
+
+abbrev pub ends : ℕ → Bool
+ends b = eqb b newline
+
+pub last_piece : (text : List ℕ) → position_or_len ends text ≡ length text → pieces text ≡ text ∷ []
+last_piece [] e = refl
+last_piece (b ∷ text) e = at (ends b) e (last_piece text)
+  where
+    at : (t : Bool) → cond (not t) (1 + position_or_len ends text) 0 ≡ suc (length text) → (position_or_len ends text ≡ length text → pieces text ≡ text ∷ [])
+        → cond t ([] ∷ pieces text) (onto_first b (pieces text)) ≡ (b ∷ text) ∷ []
+    at true e later = absurd (omega arith)
+    at false e later = rw (later (omega arith)) refl
+
+pub first_piece : (text : List ℕ) → position_or_len ends text < length text →
+    pieces text ≡ take (position_or_len ends text) text ∷ pieces (drop (position_or_len ends text + 1) text)
+first_piece text within = slice_split_first ends text 0 within
+
+-- the first line, however many follow
+pub some_piece : (text : List ℕ) (n : ℕ) → n ≡ position_or_len ends text → n ≤ length text → (lines : List (List ℕ)) × (pieces text ≡ take n text ∷ lines)
+some_piece text n is within = at (ltb n (length text)) refl
+  where
+    at : (t : Bool) → ltb n (length text) ≡ t → (lines : List (List ℕ)) × (pieces text ≡ take n text ∷ lines)
+    at true h =
+        let less : position_or_len ends text < length text = omega (arith, ltb-true n (length text) h) in
+        (pieces (drop (position_or_len ends text + 1) text), first_piece text less ∙ rw (← is) refl)
+    at false h =
+        let all : n ≡ length text = omega (arith, ltb-false n (length text) h) in
+        ([], last_piece text (sym is ∙ all) ∙ ap (λ l. l ∷ []) (sym (take_all n text (omega arith))))
+
+-- no line feed stands in the first line
+pub first_unbroken : (text : List ℕ) → is_unbroken (take (position_or_len ends text) text) ≡ true
+first_unbroken [] = refl
+first_unbroken (b ∷ text) = at (ends b) refl (first_unbroken text)
+  where
+    at : (t : Bool) → ends b ≡ t → is_unbroken (take (position_or_len ends text) text) ≡ true
+        → is_unbroken (take (cond (not t) (1 + position_or_len ends text) 0) (b ∷ text)) ≡ true
+    at true e later = refl
+    at false e later =
+        let one : suc (position_or_len ends text) ≡ 1 + position_or_len ends text = omega arith in
+        subst (λ k. is_unbroken (take k (b ∷ text)) ≡ true) one (rw e later)
+
+-- the last line was read
+pub last_read : (text rest : List ℕ) (line end : ℕ) (x next : SoFar) → follow x (lines_from (line + 1) (pieces rest)) ≡ scenario_of text →
+    end ≡ position_or_len ends rest → end ≡ length rest → Turned (take end rest) x next →
+    scenario_of text ≡ Ok (scenario_with (next.parts ++ last_part next.in_hand) next.steps)
+last_read text rest line end x next same is whole turned =
+    let one : pieces rest ≡ take end rest ∷ [] = last_piece rest (sym is ∙ whole) ∙ ap (λ l. l ∷ []) (sym (take_all end rest (omega arith))) in
+    sym same
+    ∙ ap (λ ls. follow x (lines_from (line + 1) ls)) one
+    ∙ turn (line + 1) (take end rest) [] x next turned
+    ∙ no_more (line + 1 + 1) next

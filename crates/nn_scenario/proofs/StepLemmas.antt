@@ -1,0 +1,208 @@
+-- Steps, one after another, and the lanes that their messages make.
+use Rattle.std.proofs.Common.{◌≡◌, ℕ, ◌+◌, ◌≤◌, ◌<◌, Bool, true, false, cond, List, [], ◌∷◌, ◌++◌, length, max, get_or, set, refl, sym, ap, subst, ◌∙◌, arith}
+use Rattle.std.proofs.Common.{append_assoc, append-nil, length-append, replicate, length-set, get_or-set_same, get_or-set_other, inl, inr}
+use Rattle.std.specs.Prelude.{◌==◌, ◌≢◌}
+use Rattle.std.proofs.lemmas.List.{length-replicate, get_or-replicate, get_or_default}
+use Rattle.std.proofs.lemmas.Bool.{cases_Bool, eqb-true, eq-eqb, both_ways}
+use Rattle.nn_types.specs.declared.report.Message.{Message}
+use Rattle.nn_types.specs.declared.report.Report.{Report}
+use Rattle.nn_model.specs.Lanes.{Lanes, no_messages, followed_by, AreNumbered, AreLanes}
+use Rattle.nn_scenario.specs.Scenario.{ScenarioLine, edit, report, numbered, messages_of, steps_from, steps_of}
+use Rattle.nn_scenario.specs.Steps.{message, next_message, lanes_after, lanes_of, AreInTurn, lane_count, with_report, IsCounted}
+use Rattle.nn_scenario.specs.declared.steps.Step.{Step}
+use Rattle.nn_scenario.specs.declared.steps.Step.TheVariants as step
+
+-- ---- one more step
+
+pub lanes_after_edit : (lanes : Lanes) (steps : List Step) → lanes_after lanes (steps ++ step.Edit ∷ []) ≡ lanes_after lanes steps
+lanes_after_edit lanes [] = refl
+lanes_after_edit lanes (step.Edit ∷ steps) = lanes_after_edit lanes steps
+lanes_after_edit lanes (step.Message m ∷ steps) = lanes_after_edit (followed_by lanes m) steps
+
+pub lanes_after_message : (lanes : Lanes) (steps : List Step) (m : Message) →
+    lanes_after lanes (steps ++ step.Message m ∷ []) ≡ followed_by (lanes_after lanes steps) m
+lanes_after_message lanes [] m = refl
+lanes_after_message lanes (step.Edit ∷ steps) m = lanes_after_message lanes steps m
+lanes_after_message lanes (step.Message x ∷ steps) m = lanes_after_message (followed_by lanes x) steps m
+
+pub count_after_edit : (steps : List Step) → lane_count (steps ++ step.Edit ∷ []) ≡ lane_count steps
+count_after_edit [] = refl
+count_after_edit (step.Edit ∷ steps) = count_after_edit steps
+count_after_edit (step.Message m ∷ steps) = ap (max m.dn) (count_after_edit steps)
+
+pub count_after_message : (steps : List Step) (m : Message) → lane_count (steps ++ step.Message m ∷ []) ≡ max m.dn (lane_count steps)
+count_after_message [] m = refl
+count_after_message (step.Edit ∷ steps) m = count_after_message steps m
+count_after_message (step.Message x ∷ steps) m = let later = count_after_message steps m in omega (arith, later)
+
+-- ---- lanes grow by what their DataNode sends
+
+pub own_lane : (lanes : Lanes) (m : Message) (dn : ℕ) → dn ≡ m.dn → followed_by lanes m dn ≡ lanes dn ++ m ∷ []
+own_lane lanes m dn is =
+    ap (λ k. cond (dn == k) (lanes dn ++ m ∷ []) (lanes dn)) (sym is)
+    ∙ ap (λ t. cond t (lanes dn ++ m ∷ []) (lanes dn)) (same_number dn)
+  where
+    same_number : (k : ℕ) → (k == k) ≡ true
+    same_number k = grind arith
+
+pub lane_length : (lanes : Lanes) (steps : List Step) (dn : ℕ) → length (lanes_after lanes steps dn) ≤ length (lanes dn) + length steps
+lane_length lanes [] dn = omega arith
+lane_length lanes (step.Edit ∷ steps) dn = omega (arith, lane_length lanes steps dn)
+lane_length lanes (step.Message m ∷ steps) dn =
+    omega (arith, lane_length (followed_by lanes m) steps dn, grows (dn == m.dn))
+  where
+    grows : (t : Bool) → length (cond t (lanes dn ++ m ∷ []) (lanes dn)) ≤ length (lanes dn) + 1
+    grows true = omega (arith, length-append (lanes dn) (m ∷ []))
+    grows false = omega arith
+
+-- ---- what was counted
+
+pub nothing_counted : (sent : List ℕ) → sent ≡ replicate 257 0 → IsCounted [] sent 1
+nothing_counted sent is = record {
+  places = ap length is ∙ length-replicate {A = ℕ} 257 0;
+  each = λ dn below. ap (λ ns. get_or ns dn 0) is ∙ get_or-replicate {A = ℕ} 257 dn 0 0 below;
+  greatest = refl;
+}
+
+pub counted_edit : (steps : List Step) (sent : List ℕ) (lanes : ℕ) → IsCounted steps sent lanes → IsCounted (steps ++ step.Edit ∷ []) sent lanes
+counted_edit steps sent lanes h = record {
+  places = h.places;
+  each = λ dn below. h.each dn below ∙ ap (λ (ls : Lanes). length (ls dn)) (sym (lanes_after_edit no_messages steps));
+  greatest = h.greatest ∙ sym (count_after_edit steps);
+}
+
+other_lane : (lanes : Lanes) (m : Message) (dn : ℕ) → dn ≢ m.dn → followed_by lanes m dn ≡ lanes dn
+other_lane lanes m dn apart = elim (cases_Bool (dn == m.dn)) [
+  | inl same ↦ absurd (apart (eqb-true _ _ same))
+  | inr other ↦ ap (λ t. cond t (lanes dn ++ m ∷ []) (lanes dn)) other
+]
+
+pub counted_report : (steps : List Step) (sent : List ℕ) (lanes : ℕ) (r : Report) → r.dn ≤ 256 → IsCounted steps sent lanes →
+    IsCounted (with_report steps r) (set sent r.dn (get_or sent r.dn 0 + 1)) (max lanes r.dn)
+counted_report steps sent lanes r within h = record {
+  places = length-set sent r.dn (get_or sent r.dn 0 + 1) ∙ h.places;
+  each = λ dn below. each dn below ∙ ap (λ (ls : Lanes). length (ls dn)) (sym (lanes_after_message no_messages steps m));
+  greatest = grows ∙ sym (count_after_message steps m);
+}
+  where
+    m : Message
+    m = next_message (lanes_of steps) r
+
+    grows : max lanes r.dn ≡ max r.dn (lane_count steps)
+    grows = omega (arith, h.greatest)
+
+    each : (dn : ℕ) → dn < 257 → get_or (set sent r.dn (get_or sent r.dn 0 + 1)) dn 0 ≡ length (followed_by (lanes_of steps) m dn)
+    each dn below = elim (cases_Bool (dn == r.dn)) [
+      | inl same ↦
+          let is : dn ≡ r.dn = eqb-true _ _ same in
+          let place : r.dn < length sent = omega (arith, h.places) in
+          let before = h.each dn below in
+          let here : get_or sent r.dn 0 ≡ get_or sent dn 0 = ap (λ k. get_or sent k 0) (sym is) in
+          let new : length (followed_by (lanes_of steps) m dn) ≡ length (lanes_of steps dn) + 1 =
+          ap length (own_lane (lanes_of steps) m dn is) ∙ length-append (lanes_of steps dn) (m ∷ []) in
+          ap (λ k. get_or (set sent r.dn (get_or sent r.dn 0 + 1)) k 0) is
+          ∙ get_or-set_same sent r.dn (get_or sent r.dn 0 + 1) 0 place
+          ∙ omega (arith, before, here, new)
+      | inr other ↦
+          let apart : dn ≢ r.dn = λ is. both_ways _ other (eq-eqb _ _ is) in
+          get_or-set_other sent r.dn dn (get_or sent r.dn 0 + 1) 0 apart
+          ∙ h.each dn below
+          ∙ ap length (sym (other_lane (lanes_of steps) m dn apart))
+    ]
+
+-- ---- the messages of lines
+
+with_same : (r : Report) (dn : ℕ) (lanes : Lanes) → dn ≡ r.dn → next_message lanes r ≡ message r (length (lanes dn) + 1)
+with_same r dn lanes is = ap (λ k. message r (length (lanes k) + 1)) (sym is)
+
+-- after the steps of lines each lane goes on with the reports of its DataNode, numbered from its end on
+lanes_go_on : (dn : ℕ) (lanes : Lanes) (lines : List ScenarioLine) →
+    lanes_after lanes (steps_from lanes lines) dn ≡ lanes dn ++ numbered dn (length (lanes dn) + 1) lines
+lanes_go_on dn lanes [] = sym (append-nil (lanes dn))
+lanes_go_on dn lanes (edit line ∷ lines) = lanes_go_on dn lanes lines
+lanes_go_on dn lanes (report r ∷ lines) =
+    lanes_go_on dn (followed_by lanes (next_message lanes r)) lines ∙ elim (cases_Bool (dn == r.dn)) [
+      | inl same ↦
+          let is : dn ≡ r.dn = eqb-true _ _ same in
+          let m = next_message lanes r in
+          let k = length (lanes dn) + 1 in
+          let longer : length (lanes dn ++ m ∷ []) ≡ k = length-append (lanes dn) (m ∷ []) in
+          ap (λ lane. lane ++ numbered dn (length lane + 1) lines) (own_lane lanes m dn is)
+          ∙ ap (λ n. (lanes dn ++ m ∷ []) ++ numbered dn (n + 1) lines) longer
+          ∙ append_assoc (lanes dn) (m ∷ []) (numbered dn (k + 1) lines)
+          ∙ ap (λ x. lanes dn ++ x ∷ numbered dn (k + 1) lines) (with_same r dn lanes is)
+          ∙ ap (λ t. lanes dn ++ cond t (message r k ∷ numbered dn (k + 1) lines) (numbered dn k lines)) (sym same)
+      | inr other ↦
+          let m = next_message lanes r in
+          let k = length (lanes dn) + 1 in
+          ap (λ t. cond t (lanes dn ++ m ∷ []) (lanes dn) ++ numbered dn (length (cond t (lanes dn ++ m ∷ []) (lanes dn)) + 1) lines) other
+          ∙ ap (λ t. lanes dn ++ cond t (message r k ∷ numbered dn (k + 1) lines) (numbered dn k lines)) (sym other)
+    ]
+
+-- the messages of the steps, taken one after another, are those of the lines
+pub lanes_of_lines : (lines : List ScenarioLine) (dn : ℕ) → lanes_of (steps_of lines) dn ≡ messages_of lines dn
+lanes_of_lines lines dn = lanes_go_on dn no_messages lines
+
+numbered_lane : (dn number : ℕ) (lines : List ScenarioLine) → AreNumbered dn number (numbered dn number lines)
+numbered_lane dn number [] = tt
+numbered_lane dn number (edit line ∷ lines) = numbered_lane dn number lines
+numbered_lane dn number (report r ∷ lines) =
+    at (dn == r.dn) refl (numbered_lane dn (number + 1) lines) (numbered_lane dn number lines)
+  where
+    at : (t : Bool) → (dn == r.dn) ≡ t → AreNumbered dn (number + 1) (numbered dn (number + 1) lines) → AreNumbered dn number (numbered dn number lines) →
+        AreNumbered dn number (cond t (message r number ∷ numbered dn (number + 1) lines) (numbered dn number lines))
+    at true same next _ = (sym (eqb-true _ _ same), refl, next)
+    at false other _ still = still
+
+-- the messages of lines are lanes
+pub messages_are_lanes : (lines : List ScenarioLine) → AreLanes (messages_of lines)
+messages_are_lanes lines dn = numbered_lane dn 1 lines
+
+pub steps_are_lanes : (lines : List ScenarioLine) → AreLanes (lanes_of (steps_of lines))
+steps_are_lanes lines dn = subst (AreNumbered dn 1) (sym (lanes_of_lines lines dn)) (messages_are_lanes lines dn)
+
+pub steps_in_turn : (lanes : Lanes) (lines : List ScenarioLine) → AreInTurn lanes (steps_from lanes lines)
+steps_in_turn lanes [] = tt
+steps_in_turn lanes (edit line ∷ lines) = steps_in_turn lanes lines
+steps_in_turn lanes (report r ∷ lines) = (refl, steps_in_turn (followed_by lanes (next_message lanes r)) lines)
+
+-- steps may be taken in two parts, one after the other
+pub lanes_after_both : (lanes : Lanes) (some more : List Step) → lanes_after lanes (some ++ more) ≡ lanes_after (lanes_after lanes some) more
+lanes_after_both lanes [] more = refl
+lanes_after_both lanes (step.Edit ∷ some) more = lanes_after_both lanes some more
+lanes_after_both lanes (step.Message m ∷ some) more = lanes_after_both (followed_by lanes m) some more
+
+pub in_turn_after : (lanes : Lanes) (some more : List Step) → AreInTurn lanes (some ++ more) → AreInTurn (lanes_after lanes some) more
+in_turn_after lanes [] more h = h
+in_turn_after lanes (step.Edit ∷ some) more h = in_turn_after lanes some more h
+in_turn_after lanes (step.Message m ∷ some) more h = in_turn_after (followed_by lanes m) some more h.1
+
+-- a DataNode sent no more than there are steps
+pub few_sent : (steps : List Step) (sent : List ℕ) (lanes dn : ℕ) → dn ≤ 256 → IsCounted steps sent lanes → get_or sent dn 0 ≤ length steps
+few_sent steps sent lanes dn within h = omega (arith, h.each dn (omega (arith, within)), lane_length no_messages steps dn)
+
+-- what was read at a DataNode's place is how many messages it sent
+pub sent_read : (steps : List Step) (sent : List ℕ) (lanes dn place x : ℕ) → dn ≤ 256 → IsCounted steps sent lanes → place ≡ dn → x ≡ get_or sent place x →
+    x ≡ get_or sent dn 0
+sent_read steps sent lanes dn place x within h is read =
+    let inside : dn < length sent = omega (arith, h.places) in
+    read ∙ ap (λ k. get_or sent k x) is ∙ get_or_default sent dn x 0 inside
+
+pub number_fits : (steps : List Step) (sent : List ℕ) (lanes dn place x : ℕ) → dn ≤ 256 → IsCounted steps sent lanes → place ≡ dn →
+    x ≡ get_or sent place x → x ≤ length steps
+number_fits steps sent lanes dn place x within h is read =
+    omega (arith, sent_read steps sent lanes dn place x within h is read, few_sent steps sent lanes dn within h)
+
+-- the message is the next one of its DataNode
+pub next_counted : (steps : List Step) (sent : List ℕ) (lanes : ℕ) (r : Report) (place x : ℕ) → r.dn ≤ 256 → IsCounted steps sent lanes → place ≡ r.dn →
+    x ≡ get_or sent place x → message r (x + 1) ≡ next_message (lanes_of steps) r
+next_counted steps sent lanes r place x within h is read =
+    ap (λ n. message r (n + 1)) (sent_read steps sent lanes r.dn place x within h is read ∙ h.each r.dn (omega (arith, within)))
+
+pub counted_next : (steps : List Step) (sent : List ℕ) (lanes : ℕ) (r : Report) (place x greatest : ℕ) → r.dn ≤ 256 → IsCounted steps sent lanes →
+    place ≡ r.dn → x ≡ get_or sent place x → greatest ≡ max lanes r.dn → IsCounted (with_report steps r) (set sent place (x + 1)) greatest
+counted_next steps sent lanes r place x greatest within h is read grown =
+    subst (λ k. IsCounted (with_report steps r) (set sent place (x + 1)) k) (sym grown)
+    (subst (λ k. IsCounted (with_report steps r) (set sent k (x + 1)) (max lanes r.dn)) (sym is)
+    (subst (λ n. IsCounted (with_report steps r) (set sent r.dn (n + 1)) (max lanes r.dn)) (sym (sent_read steps sent lanes r.dn place x within h is read))
+    (counted_report steps sent lanes r within h)))

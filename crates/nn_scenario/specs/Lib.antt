@@ -1,0 +1,6 @@
+pub mod Steps
+pub mod Cut
+pub mod Scenario
+pub mod SoFar
+pub mod CutRows
+pub mod StepRows

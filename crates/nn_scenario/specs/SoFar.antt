@@ -1,0 +1,33 @@
+-- What was read of a scenario while its lines are read one after another.
+use Rattle.std.specs.Prelude.{List, [], ◌∷◌, ◌++◌, if◌then◌else◌}
+use Rattle.nn_types.specs.declared.report.Report.{Report}
+use Rattle.nn_segment.specs.Segment.{is_end}
+use Rattle.nn_scenario.specs.Cut.{EditLine, Part, no_lines, with_line}
+use Rattle.nn_scenario.specs.Scenario.{ScenarioLine, edit, report}
+use Rattle.nn_scenario.specs.Steps.{with_report}
+use Rattle.nn_scenario.specs.declared.steps.Step.{Step}
+use Rattle.nn_scenario.specs.declared.steps.Step.TheVariants as step
+
+-- the parts that ended, the part in hand, and the steps
+pub record SoFar : Type 0 where
+  pub parts : List Part
+  pub in_hand : Part
+  pub steps : List Step
+
+abbrev pub nothing_read : SoFar
+nothing_read = record { parts = []; in_hand = no_lines; steps = [] }
+
+-- an edit line was put into the part in hand, which an end mark put behind the parts before it
+abbrev pub with_edit_line : SoFar → EditLine → SoFar
+with_edit_line x line =
+    if is_end line.tx.edit
+    then record { parts = x.parts ++ with_line x.in_hand line ∷ []; in_hand = no_lines; steps = x.steps ++ step.Edit ∷ [] }
+    else record { parts = x.parts; in_hand = with_line x.in_hand line; steps = x.steps ++ step.Edit ∷ [] }
+
+abbrev pub with_report_line : SoFar → Report → SoFar
+with_report_line x r = record { parts = x.parts; in_hand = x.in_hand; steps = with_report x.steps r }
+
+-- one more line was read
+abbrev pub followed_by_line : SoFar → ScenarioLine → SoFar
+followed_by_line x (edit line) = with_edit_line x line
+followed_by_line x (report r) = with_report_line x r

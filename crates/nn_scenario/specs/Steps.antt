@@ -1,0 +1,58 @@
+-- The steps of a scenario: edits and messages, in the order of its lines.
+use Rattle.std.specs.Prelude.{◌≡◌, ℕ, ◌+◌, ◌<◌, ◌≤◌, List, [], ◌∷◌, ◌++◌, length, max, slice_index}
+use Rattle.nn_types.specs.declared.report.Message.{Message}
+use Rattle.nn_types.specs.declared.report.Report.{Report}
+use Rattle.nn_model.specs.Lanes.{Lanes, no_messages, followed_by}
+use Rattle.nn_scenario.specs.declared.steps.Step.{Step}
+use Rattle.nn_scenario.specs.declared.steps.Step.TheVariants as step
+
+-- the report under its number
+abbrev pub message : Report → ℕ → Message
+message r number = record { dn = r.dn; number = number; block = r.block; stamp = r.stamp; len = r.len; kind = r.kind }
+
+-- the report as the next message of its DataNode
+abbrev pub next_message : Lanes → Report → Message
+next_message lanes r = message r (length (lanes r.dn) + 1)
+
+-- what the DataNodes sent once these steps were taken
+abbrev pub lanes_after : Lanes → List Step → Lanes
+lanes_after lanes [] = lanes
+lanes_after lanes (step.Edit ∷ steps) = lanes_after lanes steps
+lanes_after lanes (step.Message m ∷ steps) = lanes_after (followed_by lanes m) steps
+
+-- what the DataNodes sent in these steps
+abbrev pub lanes_of : List Step → Lanes
+lanes_of steps = lanes_after no_messages steps
+
+-- the greatest DataNode of any message, and at least 1
+abbrev pub lane_count : List Step → ℕ
+lane_count [] = 1
+lane_count (step.Edit ∷ steps) = lane_count steps
+lane_count (step.Message m ∷ steps) = max m.dn (lane_count steps)
+
+-- each message of the steps is the next one of its DataNode, where the DataNodes sent this before them
+abbrev pub AreInTurn : Lanes → List Step → Type 0
+AreInTurn lanes [] = Unit {0}
+AreInTurn lanes (step.Edit ∷ steps) = AreInTurn lanes steps
+AreInTurn lanes (step.Message m ∷ steps) = (m.number ≡ length (lanes m.dn) + 1) × AreInTurn (followed_by lanes m) steps
+
+-- the edits among steps
+abbrev pub edit_count : List Step → ℕ
+edit_count [] = 0
+edit_count (step.Edit ∷ steps) = edit_count steps + 1
+edit_count (step.Message m ∷ steps) = edit_count steps
+
+-- an edit, or a message of a DataNode from 1 to this
+abbrev pub IsStepOf : ℕ → Step → Type 0
+IsStepOf lanes step.Edit = Unit {0}
+IsStepOf lanes (step.Message m) = (1 ≤ m.dn) × (m.dn ≤ lanes)
+
+-- the steps and one more, a report
+abbrev pub with_report : List Step → Report → List Step
+with_report steps r = steps ++ step.Message (next_message (lanes_of steps) r) ∷ []
+
+-- of each DataNode that there can be it is known how many messages it sent in these steps, and the greatest that sent one
+pub record IsCounted (steps : List Step) (sent : List ℕ) (lanes : ℕ) : Type 0 where
+  pub places : length sent ≡ 257
+  pub each : (dn : ℕ) → dn < 257 → slice_index sent dn ≡ length (lanes_of steps dn)
+  pub greatest : lanes ≡ lane_count steps

@@ -1,0 +1,13 @@
+//! A scenario's bytes as what a standby takes: segments of the log, and steps.
+//!
+//! A scenario is text, one edit or one report of a DataNode a line. Its edit lines are cut into segments after each end
+//! mark; its reports are the messages of their DataNodes, numbered from 1. The steps keep the order of the lines.
+#![tactic(auto)]
+
+mod scenario;
+mod segments;
+mod steps;
+
+pub use scenario::{BadLine, MAX_INPUT, Scenario, read_lines};
+pub use segments::{BadSegment, Piece, read_segments};
+pub use steps::Step;

@@ -1,0 +1,197 @@
+//! A scenario's bytes as the lines of segments and as steps: cut into lines, each line read.
+ghost use Rattle.std.specs.Prelude.{◌≡◌, ◌≢◌, ◌≤◌, ◌==◌, ◌++◌, true, false, length, take, Ok, Err, IfOk, IfErr, OnOk};
+ghost use Rattle.std.specs.Bool.{MatchBool as IfElse};
+ghost use Rattle.std.specs.List.{position_or_len};
+ghost use Rattle.nn_edits.specs.Grammar.{IsLawfulLine};
+ghost use Rattle.nn_edits.specs.Reading.{edit_of_line, either_of_line};
+ghost use Rattle.nn_edits.specs.declared.line.Line.{Line as LineData};
+ghost use Rattle.nn_scenario.specs.Cut.{last_part};
+ghost use Rattle.nn_scenario.specs.Scenario.{max_input, scenario_of, seen, HasMessagesOf, IsLawfulScenario, is_blank, line_as, scenario_with};
+ghost use Rattle.nn_scenario.specs.SoFar.{nothing_read, with_edit_line, followed_by_line};
+ghost use Rattle.nn_segment.specs.Lines.{newline, is_unbroken};
+
+use crate::segments::{Piece, is_end};
+use crate::steps::{Step, Steps};
+use nn_edits::{Line, LineFault, Tx, read_line};
+use std::alloc::{AllocError, Global};
+use std::marker::Model;
+use std::mem;
+
+/// The bytes that a scenario may have.
+pub const MAX_INPUT: usize = 16_777_216;
+
+/// A line that was not read. Lines count from 1, the blank ones too.
+#[derive(Drop)]
+pub struct BadLine {
+    pub fault: LineFault,
+    pub line: u64,
+}
+
+/// What a scenario says.
+#[derive(Drop)]
+pub struct Scenario {
+    /// The edit lines, cut after each end mark.
+    pub pieces: Vec<Piece>,
+    /// Edits and messages in the order of their lines. The transactions stand in the pieces, in the same order.
+    pub steps: Vec<Step>,
+    /// The greatest DataNode of any message, and at least 1.
+    pub lanes: u16,
+}
+
+/// The scenario of a text, or its first line that is refused. Lines end with a line feed, which the last may lack; a
+/// line of spaces, tabs and carriage returns alone is passed over. Each line is parsed once, and the bytes of an edit
+/// line are copied once.
+pub fn read_lines(alloc: Global, input: &[u8]) -> Result<Scenario, BadLine>
+    requires { length input.now ≤ max_input }
+    ensures ok { IfOk result (λ s. scenario_of input.now ≡ Ok (seen s)) }
+    ensures messages { IfOk result (λ s. HasMessagesOf input.now (seen s)) }
+    ensures lawful { IfOk result (λ s. IsLawfulScenario (seen s)) }
+    ensures bad { IfErr result (λ e. e.fault ≢ LineFault.OutOfMemory → scenario_of input.now ≡ Err e) }
+{
+    let Ok(mut reading) = Reading::new(alloc) else {
+        return Err(no_memory(0));
+    };
+    let mut line = 0u64;
+    let mut rest = input;
+    'lines: loop {
+        let end = line_end(rest);
+        line += 1;
+        if let Err(bad) = reading.push_text(alloc, &rest[..end], line) {
+            return Err(bad);
+        }
+        if end == rest.len() {
+            return reading.into_scenario(line);
+        }
+        rest = &rest[end + 1..];
+    }
+}
+
+fn no_memory(line: u64) -> BadLine
+    ensures { result ≡ record { fault = LineFault.OutOfMemory; line = line } }
+{
+    let fault = LineFault::OutOfMemory;
+    BadLine { fault, line }
+}
+
+// Where the first line ends: at its line feed, or with the bytes.
+fn line_end(bytes: &[u8]) -> usize
+    ensures end { result ≡ position_or_len (λ b. b == newline) bytes.now }
+    ensures within { result ≤ length bytes.now }
+    ensures unbroken { is_unbroken (take result bytes.now) ≡ true }
+{
+    for (at, b) in bytes.iter().enumerate() {
+        if *b == b'\n' {
+            return at;
+        }
+    }
+    bytes.len()
+}
+
+// What was read so far: the pieces that ended, the one in hand, and the steps.
+#[derive(Drop)]
+struct Reading {
+    pieces: Vec<Piece>,
+    in_hand: Piece,
+    steps: Steps,
+}
+
+impl Model for Reading {
+    ghost use Rattle.nn_scenario.specs.SoFar.{SoFar};
+
+    ghost Value = { SoFar };
+
+    ghost view = { λ r. record { parts = r.pieces.items; in_hand = r.in_hand; steps = r.steps } };
+}
+
+impl Reading {
+    fn new(alloc: Global) -> Result<Reading, AllocError>
+        ensures { IfOk result (λ reading. reading ≡ nothing_read) }
+    {
+        let steps = Steps::new(alloc)?;
+        Ok(Reading {
+            pieces: Vec::new(alloc),
+            in_hand: Piece::new(alloc),
+            steps,
+        })
+    }
+
+    // Reads one more line, unless it is blank.
+    fn push_text(&mut self, alloc: Global, text: &[u8], line: u64) -> Result<(), BadLine>
+        requires { is_unbroken text.now ≡ true }
+        ensures ok { OnOk result (IfElse (is_blank text.now) (self.new ≡ self.old)
+            ((x : LineData) × (either_of_line text.now ≡ Ok x) × (self.new ≡ followed_by_line self.old (line_as text.now x)))) }
+        ensures bad { IfErr result (λ e. (e.line ≡ line) × (is_blank text.now ≡ false)
+            × (e.fault ≢ LineFault.OutOfMemory → either_of_line text.now ≡ Err e.fault)) }
+    {
+        if is_blank(text) {
+            return Ok(());
+        }
+        let read = match read_line(alloc, text) {
+            Ok(read) => read,
+            Err(fault) => return Err(BadLine { fault, line }),
+        };
+        if let Err(_) = self.push_line(alloc, text, read) {
+            return Err(no_memory(line));
+        }
+        Ok(())
+    }
+
+    fn push_line(&mut self, alloc: Global, text: &[u8], read: Line) -> Result<(), AllocError>
+        requires unbroken { is_unbroken text.now ≡ true }
+        requires read { either_of_line text.now ≡ Ok read }
+        requires lawful { IsLawfulLine read }
+        ensures { OnOk result (self.new ≡ followed_by_line self.old (line_as text.now read)) }
+    {
+        match read {
+            Line::Edit(tx) => self.push_edit(alloc, text, tx),
+            Line::Report(report) => self.steps.push_report(report),
+        }
+    }
+
+    // An end mark ends the piece in hand.
+    fn push_edit(&mut self, alloc: Global, text: &[u8], tx: Tx) -> Result<(), AllocError>
+        requires unbroken { is_unbroken text.now ≡ true }
+        requires read { edit_of_line text.now ≡ Ok tx }
+        requires from_one { 1 ≤ tx.txid }
+        ensures { OnOk result (self.new ≡ with_edit_line self.old (record { text = text.now; tx = tx })) }
+    {
+        self.steps.push_edit()?;
+        let ends = is_end(&tx.edit);
+        let in_hand = mem::replace(&mut self.in_hand, Piece::new(alloc));
+        let piece = in_hand.with_line(text, tx)?;
+        if !ends {
+            self.in_hand = piece;
+            return Ok(());
+        }
+        self.pieces.push(piece)?;
+        Ok(())
+    }
+
+    // All that was read, at the last line.
+    fn into_scenario(self, line: u64) -> Result<Scenario, BadLine>
+        ensures ok { IfOk result (λ s. seen s ≡ scenario_with (self.parts ++ last_part self.in_hand) self.steps) }
+        ensures bad { IfErr result (λ e. e.fault ≡ LineFault.OutOfMemory) }
+    {
+        let Reading {
+            mut pieces,
+            in_hand,
+            steps,
+        } = self;
+        if in_hand.end(&mut pieces).is_err() {
+            return Err(no_memory(line));
+        }
+        let lanes = steps.lanes();
+        Ok(Scenario {
+            pieces,
+            steps: steps.into_vec(),
+            lanes,
+        })
+    }
+}
+
+fn is_blank(text: &[u8]) -> bool
+    ensures { result ≡ is_blank text.now }
+{
+    text.iter()
+        .all(|b| *b == b' ' || *b == b'\t' || *b == b'\r')
+}

@@ -1,0 +1,150 @@
+//! The edit lines of a scenario as segments.
+ghost use Rattle.std.specs.Prelude.{◌≡◌, ◌≢◌, ◌≤◌, ◌++◌, ◌∷◌, [], true, Ok, Err, IfOk, IfErr, OnOk, length, max, string_bytes};
+ghost use Rattle.std.specs.List.{All};
+ghost use Rattle.nn_edits.specs.Reading.{edit_of_line};
+ghost use Rattle.nn_segment.specs.Lines.{newline, is_unbroken};
+ghost use Rattle.nn_segment.specs.Outcome.{Gives};
+ghost use Rattle.nn_segment.specs.Segment.{is_end};
+ghost use Rattle.nn_scenario.specs.Cut.{no_lines, with_line, last_part, name_of, segment_of, segments_from};
+
+use nn_edits::{Edit, Tx};
+use nn_segment::{Parsed, SegmentFault, segment_name};
+use nn_types::Txid;
+use std::alloc::{AllocError, Global};
+use std::marker::Model;
+
+/// Lines of the log that are to become one segment: their bytes, each with one line feed after it, and the
+/// transactions that they were read as.
+#[derive(Drop)]
+pub struct Piece {
+    bytes: Vec<u8>,
+    txs: Vec<Tx>,
+}
+
+impl Model for Piece {
+    ghost use Rattle.nn_scenario.specs.Cut.{Part, AreRead};
+
+    ghost Value = { Part };
+
+    ghost view = { λ p. record { bytes = p.bytes.items; txs = p.txs.items } };
+
+    ghost invariant = { λ p. AreRead (record { bytes = p.bytes.items; txs = p.txs.items }) };
+}
+
+impl Piece {
+    /// No lines. Takes no memory.
+    pub fn new(alloc: Global) -> Piece
+        ensures { result ≡ no_lines }
+    {
+        Piece {
+            bytes: Vec::new(alloc),
+            txs: Vec::new(alloc),
+        }
+    }
+
+    /// The lines and one more, which is lent without a line feed. Where memory is refused all of them are gone.
+    pub fn with_line(self, text: &[u8], tx: Tx) -> Result<Piece, AllocError>
+        requires unbroken { is_unbroken text.now ≡ true }
+        requires read { edit_of_line text.now ≡ Ok tx }
+        requires from_one { 1 ≤ tx.txid }
+        ensures { IfOk result (λ piece. piece ≡ with_line self (record { text = text.now; tx = tx })) }
+    {
+        let Piece { mut bytes, mut txs } = self;
+        add_line(&mut bytes, text)?;
+        push(&mut txs, tx)?;
+        Ok(Piece { bytes, txs })
+    }
+
+    /// Adds the lines to the pieces, if there are any.
+    pub fn end(self, pieces: &mut Vec<Piece>) -> Result<(), AllocError>
+        ensures { OnOk result (pieces.new.items ≡ pieces.old.items ++ last_part self) }
+    {
+        if self.txs.is_empty() {
+            return Ok(());
+        }
+        pieces.push(self)?;
+        Ok(())
+    }
+
+    /// The segment of these lines, named by its first and its last transaction, or its first fault. No line is
+    /// read again.
+    pub fn into_segment(self, alloc: Global) -> Result<Parsed, SegmentFault>
+        ensures { Gives result (segment_of self) }
+    {
+        let Piece { bytes, txs } = self;
+        match name_of(alloc, &txs) {
+            Ok(name) => Parsed::from_lines(name, bytes, txs),
+            Err(AllocError) => Err(SegmentFault::OutOfMemory),
+        }
+    }
+}
+
+fn add_line(bytes: &mut Vec<u8>, text: &[u8]) -> Result<(), AllocError>
+    ensures { OnOk result (bytes.new.items ≡ bytes.old.items ++ text.now ++ newline ∷ []) }
+{
+    bytes.extend_from_slice(text)?;
+    bytes.push(b'\n')?;
+    Ok(())
+}
+
+fn push<T: Drop>(list: &mut Vec<T>, item: T) -> Result<(), AllocError>
+    ensures { OnOk result (list.new.items ≡ list.old.items ++ item ∷ []) }
+{
+    list.push(item)?;
+    Ok(())
+}
+
+/// Whether the transaction ends its segment.
+pub fn is_end(edit: &Edit) -> bool
+    ensures { result ≡ is_end edit.now }
+{
+    matches!(edit, Edit::EndSegment)
+}
+
+// The name of transactions; no text where there are none.
+fn name_of(alloc: Global, txs: &[Tx]) -> Result<String, AllocError>
+    requires { All (λ tx. 1 ≤ tx.txid) txs.now }
+    ensures { IfOk result (λ name. string_bytes name ≡ name_of txs.now) }
+{
+    let Some(first) = txs.first() else {
+        return Ok(String::new(alloc));
+    };
+    let Some(last) = txs.last() else {
+        return Ok(String::new(alloc));
+    };
+    segment_name(alloc, first.txid, no_lower(first.txid, last.txid))
+}
+
+// The last txid, or the first where the last is lower.
+fn no_lower(first: Txid, last: Txid) -> Txid
+    ensures { result ≡ max first last }
+{
+    first.max(last)
+}
+
+/// A segment that has a fault. Segments count from 1.
+#[derive(Drop)]
+pub struct BadSegment {
+    pub fault: SegmentFault,
+    pub segment: u64,
+}
+
+/// The segments of pieces, or the first that has a fault.
+pub fn read_segments(alloc: Global, pieces: Vec<Piece>) -> Result<Vec<Parsed>, BadSegment>
+    ensures ok { IfOk result (λ v. segments_from 1 pieces.items ≡ Ok v.items) }
+    ensures bad { IfErr result (λ e. e.fault ≢ SegmentFault.OutOfMemory → segments_from 1 pieces.items ≡ Err e) }
+{
+    let mut segments = Vec::new(alloc);
+    for piece in pieces {
+        let segment = segments.len() as u64 + 1;
+        let parsed = match piece.into_segment(alloc) {
+            Ok(parsed) => parsed,
+            Err(fault) => return Err(BadSegment { fault, segment }),
+        };
+        if let Err(_) = push(&mut segments, parsed) {
+            let fault = SegmentFault::OutOfMemory;
+            return Err(BadSegment { fault, segment });
+        }
+    }
+    Ok(segments)
+}

@@ -1,0 +1,117 @@
+//! The steps of a scenario, with its messages numbered.
+ghost use Rattle.std.specs.Prelude.{◌≡◌, ◌≤◌, ◌++◌, ◌∷◌, [], IfOk, OnOk, OnErr, replicate};
+ghost use Rattle.nn_scenario.specs.Steps.{message, with_report, lane_count};
+
+use nn_types::{Message, Report};
+use std::alloc::{AllocError, Global};
+use std::marker::Model;
+
+/// What a line of a scenario asks for.
+#[derive(Clone, Copy, Debug, PartialEq, Eq)]
+pub enum Step {
+    /// The next transaction of the log.
+    Edit,
+    Message(Message),
+}
+
+// A place for each DataNode, and one for 0, which none has.
+const PLACES: usize = 257;
+
+/// Steps in order. Each message has the number that its DataNode counted it under, from 1.
+#[derive(Drop)]
+pub struct Steps {
+    items: Vec<Step>,
+    // how many messages each DataNode sent
+    sent: Vec<u64>,
+    lanes: u16,
+}
+
+impl Model for Steps {
+    ghost use Rattle.std.specs.Prelude.{List};
+    ghost use Rattle.nn_scenario.specs.declared.steps.Step.{Step};
+    ghost use Rattle.nn_scenario.specs.Steps.{IsCounted};
+
+    ghost Value = { List Step };
+
+    ghost view = { λ s. s.items.items };
+
+    ghost invariant = { λ s. IsCounted s.items.items s.sent.items s.lanes };
+}
+
+impl Steps {
+    /// No steps.
+    pub fn new(alloc: Global) -> Result<Steps, AllocError>
+        ensures { IfOk result (λ steps. steps ≡ []) }
+    {
+        let sent = zeros(alloc, PLACES)?;
+        Ok(Steps {
+            items: Vec::new(alloc),
+            sent,
+            lanes: 1,
+        })
+    }
+
+    /// The next step is an edit. Where memory is refused the steps stay.
+    pub fn push_edit(&mut self) -> Result<(), AllocError>
+        ensures ok { OnOk result (self.new ≡ self.old ++ Step.Edit ∷ []) }
+        ensures left { OnErr result (self.new ≡ self.old) }
+    {
+        if let Err(_) = self.items.push(Step::Edit) {
+            return Err(AllocError);
+        }
+        Ok(())
+    }
+
+    /// The next step is the next message of a DataNode. Where memory is refused the steps stay.
+    pub fn push_report(&mut self, report: Report) -> Result<(), AllocError>
+        requires { report.dn ≤ 256 }
+        ensures ok { OnOk result (self.new ≡ with_report self.old report) }
+        ensures left { OnErr result (self.new ≡ self.old) }
+    {
+        let dn = report.dn;
+        let number = self.sent[usize::from(dn)] + 1;
+        let next = Step::Message(message(report, number));
+        if let Err(_) = self.items.push(next) {
+            return Err(AllocError);
+        }
+        self.sent[usize::from(dn)] = number;
+        let lanes = self.lanes;
+        self.lanes = lanes.max(dn);
+        Ok(())
+    }
+
+    /// The greatest DataNode of any message, and at least 1.
+    pub fn lanes(&self) -> u16
+        ensures { result ≡ lane_count self.now }
+    {
+        self.lanes
+    }
+
+    /// The steps alone.
+    pub fn into_vec(self) -> Vec<Step>
+        ensures { result.items ≡ self }
+    {
+        self.items
+    }
+}
+
+// The report under its number.
+fn message(report: Report, number: u64) -> Message
+    ensures { result ≡ message report number }
+{
+    Message {
+        dn: report.dn,
+        number,
+        block: report.block,
+        stamp: report.stamp,
+        len: report.len,
+        kind: report.kind,
+    }
+}
+
+// The size is a parameter so that no proof has to look at the places one by one.
+fn zeros(alloc: Global, size: usize) -> Result<Vec<u64>, AllocError>
+    ensures { IfOk result (λ v. v.items ≡ replicate size 0) }
+{
+    vec![in alloc; 0u64; size]
+}

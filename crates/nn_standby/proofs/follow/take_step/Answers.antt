@@ -1,7 +1,0 @@
-use Rattle.nn_standby.proofs.FollowLemmas.{a_message_further}
-use Rattle.nn_standby.proofs.follow.take_step.Goals as goal
-
-pub returns-in_default-hand-clause-goes_on : goal.returns-in_default-hand-clause-goes_on
-returns-in_default-hand-clause-goes_on c = λ whole lanes h.
-    rw c.in-Message.is
-    (a_message_further whole lanes c.args.shadow.now c.hand.new.shadow c.args.log.now c.in-Message.message c.in_default-hand.ensures.same c.in_default-hand.ensures.stands h)

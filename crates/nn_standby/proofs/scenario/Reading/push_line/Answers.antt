@@ -1,9 +1,0 @@
-use Rattle.std.proofs.Common.{◌∙◌, ap, Ok}
-use Rattle.nn_standby.proofs.LineLemmas.{edit_alone, edit_from_one}
-use Rattle.nn_standby.proofs.scenario.Reading.push_line.Goals as goal
-
-pub push_edit-requires-clause-read : goal.push_edit-requires-clause-read
-push_edit-requires-clause-read c = edit_alone c.args.text.now c.in-Edit.tx (c.requires.read ∙ ap Ok c.in-Edit.is)
-
-pub push_edit-requires-clause-from_one : goal.push_edit-requires-clause-from_one
-push_edit-requires-clause-from_one c = edit_from_one c.args.text.now c.in-Edit.tx (c.requires.read ∙ ap Ok c.in-Edit.is)

@@ -1,9 +1,0 @@
-use Rattle.std.proofs.Common.{sym, subst}
-use Rattle.nn_standby.specs.Steps.{IsCounted}
-use Rattle.nn_standby.proofs.StepLemmas.{counted_edit}
-use Rattle.nn_standby.proofs.scenario.steps.Steps.push_edit.Goals as goal
-
-pub invariant_of-self-2 : goal.invariant_of-self-2
-invariant_of-self-2 c =
-    subst (λ steps. IsCounted steps c.self.inside.sent.items c.self.inside.lanes) (sym c.in_default.ensures.items)
-    (counted_edit c.self.inside.items.items c.self.inside.sent.items c.self.inside.lanes c.self.invariant)

@@ -1,0 +1,327 @@
+//! Lines typed by hand from the format, faults by their numbers, and each call once on its happy path.
+use nn_edits::{Edit, Line, LineFault, Tx, read_edit, read_line, read_report, write_edit};
+use nn_types::{Block, BlockId, Blocks, GenerationStamp, Kind, Length, Path, Txid};
+use std::alloc::Global;
+use std::test::Fail;
+
+// The line of each operation, as it is written.
+const WRITTEN: [(&str, &str); 12] = [
+    (
+        "StartSegment",
+        "{\"op\":\"OP_START_LOG_SEGMENT\",\"txid\":1}",
+    ),
+    (
+        "EndSegment",
+        "{\"op\":\"OP_END_LOG_SEGMENT\",\"txid\":9223372036854775807}",
+    ),
+    (
+        "Mkdir",
+        "{\"op\":\"OP_MKDIR\",\"path\":\"/a/é\",\"txid\":2}",
+    ),
+    (
+        "Add",
+        "{\"op\":\"OP_ADD\",\"path\":\"/f\",\"replication\":3,\"txid\":4}",
+    ),
+    (
+        "AddBlock",
+        "{\"gen\":1001,\"id\":1073741825,\"op\":\"OP_ADD_BLOCK\",\"path\":\"/f\",\"txid\":7}",
+    ),
+    (
+        "UpdateBlocks",
+        "{\"blocks\":[{\"gen\":1002,\"id\":1073741825,\"len\":5},{\"gen\":1001,\"id\":1073741826,\"len\":0}],\"op\":\"OP_UPDATE_BLOCKS\",\"path\":\"/f\",\"txid\":8}",
+    ),
+    (
+        "Close",
+        "{\"blocks\":[],\"op\":\"OP_CLOSE\",\"path\":\"/f\",\"txid\":9}",
+    ),
+    (
+        "Rename",
+        "{\"dst\":\"/b\",\"op\":\"OP_RENAME\",\"src\":\"/a\",\"txid\":10}",
+    ),
+    (
+        "Delete",
+        "{\"op\":\"OP_DELETE\",\"path\":\"/\",\"txid\":11}",
+    ),
+    (
+        "SetReplication",
+        "{\"op\":\"OP_SET_REPLICATION\",\"path\":\"/f\",\"replication\":0,\"txid\":12}",
+    ),
+    (
+        "AllocateBlockId",
+        "{\"id\":1073741825,\"op\":\"OP_ALLOCATE_BLOCK_ID\",\"txid\":5}",
+    ),
+    (
+        "SetGenstamp",
+        "{\"gen\":1001,\"op\":\"OP_SET_GENSTAMP_V2\",\"txid\":6}",
+    ),
+];
+
+// The name of an edit's operation.
+fn name_of(edit: &Edit) -> &'static str {
+    match edit {
+        Edit::StartSegment => "StartSegment",
+        Edit::EndSegment => "EndSegment",
+        Edit::Mkdir { .. } => "Mkdir",
+        Edit::Add { .. } => "Add",
+        Edit::AddBlock { .. } => "AddBlock",
+        Edit::UpdateBlocks { .. } => "UpdateBlocks",
+        Edit::Close { .. } => "Close",
+        Edit::Rename { .. } => "Rename",
+        Edit::Delete { .. } => "Delete",
+        Edit::SetReplication { .. } => "SetReplication",
+        Edit::AllocateBlockId { .. } => "AllocateBlockId",
+        Edit::SetGenstamp { .. } => "SetGenstamp",
+    }
+}
+
+#[test]
+fn each_operation_is_written_as_it_is_read(rt: HostRuntime) -> Result<(), Fail> {
+    for (name, line) in WRITTEN {
+        let tx = read_edit(rt.alloc(), line.as_bytes())?;
+        assert_eq!(rt; name_of(&tx.edit), name);
+        let text = write_edit(rt.alloc(), &tx)?;
+        assert_eq!(rt; text.as_str(), line);
+    }
+    Ok(())
+}
+
+#[test]
+fn keys_in_any_order(rt: HostRuntime) -> Result<(), Fail> {
+    let line = "{\"zz\":[1],\"path\":\"/a\",\"txid\":2,\"op\":\"OP_MKDIR\"}";
+    let tx = read_edit(rt.alloc(), line.as_bytes())?;
+    assert_eq!(rt; tx.txid.get(), 2);
+    let text = write_edit(rt.alloc(), &tx)?;
+    assert_eq!(rt;
+        text.as_str(),
+        "{\"op\":\"OP_MKDIR\",\"path\":\"/a\",\"txid\":2}"
+    );
+    assert_eq!(rt; text.as_str().len(), 38);
+    Ok(())
+}
+
+#[test]
+fn each_key_goes_to_its_place(rt: HostRuntime) -> Result<(), Fail> {
+    let line = b"{\"src\":\"/from\",\"dst\":\"/to\",\"op\":\"OP_RENAME\",\"txid\":3}";
+    let Edit::Rename { src, dst } = read_edit(rt.alloc(), line)?.edit else {
+        return Err(Fail::new("not a rename"));
+    };
+    assert_eq!(rt; src.to_text(rt.alloc())?.as_str(), "/from");
+    assert_eq!(rt; dst.to_text(rt.alloc())?.as_str(), "/to");
+    Ok(())
+}
+
+#[test]
+fn a_report_of_each_kind(rt: HostRuntime) -> Result<(), Fail> {
+    for (kind, line) in [
+        (
+            Kind::Receiving,
+            "{\"block\":9,\"dn\":256,\"gen\":1001,\"kind\":\"receiving\",\"len\":0}",
+        ),
+        (
+            Kind::Received,
+            "{\"kind\":\"received\",\"len\":0,\"dn\":256,\"gen\":1001,\"block\":9,\"profile\":[]}",
+        ),
+        (
+            Kind::Deleted,
+            "{\"gen\":1001,\"block\":9,\"kind\":\"deleted\",\"len\":0,\"dn\":256}",
+        ),
+    ] {
+        let report = read_report(rt.alloc(), line.as_bytes())?;
+        assert_eq!(rt; report.kind, kind);
+        assert_eq!(rt; report.dn, 256);
+        assert_eq!(rt;
+            (report.block.get(), report.stamp.get(), report.len.get()),
+            (9, 1001, 0)
+        );
+    }
+    Ok(())
+}
+
+// The number of a line's fault, or 0.
+fn fault_of(alloc: Global, line: &[u8]) -> u8 {
+    match read_line(alloc, line) {
+        Ok(_) => 0,
+        Err(fault) => fault.number(),
+    }
+}
+
+#[test]
+fn the_first_fault_of_a_line(rt: HostRuntime) -> Result<(), Fail> {
+    for (line, number) in [
+        ("", 1),
+        ("[]", 1),
+        ("{", 1),
+        ("{\"op\":\"OP_MKDIR\",\"zz\":1e400}", 1),
+        ("{\"op\":\"OP_MKDIR\",\"zz\":\"\\ud800\"}", 1),
+        ("{\"op\":\"OP_FOO\"}", 4),
+        ("{\"op\":\"OP_APPEND\",\"path\":\"/a\",\"txid\":2}", 4),
+        ("{\"op\":\"OP_mkdir\",\"path\":\"/a\",\"txid\":2}", 4),
+        (
+            "{\"op\":null,\"block\":9,\"dn\":1,\"gen\":1,\"kind\":\"received\",\"len\":0}",
+            4,
+        ),
+        ("{\"op\":\"OP_MKDIR\"}", 2),
+        ("{\"op\":\"OP_MKDIR\",\"txid\":1}", 2),
+        ("{\"op\":\"OP_MKDIR\",\"path\":5}", 2),
+        ("{\"op\":\"OP_MKDIR\",\"txid\":0,\"path\":5}", 3),
+        ("{\"op\":\"OP_MKDIR\",\"txid\":1.0}", 3),
+        ("{\"op\":\"OP_MKDIR\",\"txid\":1e2}", 3),
+        ("{\"op\":\"OP_MKDIR\",\"txid\":-1}", 3),
+        ("{\"op\":\"OP_MKDIR\",\"txid\":-0}", 3),
+        ("{\"op\":\"OP_MKDIR\",\"txid\":18446744073709551616}", 3),
+        (
+            "{\"op\":\"OP_MKDIR\",\"txid\":9223372036854775808,\"path\":\"/a\"}",
+            3,
+        ),
+        (
+            "{\"op\":\"OP_MKDIR\",\"txid\":9223372036854775807,\"path\":\"/a\"}",
+            0,
+        ),
+        ("{\"op\":\"OP_MKDIR\",\"txid\":1,\"path\":5}", 5),
+        ("{\"op\":\"OP_MKDIR\",\"txid\":1,\"path\":\"/a:b\"}", 5),
+        ("{\"op\":\"OP_ADD\",\"txid\":1,\"path\":\"a\"}", 5),
+        ("{\"op\":\"OP_ADD\",\"txid\":1,\"path\":\"/a\"}", 2),
+        (
+            "{\"op\":\"OP_ADD_BLOCK\",\"txid\":1,\"path\":\"/a\",\"gen\":-1}",
+            2,
+        ),
+        (
+            "{\"op\":\"OP_RENAME\",\"txid\":1,\"dst\":5,\"src\":\"/\"}",
+            5,
+        ),
+        (
+            "{\"op\":\"OP_CLOSE\",\"txid\":1,\"path\":\"/a\",\"blocks\":{}}",
+            2,
+        ),
+        (
+            "{\"op\":\"OP_CLOSE\",\"txid\":1,\"path\":\"/a\",\"blocks\":[5]}",
+            2,
+        ),
+        (
+            "{\"op\":\"OP_CLOSE\",\"txid\":1,\"path\":\"/a\",\"blocks\":[{\"id\":1,\"gen\":-1},5]}",
+            3,
+        ),
+        (
+            "{\"op\":\"OP_CLOSE\",\"txid\":1,\"path\":\"/a\",\"blocks\":[{\"id\":1,\"gen\":1},-1]}",
+            2,
+        ),
+    ] {
+        assert_eq!(rt; fault_of(rt.alloc(), line.as_bytes()), number, "at {line}");
+    }
+    assert_eq!(rt;
+        fault_of(rt.alloc(), b"{\"op\":\"OP_MKDIR\",\"zz\":\"\xff\"}"),
+        1
+    );
+    Ok(())
+}
+
+#[test]
+fn the_first_fault_of_a_report(rt: HostRuntime) -> Result<(), Fail> {
+    for (line, number) in [
+        ("{}", 2),
+        ("{\"block\":9,\"gen\":1,\"kind\":\"received\",\"len\":0}", 2),
+        ("{\"dn\":0}", 3),
+        ("{\"dn\":257}", 3),
+        ("{\"dn\":1}", 2),
+        ("{\"dn\":1,\"block\":\"9\"}", 3),
+        ("{\"dn\":1,\"block\":9,\"kind\":\"received\",\"len\":-1}", 2),
+        (
+            "{\"dn\":1,\"block\":9,\"gen\":1,\"kind\":\"lost\",\"len\":-1}",
+            3,
+        ),
+        ("{\"dn\":1,\"block\":9,\"gen\":1,\"len\":0}", 2),
+        (
+            "{\"dn\":1,\"block\":9,\"gen\":1,\"len\":0,\"kind\":\"lost\"}",
+            7,
+        ),
+        (
+            "{\"dn\":1,\"block\":9,\"gen\":1,\"len\":0,\"kind\":null}",
+            7,
+        ),
+        (
+            "{\"dn\":1,\"block\":9,\"gen\":1,\"len\":0,\"kind\":\"deleted\"}",
+            0,
+        ),
+    ] {
+        assert_eq!(rt; fault_of(rt.alloc(), line.as_bytes()), number, "at {line}");
+    }
+    Ok(())
+}
+
+#[test]
+fn edits_and_reports_side_by_side(rt: HostRuntime) -> Result<(), Fail> {
+    let edit = read_line(rt.alloc(), b"{\"op\":\"OP_END_LOG_SEGMENT\",\"txid\":3}")?;
+    assert!(rt; matches!(edit, Line::Edit(_)));
+    let line = b"{\"block\":9,\"dn\":1,\"gen\":1,\"kind\":\"deleted\",\"len\":0}";
+    let report = read_line(rt.alloc(), line)?;
+    assert!(rt; matches!(report, Line::Report(_)));
+    Ok(())
+}
+
+// A line of this many bytes, white space at its end.
+fn padded(alloc: Global, size: usize) -> Result<String, Fail> {
+    let mut line = String::from_str(alloc, "{\"op\":\"OP_MKDIR\",\"path\":\"/a\",\"txid\":2}")?;
+    for _ in line.as_str().len()..size {
+        line.push(' ')?;
+    }
+    Ok(line)
+}
+
+#[test]
+fn a_line_of_65536_bytes(rt: HostRuntime) -> Result<(), Fail> {
+    let line = padded(rt.alloc(), 65_536)?;
+    assert_eq!(rt; fault_of(rt.alloc(), line.as_bytes()), 0);
+    let line = padded(rt.alloc(), 65_537)?;
+    assert_eq!(rt; fault_of(rt.alloc(), line.as_bytes()), 6);
+    Ok(())
+}
+
+// A transaction's line with arrays in arrays in a key that is ignored.
+fn nested(alloc: Global, depth: usize) -> Result<String, Fail> {
+    let mut line = String::from_str(
+        alloc,
+        "{\"op\":\"OP_DELETE\",\"path\":\"/a\",\"txid\":2,\"zz\":",
+    )?;
+    for _ in 0..depth {
+        line.push('[')?;
+    }
+    for _ in 0..depth {
+        line.push(']')?;
+    }
+    line.push('}')?;
+    Ok(line)
+}
+
+#[test]
+fn nested_126_deep(rt: HostRuntime) -> Result<(), Fail> {
+    let line = nested(rt.alloc(), 126)?;
+    assert_eq!(rt; fault_of(rt.alloc(), line.as_bytes()), 0);
+    let line = nested(rt.alloc(), 127)?;
+    assert_eq!(rt; fault_of(rt.alloc(), line.as_bytes()), 1);
+    Ok(())
+}
+
+// As many blocks, all the same.
+fn same_blocks(alloc: Global, count: usize) -> Result<Blocks, Fail> {
+    let id = BlockId::new(1_073_741_825).ok_or(LineFault::BadNumber)?;
+    let stamp = GenerationStamp::new(1001).ok_or(LineFault::BadNumber)?;
+    let len = Length::new(0).ok_or(LineFault::BadNumber)?;
+    let mut blocks = Blocks::new(alloc);
+    for _ in 0..count {
+        blocks.push(Block { id, stamp, len })?;
+    }
+    Ok(blocks)
+}
+
+#[test]
+fn too_long_to_write(rt: HostRuntime) -> Result<(), Fail> {
+    let path = Path::parse(rt.alloc(), "/a")?;
+    let blocks = same_blocks(rt.alloc(), 2000)?;
+    let txid = Txid::new(2).ok_or(LineFault::BadNumber)?;
+    let edit = Edit::UpdateBlocks { path, blocks };
+    let Err(fault) = write_edit(rt.alloc(), &Tx { txid, edit }) else {
+        return Err(Fail::new("it was written"));
+    };
+    assert_eq!(rt; fault.number(), 6);
+    Ok(())
+}

@@ -1,0 +1,293 @@
+//! Segments typed by hand from the format, faults by their numbers, and each call once on its happy path.
+ghost use Rattle.std.specs.Prelude.{◌≡◌, ◌++◌, ◌∷◌, [], Ok, IfOk, OnOk};
+ghost use Rattle.nn_edits.specs.Reading.{edit_of_line};
+ghost use Rattle.nn_edits.specs.declared.tx.Tx.{Tx as TxData};
+ghost use Rattle.nn_segment.specs.Lines.{newline};
+
+use nn_edits::{LineFault, Tx, read_edit};
+use nn_segment::{
+    Item, MemorySource, Parsed, SegmentFault, SegmentSource, gather, parse_name, segment_name,
+};
+use nn_types::Txid;
+use std::alloc::Global;
+use std::test::Fail;
+
+const NAME: &str = "edits_0000000000000000001-0000000000000000003";
+
+const START: &str = "{\"op\":\"OP_START_LOG_SEGMENT\",\"txid\":1}\n";
+
+const MKDIR: &str = "{\"op\":\"OP_MKDIR\",\"txid\":2,\"path\":\"/a\"}\n";
+
+const END: &str = "{\"op\":\"OP_END_LOG_SEGMENT\",\"txid\":3}\n";
+
+fn txid(value: u64) -> Result<Txid, Fail>
+    ensures { IfOk result (λ txid. txid ≡ value) }
+{
+    Ok(Txid::new(value).ok_or(LineFault::BadNumber)?)
+}
+
+// The bytes of these texts, one after another.
+fn bytes_of(alloc: Global, texts: &[&str]) -> Result<Vec<u8>, Fail> {
+    let mut bytes = Vec::new(alloc);
+    for text in texts {
+        bytes.extend_from_slice(text.as_bytes())?;
+    }
+    Ok(bytes)
+}
+
+// The segment of these lines under a name.
+fn parsed(alloc: Global, name: &str, texts: &[&str]) -> Result<Parsed, Fail> {
+    let bytes = bytes_of(alloc, texts)?;
+    let name = String::from_str(alloc, name)?;
+    Ok(Parsed::of(alloc, name, bytes)?)
+}
+
+// Why these lines are no segment of that name.
+fn fault_of(alloc: Global, name: &str, texts: &[&str]) -> Result<SegmentFault, Fail> {
+    let bytes = bytes_of(alloc, texts)?;
+    let name = String::from_str(alloc, name)?;
+    match Parsed::of(alloc, name, bytes) {
+        Ok(_) => Err(Fail::new("it is a segment")),
+        Err(fault) => Ok(fault),
+    }
+}
+
+#[test]
+fn a_whole_segment(rt: HostRuntime) -> Result<(), Fail> {
+    let segment = parsed(rt.alloc(), NAME, &[START, MKDIR, END])?;
+    assert_eq!(rt; segment.name(), NAME);
+    let bytes = bytes_of(rt.alloc(), &[START, MKDIR, END])?;
+    assert!(rt; segment.bytes() == bytes.as_slice());
+    assert_eq!(rt; segment.txs().len(), 3);
+    let txs = segment.into_txs();
+    assert_eq!(rt; txs.len(), 3);
+    assert_eq!(rt; txs[2].txid.get(), 3);
+    Ok(())
+}
+
+#[test]
+fn gap_in_segment(rt: HostRuntime) -> Result<(), Fail> {
+    let name = segment_name(rt.alloc(), txid(1)?, txid(4)?)?;
+    assert_eq!(rt;
+        name.as_str(),
+        "edits_0000000000000000001-0000000000000000004"
+    );
+    assert_eq!(rt; name.as_str().len(), 45);
+    let end = "{\"op\":\"OP_END_LOG_SEGMENT\",\"txid\":4}\n";
+    let fault = fault_of(rt.alloc(), name.as_str(), &[START, MKDIR, end])?;
+    assert_eq!(rt; fault, SegmentFault::Gap { expected: 3 });
+    assert_eq!(rt; fault.number(), 14);
+    Ok(())
+}
+
+#[test]
+fn torn_last_line(rt: HostRuntime) -> Result<(), Fail> {
+    let torn = "{\"op\":\"OP_END_LOG_SEGMENT\",\"txid\":3}";
+    let fault = fault_of(rt.alloc(), NAME, &[START, MKDIR, torn])?;
+    assert_eq!(rt; fault, SegmentFault::TornLine { line: 3 });
+    assert_eq!(rt; fault.number(), 15);
+    Ok(())
+}
+
+#[test]
+fn mark_inside_a_segment(rt: HostRuntime) -> Result<(), Fail> {
+    let name = "edits_0000000000000000001-0000000000000000005";
+    let start = "{\"op\":\"OP_START_LOG_SEGMENT\",\"txid\":4}\n";
+    let end = "{\"op\":\"OP_END_LOG_SEGMENT\",\"txid\":5}\n";
+    let fault = fault_of(rt.alloc(), name, &[START, MKDIR, END, start, end])?;
+    assert_eq!(rt; fault, SegmentFault::NoEnd);
+    assert_eq!(rt; fault.number(), 13);
+    let start = "{\"op\":\"OP_START_LOG_SEGMENT\",\"txid\":2}\n";
+    let end = "{\"op\":\"OP_END_LOG_SEGMENT\",\"txid\":3}\n";
+    let fault = fault_of(rt.alloc(), name, &[START, MKDIR, END, start, end])?;
+    assert_eq!(rt; fault, SegmentFault::Gap { expected: 4 });
+    Ok(())
+}
+
+#[test]
+fn the_first_fault_of_a_segment(rt: HostRuntime) -> Result<(), Fail> {
+    let alloc = rt.alloc();
+    let fault = fault_of(alloc, "edits_1-3", &[])?;
+    assert_eq!(rt; fault.number(), 11);
+    let fault = fault_of(alloc, NAME, &[END])?;
+    assert_eq!(rt; fault, SegmentFault::NoStart);
+    let fault = fault_of(alloc, NAME, &[START])?;
+    assert_eq!(rt; fault, SegmentFault::NoEnd);
+    let fault = fault_of(
+        alloc,
+        "edits_0000000000000000001-0000000000000000004",
+        &[START, MKDIR, END],
+    )?;
+    assert_eq!(rt; fault.number(), 16);
+    let empty_line = SegmentFault::BadLine {
+        line: 2,
+        fault: LineFault::NotJson,
+    };
+    let fault = fault_of(alloc, NAME, &[START, "\n", END])?;
+    assert_eq!(rt; fault, empty_line);
+    assert_eq!(rt; fault.number(), 18);
+    // The bad line stands behind a gap.
+    let fault = fault_of(alloc, NAME, &[START, END, "\n"])?;
+    assert_eq!(rt; fault, SegmentFault::Gap { expected: 2 });
+    Ok(())
+}
+
+#[test]
+fn a_carriage_return_is_white_space(rt: HostRuntime) -> Result<(), Fail> {
+    let end = "{\"op\":\"OP_END_LOG_SEGMENT\",\"txid\":3}\r\n";
+    let segment = parsed(rt.alloc(), NAME, &[START, MKDIR, end])?;
+    assert_eq!(rt; segment.txs().len(), 3);
+    Ok(())
+}
+
+#[test]
+fn after_the_greatest_txid(rt: HostRuntime) -> Result<(), Fail> {
+    let name = "edits_9223372036854775806-9223372036854775807";
+    let start = "{\"op\":\"OP_START_LOG_SEGMENT\",\"txid\":9223372036854775806}\n";
+    let end = "{\"op\":\"OP_END_LOG_SEGMENT\",\"txid\":9223372036854775807}\n";
+    let segment = parsed(rt.alloc(), name, &[start, end])?;
+    assert_eq!(rt; segment.txs().len(), 2);
+    let fault = fault_of(rt.alloc(), name, &[start, end, end])?;
+    assert_eq!(rt;
+        fault,
+        SegmentFault::Gap {
+            expected: 9_223_372_036_854_775_808
+        }
+    );
+    Ok(())
+}
+
+// The number of the fault of the first so many bytes, or 0.
+fn prefix_fault(alloc: Global, whole: &[u8], len: usize) -> Result<u8, Fail> {
+    let mut bytes = Vec::new(alloc);
+    for b in whole.iter().take(len) {
+        bytes.push(*b)?;
+    }
+    let name = String::from_str(alloc, NAME)?;
+    match Parsed::of(alloc, name, bytes) {
+        Ok(_) => Ok(0),
+        Err(fault) => Ok(fault.number()),
+    }
+}
+
+#[test]
+fn each_prefix_is_refused(rt: HostRuntime) -> Result<(), Fail> {
+    let whole = bytes_of(rt.alloc(), &[START, MKDIR, END])?;
+    assert_eq!(rt; prefix_fault(rt.alloc(), &whole, 0)?, 12);
+    let mut before = b' ';
+    for (len, b) in whole.iter().enumerate() {
+        if len > 0 {
+            let number = if before == b'\n' { 13 } else { 15 };
+            assert_eq!(rt; prefix_fault(rt.alloc(), &whole, len)?, number, "at {len}");
+        }
+        before = *b;
+    }
+    assert_eq!(rt; prefix_fault(rt.alloc(), &whole, whole.len())?, 0);
+    Ok(())
+}
+
+// A segment's fault where its bytes are so many line feeds.
+fn line_feeds_fault(alloc: Global, len: usize) -> Result<u8, Fail> {
+    let mut bytes = Vec::new(alloc);
+    bytes.resize(len, b'\n')?;
+    let name = String::from_str(alloc, NAME)?;
+    match Parsed::of(alloc, name, bytes) {
+        Ok(_) => Ok(0),
+        Err(fault) => Ok(fault.number()),
+    }
+}
+
+#[test]
+fn more_than_16_mebibytes(rt: HostRuntime) -> Result<(), Fail> {
+    assert_eq!(rt; line_feeds_fault(rt.alloc(), 16_777_217)?, 17);
+    assert_eq!(rt; line_feeds_fault(rt.alloc(), 16_777_216)?, 18);
+    Ok(())
+}
+
+#[test]
+fn names_are_read_back(rt: HostRuntime) -> Result<(), Fail> {
+    let Some((first, last)) = parse_name("edits_0000000000000000007-9223372036854775807") else {
+        return Err(Fail::new("no name"));
+    };
+    assert_eq!(rt; (first.get(), last.get()), (7, 9_223_372_036_854_775_807));
+    for text in [
+        "",
+        "edits_0000000000000000000-0000000000000000004",
+        "edits_0000000000000000005-0000000000000000004",
+        "edits_0000000000000000001-9223372036854775808",
+        "edits_9999999999999999999-9999999999999999999",
+        "edits_+000000000000000001-0000000000000000004",
+        "edits_0000000000000000001_0000000000000000004",
+        "edits_0000000000000000001-00000000000000000004",
+        "fsimg_0000000000000000001-0000000000000000004",
+    ] {
+        assert!(rt; parse_name(text).is_none(), "at {text}");
+    }
+    Ok(())
+}
+
+// Reads a line, and adds its transaction and its bytes with a line feed.
+fn push_line(alloc: Global, bytes: &mut Vec<u8>, txs: &mut Vec<Tx>, line: &[u8]) -> Result<(), Fail>
+    ensures { OnOk result ((tx : TxData) × (edit_of_line line.now ≡ Ok tx) × (txs.new.items ≡ txs.old.items ++ tx ∷ [])
+        × (bytes.new.items ≡ bytes.old.items ++ (line.now ++ newline ∷ []))) }
+{
+    let tx = read_edit(alloc, line)?;
+    txs.push(tx)?;
+    bytes.extend_from_slice(line)?;
+    bytes.push(b'\n')?;
+    Ok(())
+}
+
+// A segment of two lines that were read already.
+fn two_lines(alloc: Global, name: String) -> Result<Parsed, Fail> {
+    let mut bytes = Vec::new(alloc);
+    let mut txs = Vec::new(alloc);
+    push_line(
+        alloc,
+        &mut bytes,
+        &mut txs,
+        b"{\"op\":\"OP_START_LOG_SEGMENT\",\"txid\":1}",
+    )?;
+    push_line(
+        alloc,
+        &mut bytes,
+        &mut txs,
+        b"{\"op\":\"OP_END_LOG_SEGMENT\",\"txid\":2}",
+    )?;
+    Ok(Parsed::from_lines(name, bytes, txs)?)
+}
+
+#[test]
+fn lines_that_were_read_already(rt: HostRuntime) -> Result<(), Fail> {
+    let name = segment_name(rt.alloc(), txid(1)?, txid(2)?)?;
+    let segment = two_lines(rt.alloc(), name)?;
+    assert_eq!(rt; segment.txs().len(), 2);
+    assert_eq!(rt; segment.bytes().len(), 76);
+    Ok(())
+}
+
+#[test]
+fn overlapping_segments_in_order(rt: HostRuntime) -> Result<(), Fail> {
+    let alloc = rt.alloc();
+    let start = "{\"op\":\"OP_START_LOG_SEGMENT\",\"txid\":2}\n";
+    let mkdir = "{\"op\":\"OP_MKDIR\",\"txid\":3,\"path\":\"/b\"}\n";
+    let end = "{\"op\":\"OP_END_LOG_SEGMENT\",\"txid\":4}\n";
+    let mut segments = Vec::new(alloc);
+    segments.push(parsed(alloc, NAME, &[START, MKDIR, END])?)?;
+    segments.push(parsed(
+        alloc,
+        "edits_0000000000000000002-0000000000000000004",
+        &[start, mkdir, end],
+    )?)?;
+    let mut source = MemorySource::new(segments);
+    let gathered = gather(alloc, &mut source)?;
+    assert_eq!(rt; gathered.len(), 2);
+    assert_eq!(rt; gathered[0].name(), NAME);
+    assert_eq!(rt;
+        gathered[1].name(),
+        "edits_0000000000000000002-0000000000000000004"
+    );
+    assert!(rt; matches!(source.next()?, Item::End));
+    assert!(rt; matches!(source.next()?, Item::End));
+    Ok(())
+}

@@ -1,0 +1,174 @@
+//! Reports that come before the log names their block, and what becomes of them.
+ghost use Rattle.std.specs.Prelude.{◌<◌, ◌^◌};
+
+mod histories;
+
+use nn_edits::{Edit, Tx};
+use nn_shadow::{ApplyFault, HandCause, Shadow};
+use nn_types::{
+    BlockId, Cause, Event, GenerationStamp, Kind, Length, Message, Path, Replication, Settings,
+    Txid,
+};
+use std::alloc::Global;
+use std::test::Fail;
+
+// The first two block ids that a log issues, and a generation stamp that none reaches.
+const B: u64 = 1_073_741_825;
+
+const C: u64 = 1_073_741_826;
+
+const FAR: u64 = 9_223_372_036_854_775_807;
+
+// The flush takes up what is held. Then nothing comes in any more, and a second flush has nothing to do.
+#[test]
+fn future_report_flushed(rt: HostRuntime) -> Result<(), Fail> {
+    let mut shadow = fresh(rt.alloc())?;
+    assert_eq!(rt; hand(&mut shadow, received(1, 1, B, FAR)), 0);
+    assert_eq!(rt; flushed(&mut shadow), 1);
+    assert_eq!(rt; flushed(&mut shadow), 0);
+    assert_eq!(rt; hand(&mut shadow, deleted(1, 2, B)), 53);
+    Ok(())
+}
+
+// What is held about an id goes once the log passes over it.
+#[test]
+fn skipped_block_released(rt: HostRuntime) -> Result<(), Fail> {
+    let mut shadow = fresh(rt.alloc())?;
+    assert_eq!(rt; hand(&mut shadow, received(1, 1, B, 1001)), 0);
+    assert_eq!(rt; hand(&mut shadow, received(1, 2, C, 1001)), 0);
+    assert_eq!(rt; apply(&mut shadow, Edit::AllocateBlockId { id: id(C) }), 0);
+    assert_eq!(rt;
+        (told_after(&shadow, 1), shadow.held_count()),
+        (Some(due(1, 1, B)), 1)
+    );
+    assert!(rt; shadow.replicas().has_order(1, id(B)));
+    Ok(())
+}
+
+// An edit that does not apply stops the standby for good.
+#[test]
+fn missing_file_stops(rt: HostRuntime) -> Result<(), Fail> {
+    let mut shadow = fresh(rt.alloc())?;
+    let path = Path::parse(rt.alloc(), "/f")?;
+    assert_eq!(rt; apply(&mut shadow, Edit::Delete { path }), 22);
+    assert_eq!(rt; apply(&mut shadow, Edit::StartSegment), 51);
+    assert_eq!(rt; hand(&mut shadow, received(1, 1, B, 1001)), 51);
+    assert_eq!(rt; flushed(&mut shadow), 51);
+    assert!(rt; shadow.stop().is_some() && !shadow.is_active());
+    Ok(())
+}
+
+// Messages of each DataNode count from 1 without a gap.
+#[test]
+fn numbers_without_a_gap(rt: HostRuntime) -> Result<(), Fail> {
+    let mut shadow = fresh(rt.alloc())?;
+    assert_eq!(rt; hand(&mut shadow, received(0, 1, B, 1001)), 56);
+    assert_eq!(rt; hand(&mut shadow, received(3, 1, B, 1001)), 56);
+    assert_eq!(rt; hand(&mut shadow, received(1, 2, B, 1001)), 58);
+    assert_eq!(rt; hand(&mut shadow, received(1, 1, B, 1001)), 0);
+    assert_eq!(rt; hand(&mut shadow, received(1, 1, B, 1001)), 58);
+    assert_eq!(rt;
+        (
+            shadow.last_number(1),
+            shadow.last_number(2),
+            shadow.last_txid()
+        ),
+        (1, 0, 0)
+    );
+    Ok(())
+}
+
+// ---- Steps.
+
+fn fresh(alloc: Global) -> Result<Shadow, Fail> {
+    let settings = Settings::new(1000, 1).ok_or("no settings")?;
+    Ok(Shadow::new(alloc, 2, settings)?)
+}
+
+// The number of the fault, 0 where the transaction is applied.
+fn apply(shadow: &mut Shadow, edit: Edit) -> u8 {
+    let Some(txid) = Txid::new(shadow.last_txid() + 1) else {
+        return 255;
+    };
+    match shadow.apply(&Tx { txid, edit }) {
+        Ok(()) => 0,
+        Err(fault) => apply_number(fault),
+    }
+}
+
+fn hand(shadow: &mut Shadow, message: Message) -> u8 {
+    match shadow.hand(message) {
+        Ok(_handed) => 0,
+        Err(fault) => cause_number(fault.cause),
+    }
+}
+
+fn apply_number(fault: ApplyFault) -> u8 {
+    fault.number()
+}
+
+fn cause_number(cause: HandCause) -> u8 {
+    cause.number()
+}
+
+// How many messages were flushed, or the number of the fault.
+fn flushed(shadow: &mut Shadow) -> u64 {
+    match shadow.flush() {
+        Ok(count) => count,
+        Err(fault) => u64::from(fault.number()),
+    }
+}
+
+// The event at this place of the history.
+fn told_after(shadow: &Shadow, place: usize) -> Option<Event> {
+    shadow.history().get(place).copied()
+}
+
+fn due(dn: u16, number: u64, block: u64) -> Event
+    requires { block < 2 ^ 63 }
+{
+    Event::Processed {
+        dn,
+        number,
+        block: id(block),
+        cause: Cause::Due,
+    }
+}
+
+fn received(dn: u16, number: u64, block: u64, generation: u64) -> Message
+    requires { (block < 2 ^ 63) × (generation < 2 ^ 63) }
+{
+    Message {
+        dn,
+        number,
+        block: id(block),
+        stamp: stamp(generation),
+        len: Length::new(5).unwrap(),
+        kind: Kind::Received,
+    }
+}
+
+fn deleted(dn: u16, number: u64, block: u64) -> Message
+    requires { block < 2 ^ 63 }
+{
+    Message {
+        dn,
+        number,
+        block: id(block),
+        stamp: stamp(0),
+        len: Length::new(0).unwrap(),
+        kind: Kind::Deleted,
+    }
+}
+
+fn id(value: u64) -> BlockId
+    requires { value < 2 ^ 63 }
+{
+    BlockId::new(value).unwrap()
+}
+
+fn stamp(value: u64) -> GenerationStamp
+    requires { value < 2 ^ 63 }
+{
+    GenerationStamp::new(value).unwrap()
+}

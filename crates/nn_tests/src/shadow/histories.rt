@@ -1,0 +1,197 @@
+//! Whole scenarios on the calls, each with the history that a standby tells of it.
+use nn_edits::{Line, read_line};
+use nn_shadow::Shadow;
+use nn_types::{Cause, Event, Message, Report, Settings};
+use std::alloc::Global;
+use std::fmt::Write;
+use std::process::Abort;
+use std::test::Fail;
+
+const EARLY_REPORT_RELEASED: &str = r#"{"op":"OP_START_LOG_SEGMENT","txid":1}
+{"op":"OP_SET_GENSTAMP_V2","txid":2,"gen":1001}
+{"op":"OP_ALLOCATE_BLOCK_ID","txid":3,"id":1073741825}
+{"op":"OP_ADD","txid":4,"path":"/f","replication":3}
+{"dn":1,"block":1073741825,"gen":1001,"len":5,"kind":"received"}
+{"op":"OP_ADD_BLOCK","txid":5,"path":"/f","id":1073741825,"gen":1001}
+{"op":"OP_CLOSE","txid":6,"path":"/f","blocks":[{"id":1073741825,"gen":1001,"len":5}]}
+{"op":"OP_END_LOG_SEGMENT","txid":7}"#;
+
+// A report that comes before the log names its block is processed right after the edit that names it.
+#[test]
+fn early_report_released(rt: HostRuntime) -> Result<(), Fail> {
+    let mut shadow = fresh(rt.alloc())?;
+    let told = "A1 A2 A3 A4 A5 P1,1,1073741825,Due A6 A7";
+    tells(&rt, rt.alloc(), &mut shadow, EARLY_REPORT_RELEASED, told)
+}
+
+const FUTURE_REPORT_FLUSHED: &str = r#"{"op":"OP_START_LOG_SEGMENT","txid":1}
+{"op":"OP_SET_GENSTAMP_V2","txid":2,"gen":1001}
+{"op":"OP_ALLOCATE_BLOCK_ID","txid":3,"id":1073741825}
+{"op":"OP_ADD","txid":4,"path":"/f","replication":3}
+{"dn":1,"block":1073741825,"gen":9223372036854775807,"len":5,"kind":"received"}
+{"dn":1,"block":1073741825,"gen":0,"len":0,"kind":"deleted"}
+{"dn":2,"block":1073741825,"gen":1001,"len":5,"kind":"received"}
+{"op":"OP_ADD_BLOCK","txid":5,"path":"/f","id":1073741825,"gen":1001}
+{"op":"OP_CLOSE","txid":6,"path":"/f","blocks":[{"id":1073741825,"gen":1001,"len":5}]}
+{"op":"OP_END_LOG_SEGMENT","txid":7}"#;
+
+// A generation stamp that never comes keeps back the next message of its DataNode, and not another DataNode's.
+#[test]
+fn future_report_flushed(rt: HostRuntime) -> Result<(), Fail> {
+    let mut shadow = fresh(rt.alloc())?;
+    let told =
+        "A1 A2 A3 A4 A5 P2,1,1073741825,Due A6 A7 P1,1,1073741825,Flush P1,2,1073741825,Flush";
+    tells(&rt, rt.alloc(), &mut shadow, FUTURE_REPORT_FLUSHED, told)
+}
+
+const DELETED_BLOCK_IS_ORDERED: &str = r#"{"op":"OP_START_LOG_SEGMENT","txid":1}
+{"op":"OP_SET_GENSTAMP_V2","txid":2,"gen":1001}
+{"op":"OP_ALLOCATE_BLOCK_ID","txid":3,"id":1073741825}
+{"op":"OP_ADD","txid":4,"path":"/f","replication":3}
+{"dn":1,"block":1073741825,"gen":1001,"len":5,"kind":"received"}
+{"op":"OP_ADD_BLOCK","txid":5,"path":"/f","id":1073741825,"gen":1001}
+{"op":"OP_CLOSE","txid":6,"path":"/f","blocks":[{"id":1073741825,"gen":1001,"len":5}]}
+{"op":"OP_DELETE","txid":7,"path":"/f"}
+{"op":"OP_END_LOG_SEGMENT","txid":8}"#;
+
+// A file that is deleted makes orders of its replicas.
+#[test]
+fn deleted_block_is_ordered(rt: HostRuntime) -> Result<(), Fail> {
+    let mut shadow = fresh(rt.alloc())?;
+    let told = "A1 A2 A3 A4 A5 P1,1,1073741825,Due A6 A7 A8";
+    tells(&rt, rt.alloc(), &mut shadow, DELETED_BLOCK_IS_ORDERED, told)
+}
+
+const RELEASED_BY_BLOCK: &str = r#"{"op":"OP_START_LOG_SEGMENT","txid":1}
+{"op":"OP_SET_GENSTAMP_V2","txid":2,"gen":1001}
+{"op":"OP_ALLOCATE_BLOCK_ID","txid":3,"id":1073741825}
+{"op":"OP_ALLOCATE_BLOCK_ID","txid":4,"id":1073741826}
+{"op":"OP_ADD","txid":5,"path":"/f","replication":1}
+{"op":"OP_ADD_BLOCK","txid":6,"path":"/f","id":1073741826,"gen":1001}
+{"op":"OP_ADD_BLOCK","txid":7,"path":"/f","id":1073741825,"gen":1001}
+{"dn":1,"block":1073741826,"gen":1002,"len":5,"kind":"received"}
+{"dn":1,"block":1073741825,"gen":1002,"len":5,"kind":"received"}
+{"op":"OP_SET_GENSTAMP_V2","txid":8,"gen":1002}
+{"op":"OP_UPDATE_BLOCKS","txid":9,"path":"/f","blocks":[{"id":1073741826,"gen":1002,"len":5},{"id":1073741825,"gen":1002,"len":5}]}
+{"op":"OP_CLOSE","txid":10,"path":"/f","blocks":[{"id":1073741826,"gen":1002,"len":5},{"id":1073741825,"gen":1002,"len":5}]}
+{"op":"OP_END_LOG_SEGMENT","txid":11}"#;
+
+// One edit sets two messages free: they go by block and not in the order of arrival.
+#[test]
+fn released_by_block(rt: HostRuntime) -> Result<(), Fail> {
+    let mut shadow = fresh(rt.alloc())?;
+    let told = "A1 A2 A3 A4 A5 A6 A7 A8 A9 P1,2,1073741825,Due P1,1,1073741826,Due A10 A11";
+    tells(&rt, rt.alloc(), &mut shadow, RELEASED_BY_BLOCK, told)
+}
+
+const SKIPPED_ID_IS_RETIRED: &str = r#"{"op":"OP_START_LOG_SEGMENT","txid":1}
+{"dn":1,"block":1073741825,"gen":1001,"len":5,"kind":"received"}
+{"op":"OP_ALLOCATE_BLOCK_ID","txid":2,"id":1073741826}
+{"op":"OP_END_LOG_SEGMENT","txid":3}"#;
+
+// What is held about an id goes once the log passes over it.
+#[test]
+fn skipped_id_is_retired(rt: HostRuntime) -> Result<(), Fail> {
+    let mut shadow = fresh(rt.alloc())?;
+    let told = "A1 A2 P1,1,1073741825,Due A3";
+    tells(&rt, rt.alloc(), &mut shadow, SKIPPED_ID_IS_RETIRED, told)
+}
+
+const UNNAMED_REPORT_FLUSHED: &str = r#"{"op":"OP_START_LOG_SEGMENT","txid":1}
+{"dn":1,"block":1073741825,"gen":1001,"len":5,"kind":"received"}
+{"op":"OP_END_LOG_SEGMENT","txid":2}"#;
+
+// What the log never names goes with the flush.
+#[test]
+fn unnamed_report_flushed(rt: HostRuntime) -> Result<(), Fail> {
+    let mut shadow = fresh(rt.alloc())?;
+    let told = "A1 A2 P1,1,1073741825,Flush";
+    tells(&rt, rt.alloc(), &mut shadow, UNNAMED_REPORT_FLUSHED, told)
+}
+
+fn fresh(alloc: Global) -> Result<Shadow, Fail> {
+    let settings = Settings::new(1000, 1).ok_or("no settings")?;
+    Ok(Shadow::new(alloc, 2, settings)?)
+}
+
+// Follows the lines, flushes, and compares the history with the one that is wanted.
+fn tells(
+    rt: &impl Abort,
+    alloc: Global,
+    shadow: &mut Shadow,
+    lines: &str,
+    told: &str,
+) -> Result<(), Fail> {
+    for line in lines.split('\n') {
+        follow(shadow, alloc, line)?;
+    }
+    shadow.flush()?;
+    let text = history(alloc, shadow.history())?;
+    assert_eq!(rt; text.as_str(), told);
+    Ok(())
+}
+
+fn follow(shadow: &mut Shadow, alloc: Global, line: &str) -> Result<(), Fail> {
+    match read_line(alloc, line.as_bytes())? {
+        Line::Edit(tx) => shadow.apply(&tx)?,
+        Line::Report(report) => hand_next(shadow, report)?,
+    }
+    Ok(())
+}
+
+// Hands over the report as the next message of its DataNode.
+fn hand_next(shadow: &mut Shadow, report: Report) -> Result<(), Fail> {
+    let last = shadow.last_number(report.dn);
+    let number = last.checked_add(1).ok_or("no number")?;
+    let message = Message {
+        dn: report.dn,
+        number,
+        block: report.block,
+        stamp: report.stamp,
+        len: report.len,
+        kind: report.kind,
+    };
+    if super::hand(shadow, message) != 0 {
+        return Err(Fail::from("a refused message"));
+    }
+    Ok(())
+}
+
+// The events, with a blank between them.
+fn history(alloc: Global, events: &[Event]) -> Result<String, Fail> {
+    let mut text = String::new(alloc);
+    for event in events {
+        if !text.is_empty() {
+            text.push(' ')?;
+        }
+        push_event(&mut text, event)?;
+    }
+    Ok(text)
+}
+
+fn push_event(text: &mut String, event: &Event) -> Result<(), Fail> {
+    match event {
+        Event::Applied { txid } => {
+            let txid = txid.get();
+            write!(text, "A{txid}")?;
+        }
+        Event::Processed {
+            dn,
+            number,
+            block,
+            cause,
+        } => {
+            let block = block.get();
+            let cause = cause_word(cause);
+            write!(text, "P{dn},{number},{block},{cause}")?;
+        }
+    }
+    Ok(())
+}
+
+fn cause_word(cause: &Cause) -> &'static str {
+    match cause {
+        Cause::Due => "Due",
+        Cause::Flush => "Flush",
+    }
+}

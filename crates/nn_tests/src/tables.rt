@@ -1,0 +1,98 @@
+//! Lines of a table.
+ghost use Rattle.std.specs.Prelude.{◌≡◌, IfOk};
+
+use nn_listing::push_tables;
+use nn_replicas::Replicas;
+use nn_shadow::SafeMode;
+use nn_types::{Block, BlockId, GenerationStamp, Kind, Length, Replica, Settings};
+use std::test::Fail;
+
+// The first block id that a log issues.
+const B: u64 = 1_073_741_825;
+
+fn id(value: u64) -> Result<BlockId, Fail> {
+    let Some(made) = BlockId::new(value) else {
+        return Err(Fail::new("no block id"));
+    };
+    Ok(made)
+}
+
+fn replica(stamp: u64, len: u64, kind: Kind) -> Result<Replica, Fail>
+    ensures { IfOk result (λ r. r.kind ≡ kind) }
+{
+    let Some(stamp) = GenerationStamp::new(stamp) else {
+        return Err(Fail::new("no generation stamp"));
+    };
+    let Some(len) = Length::new(len) else {
+        return Err(Fail::new("no length"));
+    };
+    Ok(Replica { stamp, len, kind })
+}
+
+// A closed file's block with the generation stamp 1002 and 5 bytes.
+fn block(value: u64) -> Result<Block, Fail> {
+    let like = replica(1002, 5, Kind::Received)?;
+    Ok(Block {
+        id: id(value)?,
+        stamp: like.stamp,
+        len: like.len,
+    })
+}
+
+#[test]
+fn lines_of_each_class(rt: HostRuntime) -> Result<(), Fail> {
+    let Some(settings) = Settings::new(999, 1) else {
+        return Err(Fail::new("no settings"));
+    };
+    let mut table = Replicas::new(rt.alloc(), settings);
+    table.set_block(block(B + 1)?, true)?;
+    table.set_block(block(B)?, true)?;
+    table.put(256, id(B)?, replica(1002, 5, Kind::Received)?)?;
+    table.put(2, id(B)?, replica(1002, 4, Kind::Received)?)?;
+    table.put(1, id(B)?, replica(1001, 5, Kind::Received)?)?;
+    table.put(3, id(B)?, replica(1003, 0, Kind::Receiving)?)?;
+    table.put(1, id(B + 1)?, replica(1002, 0, Kind::Receiving)?)?;
+    table.put(9, id(B + 3)?, replica(1001, 1, Kind::Received)?)?;
+    table.put(7, id(B + 3)?, replica(1001, 1, Kind::Receiving)?)?;
+    let mode = SafeMode {
+        total: table.total(),
+        safe: table.safe_count(),
+        needed: settings.needed(table.total()),
+        on: false,
+    };
+    let mut text = String::new(rt.alloc());
+    text.push_str("txid 9\n")?;
+    push_tables(rt.alloc(), &mut text, &table, mode)?;
+    let lines = "txid 9\n\
+        replica 1073741825 1 1001 5 received stale\n\
+        replica 1073741825 2 1002 4 received wronglength\n\
+        replica 1073741825 3 1003 0 receiving ahead\n\
+        replica 1073741825 256 1002 5 received live\n\
+        replica 1073741826 1 1002 0 receiving building\n\
+        order 1073741828 7\n\
+        order 1073741828 9\n\
+        blocks 2 safe 1 needed 1 mode off\n";
+    assert_eq!(rt; text.as_str(), lines);
+    Ok(())
+}
+
+#[test]
+fn safe_mode_on(rt: HostRuntime) -> Result<(), Fail> {
+    let Some(settings) = Settings::new(1000, 1) else {
+        return Err(Fail::new("no settings"));
+    };
+    let table = Replicas::new(rt.alloc(), settings);
+    let mode = SafeMode {
+        total: 1001,
+        safe: 1000,
+        needed: 1001,
+        on: true,
+    };
+    let mut text = String::new(rt.alloc());
+    push_tables(rt.alloc(), &mut text, &table, mode)?;
+    assert_eq!(rt;
+        text.as_str(),
+        "blocks 1001 safe 1000 needed 1001 mode on\n"
+    );
+    Ok(())
+}

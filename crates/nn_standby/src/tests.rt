@@ -7,6 +7,7 @@ use nn_types::Settings;
 use std::alloc::Global;
 use std::io;
 use std::io::{Read, Write};
+use std::process::Abort;
 use std::test::Fail;
 
 const START: &str = "{\"op\":\"OP_START_LOG_SEGMENT\",\"txid\":1}\n";
@@ -38,33 +39,37 @@ fn printed_with(alloc: Global, options: Options, reader: &mut impl Read) -> (Vec
     (writer, status)
 }
 
+// An input under its name, and what a run on it has to print.
+type Case<'a> = (&'a str, &'a str, &'a str);
+
+// Runs the program on an input, and compares what it prints and its status with what is wanted.
+fn prints(rt: &impl Abort, alloc: Global, (name, input, want): Case<'_>, status: u8) {
+    let mut reader: &[u8] = input.as_bytes();
+    let (text, ended) = printed(alloc, &mut reader);
+    assert_eq!(rt; text.as_slice(), want.as_bytes(), "at {name}");
+    assert_eq!(rt; ended, status, "at {name}");
+}
+
 #[test]
 fn empty_input(rt: HostRuntime) {
-    let mut reader: &[u8] = b"";
-    let (text, status) = printed(rt.alloc(), &mut reader);
-    assert_eq!(rt; text.as_slice(), NOTHING.as_bytes());
-    assert_eq!(rt; status, 0);
+    prints(&rt, rt.alloc(), ("nothing", "", NOTHING), 0);
 }
 
 #[test]
 fn make_and_delete(rt: HostRuntime) {
-    let mut reader: &[u8] = br#"{"op":"OP_START_LOG_SEGMENT","txid":1}
+    let input = r#"{"op":"OP_START_LOG_SEGMENT","txid":1}
 {"op":"OP_MKDIR","path":"/a","txid":2}
 {"op":"OP_MKDIR","path":"/a/b","txid":3}
 {"op":"OP_DELETE","path":"/a","txid":4}
 {"op":"OP_END_LOG_SEGMENT","txid":5}
 "#;
-    let (text, status) = printed(rt.alloc(), &mut reader);
-    assert_eq!(rt;
-        text.as_slice(),
-        b"txid 5\ndir \"/\"\nblocks 0 safe 0 needed 0 mode off\n".as_slice()
-    );
-    assert_eq!(rt; status, 0);
+    let want = "txid 5\ndir \"/\"\nblocks 0 safe 0 needed 0 mode off\n";
+    prints(&rt, rt.alloc(), ("make and delete", input, want), 0);
 }
 
 #[test]
 fn one_file(rt: HostRuntime) {
-    let mut reader: &[u8] = br#"{"op":"OP_START_LOG_SEGMENT","txid":1}
+    let input = r#"{"op":"OP_START_LOG_SEGMENT","txid":1}
 {"op":"OP_SET_GENSTAMP_V2","gen":1001,"txid":2}
 {"op":"OP_ALLOCATE_BLOCK_ID","id":1073741825,"txid":3}
 {"op":"OP_ADD","path":"/f","replication":3,"txid":4}
@@ -72,32 +77,28 @@ fn one_file(rt: HostRuntime) {
 {"op":"OP_CLOSE","blocks":[{"gen":1001,"id":1073741825,"len":5}],"path":"/f","txid":6}
 {"op":"OP_END_LOG_SEGMENT","txid":7}
 "#;
-    let (text, status) = printed(rt.alloc(), &mut reader);
     let want =
         "txid 7\ndir \"/\"\nfile \"/f\" 3 closed 1073741825:1001:5\nblocks 1 safe 0 needed 0 mode off\n";
-    assert_eq!(rt; text.as_slice(), want.as_bytes());
-    assert_eq!(rt; status, 0);
+    prints(&rt, rt.alloc(), ("one file", input, want), 0);
 }
 
 #[test]
 fn paths_in_path_order(rt: HostRuntime) {
-    let mut reader: &[u8] = br#"{"op":"OP_START_LOG_SEGMENT","txid":1}
+    let input = r#"{"op":"OP_START_LOG_SEGMENT","txid":1}
 {"op":"OP_MKDIR","path":"/a-b","txid":2}
 {"op":"OP_MKDIR","path":"/a","txid":3}
 
 {"op":"OP_MKDIR","path":"/a/b","txid":4}
 {"zz":[1],"path":"/a/\u0001\"","txid":5,"op":"OP_MKDIR"}
 {"op":"OP_END_LOG_SEGMENT","txid":6}"#;
-    let (text, status) = printed(rt.alloc(), &mut reader);
     let want =
         "txid 6\ndir \"/\"\ndir \"/a\"\ndir \"/a/\\u0001\\\"\"\ndir \"/a/b\"\ndir \"/a-b\"\nblocks 0 safe 0 needed 0 mode off\n";
-    assert_eq!(rt; text.as_slice(), want.as_bytes());
-    assert_eq!(rt; status, 0);
+    prints(&rt, rt.alloc(), ("paths in path order", input, want), 0);
 }
 
 #[test]
 fn segments_that_overlap(rt: HostRuntime) {
-    for (name, input, want) in [
+    for case in [
         (
             "overlapping_segments",
             "{\"op\":\"OP_START_LOG_SEGMENT\",\"txid\":1}\n{\"op\":\"OP_MKDIR\",\"path\":\"/a\",\"txid\":2}\n{\"op\":\"OP_END_LOG_SEGMENT\",\"txid\":3}\n{\"op\":\"OP_START_LOG_SEGMENT\",\"txid\":2}\n{\"op\":\"OP_MKDIR\",\"path\":\"/\",\"txid\":3}\n{\"op\":\"OP_END_LOG_SEGMENT\",\"txid\":4}\n",
@@ -109,25 +110,17 @@ fn segments_that_overlap(rt: HostRuntime) {
             "txid 5\ndir \"/\"\ndir \"/b\"\nblocks 0 safe 0 needed 0 mode off\n",
         ),
     ] {
-        let mut reader: &[u8] = input.as_bytes();
-        let (text, status) = printed(rt.alloc(), &mut reader);
-        assert_eq!(rt; text.as_slice(), want.as_bytes(), "at {name}");
-        assert_eq!(rt; status, 0, "at {name}");
+        prints(&rt, rt.alloc(), case, 0);
     }
 }
 
 #[test]
-fn one_line_of_fault(rt: HostRuntime) {
-    for (name, input, want) in [
+fn one_line_of_a_refused_transaction(rt: HostRuntime) {
+    for case in [
         (
             "missing_parent_stops",
             "{\"op\":\"OP_START_LOG_SEGMENT\",\"txid\":1}\n{\"op\":\"OP_MKDIR\",\"path\":\"/a/b\",\"txid\":2}\n{\"op\":\"OP_END_LOG_SEGMENT\",\"txid\":3}\n",
             "fault 22 txid 2\n",
-        ),
-        (
-            "log_begins_too_high",
-            "{\"op\":\"OP_START_LOG_SEGMENT\",\"txid\":2}\n{\"op\":\"OP_END_LOG_SEGMENT\",\"txid\":3}\n",
-            "fault 57 txid 1\n",
         ),
         (
             "the root is there",
@@ -140,20 +133,59 @@ fn one_line_of_fault(rt: HostRuntime) {
             "fault 21 txid 3\n",
         ),
         (
-            "a bad line behind a refused edit",
-            "{\"op\":\"OP_START_LOG_SEGMENT\",\"txid\":1}\n{\"op\":\"OP_MKDIR\",\"path\":\"/\",\"txid\":2}\n{\"op\":\"OP_END_LOG_SEGMENT\",\"txid\":3}\n \t\r\n\n[]",
-            "fault 1 line 6\n",
+            "a refusal before a gap",
+            "{\"op\":\"OP_START_LOG_SEGMENT\",\"txid\":1}\n{\"op\":\"OP_MKDIR\",\"path\":\"/\",\"txid\":2}\n{\"op\":\"OP_END_LOG_SEGMENT\",\"txid\":3}\n{\"op\":\"OP_START_LOG_SEGMENT\",\"txid\":9}\n{\"op\":\"OP_END_LOG_SEGMENT\",\"txid\":10}\n",
+            "fault 25 txid 2\n",
+        ),
+    ] {
+        prints(&rt, rt.alloc(), case, 1);
+    }
+}
+
+#[test]
+fn one_line_of_a_missing_transaction(rt: HostRuntime) {
+    for case in [
+        (
+            "log_begins_too_high",
+            "{\"op\":\"OP_START_LOG_SEGMENT\",\"txid\":2}\n{\"op\":\"OP_END_LOG_SEGMENT\",\"txid\":3}\n",
+            "fault 57 txid 1\n",
         ),
         (
-            "a bad line behind a bad segment",
-            "{\"op\":\"OP_MKDIR\",\"path\":\"/\",\"txid\":1}\n[]",
-            "fault 1 line 2\n",
+            "the second segment begins too high",
+            "{\"op\":\"OP_START_LOG_SEGMENT\",\"txid\":1}\n{\"op\":\"OP_END_LOG_SEGMENT\",\"txid\":2}\n{\"op\":\"OP_START_LOG_SEGMENT\",\"txid\":4}\n{\"op\":\"OP_END_LOG_SEGMENT\",\"txid\":5}\n",
+            "fault 57 txid 3\n",
         ),
+        (
+            "a gap before a refusal",
+            "{\"op\":\"OP_START_LOG_SEGMENT\",\"txid\":1}\n{\"op\":\"OP_END_LOG_SEGMENT\",\"txid\":2}\n{\"op\":\"OP_START_LOG_SEGMENT\",\"txid\":4}\n{\"op\":\"OP_MKDIR\",\"path\":\"/\",\"txid\":5}\n{\"op\":\"OP_END_LOG_SEGMENT\",\"txid\":6}\n",
+            "fault 57 txid 3\n",
+        ),
+    ] {
+        prints(&rt, rt.alloc(), case, 1);
+    }
+}
+
+#[test]
+fn one_line_of_a_gap_in_a_segment(rt: HostRuntime) {
+    for case in [
         (
             "gap_in_segment",
             "{\"op\":\"OP_START_LOG_SEGMENT\",\"txid\":1}\n{\"op\":\"OP_MKDIR\",\"path\":\"/a\",\"txid\":2}\n{\"op\":\"OP_END_LOG_SEGMENT\",\"txid\":4}\n",
             "fault 14 segment 1\n",
         ),
+        (
+            "txids that go down",
+            "{\"op\":\"OP_START_LOG_SEGMENT\",\"txid\":3}\n{\"op\":\"OP_END_LOG_SEGMENT\",\"txid\":1}\n",
+            "fault 14 segment 1\n",
+        ),
+    ] {
+        prints(&rt, rt.alloc(), case, 1);
+    }
+}
+
+#[test]
+fn one_line_of_a_segment_without_its_marks(rt: HostRuntime) {
+    for case in [
         (
             "log_without_its_end_mark",
             "{\"op\":\"OP_START_LOG_SEGMENT\",\"txid\":1}\n{\"op\":\"OP_END_LOG_SEGMENT\",\"txid\":2}\n{\"op\":\"OP_START_LOG_SEGMENT\",\"txid\":3}\n{\"op\":\"OP_MKDIR\",\"path\":\"/a\",\"txid\":4}\n",
@@ -184,25 +216,23 @@ fn one_line_of_fault(rt: HostRuntime) {
             "{\"op\":\"OP_MKDIR\",\"path\":\"/a\",\"txid\":1}\n",
             "fault 12 segment 1\n",
         ),
+    ] {
+        prints(&rt, rt.alloc(), case, 1);
+    }
+}
+
+#[test]
+fn one_line_of_a_bad_line(rt: HostRuntime) {
+    for case in [
         (
-            "txids that go down",
-            "{\"op\":\"OP_START_LOG_SEGMENT\",\"txid\":3}\n{\"op\":\"OP_END_LOG_SEGMENT\",\"txid\":1}\n",
-            "fault 14 segment 1\n",
+            "a bad line behind a refused edit",
+            "{\"op\":\"OP_START_LOG_SEGMENT\",\"txid\":1}\n{\"op\":\"OP_MKDIR\",\"path\":\"/\",\"txid\":2}\n{\"op\":\"OP_END_LOG_SEGMENT\",\"txid\":3}\n \t\r\n\n[]",
+            "fault 1 line 6\n",
         ),
         (
-            "the second segment begins too high",
-            "{\"op\":\"OP_START_LOG_SEGMENT\",\"txid\":1}\n{\"op\":\"OP_END_LOG_SEGMENT\",\"txid\":2}\n{\"op\":\"OP_START_LOG_SEGMENT\",\"txid\":4}\n{\"op\":\"OP_END_LOG_SEGMENT\",\"txid\":5}\n",
-            "fault 57 txid 3\n",
-        ),
-        (
-            "a refusal before a gap",
-            "{\"op\":\"OP_START_LOG_SEGMENT\",\"txid\":1}\n{\"op\":\"OP_MKDIR\",\"path\":\"/\",\"txid\":2}\n{\"op\":\"OP_END_LOG_SEGMENT\",\"txid\":3}\n{\"op\":\"OP_START_LOG_SEGMENT\",\"txid\":9}\n{\"op\":\"OP_END_LOG_SEGMENT\",\"txid\":10}\n",
-            "fault 25 txid 2\n",
-        ),
-        (
-            "a gap before a refusal",
-            "{\"op\":\"OP_START_LOG_SEGMENT\",\"txid\":1}\n{\"op\":\"OP_END_LOG_SEGMENT\",\"txid\":2}\n{\"op\":\"OP_START_LOG_SEGMENT\",\"txid\":4}\n{\"op\":\"OP_MKDIR\",\"path\":\"/\",\"txid\":5}\n{\"op\":\"OP_END_LOG_SEGMENT\",\"txid\":6}\n",
-            "fault 57 txid 3\n",
+            "a bad line behind a bad segment",
+            "{\"op\":\"OP_MKDIR\",\"path\":\"/\",\"txid\":1}\n[]",
+            "fault 1 line 2\n",
         ),
         ("line_faults", "{\"op\":\"OP_FOO\"}\n", "fault 4 line 1\n"),
         (
@@ -221,46 +251,49 @@ fn one_line_of_fault(rt: HostRuntime) {
             "fault 2 line 1\n",
         ),
     ] {
-        let mut reader: &[u8] = input.as_bytes();
-        let (text, status) = printed(rt.alloc(), &mut reader);
-        assert_eq!(rt; text.as_slice(), want.as_bytes(), "at {name}");
-        assert_eq!(rt; status, 1, "at {name}");
+        prints(&rt, rt.alloc(), case, 1);
     }
+}
+
+// Runs the program on a segment that makes the path, and compares how its output begins.
+fn begins(rt: &impl Abort, alloc: Global, path: &str, want: &str) -> Result<(), Fail> {
+    let input = format!(in alloc;
+        "{START}{{\"op\":\"OP_MKDIR\",\"path\":\"{path}\",\"txid\":2}}\n{END}"
+    )?;
+    let mut reader: &[u8] = input.as_bytes();
+    let (text, _) = printed(alloc, &mut reader);
+    assert!(rt; text.starts_with(want.as_bytes()), "at {path}");
+    Ok(())
 }
 
 #[test]
 fn path_grammar(rt: HostRuntime) -> Result<(), Fail> {
-    let name = [b'n'; 256];
-    let longest = String::from_utf8(name[..255].to_vec(rt.alloc())?);
-    let longer = String::from_utf8(name.to_vec(rt.alloc())?);
-    let (Ok(longest), Ok(longer)) = (longest, longer) else {
-        assert!(rt; false, "letters are text");
-        return Ok(());
-    };
-    for (path, want) in [
-        (longest.as_str(), "txid 3\n"),
-        (longer.as_str(), "fault 5 line 2\n"),
-        ("a/", "fault 5 line 2\n"),
-        ("a:b", "fault 5 line 2\n"),
-        ("a/../b", "fault 5 line 2\n"),
-        (".", "fault 5 line 2\n"),
-        ("/a", "fault 5 line 2\n"),
-    ] {
-        let line = format!(in rt.alloc();
-            "{{\"op\":\"OP_MKDIR\",\"path\":\"/{path}\",\"txid\":2}}"
-        )?;
-        let line = format!(in rt.alloc(); "{START}{line}\n{END}")?;
-        let mut reader: &[u8] = line.as_bytes();
-        let (text, _) = printed(rt.alloc(), &mut reader);
-        assert!(rt; text.starts_with(want.as_bytes()), "at {path}");
+    for path in ["/a/", "/a:b", "/a/../b", "/.", "//a"] {
+        begins(&rt, rt.alloc(), path, "fault 5 line 2\n")?;
     }
-    for text in ["a", ""] {
-        let line = format!(in rt.alloc();
-            "{{\"op\":\"OP_MKDIR\",\"path\":\"{text}\",\"txid\":1}}"
-        )?;
-        let mut reader: &[u8] = line.as_bytes();
-        let (text, _) = printed(rt.alloc(), &mut reader);
-        assert_eq!(rt; text.as_slice(), b"fault 5 line 1\n".as_slice());
+    for (path, input) in [
+        ("a", "{\"op\":\"OP_MKDIR\",\"path\":\"a\",\"txid\":1}"),
+        ("no path", "{\"op\":\"OP_MKDIR\",\"path\":\"\",\"txid\":1}"),
+    ] {
+        prints(&rt, rt.alloc(), (path, input, "fault 5 line 1\n"), 1);
+    }
+    Ok(())
+}
+
+// The path of one name of so many letters.
+fn path_of(alloc: Global, letters: usize) -> Result<String, Fail> {
+    let mut path = String::from_str(alloc, "/")?;
+    for _ in 0..letters {
+        path.push('n')?;
+    }
+    Ok(path)
+}
+
+#[test]
+fn a_name_of_255_bytes(rt: HostRuntime) -> Result<(), Fail> {
+    for (letters, want) in [(255, "txid 3\n"), (256, "fault 5 line 2\n")] {
+        let path = path_of(rt.alloc(), letters)?;
+        begins(&rt, rt.alloc(), path.as_str(), want)?;
     }
     Ok(())
 }
@@ -327,51 +360,55 @@ const LISTING: &[u8] = b"txid 3\ndir \"/\"\ndir \"/a\"\nblocks 0 safe 0 needed 0
 fn failing_readers(rt: HostRuntime) {
     // The reads are one for each byte and one for the end.
     let calls = LINES.len() as u64 + 1;
-    for fail_at in 0..=calls {
-        let mut reader = Slow {
-            bytes: LINES,
-            reads: 0,
-            fail_at,
-        };
-        let (text, status) = printed(rt.alloc(), &mut reader);
-        if fail_at < calls {
-            assert_eq!(rt; text.as_slice(), b"fault 8\n".as_slice(), "at {fail_at}");
-            assert_eq!(rt; status, 1);
-        } else {
-            assert_eq!(rt; text.as_slice(), LISTING);
-            assert_eq!(rt; status, 0);
-        }
+    for fail_at in 0..calls {
+        fails_at(&rt, rt.alloc(), fail_at, b"fault 8\n", 1);
     }
+    fails_at(&rt, rt.alloc(), calls, LISTING, 0);
+}
+
+fn fails_at(rt: &impl Abort, alloc: Global, fail_at: u64, want: &[u8], status: u8) {
+    let mut reader = Slow {
+        bytes: LINES,
+        reads: 0,
+        fail_at,
+    };
+    let (text, ended) = printed(alloc, &mut reader);
+    assert_eq!(rt; text.as_slice(), want, "at {fail_at}");
+    assert_eq!(rt; ended, status, "at {fail_at}");
 }
 
 #[test]
 fn failing_writers(rt: HostRuntime) {
     let calls = (LISTING.len() as u64).div_ceil(2);
     for fails in [false, true] {
-        for stop_at in 0..=calls {
-            let mut reader: &[u8] = LINES;
-            let mut writer = Stopping {
-                got: Vec::new(rt.alloc()),
-                writes: 0,
-                stop_at,
-                fails,
-            };
-            let end = run(rt.alloc(), &usual_options(), &mut reader, &mut writer);
-            let got = writer.got.len();
-            assert!(rt; LISTING.starts_with(&writer.got));
-            match end {
-                Ok(end) => {
-                    assert_eq!(rt; end.status, 0);
-                    assert_eq!(rt; got, LISTING.len());
-                    assert_eq!(rt; stop_at, calls);
-                }
-                Err(fault) => {
-                    assert_eq!(rt; fault.written, got);
-                    assert!(rt; stop_at < calls, "at {stop_at}");
-                }
-            }
+        for stop_at in 0..calls {
+            assert_eq!(rt;
+                stops_at(&rt, rt.alloc(), stop_at, fails),
+                None,
+                "at {stop_at}"
+            );
         }
+        assert_eq!(rt; stops_at(&rt, rt.alloc(), calls, fails), Some(0));
     }
+}
+
+// The status of a run whose writer stops there, or none where it stops before the end.
+fn stops_at(rt: &impl Abort, alloc: Global, stop_at: u64, fails: bool) -> Option<u8> {
+    let mut reader: &[u8] = LINES;
+    let mut writer = Stopping {
+        got: Vec::new(alloc),
+        writes: 0,
+        stop_at,
+        fails,
+    };
+    let end = run(alloc, &usual_options(), &mut reader, &mut writer);
+    let (written, status) = match end {
+        Ok(end) => (LISTING.len(), Some(end.status)),
+        Err(fault) => (fault.written, None),
+    };
+    assert!(rt; LISTING.starts_with(&writer.got));
+    assert_eq!(rt; writer.got.len(), written);
+    status
 }
 
 // A reader that gives line feeds, up to `chunk` a time, until `left` are given.
@@ -441,11 +478,21 @@ fn longest_segment(rt: HostRuntime) -> Result<(), Fail> {
         (65_536, "fault 17 segment 1\n"),
     ] {
         let input = long_segment(rt.alloc(), last_width)?;
-        assert_eq!(rt; input.len(), MAX_INPUT - 65_536 + last_width);
-        let mut reader: &[u8] = &input;
-        let (text, status) = printed(rt.alloc(), &mut reader);
-        assert_eq!(rt; text.as_slice(), want.as_bytes(), "at {last_width}");
-        assert_eq!(rt; status, 1);
+        prints_one_line(
+            &rt,
+            rt.alloc(),
+            &input,
+            MAX_INPUT - 65_536 + last_width,
+            want,
+        );
     }
     Ok(())
+}
+
+fn prints_one_line(rt: &impl Abort, alloc: Global, input: &[u8], size: usize, want: &str) {
+    assert_eq!(rt; input.len(), size);
+    let mut reader: &[u8] = input;
+    let (text, status) = printed(alloc, &mut reader);
+    assert_eq!(rt; text.as_slice(), want.as_bytes(), "at {size}");
+    assert_eq!(rt; status, 1);
 }

@@ -2,6 +2,7 @@
 use nn_edits::{Edit, Line, LineFault, Tx, read_edit, read_line, read_report, write_edit};
 use nn_types::{Block, BlockId, Blocks, GenerationStamp, Kind, Length, Path, Txid};
 use std::alloc::Global;
+use std::process::Abort;
 use std::test::Fail;
 
 // The line of each operation, as it is written.
@@ -74,12 +75,28 @@ fn name_of(edit: &Edit) -> &'static str {
     }
 }
 
+// The operation that a line is read as.
+fn operation_of(alloc: Global, line: &str) -> Result<&'static str, Fail> {
+    let tx = read_edit(alloc, line.as_bytes())?;
+    Ok(name_of(&tx.edit))
+}
+
+fn txid_of(alloc: Global, line: &str) -> Result<u64, Fail> {
+    let tx = read_edit(alloc, line.as_bytes())?;
+    Ok(tx.txid.get())
+}
+
+// What a line is written as, once it is read.
+fn written_again(alloc: Global, line: &str) -> Result<String, Fail> {
+    let tx = read_edit(alloc, line.as_bytes())?;
+    Ok(write_edit(alloc, &tx)?)
+}
+
 #[test]
 fn each_operation_is_written_as_it_is_read(rt: HostRuntime) -> Result<(), Fail> {
     for (name, line) in WRITTEN {
-        let tx = read_edit(rt.alloc(), line.as_bytes())?;
-        assert_eq!(rt; name_of(&tx.edit), name);
-        let text = write_edit(rt.alloc(), &tx)?;
+        assert_eq!(rt; operation_of(rt.alloc(), line)?, name);
+        let text = written_again(rt.alloc(), line)?;
         assert_eq!(rt; text.as_str(), line);
     }
     Ok(())
@@ -88,9 +105,8 @@ fn each_operation_is_written_as_it_is_read(rt: HostRuntime) -> Result<(), Fail> 
 #[test]
 fn keys_in_any_order(rt: HostRuntime) -> Result<(), Fail> {
     let line = "{\"zz\":[1],\"path\":\"/a\",\"txid\":2,\"op\":\"OP_MKDIR\"}";
-    let tx = read_edit(rt.alloc(), line.as_bytes())?;
-    assert_eq!(rt; tx.txid.get(), 2);
-    let text = write_edit(rt.alloc(), &tx)?;
+    assert_eq!(rt; txid_of(rt.alloc(), line)?, 2);
+    let text = written_again(rt.alloc(), line)?;
     assert_eq!(rt;
         text.as_str(),
         "{\"op\":\"OP_MKDIR\",\"path\":\"/a\",\"txid\":2}"
@@ -99,14 +115,23 @@ fn keys_in_any_order(rt: HostRuntime) -> Result<(), Fail> {
     Ok(())
 }
 
+// The source and the target of a rename, with a blank between them.
+fn ends_of(alloc: Global, edit: &Edit) -> Result<String, Fail> {
+    let Edit::Rename { src, dst } = edit else {
+        return Err(Fail::new("not a rename"));
+    };
+    let mut text = src.to_text(alloc)?;
+    text.push(' ')?;
+    text.push_str(dst.to_text(alloc)?.as_str())?;
+    Ok(text)
+}
+
 #[test]
 fn each_key_goes_to_its_place(rt: HostRuntime) -> Result<(), Fail> {
     let line = b"{\"src\":\"/from\",\"dst\":\"/to\",\"op\":\"OP_RENAME\",\"txid\":3}";
-    let Edit::Rename { src, dst } = read_edit(rt.alloc(), line)?.edit else {
-        return Err(Fail::new("not a rename"));
-    };
-    assert_eq!(rt; src.to_text(rt.alloc())?.as_str(), "/from");
-    assert_eq!(rt; dst.to_text(rt.alloc())?.as_str(), "/to");
+    let tx = read_edit(rt.alloc(), line)?;
+    let ends = ends_of(rt.alloc(), &tx.edit)?;
+    assert_eq!(rt; ends.as_str(), "/from /to");
     Ok(())
 }
 
@@ -145,9 +170,16 @@ fn fault_of(alloc: Global, line: &[u8]) -> u8 {
     }
 }
 
+// Reads each line, and compares the number of its fault.
+fn first_faults(rt: &impl Abort, alloc: Global, rows: &[(&str, u8)]) {
+    for (line, number) in rows {
+        assert_eq!(rt; fault_of(alloc, line.as_bytes()), *number, "at {line}");
+    }
+}
+
 #[test]
-fn the_first_fault_of_a_line(rt: HostRuntime) -> Result<(), Fail> {
-    for (line, number) in [
+fn a_fault_before_the_txid(rt: HostRuntime) {
+    let rows = [
         ("", 1),
         ("[]", 1),
         ("{", 1),
@@ -160,6 +192,15 @@ fn the_first_fault_of_a_line(rt: HostRuntime) -> Result<(), Fail> {
             "{\"op\":null,\"block\":9,\"dn\":1,\"gen\":1,\"kind\":\"received\",\"len\":0}",
             4,
         ),
+    ];
+    first_faults(&rt, rt.alloc(), &rows);
+    let line = b"{\"op\":\"OP_MKDIR\",\"zz\":\"\xff\"}";
+    assert_eq!(rt; fault_of(rt.alloc(), line), 1);
+}
+
+#[test]
+fn a_fault_of_the_txid(rt: HostRuntime) {
+    let rows = [
         ("{\"op\":\"OP_MKDIR\"}", 2),
         ("{\"op\":\"OP_MKDIR\",\"txid\":1}", 2),
         ("{\"op\":\"OP_MKDIR\",\"path\":5}", 2),
@@ -177,6 +218,13 @@ fn the_first_fault_of_a_line(rt: HostRuntime) -> Result<(), Fail> {
             "{\"op\":\"OP_MKDIR\",\"txid\":9223372036854775807,\"path\":\"/a\"}",
             0,
         ),
+    ];
+    first_faults(&rt, rt.alloc(), &rows);
+}
+
+#[test]
+fn a_fault_behind_the_txid(rt: HostRuntime) {
+    let rows = [
         ("{\"op\":\"OP_MKDIR\",\"txid\":1,\"path\":5}", 5),
         ("{\"op\":\"OP_MKDIR\",\"txid\":1,\"path\":\"/a:b\"}", 5),
         ("{\"op\":\"OP_ADD\",\"txid\":1,\"path\":\"a\"}", 5),
@@ -205,19 +253,13 @@ fn the_first_fault_of_a_line(rt: HostRuntime) -> Result<(), Fail> {
             "{\"op\":\"OP_CLOSE\",\"txid\":1,\"path\":\"/a\",\"blocks\":[{\"id\":1,\"gen\":1},-1]}",
             2,
         ),
-    ] {
-        assert_eq!(rt; fault_of(rt.alloc(), line.as_bytes()), number, "at {line}");
-    }
-    assert_eq!(rt;
-        fault_of(rt.alloc(), b"{\"op\":\"OP_MKDIR\",\"zz\":\"\xff\"}"),
-        1
-    );
-    Ok(())
+    ];
+    first_faults(&rt, rt.alloc(), &rows);
 }
 
 #[test]
-fn the_first_fault_of_a_report(rt: HostRuntime) -> Result<(), Fail> {
-    for (line, number) in [
+fn the_first_fault_of_a_report(rt: HostRuntime) {
+    let rows = [
         ("{}", 2),
         ("{\"block\":9,\"gen\":1,\"kind\":\"received\",\"len\":0}", 2),
         ("{\"dn\":0}", 3),
@@ -242,19 +284,24 @@ fn the_first_fault_of_a_report(rt: HostRuntime) -> Result<(), Fail> {
             "{\"dn\":1,\"block\":9,\"gen\":1,\"len\":0,\"kind\":\"deleted\"}",
             0,
         ),
-    ] {
-        assert_eq!(rt; fault_of(rt.alloc(), line.as_bytes()), number, "at {line}");
+    ];
+    first_faults(&rt, rt.alloc(), &rows);
+}
+
+// Whether a line is an edit or a report.
+fn form_of(alloc: Global, line: &[u8]) -> Result<&'static str, Fail> {
+    match read_line(alloc, line)? {
+        Line::Edit(_) => Ok("edit"),
+        Line::Report(_) => Ok("report"),
     }
-    Ok(())
 }
 
 #[test]
 fn edits_and_reports_side_by_side(rt: HostRuntime) -> Result<(), Fail> {
-    let edit = read_line(rt.alloc(), b"{\"op\":\"OP_END_LOG_SEGMENT\",\"txid\":3}")?;
-    assert!(rt; matches!(edit, Line::Edit(_)));
+    let line = b"{\"op\":\"OP_END_LOG_SEGMENT\",\"txid\":3}";
+    assert_eq!(rt; form_of(rt.alloc(), line)?, "edit");
     let line = b"{\"block\":9,\"dn\":1,\"gen\":1,\"kind\":\"deleted\",\"len\":0}";
-    let report = read_line(rt.alloc(), line)?;
-    assert!(rt; matches!(report, Line::Report(_)));
+    assert_eq!(rt; form_of(rt.alloc(), line)?, "report");
     Ok(())
 }
 
@@ -269,10 +316,10 @@ fn padded(alloc: Global, size: usize) -> Result<String, Fail> {
 
 #[test]
 fn a_line_of_65536_bytes(rt: HostRuntime) -> Result<(), Fail> {
-    let line = padded(rt.alloc(), 65_536)?;
-    assert_eq!(rt; fault_of(rt.alloc(), line.as_bytes()), 0);
-    let line = padded(rt.alloc(), 65_537)?;
-    assert_eq!(rt; fault_of(rt.alloc(), line.as_bytes()), 6);
+    for (size, number) in [(65_536, 0), (65_537, 6)] {
+        let line = padded(rt.alloc(), size)?;
+        assert_eq!(rt; fault_of(rt.alloc(), line.as_bytes()), number, "at {size}");
+    }
     Ok(())
 }
 
@@ -294,10 +341,10 @@ fn nested(alloc: Global, depth: usize) -> Result<String, Fail> {
 
 #[test]
 fn nested_126_deep(rt: HostRuntime) -> Result<(), Fail> {
-    let line = nested(rt.alloc(), 126)?;
-    assert_eq!(rt; fault_of(rt.alloc(), line.as_bytes()), 0);
-    let line = nested(rt.alloc(), 127)?;
-    assert_eq!(rt; fault_of(rt.alloc(), line.as_bytes()), 1);
+    for (depth, number) in [(126, 0), (127, 1)] {
+        let line = nested(rt.alloc(), depth)?;
+        assert_eq!(rt; fault_of(rt.alloc(), line.as_bytes()), number, "at {depth}");
+    }
     Ok(())
 }
 
@@ -313,15 +360,20 @@ fn same_blocks(alloc: Global, count: usize) -> Result<Blocks, Fail> {
     Ok(blocks)
 }
 
+// The number of the fault of writing an update of so many blocks, or 0.
+fn fault_of_writing(alloc: Global, count: usize) -> Result<u8, Fail> {
+    let txid = Txid::new(2).ok_or(LineFault::BadNumber)?;
+    let blocks = same_blocks(alloc, count)?;
+    let path = Path::parse(alloc, "/a")?;
+    let edit = Edit::UpdateBlocks { path, blocks };
+    match write_edit(alloc, &Tx { txid, edit }) {
+        Ok(_) => Ok(0),
+        Err(fault) => Ok(fault.number()),
+    }
+}
+
 #[test]
 fn too_long_to_write(rt: HostRuntime) -> Result<(), Fail> {
-    let path = Path::parse(rt.alloc(), "/a")?;
-    let blocks = same_blocks(rt.alloc(), 2000)?;
-    let txid = Txid::new(2).ok_or(LineFault::BadNumber)?;
-    let edit = Edit::UpdateBlocks { path, blocks };
-    let Err(fault) = write_edit(rt.alloc(), &Tx { txid, edit }) else {
-        return Err(Fail::new("it was written"));
-    };
-    assert_eq!(rt; fault.number(), 6);
+    assert_eq!(rt; fault_of_writing(rt.alloc(), 2000)?, 6);
     Ok(())
 }

@@ -1,6 +1,7 @@
 //! Messages of two DataNodes about one block, then about two blocks.
 use nn_postponed::Postponed;
 use nn_types::{BlockId, GenerationStamp, Kind, Length, Message, Status};
+use std::process::Abort;
 use std::test::Fail;
 
 // The first id that a log issues.
@@ -45,55 +46,109 @@ fn hold(held: &mut Postponed, message: Message) -> Result<(), Fail> {
     Ok(())
 }
 
+// A test owns its queue and lends it to the checks: whoever owns one shows at each of its exits that it is dropped.
+
 #[test]
 fn released_in_turn(rt: HostRuntime) -> Result<(), Fail> {
-    let block = block_id(FIRST)?;
-    let first = message(1, 1, block, 1001)?;
-    let other = message(2, 1, block, 1002)?;
-    let second = message(1, 2, block, 0)?;
     let mut held = Postponed::new(rt.alloc());
     assert!(rt; held.is_empty());
-    hold(&mut held, first)?;
-    hold(&mut held, other)?;
-    hold(&mut held, second)?;
+    held_of_two_datanodes(&rt, &mut held)?;
+    released_by_datanode(&rt, &mut held)?;
+    left_of_the_other_datanode(&rt, &mut held)
+}
+
+fn held_of_two_datanodes(rt: &impl Abort, held: &mut Postponed) -> Result<(), Fail> {
+    let block = block_id(FIRST)?;
+    hold(held, message(1, 1, block, 1001)?)?;
+    hold(held, message(2, 1, block, 1002)?)?;
+    hold(held, message(1, 2, block, 0)?)?;
     assert_eq!(rt; held.len(), 3);
-    assert_eq!(rt; held.due_count(block, named(1001)?), 2);
-    assert_eq!(rt; held.due_count(block, Status::Unnamed), 0);
-    assert_eq!(rt; held.release(block, named(1001)?), Some(first));
-    assert_eq!(rt; held.release(block, named(1001)?), Some(second));
-    assert_eq!(rt; held.release(block, named(1001)?), None);
-    assert_eq!(rt; held.next_held(block_id(0)?), Some(block));
-    assert!(rt; held.holds(2, block));
-    assert!(rt; !held.holds(1, block));
-    assert_eq!(rt; held.take_first(), Some(other));
-    assert_eq!(rt; held.take_first(), None);
+    is_due(rt, held, block, named(1001)?, 2);
+    is_due(rt, held, block, Status::Unnamed, 0);
+    Ok(())
+}
+
+fn released_by_datanode(rt: &impl Abort, held: &mut Postponed) -> Result<(), Fail> {
+    let block = block_id(FIRST)?;
+    releases(rt, held, block, Some(message(1, 1, block, 1001)?))?;
+    releases(rt, held, block, Some(message(1, 2, block, 0)?))?;
+    releases(rt, held, block, None)
+}
+
+fn left_of_the_other_datanode(rt: &impl Abort, held: &mut Postponed) -> Result<(), Fail> {
+    let block = block_id(FIRST)?;
+    next_is(rt, held, block_id(0)?, Some(block));
+    assert!(rt; held.holds(2, block) && !held.holds(1, block));
+    takes(rt, held, Some(message(2, 1, block, 1002)?));
+    takes(rt, held, None);
     Ok(())
 }
 
 #[test]
 fn lower_block_first(rt: HostRuntime) -> Result<(), Fail> {
-    let low = block_id(FIRST)?;
-    let high = block_id(FIRST + 1)?;
-    let above = block_id(FIRST + 2)?;
-    let late = message(1, 1, high, 1002)?;
-    let behind = message(1, 2, high, 1001)?;
-    let early = message(2, 1, low, 1001)?;
     let mut held = Postponed::new(rt.alloc());
-    hold(&mut held, late)?;
-    hold(&mut held, behind)?;
-    hold(&mut held, early)?;
-    // The second message is due by itself, and waits behind the first one.
-    assert_eq!(rt; held.due_count(high, named(1001)?), 0);
-    assert_eq!(rt; held.release(high, named(1001)?), None);
-    assert_eq!(rt; held.due_count(high, Status::Retired), 2);
-    assert_eq!(rt; held.due_count(low, Status::Awaiting), 0);
-    assert_eq!(rt; held.next_held(low), Some(low));
-    assert_eq!(rt; held.next_held(high), Some(high));
-    assert_eq!(rt; held.next_held(above), None);
-    assert_eq!(rt; held.take_first(), Some(early));
-    assert_eq!(rt; held.next_held(low), Some(high));
-    assert_eq!(rt; held.take_first(), Some(late));
-    assert_eq!(rt; held.release(high, named(1001)?), Some(behind));
+    held_of_two_blocks(&mut held)?;
+    waits_behind_the_first(&rt, &mut held)?;
+    next_of_two_blocks(&rt, &mut held)?;
+    goes_by_block(&rt, &mut held)
+}
+
+fn held_of_two_blocks(held: &mut Postponed) -> Result<(), Fail> {
+    let (low, high) = (block_id(FIRST)?, block_id(FIRST + 1)?);
+    hold(held, message(1, 1, high, 1002)?)?;
+    hold(held, message(1, 2, high, 1001)?)?;
+    hold(held, message(2, 1, low, 1001)?)
+}
+
+// The second message is due by itself, and waits behind the first one.
+fn waits_behind_the_first(rt: &impl Abort, held: &mut Postponed) -> Result<(), Fail> {
+    let high = block_id(FIRST + 1)?;
+    is_due(rt, held, high, named(1001)?, 0);
+    releases(rt, held, high, None)?;
+    is_due(rt, held, high, Status::Retired, 2);
+    Ok(())
+}
+
+fn next_of_two_blocks(rt: &impl Abort, held: &mut Postponed) -> Result<(), Fail> {
+    let (low, high) = (block_id(FIRST)?, block_id(FIRST + 1)?);
+    is_due(rt, held, low, Status::Awaiting, 0);
+    next_is(rt, held, low, Some(low));
+    next_is(rt, held, high, Some(high));
+    next_is(rt, held, block_id(FIRST + 2)?, None);
+    Ok(())
+}
+
+fn goes_by_block(rt: &impl Abort, held: &mut Postponed) -> Result<(), Fail> {
+    let (low, high) = (block_id(FIRST)?, block_id(FIRST + 1)?);
+    takes(rt, held, Some(message(2, 1, low, 1001)?));
+    next_is(rt, held, low, Some(high));
+    takes(rt, held, Some(message(1, 1, high, 1002)?));
+    releases(rt, held, high, Some(message(1, 2, high, 1001)?))?;
     assert!(rt; held.is_empty());
     Ok(())
+}
+
+// ---- Each call, with what it has to answer.
+
+fn is_due(rt: &impl Abort, held: &Postponed, block: BlockId, status: Status, want: u64) {
+    assert_eq!(rt; held.due_count(block, status), want);
+}
+
+// Releases a message of the block, whose generation stamp is 1001.
+fn releases(
+    rt: &impl Abort,
+    held: &mut Postponed,
+    block: BlockId,
+    want: Option<Message>,
+) -> Result<(), Fail> {
+    assert_eq!(rt; held.release(block, named(1001)?), want);
+    Ok(())
+}
+
+fn next_is(rt: &impl Abort, held: &Postponed, from: BlockId, want: Option<BlockId>) {
+    assert_eq!(rt; held.next_held(from), want);
+}
+
+fn takes(rt: &impl Abort, held: &mut Postponed, want: Option<Message>) {
+    assert_eq!(rt; held.take_first(), want);
 }

@@ -4,6 +4,8 @@ ghost use Rattle.nn_replicas.specs.Calls.{is_kept};
 
 use nn_replicas::{Replicas, Row, class};
 use nn_types::{Block, BlockId, Class, GenerationStamp, Kind, Length, Replica, Settings};
+use std::alloc::Global;
+use std::process::Abort;
 use std::test::Fail;
 
 // The first two block ids that a log issues, and the greatest generation stamp.
@@ -12,6 +14,9 @@ const B: u64 = 1_073_741_825;
 const C: u64 = 1_073_741_826;
 
 const M: u64 = 9_223_372_036_854_775_807;
+
+// A test owns its table and lends it to the checks, each of which is short: whoever owns one shows at each of its exits
+// that it is dropped.
 
 fn id(value: u64) -> Result<BlockId, Fail> {
     let Some(made) = BlockId::new(value) else {
@@ -49,6 +54,11 @@ fn block(block: u64, generation: u64, len: u64) -> Result<Block, Fail> {
     })
 }
 
+fn set(table: &mut Replicas, block: Block, closed: bool) -> Result<(), Fail> {
+    table.set_block(block, closed)?;
+    Ok(())
+}
+
 // Puts what a DataNode reports.
 fn put(
     table: &mut Replicas,
@@ -79,9 +89,14 @@ fn class_at(table: &Replicas, dn: u16, block: Block) -> Result<Class, Fail> {
     Err(Fail::new("no replica"))
 }
 
-fn orders(rt: &HostRuntime, table: &Replicas) -> Result<Vec<(u64, u16)>, Fail> {
-    let mut orders = Vec::new(rt.alloc());
-    for (block, dn) in &table.orders(rt.alloc())? {
+// How many blocks are of closed files, and how many of them are safe.
+fn counts(table: &Replicas) -> (u64, u64) {
+    (table.total(), table.safe_count())
+}
+
+fn orders(alloc: Global, table: &Replicas) -> Result<Vec<(u64, u16)>, Fail> {
+    let mut orders = Vec::new(alloc);
+    for (block, dn) in &table.orders(alloc)? {
         orders.push((block.get(), *dn))?;
     }
     Ok(orders)
@@ -90,57 +105,97 @@ fn orders(rt: &HostRuntime, table: &Replicas) -> Result<Vec<(u64, u16)>, Fail> {
 #[test]
 fn replica_table_of_a_named_block(rt: HostRuntime) -> Result<(), Fail> {
     let mut table = Replicas::new(rt.alloc(), settings(999, 1)?);
+    a_report_of_each_kind(&rt, &mut table)?;
+    a_raised_stamp(&rt, &mut table)?;
+    reports_of_the_raised_stamp(&rt, &mut table)
+}
+
+fn a_report_of_each_kind(rt: &impl Abort, table: &mut Replicas) -> Result<(), Fail> {
     let first = block(B, 1001, 5)?;
-    table.set_block(first, true)?;
-    put(&mut table, 1, B, Kind::Received, 1001, 5)?;
-    assert_eq!(rt; (table.total(), table.safe_count()), (1, 1));
-    put(&mut table, 2, B, Kind::Receiving, 1001, 5)?;
-    assert_eq!(rt; class_at(&table, 2, first)?, Class::Building);
+    set(table, first, true)?;
+    put(table, 1, B, Kind::Received, 1001, 5)?;
+    assert_eq!(rt; counts(table), (1, 1));
+    put(table, 2, B, Kind::Receiving, 1001, 5)?;
+    assert_eq!(rt; class_at(table, 2, first)?, Class::Building);
+    Ok(())
+}
 
+fn a_raised_stamp(rt: &impl Abort, table: &mut Replicas) -> Result<(), Fail> {
     let raised = block(B, 1002, 5)?;
-    table.set_block(raised, true)?;
-    assert_eq!(rt; class_at(&table, 1, raised)?, Class::Stale);
-    assert_eq!(rt; class_at(&table, 2, raised)?, Class::Stale);
-    assert_eq!(rt; table.safe_count(), 0);
+    set(table, raised, true)?;
+    assert_eq!(rt; class_at(table, 1, raised)?, Class::Stale);
+    assert_eq!(rt; class_at(table, 2, raised)?, Class::Stale);
+    assert_eq!(rt; counts(table), (1, 0));
+    Ok(())
+}
 
-    put(&mut table, 1, B, Kind::Received, 1002, 4)?;
-    assert_eq!(rt; class_at(&table, 1, raised)?, Class::WrongLength);
-    assert_eq!(rt; table.safe_count(), 0);
-    put(&mut table, 1, B, Kind::Received, 1002, 5)?;
-    assert_eq!(rt; class_at(&table, 1, raised)?, Class::Live);
-    assert_eq!(rt; table.safe_count(), 1);
-
-    put(&mut table, 3, B, Kind::Receiving, M, 0)?;
-    assert_eq!(rt; class_at(&table, 3, raised)?, Class::Ahead);
+fn reports_of_the_raised_stamp(rt: &impl Abort, table: &mut Replicas) -> Result<(), Fail> {
+    let raised = block(B, 1002, 5)?;
+    for (dn, kind, generation, len, class, safe) in [
+        (1, Kind::Received, 1002, 4, Class::WrongLength, 0),
+        (1, Kind::Received, 1002, 5, Class::Live, 1),
+        (3, Kind::Receiving, M, 0, Class::Ahead, 1),
+    ] {
+        put(table, dn, B, kind, generation, len)?;
+        assert_eq!(rt; class_at(table, dn, raised)?, class);
+        assert_eq!(rt; counts(table), (1, safe), "with {class:?}");
+    }
     Ok(())
 }
 
 #[test]
 fn replica_table_of_a_retired_block(rt: HostRuntime) -> Result<(), Fail> {
     let mut table = Replicas::new(rt.alloc(), settings(999, 1)?);
-    table.set_block(block(B, 1002, 5)?, true)?;
-    put(&mut table, 3, B, Kind::Receiving, M, 0)?;
-    put(&mut table, 1, B, Kind::Received, 1002, 5)?;
-    put(&mut table, 2, B, Kind::Receiving, 1001, 5)?;
-    assert_eq!(rt; (table.total(), table.safe_count()), (1, 1));
+    a_block_is_reported(&rt, &mut table)?;
+    its_replicas_are_ordered(&rt, rt.alloc(), &mut table)?;
+    an_order_is_erased(&rt, &mut table)?;
+    an_order_of_a_placed_datanode(&rt, rt.alloc(), &mut table)
+}
+
+fn a_block_is_reported(rt: &impl Abort, table: &mut Replicas) -> Result<(), Fail> {
+    set(table, block(B, 1002, 5)?, true)?;
+    put(table, 3, B, Kind::Receiving, M, 0)?;
+    put(table, 1, B, Kind::Received, 1002, 5)?;
+    put(table, 2, B, Kind::Receiving, 1001, 5)?;
+    assert_eq!(rt; counts(table), (1, 1));
+    Ok(())
+}
+
+fn its_replicas_are_ordered(
+    rt: &impl Abort,
+    alloc: Global,
+    table: &mut Replicas,
+) -> Result<(), Fail> {
     table.retire(id(B)?);
-    assert_eq!(rt; (table.total(), table.safe_count()), (0, 0));
+    assert_eq!(rt; counts(table), (0, 0));
     assert_eq!(rt;
-        orders(&rt, &table)?.as_slice(),
+        orders(alloc, table)?.as_slice(),
         [(B, 1), (B, 2), (B, 3)].as_slice()
     );
     assert!(rt; table.replicas_of(id(B)?).next().is_none());
+    Ok(())
+}
 
-    put(&mut table, 3, C, Kind::Received, 1001, 0)?;
-    assert!(rt; table.has_order(3, id(C)?));
-    table.erase(3, id(C)?);
-    assert!(rt; !table.has_order(3, id(C)?));
+fn an_order_is_erased(rt: &impl Abort, table: &mut Replicas) -> Result<(), Fail> {
+    let other = id(C)?;
+    put(table, 3, C, Kind::Received, 1001, 0)?;
+    assert!(rt; table.has_order(3, other));
+    table.erase(3, other);
+    assert!(rt; !table.has_order(3, other));
+    Ok(())
+}
 
-    table.place(4, id(B)?)?;
-    assert!(rt; !table.has_order(4, id(B)?));
-    put(&mut table, 4, B, Kind::Received, 1002, 5)?;
+fn an_order_of_a_placed_datanode(
+    rt: &impl Abort,
+    alloc: Global,
+    table: &mut Replicas,
+) -> Result<(), Fail> {
+    let retired = id(B)?;
+    table.place(4, retired)?;
+    assert!(rt; !table.has_order(4, retired));
+    put(table, 4, B, Kind::Received, 1002, 5)?;
     assert_eq!(rt;
-        orders(&rt, &table)?.as_slice(),
+        orders(alloc, table)?.as_slice(),
         [(B, 1), (B, 2), (B, 3), (B, 4)].as_slice()
     );
     Ok(())
@@ -150,22 +205,25 @@ fn replica_table_of_a_retired_block(rt: HostRuntime) -> Result<(), Fail> {
 fn rows_of_named_blocks(rt: HostRuntime) -> Result<(), Fail> {
     let mut table = Replicas::new(rt.alloc(), settings(999, 1)?);
     assert!(rt; table.rows().next().is_none());
-    put(&mut table, 1, B + 2, Kind::Received, 1001, 5)?;
-    table.set_block(block(B + 3, 1001, 7)?, true)?;
-    table.set_block(block(C, 1001, 6)?, true)?;
-    table.set_block(block(B, 1001, 5)?, false)?;
+    two_blocks_are_named(&mut table)?;
+    rows_are_by_id(&rt, &table)
+}
+
+fn two_blocks_are_named(table: &mut Replicas) -> Result<(), Fail> {
+    put(table, 1, B + 2, Kind::Received, 1001, 5)?;
+    set(table, block(B + 3, 1001, 7)?, true)?;
+    set(table, block(C, 1001, 6)?, true)?;
+    set(table, block(B, 1001, 5)?, false)?;
     table.retire(id(C)?);
+    Ok(())
+}
+
+fn rows_are_by_id(rt: &impl Abort, table: &Replicas) -> Result<(), Fail> {
     let mut rows = table.rows();
-    let first = Row {
-        block: block(B, 1001, 5)?,
-        closed: false,
-    };
-    assert_eq!(rt; rows.next(), Some((id(B)?, first)));
-    let second = Row {
-        block: block(B + 3, 1001, 7)?,
-        closed: true,
-    };
-    assert_eq!(rt; rows.next(), Some((id(B + 3)?, second)));
+    for (number, len, closed) in [(B, 5, false), (B + 3, 7, true)] {
+        let block = block(number, 1001, len)?;
+        assert_eq!(rt; rows.next(), Some((block.id, Row { block, closed })));
+    }
     assert!(rt; rows.next().is_none());
     Ok(())
 }
@@ -192,16 +250,31 @@ fn safe_mode_threshold(rt: HostRuntime) -> Result<(), Fail> {
     let settings = settings(999, 1)?;
     let mut table = Replicas::new(rt.alloc(), settings);
     add_blocks(&mut table, 1000)?;
+    two_of_1000_are_lost(&rt, &mut table, settings)?;
+    one_of_1001_is_new(&rt, &mut table, settings)
+}
+
+fn two_of_1000_are_lost(
+    rt: &impl Abort,
+    table: &mut Replicas,
+    settings: Settings,
+) -> Result<(), Fail> {
     table.erase(7, id(B)?);
     table.erase(7, id(B + 999)?);
-    assert_eq!(rt; (table.total(), table.safe_count()), (1000, 998));
+    assert_eq!(rt; counts(table), (1000, 998));
     assert_eq!(rt; settings.needed(table.total()), 999);
+    Ok(())
+}
 
-    put(&mut table, 8, B, Kind::Received, 1001, 5)?;
-    assert_eq!(rt; (table.total(), table.safe_count()), (1000, 999));
-
-    table.set_block(block(B + 1000, 1001, 5)?, true)?;
-    assert_eq!(rt; (table.total(), table.safe_count()), (1001, 999));
+fn one_of_1001_is_new(
+    rt: &impl Abort,
+    table: &mut Replicas,
+    settings: Settings,
+) -> Result<(), Fail> {
+    put(table, 8, B, Kind::Received, 1001, 5)?;
+    assert_eq!(rt; counts(table), (1000, 999));
+    set(table, block(B + 1000, 1001, 5)?, true)?;
+    assert_eq!(rt; counts(table), (1001, 999));
     assert_eq!(rt; settings.needed(table.total()), 999);
     Ok(())
 }
@@ -209,16 +282,25 @@ fn safe_mode_threshold(rt: HostRuntime) -> Result<(), Fail> {
 #[test]
 fn only_closed_blocks_count(rt: HostRuntime) -> Result<(), Fail> {
     let mut table = Replicas::new(rt.alloc(), settings(1000, 2)?);
-    put(&mut table, 1, B, Kind::Received, 1001, 5)?;
-    table.set_block(block(B, 1001, 5)?, false)?;
-    put(&mut table, 1, B, Kind::Received, 1001, 5)?;
-    put(&mut table, 2, B, Kind::Received, 1001, 5)?;
-    assert_eq!(rt; (table.total(), table.safe_count()), (0, 0));
-    table.set_block(block(B, 1001, 5)?, true)?;
-    assert_eq!(rt; (table.total(), table.safe_count()), (1, 1));
+    an_open_block_does_not_count(&rt, &mut table)?;
+    a_closed_block_counts(&rt, &mut table)
+}
+
+fn an_open_block_does_not_count(rt: &impl Abort, table: &mut Replicas) -> Result<(), Fail> {
+    put(table, 1, B, Kind::Received, 1001, 5)?;
+    set(table, block(B, 1001, 5)?, false)?;
+    put(table, 1, B, Kind::Received, 1001, 5)?;
+    put(table, 2, B, Kind::Received, 1001, 5)?;
+    assert_eq!(rt; counts(table), (0, 0));
+    Ok(())
+}
+
+fn a_closed_block_counts(rt: &impl Abort, table: &mut Replicas) -> Result<(), Fail> {
+    set(table, block(B, 1001, 5)?, true)?;
+    assert_eq!(rt; counts(table), (1, 1));
     table.erase(2, id(B)?);
-    assert_eq!(rt; (table.total(), table.safe_count()), (1, 0));
-    table.set_block(block(B, 1001, 5)?, false)?;
-    assert_eq!(rt; (table.total(), table.safe_count()), (0, 0));
+    assert_eq!(rt; counts(table), (1, 0));
+    set(table, block(B, 1001, 5)?, false)?;
+    assert_eq!(rt; counts(table), (0, 0));
     Ok(())
 }

@@ -1,7 +1,8 @@
 //! Scenarios of edits and messages.
 use nn_scenario::{MAX_INPUT, Scenario, Step, read_lines};
-use nn_types::Kind;
+use nn_types::{Kind, Message};
 use std::alloc::Global;
+use std::process::Abort;
 use std::test::Fail;
 
 // Two DataNodes' messages among the lines of one segment, with a blank line.
@@ -38,10 +39,13 @@ fn told(alloc: Global, steps: &[Step]) -> Result<Vec<(u16, u64, u64)>, Fail> {
 #[test]
 fn each_datanode_counts_by_itself(rt: HostRuntime) -> Result<(), Fail> {
     let Ok(scenario) = read(rt.alloc(), TWO_LANES) else {
-        assert!(rt; false, "the lines are right");
-        return Ok(());
+        return Err(Fail::new("the lines are right"));
     };
-    let steps = told(rt.alloc(), &scenario.steps)?;
+    two_lanes_are_told(&rt, rt.alloc(), &scenario)
+}
+
+fn two_lanes_are_told(rt: &impl Abort, alloc: Global, scenario: &Scenario) -> Result<(), Fail> {
+    let steps = told(alloc, &scenario.steps)?;
     let want = [
         (2, 1, 5),
         (0, 0, 0),
@@ -52,24 +56,35 @@ fn each_datanode_counts_by_itself(rt: HostRuntime) -> Result<(), Fail> {
         (2, 3, 9),
     ];
     assert_eq!(rt; steps.as_slice(), want.as_slice());
-    assert_eq!(rt; scenario.lanes, 200);
-    assert_eq!(rt; scenario.pieces.len(), 1);
+    assert_eq!(rt; (scenario.lanes, scenario.pieces.len()), (200, 1));
     Ok(())
 }
 
 #[test]
-fn a_message_is_the_report(rt: HostRuntime) {
-    let Ok(scenario) = read(rt.alloc(), TWO_LANES) else {
-        assert!(rt; false, "the lines are right");
-        return;
-    };
-    let Some(Step::Message(m)) = scenario.steps.first() else {
-        assert!(rt; false, "the first line is a message");
-        return;
-    };
+fn a_message_is_the_report(rt: HostRuntime) -> Result<(), Fail> {
+    let m = first_message(rt.alloc(), TWO_LANES)?;
     assert_eq!(rt; m.stamp.get(), 1001);
     assert_eq!(rt; m.len.get(), 7);
     assert_eq!(rt; m.kind, Kind::Received);
+    Ok(())
+}
+
+fn first_message(alloc: Global, input: &[u8]) -> Result<Message, Fail> {
+    let Ok(scenario) = read(alloc, input) else {
+        return Err(Fail::new("the lines are right"));
+    };
+    match scenario.steps.first() {
+        Some(Step::Message(m)) => Ok(*m),
+        _ => Err(Fail::new("the first line is a message")),
+    }
+}
+
+// The lanes of a scenario, or 0 where a line is bad.
+fn lanes_of(alloc: Global, input: &str) -> u16 {
+    match read(alloc, input.as_bytes()) {
+        Ok(scenario) => scenario.lanes,
+        Err(_) => 0,
+    }
 }
 
 #[test]
@@ -79,11 +94,15 @@ fn no_messages_make_one_lane(rt: HostRuntime) {
         "\n \n",
         "{\"op\":\"OP_MKDIR\",\"path\":\"/a\",\"txid\":1}",
     ] {
-        let Ok(scenario) = read(rt.alloc(), input.as_bytes()) else {
-            assert!(rt; false, "the lines are right");
-            return;
-        };
-        assert_eq!(rt; scenario.lanes, 1);
+        assert_eq!(rt; lanes_of(rt.alloc(), input), 1);
+    }
+}
+
+// The fault of the first bad line and the line's number, or zeros.
+fn bad_line_of(alloc: Global, input: &str) -> (u8, u64) {
+    match read(alloc, input.as_bytes()) {
+        Ok(_) => (0, 0),
+        Err(bad) => bad,
     }
 }
 
@@ -132,9 +151,6 @@ fn first_bad_line(rt: HostRuntime) {
             (2, 2),
         ),
     ] {
-        match read(rt.alloc(), input.as_bytes()) {
-            Ok(_) => assert!(rt; false, "at {name}"),
-            Err(bad) => assert_eq!(rt; bad, want, "at {name}"),
-        }
+        assert_eq!(rt; bad_line_of(rt.alloc(), input), want, "at {name}");
     }
 }

@@ -10,6 +10,7 @@ use nn_segment::{
 };
 use nn_types::Txid;
 use std::alloc::Global;
+use std::process::Abort;
 use std::test::Fail;
 
 const NAME: &str = "edits_0000000000000000001-0000000000000000003";
@@ -54,27 +55,44 @@ fn fault_of(alloc: Global, name: &str, texts: &[&str]) -> Result<SegmentFault, F
 
 #[test]
 fn a_whole_segment(rt: HostRuntime) -> Result<(), Fail> {
-    let segment = parsed(rt.alloc(), NAME, &[START, MKDIR, END])?;
-    assert_eq!(rt; segment.name(), NAME);
     let bytes = bytes_of(rt.alloc(), &[START, MKDIR, END])?;
-    assert!(rt; segment.bytes() == bytes.as_slice());
-    assert_eq!(rt; segment.txs().len(), 3);
-    let txs = segment.into_txs();
-    assert_eq!(rt; txs.len(), 3);
-    assert_eq!(rt; txs[2].txid.get(), 3);
+    let segment = parsed(rt.alloc(), NAME, &[START, MKDIR, END])?;
+    is_whole(&rt, &segment, &bytes);
+    assert_eq!(rt; given_up(segment), (3, 3));
     Ok(())
 }
 
+fn is_whole(rt: &impl Abort, segment: &Parsed, bytes: &[u8]) {
+    assert_eq!(rt; segment.name(), NAME);
+    assert!(rt; segment.bytes() == bytes);
+    assert_eq!(rt; segment.txs().len(), 3);
+}
+
+// How many transactions a segment gives up, and the txid of the last one.
+fn given_up(segment: Parsed) -> (usize, u64) {
+    let txs = segment.into_txs();
+    match txs.last() {
+        Some(last) => (txs.len(), last.txid.get()),
+        None => (0, 0),
+    }
+}
+
 #[test]
-fn gap_in_segment(rt: HostRuntime) -> Result<(), Fail> {
+fn a_name_has_19_digits_twice(rt: HostRuntime) -> Result<(), Fail> {
     let name = segment_name(rt.alloc(), txid(1)?, txid(4)?)?;
     assert_eq!(rt;
         name.as_str(),
         "edits_0000000000000000001-0000000000000000004"
     );
     assert_eq!(rt; name.as_str().len(), 45);
+    Ok(())
+}
+
+#[test]
+fn gap_in_segment(rt: HostRuntime) -> Result<(), Fail> {
+    let name = "edits_0000000000000000001-0000000000000000004";
     let end = "{\"op\":\"OP_END_LOG_SEGMENT\",\"txid\":4}\n";
-    let fault = fault_of(rt.alloc(), name.as_str(), &[START, MKDIR, end])?;
+    let fault = fault_of(rt.alloc(), name, &[START, MKDIR, end])?;
     assert_eq!(rt; fault, SegmentFault::Gap { expected: 3 });
     assert_eq!(rt; fault.number(), 14);
     Ok(())
@@ -119,24 +137,34 @@ fn the_first_fault_of_a_segment(rt: HostRuntime) -> Result<(), Fail> {
         &[START, MKDIR, END],
     )?;
     assert_eq!(rt; fault.number(), 16);
+    Ok(())
+}
+
+#[test]
+fn a_bad_line_of_a_segment(rt: HostRuntime) -> Result<(), Fail> {
     let empty_line = SegmentFault::BadLine {
         line: 2,
         fault: LineFault::NotJson,
     };
-    let fault = fault_of(alloc, NAME, &[START, "\n", END])?;
+    let fault = fault_of(rt.alloc(), NAME, &[START, "\n", END])?;
     assert_eq!(rt; fault, empty_line);
     assert_eq!(rt; fault.number(), 18);
     // The bad line stands behind a gap.
-    let fault = fault_of(alloc, NAME, &[START, END, "\n"])?;
+    let fault = fault_of(rt.alloc(), NAME, &[START, END, "\n"])?;
     assert_eq!(rt; fault, SegmentFault::Gap { expected: 2 });
     Ok(())
+}
+
+// How many transactions these lines are.
+fn count_of(alloc: Global, name: &str, texts: &[&str]) -> Result<usize, Fail> {
+    let segment = parsed(alloc, name, texts)?;
+    Ok(segment.txs().len())
 }
 
 #[test]
 fn a_carriage_return_is_white_space(rt: HostRuntime) -> Result<(), Fail> {
     let end = "{\"op\":\"OP_END_LOG_SEGMENT\",\"txid\":3}\r\n";
-    let segment = parsed(rt.alloc(), NAME, &[START, MKDIR, end])?;
-    assert_eq!(rt; segment.txs().len(), 3);
+    assert_eq!(rt; count_of(rt.alloc(), NAME, &[START, MKDIR, end])?, 3);
     Ok(())
 }
 
@@ -145,8 +173,7 @@ fn after_the_greatest_txid(rt: HostRuntime) -> Result<(), Fail> {
     let name = "edits_9223372036854775806-9223372036854775807";
     let start = "{\"op\":\"OP_START_LOG_SEGMENT\",\"txid\":9223372036854775806}\n";
     let end = "{\"op\":\"OP_END_LOG_SEGMENT\",\"txid\":9223372036854775807}\n";
-    let segment = parsed(rt.alloc(), name, &[start, end])?;
-    assert_eq!(rt; segment.txs().len(), 2);
+    assert_eq!(rt; count_of(rt.alloc(), name, &[start, end])?, 2);
     let fault = fault_of(rt.alloc(), name, &[start, end, end])?;
     assert_eq!(rt;
         fault,
@@ -173,16 +200,20 @@ fn prefix_fault(alloc: Global, whole: &[u8], len: usize) -> Result<u8, Fail> {
 #[test]
 fn each_prefix_is_refused(rt: HostRuntime) -> Result<(), Fail> {
     let whole = bytes_of(rt.alloc(), &[START, MKDIR, END])?;
-    assert_eq!(rt; prefix_fault(rt.alloc(), &whole, 0)?, 12);
+    prefixes_are_refused(&rt, rt.alloc(), &whole)
+}
+
+fn prefixes_are_refused(rt: &impl Abort, alloc: Global, whole: &[u8]) -> Result<(), Fail> {
+    assert_eq!(rt; prefix_fault(alloc, whole, 0)?, 12);
     let mut before = b' ';
     for (len, b) in whole.iter().enumerate() {
         if len > 0 {
             let number = if before == b'\n' { 13 } else { 15 };
-            assert_eq!(rt; prefix_fault(rt.alloc(), &whole, len)?, number, "at {len}");
+            assert_eq!(rt; prefix_fault(alloc, whole, len)?, number, "at {len}");
         }
         before = *b;
     }
-    assert_eq!(rt; prefix_fault(rt.alloc(), &whole, whole.len())?, 0);
+    assert_eq!(rt; prefix_fault(alloc, whole, whole.len())?, 0);
     Ok(())
 }
 
@@ -261,33 +292,44 @@ fn two_lines(alloc: Global, name: String) -> Result<Parsed, Fail> {
 fn lines_that_were_read_already(rt: HostRuntime) -> Result<(), Fail> {
     let name = segment_name(rt.alloc(), txid(1)?, txid(2)?)?;
     let segment = two_lines(rt.alloc(), name)?;
-    assert_eq!(rt; segment.txs().len(), 2);
-    assert_eq!(rt; segment.bytes().len(), 76);
+    assert_eq!(rt; (segment.txs().len(), segment.bytes().len()), (2, 76));
     Ok(())
 }
 
-#[test]
-fn overlapping_segments_in_order(rt: HostRuntime) -> Result<(), Fail> {
-    let alloc = rt.alloc();
+const LATER: &str = "edits_0000000000000000002-0000000000000000004";
+
+// A segment, and one that begins in it and ends behind it.
+fn overlapping(alloc: Global) -> Result<Vec<Parsed>, Fail> {
     let start = "{\"op\":\"OP_START_LOG_SEGMENT\",\"txid\":2}\n";
     let mkdir = "{\"op\":\"OP_MKDIR\",\"txid\":3,\"path\":\"/b\"}\n";
     let end = "{\"op\":\"OP_END_LOG_SEGMENT\",\"txid\":4}\n";
     let mut segments = Vec::new(alloc);
     segments.push(parsed(alloc, NAME, &[START, MKDIR, END])?)?;
-    segments.push(parsed(
-        alloc,
-        "edits_0000000000000000002-0000000000000000004",
-        &[start, mkdir, end],
-    )?)?;
+    segments.push(parsed(alloc, LATER, &[start, mkdir, end])?)?;
+    Ok(segments)
+}
+
+#[test]
+fn overlapping_segments_in_order(rt: HostRuntime) -> Result<(), Fail> {
+    let segments = overlapping(rt.alloc())?;
     let mut source = MemorySource::new(segments);
-    let gathered = gather(alloc, &mut source)?;
+    gathers_both(&rt, rt.alloc(), &mut source)?;
+    assert!(rt; is_over(&mut source)? && is_over(&mut source)?);
+    Ok(())
+}
+
+fn gathers_both(rt: &impl Abort, alloc: Global, source: &mut MemorySource) -> Result<(), Fail> {
+    let gathered = gather(alloc, source)?;
+    are_both(rt, &gathered);
+    Ok(())
+}
+
+fn are_both(rt: &impl Abort, gathered: &[Parsed]) {
     assert_eq!(rt; gathered.len(), 2);
     assert_eq!(rt; gathered[0].name(), NAME);
-    assert_eq!(rt;
-        gathered[1].name(),
-        "edits_0000000000000000002-0000000000000000004"
-    );
-    assert!(rt; matches!(source.next()?, Item::End));
-    assert!(rt; matches!(source.next()?, Item::End));
-    Ok(())
+    assert_eq!(rt; gathered[1].name(), LATER);
+}
+
+fn is_over(source: &mut MemorySource) -> Result<bool, Fail> {
+    Ok(matches!(source.next()?, Item::End))
 }

@@ -10,6 +10,7 @@ use nn_types::{
     Txid,
 };
 use std::alloc::Global;
+use std::process::Abort;
 use std::test::Fail;
 
 // The first two block ids that a log issues, and a generation stamp that none reaches.
@@ -19,30 +20,37 @@ const C: u64 = 1_073_741_826;
 
 const FAR: u64 = 9_223_372_036_854_775_807;
 
-// The flush takes up what is held. Then nothing comes in any more, and a second flush has nothing to do.
+// A test owns its standby and lends it to the checks: whoever owns one shows at each of its exits that it is dropped.
+
 #[test]
 fn future_report_flushed(rt: HostRuntime) -> Result<(), Fail> {
     let mut shadow = fresh(rt.alloc())?;
-    assert_eq!(rt; hand(&mut shadow, received(1, 1, B, FAR)), 0);
-    assert_eq!(rt; flushed(&mut shadow), 1);
-    assert_eq!(rt; flushed(&mut shadow), 0);
-    assert_eq!(rt; hand(&mut shadow, deleted(1, 2, B)), 53);
+    the_flush_takes_up_what_is_held(&rt, &mut shadow);
     Ok(())
 }
 
-// What is held about an id goes once the log passes over it.
+// Then nothing comes in any more, and a second flush has nothing to do.
+fn the_flush_takes_up_what_is_held(rt: &impl Abort, shadow: &mut Shadow) {
+    assert_eq!(rt; hand(shadow, received(1, 1, B, FAR)), 0);
+    assert_eq!(rt; flushed(shadow), 1);
+    assert_eq!(rt; flushed(shadow), 0);
+    assert_eq!(rt; hand(shadow, deleted(1, 2, B)), 53);
+}
+
 #[test]
 fn skipped_block_released(rt: HostRuntime) -> Result<(), Fail> {
     let mut shadow = fresh(rt.alloc())?;
-    assert_eq!(rt; hand(&mut shadow, received(1, 1, B, 1001)), 0);
-    assert_eq!(rt; hand(&mut shadow, received(1, 2, C, 1001)), 0);
-    assert_eq!(rt; apply(&mut shadow, Edit::AllocateBlockId { id: id(C) }), 0);
-    assert_eq!(rt;
-        (told_after(&shadow, 1), shadow.held_count()),
-        (Some(due(1, 1, B)), 1)
-    );
-    assert!(rt; shadow.replicas().has_order(1, id(B)));
+    what_is_held_goes_once_its_id_is_passed_over(&rt, &mut shadow);
     Ok(())
+}
+
+fn what_is_held_goes_once_its_id_is_passed_over(rt: &impl Abort, shadow: &mut Shadow) {
+    assert_eq!(rt; hand(shadow, received(1, 1, B, 1001)), 0);
+    assert_eq!(rt; hand(shadow, received(1, 2, C, 1001)), 0);
+    assert_eq!(rt; apply(shadow, Edit::AllocateBlockId { id: id(C) }), 0);
+    assert_eq!(rt; told_after(shadow, 1), Some(due(1, 1, B)));
+    assert_eq!(rt; shadow.held_count(), 1);
+    assert!(rt; shadow.replicas().has_order(1, id(B)));
 }
 
 // An edit that does not apply stops the standby for good.
@@ -50,32 +58,33 @@ fn skipped_block_released(rt: HostRuntime) -> Result<(), Fail> {
 fn missing_file_stops(rt: HostRuntime) -> Result<(), Fail> {
     let mut shadow = fresh(rt.alloc())?;
     let path = Path::parse(rt.alloc(), "/f")?;
-    assert_eq!(rt; apply(&mut shadow, Edit::Delete { path }), 22);
-    assert_eq!(rt; apply(&mut shadow, Edit::StartSegment), 51);
-    assert_eq!(rt; hand(&mut shadow, received(1, 1, B, 1001)), 51);
-    assert_eq!(rt; flushed(&mut shadow), 51);
-    assert!(rt; shadow.stop().is_some() && !shadow.is_active());
+    nothing_comes_after_a_refused_edit(&rt, &mut shadow, Edit::Delete { path });
     Ok(())
 }
 
-// Messages of each DataNode count from 1 without a gap.
+fn nothing_comes_after_a_refused_edit(rt: &impl Abort, shadow: &mut Shadow, edit: Edit) {
+    assert_eq!(rt; apply(shadow, edit), 22);
+    assert_eq!(rt; apply(shadow, Edit::StartSegment), 51);
+    assert_eq!(rt; hand(shadow, received(1, 1, B, 1001)), 51);
+    assert_eq!(rt; flushed(shadow), 51);
+    assert!(rt; shadow.stop().is_some() && !shadow.is_active());
+}
+
 #[test]
 fn numbers_without_a_gap(rt: HostRuntime) -> Result<(), Fail> {
     let mut shadow = fresh(rt.alloc())?;
-    assert_eq!(rt; hand(&mut shadow, received(0, 1, B, 1001)), 56);
-    assert_eq!(rt; hand(&mut shadow, received(3, 1, B, 1001)), 56);
-    assert_eq!(rt; hand(&mut shadow, received(1, 2, B, 1001)), 58);
-    assert_eq!(rt; hand(&mut shadow, received(1, 1, B, 1001)), 0);
-    assert_eq!(rt; hand(&mut shadow, received(1, 1, B, 1001)), 58);
-    assert_eq!(rt;
-        (
-            shadow.last_number(1),
-            shadow.last_number(2),
-            shadow.last_txid()
-        ),
-        (1, 0, 0)
-    );
+    each_datanode_counts_from_1(&rt, &mut shadow);
     Ok(())
+}
+
+fn each_datanode_counts_from_1(rt: &impl Abort, shadow: &mut Shadow) {
+    for (dn, number, fault) in [(0, 1, 56), (3, 1, 56), (1, 2, 58), (1, 1, 0), (1, 1, 58)] {
+        let done = hand(shadow, received(dn, number, B, 1001));
+        assert_eq!(rt; done, fault, "{number} of {dn}");
+    }
+    assert_eq!(rt; shadow.last_number(1), 1);
+    assert_eq!(rt; shadow.last_number(2), 0);
+    assert_eq!(rt; shadow.last_txid(), 0);
 }
 
 // ---- Steps.

@@ -1,10 +1,12 @@
 //! Lines of a table.
-ghost use Rattle.std.specs.Prelude.{◌≡◌, IfOk};
+ghost use Rattle.std.specs.Prelude.{◌≡◌, IfOk, IsTrue};
+ghost use Rattle.nn_replicas.specs.Calls.{is_kept};
 
 use nn_listing::push_tables;
 use nn_replicas::Replicas;
 use nn_shadow::SafeMode;
 use nn_types::{Block, BlockId, GenerationStamp, Kind, Length, Replica, Settings};
+use std::alloc::Global;
 use std::test::Fail;
 
 // The first block id that a log issues.
@@ -41,28 +43,7 @@ fn block(value: u64) -> Result<Block, Fail> {
 
 #[test]
 fn lines_of_each_class(rt: HostRuntime) -> Result<(), Fail> {
-    let Some(settings) = Settings::new(999, 1) else {
-        return Err(Fail::new("no settings"));
-    };
-    let mut table = Replicas::new(rt.alloc(), settings);
-    table.set_block(block(B + 1)?, true)?;
-    table.set_block(block(B)?, true)?;
-    table.put(256, id(B)?, replica(1002, 5, Kind::Received)?)?;
-    table.put(2, id(B)?, replica(1002, 4, Kind::Received)?)?;
-    table.put(1, id(B)?, replica(1001, 5, Kind::Received)?)?;
-    table.put(3, id(B)?, replica(1003, 0, Kind::Receiving)?)?;
-    table.put(1, id(B + 1)?, replica(1002, 0, Kind::Receiving)?)?;
-    table.put(9, id(B + 3)?, replica(1001, 1, Kind::Received)?)?;
-    table.put(7, id(B + 3)?, replica(1001, 1, Kind::Receiving)?)?;
-    let mode = SafeMode {
-        total: table.total(),
-        safe: table.safe_count(),
-        needed: settings.needed(table.total()),
-        on: false,
-    };
-    let mut text = String::new(rt.alloc());
-    text.push_str("txid 9\n")?;
-    push_tables(rt.alloc(), &mut text, &table, mode)?;
+    let text = listed(rt.alloc())?;
     let lines = "txid 9\n\
         replica 1073741825 1 1001 5 received stale\n\
         replica 1073741825 2 1002 4 received wronglength\n\
@@ -74,6 +55,48 @@ fn lines_of_each_class(rt: HostRuntime) -> Result<(), Fail> {
         blocks 2 safe 1 needed 1 mode off\n";
     assert_eq!(rt; text.as_str(), lines);
     Ok(())
+}
+
+// The lines of a table with a replica of each class, behind a line that stands there already.
+fn listed(alloc: Global) -> Result<String, Fail> {
+    let settings = Settings::new(999, 1).ok_or("no settings")?;
+    let mut table = Replicas::new(alloc, settings);
+    fill(&mut table)?;
+    lines_of(alloc, &table, settings)
+}
+
+// Whoever owns a table shows at each of its exits that it is dropped, so a table is filled and listed on loan.
+fn fill(table: &mut Replicas) -> Result<(), Fail> {
+    table.set_block(block(B + 1)?, true)?;
+    table.set_block(block(B)?, true)?;
+    put(table, 256, B, replica(1002, 5, Kind::Received)?)?;
+    put(table, 2, B, replica(1002, 4, Kind::Received)?)?;
+    put(table, 1, B, replica(1001, 5, Kind::Received)?)?;
+    put(table, 3, B, replica(1003, 0, Kind::Receiving)?)?;
+    put(table, 1, B + 1, replica(1002, 0, Kind::Receiving)?)?;
+    put(table, 9, B + 3, replica(1001, 1, Kind::Received)?)?;
+    put(table, 7, B + 3, replica(1001, 1, Kind::Receiving)?)?;
+    Ok(())
+}
+
+fn put(table: &mut Replicas, dn: u16, block: u64, replica: Replica) -> Result<(), Fail>
+    requires { IsTrue (is_kept replica.kind) }
+{
+    table.put(dn, id(block)?, replica)?;
+    Ok(())
+}
+
+fn lines_of(alloc: Global, table: &Replicas, settings: Settings) -> Result<String, Fail> {
+    let mode = SafeMode {
+        total: table.total(),
+        safe: table.safe_count(),
+        needed: settings.needed(table.total()),
+        on: false,
+    };
+    let mut text = String::new(alloc);
+    text.push_str("txid 9\n")?;
+    push_tables(alloc, &mut text, table, mode)?;
+    Ok(text)
 }
 
 #[test]

@@ -9,14 +9,26 @@ use std::test::Fail;
 // An edit in words, and the number of its fault, or 0.
 type Step = (&'static str, u8);
 
+// What a look-up finds: nothing, a directory, or a file with its replication.
+#[derive(Clone, Copy, Debug, PartialEq, Eq)]
+enum Seen {
+    Nothing,
+    Dir,
+    File(Replication),
+}
+
 // A test owns its namespace and lends it to the checks, each of which is short: whoever owns one shows at each of its
 // exits that it is dropped.
 
-// The faults of directories. A fault changes nothing, so one namespace serves each list of edits.
+// The faults of these edits, in a namespace of their own. A fault changes nothing, so one serves the whole list.
+fn faults(rt: &impl Abort, alloc: Global, steps: &[Step]) -> Result<(), Fail> {
+    let mut namespace = Namespace::new(alloc);
+    answers(rt, alloc, &mut namespace, steps)
+}
+
 #[test]
 fn faults_of_directories(rt: HostRuntime) -> Result<(), Fail> {
-    let mut namespace = Namespace::new(rt.alloc());
-    answers(&rt, rt.alloc(), &mut namespace, &directories())
+    faults(&rt, rt.alloc(), &directories())
 }
 
 fn directories() -> [Step; 8] {
@@ -35,8 +47,7 @@ fn directories() -> [Step; 8] {
 // A bad replication comes before the walk.
 #[test]
 fn faults_of_replications(rt: HostRuntime) -> Result<(), Fail> {
-    let mut namespace = Namespace::new(rt.alloc());
-    answers(&rt, rt.alloc(), &mut namespace, &replications())
+    faults(&rt, rt.alloc(), &replications())
 }
 
 fn replications() -> [Step; 6] {
@@ -53,8 +64,7 @@ fn replications() -> [Step; 6] {
 // An id that does not await comes before a bad stamp.
 #[test]
 fn faults_of_blocks(rt: HostRuntime) -> Result<(), Fail> {
-    let mut namespace = Namespace::new(rt.alloc());
-    answers(&rt, rt.alloc(), &mut namespace, &blocks())
+    faults(&rt, rt.alloc(), &blocks())
 }
 
 fn blocks() -> [Step; 12] {
@@ -77,11 +87,10 @@ fn blocks() -> [Step; 12] {
 // A wrong id in the second place comes before a bad stamp in the first, and a closed file before both.
 #[test]
 fn faults_of_lists(rt: HostRuntime) -> Result<(), Fail> {
-    let mut namespace = Namespace::new(rt.alloc());
-    answers(&rt, rt.alloc(), &mut namespace, &lists())
+    faults(&rt, rt.alloc(), &block_lists())
 }
 
-fn lists() -> [Step; 10] {
+fn block_lists() -> [Step; 10] {
     [
         ("add /f 3", 0),
         ("stamp 1001", 0),
@@ -99,8 +108,7 @@ fn lists() -> [Step; 10] {
 // A missing source comes before a target below it, and that before the walk of the target.
 #[test]
 fn faults_of_renames(rt: HostRuntime) -> Result<(), Fail> {
-    let mut namespace = Namespace::new(rt.alloc());
-    answers(&rt, rt.alloc(), &mut namespace, &renames())
+    faults(&rt, rt.alloc(), &renames())
 }
 
 fn renames() -> [Step; 8] {
@@ -131,8 +139,7 @@ fn renames_are_refused(
 ) -> Result<(), Fail> {
     let made = ["mkdir /a", "mkdir /a/b", "add /a/b/f 1", "add /a-b 2"];
     apply_all(namespace, alloc, &made)?;
-    let text = listing(alloc, namespace)?;
-    assert_eq!(rt; text.as_str(), "/ /a /a/b /a/b/f /a-b");
+    lists(rt, alloc, namespace, "/ /a /a/b /a/b/f /a-b")?;
     answers(rt, alloc, namespace, &refused_renames())
 }
 
@@ -152,12 +159,9 @@ fn renames_move_what_lies_below(
     namespace: &mut Namespace,
 ) -> Result<(), Fail> {
     apply_all(namespace, alloc, &["rename /a /c"])?;
-    let text = listing(alloc, namespace)?;
-    assert_eq!(rt; text.as_str(), "/ /a-b /c /c/b /c/b/f");
+    lists(rt, alloc, namespace, "/ /a-b /c /c/b /c/b/f")?;
     apply_all(namespace, alloc, &["rename /c/b/f /a", "delete /c"])?;
-    let text = listing(alloc, namespace)?;
-    assert_eq!(rt; text.as_str(), "/ /a /a-b");
-    Ok(())
+    lists(rt, alloc, namespace, "/ /a /a-b")
 }
 
 // An id is unnamed, awaits, is named and is retired. An id that a higher one passes over is retired at once.
@@ -169,15 +173,47 @@ fn status_of_ids(rt: HostRuntime) -> Result<(), Fail> {
     ids_are_retired(&rt, rt.alloc(), &mut namespace)
 }
 
+// The status of each of these ids.
+fn have_status(
+    rt: &impl Abort,
+    namespace: &Namespace,
+    rows: &[(&str, Status)],
+) -> Result<(), Fail> {
+    for (word, want) in rows {
+        let id = id_of(word)?;
+        assert_eq!(rt; namespace.status(id), *want, "of {word}");
+    }
+    Ok(())
+}
+
 fn ids_are_issued(rt: &impl Abort, alloc: Global, namespace: &mut Namespace) -> Result<(), Fail> {
+    let before = [
+        ("1073741824", Status::Retired),
+        ("1073741825", Status::Unnamed),
+    ];
+    have_status(rt, namespace, &before)?;
+    an_id_is_passed_over(rt, alloc, namespace)?;
+    let after = [
+        ("1073741825", Status::Retired),
+        ("1073741826", Status::Awaiting),
+    ];
+    have_status(rt, namespace, &after)?;
+    awaits_alone(rt, alloc, namespace)
+}
+
+fn an_id_is_passed_over(
+    rt: &impl Abort,
+    alloc: Global,
+    namespace: &mut Namespace,
+) -> Result<(), Fail> {
     let first = id_of("1073741825")?;
+    let skipped = apply(namespace, alloc, "allocate 1073741826")?.skipped;
+    assert_eq!(rt; skipped, Some((first, first)));
+    Ok(())
+}
+
+fn awaits_alone(rt: &impl Abort, alloc: Global, namespace: &Namespace) -> Result<(), Fail> {
     let second = id_of("1073741826")?;
-    assert_eq!(rt; namespace.status(id_of("1073741824")?), Status::Retired);
-    assert_eq!(rt; namespace.status(first), Status::Unnamed);
-    let touched = apply(namespace, alloc, "allocate 1073741826")?;
-    assert_eq!(rt; touched.skipped, Some((first, first)));
-    assert_eq!(rt; namespace.status(first), Status::Retired);
-    assert_eq!(rt; namespace.status(second), Status::Awaiting);
     assert_eq!(rt; namespace.last_block(), second);
     let awaiting = namespace.awaiting(alloc)?;
     assert_eq!(rt; awaiting.as_slice(), [second].as_slice());
@@ -187,17 +223,17 @@ fn ids_are_issued(rt: &impl Abort, alloc: Global, namespace: &mut Namespace) -> 
 fn ids_are_named(rt: &impl Abort, alloc: Global, namespace: &mut Namespace) -> Result<(), Fail> {
     let named = ["stamp 1001", "add /f 3", "block /f 1073741826 1001"];
     apply_all(namespace, alloc, &named)?;
-    let second = id_of("1073741826")?;
-    assert_eq!(rt; namespace.status(second), Status::Named(stamp_of("1001")?));
-    assert_eq!(rt; namespace.last_stamp(), stamp_of("1001")?);
+    let (second, stamp) = (id_of("1073741826")?, stamp_of("1001")?);
+    assert_eq!(rt; namespace.status(second), Status::Named(stamp));
+    assert_eq!(rt; namespace.last_stamp(), stamp);
     assert!(rt; namespace.awaiting(alloc)?.is_empty());
     Ok(())
 }
 
 fn ids_are_retired(rt: &impl Abort, alloc: Global, namespace: &mut Namespace) -> Result<(), Fail> {
     let second = id_of("1073741826")?;
-    let touched = apply(namespace, alloc, "delete /f")?;
-    assert_eq!(rt; touched.retired.as_slice(), [second].as_slice());
+    let retired = apply(namespace, alloc, "delete /f")?.retired;
+    assert_eq!(rt; retired.as_slice(), [second].as_slice());
     assert_eq!(rt; namespace.status(second), Status::Retired);
     assert!(rt; namespace.block(second).is_none());
     Ok(())
@@ -277,25 +313,34 @@ fn two_files() -> [&'static str; 8] {
     ]
 }
 
+// What a look-up finds at the path.
+fn found_at(alloc: Global, namespace: &Namespace, path: &str) -> Result<Seen, Fail> {
+    let path = Path::parse(alloc, path)?;
+    match namespace.lookup(&path) {
+        Some(Found::Dir) => Ok(Seen::Dir),
+        Some(Found::File(file)) => Ok(Seen::File(file.replication)),
+        None => Ok(Seen::Nothing),
+    }
+}
+
 fn look_ups(rt: &impl Abort, alloc: Global, namespace: &Namespace) -> Result<(), Fail> {
-    let directory = Path::parse(alloc, "/d")?;
-    assert!(rt; matches!(namespace.lookup(&directory), Some(Found::Dir)));
-    let below = Path::parse(alloc, "/d/b/c")?;
-    assert!(rt; namespace.lookup(&below).is_none());
-    let path = Path::parse(alloc, "/d/b")?;
-    let Some(Found::File(file)) = namespace.lookup(&path) else {
-        return Err(Fail::from("no file"));
-    };
-    assert_eq!(rt; file.replication, replication_of("2")?);
+    let file = Seen::File(replication_of("2")?);
+    for (path, want) in [("/d", Seen::Dir), ("/d/b/c", Seen::Nothing), ("/d/b", file)] {
+        assert_eq!(rt; found_at(alloc, namespace, path)?, want, "at {path}");
+    }
     Ok(())
 }
 
 fn a_delete(rt: &impl Abort, alloc: Global, namespace: &mut Namespace) -> Result<(), Fail> {
-    let retired = [id_of("1073741825")?, id_of("1073741826")?];
-    let touched = apply(namespace, alloc, "delete /d")?;
-    assert_eq!(rt; touched.retired.as_slice(), retired.as_slice());
+    let ids = [id_of("1073741825")?, id_of("1073741826")?];
+    let retired = apply(namespace, alloc, "delete /d")?.retired;
+    assert_eq!(rt; retired.as_slice(), ids.as_slice());
+    lists(rt, alloc, namespace, "/")
+}
+
+fn lists(rt: &impl Abort, alloc: Global, namespace: &Namespace, want: &str) -> Result<(), Fail> {
     let text = listing(alloc, namespace)?;
-    assert_eq!(rt; text.as_str(), "/");
+    assert_eq!(rt; text.as_str(), want);
     Ok(())
 }
 
@@ -324,14 +369,18 @@ fn answers(
     steps: &[Step],
 ) -> Result<(), Fail> {
     for (words, number) in steps {
-        let edit = edit_of(alloc, words)?;
-        let refused = namespace.refusal(&edit);
-        let refused = refused.map_or(0, |fault| fault.number());
-        assert_eq!(rt; refused, *number, "before {words}");
-        let done = number_of(namespace, &edit);
-        assert_eq!(rt; done, *number, "at {words}");
+        let faults = both_faults(namespace, alloc, words)?;
+        assert_eq!(rt; faults, (*number, *number), "at {words}");
     }
     Ok(())
+}
+
+// The number of the fault that an edit would have, and that of applying it.
+fn both_faults(namespace: &mut Namespace, alloc: Global, words: &str) -> Result<(u8, u8), Fail> {
+    let edit = edit_of(alloc, words)?;
+    let refused = namespace.refusal(&edit);
+    let refused = refused.map_or(0, |fault| fault.number());
+    Ok((refused, number_of(namespace, &edit)))
 }
 
 fn apply_all(namespace: &mut Namespace, alloc: Global, steps: &[&str]) -> Result<(), Fail> {
@@ -353,7 +402,11 @@ fn edit_of(alloc: Global, line: &str) -> Result<Edit, Fail> {
     for word in line.split(' ') {
         words.push(word)?;
     }
-    match words.as_slice() {
+    edit_of_words(alloc, words.as_slice())
+}
+
+fn edit_of_words(alloc: Global, words: &[&str]) -> Result<Edit, Fail> {
+    match words {
         [op, path] => plain_edit(alloc, op, path),
         ["rename", src, dst] => Ok(Edit::Rename {
             src: Path::parse(alloc, src)?,
@@ -380,29 +433,29 @@ fn plain_edit(alloc: Global, op: &str, word: &str) -> Result<Edit, Fail> {
     }
 }
 
+// The path comes last, so that no exit has to drop it.
 fn file_edit(alloc: Global, op: &str, path: &str, rest: &[&str]) -> Result<Edit, Fail> {
-    let path = Path::parse(alloc, path)?;
     match (op, rest) {
         ("add", [r]) => Ok(Edit::Add {
-            path,
             replication: replication_of(r)?,
+            path: Path::parse(alloc, path)?,
         }),
         ("replicate", [r]) => Ok(Edit::SetReplication {
-            path,
             replication: replication_of(r)?,
+            path: Path::parse(alloc, path)?,
         }),
         ("block", [id, stamp]) => Ok(Edit::AddBlock {
-            path,
             id: id_of(id)?,
             stamp: stamp_of(stamp)?,
+            path: Path::parse(alloc, path)?,
         }),
         ("update", _) => Ok(Edit::UpdateBlocks {
-            path,
             blocks: blocks_of(alloc, rest)?,
+            path: Path::parse(alloc, path)?,
         }),
         _ => Ok(Edit::Close {
-            path,
             blocks: blocks_of(alloc, rest)?,
+            path: Path::parse(alloc, path)?,
         }),
     }
 }
@@ -410,11 +463,16 @@ fn file_edit(alloc: Global, op: &str, path: &str, rest: &[&str]) -> Result<Edit,
 fn blocks_of(alloc: Global, words: &[&str]) -> Result<Blocks, Fail> {
     let mut blocks = Blocks::new(alloc);
     for part in words.chunks(3) {
-        if let [id, stamp, len] = part {
-            blocks.push(block_of(id, stamp, len)?)?;
-        }
+        push_block(&mut blocks, part)?;
     }
     Ok(blocks)
+}
+
+fn push_block(blocks: &mut Blocks, words: &[&str]) -> Result<(), Fail> {
+    if let [id, stamp, len] = words {
+        blocks.push(block_of(id, stamp, len)?)?;
+    }
+    Ok(())
 }
 
 fn block_of(id: &str, stamp: &str, len: &str) -> Result<Block, Fail> {

@@ -1,64 +1,69 @@
 //! Command lines.
 use super::parse;
 use clap::error::ErrorKind;
+use std::alloc::Global;
 use std::test::Fail;
 
-// The settings that these words give, behind the program's name.
-fn settings(rt: &HostRuntime, words: &[&str]) -> Result<(u16, u16), Fail> {
-    let all = command_line(rt, words)?;
-    match parse(rt.alloc(), all.as_slice()) {
+// The settings that this command line gives.
+fn settings(alloc: Global, line: &str) -> Result<(u16, u16), Fail> {
+    let words = words_of(alloc, line)?;
+    match parse(alloc, words.as_slice()) {
         Ok(options) => Ok((options.settings.permille(), options.settings.min())),
         Err(_) => Err(Fail::new("the words are refused")),
     }
 }
 
-// The status and the kind that these words are refused with.
-fn refused(rt: &HostRuntime, words: &[&str]) -> Result<(i32, ErrorKind), Fail> {
-    let all = command_line(rt, words)?;
-    match parse(rt.alloc(), all.as_slice()) {
+// The status and the kind that this command line is refused with.
+fn refused(alloc: Global, line: &str) -> Result<(i32, ErrorKind), Fail> {
+    let words = words_of(alloc, line)?;
+    match parse(alloc, words.as_slice()) {
         Ok(_) => Err(Fail::new("the words are taken")),
         Err(error) => Ok((error.exit_code(), error.kind())),
     }
 }
 
-fn command_line(rt: &HostRuntime, words: &[&str]) -> Result<Vec<String>, Fail> {
-    let mut all = Vec::new(rt.alloc());
-    all.push(String::from_str(rt.alloc(), "nn_standby")?)?;
-    for word in words {
-        all.push(String::from_str(rt.alloc(), word)?)?;
+fn words_of(alloc: Global, line: &str) -> Result<Vec<String>, Fail> {
+    let mut words = Vec::new(alloc);
+    for word in line.split(' ') {
+        words.push(String::from_str(alloc, word)?)?;
     }
-    Ok(all)
+    Ok(words)
 }
 
 #[test]
 fn numbers_in_range_are_taken(rt: HostRuntime) -> Result<(), Fail> {
-    assert_eq!(rt; settings(&rt, [].as_slice())?, (999, 1));
-    assert_eq!(rt; settings(&rt, ["--permille", "0"].as_slice())?, (0, 1));
-    assert_eq!(rt;
-        settings(&rt, ["--permille=1000", "--min", "512"].as_slice())?,
-        (1000, 512)
-    );
-    assert_eq!(rt; settings(&rt, ["--min=2"].as_slice())?, (999, 2));
+    for (line, want) in [
+        ("nn_standby", (999, 1)),
+        ("nn_standby --permille 0", (0, 1)),
+        ("nn_standby --permille=1000 --min 512", (1000, 512)),
+        ("nn_standby --min=2", (999, 2)),
+    ] {
+        assert_eq!(rt; settings(rt.alloc(), line)?, want, "at {line}");
+    }
     Ok(())
 }
 
 #[test]
 fn other_words_are_refused(rt: HostRuntime) -> Result<(), Fail> {
-    let invalid = (2, ErrorKind::ValueValidation);
-    assert_eq!(rt; refused(&rt, ["--permille", "1001"].as_slice())?, invalid);
-    assert_eq!(rt; refused(&rt, ["--permille", "-1"].as_slice())?.0, 2);
-    assert_eq!(rt; refused(&rt, ["--permille", "x"].as_slice())?, invalid);
-    assert_eq!(rt; refused(&rt, ["--min", "0"].as_slice())?, invalid);
-    assert_eq!(rt; refused(&rt, ["--min", "513"].as_slice())?, invalid);
-    assert_eq!(rt; refused(&rt, ["--min"].as_slice())?.0, 2);
-    assert_eq!(rt;
-        refused(&rt, ["--most", "1"].as_slice())?,
-        (2, ErrorKind::UnknownArgument)
-    );
-    assert_eq!(rt; refused(&rt, ["word"].as_slice())?.0, 2);
-    assert_eq!(rt;
-        refused(&rt, ["--help"].as_slice())?,
-        (0, ErrorKind::DisplayHelp)
-    );
+    for (line, want) in [
+        (
+            "nn_standby --permille 1001",
+            (2, ErrorKind::ValueValidation),
+        ),
+        ("nn_standby --permille x", (2, ErrorKind::ValueValidation)),
+        ("nn_standby --min 0", (2, ErrorKind::ValueValidation)),
+        ("nn_standby --min 513", (2, ErrorKind::ValueValidation)),
+        ("nn_standby --most 1", (2, ErrorKind::UnknownArgument)),
+        ("nn_standby --help", (0, ErrorKind::DisplayHelp)),
+    ] {
+        assert_eq!(rt; refused(rt.alloc(), line)?, want, "at {line}");
+    }
+    for line in [
+        "nn_standby --permille -1",
+        "nn_standby --min",
+        "nn_standby word",
+    ] {
+        assert_eq!(rt; refused(rt.alloc(), line)?.0, 2, "at {line}");
+    }
     Ok(())
 }

@@ -1,7 +1,7 @@
 //! Whole scenarios on the calls, each with the history that a standby tells of it.
 use nn_edits::{Line, read_line};
 use nn_shadow::Shadow;
-use nn_types::{Cause, Event, Message, Report, Settings};
+use nn_types::{Cause, Event, Message, Report};
 use std::alloc::Global;
 use std::fmt::Write;
 use std::process::Abort;
@@ -19,9 +19,8 @@ const EARLY_REPORT_RELEASED: &str = r#"{"op":"OP_START_LOG_SEGMENT","txid":1}
 // A report that comes before the log names its block is processed right after the edit that names it.
 #[test]
 fn early_report_released(rt: HostRuntime) -> Result<(), Fail> {
-    let mut shadow = fresh(rt.alloc())?;
     let told = "A1 A2 A3 A4 A5 P1,1,1073741825,Due A6 A7";
-    tells(&rt, rt.alloc(), &mut shadow, EARLY_REPORT_RELEASED, told)
+    tells(&rt, rt.alloc(), EARLY_REPORT_RELEASED, told)
 }
 
 const FUTURE_REPORT_FLUSHED: &str = r#"{"op":"OP_START_LOG_SEGMENT","txid":1}
@@ -38,10 +37,9 @@ const FUTURE_REPORT_FLUSHED: &str = r#"{"op":"OP_START_LOG_SEGMENT","txid":1}
 // A generation stamp that never comes keeps back the next message of its DataNode, and not another DataNode's.
 #[test]
 fn future_report_flushed(rt: HostRuntime) -> Result<(), Fail> {
-    let mut shadow = fresh(rt.alloc())?;
     let told =
         "A1 A2 A3 A4 A5 P2,1,1073741825,Due A6 A7 P1,1,1073741825,Flush P1,2,1073741825,Flush";
-    tells(&rt, rt.alloc(), &mut shadow, FUTURE_REPORT_FLUSHED, told)
+    tells(&rt, rt.alloc(), FUTURE_REPORT_FLUSHED, told)
 }
 
 const DELETED_BLOCK_IS_ORDERED: &str = r#"{"op":"OP_START_LOG_SEGMENT","txid":1}
@@ -57,9 +55,8 @@ const DELETED_BLOCK_IS_ORDERED: &str = r#"{"op":"OP_START_LOG_SEGMENT","txid":1}
 // A file that is deleted makes orders of its replicas.
 #[test]
 fn deleted_block_is_ordered(rt: HostRuntime) -> Result<(), Fail> {
-    let mut shadow = fresh(rt.alloc())?;
     let told = "A1 A2 A3 A4 A5 P1,1,1073741825,Due A6 A7 A8";
-    tells(&rt, rt.alloc(), &mut shadow, DELETED_BLOCK_IS_ORDERED, told)
+    tells(&rt, rt.alloc(), DELETED_BLOCK_IS_ORDERED, told)
 }
 
 const RELEASED_BY_BLOCK: &str = r#"{"op":"OP_START_LOG_SEGMENT","txid":1}
@@ -79,9 +76,8 @@ const RELEASED_BY_BLOCK: &str = r#"{"op":"OP_START_LOG_SEGMENT","txid":1}
 // One edit sets two messages free: they go by block and not in the order of arrival.
 #[test]
 fn released_by_block(rt: HostRuntime) -> Result<(), Fail> {
-    let mut shadow = fresh(rt.alloc())?;
     let told = "A1 A2 A3 A4 A5 A6 A7 A8 A9 P1,2,1073741825,Due P1,1,1073741826,Due A10 A11";
-    tells(&rt, rt.alloc(), &mut shadow, RELEASED_BY_BLOCK, told)
+    tells(&rt, rt.alloc(), RELEASED_BY_BLOCK, told)
 }
 
 const SKIPPED_ID_IS_RETIRED: &str = r#"{"op":"OP_START_LOG_SEGMENT","txid":1}
@@ -92,9 +88,8 @@ const SKIPPED_ID_IS_RETIRED: &str = r#"{"op":"OP_START_LOG_SEGMENT","txid":1}
 // What is held about an id goes once the log passes over it.
 #[test]
 fn skipped_id_is_retired(rt: HostRuntime) -> Result<(), Fail> {
-    let mut shadow = fresh(rt.alloc())?;
     let told = "A1 A2 P1,1,1073741825,Due A3";
-    tells(&rt, rt.alloc(), &mut shadow, SKIPPED_ID_IS_RETIRED, told)
+    tells(&rt, rt.alloc(), SKIPPED_ID_IS_RETIRED, told)
 }
 
 const UNNAMED_REPORT_FLUSHED: &str = r#"{"op":"OP_START_LOG_SEGMENT","txid":1}
@@ -104,31 +99,25 @@ const UNNAMED_REPORT_FLUSHED: &str = r#"{"op":"OP_START_LOG_SEGMENT","txid":1}
 // What the log never names goes with the flush.
 #[test]
 fn unnamed_report_flushed(rt: HostRuntime) -> Result<(), Fail> {
-    let mut shadow = fresh(rt.alloc())?;
     let told = "A1 A2 P1,1,1073741825,Flush";
-    tells(&rt, rt.alloc(), &mut shadow, UNNAMED_REPORT_FLUSHED, told)
+    tells(&rt, rt.alloc(), UNNAMED_REPORT_FLUSHED, told)
 }
 
-fn fresh(alloc: Global) -> Result<Shadow, Fail> {
-    let settings = Settings::new(1000, 1).ok_or("no settings")?;
-    Ok(Shadow::new(alloc, 2, settings)?)
+// Compares the history that a standby tells of these lines with the one that is wanted.
+fn tells(rt: &impl Abort, alloc: Global, lines: &str, told: &str) -> Result<(), Fail> {
+    let mut shadow = super::fresh(alloc)?;
+    let text = history_of(alloc, &mut shadow, lines)?;
+    assert_eq!(rt; text.as_str(), told);
+    Ok(())
 }
 
-// Follows the lines, flushes, and compares the history with the one that is wanted.
-fn tells(
-    rt: &impl Abort,
-    alloc: Global,
-    shadow: &mut Shadow,
-    lines: &str,
-    told: &str,
-) -> Result<(), Fail> {
+// Follows the lines and flushes.
+fn history_of(alloc: Global, shadow: &mut Shadow, lines: &str) -> Result<String, Fail> {
     for line in lines.split('\n') {
         follow(shadow, alloc, line)?;
     }
     shadow.flush()?;
-    let text = history(alloc, shadow.history())?;
-    assert_eq!(rt; text.as_str(), told);
-    Ok(())
+    history(alloc, shadow.history())
 }
 
 fn follow(shadow: &mut Shadow, alloc: Global, line: &str) -> Result<(), Fail> {

@@ -120,9 +120,9 @@ fn ends_of(alloc: Global, edit: &Edit) -> Result<String, Fail> {
     let Edit::Rename { src, dst } = edit else {
         return Err(Fail::new("not a rename"));
     };
-    let mut text = src.to_text(alloc)?;
+    let mut text = String::from_str(alloc, src.text())?;
     text.push(' ')?;
-    text.push_str(dst.to_text(alloc)?.as_str())?;
+    text.push_str(dst.text())?;
     Ok(text)
 }
 

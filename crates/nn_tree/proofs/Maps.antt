@@ -1,5 +1,5 @@
 -- The map of a list of paths.
-use Rattle.std.proofs.Common.{◌≡◌, Bool, true, false, cond, not, ◌&&◌, List, [], ◌∷◌, ◌++◌, ◌<◌, length, Option, Some, None, is_some, refl, sym, ap, ◌∙◌, String, Global, arith}
+use Rattle.std.proofs.Common.{◌≡◌, Bool, true, false, cond, not, ◌&&◌, [], ◌∷◌, ◌++◌, ◌<◌, length, Option, Some, None, is_some, refl, sym, ap, ◌∙◌, arith}
 use Rattle.std.specs.declared.cmp.Ordering.TheVariants.{Less, Equal, Greater}
 use Rattle.std.specs.Ordering.{is_eq, eq_by_cmp, ordering_then, ordering_reverse}
 use Rattle.std.specs.Bool.{◌==◌}
@@ -9,7 +9,7 @@ use Rattle.std.specs.FinMap.{IsAntisymmetric, slice_cmp-IsAntisymmetric, nat_cmp
 use Rattle.std.proofs.lemmas.Cmp.{tied_back}
 use Rattle.nn_model.specs.declared.form.Form.{Form}
 use Rattle.nn_model.specs.Namespace.{Path}
-use Rattle.nn_tree.specs.At.{at, rows, names_of, name_cmp, path_cmp, grafted}
+use Rattle.nn_tree.specs.At.{at, rows, name_cmp, path_cmp, grafted}
 use Rattle.nn_tree.specs.Walks.{or_fault, root_fault, walk_fault, exists_fault, missing_fault, mkdir_fault, delete_fault, starts_with}
 use Rattle.nn_model.specs.declared.fault.EditFault.{EditFault}
 use Rattle.nn_model.specs.declared.fault.EditFault.TheVariants.{Exists, Missing, IsRoot}
@@ -23,11 +23,11 @@ path_total = lists_total nat_list_cmp_total
 pub path_antisymmetric : IsAntisymmetric path_cmp
 path_antisymmetric = slice_cmp-IsAntisymmetric (slice_cmp-IsAntisymmetric nat_cmp-IsAntisymmetric)
 
-pub not_root : (xs : List (String Global)) → false ≡ (length xs == 0) → root_fault (names_of xs) ≡ None
+pub not_root : (xs : Path) → false ≡ (length xs == 0) → root_fault xs ≡ None
 not_root [] h = cc
 not_root (x ∷ xs) h = refl
 
-pub is_root : (xs : List (String Global)) → true ≡ (length xs == 0) → root_fault (names_of xs) ≡ Some IsRoot
+pub is_root : (xs : Path) → true ≡ (length xs == 0) → root_fault xs ≡ Some IsRoot
 is_root xs h = ap root_fault (no_names xs (eqb-true _ _ (sym h)))
 
 -- the rest of a fault, after the root's
@@ -88,6 +88,6 @@ graft_gone f (n ∷ ns) (x ∷ q) =
     ] refl
 
 -- a path that isn't the root has a name
-pub has_name : (xs : List (String Global)) (x : Option EditFault) → None ≡ or_fault (root_fault (names_of xs)) x → 0 < length xs
+pub has_name : (xs : Path) (x : Option EditFault) → None ≡ or_fault (root_fault xs) x → 0 < length xs
 has_name [] x h = cc
 has_name (y ∷ xs) x h = omega arith

@@ -10,7 +10,7 @@ use Rattle.nn_tree.proofs.Step.{same_name}
 use Rattle.nn_tree.proofs.Maps.{or_None}
 use Rattle.std.specs.Cmp.Lexicographic.{nat_list_cmp_total, pointwise, texts_ties}
 use Rattle.std.proofs.lemmas.Cmp.{tied_itself}
-use Rattle.std.proofs.lemmas.Bool.{lt-ltb}
+use Rattle.std.proofs.lemmas.Bool.{lt-ltb, ltb-true}
 
 pub graft_by : (f : Path → Option Form) (p : Path) (g : Path → Option Form) (q : Path) → grafted f p g q ≡ cond (starts_with p q) (g (drop (length p) q)) (f q)
 graft_by f [] g q = refl
@@ -122,3 +122,25 @@ tests_tie n x ns qs b h =
 
 pub starts_more : (ps qs ns xs : Path) (n x : List ℕ) (b : Bool) → ps ≡ n ∷ ns → qs ≡ x ∷ xs → b ≡ not (pointwise nat_eq n x) → cond b false (starts_with ns xs) ≡ starts_with ps qs
 starts_more ps qs ns xs n x b e f h = sym ((λ j. starts_with (e j) (f j)) ∙ tests_tie n x ns xs b h)
+
+-- ---- a path below another
+
+-- the test of first names, and that of what is behind them
+pub below_more : (ps qs ns xs : Path) (n x : List ℕ) (b r : Bool) → ps ≡ n ∷ ns → qs ≡ x ∷ xs → b ≡ not (pointwise nat_eq n x) → r ≡ (starts_with ns xs && nat_lt (length ns) (length xs))
+    → cond b false r ≡ (starts_with ps qs && nat_lt (length ps) (length qs))
+below_more ps qs ns xs n x b r e f h k =
+    let shorter : nat_lt (length ns) (length xs) ≡ nat_lt (length ps) (length qs) = same_tests _ _ _ _ (λ l. omega (arith, l, ap length e, ap length f)) (λ l. omega (arith, l, ap length e, ap length f)) in
+    joins b (starts_with ns xs) (starts_with ps qs) (nat_lt (length ns) (length xs)) r (starts_more ps qs ns xs n x b e f h) k ∙ ap (λ t. starts_with ps qs && t) shorter
+  where
+    joins : (b s t l r : Bool) → cond b false s ≡ t → r ≡ (s && l) → cond b false r ≡ (t && l)
+    joins true s t l r e k = ap (λ t. t && l) e
+    joins false s t l r e k = k ∙ ap (λ t. t && l) e
+
+    same_tests : (a b c d : ℕ) → (a < b → c < d) → (c < d → a < b) → nat_lt a b ≡ nat_lt c d
+    same_tests a b c d f g = by (nat_lt a b) (nat_lt c d) refl refl
+      where
+        by : (x y : Bool) → nat_lt a b ≡ x → nat_lt c d ≡ y → x ≡ y
+        by true true p q = refl
+        by true false p q = sym (lt-ltb c d (f (ltb-true a b p))) ∙ q
+        by false true p q = sym p ∙ lt-ltb a b (g (ltb-true c d q))
+        by false false p q = refl

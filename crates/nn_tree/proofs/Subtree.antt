@@ -3,13 +3,13 @@ use Rattle.std.proofs.Common.{◌≡◌, ℕ, true, List, [], ◌∷◌, ◌++�
 use Rattle.std.specs.Bool.{◌==◌}
 use Rattle.std.proofs.lemmas.Bool.{eqb-true}
 use Rattle.std.specs.BTreeMap.{get_by_text, IsOrdered}
-use Rattle.std.specs.String.{string_bytes, string_cmp}
+use Rattle.std.specs.String.{string_cmp}
 use Rattle.nn_model.specs.declared.form.Form.{Form}
 use Rattle.nn_model.specs.Namespace.{Path}
 use Rattle.nn_model.specs.declared.form.Form.TheVariants.{Dir, File}
 use Rattle.nn_model.specs.declared.form.FileRow.{FileRow}
 use Rattle.nn_tree.specs.Flat.{flat, below, IsInOrder}
-use Rattle.nn_tree.specs.At.{at, rows, names_of, IsSubtree}
+use Rattle.nn_tree.specs.At.{at, rows, IsSubtree}
 use Rattle.nn_tree.specs.declared.tree.Tree.{Tree}
 use Rattle.nn_tree.specs.declared.tree.Node.{Node}
 use Rattle.nn_tree.specs.declared.tree.Node.TheVariants.{Folder, Leaf}
@@ -31,11 +31,7 @@ pub record IsDir (es : List (Path × Form)) (m : Children) : Type 0 where
 pub opened : (es : List (Path × Form)) (node : Node) (m : Children) → flat node ≡ es → IsInOrder node → node ≡ Folder m → IsDir es m
 opened es node m v i e = record { is = sym (ap flat e) ∙ v; ordered = subst IsInOrder e i }
 
--- b are the bytes of the first name
-pub names_split : (ps rest : List (String Global)) (x : String Global) (b : List ℕ) → ps ≡ x ∷ rest → b ≡ string_bytes x → names_of ps ≡ b ∷ names_of rest
-names_split ps rest x b e h = ap names_of e ∙ ap (λ y. y ∷ names_of rest) (sym h)
-
-pub no_names : (ps : List (String Global)) → length ps ≡ 0 → names_of ps ≡ []
+pub no_names : (ps : Path) → length ps ≡ 0 → ps ≡ []
 no_names [] e = refl
 no_names (p ∷ ps) e = absurd (omega arith)
 
@@ -62,12 +58,12 @@ pub no_child : (es : List (Path × Form)) (n : List ℕ) (ns ps : Path) → ps �
 no_child es n ns ps e h q = ap (λ p. at es (p ++ q)) e ∙ h (ns ++ q)
 
 -- below a file there is nothing
-pub none_in_file : (es : List (Path × Form)) (node : Node) (f : FileRow) (ps : List (String Global)) → flat node ≡ es → node ≡ Leaf f → 0 < length ps → IsSubtree es (names_of ps) None
+pub none_in_file : (es : List (Path × Form)) (node : Node) (f : FileRow) (ps : Path) → flat node ≡ es → node ≡ Leaf f → 0 < length ps → IsSubtree es ps None
 none_in_file es node f [] v e h q = absurd (omega arith)
-none_in_file es node f (p ∷ ps) v e h q = at_file es node f (string_bytes p) (names_of ps ++ q) v e
+none_in_file es node f (p ∷ ps) v e h q = at_file es node f p (ps ++ q) v e
 
 -- the last name of a path
-pub last_name : (n : List ℕ) (rest : List (String Global)) (ps : Path) → ps ≡ n ∷ names_of rest → true ≡ (length rest == 0) → ps ≡ n ∷ []
+pub last_name : (n : List ℕ) (rest ps : Path) → ps ≡ n ∷ rest → true ≡ (length rest == 0) → ps ≡ n ∷ []
 last_name n rest ps e h = e ∙ ap (λ r. n ∷ r) (no_names rest (eqb-true _ _ (sym h)))
 
 pub none_is_some : IsSome {T = Form} None → ⊥

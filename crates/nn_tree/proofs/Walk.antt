@@ -1,10 +1,10 @@
 -- The walk of a path's parents.
-use Rattle.std.proofs.Common.{◌≡◌, ℕ, false, List, [], ◌∷◌, length, Option, Some, None, Result, MatchResult, IfOk, IfSome, Ok, Err, ap, ◌∙◌, String, Global}
+use Rattle.std.proofs.Common.{◌≡◌, ℕ, false, List, [], ◌∷◌, length, Option, Some, None, Result, MatchResult, IfOk, IfSome, Ok, Err, ap, ◌∙◌}
 use Rattle.std.specs.Bool.{◌==◌}
 use Rattle.nn_model.specs.declared.form.Form.{Form}
 use Rattle.nn_model.specs.Namespace.{Path}
 use Rattle.nn_model.specs.declared.form.Form.TheVariants.{Dir}
-use Rattle.nn_tree.specs.At.{at, names_of}
+use Rattle.nn_tree.specs.At.{at}
 use Rattle.nn_tree.specs.Walks.{walk_fault, parent_fault}
 use Rattle.nn_model.specs.declared.fault.EditFault.TheVariants.{Missing}
 
@@ -12,11 +12,11 @@ pub walk_below : (es t : List (Path × Form)) (n : List ℕ) (ns ps : Path) → 
 walk_below es t n ns ps e top h =
     ap (walk_fault (at es)) e ∙ ap (λ o. parent_fault o (walk_fault (λ q. at es (n ∷ q)) ns)) top ∙ (λ j. walk_fault (λ q. h q j) ns)
 
-pub walk_missing : (es : List (Path × Form)) (n : List ℕ) (rest : List (String Global)) (ps : Path) → ps ≡ n ∷ names_of rest → at es [] ≡ Some Dir → ((q : Path) → at es (n ∷ q) ≡ None) → false ≡ (length rest == 0) → walk_fault (at es) ps ≡ Some Missing
+pub walk_missing : (es : List (Path × Form)) (n : List ℕ) (rest ps : Path) → ps ≡ n ∷ rest → at es [] ≡ Some Dir → ((q : Path) → at es (n ∷ q) ≡ None) → false ≡ (length rest == 0) → walk_fault (at es) ps ≡ Some Missing
 walk_missing es n [] ps e top h z = cc
 walk_missing es n (r ∷ rs) ps e top h z =
-    ap (walk_fault (at es)) e ∙ ap (λ o. parent_fault o (walk_fault (λ q. at es (n ∷ q)) (names_of (r ∷ rs)))) top
-    ∙ ap (λ o. parent_fault o (walk_fault (λ q. at es (n ∷ (Rattle.std.specs.String.string_bytes r ∷ q))) (names_of rs))) (h [])
+    ap (walk_fault (at es)) e ∙ ap (λ o. parent_fault o (walk_fault (λ q. at es (n ∷ q)) (r ∷ rs))) top
+    ∙ ap (λ o. parent_fault o (walk_fault (λ q. at es (n ∷ (r ∷ q))) rs)) (h [])
 
 pub same_answer : {X E : Type 0} (r : Result X E) (a b : Option E) → a ≡ b → MatchResult r (λ o. b ≡ None) (λ e. b ≡ Some e) → MatchResult r (λ o. a ≡ None) (λ e. a ≡ Some e)
 same_answer (Ok x) a b e h = e ∙ h

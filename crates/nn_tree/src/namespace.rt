@@ -140,7 +140,7 @@ impl Namespace {
     pub fn lookup(&self, path: &Path) -> Option<Found<'_>>
         ensures { option_map form_of result ≡ lookup self.now path.now }
     {
-        let Some(tree) = self.root.node(path.names()) else {
+        let Some(tree) = self.root.node(&path.names()) else {
             return None;
         };
         Some(tree.top())

@@ -1,5 +1,5 @@
 //! A directory tree, seen as the list of its paths with what stands there. It knows no ids and no index.
-ghost use Rattle.std.specs.Prelude.{◌≡◌, [], ◌∷◌, ◌++◌, OnOk, OnErr, ◌+◌, ◌<◌, length, IsSome, is_some, Some, None, true, MatchResult, IfOk, IfSome};
+ghost use Rattle.std.specs.Prelude.{◌≡◌, [], ◌∷◌, ◌++◌, ◌&&◌, nat_lt, OnOk, OnErr, ◌+◌, ◌<◌, length, IsSome, is_some, Some, None, true, MatchResult, IfOk, IfSome};
 ghost use Rattle.nn_tree.specs.Walks.{file_fault, walk_fault, mkdir_fault, delete_fault, rename_fault, starts_with, IsRenamed};
 ghost use Rattle.std.specs.String.{string_bytes};
 ghost use Rattle.std.specs.Option.{option_copied};
@@ -12,7 +12,7 @@ ghost use Rattle.nn_tree.specs.Listing.{lent_names};
 ghost use Rattle.nn_tree.specs.Found.{form_of};
 ghost use Rattle.std.specs.FinMap.Entries.{is_sorted};
 ghost use Rattle.nn_model.specs.Namespace.{path_cmp};
-ghost use Rattle.nn_tree.specs.At.{at, names_of, IsSubtree, IsGrafted, IsSame};
+ghost use Rattle.nn_tree.specs.At.{at, IsSubtree, IsGrafted, IsSame};
 ghost use Rattle.nn_tree.specs.Changes.{IsMade};
 
 pub(crate) mod files;
@@ -21,7 +21,7 @@ use crate::found::Found;
 use crate::listing::{Extent, RowSink};
 use crate::touched::push_ids;
 use nn_model::{EditFault, FileRow};
-use nn_types::BlockId;
+use nn_types::{BlockId, Names};
 use std::alloc::{AllocError, Global};
 use std::collections::BTreeMap;
 use std::marker::Model;
@@ -86,8 +86,8 @@ impl Tree {
     }
 
     /// The tree at a path, if something stands there.
-    pub(crate) fn node(&self, names: &[String]) -> Option<&Tree>
-        ensures { IsSubtree self.now (names_of names.now) (option_copied result) }
+    pub(crate) fn node(&self, names: &Names<'_>) -> Option<&Tree>
+        ensures { IsSubtree self.now names.now (option_copied result) }
     {
         let Some((first, rest)) = names.split_first() else {
             return Some(self);
@@ -95,15 +95,20 @@ impl Tree {
         let Node::Folder(children) = &self.node else {
             return None;
         };
-        let Some(child) = children.get(first.as_str()) else {
+        let Some(child) = children.get(first) else {
             return None;
         };
-        child.node(rest)
+        child.node(&rest)
     }
 
     /// Puts a tree at a path where nothing stands, in a directory.
-    pub(crate) fn make(&mut self, names: &[String], tree: Tree) -> Result<(), Unchanged>
-        ensures ok { OnOk result (IsMade self.old (names_of names.now) tree self.new) }
+    pub(crate) fn make(
+        &mut self,
+        alloc: Global,
+        names: &Names<'_>,
+        tree: Tree,
+    ) -> Result<(), Unchanged>
+        ensures ok { OnOk result (IsMade self.old names.now tree self.new) }
         ensures err { OnErr result (IsSame self.old self.new) }
     {
         let Node::Folder(children) = &mut self.node else {
@@ -113,7 +118,7 @@ impl Tree {
             return Err(Unchanged);
         };
         if rest.is_empty() {
-            let Ok(name) = first.clone() else {
+            let Ok(name) = String::from_str(alloc, first) else {
                 return Err(Unchanged);
             };
             let Ok(before) = children.insert(name, tree) else {
@@ -123,24 +128,24 @@ impl Tree {
                 return Ok(());
             };
             // One search serves where nothing stood. What did stand is put back.
-            let Some(place) = children.get_mut(first.as_str()) else {
+            let Some(place) = children.get_mut(first) else {
                 unreachable!()
             };
             *place = before;
             return Err(Unchanged);
         }
-        let Some(child) = children.get_mut(first.as_str()) else {
+        let Some(child) = children.get_mut(first) else {
             return Err(Unchanged);
         };
-        child.make(rest, tree)
+        child.make(alloc, &rest, tree)
     }
 
     /// Takes out what stands at the path.
-    pub(crate) fn take(&mut self, names: &[String]) -> Option<Tree>
+    pub(crate) fn take(&mut self, names: &Names<'_>) -> Option<Tree>
         requires { 0 < length names.now }
-        ensures walked { IfSome result (λ t. walk_fault (at self.old) (names_of names.now) ≡ None) }
-        ensures taken { IsSubtree self.old (names_of names.now) result }
-        ensures gone { IsGrafted self.old (names_of names.now) None self.new }
+        ensures walked { IfSome result (λ t. walk_fault (at self.old) names.now ≡ None) }
+        ensures taken { IsSubtree self.old names.now result }
+        ensures gone { IsGrafted self.old names.now None self.new }
     {
         let Node::Folder(children) = &mut self.node else {
             return None;
@@ -149,19 +154,19 @@ impl Tree {
             return None;
         };
         if rest.is_empty() {
-            return children.remove(first.as_str());
+            return children.remove(first);
         }
-        let Some(child) = children.get_mut(first.as_str()) else {
+        let Some(child) = children.get_mut(first) else {
             return None;
         };
-        child.take(rest)
+        child.take(&rest)
     }
 
     /// Puts a tree in place of what stands at the path, and gives that back.
-    pub(crate) fn put(&mut self, names: &[String], tree: Tree) -> Tree
-        requires { IsSome (at self.old (names_of names.now)) }
-        ensures old { IsSubtree self.old (names_of names.now) (Some result) }
-        ensures new { IsGrafted self.old (names_of names.now) (Some tree) self.new }
+    pub(crate) fn put(&mut self, names: &Names<'_>, tree: Tree) -> Tree
+        requires { IsSome (at self.old names.now) }
+        ensures old { IsSubtree self.old names.now (Some result) }
+        ensures new { IsGrafted self.old names.now (Some tree) self.new }
     {
         let Some((first, rest)) = names.split_first() else {
             return mem::replace(self, tree);
@@ -169,17 +174,17 @@ impl Tree {
         let Node::Folder(children) = &mut self.node else {
             unreachable!()
         };
-        let Some(child) = children.get_mut(first.as_str()) else {
+        let Some(child) = children.get_mut(first) else {
             unreachable!()
         };
-        child.put(rest, tree)
+        child.put(&rest, tree)
     }
 
     /// Walks the parents of a path, and then gives what stands at it.
-    pub(crate) fn reach(&self, names: &[String]) -> Result<Option<&Tree>, EditFault>
-        ensures walked { MatchResult result (λ o. walk_fault (at self.now) (names_of names.now) ≡ None) (λ e. walk_fault (at self.now) (names_of names.now) ≡ Some e) }
-        ensures found { IfOk result (λ o. IsSubtree self.now (names_of names.now) (option_copied o)) }
-        ensures present { IfOk result (λ o. is_some (at self.now (names_of names.now)) ≡ is_some o) }
+    pub(crate) fn reach(&self, names: &Names<'_>) -> Result<Option<&Tree>, EditFault>
+        ensures walked { MatchResult result (λ o. walk_fault (at self.now) names.now ≡ None) (λ e. walk_fault (at self.now) names.now ≡ Some e) }
+        ensures found { IfOk result (λ o. IsSubtree self.now names.now (option_copied o)) }
+        ensures present { IfOk result (λ o. is_some (at self.now names.now) ≡ is_some o) }
     {
         let Some((first, rest)) = names.split_first() else {
             let _ = &self.node;
@@ -188,18 +193,18 @@ impl Tree {
         let Node::Folder(children) = &self.node else {
             return Err(EditFault::NotDirectory);
         };
-        let Some(child) = children.get(first.as_str()) else {
+        let Some(child) = children.get(first) else {
             if rest.is_empty() {
                 return Ok(None);
             }
             return Err(EditFault::Missing);
         };
-        child.reach(rest)
+        child.reach(&rest)
     }
 
     /// The fault of making a directory.
-    pub(crate) fn mkdir_refusal(&self, names: &[String]) -> Option<EditFault>
-        ensures { result ≡ mkdir_fault (at self.now) (names_of names.now) }
+    pub(crate) fn mkdir_refusal(&self, names: &Names<'_>) -> Option<EditFault>
+        ensures { result ≡ mkdir_fault (at self.now) names.now }
     {
         if names.is_empty() {
             return Some(EditFault::IsRoot);
@@ -212,8 +217,8 @@ impl Tree {
     }
 
     /// The fault of a removal.
-    pub(crate) fn delete_refusal(&self, names: &[String]) -> Option<EditFault>
-        ensures { result ≡ delete_fault (at self.now) (names_of names.now) }
+    pub(crate) fn delete_refusal(&self, names: &Names<'_>) -> Option<EditFault>
+        ensures { result ≡ delete_fault (at self.now) names.now }
     {
         if names.is_empty() {
             return Some(EditFault::IsRoot);
@@ -236,9 +241,9 @@ impl Tree {
     }
 
     /// The file at a path, or why there is none.
-    pub(crate) fn file(&self, names: &[String]) -> Result<&FileRow, EditFault>
-        ensures found { MatchResult result (λ x. file_fault (at self.now) (names_of names.now) ≡ None) (λ e. file_fault (at self.now) (names_of names.now) ≡ Some e) }
-        ensures file { IfOk result (λ x. at self.now (names_of names.now) ≡ Some (File x.now)) }
+    pub(crate) fn file(&self, names: &Names<'_>) -> Result<&FileRow, EditFault>
+        ensures found { MatchResult result (λ x. file_fault (at self.now) names.now ≡ None) (λ e. file_fault (at self.now) names.now ≡ Some e) }
+        ensures file { IfOk result (λ x. at self.now names.now ≡ Some (File x.now)) }
     {
         if names.is_empty() {
             return Err(EditFault::IsRoot);
@@ -257,8 +262,8 @@ impl Tree {
     }
 
     /// The fault of a rename.
-    pub(crate) fn rename_refusal(&self, src: &[String], dst: &[String]) -> Option<EditFault>
-        ensures { result ≡ rename_fault (at self.now) (names_of src.now) (names_of dst.now) }
+    pub(crate) fn rename_refusal(&self, src: &Names<'_>, dst: &Names<'_>) -> Option<EditFault>
+        ensures { result ≡ rename_fault (at self.now) src.now dst.now }
     {
         if dst.is_empty() {
             return Some(EditFault::IsRoot);
@@ -266,7 +271,7 @@ impl Tree {
         if let Some(fault) = self.delete_refusal(src) {
             return Some(fault);
         }
-        if src.len() < dst.len() && begins_with(dst, src) {
+        if lies_below(dst, src) {
             return Some(EditFault::IntoItself);
         }
         self.mkdir_refusal(dst)
@@ -276,12 +281,12 @@ impl Tree {
     pub(crate) fn rename(
         &mut self,
         alloc: Global,
-        src: &[String],
-        dst: &[String],
+        src: &Names<'_>,
+        dst: &Names<'_>,
     ) -> Result<(), Unchanged>
-        ensures applies { OnOk result (rename_fault (at self.old) (names_of src.now) (names_of dst.now) ≡ None) }
-        ensures free { OnOk result (IsSubtree self.old (names_of dst.now) None) }
-        ensures ok { OnOk result (IsRenamed self.old (names_of src.now) (names_of dst.now) self.new) }
+        ensures applies { OnOk result (rename_fault (at self.old) src.now dst.now ≡ None) }
+        ensures free { OnOk result (IsSubtree self.old dst.now None) }
+        ensures ok { OnOk result (IsRenamed self.old src.now dst.now self.new) }
         ensures err { OnErr result (IsSame self.old self.new) }
     {
         if src.is_empty() {
@@ -290,7 +295,7 @@ impl Tree {
         if begins_with(dst, src) {
             return Err(Unchanged);
         }
-        let Ok(()) = self.make(dst, Tree::new_dir(alloc)) else {
+        let Ok(()) = self.make(alloc, dst, Tree::new_dir(alloc)) else {
             return Err(Unchanged);
         };
         let Some(tree) = self.take(src) else {
@@ -360,8 +365,8 @@ impl Tree {
 }
 
 // Whether the path begins with the prefix.
-fn begins_with(names: &[String], prefix: &[String]) -> bool
-    ensures { result ≡ starts_with (names_of prefix.now) (names_of names.now) }
+fn begins_with(names: &Names<'_>, prefix: &Names<'_>) -> bool
+    ensures { result ≡ starts_with prefix.now names.now }
 {
     let Some((p, ps)) = prefix.split_first() else {
         return true;
@@ -369,8 +374,24 @@ fn begins_with(names: &[String], prefix: &[String]) -> bool
     let Some((n, ns)) = names.split_first() else {
         return false;
     };
-    if p.as_str() != n.as_str() {
+    if p != n {
         return false;
     }
-    begins_with(ns, ps)
+    begins_with(&ns, &ps)
+}
+
+// Whether the path lies below the prefix: begins with it, and goes on.
+fn lies_below(names: &Names<'_>, prefix: &Names<'_>) -> bool
+    ensures { result ≡ (starts_with prefix.now names.now && nat_lt (length prefix.now) (length names.now)) }
+{
+    let Some((p, ps)) = prefix.split_first() else {
+        return !names.is_empty();
+    };
+    let Some((n, ns)) = names.split_first() else {
+        return false;
+    };
+    if p != n {
+        return false;
+    }
+    lies_below(&ns, &ps)
 }

@@ -7,6 +7,7 @@
 mod block;
 mod event;
 pub mod fault;
+mod names;
 mod number;
 mod path;
 mod replica;
@@ -16,6 +17,7 @@ mod status;
 
 pub use block::{Block, Blocks};
 pub use event::{Cause, Event};
+pub use names::Names;
 pub use number::{BlockId, GenerationStamp, Length, Replication, Txid};
 pub use path::{Path, PathFault, one_spelling, text_of};
 pub use replica::{Class, Replica};

@@ -1,10 +1,11 @@
 //! Paths of the namespace, seen as lists of names.
-ghost use Rattle.std.specs.Prelude.{◌≡◌, List, ℕ, Some, None, IfOk, IsErrOf, string_bytes, map, true, false};
+ghost use Rattle.std.specs.Prelude.{◌≡◌, List, ℕ, length, Some, None, IfOk, IfSome, IfNone, IsErrOf, string_bytes, map, true, false};
 ghost use Rattle.std.specs.List.{list_all};
 ghost use Rattle.nn_types.specs.Fault.{number_of};
 ghost use Rattle.nn_types.specs.Path.{is_name, is_name_byte, parts, path_of, path_text, joined, IsPath};
 
 use crate::fault;
+use crate::names::Names;
 use std::alloc::{AllocError, AllocFailed, Global};
 use std::marker::Model;
 use thiserror::Error;
@@ -18,21 +19,21 @@ const MAX_NAMES: usize = 1000;
 /// The bytes that a path's text may have.
 const MAX_PATH_LEN: usize = 8000;
 
-/// An absolute path: its names from the root down. The root has none.
+/// An absolute path, kept as its text. Its names stand from the root down; the root has none.
 #[derive(Drop)]
 pub struct Path {
-    names: Vec<String>,
+    text: String,
 }
 
 impl Model for Path {
-    ghost use Rattle.std.specs.Prelude.{List, ℕ, map, string_bytes};
-    ghost use Rattle.nn_types.specs.Path.{IsPath};
+    ghost use Rattle.std.specs.Prelude.{List, ℕ, string_bytes};
+    ghost use Rattle.nn_types.specs.Path.{names_of_text, IsSpelled};
 
     ghost Value = { List (List ℕ) };
 
-    ghost view = { λ p. map string_bytes p.names.items };
+    ghost view = { λ p. names_of_text (string_bytes p.text) };
 
-    ghost invariant = { λ p. IsPath (map string_bytes p.names.items) };
+    ghost invariant = { λ p. IsSpelled (string_bytes p.text) };
 }
 
 /// Why a text is not read as a path.
@@ -94,36 +95,33 @@ impl Path {
         let Some(rest) = text.strip_prefix('/') else {
             return Err(PathFault::BadPath);
         };
-        let names = names_between(alloc, rest)?;
-        if names.len() > MAX_NAMES {
+        let Some(count) = count_names(rest) else {
+            return Err(PathFault::BadPath);
+        };
+        if count > MAX_NAMES {
             return Err(PathFault::BadPath);
         }
-        Ok(Path { names })
+        let text = String::from_str(alloc, text)?;
+        Ok(Path { text })
     }
 
     /// The names, from the root down.
-    pub fn names(&self) -> &[String]
-        ensures names { map string_bytes result.now ≡ self.now }
+    pub fn names(&self) -> Names<'_>
+        ensures names { result ≡ self.now }
         ensures lawful { IsPath self.now }
     {
-        self.names.as_slice()
-    }
-
-    /// The names themselves.
-    pub fn into_names(self) -> Vec<String>
-        ensures names { map string_bytes result.items ≡ self }
-        ensures lawful { IsPath self }
-    {
-        let Path { names } = self;
-        names
+        match self.text.strip_prefix('/') {
+            Some(names) => Names::of(names),
+            None => unreachable!(),
+        }
     }
 
     /// The one text of the path.
-    pub fn to_text(&self, alloc: Global) -> Result<String, AllocError>
-        ensures text { IfOk result (λ s. string_bytes s ≡ path_text self.now) }
+    pub fn text(&self) -> &str
+        ensures text { result.now ≡ path_text self.now }
         ensures lawful { IsPath self.now }
     {
-        text_of(alloc, &self.names)
+        self.text.as_str()
     }
 }
 
@@ -158,23 +156,22 @@ fn joined(alloc: Global, names: &[String]) -> Result<String, AllocError>
     Ok(text)
 }
 
-// The parts of a text between slashes, if each is a name. An empty text has none.
-fn names_between(alloc: Global, text: &str) -> Result<Vec<String>, PathFault>
-    ensures ok { IfOk result
-        (λ v. (map string_bytes v.items ≡ parts text.now) × (list_all is_name (parts text.now) ≡ true)) }
-    ensures bad { IsErrOf result PathFault.BadPath → list_all is_name (parts text.now) ≡ false }
+// How many parts between slashes a text has, if each is a name. An empty text has none.
+fn count_names(text: &str) -> Option<usize>
+    ensures names { IfSome result (λ n. (n ≡ length (parts text.now)) × (list_all is_name (parts text.now) ≡ true)) }
+    ensures bad { IfNone result (list_all is_name (parts text.now) ≡ false) }
 {
-    let mut names = Vec::new(alloc);
+    let mut count = 0;
     if text.is_empty() {
-        return Ok(names);
+        return Some(count);
     }
     for name in text.split('/') {
         if !is_name(name) {
-            return Err(PathFault::BadPath);
+            return None;
         }
-        names.push(String::from_str(alloc, name)?)?;
+        count += 1;
     }
-    Ok(names)
+    Some(count)
 }
 
 fn is_name(name: &str) -> bool

@@ -13,7 +13,7 @@ impl Namespace {
     pub(super) fn mkdir_refusal(&self, path: &Path) -> Option<EditFault>
         ensures { result ≡ refusal self.now (edit.Mkdir path.now) }
     {
-        self.root.mkdir_refusal(path.names())
+        self.root.mkdir_refusal(&path.names())
     }
 
     pub(super) fn add_refusal(&self, path: &Path, replication: Replication) -> Option<EditFault>
@@ -26,7 +26,7 @@ impl Namespace {
         if !is_replication(replication) {
             return Some(EditFault::BadReplication);
         }
-        self.root.mkdir_refusal(names)
+        self.root.mkdir_refusal(&names)
     }
 
     pub(super) fn add_block_refusal(
@@ -37,7 +37,7 @@ impl Namespace {
     ) -> Option<EditFault>
         ensures { result ≡ refusal self.now (edit.AddBlock path.now id stamp) }
     {
-        let file = match self.root.file(path.names()) {
+        let file = match self.root.file(&path.names()) {
             Err(fault) => return Some(fault),
             Ok(file) => file,
         };
@@ -56,7 +56,7 @@ impl Namespace {
     pub(super) fn list_refusal(&self, path: &Path, blocks: &Blocks) -> Option<EditFault>
         ensures { result ≡ first (list_checks self.now path.now blocks.now) }
     {
-        let file = match self.root.file(path.names()) {
+        let file = match self.root.file(&path.names()) {
             Err(fault) => return Some(fault),
             Ok(file) => file,
         };
@@ -77,13 +77,13 @@ impl Namespace {
     pub(super) fn rename_refusal(&self, src: &Path, dst: &Path) -> Option<EditFault>
         ensures { result ≡ refusal self.now (edit.Rename src.now dst.now) }
     {
-        self.root.rename_refusal(src.names(), dst.names())
+        self.root.rename_refusal(&src.names(), &dst.names())
     }
 
     pub(super) fn delete_refusal(&self, path: &Path) -> Option<EditFault>
         ensures { result ≡ refusal self.now (edit.Delete path.now) }
     {
-        self.root.delete_refusal(path.names())
+        self.root.delete_refusal(&path.names())
     }
 
     pub(super) fn set_replication_refusal(
@@ -100,7 +100,7 @@ impl Namespace {
         if !is_replication(replication) {
             return Some(EditFault::BadReplication);
         }
-        if let Err(fault) = self.root.file(names) {
+        if let Err(fault) = self.root.file(&names) {
             return Some(fault);
         }
         None

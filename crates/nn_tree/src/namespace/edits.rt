@@ -48,7 +48,10 @@ impl Namespace {
         ensures touched { IfOk result (λ t. shown t ≡ touched self.old (edit.Mkdir path.now)) }
         ensures err { OnErr result (self.new ≡ self.old) }
     {
-        let Ok(()) = self.root.make(path.names(), Tree::new_dir(self.alloc)) else {
+        let Ok(()) = self
+            .root
+            .make(self.alloc, &path.names(), Tree::new_dir(self.alloc))
+        else {
             return Err(Unchanged);
         };
         Ok(Touched::nothing(self.alloc))
@@ -65,7 +68,10 @@ impl Namespace {
             return Err(Unchanged);
         }
         let file = empty_file(self.alloc, replication);
-        let Ok(()) = self.root.make(path.names(), Tree::new_file(file)) else {
+        let Ok(()) = self
+            .root
+            .make(self.alloc, &path.names(), Tree::new_file(file))
+        else {
             return Err(Unchanged);
         };
         Ok(Touched::nothing(self.alloc))
@@ -104,7 +110,7 @@ impl Namespace {
         let Ok(_none) = self.index.insert(key, row) else {
             return Err(Unchanged);
         };
-        let Ok(()) = self.root.push_block(names, empty_block(id, stamp)) else {
+        let Ok(()) = self.root.push_block(&names, empty_block(id, stamp)) else {
             let _row = self.index.remove(&key);
             return Err(Unchanged);
         };
@@ -152,7 +158,7 @@ impl Namespace {
         let last_stamp = self.last_stamp;
         let told = self
             .root
-            .set_blocks(names, self.alloc, blocks, closed, last_stamp);
+            .set_blocks(&names, self.alloc, blocks, closed, last_stamp);
         let Ok((touched, old)) = told else {
             return Err(Unchanged);
         };
@@ -167,7 +173,7 @@ impl Namespace {
         ensures touched { IfOk result (λ t. shown t ≡ touched self.old (edit.Rename src.now dst.now)) }
         ensures err { OnErr result (self.new ≡ self.old) }
     {
-        let Ok(()) = self.root.rename(self.alloc, src.names(), dst.names()) else {
+        let Ok(()) = self.root.rename(self.alloc, &src.names(), &dst.names()) else {
             return Err(Unchanged);
         };
         Ok(Touched::nothing(self.alloc))
@@ -184,14 +190,14 @@ impl Namespace {
         if names.is_empty() {
             return Err(Unchanged);
         }
-        let Ok(Some(tree)) = self.root.reach(names) else {
+        let Ok(Some(tree)) = self.root.reach(&names) else {
             return Err(Unchanged);
         };
         let mut ids = Vec::new(self.alloc);
         let Ok(()) = tree.collect_ids(&mut ids) else {
             return Err(Unchanged);
         };
-        let _gone = self.root.take(names);
+        let _gone = self.root.take(&names);
         forget(&mut self.index, &ids);
         ids.sort_unstable();
         Ok(Touched::deleted(self.alloc, ids))
@@ -215,7 +221,7 @@ impl Namespace {
         if !is_replication(replication) {
             return Err(Unchanged);
         }
-        let Ok(()) = self.root.set_replication(names, replication) else {
+        let Ok(()) = self.root.set_replication(&names, replication) else {
             return Err(Unchanged);
         };
         Ok(Touched::nothing(self.alloc))

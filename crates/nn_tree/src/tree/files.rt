@@ -1,20 +1,20 @@
 //! Changes of a file, made where it stands: one walk down its path checks and changes.
 ghost use Rattle.std.specs.Prelude.{◌≡◌, ◌++◌, ◌∷◌, [], IfOk, OnOk, OnErr};
 ghost use Rattle.nn_model.specs.Apply.{keeps_ids, keeps_stamps};
-ghost use Rattle.nn_tree.specs.At.{names_of, IsSame};
+ghost use Rattle.nn_tree.specs.At.{IsSame};
 ghost use Rattle.nn_tree.specs.Changes.{IsFileChanged, GetsBlock, GetsList, GetsReplication};
 
 use super::{Node, Tree, Unchanged};
 use crate::touched::Touched;
 use nn_model::FileRow;
-use nn_types::{Block, Blocks, GenerationStamp, Replication};
+use nn_types::{Block, Blocks, GenerationStamp, Names, Replication};
 use std::alloc::Global;
 use std::mem;
 
 impl Tree {
     /// Adds a block at the end of an open file.
-    pub(crate) fn push_block(&mut self, names: &[String], block: Block) -> Result<(), Unchanged>
-        ensures ok { IfOk result (λ done. IsFileChanged self.old (names_of names.now) self.new (GetsBlock block)) }
+    pub(crate) fn push_block(&mut self, names: &Names<'_>, block: Block) -> Result<(), Unchanged>
+        ensures ok { IfOk result (λ done. IsFileChanged self.old names.now self.new (GetsBlock block)) }
         ensures err { OnErr result (IsSame self.old self.new) }
     {
         let Some((first, rest)) = names.split_first() else {
@@ -26,22 +26,22 @@ impl Tree {
         let Node::Folder(children) = &mut self.node else {
             return Err(Unchanged);
         };
-        let Some(child) = children.get_mut(first.as_str()) else {
+        let Some(child) = children.get_mut(first) else {
             return Err(Unchanged);
         };
-        child.push_block(rest, block)
+        child.push_block(&rest, block)
     }
 
     /// Gives an open file another list of blocks, and tells what that touched and the list before.
     pub(crate) fn set_blocks(
         &mut self,
-        names: &[String],
+        names: &Names<'_>,
         alloc: Global,
         blocks: &Blocks,
         closed: bool,
         last_stamp: GenerationStamp,
     ) -> Result<(Touched, Blocks), Unchanged>
-        ensures ok { IfOk result (λ done. IsFileChanged self.old (names_of names.now) self.new (GetsList blocks.now closed last_stamp done)) }
+        ensures ok { IfOk result (λ done. IsFileChanged self.old names.now self.new (GetsList blocks.now closed last_stamp done)) }
         ensures err { OnErr result (IsSame self.old self.new) }
     {
         let Some((first, rest)) = names.split_first() else {
@@ -53,19 +53,19 @@ impl Tree {
         let Node::Folder(children) = &mut self.node else {
             return Err(Unchanged);
         };
-        let Some(child) = children.get_mut(first.as_str()) else {
+        let Some(child) = children.get_mut(first) else {
             return Err(Unchanged);
         };
-        child.set_blocks(rest, alloc, blocks, closed, last_stamp)
+        child.set_blocks(&rest, alloc, blocks, closed, last_stamp)
     }
 
     /// Gives a file another replication.
     pub(crate) fn set_replication(
         &mut self,
-        names: &[String],
+        names: &Names<'_>,
         replication: Replication,
     ) -> Result<(), Unchanged>
-        ensures ok { IfOk result (λ done. IsFileChanged self.old (names_of names.now) self.new (GetsReplication replication)) }
+        ensures ok { IfOk result (λ done. IsFileChanged self.old names.now self.new (GetsReplication replication)) }
         ensures err { OnErr result (IsSame self.old self.new) }
     {
         let Some((first, rest)) = names.split_first() else {
@@ -78,10 +78,10 @@ impl Tree {
         let Node::Folder(children) = &mut self.node else {
             return Err(Unchanged);
         };
-        let Some(child) = children.get_mut(first.as_str()) else {
+        let Some(child) = children.get_mut(first) else {
             return Err(Unchanged);
         };
-        child.set_replication(rest, replication)
+        child.set_replication(&rest, replication)
     }
 }
 

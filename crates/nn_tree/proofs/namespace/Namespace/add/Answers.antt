@@ -7,7 +7,7 @@ use Rattle.nn_model.specs.Apply.{refusal, effect}
 use Rattle.nn_model.specs.declared.form.Form.{Form}
 use Rattle.std.specs.BTreeMap.{get}
 use Rattle.std.specs.Ordering.{nat_cmp}
-use Rattle.nn_tree.specs.At.{names_of, IsGrafted}
+use Rattle.nn_tree.specs.At.{IsGrafted}
 use Rattle.nn_tree.specs.View.{seen, IsKept}
 use Rattle.nn_tree.proofs.Applies.{add_applies}
 use Rattle.nn_tree.proofs.Kept.{still_seen, still_kept, made, add_kept}
@@ -28,7 +28,7 @@ invariant_of-self-2 c =
     let i = c.self.inside in
     let s = seen i.root i.last_block i.last_stamp i.waiting.keys in
     let p = c.args.path.now in
-    let ns = names_of c.names.result.now in
+    let ns = c.names.result in
     let lawful : refusal s (edit.Add p c.args.replication) ≡ None = add_applies i.root s p ns c.args.replication refl c.names.ensures.names c.in-Ok.ensures.ok.0 (c.is_replication.ensures ∙ ap not c.if-not-is_replication.false) in
     let is : seen c.make.new.self i.last_block i.last_stamp i.waiting.keys ≡ effect s (edit.Add c.args.path.now c.args.replication) = made i.root c.make.new.self i.last_block i.last_stamp i.waiting.keys p ns (File (record { replication = c.args.replication; closed = false; blocks = [] })) c.names.ensures.names c.in-Ok.ensures.ok.1 (subst (λ (es : List (Path × Form)). IsGrafted i.root ns (Some es) c.make.new.self) (c.new_file.ensures ∙ ap (λ (x : FileRow). ([], File x) ∷ []) c.empty_file-file.ensures) c.in-Ok.ensures.ok.2) in
     subst (λ (n : Namespace). IsKept n (λ id. get nat_cmp i.index id)) (sym is) (add_kept s p c.args.replication _ c.requires.lawful lawful c.self.invariant)
@@ -38,7 +38,7 @@ returns-clause-applies c =
     let i = c.self.inside in
     let s = seen i.root i.last_block i.last_stamp i.waiting.keys in
     let p = c.args.path.now in
-    let ns = names_of c.names.result.now in
+    let ns = c.names.result in
     let lawful : refusal s (edit.Add p c.args.replication) ≡ None = add_applies i.root s p ns c.args.replication refl c.names.ensures.names c.in-Ok.ensures.ok.0 (c.is_replication.ensures ∙ ap not c.if-not-is_replication.false) in
     subst (λ (n : Namespace). refusal n (edit.Add c.args.path.now c.args.replication) ≡ None) c.self.view_is lawful
 
@@ -47,6 +47,6 @@ returns-clause-ok c =
     let i = c.self.inside in
     let s = seen i.root i.last_block i.last_stamp i.waiting.keys in
     let p = c.args.path.now in
-    let ns = names_of c.names.result.now in
+    let ns = c.names.result in
     let is : seen c.make.new.self i.last_block i.last_stamp i.waiting.keys ≡ effect s (edit.Add c.args.path.now c.args.replication) = made i.root c.make.new.self i.last_block i.last_stamp i.waiting.keys p ns (File (record { replication = c.args.replication; closed = false; blocks = [] })) c.names.ensures.names c.in-Ok.ensures.ok.1 (subst (λ (es : List (Path × Form)). IsGrafted i.root ns (Some es) c.make.new.self) (c.new_file.ensures ∙ ap (λ (x : FileRow). ([], File x) ∷ []) c.empty_file-file.ensures) c.in-Ok.ensures.ok.2) in
     is ∙ ap (λ (n : Namespace). effect n (edit.Add c.args.path.now c.args.replication)) c.self.view_is

@@ -7,7 +7,6 @@ use Rattle.nn_edits.specs.declared.tx.Edit.TheVariants as edit
 use Rattle.nn_model.specs.declared.form.Form.TheVariants.{File}
 use Rattle.nn_model.specs.Namespace.{Namespace, lookup}
 use Rattle.nn_model.specs.Apply.{refusal, effect, new_block, has_id}
-use Rattle.nn_tree.specs.At.{names_of}
 use Rattle.nn_tree.specs.declared.index.BlockRow.{BlockRow}
 use Rattle.nn_tree.specs.View.{seen, IsKept}
 use Rattle.nn_tree.proofs.Applies.{HasFile, add_block_applies}
@@ -41,9 +40,9 @@ invariant_of-self-2 c =
     let i = c.self.inside in
     let s = seen i.root i.last_block i.last_stamp i.waiting.keys in
     let p = c.args.path.now in
-    let ns = names_of c.names-names.result.now in
+    let ns = c.names-names.result in
     let done = c.in-Ok-push_block.ensures.ok in
-    let has : HasFile i.root s p ns done.0 = record { rows = refl; names = c.names-names.ensures.names; root = not_root c.names-names.result.now c.if-is_empty.ensures; walked = done.2; stands = done.3 } in
+    let has : HasFile i.root s p ns done.0 = record { rows = refl; names = c.names-names.ensures.names; root = not_root c.names-names.result c.if-is_empty.ensures; walked = done.2; stands = done.3 } in
     let waiting : has_id s.awaiting c.args.id ≡ true = ap (has_id s.awaiting) (sym c.get-key.ensures.value) ∙ sym (has_is s.awaiting c.get-key.result) ∙ sym c.contains.ensures ∙ c.if-not-contains.false in
     let lawful : refusal s (edit.AddBlock p c.args.id c.args.stamp) ≡ None = add_block_applies i.root s p ns done.0 c.args.id c.args.stamp has done.5.0 (ap not waiting) (c.is_issued.ensures ∙ ap not c.if-not-is_issued.false) in
     let was : lookup s p ≡ Some (File done.0) = file_was i.root i.last_block i.last_stamp i.waiting.keys p ns done.0 c.names-names.ensures.names done.3 in
@@ -63,9 +62,9 @@ returns-clause-applies c =
     let i = c.self.inside in
     let s = seen i.root i.last_block i.last_stamp i.waiting.keys in
     let p = c.args.path.now in
-    let ns = names_of c.names-names.result.now in
+    let ns = c.names-names.result in
     let done = c.in-Ok-push_block.ensures.ok in
-    let has : HasFile i.root s p ns done.0 = record { rows = refl; names = c.names-names.ensures.names; root = not_root c.names-names.result.now c.if-is_empty.ensures; walked = done.2; stands = done.3 } in
+    let has : HasFile i.root s p ns done.0 = record { rows = refl; names = c.names-names.ensures.names; root = not_root c.names-names.result c.if-is_empty.ensures; walked = done.2; stands = done.3 } in
     let waiting : has_id s.awaiting c.args.id ≡ true = ap (has_id s.awaiting) (sym c.get-key.ensures.value) ∙ sym (has_is s.awaiting c.get-key.result) ∙ sym c.contains.ensures ∙ c.if-not-contains.false in
     let lawful : refusal s (edit.AddBlock p c.args.id c.args.stamp) ≡ None = add_block_applies i.root s p ns done.0 c.args.id c.args.stamp has done.5.0 (ap not waiting) (c.is_issued.ensures ∙ ap not c.if-not-is_issued.false) in
     subst (λ (n : Namespace). refusal n (edit.AddBlock p c.args.id c.args.stamp) ≡ None) c.self.view_is lawful
@@ -75,7 +74,7 @@ returns-clause-ok c =
     let i = c.self.inside in
     let s = seen i.root i.last_block i.last_stamp i.waiting.keys in
     let p = c.args.path.now in
-    let ns = names_of c.names-names.result.now in
+    let ns = c.names-names.result in
     let done = c.in-Ok-push_block.ensures.ok in
     let is : seen c.push_block.new.self i.last_block i.last_stamp c.remove-waited.new.self.keys ≡ effect s (edit.AddBlock p c.args.id c.args.stamp) =
     add_block_seen i.root c.push_block.new.self i.last_block i.last_stamp i.waiting.keys c.remove-waited.new.self.keys p ns c.args.id c.args.stamp done.0 done.1 c.names-names.ensures.names done.3 done.4

@@ -3,7 +3,6 @@ use Rattle.nn_edits.specs.declared.tx.Edit.TheVariants as edit
 use Rattle.nn_model.specs.Namespace.{Namespace, no_stamp}
 use Rattle.nn_model.specs.Apply.{refusal, when, has_id, closed}
 use Rattle.nn_model.specs.declared.fault.EditFault.TheVariants.{NotOpen, BadBlockId, BadGeneration}
-use Rattle.nn_tree.specs.At.{names_of}
 use Rattle.nn_tree.specs.View.{seen}
 use Rattle.std.proofs.Common.{[], ◌∷◌}
 use Rattle.nn_tree.proofs.Bridge.{file_refused, add_block_at, has_is, at_first, at_second, at_third, at_none}
@@ -14,7 +13,7 @@ returns-in-Err c =
     let i = c.self.inside in
     let s = seen i.root i.last_block i.last_stamp i.waiting.keys in
     let p = c.args.path.now in
-    let ns = names_of c.names.result.now in
+    let ns = c.names.result in
     subst (λ (n : Namespace). Some c.in-Err.fault ≡ refusal n (edit.AddBlock c.args.path.now c.args.id c.args.stamp)) c.self.view_is
     (file_refused i.root s p ns (closed s p ∷ when (not (has_id s.awaiting c.args.id)) BadBlockId ∷ when (nat_le c.args.stamp no_stamp || nat_lt s.last_stamp c.args.stamp) BadGeneration ∷ []) c.in-Err.fault refl c.names.ensures.names c.in-Err.ensures.found)
 
@@ -23,7 +22,7 @@ returns-then-file c =
     let i = c.self.inside in
     let s = seen i.root i.last_block i.last_stamp i.waiting.keys in
     let p = c.args.path.now in
-    let ns = names_of c.names.result.now in
+    let ns = c.names.result in
     subst (λ (n : Namespace). Some NotOpen ≡ refusal n (edit.AddBlock c.args.path.now c.args.id c.args.stamp)) c.self.view_is (at_first c.in-Ok.file.now.closed (not (has_id s.awaiting c.args.id)) (nat_le c.args.stamp no_stamp || nat_lt s.last_stamp c.args.stamp) NotOpen BadBlockId BadGeneration c.if-file.true ∙ add_block_at i.root s p ns c.in-Ok.file.now c.args.id c.args.stamp refl c.names.ensures.names c.in-Ok.ensures.found c.in-Ok.ensures.file)
 
 pub returns-then-not-contains : goal.returns-then-not-contains
@@ -31,7 +30,7 @@ returns-then-not-contains c =
     let i = c.self.inside in
     let s = seen i.root i.last_block i.last_stamp i.waiting.keys in
     let p = c.args.path.now in
-    let ns = names_of c.names.result.now in
+    let ns = c.names.result in
     subst (λ (n : Namespace). Some BadBlockId ≡ refusal n (edit.AddBlock c.args.path.now c.args.id c.args.stamp)) c.self.view_is (at_second c.in-Ok.file.now.closed (not (has_id s.awaiting c.args.id)) (nat_le c.args.stamp no_stamp || nat_lt s.last_stamp c.args.stamp) NotOpen BadBlockId BadGeneration c.if-file.false (ap not (ap (has_id s.awaiting) (sym c.get.ensures.value) ∙ sym (has_is s.awaiting c.get.result) ∙ sym c.contains.ensures ∙ c.if-not-contains.true)) ∙ add_block_at i.root s p ns c.in-Ok.file.now c.args.id c.args.stamp refl c.names.ensures.names c.in-Ok.ensures.found c.in-Ok.ensures.file)
 
 pub returns-then-not-is_issued : goal.returns-then-not-is_issued
@@ -39,7 +38,7 @@ returns-then-not-is_issued c =
     let i = c.self.inside in
     let s = seen i.root i.last_block i.last_stamp i.waiting.keys in
     let p = c.args.path.now in
-    let ns = names_of c.names.result.now in
+    let ns = c.names.result in
     subst (λ (n : Namespace). Some BadGeneration ≡ refusal n (edit.AddBlock c.args.path.now c.args.id c.args.stamp)) c.self.view_is (at_third c.in-Ok.file.now.closed (not (has_id s.awaiting c.args.id)) (nat_le c.args.stamp no_stamp || nat_lt s.last_stamp c.args.stamp) NotOpen BadBlockId BadGeneration c.if-file.false (ap not (ap (has_id s.awaiting) (sym c.get.ensures.value) ∙ sym (has_is s.awaiting c.get.result) ∙ sym c.contains.ensures ∙ c.if-not-contains.false)) (c.is_issued.ensures ∙ ap not c.if-not-is_issued.true) ∙ add_block_at i.root s p ns c.in-Ok.file.now c.args.id c.args.stamp refl c.names.ensures.names c.in-Ok.ensures.found c.in-Ok.ensures.file)
 
 pub returns : goal.returns
@@ -47,5 +46,5 @@ returns c =
     let i = c.self.inside in
     let s = seen i.root i.last_block i.last_stamp i.waiting.keys in
     let p = c.args.path.now in
-    let ns = names_of c.names.result.now in
+    let ns = c.names.result in
     subst (λ (n : Namespace). None ≡ refusal n (edit.AddBlock c.args.path.now c.args.id c.args.stamp)) c.self.view_is (at_none c.in-Ok.file.now.closed (not (has_id s.awaiting c.args.id)) (nat_le c.args.stamp no_stamp || nat_lt s.last_stamp c.args.stamp) NotOpen BadBlockId BadGeneration c.if-file.false (ap not (ap (has_id s.awaiting) (sym c.get.ensures.value) ∙ sym (has_is s.awaiting c.get.result) ∙ sym c.contains.ensures ∙ c.if-not-contains.false)) (c.is_issued.ensures ∙ ap not c.if-not-is_issued.false) ∙ add_block_at i.root s p ns c.in-Ok.file.now c.args.id c.args.stamp refl c.names.ensures.names c.in-Ok.ensures.found c.in-Ok.ensures.file)

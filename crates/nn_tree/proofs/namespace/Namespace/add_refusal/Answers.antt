@@ -2,7 +2,6 @@ use Rattle.std.proofs.Common.{◌≡◌, not, None, ap, subst, ◌∙◌, refl}
 use Rattle.nn_edits.specs.declared.tx.Edit.TheVariants as edit
 use Rattle.nn_model.specs.Namespace.{Namespace}
 use Rattle.nn_model.specs.Apply.{refusal}
-use Rattle.nn_tree.specs.At.{names_of}
 use Rattle.nn_tree.specs.View.{seen}
 use Rattle.nn_model.specs.Namespace.{Path}
 use Rattle.nn_tree.specs.Walks.{root_fault}
@@ -15,6 +14,6 @@ returns c =
     let i = c.self.inside in
     let s = seen i.root i.last_block i.last_stamp i.waiting.keys in
     let p = c.args.path.now in
-    let ns = names_of c.names-names.result.now in
+    let ns = c.names-names.result in
     subst (λ (n : Namespace). c.mkdir_refusal.result ≡ refusal n (edit.Add c.args.path.now c.args.replication)) c.self.view_is
-    (c.mkdir_refusal.ensures ∙ mkdir_refused i.root s p ns refl c.names-names.ensures.names ∙ add_past s p c.args.replication (subst (λ (q : Path). root_fault q ≡ None) c.names-names.ensures.names (not_root c.names-names.result.now c.if-is_empty.ensures)) (c.is_replication.ensures ∙ ap not c.if-not-is_replication.false))
+    (c.mkdir_refusal.ensures ∙ mkdir_refused i.root s p ns refl c.names-names.ensures.names ∙ add_past s p c.args.replication (subst (λ (q : Path). root_fault q ≡ None) c.names-names.ensures.names (not_root c.names-names.result c.if-is_empty.ensures)) (c.is_replication.ensures ∙ ap not c.if-not-is_replication.false))

@@ -6,7 +6,7 @@ use Rattle.nn_edits.specs.declared.tx.Edit.TheVariants as edit
 use Rattle.nn_model.specs.Namespace.{Namespace}
 use Rattle.nn_model.specs.Apply.{refusal, effect, has_id}
 use Rattle.nn_tree.specs.Ids.{ids_of}
-use Rattle.nn_tree.specs.At.{names_of, IsSubtree}
+use Rattle.nn_tree.specs.At.{IsSubtree}
 use Rattle.nn_tree.specs.View.{seen}
 use Rattle.nn_model.specs.Touched.{touched, ids_below, ascending}
 use Rattle.nn_tree.proofs.Applies.{delete_applies}
@@ -22,10 +22,10 @@ invariant_of-self c =
     let i = c.self.inside in
     let s = seen i.root i.last_block i.last_stamp i.waiting.keys in
     let p = c.args.path.now in
-    let ns = names_of c.names-names.result.now in
+    let ns = c.names-names.result in
     let tree = c.in-Ok-Some.tree.now in
     let sub : IsSubtree i.root ns (Some tree) = subst (λ o. IsSubtree i.root ns (option_copied o)) c.in-Ok-Some.field-0-is c.in-Ok-Some.ensures.found in
-    let lawful : refusal s (edit.Delete p) ≡ None = delete_applies i.root s p ns refl c.names-names.ensures.names (not_root c.names-names.result.now c.if-is_empty.ensures) c.in-Ok-Some.ensures.walked (c.in-Ok-Some.ensures.present ∙ ap is_some c.in-Ok-Some.field-0-is) in
+    let lawful : refusal s (edit.Delete p) ≡ None = delete_applies i.root s p ns refl c.names-names.ensures.names (not_root c.names-names.result c.if-is_empty.ensures) c.in-Ok-Some.ensures.walked (c.in-Ok-Some.ensures.present ∙ ap is_some c.in-Ok-Some.field-0-is) in
     delete_kept i.root c.take-gone.new.self tree i.last_block i.last_stamp i.waiting.keys c.collect_ids.new.out.items (λ id. get nat_cmp i.index id) (λ id. get nat_cmp c.forget.new.index id) p ns c.names-names.ensures.names c.requires.lawful
     lawful c.take-gone.ensures.gone sub c.in-Ok.ensures.sorted (c.in-Ok.ensures.ids ∙ ap (λ (xs : List ℕ). xs ++ ids_of tree) c.new-ids.ensures.items)
     (λ id. c.forget.ensures id ∙ ap (λ (xs : List ℕ). cond (has_id xs id) None (get nat_cmp i.index id)) c.deref.ensures.value) c.self.invariant
@@ -35,21 +35,21 @@ returns-clause-applies c =
     let i = c.self.inside in
     let s = seen i.root i.last_block i.last_stamp i.waiting.keys in
     let p = c.args.path.now in
-    let ns = names_of c.names-names.result.now in
-    let lawful : refusal s (edit.Delete p) ≡ None = delete_applies i.root s p ns refl c.names-names.ensures.names (not_root c.names-names.result.now c.if-is_empty.ensures) c.in-Ok-Some.ensures.walked (c.in-Ok-Some.ensures.present ∙ ap is_some c.in-Ok-Some.field-0-is) in
+    let ns = c.names-names.result in
+    let lawful : refusal s (edit.Delete p) ≡ None = delete_applies i.root s p ns refl c.names-names.ensures.names (not_root c.names-names.result c.if-is_empty.ensures) c.in-Ok-Some.ensures.walked (c.in-Ok-Some.ensures.present ∙ ap is_some c.in-Ok-Some.field-0-is) in
     subst (λ (n : Namespace). refusal n (edit.Delete p) ≡ None) c.self.view_is lawful
 
 pub returns-clause-ok : goal.returns-clause-ok
 returns-clause-ok c =
     let i = c.self.inside in
-    deleted_seen i.root c.take-gone.new.self i.last_block i.last_stamp i.waiting.keys c.args.path.now (names_of c.names-names.result.now) c.names-names.ensures.names c.take-gone.ensures.gone ∙ ap (λ (n : Namespace). effect n (edit.Delete c.args.path.now)) c.self.view_is
+    deleted_seen i.root c.take-gone.new.self i.last_block i.last_stamp i.waiting.keys c.args.path.now (c.names-names.result) c.names-names.ensures.names c.take-gone.ensures.gone ∙ ap (λ (n : Namespace). effect n (edit.Delete c.args.path.now)) c.self.view_is
 
 pub returns-clause-touched : goal.returns-clause-touched
 returns-clause-touched c =
     let i = c.self.inside in
     let s = seen i.root i.last_block i.last_stamp i.waiting.keys in
     let p = c.args.path.now in
-    let ns = names_of c.names-names.result.now in
+    let ns = c.names-names.result in
     let tree = c.in-Ok-Some.tree.now in
     let sub : IsSubtree i.root ns (Some tree) = subst (λ o. IsSubtree i.root ns (option_copied o)) c.in-Ok-Some.field-0-is c.in-Ok-Some.ensures.found in
     let ids : c.collect_ids.new.out.items ≡ ids_below s p =

@@ -2,7 +2,6 @@ use Rattle.std.proofs.Common.{◌≡◌, None, sym, ap, subst, ◌∙◌, refl}
 use Rattle.nn_edits.specs.declared.tx.Edit.TheVariants as edit
 use Rattle.nn_model.specs.Namespace.{Namespace}
 use Rattle.nn_model.specs.Apply.{refusal, effect}
-use Rattle.nn_tree.specs.At.{names_of}
 use Rattle.nn_tree.specs.View.{seen}
 use Rattle.nn_tree.proofs.Bridge.{rename_refused}
 use Rattle.nn_tree.proofs.Kept.{still_seen, still_kept, renamed_seen, rename_kept}
@@ -24,8 +23,8 @@ invariant_of-self-2 c =
     let s = seen i.root i.last_block i.last_stamp i.waiting.keys in
     let a = c.args.src.now in
     let d = c.args.dst.now in
-    let ss = names_of c.names.result.now in
-    let ds = names_of c.names-2.result.now in
+    let ss = c.names.result in
+    let ds = c.names-2.result in
     let lawful : refusal s (edit.Rename a d) ≡ None = sym (rename_refused i.root s a d ss ds refl c.names.ensures.names c.names-2.ensures.names) ∙ c.in-Ok.ensures.applies in
     rename_kept i.root c.rename.new.self i.last_block i.last_stamp i.waiting.keys _ a d ss ds c.names.ensures.names c.names-2.ensures.names c.requires.lawful lawful c.in-Ok.ensures.applies c.in-Ok.ensures.free c.in-Ok.ensures.ok c.self.invariant
 
@@ -35,8 +34,8 @@ returns-clause-applies c =
     let s = seen i.root i.last_block i.last_stamp i.waiting.keys in
     let a = c.args.src.now in
     let d = c.args.dst.now in
-    let ss = names_of c.names.result.now in
-    let ds = names_of c.names-2.result.now in
+    let ss = c.names.result in
+    let ds = c.names-2.result in
     let lawful : refusal s (edit.Rename a d) ≡ None = sym (rename_refused i.root s a d ss ds refl c.names.ensures.names c.names-2.ensures.names) ∙ c.in-Ok.ensures.applies in
     subst (λ (n : Namespace). refusal n (edit.Rename a d) ≡ None) c.self.view_is lawful
 
@@ -46,6 +45,6 @@ returns-clause-ok c =
     let s = seen i.root i.last_block i.last_stamp i.waiting.keys in
     let a = c.args.src.now in
     let d = c.args.dst.now in
-    let ss = names_of c.names.result.now in
-    let ds = names_of c.names-2.result.now in
+    let ss = c.names.result in
+    let ds = c.names-2.result in
     renamed_seen i.root c.rename.new.self i.last_block i.last_stamp i.waiting.keys a d ss ds c.names.ensures.names c.names-2.ensures.names c.in-Ok.ensures.free c.in-Ok.ensures.ok ∙ ap (λ (n : Namespace). effect n (edit.Rename a d)) c.self.view_is

@@ -1,9 +1,8 @@
 use Rattle.std.proofs.Common.{◌∙◌, ap}
-use Rattle.nn_tree.specs.At.{names_of}
 use Rattle.nn_tree.proofs.Bridge.{rename_refused}
 use Rattle.nn_tree.proofs.namespace.Namespace.rename_refusal.Goals as goal
 
 pub returns : goal.returns
 returns c =
     c.rename_refusal.ensures
-    ∙ rename_refused c.self.inside.root c.args.self.now c.args.src.now c.args.dst.now (names_of c.names.result.now) (names_of c.names-2.result.now) (ap (λ n. n.rows) c.self.view_is) c.names.ensures.names c.names-2.ensures.names
+    ∙ rename_refused c.self.inside.root c.args.self.now c.args.src.now c.args.dst.now (c.names.result) (c.names-2.result) (ap (λ n. n.rows) c.self.view_is) c.names.ensures.names c.names-2.ensures.names

@@ -6,7 +6,6 @@ use Rattle.nn_model.specs.declared.form.FileRow.{FileRow}
 use Rattle.nn_model.specs.Namespace.{Namespace, lookup, with_row, file_or_none, file_at}
 use Rattle.nn_model.specs.Apply.{first, list_checks, with_blocks}
 use Rattle.nn_model.specs.Touched.{listed}
-use Rattle.nn_tree.specs.At.{names_of}
 use Rattle.nn_tree.specs.declared.index.BlockRow.{BlockRow}
 use Rattle.nn_tree.specs.View.{seen, IsKept, renewed}
 use Rattle.nn_tree.proofs.Applies.{HasFile, list_applies}
@@ -30,10 +29,10 @@ invariant_of-self-2 c =
     let i = c.self.inside in
     let s = seen i.root i.last_block i.last_stamp i.waiting.keys in
     let p = c.args.path.now in
-    let ns = names_of c.names-names.result.now in
+    let ns = c.names-names.result in
     let bs = c.args.blocks.now in
     let done = c.in-Ok.ensures.ok in
-    let has : HasFile i.root s p ns done.0 = record { rows = refl; names = c.names-names.ensures.names; root = not_root c.names-names.result.now c.if-is_empty.ensures; walked = done.2; stands = done.3 } in
+    let has : HasFile i.root s p ns done.0 = record { rows = refl; names = c.names-names.ensures.names; root = not_root c.names-names.result c.if-is_empty.ensures; walked = done.2; stands = done.3 } in
     let lawful : first (list_checks s p bs) ≡ None = list_applies i.root s p ns done.0 bs has done.5.0 (ap not done.5.1) (ap not done.5.2) in
     let was : lookup s p ≡ Some (File done.0) = file_was i.root i.last_block i.last_stamp i.waiting.keys p ns done.0 c.names-names.ensures.names done.3 in
     let old : done.0 ≡ file_at s p = sym (ap file_or_none was) in
@@ -51,10 +50,10 @@ returns-clause-applies c =
     let i = c.self.inside in
     let s = seen i.root i.last_block i.last_stamp i.waiting.keys in
     let p = c.args.path.now in
-    let ns = names_of c.names-names.result.now in
+    let ns = c.names-names.result in
     let bs = c.args.blocks.now in
     let done = c.in-Ok.ensures.ok in
-    let has : HasFile i.root s p ns done.0 = record { rows = refl; names = c.names-names.ensures.names; root = not_root c.names-names.result.now c.if-is_empty.ensures; walked = done.2; stands = done.3 } in
+    let has : HasFile i.root s p ns done.0 = record { rows = refl; names = c.names-names.ensures.names; root = not_root c.names-names.result c.if-is_empty.ensures; walked = done.2; stands = done.3 } in
     let lawful : first (list_checks s p bs) ≡ None = list_applies i.root s p ns done.0 bs has done.5.0 (ap not done.5.1) (ap not done.5.2) in
     subst (λ (n : Namespace). first (list_checks n p bs) ≡ None) c.self.view_is lawful
 
@@ -63,7 +62,7 @@ returns-clause-ok c =
     let i = c.self.inside in
     let s = seen i.root i.last_block i.last_stamp i.waiting.keys in
     let p = c.args.path.now in
-    let ns = names_of c.names-names.result.now in
+    let ns = c.names-names.result in
     let bs = c.args.blocks.now in
     let done = c.in-Ok.ensures.ok in
     let was : lookup s p ≡ Some (File done.0) = file_was i.root i.last_block i.last_stamp i.waiting.keys p ns done.0 c.names-names.ensures.names done.3 in
@@ -79,7 +78,7 @@ returns-clause-touched c =
     let i = c.self.inside in
     let s = seen i.root i.last_block i.last_stamp i.waiting.keys in
     let p = c.args.path.now in
-    let ns = names_of c.names-names.result.now in
+    let ns = c.names-names.result in
     let bs = c.args.blocks.now in
     let done = c.in-Ok.ensures.ok in
     let was : lookup s p ≡ Some (File done.0) = file_was i.root i.last_block i.last_stamp i.waiting.keys p ns done.0 c.names-names.ensures.names done.3 in

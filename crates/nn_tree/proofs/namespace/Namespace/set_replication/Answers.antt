@@ -6,7 +6,6 @@ use Rattle.nn_model.specs.Namespace.{Namespace, lookup, with_row, file_or_none, 
 use Rattle.nn_model.specs.Apply.{refusal, effect}
 use Rattle.std.specs.BTreeMap.{get}
 use Rattle.std.specs.Ordering.{nat_cmp}
-use Rattle.nn_tree.specs.At.{names_of}
 use Rattle.nn_tree.specs.View.{seen, IsKept}
 use Rattle.nn_tree.proofs.Applies.{HasFile, set_replication_applies}
 use Rattle.nn_tree.proofs.Kept.{still_seen, still_kept, file_was, file_seen, set_replication_kept}
@@ -28,9 +27,9 @@ invariant_of-self-2 c =
     let i = c.self.inside in
     let s = seen i.root i.last_block i.last_stamp i.waiting.keys in
     let p = c.args.path.now in
-    let ns = names_of c.names-names.result.now in
+    let ns = c.names-names.result in
     let done = c.in-Ok.ensures.ok in
-    let has : HasFile i.root s p ns done.0 = record { rows = refl; names = c.names-names.ensures.names; root = not_root c.names-names.result.now c.if-is_empty.ensures; walked = done.2; stands = done.3 } in
+    let has : HasFile i.root s p ns done.0 = record { rows = refl; names = c.names-names.ensures.names; root = not_root c.names-names.result c.if-is_empty.ensures; walked = done.2; stands = done.3 } in
     let lawful : refusal s (edit.SetReplication p c.args.replication) ≡ None = set_replication_applies i.root s p ns done.0 c.args.replication has (c.is_replication.ensures ∙ ap not c.if-not-is_replication.false) in
     let was : lookup s p ≡ Some (File done.0) = file_was i.root i.last_block i.last_stamp i.waiting.keys p ns done.0 c.names-names.ensures.names done.3 in
     let old : done.0 ≡ file_at s p = sym (ap file_or_none was) in
@@ -45,9 +44,9 @@ returns-clause-applies c =
     let i = c.self.inside in
     let s = seen i.root i.last_block i.last_stamp i.waiting.keys in
     let p = c.args.path.now in
-    let ns = names_of c.names-names.result.now in
+    let ns = c.names-names.result in
     let done = c.in-Ok.ensures.ok in
-    let has : HasFile i.root s p ns done.0 = record { rows = refl; names = c.names-names.ensures.names; root = not_root c.names-names.result.now c.if-is_empty.ensures; walked = done.2; stands = done.3 } in
+    let has : HasFile i.root s p ns done.0 = record { rows = refl; names = c.names-names.ensures.names; root = not_root c.names-names.result c.if-is_empty.ensures; walked = done.2; stands = done.3 } in
     let lawful : refusal s (edit.SetReplication p c.args.replication) ≡ None = set_replication_applies i.root s p ns done.0 c.args.replication has (c.is_replication.ensures ∙ ap not c.if-not-is_replication.false) in
     subst (λ (n : Namespace). refusal n (edit.SetReplication p c.args.replication) ≡ None) c.self.view_is lawful
 
@@ -56,7 +55,7 @@ returns-clause-ok c =
     let i = c.self.inside in
     let s = seen i.root i.last_block i.last_stamp i.waiting.keys in
     let p = c.args.path.now in
-    let ns = names_of c.names-names.result.now in
+    let ns = c.names-names.result in
     let done = c.in-Ok.ensures.ok in
     let was : lookup s p ≡ Some (File done.0) = file_was i.root i.last_block i.last_stamp i.waiting.keys p ns done.0 c.names-names.ensures.names done.3 in
     let old : done.0 ≡ file_at s p = sym (ap file_or_none was) in

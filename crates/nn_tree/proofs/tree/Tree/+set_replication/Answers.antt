@@ -1,7 +1,6 @@
 use Rattle.std.proofs.Common.{Some}
-use Rattle.nn_tree.specs.At.{names_of}
 use Rattle.nn_tree.specs.Changes.{GetsReplication}
-use Rattle.nn_tree.proofs.Subtree.{opened, names_split, found}
+use Rattle.nn_tree.proofs.Subtree.{opened, found}
 use Rattle.nn_tree.proofs.Step.{written, on_err, same_below}
 use Rattle.nn_tree.proofs.Walk.{if_ok}
 use Rattle.nn_tree.proofs.Changed.{file_below}
@@ -10,15 +9,15 @@ use Rattle.nn_tree.proofs.tree.Tree.+set_replication.Goals as goal
 pub returns-clause-ok : goal.returns-clause-ok
 returns-clause-ok t c =
     let d = opened c.args.self.now c.self.inside.node c.in-Folder.children c.self.view_is c.self.invariant c.in-Folder.is in
-    let split = names_split c.args.names.now c.in-Some.rest.now c.in-Some.first.now c.as_str.result.now c.in-Some.ensures.cases.0 c.as_str.ensures.value in
-    let f = found c.args.self.now c.in-Folder.children c.as_str.result.now (Some c.in-Some-get_mut.child.now) d c.in-Some-get_mut.ensures.value in
-    let b = written c.in-Folder.children (c.get_mut.follows.lender c.set_replication.new.self) c.as_str.result.now c.in-Some-get_mut.child.now c.set_replication.new.self c.in-Some-get_mut.ensures.value (c.get_mut.follows.holds c.set_replication.new.self) in
-    if_ok c.set_replication.result (λ done. file_below c.args.self.now c.in-Folder.children (c.get_mut.follows.lender c.set_replication.new.self) c.as_str.result.now (names_of c.in-Some.rest.now) (names_of c.args.names.now) c.in-Some-get_mut.child.now c.set_replication.new.self (GetsReplication c.args.replication) split d b f)
+    let split = c.in-Some.ensures.some in
+    let f = found c.args.self.now c.in-Folder.children c.in-Some.first.now (Some c.in-Some-get_mut.child.now) d c.in-Some-get_mut.ensures.value in
+    let b = written c.in-Folder.children (c.get_mut.follows.lender c.set_replication.new.self) c.in-Some.first.now c.in-Some-get_mut.child.now c.set_replication.new.self c.in-Some-get_mut.ensures.value (c.get_mut.follows.holds c.set_replication.new.self) in
+    if_ok c.set_replication.result (λ done. file_below c.args.self.now c.in-Folder.children (c.get_mut.follows.lender c.set_replication.new.self) c.in-Some.first.now c.in-Some.rest c.args.names.now c.in-Some-get_mut.child.now c.set_replication.new.self (GetsReplication c.args.replication) split d b f)
     c.set_replication.ensures.ok
 
 pub returns-clause-err : goal.returns-clause-err
 returns-clause-err t c =
     let d = opened c.args.self.now c.self.inside.node c.in-Folder.children c.self.view_is c.self.invariant c.in-Folder.is in
-    let f = found c.args.self.now c.in-Folder.children c.as_str.result.now (Some c.in-Some-get_mut.child.now) d c.in-Some-get_mut.ensures.value in
-    let b = written c.in-Folder.children (c.get_mut.follows.lender c.set_replication.new.self) c.as_str.result.now c.in-Some-get_mut.child.now c.set_replication.new.self c.in-Some-get_mut.ensures.value (c.get_mut.follows.holds c.set_replication.new.self) in
-    on_err c.set_replication.result (same_below c.args.self.now c.in-Folder.children (c.get_mut.follows.lender c.set_replication.new.self) c.as_str.result.now c.in-Some-get_mut.child.now c.set_replication.new.self d b f) c.set_replication.ensures.err
+    let f = found c.args.self.now c.in-Folder.children c.in-Some.first.now (Some c.in-Some-get_mut.child.now) d c.in-Some-get_mut.ensures.value in
+    let b = written c.in-Folder.children (c.get_mut.follows.lender c.set_replication.new.self) c.in-Some.first.now c.in-Some-get_mut.child.now c.set_replication.new.self c.in-Some-get_mut.ensures.value (c.get_mut.follows.holds c.set_replication.new.self) in
+    on_err c.set_replication.result (same_below c.args.self.now c.in-Folder.children (c.get_mut.follows.lender c.set_replication.new.self) c.in-Some.first.now c.in-Some-get_mut.child.now c.set_replication.new.self d b f) c.set_replication.ensures.err

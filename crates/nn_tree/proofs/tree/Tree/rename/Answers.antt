@@ -1,7 +1,7 @@
 use Rattle.std.proofs.Common.{◌≡◌, [], List, IsSome, Some, None, sym, subst, refl, ap, ◌∙◌}
 use Rattle.nn_model.specs.declared.form.Form.{Form}
 use Rattle.nn_model.specs.Namespace.{Path}
-use Rattle.nn_tree.specs.At.{at, names_of, IsGrafted}
+use Rattle.nn_tree.specs.At.{at, IsGrafted}
 use Rattle.nn_tree.specs.Walks.{rename_fault}
 use Rattle.nn_tree.proofs.Changed.{move_applies, made_undone}
 use Rattle.nn_tree.proofs.Files.{at_found}
@@ -14,13 +14,13 @@ take-placeholder-requires c = has_name c.args.dst.now _ (sym c.in-Ok.ensures.ok.
 
 pub returns-in_default-take-clause-err : goal.returns-in_default-take-clause-err
 returns-in_default-take-clause-err c =
-    made_undone (at c.args.self.now) (at c.make.new.self) (at c.take.new.self) (at c.take-placeholder.new.self) _ (names_of c.args.src.now) (names_of c.args.dst.now) c.in-Ok.ensures.ok.1 c.in-Ok.ensures.ok.2
+    made_undone (at c.args.self.now) (at c.make.new.self) (at c.take.new.self) (at c.take-placeholder.new.self) _ c.args.src.now c.args.dst.now c.in-Ok.ensures.ok.1 c.in-Ok.ensures.ok.2
     c.in_default-take.ensures.taken c.take.ensures.gone c.take-placeholder.ensures.gone
 
 pub put-placeholder-requires : goal.put-placeholder-requires
 put-placeholder-requires c =
-    let s = names_of c.args.src.now in
-    let d = names_of c.args.dst.now in
+    let s = c.args.src.now in
+    let d = c.args.dst.now in
     let found = at_found c.make.new.self c.in-Some.tree s _ c.in-Some.ensures.taken c.top-found.ensures in
     let lawful : rename_fault (at c.args.self.now) s d ≡ None =
     move_applies (at c.args.self.now) (at c.make.new.self) s d (not_root c.args.src.now c.if-is_empty.ensures) (sym c.begins_with.ensures ∙ c.if-begins_with.false) c.in-Ok.ensures.ok.0
@@ -29,8 +29,8 @@ put-placeholder-requires c =
 
 pub returns-clause-applies : goal.returns-clause-applies
 returns-clause-applies c =
-    let s = names_of c.args.src.now in
-    let d = names_of c.args.dst.now in
+    let s = c.args.src.now in
+    let d = c.args.dst.now in
     let found = at_found c.make.new.self c.in-Some.tree s _ c.in-Some.ensures.taken c.top-found.ensures in
     let lawful : rename_fault (at c.args.self.now) s d ≡ None =
     move_applies (at c.args.self.now) (at c.make.new.self) s d (not_root c.args.src.now c.if-is_empty.ensures) (sym c.begins_with.ensures ∙ c.if-begins_with.false) c.in-Ok.ensures.ok.0
@@ -39,8 +39,8 @@ returns-clause-applies c =
 
 pub returns-clause-ok : goal.returns-clause-ok
 returns-clause-ok c =
-    let s = names_of c.args.src.now in
-    let d = names_of c.args.dst.now in
+    let s = c.args.src.now in
+    let d = c.args.dst.now in
     let found = at_found c.make.new.self c.in-Some.tree s _ c.in-Some.ensures.taken c.top-found.ensures in
     let lawful : rename_fault (at c.args.self.now) s d ≡ None =
     move_applies (at c.args.self.now) (at c.make.new.self) s d (not_root c.args.src.now c.if-is_empty.ensures) (sym c.begins_with.ensures ∙ c.if-begins_with.false) c.in-Ok.ensures.ok.0

@@ -56,7 +56,7 @@ counts last tx txs is = ap (next last tx txs) (eq-eqb _ _ is)
 passes : (last : ℕ) (tx : Tx) (txs : List Tx) → (tx.txid ≡ last + 1 → ⊥) → counted last (tx ∷ txs) ≡ counted last txs
 passes last tx txs isnt = ap (next last tx txs) (ne_eqb _ _ isnt)
 
-counts_up : (last : ℕ) (txs : List Tx) → CountsUp last (counted last txs)
+pub counts_up : (last : ℕ) (txs : List Tx) → CountsUp last (counted last txs)
 counts_up last [] = tt
 counts_up last (tx ∷ txs) =
     elim (cases_eq tx.txid (last + 1)) [
@@ -67,7 +67,7 @@ counts_up last (tx ∷ txs) =
 pub log_counts_up : LogCountsUp
 log_counts_up last segments = counts_up last (flat_map (λ segment. segment) segments)
 
-counted_append : (last : ℕ) (txs more : List Tx) → counted last (txs ++ more) ≡ counted last txs ++ counted (last + length (counted last txs)) more
+pub counted_append : (last : ℕ) (txs more : List Tx) → counted last (txs ++ more) ≡ counted last txs ++ counted (last + length (counted last txs)) more
 counted_append last [] more = ap (λ k. counted k more) (omega arith)
 counted_append last (tx ∷ txs) more =
     elim (cases_eq tx.txid (last + 1)) [

@@ -1,19 +1,25 @@
 -- Each message is processed at most once, and those of one DataNode about one block in sending order.
-use Rattle.std.proofs.Common.{◌≡◌, ℕ, ◌+◌, ◌≤◌, ◌<◌, true, false, cond, [], ◌∷◌, ◌++◌, Some, None, refl, sym, ap, ◌∙◌, ⊎_elim, arith}
+use Rattle.std.proofs.Common.{◌≡◌, ℕ, ◌+◌, ◌≤◌, ◌<◌, true, false, cond, [], ◌∷◌, ◌++◌, Some, None, Bool, refl, sym, ap, ◌∙◌, inl, inr, ⊎_elim, arith}
 use Rattle.std.specs.Prelude.{◌&&◌, ◌==◌, nat_le}
 use Rattle.std.specs.List.{list_any, cons_option, AllByRecursion}
 use Rattle.std.specs.List.Sorted.{IsStrictlySortedBy}
 use Rattle.std.specs.Ordering.{nat_cmp}
 use Rattle.std.specs.Cmp.{nat_cmp_is}
 use Rattle.std.specs.declared.cmp.Ordering.TheVariants.{Less}
-use Rattle.std.proofs.lemmas.Bool.{both_ways, and_parts, and_from, eqb-true, eq-eqb, le-leb, cases_lt}
+use Rattle.std.proofs.lemmas.Bool.{both_ways, and_parts, and_from, eqb-true, eq-eqb, le-leb, cases_lt, cases_Bool}
 use Rattle.nn_types.specs.declared.report.Message.{Message}
 use Rattle.nn_types.specs.declared.event.Event.{Event}
 use Rattle.nn_types.specs.declared.event.Event.TheVariants.{Applied, Processed}
 use Rattle.nn_model.specs.Lanes.{Lanes, IsSent}
 use Rattle.nn_model.specs.History.{History, EachAfter, numbers_of, times_processed}
 use Rattle.nn_model.specs.Lawful.{NamesMessage, NumberRises, reaches}
-use Rattle.nn_model.specs.HistoryLaws.{ProcessedOnce, InSendingOrder}
+use Rattle.nn_types.specs.declared.event.Cause.{Cause}
+use Rattle.nn_types.specs.declared.event.Cause.TheVariants.{Due, Flush}
+use Rattle.nn_model.specs.WellFormed.{Has}
+use Rattle.nn_model.specs.Log.{namespace_after}
+use Rattle.nn_model.specs.Held.{is_held}
+use Rattle.nn_model.specs.History.{processes, processed}
+use Rattle.nn_model.specs.HistoryLaws.{ProcessedOnce, InSendingOrder, EachOnce}
 use Rattle.nn_model.proofs.Events.{any_kept, any_last}
 use Rattle.nn_model.proofs.Sent.{one_sent}
 
@@ -111,3 +117,24 @@ at_most_once lanes dn number before (Processed d k b cause ∷ events) names ris
 
 pub processed_once : ProcessedOnce
 processed_once start txs lanes events lawful dn number = at_most_once lanes dn number [] events lawful.sent lawful.in_sending_order
+
+-- an event of the history that processes the message is counted
+at_least_once : (m : Message) (cause : Cause) (events : History) → Has events (processed cause m) → 1 ≤ times_processed m.dn m.number events
+at_least_once m cause [] here = absurd here
+at_least_once m cause (event ∷ events) (inl same) =
+    let hit : processes m.dn m.number event ≡ true =
+        ap (processes m.dn m.number) same ∙ and_from _ _ (eq-eqb m.dn m.dn refl) (eq-eqb m.number m.number refl) in
+    let one : times_processed m.dn m.number (event ∷ events) ≡ 1 + times_processed m.dn m.number events =
+        ap (λ t. cond t 1 0 + times_processed m.dn m.number events) hit in
+    omega (arith, one)
+at_least_once m cause (event ∷ events) (inr later) = let rest = at_least_once m cause events later in omega (arith, rest)
+
+pub each_once : EachOnce
+each_once start txs lanes events lawful whole m sent =
+    let most = processed_once start txs lanes events lawful m.dn m.number in
+    let least : 1 ≤ times_processed m.dn m.number events =
+        elim (cases_Bool (is_held (namespace_after start txs) (lanes m.dn) m)) [
+          | inl waits ↦ at_least_once m Flush events (whole m sent waits)
+          | inr free ↦ at_least_once m Due events (lawful.none_forgotten m sent free)
+        ] in
+    omega (arith, most, least)

@@ -17,7 +17,7 @@ use Rattle.nn_model.specs.Lanes.{Lanes, AreLanes, IsSent}
 use Rattle.nn_model.specs.Held.{keeps_back, is_held, IsFree}
 use Rattle.nn_model.specs.History.{History, EachAfter, applied_txids, namespace_at, is_flush, processed}
 use Rattle.nn_model.specs.Lawful.{NamesMessage, NumberRises, NoFlushBefore, WaitedItsTurn, WasDueItself, reaches}
-use Rattle.nn_model.specs.HistoryLaws.{SameWhenWhole}
+use Rattle.nn_model.specs.HistoryLaws.{SameWhenWhole, LawfulIsLoose}
 use Rattle.nn_model.proofs.Events.{any_none, any_left, any_right, any_either, any_last, any_true_at, at_found, from_found, applied_more, same_moment}
 use Rattle.nn_model.proofs.Sent.{dn_of, sent_from_lane, one_sent, kept_by, free_is_due}
 use Rattle.nn_model.proofs.Places.{DueAlong}
@@ -134,6 +134,17 @@ told_by j cause h here =
     any_true_at (is_about j) h (processed cause j) (and_from _ _ (and_from _ _ (eq-eqb j.dn j.dn refl) (eq-eqb j.block j.block refl))
     (eq-eqb j.number j.number refl)) here
 
+pub lawful_is_loose : LawfulIsLoose
+lawful_is_loose start txs lanes events l = record {
+  applied_in_order = l.applied_in_order;
+  sent = l.sent;
+  in_sending_order = l.in_sending_order;
+  waited = loose start txs lanes [] events l.sent l.waited;
+  flush_last = l.flush_last;
+  flush_held = l.flush_held;
+  none_forgotten = l.none_forgotten;
+}
+
 pub same_when_whole : SameWhenWhole
 same_when_whole start base txs lanes events well log numbered whole = (
   (λ w. record {
@@ -144,18 +155,10 @@ same_when_whole start base txs lanes events well log numbered whole = (
         (λ j sent. elim (cases_Bool (is_held (namespace_after start txs) (lanes j.dn) j)) [
           | inl waits ↦ told_by j Flush events (whole j sent waits)
           | inr free ↦ told_by j Due events (w.none_forgotten j sent free)
-        ]) [] events refl w.sent w.in_sending_order w.due_itself w.flush_last (λ unflushed j sent told. absurd (both_ways _ refl told));
+        ]) [] events refl w.sent w.in_sending_order w.waited w.flush_last (λ unflushed j sent told. absurd (both_ways _ refl told));
     flush_last = w.flush_last;
     flush_held = w.flush_held;
     none_forgotten = w.none_forgotten;
   }),
-  (λ l. record {
-    applied_in_order = l.applied_in_order;
-    sent = l.sent;
-    in_sending_order = l.in_sending_order;
-    due_itself = loose start txs lanes [] events l.sent l.waited;
-    flush_last = l.flush_last;
-    flush_held = l.flush_held;
-    none_forgotten = l.none_forgotten;
-  }),
+  lawful_is_loose start txs lanes events,
 )

@@ -1,17 +1,19 @@
 -- What lawful histories and standings say, as statements; the functions of the crate prove them.
-use Rattle.std.specs.Prelude.{◌↔◌, ℕ, ◌≤◌, List, []}
+use Rattle.std.specs.Prelude.{◌≡◌, ◌↔◌, ℕ, ◌≤◌, List, []}
 use Rattle.std.specs.List.Sorted.{IsStrictlySortedBy}
 use Rattle.std.specs.Ordering.{nat_cmp}
+use Rattle.nn_types.specs.declared.report.Message.{Message}
 use Rattle.nn_edits.specs.declared.tx.Tx.{Tx}
 use Rattle.nn_model.specs.Namespace.{Namespace}
-use Rattle.nn_model.specs.WellFormed.{HasWellFormedBlocks}
+use Rattle.nn_model.specs.WellFormed.{Has, HasWellFormedBlocks}
 use Rattle.nn_model.specs.Log.{namespace_after, IsLog}
-use Rattle.nn_model.specs.Lanes.{Lanes, AreLanes, no_messages}
+use Rattle.nn_model.specs.Lanes.{Lanes, AreLanes, IsSent, no_messages}
 use Rattle.nn_model.specs.Held.{without_held}
 use Rattle.nn_model.specs.History.{History, IsBeforeFlush, numbers_of, times_processed}
 use Rattle.nn_model.specs.Lawful.{IsLawful, IsWhole, IsLooselyLawful}
 use Rattle.nn_model.specs.Replay.{replay}
 use Rattle.nn_model.specs.Picture.{ShowsPicture}
+use Rattle.nn_model.specs.Counts.{safe_mode_of}
 use Rattle.nn_model.specs.Stands.{Standby, Stands, tables_of, fresh}
 
 -- a lawful and whole history ends in the picture of all messages, whatever its order was
@@ -38,6 +40,12 @@ ProcessedOnce =
     (start : Namespace) (txs : List Tx) (lanes : Lanes) (events : History) → IsLawful start txs lanes events →
     (dn number : ℕ) → times_processed dn number events ≤ 1
 
+-- and where it is whole, each message that was sent exactly once
+abbrev pub EachOnce : Type 0
+EachOnce =
+    (start : Namespace) (txs : List Tx) (lanes : Lanes) (events : History) → IsLawful start txs lanes events → IsWhole start txs lanes events →
+    (m : Message) → IsSent lanes m → times_processed m.dn m.number events ≡ 1
+
 -- and the messages of one DataNode about one block in the order in which they were sent
 abbrev pub InSendingOrder : Type 0
 InSendingOrder =
@@ -49,6 +57,31 @@ abbrev pub SameWhenWhole : Type 0
 SameWhenWhole =
     (start : Namespace) (base : ℕ) (txs : List Tx) (lanes : Lanes) (events : History) → HasWellFormedBlocks start → IsLog start base txs → AreLanes lanes →
     IsWhole start txs lanes events → IsLooselyLawful start txs lanes events ↔ IsLawful start txs lanes events
+
+-- a lawful history is lawful in the looser reading too, whole or not
+abbrev pub LawfulIsLoose : Type 0
+LawfulIsLoose =
+    (start : Namespace) (txs : List Tx) (lanes : Lanes) (events : History) → IsLawful start txs lanes events → IsLooselyLawful start txs lanes events
+
+-- two standbys show the same log, the same tables, and the same counts and safe mode for whatever is asked of them
+pub record ShowSame (x y : Standby) : Type 0 where
+  pub namespace : x.namespace ≡ y.namespace
+  pub last : x.last ≡ y.last
+  pub replicas : (dn id : ℕ) → x.replica dn id ≡ y.replica dn id
+  pub orders : (dn id : ℕ) → x.has_order dn id ≡ y.has_order dn id
+  pub safe_mode : (permille min : ℕ) → safe_mode_of permille min x.namespace x.replica ≡ safe_mode_of permille min y.namespace y.replica
+
+-- after their flush two standbys that stand at one log and at the same lanes show the same
+abbrev pub SameWhenFlushed : Type 0
+SameWhenFlushed =
+    (start : Namespace) (base : ℕ) (txs : List Tx) (lanes : Lanes) (x y : Standby) → Stands start base txs lanes x → Stands start base txs lanes y →
+    IsWhole start txs lanes x.history → IsWhole start txs lanes y.history → ShowSame x y
+
+-- and before it too, and hold the same messages, in whatever order these came
+abbrev pub SameBeforeFlush : Type 0
+SameBeforeFlush =
+    (start : Namespace) (base : ℕ) (txs : List Tx) (lanes : Lanes) (x y : Standby) → Stands start base txs lanes x → Stands start base txs lanes y →
+    IsBeforeFlush x.history → IsBeforeFlush y.history → ShowSame x y × ((m : Message) → Has x.held m ↔ Has y.held m)
 
 -- a standby that did nothing yet stands at the empty log and at no messages, over any base with well formed blocks
 abbrev pub FreshStands : Type 0

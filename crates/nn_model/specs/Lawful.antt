@@ -54,21 +54,26 @@ NoFlushBefore before (Processed dn number block Flush) = Unit {0}
 
 -- ---- Histories.
 
-pub record IsLawful (start : Namespace) (txs : List Tx) (lanes : Lanes) (events : History) : Type 0 where
+-- lawful, where this rule says when a message may be processed as due
+pub record IsLawfulBy (rule : History → Event → Type 0) (start : Namespace) (txs : List Tx) (lanes : Lanes) (events : History) : Type 0 where
   -- the transactions were applied in order, each once
   pub applied_in_order : applied_txids events ≡ map (λ tx. tx.txid) txs
   -- only messages that were sent were processed
   pub sent : EachEvent (NamesMessage lanes) events
   -- of one DataNode about one block each was processed once, in sending order
   pub in_sending_order : EachEvent NumberRises events
-  -- none was processed as due while it was held: it and each earlier one of its DataNode about its block were due
-  pub waited : EachEvent (WaitedItsTurn start txs lanes) events
+  -- what was processed as due kept the rule
+  pub waited : EachEvent rule events
   -- the flush came after all else
   pub flush_last : EachEvent NoFlushBefore events
   -- and took only what is held at the end of the log
   pub flush_held : EachEvent (FlushesHeld start txs lanes) events
   -- what is not held at the end of the log was processed as due
   pub none_forgotten : (m : Message) → IsSent lanes m → IsFree (namespace_after start txs) lanes m → Has events (processed Due m)
+
+-- none was processed as due while it was held: it and each earlier one of its DataNode about its block were due
+abbrev pub IsLawful : Namespace → List Tx → Lanes → History → Type 0
+IsLawful start txs lanes events = IsLawfulBy (WaitedItsTurn start txs lanes) start txs lanes events
 
 -- and what is held at the end of the log was flushed
 abbrev pub IsWhole : Namespace → List Tx → Lanes → History → Type 0
@@ -84,12 +89,6 @@ WasDueItself start txs lanes before (Processed dn number block Due) =
     IfSome (message_of lanes dn number) (λ m. due_in (namespace_at start txs before) m.block m.stamp ≡ true)
 WasDueItself start txs lanes before (Processed dn number block Flush) = Unit {0}
 
--- lawful in the looser reading. It differs in one clause, and on whole histories it says the same
-pub record IsLooselyLawful (start : Namespace) (txs : List Tx) (lanes : Lanes) (events : History) : Type 0 where
-  pub applied_in_order : applied_txids events ≡ map (λ tx. tx.txid) txs
-  pub sent : EachEvent (NamesMessage lanes) events
-  pub in_sending_order : EachEvent NumberRises events
-  pub due_itself : EachEvent (WasDueItself start txs lanes) events
-  pub flush_last : EachEvent NoFlushBefore events
-  pub flush_held : EachEvent (FlushesHeld start txs lanes) events
-  pub none_forgotten : (m : Message) → IsSent lanes m → IsFree (namespace_after start txs) lanes m → Has events (processed Due m)
+-- lawful in the looser reading. It differs in the rule alone, and on whole histories it says the same
+abbrev pub IsLooselyLawful : Namespace → List Tx → Lanes → History → Type 0
+IsLooselyLawful start txs lanes events = IsLawfulBy (WasDueItself start txs lanes) start txs lanes events

@@ -153,7 +153,7 @@ one_overtakes_loosely = record {
   applied_in_order = refl;
   sent = (tt, (tt, (tt, (tt, (tt, ((second_report, refl, refl, refl, refl), (tt, (tt, tt))))))));
   in_sending_order = search rules;
-  due_itself = search rules;
+  waited = search rules;
   flush_last = search rules;
   flush_held = search rules;
   none_forgotten = of_sent (λ m. IsFree (namespace_after root_alone early_log) overtaking_lanes m → Has overtaking_history (processed Due m))
@@ -165,7 +165,7 @@ one_overtakes_tables : (map (is_held early_end (overtaking_lanes 1)) (overtaking
 one_overtakes_tables = (refl, refl)
 
 loosely_too_early : IsLooselyLawful root_alone early_log early_lanes (take 4 first_five ++ Processed 1 1 b Due ∷ Applied 5 ∷ last_two) → ⊥
-loosely_too_early lawful = both_ways _ refl lawful.due_itself.1.1.1.1.0
+loosely_too_early lawful = both_ways _ refl lawful.waited.1.1.1.1.0
 
 -- ---- The flush comes last, and takes what is held.
 

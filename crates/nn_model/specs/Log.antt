@@ -3,17 +3,8 @@ use Rattle.std.specs.Prelude.{◌≡◌, ℕ, ◌+◌, List, [], ◌∷◌, flat
 use Rattle.nn_edits.specs.declared.tx.Tx.{Tx}
 use Rattle.nn_edits.specs.Lawful.{IsLawfulEdit}
 use Rattle.nn_model.specs.declared.fault.EditFault.{EditFault}
-use Rattle.nn_model.specs.Namespace.{Namespace, root_alone}
+use Rattle.nn_model.specs.Namespace.{Namespace}
 use Rattle.nn_model.specs.Apply.{refusal, effect}
-
--- what a log begins on: a namespace, and the txid of the last transaction that it holds already
-pub record Base : Type 0 where
-  pub namespace : Namespace
-  pub last_txid : ℕ
-
--- the base of a log from its first transaction on
-abbrev pub new_base : Base
-new_base = record { namespace = root_alone; last_txid = 0 }
 
 -- ---- The namespace of a log.
 

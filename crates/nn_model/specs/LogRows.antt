@@ -8,13 +8,10 @@ use Rattle.nn_edits.specs.declared.tx.Tx.{Tx}
 use Rattle.nn_model.specs.declared.form.Form.TheVariants.{Dir}
 use Rattle.nn_model.specs.declared.fault.EditFault.TheVariants.{Exists, BadGeneration}
 use Rattle.nn_model.specs.Namespace.{Namespace, no_block, root_alone}
-use Rattle.nn_model.specs.Log.{new_base, namespace_after, IsLog, run, log_of, CountsUp, AreLawful}
+use Rattle.nn_model.specs.Log.{namespace_after, IsLog, run, log_of, CountsUp, AreLawful}
 use Rattle.nn_model.specs.NamespaceRows.{tx, a, ab, namespace}
 
 -- ---- A log, and the run of it.
-
-new_log : new_base ≡ record { namespace = root_alone; last_txid = 0 }
-new_log = refl
 
 abbrev first_part : List Tx
 first_part = tx 1 StartSegment ∷ tx 2 (Mkdir a) ∷ tx 3 (SetGenstamp 1001) ∷ []

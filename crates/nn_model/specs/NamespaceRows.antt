@@ -14,7 +14,7 @@ use Rattle.nn_model.specs.Namespace.{Path, Namespace, root_alone}
 use Rattle.nn_model.specs.Apply.{refusal, applied}
 use Rattle.nn_model.specs.Status.{status_of, due_in}
 use Rattle.nn_model.specs.Touched.{touched}
-use Rattle.nn_model.specs.Log.{namespace_after, IsLog, run, new_base}
+use Rattle.nn_model.specs.Log.{namespace_after, IsLog, run}
 
 -- ---- Words for the examples.
 
@@ -92,7 +92,7 @@ early_end = namespace ((f, file 3 true (block b 1001 5 ∷ [])) ∷ []) b 1001 [
 early_report_released : (run root_alone early_log ≡ Ok early_end) × (namespace_after root_alone early_log ≡ early_end)
 early_report_released = (refl, refl)
 
-early_report_released_log : IsLog new_base.namespace new_base.last_txid early_log
+early_report_released_log : IsLog root_alone 0 early_log
 early_report_released_log = (refl, refl, (refl, refl, (refl, refl, (refl, refl, (refl, refl, (refl, refl, (refl, refl, tt)))))))
 
 -- the block awaits before it is added: then a report with its stamp is due, and one with a higher stamp isn't

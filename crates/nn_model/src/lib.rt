@@ -13,7 +13,8 @@ mod laws;
 pub use fault::EditFault;
 pub use form::{BlockRow, FileRow, Form};
 pub use history_laws::{
-    ends_in_picture, fresh_stands, once_in_sending_order, same_when_whole, stands_in_picture,
+    ends_in_picture, fresh_stands, once_in_sending_order, one_log_one_picture, same_when_whole,
+    stands_in_picture,
 };
 pub use laws::{
     a_log_goes_on, a_log_keeps, a_log_runs, blocks_stay_well_formed, due_stays, equal_look_ups,

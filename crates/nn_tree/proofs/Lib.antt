@@ -23,3 +23,5 @@ pub mod Ascending
 pub mod Retired
 pub mod Listings
 mod Extents
+pub mod Renewed
+pub mod Spare

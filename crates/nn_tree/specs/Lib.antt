@@ -10,3 +10,4 @@ pub mod Touched
 pub mod Listing
 pub mod BlockRow
 pub mod Extent
+pub mod Memory

@@ -35,8 +35,12 @@ pub record IsKept (n : Namespace) (look : ℕ → Option BlockRow) : Type 0 wher
   pub well : IsWellFormed n
   pub index : IsIndex (lookup n) look
 
+-- the index after the row of a block was written anew, if there is one
+abbrev pub rewritten : (ℕ → Option BlockRow) → Block → Bool → ℕ → Option BlockRow
+rewritten look b closed id = cond (b.id == id) (option_map (λ _. record { block = b; closed = closed }) (look id)) (look id)
+
 -- The index after a file's list `old` was replaced by `new`, which has the ids of the old one, all of them or all but the last.
 abbrev pub renewed : (ℕ → Option BlockRow) → List Block → List Block → Bool → ℕ → Option BlockRow
 renewed look [] new closed id = look id
 renewed look (a ∷ old) [] closed id = cond (a.id == id) None (look id)
-renewed look (a ∷ old) (b ∷ new) closed id = cond (b.id == id) (option_map (λ _. record { block = b; closed = closed }) (renewed look old new closed id)) (renewed look old new closed id)
+renewed look (a ∷ old) (b ∷ new) closed id = rewritten (renewed look old new closed) b closed id

@@ -3,7 +3,7 @@ ghost use Rattle.std.specs.Prelude.{◌≡◌, ℕ, None, cond};
 ghost use Rattle.std.specs.BTreeMap.{get};
 ghost use Rattle.std.specs.Ordering.{nat_cmp};
 ghost use Rattle.nn_model.specs.Apply.{has_id};
-ghost use Rattle.nn_tree.specs.View.{renewed};
+ghost use Rattle.nn_tree.specs.View.{renewed, rewritten};
 
 use nn_types::{Block, BlockId};
 use std::collections::BTreeMap;
@@ -28,16 +28,23 @@ pub(crate) fn forget(index: &mut BTreeMap<u64, BlockRow>, ids: &[BlockId])
 pub(crate) fn renew(index: &mut BTreeMap<u64, BlockRow>, old: &[Block], new: &[Block], closed: bool)
     ensures { (q : ℕ) → get nat_cmp index.new q ≡ renewed (λ id. get nat_cmp index.old id) old.now new.now closed q }
 {
-    let Some((a, old_rest)) = old.split_first() else {
+    let both = old.len().min(new.len());
+    if let Some(last) = old.get(both) {
+        let _row = index.remove(&last.id.get());
+    }
+    let mut left = both;
+    'left: while left > 0 {
+        left -= 1;
+        write_row(index, new[left], closed);
+    }
+}
+
+// Writes the row of a block anew, where it has one.
+fn write_row(index: &mut BTreeMap<u64, BlockRow>, block: Block, closed: bool)
+    ensures { (q : ℕ) → get nat_cmp index.new q ≡ rewritten (λ id. get nat_cmp index.old id) block closed q }
+{
+    let Some(row) = index.get_mut(&block.id.get()) else {
         return;
     };
-    let Some((b, new_rest)) = new.split_first() else {
-        let _row = index.remove(&a.id.get());
-        return;
-    };
-    renew(index, old_rest, new_rest, closed);
-    let Some(row) = index.get_mut(&b.id.get()) else {
-        return;
-    };
-    *row = BlockRow { block: *b, closed };
+    *row = BlockRow { block, closed };
 }

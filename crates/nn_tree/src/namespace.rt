@@ -1,5 +1,5 @@
 //! The namespace: a directory tree, seen as its rows in path order, and an index of the blocks in its files.
-ghost use Rattle.std.specs.Prelude.{◌≡◌, OnOk, OnErr, IfOk, IfErr, IfSome, IsErrOf, None, Ok, option_map, nat_le, length};
+ghost use Rattle.std.specs.Prelude.{◌≡◌, OnOk, OnErr, IfOk, IfErr, IfSome, IsErrOf, None, Ok, true, option_map, nat_le, length};
 ghost use Rattle.std.specs.List.{fold};
 ghost use Rattle.nn_edits.specs.Lawful.{IsLawfulEdit};
 ghost use Rattle.nn_types.specs.Block.{AreBlocks};
@@ -13,6 +13,7 @@ ghost use Rattle.nn_tree.specs.Found.{form_of};
 ghost use Rattle.nn_tree.specs.Listing.{rows_of};
 ghost use Rattle.nn_model.specs.WellFormed.{IsWellFormed};
 ghost use Rattle.nn_tree.specs.BlockRow.{IsInFile};
+ghost use Rattle.nn_tree.specs.Memory.{takes_memory};
 ghost use Rattle.nn_tree.specs.Touched.{shown};
 
 mod checks;
@@ -77,12 +78,14 @@ impl Namespace {
         }
     }
 
-    /// Applies the edit, and tells what it touched. After a fault nothing has changed, after want of memory too.
+    /// Applies the edit, and tells what it touched. After a fault nothing has changed, after want of memory too. A mark,
+    /// OP_SET_REPLICATION and OP_SET_GENSTAMP_V2 never want memory.
     pub fn apply(&mut self, edit: &Edit) -> Result<Touched, EditFault>
         ensures ok { OnOk result (applied self.old edit.now ≡ Ok self.new) }
         ensures touched { IfOk result (λ t. shown t ≡ touched self.old edit.now) }
         ensures fault { IfErr result (λ fault. IsFault fault (refusal self.old edit.now)) }
         ensures memory { IsErrOf result EditFault.OutOfMemory → refusal self.old edit.now ≡ None }
+        ensures spare { IsErrOf result EditFault.OutOfMemory → takes_memory edit.now ≡ true }
         ensures err { OnErr result (self.new ≡ self.old) }
         ensures well_formed { IsWellFormed self.old × IsWellFormed self.new }
         ensures lawful { IsLawfulEdit edit.now }
@@ -291,11 +294,11 @@ fn lawful(edit: &Edit)
 fn lawful_blocks(blocks: &[Block])
     ensures { AreBlocks blocks.now }
 {
-    let Some((block, rest)) = blocks.split_first() else {
-        return;
-    };
-    block.id.get();
-    block.stamp.get();
-    block.len.get();
-    lawful_blocks(rest)
+    let mut left = blocks;
+    'left: while let Some((block, rest)) = left.split_first() {
+        block.id.get();
+        block.stamp.get();
+        block.len.get();
+        left = rest;
+    }
 }

@@ -112,13 +112,7 @@ fn between(last: BlockId, id: BlockId) -> Option<(BlockId, BlockId)>
 fn past<'a>(old: &'a [Block], new: &[Block]) -> &'a [Block]
     ensures { result.now ≡ drop (length new.now) old.now }
 {
-    let Some((_, old_rest)) = old.split_first() else {
-        return old;
-    };
-    let Some((_, new_rest)) = new.split_first() else {
-        return old;
-    };
-    past(old_rest, new_rest)
+    &old[new.len().min(old.len())..]
 }
 
 /// Adds the ids of blocks at the end.

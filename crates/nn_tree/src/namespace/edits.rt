@@ -1,10 +1,11 @@
 //! What each edit does, each in one walk down its path where it applies. Growth comes before change, so that an edit
 //! that is refused, and one for which memory ran out, leaves all as it was. `Namespace::refusal` tells these apart.
-ghost use Rattle.std.specs.Prelude.{◌≡◌, None, OnOk, OnErr, IfOk, false, []};
+ghost use Rattle.std.specs.Prelude.{◌≡◌, ◌≢◌, None, OnOk, OnErr, IfOk, false, []};
 ghost use Rattle.nn_edits.specs.declared.tx.Edit.TheVariants as edit;
 ghost use Rattle.nn_edits.specs.Lawful.{IsLawfulEdit};
 ghost use Rattle.nn_model.specs.Apply.{refusal, effect, first, list_checks, with_blocks};
 ghost use Rattle.nn_model.specs.Touched.{touched, listed};
+ghost use Rattle.nn_tree.specs.Memory.{takes_memory};
 ghost use Rattle.nn_tree.specs.Touched.{shown};
 
 use super::Namespace;
@@ -25,6 +26,7 @@ impl Namespace {
         ensures ok { OnOk result (self.new ≡ effect self.old edit.now) }
         ensures touched { IfOk result (λ t. shown t ≡ touched self.old edit.now) }
         ensures err { OnErr result (self.new ≡ self.old) }
+        ensures spare { OnErr result (takes_memory edit.now ≡ false → refusal self.old edit.now ≢ None) }
     {
         match edit {
             Edit::StartSegment | Edit::EndSegment => Ok(Touched::nothing(self.alloc)),
@@ -213,6 +215,7 @@ impl Namespace {
         ensures ok { OnOk result (self.new ≡ effect self.old (edit.SetReplication path.now replication)) }
         ensures touched { IfOk result (λ t. shown t ≡ touched self.old (edit.SetReplication path.now replication)) }
         ensures err { OnErr result (self.new ≡ self.old) }
+        ensures refused { OnErr result (refusal self.old (edit.SetReplication path.now replication) ≢ None) }
     {
         let names = path.names();
         if names.is_empty() {
@@ -251,6 +254,7 @@ impl Namespace {
         ensures ok { OnOk result (self.new ≡ effect self.old (edit.SetGenstamp stamp)) }
         ensures touched { IfOk result (λ t. shown t ≡ touched self.old (edit.SetGenstamp stamp)) }
         ensures err { OnErr result (self.new ≡ self.old) }
+        ensures refused { OnErr result (refusal self.old (edit.SetGenstamp stamp) ≢ None) }
     {
         if self.set_genstamp_refusal(stamp).is_some() {
             return Err(Unchanged);

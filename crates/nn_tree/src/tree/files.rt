@@ -1,7 +1,8 @@
 //! Changes of a file, made where it stands: one walk down its path checks and changes.
-ghost use Rattle.std.specs.Prelude.{◌≡◌, ◌++◌, ◌∷◌, [], IfOk, OnOk, OnErr};
+ghost use Rattle.std.specs.Prelude.{◌≡◌, ◌++◌, ◌∷◌, [], false, IfOk, OnOk, OnErr};
 ghost use Rattle.nn_model.specs.Apply.{keeps_ids, keeps_stamps};
-ghost use Rattle.nn_tree.specs.At.{IsSame};
+ghost use Rattle.nn_tree.specs.At.{at, IsSame};
+ghost use Rattle.nn_tree.specs.Walks.{is_file};
 ghost use Rattle.nn_tree.specs.Changes.{IsFileChanged, GetsBlock, GetsList, GetsReplication};
 
 use super::{Node, Tree, Unchanged};
@@ -67,6 +68,7 @@ impl Tree {
     ) -> Result<(), Unchanged>
         ensures ok { IfOk result (λ done. IsFileChanged self.old names.now self.new (GetsReplication replication)) }
         ensures err { OnErr result (IsSame self.old self.new) }
+        ensures no_file { OnErr result (is_file (at self.old names.now) ≡ false) }
     {
         let Some((first, rest)) = names.split_first() else {
             let Node::Leaf(file) = &mut self.node else {
@@ -136,30 +138,36 @@ fn list_open(
 pub(crate) fn keeps_ids(old: &[Block], new: &[Block]) -> bool
     ensures { result ≡ keeps_ids old.now new.now }
 {
-    let Some((a, old_rest)) = old.split_first() else {
-        return new.is_empty();
-    };
-    let Some((b, new_rest)) = new.split_first() else {
-        return old_rest.is_empty();
-    };
-    if a.id != b.id {
-        return false;
+    let mut old_left = old;
+    let mut new_left = new;
+    'pairs: while let Some((a, old_rest)) = old_left.split_first() {
+        let Some((b, new_rest)) = new_left.split_first() else {
+            return old_rest.is_empty();
+        };
+        if a.id != b.id {
+            return false;
+        }
+        old_left = old_rest;
+        new_left = new_rest;
     }
-    keeps_ids(old_rest, new_rest)
+    new_left.is_empty()
 }
 
 /// Whether each new generation stamp is at least the old one, and at most the last one issued.
 pub(crate) fn keeps_stamps(last: GenerationStamp, old: &[Block], new: &[Block]) -> bool
     ensures { result ≡ keeps_stamps last old.now new.now }
 {
-    let Some((b, new_rest)) = new.split_first() else {
-        return true;
-    };
-    let Some((a, old_rest)) = old.split_first() else {
-        return true;
-    };
-    if b.stamp < a.stamp || last < b.stamp {
-        return false;
+    let mut old_left = old;
+    let mut new_left = new;
+    'pairs: while let Some((b, new_rest)) = new_left.split_first() {
+        let Some((a, old_rest)) = old_left.split_first() else {
+            return true;
+        };
+        if b.stamp < a.stamp || last < b.stamp {
+            return false;
+        }
+        old_left = old_rest;
+        new_left = new_rest;
     }
-    keeps_stamps(last, old_rest, new_rest)
+    true
 }

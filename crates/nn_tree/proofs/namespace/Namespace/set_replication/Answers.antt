@@ -10,6 +10,7 @@ use Rattle.nn_tree.specs.View.{seen, IsKept}
 use Rattle.nn_tree.proofs.Applies.{HasFile, set_replication_applies}
 use Rattle.nn_tree.proofs.Kept.{still_seen, still_kept, file_was, file_seen, set_replication_kept}
 use Rattle.nn_tree.proofs.Maps.{not_root}
+use Rattle.nn_tree.proofs.Spare.{no_file_refused}
 use Rattle.nn_tree.proofs.namespace.Namespace.set_replication.Goals as goal
 
 pub invariant_of-self : goal.invariant_of-self
@@ -64,3 +65,10 @@ returns-clause-ok c =
     ∙ ap (λ (f : FileRow). with_row s p (File f)) done.5
     ∙ ap (λ (f : FileRow). with_row s p (File (record { replication = c.args.replication; closed = f.closed; blocks = f.blocks }))) old in
     is ∙ ap (λ (n : Namespace). effect n (edit.SetReplication p c.args.replication)) c.self.view_is
+
+pub returns-in_default-clause-refused : goal.returns-in_default-clause-refused
+returns-in_default-clause-refused c e =
+    let i = c.self.inside in
+    let p = c.args.path.now in
+    no_file_refused i.root (seen i.root i.last_block i.last_stamp i.waiting.keys) p c.names-names.result c.args.replication refl c.names-names.ensures.names
+    c.in_default.ensures.no_file (subst (λ (n : Namespace). refusal n (edit.SetReplication p c.args.replication) ≡ None) (sym c.self.view_is) e)

@@ -57,6 +57,13 @@ pub const BAD_BLOCK_ID: u8 = 30;
 /// A replication is outside 1 to 512.
 pub const BAD_REPLICATION: u8 = 31;
 
+/// A lane has no place left.
+pub const FULL: u8 = 41;
+/// A lane is closed.
+pub const CLOSED: u8 = 42;
+/// A lane has carried as many messages as one can.
+pub const EXHAUSTED: u8 = 43;
+
 /// Whoever gave segments is gone.
 pub const GONE: u8 = 46;
 /// A source of segments failed.
@@ -64,8 +71,12 @@ pub const SOURCE_FAILED: u8 = 47;
 
 /// The standby was stopped by an edit that does not apply.
 pub const STOPPED: u8 = 51;
+/// A lane is open.
+pub const INTAKE_OPEN: u8 = 52;
 /// The standby is active.
 pub const ALREADY_ACTIVE: u8 = 53;
+/// The log did not end: its source failed.
+pub const LOG_NOT_ENDED: u8 = 54;
 /// Memory was refused.
 pub const MEMORY: u8 = 55;
 /// There is no such DataNode.

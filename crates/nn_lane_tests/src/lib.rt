@@ -1,0 +1,8 @@
+//! Tests of lanes, of the standby over them, and of threads: what no clause says. They start threads, so they stand apart
+//! from nn_tests.
+#![tactic(auto)]
+
+#[cfg(test)]
+mod lane;
+#[cfg(test)]
+mod report;

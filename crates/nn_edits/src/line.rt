@@ -1,26 +1,32 @@
 //! From the bytes of a line to a transaction or a report.
-ghost use Rattle.std.specs.Prelude.{◌≡◌, Ok, IfOk};
-ghost use Rattle.std.specs.Option.{ok_or};
-ghost use Rattle.serde_json.specs.View.{view};
+ghost use Rattle.std.specs.Prelude.{◌≡◌, ◌<◌, length, Some, None, Ok, Err, IfOk, OnOk};
+ghost use Rattle.serde_json.specs.Data.{Members, object, no_members};
 ghost use Rattle.nn_edits.specs.Grammar.{IsEditLine, IsReportLine, IsLine, IsLawfulReport, IsLawfulLine};
 ghost use Rattle.nn_edits.specs.Lawful.{IsLawfulEdit};
+ghost use Rattle.nn_edits.specs.Ahead.{members_at};
 ghost use Rattle.nn_edits.specs.Outcome.{Gives, GivesSeen};
-ghost use Rattle.nn_edits.specs.Reading.{value_of, object_in, either_in};
+ghost use Rattle.nn_edits.specs.Parts.{seen_fields, parts_of, parts_of_line, either_from};
 ghost use Rattle.nn_edits.specs.Reading.{edit_of_line, report_of_line, either_of_line};
 ghost use Rattle.nn_edits.specs.declared.line.Line.{Line as LineData};
 ghost use Rattle.nn_edits.specs.declared.tx.Tx.{Tx as TxData};
 ghost use Rattle.nn_types.specs.declared.report.Report.{Report as ReportData};
 
+use crate::ahead::{Stop, read_member};
+use crate::blocks::read_blocks;
 use crate::fault::LineFault;
+use crate::fields::Fields;
 use crate::reading::tx_in;
 use crate::report::report_in;
 use crate::tx::Tx;
+use json::{Reader, Scratch, Token};
 use nn_types::Report;
-use serde_json::Value;
 use std::alloc::Global;
 
 /// The bytes that a line may have.
 pub(crate) const MAX_LINE_LEN: usize = 65_536;
+
+/// How deep the members of a line's object may nest. A line may nest 127 deep, and its object is one level of that.
+const MAX_DEPTH: usize = 126;
 
 /// A line of an input in which transactions and reports stand together.
 #[derive(Drop)]
@@ -32,8 +38,9 @@ pub enum Line {
 /// The transaction of a line, such as `{"op":"OP_MKDIR","path":"/a","txid":2}`.
 ///
 /// The keys may come in any order, and others may stand beside them. Time and memory are of the order of
-/// the line's length.
-pub fn read_edit(alloc: Global, line: &[u8]) -> Result<Tx, LineFault>
+/// the line's length. `scratch` is the reader's room, which a caller keeps over its lines; what a line left in it has
+/// no part in the next.
+pub fn read_edit(alloc: Global, scratch: &mut Scratch, line: &[u8]) -> Result<Tx, LineFault>
     // What is read is what the line spells.
     ensures found { IfOk result (IsEditLine line.now) }
     // What the line spells is read.
@@ -42,14 +49,14 @@ pub fn read_edit(alloc: Global, line: &[u8]) -> Result<Tx, LineFault>
     ensures exact { Gives result (edit_of_line line.now) }
     ensures lawful { IfOk result (λ tx. IsLawfulEdit tx.edit) }
 {
-    edit_of_line(alloc, line)
+    edit_of_line(alloc, scratch, line)
 }
 
 /// The report of a line, such as `{"block":1073741825,"dn":1,"gen":1001,"kind":"received","len":5}`.
 ///
 /// The keys may come in any order, and others may stand beside them. Time and memory are of the order of
 /// the line's length.
-pub fn read_report(alloc: Global, line: &[u8]) -> Result<Report, LineFault>
+pub fn read_report(alloc: Global, scratch: &mut Scratch, line: &[u8]) -> Result<Report, LineFault>
     // What is read is what the line spells.
     ensures found { IfOk result (IsReportLine line.now) }
     // What the line spells is read.
@@ -58,12 +65,12 @@ pub fn read_report(alloc: Global, line: &[u8]) -> Result<Report, LineFault>
     ensures exact { Gives result (report_of_line line.now) }
     ensures lawful { IfOk result IsLawfulReport }
 {
-    report_of_line(alloc, line)
+    report_of_line(alloc, scratch, line)
 }
 
 /// The transaction or the report of a line: an object with a key `op` is taken as a transaction, whatever its
 /// value there, and any other object as a report.
-pub fn read_line(alloc: Global, line: &[u8]) -> Result<Line, LineFault>
+pub fn read_line(alloc: Global, scratch: &mut Scratch, line: &[u8]) -> Result<Line, LineFault>
     // What is read is what the line spells.
     ensures found { IfOk result (IsLine line.now) }
     // What the line spells is read.
@@ -72,68 +79,96 @@ pub fn read_line(alloc: Global, line: &[u8]) -> Result<Line, LineFault>
     ensures exact { Gives result (either_of_line line.now) }
     ensures lawful { IfOk result IsLawfulLine }
 {
-    either_of_line(alloc, line)
+    either_of_line(alloc, scratch, line)
 }
 
-#[tactic(auto, unfolding(crate::specs::Reading::edit_of_line))]
-fn edit_of_line(alloc: Global, line: &[u8]) -> Result<Tx, LineFault>
+fn edit_of_line(alloc: Global, scratch: &mut Scratch, line: &[u8]) -> Result<Tx, LineFault>
     ensures { Gives result (edit_of_line line.now) }
 {
-    let value = object_in(alloc, line)?;
-    tx_in(alloc, &value)
+    let mut fields = Fields::none();
+    fields_in(alloc, scratch, line, &mut fields)?;
+    tx_in(alloc, &mut fields)
 }
 
-#[tactic(auto, unfolding(crate::specs::Reading::report_of_line))]
-fn report_of_line(alloc: Global, line: &[u8]) -> Result<Report, LineFault>
+fn report_of_line(alloc: Global, scratch: &mut Scratch, line: &[u8]) -> Result<Report, LineFault>
     ensures { Gives result (report_of_line line.now) }
 {
-    let value = object_in(alloc, line)?;
-    report_in(&value)
+    let mut fields = Fields::none();
+    fields_in(alloc, scratch, line, &mut fields)?;
+    report_in(&fields)
 }
 
-#[tactic(auto, unfolding(crate::specs::Reading::either_of_line))]
-fn either_of_line(alloc: Global, line: &[u8]) -> Result<Line, LineFault>
+fn either_of_line(alloc: Global, scratch: &mut Scratch, line: &[u8]) -> Result<Line, LineFault>
     ensures { Gives result (either_of_line line.now) }
 {
-    let value = object_in(alloc, line)?;
-    either_in(alloc, &value)
+    let mut fields = Fields::none();
+    fields_in(alloc, scratch, line, &mut fields)?;
+    either_in(alloc, &mut fields)
 }
 
-#[tactic(auto, unfolding(crate::specs::Reading::either_in))]
-fn either_in(alloc: Global, value: &Value) -> Result<Line, LineFault>
-    ensures { Gives result (either_in (view value.now)) }
+#[tactic(auto, unfolding(crate::specs::Parts::either_from))]
+fn either_in(alloc: Global, fields: &mut Fields<'_>) -> Result<Line, LineFault>
+    ensures { Gives result (either_from (seen_fields fields.old)) }
 {
-    if value.get("op").is_some() {
-        return Ok(Line::Edit(tx_in(alloc, value)?));
+    if fields.op.is_there() {
+        return Ok(Line::Edit(tx_in(alloc, fields)?));
     }
-    Ok(Line::Report(report_in(value)?))
+    Ok(Line::Report(report_in(fields)?))
 }
 
-#[tactic(auto, unfolding(crate::specs::Reading::object_in))]
-fn object_in(alloc: Global, line: &[u8]) -> Result<Value, LineFault>
-    ensures { GivesSeen view result (object_in line.now) }
+// What the object of a line has at the keys of the formats.
+fn fields_in<'a>(
+    alloc: Global,
+    scratch: &'a mut Scratch,
+    line: &'a [u8],
+    fields: &mut Fields<'a>,
+) -> Result<(), LineFault>
+    requires { seen_fields fields.old ≡ parts_of (object no_members) }
+    ensures { GivesSeen (λ _. seen_fields fields.new) result (parts_of_line line.now) }
 {
     if line.len() > MAX_LINE_LEN {
         return Err(LineFault::LineTooLong);
     }
-    let value = value_of(alloc, line)?;
-    if !value.is_object() {
+    let Ok(text) = simdutf8::compat::from_utf8(line) else {
+        return Err(LineFault::NotJson);
+    };
+    let mut reader = Reader::new(text, scratch)?;
+    let Some(token) = reader.next() else {
+        return Err(LineFault::NotJson);
+    };
+    let Token::BeginObject = token else {
+        return Err(LineFault::NotJson);
+    };
+    read_fields(alloc, &mut reader, MAX_DEPTH, fields)?;
+    if reader.next().is_some() {
         return Err(LineFault::NotJson);
     }
-    Ok(value)
+    Ok(())
 }
 
-fn value_of(alloc: Global, line: &[u8]) -> Result<Value, LineFault>
-    ensures { GivesSeen view result (ok_or (value_of line.now) LineFault.NotJson) }
+// Reads the members of an object up to its end. Arrays and objects in it may nest `depth` deep.
+fn read_fields<'a>(
+    alloc: Global,
+    reader: &mut Reader<'a>,
+    depth: usize,
+    fields: &mut Fields<'a>,
+) -> Result<(), Stop>
+    requires deep { 1 < depth }
+    requires none { seen_fields fields.old ≡ parts_of (object no_members) }
+    ensures ok { OnOk result ((ms : Members)
+        × (members_at depth (length reader.old) no_members reader.old ≡ Some (ms, reader.new))
+        × (seen_fields fields.new ≡ parts_of (object ms))) }
+    ensures err { result ≡ Err Stop.Invalid
+        → members_at depth (length reader.old) no_members reader.old ≡ None }
 {
-    match Value::from_slice(alloc, line) {
-        Ok(value) => Ok(value),
-        Err(e) => {
-            if e.is_memory() {
-                Err(LineFault::OutOfMemory)
-            } else {
-                Err(LineFault::NotJson)
-            }
+    'members: while let Some(key) = reader.next_key()? {
+        if key == "blocks" {
+            let blocks = read_blocks(alloc, reader, depth)?;
+            fields.put_blocks(blocks);
+        } else {
+            let member = read_member(reader, depth)?;
+            fields.put(key, member);
         }
     }
+    Ok(())
 }

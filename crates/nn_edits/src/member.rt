@@ -1,92 +1,109 @@
-//! One member of an object, read as what its key wants.
-ghost use Rattle.std.specs.Prelude.{◌≡◌, codes};
-ghost use Rattle.serde_json.specs.View.{view};
-ghost use Rattle.nn_edits.specs.Outcome.{Gives, GivesSeen};
-ghost use Rattle.nn_edits.specs.Reading.{field, whole_in, number_in, txid_in, dn_in, path_in};
+//! One member of an object, and what each key makes of it.
+ghost use Rattle.std.specs.Prelude.{◌≡◌};
+ghost use Rattle.nn_edits.specs.Outcome.{Gives};
+ghost use Rattle.nn_edits.specs.Parts.{seen, is_there, whole_from, number_from, txid_from, dn_from, path_from};
 
 use crate::fault::LineFault;
 use nn_types::{BlockId, GenerationStamp, Length, Path, Replication, Txid};
-use serde_json::Value;
 use std::alloc::Global;
 
 /// The greatest number that a DataNode has.
 const MAX_DN: u64 = 256;
 
-pub(crate) fn field<'a>(key: &str, value: &'a Value) -> Result<&'a Value, LineFault>
-    ensures { GivesSeen (λ v. view v.now) result (field key.now (view value.now)) }
-{
-    value.get(key).ok_or(LineFault::MissingField)
+/// What a member is to a key that wants a text or a whole number.
+///
+/// `Whole` was written with no sign, no point and no exponent, and is below 2^64. `Other` is any value beside these two.
+#[derive(Clone, Copy, Drop)]
+pub(crate) enum Member<'a> {
+    Missing,
+    Text(&'a str),
+    Whole(u64),
+    Other,
 }
 
-#[tactic(auto, unfolding(crate::specs::Reading::whole_in))]
-fn whole_in(key: &str, value: &Value) -> Result<u64, LineFault>
-    ensures { Gives result (whole_in key.now (view value.now)) }
-{
-    let member = field(key, value)?;
-    member.as_u64().ok_or(LineFault::BadNumber)
+impl<'a> Member<'a> {
+    pub(crate) fn is_there(&self) -> bool
+        ensures { result ≡ is_there (seen self.now) }
+    {
+        match self {
+            Member::Missing => false,
+            Member::Text(_) | Member::Whole(_) | Member::Other => true,
+        }
+    }
 }
 
-#[tactic(auto, unfolding(crate::specs::Reading::txid_in))]
-pub(crate) fn txid_in(value: &Value) -> Result<Txid, LineFault>
-    ensures { Gives result (txid_in (view value.now)) }
+#[tactic(auto, unfolding(crate::specs::Parts::whole_from))]
+fn whole_in(member: Member<'_>) -> Result<u64, LineFault>
+    ensures { result ≡ whole_from (seen member.entry) }
 {
-    let number = whole_in("txid", value)?;
+    match member {
+        Member::Missing => Err(LineFault::MissingField),
+        Member::Whole(n) => Ok(n),
+        Member::Text(_) | Member::Other => Err(LineFault::BadNumber),
+    }
+}
+
+#[tactic(auto, unfolding(crate::specs::Parts::txid_from))]
+pub(crate) fn txid_in(member: Member<'_>) -> Result<Txid, LineFault>
+    ensures { result ≡ txid_from (seen member.entry) }
+{
+    let number = whole_in(member)?;
     if number == 0 {
         return Err(LineFault::BadNumber);
     }
     Txid::new(number).ok_or(LineFault::BadNumber)
 }
 
-#[tactic(auto, unfolding(crate::specs::Reading::dn_in))]
-pub(crate) fn dn_in(value: &Value) -> Result<u16, LineFault>
-    ensures { Gives result (dn_in (view value.now)) }
+#[tactic(auto, unfolding(crate::specs::Parts::dn_from))]
+pub(crate) fn dn_in(member: Member<'_>) -> Result<u16, LineFault>
+    ensures { result ≡ dn_from (seen member.entry) }
 {
-    let number = whole_in("dn", value)?;
+    let number = whole_in(member)?;
     if number == 0 || number > MAX_DN {
         return Err(LineFault::BadNumber);
     }
     Ok(number as u16)
 }
 
-#[tactic(auto, unfolding(crate::specs::Reading::number_in))]
-pub(crate) fn block_id_in(key: &str, value: &Value) -> Result<BlockId, LineFault>
-    ensures { Gives result (number_in key.now (view value.now)) }
+#[tactic(auto, unfolding(crate::specs::Parts::number_from))]
+pub(crate) fn block_id_in(member: Member<'_>) -> Result<BlockId, LineFault>
+    ensures { result ≡ number_from (seen member.entry) }
 {
-    let number = whole_in(key, value)?;
+    let number = whole_in(member)?;
     BlockId::new(number).ok_or(LineFault::BadNumber)
 }
 
-#[tactic(auto, unfolding(crate::specs::Reading::number_in))]
-pub(crate) fn stamp_in(value: &Value) -> Result<GenerationStamp, LineFault>
-    ensures { Gives result (number_in (codes "gen") (view value.now)) }
+#[tactic(auto, unfolding(crate::specs::Parts::number_from))]
+pub(crate) fn stamp_in(member: Member<'_>) -> Result<GenerationStamp, LineFault>
+    ensures { result ≡ number_from (seen member.entry) }
 {
-    let number = whole_in("gen", value)?;
+    let number = whole_in(member)?;
     GenerationStamp::new(number).ok_or(LineFault::BadNumber)
 }
 
-#[tactic(auto, unfolding(crate::specs::Reading::number_in))]
-pub(crate) fn length_in(value: &Value) -> Result<Length, LineFault>
-    ensures { Gives result (number_in (codes "len") (view value.now)) }
+#[tactic(auto, unfolding(crate::specs::Parts::number_from))]
+pub(crate) fn length_in(member: Member<'_>) -> Result<Length, LineFault>
+    ensures { result ≡ number_from (seen member.entry) }
 {
-    let number = whole_in("len", value)?;
+    let number = whole_in(member)?;
     Length::new(number).ok_or(LineFault::BadNumber)
 }
 
-#[tactic(auto, unfolding(crate::specs::Reading::number_in))]
-pub(crate) fn replication_in(value: &Value) -> Result<Replication, LineFault>
-    ensures { Gives result (number_in (codes "replication") (view value.now)) }
+#[tactic(auto, unfolding(crate::specs::Parts::number_from))]
+pub(crate) fn replication_in(member: Member<'_>) -> Result<Replication, LineFault>
+    ensures { result ≡ number_from (seen member.entry) }
 {
-    let number = whole_in("replication", value)?;
+    let number = whole_in(member)?;
     Replication::new(number).ok_or(LineFault::BadNumber)
 }
 
-#[tactic(auto, unfolding(crate::specs::Reading::path_in))]
-pub(crate) fn path_in(alloc: Global, key: &str, value: &Value) -> Result<Path, LineFault>
-    ensures { Gives result (path_in key.now (view value.now)) }
+#[tactic(auto, unfolding(crate::specs::Parts::path_from))]
+pub(crate) fn path_in(alloc: Global, member: Member<'_>) -> Result<Path, LineFault>
+    ensures { Gives result (path_from (seen member.entry)) }
 {
-    let member = field(key, value)?;
-    match member.as_str() {
-        Some(text) => Ok(Path::parse(alloc, text)?),
-        None => Err(LineFault::BadPath),
+    match member {
+        Member::Missing => Err(LineFault::MissingField),
+        Member::Text(text) => Ok(Path::parse(alloc, text)?),
+        Member::Whole(_) | Member::Other => Err(LineFault::BadPath),
     }
 }

@@ -12,7 +12,7 @@ ghost use Rattle.nn_segment.specs.Lines.{newline, is_unbroken};
 
 use crate::segments::{Piece, is_end};
 use crate::steps::{Step, Steps};
-use nn_edits::{Line, LineFault, Tx, read_line};
+use nn_edits::{Line, LineFault, Scratch, Tx, read_line};
 use std::alloc::{AllocError, Global};
 use std::marker::Model;
 use std::mem;
@@ -51,12 +51,13 @@ pub fn read_lines(alloc: Global, input: &[u8]) -> Result<Scenario, BadLine>
     let Ok(mut reading) = Reading::new(alloc) else {
         return Err(no_memory(0));
     };
+    let mut scratch = Scratch::new(alloc);
     let mut line = 0u64;
     let mut rest = input;
     'lines: loop {
         let end = line_end(rest);
         line += 1;
-        if let Err(bad) = reading.push_text(alloc, &rest[..end], line) {
+        if let Err(bad) = reading.push_text(alloc, &mut scratch, &rest[..end], line) {
             return Err(bad);
         }
         if end == rest.len() {
@@ -116,7 +117,13 @@ impl Reading {
     }
 
     // Reads one more line, unless it is blank.
-    fn push_text(&mut self, alloc: Global, text: &[u8], line: u64) -> Result<(), BadLine>
+    fn push_text(
+        &mut self,
+        alloc: Global,
+        scratch: &mut Scratch,
+        text: &[u8],
+        line: u64,
+    ) -> Result<(), BadLine>
         requires { is_unbroken text.now ≡ true }
         ensures ok { OnOk result (IfElse (is_blank text.now) (self.new ≡ self.old)
             ((x : LineData) × (either_of_line text.now ≡ Ok x) × (self.new ≡ followed_by_line self.old (line_as text.now x)))) }
@@ -126,7 +133,7 @@ impl Reading {
         if is_blank(text) {
             return Ok(());
         }
-        let read = match read_line(alloc, text) {
+        let read = match read_line(alloc, scratch, text) {
             Ok(read) => read,
             Err(fault) => return Err(BadLine { fault, line }),
         };

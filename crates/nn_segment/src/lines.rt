@@ -6,7 +6,7 @@ ghost use Rattle.nn_segment.specs.Lines.{newline, lines_of, is_ended, reads_of};
 ghost use Rattle.nn_segment.specs.Outcome.{StopsAt};
 
 use crate::fault::SegmentFault;
-use nn_edits::{LineFault, Tx, read_edit};
+use nn_edits::{LineFault, Scratch, Tx, read_edit};
 use std::alloc::{AllocError, Global};
 
 /// The transactions of the lines before the first bad one, and why that one is bad.
@@ -21,10 +21,11 @@ pub(crate) fn read_lines(alloc: Global, bytes: &[u8]) -> ReadLines
     ensures { StopsAt (reads_of bytes.now) result.txs.items result.bad }
 {
     let mut txs = Vec::new(alloc);
+    let mut scratch = Scratch::new(alloc);
     let mut rest = bytes;
     'lines: while !rest.is_empty() {
         let end = line_end(rest);
-        let tx = match read_edit(alloc, &rest[..end]) {
+        let tx = match read_edit(alloc, &mut scratch, &rest[..end]) {
             Ok(tx) => tx,
             Err(fault) => {
                 return ReadLines {

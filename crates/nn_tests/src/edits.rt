@@ -1,5 +1,5 @@
 //! Lines typed by hand from the format, faults by their numbers, and each call once on its happy path.
-use nn_edits::{Edit, Line, LineFault, Tx, read_edit, read_line, read_report, write_edit};
+use nn_edits::{Edit, Line, LineFault, Scratch, Tx, read_edit, read_line, read_report, write_edit};
 use nn_types::{Block, BlockId, Blocks, GenerationStamp, Kind, Length, Path, Txid};
 use std::alloc::Global;
 use std::process::Abort;
@@ -77,18 +77,18 @@ fn name_of(edit: &Edit) -> &'static str {
 
 // The operation that a line is read as.
 fn operation_of(alloc: Global, line: &str) -> Result<&'static str, Fail> {
-    let tx = read_edit(alloc, line.as_bytes())?;
+    let tx = read_edit(alloc, &mut Scratch::new(alloc), line.as_bytes())?;
     Ok(name_of(&tx.edit))
 }
 
 fn txid_of(alloc: Global, line: &str) -> Result<u64, Fail> {
-    let tx = read_edit(alloc, line.as_bytes())?;
+    let tx = read_edit(alloc, &mut Scratch::new(alloc), line.as_bytes())?;
     Ok(tx.txid.get())
 }
 
 // What a line is written as, once it is read.
 fn written_again(alloc: Global, line: &str) -> Result<String, Fail> {
-    let tx = read_edit(alloc, line.as_bytes())?;
+    let tx = read_edit(alloc, &mut Scratch::new(alloc), line.as_bytes())?;
     Ok(write_edit(alloc, &tx)?)
 }
 
@@ -129,7 +129,7 @@ fn ends_of(alloc: Global, edit: &Edit) -> Result<String, Fail> {
 #[test]
 fn each_key_goes_to_its_place(rt: HostRuntime) -> Result<(), Fail> {
     let line = b"{\"src\":\"/from\",\"dst\":\"/to\",\"op\":\"OP_RENAME\",\"txid\":3}";
-    let tx = read_edit(rt.alloc(), line)?;
+    let tx = read_edit(rt.alloc(), &mut Scratch::new(rt.alloc()), line)?;
     let ends = ends_of(rt.alloc(), &tx.edit)?;
     assert_eq!(rt; ends.as_str(), "/from /to");
     Ok(())
@@ -151,7 +151,7 @@ fn a_report_of_each_kind(rt: HostRuntime) -> Result<(), Fail> {
             "{\"gen\":1001,\"block\":9,\"kind\":\"deleted\",\"len\":0,\"dn\":256}",
         ),
     ] {
-        let report = read_report(rt.alloc(), line.as_bytes())?;
+        let report = read_report(rt.alloc(), &mut Scratch::new(rt.alloc()), line.as_bytes())?;
         assert_eq!(rt; report.kind, kind);
         assert_eq!(rt; report.dn, 256);
         assert_eq!(rt;
@@ -164,7 +164,7 @@ fn a_report_of_each_kind(rt: HostRuntime) -> Result<(), Fail> {
 
 // The number of a line's fault, or 0.
 fn fault_of(alloc: Global, line: &[u8]) -> u8 {
-    match read_line(alloc, line) {
+    match read_line(alloc, &mut Scratch::new(alloc), line) {
         Ok(_) => 0,
         Err(fault) => fault.number(),
     }
@@ -196,6 +196,86 @@ fn a_fault_before_the_txid(rt: HostRuntime) {
     first_faults(&rt, rt.alloc(), &rows);
     let line = b"{\"op\":\"OP_MKDIR\",\"zz\":\"\xff\"}";
     assert_eq!(rt; fault_of(rt.alloc(), line), 1);
+}
+
+// What no operation asks for has to be JSON all the same.
+#[test]
+fn a_fault_under_a_key_that_no_operation_has(rt: HostRuntime) {
+    let rows = [
+        (
+            "{\"op\":\"OP_START_LOG_SEGMENT\",\"txid\":1,\"zz\":1e308}",
+            0,
+        ),
+        (
+            "{\"op\":\"OP_START_LOG_SEGMENT\",\"txid\":1,\"zz\":1e309}",
+            1,
+        ),
+        (
+            "{\"op\":\"OP_START_LOG_SEGMENT\",\"txid\":1,\"zz\":[-1e400]}",
+            1,
+        ),
+        (
+            "{\"op\":\"OP_START_LOG_SEGMENT\",\"txid\":1,\"zz\":{\"z\":[1e400]}}",
+            1,
+        ),
+        (
+            "{\"op\":\"OP_START_LOG_SEGMENT\",\"txid\":1,\"blocks\":[5,1e400]}",
+            1,
+        ),
+        (
+            "{\"op\":\"OP_START_LOG_SEGMENT\",\"txid\":1,\"blocks\":[{\"zz\":1e400}]}",
+            1,
+        ),
+        (
+            "{\"op\":\"OP_START_LOG_SEGMENT\",\"txid\":1,\"blocks\":[{\"id\":-1},{]}",
+            1,
+        ),
+        (
+            "{\"op\":\"OP_START_LOG_SEGMENT\",\"txid\":1,\"blocks\":[{\"id\":-1},{}]}",
+            0,
+        ),
+        (
+            "{\"op\":\"OP_START_LOG_SEGMENT\",\"txid\":1,\"zz\":\"\\ud83d\\ude00\"}",
+            0,
+        ),
+        (
+            "{\"op\":\"OP_START_LOG_SEGMENT\",\"txid\":1,\"zz\":\"\\ude00\"}",
+            1,
+        ),
+        (
+            "{\"op\":\"OP_START_LOG_SEGMENT\",\"txid\":1,\"zz\":[{\"\\ud83d\":5}]}",
+            1,
+        ),
+        ("{\"op\":\"OP_START_LOG_SEGMENT\",\"txid\":1,\"zz\":01}", 1),
+        (
+            "{\"op\":\"OP_START_LOG_SEGMENT\",\"txid\":1,\"zz\":[5,]}",
+            1,
+        ),
+        (
+            "{\"op\":\"OP_START_LOG_SEGMENT\",\"txid\":1,\"zz\":{\"z\"}}",
+            1,
+        ),
+        ("{\"op\":\"OP_START_LOG_SEGMENT\",\"txid\":1} 5", 1),
+    ];
+    first_faults(&rt, rt.alloc(), &rows);
+}
+
+// Of members with the same key the last one counts.
+#[test]
+fn a_fault_of_the_last_member(rt: HostRuntime) {
+    let rows = [
+        ("{\"op\":5,\"txid\":1,\"op\":\"OP_START_LOG_SEGMENT\"}", 0),
+        ("{\"op\":\"OP_START_LOG_SEGMENT\",\"txid\":1,\"txid\":0}", 3),
+        (
+            "{\"op\":\"OP_CLOSE\",\"txid\":1,\"path\":\"/a\",\"blocks\":[5],\"blocks\":[]}",
+            0,
+        ),
+        (
+            "{\"op\":\"OP_CLOSE\",\"txid\":1,\"path\":\"/a\",\"blocks\":[],\"blocks\":5}",
+            2,
+        ),
+    ];
+    first_faults(&rt, rt.alloc(), &rows);
 }
 
 #[test]
@@ -290,7 +370,7 @@ fn the_first_fault_of_a_report(rt: HostRuntime) {
 
 // Whether a line is an edit or a report.
 fn form_of(alloc: Global, line: &[u8]) -> Result<&'static str, Fail> {
-    match read_line(alloc, line)? {
+    match read_line(alloc, &mut Scratch::new(alloc), line)? {
         Line::Edit(_) => Ok("edit"),
         Line::Report(_) => Ok("report"),
     }
@@ -323,27 +403,33 @@ fn a_line_of_65536_bytes(rt: HostRuntime) -> Result<(), Fail> {
     Ok(())
 }
 
-// A transaction's line with arrays in arrays in a key that is ignored.
-fn nested(alloc: Global, depth: usize) -> Result<String, Fail> {
-    let mut line = String::from_str(
-        alloc,
-        "{\"op\":\"OP_DELETE\",\"path\":\"/a\",\"txid\":2,\"zz\":",
-    )?;
-    for _ in 0..depth {
-        line.push('[')?;
+// A line that nests so deep, its own object the first level, by these texts around one another.
+fn nested(alloc: Global, key: &str, around: (&str, &str), depth: usize) -> Result<String, Fail> {
+    let mut line = String::from_str(alloc, "{\"op\":\"OP_DELETE\",\"path\":\"/a\",\"txid\":2,")?;
+    line.push_str(key)?;
+    for _ in 1..depth {
+        line.push_str(around.0)?;
     }
-    for _ in 0..depth {
-        line.push(']')?;
+    line.push('5')?;
+    for _ in 1..depth {
+        line.push_str(around.1)?;
     }
     line.push('}')?;
     Ok(line)
 }
 
 #[test]
-fn nested_126_deep(rt: HostRuntime) -> Result<(), Fail> {
-    for (depth, number) in [(126, 0), (127, 1)] {
-        let line = nested(rt.alloc(), depth)?;
-        assert_eq!(rt; fault_of(rt.alloc(), line.as_bytes()), number, "at {depth}");
+fn a_line_nests_127_deep(rt: HostRuntime) -> Result<(), Fail> {
+    for (key, around) in [
+        ("\"zz\":", ("[", "]")),
+        ("\"zz\":", ("{\"z\":", "}")),
+        ("\"blocks\":", ("[", "]")),
+    ] {
+        for (depth, number) in [(126, 0), (127, 0), (128, 1)] {
+            let line = nested(rt.alloc(), key, around, depth)?;
+            let found = fault_of(rt.alloc(), line.as_bytes());
+            assert_eq!(rt; found, number, "at {depth} of {key}");
+        }
     }
     Ok(())
 }

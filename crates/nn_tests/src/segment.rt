@@ -4,7 +4,7 @@ ghost use Rattle.nn_edits.specs.Reading.{edit_of_line};
 ghost use Rattle.nn_edits.specs.declared.tx.Tx.{Tx as TxData};
 ghost use Rattle.nn_segment.specs.Lines.{newline};
 
-use nn_edits::{LineFault, Tx, read_edit};
+use nn_edits::{LineFault, Scratch, Tx, read_edit};
 use nn_segment::{
     Item, MemorySource, Parsed, SegmentFault, SegmentSource, gather, parse_name, segment_name,
 };
@@ -262,7 +262,7 @@ fn push_line(alloc: Global, bytes: &mut Vec<u8>, txs: &mut Vec<Tx>, line: &[u8])
     ensures { OnOk result ((tx : TxData) × (edit_of_line line.now ≡ Ok tx) × (txs.new.items ≡ txs.old.items ++ tx ∷ [])
         × (bytes.new.items ≡ bytes.old.items ++ (line.now ++ newline ∷ []))) }
 {
-    let tx = read_edit(alloc, line)?;
+    let tx = read_edit(alloc, &mut Scratch::new(alloc), line)?;
     txs.push(tx)?;
     bytes.extend_from_slice(line)?;
     bytes.push(b'\n')?;

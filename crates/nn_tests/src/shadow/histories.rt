@@ -1,5 +1,5 @@
 //! Whole scenarios on the calls, each with the history that a standby tells of it.
-use nn_edits::{Line, read_line};
+use nn_edits::{Line, Scratch, read_line};
 use nn_shadow::Shadow;
 use nn_types::{Cause, Event, Message, Report};
 use std::alloc::Global;
@@ -121,7 +121,7 @@ fn history_of(alloc: Global, shadow: &mut Shadow, lines: &str) -> Result<String,
 }
 
 fn follow(shadow: &mut Shadow, alloc: Global, line: &str) -> Result<(), Fail> {
-    match read_line(alloc, line.as_bytes())? {
+    match read_line(alloc, &mut Scratch::new(alloc), line.as_bytes())? {
         Line::Edit(tx) => shadow.apply(&tx)?,
         Line::Report(report) => hand_next(shadow, report)?,
     }

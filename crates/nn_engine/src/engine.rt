@@ -25,6 +25,7 @@ use nn_shadow::{FlushFault, Shadow};
 use nn_types::{Settings, fault};
 use std::alloc::{AllocError, Global};
 use std::io::{Read, Write};
+use std::mem;
 
 /// What a run is asked for.
 #[derive(Clone, Copy, Debug, PartialEq, Eq)]
@@ -113,7 +114,7 @@ fn output_of_scenario(
     scenario: Scenario,
 ) -> Result<Output, AllocError>
     requires { IsLawfulScenario (seen scenario) }
-    ensures { IfOk result (λ o. shown o ≡ after_segments settings (lanes_of scenario.steps.items) (segments_from 1 scenario.pieces.items)) }
+    ensures { IfOk result (λ o. shown o ≡ after_segments settings (lanes_of scenario.steps) (segments_from 1 scenario.pieces.items)) }
 {
     let Scenario {
         pieces,
@@ -165,6 +166,8 @@ fn output_of_standby(alloc: Global, standby: Shadow) -> Result<Output, AllocErro
     standby.consistent();
     let mut text = listing(alloc, standby.namespace(), standby.last_txid())?;
     push_tables(alloc, &mut text, standby.replicas(), standby.safe_mode())?;
+    // Taking it apart would be work for nothing: the process ends.
+    mem::forget(standby);
     Ok(Output { text, status: 0 })
 }
 

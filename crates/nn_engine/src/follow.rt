@@ -15,7 +15,7 @@ ghost use Rattle.nn_scenario.specs.Steps.{lanes_after, lanes_of, AreInTurn, IsSt
 use crate::log::{Log, Next};
 use nn_edits::Tx;
 use nn_model::EditFault;
-use nn_scenario::Step;
+use nn_scenario::{Step, StepList};
 use nn_segment::Parsed;
 use nn_shadow::{ApplyFault, HandCause, Shadow};
 use nn_types::{Message, Settings};
@@ -37,13 +37,13 @@ pub fn follow(
     alloc: Global,
     settings: Settings,
     lanes: u16,
-    steps: Vec<Step>,
+    steps: StepList,
     segments: Vec<Parsed>,
 ) -> Result<Shadow, Halt>
     requires lanes { (1 ≤ lanes) × (lanes ≤ 256) }
-    requires in_turn { AreInTurn no_messages steps.items }
-    requires within { All (IsStepOf lanes) steps.items }
-    ensures arrived { IfOk result (λ shadow. HasArrived (end_of_log 0 root_alone segments.items) (lanes_of steps.items) shadow) }
+    requires in_turn { AreInTurn no_messages steps }
+    requires within { All (IsStepOf lanes) steps }
+    ensures arrived { IfOk result (λ shadow. HasArrived (end_of_log 0 root_alone segments.items) (lanes_of steps) shadow) }
     ensures serving { IfOk result (λ shadow. shadow.phase ≡ serving) }
     ensures settings { IfOk result (λ shadow. (shadow.table.min ≡ settings.min) × (shadow.permille ≡ settings.permille)) }
     ensures halted { IfErr result (λ halt. StopsAs halt (end_of_log 0 root_alone segments.items)) }
@@ -61,13 +61,14 @@ pub fn follow(
     Ok(shadow)
 }
 
-fn take_steps(shadow: &mut Shadow, log: &mut Log, steps: Vec<Step>) -> Result<(), Halt>
-    requires { IsFollowing (end_of_log 0 root_alone log.old.segments) (length shadow.old.numbers) (lanes_of steps.items) log.old steps.items shadow.old }
-    ensures following { OnOk result (IsFollowing (end_of_log 0 root_alone log.old.segments) (length shadow.old.numbers) (lanes_of steps.items) log.new [] shadow.new) }
+fn take_steps(shadow: &mut Shadow, log: &mut Log, steps: StepList) -> Result<(), Halt>
+    requires { IsFollowing (end_of_log 0 root_alone log.old.segments) (length shadow.old.numbers) (lanes_of steps) log.old steps shadow.old }
+    ensures following { OnOk result (IsFollowing (end_of_log 0 root_alone log.old.segments) (length shadow.old.numbers) (lanes_of steps) log.new [] shadow.new) }
     ensures rest { OnOk result (KeepsSettings shadow.old shadow.new) }
     ensures halted { IfErr result (λ halt. StopsAs halt (end_of_log 0 root_alone log.old.segments)) }
 {
-    for step in steps {
+    let mut steps = steps.into_steps();
+    'steps: while let Some(step) = steps.next() {
         if let Err(halt) = take_step(shadow, log, step) {
             return Err(halt);
         }

@@ -1,3 +1,4 @@
 pub mod Listing
 pub mod Tables
 pub mod TablesRows
+pub mod Plain

@@ -1,11 +1,12 @@
 //! What the program prints of its namespace.
-ghost use Rattle.std.specs.Prelude.{◌≡◌, ◌++◌, ◌∷◌, [], IfOk, OnOk, codes, decimal, flat_map, string_bytes};
+ghost use Rattle.std.specs.Prelude.{◌≡◌, ◌++◌, ◌∷◌, [], true, IfOk, OnOk, codes, decimal, flat_map, string_bytes};
 ghost use Rattle.nn_types.specs.Path.{joined, path_text};
 ghost use Rattle.nn_model.specs.declared.form.Form.{Form};
 ghost use Rattle.nn_model.specs.declared.form.Form.TheVariants.{File};
 ghost use Rattle.nn_tree.specs.Found.{form_of};
 ghost use Rattle.nn_tree.specs.Listing.{lent_names};
 ghost use Rattle.nn_listing.specs.Listing.{listing_text, line_of, path_json, block_text, state_text};
+ghost use Rattle.nn_listing.specs.Plain.{is_plain, are_plain};
 
 use nn_model::FileRow;
 use nn_tree::{Extent, Found, Namespace, RowSink};
@@ -119,34 +120,76 @@ fn push_file(
     text.push_str("\n")
 }
 
+// A name is mostly plain, and then its path goes straight into the text.
 fn push_path(alloc: Global, text: &mut String, names: &[&str]) -> Result<(), AllocError>
     ensures { OnOk result (string_bytes text.new ≡ string_bytes text.old ++ path_json (lent_names names.now)) }
 {
-    let path = text_of(alloc, names)?;
+    if are_plain(names) {
+        push_plain(text, names)
+    } else {
+        push_escaped(alloc, text, names)
+    }
+}
+
+// Whether JSON writes each of the names as it stands.
+fn are_plain(names: &[&str]) -> bool
+    ensures { result ≡ true → are_plain (lent_names names.now) ≡ true }
+{
+    for name in names {
+        if !is_plain(name) {
+            return false;
+        }
+    }
+    true
+}
+
+fn is_plain(name: &str) -> bool
+    ensures { result ≡ is_plain name.now }
+{
+    name.as_bytes()
+        .iter()
+        .all(|b| *b >= b' ' && *b != b'"' && *b != b'\\')
+}
+
+// The path of plain names between quotes.
+fn push_plain(text: &mut String, names: &[&str]) -> Result<(), AllocError>
+    requires { are_plain (lent_names names.now) ≡ true }
+    ensures { OnOk result (string_bytes text.new ≡ string_bytes text.old ++ path_json (lent_names names.now)) }
+{
+    text.push_str("\"")?;
+    push_text(text, names)?;
+    text.push_str("\"")?;
+    Ok(())
+}
+
+fn push_escaped(alloc: Global, text: &mut String, names: &[&str]) -> Result<(), AllocError>
+    ensures { OnOk result (string_bytes text.new ≡ string_bytes text.old ++ path_json (lent_names names.now)) }
+{
+    let mut path = String::new(alloc);
+    push_text(&mut path, names)?;
     let json = Value::String(path).to_string(alloc)?;
     text.push_str(json.as_str())
 }
 
 // The text of the path with these names.
-fn text_of(alloc: Global, names: &[&str]) -> Result<String, AllocError>
-    ensures { IfOk result (λ path. string_bytes path ≡ path_text (lent_names names.now)) }
+fn push_text(text: &mut String, names: &[&str]) -> Result<(), AllocError>
+    ensures { OnOk result (string_bytes text.new ≡ string_bytes text.old ++ path_text (lent_names names.now)) }
 {
     if names.is_empty() {
-        return String::from_str(alloc, "/");
+        return text.push_str("/");
     }
-    joined(alloc, names)
+    push_joined(text, names)
 }
 
 // A slash before each name.
-fn joined(alloc: Global, names: &[&str]) -> Result<String, AllocError>
-    ensures { IfOk result (λ path. string_bytes path ≡ joined (lent_names names.now)) }
+fn push_joined(text: &mut String, names: &[&str]) -> Result<(), AllocError>
+    ensures { OnOk result (string_bytes text.new ≡ string_bytes text.old ++ joined (lent_names names.now)) }
 {
-    let mut path = String::new(alloc);
     for name in names {
-        path.push('/')?;
-        path.push_str(name)?;
+        text.push_str("/")?;
+        text.push_str(name)?;
     }
-    Ok(path)
+    Ok(())
 }
 
 fn push_blocks(text: &mut String, blocks: &[Block]) -> Result<(), AllocError>

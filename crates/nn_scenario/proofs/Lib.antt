@@ -1,3 +1,4 @@
+pub mod StepLists
 pub mod StepLemmas
 pub mod LineLemmas
 pub mod LawfulLemmas

@@ -1,4 +1,5 @@
 pub mod Steps
+pub mod StepList
 pub mod Cut
 pub mod Scenario
 pub mod SoFar

@@ -105,7 +105,7 @@ scenario_of text = scenario_from (lines_of text)
 
 -- a scenario of the code as its parts, steps and DataNodes
 abbrev pub seen : Read → Scenario
-seen s = record { parts = s.pieces.items; steps = s.steps.items; lanes = s.lanes }
+seen s = record { parts = s.pieces.items; steps = s.steps; lanes = s.lanes }
 
 -- the messages of the steps are those of the text's lines: of each DataNode its reports, numbered from 1
 abbrev pub HasMessagesOf : List ℕ → Scenario → Type 0

@@ -6,8 +6,10 @@
 
 mod scenario;
 mod segments;
+mod step_list;
 mod steps;
 
 pub use scenario::{BadLine, MAX_INPUT, Scenario, read_lines};
 pub use segments::{BadSegment, Piece, read_segments};
+pub use step_list::{StepList, StepsLeft};
 pub use steps::Step;

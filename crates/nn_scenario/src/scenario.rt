@@ -11,7 +11,8 @@ ghost use Rattle.nn_scenario.specs.SoFar.{nothing_read, with_edit_line, followed
 ghost use Rattle.nn_segment.specs.Lines.{newline, is_unbroken};
 
 use crate::segments::{Piece, is_end};
-use crate::steps::{Step, Steps};
+use crate::step_list::StepList;
+use crate::steps::Steps;
 use nn_edits::{Line, LineFault, Scratch, Tx, read_line};
 use std::alloc::{AllocError, Global};
 use std::marker::Model;
@@ -33,7 +34,7 @@ pub struct Scenario {
     /// The edit lines, cut after each end mark.
     pub pieces: Vec<Piece>,
     /// Edits and messages in the order of their lines. The transactions stand in the pieces, in the same order.
-    pub steps: Vec<Step>,
+    pub steps: StepList,
     /// The greatest DataNode of any message, and at least 1.
     pub lanes: u16,
 }
@@ -190,7 +191,7 @@ impl Reading {
         let lanes = steps.lanes();
         Ok(Scenario {
             pieces,
-            steps: steps.into_vec(),
+            steps: steps.into_list(),
             lanes,
         })
     }

@@ -2,6 +2,7 @@
 ghost use Rattle.std.specs.Prelude.{◌≡◌, ◌≤◌, ◌++◌, ◌∷◌, [], IfOk, OnOk, OnErr, replicate};
 ghost use Rattle.nn_scenario.specs.Steps.{message, with_report, lane_count};
 
+use crate::step_list::StepList;
 use nn_types::{Message, Report};
 use std::alloc::{AllocError, Global};
 use std::marker::Model;
@@ -20,7 +21,7 @@ const PLACES: usize = 257;
 /// Steps in order. Each message has the number that its DataNode counted it under, from 1.
 #[derive(Drop)]
 pub struct Steps {
-    items: Vec<Step>,
+    items: StepList,
     // how many messages each DataNode sent
     sent: Vec<u64>,
     lanes: u16,
@@ -33,9 +34,9 @@ impl Model for Steps {
 
     ghost Value = { List Step };
 
-    ghost view = { λ s. s.items.items };
+    ghost view = { λ s. s.items };
 
-    ghost invariant = { λ s. IsCounted s.items.items s.sent.items s.lanes };
+    ghost invariant = { λ s. IsCounted s.items s.sent.items s.lanes };
 }
 
 impl Steps {
@@ -45,7 +46,7 @@ impl Steps {
     {
         let sent = zeros(alloc, PLACES)?;
         Ok(Steps {
-            items: Vec::new(alloc),
+            items: StepList::new(alloc),
             sent,
             lanes: 1,
         })
@@ -56,7 +57,7 @@ impl Steps {
         ensures ok { OnOk result (self.new ≡ self.old ++ Step.Edit ∷ []) }
         ensures left { OnErr result (self.new ≡ self.old) }
     {
-        if let Err(_) = self.items.push(Step::Edit) {
+        if let Err(_) = self.items.push_edit() {
             return Err(AllocError);
         }
         Ok(())
@@ -68,10 +69,12 @@ impl Steps {
         ensures ok { OnOk result (self.new ≡ with_report self.old report) }
         ensures left { OnErr result (self.new ≡ self.old) }
     {
+        // A DataNode sent no more messages than there are steps.
+        let _steps = self.items.len();
         let dn = report.dn;
         let number = self.sent[usize::from(dn)] + 1;
-        let next = Step::Message(message(report, number));
-        if let Err(_) = self.items.push(next) {
+        let next = message(report, number);
+        if let Err(_) = self.items.push_message(next) {
             return Err(AllocError);
         }
         self.sent[usize::from(dn)] = number;
@@ -88,8 +91,8 @@ impl Steps {
     }
 
     /// The steps alone.
-    pub fn into_vec(self) -> Vec<Step>
-        ensures { result.items ≡ self }
+    pub fn into_list(self) -> StepList
+        ensures { result ≡ self }
     {
         self.items
     }

@@ -6,7 +6,7 @@ use Rattle.nn_engine.proofs.follow.follow.Goals as goal
 
 pub take_steps-requires : goal.take_steps-requires
 take_steps-requires c =
-    sets_out (length c.in-Ok.shadow.numbers) c.new-log.result c.args.steps.items c.in-Ok.shadow c.in-Ok.ensures.fresh c.in-Ok.ensures.phase refl
+    sets_out (length c.in-Ok.shadow.numbers) c.new-log.result c.args.steps c.in-Ok.shadow c.in-Ok.ensures.fresh c.in-Ok.ensures.phase refl
     (ap (λ left. left.txs) c.new-log.ensures) c.requires.in_turn (rw c.in-Ok.ensures.settings.0 c.requires.within)
 
 pub returns-in-Err-follow_to_end-clause-halted : goal.returns-in-Err-follow_to_end-clause-halted

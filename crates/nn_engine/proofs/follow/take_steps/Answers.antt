@@ -1,5 +1,4 @@
 use Rattle.std.proofs.Common.{length, ◌∙◌}
-use Rattle.std.specs.Vec.Iter.{into_iter_items}
 use Rattle.nn_model.specs.Namespace.{root_alone}
 use Rattle.nn_engine.specs.LogEnd.{end_of_log}
 use Rattle.nn_scenario.specs.Steps.{lanes_of}
@@ -8,15 +7,15 @@ use Rattle.nn_engine.proofs.follow.take_steps.Goals as goal
 
 pub returns-in-Err-clause-halted : goal.returns-in-Err-clause-halted
 returns-in-Err-clause-halted c =
-    c.in-Err.ensures.halted (end_of_log 0 root_alone c.args.log.now.segments) c.loop-step.invariant.following.lanes c.loop-step.invariant.following.way
+    c.in-Err.ensures.halted (end_of_log 0 root_alone c.args.log.now.segments) c.steps.invariant.following.lanes c.steps.invariant.following.way
 
-pub loop-step-preserved : goal.loop-step-preserved
-loop-step-preserved c =
+pub steps-preserved : goal.steps-preserved
+steps-preserved c =
     let whole = end_of_log 0 root_alone c.args.log.now.segments in
-    let inv = c.loop-step.invariant in
-    let done = c.in_default.ensures in
+    let inv = c.steps.invariant in
+    let done = c.in_default-take_step.ensures in
     record {
-      following = step_taken whole (length c.args.shadow.now.numbers) (lanes_of c.args.steps.items) c.loop-step.log c.take_step.new.log c.in-Some.step
-          (into_iter_items c.next.new.self) c.loop-step.shadow c.take_step.new.shadow done.goes_on done.serving done.rest (rw (← c.in-Some.ensures.steps.0) inv.following);
+      following = step_taken whole (length c.args.shadow.now.numbers) (lanes_of c.args.steps) c.steps.log c.take_step.new.log c.in-Some.step
+          c.next.new.self c.steps.shadow c.take_step.new.shadow done.goes_on done.serving done.rest (rw (← c.in-Some.ensures.some) inv.following);
       rest = record { lanes = done.rest.lanes ∙ inv.rest.lanes; min = done.rest.min ∙ inv.rest.min; permille = done.rest.permille ∙ inv.rest.permille };
     }

@@ -1,5 +1,4 @@
 use Rattle.std.proofs.Common.{length}
-use Rattle.std.specs.Vec.Iter.{into_iter_items}
 use Rattle.nn_model.specs.Namespace.{root_alone}
 use Rattle.nn_shadow.specs.Contents.{KeepsSettings}
 use Rattle.nn_engine.specs.Follow.{IsFollowing}
@@ -8,8 +7,11 @@ use Rattle.nn_scenario.specs.Steps.{lanes_of}
 use Rattle.nn_engine.proofs.follow.take_steps.Given as goal
 
 -- the steps that are left are ahead
-abbrev pub invariant-loop-step : goal.invariant-loop-step
-invariant-loop-step l = record {
-  following : IsFollowing (end_of_log 0 root_alone l.initial.log.segments) (length l.initial.shadow.numbers) (lanes_of l.fn.steps.items) l.log (into_iter_items l.step-iterator) l.shadow;
+abbrev pub invariant-steps : goal.invariant-steps
+invariant-steps l = record {
+  following : IsFollowing (end_of_log 0 root_alone l.initial.log.segments) (length l.initial.shadow.numbers) (lanes_of l.fn.steps) l.log l.steps l.shadow;
   rest : KeepsSettings l.initial.shadow l.shadow;
 }
+
+abbrev pub decreases-steps : goal.decreases-steps
+decreases-steps l = length l.steps

@@ -1,0 +1,13 @@
+-- Names that JSON writes as they stand, between its quotes. For private clauses.
+use Rattle.std.specs.Prelude.{ℕ, List, Bool, not, ◌&&◌, ◌==◌, nat_le}
+use Rattle.std.specs.List.{list_all}
+
+-- no control character, no quote and no backslash
+abbrev pub is_plain_byte : ℕ → Bool
+is_plain_byte b = nat_le 32 b && not (b == 34) && not (b == 92)
+
+abbrev pub is_plain : List ℕ → Bool
+is_plain name = list_all is_plain_byte name
+
+abbrev pub are_plain : List (List ℕ) → Bool
+are_plain names = list_all is_plain names

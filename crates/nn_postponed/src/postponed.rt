@@ -3,13 +3,13 @@ ghost use Rattle.std.specs.Prelude.{◌≡◌, ◌<◌, ◌^◌, ◌↔◌, [], 
 ghost use Rattle.std.specs.List.{list_any};
 ghost use Rattle.nn_types.specs.declared.fault.TheConstants.{MEMORY};
 ghost use Rattle.nn_model.specs.Stands.{AreByBlock};
-ghost use Rattle.nn_postponed.specs.Queues.{queued, is_from, IsNext, HaveIds};
+ghost use Rattle.nn_postponed.specs.Queues.{queue, queued, is_from, IsNext, HaveIds};
 ghost use Rattle.nn_postponed.specs.Release.{due_at, first_free, without_free, freed};
 
-use crate::lowest::{first_place, least_from};
-use crate::turn::{count_free, free_place, has_source};
+use crate::queue::Queue;
 use nn_types::{BlockId, Message, Status, fault};
 use std::alloc::Global;
+use std::collections::{BTreeMap, VecDeque};
 use std::marker::Model;
 use thiserror::Error;
 
@@ -29,26 +29,34 @@ impl Refused {
     }
 }
 
+// More messages than memory has room for.
+const LIMIT: usize = 9223372036854775807;
+
 /// The messages that wait.
 ///
-/// They stand in one plain list in the order of arrival, and each call reads it from the start: `holds`,
-/// `next_held` and `take_first` in linear time, `release` and `due_count` in the square of it at worst, where
-/// many messages about one block are due.
+/// Each block about which messages wait has a queue of its own: `release` takes O(log blocks + DataNodes of the block)
+/// and what `VecDeque::remove` takes, the others O(log blocks + DataNodes of the block), and `due_count` one pass over
+/// the block's queue. A queue that has become empty leaves the map.
 #[derive(Drop)]
 pub struct Postponed {
-    // in the order of arrival
-    items: Vec<Message>,
+    queues: BTreeMap<BlockId, Queue>,
+    // how many messages there are in all queues
+    count: usize,
+    alloc: Global,
 }
 
 impl Model for Postponed {
-    ghost use Rattle.std.specs.Prelude.{List};
+    ghost use Rattle.std.specs.Prelude.{◌≡◌, ◌<◌, ◌^◌, List, length};
+    ghost use Rattle.std.specs.BTreeMap.{IsOrdered};
+    ghost use Rattle.std.specs.Ordering.{nat_cmp};
     ghost use Rattle.nn_types.specs.declared.report.Message.{Message};
+    ghost use Rattle.nn_postponed.specs.Flat.{flat, AreOwn};
 
     ghost Value = { List Message };
 
-    ghost use Rattle.nn_postponed.specs.Queues.{by_block};
+    ghost view = { λ p. flat p.queues.entries };
 
-    ghost view = { λ p. by_block p.items.items };
+    ghost invariant = { λ p. IsOrdered nat_cmp p.queues × AreOwn p.queues.entries × (p.count ≡ length (flat p.queues.entries)) × (p.count < 2 ^ 63) };
 }
 
 impl Postponed {
@@ -57,7 +65,9 @@ impl Postponed {
         ensures { result ≡ [] }
     {
         Postponed {
-            items: Vec::new(alloc),
+            queues: BTreeMap::new(alloc),
+            count: 0,
+            alloc,
         }
     }
 
@@ -67,11 +77,26 @@ impl Postponed {
         ensures err { OnErr result (self.new ≡ self.old) }
         ensures back { IfErr result (λ refused. refused.message ≡ message) }
     {
-        if let Err(failed) = self.items.push(message) {
-            return Err(Refused {
-                message: failed.value,
-            });
+        if self.count >= LIMIT {
+            return Err(Refused { message });
         }
+        let Some(queue) = self.queues.get_mut(&message.block) else {
+            // That a block id is in its range is known once it is read.
+            let _id = message.block.get();
+            let mut queue = Queue::new(self.alloc);
+            let Ok(()) = queue.push(&message) else {
+                return Err(Refused { message });
+            };
+            let Ok(_) = self.queues.insert(message.block, queue) else {
+                return Err(Refused { message });
+            };
+            self.count += 1;
+            return Ok(());
+        };
+        let Ok(()) = queue.push(&message) else {
+            return Err(Refused { message });
+        };
+        self.count += 1;
         Ok(())
     }
 
@@ -79,14 +104,31 @@ impl Postponed {
     pub fn holds(&self, dn: u16, block: BlockId) -> bool
         ensures { result ≡ list_any (is_from dn block) self.now }
     {
-        has_source(self.items.as_slice(), dn, block)
+        let Some(queue) = self.queues.get(&block) else {
+            return false;
+        };
+        queue.holds(dn, block)
+    }
+
+    /// The messages about a block in the order of arrival. None, or no messages, where none is held.
+    pub fn queue(&self, block: BlockId) -> Option<&VecDeque<Message>>
+        ensures some { IfSome result (λ q. q.now.items ≡ queue block self.now) }
+        ensures none { IfNone result (queue block self.now ≡ []) }
+    {
+        let Some(queue) = self.queues.get(&block) else {
+            return None;
+        };
+        Some(queue.messages())
     }
 
     /// How many calls of `release` would give a message, one after another.
     pub fn due_count(&self, block: BlockId, status: Status) -> u64
         ensures { result ≡ length (freed (due_at block status) [] self.now) }
     {
-        count_free(self.items.as_slice(), block, status)
+        let Some(queue) = self.queues.get(&block) else {
+            return 0;
+        };
+        queue.due_count(block, status)
     }
 
     /// Takes the first message about the block that is due in this status and has no earlier one of its
@@ -95,10 +137,17 @@ impl Postponed {
         ensures first { result ≡ first_free (due_at block status) [] self.old }
         ensures rest { self.new ≡ without_free (due_at block status) [] self.old }
     {
-        let Some(i) = free_place(self.items.as_slice(), block, status) else {
+        let Some(queue) = self.queues.get_mut(&block) else {
             return None;
         };
-        Some(self.items.remove(i))
+        let Some(message) = queue.release(block, status) else {
+            return None;
+        };
+        if queue.is_empty() {
+            let _ = self.queues.remove(&block);
+        }
+        self.count -= 1;
+        Some(message)
     }
 
     /// The least block of at least `from` about which a message is held. A caller that goes on from the id
@@ -109,7 +158,10 @@ impl Postponed {
         ensures order { AreByBlock self.now }
         ensures ids { HaveIds self.now }
     {
-        least_from(self.items.as_slice(), from)
+        let Some((block, _)) = self.queues.range(from..).next() else {
+            return None;
+        };
+        Some(*block)
     }
 
     /// Takes the first message of the list: of the lowest block, the one that came first.
@@ -117,10 +169,21 @@ impl Postponed {
         ensures some { IfSome result (λ m. self.old ≡ m ∷ self.new) }
         ensures none { IfNone result ((self.old ≡ []) × (self.new ≡ self.old)) }
     {
-        let Some(i) = first_place(self.items.as_slice()) else {
+        let Some((block, _)) = self.queues.first_key_value() else {
             return None;
         };
-        Some(self.items.remove(i))
+        let block = *block;
+        let Some(first) = self.queues.get_mut(&block) else {
+            unreachable!()
+        };
+        let Some(message) = first.take_first() else {
+            unreachable!()
+        };
+        if first.is_empty() {
+            let _ = self.queues.remove(&block);
+        }
+        self.count -= 1;
+        Some(message)
     }
 
     /// How many messages are held.
@@ -130,13 +193,13 @@ impl Postponed {
         ensures small { result < 2 ^ 63 }
         ensures order { AreByBlock self.now }
     {
-        self.items.as_slice().len()
+        self.count
     }
 
     /// Whether no message is held.
     pub fn is_empty(&self) -> bool
         ensures { IsTrue result ↔ (self.now ≡ []) }
     {
-        self.items.as_slice().is_empty()
+        self.count == 0
     }
 }

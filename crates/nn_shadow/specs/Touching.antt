@@ -1,7 +1,11 @@
 -- The blocks that an edit touched, in ascending order, among those that messages are held about.
 use Rattle.std.specs.Prelude.{◌≡◌, ℕ, ◌≤◌, Bool, true, false, not, ◌&&◌, List, [], ◌∷◌, Option, Some, None, IfSome, nat_le, nat_lt, if◌then◌else◌}
+use Rattle.std.specs.List.{list_any}
 use Rattle.nn_types.specs.declared.report.Message.{Message}
-use Rattle.nn_model.specs.Touched.{Touched, is_within, is_touched}
+use Rattle.nn_edits.specs.declared.tx.Edit.{Edit}
+use Rattle.nn_edits.specs.declared.tx.Edit.TheVariants.{StartSegment, EndSegment, Mkdir, Add, AddBlock, UpdateBlocks, Close, Rename, Delete}
+use Rattle.nn_edits.specs.declared.tx.Edit.TheVariants.{SetReplication, AllocateBlockId, SetGenstamp}
+use Rattle.nn_model.specs.Touched.{Touched, ids_of, is_within, is_touched}
 use Rattle.nn_model.specs.WellFormed.{Has}
 use Rattle.nn_postponed.specs.Release.{first_free}
 
@@ -25,6 +29,26 @@ pub record IsNextTouched (t : Touched) (from : ℕ) (held : List Message) (next 
   pub reached : (m : Message) → Has held m → from ≤ m.block → is_touched t m.block ≡ true → is_reached next m.block ≡ true
 
 -- ---- How it is found.
+
+-- the ids of the blocks that an edit writes, in file order
+abbrev pub written : Edit → List ℕ
+written StartSegment = []
+written EndSegment = []
+written (Mkdir p) = []
+written (Add p r) = []
+written (AddBlock p i stamp) = i ∷ []
+written (UpdateBlocks p bs) = ids_of bs
+written (Close p bs) = ids_of bs
+written (Rename s d) = []
+written (Delete p) = []
+written (SetReplication p r) = []
+written (AllocateBlockId i) = []
+written (SetGenstamp stamp) = []
+
+-- the ids ascend
+abbrev pub Rises : List ℕ → Type 0
+Rises [] = Unit {0}
+Rises (id ∷ ids) = (list_any (λ later. nat_lt later id) ids ≡ false) × Rises ids
 
 -- the lower one of two ids, where there are two
 abbrev pub lower : Option ℕ → ℕ → ℕ

@@ -1,15 +1,16 @@
 //! Held messages are taken up. None of these takes memory: the history has room, and each message has its room
 //! in the table.
-ghost use Rattle.std.specs.Prelude.{◌≡◌, ◌+◌, ◌≤◌, ◌++◌, [], Bool, false, length, map, None, vec_len, vec_capacity};
+ghost use Rattle.std.specs.Prelude.{◌≡◌, ◌+◌, ◌≤◌, ◌++◌, ◌⊎◌, [], Bool, false, length, map, None, vec_len, vec_capacity};
 ghost use Rattle.std.specs.List.{list_any};
 ghost use Rattle.nn_types.specs.declared.report.Message.{Message};
 ghost use Rattle.nn_types.specs.declared.event.Cause.TheVariants.{Due, Flush};
 ghost use Rattle.nn_model.specs.History.{processed};
+ghost use Rattle.nn_model.specs.Touched.{ids_of, ascending};
 ghost use Rattle.nn_model.specs.Stands.{AreByBlock};
 ghost use Rattle.nn_postponed.specs.Release.{due_at, first_free, freed, kept};
 ghost use Rattle.nn_shadow.specs.Calls.{is_due_in};
 ghost use Rattle.nn_shadow.specs.Rounds.{TakesBlock, FillsBlock, LeavesOthers};
-ghost use Rattle.nn_shadow.specs.Touching.{IsQuiet};
+ghost use Rattle.nn_shadow.specs.Touching.{IsQuiet, Rises};
 ghost use Rattle.nn_tree.specs.Touched.{shown};
 ghost use Rattle.nn_shadow.specs.Steps.{messages_taken, HavePlaces};
 
@@ -23,11 +24,13 @@ use nn_types::{BlockId, Cause, Event, Message, Status};
 /// Processes the held messages that are free, by ascending block id and then in the order of arrival, where they
 /// are free only about blocks that an edit touched.
 ///
-/// It leaps from a block that the edit touched to the next one that messages are held about, and back: where t
-/// blocks were touched and h messages are held about b blocks, it takes O((t + h) · min(t, b)), and no time where
-/// nothing is held or nothing was touched.
+/// It leaps from a block that the edit touched to the next one that messages are held about, and back: a leap takes
+/// O(log touched blocks + log held blocks), and there are no more of them than touched blocks, nor than twice the blocks
+/// that messages are held about. It takes no time where nothing is held or nothing was touched. `written` has the ids of
+/// the changed blocks, ascending, which come in file order themselves.
 pub(crate) fn settle(
     namespace: &Namespace,
+    written: &[BlockId],
     touched: &Touched,
     history: &mut Vec<Event>,
     held: &mut Postponed,
@@ -36,6 +39,8 @@ pub(crate) fn settle(
     requires room { vec_len history.old + length held.old ≤ vec_capacity history.old }
     requires placed { HavePlaces table.old held.old }
     requires order { AreByBlock held.old }
+    requires written { (held.old ≡ []) ⊎ (written.now ≡ ascending (ids_of touched.now.changed)) }
+    requires rises { Rises (shown touched.now).retired }
     requires quiet { IsQuiet (shown touched.now) (is_due_in namespace.now) held.old }
     ensures told { history.new.items ≡ history.old.items ++ map (processed Due) (freed (is_due_in namespace.now) [] held.old) }
     ensures left { held.new ≡ kept (is_due_in namespace.now) [] held.old }
@@ -47,7 +52,7 @@ pub(crate) fn settle(
     if held.is_empty() {
         return;
     }
-    while let Some(block) = next_touched(touched, held, from) {
+    while let Some(block) = next_touched(written, touched, held, from) {
         let Some(least) = held.next_held(block) else {
             return;
         };

@@ -1,42 +1,105 @@
 //! Which blocks an edit touched, one after another.
-ghost use Rattle.std.specs.Prelude.{◌≡◌, ℕ, ◌≤◌, true, None, IfSome};
-ghost use Rattle.nn_model.specs.Touched.{ids_of};
+ghost use Rattle.std.specs.Prelude.{◌≡◌, ℕ, ◌≤◌, ◌++◌, [], None, OnOk, IfOk, ◌⊎◌, IfSome};
+ghost use Rattle.nn_model.specs.Touched.{ids_of, ascending};
 ghost use Rattle.nn_tree.specs.Touched.{shown};
-ghost use Rattle.nn_shadow.specs.Touching.{IsNextTouched, IsNextSkipped, lower, lower_from, lowest, earlier, later};
+ghost use Rattle.nn_shadow.specs.Touching.{written, Rises, IsNextTouched, IsNextSkipped, lower, lowest, earlier, later};
 
+use nn_edits::Edit;
 use nn_postponed::Postponed;
 use nn_tree::Touched;
 use nn_types::{Block, BlockId};
+use std::alloc::{AllocError, Global};
 
-/// The least block of at least `from` that the edit touched. Of the ids that it passed over only those count that
-/// messages are held about.
-pub(crate) fn next_touched(touched: &Touched, held: &Postponed, from: BlockId) -> Option<BlockId>
+/// The ids of the blocks that the edit writes, ascending. They are made before the edit is, which may not fail for want
+/// of memory afterwards. Where nothing is held nobody asks for them, and there are none.
+pub(crate) fn written_ids(
+    alloc: Global,
+    edit: &Edit,
+    held: &Postponed,
+) -> Result<Vec<BlockId>, AllocError>
+    ensures { IfOk result (λ ids. (held.now ≡ []) ⊎ (ids.items ≡ ascending (written edit.now))) }
+{
+    let mut ids = Vec::new(alloc);
+    if held.is_empty() {
+        return Ok(ids);
+    }
+    let Ok(()) = push_written(&mut ids, edit) else {
+        return Err(AllocError);
+    };
+    ids.sort_unstable();
+    Ok(ids)
+}
+
+// Adds the ids of the blocks that the edit writes, in file order.
+fn push_written(ids: &mut Vec<BlockId>, edit: &Edit) -> Result<(), AllocError>
+    ensures { OnOk result (ids.new.items ≡ ids.old.items ++ written edit.now) }
+{
+    match edit {
+        Edit::AddBlock { id, .. } => {
+            ids.push(*id)?;
+            Ok(())
+        }
+        Edit::UpdateBlocks { blocks, .. } | Edit::Close { blocks, .. } => {
+            push_ids(ids, blocks.as_slice())
+        }
+        Edit::StartSegment
+        | Edit::EndSegment
+        | Edit::Mkdir { .. }
+        | Edit::Add { .. }
+        | Edit::Rename { .. }
+        | Edit::Delete { .. }
+        | Edit::SetReplication { .. }
+        | Edit::AllocateBlockId { .. }
+        | Edit::SetGenstamp { .. } => Ok(()),
+    }
+}
+
+fn push_ids(ids: &mut Vec<BlockId>, blocks: &[Block]) -> Result<(), AllocError>
+    ensures { OnOk result (ids.new.items ≡ ids.old.items ++ ids_of blocks.now) }
+{
+    for block in blocks {
+        ids.push(block.id)?;
+    }
+    Ok(())
+}
+
+/// The least block of at least `from` that the edit touched, where the ids that it wrote are at hand. Of the ids that it
+/// passed over only those count that messages are held about. It takes the logarithm of what was touched and held.
+pub(crate) fn next_touched(
+    written: &[BlockId],
+    touched: &Touched,
+    held: &Postponed,
+    from: BlockId,
+) -> Option<BlockId>
+    requires written { written.now ≡ ascending (ids_of touched.now.changed) }
+    requires rises { Rises (shown touched.now).retired }
     ensures { IsNextTouched (shown touched.now) from held.now result }
 {
-    let changed = lowest_changed(touched.changed.as_slice(), from);
-    let retired = lowest_retired(touched.retired.as_slice(), from);
+    let changed = least_from(written, from);
+    let retired = least_from(touched.retired.as_slice(), from);
     let skipped = next_skipped(&touched.skipped, held, from);
     earlier(earlier(changed, retired), skipped)
 }
 
-fn lowest_changed(blocks: &[Block], from: BlockId) -> Option<BlockId>
-    ensures { result ≡ lowest from None (ids_of blocks.now) }
-{
-    let mut found = None;
-    for block in blocks {
-        found = lower_from(from, found, block.id);
-    }
-    found
-}
-
-fn lowest_retired(ids: &[BlockId], from: BlockId) -> Option<BlockId>
+// The first one that is at least `from`, of ids that ascend.
+fn least_from(ids: &[BlockId], from: BlockId) -> Option<BlockId>
+    requires { Rises ids.now }
     ensures { result ≡ lowest from None ids.now }
 {
-    let mut found = None;
-    for id in ids {
-        found = lower_from(from, found, *id);
+    let mut low = 0;
+    let mut high = ids.len();
+    while low < high {
+        let mid = low + (high - low) / 2;
+        if ids[mid] < from {
+            low = mid + 1;
+        } else {
+            high = mid;
+        }
     }
-    found
+    if low < ids.len() {
+        return Some(ids[low]);
+    }
+    None
 }
 
 // The least block of the range and of at least `from` that a message is held about.
@@ -63,15 +126,6 @@ fn later(first: BlockId, from: BlockId) -> BlockId
     ensures { result ≡ later first from }
 {
     if first < from { from } else { first }
-}
-
-fn lower_from(from: BlockId, found: Option<BlockId>, id: BlockId) -> Option<BlockId>
-    ensures { result ≡ lower_from from found id }
-{
-    if from <= id {
-        return Some(lower(found, id));
-    }
-    found
 }
 
 fn earlier(found: Option<BlockId>, other: Option<BlockId>) -> Option<BlockId>

@@ -1,4 +1,4 @@
-//! Messages of two DataNodes about one block, then about two blocks.
+//! Messages of two DataNodes about one block, about two blocks, and of all DataNodes about one.
 use nn_postponed::Postponed;
 use nn_types::{BlockId, GenerationStamp, Kind, Length, Message, Status};
 use std::process::Abort;
@@ -65,6 +65,8 @@ fn held_of_two_datanodes(rt: &impl Abort, held: &mut Postponed) -> Result<(), Fa
     assert_eq!(rt; held.len(), 3);
     is_due(rt, held, block, named(1001)?, 2);
     is_due(rt, held, block, Status::Unnamed, 0);
+    stands_in_order(rt, held, block, &[(1, 1), (2, 1), (1, 2)]);
+    stands_in_order(rt, held, block_id(FIRST + 1)?, &[]);
     Ok(())
 }
 
@@ -128,7 +130,89 @@ fn goes_by_block(rt: &impl Abort, held: &mut Postponed) -> Result<(), Fail> {
     Ok(())
 }
 
+// ---- As many DataNodes as there may be.
+
+const DATANODES: u16 = 256;
+
+#[test]
+fn released_in_turn_of_256(rt: HostRuntime) -> Result<(), Fail> {
+    let mut held = Postponed::new(rt.alloc());
+    two_of_each_datanode(&mut held)?;
+    all_but_the_last_go(&rt, &mut held)?;
+    the_last_waits(&rt, &mut held)
+}
+
+// The second ones come in the opposite order, and the first one of the last DataNode waits.
+fn two_of_each_datanode(held: &mut Postponed) -> Result<(), Fail> {
+    let block = block_id(FIRST)?;
+    for dn in 1..DATANODES {
+        hold(held, message(dn, 1, block, 1001)?)?;
+    }
+    hold(held, message(DATANODES, 1, block, 1002)?)?;
+    for dn in 0..DATANODES {
+        hold(held, message(DATANODES - dn, 2, block, 1001)?)?;
+    }
+    Ok(())
+}
+
+fn all_but_the_last_go(rt: &impl Abort, held: &mut Postponed) -> Result<(), Fail> {
+    let block = block_id(FIRST)?;
+    is_due(rt, held, block, named(1001)?, 510);
+    for dn in 1..DATANODES {
+        releases(rt, held, block, Some(message(dn, 1, block, 1001)?))?;
+    }
+    for dn in 1..DATANODES {
+        releases(rt, held, block, Some(message(DATANODES - dn, 2, block, 1001)?))?;
+    }
+    releases(rt, held, block, None)
+}
+
+fn the_last_waits(rt: &impl Abort, held: &mut Postponed) -> Result<(), Fail> {
+    let block = block_id(FIRST)?;
+    stands_in_order(rt, held, block, &[(256, 1), (256, 2)]);
+    is_due(rt, held, block, named(1002)?, 2);
+    takes(rt, held, Some(message(DATANODES, 1, block, 1002)?));
+    releases(rt, held, block, Some(message(DATANODES, 2, block, 1001)?))?;
+    assert!(rt; held.is_empty());
+    Ok(())
+}
+
+// ---- A queue that runs empty and fills again, of the greatest block id.
+
+const GREATEST: u64 = 9223372036854775807;
+
+#[test]
+fn fills_again(rt: HostRuntime) -> Result<(), Fail> {
+    let mut held = Postponed::new(rt.alloc());
+    runs_empty(&rt, &mut held)?;
+    runs_empty(&rt, &mut held)
+}
+
+fn runs_empty(rt: &impl Abort, held: &mut Postponed) -> Result<(), Fail> {
+    let block = block_id(GREATEST)?;
+    hold(held, message(1, 1, block, 1001)?)?;
+    next_is(rt, held, block_id(0)?, Some(block));
+    next_is(rt, held, block, Some(block));
+    releases(rt, held, block, Some(message(1, 1, block, 1001)?))?;
+    next_is(rt, held, block_id(0)?, None);
+    stands_in_order(rt, held, block, &[]);
+    assert_eq!(rt; held.len(), 0);
+    Ok(())
+}
+
 // ---- Each call, with what it has to answer.
+
+// These messages wait about the block, by DataNode and number.
+fn stands_in_order(rt: &impl Abort, held: &Postponed, block: BlockId, want: &[(u16, u64)]) {
+    let Some(queue) = held.queue(block) else {
+        assert!(rt; want.is_empty());
+        return;
+    };
+    assert_eq!(rt; queue.len(), want.len());
+    for (message, (dn, number)) in queue.iter().zip(want) {
+        assert!(rt; message.dn == *dn && message.number == *number);
+    }
+}
 
 fn is_due(rt: &impl Abort, held: &Postponed, block: BlockId, status: Status, want: u64) {
     assert_eq!(rt; held.due_count(block, status), want);

@@ -103,6 +103,64 @@ fn unnamed_report_flushed(rt: HostRuntime) -> Result<(), Fail> {
     tells(&rt, rt.alloc(), UNNAMED_REPORT_FLUSHED, told)
 }
 
+// ---- Many blocks.
+
+const END: u64 = super::B + 300;
+
+// One edit frees a message about each of 300 blocks: they go by block id, whatever the order in which they came.
+#[test]
+fn many_blocks_go_by_id(rt: HostRuntime) -> Result<(), Fail> {
+    let mut shadow = super::fresh(rt.alloc())?;
+    files_of_one_block(rt.alloc(), &mut shadow)?;
+    reported_from_the_last(&rt, &mut shadow);
+    edit(rt.alloc(), &mut shadow, r#""op":"OP_DELETE","path":"/d""#)?;
+    go_from_the_first(&rt, &shadow);
+    Ok(())
+}
+
+fn files_of_one_block(alloc: Global, shadow: &mut Shadow) -> Result<(), Fail> {
+    edit(alloc, shadow, r#""op":"OP_MKDIR","path":"/d""#)?;
+    edit(alloc, shadow, r#""op":"OP_SET_GENSTAMP_V2","gen":1001"#)?;
+    for id in super::B..END {
+        file_of_one_block(alloc, shadow, id)?;
+    }
+    Ok(())
+}
+
+fn file_of_one_block(alloc: Global, shadow: &mut Shadow, id: u64) -> Result<(), Fail> {
+    let add = format!(in alloc; r#""op":"OP_ADD","path":"/d/{id}","replication":1"#)?;
+    edit(alloc, shadow, add.as_str())?;
+    let allocate = format!(in alloc; r#""op":"OP_ALLOCATE_BLOCK_ID","id":{id}"#)?;
+    edit(alloc, shadow, allocate.as_str())?;
+    let block = format!(in alloc; r#""op":"OP_ADD_BLOCK","path":"/d/{id}","id":{id},"gen":1001"#)?;
+    edit(alloc, shadow, block.as_str())
+}
+
+// No generation stamp of the log is as high as theirs.
+fn reported_from_the_last(rt: &impl Abort, shadow: &mut Shadow) {
+    for number in 1..301 {
+        let message = super::received(1, number, END - number, super::FAR);
+        assert_eq!(rt; super::hand(shadow, message), 0);
+    }
+}
+
+fn go_from_the_first(rt: &impl Abort, shadow: &Shadow) {
+    let told = shadow.history();
+    let freed = told.iter().skip(told.len().saturating_sub(300));
+    for (event, place) in freed.zip(0..300) {
+        assert_eq!(rt; *event, super::due(1, 300 - place, super::B + place));
+    }
+    assert_eq!(rt; shadow.held_count(), 0);
+    assert_eq!(rt; told.len(), 1203);
+}
+
+// Follows an edit's line with the next txid.
+fn edit(alloc: Global, shadow: &mut Shadow, fields: &str) -> Result<(), Fail> {
+    let txid = shadow.last_txid() + 1;
+    let line = format!(in alloc; r#"{{{fields},"txid":{txid}}}"#)?;
+    follow(shadow, alloc, line.as_str())
+}
+
 // Compares the history that a standby tells of these lines with the one that is wanted.
 fn tells(rt: &impl Abort, alloc: Global, lines: &str, told: &str) -> Result<(), Fail> {
     let mut shadow = super::fresh(alloc)?;

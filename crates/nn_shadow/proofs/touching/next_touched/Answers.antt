@@ -1,16 +1,22 @@
-use Rattle.std.proofs.Common.{ap, ◌∙◌}
+use Rattle.std.proofs.Common.{None, ap, ◌∙◌, subst, sym}
 use Rattle.nn_model.specs.Touched.{ids_of}
 use Rattle.nn_tree.specs.Touched.{shown}
-use Rattle.nn_shadow.specs.Touching.{lowest, earlier}
+use Rattle.nn_shadow.specs.Touching.{lowest, earlier, Rises}
 use Rattle.nn_shadow.proofs.Quiet.{next_is}
-use Rattle.std.proofs.Common.{None}
+use Rattle.nn_shadow.proofs.Searching.{ascending_rises, lowest_ascending}
 use Rattle.nn_shadow.proofs.touching.next_touched.Goals as goal
+
+pub least_from-changed-requires : goal.least_from-changed-requires
+least_from-changed-requires c = subst Rises (sym c.requires.written) (ascending_rises (ids_of c.args.touched.now.changed))
+
+pub least_from-retired-requires : goal.least_from-retired-requires
+least_from-retired-requires c = subst Rises (sym c.as_slice.ensures.value) c.requires.rises
 
 pub returns : goal.returns
 returns c =
-    next_is (shown c.args.touched.now) c.args.from c.args.held.now c.lowest_changed-changed.result c.lowest_retired-retired.result
+    next_is (shown c.args.touched.now) c.args.from c.args.held.now c.least_from-changed.result c.least_from-retired.result
     c.next_skipped-skipped.result c.earlier-2.result
-    (c.lowest_changed-changed.ensures ∙ ap (λ bs. lowest c.args.from None (ids_of bs)) c.as_slice.ensures)
-    (c.lowest_retired-retired.ensures ∙ ap (lowest c.args.from None) c.as_slice-2.ensures.value)
+    (c.least_from-changed.ensures ∙ ap (lowest c.args.from None) c.requires.written ∙ lowest_ascending c.args.from None (ids_of c.args.touched.now.changed))
+    (c.least_from-retired.ensures ∙ ap (lowest c.args.from None) c.as_slice.ensures.value)
     c.next_skipped-skipped.ensures
     (c.earlier-2.ensures ∙ ap (λ o. earlier o c.next_skipped-skipped.result) c.earlier.ensures)

@@ -13,9 +13,11 @@ use Rattle.nn_tree.specs.Touched.{shown}
 use Rattle.nn_shadow.specs.Touching.{IsQuiet}
 use Rattle.nn_shadow.proofs.Quiet.{begins_quiet}
 use Rattle.nn_shadow.proofs.Refusing.{no_refusal_applies}
+use Rattle.nn_shadow.specs.Touching.{Rises}
+use Rattle.nn_shadow.proofs.Searching.{retired_rises}
 use Rattle.nn_shadow.proofs.shadow.Shadow.apply_next.Goals as goal
 
-failed : (c : goal.In_default-change) → Leaves (the_view c.self.inside) (standby_of (the_view c.self.inside))
+failed : (c : goal.After-drop-written) → Leaves (the_view c.self.inside) (standby_of (the_view c.self.inside))
     (record (the_view c.self.inside) { namespace = c.change.new.namespace; history = c.reserve.new.self.items; table = c.change.new.table })
 failed c =
     edit_failed (the_view c.self.inside) c.args.tx.now c.change.new.namespace c.reserve.new.self.items c.change.new.table c.self.invariant
@@ -38,7 +40,7 @@ settle-requires-clause-placed c =
     λ m here. ap (λ t. is_placed t m.dn m.block) c.in-Ok-change.ensures.table
     ∙ edit_room x c.args.tx.now c.self.invariant c.in-Ok-change.ensures.lawful (no_refusal_applies x.phase (standby_of x) c.args.tx.now fits).1 m here
 
-made : (c : goal.After-drop-touched-3) → Leaves (the_view c.self.inside) (applied_to (standby_of (the_view c.self.inside)) c.args.tx.now)
+made : (c : goal.After-drop-written-2) → Leaves (the_view c.self.inside) (applied_to (standby_of (the_view c.self.inside)) c.args.tx.now)
     (record (the_view c.self.inside) {
       namespace = c.change.new.namespace;
       last = c.get-self-inside.result;
@@ -77,3 +79,10 @@ settle-requires-clause-quiet c =
     (subst (λ (t : Touched). IsQuiet t (is_due_in (effect x.namespace c.args.tx.now.edit)) x.held) (sym c.in-Ok-change.ensures.touched)
     (begins_quiet x.namespace c.args.tx.now.edit x.held c.in-Ok-change.ensures.lawful (no_refusal_applies x.phase (standby_of x) c.args.tx.now fits).1
     c.self.invariant.well_formed c.self.invariant.settled))
+
+pub settle-requires-clause-rises : goal.settle-requires-clause-rises
+settle-requires-clause-rises c =
+    let x = the_view c.self.inside in
+    let fits = subst (λ (y : Contents). apply_refusal y.phase (standby_of y) c.args.tx.now ≡ None) (sym c.self.view_is) c.requires in
+    subst (λ (t : Touched). Rises t.retired) (sym c.in-Ok-change.ensures.touched)
+    (retired_rises x.namespace c.args.tx.now.edit (no_refusal_applies x.phase (standby_of x) c.args.tx.now fits).1)

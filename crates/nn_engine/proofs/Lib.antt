@@ -1,4 +1,5 @@
 pub mod LogLemmas
+pub mod LogEnds
 pub mod FollowLemmas
 pub mod TellLemmas
 pub mod WriteLemmas

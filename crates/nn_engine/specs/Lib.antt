@@ -1,7 +1,9 @@
 pub mod LogEnd
+pub mod LogLaws
 pub mod LogLeft
 pub mod LogRows
 pub mod Follow
 pub mod Output
+pub mod Input
 pub mod Run
 pub mod Shown

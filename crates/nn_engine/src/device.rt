@@ -1,7 +1,9 @@
 //! All bytes of a reader, and a text into a writer.
-ghost use Rattle.std.specs.Prelude.{◌≡◌, ◌≤◌, ◌<◌, ℕ, List, length, take, IfOk, IfErr, OnOk, IsErrOf};
-ghost use Rattle.std.specs.Io.KnownBytes.{Appends, Consumes, IsAtEnd};
+ghost use Rattle.std.specs.Prelude.{◌≡◌, ◌≤◌, true, false, length, take, IfOk, IfErr, OnOk, OnErr};
+ghost use Rattle.std.specs.Io.{ReadsAtMost};
+ghost use Rattle.std.specs.Io.KnownBytes.{Appends, Consumes, IsAtEnd, ReadConsumes};
 ghost use Rattle.nn_scenario.specs.Scenario.{max_input};
+ghost use Rattle.nn_engine.specs.Input.{IsUnread};
 
 use nn_scenario::MAX_INPUT;
 use std::alloc::{AllocError, Global};
@@ -14,8 +16,46 @@ const MAX_READS: u32 = 16_777_216;
 /// The bytes that one read asks for.
 const BUFFER: usize = 65_536;
 
+/// A reader, and whether one of its reads has failed. A reader's contract does not say when a read fails, so this
+/// is what tells a failed read from other ends.
+#[derive(Drop)]
+pub struct Input<R> {
+    pub reader: R,
+    pub failed: bool,
+}
+
+impl<R: Read> Input<R> {
+    /// The bytes of this reader, none of them read.
+    pub fn new(reader: R) -> Input<R>
+        ensures { result ≡ record { reader = reader; failed = false } }
+    {
+        Input {
+            reader,
+            failed: false,
+        }
+    }
+
+    /// One read. It says whether it failed, and nothing else ever does.
+    pub fn read(&mut self, buffer: &mut [u8]) -> Result<usize, ReadFailed>
+        ensures bound { ReadsAtMost result buffer.new }
+        ensures bytes { ReadConsumes (R.remaining self.old.reader) (R.remaining self.new.reader) result buffer.new }
+        ensures ok { OnOk result (self.new.failed ≡ self.old.failed) }
+        ensures err { OnErr result (self.new.failed ≡ true) }
+    {
+        let Ok(n) = self.reader.read(buffer) else {
+            self.failed = true;
+            return Err(ReadFailed);
+        };
+        Ok(n)
+    }
+}
+
+/// A read failed.
+#[derive(Clone, Copy, Debug)]
+pub struct ReadFailed;
+
 /// Why an input was not read.
-#[derive(Debug, Drop, Error)]
+#[derive(Clone, Copy, Debug, PartialEq, Eq, Error)]
 pub enum InputFault {
     #[error("a read failed")]
     ReadFailed,
@@ -39,26 +79,28 @@ impl From<AllocError> for InputFault {
 
 /// Reads all bytes up to the reader's end: at most `MAX_INPUT` of them, in at most 16,777,216 reads of up
 /// to 65,536 bytes each.
-pub fn read_input<R: Read>(alloc: Global, reader: &mut R) -> Result<Vec<u8>, InputFault>
-    ensures whole { IfOk result (λ v. Consumes (R.remaining reader.old) (R.remaining reader.new) v.items) }
-    ensures end { OnOk result (IsAtEnd (R.remaining reader.new)) }
+pub fn read_input<R: Read>(alloc: Global, input: &mut Input<R>) -> Result<Vec<u8>, InputFault>
+    ensures whole { IfOk result (λ v. Consumes (R.remaining input.old.reader) (R.remaining input.new.reader) v.items) }
+    ensures end { OnOk result (IsAtEnd (R.remaining input.new.reader)) }
     ensures fits { IfOk result (λ v. length v.items ≤ max_input) }
-    ensures long { IsErrOf result InputFault.TooLong → (bytes : List ℕ) × (max_input < length bytes)
-        × Consumes (R.remaining reader.old) (R.remaining reader.new) bytes }
+    ensures none_failed { OnOk result (input.new.failed ≡ input.old.failed) }
+    ensures why { IfErr result (IsUnread (R.remaining input.old.reader) (R.remaining input.new.reader) input.old.failed input.new.failed) }
 {
     let mut bytes = Vec::new(alloc);
     let mut buffer = new_buffer(alloc, BUFFER)?;
-    'reads: for _ in 0..MAX_READS {
-        match reader.read(&mut buffer) {
-            Ok(0) => return Ok(bytes),
-            Ok(n) => {
-                if n > MAX_INPUT - bytes.len() {
-                    return Err(InputFault::TooLong);
-                }
-                bytes.extend_from_slice(&buffer[..n])?;
-            }
-            Err(_) => return Err(InputFault::ReadFailed),
+    let mut reads = 0;
+    'reads: while reads < MAX_READS {
+        let Ok(n) = input.read(&mut buffer) else {
+            return Err(InputFault::ReadFailed);
+        };
+        if n == 0 {
+            return Ok(bytes);
         }
+        if n > MAX_INPUT - bytes.len() {
+            return Err(InputFault::TooLong);
+        }
+        bytes.extend_from_slice(&buffer[..n])?;
+        reads += 1;
     }
     Err(InputFault::TooManyReads)
 }

@@ -10,12 +10,12 @@ ghost use Rattle.nn_scenario.specs.Cut.{segments_from};
 ghost use Rattle.nn_engine.specs.Follow.{serving, HasArrived, StopsAs};
 ghost use Rattle.nn_engine.specs.LogEnd.{LogEnd, Stop, end_of_log};
 ghost use Rattle.nn_engine.specs.Output.{output_of, after_segments, after_log, fault_at};
-ghost use Rattle.nn_engine.specs.Run.{Wrote, WroteFront};
+ghost use Rattle.nn_engine.specs.Run.{Wrote, WroteFront, running, unread_line};
 ghost use Rattle.nn_scenario.specs.Scenario.{max_input, seen, IsLawfulScenario};
 ghost use Rattle.nn_engine.specs.Shown.{shown};
 ghost use Rattle.nn_scenario.specs.Steps.{lanes_of};
 
-use crate::device::{InputFault, RunFault, read_input, write_output};
+use crate::device::{Input, InputFault, RunFault, read_input, write_output};
 use crate::follow::{Halt, follow};
 use nn_edits::LineFault;
 use nn_listing::{listing, push_tables};
@@ -33,6 +33,12 @@ pub struct Options {
     /// When safe mode ends.
     pub settings: Settings,
 }
+
+/// The line of an input that a reader did not give whole.
+const UNREADABLE: &[u8] = b"fault 8\n";
+
+/// The line of a run for which memory was refused.
+const OUT_OF_MEMORY: &[u8] = b"fault 55\n";
 
 /// A run's text, and its status.
 #[derive(Drop)]
@@ -55,22 +61,34 @@ pub struct RunEnd {
 pub fn run<R: Read, W: Write>(
     alloc: Global,
     options: &Options,
-    reader: &mut R,
+    input: &mut Input<R>,
     writer: &mut W,
 ) -> Result<RunEnd, RunFault>
-    ensures written { IfOk result (λ end. Wrote options.now.settings (R.remaining reader.old) (R.remaining reader.new)
+    ensures written { IfOk result (λ end. Wrote
+        (running options.now.settings (R.remaining input.old.reader) (R.remaining input.new.reader) input.old.failed input.new.failed)
         (W.contents writer.old) (W.contents writer.new) end.status) }
     // After a failed write the writer has a front of the output.
-    ensures failed { IfErr result (λ e. WroteFront options.now.settings (R.remaining reader.old) (R.remaining reader.new)
+    ensures failed { IfErr result (λ e. WroteFront
+        (running options.now.settings (R.remaining input.old.reader) (R.remaining input.new.reader) input.old.failed input.new.failed)
         (W.contents writer.old) (W.contents writer.new) e.written) }
 {
-    match read_input(alloc, reader) {
-        Ok(input) => match output_of(alloc, options.settings, input) {
-            Ok(output) => finish(writer, output.text.as_bytes(), output.status),
-            Err(AllocError) => finish(writer, b"fault 55\n", 1),
-        },
-        Err(InputFault::OutOfMemory) => finish(writer, b"fault 55\n", 1),
-        Err(_) => finish(writer, b"fault 8\n", 1),
+    let bytes = match read_input(alloc, input) {
+        Ok(bytes) => bytes,
+        Err(fault) => return finish(writer, unread_line(fault), 1),
+    };
+    match output_of(alloc, options.settings, bytes) {
+        Ok(output) => finish(writer, output.text.as_bytes(), output.status),
+        Err(AllocError) => finish(writer, OUT_OF_MEMORY, 1),
+    }
+}
+
+// The line of an input that was not read.
+fn unread_line(fault: InputFault) -> &'static [u8]
+    ensures { result.now ≡ unread_line fault }
+{
+    match fault {
+        InputFault::ReadFailed | InputFault::TooLong | InputFault::TooManyReads => UNREADABLE,
+        InputFault::OutOfMemory => OUT_OF_MEMORY,
     }
 }
 
@@ -84,7 +102,9 @@ fn finish<W: Write>(writer: &mut W, text: &[u8], status: u8) -> Result<RunEnd, R
     Ok(RunEnd { status })
 }
 
-/// The output of an input, which is gone once its lines are read.
+/// The output of an input: the same for the same bytes, and no other. It knows of no reader, so that neither `fault 8`
+/// nor `fault 55` is among its lines; where memory runs out there is no output. The input is dropped once its lines are
+/// read.
 #[tactic(auto, unfolding(crate::specs::Output::output_of))]
 pub fn output_of(alloc: Global, settings: Settings, input: Vec<u8>) -> Result<Output, AllocError>
     requires { length input.items ≤ max_input }

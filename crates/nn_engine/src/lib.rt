@@ -5,7 +5,9 @@
 mod device;
 mod engine;
 mod follow;
+mod laws;
 mod log;
 
-pub use device::{InputFault, RunFault, read_input, write_output};
-pub use engine::{Options, RunEnd, run};
+pub use device::{Input, InputFault, ReadFailed, RunFault, read_input, write_output};
+pub use engine::{Options, Output, RunEnd, output_of, run};
+pub use laws::a_walk_ends_with_the_log;

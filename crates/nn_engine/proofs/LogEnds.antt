@@ -53,15 +53,15 @@ ends_with_the_log last n (s ∷ segments) end is =
     let later : List Tx = flat_map (λ segment. segment) (map (λ (x : Segment). x.txs) segments) in
     let Goal : Type 0 = IsEndOf last n (counted last (s.txs ++ later)) end in
     let after : (r : Result LogEnd Stop) → end_of_txs last n own ≡ r → and_then r (λ e. end_of_log e.last e.namespace segments) ≡ Ok end → Goal =
-        λ r. elim r as (λ q. end_of_txs last n own ≡ q → and_then q (λ e. end_of_log e.last e.namespace segments) ≡ Ok end → Goal) [
-          | Ok mid ↦ λ at e.
-              let first = txs_end last n own mid (counts_up last s.txs) at in
-              let rest = ends_with_the_log mid.last mid.namespace segments end e in
-              glued last n s.txs later end first.log
-                  (subst (λ k. IsEndOf k (namespace_after n own) (counted k later) end) first.last_txid
-                  (subst (λ m. IsEndOf mid.last m (counted mid.last later) end) first.namespace rest))
-          | Err stop ↦ λ at e. absurd (cc)
-        ] in
+    λ r. elim r as (λ q. end_of_txs last n own ≡ q → and_then q (λ e. end_of_log e.last e.namespace segments) ≡ Ok end → Goal) [
+      | Ok mid ↦ λ at e.
+          let first = txs_end last n own mid (counts_up last s.txs) at in
+          let rest = ends_with_the_log mid.last mid.namespace segments end e in
+          glued last n s.txs later end first.log
+          (subst (λ k. IsEndOf k (namespace_after n own) (counted k later) end) first.last_txid
+          (subst (λ m. IsEndOf mid.last m (counted mid.last later) end) first.namespace rest))
+      | Err stop ↦ λ at e. absurd (cc)
+    ] in
     elim (nat_lt (last + 1) (first_txid s.txs)) as (λ t. cond t (Err (record { cause = disorder; txid = last + 1 }))
     (and_then (end_of_txs last n own) (λ e. end_of_log e.last e.namespace segments)) ≡ Ok end → Goal) [
       | true ↦ λ e. absurd (cc)

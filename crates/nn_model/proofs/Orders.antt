@@ -123,9 +123,9 @@ at_least_once : (m : Message) (cause : Cause) (events : History) → Has events 
 at_least_once m cause [] here = absurd here
 at_least_once m cause (event ∷ events) (inl same) =
     let hit : processes m.dn m.number event ≡ true =
-        ap (processes m.dn m.number) same ∙ and_from _ _ (eq-eqb m.dn m.dn refl) (eq-eqb m.number m.number refl) in
+    ap (processes m.dn m.number) same ∙ and_from _ _ (eq-eqb m.dn m.dn refl) (eq-eqb m.number m.number refl) in
     let one : times_processed m.dn m.number (event ∷ events) ≡ 1 + times_processed m.dn m.number events =
-        ap (λ t. cond t 1 0 + times_processed m.dn m.number events) hit in
+    ap (λ t. cond t 1 0 + times_processed m.dn m.number events) hit in
     omega (arith, one)
 at_least_once m cause (event ∷ events) (inr later) = let rest = at_least_once m cause events later in omega (arith, rest)
 
@@ -133,8 +133,8 @@ pub each_once : EachOnce
 each_once start txs lanes events lawful whole m sent =
     let most = processed_once start txs lanes events lawful m.dn m.number in
     let least : 1 ≤ times_processed m.dn m.number events =
-        elim (cases_Bool (is_held (namespace_after start txs) (lanes m.dn) m)) [
-          | inl waits ↦ at_least_once m Flush events (whole m sent waits)
-          | inr free ↦ at_least_once m Due events (lawful.none_forgotten m sent free)
-        ] in
+    elim (cases_Bool (is_held (namespace_after start txs) (lanes m.dn) m)) [
+      | inl waits ↦ at_least_once m Flush events (whole m sent waits)
+      | inr free ↦ at_least_once m Due events (lawful.none_forgotten m sent free)
+    ] in
     omega (arith, most, least)

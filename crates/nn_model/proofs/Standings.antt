@@ -42,7 +42,7 @@ same_tables : (start : Namespace) (base : ℕ) (txs : List Tx) (lanes counted : 
 same_tables start base txs lanes counted x y s t p q =
     let namespaces : x.namespace ≡ y.namespace = s.namespace ∙ sym t.namespace in
     let replica : (dn id : ℕ) → x.replica dn id ≡ y.replica dn id =
-        λ dn id. s.replicas dn id ∙ p.replicas dn id ∙ sym (t.replicas dn id ∙ q.replicas dn id) in
+    λ dn id. s.replicas dn id ∙ p.replicas dn id ∙ sym (t.replicas dn id ∙ q.replicas dn id) in
     record {
       namespace = namespaces;
       last = s.last ∙ sym t.last;
@@ -54,8 +54,8 @@ same_tables start base txs lanes counted x y s t p q =
 pub same_when_flushed : SameWhenFlushed
 same_when_flushed start base txs lanes x y s t whole whole' =
     let picture : (z : Standby) → Stands start base txs lanes z → IsWhole start txs lanes z.history →
-        ShowsPicture (namespace_after start txs) lanes (replay start txs lanes z.history) =
-        λ z at w. ends_in_picture start base txs lanes z.history at.well_formed at.log at.numbered at.lawful w in
+    ShowsPicture (namespace_after start txs) lanes (replay start txs lanes z.history) =
+    λ z at w. ends_in_picture start base txs lanes z.history at.well_formed at.log at.numbered at.lawful w in
     same_tables start base txs lanes lanes x y s t (picture x s whole) (picture y t whole')
 
 -- before a flush what one holds is left of the other's too
@@ -71,14 +71,14 @@ pub same_before_flush : SameBeforeFlush
 same_before_flush start base txs lanes x y s t no_flush no_flush' =
     let n = namespace_after start txs in
     let picture : (z : Standby) → Stands start base txs lanes z → IsBeforeFlush z.history →
-        ShowsPicture n (without_held n lanes) (replay start txs lanes z.history) =
-        λ z at none. picture_of_free start base txs lanes z.history (due_along start base txs at.log at.well_formed) at.log at.numbered at.lawful none in (
-          same_tables start base txs lanes (without_held n lanes) x y s t (picture x s no_flush) (picture y t no_flush'),
-          (λ m. (
-            (λ here. (t.held m).1 (left_too start txs lanes x.history y.history m no_flush' ((s.held m).0 here))),
-            (λ here. (s.held m).1 (left_too start txs lanes y.history x.history m no_flush ((t.held m).0 here))),
-          )),
-        )
+    ShowsPicture n (without_held n lanes) (replay start txs lanes z.history) =
+    λ z at none. picture_of_free start base txs lanes z.history (due_along start base txs at.log at.well_formed) at.log at.numbered at.lawful none in (
+      same_tables start base txs lanes (without_held n lanes) x y s t (picture x s no_flush) (picture y t no_flush'),
+      (λ m. (
+        (λ here. (t.held m).1 (left_too start txs lanes x.history y.history m no_flush' ((s.held m).0 here))),
+        (λ here. (s.held m).1 (left_too start txs lanes y.history x.history m no_flush ((t.held m).0 here))),
+      )),
+    )
 
 -- ---- The first standby.
 

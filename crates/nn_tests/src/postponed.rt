@@ -162,7 +162,12 @@ fn all_but_the_last_go(rt: &impl Abort, held: &mut Postponed) -> Result<(), Fail
         releases(rt, held, block, Some(message(dn, 1, block, 1001)?))?;
     }
     for dn in 1..DATANODES {
-        releases(rt, held, block, Some(message(DATANODES - dn, 2, block, 1001)?))?;
+        releases(
+            rt,
+            held,
+            block,
+            Some(message(DATANODES - dn, 2, block, 1001)?),
+        )?;
     }
     releases(rt, held, block, None)
 }

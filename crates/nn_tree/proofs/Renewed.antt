@@ -13,9 +13,9 @@ pub one_more : (look now after : ℕ → Option BlockRow) (old new : List Block)
 one_more look now after old new left b closed some within_old within_new is so_far written q =
     let one : left - 1 + 1 ≡ left = omega (arith, some) in
     let old_at : drop (left - 1) old ≡ get_or old (left - 1) b ∷ drop left old =
-        drop_more old (left - 1) b (omega (arith, some, within_old)) ∙ ap (λ k. get_or old (left - 1) b ∷ drop k old) one in
+    drop_more old (left - 1) b (omega (arith, some, within_old)) ∙ ap (λ k. get_or old (left - 1) b ∷ drop k old) one in
     let new_at : drop (left - 1) new ≡ b ∷ drop left new =
-        drop_more new (left - 1) b (omega (arith, some, within_new)) ∙ ap₂ (λ (x : Block) (k : ℕ). x ∷ drop k new) (sym is) one in
+    drop_more new (left - 1) b (omega (arith, some, within_new)) ∙ ap₂ (λ (x : Block) (k : ℕ). x ∷ drop k new) (sym is) one in
     written q
     ∙ ap (λ (o : Option BlockRow). cond (b.id == q) (option_map (λ _. record { block = b; closed = closed }) o) o) (so_far q)
     ∙ ap₂ (λ (xs ys : List Block). renewed look xs ys closed q) (sym old_at) (sym new_at)

@@ -8,14 +8,14 @@ use Rattle.nn_engine.proofs.engine.run.Goals as goal
 pub returns-in-Err : goal.returns-in-Err
 returns-in-Err g c =
     let w = writes_unread c.args.options.now.settings (g.R.Read.remaining c.args.input.now.reader) (g.R.Read.remaining c.read_input.new.input.reader)
-        c.args.input.now.failed c.read_input.new.input.failed c.finish.result (g.W.Write.contents c.args.writer.now) (g.W.Write.contents c.finish.new.writer)
-        c.in-Err.fault c.unread_line.result.now c.in-Err.ensures.why c.unread_line.ensures c.finish.ensures.ok c.finish.ensures.err in
+    c.args.input.now.failed c.read_input.new.input.failed c.finish.result (g.W.Write.contents c.args.writer.now) (g.W.Write.contents c.finish.new.writer)
+    c.in-Err.fault c.unread_line.result.now c.in-Err.ensures.why c.unread_line.ensures c.finish.ensures.ok c.finish.ensures.err in
     record { written = w.written; failed = w.failed }
 
 pub returns-in-Ok-output_of-clause-written : goal.returns-in-Ok-output_of-clause-written
 returns-in-Ok-output_of-clause-written g c =
     let given = running c.args.options.now.settings (g.R.Read.remaining c.args.input.now.reader) (g.R.Read.remaining c.read_input.new.input.reader)
-        c.args.input.now.failed c.read_input.new.input.failed in
+    c.args.input.now.failed c.read_input.new.input.failed in
     let is : shown c.in-Ok-output_of.output ≡ output_of c.args.options.now.settings c.in-Ok.bytes.items = c.in-Ok-output_of.ensures in
     (writes given c.finish-in-Ok-output_of.result (g.W.Write.contents c.args.writer.now) (g.W.Write.contents c.finish-in-Ok-output_of.new.writer)
     (shown c.in-Ok-output_of.output) _ _ c.as_bytes.ensures.value refl
@@ -25,7 +25,7 @@ returns-in-Ok-output_of-clause-written g c =
 pub returns-in-Ok-output_of-clause-failed : goal.returns-in-Ok-output_of-clause-failed
 returns-in-Ok-output_of-clause-failed g c =
     let given = running c.args.options.now.settings (g.R.Read.remaining c.args.input.now.reader) (g.R.Read.remaining c.read_input.new.input.reader)
-        c.args.input.now.failed c.read_input.new.input.failed in
+    c.args.input.now.failed c.read_input.new.input.failed in
     let is : shown c.in-Ok-output_of.output ≡ output_of c.args.options.now.settings c.in-Ok.bytes.items = c.in-Ok-output_of.ensures in
     (writes given c.finish-in-Ok-output_of.result (g.W.Write.contents c.args.writer.now) (g.W.Write.contents c.finish-in-Ok-output_of.new.writer)
     (shown c.in-Ok-output_of.output) _ _ c.as_bytes.ensures.value refl
@@ -35,7 +35,7 @@ returns-in-Ok-output_of-clause-failed g c =
 pub returns-in-Err-output_of-clause-written : goal.returns-in-Err-output_of-clause-written
 returns-in-Err-output_of-clause-written g c =
     let given = running c.args.options.now.settings (g.R.Read.remaining c.args.input.now.reader) (g.R.Read.remaining c.read_input.new.input.reader)
-        c.args.input.now.failed c.read_input.new.input.failed in
+    c.args.input.now.failed c.read_input.new.input.failed in
     (writes given c.finish-in-Err-output_of.result (g.W.Write.contents c.args.writer.now) (g.W.Write.contents c.finish-in-Err-output_of.new.writer)
     (fault_alone (codes "55")) _ _ refl refl (is_no_memory given c.in-Ok.ensures.none_failed)
     c.finish-in-Err-output_of.ensures.ok c.finish-in-Err-output_of.ensures.err).written
@@ -43,7 +43,7 @@ returns-in-Err-output_of-clause-written g c =
 pub returns-in-Err-output_of-clause-failed : goal.returns-in-Err-output_of-clause-failed
 returns-in-Err-output_of-clause-failed g c =
     let given = running c.args.options.now.settings (g.R.Read.remaining c.args.input.now.reader) (g.R.Read.remaining c.read_input.new.input.reader)
-        c.args.input.now.failed c.read_input.new.input.failed in
+    c.args.input.now.failed c.read_input.new.input.failed in
     (writes given c.finish-in-Err-output_of.result (g.W.Write.contents c.args.writer.now) (g.W.Write.contents c.finish-in-Err-output_of.new.writer)
     (fault_alone (codes "55")) _ _ refl refl (is_no_memory given c.in-Ok.ensures.none_failed)
     c.finish-in-Err-output_of.ensures.ok c.finish-in-Err-output_of.ensures.err).failed

@@ -1,5 +1,5 @@
 //! What the program prints of its namespace.
-ghost use Rattle.std.specs.Prelude.{◌≡◌, ◌++◌, ◌∷◌, [], true, IfOk, OnOk, codes, decimal, flat_map, string_bytes};
+ghost use Rattle.std.specs.Prelude.{◌≡◌, ◌≤◌, ◌+◌, ◌*◌, ◌++◌, ◌∷◌, [], true, IfOk, OnOk, codes, decimal, flat_map, string_bytes};
 ghost use Rattle.nn_types.specs.Path.{joined, path_text};
 ghost use Rattle.nn_model.specs.declared.form.Form.{Form};
 ghost use Rattle.nn_model.specs.declared.form.Form.TheVariants.{File};
@@ -43,8 +43,12 @@ pub fn listing(alloc: Global, namespace: &Namespace, last: u64) -> Result<String
     Ok(text)
 }
 
-// About the bytes of a listing, an estimate that no contract speaks of.
-fn listing_bytes(extent: Extent) -> usize {
+// About the bytes of a listing: no fewer than its paths have, and no more than these with so many for each line and
+// each block.
+fn listing_bytes(extent: Extent) -> usize
+    ensures least { extent.path_bytes ≤ result }
+    ensures most { result ≤ extent.path_bytes + LINE * extent.paths + BLOCK * extent.blocks }
+{
     let lines = extent.paths.saturating_mul(LINE);
     let blocks = extent.blocks.saturating_mul(BLOCK);
     extent

@@ -1,7 +1,10 @@
 //! Worked scenarios, and devices that fail.
+mod faults;
 mod messages;
+mod options;
+mod program;
 
-use nn_engine::{Options, run};
+use nn_engine::{Input, Options, run};
 use nn_scenario::MAX_INPUT;
 use nn_types::Settings;
 use std::alloc::Global;
@@ -25,14 +28,15 @@ fn usual_options() -> Options {
 }
 
 // What a run prints, and its status.
-fn printed(alloc: Global, reader: &mut impl Read) -> (Vec<u8>, u8) {
+fn printed(alloc: Global, reader: impl Read + Drop) -> (Vec<u8>, u8) {
     printed_with(alloc, usual_options(), reader)
 }
 
 // What a run with these options prints, and its status. No write fails here, so a failed write shows as status 9.
-fn printed_with(alloc: Global, options: Options, reader: &mut impl Read) -> (Vec<u8>, u8) {
+fn printed_with(alloc: Global, options: Options, reader: impl Read + Drop) -> (Vec<u8>, u8) {
     let mut writer = Vec::new(alloc);
-    let status = match run(alloc, &options, reader, &mut writer) {
+    let mut input = Input::new(reader);
+    let status = match run(alloc, &options, &mut input, &mut writer) {
         Ok(end) => end.status,
         Err(_) => 9,
     };
@@ -44,8 +48,7 @@ type Case<'a> = (&'a str, &'a str, &'a str);
 
 // Runs the program on an input, and compares what it prints and its status with what is wanted.
 fn prints(rt: &impl Abort, alloc: Global, (name, input, want): Case<'_>, status: u8) {
-    let mut reader: &[u8] = input.as_bytes();
-    let (text, ended) = printed(alloc, &mut reader);
+    let (text, ended) = printed(alloc, input.as_bytes());
     assert_eq!(rt; text.as_slice(), want.as_bytes(), "at {name}");
     assert_eq!(rt; ended, status, "at {name}");
 }
@@ -260,8 +263,7 @@ fn begins(rt: &impl Abort, alloc: Global, path: &str, want: &str) -> Result<(), 
     let input = format!(in alloc;
         "{START}{{\"op\":\"OP_MKDIR\",\"path\":\"{path}\",\"txid\":2}}\n{END}"
     )?;
-    let mut reader: &[u8] = input.as_bytes();
-    let (text, _) = printed(alloc, &mut reader);
+    let (text, _) = printed(alloc, input.as_bytes());
     assert!(rt; text.starts_with(want.as_bytes()), "at {path}");
     Ok(())
 }
@@ -367,12 +369,12 @@ fn failing_readers(rt: HostRuntime) {
 }
 
 fn fails_at(rt: &impl Abort, alloc: Global, fail_at: u64, want: &[u8], status: u8) {
-    let mut reader = Slow {
+    let reader = Slow {
         bytes: LINES,
         reads: 0,
         fail_at,
     };
-    let (text, ended) = printed(alloc, &mut reader);
+    let (text, ended) = printed(alloc, reader);
     assert_eq!(rt; text.as_slice(), want, "at {fail_at}");
     assert_eq!(rt; ended, status, "at {fail_at}");
 }
@@ -394,14 +396,14 @@ fn failing_writers(rt: HostRuntime) {
 
 // The status of a run whose writer stops there, or none where it stops before the end.
 fn stops_at(rt: &impl Abort, alloc: Global, stop_at: u64, fails: bool) -> Option<u8> {
-    let mut reader: &[u8] = LINES;
+    let mut input = Input::new(LINES);
     let mut writer = Stopping {
         got: Vec::new(alloc),
         writes: 0,
         stop_at,
         fails,
     };
-    let end = run(alloc, &usual_options(), &mut reader, &mut writer);
+    let end = run(alloc, &usual_options(), &mut input, &mut writer);
     let (written, status) = match end {
         Ok(end) => (LISTING.len(), Some(end.status)),
         Err(fault) => (fault.written, None),
@@ -440,8 +442,7 @@ fn longest_input(rt: HostRuntime) {
         (MAX_INPUT - 1, 1, NOTHING),
         (MAX_INPUT, 1, "fault 8\n"),
     ] {
-        let mut reader = Feeds { left, chunk };
-        let (text, _) = printed(rt.alloc(), &mut reader);
+        let (text, _) = printed(rt.alloc(), Feeds { left, chunk });
         assert_eq!(rt; text.as_slice(), want.as_bytes(), "at {left} by {chunk}");
     }
 }
@@ -491,8 +492,7 @@ fn longest_segment(rt: HostRuntime) -> Result<(), Fail> {
 
 fn prints_one_line(rt: &impl Abort, alloc: Global, input: &[u8], size: usize, want: &str) {
     assert_eq!(rt; input.len(), size);
-    let mut reader: &[u8] = input;
-    let (text, status) = printed(alloc, &mut reader);
+    let (text, status) = printed(alloc, input);
     assert_eq!(rt; text.as_slice(), want.as_bytes(), "at {size}");
     assert_eq!(rt; status, 1);
 }

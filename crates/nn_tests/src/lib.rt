@@ -17,6 +17,8 @@ mod segment;
 #[cfg(test)]
 mod shadow;
 #[cfg(test)]
+mod sizes;
+#[cfg(test)]
 mod tables;
 #[cfg(test)]
 mod tree;

@@ -177,8 +177,7 @@ fn safe_mode_ends_where_enough_blocks_are_safe(rt: HostRuntime) -> Result<(), Fa
         let Some(settings) = Settings::new(permille, min) else {
             return Err(Fail::new("the settings are refused"));
         };
-        let mut reader = ONE_OF_TWO;
-        let (text, status) = printed_with(rt.alloc(), Options { settings }, &mut reader);
+        let (text, status) = printed_with(rt.alloc(), Options { settings }, ONE_OF_TWO);
         assert!(rt; text.ends_with(want.as_bytes()), "at {permille} {min}");
         assert_eq!(rt; status, 0);
     }

@@ -1,6 +1,6 @@
 //! Command lines.
-use super::parse;
 use clap::error::ErrorKind;
+use nn_command::parse;
 use std::alloc::Global;
 use std::test::Fail;
 

@@ -2,7 +2,7 @@
 use Rattle.std.specs.Prelude.{◌≡◌, true, false, List, [], ◌∷◌, map, Option, Some, codes, refl}
 use Rattle.clap.proofs.OnLiterals.{clap_on_literals}
 use Rattle.clap.specs.Words.{Text, matches_of, one_of, takes}
-use Rattle.nn_standby.specs.Options.{command_line}
+use Rattle.nn_command.specs.Options.{command_line}
 
 abbrev line : List Text → List Text
 line words = codes "nn_standby" ∷ words

@@ -2,8 +2,8 @@ use Rattle.std.proofs.Common.{rules, ◌≡◌, ◌∙◌, ap, ap₂, codes, pos
 use Rattle.clap.specs.Words.{app_of, new_app, rule_of, with_rule}
 use Rattle.clap.specs.declared.builder.value_parser.ValueParser.{ValueParser}
 use Rattle.clap.specs.declared.builder.value_parser.ValueParser.TheVariants.{Signed}
-use Rattle.nn_standby.specs.Options.{value_rule, command_line}
-use Rattle.nn_standby.proofs.options.command.Goals as goal
+use Rattle.nn_command.specs.Options.{value_rule, command_line}
+use Rattle.nn_command.proofs.options.command.Goals as goal
 
 pub returns : goal.returns
 unfolding command_line

@@ -1,2 +1,3 @@
 pub mod Options
 pub mod OptionsRows
+pub mod Program

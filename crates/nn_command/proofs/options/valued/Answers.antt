@@ -1,8 +1,8 @@
 use Rattle.std.proofs.Common.{rules, ◌≡◌, ◌∙◌, ap}
 use Rattle.clap.specs.Words.{rule_of}
 use Rattle.clap.specs.declared.builder.value_parser.ValueParser.{ValueParser}
-use Rattle.nn_standby.specs.Options.{value_rule}
-use Rattle.nn_standby.proofs.options.valued.Goals as goal
+use Rattle.nn_command.specs.Options.{value_rule}
+use Rattle.nn_command.proofs.options.valued.Goals as goal
 
 pub returns-clause-rule : goal.returns-clause-rule
 returns-clause-rule c =

@@ -1,11 +1,9 @@
 //! What the command line asks for.
-ghost use Rattle.std.specs.Prelude.{◌≡◌, false, IfOk, IfSome, IfNone, codes, map, string_bytes};
-ghost use Rattle.clap.specs.Words.{app_of, found_of, one_text, rule_of};
+ghost use Rattle.std.specs.Prelude.{◌≡◌, ◌⊎◌, false, IfOk, IfErr, IfSome, IfNone, codes, map, string_bytes};
+ghost use Rattle.clap.specs.Words.{app_of, found_of, kind_of, one_text, rule_of};
 ghost use Rattle.nn_types.specs.Settings.{Threshold};
-ghost use Rattle.nn_standby.specs.Options.{value_rule, command_line, IsNumberOf, AreReadAs, AskFor};
-
-#[cfg(test)]
-mod tests;
+ghost use Rattle.nn_command.specs.Options.{value_rule, command_line, IsNumberOf, AreReadAs};
+ghost use Rattle.nn_command.specs.Program.{AskToRun, WhyNot};
 
 use clap::builder::ValueParser;
 use clap::error::ErrorKind;
@@ -13,7 +11,6 @@ use clap::{Arg, ArgAction, ArgMatches, Command, Error, value_parser};
 use nn_engine::Options;
 use nn_types::Settings;
 use std::alloc::{AllocError, Global};
-use std::env;
 
 const ABOUT: &str =
     "Reads a scenario of edit lines and messages, one JSON object a line, from standard input, and \
@@ -24,28 +21,35 @@ const PERMILLE: &str =
 
 const MIN: &str = "How many live replicas make a block safe, 1 to 512.";
 
-/// The options of the command line that the program was started with.
-///
-/// Where the words are refused, or ask for help, the error has the text to print, and says on which stream and with
-/// which status: 2, and 0 for help.
-pub fn read(rt: &HostRuntime) -> Result<Options, Error> {
-    let Ok(words) = env::args(rt) else {
-        return Err(Error::from(AllocError));
-    };
-    let words: Vec<String> = words.collect(rt.alloc())?;
-    parse(rt.alloc(), words.as_slice())
-}
-
 /// The options that words ask for, of which the first is the program's name.
 pub fn parse<'a>(alloc: Global, words: &'a [String]) -> Result<Options, Error>
-    ensures { IfOk result (λ options. AskFor (map string_bytes words.entry.now) options.settings) }
+    ensures ok { IfOk result (λ options. AskToRun (map string_bytes words.entry.now) options.settings) }
+    ensures err { IfErr result (λ error. WhyNot (map string_bytes words.entry.now) (kind_of error)) }
 {
-    let matches = command(alloc)?.try_get_matches_from(words)?;
-    match matched(&matches) {
-        Some(options) => Ok(options),
-        // The parsers of the two arguments refuse such words before.
-        None => Err(command(alloc)?.error(ErrorKind::InvalidValue, "a number is out of range")?),
-    }
+    let Ok(line) = command(alloc) else {
+        return Err(Error::from(AllocError));
+    };
+    let matches = match line.try_get_matches_from(words) {
+        Ok(matches) => matches,
+        Err(error) => return Err(error),
+    };
+    let Some(options) = matched(&matches) else {
+        return Err(out_of_range(alloc));
+    };
+    Ok(options)
+}
+
+// A number is out of its range. The parsers of the two arguments refuse such words before.
+fn out_of_range(alloc: Global) -> Error
+    ensures { (kind_of result ≡ ErrorKind.InvalidValue) ⊎ (kind_of result ≡ ErrorKind.OutOfMemory) }
+{
+    let Ok(mut line) = command(alloc) else {
+        return Error::from(AllocError);
+    };
+    let Ok(error) = line.error(ErrorKind::InvalidValue, "a number is out of range") else {
+        return Error::from(AllocError);
+    };
+    error
 }
 
 // `--permille N` and `--min N`.

@@ -1,0 +1,29 @@
+use Rattle.std.proofs.Common.{◌≡◌, ◌∙◌, [], ap, sym, inl, inr, map, string_bytes, rules}
+use Rattle.clap.specs.Words.{App, app_of, fault_of, found_of, is_simple, is_simple_and_free, matches_of, rows_of}
+use Rattle.nn_command.specs.Options.{command_line}
+use Rattle.nn_command.proofs.Words.{line_is_simple, line_is_free, asked_as_found, why_not, out_of_range}
+use Rattle.nn_command.proofs.options.parse.Goals as goal
+
+pub returns-clause-ok : goal.returns-clause-ok
+returns-clause-ok c =
+    let words = map string_bytes c.args.words.now in
+    let line = c.in-Ok.ensures in
+    let none : fault_of (app_of c.in-Ok.line) words ≡ [] = c.in-Ok-try_get_matches_from.ensures.kinds (ap is_simple_and_free line ∙ line_is_free) in
+    let rows : rows_of (found_of c.in-Ok-try_get_matches_from.matches) ≡ matches_of command_line words =
+    (c.in-Ok-try_get_matches_from.ensures.matches (ap is_simple line ∙ line_is_simple)).0 ∙ ap (λ (a : App). matches_of a words) line in (
+      ap (λ (a : App). fault_of a words) (sym line) ∙ none,
+      asked_as_found words (found_of c.in-Ok-try_get_matches_from.matches) c.in-Some.options.settings rows c.in-Some.ensures.some,
+    )
+
+pub returns-in-Err-clause-err : goal.returns-in-Err-clause-err
+returns-in-Err-clause-err c =
+    let line = c.in-Ok.ensures in
+    why_not (map string_bytes c.args.words.now) (app_of c.in-Ok.line) c.in-Err.error line (c.in-Err.ensures.kinds (ap is_simple_and_free line ∙ line_is_free))
+
+pub returns-in_default-matched-clause-err : goal.returns-in_default-matched-clause-err
+returns-in_default-matched-clause-err c =
+    let words = map string_bytes c.args.words.now in
+    let line = c.in-Ok.ensures in
+    let rows : rows_of (found_of c.in-Ok-try_get_matches_from.matches) ≡ matches_of command_line words =
+    (c.in-Ok-try_get_matches_from.ensures.matches (ap is_simple line ∙ line_is_simple)).0 ∙ ap (λ (a : App). matches_of a words) line in
+    out_of_range words (found_of c.in-Ok-try_get_matches_from.matches) c.out_of_range.result rows c.in_default-matched.ensures.none c.out_of_range.ensures

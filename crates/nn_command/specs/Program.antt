@@ -1,0 +1,102 @@
+-- What the program does for the words that it is started with, and the status that it ends with.
+use Rattle.std.specs.Prelude.{◌≡◌, ◌≢◌, ◌⊎◌, ◌≤◌, ◌∷◌, [], ◌++◌, ℕ, Bool, List, length, take, codes, Option}
+use Rattle.std.specs.Io.KnownBytes.{Appends, Keeps}
+use Rattle.clap.specs.Words.{Text, IsAmong, fault_of}
+use Rattle.clap.specs.declared.error.kind.ErrorKind.{ErrorKind}
+use Rattle.clap.specs.declared.error.kind.ErrorKind.TheVariants.{DisplayHelp}
+use Rattle.clap.specs.declared.error.kind.ErrorKind.TheVariants as why
+use Rattle.nn_types.specs.Settings.{Threshold}
+use Rattle.nn_listing.specs.Listing.{newline}
+use Rattle.nn_engine.specs.Run.{Given, Wrote, WroteFront, running}
+use Rattle.nn_command.specs.declared.program.NoWords.{NoWords}
+use Rattle.nn_command.specs.declared.program.NoWords.TheVariants.{NotText, OutOfMemory}
+use Rattle.nn_command.specs.Options.{command_line, AskFor}
+
+-- ---- What words ask for.
+
+-- a run with these settings: the parser has no fault to find
+abbrev pub AskToRun : List Text → Threshold → Type 0
+AskToRun words settings = (fault_of command_line words ≡ []) × AskFor words settings
+
+-- the help text
+abbrev pub AskForHelp : List Text → Type 0
+AskForHelp words = IsAmong DisplayHelp (fault_of command_line words)
+
+-- nothing that there is: the parser finds a fault, or the words are no settings
+abbrev pub AskForNothing : List Text → Type 0
+AskForNothing words =
+    ((kind : ErrorKind) × IsAmong kind (fault_of command_line words) × (kind ≢ DisplayHelp)) ⊎ ((settings : Threshold) → AskFor words settings → ⊥)
+
+-- ---- What the program did.
+
+-- the bytes that its reader had left and its two writers had got, before and after, and whether a read has failed
+pub record Streams : Type 0 where
+  pub before : Option (List ℕ)
+  pub after : Option (List ℕ)
+  pub had_failed : Bool
+  pub has_failed : Bool
+  pub output : Option (List ℕ)
+  pub output' : Option (List ℕ)
+  pub errors : Option (List ℕ)
+  pub errors' : Option (List ℕ)
+
+abbrev pub streams : Option (List ℕ) → Option (List ℕ) → Bool → Bool → Option (List ℕ) → Option (List ℕ) → Option (List ℕ) → Option (List ℕ) → Streams
+streams before after had_failed has_failed output output' errors errors' = record {
+  before = before;
+  after = after;
+  had_failed = had_failed;
+  has_failed = has_failed;
+  output = output;
+  output' = output';
+  errors = errors;
+  errors' = errors';
+}
+
+-- the writer got the text, and the status is this one; or it got a front of the text, since a write failed, and the status is 1
+abbrev pub Writes : Option (List ℕ) → Option (List ℕ) → List ℕ → ℕ → ℕ → Type 0
+Writes old new text status ended =
+    (Appends old new text × (ended ≡ status)) ⊎ ((n : ℕ) × (n ≤ length text) × Appends old new (take n text) × (ended ≡ 1))
+
+-- the line that memory ran out
+abbrev pub memory_line : List ℕ
+memory_line = codes "fault 55" ++ newline ∷ []
+
+-- a run with these settings: its output, and the status that goes with it, or 1 where a write failed
+abbrev pub Runs : Threshold → Streams → ℕ → Type 0
+Runs settings s ended =
+    let given = running settings s.before s.after s.had_failed s.has_failed in
+    (Wrote given s.output s.output' ended ⊎ ((n : ℕ) × WroteFront given s.output s.output' n × (ended ≡ 1))) × Keeps s.errors s.errors'
+
+-- the help text on the output, and nothing was read
+abbrev pub Helps : Streams → ℕ → Type 0
+Helps s ended = ((text : List ℕ) × Writes s.output s.output' text 0 ended) × Keeps s.errors s.errors' × Keeps s.before s.after
+
+-- a message beside the output, and nothing was read
+abbrev pub Refuses : Streams → ℕ → Type 0
+Refuses s ended = ((text : List ℕ) × Appends s.errors s.errors' text) × (ended ≡ 2) × Keeps s.output s.output' × Keeps s.before s.after
+
+-- the line that memory ran out, and nothing was read
+abbrev pub LacksMemory : Streams → ℕ → Type 0
+LacksMemory s ended = Writes s.output s.output' memory_line 1 ended × Keeps s.errors s.errors' × Keeps s.before s.after
+
+-- what it does for words, of which the first is the program's name
+abbrev pub Serves : List Text → Streams → ℕ → Type 0
+Serves words s ended =
+    ((settings : Threshold) × AskToRun words settings × Runs settings s ended)
+    ⊎ ((AskForHelp words × Helps s ended) ⊎ ((AskForNothing words × Refuses s ended) ⊎ LacksMemory s ended))
+
+-- and where there are none
+abbrev pub ServesNone : NoWords → Streams → ℕ → Type 0
+ServesNone NotText s ended = Refuses s ended
+ServesNone OutOfMemory s ended = LacksMemory s ended
+
+-- ---- Why the words' parser gave no settings.
+
+-- memory ran out, or the words ask for help or for nothing, as the kind says
+abbrev pub WhyNot : List Text → ErrorKind → Type 0
+WhyNot words kind =
+    (kind ≡ why.OutOfMemory) ⊎ (IsAmong kind (fault_of command_line words) ⊎ ((kind ≢ DisplayHelp) × ((settings : Threshold) → AskFor words settings → ⊥)))
+
+-- what is told of an error of this kind
+abbrev pub Tells : ErrorKind → Streams → ℕ → Type 0
+Tells kind s ended = LacksMemory s ended ⊎ (((kind ≡ DisplayHelp) × Helps s ended) ⊎ ((kind ≢ DisplayHelp) × (kind ≢ why.OutOfMemory) × Refuses s ended))

@@ -1,0 +1,69 @@
+//! The program on the devices of its process, and on a thread with stack enough for a run.
+use crate::program::{NoWords, serve};
+use nn_engine::{Input, write_output};
+use nn_scenario::MAX_INPUT;
+use std::process::ExitCode;
+use std::thread::{Builder, Threads};
+use std::{env, io};
+
+/// The bytes of the stack that a run has.
+const STACK: usize = 268_435_456;
+
+/// Deleting, listing and dropping a namespace go one call deeper for each level of directories, in less than so many
+/// bytes of the stack.
+const LEVEL: usize = 280;
+
+/// No input has so many lines that make a directory that they are shorter than this on the average: the operation, a
+/// path of one name and a txid of six digits, where there are more than 100,000 of them.
+const LINE: usize = 43;
+
+// Twice what the deepest namespace can ask for that an input makes.
+const _: () = prove!(STACK / LEVEL >= 2 * (MAX_INPUT / LINE));
+
+/// Does what the words ask for that the program was started with, and answers the status that it is to end with.
+///
+/// It waits for the thread that it starts, so that it returns only if that thread ends. A runtime lends its threads only
+/// where a program begins, so `main` hands it over twice.
+pub fn start(rt: &HostRuntime, threads: &impl Threads) -> ExitCode {
+    let Ok(engine_rt) = rt.clone() else {
+        return out_of_memory(rt);
+    };
+    let engine = Builder::new()
+        .stack_size(STACK)
+        .spawn(threads, move || on_devices(&engine_rt));
+    match engine {
+        Ok(thread) => ExitCode::from(thread.join(threads)),
+        Err(_) => out_of_memory(rt),
+    }
+}
+
+fn on_devices(rt: &HostRuntime) -> u8 {
+    let words = words(rt);
+    let words = match &words {
+        Ok(words) => Ok(words.as_slice()),
+        Err(why) => Err(*why),
+    };
+    let mut input = Input::new(rt.reader());
+    let mut output = io::writer(rt);
+    let mut errors = rt.stderr();
+    serve(rt.alloc(), words, &mut input, &mut output, &mut errors)
+}
+
+// The words that the program was started with, its name first.
+fn words(rt: &HostRuntime) -> Result<Vec<String>, NoWords> {
+    let words = match env::args(rt) {
+        Ok(words) => words,
+        Err(error) if error.kind() == io::ErrorKind::InvalidData => return Err(NoWords::NotText),
+        Err(_) => return Err(NoWords::OutOfMemory),
+    };
+    let Ok(words) = words.collect(rt.alloc()) else {
+        return Err(NoWords::OutOfMemory);
+    };
+    Ok(words)
+}
+
+fn out_of_memory(rt: &HostRuntime) -> ExitCode {
+    let mut writer = io::writer(rt);
+    let _ = write_output(&mut writer, b"fault 55\n");
+    ExitCode::from(1)
+}

@@ -1,0 +1,10 @@
+//! The program's command line, and what it does: the words are read, and a scenario is run as they ask.
+#![tactic(auto)]
+
+mod devices;
+mod options;
+mod program;
+
+pub use devices::start;
+pub use options::parse;
+pub use program::{NoWords, serve};

@@ -1,0 +1,107 @@
+//! What the program does for the words that it is started with, over any reader and writers.
+ghost use Rattle.std.specs.Prelude.{◌≡◌, ℕ, List, None, false, IfOk, IfErr, map, string_bytes};
+ghost use Rattle.std.specs.Io.KnownBytes.{Appends};
+ghost use Rattle.clap.specs.Words.{kind_of};
+ghost use Rattle.nn_command.specs.Program.{Serves, ServesNone, Tells, Writes, memory_line, streams};
+
+use crate::options;
+use clap::error::ErrorKind;
+use nn_engine::{Input, run, write_output};
+use std::alloc::Global;
+use std::io::{Read, Write};
+
+/// The status after a fault line, and after a write that failed.
+const FAILED: u8 = 1;
+
+/// The status after words that ask for nothing that there is.
+const MISUSED: u8 = 2;
+
+const NOT_TEXT: &[u8] = b"error: a word of the command line is no UTF-8\n";
+
+/// Why there are no words.
+#[derive(Clone, Copy, Debug, PartialEq, Eq)]
+pub enum NoWords {
+    /// A word is no UTF-8.
+    NotText,
+    OutOfMemory,
+}
+
+/// Does what the words ask for, of which the first is the program's name, and answers the status that the process is
+/// to end with: 0 after a listing or the help, 1 after a fault line or a write that failed, 2 after words that are
+/// refused, which is told on `errors`.
+pub fn serve<R: Read, W: Write, E: Write>(
+    alloc: Global,
+    words: Result<&[String], NoWords>,
+    input: &mut Input<R>,
+    output: &mut W,
+    errors: &mut E,
+) -> u8
+    ensures some { IfOk words.entry (λ words. Serves (map string_bytes words.now)
+        (streams (R.remaining input.old.reader) (R.remaining input.new.reader) input.old.failed input.new.failed
+        (W.contents output.old) (W.contents output.new) (E.contents errors.old) (E.contents errors.new)) result) }
+    ensures none { IfErr words.entry (λ why. ServesNone why
+        (streams (R.remaining input.old.reader) (R.remaining input.new.reader) input.old.failed input.new.failed
+        (W.contents output.old) (W.contents output.new) (E.contents errors.old) (E.contents errors.new)) result) }
+{
+    let words = match words {
+        Ok(words) => words,
+        Err(NoWords::NotText) => return refuse(errors, NOT_TEXT),
+        Err(NoWords::OutOfMemory) => return out_of_memory(output),
+    };
+    let options = match options::parse(alloc, words) {
+        Ok(options) => options,
+        Err(error) => return tell(alloc, &error, output, errors),
+    };
+    match run(alloc, &options, input, output) {
+        Ok(end) => end.status,
+        Err(_) => FAILED,
+    }
+}
+
+// Tells why the command line gave no settings: the help text on the output, any other text on `errors`.
+fn tell<W: Write, E: Write>(
+    alloc: Global,
+    error: &clap::Error,
+    output: &mut W,
+    errors: &mut E,
+) -> u8
+    ensures { Tells (kind_of error.now) (streams None None false false
+        (W.contents output.old) (W.contents output.new) (E.contents errors.old) (E.contents errors.new)) result }
+{
+    let kind = error.kind();
+    if kind == ErrorKind::OutOfMemory {
+        return out_of_memory(output);
+    }
+    let Ok(text) = error.to_string(alloc) else {
+        return out_of_memory(output);
+    };
+    if kind == ErrorKind::DisplayHelp {
+        return write_or_fail(output, text.as_bytes(), 0);
+    }
+    refuse(errors, text.as_bytes())
+}
+
+fn refuse<E: Write>(errors: &mut E, text: &[u8]) -> u8
+    ensures told { (part : List ℕ) × Appends (E.contents errors.old) (E.contents errors.new) part }
+    ensures status { result ≡ 2 }
+{
+    // What is told of the words is no output, so that a write that fails changes nothing.
+    let _ = write_output(errors, text);
+    MISUSED
+}
+
+fn out_of_memory<W: Write>(output: &mut W) -> u8
+    ensures { Writes (W.contents output.old) (W.contents output.new) memory_line 1 result }
+{
+    write_or_fail(output, b"fault 55\n", FAILED)
+}
+
+// Writes a text that goes with a status.
+fn write_or_fail<W: Write>(output: &mut W, text: &[u8], status: u8) -> u8
+    ensures { Writes (W.contents output.old) (W.contents output.new) text.now status result }
+{
+    match write_output(output, text) {
+        Ok(()) => status,
+        Err(_) => FAILED,
+    }
+}

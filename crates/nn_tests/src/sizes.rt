@@ -1,0 +1,204 @@
+//! Calls on more than any small case has. No clause can say that memory suffices, so a body that gave up at the fifth
+//! item would be proved; here it would be seen. All run on a test's own stack, which is no larger than usual.
+ghost use Rattle.std.specs.Prelude.{◌+◌, ◌<◌, ◌^◌};
+
+use nn_edits::Edit;
+use nn_replicas::Replicas;
+use nn_tree::{Found, Namespace};
+use nn_types::{
+    Block, BlockId, Blocks, GenerationStamp, Kind, Length, Path, Replica, Replication, Settings,
+};
+use std::alloc::Global;
+use std::process::Abort;
+use std::test::Fail;
+
+// The last block id before the first that a log issues.
+const BEFORE: u64 = 1_073_741_824;
+
+fn id(value: u64) -> Result<BlockId, Fail> {
+    let Some(made) = BlockId::new(value) else {
+        return Err(Fail::new("no block id"));
+    };
+    Ok(made)
+}
+
+fn stamp(value: u64) -> Result<GenerationStamp, Fail> {
+    let Some(made) = GenerationStamp::new(value) else {
+        return Err(Fail::new("no generation stamp"));
+    };
+    Ok(made)
+}
+
+fn length(value: u64) -> Result<Length, Fail> {
+    let Some(made) = Length::new(value) else {
+        return Err(Fail::new("no length"));
+    };
+    Ok(made)
+}
+
+// The n-th block that a log issues, with its stamp and length.
+fn block(n: u32, generation: u64, len: u64) -> Result<Block, Fail> {
+    Ok(Block {
+        id: id(BEFORE + u64::from(n))?,
+        stamp: stamp(generation)?,
+        len: length(len)?,
+    })
+}
+
+// ---- A file of many blocks.
+
+#[test]
+fn a_file_of_2_000_blocks(rt: HostRuntime) -> Result<(), Fail> {
+    let mut namespace = Namespace::new(rt.alloc());
+    lives(&rt, rt.alloc(), &mut namespace, 2_000)
+}
+
+#[test]
+fn a_file_of_1_000_000_blocks(rt: HostRuntime) -> Result<(), Fail> {
+    let mut namespace = Namespace::new(rt.alloc());
+    lives(&rt, rt.alloc(), &mut namespace, 1_000_000)
+}
+
+// A file gets so many blocks, loses the last one and gets lengths, is closed, and is deleted.
+fn lives(
+    rt: &impl Abort,
+    alloc: Global,
+    namespace: &mut Namespace,
+    count: u32,
+) -> Result<(), Fail> {
+    make(alloc, namespace)?;
+    for n in 1..=count {
+        add_block(alloc, namespace, n)?;
+    }
+    has_blocks(rt, alloc, namespace, count as usize)?;
+    let kept = count - 1;
+    update(alloc, namespace, kept)?;
+    has_blocks(rt, alloc, namespace, kept as usize)?;
+    close(alloc, namespace, kept)?;
+    delete(rt, alloc, namespace, kept as usize)
+}
+
+fn path(alloc: Global) -> Result<Path, Fail> {
+    Ok(Path::parse(alloc, "/f")?)
+}
+
+fn apply(namespace: &mut Namespace, edit: Edit) -> Result<(), Fail> {
+    namespace.apply(&edit)?;
+    Ok(())
+}
+
+fn make(alloc: Global, namespace: &mut Namespace) -> Result<(), Fail> {
+    let stamp = stamp(1_001)?;
+    apply(namespace, Edit::SetGenstamp { stamp })?;
+    let Some(replication) = Replication::new(3) else {
+        return Err(Fail::new("no replication"));
+    };
+    let path = path(alloc)?;
+    apply(namespace, Edit::Add { path, replication })
+}
+
+fn add_block(alloc: Global, namespace: &mut Namespace, n: u32) -> Result<(), Fail> {
+    let block = block(n, 1_001, 0)?;
+    apply(namespace, Edit::AllocateBlockId { id: block.id })?;
+    let path = path(alloc)?;
+    apply(
+        namespace,
+        Edit::AddBlock {
+            path,
+            id: block.id,
+            stamp: block.stamp,
+        },
+    )
+}
+
+// The first blocks, each with 5 bytes.
+fn list(alloc: Global, count: u32) -> Result<Blocks, Fail> {
+    let mut blocks = Blocks::new(alloc);
+    for n in 1..=count {
+        blocks.push(block(n, 1_001, 5)?)?;
+    }
+    Ok(blocks)
+}
+
+fn update(alloc: Global, namespace: &mut Namespace, count: u32) -> Result<(), Fail> {
+    let blocks = list(alloc, count)?;
+    let path = path(alloc)?;
+    apply(namespace, Edit::UpdateBlocks { path, blocks })
+}
+
+fn close(alloc: Global, namespace: &mut Namespace, count: u32) -> Result<(), Fail> {
+    let blocks = list(alloc, count)?;
+    let path = path(alloc)?;
+    apply(namespace, Edit::Close { path, blocks })
+}
+
+fn delete(
+    rt: &impl Abort,
+    alloc: Global,
+    namespace: &mut Namespace,
+    count: usize,
+) -> Result<(), Fail> {
+    let path = path(alloc)?;
+    let touched = namespace.apply(&Edit::Delete { path })?;
+    assert_eq!(rt; touched.retired.len(), count);
+    Ok(())
+}
+
+fn has_blocks(
+    rt: &impl Abort,
+    alloc: Global,
+    namespace: &Namespace,
+    count: usize,
+) -> Result<(), Fail> {
+    let path = path(alloc)?;
+    let Some(Found::File(file)) = namespace.lookup(&path) else {
+        return Err(Fail::new("no file"));
+    };
+    assert_eq!(rt; file.blocks.as_slice().len(), count);
+    Ok(())
+}
+
+// ---- A block that many DataNodes have.
+
+#[test]
+fn a_block_of_6_datanodes(rt: HostRuntime) -> Result<(), Fail> {
+    let mut table = Replicas::new(rt.alloc(), settings(6)?);
+    spreads(&rt, &mut table, 6)
+}
+
+#[test]
+fn a_block_of_256_datanodes(rt: HostRuntime) -> Result<(), Fail> {
+    let mut table = Replicas::new(rt.alloc(), settings(256)?);
+    spreads(&rt, &mut table, 256)
+}
+
+fn settings(min: u16) -> Result<Settings, Fail> {
+    let Some(made) = Settings::new(1_000, min) else {
+        return Err(Fail::new("no settings"));
+    };
+    Ok(made)
+}
+
+// So many DataNodes report a block of a closed file, the last one first; it is safe once all have.
+fn spreads(rt: &impl Abort, table: &mut Replicas, count: u16) -> Result<(), Fail> {
+    let block = block(1, 1_001, 5)?;
+    table.set_block(block, true)?;
+    let mut left = count;
+    'left: while left > 0 {
+        assert_eq!(rt; table.safe_count(), 0);
+        put(table, left, block)?;
+        left -= 1;
+    }
+    assert_eq!(rt; table.safe_count(), 1);
+    Ok(())
+}
+
+fn put(table: &mut Replicas, dn: u16, block: Block) -> Result<(), Fail> {
+    let replica = Replica {
+        stamp: block.stamp,
+        len: block.len,
+        kind: Kind::Received,
+    };
+    table.put(dn, block.id, replica)?;
+    Ok(())
+}

@@ -1,11 +1,10 @@
 -- A standby on its way, one step further.
-use Rattle.std.proofs.Common.{◌≡◌, ℕ, ◌+◌, ◌≤◌, true, List, [], ◌∷◌, ◌++◌, length, Result, Ok, Err, None, refl, sym, ap, ◌∙◌, arith}
+use Rattle.std.proofs.Common.{◌≡◌, ℕ, ◌+◌, ◌≤◌, true, List, [], ◌∷◌, ◌++◌, length, Result, Ok, None, refl, sym, ap, ◌∙◌, arith}
 use Rattle.std.specs.List.{All}
 use Rattle.std.proofs.lemmas.Bool.{eq-eqb, le-leb}
 use Rattle.std.proofs.lemmas.List.Elements.{All-head, All-tail}
 use Rattle.nn_types.specs.declared.report.Message.{Message}
 use Rattle.nn_edits.specs.declared.tx.Tx.{Tx}
-use Rattle.nn_model.specs.declared.fault.EditFault.{EditFault}
 use Rattle.nn_model.specs.Apply.{applied}
 use Rattle.nn_model.specs.Lanes.{Lanes, no_messages, followed_by}
 use Rattle.nn_model.specs.Namespace.{Namespace, root_alone}
@@ -15,7 +14,7 @@ use Rattle.nn_shadow.specs.Contents.{Contents, standby_of, KeepsSettings}
 use Rattle.nn_shadow.specs.Laws.{StandsBy}
 use Rattle.nn_shadow.specs.Refusals.{is_lane, hand_refusal}
 use Rattle.nn_shadow.proofs.Standings.{begins_standing}
-use Rattle.nn_engine.specs.LogEnd.{Stop, LogEnd, go_on, end_of_txs, end_of_log}
+use Rattle.nn_segment.specs.LogEnd.{Stop, LogEnd, go_on, end_of_txs, end_of_log}
 use Rattle.nn_engine.specs.LogLeft.{LogLeft, end_of_left}
 use Rattle.nn_engine.specs.Follow.{serving, IsWelcome, IsOnItsWay, IsFollowing}
 use Rattle.nn_scenario.specs.Steps.{lanes_after, lanes_of, AreInTurn, IsStepOf}

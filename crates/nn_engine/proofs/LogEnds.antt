@@ -9,7 +9,7 @@ use Rattle.nn_model.specs.Apply.{refusal, effect, outcome}
 use Rattle.nn_model.specs.Log.{namespace_after, IsLog, counted, CountsUp, log_of}
 use Rattle.nn_model.proofs.Logs.{counted_append, counts_up, appended_log, namespace_of_appended}
 use Rattle.nn_segment.specs.Segment.{Segment, first_txid}
-use Rattle.nn_engine.specs.LogEnd.{disorder, Stop, LogEnd, go_on, end_of_txs, and_then, end_of_log}
+use Rattle.nn_segment.specs.LogEnd.{disorder, Stop, LogEnd, go_on, end_of_txs, and_then, end_of_log}
 use Rattle.nn_engine.specs.LogLaws.{IsEndOf, EndsWithTheLog}
 
 ends_here : (last : ℕ) (n : Namespace) (end : LogEnd) → record { last = last; namespace = n } ≡ end → IsEndOf last n [] end

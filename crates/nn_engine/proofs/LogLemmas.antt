@@ -8,7 +8,7 @@ use Rattle.nn_model.specs.Apply.{applied}
 use Rattle.nn_model.specs.Log.{counted}
 use Rattle.nn_segment.specs.Segment.{Segment, first_txid}
 use Rattle.nn_segment.specs.Source.{given, end, GivesNext}
-use Rattle.nn_engine.specs.LogEnd.{disorder, Stop, LogEnd, go_on, end_of_txs, and_then, end_of_log}
+use Rattle.nn_segment.specs.LogEnd.{disorder, Stop, LogEnd, go_on, end_of_txs, and_then, end_of_log}
 use Rattle.nn_engine.specs.LogLeft.{LogLeft, end_of_left}
 
 and_then_on : (txid : ℕ) (r : Result Namespace EditFault) (next : Namespace → Result LogEnd Stop) (rest : LogEnd → Result LogEnd Stop)

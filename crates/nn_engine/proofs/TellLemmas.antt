@@ -14,7 +14,7 @@ use Rattle.nn_shadow.specs.Contents.{Contents, standby_of, KeepsSettings}
 use Rattle.nn_shadow.specs.Laws.{StandsBy}
 use Rattle.nn_engine.specs.Follow.{HasArrived}
 use Rattle.nn_listing.specs.Listing.{listing_text}
-use Rattle.nn_engine.specs.LogEnd.{LogEnd, Stop}
+use Rattle.nn_segment.specs.LogEnd.{LogEnd, Stop}
 use Rattle.nn_engine.specs.Output.{Printed, after_log}
 use Rattle.nn_listing.specs.Tables.{IsPicture, tables_text}
 

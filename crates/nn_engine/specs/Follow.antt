@@ -8,7 +8,7 @@ use Rattle.nn_model.specs.Namespace.{Namespace, root_alone}
 use Rattle.nn_shadow.specs.Contents.{Contents, standby_of}
 use Rattle.nn_shadow.specs.Laws.{StandsBy}
 use Rattle.nn_shadow.specs.Refusals.{Phase, hand_refusal}
-use Rattle.nn_engine.specs.LogEnd.{refused, disorder, Stop, LogEnd}
+use Rattle.nn_segment.specs.LogEnd.{refused, disorder, Stop, LogEnd}
 use Rattle.nn_engine.specs.LogLeft.{LogLeft, end_of_left}
 use Rattle.nn_scenario.specs.Steps.{lanes_after, AreInTurn, IsStepOf}
 use Rattle.nn_engine.specs.declared.follow.Halt.{Halt}

@@ -1,7 +1,5 @@
-pub mod LogEnd
 pub mod LogLaws
 pub mod LogLeft
-pub mod LogRows
 pub mod Follow
 pub mod Output
 pub mod Input

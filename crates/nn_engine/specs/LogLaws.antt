@@ -4,7 +4,7 @@ use Rattle.nn_edits.specs.declared.tx.Tx.{Tx}
 use Rattle.nn_model.specs.Namespace.{Namespace}
 use Rattle.nn_model.specs.Log.{namespace_after, IsLog, log_of}
 use Rattle.nn_segment.specs.Segment.{Segment}
-use Rattle.nn_engine.specs.LogEnd.{LogEnd, end_of_log}
+use Rattle.nn_segment.specs.LogEnd.{LogEnd, end_of_log}
 
 -- the end of these transactions, which are a log from this namespace and txid on
 pub record IsEndOf (last : ℕ) (n : Namespace) (txs : List Tx) (end : LogEnd) : Type 0 where

@@ -5,7 +5,7 @@ use Rattle.nn_model.specs.Namespace.{Namespace}
 use Rattle.nn_model.specs.Apply.{applied}
 use Rattle.nn_model.specs.Log.{counted}
 use Rattle.nn_segment.specs.Segment.{Segment}
-use Rattle.nn_engine.specs.LogEnd.{disorder, Stop, LogEnd, go_on, end_of_txs, and_then, end_of_log}
+use Rattle.nn_segment.specs.LogEnd.{disorder, Stop, LogEnd, go_on, end_of_txs, and_then, end_of_log}
 use Rattle.nn_engine.specs.declared.log.Next.{Next}
 use Rattle.nn_engine.specs.declared.log.Next.TheVariants as next
 

@@ -1,16 +1,14 @@
 -- What the program prints for a scenario.
 use Rattle.std.specs.Prelude.{ℕ, List, [], ◌∷◌, ◌++◌, Result, Ok, Err, codes, decimal}
-use Rattle.nn_types.specs.declared.fault.TheConstants.{DISORDER}
 use Rattle.nn_types.specs.Settings.{Threshold}
 use Rattle.nn_edits.specs.Fault.{number_of as line_number_of}
-use Rattle.nn_model.specs.Fault.{number_of}
 use Rattle.nn_model.specs.Lanes.{Lanes}
 use Rattle.nn_model.specs.Namespace.{root_alone}
 use Rattle.nn_segment.specs.Fault.{number_of as segment_number_of}
 use Rattle.nn_segment.specs.Segment.{Segment}
 use Rattle.nn_scenario.specs.Cut.{segments_from}
 use Rattle.nn_listing.specs.Listing.{newline, listing_text}
-use Rattle.nn_engine.specs.LogEnd.{Cause, refused, disorder, Stop, LogEnd, end_of_log}
+use Rattle.nn_segment.specs.LogEnd.{Stop, stop_number, LogEnd, end_of_log}
 use Rattle.nn_scenario.specs.Scenario.{Scenario, scenario_of}
 use Rattle.nn_scenario.specs.Steps.{lanes_of}
 use Rattle.nn_listing.specs.Tables.{tables_text}
@@ -25,10 +23,6 @@ pub record Printed : Type 0 where
 -- `fault N line L`, `fault N segment K` or `fault N txid T`, where the place is ` line `, ` segment ` or ` txid `
 abbrev pub fault_at : List ℕ → ℕ → ℕ → Printed
 fault_at place number n = record { text = codes "fault " ++ decimal number ++ place ++ decimal n ++ newline ∷ []; status = 1 }
-
-abbrev pub stop_number : Cause → ℕ
-stop_number (refused fault) = number_of fault
-stop_number disorder = DISORDER
 
 -- after the log: the namespace, and the tables that it and the messages of these lanes make
 abbrev pub after_log : Threshold → Lanes → Result LogEnd Stop → Printed

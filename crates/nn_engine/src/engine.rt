@@ -8,7 +8,7 @@ ghost use Rattle.nn_model.specs.Namespace.{root_alone};
 ghost use Rattle.nn_segment.specs.Fault.{number_of as segment_number_of};
 ghost use Rattle.nn_scenario.specs.Cut.{segments_from};
 ghost use Rattle.nn_engine.specs.Follow.{serving, HasArrived, StopsAs};
-ghost use Rattle.nn_engine.specs.LogEnd.{LogEnd, Stop, end_of_log};
+ghost use Rattle.nn_segment.specs.LogEnd.{LogEnd, Stop, end_of_log};
 ghost use Rattle.nn_engine.specs.Output.{output_of, after_segments, after_log, fault_at};
 ghost use Rattle.nn_engine.specs.Run.{Wrote, WroteFront, running, unread_line};
 ghost use Rattle.nn_scenario.specs.Scenario.{max_input, seen, IsLawfulScenario};

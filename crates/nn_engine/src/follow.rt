@@ -9,7 +9,7 @@ ghost use Rattle.nn_shadow.specs.Contents.{KeepsSettings, standby_of};
 ghost use Rattle.nn_shadow.specs.Laws.{StandsBy};
 ghost use Rattle.nn_shadow.specs.Refusals.{hand_refusal};
 ghost use Rattle.nn_engine.specs.Follow.{serving, IsWelcome, IsOnItsWay, HasArrived, IsRefusal, StopsAs, IsFollowing};
-ghost use Rattle.nn_engine.specs.LogEnd.{LogEnd, Stop, end_of_log};
+ghost use Rattle.nn_segment.specs.LogEnd.{LogEnd, Stop, end_of_log};
 ghost use Rattle.nn_scenario.specs.Steps.{lanes_after, lanes_of, AreInTurn, IsStepOf};
 
 use crate::log::{Log, Next};

@@ -6,5 +6,7 @@ pub mod Segment
 pub mod Outcome
 pub mod Source
 pub mod Walk
+pub mod LogEnd
 pub mod NameRows
 pub mod ReadingRows
+pub mod LogRows

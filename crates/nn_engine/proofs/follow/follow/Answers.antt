@@ -1,6 +1,6 @@
 use Rattle.std.proofs.Common.{length, refl, ap}
 use Rattle.nn_model.specs.Namespace.{root_alone}
-use Rattle.nn_engine.specs.LogEnd.{end_of_log}
+use Rattle.nn_segment.specs.LogEnd.{end_of_log}
 use Rattle.nn_engine.proofs.FollowLemmas.{sets_out}
 use Rattle.nn_engine.proofs.follow.follow.Goals as goal
 

@@ -2,7 +2,7 @@ use Rattle.std.proofs.Common.{◌≡◌, ◌-◌, ◌^◌, Result}
 use Rattle.nn_model.specs.Lanes.{Lanes}
 use Rattle.nn_shadow.specs.Contents.{KeepsSettings}
 use Rattle.nn_engine.specs.Follow.{IsOnItsWay, serving}
-use Rattle.nn_engine.specs.LogEnd.{LogEnd, Stop}
+use Rattle.nn_segment.specs.LogEnd.{LogEnd, Stop}
 use Rattle.nn_engine.proofs.follow.follow_to_end.Given as goal
 
 -- it is on its way still

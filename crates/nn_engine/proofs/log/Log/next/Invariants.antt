@@ -1,4 +1,4 @@
-use Rattle.std.proofs.Common.{◌≡◌, ℕ, length}
+use Rattle.std.proofs.Common.{◌≡◌, length}
 use Rattle.std.specs.Vec.Iter.{into_iter_items}
 use Rattle.nn_model.specs.Namespace.{Namespace}
 use Rattle.nn_engine.specs.LogLeft.{end_of_left}

@@ -1,16 +1,25 @@
 -- Where a log of segments ends: at its last transaction, before the first one that is refused, or before a gap.
 use Rattle.std.specs.Prelude.{ℕ, ◌+◌, List, [], ◌∷◌, Result, Ok, Err, nat_lt, if◌then◌else◌}
+use Rattle.nn_types.specs.declared.fault.TheConstants.{DISORDER}
 use Rattle.nn_edits.specs.declared.tx.Tx.{Tx}
 use Rattle.nn_model.specs.declared.fault.EditFault.{EditFault}
+use Rattle.nn_model.specs.Fault.{number_of}
 use Rattle.nn_model.specs.Namespace.{Namespace}
 use Rattle.nn_model.specs.Apply.{applied}
 use Rattle.nn_model.specs.Log.{counted}
 use Rattle.nn_segment.specs.Segment.{Segment, first_txid}
+use Rattle.nn_segment.specs.Source.{Answer}
+use Rattle.nn_segment.specs.declared.source.Item.TheVariants as item
 
 -- why a log stops: a transaction is refused, or the next one is not there
 pub data Cause : Type 0 where
   refused : EditFault → Cause
   disorder : Cause
+
+-- the number of the fault that it stops with
+abbrev pub stop_number : Cause → ℕ
+stop_number (refused fault) = number_of fault
+stop_number disorder = DISORDER
 
 -- a log stops before the transaction with this txid
 pub record Stop : Type 0 where
@@ -42,3 +51,14 @@ end_of_log last n (s ∷ segments) =
     if nat_lt (last + 1) (first_txid s.txs)
     then Err (record { cause = disorder; txid = last + 1 })
     else and_then (end_of_txs last n (counted last s.txs)) (λ end. end_of_log end.last end.namespace segments)
+
+-- the end of what is in hand, and then of segments
+abbrev pub end_behind : ℕ → Namespace → List Tx → List Segment → Result LogEnd Stop
+end_behind last n txs segments = and_then (end_of_txs last n txs) (λ end. end_of_log end.last end.namespace segments)
+
+-- the segments among the answers of sources, in order
+abbrev pub given_in : List Answer → List Segment
+given_in [] = []
+given_in (Ok (item.Segment s) ∷ answers) = s ∷ given_in answers
+given_in (Ok item.End ∷ answers) = given_in answers
+given_in (Err fault ∷ answers) = given_in answers

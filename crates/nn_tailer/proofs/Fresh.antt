@@ -1,0 +1,67 @@
+-- A standby before its first step.
+use Rattle.std.proofs.Common.{◌≡◌, ℕ, zero, suc, ◌+◌, ◌≤◌, true, false, List, [], ◌∷◌, length, replicate, get_or, None, Some, Option, refl, sym, ap, ◌∙◌, subst}
+use Rattle.nn_types.specs.declared.report.Message.{Message}
+use Rattle.nn_model.specs.Namespace.{root_alone}
+use Rattle.nn_model.specs.Lanes.{no_messages}
+use Rattle.nn_lane.specs.Ends.{Taking}
+use Rattle.nn_model.specs.Stands.{Standby, Stands, fresh as just_begun}
+use Rattle.nn_shadow.specs.Contents.{Contents, standby_of}
+use Rattle.nn_shadow.specs.Laws.{StandsBy}
+use Rattle.nn_segment.specs.LogEnd.{end_behind}
+use Rattle.nn_tailer.proofs.LogEnds.{behind_none}
+use Rattle.nn_tailer.proofs.Shadowing.{serving}
+use Rattle.nn_tailer.specs.Tailing.{Tailer, Keeps, AreKept, handed_all, by_node}
+use Rattle.nn_tailer.specs.Public.{AreNew, IsNew}
+
+kept_new : (dn : ℕ) (es : List Taking) → AreNew dn es → AreKept dn es (replicate (length es) None)
+kept_new dn [] h = tt
+kept_new dn (e ∷ es) h = (h.0, tt, kept_new (dn + 1) es h.2)
+
+none_at : (dn : ℕ) (es : List Taking) (k : ℕ) → AreNew dn es → get_or (handed_all es (replicate (length es) None)) k [] ≡ []
+none_at dn [] k h = refl
+none_at dn (e ∷ es) zero h = h.1
+none_at dn (e ∷ es) (suc k) h = none_at (dn + 1) es k h.2
+
+lanes_at : (es : List Taking) → AreNew 1 es → (dn : ℕ) → by_node (handed_all es (replicate (length es) None)) dn ≡ no_messages dn
+lanes_at es h zero = refl
+lanes_at es h (suc k) = none_at 1 es k h
+
+-- a Shadow that did nothing yet, for so many lanes
+pub record IsFresh (lanes : ℕ) (s : Contents) : Type 0 where
+  pub begun : standby_of s ≡ just_begun root_alone 0
+  pub stands : StandsBy root_alone 0 [] no_messages (standby_of s)
+  pub phase : s.phase ≡ serving
+  pub count : length s.numbers ≡ lanes
+
+abbrev pub fresh : Contents → List Taking → List (Option Message) → Tailer
+fresh s es ks = record { shadow = s; ends = es; kept = ks; rest = []; stop = None; active = false }
+
+pub keeps_fresh : (s : Contents) (es : List Taking) (ks : List (Option Message)) → length es ≤ 256 → AreNew 1 es → ks ≡ replicate (length es) None → IsFresh (length es) s → Keeps (fresh s es ks)
+keeps_fresh s es ks l n e f = subst (λ z. Keeps (fresh s es z)) (sym e) (record {
+  lanes = kept_new 1 es n;
+  few = l;
+  count = f.count;
+  numbers = λ dn. ap (λ (z : Standby). z.last_number dn) f.begun ∙ ap length (sym (lanes_at es n dn));
+  next = tt;
+  live = λ _. ap (λ z. z.stopped) f.phase;
+  stops = λ z q. absurd (let w : None ≡ Some z = q in cc);
+  begun_live = λ _. refl;
+  not_begun = λ _. refl;
+})
+
+pub is_fresh : (s : Contents) (es : List Taking) (ks : List (Option Message)) → AreNew 1 es → ks ≡ replicate (length es) None → IsFresh (length es) s → IsNew es (fresh s es ks)
+is_fresh s es ks n e f = subst (λ z. IsNew es (fresh s es z)) (sym e) (
+  refl,
+  ap (λ z. z.active) f.phase,
+  refl,
+  refl,
+  record {
+    txs = [];
+    shadow = subst (λ ls. Stands root_alone 0 [] ls (standby_of s)) (sym (λ k dn. lanes_at es n dn k)) f.stands.stands;
+    before_flush = λ _. f.stands.before_flush;
+    log = refl;
+    goes_on = (λ _ later. sym (behind_none 0 root_alone later) ∙ (λ j. end_behind (sym (ap (λ (z : Standby). z.last) f.begun) j) (sym (ap (λ (z : Standby). z.namespace) f.begun) j) [] later));
+    stops = (λ z q. absurd (let w : None ≡ Some z = q in cc));
+    ended = λ h. absurd (let w : false ≡ true = sym (ap (λ z. z.active) f.phase) ∙ h in cc);
+  },
+)

@@ -1,0 +1,81 @@
+use Rattle.std.proofs.Common.{Err, refl, subst, sym, ◌≡◌, ap, ◌∙◌, true, false, List, [], Bool}
+use Rattle.std.specs.List.{list_all}
+use Rattle.nn_lane.specs.Ends.{Taking}
+use Rattle.nn_tailer.specs.LaneSteps.{closed_of}
+use Rattle.nn_tailer.specs.contracts.standby.Standby.{the_view}
+use Rattle.nn_tailer.specs.Tailing.{has_begun, Tailer, Keeps}
+use Rattle.nn_tailer.specs.declared.fault.PromoteFault.TheVariants as promote_fault
+use Rattle.nn_tailer.specs.declared.fault.StepFault.TheVariants as fault
+use Rattle.nn_tailer.proofs.Refusing.{promoted_first, stop_first, open_first, resumes, promotion_goes}
+use Rattle.nn_tailer.proofs.Prepared.{promote_refused, promote_unready, promote_finished, promote_resumed, stops_for}
+use Rattle.nn_tailer.proofs.Carried.{carries_same}
+use Rattle.nn_tailer.proofs.standby.Standby.promote.Goals as goal
+
+pub returns-then-self-clause-promotes : goal.returns-then-self-clause-promotes
+returns-then-self-clause-promotes g c =
+    promote_refused g.S.SegmentSource.gives c.args.source.now c.args.self.now promote_fault.AlreadyActive (sym (ap (λ z. z.active) c.self.view_is) ∙ c.if-self.true, refl, refl)
+
+pub returns-then-is_active-clause-promotes : goal.returns-then-is_active-clause-promotes
+returns-then-is_active-clause-promotes g c =
+    promote_resumed g.S.SegmentSource.gives c.args.source.now c.args.self.now c.finish.new.self c.finish.result (sym (ap (λ z. has_begun z) c.self.view_is) ∙ sym c.is_active.ensures ∙ c.if-is_active.true) c.finish.ensures
+
+pub returns-in-Some-clause-promotes : goal.returns-in-Some-clause-promotes
+returns-in-Some-clause-promotes g c =
+    let k = subst Keeps c.self.view_is c.self.invariant in
+    let e = sym (ap (λ z. z.stop) c.self.view_is) ∙ c.in-Some.is in
+    promote_refused g.S.SegmentSource.gives c.args.source.now c.args.self.now (promote_fault.Step (fault.Stopped c.in-Some.stop)) (refl, (e, k.stops c.in-Some.stop e), stops_for c.args.self.now c.args.self.now [] (fault.Stopped c.in-Some.stop) (carries_same c.args.self.now) (e, k.stops c.in-Some.stop e))
+
+-- the lanes of the value
+of_value : (x y : Tailer) (es : List Taking) (b : Bool) → x ≡ y → es ≡ x.ends → b ≡ list_all closed_of es → list_all closed_of y.ends ≡ b
+of_value x y es b v e q = sym (q ∙ ap (list_all closed_of) e ∙ ap (λ z. list_all closed_of z.ends) v)
+
+pub returns-then-not-are_closed-clause-promotes : goal.returns-then-not-are_closed-clause-promotes
+returns-then-not-are_closed-clause-promotes g c =
+    promote_refused g.S.SegmentSource.gives c.args.source.now c.args.self.now promote_fault.IntakeOpen
+    (of_value (the_view c.self.inside) c.args.self.now c.as_slice.result.now false c.self.view_is c.as_slice.ensures.value c.if-not-are_closed.ensures, refl, refl)
+
+pub prepare-requires-clause-closed : goal.prepare-requires-clause-closed
+prepare-requires-clause-closed g c =
+    of_value (the_view c.self.inside) c.args.self.now c.as_slice.result.now true c.self.view_is c.as_slice.ensures.value c.if-not-are_closed.ensures
+
+pub returns-in-Err-clause-promotes : goal.returns-in-Err-clause-promotes
+returns-in-Err-clause-promotes g c =
+    let q = c.in-Err.ensures.prepares in
+    promote_unready g.S.SegmentSource.gives c.args.source.now c.prepare.new.source c.args.self.now c.prepare.new.self q.0 c.in-Err.fault q.1 q.2
+
+pub returns-clause-promotes : goal.returns-clause-promotes
+returns-clause-promotes g c =
+    let q = c.in_default-prepare.ensures.prepares in
+    promote_finished g.S.SegmentSource.gives c.args.source.now c.prepare.new.source c.args.self.now c.prepare.new.self c.finish-2.new.self q.0 c.finish-2.result
+    (sym (ap (λ z. has_begun z) c.self.view_is) ∙ sym c.is_active.ensures ∙ c.if-is_active.false) (sym (ap (λ z. z.active) c.self.view_is) ∙ c.if-self.false) q.1 q.2 c.finish-2.ensures
+
+pub returns-then-self-clause-refused : goal.returns-then-self-clause-refused
+returns-then-self-clause-refused g c = λ f e. (ap (λ z. Err z) (promoted_first c.args.self.now f (sym (ap (λ z. z.active) c.self.view_is) ∙ c.if-self.true) e), refl)
+
+pub returns-then-is_active-clause-refused : goal.returns-then-is_active-clause-refused
+returns-then-is_active-clause-refused g c = λ f e.
+    resumes c.args.self.now f (subst Keeps c.self.view_is c.self.invariant) (sym (ap (λ z. z.active) c.self.view_is) ∙ c.if-self.false)
+    (sym (ap (λ z. has_begun z) c.self.view_is) ∙ sym c.is_active.ensures ∙ c.if-is_active.true) e
+
+pub returns-in-Some-clause-refused : goal.returns-in-Some-clause-refused
+returns-in-Some-clause-refused g c = λ f e. (
+  ap (λ z. Err z) (stop_first c.args.self.now f c.in-Some.stop (sym (ap (λ z. z.active) c.self.view_is) ∙ c.if-self.false) (sym (ap (λ z. z.stop) c.self.view_is) ∙ c.in-Some.is) e),
+  refl,
+)
+
+pub returns-then-not-are_closed-clause-refused : goal.returns-then-not-are_closed-clause-refused
+returns-then-not-are_closed-clause-refused g c = λ f e. (
+  ap (λ z. Err z) (open_first c.args.self.now f (sym (ap (λ z. z.active) c.self.view_is) ∙ c.if-self.false) (sym (ap (λ z. z.stop) c.self.view_is) ∙ c.in_default.is) (sym (ap (λ z. has_begun z) c.self.view_is) ∙ sym c.is_active.ensures ∙ c.if-is_active.false)
+      (of_value (the_view c.self.inside) c.args.self.now c.as_slice.result.now false c.self.view_is c.as_slice.ensures.value c.if-not-are_closed.ensures) e),
+  refl,
+)
+
+pub returns-in-Err-clause-refused : goal.returns-in-Err-clause-refused
+returns-in-Err-clause-refused g c = λ f e.
+    promotion_goes c.args.self.now f (sym (ap (λ z. z.active) c.self.view_is) ∙ c.if-self.false) (sym (ap (λ z. z.stop) c.self.view_is) ∙ c.in_default.is) (sym (ap (λ z. has_begun z) c.self.view_is) ∙ sym c.is_active.ensures ∙ c.if-is_active.false)
+    (of_value (the_view c.self.inside) c.args.self.now c.as_slice.result.now true c.self.view_is c.as_slice.ensures.value c.if-not-are_closed.ensures) e
+
+pub returns-clause-refused : goal.returns-clause-refused
+returns-clause-refused g c = λ f e.
+    promotion_goes c.args.self.now f (sym (ap (λ z. z.active) c.self.view_is) ∙ c.if-self.false) (sym (ap (λ z. z.stop) c.self.view_is) ∙ c.in_default.is) (sym (ap (λ z. has_begun z) c.self.view_is) ∙ sym c.is_active.ensures ∙ c.if-is_active.false)
+    (of_value (the_view c.self.inside) c.args.self.now c.as_slice.result.now true c.self.view_is c.as_slice.ensures.value c.if-not-are_closed.ensures) e

@@ -1,0 +1,101 @@
+-- What a step of a lane does.
+use Rattle.std.specs.Prelude.{◌≡◌, ◌≢◌, ℕ, ◌+◌, ◌<◌, ◌≤◌, true, false, Bool, List, [], ◌∷◌, ◌++◌, length, map, Option, None, Result, Ok, Err, slice_index_or, slice_set}
+use Rattle.std.specs.List.{list_all}
+use Rattle.nn_types.specs.declared.report.Message.{Message}
+use Rattle.nn_lane.specs.Ends.{Taking, counted, StaysCounted}
+use Rattle.nn_tailer.specs.declared.standby.Stepped.{Stepped}
+use Rattle.nn_tailer.specs.declared.standby.Stepped.TheVariants as stepped
+use Rattle.nn_tailer.specs.declared.fault.StepFault.{StepFault}
+use Rattle.nn_tailer.specs.declared.fault.StepFault.TheVariants as fault
+use Rattle.nn_tailer.specs.Shadows.{ShowsSame}
+use Rattle.nn_model.specs.Namespace.{Namespace}
+use Rattle.nn_model.specs.Lanes.{followed_by}
+use Rattle.nn_model.specs.Held.{is_held}
+use Rattle.nn_segment.specs.Source.{Answer}
+use Rattle.nn_shadow.specs.Contents.{standby_of}
+use Rattle.nn_shadow.specs.Calls.{waits, received}
+use Rattle.nn_tailer.specs.Tailing.{has_begun, Tailer, StandsAt, Carries, lanes_of, handed_all, kept_at}
+
+-- an end of the same lane, as closed as before; once closed its count stays
+abbrev pub SameEnd : Taking → Taking → Type 0
+SameEnd e e' = (e'.lane ≡ e.lane) × (e'.closed ≡ e.closed) × (e.closed ≡ true → StaysCounted e e')
+
+abbrev pub SameEnds : List Taking → List Taking → Type 0
+SameEnds [] [] = Unit {0}
+SameEnds [] (e ∷ es) = ⊥
+SameEnds (e ∷ es) [] = ⊥
+SameEnds (e ∷ es) (e' ∷ es') = SameEnd e e' × SameEnds es es'
+
+abbrev pub handed_in : Tailer → List (List Message)
+handed_in x = handed_all x.ends x.kept
+
+-- how many messages of a lane were handed on, and how many there are
+abbrev pub handed_count : Tailer → ℕ → ℕ
+handed_count x i = length (slice_index_or (handed_in x) i [])
+
+abbrev pub all_count : Tailer → ℕ → ℕ
+all_count x i = slice_index_or (map counted x.ends) i 0
+
+-- all that the lane has was handed on
+abbrev pub IsDrained : Tailer → ℕ → Type 0
+IsDrained x i = (kept_at x i ≡ None) × (handed_count x i ≡ all_count x i)
+
+-- all lanes are closed, and all that they had was handed on
+abbrev pub closed_of : Taking → Bool
+closed_of e = e.closed
+
+abbrev pub AllClosed : List Taking → Type 0
+AllClosed es = list_all closed_of es ≡ true
+
+-- nothing but one lane and the Shadow changes
+pub record LaneFrame (old : Tailer) (i : ℕ) (new : Tailer) : Type 0 where
+  pub carries : Carries old [] new
+  pub same_ends : SameEnds old.ends new.ends
+  pub end : Taking
+  pub message : Option Message
+  pub ends : new.ends ≡ slice_set old.ends i end
+  pub kept : new.kept ≡ slice_set old.kept i message
+  pub others : (k : ℕ) → k ≢ i → IsDrained old k → IsDrained new k
+  pub last : new.shadow.last ≡ old.shadow.last
+  pub rest : new.rest ≡ old.rest
+  pub stop : new.stop ≡ old.stop
+  pub begun : has_begun new ≡ has_begun old
+  pub active : new.active ≡ old.active
+
+-- The next message of the lane was handed on, and the Shadow received it. Whether it was held is what the definition says of
+-- the log and the lanes at which the standby stood
+pub record HandsNext (old : Tailer) (i : ℕ) (was_held : Bool) (new : Tailer) : Type 0 where
+  pub message : Message
+  pub node : message.dn ≡ i + 1
+  pub lanes : handed_in new ≡ slice_set (handed_in old) i (slice_index_or (handed_in old) i [] ++ message ∷ [])
+  pub few : handed_count old i + 1 ≤ all_count new i
+  pub standby : standby_of new.shadow ≡ received (standby_of old.shadow) message
+  pub answer : waits (standby_of old.shadow) message ≡ was_held
+  pub held : (start : Namespace) (base : ℕ) (given : List Answer) → StandsAt start base given old
+      → is_held old.shadow.namespace (followed_by (lanes_of old) message message.dn) message ≡ was_held
+
+abbrev pub LaneMoves : Tailer → ℕ → Tailer → Result Stepped StepFault → Type 0
+LaneMoves old i new (Ok stepped.Processed) = HandsNext old i false new
+LaneMoves old i new (Ok stepped.Held) = HandsNext old i true new
+LaneMoves old i new (Ok (stepped.Empty n)) = (new.shadow ≡ old.shadow) × (handed_in new ≡ handed_in old) × IsDrained new i × (n ≡ handed_count new i)
+LaneMoves old i new (Ok (stepped.Applied txid)) = ⊥
+LaneMoves old i new (Ok stepped.Passed) = ⊥
+LaneMoves old i new (Ok stepped.LogEnded) = ⊥
+LaneMoves old i new (Err fault.OutOfMemory) = ShowsSame old.shadow new.shadow × (handed_in new ≡ handed_in old)
+LaneMoves old i new (Err fault.AlreadyActive) = ⊥
+LaneMoves old i new (Err (fault.Stopped s)) = ⊥
+LaneMoves old i new (Err fault.BadLane) = ⊥
+LaneMoves old i new (Err (fault.LogNotEnded f)) = ⊥
+
+-- nothing but the lanes and the Shadow changes
+pub record LanesFrame (old new : Tailer) : Type 0 where
+  pub carries : Carries old [] new
+  pub same_ends : SameEnds old.ends new.ends
+  pub last : new.shadow.last ≡ old.shadow.last
+  pub rest : new.rest ≡ old.rest
+  pub stop : new.stop ≡ old.stop
+  pub begun : has_begun new ≡ has_begun old
+  pub active : new.active ≡ old.active
+
+abbrev pub AreDrained : Tailer → Type 0
+AreDrained x = (k : ℕ) → k < length x.ends → IsDrained x k

@@ -1,0 +1,12 @@
+pub mod Tailing
+pub mod Hands
+pub mod Parts
+pub mod Steps
+pub mod LaneSteps
+pub mod Reads
+pub mod Promotion
+pub mod Public
+pub mod Refusals
+pub mod Shadows
+pub mod Fault
+pub mod TailingRows

@@ -1,0 +1,97 @@
+-- What the parts of a step do.
+use Rattle.std.specs.Prelude.{◌≡◌, ◌≢◌, ℕ, ◌+◌, ◌<◌, ◌≤◌, true, false, List, [], ◌∷◌, length, Some, None, slice_index_or}
+use Rattle.nn_types.specs.declared.report.Message.{Message}
+use Rattle.nn_edits.specs.declared.tx.Tx.{Tx}
+use Rattle.nn_types.specs.declared.fault.TheConstants.{DISORDER}
+use Rattle.nn_model.specs.declared.fault.EditFault.{EditFault}
+use Rattle.nn_model.specs.Fault.{number_of}
+use Rattle.nn_model.specs.Log.{counted as news}
+use Rattle.nn_model.specs.Apply.{refusal}
+use Rattle.nn_lane.specs.Ends.{Taking, lane_of, counted, StaysCounted}
+use Rattle.nn_shadow.specs.declared.fault.Stop.{Stop}
+use Rattle.nn_shadow.specs.Contents.{Contents}
+use Rattle.nn_segment.specs.Segment.{Segment, first_txid}
+use Rattle.nn_tailer.specs.Shadows.{ShowsSame, IsApplied, IsHanded}
+use Rattle.nn_tailer.specs.declared.standby.log.Begins.{Begins}
+use Rattle.nn_tailer.specs.declared.standby.log.Begins.TheVariants.{TooHigh, Old, New}
+use Rattle.nn_tailer.specs.declared.fault.StepFault.{StepFault}
+use Rattle.nn_tailer.specs.declared.fault.StepFault.TheVariants.{AlreadyActive, Stopped, BadLane, LogNotEnded, OutOfMemory}
+use Rattle.nn_tailer.specs.Tailing.{has_begun, Tailer, handed_all, with_lane, with_kept, with_shadow, with_rest, stopping}
+
+abbrev pub IsLive : Tailer → Type 0
+IsLive x = (has_begun x ≡ false) × (x.stop ≡ None) × (x.active ≡ false)
+
+abbrev pub TakesUp : Tailer → Segment → Tailer → Begins → Type 0
+TakesUp old p new (TooHigh s) = (old.shadow.last + 1 < first_txid p.txs) × (news old.shadow.last p.txs ≡ []) × (s.txid ≡ old.shadow.last + 1) × (s.number ≡ DISORDER) × (new ≡ stopping old s)
+TakesUp old p new Old = (first_txid p.txs ≤ old.shadow.last + 1) × (news old.shadow.last p.txs ≡ []) × (new ≡ old)
+TakesUp old p new New = (first_txid p.txs ≤ old.shadow.last + 1) × (news old.shadow.last p.txs ≢ []) × (new ≡ with_rest old (news old.shadow.last p.txs))
+
+pub record AppliesNext (old : Tailer) (txid : ℕ) (new : Tailer) : Type 0 where
+  pub tx : Tx
+  pub rest : List Tx
+  pub shown : Contents
+  pub was : old.rest ≡ tx ∷ rest
+  pub applied : IsApplied old.shadow tx shown
+  pub is_txid : txid ≡ tx.txid
+  pub now : new ≡ with_shadow (with_rest old rest) shown
+
+-- its edit is refused
+pub record StopsAt (old : Tailer) (s : Stop) (new : Tailer) : Type 0 where
+  pub tx : Tx
+  pub rest : List Tx
+  pub fault : EditFault
+  pub shown : Contents
+  pub was : old.rest ≡ tx ∷ rest
+  pub refused : refusal old.shadow.namespace tx.edit ≡ Some fault
+  pub next : s.txid ≡ old.shadow.last + 1
+  pub is_txid : s.txid ≡ tx.txid
+  pub number : s.number ≡ number_of fault
+  pub same : ShowsSame old.shadow shown
+  pub active : shown.phase.active ≡ old.shadow.phase.active
+  pub now : new ≡ stopping (with_shadow old shown) s
+
+-- nothing is new but room
+pub record Unchanged (old new : Tailer) : Type 0 where
+  pub shown : Contents
+  pub same : ShowsSame old.shadow shown
+  pub phase : shown.phase ≡ old.shadow.phase
+  pub now : new ≡ with_shadow old shown
+
+abbrev pub NotApplied : Tailer → Tailer → StepFault → Type 0
+NotApplied old new AlreadyActive = ⊥
+NotApplied old new (Stopped s) = StopsAt old s new
+NotApplied old new BadLane = ⊥
+NotApplied old new (LogNotEnded fault) = ⊥
+NotApplied old new OutOfMemory = Unchanged old new
+
+-- a message is kept now, and nothing more was handed on
+pub record Fetches (old : Tailer) (i : ℕ) (m : Message) (new : Tailer) : Type 0 where
+  pub end : Taking
+  pub now : new ≡ with_lane old i end (Some m)
+  pub lane : (d : Taking) → lane_of end ≡ lane_of (slice_index_or old.ends i d)
+  pub closed : (d : Taking) → end.closed ≡ (slice_index_or old.ends i d).closed
+  pub all_same : (d : Taking) → end.closed ≡ true → StaysCounted (slice_index_or old.ends i d) end
+  pub same : handed_all new.ends new.kept ≡ handed_all old.ends old.kept
+
+-- the lane has no more
+pub record FindsNone (old : Tailer) (i accepted : ℕ) (new : Tailer) : Type 0 where
+  pub end : Taking
+  pub now : new ≡ with_lane old i end None
+  pub lane : (d : Taking) → lane_of end ≡ lane_of (slice_index_or old.ends i d)
+  pub closed : (d : Taking) → end.closed ≡ (slice_index_or old.ends i d).closed
+  pub all_same : (d : Taking) → end.closed ≡ true → StaysCounted (slice_index_or old.ends i d) end
+  pub same : handed_all new.ends new.kept ≡ handed_all old.ends old.kept
+  pub accepted_is : accepted ≡ length end.got
+  pub all : counted end ≡ length end.got
+
+pub record HandsKept (old : Tailer) (i : ℕ) (m : Message) (new : Tailer) : Type 0 where
+  pub shown : Contents
+  pub handed : IsHanded old.shadow m shown
+  pub now : new ≡ with_shadow (with_kept old i None) shown
+
+abbrev pub NotHanded : Tailer → Tailer → StepFault → Type 0
+NotHanded old new AlreadyActive = ⊥
+NotHanded old new (Stopped s) = ⊥
+NotHanded old new BadLane = ⊥
+NotHanded old new (LogNotEnded fault) = ⊥
+NotHanded old new OutOfMemory = Unchanged old new

@@ -1,0 +1,60 @@
+-- What a public step does.
+use Rattle.std.specs.Prelude.{◌≡◌, ℕ, ◌+◌, ◌<◌, true, false, List, [], ◌∷◌, length, Some, None, Result, Ok, Err, MatchResult, ◌⊎◌}
+use Rattle.std.specs.Prelude.{slice_set}
+use Rattle.nn_lane.specs.Ends.{Taking, Reporting, lane_of, node_of}
+use Rattle.nn_model.specs.Namespace.{root_alone}
+use Rattle.nn_segment.specs.Source.{Answer, Asked}
+use Rattle.nn_tailer.specs.declared.standby.Choice.{Choice}
+use Rattle.nn_tailer.specs.declared.standby.Choice.TheVariants.{Edit, Lane}
+use Rattle.nn_tailer.specs.declared.standby.Stepped.{Stepped}
+use Rattle.nn_tailer.specs.declared.fault.StepFault.{StepFault}
+use Rattle.nn_tailer.specs.declared.fault.StepFault.TheVariants as fault
+use Rattle.nn_tailer.specs.Tailing.{has_begun, Tailer, Carries, StandsAt}
+use Rattle.nn_tailer.specs.Reads.{StopsWith, StopsFor}
+use Rattle.nn_tailer.specs.Steps.{IsEdited, NotEdited}
+use Rattle.nn_tailer.specs.LaneSteps.{SameEnds, LaneMoves}
+
+-- the place of a DataNode's lane
+abbrev pub IsPlace : Tailer → ℕ → ℕ → Type 0
+IsPlace x dn i = (dn ≡ i + 1) × (i < length x.ends)
+
+abbrev pub HasNoPlace : Tailer → ℕ → Type 0
+HasNoPlace x dn = (dn ≡ 0) ⊎ (length x.ends < dn)
+
+abbrev pub IsStepped : Tailer → Choice → List Answer → Tailer → Stepped → Type 0
+IsStepped old Edit answers new x = IsEdited old answers new x
+IsStepped old (Lane dn) answers new x = (answers ≡ []) × ((i : ℕ) × IsPlace old dn i × LaneMoves old i new (Ok x))
+
+abbrev pub NotStepped : Tailer → Choice → List Answer → Tailer → StepFault → Type 0
+NotStepped old choice answers new fault.AlreadyActive = (has_begun old ≡ true) × (new ≡ old) × (answers ≡ [])
+NotStepped old choice answers new (fault.Stopped s) =
+    (s.txid ≡ old.shadow.last + 1) × ((old.stop ≡ Some s) × (new ≡ old) × (answers ≡ [])) ⊎ ((choice ≡ Edit) × NotEdited old answers new (fault.Stopped s))
+NotStepped old choice answers new fault.BadLane = (dn : ℕ) × (choice ≡ Lane dn) × HasNoPlace old dn × (new ≡ old) × (answers ≡ [])
+NotStepped old choice answers new (fault.LogNotEnded f) = (choice ≡ Edit) × NotEdited old answers new (fault.LogNotEnded f)
+NotStepped old choice answers new fault.OutOfMemory =
+    ((choice ≡ Edit) × NotEdited old answers new fault.OutOfMemory) ⊎ ((dn : ℕ) × (i : ℕ) × (choice ≡ Lane dn) × (answers ≡ []) × IsPlace old dn i × LaneMoves old i new (Err fault.OutOfMemory))
+
+module _ {S : Type 0} (gives : S → Answer → S → Type 0) where
+  abbrev pub Steps : S → Tailer → Choice → S → Tailer → Result Stepped StepFault → Type 0
+  Steps s old choice t new result =
+      (answers : List Answer) × Asked gives s answers t × Carries old answers new × SameEnds old.ends new.ends × (has_begun new ≡ has_begun old)
+      × MatchResult result (IsStepped old choice answers new) (λ f. NotStepped old choice answers new f × StopsWith new f × StopsFor old answers f)
+
+-- the ends are those of the first DataNodes, in order, and nothing was taken
+abbrev pub AreNew : ℕ → List Taking → Type 0
+AreNew dn [] = Unit {0}
+AreNew dn (e ∷ es) = (node_of e ≡ dn) × (e.got ≡ []) × AreNew (dn + 1) es
+
+-- a standby with no log and no messages
+abbrev pub IsNew : List Taking → Tailer → Type 0
+IsNew ends x = (x.ends ≡ ends) × (has_begun x ≡ false) × (x.stop ≡ None) × (x.active ≡ false) × StandsAt root_alone 0 [] x
+
+-- a lane was closed by its reporter, and has all that this one sent
+pub record Seals (old : Tailer) (i : ℕ) (r : Reporting) (new : Tailer) : Type 0 where
+  pub carries : Carries old [] new
+  pub end : Taking
+  pub ends : new.ends ≡ slice_set old.ends i end
+  pub begun : has_begun new ≡ has_begun old
+  pub lane : lane_of end ≡ r.lane
+  pub closed : end.closed ≡ true
+  pub all : end.all ≡ r.sent

@@ -1,0 +1,136 @@
+-- What a standby with lanes shows, and when it stands at a log and its lanes.
+use Rattle.std.specs.Prelude.{◌≡◌, ℕ, zero, suc, ◌+◌, ◌-◌, ◌≤◌, Bool, true, false, List, [], ◌∷◌, ◌++◌, length, map, take, Option, Some, None, Result, Err, slice_index_or, slice_set}
+use Rattle.nn_types.specs.declared.report.Message.{Message}
+use Rattle.nn_edits.specs.declared.tx.Tx.{Tx}
+use Rattle.nn_model.specs.Namespace.{Namespace}
+use Rattle.nn_model.specs.Lanes.{Lanes}
+use Rattle.nn_lane.specs.Ends.{Taking, LaneId, lane_of, node_of, counted}
+use Rattle.nn_model.specs.Log.{CountsUp}
+use Rattle.nn_model.specs.History.{IsBeforeFlush}
+use Rattle.nn_model.specs.Stands.{Stands}
+use Rattle.nn_shadow.specs.declared.fault.Stop.{Stop}
+use Rattle.nn_shadow.specs.Contents.{Contents, standby_of, number_in}
+use Rattle.nn_segment.specs.Source.{Answer, end}
+use Rattle.nn_segment.specs.Segment.{Segment}
+use Rattle.nn_segment.specs.Walk.{log_in}
+use Rattle.nn_segment.specs.LogEnd.{Cause, stop_number, Stop as LogStop, LogEnd, end_of_log, end_behind, given_in}
+
+pub record Tailer : Type 0 where
+  pub shadow : Contents
+  pub ends : List Taking
+  pub kept : List (Option Message)  -- for each lane the message that was taken and refused for want of memory
+  pub rest : List Tx  -- what is left of the segment in hand
+  pub stop : Option Stop
+  pub active : Bool  -- whether it was promoted
+
+-- whether the flush has begun: from then on nothing comes in
+abbrev pub has_begun : Tailer → Bool
+has_begun x = x.shadow.phase.active
+
+-- the messages that were handed on: all that were taken, without one that is kept
+abbrev pub handed : List Message → Option Message → List Message
+handed got None = got
+handed got (Some m) = take (length got - 1) got
+
+abbrev pub handed_all : List Taking → List (Option Message) → List (List Message)
+handed_all [] ks = []
+handed_all (e ∷ es) [] = e.got ∷ handed_all es []
+handed_all (e ∷ es) (k ∷ ks) = handed e.got k ∷ handed_all es ks
+
+-- the messages of each DataNode, from 1 on
+abbrev pub by_node : List (List Message) → Lanes
+by_node ts zero = []
+by_node ts (suc k) = slice_index_or ts k []
+
+abbrev pub lanes_of : Tailer → Lanes
+lanes_of x = by_node (handed_all x.ends x.kept)
+
+-- a kept message is the last that was taken of its lane
+abbrev pub IsKept : ℕ → Taking → Option Message → Type 0
+IsKept dn e None = Unit {0}
+IsKept dn e (Some m) = (before : List Message) × (e.got ≡ before ++ m ∷ []) × (m.number ≡ length e.got) × (m.dn ≡ dn) × (length e.got ≤ counted e)
+
+-- the lanes are those of the DataNodes from this one on
+abbrev pub AreKept : ℕ → List Taking → List (Option Message) → Type 0
+AreKept dn [] [] = Unit {0}
+AreKept dn [] (k ∷ ks) = ⊥
+AreKept dn (e ∷ es) [] = ⊥
+AreKept dn (e ∷ es) (k ∷ ks) = (node_of e ≡ dn) × IsKept dn e k × AreKept (dn + 1) es ks
+
+-- what is true of every standby
+pub record Keeps (x : Tailer) : Type 0 where
+  pub lanes : AreKept 1 x.ends x.kept
+  pub few : length x.ends ≤ 256
+  pub count : length x.shadow.numbers ≡ length x.ends
+  pub numbers : (dn : ℕ) → number_in x.shadow.numbers dn ≡ length (lanes_of x dn)
+  pub next : CountsUp x.shadow.last x.rest
+  pub live : x.stop ≡ None → x.shadow.phase.stopped ≡ None
+  pub stops : (s : Stop) → x.stop ≡ Some s → s.txid ≡ x.shadow.last + 1
+  pub begun_live : has_begun x ≡ true → x.stop ≡ None
+  pub not_begun : has_begun x ≡ false → x.active ≡ false
+
+-- the last answer of a source was End
+abbrev pub EndsInEnd : List Answer → Type 0
+EndsInEnd given = (before : List Answer) × (given ≡ before ++ end ∷ [])
+
+-- each lane is closed, and all that was counted then was taken and handed on
+abbrev pub AllTaken : List Taking → List (Option Message) → Type 0
+AllTaken [] ks = Unit {0}
+AllTaken (e ∷ es) [] = ⊥
+AllTaken (e ∷ es) (k ∷ ks) = (e.closed ≡ true) × (k ≡ None) × (length e.got ≡ counted e) × AllTaken es ks
+
+-- where the log goes from here, whatever segments come later: through what is in hand, and then through them
+abbrev pub way_on : Tailer → List Segment → Result LogEnd LogStop
+way_on x later = end_behind x.shadow.last x.shadow.namespace x.rest later
+
+-- the log of what was given stops with this, whatever segments come later
+abbrev pub StopsLog : Namespace → ℕ → List Answer → Stop → Type 0
+StopsLog start base given s =
+    (cause : Cause) × (stop_number cause ≡ s.number) × ((later : List Segment) → end_of_log base start (given_in given ++ later) ≡ Err (record { cause = cause; txid = s.txid }))
+
+-- The standby stands at its base, at what the sources answered so far, and at the messages that were handed on:
+-- its Shadow stands at the first part of the log of all segments given, and the rest of that log is in hand. Whatever
+-- segments come later, the log of all ends as what is in hand and they do from here; or it stops where the standby did.
+pub record StandsAt (start : Namespace) (base : ℕ) (given : List Answer) (x : Tailer) : Type 0 where
+  pub txs : List Tx
+  pub shadow : Stands start base txs (lanes_of x) (standby_of x.shadow)
+  pub before_flush : x.active ≡ false → IsBeforeFlush x.shadow.history
+  pub log : log_in base given ≡ txs ++ x.rest
+  pub goes_on : x.stop ≡ None → (later : List Segment) → end_of_log base start (given_in given ++ later) ≡ way_on x later
+  pub stops : (s : Stop) → x.stop ≡ Some s → StopsLog start base given s
+  pub ended : has_begun x ≡ true → (x.rest ≡ []) × EndsInEnd given × AllTaken x.ends x.kept
+
+-- wherever it stood, it stands there with these answers more
+abbrev pub Carries : Tailer → List Answer → Tailer → Type 0
+Carries old answers new = (start : Namespace) (base : ℕ) (given : List Answer) → StandsAt start base given old → StandsAt start base (given ++ answers) new
+
+-- wherever it stood, the log of all that was given then and of these answers stops with this
+abbrev pub LogStops : Tailer → List Answer → Stop → Type 0
+LogStops old answers s = (start : Namespace) (base : ℕ) (given : List Answer) → StandsAt start base given old → StopsLog start base (given ++ answers) s
+
+-- ---- changed standbys
+
+abbrev pub with_lane : Tailer → ℕ → Taking → Option Message → Tailer
+with_lane x i e k = record { shadow = x.shadow; ends = slice_set x.ends i e; kept = slice_set x.kept i k; rest = x.rest; stop = x.stop; active = x.active }
+
+abbrev pub with_kept : Tailer → ℕ → Option Message → Tailer
+with_kept x i k = record { shadow = x.shadow; ends = x.ends; kept = slice_set x.kept i k; rest = x.rest; stop = x.stop; active = x.active }
+
+abbrev pub with_shadow : Tailer → Contents → Tailer
+with_shadow x s = record { shadow = s; ends = x.ends; kept = x.kept; rest = x.rest; stop = x.stop; active = x.active }
+
+abbrev pub with_rest : Tailer → List Tx → Tailer
+with_rest x rest = record { shadow = x.shadow; ends = x.ends; kept = x.kept; rest = rest; stop = x.stop; active = x.active }
+
+abbrev pub stopping : Tailer → Stop → Tailer
+stopping x s = record { shadow = x.shadow; ends = x.ends; kept = x.kept; rest = x.rest; stop = Some s; active = x.active }
+
+-- the lanes are the same ones, and as closed as before
+abbrev pub lanes_named : Tailer → List LaneId
+lanes_named x = map lane_of x.ends
+
+abbrev pub lane_at : Tailer → ℕ → Taking → Taking
+lane_at x i d = slice_index_or x.ends i d
+
+abbrev pub kept_at : Tailer → ℕ → Option Message
+kept_at x i = slice_index_or x.kept i None

@@ -1,0 +1,223 @@
+//! The standby over its lanes: what it keeps, and its calls but the promotion.
+ghost use Rattle.std.specs.Prelude.{◌≡◌, ◌<◌, ◌≤◌, length, false, IfOk, IfErr, OnOk, OnErr, Err, Some, None, slice_index_or, replicate};
+ghost use Rattle.std.specs.List.{list_all};
+ghost use Rattle.nn_lane.specs.Ends.{Taking};
+ghost use Rattle.nn_tailer.specs.LaneSteps.{AllClosed, closed_of};
+ghost use Rattle.nn_tailer.specs.Public.{Steps, AreNew, IsNew, Seals};
+ghost use Rattle.nn_tailer.specs.declared.fault.StepFault.{StepFault as Why};
+ghost use Rattle.nn_tailer.specs.Refusals.{step_refusal};
+ghost use Rattle.nn_tailer.specs.Steps.{OnLogFault};
+ghost use Rattle.nn_tailer.specs.Tailing.{has_begun};
+
+mod lanes;
+mod log;
+mod promote;
+
+use crate::fault::{IntakeOpen, StepFault};
+use crate::hand::Hand;
+use crate::standby::lanes::are_closed;
+use nn_lane::{LaneEnd, Reporter};
+use nn_segment::SegmentSource;
+use nn_shadow::{Shadow, Stop};
+use nn_types::{Message, Settings, Txid};
+use std::alloc::{AllocError, Global};
+use std::marker::Model;
+
+/// What `step` is to take next.
+#[derive(Clone, Copy, Debug, PartialEq, Eq)]
+pub enum Choice {
+    /// The next transaction of the log.
+    Edit,
+    /// The next message of this DataNode, from 1 on.
+    Lane(u16),
+}
+
+/// What a step did.
+#[derive(Clone, Copy, Debug, PartialEq, Eq)]
+pub enum Stepped {
+    /// A transaction was applied, and the held messages that it sets free were processed.
+    Applied { txid: Txid },
+    /// A segment was passed over: all of its transactions were applied before.
+    Passed,
+    /// The source gave its end.
+    LogEnded,
+    /// A message was processed.
+    Processed,
+    /// A message was taken in and has to wait.
+    Held,
+    /// The lane has nothing to take now. So many of its messages were taken before.
+    Empty { accepted: u64 },
+}
+
+/// A promoted standby in figures.
+#[derive(Clone, Copy, Debug, PartialEq, Eq)]
+pub struct Active {
+    /// The last txid, 0 where the log has no transaction.
+    pub last: u64,
+    /// How many messages the flush processed: those that the log named too low or not at all.
+    pub flushed: u64,
+}
+
+/// A standby that tails a log and takes in the messages of its lanes, one for each DataNode.
+///
+/// The source of the log is lent to each call that reads it, and may be another one at the next call: what all sources
+/// gave, in order, is the log.
+#[derive(Drop)]
+pub struct Standby {
+    shadow: Shadow,
+    // The lane of DataNode 1 first.
+    ends: Vec<LaneEnd>,
+    // Of each lane the message that was taken, and that want of memory kept from being handed on.
+    kept: Vec<Option<Message>>,
+    hand: Hand,
+    // An edit that does not apply stops the shadow too; a segment that begins too high stops the standby alone.
+    stop: Option<Stop>,
+    // Whether it was promoted.
+    active: bool,
+}
+
+impl Model for Standby {
+    ghost use Rattle.nn_tailer.specs.Tailing.{Tailer, Keeps};
+
+    ghost Value = { Tailer };
+
+    ghost view = { λ s. record { shadow = s.shadow; ends = s.ends.items; kept = s.kept.items; rest = s.hand; stop = s.stop; active = s.active } };
+
+    ghost invariant = { λ s. Keeps (record { shadow = s.shadow; ends = s.ends.items; kept = s.kept.items; rest = s.hand; stop = s.stop; active = s.active }) };
+}
+
+impl Standby {
+    /// A standby over these lanes, of DataNodes 1, 2 and so on, before the first transaction: its namespace is the root
+    /// alone. Where memory is refused the ends come back.
+    pub fn new(
+        alloc: Global,
+        ends: Vec<LaneEnd>,
+        settings: Settings,
+    ) -> Result<Standby, Vec<LaneEnd>>
+        requires some { 1 ≤ length ends.items }
+        requires few { length ends.items ≤ 256 }
+        requires fresh { AreNew 1 ends.items }
+        ensures ok { IfOk result (λ x. IsNew ends.items x) }
+        ensures err { IfErr result (λ back. back ≡ ends) }
+    {
+        let lanes = ends.len();
+        let Ok(kept) = nothing_kept(alloc, lanes) else {
+            return Err(ends);
+        };
+        let Ok(shadow) = Shadow::new(alloc, lanes as u16, settings) else {
+            return Err(ends);
+        };
+        Ok(Standby {
+            shadow,
+            ends,
+            kept,
+            hand: Hand::empty(),
+            stop: None,
+            active: false,
+        })
+    }
+
+    /// Takes the next transaction of the log, or the next message of a lane.
+    ///
+    /// A transaction comes from the segment in hand, or else from the source's next item, of which those applied before
+    /// are passed over. The first cause of refusal is answered: 53, 51, 56, 54, 55. After 54 and 55 nothing is lost: a
+    /// segment stays in hand, a message stays kept, and the step may be made again. After 51 no step is made any more.
+    pub fn step<S: SegmentSource>(
+        &mut self,
+        source: &mut S,
+        choice: Choice,
+    ) -> Result<Stepped, StepFault>
+        ensures refused { (fault : Why) → step_refusal self.old choice ≡ Some fault → (result ≡ Err fault) × (self.new ≡ self.old) }
+        ensures steps { Steps S.gives source.old self.old choice source.new self.new result }
+        ensures failed { OnLogFault result (S.failures source.old < S.failures source.new) }
+    {
+        if self.shadow.is_active() {
+            return Err(StepFault::AlreadyActive);
+        }
+        if let Some(stop) = self.stop {
+            return Err(StepFault::Stopped(stop));
+        }
+        match choice {
+            Choice::Edit => self.step_edit(source),
+            Choice::Lane(dn) => match self.place(dn) {
+                Some(i) => self.step_at(i),
+                None => Err(StepFault::BadLane),
+            },
+        }
+    }
+
+    /// Closes the lane at this place, counted from 0, with its own reporter, which has ended: what is left in it is all
+    /// that this one sent.
+    pub fn seal(&mut self, i: usize, reporter: Reporter)
+        requires place { i < length self.old.ends }
+        requires own { (d : Taking) → (slice_index_or self.old.ends i d).lane ≡ reporter.lane }
+        requires serving { has_begun self.old ≡ false }
+        ensures { Seals self.old i reporter self.new }
+    {
+        self.ends[i].seal(reporter);
+    }
+
+    /// That each lane is closed: 52 while one is open. Linear in the lanes.
+    pub fn close_intake(&self) -> Result<(), IntakeOpen>
+        ensures closed { OnOk result (AllClosed self.now.ends) }
+        ensures open { OnErr result (list_all closed_of self.now.ends ≡ false) }
+    {
+        if are_closed(self.ends.as_slice()) {
+            Ok(())
+        } else {
+            Err(IntakeOpen)
+        }
+    }
+
+    /// The standby below: its namespace, its replicas and orders, its history, what it holds, its counts.
+    pub fn shadow(&self) -> &Shadow
+        ensures { result.now ≡ self.now.shadow }
+    {
+        &self.shadow
+    }
+
+    /// Where and why the log stopped the standby.
+    pub fn stop(&self) -> Option<Stop>
+        ensures { result ≡ self.now.stop }
+    {
+        self.stop
+    }
+
+    /// Whether the flush has begun: from then on nothing comes in.
+    pub fn is_active(&self) -> bool
+        ensures { result ≡ has_begun self.now }
+    {
+        self.shadow.is_active()
+    }
+
+    /// How many lanes there are.
+    pub fn lanes(&self) -> usize
+        ensures lanes { result ≡ length self.now.ends }
+        ensures few { result ≤ 256 }
+    {
+        self.ends.len()
+    }
+
+    /// The standby below and the ends, each still of its lane. What was taken and not handed on, and what is left of a
+    /// segment, is dropped.
+    pub fn into_parts(self) -> (Shadow, Vec<LaneEnd>)
+        ensures { (result.0 ≡ self.shadow) × (result.1.items ≡ self.ends) }
+    {
+        let Standby {
+            shadow,
+            ends,
+            kept: _,
+            hand: _,
+            stop: _,
+            active: _,
+        } = self;
+        (shadow, ends)
+    }
+}
+
+// No message is kept, for each of so many lanes.
+fn nothing_kept(alloc: Global, lanes: usize) -> Result<Vec<Option<Message>>, AllocError>
+    ensures { IfOk result (λ kept. kept.items ≡ replicate lanes None) }
+{
+    Vec::from_elem(alloc, None, lanes)
+}

@@ -1,0 +1,100 @@
+//! The promotion.
+ghost use Rattle.std.specs.Prelude.{◌≡◌, ◌<◌, false, List, Err, Some, None, count_by};
+ghost use Rattle.nn_model.specs.History.{is_flush};
+ghost use Rattle.nn_segment.specs.Source.{Answer, Asked};
+ghost use Rattle.nn_tailer.specs.LaneSteps.{AllClosed};
+ghost use Rattle.nn_tailer.specs.Parts.{IsLive};
+ghost use Rattle.nn_tailer.specs.Promotion.{Finishes, Prepares, Promotes, OnPromoteLogFault};
+ghost use Rattle.nn_tailer.specs.declared.fault.PromoteFault.{PromoteFault as Why};
+ghost use Rattle.nn_tailer.specs.Refusals.{promote_refusal};
+ghost use Rattle.nn_tailer.specs.Steps.{OnLogFault};
+
+use super::lanes::are_closed;
+use super::{Active, Standby};
+use crate::fault::{PromoteFault, StepFault};
+use nn_segment::SegmentSource;
+use nn_shadow::FlushFault;
+use nn_types::{Cause, Event};
+
+impl Standby {
+    /// Promotes the standby: it reads the log to its end, drains its lanes and flushes what is held.
+    ///
+    /// The first cause of refusal is answered: 53 where it was promoted before, 51, 52; and then, while it works, 51, 54,
+    /// 55. After 54 and 55 it stands at what its history shows and may be promoted again; only the flush closes it to
+    /// steps.
+    pub fn promote<S: SegmentSource>(&mut self, source: &mut S) -> Result<Active, PromoteFault>
+        ensures refused { (fault : Why) → promote_refusal self.old ≡ Some fault → (result ≡ Err fault) × (self.new ≡ self.old) }
+        ensures promotes { Promotes S.gives source.old self.old source.new self.new result }
+        ensures failed { OnPromoteLogFault result (S.failures source.old < S.failures source.new) }
+    {
+        if self.active {
+            return Err(PromoteFault::AlreadyActive);
+        }
+        if self.shadow.is_active() {
+            return self.finish();
+        }
+        if let Some(stop) = self.stop {
+            return Err(PromoteFault::Step(StepFault::Stopped(stop)));
+        }
+        if !are_closed(self.ends.as_slice()) {
+            return Err(PromoteFault::IntakeOpen);
+        }
+        if let Err(fault) = self.prepare(source) {
+            return Err(PromoteFault::Step(fault));
+        }
+        self.finish()
+    }
+
+    // Reads the log to its end and drains the lanes.
+    fn prepare<S: SegmentSource>(&mut self, source: &mut S) -> Result<(), StepFault>
+        requires live { IsLive self.old }
+        requires closed { AllClosed self.old.ends }
+        ensures prepares { (answers : List Answer) × Asked S.gives source.old answers source.new × Prepares self.old answers self.new result }
+        ensures failed { OnLogFault result (S.failures source.old < S.failures source.new) }
+    {
+        self.read_log(source)?;
+        let _ = &self.stop;
+        self.drain_all()?;
+        let _ = &self.stop;
+        Ok(())
+    }
+
+    // Flushes what is held, and is active then.
+    fn finish(&mut self) -> Result<Active, PromoteFault>
+        requires stop { self.old.stop ≡ None }
+        requires active { self.old.active ≡ false }
+        ensures { Finishes self.old self.new result }
+    {
+        match self.shadow.flush() {
+            Ok(_) => {
+                self.active = true;
+                Ok(Active {
+                    last: self.shadow.last_txid(),
+                    flushed: flushes(self.shadow.history()),
+                })
+            }
+            Err(FlushFault::OutOfMemory) => Err(PromoteFault::Step(StepFault::OutOfMemory)),
+            Err(FlushFault::Stopped(_)) => unreachable!(),
+        }
+    }
+}
+
+// Whether the flush processed a message.
+fn is_flush(event: &Event) -> bool
+    ensures { result ≡ is_flush event.now }
+{
+    matches!(
+        event,
+        Event::Processed {
+            cause: Cause::Flush,
+            ..
+        }
+    )
+}
+
+// How many messages the flush processed.
+fn flushes(history: &[Event]) -> u64
+    ensures { result ≡ count_by is_flush history.now }
+{
+    history.iter().filter(|event| is_flush(event)).count() as u64
+}

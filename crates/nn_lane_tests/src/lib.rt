@@ -5,4 +5,8 @@
 #[cfg(test)]
 mod lane;
 #[cfg(test)]
+mod log;
+#[cfg(test)]
 mod report;
+#[cfg(test)]
+mod standby;

@@ -1,0 +1,120 @@
+-- What threads of DataNodes promise, and what a drive comes to.
+use Rattle.nn_model.specs.History.{is_flush}
+use Rattle.nn_tailer.specs.declared.standby.Active.{Active}
+use Rattle.std.specs.Prelude.{◌≡◌, ℕ, ◌<◌, ◌≤◌, true, Option, List, [], ◌++◌, length, map, slice_index_or, count_by, Ok}
+use Rattle.std.specs.declared.thread.PromisedHandle.{PromisedHandle}
+use Rattle.nn_types.specs.declared.report.Report.{Report}
+use Rattle.nn_types.specs.declared.report.Message.{Message}
+use Rattle.nn_model.specs.Namespace.{Namespace}
+use Rattle.nn_model.specs.Lawful.{IsWhole}
+use Rattle.nn_model.specs.Picture.{ShowsPicture}
+use Rattle.nn_model.specs.Stands.{Stands, tables_of}
+use Rattle.nn_shadow.specs.Contents.{Contents, standby_of}
+use Rattle.nn_segment.specs.Source.{Answer, Asked}
+use Rattle.nn_segment.specs.Walk.{log_in}
+use Rattle.nn_segment.specs.LogEnd.{end_of_log, given_in}
+use Rattle.nn_tailer.specs.declared.fault.PromoteFault.TheVariants as promote_fault
+use Rattle.nn_tailer.specs.Reads.{StopsFor}
+use Rattle.nn_tailer.specs.declared.fault.StepFault.{StepFault}
+use Rattle.nn_drive.specs.declared.driving.DriveFault.{DriveFault}
+use Rattle.nn_drive.specs.declared.driving.DriveFault.TheVariants as drive
+use Rattle.nn_lane.specs.Ends.{Reporting, Taking, got_of, StartsWith}
+use Rattle.nn_tailer.specs.Tailing.{has_begun, Tailer, StandsAt, Carries, EndsInEnd, by_node}
+use Rattle.nn_tailer.specs.LaneSteps.{SameEnds}
+use Rattle.nn_drive.specs.declared.driving.Worked.{Worked}
+use Rattle.nn_drive.specs.declared.driving.Reports.{Reports}
+use Rattle.nn_drive.specs.Reports.{Reported}
+
+-- the two ends of one lane
+abbrev pub IsLane : Reporting → Taking → Type 0
+IsLane r e = e.lane ≡ r.lane
+
+-- worker i has the reporter of lane i
+abbrev pub AreLanes : {S : Type 0} → List (S × Reporting) → List Taking → Type 0
+AreLanes {S} workers ends =
+    (length ends ≡ length workers) × ((i : ℕ) (w : S × Reporting) (e : Taking) → i < length workers → IsLane (slice_index_or workers i w).1 (slice_index_or ends i e))
+
+module _ {S : Type 0} (gives : S → Option Report → S → Type 0) where
+  abbrev pub HasReported : S → Reporting → Worked S → Type 0
+  HasReported s r w = (w.reporter.lane ≡ r.lane) × Reported gives s r w.source w.reporter w.outcome
+
+  -- the lane is closed, with all that its DataNode had sent and that its source gave
+  abbrev pub IsSealed : S → Reporting → Taking → Type 0
+  IsSealed s r e = (w : Worked S) × HasReported s r w × (e.closed ≡ true) × (e.all ≡ w.reporter.sent)
+
+  -- and all of it was taken
+  abbrev pub IsTaken : S → Reporting → List Message → Type 0
+  IsTaken s r got = (w : Worked S) × HasReported s r w × (got ≡ w.reporter.sent)
+
+-- the handle of the thread that has this worker
+abbrev pub IsPromised : {S : Type 0} → S × Reporting → PromisedHandle (Worked S) (Reports S) → Type 0
+IsPromised w h = (h.promise.0.value ≡ w.0) × (h.promise.1.value ≡ w.1)
+
+-- the handles are of the first workers' threads, in order
+abbrev pub ArePromised : {S : Type 0} → List (S × Reporting) → List (PromisedHandle (Worked S) (Reports S)) → Type 0
+ArePromised {S} workers handles =
+    (length handles ≤ length workers)
+    × ((i : ℕ) (w : S × Reporting) (h : PromisedHandle (Worked S) (Reports S)) → i < length handles → IsPromised (slice_index_or workers i w) (slice_index_or handles i h))
+
+-- the lane at the place of each handle is that of its worker
+abbrev pub FitHandles : {S : Type 0} → List (PromisedHandle (Worked S) (Reports S)) → List Taking → Type 0
+FitHandles {S} handles ends =
+    (length handles ≤ length ends)
+    × ((i : ℕ) (h : PromisedHandle (Worked S) (Reports S)) (e : Taking) → i < length handles → IsLane (slice_index_or handles i h).promise.1.value (slice_index_or ends i e))
+
+-- the standby went on, and its lanes are the same
+pub record Goes (old : Tailer) (answers : List Answer) (new : Tailer) : Type 0 where
+  pub carries : Carries old answers new
+  pub same_ends : SameEnds old.ends new.ends
+  pub begun : has_begun new ≡ has_begun old
+
+abbrev pub Went : {T : Type 0} → (T → Answer → T → Type 0) → T → Tailer → T → Tailer → Type 0
+Went gives s old t new = (answers : List Answer) × Asked gives s answers t × Goes old answers new
+
+-- the same up to a fault, which says of the log what it says of these answers
+abbrev pub WentUntil : {T : Type 0} → (T → Answer → T → Type 0) → T → Tailer → T → StepFault → Type 0
+WentUntil gives s old t fault = (answers : List Answer) × Asked gives s answers t × StopsFor old answers fault
+
+-- each handle's lane was closed, in order
+pub record SealsAll {S : Type 0} (gives : S → Option Report → S → Type 0) (old : Tailer) (handles : List (PromisedHandle (Worked S) (Reports S))) (new : Tailer) : Type 0 where
+  pub carries : Carries old [] new
+  pub size : length new.ends ≡ length old.ends
+  pub sealed : (i : ℕ) (h : PromisedHandle (Worked S) (Reports S)) (e : Taking) → i < length handles
+      → IsSealed gives (slice_index_or handles i h).promise.0.value (slice_index_or handles i h).promise.1.value (slice_index_or new.ends i e)
+
+-- of each lane, what was taken is the front of all
+abbrev pub AreFronts : List Taking → Type 0
+AreFronts ends = (i : ℕ) (e : Taking) → i < length ends → StartsWith (slice_index_or ends i e).all (slice_index_or ends i e).got
+
+-- The standby is promoted: wherever it stood before, it stands at the log with all that the source gave in the call, up to End, and
+-- at its lanes. That log ended there and stopped nowhere. Its history is whole, and its tables are the picture. Of each lane it took what its Reporter had sent and
+-- all that its source gave
+pub record IsPromoted {S : Type 0} (gives : S → Option Report → S → Type 0) (start : Namespace) (base : ℕ) (given : List Answer) (workers : List (S × Reporting)) (ends : List Taking) (x : Contents) : Type 0 where
+  pub stands : Stands start base (log_in base given) (by_node (map got_of ends)) (standby_of x)
+  pub whole : IsWhole start (log_in base given) (by_node (map got_of ends)) x.history
+  pub picture : ShowsPicture x.namespace (by_node (map got_of ends)) (tables_of (standby_of x))
+  pub none_held : x.held ≡ []
+  pub ended : EndsInEnd given
+  pub log_end : end_of_log base start (given_in given) ≡ Ok (record { last = x.last; namespace = x.namespace })
+  pub lanes : length ends ≡ length workers
+  pub taken : (i : ℕ) (w : S × Reporting) (e : Taking) → i < length workers
+      → IsTaken gives (slice_index_or workers i w).0 (slice_index_or workers i w).1 (slice_index_or ends i e).got
+
+-- with 51 the log itself stops there: all that was given before, and these answers; and the fault of the source is its last answer
+abbrev pub StopsAt : Tailer → List Answer → DriveFault → Type 0
+StopsAt old answers (drive.Step f) = StopsFor old answers f
+StopsAt old answers (drive.Promote promote_fault.AlreadyActive) = Unit {0}
+StopsAt old answers (drive.Promote promote_fault.IntakeOpen) = Unit {0}
+StopsAt old answers (drive.Promote (promote_fault.Step f)) = StopsFor old answers f
+StopsAt old answers drive.OutOfMemory = Unit {0}
+
+-- why it ended early, with what its source had given by then
+abbrev pub NotDriven : {T : Type 0} → (T → Answer → T → Type 0) → Tailer → T → DriveFault → Type 0
+NotDriven {T} asks old source fault = (answers : List Answer) × (after : T) × Asked asks source answers after × StopsAt old answers fault
+
+module _ {T S : Type 0} (asks : T → Answer → T → Type 0) (gives : S → Option Report → S → Type 0) where
+  abbrev pub IsDriven : Tailer → T → List (S × Reporting) → Contents → Active → Type 0
+  IsDriven old source workers x active =
+      (answers : List Answer) × (after : T) × (ends : List Taking) × Asked asks source answers after
+      × (active.last ≡ x.last) × (active.flushed ≡ count_by is_flush x.history)
+      × ((start : Namespace) (base : ℕ) (given : List Answer) → StandsAt start base given old → IsPromoted gives start base (given ++ answers) workers ends x)

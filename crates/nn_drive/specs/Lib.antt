@@ -1,0 +1,4 @@
+pub mod Reports
+pub mod Driven
+pub mod Fault
+pub mod ReportRows

@@ -1,0 +1,293 @@
+//! One thread for each DataNode, and the standby on the thread that calls.
+ghost use Rattle.std.specs.Prelude.{◌≡◌, ◌<◌, ◌≤◌, ℕ, List, [], false, length, IfOk, IfErr, IfSome};
+ghost use Rattle.nn_tailer.specs.Tailing.{has_begun};
+ghost use Rattle.nn_drive.specs.Fault.{number_of};
+ghost use Rattle.nn_drive.specs.Driven.{HasReported, ArePromised, FitHandles, Went, WentUntil, SealsAll, AreFronts, AreLanes, IsDriven, NotDriven};
+
+use crate::reporting::{ReportSource, report_all};
+use nn_lane::{LaneEnd, Refusal, Reporter};
+use nn_segment::SegmentSource;
+use nn_shadow::Shadow;
+use nn_tailer::{Active, Choice, PromoteFault, Standby, StepFault};
+use nn_types::fault;
+use std::alloc::Global;
+use std::snapshot::Snapshot;
+use std::sync::Wait;
+use std::sync::atomic::{AtomicU64, Ordering};
+use std::thread;
+use std::thread::{Promise, PromisedHandle, Scope, Threads};
+use thiserror::Error;
+
+/// What a worker's thread gives back.
+#[derive(Drop)]
+pub struct Worked<S> {
+    pub source: S,
+    pub reporter: Reporter,
+    pub outcome: Result<u64, Refusal>,
+}
+
+/// The promise of a worker's thread: the source and the reporter that it began with.
+#[derive(Drop)]
+pub struct Reports<S>(pub Snapshot<S>, pub Snapshot<Reporter>);
+
+impl<S: ReportSource> Promise<Worked<S>> for Reports<S> {
+    ghost kept_by = { λ p w. HasReported S.gives p.0.value p.1.value w };
+}
+
+/// Why a drive failed.
+#[derive(Clone, Copy, Debug, PartialEq, Eq, Error)]
+pub enum DriveFault {
+    /// A step failed, or the standby was active before.
+    #[error("{0}")]
+    Step(StepFault),
+    #[error("{0}")]
+    Promote(PromoteFault),
+    /// A thread could not be started.
+    #[error("out of memory")]
+    OutOfMemory,
+}
+
+impl DriveFault {
+    /// The fault's number.
+    pub fn number(self) -> u8
+        ensures { result ≡ number_of self }
+    {
+        match self {
+            DriveFault::Step(fault) => fault.number(),
+            DriveFault::Promote(fault) => fault.number(),
+            DriveFault::OutOfMemory => fault::MEMORY,
+        }
+    }
+}
+
+// What a worker's thread runs.
+fn work<S: ReportSource, R: Wait>(
+    rt: &R,
+    source: S,
+    reporter: Reporter,
+    ended: &AtomicU64,
+) -> Worked<S>
+    ensures { HasReported S.gives source reporter result }
+{
+    let mut source = source;
+    let mut reporter = reporter;
+    let outcome = report_all(rt, &mut source, &mut reporter);
+    ended.fetch_add(1, Ordering::SeqCst);
+    Worked {
+        source,
+        reporter,
+        outcome,
+    }
+}
+
+// One worker on a thread of the scope.
+fn start<'s, E, S: ReportSource + Send + Drop + 's, R: Wait + Sync>(
+    scope: &Scope<'s, E>,
+    rt: &'s R,
+    source: S,
+    reporter: Reporter,
+    ended: &'s AtomicU64,
+) -> Option<PromisedHandle<Worked<S>, Reports<S>>>
+    ensures { IfSome result (λ h. (h.promise.0.value ≡ source) × (h.promise.1.value ≡ reporter)) }
+{
+    let promise = Reports(Snapshot::of(&source), Snapshot::of(&reporter));
+    let run = move || -> Worked<S>
+        ensures { HasReported S.gives source reporter result }
+    { work(rt, source, reporter, ended) };
+    scope.spawn_with(promise, run).ok()
+}
+
+// A thread for each worker, in order; fewer where memory or threads run out, and the other workers are dropped.
+fn start_all<'s, E, S: ReportSource + Send + Drop + 's, R: Wait + Sync>(
+    scope: &Scope<'s, E>,
+    rt: &'s R,
+    alloc: Global,
+    workers: Vec<(S, Reporter)>,
+    ended: &'s AtomicU64,
+) -> Vec<PromisedHandle<Worked<S>, Reports<S>>>
+    ensures { ArePromised workers.items result.items }
+{
+    let Ok(mut handles) = Vec::with_capacity(alloc, workers.len()) else {
+        return Vec::new(alloc);
+    };
+    for (source, reporter) in workers {
+        let Some(handle) = start(scope, rt, source, reporter, ended) else {
+            return handles;
+        };
+        handles.push_reserved(handle);
+    }
+    handles
+}
+
+// A step of each lane.
+fn take_round<T: SegmentSource>(standby: &mut Standby, source: &mut T) -> Result<(), StepFault>
+    ensures went { Went T.gives source.old standby.old source.new standby.new }
+    ensures until { IfErr result (λ fault. WentUntil T.gives source.old standby.old source.new fault) }
+{
+    let lanes = standby.lanes();
+    for i in 0..lanes {
+        if let Err(fault) = standby.step(source, Choice::Lane((i + 1) as u16)) {
+            return Err(fault);
+        }
+    }
+    Ok(())
+}
+
+// Steps of the log and of all lanes in rotation, until so many workers have ended.
+fn engine<T: SegmentSource, R: Wait>(
+    rt: &R,
+    standby: &mut Standby,
+    source: &mut T,
+    ended: &AtomicU64,
+    workers: usize,
+) -> Result<(), StepFault>
+    ensures went { Went T.gives source.old standby.old source.new standby.new }
+    ensures until { IfErr result (λ fault. WentUntil T.gives source.old standby.old source.new fault) }
+{
+    for _ in rt.forever() {
+        if ended.load(Ordering::SeqCst) >= workers as u64 {
+            return Ok(());
+        }
+        if let Err(fault) = standby.step(source, Choice::Edit) {
+            return Err(fault);
+        }
+        if let Err(fault) = take_round(standby, source) {
+            return Err(fault);
+        }
+        thread::yield_now();
+    }
+    unreachable!()
+}
+
+// Joins each thread, in order, and closes its lane by its reporter.
+fn seal_all<S: ReportSource + Drop, R: Threads>(
+    rt: &R,
+    standby: &mut Standby,
+    handles: Vec<PromisedHandle<Worked<S>, Reports<S>>>,
+)
+    requires fit { FitHandles handles.items standby.old.ends }
+    requires serving { has_begun standby.old ≡ false }
+    ensures { SealsAll S.gives standby.old handles.items standby.new }
+{
+    let mut place = 0usize;
+    for handle in handles {
+        let Worked {
+            source,
+            reporter,
+            outcome: _outcome,
+        } = handle.join(rt);
+        drop(source);
+        standby.seal(place, reporter);
+        place += 1;
+    }
+}
+
+// Takes from the lanes of a standby that is given up until so many workers have ended, and joins them.
+fn give_up<S: ReportSource + Drop, R: Threads + Wait>(
+    rt: &R,
+    standby: Standby,
+    handles: Vec<PromisedHandle<Worked<S>, Reports<S>>>,
+    ended: &AtomicU64,
+) {
+    let (shadow, mut ends) = standby.into_parts();
+    drop(shadow);
+    let started = handles.len() as u64;
+    for _ in rt.forever() {
+        if ended.load(Ordering::SeqCst) >= started {
+            break;
+        }
+        for i in 0..ends.len() {
+            let end = &mut ends[i];
+            let _taken = end.take();
+        }
+        thread::yield_now();
+    }
+    for handle in handles {
+        drop(handle.join(rt));
+    }
+}
+
+// Learns of each lane that what was taken is the front of all.
+fn fronts(ends: &[LaneEnd])
+    ensures { AreFronts ends.now }
+{
+    for i in 0..ends.len() {
+        let end = &ends[i];
+        let _closed = end.closed();
+    }
+}
+
+// The whole of `drive`, inside its scope.
+fn drive_in<
+    's,
+    E,
+    T: SegmentSource + Drop,
+    S: ReportSource + Send + Drop + 's,
+    R: Threads + Wait + Sync,
+>(
+    scope: &Scope<'s, E>,
+    rt: &'s R,
+    alloc: Global,
+    standby: Standby,
+    source: T,
+    workers: Vec<(S, Reporter)>,
+    ended: &'s AtomicU64,
+) -> Result<(Shadow, Active), DriveFault>
+    requires { AreLanes workers.items standby.ends }
+    ensures ok { IfOk result (λ r. IsDriven T.gives S.gives standby source workers.items r.0 r.1) }
+    ensures err { IfErr result (λ fault. NotDriven T.gives standby source fault) }
+{
+    let mut standby = standby;
+    let mut source = source;
+    if standby.is_active() {
+        return Err(DriveFault::Step(StepFault::AlreadyActive));
+    }
+    let count = workers.len();
+    let handles = start_all(scope, rt, alloc, workers, ended);
+    let started = handles.len();
+    if let Err(fault) = engine(rt, &mut standby, &mut source, ended, started) {
+        give_up(rt, standby, handles, ended);
+        return Err(DriveFault::Step(fault));
+    }
+    seal_all(rt, &mut standby, handles);
+    if started < count {
+        return Err(DriveFault::OutOfMemory);
+    }
+    let active = match standby.promote(&mut source) {
+        Ok(active) => active,
+        Err(fault) => return Err(DriveFault::Promote(fault)),
+    };
+    let (shadow, ends) = standby.into_parts();
+    fronts(ends.as_slice());
+    Ok((shadow, active))
+}
+
+/// Runs each worker on a thread of its own, and the standby on this one: it steps the log and the lanes in rotation
+/// until all workers have ended; then each lane is closed by its reporter, and the standby promotes itself.
+///
+/// A source of reports ends with its first None, and is not asked again; a full lane is tried again and again. After a
+/// fault nothing is handed back: the lanes are taken from, and what is taken is dropped, until all workers have ended,
+/// and each thread is joined before this returns. It waits for as long as a source of reports does.
+pub fn drive<T: SegmentSource + Drop, S: ReportSource + Send + Drop, R: Threads + Wait + Sync>(
+    rt: &R,
+    alloc: Global,
+    standby: Standby,
+    source: T,
+    workers: Vec<(S, Reporter)>,
+) -> Result<(Shadow, Active), DriveFault>
+    requires { AreLanes workers.items standby.ends }
+    ensures ok { IfOk result (λ r. IsDriven T.gives S.gives standby source workers.items r.0 r.1) }
+    ensures err { IfErr result (λ fault. NotDriven T.gives standby source fault) }
+{
+    let counter = AtomicU64::new(0);
+    let ended = &counter;
+    thread::scope(
+        thread::scope_env(),
+        rt,
+        move |scope| -> Result<(Shadow, Active), DriveFault>
+            requires { AreLanes workers.items standby.ends }
+            ensures ok { IfOk result (λ r. IsDriven T.gives S.gives standby source workers.items r.0 r.1) }
+            ensures err { IfErr result (λ fault. NotDriven T.gives standby source fault) }
+        { drive_in(scope, rt, alloc, standby, source, workers, ended) },
+    )
+}

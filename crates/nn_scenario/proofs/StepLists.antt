@@ -2,7 +2,6 @@
 use Rattle.std.proofs.Common.{◌≡◌, List, [], ◌∷◌, ◌++◌, Bool, true, false, length, refl, ap}
 use Rattle.nn_types.specs.declared.report.Message.{Message}
 use Rattle.nn_scenario.specs.StepList.{told, AreTold}
-use Rattle.nn_scenario.specs.declared.steps.Step.{Step}
 use Rattle.nn_scenario.specs.declared.steps.Step.TheVariants as step
 
 pub edit_told : (kinds : List Bool) (ms : List Message) → AreTold kinds ms → AreTold (kinds ++ false ∷ []) ms × (told (kinds ++ false ∷ []) ms ≡ told kinds ms ++ step.Edit ∷ [])

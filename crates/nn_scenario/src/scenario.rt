@@ -1,5 +1,5 @@
 //! A scenario's bytes as the lines of segments and as steps: cut into lines, each line read.
-ghost use Rattle.std.specs.Prelude.{◌≡◌, ◌≢◌, ◌≤◌, ◌==◌, ◌++◌, true, false, length, take, Ok, Err, IfOk, IfErr, OnOk};
+ghost use Rattle.std.specs.Prelude.{◌≡◌, ◌≢◌, ◌≤◌, ◌<◌, ◌==◌, ◌++◌, ℕ, true, false, length, take, slice_index, Ok, Err, IfOk, IfErr, OnOk};
 ghost use Rattle.std.specs.Bool.{MatchBool as IfElse};
 ghost use Rattle.std.specs.List.{position_or_len};
 ghost use Rattle.nn_edits.specs.Grammar.{IsLawfulLine};
@@ -13,6 +13,7 @@ ghost use Rattle.nn_segment.specs.Lines.{newline, is_unbroken};
 use crate::segments::{Piece, is_end};
 use crate::step_list::StepList;
 use crate::steps::Steps;
+use memchr::memchr;
 use nn_edits::{Line, LineFault, Scratch, Tx, read_line};
 use std::alloc::{AllocError, Global};
 use std::marker::Model;
@@ -81,12 +82,16 @@ fn line_end(bytes: &[u8]) -> usize
     ensures within { result ≤ length bytes.now }
     ensures unbroken { is_unbroken (take result bytes.now) ≡ true }
 {
-    for (at, b) in bytes.iter().enumerate() {
-        if *b == b'\n' {
-            return at;
-        }
-    }
-    bytes.len()
+    line_feed(bytes)
+}
+
+// The place of the first line feed, or the length.
+fn line_feed(bytes: &[u8]) -> usize
+    ensures within { result ≤ length bytes.now }
+    ensures before { (k : ℕ) → k < result → slice_index bytes.now k ≢ newline }
+    ensures there { result < length bytes.now → slice_index bytes.now result ≡ newline }
+{
+    memchr(b'\n', bytes).unwrap_or(bytes.len())
 }
 
 // What was read so far: the pieces that ended, the one in hand, and the steps.

@@ -1,5 +1,5 @@
 //! Scenarios of edits and messages.
-use nn_scenario::{MAX_INPUT, Scenario, Step, read_lines};
+use nn_scenario::{MAX_INPUT, Scenario, Step, StepList, read_lines};
 use nn_types::{Kind, Message};
 use std::alloc::Global;
 use std::process::Abort;
@@ -24,9 +24,10 @@ fn read(alloc: Global, input: &[u8]) -> Result<Scenario, (u8, u64)> {
 }
 
 // Each step as DataNode, number and block; an edit has none.
-fn told(alloc: Global, steps: &[Step]) -> Result<Vec<(u16, u64, u64)>, Fail> {
+fn told(alloc: Global, steps: StepList) -> Result<Vec<(u16, u64, u64)>, Fail> {
     let mut told = Vec::new(alloc);
-    for step in steps {
+    let mut steps = steps.into_steps();
+    while let Some(step) = steps.next() {
         let one = match step {
             Step::Edit => (0, 0, 0),
             Step::Message(m) => (m.dn, m.number, m.block.get()),
@@ -41,11 +42,13 @@ fn each_datanode_counts_by_itself(rt: HostRuntime) -> Result<(), Fail> {
     let Ok(scenario) = read(rt.alloc(), TWO_LANES) else {
         return Err(Fail::new("the lines are right"));
     };
-    two_lanes_are_told(&rt, rt.alloc(), &scenario)
+    two_lanes_are_told(&rt, rt.alloc(), scenario)
 }
 
-fn two_lanes_are_told(rt: &impl Abort, alloc: Global, scenario: &Scenario) -> Result<(), Fail> {
-    let steps = told(alloc, &scenario.steps)?;
+fn two_lanes_are_told(rt: &impl Abort, alloc: Global, scenario: Scenario) -> Result<(), Fail> {
+    assert_eq!(rt; (scenario.lanes, scenario.pieces.len()), (200, 1));
+    assert_eq!(rt; scenario.steps.len(), 7);
+    let steps = told(alloc, scenario.steps)?;
     let want = [
         (2, 1, 5),
         (0, 0, 0),
@@ -56,7 +59,6 @@ fn two_lanes_are_told(rt: &impl Abort, alloc: Global, scenario: &Scenario) -> Re
         (2, 3, 9),
     ];
     assert_eq!(rt; steps.as_slice(), want.as_slice());
-    assert_eq!(rt; (scenario.lanes, scenario.pieces.len()), (200, 1));
     Ok(())
 }
 
@@ -73,8 +75,8 @@ fn first_message(alloc: Global, input: &[u8]) -> Result<Message, Fail> {
     let Ok(scenario) = read(alloc, input) else {
         return Err(Fail::new("the lines are right"));
     };
-    match scenario.steps.first() {
-        Some(Step::Message(m)) => Ok(*m),
+    match scenario.steps.into_steps().next() {
+        Some(Step::Message(m)) => Ok(m),
         _ => Err(Fail::new("the first line is a message")),
     }
 }

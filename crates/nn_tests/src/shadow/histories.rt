@@ -145,13 +145,13 @@ fn reported_from_the_last(rt: &impl Abort, shadow: &mut Shadow) {
 }
 
 fn go_from_the_first(rt: &impl Abort, shadow: &Shadow) {
-    let told = shadow.history();
-    let freed = told.iter().skip(told.len().saturating_sub(300));
-    for (event, place) in freed.zip(0..300) {
-        assert_eq!(rt; *event, super::due(1, 300 - place, super::B + place));
+    for place in 0..300 {
+        let told = super::told_after(shadow, 903 + place);
+        let place = place as u64;
+        assert_eq!(rt; told, Some(super::due(1, 300 - place, super::B + place)));
     }
     assert_eq!(rt; shadow.held_count(), 0);
-    assert_eq!(rt; told.len(), 1203);
+    assert_eq!(rt; shadow.history().len(), 1203);
 }
 
 // Follows an edit's line with the next txid.

@@ -4,15 +4,15 @@ use Rattle.nn_shadow.specs.contracts.shadow.Shadow.{the_view}
 use Rattle.nn_replicas.specs.Calls.{is_placed}
 use Rattle.nn_shadow.specs.Calls.{is_due_in, applied_to}
 use Rattle.nn_shadow.specs.Contents.{Contents, standby_of, Becomes}
-use Rattle.nn_shadow.specs.Refusals.{apply_refusal}
-use Rattle.nn_shadow.proofs.Consistent.{Leaves, edit_applied, edit_failed, edit_room}
+use Rattle.nn_shadow.specs.Refusals.{turn_refusal}
+use Rattle.nn_shadow.proofs.Consistent.{Leaves, edit_applied, edit_failed, edit_refused, edit_room}
 use Rattle.nn_model.specs.Namespace.{Namespace}
-use Rattle.nn_model.specs.Apply.{effect}
+use Rattle.nn_model.specs.Apply.{effect, refusal}
 use Rattle.nn_model.specs.Touched.{Touched}
 use Rattle.nn_tree.specs.Touched.{shown}
 use Rattle.nn_shadow.specs.Touching.{IsQuiet}
 use Rattle.nn_shadow.proofs.Quiet.{begins_quiet}
-use Rattle.nn_shadow.proofs.Refusing.{no_refusal_applies}
+use Rattle.nn_shadow.proofs.Refusing.{fits_if}
 use Rattle.nn_shadow.specs.Touching.{Rises}
 use Rattle.nn_shadow.proofs.Searching.{retired_rises}
 use Rattle.nn_shadow.proofs.shadow.Shadow.apply_next.Goals as goal
@@ -21,7 +21,6 @@ failed : (c : goal.After-drop-written) → Leaves (the_view c.self.inside) (stan
     (record (the_view c.self.inside) { namespace = c.change.new.namespace; history = c.reserve.new.self.items; table = c.change.new.table })
 failed c =
     edit_failed (the_view c.self.inside) c.args.tx.now c.change.new.namespace c.reserve.new.self.items c.change.new.table c.self.invariant
-    (subst (λ (x : Contents). apply_refusal x.phase (standby_of x) c.args.tx.now ≡ None) (sym c.self.view_is) c.requires)
     c.in_default-change.ensures.kept c.in-Ok.ensures.items c.in_default-change.ensures.undone
 
 pub invariant_of-self-in_default-change : goal.invariant_of-self-in_default-change
@@ -33,12 +32,18 @@ returns-in_default-change-clause-err c =
     (record (the_view c.self.inside) { namespace = c.change.new.namespace; history = c.reserve.new.self.items; table = c.change.new.table }))
     c.self.view_is (failed c).becomes
 
+pub returns-in_default-change-clause-same : goal.returns-in_default-change-clause-same
+returns-in_default-change-clause-same c =
+    subst (λ (x : Contents). (refusal x.namespace c.args.tx.now.edit ≡ None → ⊥) →
+    record (the_view c.self.inside) { namespace = c.change.new.namespace; history = c.reserve.new.self.items; table = c.change.new.table } ≡ x)
+    c.self.view_is
+    (edit_refused (the_view c.self.inside) c.args.tx.now c.change.new.namespace c.reserve.new.self.items c.change.new.table
+    c.in_default-change.ensures.kept c.in-Ok.ensures.items c.in_default-change.ensures.undone)
+
 pub settle-requires-clause-placed : goal.settle-requires-clause-placed
 settle-requires-clause-placed c =
-    let x = the_view c.self.inside in
-    let fits = subst (λ (y : Contents). apply_refusal y.phase (standby_of y) c.args.tx.now ≡ None) (sym c.self.view_is) c.requires in
     λ m here. ap (λ t. is_placed t m.dn m.block) c.in-Ok-change.ensures.table
-    ∙ edit_room x c.args.tx.now c.self.invariant c.in-Ok-change.ensures.lawful (no_refusal_applies x.phase (standby_of x) c.args.tx.now fits).1 m here
+    ∙ edit_room (the_view c.self.inside) c.args.tx.now c.self.invariant c.in-Ok-change.ensures.lawful c.in-Ok-change.ensures.applies m here
 
 made : (c : goal.After-drop-written-2) → Leaves (the_view c.self.inside) (applied_to (standby_of (the_view c.self.inside)) c.args.tx.now)
     (record (the_view c.self.inside) {
@@ -51,7 +56,8 @@ made : (c : goal.After-drop-written-2) → Leaves (the_view c.self.inside) (appl
 made c =
     edit_applied (the_view c.self.inside) c.args.tx.now c.change.new.namespace c.get-self-inside.result c.push.new.self.items
     c.settle.new.history.items c.change.new.table c.settle.new.table c.settle.new.held c.self.invariant c.in-Ok-change.ensures.lawful
-    (subst (λ (x : Contents). apply_refusal x.phase (standby_of x) c.args.tx.now ≡ None) (sym c.self.view_is) c.requires)
+    (fits_if (the_view c.self.inside).phase (standby_of (the_view c.self.inside)) c.args.tx.now
+    (subst (λ (x : Contents). turn_refusal x.phase (standby_of x) c.args.tx.now ≡ None) (sym c.self.view_is) c.requires) c.in-Ok-change.ensures.applies)
     c.get-self-inside.ensures.limit c.in-Ok-change.ensures.namespace c.get-self-inside.ensures.value
     (c.in-Ok-push.ensures.items ∙ ap (λ h. h ++ Applied c.args.tx.now.txid ∷ []) c.in-Ok.ensures.items)
     c.in-Ok-change.ensures.table c.settle.ensures.told c.settle.ensures.left c.settle.ensures.table
@@ -74,15 +80,12 @@ returns-clause-ok c =
 pub settle-requires-clause-quiet : goal.settle-requires-clause-quiet
 settle-requires-clause-quiet c =
     let x = the_view c.self.inside in
-    let fits = subst (λ (y : Contents). apply_refusal y.phase (standby_of y) c.args.tx.now ≡ None) (sym c.self.view_is) c.requires in
     subst (λ (n : Namespace). IsQuiet (shown c.in-Ok-change.touched) (is_due_in n) x.held) (sym c.in-Ok-change.ensures.namespace)
     (subst (λ (t : Touched). IsQuiet t (is_due_in (effect x.namespace c.args.tx.now.edit)) x.held) (sym c.in-Ok-change.ensures.touched)
-    (begins_quiet x.namespace c.args.tx.now.edit x.held c.in-Ok-change.ensures.lawful (no_refusal_applies x.phase (standby_of x) c.args.tx.now fits).1
+    (begins_quiet x.namespace c.args.tx.now.edit x.held c.in-Ok-change.ensures.lawful c.in-Ok-change.ensures.applies
     c.self.invariant.well_formed c.self.invariant.settled))
 
 pub settle-requires-clause-rises : goal.settle-requires-clause-rises
 settle-requires-clause-rises c =
-    let x = the_view c.self.inside in
-    let fits = subst (λ (y : Contents). apply_refusal y.phase (standby_of y) c.args.tx.now ≡ None) (sym c.self.view_is) c.requires in
     subst (λ (t : Touched). Rises t.retired) (sym c.in-Ok-change.ensures.touched)
-    (retired_rises x.namespace c.args.tx.now.edit (no_refusal_applies x.phase (standby_of x) c.args.tx.now fits).1)
+    (retired_rises (the_view c.self.inside).namespace c.args.tx.now.edit c.in-Ok-change.ensures.applies)

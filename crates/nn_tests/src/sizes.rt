@@ -181,24 +181,25 @@ fn settings(min: u16) -> Result<Settings, Fail> {
 
 // So many DataNodes report a block of a closed file, the last one first; it is safe once all have.
 fn spreads(rt: &impl Abort, table: &mut Replicas, count: u16) -> Result<(), Fail> {
-    let block = block(1, 1_001, 5)?;
-    table.set_block(block, true)?;
+    table.set_block(block(1, 1_001, 5)?, true)?;
     let mut left = count;
     'left: while left > 0 {
         assert_eq!(rt; table.safe_count(), 0);
-        put(table, left, block)?;
+        put(table, left)?;
         left -= 1;
     }
     assert_eq!(rt; table.safe_count(), 1);
     Ok(())
 }
 
-fn put(table: &mut Replicas, dn: u16, block: Block) -> Result<(), Fail> {
+// The DataNode has a live replica of the block.
+fn put(table: &mut Replicas, dn: u16) -> Result<(), Fail> {
+    let Block { id, stamp, len } = block(1, 1_001, 5)?;
     let replica = Replica {
-        stamp: block.stamp,
-        len: block.len,
+        stamp,
+        len,
         kind: Kind::Received,
     };
-    table.put(dn, block.id, replica)?;
+    table.put(dn, id, replica)?;
     Ok(())
 }

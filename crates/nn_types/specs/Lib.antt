@@ -4,3 +4,5 @@ pub mod Due
 pub mod Path
 pub mod Fault
 pub mod Settings
+pub mod PathRows
+pub mod FaultRows

@@ -71,7 +71,7 @@ fn lives(
         add_block(alloc, namespace, n)?;
     }
     has_blocks(rt, alloc, namespace, count as usize)?;
-    let kept = count - 1;
+    let kept = count.saturating_sub(1);
     update(alloc, namespace, kept)?;
     has_blocks(rt, alloc, namespace, kept as usize)?;
     close(alloc, namespace, kept)?;

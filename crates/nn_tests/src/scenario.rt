@@ -26,8 +26,12 @@ fn read(alloc: Global, input: &[u8]) -> Result<Scenario, (u8, u64)> {
 // Each step as DataNode, number and block; an edit has none.
 fn told(alloc: Global, steps: StepList) -> Result<Vec<(u16, u64, u64)>, Fail> {
     let mut told = Vec::new(alloc);
+    let count = steps.len();
     let mut steps = steps.into_steps();
-    while let Some(step) = steps.next() {
+    for _ in 0..count {
+        let Some(step) = steps.next() else {
+            return Ok(told);
+        };
         let one = match step {
             Step::Edit => (0, 0, 0),
             Step::Message(m) => (m.dn, m.number, m.block.get()),

@@ -21,9 +21,9 @@ use Rattle.nn_edits.specs.declared.member.Member.{Member}
 use Rattle.nn_edits.specs.declared.member.Member.TheVariants.{Missing, Text, Whole, Other}
 use Rattle.nn_edits.specs.declared.reading.Op.{Op}
 use Rattle.nn_edits.specs.declared.reading.Op.TheVariants as op
-use Rattle.nn_edits.specs.declared.tx.Edit.{Edit}
-use Rattle.nn_edits.specs.declared.tx.Edit.TheVariants.{StartSegment, EndSegment, Mkdir, Add, AddBlock, UpdateBlocks, Close, Rename, Delete, SetReplication, AllocateBlockId, SetGenstamp}
-use Rattle.nn_edits.specs.declared.tx.Tx.{Tx}
+use Rattle.nn_types.specs.declared.edit.Edit.{Edit}
+use Rattle.nn_types.specs.declared.edit.Edit.TheVariants.{StartSegment, EndSegment, Mkdir, Add, AddBlock, UpdateBlocks, Close, Rename, Delete, SetReplication, AllocateBlockId, SetGenstamp}
+use Rattle.nn_types.specs.declared.tx.Tx.{Tx}
 
 -- ---- one member
 

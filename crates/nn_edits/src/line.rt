@@ -2,13 +2,13 @@
 ghost use Rattle.std.specs.Prelude.{◌≡◌, ◌<◌, length, Some, None, Ok, Err, IfOk, OnOk};
 ghost use Rattle.serde_json.specs.Data.{Members, object, no_members};
 ghost use Rattle.nn_edits.specs.Grammar.{IsEditLine, IsReportLine, IsLine, IsLawfulReport, IsLawfulLine};
-ghost use Rattle.nn_edits.specs.Lawful.{IsLawfulEdit};
+ghost use Rattle.nn_types.specs.LawfulEdit.{IsLawfulEdit};
 ghost use Rattle.nn_edits.specs.Ahead.{members_at};
 ghost use Rattle.nn_edits.specs.Outcome.{Gives, GivesSeen};
 ghost use Rattle.nn_edits.specs.Parts.{seen_fields, parts_of, parts_of_line, either_from};
 ghost use Rattle.nn_edits.specs.Reading.{edit_of_line, report_of_line, either_of_line};
 ghost use Rattle.nn_edits.specs.declared.line.Line.{Line as LineData};
-ghost use Rattle.nn_edits.specs.declared.tx.Tx.{Tx as TxData};
+ghost use Rattle.nn_types.specs.declared.tx.Tx.{Tx as TxData};
 ghost use Rattle.nn_types.specs.declared.report.Report.{Report as ReportData};
 
 use crate::ahead::{Stop, read_member};
@@ -17,9 +17,8 @@ use crate::fault::LineFault;
 use crate::fields::Fields;
 use crate::reading::tx_in;
 use crate::report::report_in;
-use crate::tx::Tx;
 use json::{Reader, Scratch, Token};
-use nn_types::Report;
+use nn_types::{Report, Tx};
 use std::alloc::Global;
 
 /// The bytes that a line may have.

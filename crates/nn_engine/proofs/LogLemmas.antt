@@ -1,8 +1,8 @@
 -- What is left of a log, one transaction or one segment further.
 use Rattle.std.proofs.Common.{◌≡◌, ℕ, ◌+◌, ◌<◌, ◌≤◌, List, [], ◌∷◌, Result, Ok, Err, refl, sym, ap, ◌∙◌}
 use Rattle.std.proofs.lemmas.Bool.{lt-ltb, le-ltb}
-use Rattle.nn_edits.specs.declared.tx.Tx.{Tx}
-use Rattle.nn_model.specs.declared.fault.EditFault.{EditFault}
+use Rattle.nn_types.specs.declared.tx.Tx.{Tx}
+use Rattle.nn_types.specs.declared.edit_fault.EditFault.{EditFault}
 use Rattle.nn_model.specs.Namespace.{Namespace}
 use Rattle.nn_model.specs.Apply.{applied}
 use Rattle.nn_model.specs.Log.{counted}

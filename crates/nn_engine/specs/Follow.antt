@@ -1,8 +1,8 @@
 -- A standby on its way through a log and the messages of a scenario.
 use Rattle.std.specs.Prelude.{◌≡◌, ℕ, false, List, length, Result, Ok, Err, None}
 use Rattle.std.specs.List.{All}
-use Rattle.nn_edits.specs.declared.tx.Tx.{Tx}
-use Rattle.nn_model.specs.declared.fault.EditFault.{EditFault}
+use Rattle.nn_types.specs.declared.tx.Tx.{Tx}
+use Rattle.nn_types.specs.declared.edit_fault.EditFault.{EditFault}
 use Rattle.nn_model.specs.Lanes.{Lanes}
 use Rattle.nn_model.specs.Namespace.{Namespace, root_alone}
 use Rattle.nn_shadow.specs.Contents.{Contents, standby_of}

@@ -1,6 +1,6 @@
 -- Where a log of segments ends is the log that its segments hold, as statements; the functions of the crate prove them.
 use Rattle.std.specs.Prelude.{◌≡◌, ℕ, ◌+◌, List, length, map, Ok}
-use Rattle.nn_edits.specs.declared.tx.Tx.{Tx}
+use Rattle.nn_types.specs.declared.tx.Tx.{Tx}
 use Rattle.nn_model.specs.Namespace.{Namespace}
 use Rattle.nn_model.specs.Log.{namespace_after, IsLog, log_of}
 use Rattle.nn_segment.specs.Segment.{Segment}

@@ -1,6 +1,6 @@
 -- What is left of a log, and where it ends from here.
 use Rattle.std.specs.Prelude.{◌≡◌, ℕ, ◌+◌, List, Result, Ok, Err}
-use Rattle.nn_edits.specs.declared.tx.Tx.{Tx}
+use Rattle.nn_types.specs.declared.tx.Tx.{Tx}
 use Rattle.nn_model.specs.Namespace.{Namespace}
 use Rattle.nn_model.specs.Apply.{applied}
 use Rattle.nn_model.specs.Log.{counted}

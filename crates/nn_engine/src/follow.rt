@@ -1,7 +1,7 @@
 //! A standby follows the log and the DataNodes of a scenario, in the order of its lines.
 ghost use Rattle.std.specs.Prelude.{◌≡◌, ◌≤◌, ◌<◌, ◌^◌, ℕ, ◌+◌, List, ◌∷◌, ◌++◌, [], Result, Ok, None, true, false, length, IfOk, IfErr, OnOk};
 ghost use Rattle.std.specs.List.{All};
-ghost use Rattle.nn_edits.specs.declared.tx.Tx.{Tx as Transaction};
+ghost use Rattle.nn_types.specs.declared.tx.Tx.{Tx as Transaction};
 ghost use Rattle.nn_model.specs.Apply.{applied};
 ghost use Rattle.nn_model.specs.Lanes.{Lanes, no_messages, followed_by};
 ghost use Rattle.nn_model.specs.Namespace.{Namespace, root_alone};
@@ -13,12 +13,10 @@ ghost use Rattle.nn_segment.specs.LogEnd.{LogEnd, Stop, end_of_log};
 ghost use Rattle.nn_scenario.specs.Steps.{lanes_after, lanes_of, AreInTurn, IsStepOf};
 
 use crate::log::{Log, Next};
-use nn_edits::Tx;
-use nn_model::EditFault;
 use nn_scenario::{Step, StepList};
 use nn_segment::Parsed;
 use nn_shadow::{ApplyFault, HandCause, Shadow};
-use nn_types::{Message, Settings};
+use nn_types::{EditFault, Message, Settings, Tx};
 use std::alloc::Global;
 
 /// Why a run halts.

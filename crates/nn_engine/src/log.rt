@@ -5,8 +5,8 @@ ghost use Rattle.nn_model.specs.Log.{counted};
 ghost use Rattle.nn_segment.specs.Segment.{first_txid};
 ghost use Rattle.nn_engine.specs.LogLeft.{ComesNext};
 
-use nn_edits::Tx;
 use nn_segment::{Item, MemorySource, Parsed, SegmentSource};
+use nn_types::Tx;
 use std::alloc::Global;
 use std::marker::Model;
 use std::vec::IntoIter;

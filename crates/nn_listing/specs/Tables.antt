@@ -3,10 +3,8 @@ use Rattle.std.specs.Prelude.{◌≡◌, ℕ, Bool, true, false, List, [], ◌�
 use Rattle.std.specs.Prelude.{if◌then◌else◌}
 use Rattle.std.specs.List.{range_with_len}
 use Rattle.nn_types.specs.declared.block.Block.{Block}
-use Rattle.nn_types.specs.declared.replica.Class.{Class}
-use Rattle.nn_types.specs.declared.replica.Class.TheVariants.{Stale, Ahead, Building, Live, WrongLength}
 use Rattle.nn_types.specs.declared.replica.Replica.{Replica}
-use Rattle.nn_edits.specs.Text.{kind_text}
+use Rattle.nn_types.specs.Words.{kind_text, class_text}
 use Rattle.nn_model.specs.Counts.{class_of, SafeMode, safe_mode_of}
 use Rattle.nn_model.specs.Lanes.{Lanes}
 use Rattle.nn_model.specs.Namespace.{Namespace}
@@ -46,13 +44,6 @@ abbrev pub of_each : Lanes → (ℕ → ℕ → List ℕ) → List ℕ
 of_each lanes text = flat_map (λ id. flat_map (text id) datanodes) (said_ids lanes)
 
 -- ---- Replicas.
-
-abbrev pub class_text : Class → List ℕ
-class_text Live = codes "live"
-class_text Building = codes "building"
-class_text Stale = codes "stale"
-class_text Ahead = codes "ahead"
-class_text WrongLength = codes "wronglength"
 
 -- `replica BLOCK DN STAMP LEN KIND CLASS`, of a DataNode's replica of the block that a file holds
 abbrev pub replica_line : ℕ → Block → ℕ → Replica → List ℕ

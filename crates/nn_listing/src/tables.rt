@@ -1,14 +1,13 @@
 //! What the program prints of replicas, orders and counts.
 ghost use Rattle.std.specs.Prelude.{◌≡◌, ◌++◌, ℕ, OnOk, string_bytes};
-ghost use Rattle.nn_edits.specs.Text.{kind_text};
 ghost use Rattle.nn_model.specs.Lanes.{Lanes};
 ghost use Rattle.nn_model.specs.Namespace.{Namespace};
 ghost use Rattle.nn_shadow.specs.SafeMode.{counts_of};
-ghost use Rattle.nn_listing.specs.Tables.{class_text, mode_text, replica_line, order_line, blocks_line, lines_of_block, lines_of_replicas, lines_of_orders, IsPicture, tables_text};
+ghost use Rattle.nn_listing.specs.Tables.{mode_text, replica_line, order_line, blocks_line, lines_of_block, lines_of_replicas, lines_of_orders, IsPicture, tables_text};
 
 use nn_replicas::{Replicas, ReplicasOf, class};
 use nn_shadow::SafeMode;
-use nn_types::{Block, BlockId, Class, Kind, Replica};
+use nn_types::{Block, BlockId, Replica};
 use std::alloc::{AllocError, Global};
 use std::fmt::Write;
 
@@ -71,8 +70,8 @@ fn push_replica(
     let id = id.get();
     let stamp = replica.stamp.get();
     let len = replica.len.get();
-    let kind = kind_word(replica.kind);
-    let class = class_word(class(replica, block));
+    let kind = replica.kind.word();
+    let class = class(replica, block).word();
     write!(text, "replica {id} {dn} {stamp} {len}")?;
     write!(text, " {kind} {class}\n")
 }
@@ -111,28 +110,6 @@ pub fn push_counts(text: &mut String, mode: SafeMode) -> Result<(), AllocError>
         text,
         "blocks {total} safe {safe} needed {needed} mode {mode}\n"
     )
-}
-
-fn kind_word(kind: Kind) -> &'static str
-    ensures { result.now ≡ kind_text kind }
-{
-    match kind {
-        Kind::Receiving => "receiving",
-        Kind::Received => "received",
-        Kind::Deleted => "deleted",
-    }
-}
-
-fn class_word(class: Class) -> &'static str
-    ensures { result.now ≡ class_text class }
-{
-    match class {
-        Class::Live => "live",
-        Class::Building => "building",
-        Class::Stale => "stale",
-        Class::Ahead => "ahead",
-        Class::WrongLength => "wronglength",
-    }
 }
 
 fn mode_word(on: bool) -> &'static str

@@ -11,12 +11,12 @@ use Rattle.std.proofs.lemmas.Bool.{cond-false, not-false}
 use Rattle.nn_types.specs.declared.block.Block.{Block}
 use Rattle.nn_types.specs.declared.status.Status.TheVariants.{Unnamed, Awaiting, Retired}
 use Rattle.nn_types.specs.Due.{is_due}
-use Rattle.nn_edits.specs.declared.tx.Edit.{Edit}
-use Rattle.nn_edits.specs.declared.tx.Edit.TheVariants.{StartSegment, EndSegment, Mkdir, Add, AddBlock, UpdateBlocks, Close, Rename, Delete, SetReplication}
-use Rattle.nn_edits.specs.declared.tx.Edit.TheVariants.{AllocateBlockId, SetGenstamp}
+use Rattle.nn_types.specs.declared.edit.Edit.{Edit}
+use Rattle.nn_types.specs.declared.edit.Edit.TheVariants.{StartSegment, EndSegment, Mkdir, Add, AddBlock, UpdateBlocks, Close, Rename, Delete, SetReplication}
+use Rattle.nn_types.specs.declared.edit.Edit.TheVariants.{AllocateBlockId, SetGenstamp}
 use Rattle.nn_model.specs.declared.form.Form.{Form}
 use Rattle.nn_model.specs.declared.form.Form.TheVariants.{Dir, File}
-use Rattle.nn_model.specs.declared.fault.EditFault.{EditFault}
+use Rattle.nn_types.specs.declared.edit_fault.EditFault.{EditFault}
 use Rattle.nn_model.specs.Namespace.{Path, path_cmp, Namespace, with_row, file_at, file_or_none, blocks_of, all_blocks, begins_with}
 use Rattle.nn_model.specs.Apply.{first, when, checks, refusal, effect, has_id, keeps_ids, keeps_stamps, with_blocks, in_path_order, moved, list_checks}
 use Rattle.nn_model.specs.Status.{block_at, status_unheld, status_from, due_in}

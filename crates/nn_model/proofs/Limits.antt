@@ -1,8 +1,8 @@
 -- A namespace at the limits of its numbers, which a log makes and which is well formed.
 use Rattle.std.proofs.Common.{ℕ, true, false, List, [], ◌∷◌, refl, lit<, lit≤}
 use Rattle.nn_types.specs.Path.{IsPath}
-use Rattle.nn_edits.specs.declared.tx.Tx.{Tx}
-use Rattle.nn_edits.specs.declared.tx.Edit.TheVariants.{Add, AddBlock, Close, AllocateBlockId, SetGenstamp}
+use Rattle.nn_types.specs.declared.tx.Tx.{Tx}
+use Rattle.nn_types.specs.declared.edit.Edit.TheVariants.{Add, AddBlock, Close, AllocateBlockId, SetGenstamp}
 use Rattle.nn_model.specs.Namespace.{Namespace, root_alone}
 use Rattle.nn_model.specs.WellFormed.{IsWellFormed}
 use Rattle.nn_model.specs.Log.{IsLog, AreLawful}

@@ -6,7 +6,7 @@ use Rattle.std.specs.FinMap.Entries.{find as find_entry}
 use Rattle.std.proofs.lemmas.Bool.{cond-true, cond-false}
 use Rattle.nn_model.specs.declared.form.Form.{Form}
 use Rattle.nn_model.specs.declared.form.Form.TheVariants.{Dir, File}
-use Rattle.nn_model.specs.declared.fault.EditFault.{EditFault}
+use Rattle.nn_types.specs.declared.edit_fault.EditFault.{EditFault}
 use Rattle.nn_model.specs.Namespace.{Path, path_cmp, Namespace, lookup, begins_with}
 use Rattle.nn_model.specs.Apply.{first, no_directory, parents, walk, in_path_order, moved}
 use Rattle.nn_model.proofs.Lookups.{find_in_order}

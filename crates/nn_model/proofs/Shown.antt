@@ -10,8 +10,8 @@ use Rattle.nn_types.specs.declared.event.Event.{Event}
 use Rattle.nn_types.specs.declared.event.Event.TheVariants.{Applied, Processed}
 use Rattle.nn_types.specs.declared.event.Cause.{Cause}
 use Rattle.nn_types.specs.declared.event.Cause.TheVariants.{Due, Flush}
-use Rattle.nn_edits.specs.declared.tx.Tx.{Tx}
-use Rattle.nn_edits.specs.declared.tx.Edit.{Edit}
+use Rattle.nn_types.specs.declared.tx.Tx.{Tx}
+use Rattle.nn_types.specs.declared.edit.Edit.{Edit}
 use Rattle.nn_types.specs.declared.replica.Replica.{Replica}
 use Rattle.nn_model.specs.Namespace.{Namespace}
 use Rattle.nn_model.specs.Apply.{effect, refusal}

@@ -15,10 +15,10 @@ use Rattle.std.proofs.lemmas.List.Kept.{IsStrictlySortedBy-filter}
 use Rattle.nn_types.specs.declared.block.Block.{Block}
 use Rattle.nn_types.specs.Block.{AreBlocks}
 use Rattle.nn_types.specs.Number.{IsNumber}
-use Rattle.nn_edits.specs.declared.tx.Edit.{Edit}
-use Rattle.nn_edits.specs.declared.tx.Edit.TheVariants.{StartSegment, EndSegment, Mkdir, Add, AddBlock, UpdateBlocks, Close, Rename, Delete, SetReplication}
-use Rattle.nn_edits.specs.declared.tx.Edit.TheVariants.{AllocateBlockId, SetGenstamp}
-use Rattle.nn_edits.specs.Lawful.{IsLawfulEdit}
+use Rattle.nn_types.specs.declared.edit.Edit.{Edit}
+use Rattle.nn_types.specs.declared.edit.Edit.TheVariants.{StartSegment, EndSegment, Mkdir, Add, AddBlock, UpdateBlocks, Close, Rename, Delete, SetReplication}
+use Rattle.nn_types.specs.declared.edit.Edit.TheVariants.{AllocateBlockId, SetGenstamp}
+use Rattle.nn_types.specs.LawfulEdit.{IsLawfulEdit}
 use Rattle.nn_model.specs.declared.form.Form.{Form}
 use Rattle.nn_model.specs.declared.form.Form.TheVariants.{Dir, File}
 use Rattle.nn_model.specs.Namespace.{Path, path_cmp, Namespace, no_block, no_stamp, with_row, file_at, file_or_none, blocks_of, all_blocks, begins_with}

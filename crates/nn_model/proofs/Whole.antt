@@ -8,7 +8,7 @@ use Rattle.nn_types.specs.declared.event.Event.{Event}
 use Rattle.nn_types.specs.declared.event.Event.TheVariants.{Applied, Processed}
 use Rattle.nn_types.specs.declared.event.Cause.{Cause}
 use Rattle.nn_types.specs.declared.event.Cause.TheVariants.{Due, Flush}
-use Rattle.nn_edits.specs.declared.tx.Tx.{Tx}
+use Rattle.nn_types.specs.declared.tx.Tx.{Tx}
 use Rattle.nn_model.specs.Namespace.{Namespace}
 use Rattle.nn_model.specs.Status.{due_in}
 use Rattle.nn_model.specs.WellFormed.{Has}

@@ -1,9 +1,9 @@
 -- The blocks of a namespace, each with whether its file is closed, and what they are after an edit.
 use Rattle.std.specs.Prelude.{ℕ, Bool, true, false, List, [], map, flat_map, find, Option, Some, None, ◌==◌, if◌then◌else◌}
 use Rattle.nn_types.specs.declared.block.Block.{Block}
-use Rattle.nn_edits.specs.declared.tx.Edit.{Edit}
-use Rattle.nn_edits.specs.declared.tx.Edit.TheVariants.{StartSegment, EndSegment, Mkdir, Add, AddBlock, UpdateBlocks, Close, Rename, Delete}
-use Rattle.nn_edits.specs.declared.tx.Edit.TheVariants.{SetReplication, AllocateBlockId, SetGenstamp}
+use Rattle.nn_types.specs.declared.edit.Edit.{Edit}
+use Rattle.nn_types.specs.declared.edit.Edit.TheVariants.{StartSegment, EndSegment, Mkdir, Add, AddBlock, UpdateBlocks, Close, Rename, Delete}
+use Rattle.nn_types.specs.declared.edit.Edit.TheVariants.{SetReplication, AllocateBlockId, SetGenstamp}
 use Rattle.nn_model.specs.declared.form.Form.{Form}
 use Rattle.nn_model.specs.declared.form.Form.TheVariants.{Dir, File}
 use Rattle.nn_model.specs.declared.form.BlockRow.{BlockRow}

@@ -1,9 +1,9 @@
 -- What edits and logs keep, as statements; the functions of the crate prove them.
 use Rattle.std.specs.Prelude.{◌≡◌, ℕ, ◌+◌, ◌<◌, ◌≤◌, true, false, List, [], ◌∷◌, ◌++◌, length, None, Ok}
 use Rattle.std.specs.Option.{option_map}
-use Rattle.nn_edits.specs.declared.tx.Edit.{Edit}
-use Rattle.nn_edits.specs.declared.tx.Tx.{Tx}
-use Rattle.nn_edits.specs.Lawful.{IsLawfulEdit}
+use Rattle.nn_types.specs.declared.edit.Edit.{Edit}
+use Rattle.nn_types.specs.declared.tx.Tx.{Tx}
+use Rattle.nn_types.specs.LawfulEdit.{IsLawfulEdit}
 use Rattle.nn_model.specs.Namespace.{Path, Namespace, lookup}
 use Rattle.nn_model.specs.Apply.{has_id, refusal, effect}
 use Rattle.nn_model.specs.Status.{block_at, due_in}

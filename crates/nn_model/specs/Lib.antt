@@ -1,5 +1,4 @@
 pub mod Namespace
-pub mod Fault
 pub mod Apply
 pub mod Touched
 pub mod Blocks

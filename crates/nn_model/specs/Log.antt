@@ -1,8 +1,8 @@
 -- The log: transactions that count up by one from a base, the namespace after them, and what overlapping segments say of it.
 use Rattle.std.specs.Prelude.{◌≡◌, ℕ, ◌+◌, List, [], ◌∷◌, flat_map, Option, Some, None, Result, Ok, Err, ◌==◌, if◌then◌else◌}
-use Rattle.nn_edits.specs.declared.tx.Tx.{Tx}
-use Rattle.nn_edits.specs.Lawful.{IsLawfulEdit}
-use Rattle.nn_model.specs.declared.fault.EditFault.{EditFault}
+use Rattle.nn_types.specs.declared.tx.Tx.{Tx}
+use Rattle.nn_types.specs.LawfulEdit.{IsLawfulEdit}
+use Rattle.nn_types.specs.declared.edit_fault.EditFault.{EditFault}
 use Rattle.nn_model.specs.Namespace.{Namespace}
 use Rattle.nn_model.specs.Apply.{refusal, effect}
 

@@ -3,10 +3,10 @@ use Rattle.std.specs.Prelude.{◌≡◌, ℕ, ◌+◌, ◌^◌, List, [], ◌∷
 use Rattle.std.proofs.lemmas.Bool.{both_ways, eqb-false, lt-ltb}
 use Rattle.std.proofs.lemmas.Option.{none-some}
 use Rattle.std.proofs.Common.{sym, lit<}
-use Rattle.nn_edits.specs.declared.tx.Edit.TheVariants.{StartSegment, EndSegment, Mkdir, Delete, SetGenstamp}
-use Rattle.nn_edits.specs.declared.tx.Tx.{Tx}
+use Rattle.nn_types.specs.declared.edit.Edit.TheVariants.{StartSegment, EndSegment, Mkdir, Delete, SetGenstamp}
+use Rattle.nn_types.specs.declared.tx.Tx.{Tx}
 use Rattle.nn_model.specs.declared.form.Form.TheVariants.{Dir}
-use Rattle.nn_model.specs.declared.fault.EditFault.TheVariants.{Exists, BadGeneration}
+use Rattle.nn_types.specs.declared.edit_fault.EditFault.TheVariants.{Exists, BadGeneration}
 use Rattle.nn_model.specs.Namespace.{Namespace, no_block, root_alone}
 use Rattle.nn_model.specs.Log.{namespace_after, IsLog, run, log_of, CountsUp, AreLawful}
 use Rattle.nn_model.specs.NamespaceRows.{tx, a, ab, namespace}

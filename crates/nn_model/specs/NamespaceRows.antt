@@ -3,13 +3,13 @@ use Rattle.std.specs.Prelude.{◌≡◌, ℕ, Bool, true, false, List, [], ◌�
 use Rattle.nn_types.specs.declared.block.Block.{Block}
 use Rattle.nn_types.specs.declared.status.Status.{Status}
 use Rattle.nn_types.specs.declared.status.Status.TheVariants.{Unnamed, Awaiting, Named, Retired}
-use Rattle.nn_edits.specs.declared.tx.Edit.{Edit}
-use Rattle.nn_edits.specs.declared.tx.Edit.TheVariants.{StartSegment, EndSegment, Mkdir, Add, AddBlock, UpdateBlocks, Close, Rename, Delete}
-use Rattle.nn_edits.specs.declared.tx.Edit.TheVariants.{AllocateBlockId, SetGenstamp}
-use Rattle.nn_edits.specs.declared.tx.Tx.{Tx}
+use Rattle.nn_types.specs.declared.edit.Edit.{Edit}
+use Rattle.nn_types.specs.declared.edit.Edit.TheVariants.{StartSegment, EndSegment, Mkdir, Add, AddBlock, UpdateBlocks, Close, Rename, Delete}
+use Rattle.nn_types.specs.declared.edit.Edit.TheVariants.{AllocateBlockId, SetGenstamp}
+use Rattle.nn_types.specs.declared.tx.Tx.{Tx}
 use Rattle.nn_model.specs.declared.form.Form.{Form}
 use Rattle.nn_model.specs.declared.form.Form.TheVariants.{Dir, File}
-use Rattle.nn_model.specs.declared.fault.EditFault.TheVariants.{Missing, IntoItself, Exists}
+use Rattle.nn_types.specs.declared.edit_fault.EditFault.TheVariants.{Missing, IntoItself, Exists}
 use Rattle.nn_model.specs.Namespace.{Path, Namespace, root_alone}
 use Rattle.nn_model.specs.Apply.{refusal, applied}
 use Rattle.nn_model.specs.Status.{status_of, due_in}

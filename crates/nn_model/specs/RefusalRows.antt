@@ -1,12 +1,12 @@
 -- Why edits are refused: one table for each edit. Where two causes hold, the first in the order of the checks is the answer.
 use Rattle.std.specs.Prelude.{◌≡◌, ℕ, true, false, List, [], ◌∷◌, map, Option, Some, None, Ok, Err, codes, refl}
-use Rattle.nn_edits.specs.declared.tx.Edit.{Edit}
-use Rattle.nn_edits.specs.declared.tx.Edit.TheVariants.{StartSegment, EndSegment, Mkdir, Add, AddBlock, UpdateBlocks, Close, Rename, Delete}
-use Rattle.nn_edits.specs.declared.tx.Edit.TheVariants.{SetReplication, AllocateBlockId, SetGenstamp}
+use Rattle.nn_types.specs.declared.edit.Edit.{Edit}
+use Rattle.nn_types.specs.declared.edit.Edit.TheVariants.{StartSegment, EndSegment, Mkdir, Add, AddBlock, UpdateBlocks, Close, Rename, Delete}
+use Rattle.nn_types.specs.declared.edit.Edit.TheVariants.{SetReplication, AllocateBlockId, SetGenstamp}
 use Rattle.nn_model.specs.declared.form.Form.TheVariants.{Dir}
-use Rattle.nn_model.specs.declared.fault.EditFault.{EditFault}
-use Rattle.nn_model.specs.declared.fault.EditFault.TheVariants.{Exists, Missing, NotDirectory, NotFile, IsRoot, IntoItself}
-use Rattle.nn_model.specs.declared.fault.EditFault.TheVariants.{NotOpen, WrongBlocks, BadGeneration, BadBlockId, BadReplication}
+use Rattle.nn_types.specs.declared.edit_fault.EditFault.{EditFault}
+use Rattle.nn_types.specs.declared.edit_fault.EditFault.TheVariants.{Exists, Missing, NotDirectory, NotFile, IsRoot, IntoItself}
+use Rattle.nn_types.specs.declared.edit_fault.EditFault.TheVariants.{NotOpen, WrongBlocks, BadGeneration, BadBlockId, BadReplication}
 use Rattle.nn_model.specs.Namespace.{Path, Namespace}
 use Rattle.nn_model.specs.Apply.{refusal, applied, effect, parents, is_dir}
 use Rattle.nn_model.specs.NamespaceRows.{a, a_b, ab, b, c, f, block, file, namespace}

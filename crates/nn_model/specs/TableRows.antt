@@ -6,7 +6,7 @@ use Rattle.nn_types.specs.declared.report.Message.{Message}
 use Rattle.nn_types.specs.declared.report.Kind.TheVariants.{Receiving, Received}
 use Rattle.nn_types.specs.declared.event.Event.TheVariants.{Applied, Processed}
 use Rattle.nn_types.specs.declared.event.Cause.TheVariants.{Due, Flush}
-use Rattle.nn_edits.specs.declared.tx.Edit.TheVariants.{Delete}
+use Rattle.nn_types.specs.declared.edit.Edit.TheVariants.{Delete}
 use Rattle.nn_model.specs.Namespace.{root_alone}
 use Rattle.nn_model.specs.Log.{namespace_after}
 use Rattle.nn_model.specs.Lanes.{no_messages, followed_by, AreNumbered, message_of}

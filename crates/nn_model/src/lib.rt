@@ -5,12 +5,10 @@
 //! the definitions, as contracts of functions that do nothing.
 #![tactic(auto)]
 
-mod fault;
 mod form;
 mod history_laws;
 mod laws;
 
-pub use fault::EditFault;
 pub use form::{BlockRow, FileRow, Form};
 pub use history_laws::{
     ends_in_picture, fresh_stands, once_in_sending_order, one_log_one_picture, same_when_whole,

@@ -11,7 +11,7 @@ use Rattle.nn_edits.specs.Reading.{either_of_line}
 use Rattle.nn_edits.specs.declared.fault.LineFault.{LineFault}
 use Rattle.nn_edits.specs.declared.line.Line.{Line}
 use Rattle.nn_edits.specs.declared.line.Line.TheVariants as either
-use Rattle.nn_edits.specs.declared.tx.Tx.{Tx}
+use Rattle.nn_types.specs.declared.tx.Tx.{Tx}
 use Rattle.nn_edits.proofs.LineGrammar.{either_line_ok, lawful_line}
 use Rattle.nn_model.specs.Lanes.{Lanes, no_messages, followed_by}
 use Rattle.nn_segment.specs.Segment.{is_end}

@@ -11,7 +11,7 @@ use Rattle.nn_edits.specs.Reading.{edit_of_line, either_of_line}
 use Rattle.nn_edits.specs.declared.fault.LineFault.{LineFault}
 use Rattle.nn_edits.specs.declared.line.Line.{Line}
 use Rattle.nn_edits.specs.declared.line.Line.TheVariants as either
-use Rattle.nn_edits.specs.declared.tx.Tx.{Tx}
+use Rattle.nn_types.specs.declared.tx.Tx.{Tx}
 use Rattle.nn_edits.proofs.LineGrammar.{either_line_ok, edit_line_has}
 use Rattle.nn_model.specs.Lanes.{no_messages}
 use Rattle.nn_segment.specs.Lines.{is_unbroken}

@@ -6,7 +6,7 @@ use Rattle.std.specs.List.{list_all}
 use Rattle.std.proofs.lemmas.Bool.{and_parts}
 use Rattle.std.proofs.lemmas.List.Elements.{All-push, All-nil}
 use Rattle.nn_edits.specs.Reading.{edit_of_line}
-use Rattle.nn_edits.specs.declared.tx.Tx.{Tx}
+use Rattle.nn_types.specs.declared.tx.Tx.{Tx}
 use Rattle.nn_segment.specs.Lines.{newline, joined_lines, reads_of, is_unbroken}
 use Rattle.nn_segment.proofs.JoinedLines.{reads_joined}
 use Rattle.nn_segment.specs.Segment.{Segment, last_txid}

@@ -2,7 +2,7 @@
 use Rattle.std.specs.Prelude.{◌≡◌, ◌≤◌, ℕ, ◌+◌, ◌==◌, List, [], ◌∷◌, ◌++◌, length, map, max, true, if◌then◌else◌, Result, Ok, Err}
 use Rattle.std.specs.List.{All, list_all}
 use Rattle.nn_edits.specs.Reading.{edit_of_line}
-use Rattle.nn_edits.specs.declared.tx.Tx.{Tx}
+use Rattle.nn_types.specs.declared.tx.Tx.{Tx}
 use Rattle.nn_segment.specs.Lines.{newline, joined_lines, is_unbroken}
 use Rattle.nn_segment.specs.Name.{name_text}
 use Rattle.nn_segment.specs.Reading.{read_segment}

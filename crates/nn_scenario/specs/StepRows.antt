@@ -2,7 +2,7 @@
 use Rattle.std.specs.Prelude.{◌≡◌, ℕ, List, [], ◌∷◌, codes, refl}
 use Rattle.nn_types.specs.declared.report.Kind.TheVariants.{Received}
 use Rattle.nn_types.specs.declared.report.Report.{Report}
-use Rattle.nn_edits.specs.declared.tx.Edit.TheVariants.{StartSegment}
+use Rattle.nn_types.specs.declared.edit.Edit.TheVariants.{StartSegment}
 use Rattle.nn_scenario.specs.Scenario.{ScenarioLine, edit, report, edit_lines, messages_of, steps_of}
 use Rattle.nn_scenario.specs.Steps.{message, lane_count, lanes_of}
 use Rattle.nn_scenario.specs.declared.steps.Step.TheVariants as step

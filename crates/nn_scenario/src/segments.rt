@@ -7,9 +7,8 @@ ghost use Rattle.nn_segment.specs.Outcome.{Gives};
 ghost use Rattle.nn_segment.specs.Segment.{is_end};
 ghost use Rattle.nn_scenario.specs.Cut.{no_lines, with_line, last_part, name_of, segment_of, segments_from};
 
-use nn_edits::{Edit, Tx};
 use nn_segment::{Parsed, SegmentFault, segment_name};
-use nn_types::Txid;
+use nn_types::{Edit, Tx, Txid};
 use std::alloc::{AllocError, Global};
 use std::marker::Model;
 

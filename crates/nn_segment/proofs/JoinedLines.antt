@@ -10,7 +10,7 @@ use Rattle.nn_edits.specs.Reading.{object_in, tx_in, report_in, either_in, edit_
 use Rattle.nn_edits.specs.declared.fault.LineFault.{LineFault}
 use Rattle.nn_edits.specs.declared.line.Line.{Line}
 use Rattle.nn_edits.specs.declared.line.Line.TheVariants as either
-use Rattle.nn_edits.specs.declared.tx.Tx.{Tx}
+use Rattle.nn_types.specs.declared.tx.Tx.{Tx}
 use Rattle.nn_segment.specs.Lines.{newline, lines_of, joined_lines, is_unbroken, reads_of, JoinedAreCutBack}
 
 -- the first line of more

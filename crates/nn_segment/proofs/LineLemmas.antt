@@ -6,7 +6,7 @@ use Rattle.std.proofs.lemmas.List.Sums.{sum_by-cons}
 use Rattle.std.specs.List.{onto_first, position_or_len}
 use Rattle.nn_edits.specs.Reading.{edit_of_line}
 use Rattle.nn_edits.specs.declared.fault.LineFault.{LineFault}
-use Rattle.nn_edits.specs.declared.tx.Tx.{Tx}
+use Rattle.nn_types.specs.declared.tx.Tx.{Tx}
 use Rattle.nn_segment.specs.Lines.{newline, lines_of, is_ended, reads_of}
 
 abbrev pub ends : ℕ → Bool

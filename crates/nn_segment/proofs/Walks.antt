@@ -1,7 +1,7 @@
 -- How a walk over segments goes through the log.
 use Rattle.std.proofs.Common.{◌≡◌, ℕ, zero, suc, ◌+◌, ◌-◌, ◌<◌, ◌≤◌, Bool, cond, List, [], ◌∷◌, ◌++◌, length, drop, Ok, Err, refl, ap, ◌∙◌, subst, arith, append_assoc, append-nil, length-append}
 use Rattle.std.proofs.lemmas.Bool.{eq-eqb, ne_eqb}
-use Rattle.nn_edits.specs.declared.tx.Tx.{Tx}
+use Rattle.nn_types.specs.declared.tx.Tx.{Tx}
 use Rattle.nn_model.specs.Log.{counted, log_of, CountsUp}
 use Rattle.nn_model.proofs.Logs.{one_more_segment, gap_adds_nothing, overlap_adds_the_rest}
 use Rattle.nn_segment.specs.Segment.{first_txid, last_txid}

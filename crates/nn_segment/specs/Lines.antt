@@ -2,7 +2,7 @@
 use Rattle.std.specs.Prelude.{◌≡◌, ℕ, ◌==◌, List, [], ◌∷◌, ◌++◌, Bool, true, false, not, if◌then◌else◌, Result, map}
 use Rattle.std.specs.List.{onto_first, flat_map, list_all}
 use Rattle.nn_edits.specs.declared.fault.LineFault.{LineFault}
-use Rattle.nn_edits.specs.declared.tx.Tx.{Tx}
+use Rattle.nn_types.specs.declared.tx.Tx.{Tx}
 use Rattle.nn_edits.specs.Reading.{edit_of_line}
 
 abbrev pub newline : ℕ

@@ -1,9 +1,9 @@
 -- Where a log of segments ends: at its last transaction, before the first one that is refused, or before a gap.
 use Rattle.std.specs.Prelude.{ℕ, ◌+◌, List, [], ◌∷◌, Result, Ok, Err, nat_lt, if◌then◌else◌}
 use Rattle.nn_types.specs.declared.fault.TheConstants.{DISORDER}
-use Rattle.nn_edits.specs.declared.tx.Tx.{Tx}
-use Rattle.nn_model.specs.declared.fault.EditFault.{EditFault}
-use Rattle.nn_model.specs.Fault.{number_of}
+use Rattle.nn_types.specs.declared.tx.Tx.{Tx}
+use Rattle.nn_types.specs.declared.edit_fault.EditFault.{EditFault}
+use Rattle.nn_types.specs.EditFault.{number_of}
 use Rattle.nn_model.specs.Namespace.{Namespace}
 use Rattle.nn_model.specs.Apply.{applied}
 use Rattle.nn_model.specs.Log.{counted}

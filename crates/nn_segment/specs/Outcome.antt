@@ -1,7 +1,7 @@
 -- What calls answer, beside what the definitions give.
 use Rattle.std.specs.Prelude.{◌≡◌, ◌++◌, ◌∷◌, List, map, Option, Some, None, Result, Ok, Err}
 use Rattle.nn_edits.specs.declared.fault.LineFault.{LineFault}
-use Rattle.nn_edits.specs.declared.tx.Tx.{Tx}
+use Rattle.nn_types.specs.declared.tx.Tx.{Tx}
 use Rattle.nn_edits.specs.Outcome as line
 use Rattle.nn_segment.specs.declared.fault.SegmentFault.{SegmentFault}
 use Rattle.nn_segment.specs.declared.fault.SegmentFault.TheVariants.{OutOfMemory}

@@ -2,7 +2,7 @@
 use Rattle.std.specs.Prelude.{ℕ, ◌+◌, List, [], ◌∷◌, length, drop, Bool, true, false, not, ◌==◌, ◌&&◌, nat_lt, if◌then◌else◌, Option, Some, None, is_none, Result, Ok, Err}
 use Rattle.nn_edits.specs.declared.fault.LineFault.{LineFault}
 use Rattle.nn_edits.specs.declared.fault.LineFault.TheVariants as line
-use Rattle.nn_edits.specs.declared.tx.Tx.{Tx}
+use Rattle.nn_types.specs.declared.tx.Tx.{Tx}
 use Rattle.nn_segment.specs.declared.fault.SegmentFault.{SegmentFault}
 use Rattle.nn_segment.specs.declared.fault.SegmentFault.TheVariants.{BadName, TooLong, NoStart, TornLine, BadLine, Gap, NoEnd, NameMismatch, OutOfMemory}
 use Rattle.nn_segment.specs.Name.{txids_of}

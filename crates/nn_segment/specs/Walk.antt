@@ -1,6 +1,6 @@
 -- The log of what sources gave, and how a walk over segments goes through it.
 use Rattle.std.specs.Prelude.{◌≡◌, ℕ, ◌+◌, ◌-◌, ◌<◌, ◌≤◌, List, [], ◌∷◌, ◌++◌, length, drop, Ok, Err}
-use Rattle.nn_edits.specs.declared.tx.Tx.{Tx}
+use Rattle.nn_types.specs.declared.tx.Tx.{Tx}
 use Rattle.nn_model.specs.Log.{counted, log_of, CountsUp}
 use Rattle.nn_segment.specs.Segment.{Segment, first_txid, last_txid, IsSegment}
 use Rattle.nn_segment.specs.Source.{Answer, given, end}

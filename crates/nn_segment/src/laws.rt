@@ -3,7 +3,7 @@
 ghost use Rattle.std.specs.Prelude.{◌≡◌, List, ℕ, Ok, true, map};
 ghost use Rattle.std.specs.List.{list_all};
 ghost use Rattle.nn_edits.specs.Reading.{edit_of_line};
-ghost use Rattle.nn_edits.specs.declared.tx.Tx.{Tx};
+ghost use Rattle.nn_types.specs.declared.tx.Tx.{Tx};
 ghost use Rattle.nn_segment.specs.Lines.{reads_of, joined_lines, is_unbroken, JoinedAreCutBack};
 ghost use Rattle.nn_segment.specs.Reading.{read_segment};
 ghost use Rattle.nn_segment.specs.Segment.{Segment, IsSegment};

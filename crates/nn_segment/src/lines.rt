@@ -6,7 +6,8 @@ ghost use Rattle.nn_segment.specs.Lines.{newline, lines_of, is_ended, reads_of};
 ghost use Rattle.nn_segment.specs.Outcome.{StopsAt};
 
 use crate::fault::SegmentFault;
-use nn_edits::{LineFault, Scratch, Tx, read_edit};
+use nn_edits::{LineFault, Scratch, read_edit};
+use nn_types::Tx;
 use std::alloc::{AllocError, Global};
 
 /// The transactions of the lines before the first bad one, and why that one is bad.

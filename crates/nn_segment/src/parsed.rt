@@ -11,8 +11,8 @@ ghost use Rattle.nn_segment.specs.Outcome.{Gives, StopsAt};
 use crate::fault::SegmentFault;
 use crate::lines::{read_lines, torn_line};
 use crate::name::parse_name;
-use nn_edits::{Edit, LineFault, Tx};
-use nn_types::Txid;
+use nn_edits::LineFault;
+use nn_types::{Edit, Tx, Txid};
 use std::alloc::Global;
 use std::marker::Model;
 

@@ -1,6 +1,6 @@
 -- What a transaction that was not applied leaves.
 use Rattle.std.proofs.Common.{◌≡◌, Some, None, refl, sym, ap, subst, ◌∙◌, inl, inr}
-use Rattle.nn_edits.specs.declared.tx.Tx.{Tx}
+use Rattle.nn_types.specs.declared.tx.Tx.{Tx}
 use Rattle.nn_model.specs.Apply.{refusal}
 use Rattle.nn_model.specs.Stands.{Standby}
 use Rattle.nn_shadow.specs.declared.fault.ApplyFault.{ApplyFault}

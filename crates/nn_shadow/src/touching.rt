@@ -4,10 +4,9 @@ ghost use Rattle.nn_model.specs.Touched.{ids_of, ascending};
 ghost use Rattle.nn_tree.specs.Touched.{shown};
 ghost use Rattle.nn_shadow.specs.Touching.{written, Rises, IsNextTouched, IsNextSkipped, lower, lowest, earlier, later};
 
-use nn_edits::Edit;
 use nn_postponed::Postponed;
 use nn_tree::Touched;
-use nn_types::{Block, BlockId};
+use nn_types::{Block, BlockId, Edit};
 use std::alloc::{AllocError, Global};
 
 /// The ids of the blocks that the edit writes, ascending. They are made before the edit is, which may not fail for want

@@ -1,6 +1,6 @@
 -- What the calls of the standby of one thread leave of what every standby keeps.
 use Rattle.std.proofs.Common.{◌≡◌, ℕ, ◌+◌, true, false, List, ◌∷◌, Some, None, sym, ap, ◌∙◌, subst}
-use Rattle.nn_edits.specs.declared.tx.Tx.{Tx}
+use Rattle.nn_types.specs.declared.tx.Tx.{Tx}
 use Rattle.nn_model.specs.Log.{CountsUp}
 use Rattle.nn_model.specs.Stands.{Standby}
 use Rattle.nn_shadow.specs.declared.fault.Stop.{Stop}

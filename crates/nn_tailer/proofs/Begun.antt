@@ -1,6 +1,6 @@
 -- How a segment begins.
 use Rattle.std.proofs.Common.{◌≡◌, ◌≢◌, ℕ, zero, suc, ◌+◌, ◌-◌, ◌<◌, ◌≤◌, List, [], ◌∷◌, length, drop, get_or, true, refl, sym, ap, ◌∙◌, subst, arith}
-use Rattle.nn_edits.specs.declared.tx.Tx.{Tx}
+use Rattle.nn_types.specs.declared.tx.Tx.{Tx}
 use Rattle.nn_model.specs.Log.{counted as news, CountsUp}
 use Rattle.nn_segment.specs.Segment.{Segment, first_txid, starts, IsSegment}
 use Rattle.nn_segment.proofs.Walks.{adds_the_rest, high_adds_nothing}

@@ -1,10 +1,10 @@
 -- What the parts of a step do.
 use Rattle.std.specs.Prelude.{◌≡◌, ◌≢◌, ℕ, ◌+◌, ◌<◌, ◌≤◌, true, false, List, [], ◌∷◌, length, Some, None, slice_index_or}
 use Rattle.nn_types.specs.declared.report.Message.{Message}
-use Rattle.nn_edits.specs.declared.tx.Tx.{Tx}
+use Rattle.nn_types.specs.declared.tx.Tx.{Tx}
 use Rattle.nn_types.specs.declared.fault.TheConstants.{DISORDER}
-use Rattle.nn_model.specs.declared.fault.EditFault.{EditFault}
-use Rattle.nn_model.specs.Fault.{number_of}
+use Rattle.nn_types.specs.declared.edit_fault.EditFault.{EditFault}
+use Rattle.nn_types.specs.EditFault.{number_of}
 use Rattle.nn_model.specs.Log.{counted as news}
 use Rattle.nn_model.specs.Apply.{refusal}
 use Rattle.nn_lane.specs.Ends.{Taking, lane_of, counted, StaysCounted}

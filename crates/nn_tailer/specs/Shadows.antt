@@ -1,7 +1,7 @@
 -- What the standby of one thread underwent in a call, each in one record over what its calls promise.
 use Rattle.std.specs.Prelude.{◌≡◌, ℕ, ◌+◌, true, List, [], ◌∷◌, ◌++◌}
 use Rattle.nn_types.specs.declared.report.Message.{Message}
-use Rattle.nn_edits.specs.declared.tx.Tx.{Tx}
+use Rattle.nn_types.specs.declared.tx.Tx.{Tx}
 use Rattle.nn_model.specs.Namespace.{Namespace}
 use Rattle.nn_model.specs.Held.{is_held}
 use Rattle.nn_model.specs.Lanes.{Lanes, followed_by}

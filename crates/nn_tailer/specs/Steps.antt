@@ -1,7 +1,7 @@
 -- What a step does.
 use Rattle.std.specs.Prelude.{◌≡◌, ◌+◌, ◌<◌, ◌≤◌, List, [], ◌∷◌, Some, None, Result, Ok, Err, MatchResult, ◌⊎◌}
-use Rattle.nn_edits.specs.declared.tx.Tx.{Tx}
-use Rattle.nn_model.specs.declared.fault.EditFault.{EditFault}
+use Rattle.nn_types.specs.declared.tx.Tx.{Tx}
+use Rattle.nn_types.specs.declared.edit_fault.EditFault.{EditFault}
 use Rattle.nn_model.specs.Apply.{refusal}
 use Rattle.nn_shadow.specs.Contents.{standby_of}
 use Rattle.nn_shadow.specs.Calls.{applied_to}
@@ -19,7 +19,7 @@ use Rattle.nn_tailer.specs.declared.fault.StepFault.{StepFault}
 use Rattle.nn_tailer.specs.declared.fault.StepFault.TheVariants as fault
 use Rattle.nn_tailer.specs.Tailing.{has_begun, Tailer, Carries}
 use Rattle.nn_types.specs.declared.fault.TheConstants.{DISORDER}
-use Rattle.nn_model.specs.Fault.{number_of}
+use Rattle.nn_types.specs.EditFault.{number_of}
 use Rattle.nn_tailer.specs.Shadows.{ShowsSame}
 use Rattle.nn_tailer.specs.Parts.{TakesUp}
 

@@ -1,7 +1,7 @@
 -- What a standby with lanes shows, and when it stands at a log and its lanes.
 use Rattle.std.specs.Prelude.{◌≡◌, ℕ, zero, suc, ◌+◌, ◌-◌, ◌≤◌, Bool, true, false, List, [], ◌∷◌, ◌++◌, length, map, take, Option, Some, None, Result, Err, slice_index_or, slice_set}
 use Rattle.nn_types.specs.declared.report.Message.{Message}
-use Rattle.nn_edits.specs.declared.tx.Tx.{Tx}
+use Rattle.nn_types.specs.declared.tx.Tx.{Tx}
 use Rattle.nn_model.specs.Namespace.{Namespace}
 use Rattle.nn_model.specs.Lanes.{Lanes}
 use Rattle.nn_lane.specs.Ends.{Taking, LaneId, lane_of, node_of, counted}

@@ -1,6 +1,6 @@
 //! Lines typed by hand from the format, faults by their numbers, and each call once on its happy path.
-use nn_edits::{Edit, Line, LineFault, Scratch, Tx, read_edit, read_line, read_report, write_edit};
-use nn_types::{Block, BlockId, Blocks, GenerationStamp, Kind, Length, Path, Txid};
+use nn_edits::{Line, LineFault, Scratch, read_edit, read_line, read_report, write_edit};
+use nn_types::{Block, BlockId, Blocks, Edit, GenerationStamp, Kind, Length, Path, Tx, Txid};
 use std::alloc::Global;
 use std::process::Abort;
 use std::test::Fail;

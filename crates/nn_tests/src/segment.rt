@@ -1,14 +1,14 @@
 //! Segments typed by hand from the format, faults by their numbers, and each call once on its happy path.
 ghost use Rattle.std.specs.Prelude.{◌≡◌, ◌++◌, ◌∷◌, [], Ok, IfOk, OnOk};
 ghost use Rattle.nn_edits.specs.Reading.{edit_of_line};
-ghost use Rattle.nn_edits.specs.declared.tx.Tx.{Tx as TxData};
+ghost use Rattle.nn_types.specs.declared.tx.Tx.{Tx as TxData};
 ghost use Rattle.nn_segment.specs.Lines.{newline};
 
-use nn_edits::{LineFault, Scratch, Tx, read_edit};
+use nn_edits::{LineFault, Scratch, read_edit};
 use nn_segment::{
     Item, MemorySource, Parsed, SegmentFault, SegmentSource, gather, parse_name, segment_name,
 };
-use nn_types::Txid;
+use nn_types::{Tx, Txid};
 use std::alloc::Global;
 use std::process::Abort;
 use std::test::Fail;

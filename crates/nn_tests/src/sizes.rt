@@ -2,12 +2,9 @@
 //! item would be proved; here it would be seen. All run on a test's own stack, which is no larger than usual.
 ghost use Rattle.std.specs.Prelude.{◌+◌, ◌<◌, ◌^◌};
 
-use nn_edits::Edit;
 use nn_replicas::Replicas;
 use nn_tree::{Found, Namespace};
-use nn_types::{
-    Block, BlockId, Blocks, GenerationStamp, Kind, Length, Path, Replica, Replication, Settings,
-};
+use nn_types::{Block, BlockId, Blocks, Edit, GenerationStamp, Kind, Length, Path, Replica, Replication, Settings};
 use std::alloc::Global;
 use std::process::Abort;
 use std::test::Fail;

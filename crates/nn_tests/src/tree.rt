@@ -1,7 +1,6 @@
 //! Edits in few words and what becomes of them, in the order in which they come.
-use nn_edits::Edit;
 use nn_tree::{Found, Namespace, Touched};
-use nn_types::{Block, BlockId, Blocks, GenerationStamp, Length, Path, Replication, Status};
+use nn_types::{Block, BlockId, Blocks, Edit, GenerationStamp, Length, Path, Replication, Status};
 use std::alloc::Global;
 use std::process::Abort;
 use std::test::Fail;

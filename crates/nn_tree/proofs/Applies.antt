@@ -1,8 +1,8 @@
 -- An edit that a tree did applies.
 use Rattle.std.proofs.Common.{◌≡◌, ℕ, true, false, not, ◌||◌, List, [], ◌∷◌, Some, None, is_some, refl, sym, ap, ◌∙◌, nat_lt, nat_le}
 use Rattle.nn_types.specs.declared.block.Block.{Block}
-use Rattle.nn_edits.specs.declared.tx.Edit.TheVariants as edit
-use Rattle.nn_model.specs.declared.fault.EditFault.TheVariants.{NotOpen, BadBlockId, BadGeneration, WrongBlocks}
+use Rattle.nn_types.specs.declared.edit.Edit.TheVariants as edit
+use Rattle.nn_types.specs.declared.edit_fault.EditFault.TheVariants.{NotOpen, BadBlockId, BadGeneration, WrongBlocks}
 use Rattle.nn_model.specs.declared.form.Form.{Form}
 use Rattle.nn_model.specs.declared.form.Form.TheVariants.{File}
 use Rattle.nn_model.specs.declared.form.FileRow.{FileRow}

@@ -13,9 +13,9 @@ use Rattle.nn_tree.proofs.Prefix.{decided}
 use Rattle.std.specs.FinMap.Entries.{find as find_entry}
 use Rattle.std.proofs.lemmas.Map.Text.{is_eq-slice_cmp}
 use Rattle.nn_types.specs.declared.block.Block.{Block}
-use Rattle.nn_edits.specs.declared.tx.Edit.TheVariants as edit
-use Rattle.nn_model.specs.declared.fault.EditFault.{EditFault}
-use Rattle.nn_model.specs.declared.fault.EditFault.TheVariants.{Missing, Exists, NotFile, IntoItself, NotOpen, BadReplication, BadBlockId, BadGeneration, WrongBlocks}
+use Rattle.nn_types.specs.declared.edit.Edit.TheVariants as edit
+use Rattle.nn_types.specs.declared.edit_fault.EditFault.{EditFault}
+use Rattle.nn_types.specs.declared.edit_fault.EditFault.TheVariants.{Missing, Exists, NotFile, IntoItself, NotOpen, BadReplication, BadBlockId, BadGeneration, WrongBlocks}
 use Rattle.nn_model.specs.declared.form.Form.TheVariants.{Dir, File}
 use Rattle.nn_model.specs.declared.form.FileRow.{FileRow}
 use Rattle.nn_model.specs.Namespace.{Namespace, path_cmp, lookup, begins_with, file_at, file_or_none, no_stamp}

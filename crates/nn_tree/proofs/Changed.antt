@@ -7,7 +7,7 @@ use Rattle.nn_model.specs.Namespace.{Path}
 use Rattle.nn_tree.specs.At.{at, rows, name_cmp, grafted, IsSame}
 use Rattle.nn_tree.specs.Changes.{IsMade, IsFileChanged}
 use Rattle.nn_tree.specs.Walks.{or_fault, starts_with, parent_fault, root_fault, walk_fault, exists_fault, mkdir_fault, delete_fault, into_itself_fault, rename_fault}
-use Rattle.nn_model.specs.declared.fault.EditFault.TheVariants.{IntoItself}
+use Rattle.nn_types.specs.declared.edit_fault.EditFault.TheVariants.{IntoItself}
 use Rattle.std.specs.Ordering.{is_eq}
 use Rattle.nn_tree.proofs.Prefix.{append_nil, decided, some_none, starts_split, graft_at, graft_by}
 use Rattle.nn_tree.proofs.Renamed.{starts_append}

@@ -8,8 +8,8 @@ use Rattle.std.specs.FinMap.Entries.{is_sorted, below_all}
 use Rattle.std.proofs.lemmas.Cmp.{nat_cmp_total, tied_itself}
 use Rattle.std.proofs.lemmas.Bool.{both_ways, cases_Bool, and_parts, eqb-true, eq-eqb, or_left, or_right}
 use Rattle.nn_types.specs.declared.block.Block.{Block}
-use Rattle.nn_edits.specs.declared.tx.Edit.TheVariants as edit
-use Rattle.nn_edits.specs.Lawful.{IsLawfulEdit}
+use Rattle.nn_types.specs.declared.edit.Edit.TheVariants as edit
+use Rattle.nn_types.specs.LawfulEdit.{IsLawfulEdit}
 use Rattle.nn_model.proofs.Trees.{stays_well_formed}
 use Rattle.nn_model.specs.Namespace.{Namespace, path_cmp, lookup, blocks_of}
 use Rattle.nn_model.specs.Apply.{refusal, effect, has_id}

@@ -3,8 +3,8 @@ use Rattle.std.proofs.Common.{inl, inr, ◌≡◌, ℕ, Bool, true, false, cond,
 use Rattle.std.specs.Prelude.{◌==◌, option_map}
 use Rattle.std.proofs.lemmas.Bool.{both_ways, eqb-true, eq-eqb, ne_eqb, not-false, and_parts}
 use Rattle.nn_types.specs.declared.block.Block.{Block}
-use Rattle.nn_edits.specs.declared.tx.Edit.TheVariants as edit
-use Rattle.nn_edits.specs.Lawful.{IsLawfulEdit}
+use Rattle.nn_types.specs.declared.edit.Edit.TheVariants as edit
+use Rattle.nn_types.specs.LawfulEdit.{IsLawfulEdit}
 use Rattle.nn_model.proofs.Trees.{stays_well_formed}
 use Rattle.nn_model.specs.declared.form.Form.TheVariants.{Dir, File}
 use Rattle.nn_model.specs.declared.form.FileRow.{FileRow}

@@ -11,8 +11,8 @@ use Rattle.nn_model.specs.declared.form.Form.{Form}
 use Rattle.nn_model.specs.Namespace.{Path}
 use Rattle.nn_tree.specs.At.{at, rows, name_cmp, path_cmp, grafted}
 use Rattle.nn_tree.specs.Walks.{or_fault, root_fault, walk_fault, exists_fault, missing_fault, mkdir_fault, delete_fault, starts_with}
-use Rattle.nn_model.specs.declared.fault.EditFault.{EditFault}
-use Rattle.nn_model.specs.declared.fault.EditFault.TheVariants.{Exists, Missing, IsRoot}
+use Rattle.nn_types.specs.declared.edit_fault.EditFault.{EditFault}
+use Rattle.nn_types.specs.declared.edit_fault.EditFault.TheVariants.{Exists, Missing, IsRoot}
 use Rattle.nn_tree.proofs.Step.{same_name}
 use Rattle.nn_tree.proofs.Subtree.{no_names}
 use Rattle.std.proofs.lemmas.Bool.{eqb-true}

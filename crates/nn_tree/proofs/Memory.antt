@@ -1,12 +1,12 @@
 -- No check of an edit finds that memory ran out.
 use Rattle.std.proofs.Common.{◌≡◌, Bool, true, false, List, [], ◌∷◌, map, Option, Some, None}
 use Rattle.nn_types.specs.declared.block.Block.{Block}
-use Rattle.nn_edits.specs.declared.tx.Edit.{Edit}
-use Rattle.nn_edits.specs.declared.tx.Edit.TheVariants.{StartSegment, EndSegment, Mkdir, Add, AddBlock, UpdateBlocks, Close, Rename, Delete, SetReplication, AllocateBlockId, SetGenstamp}
+use Rattle.nn_types.specs.declared.edit.Edit.{Edit}
+use Rattle.nn_types.specs.declared.edit.Edit.TheVariants.{StartSegment, EndSegment, Mkdir, Add, AddBlock, UpdateBlocks, Close, Rename, Delete, SetReplication, AllocateBlockId, SetGenstamp}
 use Rattle.nn_model.specs.declared.form.Form.{Form}
 use Rattle.nn_model.specs.declared.form.Form.TheVariants.{Dir, File}
-use Rattle.nn_model.specs.declared.fault.EditFault.{EditFault}
-use Rattle.nn_model.specs.declared.fault.EditFault.TheVariants.{Exists, Missing, NotFile, NotOpen, IntoItself, WrongBlocks, BadGeneration, BadBlockId, BadReplication, OutOfMemory}
+use Rattle.nn_types.specs.declared.edit_fault.EditFault.{EditFault}
+use Rattle.nn_types.specs.declared.edit_fault.EditFault.TheVariants.{Exists, Missing, NotFile, NotOpen, IntoItself, WrongBlocks, BadGeneration, BadBlockId, BadReplication, OutOfMemory}
 use Rattle.nn_model.specs.Namespace.{Path, Namespace, lookup}
 use Rattle.nn_model.specs.Apply.{first, when, is_root, no_directory, parents, walk, checks, list_checks, refusal}
 

@@ -5,7 +5,7 @@ use Rattle.nn_model.specs.declared.form.Form.{Form}
 use Rattle.nn_model.specs.Namespace.{Path}
 use Rattle.nn_tree.specs.At.{rows, name_cmp, grafted}
 use Rattle.nn_tree.specs.Walks.{starts_with, moved_rows, rename_fault, into_itself_fault, root_fault, delete_fault, walk_fault, missing_fault}
-use Rattle.nn_model.specs.declared.fault.EditFault.{EditFault}
+use Rattle.nn_types.specs.declared.edit_fault.EditFault.{EditFault}
 use Rattle.nn_tree.proofs.Step.{same_name}
 use Rattle.nn_tree.proofs.Maps.{or_None}
 use Rattle.std.specs.Cmp.Lexicographic.{nat_list_cmp_total, pointwise, texts_ties}

@@ -1,9 +1,9 @@
 -- An edit that takes no memory is refused where it makes no change.
 use Rattle.std.proofs.Common.{◌≡◌, ℕ, Bool, true, false, not, List, [], ◌∷◌, Option, Some, None, is_some, refl, sym, ap, subst, ◌∙◌}
 use Rattle.std.proofs.lemmas.Bool.{both_ways}
-use Rattle.nn_edits.specs.declared.tx.Edit.TheVariants as edit
-use Rattle.nn_model.specs.declared.fault.EditFault.{EditFault}
-use Rattle.nn_model.specs.declared.fault.EditFault.TheVariants.{Missing, NotFile}
+use Rattle.nn_types.specs.declared.edit.Edit.TheVariants as edit
+use Rattle.nn_types.specs.declared.edit_fault.EditFault.{EditFault}
+use Rattle.nn_types.specs.declared.edit_fault.EditFault.TheVariants.{Missing, NotFile}
 use Rattle.nn_model.specs.declared.form.Form.{Form}
 use Rattle.nn_model.specs.declared.form.Form.TheVariants.{Dir, File}
 use Rattle.nn_model.specs.Namespace.{Path, Namespace, lookup}

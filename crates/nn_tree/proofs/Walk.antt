@@ -6,7 +6,7 @@ use Rattle.nn_model.specs.Namespace.{Path}
 use Rattle.nn_model.specs.declared.form.Form.TheVariants.{Dir}
 use Rattle.nn_tree.specs.At.{at}
 use Rattle.nn_tree.specs.Walks.{walk_fault, parent_fault}
-use Rattle.nn_model.specs.declared.fault.EditFault.TheVariants.{Missing}
+use Rattle.nn_types.specs.declared.edit_fault.EditFault.TheVariants.{Missing}
 
 pub walk_below : (es t : List (Path × Form)) (n : List ℕ) (ns ps : Path) → ps ≡ n ∷ ns → at es [] ≡ Some Dir → ((q : Path) → at es (n ∷ q) ≡ at t q) → walk_fault (at es) ps ≡ walk_fault (at t) ns
 walk_below es t n ns ps e top h =

@@ -5,8 +5,8 @@ use Rattle.nn_model.specs.declared.form.Form.{Form}
 use Rattle.nn_model.specs.Namespace.{Path}
 use Rattle.nn_model.specs.declared.form.Form.TheVariants.{Dir, File}
 use Rattle.nn_tree.specs.At.{at, name_cmp}
-use Rattle.nn_model.specs.declared.fault.EditFault.{EditFault}
-use Rattle.nn_model.specs.declared.fault.EditFault.TheVariants.{Exists, Missing, NotDirectory, IsRoot, IntoItself, NotFile}
+use Rattle.nn_types.specs.declared.edit_fault.EditFault.{EditFault}
+use Rattle.nn_types.specs.declared.edit_fault.EditFault.TheVariants.{Exists, Missing, NotDirectory, IsRoot, IntoItself, NotFile}
 
 -- x, where no fault came before
 abbrev pub or_fault : Option EditFault → Option EditFault → Option EditFault

@@ -20,5 +20,6 @@ pub use found::Found;
 pub use index::BlockRow;
 pub use listing::{Extent, PathRow, RowSink};
 pub use namespace::Namespace;
-pub use nn_model::{EditFault, FileRow, Form};
+pub use nn_model::{FileRow, Form};
+pub use nn_types::EditFault;
 pub use touched::Touched;

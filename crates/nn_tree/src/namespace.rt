@@ -1,11 +1,11 @@
 //! The namespace: a directory tree, seen as its rows in path order, and an index of the blocks in its files.
 ghost use Rattle.std.specs.Prelude.{◌≡◌, OnOk, OnErr, IfOk, IfErr, IfSome, IsErrOf, None, Ok, true, option_map, nat_le, length};
 ghost use Rattle.std.specs.List.{fold};
-ghost use Rattle.nn_edits.specs.Lawful.{IsLawfulEdit};
+ghost use Rattle.nn_types.specs.LawfulEdit.{IsLawfulEdit};
 ghost use Rattle.nn_types.specs.Block.{AreBlocks};
 ghost use Rattle.nn_model.specs.Namespace.{root_alone, no_block, no_stamp, lookup};
 ghost use Rattle.nn_model.specs.Apply.{applied, refusal};
-ghost use Rattle.nn_model.specs.Fault.{IsFault};
+ghost use Rattle.nn_types.specs.EditFault.{IsFault};
 ghost use Rattle.nn_model.specs.Status.{block_at, status_of};
 ghost use Rattle.nn_model.specs.Touched.{touched};
 ghost use Rattle.nn_tree.specs.Extent.{capped, path_bytes, block_count};
@@ -24,9 +24,7 @@ use crate::index::BlockRow;
 use crate::listing::{Copies, Extent, PathRow, RowSink};
 use crate::touched::Touched;
 use crate::tree::Tree;
-use nn_edits::Edit;
-use nn_model::EditFault;
-use nn_types::{Block, BlockId, GenerationStamp, Path, Status};
+use nn_types::{Block, BlockId, Edit, EditFault, GenerationStamp, Path, Status};
 use std::alloc::{AllocError, Global};
 use std::collections::{BTreeMap, BTreeSet};
 use std::marker::Model;

@@ -4,5 +4,8 @@ pub mod Due
 pub mod Path
 pub mod Fault
 pub mod Settings
+pub mod LawfulEdit
+pub mod EditFault
+pub mod Words
 pub mod PathRows
 pub mod FaultRows

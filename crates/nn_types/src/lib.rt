@@ -1,10 +1,12 @@
-//! The words that every crate of the standby speaks: numbers, paths, blocks, reports and events.
+//! The words that every crate of the standby speaks: numbers, paths, blocks, edits, reports and events.
 //!
 //! Each type is seen by contracts as plain data: a number as a natural number below 2^63, a path as its
 //! list of names, a list of blocks as a list.
 #![tactic(auto)]
 
 mod block;
+mod edit;
+mod edit_fault;
 mod event;
 pub mod fault;
 mod names;
@@ -14,8 +16,11 @@ mod replica;
 mod report;
 mod settings;
 mod status;
+mod tx;
 
 pub use block::{Block, Blocks};
+pub use edit::Edit;
+pub use edit_fault::EditFault;
 pub use event::{Cause, Event};
 pub use names::Names;
 pub use number::{BlockId, GenerationStamp, Length, Replication, Txid};
@@ -24,3 +29,4 @@ pub use replica::{Class, Replica};
 pub use report::{Kind, Message, Report};
 pub use settings::Settings;
 pub use status::{Status, due};
+pub use tx::Tx;

@@ -1,4 +1,7 @@
 //! Replicas, and how they compare with the blocks of the namespace.
+ghost use Rattle.std.specs.Prelude.{◌≡◌};
+ghost use Rattle.nn_types.specs.Words.{class_text};
+
 use crate::number::{GenerationStamp, Length};
 use crate::report::Kind;
 
@@ -24,4 +27,19 @@ pub enum Class {
     Live,
     /// It is complete, and not as long as the block.
     WrongLength,
+}
+
+impl Class {
+    /// The word that listings have for it.
+    pub fn word(self) -> &'static str
+        ensures { result.now ≡ class_text self }
+    {
+        match self {
+            Class::Live => "live",
+            Class::Building => "building",
+            Class::Stale => "stale",
+            Class::Ahead => "ahead",
+            Class::WrongLength => "wronglength",
+        }
+    }
 }

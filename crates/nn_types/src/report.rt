@@ -1,4 +1,7 @@
 //! What DataNodes say of their blocks.
+ghost use Rattle.std.specs.Prelude.{◌≡◌};
+ghost use Rattle.nn_types.specs.Words.{kind_text};
+
 use crate::number::{BlockId, GenerationStamp, Length};
 
 /// What happened to a replica at its DataNode.
@@ -10,6 +13,19 @@ pub enum Kind {
     Received,
     /// The replica is gone.
     Deleted,
+}
+
+impl Kind {
+    /// The word that message lines and listings have for it.
+    pub fn word(self) -> &'static str
+        ensures { result.now ≡ kind_text self }
+    {
+        match self {
+            Kind::Receiving => "receiving",
+            Kind::Received => "received",
+            Kind::Deleted => "deleted",
+        }
+    }
 }
 
 /// A DataNode's report about one block, as a message line gives it.

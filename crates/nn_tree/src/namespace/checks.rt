@@ -1,13 +1,12 @@
 //! Why an edit is refused: the checks of each edit in order, with no memory taken.
 ghost use Rattle.std.specs.Prelude.{◌≡◌, not, ◌||◌, nat_lt, nat_le};
-ghost use Rattle.nn_edits.specs.declared.tx.Edit.TheVariants as edit;
+ghost use Rattle.nn_types.specs.declared.edit.Edit.TheVariants as edit;
 ghost use Rattle.nn_model.specs.Namespace.{no_stamp};
 ghost use Rattle.nn_model.specs.Apply.{refusal, first, list_checks, keeps_ids, keeps_stamps};
 
 use super::{NO_STAMP, Namespace};
 use crate::tree::files::{keeps_ids, keeps_stamps};
-use nn_model::EditFault;
-use nn_types::{BlockId, Blocks, GenerationStamp, Path, Replication};
+use nn_types::{BlockId, Blocks, EditFault, GenerationStamp, Path, Replication};
 
 impl Namespace {
     pub(super) fn mkdir_refusal(&self, path: &Path) -> Option<EditFault>

@@ -1,8 +1,8 @@
 //! What each edit does, each in one walk down its path where it applies. Growth comes before change, so that an edit
 //! that is refused, and one for which memory ran out, leaves all as it was. `Namespace::refusal` tells these apart.
 ghost use Rattle.std.specs.Prelude.{◌≡◌, ◌≢◌, None, OnOk, OnErr, IfOk, false, []};
-ghost use Rattle.nn_edits.specs.declared.tx.Edit.TheVariants as edit;
-ghost use Rattle.nn_edits.specs.Lawful.{IsLawfulEdit};
+ghost use Rattle.nn_types.specs.declared.edit.Edit.TheVariants as edit;
+ghost use Rattle.nn_types.specs.LawfulEdit.{IsLawfulEdit};
 ghost use Rattle.nn_model.specs.Apply.{refusal, effect, first, list_checks, with_blocks};
 ghost use Rattle.nn_model.specs.Touched.{touched, listed};
 ghost use Rattle.nn_tree.specs.Memory.{takes_memory};
@@ -13,9 +13,8 @@ use super::checks::{is_issued, is_replication};
 use crate::index::{BlockRow, forget, renew};
 use crate::touched::{Touched, empty_block};
 use crate::tree::{Tree, Unchanged};
-use nn_edits::Edit;
 use nn_model::FileRow;
-use nn_types::{BlockId, Blocks, GenerationStamp, Path, Replication};
+use nn_types::{BlockId, Blocks, Edit, GenerationStamp, Path, Replication};
 use std::alloc::Global;
 
 impl Namespace {

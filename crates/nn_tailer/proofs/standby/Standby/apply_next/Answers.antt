@@ -1,5 +1,5 @@
 use Rattle.std.proofs.Common.{◌≡◌, List, drop, refl, sym, ap, ◌∙◌, subst}
-use Rattle.nn_edits.specs.declared.tx.Tx.{Tx}
+use Rattle.nn_types.specs.declared.tx.Tx.{Tx}
 use Rattle.nn_shadow.specs.Refusals.{phase_after_apply}
 use Rattle.nn_tailer.specs.Shadows.{IsApplied}
 use Rattle.nn_tailer.specs.Tailing.{Keeps, with_rest, with_shadow}

@@ -1,5 +1,5 @@
 use Rattle.std.proofs.Common.{◌≡◌, false, not, List, [], ◌∷◌, Some, None, sym, ap, subst, ◌∙◌, refl}
-use Rattle.nn_edits.specs.declared.tx.Edit.TheVariants as edit
+use Rattle.nn_types.specs.declared.edit.Edit.TheVariants as edit
 use Rattle.nn_model.specs.declared.form.Form.TheVariants.{File}
 use Rattle.nn_model.specs.declared.form.FileRow.{FileRow}
 use Rattle.nn_model.specs.Namespace.{Namespace, Path}

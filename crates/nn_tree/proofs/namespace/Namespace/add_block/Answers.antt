@@ -3,7 +3,7 @@ use Rattle.std.specs.BTreeMap.{get, is_at}
 use Rattle.std.specs.Set.{remove_key}
 use Rattle.std.specs.Ordering.{nat_cmp, is_eq}
 use Rattle.nn_types.specs.declared.block.Block.{Block}
-use Rattle.nn_edits.specs.declared.tx.Edit.TheVariants as edit
+use Rattle.nn_types.specs.declared.edit.Edit.TheVariants as edit
 use Rattle.nn_model.specs.declared.form.Form.TheVariants.{File}
 use Rattle.nn_model.specs.Namespace.{Namespace, lookup}
 use Rattle.nn_model.specs.Apply.{refusal, effect, new_block, has_id}

@@ -1,8 +1,8 @@
 use Rattle.std.proofs.Common.{◌≡◌, not, ◌||◌, Some, None, sym, ap, subst, ◌∙◌, refl, nat_lt, nat_le}
-use Rattle.nn_edits.specs.declared.tx.Edit.TheVariants as edit
+use Rattle.nn_types.specs.declared.edit.Edit.TheVariants as edit
 use Rattle.nn_model.specs.Namespace.{Namespace, no_stamp}
 use Rattle.nn_model.specs.Apply.{refusal, when, has_id, closed}
-use Rattle.nn_model.specs.declared.fault.EditFault.TheVariants.{NotOpen, BadBlockId, BadGeneration}
+use Rattle.nn_types.specs.declared.edit_fault.EditFault.TheVariants.{NotOpen, BadBlockId, BadGeneration}
 use Rattle.nn_tree.specs.View.{seen}
 use Rattle.std.proofs.Common.{[], ◌∷◌}
 use Rattle.nn_tree.proofs.Bridge.{file_refused, add_block_at, has_is, at_first, at_second, at_third, at_none}

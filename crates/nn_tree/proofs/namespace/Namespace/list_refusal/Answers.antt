@@ -1,7 +1,7 @@
 use Rattle.std.proofs.Common.{◌≡◌, not, Some, None, sym, ap, subst, ◌∙◌, refl}
 use Rattle.nn_model.specs.Namespace.{Namespace}
 use Rattle.nn_model.specs.Apply.{first, list_checks, when, keeps_ids, keeps_stamps, closed}
-use Rattle.nn_model.specs.declared.fault.EditFault.TheVariants.{NotOpen, BadGeneration, WrongBlocks}
+use Rattle.nn_types.specs.declared.edit_fault.EditFault.TheVariants.{NotOpen, BadGeneration, WrongBlocks}
 use Rattle.nn_tree.specs.View.{seen}
 use Rattle.nn_model.specs.Namespace.{file_at}
 use Rattle.std.proofs.Common.{[], ◌∷◌}

@@ -1,5 +1,5 @@
 use Rattle.std.proofs.Common.{◌≡◌, List, Some, None, sym, ap, subst, ◌∙◌, refl}
-use Rattle.nn_edits.specs.declared.tx.Edit.TheVariants as edit
+use Rattle.nn_types.specs.declared.edit.Edit.TheVariants as edit
 use Rattle.nn_model.specs.declared.form.Form.TheVariants.{Dir}
 use Rattle.nn_model.specs.Namespace.{Namespace, Path}
 use Rattle.nn_model.specs.Apply.{refusal, effect}

@@ -1,5 +1,5 @@
 use Rattle.std.proofs.Common.{◌≡◌, not, Some, None, ap, subst, ◌∙◌, refl}
-use Rattle.nn_edits.specs.declared.tx.Edit.TheVariants as edit
+use Rattle.nn_types.specs.declared.edit.Edit.TheVariants as edit
 use Rattle.nn_model.specs.Namespace.{Namespace}
 use Rattle.nn_model.specs.Apply.{refusal}
 use Rattle.nn_tree.specs.View.{seen}

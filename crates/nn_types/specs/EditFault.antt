@@ -2,9 +2,9 @@
 use Rattle.std.specs.Prelude.{◌≡◌, ℕ, Option, Some}
 use Rattle.nn_types.specs.declared.fault.TheConstants.{EXISTS, MISSING, NOT_DIRECTORY, NOT_FILE, IS_ROOT, INTO_ITSELF, NOT_OPEN, WRONG_BLOCKS}
 use Rattle.nn_types.specs.declared.fault.TheConstants.{BAD_GENERATION, BAD_BLOCK_ID, BAD_REPLICATION, MEMORY}
-use Rattle.nn_model.specs.declared.fault.EditFault.{EditFault}
-use Rattle.nn_model.specs.declared.fault.EditFault.TheVariants.{Exists, Missing, NotDirectory, NotFile, IsRoot, IntoItself, NotOpen, WrongBlocks}
-use Rattle.nn_model.specs.declared.fault.EditFault.TheVariants.{BadGeneration, BadBlockId, BadReplication, OutOfMemory}
+use Rattle.nn_types.specs.declared.edit_fault.EditFault.{EditFault}
+use Rattle.nn_types.specs.declared.edit_fault.EditFault.TheVariants.{Exists, Missing, NotDirectory, NotFile, IsRoot, IntoItself, NotOpen, WrongBlocks}
+use Rattle.nn_types.specs.declared.edit_fault.EditFault.TheVariants.{BadGeneration, BadBlockId, BadReplication, OutOfMemory}
 
 abbrev pub number_of : EditFault → ℕ
 number_of Exists = EXISTS

@@ -1,8 +1,8 @@
 //! Why an edit is refused.
 ghost use Rattle.std.specs.Prelude.{◌≡◌};
-ghost use Rattle.nn_model.specs.Fault.{number_of};
+ghost use Rattle.nn_types.specs.EditFault.{number_of};
 
-use nn_types::fault;
+use crate::fault;
 use std::alloc::{AllocError, AllocFailed};
 use thiserror::Error;
 
@@ -58,7 +58,7 @@ impl EditFault {
 }
 
 impl From<AllocError> for EditFault {
-    ghost use Rattle.nn_model.specs.declared.fault.EditFault.TheVariants.{OutOfMemory};
+    ghost use Rattle.nn_types.specs.declared.edit_fault.EditFault.TheVariants.{OutOfMemory};
 
     ghost from_gives = { λ _ e. e ≡ OutOfMemory };
 
@@ -68,7 +68,7 @@ impl From<AllocError> for EditFault {
 }
 
 impl<T: Drop> From<AllocFailed<T>> for EditFault {
-    ghost use Rattle.nn_model.specs.declared.fault.EditFault.TheVariants.{OutOfMemory};
+    ghost use Rattle.nn_types.specs.declared.edit_fault.EditFault.TheVariants.{OutOfMemory};
 
     ghost from_gives = { λ _ e. e ≡ OutOfMemory };
 

@@ -1,0 +1,10 @@
+//! Transactions of the log.
+use crate::edit::Edit;
+use crate::number::Txid;
+
+/// One transaction of the log.
+#[derive(Drop)]
+pub struct Tx {
+    pub txid: Txid,
+    pub edit: Edit,
+}

@@ -1,8 +1,7 @@
-//! Worked scenarios, and devices that fail.
-mod faults;
-mod messages;
+//! Devices that fail, large inputs, and the command line. Worked scenarios are played by nn_worked.
 mod options;
 mod program;
+mod sizes;
 
 use nn_engine::{Input, Options, run};
 use nn_scenario::MAX_INPUT;
@@ -12,10 +11,6 @@ use std::io;
 use std::io::{Read, Write};
 use std::process::Abort;
 use std::test::Fail;
-
-const START: &str = "{\"op\":\"OP_START_LOG_SEGMENT\",\"txid\":1}\n";
-
-const END: &str = "{\"op\":\"OP_END_LOG_SEGMENT\",\"txid\":3}\n";
 
 const NOTHING: &str = "txid 0\ndir \"/\"\nblocks 0 safe 0 needed 0 mode off\n";
 
@@ -27,277 +22,15 @@ fn usual_options() -> Options {
     }
 }
 
-// What a run prints, and its status.
+// What a run prints, and its status. No write fails here, so a failed write shows as status 9.
 fn printed(alloc: Global, reader: impl Read + Drop) -> (Vec<u8>, u8) {
-    printed_with(alloc, usual_options(), reader)
-}
-
-// What a run with these options prints, and its status. No write fails here, so a failed write shows as status 9.
-fn printed_with(alloc: Global, options: Options, reader: impl Read + Drop) -> (Vec<u8>, u8) {
     let mut writer = Vec::new(alloc);
     let mut input = Input::new(reader);
-    let status = match run(alloc, &options, &mut input, &mut writer) {
+    let status = match run(alloc, &usual_options(), &mut input, &mut writer) {
         Ok(end) => end.status,
         Err(_) => 9,
     };
     (writer, status)
-}
-
-// An input under its name, and what a run on it has to print.
-type Case<'a> = (&'a str, &'a str, &'a str);
-
-// Runs the program on an input, and compares what it prints and its status with what is wanted.
-fn prints(rt: &impl Abort, alloc: Global, (name, input, want): Case<'_>, status: u8) {
-    let (text, ended) = printed(alloc, input.as_bytes());
-    assert_eq!(rt; text.as_slice(), want.as_bytes(), "at {name}");
-    assert_eq!(rt; ended, status, "at {name}");
-}
-
-#[test]
-fn empty_input(rt: HostRuntime) {
-    prints(&rt, rt.alloc(), ("nothing", "", NOTHING), 0);
-}
-
-#[test]
-fn make_and_delete(rt: HostRuntime) {
-    let input = r#"{"op":"OP_START_LOG_SEGMENT","txid":1}
-{"op":"OP_MKDIR","path":"/a","txid":2}
-{"op":"OP_MKDIR","path":"/a/b","txid":3}
-{"op":"OP_DELETE","path":"/a","txid":4}
-{"op":"OP_END_LOG_SEGMENT","txid":5}
-"#;
-    let want = "txid 5\ndir \"/\"\nblocks 0 safe 0 needed 0 mode off\n";
-    prints(&rt, rt.alloc(), ("make and delete", input, want), 0);
-}
-
-#[test]
-fn one_file(rt: HostRuntime) {
-    let input = r#"{"op":"OP_START_LOG_SEGMENT","txid":1}
-{"op":"OP_SET_GENSTAMP_V2","gen":1001,"txid":2}
-{"op":"OP_ALLOCATE_BLOCK_ID","id":1073741825,"txid":3}
-{"op":"OP_ADD","path":"/f","replication":3,"txid":4}
-{"op":"OP_ADD_BLOCK","gen":1001,"id":1073741825,"path":"/f","txid":5}
-{"op":"OP_CLOSE","blocks":[{"gen":1001,"id":1073741825,"len":5}],"path":"/f","txid":6}
-{"op":"OP_END_LOG_SEGMENT","txid":7}
-"#;
-    let want =
-        "txid 7\ndir \"/\"\nfile \"/f\" 3 closed 1073741825:1001:5\nblocks 1 safe 0 needed 0 mode off\n";
-    prints(&rt, rt.alloc(), ("one file", input, want), 0);
-}
-
-#[test]
-fn paths_in_path_order(rt: HostRuntime) {
-    let input = r#"{"op":"OP_START_LOG_SEGMENT","txid":1}
-{"op":"OP_MKDIR","path":"/a-b","txid":2}
-{"op":"OP_MKDIR","path":"/a","txid":3}
-
-{"op":"OP_MKDIR","path":"/a/b","txid":4}
-{"zz":[1],"path":"/a/\u0001\"","txid":5,"op":"OP_MKDIR"}
-{"op":"OP_END_LOG_SEGMENT","txid":6}"#;
-    let want =
-        "txid 6\ndir \"/\"\ndir \"/a\"\ndir \"/a/\\u0001\\\"\"\ndir \"/a/b\"\ndir \"/a-b\"\nblocks 0 safe 0 needed 0 mode off\n";
-    prints(&rt, rt.alloc(), ("paths in path order", input, want), 0);
-}
-
-#[test]
-fn segments_that_overlap(rt: HostRuntime) {
-    for case in [
-        (
-            "overlapping_segments",
-            "{\"op\":\"OP_START_LOG_SEGMENT\",\"txid\":1}\n{\"op\":\"OP_MKDIR\",\"path\":\"/a\",\"txid\":2}\n{\"op\":\"OP_END_LOG_SEGMENT\",\"txid\":3}\n{\"op\":\"OP_START_LOG_SEGMENT\",\"txid\":2}\n{\"op\":\"OP_MKDIR\",\"path\":\"/\",\"txid\":3}\n{\"op\":\"OP_END_LOG_SEGMENT\",\"txid\":4}\n",
-            "txid 4\ndir \"/\"\ndir \"/a\"\nblocks 0 safe 0 needed 0 mode off\n",
-        ),
-        (
-            "old_segment_passed_over",
-            "{\"op\":\"OP_START_LOG_SEGMENT\",\"txid\":1}\n{\"op\":\"OP_END_LOG_SEGMENT\",\"txid\":2}\n{\"op\":\"OP_START_LOG_SEGMENT\",\"txid\":3}\n{\"op\":\"OP_MKDIR\",\"path\":\"/b\",\"txid\":4}\n{\"op\":\"OP_END_LOG_SEGMENT\",\"txid\":5}\n{\"op\":\"OP_START_LOG_SEGMENT\",\"txid\":1}\n{\"op\":\"OP_END_LOG_SEGMENT\",\"txid\":2}\n{\"op\":\"OP_START_LOG_SEGMENT\",\"txid\":4}\n{\"op\":\"OP_END_LOG_SEGMENT\",\"txid\":5}\n",
-            "txid 5\ndir \"/\"\ndir \"/b\"\nblocks 0 safe 0 needed 0 mode off\n",
-        ),
-    ] {
-        prints(&rt, rt.alloc(), case, 0);
-    }
-}
-
-#[test]
-fn one_line_of_a_refused_transaction(rt: HostRuntime) {
-    for case in [
-        (
-            "missing_parent_stops",
-            "{\"op\":\"OP_START_LOG_SEGMENT\",\"txid\":1}\n{\"op\":\"OP_MKDIR\",\"path\":\"/a/b\",\"txid\":2}\n{\"op\":\"OP_END_LOG_SEGMENT\",\"txid\":3}\n",
-            "fault 22 txid 2\n",
-        ),
-        (
-            "the root is there",
-            "{\"op\":\"OP_START_LOG_SEGMENT\",\"txid\":1}\n{\"op\":\"OP_MKDIR\",\"path\":\"/\",\"txid\":2}\n{\"op\":\"OP_END_LOG_SEGMENT\",\"txid\":3}\n",
-            "fault 25 txid 2\n",
-        ),
-        (
-            "a path is made once",
-            "{\"op\":\"OP_START_LOG_SEGMENT\",\"txid\":1}\n{\"op\":\"OP_MKDIR\",\"path\":\"/a\",\"txid\":2}\n{\"op\":\"OP_MKDIR\",\"path\":\"/a\",\"txid\":3}\n{\"op\":\"OP_END_LOG_SEGMENT\",\"txid\":4}\n",
-            "fault 21 txid 3\n",
-        ),
-        (
-            "a refusal before a gap",
-            "{\"op\":\"OP_START_LOG_SEGMENT\",\"txid\":1}\n{\"op\":\"OP_MKDIR\",\"path\":\"/\",\"txid\":2}\n{\"op\":\"OP_END_LOG_SEGMENT\",\"txid\":3}\n{\"op\":\"OP_START_LOG_SEGMENT\",\"txid\":9}\n{\"op\":\"OP_END_LOG_SEGMENT\",\"txid\":10}\n",
-            "fault 25 txid 2\n",
-        ),
-    ] {
-        prints(&rt, rt.alloc(), case, 1);
-    }
-}
-
-#[test]
-fn one_line_of_a_missing_transaction(rt: HostRuntime) {
-    for case in [
-        (
-            "log_begins_too_high",
-            "{\"op\":\"OP_START_LOG_SEGMENT\",\"txid\":2}\n{\"op\":\"OP_END_LOG_SEGMENT\",\"txid\":3}\n",
-            "fault 57 txid 1\n",
-        ),
-        (
-            "the second segment begins too high",
-            "{\"op\":\"OP_START_LOG_SEGMENT\",\"txid\":1}\n{\"op\":\"OP_END_LOG_SEGMENT\",\"txid\":2}\n{\"op\":\"OP_START_LOG_SEGMENT\",\"txid\":4}\n{\"op\":\"OP_END_LOG_SEGMENT\",\"txid\":5}\n",
-            "fault 57 txid 3\n",
-        ),
-        (
-            "a gap before a refusal",
-            "{\"op\":\"OP_START_LOG_SEGMENT\",\"txid\":1}\n{\"op\":\"OP_END_LOG_SEGMENT\",\"txid\":2}\n{\"op\":\"OP_START_LOG_SEGMENT\",\"txid\":4}\n{\"op\":\"OP_MKDIR\",\"path\":\"/\",\"txid\":5}\n{\"op\":\"OP_END_LOG_SEGMENT\",\"txid\":6}\n",
-            "fault 57 txid 3\n",
-        ),
-    ] {
-        prints(&rt, rt.alloc(), case, 1);
-    }
-}
-
-#[test]
-fn one_line_of_a_gap_in_a_segment(rt: HostRuntime) {
-    for case in [
-        (
-            "gap_in_segment",
-            "{\"op\":\"OP_START_LOG_SEGMENT\",\"txid\":1}\n{\"op\":\"OP_MKDIR\",\"path\":\"/a\",\"txid\":2}\n{\"op\":\"OP_END_LOG_SEGMENT\",\"txid\":4}\n",
-            "fault 14 segment 1\n",
-        ),
-        (
-            "txids that go down",
-            "{\"op\":\"OP_START_LOG_SEGMENT\",\"txid\":3}\n{\"op\":\"OP_END_LOG_SEGMENT\",\"txid\":1}\n",
-            "fault 14 segment 1\n",
-        ),
-    ] {
-        prints(&rt, rt.alloc(), case, 1);
-    }
-}
-
-#[test]
-fn one_line_of_a_segment_without_its_marks(rt: HostRuntime) {
-    for case in [
-        (
-            "log_without_its_end_mark",
-            "{\"op\":\"OP_START_LOG_SEGMENT\",\"txid\":1}\n{\"op\":\"OP_END_LOG_SEGMENT\",\"txid\":2}\n{\"op\":\"OP_START_LOG_SEGMENT\",\"txid\":3}\n{\"op\":\"OP_MKDIR\",\"path\":\"/a\",\"txid\":4}\n",
-            "fault 13 segment 2\n",
-        ),
-        (
-            "a bad segment behind a refused edit",
-            "{\"op\":\"OP_START_LOG_SEGMENT\",\"txid\":1}\n{\"op\":\"OP_MKDIR\",\"path\":\"/\",\"txid\":2}\n{\"op\":\"OP_END_LOG_SEGMENT\",\"txid\":3}\n{\"op\":\"OP_END_LOG_SEGMENT\",\"txid\":4}\n",
-            "fault 12 segment 2\n",
-        ),
-        (
-            "mark_inside_a_segment",
-            "{\"op\":\"OP_START_LOG_SEGMENT\",\"txid\":1}\n{\"op\":\"OP_START_LOG_SEGMENT\",\"txid\":2}\n{\"op\":\"OP_END_LOG_SEGMENT\",\"txid\":3}\n",
-            "fault 13 segment 1\n",
-        ),
-        (
-            "an end mark alone",
-            "{\"op\":\"OP_END_LOG_SEGMENT\",\"txid\":1}\n",
-            "fault 12 segment 1\n",
-        ),
-        (
-            "a start mark alone",
-            "{\"op\":\"OP_START_LOG_SEGMENT\",\"txid\":1}\n",
-            "fault 13 segment 1\n",
-        ),
-        (
-            "an edit outside",
-            "{\"op\":\"OP_MKDIR\",\"path\":\"/a\",\"txid\":1}\n",
-            "fault 12 segment 1\n",
-        ),
-    ] {
-        prints(&rt, rt.alloc(), case, 1);
-    }
-}
-
-#[test]
-fn one_line_of_a_bad_line(rt: HostRuntime) {
-    for case in [
-        (
-            "a bad line behind a refused edit",
-            "{\"op\":\"OP_START_LOG_SEGMENT\",\"txid\":1}\n{\"op\":\"OP_MKDIR\",\"path\":\"/\",\"txid\":2}\n{\"op\":\"OP_END_LOG_SEGMENT\",\"txid\":3}\n \t\r\n\n[]",
-            "fault 1 line 6\n",
-        ),
-        (
-            "a bad line behind a bad segment",
-            "{\"op\":\"OP_MKDIR\",\"path\":\"/\",\"txid\":1}\n[]",
-            "fault 1 line 2\n",
-        ),
-        ("line_faults", "{\"op\":\"OP_FOO\"}\n", "fault 4 line 1\n"),
-        (
-            "line_faults",
-            "{\"op\":\"OP_MKDIR\",\"txid\":1}\n",
-            "fault 2 line 1\n",
-        ),
-        (
-            "line_faults",
-            "{\"op\":\"OP_MKDIR\",\"txid\":9223372036854775808,\"path\":\"/a\"}\n",
-            "fault 3 line 1\n",
-        ),
-        (
-            "neither an edit nor a report",
-            "{\"block\":1,\"gen\":1,\"len\":1,\"kind\":\"received\"}\n",
-            "fault 2 line 1\n",
-        ),
-    ] {
-        prints(&rt, rt.alloc(), case, 1);
-    }
-}
-
-// Runs the program on a segment that makes the path, and compares how its output begins.
-fn begins(rt: &impl Abort, alloc: Global, path: &str, want: &str) -> Result<(), Fail> {
-    let input = format!(in alloc;
-        "{START}{{\"op\":\"OP_MKDIR\",\"path\":\"{path}\",\"txid\":2}}\n{END}"
-    )?;
-    let (text, _) = printed(alloc, input.as_bytes());
-    assert!(rt; text.starts_with(want.as_bytes()), "at {path}");
-    Ok(())
-}
-
-#[test]
-fn path_grammar(rt: HostRuntime) -> Result<(), Fail> {
-    for path in ["/a/", "/a:b", "/a/../b", "/.", "//a"] {
-        begins(&rt, rt.alloc(), path, "fault 5 line 2\n")?;
-    }
-    for (path, input) in [
-        ("a", "{\"op\":\"OP_MKDIR\",\"path\":\"a\",\"txid\":1}"),
-        ("no path", "{\"op\":\"OP_MKDIR\",\"path\":\"\",\"txid\":1}"),
-    ] {
-        prints(&rt, rt.alloc(), (path, input, "fault 5 line 1\n"), 1);
-    }
-    Ok(())
-}
-
-// The path of one name of so many letters.
-fn path_of(alloc: Global, letters: usize) -> Result<String, Fail> {
-    let mut path = String::from_str(alloc, "/")?;
-    for _ in 0..letters {
-        path.push('n')?;
-    }
-    Ok(path)
-}
-
-#[test]
-fn a_name_of_255_bytes(rt: HostRuntime) -> Result<(), Fail> {
-    for (letters, want) in [(255, "txid 3\n"), (256, "fault 5 line 2\n")] {
-        let path = path_of(rt.alloc(), letters)?;
-        begins(&rt, rt.alloc(), path.as_str(), want)?;
-    }
-    Ok(())
 }
 
 // A reader that gives one byte a time and fails at its read `fail_at`, counted from 0.

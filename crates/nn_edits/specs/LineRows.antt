@@ -1,5 +1,5 @@
 -- Lines, and what they are read as: one of each operation and of each kind of report, and each first fault.
-use Rattle.std.specs.Prelude.{◌≡◌, List, [], ◌∷◌, map, codes, refl, Result, Ok, Err}
+use Rattle.std.specs.Prelude.{◌≡◌, ℕ, List, [], ◌∷◌, ◌++◌, map, codes, refl, Result, Ok, Err}
 use Rattle.std.specs.Str.{is_utf8, chars}
 use Rattle.std.specs.Float.{float_is_finite}
 use Rattle.std.specs.Float.Numeral.{scan_numeral}
@@ -7,7 +7,7 @@ use lib.Ieee.{round}
 use lib.Utf8.{encode}
 use Rattle.json.specs.Json.{value}
 use Rattle.json.specs.Lex.{punctuate, lex}
-use Rattle.json.specs.Text.{content}
+use Rattle.json.specs.Text.{content, code_unit}
 use Rattle.json.specs.Word.{word, after_number}
 use Rattle.serde_json.specs.Read.{number_of}
 use Rattle.nn_types.specs.declared.edit.Edit.{Edit}
@@ -15,9 +15,18 @@ use Rattle.nn_types.specs.declared.edit.Edit.TheVariants.{StartSegment, EndSegme
 use Rattle.nn_types.specs.declared.report.Kind.TheVariants.{Receiving, Received, Deleted}
 use Rattle.nn_types.specs.declared.tx.Tx.{Tx}
 use Rattle.nn_edits.specs.declared.fault.LineFault.{LineFault}
-use Rattle.nn_edits.specs.declared.fault.LineFault.TheVariants.{NotJson, MissingField, BadNumber, UnknownOp, BadPath, UnknownKind}
+use Rattle.nn_edits.specs.declared.line.Line.{Line}
 use Rattle.nn_edits.specs.declared.line.Line.TheVariants as either
+use Rattle.nn_edits.specs.Fault.{number_of as fault_number}
 use Rattle.nn_edits.specs.Reading.{edit_of_line, either_of_line, object_in, value_of, either_in, tx_in, op_in, op_of, txid_in, whole_in, number_in, path_in, edit_in, block_in, items_in, blocks_in, report_in, dn_in, kind_in, kind_of}
+
+-- the number of a line's first fault, or 0
+abbrev fault : Result Line LineFault → ℕ
+fault (Ok _) = 0
+fault (Err first) = fault_number first
+
+abbrev faults : List (List ℕ) → List ℕ
+faults lines = map (λ line. fault (either_of_line line)) lines
 
 abbrev is : Edit → Result Tx LineFault
 is edit = Ok (record { txid = 2; edit = edit })
@@ -66,78 +75,6 @@ other_members : map edit_of_line (
 unfolding edit_of_line object_in value_of tx_in op_in op_of txid_in whole_in number_in path_in edit_in blocks_in items_in block_in is_utf8 chars encode value punctuate lex content word after_number number_of scan_numeral float_is_finite round
 other_members = refl
 
--- The first fault of a line that is no object.
-no_json : map edit_of_line (
-    codes ""
-    ∷ codes "{]"
-    ∷ codes "[]"
-    ∷ codes "{\"op\":\"OP_END_LOG_SEGMENT\",\"txid\":2} 3"
-    ∷ codes "{\"op\":\"OP_END_LOG_SEGMENT\",\"txid\":2,\"x\":1e400}" ∷ [])
-    ≡ Err NotJson
-    ∷ Err NotJson
-    ∷ Err NotJson
-    ∷ Err NotJson
-    ∷ Err NotJson ∷ []
-unfolding edit_of_line object_in value_of tx_in op_in op_of txid_in whole_in number_in path_in edit_in blocks_in items_in block_in is_utf8 chars encode value punctuate lex content word after_number number_of scan_numeral float_is_finite round
-no_json = refl
-
--- The operation comes before the number, and the number before the keys of the operation, in their order.
-in_order : map edit_of_line (
-    codes "{\"txid\":0}"
-    ∷ codes "{\"op\":\"OP_FOO\",\"txid\":0}"
-    ∷ codes "{\"op\":5,\"txid\":0}"
-    ∷ codes "{\"op\":\"OP_MKDIR\",\"path\":\"a\"}"
-    ∷ codes "{\"op\":\"OP_MKDIR\",\"path\":\"a\",\"txid\":0}"
-    ∷ codes "{\"op\":\"OP_MKDIR\",\"txid\":2}"
-    ∷ codes "{\"op\":\"OP_MKDIR\",\"path\":\"a\",\"txid\":2}"
-    ∷ codes "{\"op\":\"OP_ADD\",\"path\":\"a\",\"replication\":-1,\"txid\":2}"
-    ∷ codes "{\"op\":\"OP_ADD\",\"path\":\"/a\",\"txid\":2}"
-    ∷ codes "{\"op\":\"OP_RENAME\",\"src\":\"/a\",\"dst\":\"b\",\"txid\":2}" ∷ [])
-    ≡ Err MissingField
-    ∷ Err UnknownOp
-    ∷ Err UnknownOp
-    ∷ Err MissingField
-    ∷ Err BadNumber
-    ∷ Err MissingField
-    ∷ Err BadPath
-    ∷ Err BadPath
-    ∷ Err MissingField
-    ∷ Err BadPath ∷ []
-unfolding edit_of_line object_in value_of tx_in op_in op_of txid_in whole_in number_in path_in edit_in blocks_in items_in block_in is_utf8 chars encode value punctuate lex content word after_number number_of scan_numeral
-in_order = refl
-
--- A number is whole and below 2^63; that of a transaction is at least 1.
-numbers : map edit_of_line (
-    codes "{\"op\":\"OP_SET_GENSTAMP_V2\",\"gen\":9223372036854775807,\"txid\":9223372036854775807}"
-    ∷ codes "{\"op\":\"OP_SET_GENSTAMP_V2\",\"gen\":1,\"txid\":9223372036854775808}"
-    ∷ codes "{\"op\":\"OP_SET_GENSTAMP_V2\",\"gen\":9223372036854775808,\"txid\":2}"
-    ∷ codes "{\"op\":\"OP_SET_GENSTAMP_V2\",\"gen\":-1,\"txid\":2}"
-    ∷ codes "{\"op\":\"OP_SET_GENSTAMP_V2\",\"gen\":1.0,\"txid\":2}"
-    ∷ codes "{\"op\":\"OP_SET_GENSTAMP_V2\",\"gen\":\"1\",\"txid\":2}"
-    ∷ codes "{\"op\":\"OP_SET_GENSTAMP_V2\",\"gen\":0,\"txid\":2}" ∷ [])
-    ≡ Ok (record { txid = 9223372036854775807; edit = SetGenstamp 9223372036854775807 })
-    ∷ Err BadNumber
-    ∷ Err BadNumber
-    ∷ Err BadNumber
-    ∷ Err BadNumber
-    ∷ Err BadNumber
-    ∷ is (SetGenstamp 0) ∷ []
-unfolding edit_of_line object_in value_of tx_in op_in op_of txid_in whole_in number_in path_in edit_in blocks_in items_in block_in is_utf8 chars encode value punctuate lex content word after_number number_of scan_numeral float_is_finite round
-numbers = refl
-
--- A list of blocks is checked item by item, and an item key by key.
-bad_blocks : map edit_of_line (
-    codes "{\"op\":\"OP_CLOSE\",\"path\":\"/f\",\"blocks\":[{\"id\":1,\"gen\":-1},5],\"txid\":2}"
-    ∷ codes "{\"op\":\"OP_CLOSE\",\"path\":\"/f\",\"blocks\":[5,{\"id\":1,\"gen\":-1}],\"txid\":2}"
-    ∷ codes "{\"op\":\"OP_CLOSE\",\"path\":\"/f\",\"blocks\":{},\"txid\":2}"
-    ∷ codes "{\"op\":\"OP_CLOSE\",\"path\":\"/f\",\"blocks\":[{\"id\":1,\"gen\":1}],\"txid\":2}" ∷ [])
-    ≡ Err BadNumber
-    ∷ Err MissingField
-    ∷ Err MissingField
-    ∷ Err MissingField ∷ []
-unfolding edit_of_line object_in value_of tx_in op_in op_of txid_in whole_in number_in path_in edit_in blocks_in items_in block_in is_utf8 chars encode value punctuate lex content word after_number number_of scan_numeral
-bad_blocks = refl
-
 -- A line without `op` is a report.
 reports : map either_of_line (
     codes "{\"dn\":7,\"block\":5,\"gen\":6,\"len\":8,\"kind\":\"receiving\"}"
@@ -151,22 +88,106 @@ reports : map either_of_line (
 unfolding either_of_line either_in report_in dn_in kind_in kind_of object_in value_of tx_in op_in op_of txid_in whole_in number_in path_in edit_in blocks_in items_in block_in is_utf8 chars encode value punctuate lex content word after_number number_of scan_numeral
 reports = refl
 
-bad_reports : map either_of_line (
-    codes "{}"
-    ∷ codes "{\"dn\":0,\"block\":5,\"gen\":6,\"len\":8,\"kind\":\"deleted\"}"
-    ∷ codes "{\"dn\":257,\"block\":5,\"gen\":6,\"len\":8,\"kind\":\"deleted\"}"
-    ∷ codes "{\"dn\":7,\"block\":-1,\"kind\":\"lost\"}"
-    ∷ codes "{\"dn\":7,\"block\":5,\"len\":8,\"kind\":\"lost\"}"
-    ∷ codes "{\"dn\":7,\"block\":5,\"gen\":6,\"len\":8}"
-    ∷ codes "{\"dn\":7,\"block\":5,\"gen\":6,\"len\":8,\"kind\":\"lost\"}"
-    ∷ codes "{\"dn\":7,\"block\":5,\"gen\":6,\"len\":8,\"kind\":1}" ∷ [])
-    ≡ Err MissingField
-    ∷ Err BadNumber
-    ∷ Err BadNumber
-    ∷ Err BadNumber
-    ∷ Err MissingField
-    ∷ Err MissingField
-    ∷ Err UnknownKind
-    ∷ Err UnknownKind ∷ []
+-- The first fault: no JSON object comes first, then the operation.
+before_the_txid : faults (
+    codes ""
+    ∷ codes "[]"
+    ∷ codes "{"
+    ∷ codes "{\"op\":\"OP_MKDIR\",\"zz\":1e400}"
+    ∷ codes "{\"op\":\"OP_MKDIR\",\"zz\":\"\\ud800\"}"
+    ∷ codes "{\"op\":\"OP_FOO\"}"
+    ∷ codes "{\"op\":\"OP_APPEND\",\"path\":\"/a\",\"txid\":2}"
+    ∷ codes "{\"op\":\"OP_mkdir\",\"path\":\"/a\",\"txid\":2}"
+    ∷ codes "{\"op\":null,\"block\":9,\"dn\":1,\"gen\":1,\"kind\":\"received\",\"len\":0}" ∷ [])
+    ≡ 1 ∷ 1 ∷ 1 ∷ 1 ∷ 1 ∷ 4 ∷ 4 ∷ 4 ∷ 4 ∷ []
+unfolding either_of_line either_in report_in dn_in kind_in kind_of object_in value_of tx_in op_in op_of txid_in whole_in number_in path_in edit_in blocks_in items_in block_in is_utf8 chars encode value punctuate lex content code_unit word after_number number_of scan_numeral float_is_finite round
+before_the_txid = refl
+
+-- What no operation asks for has to be JSON all the same.
+under_other_keys : faults (
+    codes "{\"op\":\"OP_START_LOG_SEGMENT\",\"txid\":1,\"zz\":1e308}"
+    ∷ codes "{\"op\":\"OP_START_LOG_SEGMENT\",\"txid\":1,\"zz\":1e309}"
+    ∷ codes "{\"op\":\"OP_START_LOG_SEGMENT\",\"txid\":1,\"zz\":[-1e400]}"
+    ∷ codes "{\"op\":\"OP_START_LOG_SEGMENT\",\"txid\":1,\"zz\":{\"z\":[1e400]}}"
+    ∷ codes "{\"op\":\"OP_START_LOG_SEGMENT\",\"txid\":1,\"blocks\":[5,1e400]}"
+    ∷ codes "{\"op\":\"OP_START_LOG_SEGMENT\",\"txid\":1,\"blocks\":[{\"zz\":1e400}]}"
+    ∷ codes "{\"op\":\"OP_START_LOG_SEGMENT\",\"txid\":1,\"blocks\":[{\"id\":-1},{]}"
+    ∷ codes "{\"op\":\"OP_START_LOG_SEGMENT\",\"txid\":1,\"blocks\":[{\"id\":-1},{}]}"
+    ∷ codes "{\"op\":\"OP_START_LOG_SEGMENT\",\"txid\":1,\"zz\":\"\\ud83d\\ude00\"}"
+    ∷ codes "{\"op\":\"OP_START_LOG_SEGMENT\",\"txid\":1,\"zz\":\"\\ude00\"}"
+    ∷ codes "{\"op\":\"OP_START_LOG_SEGMENT\",\"txid\":1,\"zz\":[{\"\\ud83d\":5}]}"
+    ∷ codes "{\"op\":\"OP_START_LOG_SEGMENT\",\"txid\":1,\"zz\":01}"
+    ∷ codes "{\"op\":\"OP_START_LOG_SEGMENT\",\"txid\":1,\"zz\":[5,]}"
+    ∷ codes "{\"op\":\"OP_START_LOG_SEGMENT\",\"txid\":1,\"zz\":{\"z\"}}"
+    ∷ codes "{\"op\":\"OP_START_LOG_SEGMENT\",\"txid\":1} 5" ∷ [])
+    ≡ 0 ∷ 1 ∷ 1 ∷ 1 ∷ 1 ∷ 1 ∷ 1 ∷ 0 ∷ 0 ∷ 1 ∷ 1 ∷ 1 ∷ 1 ∷ 1 ∷ 1 ∷ []
+unfolding either_of_line either_in report_in dn_in kind_in kind_of object_in value_of tx_in op_in op_of txid_in whole_in number_in path_in edit_in blocks_in items_in block_in is_utf8 chars encode value punctuate lex content code_unit word after_number number_of scan_numeral float_is_finite round
+under_other_keys = refl
+
+-- Of members with the same key the last one counts.
+of_the_last_member : faults (
+    codes "{\"op\":5,\"txid\":1,\"op\":\"OP_START_LOG_SEGMENT\"}"
+    ∷ codes "{\"op\":\"OP_START_LOG_SEGMENT\",\"txid\":1,\"txid\":0}"
+    ∷ codes "{\"op\":\"OP_CLOSE\",\"txid\":1,\"path\":\"/a\",\"blocks\":[5],\"blocks\":[]}"
+    ∷ codes "{\"op\":\"OP_CLOSE\",\"txid\":1,\"path\":\"/a\",\"blocks\":[],\"blocks\":5}" ∷ [])
+    ≡ 0 ∷ 3 ∷ 0 ∷ 2 ∷ []
 unfolding either_of_line either_in report_in dn_in kind_in kind_of object_in value_of tx_in op_in op_of txid_in whole_in number_in path_in edit_in blocks_in items_in block_in is_utf8 chars encode value punctuate lex content word after_number number_of scan_numeral
-bad_reports = refl
+of_the_last_member = refl
+
+-- The number of a transaction comes before the keys of its operation; it is whole, at least 1 and below 2^63.
+of_the_txid : faults (
+    codes "{\"op\":\"OP_MKDIR\"}"
+    ∷ codes "{\"op\":\"OP_MKDIR\",\"txid\":1}"
+    ∷ codes "{\"op\":\"OP_MKDIR\",\"path\":5}"
+    ∷ codes "{\"op\":\"OP_MKDIR\",\"txid\":0,\"path\":5}"
+    ∷ codes "{\"op\":\"OP_MKDIR\",\"txid\":1.0}"
+    ∷ codes "{\"op\":\"OP_MKDIR\",\"txid\":1e2}"
+    ∷ codes "{\"op\":\"OP_MKDIR\",\"txid\":-1}"
+    ∷ codes "{\"op\":\"OP_MKDIR\",\"txid\":-0}"
+    ∷ codes "{\"op\":\"OP_MKDIR\",\"txid\":18446744073709551616}"
+    ∷ codes "{\"op\":\"OP_MKDIR\",\"txid\":9223372036854775808,\"path\":\"/a\"}"
+    ∷ codes "{\"op\":\"OP_MKDIR\",\"txid\":9223372036854775807,\"path\":\"/a\"}" ∷ [])
+    ≡ 2 ∷ 2 ∷ 2 ∷ 3 ∷ 3 ∷ 3 ∷ 3 ∷ 3 ∷ 3 ∷ 3 ∷ 0 ∷ []
+unfolding either_of_line either_in report_in dn_in kind_in kind_of object_in value_of tx_in op_in op_of txid_in whole_in number_in path_in edit_in blocks_in items_in block_in is_utf8 chars encode value punctuate lex content word after_number number_of scan_numeral float_is_finite round
+of_the_txid = refl
+
+-- The keys of an operation come in their order, and a list of blocks item by item.
+behind_the_txid : faults (
+    codes "{\"op\":\"OP_MKDIR\",\"txid\":1,\"path\":5}"
+    ∷ codes "{\"op\":\"OP_MKDIR\",\"txid\":1,\"path\":\"/a:b\"}"
+    ∷ codes "{\"op\":\"OP_ADD\",\"txid\":1,\"path\":\"a\"}"
+    ∷ codes "{\"op\":\"OP_ADD\",\"txid\":1,\"path\":\"/a\"}"
+    ∷ codes "{\"op\":\"OP_ADD_BLOCK\",\"txid\":1,\"path\":\"/a\",\"gen\":-1}"
+    ∷ codes "{\"op\":\"OP_RENAME\",\"txid\":1,\"dst\":5,\"src\":\"/\"}"
+    ∷ codes "{\"op\":\"OP_CLOSE\",\"txid\":1,\"path\":\"/a\",\"blocks\":{}}"
+    ∷ codes "{\"op\":\"OP_CLOSE\",\"txid\":1,\"path\":\"/a\",\"blocks\":[5]}"
+    ∷ codes "{\"op\":\"OP_CLOSE\",\"txid\":1,\"path\":\"/a\",\"blocks\":[{\"id\":1,\"gen\":-1},5]}"
+    ∷ codes "{\"op\":\"OP_CLOSE\",\"txid\":1,\"path\":\"/a\",\"blocks\":[{\"id\":1,\"gen\":1},-1]}"
+    ∷ codes "{\"op\":\"OP_SET_GENSTAMP_V2\",\"gen\":9223372036854775807,\"txid\":2}"
+    ∷ codes "{\"op\":\"OP_SET_GENSTAMP_V2\",\"gen\":9223372036854775808,\"txid\":2}" ∷ [])
+    ≡ 5 ∷ 5 ∷ 5 ∷ 2 ∷ 2 ∷ 5 ∷ 2 ∷ 2 ∷ 3 ∷ 2 ∷ 0 ∷ 3 ∷ []
+unfolding either_of_line either_in report_in dn_in kind_in kind_of object_in value_of tx_in op_in op_of txid_in whole_in number_in path_in edit_in blocks_in items_in block_in is_utf8 chars encode value punctuate lex content word after_number number_of scan_numeral
+behind_the_txid = refl
+
+-- The keys of a report in their order.
+of_a_report : faults (
+    codes "{}"
+    ∷ codes "{\"block\":9,\"gen\":1,\"kind\":\"received\",\"len\":0}"
+    ∷ codes "{\"dn\":0}"
+    ∷ codes "{\"dn\":257}"
+    ∷ codes "{\"dn\":1}"
+    ∷ codes "{\"dn\":1,\"block\":\"9\"}"
+    ∷ codes "{\"dn\":1,\"block\":9,\"kind\":\"received\",\"len\":-1}"
+    ∷ codes "{\"dn\":1,\"block\":9,\"gen\":1,\"kind\":\"lost\",\"len\":-1}"
+    ∷ codes "{\"dn\":1,\"block\":9,\"gen\":1,\"len\":0}"
+    ∷ codes "{\"dn\":1,\"block\":9,\"gen\":1,\"len\":0,\"kind\":\"lost\"}"
+    ∷ codes "{\"dn\":1,\"block\":9,\"gen\":1,\"len\":0,\"kind\":null}"
+    ∷ codes "{\"dn\":1,\"block\":9,\"gen\":1,\"len\":0,\"kind\":\"deleted\"}" ∷ [])
+    ≡ 2 ∷ 2 ∷ 3 ∷ 3 ∷ 2 ∷ 3 ∷ 2 ∷ 3 ∷ 2 ∷ 7 ∷ 7 ∷ 0 ∷ []
+unfolding either_of_line either_in report_in dn_in kind_in kind_of object_in value_of tx_in op_in op_of txid_in whole_in number_in path_in edit_in blocks_in items_in block_in is_utf8 chars encode value punctuate lex content word after_number number_of scan_numeral
+of_a_report = refl
+
+-- A line is UTF-8.
+no_text : fault (either_of_line (codes "{\"op\":\"OP_MKDIR\",\"zz\":\"" ++ 255 ∷ codes "\"}")) ≡ 1
+unfolding either_of_line either_in report_in dn_in kind_in kind_of object_in value_of tx_in op_in op_of txid_in whole_in number_in path_in edit_in blocks_in items_in block_in is_utf8 chars encode value punctuate lex content word after_number number_of scan_numeral
+no_text = refl

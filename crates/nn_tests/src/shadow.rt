@@ -4,7 +4,10 @@ ghost use Rattle.std.specs.Prelude.{◌<◌, ◌^◌};
 mod histories;
 
 use nn_shadow::{ApplyFault, HandCause, Shadow};
-use nn_types::{BlockId, Cause, Edit, Event, GenerationStamp, Kind, Length, Message, Path, Replication, Settings, Tx, Txid};
+use nn_types::{
+    BlockId, Cause, Edit, Event, GenerationStamp, Kind, Length, Message, Path, Replication,
+    Settings, Tx, Txid,
+};
 use std::alloc::Global;
 use std::process::Abort;
 use std::test::Fail;

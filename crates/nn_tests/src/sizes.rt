@@ -4,7 +4,10 @@ ghost use Rattle.std.specs.Prelude.{◌+◌, ◌<◌, ◌^◌};
 
 use nn_replicas::Replicas;
 use nn_tree::{Found, Namespace};
-use nn_types::{Block, BlockId, Blocks, Edit, GenerationStamp, Kind, Length, Path, Replica, Replication, Settings};
+use nn_types::{
+    Block, BlockId, Blocks, Edit, GenerationStamp, Kind, Length, Path, Replica, Replication,
+    Settings,
+};
 use std::alloc::Global;
 use std::process::Abort;
 use std::test::Fail;
@@ -51,9 +54,9 @@ fn a_file_of_2_000_blocks(rt: HostRuntime) -> Result<(), Fail> {
 }
 
 #[test]
-fn a_file_of_300_000_blocks(rt: HostRuntime) -> Result<(), Fail> {
+fn a_file_of_1_000_000_blocks(rt: HostRuntime) -> Result<(), Fail> {
     let mut namespace = Namespace::new(rt.alloc());
-    lives(&rt, rt.alloc(), &mut namespace, 300_000)
+    lives(&rt, rt.alloc(), &mut namespace, 1_000_000)
 }
 
 // A file gets so many blocks, loses the last one and gets lengths, is closed, and is deleted.

@@ -2,6 +2,8 @@ pub mod LogLaws
 pub mod LogLeft
 pub mod Follow
 pub mod Output
+pub mod OutputRows
 pub mod Input
 pub mod Run
+pub mod RunRows
 pub mod Shown

@@ -1,4 +1,5 @@
 pub mod Listing
+pub mod ListingRows
 pub mod Tables
 pub mod TablesRows
 pub mod Plain

@@ -1,0 +1,105 @@
+-- Whole inputs, and what is printed for them, byte for byte.
+use Rattle.std.specs.Prelude.{◌≡◌, ℕ, List, [], ◌∷◌, ◌++◌, flat_map, codes, refl}
+use Rattle.std.specs.Fmt.{digits}
+use Rattle.std.specs.Str.{is_utf8, chars}
+use Rattle.std.specs.Float.Numeral.{scan_numeral}
+use lib.Utf8.{encode}
+use Rattle.json.specs.Json.{value}
+use Rattle.json.specs.Lex.{punctuate, lex}
+use Rattle.json.specs.Print.{escape_byte}
+use Rattle.json.specs.Text.{content}
+use Rattle.json.specs.Word.{word, after_number}
+use Rattle.serde_json.specs.Read.{number_of}
+use Rattle.nn_types.specs.Settings.{Threshold}
+use Rattle.nn_edits.specs.Reading.{edit_of_line, either_of_line, object_in, value_of, either_in, tx_in, op_in, op_of, txid_in, whole_in, number_in, path_in, edit_in, block_in, items_in, blocks_in, report_in, dn_in, kind_in, kind_of}
+use Rattle.nn_segment.specs.Lines.{reads_of}
+use Rattle.nn_segment.specs.LogEnd.{end_of_log, end_of_txs}
+use Rattle.nn_segment.specs.Name.{txids_of, name_text, digits as name_digits}
+use Rattle.nn_segment.specs.Reading.{read_segment, fault_of}
+use Rattle.nn_scenario.specs.Cut.{segments_from, cut_from}
+use Rattle.nn_scenario.specs.Scenario.{scenario_of, lines_from}
+use Rattle.nn_listing.specs.Listing.{newline}
+use Rattle.nn_listing.specs.Tables.{datanodes}
+use Rattle.nn_engine.specs.Output.{Printed, output_of}
+
+-- what is asked for where the command line has no words
+abbrev usual : Threshold
+usual = record { permille = 999; min = 1 }
+
+-- lines, each with its line feed
+abbrev lines : List (List ℕ) → List ℕ
+lines each = flat_map (λ l. l ++ newline ∷ []) each
+
+abbrev printed : ℕ → List (List ℕ) → Printed
+printed status each = record { text = lines each; status = status }
+
+nothing : output_of usual [] ≡ printed 0 (codes "txid 0" ∷ codes "dir \"/\"" ∷ codes "blocks 0 safe 0 needed 0 mode off" ∷ [])
+unfolding output_of read_segment fault_of txids_of name_text name_digits reads_of edit_of_line end_of_txs scenario_of lines_from segments_from cut_from end_of_log digits escape_byte datanodes either_of_line either_in report_in dn_in kind_in kind_of object_in value_of tx_in op_in op_of txid_in whole_in number_in path_in edit_in blocks_in items_in block_in is_utf8 chars encode value punctuate lex content word after_number number_of scan_numeral
+nothing = refl
+
+-- A transaction that is refused, one that is missing, a segment with a fault, a line with a fault.
+missing_parent : output_of usual (lines (
+    codes "{\"op\":\"OP_START_LOG_SEGMENT\",\"txid\":1}"
+    ∷ codes "{\"op\":\"OP_MKDIR\",\"path\":\"/a/b\",\"txid\":2}"
+    ∷ codes "{\"op\":\"OP_END_LOG_SEGMENT\",\"txid\":3}" ∷ []))
+    ≡ printed 1 (codes "fault 22 txid 2" ∷ [])
+unfolding output_of read_segment fault_of txids_of name_text name_digits reads_of edit_of_line end_of_txs scenario_of lines_from segments_from cut_from end_of_log digits escape_byte datanodes either_of_line either_in report_in dn_in kind_in kind_of object_in value_of tx_in op_in op_of txid_in whole_in number_in path_in edit_in blocks_in items_in block_in is_utf8 chars encode value punctuate lex content word after_number number_of scan_numeral
+missing_parent = refl
+
+log_begins_too_high : output_of usual (lines (
+    codes "{\"op\":\"OP_START_LOG_SEGMENT\",\"txid\":2}"
+    ∷ codes "{\"op\":\"OP_END_LOG_SEGMENT\",\"txid\":3}" ∷ []))
+    ≡ printed 1 (codes "fault 57 txid 1" ∷ [])
+unfolding output_of read_segment fault_of txids_of name_text name_digits reads_of edit_of_line end_of_txs scenario_of lines_from segments_from cut_from end_of_log digits escape_byte datanodes either_of_line either_in report_in dn_in kind_in kind_of object_in value_of tx_in op_in op_of txid_in whole_in number_in path_in edit_in blocks_in items_in block_in is_utf8 chars encode value punctuate lex content word after_number number_of scan_numeral
+log_begins_too_high = refl
+
+gap_in_segment : output_of usual (lines (
+    codes "{\"op\":\"OP_START_LOG_SEGMENT\",\"txid\":1}"
+    ∷ codes "{\"op\":\"OP_END_LOG_SEGMENT\",\"txid\":3}" ∷ []))
+    ≡ printed 1 (codes "fault 14 segment 1" ∷ [])
+unfolding output_of read_segment fault_of txids_of name_text name_digits reads_of edit_of_line end_of_txs scenario_of lines_from segments_from cut_from end_of_log digits escape_byte datanodes either_of_line either_in report_in dn_in kind_in kind_of object_in value_of tx_in op_in op_of txid_in whole_in number_in path_in edit_in blocks_in items_in block_in is_utf8 chars encode value punctuate lex content word after_number number_of scan_numeral
+gap_in_segment = refl
+
+bad_line : output_of usual (lines (
+    codes "{\"op\":\"OP_START_LOG_SEGMENT\",\"txid\":1}"
+    ∷ codes ""
+    ∷ codes "{\"op\":\"OP_MKDIR\",\"txid\":2}" ∷ []))
+    ≡ printed 1 (codes "fault 2 line 3" ∷ [])
+unfolding output_of read_segment fault_of txids_of name_text name_digits reads_of edit_of_line end_of_txs scenario_of lines_from segments_from cut_from end_of_log digits escape_byte datanodes either_of_line either_in report_in dn_in kind_in kind_of object_in value_of tx_in op_in op_of txid_in whole_in number_in path_in edit_in blocks_in items_in block_in is_utf8 chars encode value punctuate lex content word after_number number_of scan_numeral
+bad_line = refl
+
+-- A report that comes before the log has its block.
+early_report : output_of usual (lines (
+    codes "{\"op\":\"OP_START_LOG_SEGMENT\",\"txid\":1}"
+    ∷ codes "{\"op\":\"OP_SET_GENSTAMP_V2\",\"gen\":1001,\"txid\":2}"
+    ∷ codes "{\"op\":\"OP_ALLOCATE_BLOCK_ID\",\"id\":1073741825,\"txid\":3}"
+    ∷ codes "{\"op\":\"OP_ADD\",\"path\":\"/f\",\"replication\":3,\"txid\":4}"
+    ∷ codes "{\"dn\":1,\"block\":1073741825,\"gen\":1001,\"len\":5,\"kind\":\"received\"}"
+    ∷ codes "{\"op\":\"OP_ADD_BLOCK\",\"gen\":1001,\"id\":1073741825,\"path\":\"/f\",\"txid\":5}"
+    ∷ codes "{\"op\":\"OP_CLOSE\",\"blocks\":[{\"gen\":1001,\"id\":1073741825,\"len\":5}],\"path\":\"/f\",\"txid\":6}"
+    ∷ codes "{\"op\":\"OP_END_LOG_SEGMENT\",\"txid\":7}" ∷ []))
+    ≡ printed 0 (codes "txid 7"
+    ∷ codes "dir \"/\""
+    ∷ codes "file \"/f\" 3 closed 1073741825:1001:5"
+    ∷ codes "replica 1073741825 1 1001 5 received live"
+    ∷ codes "blocks 1 safe 1 needed 0 mode off" ∷ [])
+unfolding output_of read_segment fault_of txids_of name_text name_digits reads_of edit_of_line end_of_txs scenario_of lines_from segments_from cut_from end_of_log digits escape_byte datanodes either_of_line either_in report_in dn_in kind_in kind_of object_in value_of tx_in op_in op_of txid_in whole_in number_in path_in edit_in blocks_in items_in block_in is_utf8 chars encode value punctuate lex content word after_number number_of scan_numeral
+early_report = refl
+
+-- The same, where two live replicas make a block safe and all blocks have to be.
+two_are_wanted : output_of (record { permille = 1000; min = 2 }) (lines (
+    codes "{\"op\":\"OP_START_LOG_SEGMENT\",\"txid\":1}"
+    ∷ codes "{\"op\":\"OP_SET_GENSTAMP_V2\",\"gen\":1001,\"txid\":2}"
+    ∷ codes "{\"op\":\"OP_ALLOCATE_BLOCK_ID\",\"id\":1073741825,\"txid\":3}"
+    ∷ codes "{\"op\":\"OP_ADD\",\"path\":\"/f\",\"replication\":3,\"txid\":4}"
+    ∷ codes "{\"dn\":1,\"block\":1073741825,\"gen\":1001,\"len\":5,\"kind\":\"received\"}"
+    ∷ codes "{\"op\":\"OP_ADD_BLOCK\",\"gen\":1001,\"id\":1073741825,\"path\":\"/f\",\"txid\":5}"
+    ∷ codes "{\"op\":\"OP_CLOSE\",\"blocks\":[{\"gen\":1001,\"id\":1073741825,\"len\":5}],\"path\":\"/f\",\"txid\":6}"
+    ∷ codes "{\"op\":\"OP_END_LOG_SEGMENT\",\"txid\":7}" ∷ []))
+    ≡ printed 0 (codes "txid 7"
+    ∷ codes "dir \"/\""
+    ∷ codes "file \"/f\" 3 closed 1073741825:1001:5"
+    ∷ codes "replica 1073741825 1 1001 5 received live"
+    ∷ codes "blocks 1 safe 0 needed 1 mode on" ∷ [])
+unfolding output_of read_segment fault_of txids_of name_text name_digits reads_of edit_of_line end_of_txs scenario_of lines_from segments_from cut_from end_of_log digits escape_byte datanodes either_of_line either_in report_in dn_in kind_in kind_of object_in value_of tx_in op_in op_of txid_in whole_in number_in path_in edit_in blocks_in items_in block_in is_utf8 chars encode value punctuate lex content word after_number number_of scan_numeral
+two_are_wanted = refl

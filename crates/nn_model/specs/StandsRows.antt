@@ -1,5 +1,5 @@
 -- Standbys that stand, and what is wrong with some that do not.
-use Rattle.std.specs.Prelude.{◌≡◌, Bool, true, false, List, [], ◌∷◌, ◌&&◌, length, Some, None, refl, ◌==◌, if◌then◌else◌}
+use Rattle.std.specs.Prelude.{◌≡◌, Bool, true, false, List, [], ◌∷◌, ◌&&◌, length, take, Some, None, refl, ◌==◌, if◌then◌else◌}
 use Rattle.std.specs.List.Sorted.{IsStrictlySortedBy}
 use Rattle.std.proofs.Common.{subst, inl, inr, ap, arith, rules}
 use Rattle.std.proofs.lemmas.Bool.{both_ways}
@@ -11,12 +11,13 @@ use Rattle.nn_types.specs.declared.edit.Edit.TheVariants.{StartSegment}
 use Rattle.nn_types.specs.declared.tx.Tx.{Tx}
 use Rattle.nn_model.specs.declared.form.Form.TheVariants.{Dir, File}
 use Rattle.nn_model.specs.Namespace.{Namespace, root_alone}
+use Rattle.nn_model.specs.Log.{namespace_after}
 use Rattle.nn_model.specs.WellFormed.{Has, HasWellFormedBlocks}
 use Rattle.nn_model.specs.Lanes.{Lanes, no_messages}
-use Rattle.nn_model.specs.Held.{IsFree}
-use Rattle.nn_model.specs.History.{processed}
+use Rattle.nn_model.specs.Held.{IsHeld, IsFree}
+use Rattle.nn_model.specs.History.{History, processed}
 use Rattle.nn_model.specs.Stands.{Standby, IsLeft, Stands, fresh}
-use Rattle.nn_model.specs.MessageRows.{tx, b, c, f, block, message, received, two_lanes, of_sent, are_lanes}
+use Rattle.nn_model.specs.MessageRows.{tx, b, c, f, block, message, received, two_lanes, of_sent, are_lanes, early_log, early_lanes, early_report}
 use Rattle.nn_model.specs.MessageRowsLater.{unnamed_log, unnamed_lanes, unnamed_report, unnamed_history, promotion_flushes_unnamed_lawful}
 
 root_blocks : HasWellFormedBlocks root_alone
@@ -105,6 +106,58 @@ waiting_stands = record {
         | true ↦ refl
         | false ↦ elim (dn == 2) as (λ t. (if t then 1 else 0) ≡ length (if t then other_of_b ∷ [] else [])) [ true ↦ refl | false ↦ refl ]
       ];
+}
+
+-- ---- After a report that was released the table has its replica.
+
+-- the block is named, and the file still open
+abbrev named_log : List Tx
+named_log = take 5 early_log
+
+abbrev released : History
+released = Applied 1 ∷ Applied 2 ∷ Applied 3 ∷ Applied 4 ∷ Applied 5 ∷ Processed 1 1 b Due ∷ []
+
+abbrev serving : Standby
+serving = record {
+  namespace = namespace_after root_alone named_log;
+  last = 5;
+  history = released;
+  replica = λ dn id. if (dn == 1) && (id == b) then Some (received 1001 5) else None;
+  has_order = λ dn id. false;
+  held = [];
+  last_number = λ dn. if dn == 1 then 1 else 0;
+}
+
+serving_stands : Stands root_alone 0 named_log early_lanes serving
+serving_stands = record {
+  log = search rules;
+  well_formed = root_blocks;
+  numbered = are_lanes (early_report ∷ []) [] (search rules) tt;
+  namespace = refl;
+  last = refl;
+  lawful = record {
+    applied_in_order = refl;
+    sent = (tt, (tt, (tt, (tt, (tt, ((early_report, refl, refl, refl, refl), tt))))));
+    in_sending_order = search rules;
+    waited = search rules;
+    flush_last = search rules;
+    flush_held = search rules;
+    none_forgotten = of_sent (λ m. IsFree (namespace_after root_alone named_log) early_lanes m → Has released (processed Due m)) (early_report ∷ []) []
+        ((λ free. search rules), tt) tt;
+  };
+  replicas = λ dn id. refl;
+  orders = λ dn id. refl;
+  held = λ m. (
+    (λ none. absurd none),
+    (λ left. absurd (of_sent (λ y. IsHeld (namespace_after root_alone named_log) early_lanes y → ⊥) (early_report ∷ []) []
+        ((λ held. both_ways _ refl held), tt) tt m left.sent left.held)),
+  );
+  by_block = tt;
+  by_number = tt;
+  last_numbers = λ dn. elim (dn == 1) as (λ t. (if t then 1 else 0) ≡ length (if t then early_report ∷ [] else if dn == 2 then [] else [])) [
+    | true ↦ refl
+    | false ↦ elim (dn == 2) as (λ t. 0 ≡ length {A = Message} (if t then [] else [])) [ true ↦ refl | false ↦ refl ]
+  ];
 }
 
 -- ---- After the flush nothing is held.

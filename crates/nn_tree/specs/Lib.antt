@@ -10,4 +10,5 @@ pub mod Touched
 pub mod Listing
 pub mod BlockRow
 pub mod Extent
+pub mod ExtentRows
 pub mod Memory

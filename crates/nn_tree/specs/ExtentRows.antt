@@ -1,0 +1,41 @@
+-- How large some listings are, and which edits ask for memory.
+use Rattle.std.specs.Prelude.{◌≡◌, ℕ, ◌^◌, ◌-◌, true, false, List, [], ◌∷◌, map, codes, refl}
+use Rattle.nn_types.specs.declared.edit.Edit.TheVariants.{StartSegment, EndSegment, Mkdir, Add, AddBlock, UpdateBlocks, Close, Rename, Delete, SetReplication, AllocateBlockId, SetGenstamp}
+use Rattle.nn_model.specs.declared.form.Form.{Form}
+use Rattle.nn_model.specs.declared.form.Form.TheVariants.{Dir, File}
+use Rattle.nn_model.specs.Namespace.{Path}
+use Rattle.nn_tree.specs.Extent.{capped, path_bytes, block_count, bytes_below}
+use Rattle.nn_tree.specs.Memory.{takes_memory}
+
+abbrev below_root : List (Path × Form)
+below_root =
+    (codes "a" ∷ [], Dir) ∷ (codes "a" ∷ codes "bc" ∷ [], Dir)
+    ∷ (
+      codes "f" ∷ [],
+      File (record {
+        replication = 1;
+        closed = false;
+        blocks = record { id = 1073741825; stamp = 1001; len = 0 } ∷ record { id = 1073741826; stamp = 1002; len = 0 } ∷ [];
+      }),
+    ) ∷ []
+
+-- "/", "/a", "/a/bc" and "/f"
+bytes_of_paths : path_bytes (([], Dir) ∷ below_root) ≡ 10
+bytes_of_paths = refl
+
+-- the same paths below "/x", whose text has two bytes
+bytes_of_paths_below : bytes_below 2 below_root ≡ 15
+bytes_of_paths_below = refl
+
+blocks_of_files : block_count (([], Dir) ∷ below_root) ≡ 2
+blocks_of_files = refl
+
+stops_at_the_greatest : map capped (0 ∷ 18446744073709551615 ∷ 18446744073709551616 ∷ []) ≡ 0 ∷ 18446744073709551615 ∷ 18446744073709551615 ∷ []
+stops_at_the_greatest = refl
+
+asks : map takes_memory (Mkdir [] ∷ Add [] 1 ∷ AddBlock [] 1 1 ∷ UpdateBlocks [] [] ∷ Close [] [] ∷ Rename [] [] ∷ Delete [] ∷ AllocateBlockId 1 ∷ [])
+    ≡ true ∷ true ∷ true ∷ true ∷ true ∷ true ∷ true ∷ true ∷ []
+asks = refl
+
+asks_not : map takes_memory (StartSegment ∷ EndSegment ∷ SetReplication [] 1 ∷ SetGenstamp 1 ∷ []) ≡ false ∷ false ∷ false ∷ false ∷ []
+asks_not = refl

@@ -1,5 +1,6 @@
 -- From the threads' promises to what `drive` says of each lane.
-use Rattle.std.proofs.Common.{◌≡◌, ℕ, zero, suc, ◌<◌, ◌≤◌, List, [], ◌∷◌, ◌++◌, Option, length, get_or, refl, sym, ap, ◌∙◌, subst, arith, length-append, append_assoc, append-nil}
+use Rattle.std.proofs.Common.{◌≡◌, ℕ, zero, suc, ◌<◌, ◌≤◌, Bool, true, ◌&&◌, List, [], ◌∷◌, ◌++◌, Option, length, get_or, refl, sym, ap, ◌∙◌, subst, arith, length-append, append_assoc, append-nil}
+use Rattle.std.specs.List.{list_all}
 use Rattle.std.specs.declared.thread.PromisedHandle.{PromisedHandle}
 use Rattle.nn_types.specs.declared.report.Report.{Report}
 use Rattle.nn_types.specs.declared.report.Message.{Message}
@@ -7,17 +8,13 @@ use Rattle.nn_model.specs.Namespace.{Namespace}
 use Rattle.nn_segment.specs.Source.{Answer}
 use Rattle.nn_lane.specs.Ends.{Reporting, Taking, counted, StartsWith}
 use Rattle.nn_tailer.specs.Tailing.{Tailer, StandsAt, Carries, AllTaken}
-use Rattle.nn_tailer.specs.LaneSteps.{SameEnd, SameEnds}
-use Rattle.nn_tailer.specs.Promotion.{Promoted, NotPromoted, IsPromoted as Promotes}
-use Rattle.nn_tailer.specs.declared.fault.PromoteFault.{PromoteFault}
-use Rattle.nn_tailer.specs.declared.fault.PromoteFault.TheVariants as promote
-use Rattle.nn_drive.specs.declared.driving.DriveFault.TheVariants as drive
+use Rattle.nn_tailer.specs.LaneSteps.{SameEnd, SameEnds, closed_of, AllClosed}
+use Rattle.nn_tailer.specs.Promotion.{Promoted, IsPromoted as Promotes}
 use Rattle.nn_tailer.proofs.Carried.{carries_then}
 use Rattle.nn_tailer.proofs.Drained.{same_length}
 use Rattle.nn_drive.specs.declared.driving.Worked.{Worked}
 use Rattle.nn_drive.specs.declared.driving.Reports.{Reports}
-use Rattle.nn_drive.proofs.Steps.{later_stops}
-use Rattle.nn_drive.specs.Driven.{IsLane, AreLanes, ArePromised, FitHandles, IsSealed, IsTaken, SealsAll, AreFronts, Goes, IsPromoted, StopsAt}
+use Rattle.nn_drive.specs.Driven.{IsLane, AreLanes, ArePromised, FitHandles, IsSealed, IsTaken, SealsAll, AreFronts, Goes, IsPromoted}
 
 same_at : (es es' : List Taking) (i : ℕ) (d : Taking) → i < length es → SameEnds es es' → SameEnd (get_or es i d) (get_or es' i d)
 same_at [] es' i d l s = absurd (omega (arith, l))
@@ -40,10 +37,13 @@ whole_front all got f h =
     let none : f.0 ≡ [] = none_more f.0 (omega (arith, h, ap length f.1, length-append got f.0)) in
     sym (append-nil got) ∙ ap (λ m. got ++ m) (sym none) ∙ sym f.1
 
-pub promote_stops : (x y z w : Tailer) (rs qs : List Answer) (f : PromoteFault) → Carries x rs y → Carries y [] z → NotPromoted z qs w f → StopsAt x (rs ++ qs) (drive.Promote f)
-promote_stops x y z w rs qs promote.AlreadyActive c d h = tt
-promote_stops x y z w rs qs promote.IntakeOpen c d h = tt
-promote_stops x y z w rs qs (promote.Step f) c d h = later_stops x z rs qs f (subst (λ a. Carries x a z) (append-nil rs) (carries_then x y z rs [] c d)) h.2
+both_closed : (a b : Bool) → a ≡ true → b ≡ true → (a && b) ≡ true
+both_closed a b p q = λ j. p j && q j
+
+-- lanes that are closed one by one are all closed
+each_closed : (es : List Taking) → ((i : ℕ) (e : Taking) → i < length es → (get_or es i e).closed ≡ true) → AllClosed es
+each_closed [] h = refl
+each_closed (e ∷ es) h = both_closed (closed_of e) (list_all closed_of es) (h 0 e (omega arith)) (each_closed es (λ i d l. h (suc i) d (omega (arith, l))))
 
 module _ {S : Type 0} (workers : List (S × Reporting)) (handles : List (PromisedHandle (Worked S) (Reports S))) where
   pub fit_handles : (before after : List Taking) → AreLanes workers before → ArePromised workers handles → SameEnds before after → FitHandles handles after
@@ -60,6 +60,12 @@ module _ {S : Type 0} (workers : List (S × Reporting)) (handles : List (Promise
   some_handle : (i : ℕ) (hs : List (PromisedHandle (Worked S) (Reports S))) → i < length hs → PromisedHandle (Worked S) (Reports S)
   some_handle i [] none = absurd (omega (arith, none))
   some_handle i (h ∷ hs) some = h
+
+  -- once each thread was started, no lane is open
+  pub all_closed : (gives : S → Option Report → S → Type 0) (x0 x1 x2 : Tailer) → AreLanes workers x0.ends → length workers ≤ length handles → SameEnds x0.ends x1.ends → SealsAll gives x1 handles x2 → AllClosed x2.ends
+  all_closed gives x0 x1 x2 lanes all same seals = each_closed x2.ends (λ i e below.
+      let within : i < length handles = omega (arith, below, seals.size, same_length x0.ends x1.ends same, lanes.0, all) in
+      (seals.sealed i (some_handle i handles within) e within).2)
 
   module _ (gives : S → Option Report → S → Type 0) (x0 x1 x2 x3 : Tailer) (lanes : AreLanes workers x0.ends) (promised : ArePromised workers handles) (all : length workers ≤ length handles)
       (a1 a2 : List Answer) (goes : Goes x0 a1 x1) (seals : SealsAll gives x1 handles x2) (same : SameEnds x2.ends x3.ends) (promotes : Promotes x2 a2 x3) (fronts : AreFronts x3.ends) where

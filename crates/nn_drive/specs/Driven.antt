@@ -9,17 +9,16 @@ use Rattle.nn_model.specs.Namespace.{Namespace}
 use Rattle.nn_model.specs.Lawful.{IsWhole}
 use Rattle.nn_model.specs.Picture.{ShowsPicture}
 use Rattle.nn_model.specs.Stands.{Stands, tables_of}
-use Rattle.nn_shadow.specs.Contents.{Contents, standby_of}
+use Rattle.nn_shadow.specs.Contents.{Contents, standby_of, KeepsSettings}
 use Rattle.nn_segment.specs.Source.{Answer, Asked}
 use Rattle.nn_segment.specs.Walk.{log_in}
 use Rattle.nn_segment.specs.LogEnd.{end_of_log, given_in}
-use Rattle.nn_tailer.specs.declared.fault.PromoteFault.TheVariants as promote_fault
-use Rattle.nn_tailer.specs.Reads.{StopsFor}
-use Rattle.nn_tailer.specs.declared.fault.StepFault.{StepFault}
+use Rattle.nn_tailer.specs.Promotion.{IsPromoted as Promotes}
+use Rattle.nn_tailer.specs.Reads.{EndsInFault}
 use Rattle.nn_drive.specs.declared.driving.DriveFault.{DriveFault}
 use Rattle.nn_drive.specs.declared.driving.DriveFault.TheVariants as drive
 use Rattle.nn_lane.specs.Ends.{Reporting, Taking, got_of, StartsWith}
-use Rattle.nn_tailer.specs.Tailing.{has_begun, Tailer, StandsAt, Carries, EndsInEnd, by_node}
+use Rattle.nn_tailer.specs.Tailing.{has_begun, Tailer, StandsAt, Carries, LogStops, EndsInEnd, by_node}
 use Rattle.nn_tailer.specs.LaneSteps.{SameEnds}
 use Rattle.nn_drive.specs.declared.driving.Worked.{Worked}
 use Rattle.nn_drive.specs.declared.driving.Reports.{Reports}
@@ -67,18 +66,37 @@ pub record Goes (old : Tailer) (answers : List Answer) (new : Tailer) : Type 0 w
   pub carries : Carries old answers new
   pub same_ends : SameEnds old.ends new.ends
   pub begun : has_begun new ≡ has_begun old
+  pub settings : KeepsSettings old.shadow new.shadow
 
-abbrev pub Went : {T : Type 0} → (T → Answer → T → Type 0) → T → Tailer → T → Tailer → Type 0
-Went gives s old t new = (answers : List Answer) × Asked gives s answers t × Goes old answers new
+abbrev pub Went : {T : Type 0} → (T → Answer → T → Type 0) → (T → ℕ) → T → Tailer → T → Tailer → Type 0
+Went gives failures s old t new = (answers : List Answer) × Asked gives s answers t × Goes old answers new × (failures s ≤ failures t)
 
--- the same up to a fault, which says of the log what it says of these answers
-abbrev pub WentUntil : {T : Type 0} → (T → Answer → T → Type 0) → T → Tailer → T → StepFault → Type 0
-WentUntil gives s old t fault = (answers : List Answer) × Asked gives s answers t × StopsFor old answers fault
+-- What a fault says of the standby before, and of what its source answered since. With 53 the flush had begun, and the source was not
+-- asked. With 51 the log stops: all that was given before, and these answers. With 54 the source's fault is its last answer, and it has
+-- failed more often than before. With 55 memory was refused, or a thread
+abbrev pub EndsEarly : {T : Type 0} → (T → ℕ) → T → Tailer → List Answer → T → DriveFault → Type 0
+EndsEarly failures s old answers t drive.AlreadyActive = (has_begun old ≡ true) × (answers ≡ [])
+EndsEarly failures s old answers t (drive.Stopped m) = LogStops old answers m
+EndsEarly failures s old answers t (drive.LogNotEnded f) = EndsInFault answers f × (failures s < failures t)
+EndsEarly failures s old answers t drive.OutOfMemory = Unit {0}
+
+-- the standby went on up to a fault
+abbrev pub WentUntil : {T : Type 0} → (T → Answer → T → Type 0) → (T → ℕ) → T → Tailer → T → DriveFault → Type 0
+WentUntil gives failures s old t fault = (answers : List Answer) × Asked gives s answers t × EndsEarly failures s old answers t fault × (failures s ≤ failures t)
+
+-- the standby was promoted with these answers more
+abbrev pub Ends : {T : Type 0} → (T → Answer → T → Type 0) → (T → ℕ) → T → Tailer → T → Active → Tailer → Type 0
+Ends gives failures s old t active new =
+    (answers : List Answer) × Asked gives s answers t × SameEnds old.ends new.ends
+    × ((active.last ≡ new.shadow.last) × (active.flushed ≡ count_by is_flush new.shadow.history))
+    × Promotes old answers new × (failures s ≤ failures t) × KeepsSettings old.shadow new.shadow
 
 -- each handle's lane was closed, in order
 pub record SealsAll {S : Type 0} (gives : S → Option Report → S → Type 0) (old : Tailer) (handles : List (PromisedHandle (Worked S) (Reports S))) (new : Tailer) : Type 0 where
   pub carries : Carries old [] new
   pub size : length new.ends ≡ length old.ends
+  pub begun : has_begun new ≡ has_begun old
+  pub settings : KeepsSettings old.shadow new.shadow
   pub sealed : (i : ℕ) (h : PromisedHandle (Worked S) (Reports S)) (e : Taking) → i < length handles
       → IsSealed gives (slice_index_or handles i h).promise.0.value (slice_index_or handles i h).promise.1.value (slice_index_or new.ends i e)
 
@@ -100,21 +118,13 @@ pub record IsPromoted {S : Type 0} (gives : S → Option Report → S → Type 0
   pub taken : (i : ℕ) (w : S × Reporting) (e : Taking) → i < length workers
       → IsTaken gives (slice_index_or workers i w).0 (slice_index_or workers i w).1 (slice_index_or ends i e).got
 
--- with 51 the log itself stops there: all that was given before, and these answers; and the fault of the source is its last answer
-abbrev pub StopsAt : Tailer → List Answer → DriveFault → Type 0
-StopsAt old answers (drive.Step f) = StopsFor old answers f
-StopsAt old answers (drive.Promote promote_fault.AlreadyActive) = Unit {0}
-StopsAt old answers (drive.Promote promote_fault.IntakeOpen) = Unit {0}
-StopsAt old answers (drive.Promote (promote_fault.Step f)) = StopsFor old answers f
-StopsAt old answers drive.OutOfMemory = Unit {0}
-
 -- why it ended early, with what its source had given by then
-abbrev pub NotDriven : {T : Type 0} → (T → Answer → T → Type 0) → Tailer → T → DriveFault → Type 0
-NotDriven {T} asks old source fault = (answers : List Answer) × (after : T) × Asked asks source answers after × StopsAt old answers fault
+abbrev pub NotDriven : {T : Type 0} → (T → Answer → T → Type 0) → (T → ℕ) → Tailer → T → DriveFault → Type 0
+NotDriven {T} asks failures old source fault = (after : T) × WentUntil asks failures source old after fault
 
-module _ {T S : Type 0} (asks : T → Answer → T → Type 0) (gives : S → Option Report → S → Type 0) where
+module _ {T S : Type 0} (asks : T → Answer → T → Type 0) (failures : T → ℕ) (gives : S → Option Report → S → Type 0) where
   abbrev pub IsDriven : Tailer → T → List (S × Reporting) → Contents → Active → Type 0
   IsDriven old source workers x active =
-      (answers : List Answer) × (after : T) × (ends : List Taking) × Asked asks source answers after
-      × (active.last ≡ x.last) × (active.flushed ≡ count_by is_flush x.history)
+      (answers : List Answer) × (after : T) × (ends : List Taking) × Asked asks source answers after × (failures source ≤ failures after)
+      × (active.last ≡ x.last) × (active.flushed ≡ count_by is_flush x.history) × KeepsSettings old.shadow x
       × ((start : Namespace) (base : ℕ) (given : List Answer) → StandsAt start base given old → IsPromoted gives start base (given ++ answers) workers ends x)

@@ -1,13 +1,17 @@
 //! One thread for each DataNode, and the standby on the thread that calls.
-ghost use Rattle.std.specs.Prelude.{◌≡◌, ◌<◌, ◌≤◌, ℕ, List, [], false, length, IfOk, IfErr, IfSome};
+ghost use Rattle.std.specs.Prelude.{◌≡◌, ◌<◌, ◌≤◌, ℕ, List, [], true, false, length, Some, Err, MatchBool, IfOk, IfErr, IfSome};
+ghost use Rattle.nn_tailer.specs.LaneSteps.{AllClosed};
+ghost use Rattle.nn_tailer.specs.Refusals.{has_place};
 ghost use Rattle.nn_tailer.specs.Tailing.{has_begun};
 ghost use Rattle.nn_drive.specs.Fault.{number_of};
-ghost use Rattle.nn_drive.specs.Driven.{HasReported, ArePromised, FitHandles, Went, WentUntil, SealsAll, AreFronts, AreLanes, IsDriven, NotDriven};
+ghost use Rattle.nn_drive.specs.Refusals.{drive_refusal, MayCome, IsSameFault};
+ghost use Rattle.nn_drive.specs.Driven.{HasReported, ArePromised, FitHandles, Went, WentUntil, Ends, SealsAll, AreFronts, AreLanes, IsDriven, NotDriven};
+ghost use Rattle.nn_drive.specs.declared.driving.DriveFault.{DriveFault as Why};
 
 use crate::reporting::{ReportSource, report_all};
 use nn_lane::{LaneEnd, Refusal, Reporter};
-use nn_segment::SegmentSource;
-use nn_shadow::Shadow;
+use nn_segment::{SegmentSource, SourceFault};
+use nn_shadow::{Shadow, Stop};
 use nn_tailer::{Active, Choice, PromoteFault, Standby, StepFault};
 use nn_types::fault;
 use std::alloc::Global;
@@ -34,15 +38,19 @@ impl<S: ReportSource> Promise<Worked<S>> for Reports<S> {
     ghost kept_by = { λ p w. HasReported S.gives p.0.value p.1.value w };
 }
 
-/// Why a drive failed.
+/// Why a drive failed, in the order in which the causes are looked for.
 #[derive(Clone, Copy, Debug, PartialEq, Eq, Error)]
 pub enum DriveFault {
-    /// A step failed, or the standby was active before.
-    #[error("{0}")]
-    Step(StepFault),
-    #[error("{0}")]
-    Promote(PromoteFault),
-    /// A thread could not be started.
+    /// The flush had begun before.
+    #[error("the standby is active")]
+    AlreadyActive,
+    /// The log stopped the standby, in this call or before.
+    #[error("the standby is stopped")]
+    Stopped(Stop),
+    /// The log did not end: its source failed.
+    #[error("the log did not end: {0}")]
+    LogNotEnded(SourceFault),
+    /// Memory was refused, or a thread could not be started.
     #[error("out of memory")]
     OutOfMemory,
 }
@@ -53,10 +61,25 @@ impl DriveFault {
         ensures { result ≡ number_of self }
     {
         match self {
-            DriveFault::Step(fault) => fault.number(),
-            DriveFault::Promote(fault) => fault.number(),
+            DriveFault::AlreadyActive => fault::ALREADY_ACTIVE,
+            DriveFault::Stopped(_) => fault::STOPPED,
+            DriveFault::LogNotEnded(_) => fault::LOG_NOT_ENDED,
             DriveFault::OutOfMemory => fault::MEMORY,
         }
+    }
+}
+
+// The fault of a standby that serves, at a lane that it has.
+fn fault_of(fault: StepFault) -> DriveFault
+    requires { MayCome fault }
+    ensures { IsSameFault fault result }
+{
+    match fault {
+        StepFault::Stopped(stop) => DriveFault::Stopped(stop),
+        StepFault::LogNotEnded(fault) => DriveFault::LogNotEnded(fault),
+        StepFault::OutOfMemory => DriveFault::OutOfMemory,
+        StepFault::AlreadyActive => unreachable!(),
+        StepFault::BadLane => unreachable!(),
     }
 }
 
@@ -119,14 +142,39 @@ fn start_all<'s, E, S: ReportSource + Send + Drop + 's, R: Wait + Sync>(
     handles
 }
 
+// Whether as many threads were started as there are workers.
+fn all_started(started: usize, workers: usize) -> bool
+    ensures { MatchBool result (workers ≤ started) (started < workers) }
+{
+    started >= workers
+}
+
+// A step.
+fn take_step<T: SegmentSource>(
+    standby: &mut Standby,
+    source: &mut T,
+    choice: Choice,
+) -> Result<(), DriveFault>
+    requires serving { has_begun standby.old ≡ false }
+    requires place { has_place standby.old choice ≡ true }
+    ensures went { Went T.gives T.failures source.old standby.old source.new standby.new }
+    ensures until { IfErr result (λ fault. WentUntil T.gives T.failures source.old standby.old source.new fault) }
+{
+    match standby.step(source, choice) {
+        Ok(_stepped) => Ok(()),
+        Err(fault) => Err(fault_of(fault)),
+    }
+}
+
 // A step of each lane.
-fn take_round<T: SegmentSource>(standby: &mut Standby, source: &mut T) -> Result<(), StepFault>
-    ensures went { Went T.gives source.old standby.old source.new standby.new }
-    ensures until { IfErr result (λ fault. WentUntil T.gives source.old standby.old source.new fault) }
+fn take_round<T: SegmentSource>(standby: &mut Standby, source: &mut T) -> Result<(), DriveFault>
+    requires { has_begun standby.old ≡ false }
+    ensures went { Went T.gives T.failures source.old standby.old source.new standby.new }
+    ensures until { IfErr result (λ fault. WentUntil T.gives T.failures source.old standby.old source.new fault) }
 {
     let lanes = standby.lanes();
     for i in 0..lanes {
-        if let Err(fault) = standby.step(source, Choice::Lane((i + 1) as u16)) {
+        if let Err(fault) = take_step(standby, source, Choice::Lane((i + 1) as u16)) {
             return Err(fault);
         }
     }
@@ -140,15 +188,16 @@ fn engine<T: SegmentSource, R: Wait>(
     source: &mut T,
     ended: &AtomicU64,
     workers: usize,
-) -> Result<(), StepFault>
-    ensures went { Went T.gives source.old standby.old source.new standby.new }
-    ensures until { IfErr result (λ fault. WentUntil T.gives source.old standby.old source.new fault) }
+) -> Result<(), DriveFault>
+    requires { has_begun standby.old ≡ false }
+    ensures went { Went T.gives T.failures source.old standby.old source.new standby.new }
+    ensures until { IfErr result (λ fault. WentUntil T.gives T.failures source.old standby.old source.new fault) }
 {
     for _ in rt.forever() {
         if ended.load(Ordering::SeqCst) >= workers as u64 {
             return Ok(());
         }
-        if let Err(fault) = standby.step(source, Choice::Edit) {
+        if let Err(fault) = take_step(standby, source, Choice::Edit) {
             return Err(fault);
         }
         if let Err(fault) = take_round(standby, source) {
@@ -217,6 +266,23 @@ fn fronts(ends: &[LaneEnd])
     }
 }
 
+// Promotes a standby whose lanes are closed.
+fn promote<T: SegmentSource>(standby: &mut Standby, source: &mut T) -> Result<Active, DriveFault>
+    requires serving { has_begun standby.old ≡ false }
+    requires closed { AllClosed standby.old.ends }
+    ensures ok { IfOk result (λ active. Ends T.gives T.failures source.old standby.old source.new active standby.new) }
+    ensures err { IfErr result (λ fault. WentUntil T.gives T.failures source.old standby.old source.new fault) }
+{
+    match standby.promote(source) {
+        Ok(active) => Ok(active),
+        Err(fault) => match fault {
+            PromoteFault::Step(fault) => Err(fault_of(fault)),
+            PromoteFault::AlreadyActive => unreachable!(),
+            PromoteFault::IntakeOpen => unreachable!(),
+        },
+    }
+}
+
 // The whole of `drive`, inside its scope.
 fn drive_in<
     's,
@@ -234,28 +300,32 @@ fn drive_in<
     ended: &'s AtomicU64,
 ) -> Result<(Shadow, Active), DriveFault>
     requires { AreLanes workers.items standby.ends }
-    ensures ok { IfOk result (λ r. IsDriven T.gives S.gives standby source workers.items r.0 r.1) }
-    ensures err { IfErr result (λ fault. NotDriven T.gives standby source fault) }
+    ensures refused { (fault : Why) → drive_refusal standby ≡ Some fault → result ≡ Err fault }
+    ensures ok { IfOk result (λ r. IsDriven T.gives T.failures S.gives standby source workers.items r.0 r.1) }
+    ensures err { IfErr result (λ fault. NotDriven T.gives T.failures standby source fault) }
 {
     let mut standby = standby;
     let mut source = source;
     if standby.is_active() {
-        return Err(DriveFault::Step(StepFault::AlreadyActive));
+        return Err(DriveFault::AlreadyActive);
+    }
+    if let Some(stop) = standby.stop() {
+        return Err(DriveFault::Stopped(stop));
     }
     let count = workers.len();
     let handles = start_all(scope, rt, alloc, workers, ended);
     let started = handles.len();
     if let Err(fault) = engine(rt, &mut standby, &mut source, ended, started) {
         give_up(rt, standby, handles, ended);
-        return Err(DriveFault::Step(fault));
+        return Err(fault);
     }
     seal_all(rt, &mut standby, handles);
-    if started < count {
+    if !all_started(started, count) {
         return Err(DriveFault::OutOfMemory);
     }
-    let active = match standby.promote(&mut source) {
+    let active = match promote(&mut standby, &mut source) {
         Ok(active) => active,
-        Err(fault) => return Err(DriveFault::Promote(fault)),
+        Err(fault) => return Err(fault),
     };
     let (shadow, ends) = standby.into_parts();
     fronts(ends.as_slice());
@@ -265,8 +335,10 @@ fn drive_in<
 /// Runs each worker on a thread of its own, and the standby on this one: it steps the log and the lanes in rotation
 /// until all workers have ended; then each lane is closed by its reporter, and the standby promotes itself.
 ///
-/// A source of reports ends with its first None, and is not asked again; a full lane is tried again and again. After a
-/// fault nothing is handed back: the lanes are taken from, and what is taken is dropped, until all workers have ended,
+/// A source of reports ends with its first None, and is not asked again; a full lane is tried again and again. The first
+/// cause of refusal is answered: 53 where the flush had begun before and 51 where the standby was stopped, both before any
+/// thread is started; and then, while it works, 51, 54, 55. It closes all lanes, so 52 never comes. After a fault nothing
+/// is handed back: the lanes are taken from, and what is taken is dropped, until all workers that were started have ended,
 /// and each thread is joined before this returns. It waits for as long as a source of reports does.
 pub fn drive<T: SegmentSource + Drop, S: ReportSource + Send + Drop, R: Threads + Wait + Sync>(
     rt: &R,
@@ -276,8 +348,9 @@ pub fn drive<T: SegmentSource + Drop, S: ReportSource + Send + Drop, R: Threads 
     workers: Vec<(S, Reporter)>,
 ) -> Result<(Shadow, Active), DriveFault>
     requires { AreLanes workers.items standby.ends }
-    ensures ok { IfOk result (λ r. IsDriven T.gives S.gives standby source workers.items r.0 r.1) }
-    ensures err { IfErr result (λ fault. NotDriven T.gives standby source fault) }
+    ensures refused { (fault : Why) → drive_refusal standby ≡ Some fault → result ≡ Err fault }
+    ensures ok { IfOk result (λ r. IsDriven T.gives T.failures S.gives standby source workers.items r.0 r.1) }
+    ensures err { IfErr result (λ fault. NotDriven T.gives T.failures standby source fault) }
 {
     let counter = AtomicU64::new(0);
     let ended = &counter;
@@ -286,8 +359,9 @@ pub fn drive<T: SegmentSource + Drop, S: ReportSource + Send + Drop, R: Threads 
         rt,
         move |scope| -> Result<(Shadow, Active), DriveFault>
             requires { AreLanes workers.items standby.ends }
-            ensures ok { IfOk result (λ r. IsDriven T.gives S.gives standby source workers.items r.0 r.1) }
-            ensures err { IfErr result (λ fault. NotDriven T.gives standby source fault) }
+            ensures refused { (fault : Why) → drive_refusal standby ≡ Some fault → result ≡ Err fault }
+            ensures ok { IfOk result (λ r. IsDriven T.gives T.failures S.gives standby source workers.items r.0 r.1) }
+            ensures err { IfErr result (λ fault. NotDriven T.gives T.failures standby source fault) }
         { drive_in(scope, rt, alloc, standby, source, workers, ended) },
     )
 }

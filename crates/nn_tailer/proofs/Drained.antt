@@ -16,6 +16,7 @@ use Rattle.nn_tailer.proofs.Lanes.{length_handed}
 use Rattle.nn_tailer.proofs.Moves.{some_end}
 use Rattle.nn_tailer.proofs.LaneSteps.{ends_same, ends_then}
 use Rattle.nn_tailer.proofs.Carried.{carries_same, carries_then}
+use Rattle.nn_tailer.proofs.Shadowing.{settings_same, settings_then}
 
 both_true : (a b : Bool) → (a && b) ≡ true → (a ≡ true) × (b ≡ true)
 both_true true b h = (refl, h)
@@ -50,6 +51,7 @@ lane_same x i l = let d = some_end x.ends i l in record {
   stop = refl;
   begun = refl;
   active = refl;
+  settings = settings_same x.shadow;
 }
 
 pub lane_live : (x y : Tailer) (i : ℕ) → IsLive x → LaneFrame x i y → IsLive y
@@ -87,7 +89,7 @@ only_memory x y i (fault.LogNotEnded f) h = absurd h
 -- ---- all lanes
 
 pub lanes_same : (x : Tailer) → LanesFrame x x
-lanes_same x = record { carries = carries_same x; same_ends = ends_same x.ends; last = refl; rest = refl; stop = refl; begun = refl; active = refl }
+lanes_same x = record { carries = carries_same x; same_ends = ends_same x.ends; last = refl; rest = refl; stop = refl; begun = refl; active = refl; settings = settings_same x.shadow }
 
 pub lanes_then : (x y z : Tailer) (i : ℕ) → LanesFrame x y → LaneFrame y i z → LanesFrame x z
 lanes_then x y z i f g = record {
@@ -98,6 +100,7 @@ lanes_then x y z i f g = record {
   stop = g.stop ∙ f.stop;
   begun = g.begun ∙ f.begun;
   active = g.active ∙ f.active;
+  settings = settings_then x.shadow y.shadow z.shadow f.settings g.settings;
 }
 
 pub lanes_live : (x y : Tailer) → IsLive x → LanesFrame x y → IsLive y

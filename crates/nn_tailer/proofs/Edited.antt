@@ -17,11 +17,11 @@ use Rattle.nn_tailer.specs.Steps.{OnceAsked, SameLanes, Edits, in_hand}
 use Rattle.nn_tailer.proofs.Carried.{carries_same, carries_then, carries_answer, carries_segment, carries_gap, carries_applied, carries_stop, carries_unchanged, end_adds_none, fault_adds_none, AddsNone, TakesIn}
 use Rattle.nn_shadow.specs.Contents.{standby_of}
 use Rattle.nn_shadow.specs.Calls.{applied_to}
-use Rattle.nn_tailer.proofs.Shadowing.{applied_last, nothing_new}
+use Rattle.nn_tailer.proofs.Shadowing.{settings_same, settings_then, applied_last, nothing_new}
 use Rattle.nn_tailer.specs.Shadows.{ShowsSame}
 
 same_lanes : (x : Tailer) → SameLanes x x
-same_lanes x = record { ends = refl; kept = refl; begun = refl; active = refl }
+same_lanes x = record { ends = refl; kept = refl; begun = refl; active = refl; settings = settings_same x.shadow }
 
 -- The standby `mid` has in hand what these answers put there
 pub record Ready (old : Tailer) (answers : List Answer) (mid : Tailer) : Type 0 where
@@ -40,7 +40,7 @@ takes_in old p mid l e w q = subst (TakesIn old p) (sym q) (record { live = l; w
 pub ready_new : (old mid : Tailer) (p : Segment) → IsLive old → old.rest ≡ [] → TakesUp old p mid begins.New → Ready old (Ok (segment p) ∷ []) mid
 ready_new old mid p l e t = record {
   carries = carries_segment old mid p (takes_in old p mid l e t.0 t.2);
-  lanes = subst (SameLanes old) (sym t.2) (record { ends = refl; kept = refl; begun = refl; active = refl });
+  lanes = subst (SameLanes old) (sym t.2) (record { ends = refl; kept = refl; begun = refl; active = refl; settings = settings_same old.shadow });
   shadow = ap (λ z. z.shadow) t.2;
   stop = ap (λ z. z.stop) t.2 ∙ l.1;
   rest = sym (ap (λ z. z.rest) t.2);
@@ -51,7 +51,7 @@ pub ready_live : (old mid : Tailer) (answers : List Answer) → IsLive old → R
 ready_live old mid answers l r = (r.lanes.begun ∙ l.0, r.stop, r.lanes.active ∙ l.2)
 
 lanes_then : (x y z : Tailer) → SameLanes x y → SameLanes y z → SameLanes x z
-lanes_then x y z a b = record { ends = b.ends ∙ a.ends; kept = b.kept ∙ a.kept; begun = b.begun ∙ a.begun; active = b.active ∙ a.active }
+lanes_then x y z a b = record { ends = b.ends ∙ a.ends; kept = b.kept ∙ a.kept; begun = b.begun ∙ a.begun; active = b.active ∙ a.active; settings = settings_then x.shadow y.shadow z.shadow a.settings b.settings }
 
 add_none : (answers : List Answer) → answers ++ [] ≡ answers
 add_none [] = refl
@@ -66,7 +66,7 @@ module _ {S : Type 0} (gives : S → Answer → S → Type 0) where
     answers,
     asked,
     carries_on old mid new answers r.carries (carries_applied mid new txid (ready_live old mid answers l r) a),
-    lanes_then old mid new r.lanes (subst (SameLanes mid) (sym a.now) (record { ends = refl; kept = refl; begun = ap (λ z. z.active) a.applied.phase; active = refl })),
+    lanes_then old mid new r.lanes (subst (SameLanes mid) (sym a.now) (record { ends = refl; kept = refl; begun = ap (λ z. z.active) a.applied.phase; active = refl; settings = a.applied.settings })),
     (a.tx, r.rest ∙ a.was ∙ ap (λ z. a.tx ∷ z) (sym (ap (λ z. z.rest) a.now)), a.is_txid, a.is_txid ∙ a.applied.next ∙ ap (λ z. z.last + 1) r.shadow, ap (λ z. z.shadow.last) a.now ∙ applied_last mid.shadow a.shown a.tx a.applied ∙ sym a.is_txid, ap (λ z. z.stop) a.now ∙ r.stop, ap (λ z. standby_of z.shadow) a.now ∙ a.applied.standby ∙ ap (λ z. applied_to (standby_of z) a.tx) r.shadow),
   )
 
@@ -78,7 +78,7 @@ module _ {S : Type 0} (gives : S → Answer → S → Type 0) where
     answers,
     asked,
     carries_on old mid new answers r.carries (carries_stop mid new m (ready_live old mid answers l r) h),
-    lanes_then old mid new r.lanes (subst (SameLanes mid) (sym h.now) (record { ends = refl; kept = refl; begun = h.active; active = refl })),
+    lanes_then old mid new r.lanes (subst (SameLanes mid) (sym h.now) (record { ends = refl; kept = refl; begun = h.active; active = refl; settings = h.same.settings })),
     (
       ap (λ z. z.stop) h.now,
       h.next ∙ ap (λ z. z.last + 1) r.shadow,
@@ -91,7 +91,7 @@ module _ {S : Type 0} (gives : S → Answer → S → Type 0) where
     answers,
     asked,
     carries_on old mid new answers r.carries (carries_unchanged mid new (ready_live old mid answers l r) h),
-    lanes_then old mid new r.lanes (subst (SameLanes mid) (sym h.now) (record { ends = refl; kept = refl; begun = ap (λ z. z.active) h.phase; active = refl })),
+    lanes_then old mid new r.lanes (subst (SameLanes mid) (sym h.now) (record { ends = refl; kept = refl; begun = ap (λ z. z.active) h.phase; active = refl; settings = h.same.settings })),
     (subst (λ z. ShowsSame z new.shadow) r.shadow (subst (λ z. ShowsSame mid.shadow z) (sym (ap (λ z. z.shadow) h.now)) h.same), ap (λ z. z.rest) h.now ∙ sym r.rest, ap (λ z. z.stop) h.now ∙ r.stop),
   )
 
@@ -113,7 +113,7 @@ module _ {S : Type 0} (gives : S → Answer → S → Type 0) where
         r ∷ [],
         asked_one gives s t r g,
         subst (λ rs. Carries old rs new) q (carries_gap old new h.0 m (record { live = l; was = e; high = u.0; none = u.1; txid = u.2; number = u.3; now = u.4 })),
-        subst (SameLanes old) (sym u.4) (record { ends = refl; kept = refl; begun = refl; active = refl }),
+        subst (SameLanes old) (sym u.4) (record { ends = refl; kept = refl; begun = refl; active = refl; settings = settings_same old.shadow }),
         (ap (λ z. z.stop) u.4, u.2, subst (λ z. ShowsSame old.shadow z) (sym (ap (λ z. z.shadow) u.4)) (nothing_new old.shadow), ap (λ z. z.rest) u.4 ∙ e ∙ sym u.1 ∙ ap (in_hand old) q, inr (h.0, sym q, u.0, u.3)),
       )
 

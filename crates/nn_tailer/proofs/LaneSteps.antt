@@ -9,13 +9,13 @@ use Rattle.nn_tailer.specs.declared.fault.StepFault.{StepFault}
 use Rattle.nn_tailer.specs.declared.fault.StepFault.TheVariants as fault
 use Rattle.nn_tailer.specs.Tailing.{has_begun, Tailer, Keeps, Carries, lanes_of, handed, handed_all, kept_at, with_lane}
 use Rattle.nn_model.specs.Stands.{Standby}
-use Rattle.nn_shadow.specs.Contents.{Contents, standby_of}
+use Rattle.nn_shadow.specs.Contents.{Contents, standby_of, KeepsSettings}
 use Rattle.nn_shadow.specs.Calls.{waits}
 use Rattle.nn_shadow.specs.Refusals.{handed_as}
 use Rattle.nn_shadow.specs.declared.fault.Handed.TheVariants as handed_shadow
 use Rattle.nn_tailer.specs.Shadows.{ShowsSame, IsHanded}
 use Rattle.nn_tailer.specs.Parts.{IsLive, Fetches, FindsNone, HandsKept, Unchanged, NotHanded}
-use Rattle.nn_tailer.proofs.Shadowing.{same_last, handed_last}
+use Rattle.nn_tailer.proofs.Shadowing.{settings_same, settings_then, same_last, handed_last}
 use Rattle.nn_tailer.specs.LaneSteps.{SameEnd, SameEnds, handed_in, handed_count, all_count, IsDrained, LaneFrame, HandsNext, LaneMoves}
 use Rattle.nn_tailer.proofs.Lanes.{same_many, handed_at}
 use Rattle.nn_tailer.proofs.Moves.{is_next, some_end}
@@ -71,6 +71,7 @@ module _ (old new : Tailer) (i : ℕ) (live : IsLive old) (k : Keeps old) (l : i
     stop = ap (λ z. z.stop) q;
     begun = ap (λ z. has_begun z) q;
     active = ap (λ z. z.active) q;
+    settings = subst (λ z. KeepsSettings old.shadow z.shadow) (sym q) (settings_same old.shadow);
   }
 
   pub frame_new : (m : Message) → Fetches old i m new → LaneFrame old i new
@@ -98,6 +99,7 @@ frame_then x y z i f g = record {
   stop = g.stop ∙ f.stop;
   begun = g.begun ∙ f.begun;
   active = g.active ∙ f.active;
+  settings = settings_then x.shadow y.shadow z.shadow f.settings g.settings;
 }
 
 pub frame_handed : (x y : Tailer) (i : ℕ) (m : Message) → IsLive x → Keeps x → (l : i < length x.ends) → kept_at x i ≡ Some m → HandsKept x i m y → LaneFrame x i y
@@ -119,6 +121,7 @@ frame_handed x y i m live k l e h =
       stop = ap (λ z. z.stop) q;
       begun = ap (λ z. has_begun z) q ∙ ap (λ z. z.active) h.handed.phase;
       active = ap (λ z. z.active) q;
+      settings = subst (λ z. KeepsSettings x.shadow z.shadow) (sym q) h.handed.settings;
     }
 
 -- its lane has one message more that was handed on
@@ -212,6 +215,7 @@ frame_unchanged x y i live l h =
       stop = ap (λ z. z.stop) q;
       begun = ap (λ z. has_begun z) q ∙ ap (λ z. z.active) h.phase;
       active = ap (λ z. z.active) q;
+      settings = subst (λ z. KeepsSettings x.shadow z.shadow) (sym q) h.same.settings;
     }
 
 pub step_fault : (old mid new : Tailer) (i : ℕ) (m : Message) (e : StepFault) → IsLive old → Keeps old → (l : i < length old.ends) → Fetches old i m mid → NotHanded mid new e → LaneFrame old i new × LaneMoves old i new (Err e)

@@ -12,7 +12,7 @@ use Rattle.nn_tailer.specs.Parts.{IsLive, AppliesNext, NotApplied}
 use Rattle.nn_tailer.specs.Steps.{OnceAsked, SameLanes, OnLogFault}
 use Rattle.nn_tailer.specs.Reads.{WhyEnded, EditsOn}
 use Rattle.nn_tailer.proofs.Carried.{carries_same, carries_then, carries_answer, carries_segment, carries_gap, carries_applied, carries_stop, carries_unchanged, end_adds_none, fault_adds_none, AddsNone, TakesIn}
-use Rattle.nn_tailer.proofs.Shadowing.{same_last}
+use Rattle.nn_tailer.proofs.Shadowing.{settings_same, settings_then, same_last}
 
 -- edits were applied, and nothing stopped the standby
 pub record Going (old : Tailer) (answers : List Answer) (new : Tailer) : Type 0 where
@@ -21,10 +21,10 @@ pub record Going (old : Tailer) (answers : List Answer) (new : Tailer) : Type 0 
   pub stop : new.stop ≡ None
 
 pub lanes_same : (x : Tailer) → SameLanes x x
-lanes_same x = record { ends = refl; kept = refl; begun = refl; active = refl }
+lanes_same x = record { ends = refl; kept = refl; begun = refl; active = refl; settings = settings_same x.shadow }
 
 pub lanes_then : (x y z : Tailer) → SameLanes x y → SameLanes y z → SameLanes x z
-lanes_then x y z a b = record { ends = b.ends ∙ a.ends; kept = b.kept ∙ a.kept; begun = b.begun ∙ a.begun; active = b.active ∙ a.active }
+lanes_then x y z a b = record { ends = b.ends ∙ a.ends; kept = b.kept ∙ a.kept; begun = b.begun ∙ a.begun; active = b.active ∙ a.active; settings = settings_then x.shadow y.shadow z.shadow a.settings b.settings }
 
 pub going_start : (x : Tailer) → IsLive x → Going x [] x
 going_start x l = record { carries = carries_same x; lanes = lanes_same x; stop = l.1 }
@@ -45,7 +45,7 @@ going_on x y z rs f g = subst (λ q. Going x q z) (no_more rs) (going_then x y z
 pub going_applied : (x y : Tailer) (txid : ℕ) → IsLive x → AppliesNext x txid y → Going x [] y
 going_applied x y txid l a = record {
   carries = carries_applied x y txid l a;
-  lanes = subst (SameLanes x) (sym a.now) (record { ends = refl; kept = refl; begun = ap (λ z. z.active) a.applied.phase; active = refl });
+  lanes = subst (SameLanes x) (sym a.now) (record { ends = refl; kept = refl; begun = ap (λ z. z.active) a.applied.phase; active = refl; settings = a.applied.settings });
   stop = ap (λ z. z.stop) a.now ∙ l.1;
 }
 
@@ -75,11 +75,11 @@ over_refused x y fault.BadLane l h = absurd h
 over_refused x y (fault.LogNotEnded f) l h = absurd h
 over_refused x y (fault.Stopped m) l h = (
   carries_stop x y m l h,
-  subst (SameLanes x) (sym h.now) (record { ends = refl; kept = refl; begun = h.active; active = refl }),
+  subst (SameLanes x) (sym h.now) (record { ends = refl; kept = refl; begun = h.active; active = refl; settings = h.same.settings }),
   (ap (λ z. z.stop) h.now, h.next ∙ ap (λ n. n + 1) (sym (ap (λ z. z.shadow.last) h.now ∙ same_last x.shadow h.shown h.same))),
 )
 over_refused x y fault.OutOfMemory l h =
-    (carries_unchanged x y l h, subst (SameLanes x) (sym h.now) (record { ends = refl; kept = refl; begun = ap (λ z. z.active) h.phase; active = refl }), ap (λ z. z.stop) h.now ∙ l.1)
+    (carries_unchanged x y l h, subst (SameLanes x) (sym h.now) (record { ends = refl; kept = refl; begun = ap (λ z. z.active) h.phase; active = refl; settings = h.same.settings }), ap (λ z. z.stop) h.now ∙ l.1)
 
 -- the answer of a source that has no segment
 carries_bare : (x y : Tailer) (r q : Answer) → IsLive x → r ≡ q → AddsNone q → y ≡ x → Carries x (r ∷ []) y
@@ -93,7 +93,7 @@ over_asked x y r (fault.LogNotEnded f) l n h = (carries_bare x y r (Err f) l h.0
 over_asked x y r (fault.Stopped m) l n h =
     let u = h.2 in (
       subst (λ rs. Carries x rs y) (ap (λ q. q ∷ []) (sym h.1)) (carries_gap x y h.0 m (record { live = l; was = n; high = u.0; none = u.1; txid = u.2; number = u.3; now = u.4 })),
-      subst (SameLanes x) (sym u.4) (record { ends = refl; kept = refl; begun = refl; active = refl }),
+      subst (SameLanes x) (sym u.4) (record { ends = refl; kept = refl; begun = refl; active = refl; settings = settings_same x.shadow }),
       (ap (λ z. z.stop) u.4, u.2 ∙ ap (λ n. n + 1) (sym (ap (λ z. z.shadow.last) u.4))),
     )
 
@@ -108,7 +108,7 @@ going_asked x y r asks.Old l n h =
 going_asked x y r asks.New l n h =
     let u = h.2 in record {
       carries = subst (λ rs. Carries x rs y) (ap (λ q. q ∷ []) (sym h.1)) (carries_segment x y h.0 (subst (TakesIn x h.0) (sym u.2) (record { live = l; was = n; shadow = refl; ends = refl; kept = refl; begun = refl; stop = l.1; low = u.0; now = refl })));
-      lanes = subst (SameLanes x) (sym u.2) (record { ends = refl; kept = refl; begun = refl; active = refl });
+      lanes = subst (SameLanes x) (sym u.2) (record { ends = refl; kept = refl; begun = refl; active = refl; settings = settings_same x.shadow });
       stop = ap (λ z. z.stop) u.2 ∙ l.1;
     }
 

@@ -17,6 +17,7 @@ use Rattle.nn_tailer.proofs.Carried.{carries_same, carries_then}
 use Rattle.nn_tailer.proofs.Lanes.{same_many}
 use Rattle.nn_tailer.proofs.LaneSteps.{ends_same, ends_then}
 use Rattle.nn_tailer.proofs.Logs.{Going}
+use Rattle.nn_tailer.proofs.Shadowing.{settings_same, settings_then}
 use Rattle.nn_tailer.proofs.Drained.{still_closed, all_taken}
 
 pub ends_by : (x y : Tailer) → SameLanes x y → SameEnds x.ends y.ends
@@ -27,7 +28,7 @@ carries_on x y z rs f g = subst (λ q. Carries x q z) (append-nil rs) (carries_t
 
 -- the log was not read to its end
 pub prepare_unread : (x y : Tailer) (rs : List Answer) (P : Type 0) (e : StepFault) → EditsOn x rs y P (Err e) → Prepares x rs y (Err e)
-prepare_unread x y rs P e h = (h.0, ends_by x y h.1, h.1.begun, h.1.active, h.2)
+prepare_unread x y rs P e h = (h.0, ends_by x y h.1, h.1.begun, h.1.active, h.2, h.1.settings)
 
 -- the lanes were not drained
 pub prepare_undrained : (x y z : Tailer) (rs : List Answer) (e : StepFault) → Going x rs y → LanesFrame y z → e ≡ fault.OutOfMemory → Prepares x rs z (Err e)
@@ -37,6 +38,7 @@ prepare_undrained x y z rs e g f q = (
   f.begun ∙ g.lanes.begun,
   f.active ∙ g.lanes.active,
   subst (WhyEnded rs z) (sym q) (f.stop ∙ g.stop),
+  settings_then x.shadow y.shadow z.shadow g.lanes.settings f.settings,
 )
 
 pub prepare_done : (x y z : Tailer) (rs : List Answer) → AllClosed x.ends → Keeps z → Going x rs y → EndsInEnd rs × (y.rest ≡ []) → LanesFrame y z → AreDrained z → Prepares x rs z (Ok tt)
@@ -47,6 +49,7 @@ prepare_done x y z rs c k g d f drained =
       f.begun ∙ g.lanes.begun,
       f.active ∙ g.lanes.active,
       (f.stop ∙ g.stop, f.rest ∙ d.1, d.0, all_taken z.ends z.kept (same_many 1 z.ends z.kept k.lanes) (still_closed x.ends z.ends same c).0 drained),
+      settings_then x.shadow y.shadow z.shadow g.lanes.settings f.settings,
     )
 
 pub still_all_closed : (x y : Tailer) → SameLanes x y → AllClosed x.ends → AllClosed y.ends
@@ -63,11 +66,11 @@ stops_for x y rs fault.OutOfMemory c w = tt
 module _ {S : Type 0} (gives : S → Answer → S → Type 0) where
   -- nothing was done
   pub promote_refused : (s : S) (x : Tailer) (f : PromoteFault) → NotPromoted x [] x f → Promotes gives s x s x (Err f)
-  promote_refused s x f h = ([], refl, carries_same x, ends_same x.ends, h)
+  promote_refused s x f h = ([], refl, carries_same x, ends_same x.ends, h, settings_same x.shadow)
 
   -- the log or the lanes ended it
   pub promote_unready : (s t : S) (x y : Tailer) (rs : List Answer) (e : StepFault) → Asked gives s rs t → Prepares x rs y (Err e) → Promotes gives s x t y (Err (promote_fault.Step e))
-  promote_unready s t x y rs e a p = (rs, a, p.0, p.1, (p.3, p.4, stops_for x y rs e p.0 p.4))
+  promote_unready s t x y rs e a p = (rs, a, p.0, p.1, (p.3, p.4, stops_for x y rs e p.0 p.4), p.5)
 
   ends_more : (given rs : List Answer) → EndsInEnd rs → EndsInEnd (given ++ rs)
   ends_more given rs e = (given ++ e.0, ap (λ z. given ++ z) e.1 ∙ sym (append_assoc given e.0 (Ok End ∷ [])))
@@ -80,6 +83,7 @@ module _ {S : Type 0} (gives : S → Answer → S → Type 0) where
     (λ start base given h. (f.4 start base (given ++ rs) (p.0 start base given h) p.4.1 (ends_more given rs p.4.2) p.4.3).1),
     ends_then x.ends y.ends z.ends p.1 (subst (λ es. SameEnds y.ends es) (sym f.3) (ends_same y.ends)),
     (f.0, f.1, f.2, (λ start base given h. (f.4 start base (given ++ rs) (p.0 start base given h) p.4.1 (ends_more given rs p.4.2) p.4.3).0)),
+    settings_then x.shadow y.shadow z.shadow p.5 f.5,
   )
   promote_finished s t x y z rs (Err (promote_fault.Step fault.OutOfMemory)) b v q p f = (
     rs,
@@ -87,6 +91,7 @@ module _ {S : Type 0} (gives : S → Answer → S → Type 0) where
     (λ start base given h. f.3 start base (given ++ rs) (p.0 start base given h) p.4.1 (ends_more given rs p.4.2) p.4.3),
     ends_then x.ends y.ends z.ends p.1 (subst (λ es. SameEnds y.ends es) (sym f.2) (ends_same y.ends)),
     (f.0 ∙ p.3, f.1, tt),
+    settings_then x.shadow y.shadow z.shadow p.5 f.4,
   )
   promote_finished s t x y z rs (Err (promote_fault.Step fault.AlreadyActive)) b v q p f = absurd f
   promote_finished s t x y z rs (Err (promote_fault.Step (fault.Stopped m))) b v q p f = absurd f
@@ -103,6 +108,7 @@ module _ {S : Type 0} (gives : S → Answer → S → Type 0) where
     (λ start base given h. let e = h.ended b in subst (λ g. StandsAt start base g z) (sym (append-nil given)) (f.4 start base given h e.0 e.1 e.2).1),
     subst (λ es. SameEnds x.ends es) (sym f.3) (ends_same x.ends),
     (f.0, f.1, f.2, (λ start base given h. let e = h.ended b in subst (λ g. Promoted start base g z) (sym (append-nil given)) (f.4 start base given h e.0 e.1 e.2).0)),
+    f.5,
   )
   promote_resumed s x z (Err (promote_fault.Step fault.OutOfMemory)) b f = (
     [],
@@ -110,6 +116,7 @@ module _ {S : Type 0} (gives : S → Answer → S → Type 0) where
     (λ start base given h. let e = h.ended b in subst (λ g. StandsAt start base g z) (sym (append-nil given)) (f.3 start base given h e.0 e.1 e.2)),
     subst (λ es. SameEnds x.ends es) (sym f.2) (ends_same x.ends),
     (f.0, f.1, tt),
+    f.4,
   )
   promote_resumed s x z (Err (promote_fault.Step fault.AlreadyActive)) b f = absurd f
   promote_resumed s x z (Err (promote_fault.Step (fault.Stopped m))) b f = absurd f

@@ -40,10 +40,10 @@ stopped_first x c f s b q e = first_is (step_refusal x c) (step.Stopped s) f (st
 pub edit_goes : {P : Type 0} (x : Tailer) (f : StepFault) → has_begun x ≡ false → x.stop ≡ None → step_refusal x Edit ≡ Some f → P
 edit_goes x f b q e = never (step_refusal x Edit) f (step_is x Edit false None true b q refl) e
 
-has_one : (x : Tailer) (dn i : ℕ) → IsPlace x dn i → is_lane (length x.ends) dn ≡ true
+pub has_one : (x : Tailer) (dn i : ℕ) → IsPlace x dn i → is_lane (length x.ends) dn ≡ true
 has_one x dn i p = (λ j. le-leb 1 dn (omega (arith, p.0)) j && le-leb dn (length x.ends) (omega (arith, p.0, p.1)) j)
 
-has_none : (x : Tailer) (dn : ℕ) → HasNoPlace x dn → is_lane (length x.ends) dn ≡ false
+pub has_none : (x : Tailer) (dn : ℕ) → HasNoPlace x dn → is_lane (length x.ends) dn ≡ false
 has_none x dn (inl z) = (λ j. nat_le 1 (z j) && nat_le dn (length x.ends))
 has_none x dn (inr l) = (λ j. nat_le 1 dn && lt-leb dn (length x.ends) l j) ∙ and-false (nat_le 1 dn)
 
@@ -69,6 +69,13 @@ stop_first x f s a q e = first_is (promote_refusal x) (promotion.Step (step.Stop
 
 pub open_first : (x : Tailer) (f : PromoteFault) → x.active ≡ false → x.stop ≡ None → has_begun x ≡ false → list_all closed_of x.ends ≡ false → promote_refusal x ≡ Some f → promotion.IntakeOpen ≡ f
 open_first x f a q b c e = first_is (promote_refusal x) promotion.IntakeOpen f (promote_is x false None false false a q b c) e
+
+-- a promoted standby has begun its flush
+pub promoted_begun : (x : Tailer) → Keeps x → x.active ≡ true → has_begun x ≡ true
+promoted_begun x k a = elim (has_begun x) as (λ b. has_begun x ≡ b → has_begun x ≡ true) [
+  | true ↦ λ e. e
+  | false ↦ λ e. absurd (let w : true ≡ false = sym a ∙ k.not_begun e in cc)
+] refl
 
 -- nothing keeps back a flush that has begun
 pub resumes : {P : Type 0} (x : Tailer) (f : PromoteFault) → Keeps x → x.active ≡ false → has_begun x ≡ true → promote_refusal x ≡ Some f → P

@@ -10,6 +10,7 @@ use Rattle.nn_tailer.specs.Public.{Seals}
 use Rattle.nn_tailer.proofs.Lanes.{lane_known, same_many, handed_same}
 use Rattle.nn_tailer.proofs.Fetched.{keeps_lane}
 use Rattle.nn_tailer.proofs.Carried.{same_log}
+use Rattle.nn_tailer.proofs.Shadowing.{settings_same}
 use Rattle.nn_tailer.proofs.LogEnds.{same_given, stops_same}
 
 -- what sealing does to an end
@@ -59,6 +60,7 @@ module _ (x : Tailer) (i : ℕ) (d e' : Taking) (r : Reporting) (k : Keeps x) (l
     end = e';
     ends = refl;
     begun = refl;
+    settings = settings_same x.shadow;
     lane = s.lane ∙ s.own;
     closed = s.closed;
     all = s.all;

@@ -14,6 +14,7 @@ use Rattle.nn_tailer.specs.Public.{IsPlace, IsStepped, NotStepped, Steps}
 use Rattle.nn_tailer.proofs.Carried.{carries_same}
 use Rattle.nn_tailer.proofs.LaneSteps.{ends_same}
 use Rattle.nn_tailer.proofs.Prepared.{ends_by}
+use Rattle.nn_tailer.proofs.Shadowing.{settings_same}
 
 -- why nothing was done
 stops_by : (x y : Tailer) (c : Choice) (rs : List Answer) (f : StepFault) → Carries x rs y → NotStepped x c rs y f → StopsWith y f × StopsFor x rs f
@@ -26,23 +27,23 @@ stops_by x y c rs fault.OutOfMemory g h = (tt, tt)
 
 module _ {S : Type 0} (gives : S → Answer → S → Type 0) where
   pub step_refused : (s : S) (x : Tailer) (choice : Choice) (f : StepFault) → NotStepped x choice [] x f → Steps gives s x choice s x (Err f)
-  step_refused s x choice f h = let w = stops_by x x choice [] f (carries_same x) h in ([], refl, carries_same x, ends_same x.ends, refl, (h, w.0, w.1))
+  step_refused s x choice f h = let w = stops_by x x choice [] f (carries_same x) h in ([], refl, carries_same x, ends_same x.ends, refl, (h, w.0, w.1), settings_same x.shadow)
 
   pub edit_steps : (s t : S) (x y : Tailer) (c : Choice) (r : Result Stepped StepFault) → c ≡ Edit → Edits gives s x t y r → Steps gives s x c t y r
-  edit_steps s t x y c (Ok a) q h = (h.0, h.1, h.2, ends_by x y h.3, h.3.begun, subst (λ z. IsStepped x z h.0 y a) (sym q) h.4)
+  edit_steps s t x y c (Ok a) q h = (h.0, h.1, h.2, ends_by x y h.3, h.3.begun, subst (λ z. IsStepped x z h.0 y a) (sym q) h.4, h.3.settings)
   edit_steps s t x y c (Err fault.AlreadyActive) q h = absurd h.4
-  edit_steps s t x y c (Err (fault.Stopped m)) q h = (h.0, h.1, h.2, ends_by x y h.3, h.3.begun, (inr (q, h.4), h.4.0, λ start base given g. (h.2 start base given g).stops m h.4.0))
+  edit_steps s t x y c (Err (fault.Stopped m)) q h = (h.0, h.1, h.2, ends_by x y h.3, h.3.begun, (inr (q, h.4), h.4.0, λ start base given g. (h.2 start base given g).stops m h.4.0), h.3.settings)
   edit_steps s t x y c (Err fault.BadLane) q h = absurd h.4
-  edit_steps s t x y c (Err (fault.LogNotEnded f)) q h = (h.0, h.1, h.2, ends_by x y h.3, h.3.begun, ((q, h.4), tt, ([], h.4.0)))
-  edit_steps s t x y c (Err fault.OutOfMemory) q h = (h.0, h.1, h.2, ends_by x y h.3, h.3.begun, (inl (q, h.4), tt, tt))
+  edit_steps s t x y c (Err (fault.LogNotEnded f)) q h = (h.0, h.1, h.2, ends_by x y h.3, h.3.begun, ((q, h.4), tt, ([], h.4.0)), h.3.settings)
+  edit_steps s t x y c (Err fault.OutOfMemory) q h = (h.0, h.1, h.2, ends_by x y h.3, h.3.begun, (inl (q, h.4), tt, tt), h.3.settings)
 
   pub lane_steps : (s : S) (x y : Tailer) (c : Choice) (dn i : ℕ) (r : Result Stepped StepFault) → c ≡ Lane dn → IsPlace x dn i → LaneFrame x i y → LaneMoves x i y r → Steps gives s x c s y r
-  lane_steps s x y c dn i (Ok a) q p f h = ([], refl, f.carries, f.same_ends, f.begun, subst (λ z. IsStepped x z [] y a) (sym q) (refl, (i, p, h)))
+  lane_steps s x y c dn i (Ok a) q p f h = ([], refl, f.carries, f.same_ends, f.begun, subst (λ z. IsStepped x z [] y a) (sym q) (refl, (i, p, h)), f.settings)
   lane_steps s x y c dn i (Err fault.AlreadyActive) q p f h = absurd h
   lane_steps s x y c dn i (Err (fault.Stopped m)) q p f h = absurd h
   lane_steps s x y c dn i (Err fault.BadLane) q p f h = absurd h
   lane_steps s x y c dn i (Err (fault.LogNotEnded e)) q p f h = absurd h
-  lane_steps s x y c dn i (Err fault.OutOfMemory) q p f h = ([], refl, f.carries, f.same_ends, f.begun, (inr (dn, i, q, refl, p, h), tt, tt))
+  lane_steps s x y c dn i (Err fault.OutOfMemory) q p f h = ([], refl, f.carries, f.same_ends, f.begun, (inr (dn, i, q, refl, p, h), tt, tt), f.settings)
 
 pub lane_fault : (x y : Tailer) (i : ℕ) (r : Result Stepped StepFault) (P : Type 0) → LaneMoves x i y r → OnLogFault r P
 lane_fault x y i (Ok a) P h = tt

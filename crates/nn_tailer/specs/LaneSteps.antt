@@ -12,7 +12,7 @@ use Rattle.nn_model.specs.Namespace.{Namespace}
 use Rattle.nn_model.specs.Lanes.{followed_by}
 use Rattle.nn_model.specs.Held.{is_held}
 use Rattle.nn_segment.specs.Source.{Answer}
-use Rattle.nn_shadow.specs.Contents.{standby_of}
+use Rattle.nn_shadow.specs.Contents.{standby_of, KeepsSettings}
 use Rattle.nn_shadow.specs.Calls.{waits, received}
 use Rattle.nn_tailer.specs.Tailing.{has_begun, Tailer, StandsAt, Carries, lanes_of, handed_all, kept_at}
 
@@ -61,6 +61,7 @@ pub record LaneFrame (old : Tailer) (i : ℕ) (new : Tailer) : Type 0 where
   pub stop : new.stop ≡ old.stop
   pub begun : has_begun new ≡ has_begun old
   pub active : new.active ≡ old.active
+  pub settings : KeepsSettings old.shadow new.shadow
 
 -- The next message of the lane was handed on, and the Shadow received it. Whether it was held is what the definition says of
 -- the log and the lanes at which the standby stood
@@ -96,6 +97,7 @@ pub record LanesFrame (old new : Tailer) : Type 0 where
   pub stop : new.stop ≡ old.stop
   pub begun : has_begun new ≡ has_begun old
   pub active : new.active ≡ old.active
+  pub settings : KeepsSettings old.shadow new.shadow
 
 abbrev pub AreDrained : Tailer → Type 0
 AreDrained x = (k : ℕ) → k < length x.ends → IsDrained x k

@@ -6,7 +6,7 @@ use Rattle.nn_model.specs.History.{is_flush}
 use Rattle.nn_model.specs.Lawful.{IsWhole}
 use Rattle.nn_model.specs.Picture.{ShowsPicture}
 use Rattle.nn_model.specs.Stands.{Stands, tables_of}
-use Rattle.nn_shadow.specs.Contents.{standby_of}
+use Rattle.nn_shadow.specs.Contents.{standby_of, KeepsSettings}
 use Rattle.nn_lane.specs.Ends.{got_of}
 use Rattle.nn_segment.specs.Source.{Answer, Asked}
 use Rattle.nn_segment.specs.Walk.{log_in}
@@ -37,9 +37,11 @@ abbrev pub Finishes : Tailer → Tailer → Result Active PromoteFault → Type 
 Finishes old new (Ok a) =
     (new.active ≡ true) × (a.last ≡ new.shadow.last) × (a.flushed ≡ count_by is_flush new.shadow.history) × (new.ends ≡ old.ends)
     × ((start : Namespace) (base : ℕ) (given : List Answer) → StandsAt start base given old → old.rest ≡ [] → EndsInEnd given → AllTaken old.ends old.kept → Promoted start base given new × StandsAt start base given new)
+    × KeepsSettings old.shadow new.shadow
 Finishes old new (Err (promote_fault.Step fault.OutOfMemory)) =
     (new.active ≡ old.active) × (new.stop ≡ None) × (new.ends ≡ old.ends)
     × ((start : Namespace) (base : ℕ) (given : List Answer) → StandsAt start base given old → old.rest ≡ [] → EndsInEnd given → AllTaken old.ends old.kept → StandsAt start base given new)
+    × KeepsSettings old.shadow new.shadow
 Finishes old new (Err (promote_fault.Step fault.AlreadyActive)) = ⊥
 Finishes old new (Err (promote_fault.Step (fault.Stopped s))) = ⊥
 Finishes old new (Err (promote_fault.Step fault.BadLane)) = ⊥
@@ -52,6 +54,7 @@ abbrev pub Prepares : Tailer → List Answer → Tailer → Result (Unit {0}) St
 Prepares old answers new result =
     Carries old answers new × SameEnds old.ends new.ends × (has_begun new ≡ has_begun old) × (new.active ≡ old.active)
     × MatchResult result (λ _. (new.stop ≡ None) × (new.rest ≡ []) × EndsInEnd answers × AllTaken new.ends new.kept) (WhyEnded answers new)
+    × KeepsSettings old.shadow new.shadow
 
 -- where the answer is the fault of the source
 abbrev pub OnPromoteLogFault : Result Active PromoteFault → Type 0 → Type 0
@@ -65,7 +68,7 @@ abbrev pub IsPromoted : Tailer → List Answer → Tailer → Type 0
 IsPromoted old answers new = (start : Namespace) (base : ℕ) (given : List Answer) → StandsAt start base given old → Promoted start base (given ++ answers) new
 
 abbrev pub NotPromoted : Tailer → List Answer → Tailer → PromoteFault → Type 0
-NotPromoted old answers new promote_fault.AlreadyActive = (old.active ≡ true) × (new ≡ old) × (answers ≡ [])
+NotPromoted old answers new promote_fault.AlreadyActive = (old.active ≡ true) × (has_begun old ≡ true) × (new ≡ old) × (answers ≡ [])
 NotPromoted old answers new promote_fault.IntakeOpen = (list_all closed_of old.ends ≡ false) × (new ≡ old) × (answers ≡ [])
 NotPromoted old answers new (promote_fault.Step f) = (new.active ≡ old.active) × WhyEnded answers new f × StopsFor old answers f
 
@@ -74,3 +77,4 @@ module _ {S : Type 0} (gives : S → Answer → S → Type 0) where
   Promotes s old t new result =
       (answers : List Answer) × Asked gives s answers t × Carries old answers new × SameEnds old.ends new.ends
       × MatchResult result (λ a. (new.active ≡ true) × (a.last ≡ new.shadow.last) × (a.flushed ≡ count_by is_flush new.shadow.history) × IsPromoted old answers new) (NotPromoted old answers new)
+      × KeepsSettings old.shadow new.shadow

@@ -4,6 +4,7 @@ use Rattle.std.specs.Prelude.{slice_set}
 use Rattle.nn_lane.specs.Ends.{Taking, Reporting, lane_of, node_of}
 use Rattle.nn_model.specs.Namespace.{root_alone}
 use Rattle.nn_segment.specs.Source.{Answer, Asked}
+use Rattle.nn_shadow.specs.Contents.{KeepsSettings}
 use Rattle.nn_tailer.specs.declared.standby.Choice.{Choice}
 use Rattle.nn_tailer.specs.declared.standby.Choice.TheVariants.{Edit, Lane}
 use Rattle.nn_tailer.specs.declared.standby.Stepped.{Stepped}
@@ -39,6 +40,7 @@ module _ {S : Type 0} (gives : S → Answer → S → Type 0) where
   Steps s old choice t new result =
       (answers : List Answer) × Asked gives s answers t × Carries old answers new × SameEnds old.ends new.ends × (has_begun new ≡ has_begun old)
       × MatchResult result (IsStepped old choice answers new) (λ f. NotStepped old choice answers new f × StopsWith new f × StopsFor old answers f)
+      × KeepsSettings old.shadow new.shadow
 
 -- the ends are those of the first DataNodes, in order, and nothing was taken
 abbrev pub AreNew : ℕ → List Taking → Type 0
@@ -55,6 +57,7 @@ pub record Seals (old : Tailer) (i : ℕ) (r : Reporting) (new : Tailer) : Type 
   pub end : Taking
   pub ends : new.ends ≡ slice_set old.ends i end
   pub begun : has_begun new ≡ has_begun old
+  pub settings : KeepsSettings old.shadow new.shadow
   pub lane : lane_of end ≡ r.lane
   pub closed : end.closed ≡ true
   pub all : end.all ≡ r.sent

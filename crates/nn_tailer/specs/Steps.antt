@@ -3,7 +3,7 @@ use Rattle.std.specs.Prelude.{◌≡◌, ◌+◌, ◌<◌, ◌≤◌, List, [], 
 use Rattle.nn_types.specs.declared.tx.Tx.{Tx}
 use Rattle.nn_types.specs.declared.edit_fault.EditFault.{EditFault}
 use Rattle.nn_model.specs.Apply.{refusal}
-use Rattle.nn_shadow.specs.Contents.{standby_of}
+use Rattle.nn_shadow.specs.Contents.{standby_of, KeepsSettings}
 use Rattle.nn_shadow.specs.Calls.{applied_to}
 use Rattle.nn_shadow.specs.declared.fault.Stop.{Stop}
 use Rattle.nn_segment.specs.Segment.{Segment, first_txid}
@@ -40,6 +40,7 @@ pub record SameLanes (old new : Tailer) : Type 0 where
   pub kept : new.kept ≡ old.kept
   pub begun : has_begun new ≡ has_begun old
   pub active : new.active ≡ old.active
+  pub settings : KeepsSettings old.shadow new.shadow
 
 -- what is in hand after these answers
 abbrev pub in_hand : Tailer → List Answer → List Tx

@@ -98,6 +98,7 @@ impl Standby {
         requires few { length ends.items ≤ 256 }
         requires fresh { AreNew 1 ends.items }
         ensures ok { IfOk result (λ x. IsNew ends.items x) }
+        ensures settings { IfOk result (λ x. (x.shadow.table.min ≡ settings.min) × (x.shadow.permille ≡ settings.permille)) }
         ensures err { IfErr result (λ back. back ≡ ends) }
     {
         let lanes = ends.len();
@@ -130,6 +131,7 @@ impl Standby {
         ensures refused { (fault : Why) → step_refusal self.old choice ≡ Some fault → (result ≡ Err fault) × (self.new ≡ self.old) }
         ensures steps { Steps S.gives source.old self.old choice source.new self.new result }
         ensures failed { OnLogFault result (S.failures source.old < S.failures source.new) }
+        ensures counted { S.failures source.old ≤ S.failures source.new }
     {
         if self.shadow.is_active() {
             return Err(StepFault::AlreadyActive);

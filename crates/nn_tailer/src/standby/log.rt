@@ -129,6 +129,7 @@ impl Standby {
         requires { IsLive self.old }
         ensures edits { Edits S.gives source.old self.old source.new self.new result }
         ensures failed { OnLogFault result (S.failures source.old < S.failures source.new) }
+        ensures counted { S.failures source.old ≤ S.failures source.new }
     {
         if !self.has_none() {
             return Ok(Stepped::Applied {
@@ -161,6 +162,7 @@ impl Standby {
         requires { IsLive self.old }
         ensures edits { (answers : List Answer) × Asked S.gives source.old answers source.new × EditsOn self.old answers self.new (EndsInEnd answers × (self.new.rest ≡ [])) result }
         ensures failed { OnLogFault result (S.failures source.old < S.failures source.new) }
+        ensures counted { S.failures source.old ≤ S.failures source.new }
     {
         loop {
             self.apply_rest()?;

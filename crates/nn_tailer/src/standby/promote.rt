@@ -1,5 +1,5 @@
 //! The promotion.
-ghost use Rattle.std.specs.Prelude.{◌≡◌, ◌<◌, false, List, Err, Some, None, count_by};
+ghost use Rattle.std.specs.Prelude.{◌≡◌, ◌<◌, ◌≤◌, false, List, Err, Some, None, count_by};
 ghost use Rattle.nn_model.specs.History.{is_flush};
 ghost use Rattle.nn_segment.specs.Source.{Answer, Asked};
 ghost use Rattle.nn_tailer.specs.LaneSteps.{AllClosed};
@@ -26,6 +26,7 @@ impl Standby {
         ensures refused { (fault : Why) → promote_refusal self.old ≡ Some fault → (result ≡ Err fault) × (self.new ≡ self.old) }
         ensures promotes { Promotes S.gives source.old self.old source.new self.new result }
         ensures failed { OnPromoteLogFault result (S.failures source.old < S.failures source.new) }
+        ensures counted { S.failures source.old ≤ S.failures source.new }
     {
         if self.active {
             return Err(PromoteFault::AlreadyActive);
@@ -51,6 +52,7 @@ impl Standby {
         requires closed { AllClosed self.old.ends }
         ensures prepares { (answers : List Answer) × Asked S.gives source.old answers source.new × Prepares self.old answers self.new result }
         ensures failed { OnLogFault result (S.failures source.old < S.failures source.new) }
+        ensures counted { S.failures source.old ≤ S.failures source.new }
     {
         self.read_log(source)?;
         let _ = &self.stop;

@@ -1,6 +1,7 @@
 use Rattle.std.specs.Prelude.{◌≡◌, ℕ, ◌+◌, ◌<◌, ◌≤◌, false, [], length, get_or}
 use Rattle.std.specs.Vec.Iter.{into_iter_items, into_iter_len}
 use Rattle.nn_lane.specs.Ends.{Taking}
+use Rattle.nn_shadow.specs.Contents.{KeepsSettings}
 use Rattle.nn_tailer.specs.Tailing.{has_begun, Carries}
 use Rattle.nn_drive.specs.Driven.{IsLane, IsSealed}
 use Rattle.nn_drive.proofs.driving.seal_all.Given as goal
@@ -16,3 +17,4 @@ invariant-loop-handle g l =
     × Carries l.initial.standby [] l.standby
     × (length l.standby.ends ≡ length l.initial.standby.ends)
     × (has_begun l.standby ≡ false)
+    × KeepsSettings l.initial.standby.shadow l.standby.shadow

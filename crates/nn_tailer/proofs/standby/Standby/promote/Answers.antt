@@ -6,14 +6,15 @@ use Rattle.nn_tailer.specs.contracts.standby.Standby.{the_view}
 use Rattle.nn_tailer.specs.Tailing.{has_begun, Tailer, Keeps}
 use Rattle.nn_tailer.specs.declared.fault.PromoteFault.TheVariants as promote_fault
 use Rattle.nn_tailer.specs.declared.fault.StepFault.TheVariants as fault
-use Rattle.nn_tailer.proofs.Refusing.{promoted_first, stop_first, open_first, resumes, promotion_goes}
+use Rattle.nn_tailer.proofs.Refusing.{promoted_first, stop_first, open_first, promoted_begun, resumes, promotion_goes}
 use Rattle.nn_tailer.proofs.Prepared.{promote_refused, promote_unready, promote_finished, promote_resumed, stops_for}
 use Rattle.nn_tailer.proofs.Carried.{carries_same}
 use Rattle.nn_tailer.proofs.standby.Standby.promote.Goals as goal
 
 pub returns-then-self-clause-promotes : goal.returns-then-self-clause-promotes
 returns-then-self-clause-promotes g c =
-    promote_refused g.S.SegmentSource.gives c.args.source.now c.args.self.now promote_fault.AlreadyActive (sym (ap (λ z. z.active) c.self.view_is) ∙ c.if-self.true, refl, refl)
+    let a = sym (ap (λ z. z.active) c.self.view_is) ∙ c.if-self.true in
+    promote_refused g.S.SegmentSource.gives c.args.source.now c.args.self.now promote_fault.AlreadyActive (a, promoted_begun c.args.self.now (subst Keeps c.self.view_is c.self.invariant) a, refl, refl)
 
 pub returns-then-is_active-clause-promotes : goal.returns-then-is_active-clause-promotes
 returns-then-is_active-clause-promotes g c =

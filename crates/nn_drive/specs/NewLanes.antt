@@ -1,0 +1,20 @@
+-- Workers and ends of new lanes.
+use Rattle.std.specs.Prelude.{◌≡◌, ℕ, ◌+◌, List, [], ◌∷◌}
+use Rattle.nn_lane.specs.Ends.{Reporting, Taking}
+
+-- the source has a new lane of this DataNode, of which these are the ends
+pub record HasLane {S : Type 0} (dn : ℕ) (source : S) (worker : S × Reporting) (end : Taking) : Type 0 where
+  pub own : worker.0 ≡ source
+  pub node : worker.1.lane.node ≡ dn
+  pub lane : end.lane ≡ worker.1.lane
+  pub none_sent : worker.1.sent ≡ []
+  pub none_taken : end.got ≡ []
+
+-- so have all of them, of the DataNodes from this one on
+abbrev pub HaveLanes : {S : Type 0} → ℕ → List S → List (S × Reporting) → List Taking → Type 0
+HaveLanes dn [] [] [] = Unit {0}
+HaveLanes dn [] [] (e ∷ es) = ⊥
+HaveLanes dn [] (w ∷ ws) es = ⊥
+HaveLanes dn (s ∷ ss) [] es = ⊥
+HaveLanes dn (s ∷ ss) (w ∷ ws) [] = ⊥
+HaveLanes dn (s ∷ ss) (w ∷ ws) (e ∷ es) = HasLane dn s w e × HaveLanes (dn + 1) ss ws es

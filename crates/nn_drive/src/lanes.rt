@@ -1,0 +1,46 @@
+//! A lane for each source of reports.
+ghost use Rattle.std.specs.Prelude.{◌≡◌, ◌≤◌, ◌++◌, ◌∷◌, [], length, IfOk, OnOk};
+ghost use Rattle.nn_tailer.specs.Public.{AreNew};
+ghost use Rattle.nn_drive.specs.Driven.{AreLanes};
+ghost use Rattle.nn_drive.specs.NewLanes.{HaveLanes};
+
+use crate::reporting::ReportSource;
+use nn_lane::{LaneEnd, Reporter, lane};
+use std::alloc::{AllocError, Global};
+
+/// New lanes for the DataNodes that these sources are of, DataNode 1 first: the workers, each with the reporter of its
+/// lane, and the other ends. Each lane holds at most `capacity` messages at a time.
+pub fn with_lanes<S: ReportSource + Drop>(
+    alloc: Global,
+    sources: Vec<S>,
+    capacity: usize,
+) -> Result<(Vec<(S, Reporter)>, Vec<LaneEnd>), AllocError>
+    requires few { length sources.items ≤ 256 }
+    requires capacity { (1 ≤ capacity) × (capacity ≤ 1024) }
+    ensures own { IfOk result (λ r. HaveLanes 1 sources.items r.0.items r.1.items) }
+    ensures lanes { IfOk result (λ r. AreLanes r.0.items r.1.items) }
+    ensures fresh { IfOk result (λ r. AreNew 1 r.1.items) }
+{
+    let mut workers = Vec::new(alloc);
+    let mut ends = Vec::new(alloc);
+    for source in sources {
+        let dn = (workers.len() + 1) as u16;
+        let Ok((reporter, end)) = lane(alloc, dn, capacity) else {
+            return Err(AllocError);
+        };
+        if let Err(_) = push(&mut workers, (source, reporter)) {
+            return Err(AllocError);
+        }
+        if let Err(_) = push(&mut ends, end) {
+            return Err(AllocError);
+        }
+    }
+    Ok((workers, ends))
+}
+
+fn push<T: Drop>(list: &mut Vec<T>, item: T) -> Result<(), AllocError>
+    ensures { OnOk result (list.new.items ≡ list.old.items ++ item ∷ []) }
+{
+    list.push(item)?;
+    Ok(())
+}

@@ -1,6 +1,5 @@
 //! What the program prints of its namespace.
 ghost use Rattle.std.specs.Prelude.{◌≡◌, ◌≤◌, ◌+◌, ◌*◌, ◌++◌, ◌∷◌, [], true, IfOk, OnOk, codes, decimal, flat_map, string_bytes};
-ghost use Rattle.nn_types.specs.Path.{joined, path_text};
 ghost use Rattle.nn_model.specs.declared.form.Form.{Form};
 ghost use Rattle.nn_model.specs.declared.form.Form.TheVariants.{File};
 ghost use Rattle.nn_tree.specs.Found.{form_of};
@@ -9,7 +8,7 @@ ghost use Rattle.nn_listing.specs.Listing.{listing_text, line_of, path_json, blo
 ghost use Rattle.nn_listing.specs.Plain.{is_plain, are_plain};
 
 use nn_model::FileRow;
-use nn_tree::{Extent, Found, Namespace, RowSink};
+use nn_tree::{Extent, Found, Namespace, RowSink, push_text};
 use nn_types::Block;
 use serde_json::Value;
 use std::alloc::{AllocError, Global};
@@ -38,7 +37,9 @@ pub fn listing(alloc: Global, namespace: &Namespace, last: u64) -> Result<String
     let mut text = format!(in alloc; "txid {last}\n")?;
     text.reserve_exact(listing_bytes(namespace.extent()))?;
     let mut lines = Lines { text, alloc };
-    namespace.list_to(&mut lines)?;
+    let Ok(()) = namespace.list_to(&mut lines) else {
+        return Err(AllocError);
+    };
     let Lines { text, alloc: _ } = lines;
     Ok(text)
 }
@@ -73,10 +74,15 @@ impl Model for Lines {
 }
 
 impl RowSink for Lines {
-    ghost use Rattle.std.specs.Prelude.{◌++◌};
+    ghost use Rattle.std.specs.Prelude.{◌≡◌, ◌++◌};
     ghost use Rattle.nn_listing.specs.Listing.{row_line};
 
-    ghost taking = { λ text row. text ++ row_line row };
+    type Error = AllocError;
+
+    ghost takes = { λ text row more. more ≡ text ++ row_line row };
+
+    // Want of memory may leave a part of the line.
+    ghost fails = { λ text row e left. Unit {0} };
 
     fn row(&mut self, names: &[&str], found: Found<'_>) -> Result<(), AllocError> {
         push_line(self.alloc, &mut self.text, names, found)?;
@@ -173,27 +179,6 @@ fn push_escaped(alloc: Global, text: &mut String, names: &[&str]) -> Result<(), 
     push_text(&mut path, names)?;
     let json = Value::String(path).to_string(alloc)?;
     text.push_str(json.as_str())
-}
-
-// The text of the path with these names.
-fn push_text(text: &mut String, names: &[&str]) -> Result<(), AllocError>
-    ensures { OnOk result (string_bytes text.new ≡ string_bytes text.old ++ path_text (lent_names names.now)) }
-{
-    if names.is_empty() {
-        return text.push_str("/");
-    }
-    push_joined(text, names)
-}
-
-// A slash before each name.
-fn push_joined(text: &mut String, names: &[&str]) -> Result<(), AllocError>
-    ensures { OnOk result (string_bytes text.new ≡ string_bytes text.old ++ joined (lent_names names.now)) }
-{
-    for name in names {
-        text.push_str("/")?;
-        text.push_str(name)?;
-    }
-    Ok(())
 }
 
 fn push_blocks(text: &mut String, blocks: &[Block]) -> Result<(), AllocError>

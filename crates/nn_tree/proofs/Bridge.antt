@@ -83,7 +83,7 @@ starts_is (n ∷ s) [] = refl
 starts_is (n ∷ s) (x ∷ p) = ap (λ b. b && starts_with s p) (is_eq-slice_cmp n x) ∙ ap (λ b. bytes_eq n x && b) (starts_is s p)
 
 -- ---- the faults of a namespace, by its look-ups
-mkdir_is : (n : Namespace) (p : Path) → mkdir_fault (lookup n) p ≡ refusal n (edit.Mkdir p)
+pub mkdir_is : (n : Namespace) (p : Path) → mkdir_fault (lookup n) p ≡ refusal n (edit.Mkdir p)
 mkdir_is n p =
     (λ j. or_fault (is_root_fault p j) (or_fault (walk_is (lookup n) p j) (when_cond (is_some (lookup n p)) Exists j)))
     ∙ sym (first_three (is_root p) (walk n p) (exists n p))

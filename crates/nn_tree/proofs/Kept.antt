@@ -149,7 +149,7 @@ set_replication_kept n p r x look l lawful was k =
     }
 
 -- ---- ids and stamps
-insert_last : (ks : List ℕ) (i : ℕ) → ((k : ℕ) → has_id ks k ≡ true → k < i) → insert_key nat_cmp ks i ≡ ks ++ i ∷ []
+pub insert_last : (ks : List ℕ) (i : ℕ) → ((k : ℕ) → has_id ks k ≡ true → k < i) → insert_key nat_cmp ks i ≡ ks ++ i ∷ []
 insert_last [] i below = refl
 insert_last (k ∷ ks) i below =
     ap (λ o. match_ordering o (i ∷ k ∷ ks) (k ∷ ks) (k ∷ insert_key nat_cmp ks i)) (sym (nat_cmp_is i k Greater (below k (or_left (k == k) (has_id ks k) (eq-eqb k k refl)))))

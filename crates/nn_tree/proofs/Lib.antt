@@ -22,6 +22,9 @@ pub mod Memory
 pub mod Ascending
 pub mod Retired
 pub mod Listings
+pub mod Restored
+pub mod Entered
+pub mod RestoredFile
 mod Extents
 pub mod Renewed
 pub mod Spare

@@ -12,3 +12,6 @@ pub mod BlockRow
 pub mod Extent
 pub mod ExtentRows
 pub mod Memory
+pub mod Restore
+pub mod RestoreFault
+pub mod Entered

@@ -1,10 +1,12 @@
 //! The index of the blocks that files have, by id. It names no path, so that a rename leaves it alone.
-ghost use Rattle.std.specs.Prelude.{◌≡◌, ℕ, None, cond};
+ghost use Rattle.std.specs.Prelude.{◌≡◌, ℕ, None, cond, true, false, map, OnOk, OnErr, IsErrOf};
 ghost use Rattle.std.specs.BTreeMap.{get};
 ghost use Rattle.std.specs.Ordering.{nat_cmp};
 ghost use Rattle.nn_model.specs.Apply.{has_id};
+ghost use Rattle.nn_tree.specs.Entered.{entered, are_new};
 ghost use Rattle.nn_tree.specs.View.{renewed, rewritten};
 
+use crate::fault::RestoreFault;
 use nn_types::{Block, BlockId};
 use std::collections::BTreeMap;
 
@@ -22,6 +24,37 @@ pub(crate) fn forget(index: &mut BTreeMap<u64, BlockRow>, ids: &[BlockId])
     for id in ids {
         let _row = index.remove(&id.get());
     }
+}
+
+// Puts the blocks of a file with these ids into an index. Where one of them stands there already, or twice in the
+// file, the index is as it was.
+pub(crate) fn enter(
+    index: &mut BTreeMap<u64, BlockRow>,
+    blocks: &[Block],
+    ids: &[BlockId],
+    closed: bool,
+) -> Result<(), RestoreFault>
+    requires { ids.now ≡ map (λ b. b.id) blocks.now }
+    ensures ok { OnOk result ((q : ℕ) → get nat_cmp index.new q ≡ entered (λ id. get nat_cmp index.old id) blocks.now closed q) }
+    ensures lawful { OnOk result (are_new (λ id. get nat_cmp index.old id) blocks.now ≡ true) }
+    ensures refused { IsErrOf result RestoreFault.Refused → are_new (λ id. get nat_cmp index.old id) blocks.now ≡ false }
+    ensures err { OnErr result ((q : ℕ) → get nat_cmp index.new q ≡ get nat_cmp index.old q) }
+{
+    let mut done = 0;
+    'entering: while done < blocks.len() {
+        let block = blocks[done];
+        let key = block.id.get();
+        if index.contains_key(&key) {
+            forget(index, &ids[..done]);
+            return Err(RestoreFault::Refused);
+        }
+        let Ok(_none) = index.insert(key, BlockRow { block, closed }) else {
+            forget(index, &ids[..done]);
+            return Err(RestoreFault::OutOfMemory);
+        };
+        done += 1;
+    }
+    Ok(())
 }
 
 // Puts a new list of blocks in an index in place of an old one, which has the same ids and perhaps one more.

@@ -9,6 +9,7 @@
 //! and stack in its depth, as dropping a namespace does.
 #![tactic(auto)]
 
+mod fault;
 mod found;
 mod index;
 mod listing;
@@ -16,9 +17,10 @@ mod namespace;
 mod touched;
 mod tree;
 
+pub use fault::RestoreFault;
 pub use found::Found;
 pub use index::BlockRow;
-pub use listing::{Extent, PathRow, RowSink};
+pub use listing::{Extent, ListFault, PathRow, RowSink, push_text};
 pub use namespace::Namespace;
 pub use nn_model::{FileRow, Form};
 pub use nn_types::EditFault;

@@ -1,5 +1,6 @@
 //! The rows of a namespace in path order, handed to a sink one after another.
-ghost use Rattle.std.specs.Prelude.{◌≡◌, ◌+◌, ◌++◌, ◌∷◌, [], List, OnOk, IfOk};
+ghost use Rattle.std.specs.Prelude.{◌≡◌, ◌+◌, ◌++◌, ◌∷◌, [], List, string_bytes, OnOk, IfOk, IfErr};
+ghost use Rattle.nn_types.specs.Path.{joined, path_text};
 ghost use Rattle.nn_model.specs.Namespace.{Path};
 ghost use Rattle.nn_model.specs.declared.form.Form.{Form as FormData};
 ghost use Rattle.nn_tree.specs.At.{names_of};
@@ -14,13 +15,28 @@ use std::marker::Model;
 
 /// Takes the rows of a listing, one after another.
 pub trait RowSink {
-    /// `taking s row`: the sink s, once it has taken the row.
-    ghost taking: { Self → Path × FormData → Self };
+    /// Why a row was not taken.
+    type Error;
+
+    /// `takes s row t`: the sink s may take the row, and is t then.
+    ghost takes: { Self → Path × FormData → Self → Type 0 };
+
+    /// `fails s row e t`: the sink s may fail on the row with e, and is t then.
+    ghost fails: { Self → Path × FormData → Self.Error → Self → Type 0 };
 
     /// Takes one row: the names from the root down, and what stands there. A rename can make more names than
     /// a `Path` may have.
-    fn row(&mut self, names: &[&str], found: Found<'_>) -> Result<(), AllocError>
-        ensures { OnOk result (self.new ≡ taking self.old (lent_names names.now, form_of found.entry)) };
+    fn row(&mut self, names: &[&str], found: Found<'_>) -> Result<(), Self::Error>
+        ensures taken { OnOk result (takes self.old (lent_names names.now, form_of found.entry) self.new) }
+        ensures failed { IfErr result (λ e. fails self.old (lent_names names.now, form_of found.entry) e self.new) };
+}
+
+/// Why a listing ended before its last row.
+#[derive(Clone, Copy, Debug, PartialEq, Eq)]
+pub enum ListFault<E> {
+    /// The sink's own fault.
+    Sink(E),
+    OutOfMemory,
 }
 
 /// A path and what stands there.
@@ -93,9 +109,13 @@ impl Copies {
 }
 
 impl RowSink for Copies {
-    ghost use Rattle.std.specs.Prelude.{◌++◌, ◌∷◌, []};
+    ghost use Rattle.std.specs.Prelude.{◌≡◌, ◌++◌, ◌∷◌, []};
 
-    ghost taking = { λ rows row. rows ++ row ∷ [] };
+    type Error = AllocError;
+
+    ghost takes = { λ rows row more. more ≡ rows ++ row ∷ [] };
+
+    ghost fails = { λ rows row e left. left ≡ rows };
 
     fn row(&mut self, names: &[&str], found: Found<'_>) -> Result<(), AllocError> {
         let names = copied(self.alloc, names)?;
@@ -113,6 +133,27 @@ fn copied(alloc: Global, names: &[&str]) -> Result<Vec<String>, AllocError>
         copy.push(String::from_str(alloc, name)?)?;
     }
     Ok(copy)
+}
+
+/// Adds the text of the path with these names.
+pub fn push_text(text: &mut String, names: &[&str]) -> Result<(), AllocError>
+    ensures { OnOk result (string_bytes text.new ≡ string_bytes text.old ++ path_text (lent_names names.now)) }
+{
+    if names.is_empty() {
+        return text.push_str("/");
+    }
+    push_joined(text, names)
+}
+
+// A slash before each name.
+fn push_joined(text: &mut String, names: &[&str]) -> Result<(), AllocError>
+    ensures { OnOk result (string_bytes text.new ≡ string_bytes text.old ++ joined (lent_names names.now)) }
+{
+    for name in names {
+        text.push_str("/")?;
+        text.push_str(name)?;
+    }
+    Ok(())
 }
 
 // A copy of what a look-up found.

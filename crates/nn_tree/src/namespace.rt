@@ -1,6 +1,5 @@
 //! The namespace: a directory tree, seen as its rows in path order, and an index of the blocks in its files.
 ghost use Rattle.std.specs.Prelude.{◌≡◌, OnOk, OnErr, IfOk, IfErr, IfSome, IsErrOf, None, Ok, true, option_map, nat_le, length};
-ghost use Rattle.std.specs.List.{fold};
 ghost use Rattle.nn_types.specs.LawfulEdit.{IsLawfulEdit};
 ghost use Rattle.nn_types.specs.Block.{AreBlocks};
 ghost use Rattle.nn_model.specs.Namespace.{root_alone, no_block, no_stamp, lookup};
@@ -10,7 +9,7 @@ ghost use Rattle.nn_model.specs.Status.{block_at, status_of};
 ghost use Rattle.nn_model.specs.Touched.{touched};
 ghost use Rattle.nn_tree.specs.Extent.{capped, path_bytes, block_count};
 ghost use Rattle.nn_tree.specs.Found.{form_of};
-ghost use Rattle.nn_tree.specs.Listing.{rows_of};
+ghost use Rattle.nn_tree.specs.Listing.{rows_of, Took, StopsIn};
 ghost use Rattle.nn_model.specs.WellFormed.{IsWellFormed};
 ghost use Rattle.nn_tree.specs.BlockRow.{IsInFile};
 ghost use Rattle.nn_tree.specs.Memory.{takes_memory};
@@ -18,10 +17,11 @@ ghost use Rattle.nn_tree.specs.Touched.{shown};
 
 mod checks;
 mod edits;
+mod restore;
 
 use crate::found::Found;
 use crate::index::BlockRow;
-use crate::listing::{Copies, Extent, PathRow, RowSink};
+use crate::listing::{Copies, Extent, ListFault, PathRow, RowSink};
 use crate::touched::Touched;
 use crate::tree::Tree;
 use nn_types::{Block, BlockId, Edit, EditFault, GenerationStamp, Path, Status};
@@ -152,17 +152,29 @@ impl Namespace {
         ensures { IfOk result (λ rows. rows_of rows.items ≡ self.now.rows) }
     {
         let mut copies = Copies::new(self.alloc);
-        self.list_to(&mut copies)?;
+        let Ok(()) = self.list_to(&mut copies) else {
+            return Err(AllocError);
+        };
         Ok(copies.into_rows())
     }
 
     /// Hands all rows to the sink in path order, the root first. Nothing is copied. The first error of the sink
-    /// ends it, after the rows that the sink has taken by then.
-    pub fn list_to<S: RowSink>(&self, sink: &mut S) -> Result<(), AllocError>
-        ensures { OnOk result (sink.new ≡ fold S.taking sink.old self.now.rows) }
+    /// ends it, after the rows that the sink has taken by then. Memory is asked for between two rows.
+    pub fn list_to<S: RowSink>(&self, sink: &mut S) -> Result<(), ListFault<S::Error>>
+        ensures took { OnOk result (Took S.takes sink.old self.now.rows sink.new) }
+        ensures stopped { IfErr result (λ e. StopsIn S.takes S.fails sink.old self.now.rows e sink.new) }
     {
         let mut names = Vec::new(self.alloc);
-        self.root.list_to(&mut names, sink)?;
+        if let Err(fault) = self.root.list_to(&mut names, sink) {
+            // Only a walk to the end shows that all rows are in path order.
+            let mut extent = Extent {
+                paths: 0,
+                path_bytes: 0,
+                blocks: 0,
+            };
+            self.root.measure(0, &mut extent);
+            return Err(fault);
+        }
         Ok(())
     }
 

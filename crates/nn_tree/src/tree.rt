@@ -1,5 +1,5 @@
 //! A directory tree, seen as the list of its paths with what stands there. It knows no ids and no index.
-ghost use Rattle.std.specs.Prelude.{◌≡◌, [], ◌∷◌, ◌++◌, ◌&&◌, nat_lt, OnOk, OnErr, ◌+◌, ◌<◌, length, IsSome, is_some, Some, None, true, MatchResult, IfOk, IfSome};
+ghost use Rattle.std.specs.Prelude.{◌≡◌, [], ◌∷◌, ◌++◌, ◌&&◌, nat_lt, OnOk, OnErr, ◌+◌, ◌<◌, length, IsSome, is_some, Some, None, true, MatchResult, IfOk, IfErr, IfSome};
 ghost use Rattle.nn_tree.specs.Walks.{file_fault, walk_fault, mkdir_fault, delete_fault, rename_fault, starts_with, IsRenamed};
 ghost use Rattle.std.specs.String.{string_bytes};
 ghost use Rattle.std.specs.Option.{option_copied};
@@ -7,8 +7,7 @@ ghost use Rattle.nn_model.specs.declared.form.Form.TheVariants.{Dir, File};
 ghost use Rattle.nn_tree.specs.Ids.{ids_of};
 ghost use Rattle.nn_tree.specs.Extent.{capped, path_bytes, bytes_below, block_count};
 ghost use Rattle.nn_tree.specs.Flat.{under_all};
-ghost use Rattle.std.specs.List.{fold};
-ghost use Rattle.nn_tree.specs.Listing.{lent_names};
+ghost use Rattle.nn_tree.specs.Listing.{lent_names, Took, StopsIn};
 ghost use Rattle.nn_tree.specs.Found.{form_of};
 ghost use Rattle.std.specs.FinMap.Entries.{is_sorted};
 ghost use Rattle.nn_model.specs.Namespace.{path_cmp};
@@ -18,7 +17,7 @@ ghost use Rattle.nn_tree.specs.Changes.{IsMade};
 pub(crate) mod files;
 
 use crate::found::Found;
-use crate::listing::{Extent, RowSink};
+use crate::listing::{Extent, ListFault, RowSink};
 use crate::touched::push_ids;
 use nn_model::FileRow;
 use nn_types::{BlockId, EditFault, Names};
@@ -312,18 +311,26 @@ impl Tree {
         &'a self,
         names: &mut Vec<&'a str>,
         sink: &mut S,
-    ) -> Result<(), AllocError>
-        ensures rows { OnOk result (sink.new ≡ fold S.taking sink.old (under_all (lent_names names.old.items) self.now)) }
+    ) -> Result<(), ListFault<S::Error>>
+        ensures rows { OnOk result (Took S.takes sink.old (under_all (lent_names names.old.items) self.now) sink.new) }
+        ensures stopped { IfErr result (λ e. StopsIn S.takes S.fails sink.old (under_all (lent_names names.old.items) self.now) e sink.new) }
         ensures names { OnOk result (lent_names names.new.items ≡ lent_names names.old.items) }
         ensures sorted { OnOk result (is_sorted path_cmp self.now ≡ true) }
     {
-        sink.row(names, self.top())?;
-        let Node::Folder(children) = &self.node else {
+        let node = &self.node;
+        if let Err(fault) = sink.row(names, self.top()) {
+            return Err(ListFault::Sink(fault));
+        }
+        let Node::Folder(children) = node else {
             return Ok(());
         };
         for (name, child) in children.iter() {
-            names.push(name.as_str())?;
-            child.list_to(names, sink)?;
+            let Ok(()) = names.push(name.as_str()) else {
+                return Err(ListFault::OutOfMemory);
+            };
+            if let Err(fault) = child.list_to(names, sink) {
+                return Err(fault);
+            }
             names.pop();
         }
         Ok(())

@@ -85,3 +85,20 @@ pub const BAD_LANE: u8 = 56;
 pub const DISORDER: u8 = 57;
 /// A message is not the next one of its DataNode.
 pub const WRONG_NUMBER: u8 = 58;
+
+/// The first line of an image is no header.
+pub const NOT_HEADER: u8 = 61;
+/// A line of an image is none, or its path may not stand there.
+pub const BAD_IMAGE_LINE: u8 = 62;
+/// A path of an image is not greater than the path before it.
+pub const WRONG_ORDER: u8 = 63;
+/// The end line of an image does not give the number of its paths.
+pub const COUNT_MISMATCH: u8 = 64;
+/// An image ends before its end line, or inside a line.
+pub const TRUNCATED: u8 = 65;
+/// The version of an image is unknown.
+pub const BAD_VERSION: u8 = 66;
+/// An image could not be read to its end.
+pub const READ_FAULT: u8 = 67;
+/// An image could not be written to its end.
+pub const WRITE_FAULT: u8 = 68;

@@ -42,7 +42,7 @@ impl Namespace {
         }
     }
 
-    fn mkdir(&mut self, path: &Path) -> Result<Touched, Unchanged>
+    pub(super) fn mkdir(&mut self, path: &Path) -> Result<Touched, Unchanged>
         requires lawful { IsLawfulEdit (edit.Mkdir path.now) }
         ensures applies { OnOk result (refusal self.old (edit.Mkdir path.now) ≡ None) }
         ensures ok { OnOk result (self.new ≡ effect self.old (edit.Mkdir path.now)) }

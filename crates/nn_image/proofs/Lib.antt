@@ -1,0 +1,13 @@
+pub mod Json
+pub mod Shapes
+pub mod Keeps
+pub mod Rows
+pub mod Kept
+pub mod Round
+pub mod ArrayLemmas
+pub mod LineLemmas
+pub mod Loading
+pub mod Order
+pub mod Empty
+pub mod Writing
+pub mod Naming

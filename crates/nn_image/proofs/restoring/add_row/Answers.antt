@@ -1,0 +1,33 @@
+use Rattle.std.proofs.Common.{◌≡◌, ◌+◌, refl, ap, ◌∙◌, sym, Some, Err, subst, true, false}
+use Rattle.std.specs.Ordering.{is_lt}
+use Rattle.nn_model.specs.Namespace.{path_cmp}
+use Rattle.nn_image.specs.Loading.{IsLoading}
+use Rattle.nn_image.specs.Reading.{row_in, with_next}
+use Rattle.nn_image.proofs.Order.{refused, out_of_order, added, still_loading, order_is}
+use Rattle.nn_image.proofs.restoring.add_row.Goals as goal
+
+pub returns-in-Err-Refused-clause-fault : goal.returns-in-Err-Refused-clause-fault
+returns-in-Err-Refused-clause-fault c =
+    let n = c.args.namespace.now in
+    let order = order_is _ _ _ _ c.comes_before.result true c.names.ensures.names c.names-2.ensures.names c.comes_before.ensures c.if-not-comes_before.false in
+    ap (with_next n) (sym c.in_ok-path.ensures ∙ c.in-Some.is)
+    ∙ refused n _ c.args.number c.requires (c.in-Some.path, c.in-Some.form) order (c.in-Err-Refused.ensures.refused (ap Err c.in-Err-Refused.field-0-is))
+
+pub returns-then-not-comes_before-clause-fault : goal.returns-then-not-comes_before-clause-fault
+returns-then-not-comes_before-clause-fault c =
+    let n = c.args.namespace.now in
+    let order = order_is _ _ _ _ c.comes_before.result false c.names.ensures.names c.names-2.ensures.names c.comes_before.ensures c.if-not-comes_before.true in
+    ap (with_next n) (sym c.in_ok-path.ensures ∙ c.in-Some.is) ∙ out_of_order n _ c.args.number c.requires (c.in-Some.path, c.in-Some.form) order
+
+pub returns-clause-ok : goal.returns-clause-ok
+returns-clause-ok c =
+    let n = c.args.namespace.now in
+    let order = order_is _ _ _ _ c.comes_before.result true c.names.ensures.names c.names-2.ensures.names c.comes_before.ensures c.if-not-comes_before.false in
+    ap (with_next n) (sym c.in_ok-path.ensures ∙ c.in-Some.is)
+    ∙ added n _ c.args.number c.requires (c.in-Some.path, c.in-Some.form) order c.restore.new.self c.in-Ok.ensures.ok c.in-Ok.ensures.lawful
+
+pub returns-clause-loading : goal.returns-clause-loading
+returns-clause-loading c =
+    let n = c.args.namespace.now in
+    let order = order_is _ _ _ _ c.comes_before.result true c.names.ensures.names c.names-2.ensures.names c.comes_before.ensures c.if-not-comes_before.false in
+    still_loading n _ c.args.number c.requires (c.in-Some.path, c.in-Some.form) order c.restore.new.self c.in-Ok.ensures.ok

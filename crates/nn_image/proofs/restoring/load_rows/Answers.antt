@@ -1,0 +1,60 @@
+use Rattle.std.proofs.Common.{◌≡◌, ◌+◌, ◌≤◌, sym, ap, ◌∙◌, option_map, map, string_bytes, arith, codes}
+use Rattle.serde_json.specs.View.{view}
+use Rattle.nn_image.specs.Header.{object_view}
+use Rattle.nn_image.specs.Lines.{ahead}
+use Rattle.nn_image.specs.Loading.{IsLoading, rows_of, after_end}
+use Rattle.nn_image.proofs.Loading.{stops_before, row_turn, row_fails, end_turn, ends_turn}
+use Rattle.nn_image.proofs.restoring.load_rows.Goals as goal
+
+pub returns-in-Err-load_end-clause-fault : goal.returns-in-Err-load_end-clause-fault
+returns-in-Err-load_end-clause-fault g c =
+    let old = ahead c.args.window.now (g.R.Read.remaining c.args.reader.now) in
+    let mid = ahead c.loop-number.window (g.R.Read.remaining c.loop-number.reader) in
+    let new = ahead c.next_value.new.window (g.R.Read.remaining c.next_value.new.reader) in
+    let n0 = c.args.namespace in
+    let n = c.loop-number.namespace in
+    let d = object_view c.in-Ok.object in
+    let at = c.loop-number.invariant.loading.at in
+    stops_before old new (rows_of n0) (after_end n (view c.in-Some.count.now)) c.in-Err-load_end.fault
+    (end_turn old mid new n0 n n d c.loop-number.invariant.same (c.in-Ok.ensures.ok n at) (view c.in-Some.count.now) (sym c.in-Some.ensures))
+    (c.in-Err-load_end.ensures.fault n at)
+
+pub returns-in-Ok-load_end-clause-ok : goal.returns-in-Ok-load_end-clause-ok
+returns-in-Ok-load_end-clause-ok g c =
+    let old = ahead c.args.window.now (g.R.Read.remaining c.args.reader.now) in
+    let mid = ahead c.loop-number.window (g.R.Read.remaining c.loop-number.reader) in
+    let new = ahead c.next_value.new.window (g.R.Read.remaining c.next_value.new.reader) in
+    let n0 = c.args.namespace in
+    let n = c.loop-number.namespace in
+    let d = object_view c.in-Ok.object in
+    let at = c.loop-number.invariant.loading.at in
+    ends_turn old new (ahead c.load_end.new.window (g.R.Read.remaining c.load_end.new.reader)) (rows_of n0) (after_end n (view c.in-Some.count.now)) n
+    (end_turn old mid new n0 n n d c.loop-number.invariant.same (c.in-Ok.ensures.ok n at) (view c.in-Some.count.now) (sym c.in-Some.ensures))
+    (c.in-Ok-load_end.ensures.ok n at)
+
+pub returns-in-Err-add_row-clause-fault : goal.returns-in-Err-add_row-clause-fault
+returns-in-Err-add_row-clause-fault g c =
+    let old = ahead c.args.window.now (g.R.Read.remaining c.args.reader.now) in
+    let mid = ahead c.loop-number.window (g.R.Read.remaining c.loop-number.reader) in
+    let new = ahead c.next_value.new.window (g.R.Read.remaining c.next_value.new.reader) in
+    let n0 = c.args.namespace in
+    let n = c.loop-number.namespace in
+    let d = object_view c.in-Ok.object in
+    let at = c.loop-number.invariant.loading.at in
+    row_fails old mid new n0 n n d c.loop-number.invariant.same (c.in-Ok.ensures.ok n at) c.in-Err-add_row.fault (sym c.in_default.ensures) c.in-Err-add_row.ensures.fault
+
+pub loop-number-preserved : goal.loop-number-preserved
+loop-number-preserved g c =
+    let old = ahead c.args.window.now (g.R.Read.remaining c.args.reader.now) in
+    let mid = ahead c.loop-number.window (g.R.Read.remaining c.loop-number.reader) in
+    let new = ahead c.next_value.new.window (g.R.Read.remaining c.next_value.new.reader) in
+    let n0 = c.args.namespace in
+    let n = c.loop-number.namespace in
+    let m = c.add_row.new.namespace in
+    let d = object_view c.in-Ok.object in
+    let at = c.loop-number.invariant.loading.at in
+    record {
+      loading = c.in-Ok-add_row.ensures.loading;
+      from = omega arith;
+      same = row_turn old mid new n0 n m d c.loop-number.invariant.same (c.in-Ok.ensures.ok n at) (sym c.in_default.ensures) c.in-Ok-add_row.ensures.ok;
+    }

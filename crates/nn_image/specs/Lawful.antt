@@ -1,0 +1,21 @@
+-- Namespaces that an image can be read back as.
+use Rattle.std.specs.Prelude.{◌≡◌, ℕ, ◌<◌, ◌≤◌, length, ◌^◌, List, Ok}
+use Rattle.std.specs.Str.{IsUtf8}
+use Rattle.nn_types.specs.Path.{IsPath, path_text}
+use Rattle.nn_model.specs.declared.form.Form.{Form}
+use Rattle.nn_model.specs.Namespace.{Path, Namespace}
+use Rattle.nn_model.specs.WellFormed.{Has, IsWellFormed}
+use Rattle.nn_image.specs.Text.{image_text}
+use Rattle.nn_image.specs.Reading.{read_image}
+
+-- each path keeps the limits of paths, and its names are text
+abbrev pub HasPaths : Namespace → Type 0
+HasPaths n = (row : Path × Form) → Has n.rows row → IsPath row.0 × IsUtf8 (path_text row.0)
+
+-- each number of the image is below 2^63: the number of its paths, too
+abbrev pub IsCounted : Namespace → Type 0
+IsCounted n = length n.rows ≤ 2 ^ 63
+
+-- an image of a well formed namespace is read as that namespace, if its paths keep the limits of paths
+abbrev pub ReadsBack : Type 0
+ReadsBack = (n : Namespace) (txid : ℕ) → IsWellFormed n → HasPaths n → IsCounted n → txid < 2 ^ 63 → read_image (image_text n txid) ≡ Ok (n, txid)

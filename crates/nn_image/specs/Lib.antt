@@ -1,0 +1,9 @@
+pub mod Fault
+pub mod Text
+pub mod Reading
+pub mod Outcome
+pub mod Lawful
+pub mod Header
+pub mod Lines
+pub mod Loading
+pub mod Saving

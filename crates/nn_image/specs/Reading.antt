@@ -1,0 +1,188 @@
+-- The namespace and the txid that a text stands for, or the first fault that applies.
+use Rattle.std.specs.Prelude.{◌≡◌, ℕ, ◌+◌, ◌-◌, ◌^◌, List, [], ◌∷◌, ◌++◌, length, Bool, true, false, not, nat_lt, nat_le, ◌&&◌, ◌==◌, if◌then◌else◌, Option, Some, None, option_and_then, Result, Ok, Err, codes, is_some}
+use Rattle.std.specs.Option.{ok_or}
+use Rattle.std.specs.Ordering.{is_lt}
+use Rattle.std.specs.Str.{bytes_eq, is_utf8}
+use Rattle.std.specs.List.{slice_split}
+use Rattle.serde_json.specs.Data.{Data, Items, no_items, item}
+use Rattle.serde_json.specs.Find.{get, as_number, as_u64, as_str, as_bool, as_array, as_object}
+use Rattle.serde_json.specs.Read.{read}
+use Rattle.nn_types.specs.Path.{path_of}
+use Rattle.nn_types.specs.declared.block.Block.{Block}
+use Rattle.nn_model.specs.declared.form.Form.{Form}
+use Rattle.nn_model.specs.declared.form.Form.TheVariants.{Dir, File}
+use Rattle.nn_model.specs.Namespace.{Path, path_cmp, Namespace}
+use Rattle.nn_tree.specs.Restore.{bare, awaiting_fits, replication_fits, row_fits}
+use Rattle.nn_image.specs.declared.fault.ImageFault.{ImageFault}
+use Rattle.nn_image.specs.declared.fault.ImageFault.TheVariants.{NotHeader, BadLine, WrongOrder, CountMismatch, Truncated, BadVersion}
+use Rattle.nn_image.specs.Text.{feed}
+
+infixl 10 ◌>>=◌
+abbrev pub ◌>>=◌ : {A B : Type 0} → Option A → (A → Option B) → Option B
+None >>= f = None
+(Some x) >>= f = f x
+
+-- ---- members of an object
+
+abbrev pub limited : Option ℕ → Option ℕ
+limited None = None
+limited (Some n) = if nat_lt n (2 ^ 63) then Some n else None
+
+-- a whole number below 2^63
+abbrev pub number_of : Data → Option ℕ
+number_of d = limited (option_and_then as_u64 (as_number d))
+
+unfoldable pub number_in : List ℕ → Data → Option ℕ
+number_in key d = get key d >>= number_of
+
+unfoldable pub text_in : List ℕ → Data → Option (List ℕ)
+text_in key d = get key d >>= as_str
+
+unfoldable pub flag_in : List ℕ → Data → Option Bool
+flag_in key d = get key d >>= as_bool
+
+unfoldable pub array_in : List ℕ → Data → Option Items
+array_in key d = get key d >>= as_array
+
+unfoldable pub path_in : List ℕ → Data → Option Path
+path_in key d = text_in key d >>= path_of
+
+unfoldable pub block_of : Data → Option Block
+block_of d = do
+  id ← number_in (codes "id") d
+  stamp ← number_in (codes "gen") d
+  len ← number_in (codes "len") d
+  Some (record { id = id; stamp = stamp; len = len })
+
+-- what each value stands for
+unfoldable pub gathered : {B : Type 0} → (Data → Option B) → Items → Option (List B)
+gathered f no_items = Some []
+gathered f (item d ds) = f d >>= λ b. gathered f ds >>= λ bs. Some (b ∷ bs)
+
+unfoldable pub blocks_at : List ℕ → Data → Option (List Block)
+blocks_at key d = array_in key d >>= gathered block_of
+
+unfoldable pub numbers_at : List ℕ → Data → Option (List ℕ)
+numbers_at key d = array_in key d >>= gathered number_of
+
+-- ---- the lines' values
+
+unfoldable pub replication_in : Data → Option ℕ
+replication_in d = number_in (codes "replication") d >>= λ r. if replication_fits r then Some r else None
+
+unfoldable pub file_in : Data → Option Form
+file_in d = do
+  blocks ← blocks_at (codes "blocks") d
+  closed ← flag_in (codes "closed") d
+  replication ← replication_in d
+  Some (File (record { replication = replication; closed = closed; blocks = blocks }))
+
+unfoldable pub form_of : List ℕ → Data → Option Form
+form_of kind d = if bytes_eq kind (codes "dir") then Some Dir else if bytes_eq kind (codes "file") then file_in d else None
+
+unfoldable pub form_in : Data → Option Form
+form_in d = text_in (codes "type") d >>= λ kind. form_of kind d
+
+-- the path and the form of a path line
+unfoldable pub row_in : Data → Option (Path × Form)
+row_in d = do
+  p ← path_in (codes "path") d
+  form ← form_in d
+  Some (p, form)
+
+abbrev pub is_header : List ℕ → ℕ → ℕ → List ℕ → Bool
+is_header mark last_block last_stamp ids = bytes_eq mark (codes "hdfs-standby") && nat_le 1073741824 last_block && nat_le 1000 last_stamp && awaiting_fits last_block ids
+
+unfoldable pub fields_in : Data → Option (Namespace × ℕ)
+fields_in d = do
+  mark ← text_in (codes "image") d
+  txid ← number_in (codes "txid") d
+  last_block ← number_in (codes "last_block") d
+  last_stamp ← number_in (codes "last_gen") d
+  ids ← numbers_at (codes "awaiting") d
+  (if is_header mark last_block last_stamp ids then Some (bare last_block last_stamp ids, txid) else None)
+
+abbrev pub of_version : Data → Option ℕ → Result (Namespace × ℕ) ImageFault
+of_version d None = Err NotHeader
+of_version d (Some version) = if version == 1 then ok_or (fields_in d) NotHeader else Err BadVersion
+
+-- the value that a line is, if it is JSON in UTF-8
+unfoldable pub value_of : List ℕ → Option Data
+value_of line = if is_utf8 line then read line else None
+
+-- the value, if it is an object
+abbrev pub object_only : Data → Option Data
+object_only d = if is_some (as_object d) then Some d else None
+
+-- the object that a line is
+unfoldable pub object_of : List ℕ → Option Data
+object_of line = value_of line >>= object_only
+
+abbrev pub of_header : Option Data → Result (Namespace × ℕ) ImageFault
+of_header None = Err NotHeader
+of_header (Some d) = of_version d (number_in (codes "version") d)
+
+-- ---- the lines, each judged by the namespace of the lines before it
+
+infixl 10 ◌then◌
+abbrev pub ◌then◌ : {A B : Type 0} → Result A ImageFault → (A → Result B ImageFault) → Result B ImageFault
+(Ok x) then f = f x
+(Err e) then f = Err e
+
+-- the same namespace with other rows
+abbrev pub with_rows : Namespace → List (Path × Form) → Namespace
+with_rows n rows = record n { rows = rows }
+
+-- the path of the last row
+abbrev pub last_path : List (Path × Form) → Path
+last_path [] = []
+last_path (row ∷ []) = row.0
+last_path (row ∷ next ∷ rows) = last_path (next ∷ rows)
+
+-- the number of the next line, where the header is line 1 and the root has no line
+abbrev pub next_line : Namespace → ℕ
+next_line n = length n.rows + 1
+
+abbrev pub with_next : Namespace → Option (Path × Form) → Result Namespace ImageFault
+with_next n None = Err (BadLine (next_line n))
+with_next n (Some row) =
+    if is_lt (path_cmp (last_path n.rows) row.0)
+    then (if row_fits n row.0 row.1 then Ok (with_rows n (n.rows ++ row ∷ [])) else Err (BadLine (next_line n)))
+    else Err (WrongOrder (next_line n))
+
+-- what stands after the end line: nothing, or a fault
+abbrev pub nothing_more : Namespace → List (List ℕ) → Result Namespace ImageFault
+nothing_more n [] = Ok n
+nothing_more n ([] ∷ []) = Ok n
+nothing_more n ((b ∷ bs) ∷ []) = Err Truncated
+nothing_more n (line ∷ next ∷ pieces) = Err (BadLine (next_line n + 1))
+
+abbrev pub at_end : Namespace → Option ℕ → List (List ℕ) → Result Namespace ImageFault
+at_end n None pieces = Err (BadLine (next_line n))
+at_end n (Some count) pieces = if count == (length n.rows - 1) then nothing_more n pieces else Err CountMismatch
+
+-- what the value of the next line and then the pieces make of the namespace
+abbrev pub by_key : Namespace → Data → List (List ℕ) → (Namespace → Result Namespace ImageFault) → Option Data → Result Namespace ImageFault
+by_key n d pieces more None = with_next n (row_in d) then more
+by_key n d pieces more (Some count) = at_end n (number_of count) pieces
+
+abbrev pub by_value : Namespace → List (List ℕ) → (Namespace → Result Namespace ImageFault) → Option Data → Result Namespace ImageFault
+by_value n pieces more None = Err (BadLine (next_line n))
+by_value n pieces more (Some d) = by_key n d pieces more (get (codes "end") d)
+
+-- the pieces between line feeds: each but the last is a line
+unfoldable pub rows_from : Namespace → List (List ℕ) → Result Namespace ImageFault
+rows_from n [] = Err Truncated
+rows_from n (torn ∷ []) = Err Truncated
+rows_from n (line ∷ next ∷ pieces) = by_value n (next ∷ pieces) (λ m. rows_from m (next ∷ pieces)) (object_of line)
+
+unfoldable pub pieces_of : List ℕ → List (List ℕ)
+pieces_of text = slice_split (λ b. b == feed) text
+
+unfoldable pub all_from : List (List ℕ) → Result (Namespace × ℕ) ImageFault
+all_from [] = Err Truncated
+all_from (torn ∷ []) = Err Truncated
+all_from (line ∷ next ∷ pieces) = of_header (object_of line) then λ head. rows_from head.0 (next ∷ pieces) then λ n. Ok (n, head.1)
+
+unfoldable pub read_image : List ℕ → Result (Namespace × ℕ) ImageFault
+read_image text = all_from (pieces_of text)

@@ -1,0 +1,227 @@
+//! From a reader to a namespace.
+ghost use Rattle.std.specs.Prelude.{◌≡◌, ◌≤◌, ◌<◌, ◌+◌, ◌^◌, ℕ, List, [], true, false, map, string_bytes, OnOk, IfOk, IfErr, IfSome, Ok, Some, codes, Option, option_map, ◌⊎◌};
+ghost use Rattle.std.specs.Io.KnownBytes.{IsAtEnd};
+ghost use Rattle.std.specs.Ordering.{is_lt};
+ghost use Rattle.serde_json.specs.View.{view};
+ghost use Rattle.nn_model.specs.Namespace.{path_cmp, Namespace as Rows};
+ghost use Rattle.nn_tree.specs.Restore.{awaiting_fits};
+ghost use Rattle.nn_image.specs.Header.{header_value, object_view, IsLawful};
+ghost use Rattle.nn_image.specs.Lines.{ahead};
+ghost use Rattle.nn_image.specs.declared.fault.ImageFault.TheVariants.{Truncated};
+ghost use Rattle.nn_image.specs.Outcome.{Fails, IsOfDevice};
+ghost use Rattle.nn_image.specs.Reading.{next_line, with_next, row_in, read_image, of_version, number_in};
+ghost use Rattle.nn_image.specs.Loading.{GivesObject, IsTorn, Stops, GoesOn, Ends, rows_of, rows_by, after_end, all_of, with_txid, IsLoading};
+
+use crate::fault::ImageFault;
+use crate::fields::{Header, Object, header_in, number_of, object_of, row_in};
+use crate::lines::{Window, next_line};
+use nn_tree::{Namespace, RestoreFault};
+use nn_types::{Names, Path};
+use serde_json::Value;
+use std::alloc::{AllocError, Global};
+use std::cmp::Ordering;
+use std::io::Read;
+
+/// Reads an image, and gives its namespace and its txid. It reads on to the end, and after a fault no further than
+/// that. Beside the namespace it takes a buffer of 65,536 bytes, and one line with its value.
+pub fn load<R: Read>(
+    alloc: Global,
+    reader: &mut R,
+) -> Result<(Namespace, u64), ImageFault>
+    ensures ok { IfOk result (λ i. Ends (R.remaining reader.old) (R.remaining reader.new) read_image i) }
+    ensures fault { IfErr result (λ e. Stops (R.remaining reader.old) e read_image) }
+{
+    let mut window = Window::new(alloc)?;
+    let header = match load_header(alloc, reader, &mut window) {
+        Ok(header) => header,
+        Err(fault) => return Err(fault),
+    };
+    let txid = header.txid;
+    let Ok(namespace) = Namespace::bare(alloc, header.last_block, header.last_stamp, &header.awaiting)
+    else {
+        return Err(ImageFault::OutOfMemory);
+    };
+    match load_rows(alloc, reader, &mut window, namespace) {
+        Ok(namespace) => Ok((namespace, txid)),
+        Err(fault) => Err(fault),
+    }
+}
+
+// The object of the next line, if it is one.
+fn next_object<R: Read>(
+    alloc: Global,
+    reader: &mut R,
+    window: &mut Window,
+) -> Result<Option<Object>, ImageFault>
+    ensures ok { IfOk result (λ o. GivesObject (ahead window.old (R.remaining reader.old)) (ahead window.new (R.remaining reader.new))
+        (option_map object_view o)) }
+    ensures fault { IfErr result (λ e. IsOfDevice e ⊎ ((e ≡ Truncated) × IsTorn (ahead window.old (R.remaining reader.old)))) }
+{
+    let line = next_line(alloc, reader, window)?;
+    if !line.whole {
+        return Err(ImageFault::Truncated);
+    }
+    let object = object_of(alloc, &line.text)?;
+    Ok(object)
+}
+
+fn load_header<R: Read>(
+    alloc: Global,
+    reader: &mut R,
+    window: &mut Window,
+) -> Result<Header, ImageFault>
+    ensures ok { IfOk result (λ h. GoesOn (ahead window.old (R.remaining reader.old)) (ahead window.new (R.remaining reader.new))
+        all_of (λ left. with_txid h.txid (rows_of (header_value h).0 left))) }
+    ensures lawful { IfOk result IsLawful }
+    ensures fault { IfErr result (λ e. Stops (ahead window.old (R.remaining reader.old)) e all_of) }
+{
+    let object = match next_object(alloc, reader, window) {
+        Ok(Some(object)) => object,
+        Ok(None) => return Err(ImageFault::NotHeader),
+        Err(fault) => return Err(fault),
+    };
+    let header = match header_in(alloc, &object.value) {
+        Ok(header) => header,
+        Err(fault) => return Err(fault),
+    };
+    Ok(header)
+}
+
+fn load_rows<R: Read>(
+    alloc: Global,
+    reader: &mut R,
+    window: &mut Window,
+    namespace: Namespace,
+) -> Result<Namespace, ImageFault>
+    requires { IsLoading namespace [] 2 }
+    ensures ok { IfOk result (λ n. Ends (ahead window.old (R.remaining reader.old)) (ahead window.new (R.remaining reader.new))
+        (rows_of namespace) n) }
+    ensures fault { IfErr result (λ e. Stops (ahead window.old (R.remaining reader.old)) e
+        (rows_of namespace)) }
+{
+    let mut namespace = namespace;
+    let mut before = root(alloc)?;
+    for number in 2..u64::MAX {
+        let object = match next_value(alloc, reader, window, number) {
+            Ok(object) => object,
+            Err(fault) => return Err(fault),
+        };
+        if let Some(count) = object.value.get("end") {
+            match load_end(alloc, reader, window, number, count) {
+                Ok(()) => return Ok(namespace),
+                Err(fault) => return Err(fault),
+            }
+        }
+        match add_row(alloc, &mut namespace, &mut before, &object.value, number) {
+            Ok(()) => {}
+            Err(fault) => return Err(fault),
+        }
+    }
+    Err(ImageFault::ReadFault)
+}
+
+// The object of the next line.
+fn next_value<R: Read>(
+    alloc: Global,
+    reader: &mut R,
+    window: &mut Window,
+    number: u64,
+) -> Result<Object, ImageFault>
+    ensures ok { IfOk result (λ v. (n : Rows) → next_line n ≡ number →
+        GoesOn (ahead window.old (R.remaining reader.old)) (ahead window.new (R.remaining reader.new))
+        (rows_of n) (rows_by n (object_view v))) }
+    ensures fault { IfErr result (λ e. (n : Rows) → next_line n ≡ number →
+        Stops (ahead window.old (R.remaining reader.old)) e (rows_of n)) }
+{
+    match next_object(alloc, reader, window) {
+        Ok(Some(object)) => Ok(object),
+        Ok(None) => Err(ImageFault::BadLine(number)),
+        Err(fault) => Err(fault),
+    }
+}
+
+// The end line's number, and that nothing follows.
+fn load_end<R: Read>(
+    alloc: Global,
+    reader: &mut R,
+    window: &mut Window,
+    number: u64,
+    count: &Value,
+) -> Result<(), ImageFault>
+    requires from { 2 ≤ number }
+    requires below { number < 18446744073709551615 }
+    ensures ok { OnOk result ((n : Rows) → next_line n ≡ number →
+        Ends (ahead window.old (R.remaining reader.old)) (ahead window.new (R.remaining reader.new))
+        (after_end n (view count.now)) n) }
+    ensures fault { IfErr result (λ e. (n : Rows) → next_line n ≡ number →
+        Stops (ahead window.old (R.remaining reader.old)) e (after_end n (view count.now))) }
+{
+    let Some(count) = number_of(count) else {
+        return Err(ImageFault::BadLine(number));
+    };
+    if count != number - 2 {
+        return Err(ImageFault::CountMismatch);
+    }
+    let line = next_line(alloc, reader, window)?;
+    if line.whole {
+        return Err(ImageFault::BadLine(number + 1));
+    }
+    if !line.text.is_empty() {
+        return Err(ImageFault::Truncated);
+    }
+    Ok(())
+}
+
+// Adds the path of a line.
+fn add_row(
+    alloc: Global,
+    namespace: &mut Namespace,
+    before: &mut Path,
+    value: &Value,
+    number: u64,
+) -> Result<(), ImageFault>
+    requires { IsLoading namespace.old before.old number }
+    ensures ok { OnOk result (with_next namespace.old (row_in (view value.now)) ≡ Ok namespace.new) }
+    ensures loading { OnOk result (IsLoading namespace.new before.new (number + 1)) }
+    ensures fault { IfErr result (λ e. Fails e (with_next namespace.old (row_in (view value.now)))) }
+{
+    let Some((path, form)) = row_in(alloc, value)? else {
+        return Err(ImageFault::BadLine(number));
+    };
+    if !comes_before(&before.names(), &path.names()) {
+        return Err(ImageFault::WrongOrder(number));
+    }
+    match namespace.restore(&path, form) {
+        Ok(()) => {}
+        Err(RestoreFault::Refused) => return Err(ImageFault::BadLine(number)),
+        Err(RestoreFault::OutOfMemory) => return Err(ImageFault::OutOfMemory),
+    }
+    *before = path;
+    Ok(())
+}
+
+// The path of the root.
+fn root(alloc: Global) -> Result<Path, AllocError>
+    ensures { IfOk result (λ p. p ≡ []) }
+{
+    let Ok(root) = Path::parse(alloc, "/") else {
+        return Err(AllocError);
+    };
+    Ok(root)
+}
+
+fn comes_before(a: &Names<'_>, b: &Names<'_>) -> bool
+    ensures { result ≡ is_lt (path_cmp a.now b.now) }
+{
+    let Some((x, xs)) = a.split_first() else {
+        return !b.is_empty();
+    };
+    let Some((y, ys)) = b.split_first() else {
+        return false;
+    };
+    match x.cmp(y) {
+        Ordering::Less => true,
+        Ordering::Equal => comes_before(&xs, &ys),
+        Ordering::Greater => false,
+    }
+}

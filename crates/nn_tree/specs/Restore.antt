@@ -1,0 +1,59 @@
+-- What a namespace is built of, path by path: the root alone with its numbers, and which path may be restored.
+use Rattle.std.specs.Prelude.{ℕ, ◌+◌, Bool, true, false, not, ◌&&◌, List, [], ◌∷◌, ◌++◌, map, is_some, nat_le, nat_lt}
+use Rattle.std.specs.List.{list_all}
+use Rattle.nn_types.specs.declared.block.Block.{Block}
+use Rattle.nn_model.specs.declared.form.Form.{Form}
+use Rattle.nn_model.specs.declared.form.Form.TheVariants.{Dir, File}
+use Rattle.nn_model.specs.Namespace.{Path, Namespace, lookup, all_blocks, no_block, no_stamp}
+use Rattle.nn_model.specs.Apply.{has_id, is_dir}
+
+-- the path of the directory that holds this one. The root has none
+abbrev pub parent_of : Path → Path
+parent_of [] = []
+parent_of (name ∷ []) = []
+parent_of (name ∷ next ∷ p) = name ∷ parent_of (next ∷ p)
+
+-- the root alone, with these numbers
+abbrev pub bare : ℕ → ℕ → List ℕ → Namespace
+bare last_block last_stamp awaiting = record { rows = ([], Dir) ∷ []; last_block = last_block; last_stamp = last_stamp; awaiting = awaiting }
+
+-- ---- Which ids may await.
+
+-- each id is greater than the one before
+abbrev pub rises : List ℕ → Bool
+rises [] = true
+rises (i ∷ []) = true
+rises (i ∷ j ∷ ids) = nat_lt i j && rises (j ∷ ids)
+
+-- the log has issued the id, where this is the last one
+abbrev pub is_issued : ℕ → ℕ → Bool
+is_issued last_block i = nat_le (no_block + 1) i && nat_le i last_block
+
+abbrev pub awaiting_fits : ℕ → List ℕ → Bool
+awaiting_fits last_block ids = list_all (is_issued last_block) ids && rises ids
+
+-- ---- Which path may be restored.
+
+abbrev pub replication_fits : ℕ → Bool
+replication_fits r = nat_le 1 r && nat_le r 512
+
+-- a block's id was issued and awaits no more, and its generation stamp was issued
+abbrev pub block_fits : Namespace → Block → Bool
+block_fits n b = is_issued n.last_block b.id && not (has_id n.awaiting b.id) && nat_le (no_stamp + 1) b.stamp && nat_le b.stamp n.last_stamp
+
+-- no block id stands twice
+abbrev pub once : List Block → Bool
+once [] = true
+once (b ∷ bs) = not (has_id (map (λ c. c.id) bs) b.id) && once bs
+
+-- the replication and the blocks of a file that is to stand in the namespace
+abbrev pub form_fits : Namespace → Form → Bool
+form_fits n Dir = true
+form_fits n (File file) = replication_fits file.replication && list_all (block_fits n) file.blocks && once (all_blocks n ++ file.blocks)
+
+-- what may stand at a path where nothing stands yet: its parent is a directory
+abbrev pub row_fits : Namespace → Path → Form → Bool
+row_fits n p form = is_dir (lookup n (parent_of p)) && form_fits n form
+
+abbrev pub can_restore : Namespace → Path → Form → Bool
+can_restore n p form = not (is_some (lookup n p)) && row_fits n p form

@@ -1,0 +1,165 @@
+//! A namespace is built path by path, as an image tells it.
+ghost use Rattle.std.specs.Prelude.{◌≡◌, ◌≤◌, true, false, None, map, OnOk, OnErr, IfOk, IsErrOf};
+ghost use Rattle.std.specs.List.{list_all};
+ghost use Rattle.nn_types.specs.declared.edit.Edit.TheVariants as edit;
+ghost use Rattle.nn_model.specs.declared.form.Form.TheVariants as form;
+ghost use Rattle.nn_model.specs.Namespace.{with_row, no_block, no_stamp};
+ghost use Rattle.nn_model.specs.Apply.{refusal};
+ghost use Rattle.nn_tree.specs.Restore.{bare, can_restore, awaiting_fits, is_issued, block_fits};
+
+use super::checks::is_issued;
+use super::{NO_BLOCK, Namespace, lawful_blocks};
+use crate::fault::RestoreFault;
+use crate::index::{enter, forget};
+use crate::touched::push_ids;
+use crate::tree::Tree;
+use nn_model::{FileRow, Form};
+use nn_types::{Block, BlockId, GenerationStamp, Path};
+use std::alloc::{AllocError, Global};
+use std::collections::{BTreeMap, BTreeSet};
+
+impl Namespace {
+    /// The root alone, with these numbers. The ids await.
+    pub fn bare(
+        alloc: Global,
+        last_block: BlockId,
+        last_stamp: GenerationStamp,
+        awaiting: &[BlockId],
+    ) -> Result<Namespace, AllocError>
+        requires low { no_block ≤ last_block }
+        requires old { no_stamp ≤ last_stamp }
+        requires awaits { awaiting_fits last_block awaiting.now ≡ true }
+        ensures { IfOk result (λ n. n ≡ bare last_block last_stamp awaiting.now) }
+    {
+        last_block.get();
+        last_stamp.get();
+        let waiting = waiting_set(alloc, last_block, awaiting)?;
+        Ok(Namespace {
+            root: Tree::new_dir(alloc),
+            index: BTreeMap::new(alloc),
+            waiting,
+            last_block,
+            last_stamp,
+            alloc,
+        })
+    }
+
+    /// Adds a path with what stands there. After a fault the namespace is as it was.
+    pub fn restore(&mut self, path: &Path, form: Form) -> Result<(), RestoreFault>
+        ensures ok { OnOk result (self.new ≡ with_row self.old path.now form) }
+        ensures lawful { OnOk result (can_restore self.old path.now form ≡ true) }
+        ensures refused { IsErrOf result RestoreFault.Refused → can_restore self.old path.now form ≡ false }
+        ensures err { OnErr result (self.new ≡ self.old) }
+    {
+        match form {
+            Form::Dir => self.restore_dir(path),
+            Form::File(file) => self.restore_file(path, file),
+        }
+    }
+
+    fn restore_dir(&mut self, path: &Path) -> Result<(), RestoreFault>
+        ensures ok { OnOk result (self.new ≡ with_row self.old path.now form.Dir) }
+        ensures lawful { OnOk result (can_restore self.old path.now form.Dir ≡ true) }
+        ensures refused { IsErrOf result RestoreFault.Refused → can_restore self.old path.now form.Dir ≡ false }
+        ensures err { OnErr result (self.new ≡ self.old) }
+    {
+        self.well_formed();
+        path.names();
+        if self.mkdir_refusal(path).is_some() {
+            return Err(RestoreFault::Refused);
+        }
+        let Ok(_touched) = self.mkdir(path) else {
+            return Err(RestoreFault::OutOfMemory);
+        };
+        Ok(())
+    }
+
+    // The blocks go into the index first, and are taken out again where the file can't be made.
+    fn restore_file(&mut self, path: &Path, file: FileRow) -> Result<(), RestoreFault>
+        ensures ok { OnOk result (self.new ≡ with_row self.old path.now (form.File file)) }
+        ensures lawful { OnOk result (can_restore self.old path.now (form.File file) ≡ true) }
+        ensures refused { IsErrOf result RestoreFault.Refused → can_restore self.old path.now (form.File file) ≡ false }
+        ensures err { OnErr result (self.new ≡ self.old) }
+    {
+        self.well_formed();
+        path.names();
+        file.replication.get();
+        if self.add_refusal(path, file.replication).is_some() {
+            return Err(RestoreFault::Refused);
+        }
+        if !self.may_hold(file.blocks.as_slice()) {
+            return Err(RestoreFault::Refused);
+        }
+        let mut ids = Vec::new(self.alloc);
+        let Ok(()) = push_ids(&mut ids, file.blocks.as_slice()) else {
+            return Err(RestoreFault::OutOfMemory);
+        };
+        self.place(path, file, &ids)
+    }
+
+    // Makes a file, where only its blocks may still stand elsewhere.
+    fn place(&mut self, path: &Path, file: FileRow, ids: &[BlockId]) -> Result<(), RestoreFault>
+        requires applies { refusal self.old (edit.Add path.now file.replication) ≡ None }
+        requires fit { list_all (block_fits self.old) file.blocks ≡ true }
+        requires ids { ids.now ≡ map (λ b. b.id) file.blocks }
+        ensures ok { OnOk result (self.new ≡ with_row self.old path.now (form.File file)) }
+        ensures lawful { OnOk result (can_restore self.old path.now (form.File file) ≡ true) }
+        ensures refused { IsErrOf result RestoreFault.Refused → can_restore self.old path.now (form.File file) ≡ false }
+        ensures err { OnErr result (self.new ≡ self.old) }
+    {
+        let names = path.names();
+        file.replication.get();
+        let blocks = file.blocks.as_slice();
+        lawful_blocks(blocks);
+        if let Err(fault) = enter(&mut self.index, blocks, ids, file.closed) {
+            return Err(fault);
+        }
+        let Ok(()) = self.root.make(self.alloc, &names, Tree::new_file(file)) else {
+            forget(&mut self.index, ids);
+            return Err(RestoreFault::OutOfMemory);
+        };
+        Ok(())
+    }
+
+    // Whether each of the blocks was issued and awaits no more.
+    fn may_hold(&self, blocks: &[Block]) -> bool
+        ensures { result ≡ list_all (block_fits self.now) blocks.now }
+    {
+        blocks.iter().all(|block| self.may_hold_one(block))
+    }
+
+    fn may_hold_one(&self, block: &Block) -> bool
+        ensures { result ≡ block_fits self.now block.now }
+    {
+        if !was_given(self.last_block, block.id) {
+            return false;
+        }
+        if self.waiting.contains(&block.id.get()) {
+            return false;
+        }
+        is_issued(self.last_stamp, block.stamp)
+    }
+}
+
+// Whether the log has issued the block id, where this is the last one.
+fn was_given(last: BlockId, id: BlockId) -> bool
+    ensures { result ≡ is_issued last id }
+{
+    NO_BLOCK < id.get() && id <= last
+}
+
+// The ids as a set.
+fn waiting_set(
+    alloc: Global,
+    last_block: BlockId,
+    ids: &[BlockId],
+) -> Result<BTreeSet<u64>, AllocError>
+    requires { awaiting_fits last_block ids.now ≡ true }
+    ensures { IfOk result (λ set. set.keys ≡ ids.now) }
+{
+    let mut waiting = BTreeSet::new(alloc);
+    for id in ids {
+        let _added = waiting.insert(id.get())?;
+    }
+    Ok(waiting)
+}

@@ -4,7 +4,7 @@ use Rattle.std.specs.Fmt.{digits}
 use Rattle.nn_types.specs.declared.fault.TheConstants.{NOT_JSON, MISSING_FIELD, BAD_NUMBER, UNKNOWN_OP, BAD_PATH, LINE_TOO_LONG, UNKNOWN_KIND, INPUT_FAULT}
 use Rattle.nn_types.specs.declared.fault.TheConstants.{BAD_NAME, NO_START, NO_END, GAP, TORN_LINE, NAME_MISMATCH, TOO_LONG, BAD_LINE}
 use Rattle.nn_types.specs.declared.fault.TheConstants.{EXISTS, MISSING, NOT_DIRECTORY, NOT_FILE, IS_ROOT, INTO_ITSELF, NOT_OPEN, WRONG_BLOCKS, BAD_GENERATION, BAD_BLOCK_ID, BAD_REPLICATION}
-use Rattle.nn_types.specs.declared.fault.TheConstants.{FULL, CLOSED, EXHAUSTED, GONE, SOURCE_FAILED, STOPPED, INTAKE_OPEN, ALREADY_ACTIVE, LOG_NOT_ENDED, MEMORY, BAD_LANE, DISORDER, WRONG_NUMBER}
+use Rattle.nn_types.specs.declared.fault.TheConstants.{FULL, CLOSED, EXHAUSTED, ENDED, GONE, SOURCE_FAILED, STOPPED, INTAKE_OPEN, ALREADY_ACTIVE, LOG_NOT_ENDED, MEMORY, BAD_LANE, DISORDER, WRONG_NUMBER}
 use Rattle.nn_types.specs.declared.fault.TheConstants.{NOT_HEADER, BAD_IMAGE_LINE, WRONG_ORDER, COUNT_MISMATCH, TRUNCATED, BAD_VERSION, READ_FAULT, WRITE_FAULT}
 
 of_lines : map decimal (NOT_JSON ∷ MISSING_FIELD ∷ BAD_NUMBER ∷ UNKNOWN_OP ∷ BAD_PATH ∷ LINE_TOO_LONG ∷ UNKNOWN_KIND ∷ INPUT_FAULT ∷ [])
@@ -22,8 +22,8 @@ of_edits : map decimal (EXISTS ∷ MISSING ∷ NOT_DIRECTORY ∷ NOT_FILE ∷ IS
 unfolding digits
 of_edits = refl
 
-of_lanes_and_standbys : map decimal (FULL ∷ CLOSED ∷ EXHAUSTED ∷ GONE ∷ SOURCE_FAILED ∷ STOPPED ∷ INTAKE_OPEN ∷ ALREADY_ACTIVE ∷ LOG_NOT_ENDED ∷ MEMORY ∷ BAD_LANE ∷ DISORDER ∷ WRONG_NUMBER ∷ [])
-    ≡ codes "41" ∷ codes "42" ∷ codes "43" ∷ codes "46" ∷ codes "47" ∷ codes "51" ∷ codes "52" ∷ codes "53" ∷ codes "54" ∷ codes "55" ∷ codes "56" ∷ codes "57" ∷ codes "58" ∷ []
+of_lanes_and_standbys : map decimal (FULL ∷ CLOSED ∷ EXHAUSTED ∷ ENDED ∷ GONE ∷ SOURCE_FAILED ∷ STOPPED ∷ INTAKE_OPEN ∷ ALREADY_ACTIVE ∷ LOG_NOT_ENDED ∷ MEMORY ∷ BAD_LANE ∷ DISORDER ∷ WRONG_NUMBER ∷ [])
+    ≡ codes "41" ∷ codes "42" ∷ codes "43" ∷ codes "45" ∷ codes "46" ∷ codes "47" ∷ codes "51" ∷ codes "52" ∷ codes "53" ∷ codes "54" ∷ codes "55" ∷ codes "56" ∷ codes "57" ∷ codes "58" ∷ []
 unfolding digits
 of_lanes_and_standbys = refl
 

@@ -64,6 +64,8 @@ pub const CLOSED: u8 = 42;
 /// A lane has carried as many messages as one can.
 pub const EXHAUSTED: u8 = 43;
 
+/// The end was put into a feed before, or it cannot count further.
+pub const ENDED: u8 = 45;
 /// Whoever gave segments is gone.
 pub const GONE: u8 = 46;
 /// A source of segments failed.

@@ -1,5 +1,5 @@
 -- A well formed namespace keeps to all that is used of it.
-use Rattle.std.proofs.Common.{◌≡◌, ℕ, ◌+◌, ◌≤◌, ◌<◌, List, [], ◌∷◌, ◌++◌, map, Bool, true, false, cond, eqb, ltb, not, ◌||◌, ◌⊎◌, inl, inr, Some, refl, sym, ap, ◌∙◌, arith, subst}
+use Rattle.std.proofs.Common.{◌≡◌, ℕ, ◌+◌, ◌≤◌, ◌<◌, List, [], ◌∷◌, ◌++◌, Bool, true, false, cond, eqb, ltb, ◌||◌, ◌⊎◌, inl, inr, Some, refl, sym, ap, ◌∙◌, subst}
 use Rattle.std.specs.Prelude.{T, is_some}
 use Rattle.std.specs.List.{list_all}
 use Rattle.std.specs.List.Sorted.{IsStrictlySortedBy}
@@ -14,9 +14,9 @@ use Rattle.nn_model.specs.declared.form.Form.{Form}
 use Rattle.nn_model.specs.declared.form.Form.TheVariants.{Dir, File}
 use Rattle.nn_model.specs.Namespace.{Path, path_cmp, Namespace, lookup, no_block}
 use Rattle.nn_model.specs.Apply.{has_id}
-use Rattle.nn_model.specs.WellFormed.{Has, times, IsIssued, IsWellFormed}
+use Rattle.nn_model.specs.WellFormed.{Has, IsIssued, IsWellFormed}
 use Rattle.nn_model.proofs.Dues.{blocks_in}
-use Rattle.nn_tree.specs.Restore.{parent_of, rises, is_issued, once, block_fits}
+use Rattle.nn_tree.specs.Restore.{parent_of, rises, is_issued, block_fits}
 use Rattle.nn_tree.proofs.RestoredFile.{once_of}
 use Rattle.nn_image.proofs.Keeps.{file_fits, Keeps}
 use Rattle.nn_image.proofs.Rows.{Rows, paths_total, and_T, T_of, less_of}

@@ -11,3 +11,6 @@ pub mod Order
 pub mod Empty
 pub mod Writing
 pub mod Naming
+pub mod Pieces
+pub mod Lawful
+pub mod Images

@@ -1,6 +1,6 @@
 -- Lines of known bytes as pieces of their text.
-use Rattle.std.proofs.Common.{◌≡◌, ℕ, ◌+◌, ◌-◌, ◌≤◌, ◌<◌, List, [], ◌∷◌, ◌++◌, length, Bool, true, false, cond, not, ◌&&◌, eqb, Option, Some, None, Result, Ok, Err, ◌⊎◌, inl, inr, refl, sym, ap, ◌∙◌, arith, append-nil, append_assoc, subst}
-use Rattle.std.specs.List.{list_all, slice_split, All, AllByRecursion}
+use Rattle.std.proofs.Common.{◌≡◌, ℕ, ◌+◌, ◌-◌, List, [], ◌∷◌, ◌++◌, length, Bool, true, false, cond, not, ◌&&◌, eqb, Option, Some, None, Result, Ok, Err, ◌⊎◌, inl, inr, refl, sym, ap, ◌∙◌, arith, append-nil, append_assoc, subst}
+use Rattle.std.specs.List.{AllByRecursion}
 use Rattle.std.specs.Io.KnownBytes.{Consumes, IsAtEnd}
 use Rattle.std.proofs.lemmas.List.Elements.{All-from_recursion}
 use Rattle.std.proofs.lemmas.List.Splits.{slice_split_at, slice_split_none}
@@ -12,12 +12,9 @@ use Rattle.std.proofs.lemmas.Bool.Decides.{Decides-eqb}
 use Rattle.std.specs.Prelude.{codes}
 use Rattle.serde_json.specs.Data.{Data}
 use Rattle.serde_json.specs.Find.{get}
-use Rattle.nn_model.specs.Namespace.{Namespace, path_cmp}
+use Rattle.nn_model.specs.Namespace.{Namespace}
 use Rattle.nn_tree.specs.Restore.{bare}
 use Rattle.std.proofs.KnownBytes.{prepend_known-nil}
-use Rattle.std.specs.Cmp.Lexicographic.{slice_cmp}
-use Rattle.std.specs.Prelude.{map, string_bytes, String, string_cmp}
-use Rattle.std.specs.declared.alloc.Global.{Global}
 use Rattle.nn_image.specs.declared.fault.ImageFault.{ImageFault}
 use Rattle.nn_image.specs.declared.fault.ImageFault.TheVariants.{NotHeader, BadLine, WrongOrder, CountMismatch, Truncated, BadVersion, ReadFault, OutOfMemory}
 use Rattle.nn_image.specs.Outcome.{Fails, IsOfDevice}
@@ -36,7 +33,7 @@ plain_all : (bs : List ℕ) → no_feed bs ≡ true → AllByRecursion (λ b. eq
 plain_all [] e = tt
 plain_all (b ∷ bs) e = let both = and_true (not (eqb b feed)) (no_feed bs) e in (not_true (eqb b feed) both.0, plain_all bs both.1)
 
-piece : (line left : List ℕ) → no_feed line ≡ true → pieces_of (line ++ feed ∷ left) ≡ line ∷ pieces_of left
+pub piece : (line left : List ℕ) → no_feed line ≡ true → pieces_of (line ++ feed ∷ left) ≡ line ∷ pieces_of left
 unfolding pieces_of
 piece line left plain = slice_split_at (λ b. eqb b feed) line feed left (All-from_recursion _ _ (plain_all line plain)) refl
 
@@ -110,9 +107,12 @@ module _ (old new : Option (List ℕ)) where
   pub header_some : (d : Data) → GivesObject old new (Some d) → (head : Namespace × ℕ) → of_version d (number_in (codes "version") d) ≡ Ok head
       → GoesOn old new all_of (λ left. with_txid head.1 (rows_of head.0 left))
   header_some d h head e text is =
-      let k = h text is in
-      (k.1, k.2, ap all_from k.3 ∙ all_turn k.0 (pieces_of k.1) (some_piece k.1) ∙ ap (λ o. of_header o then (λ head. rows_from head.0 (pieces_of k.1) then (λ n. Ok (n, head.1)))) (sym k.4)
-        ∙ ap (λ r. r then (λ head. rows_from head.0 (pieces_of k.1) then (λ n. Ok (n, head.1)))) e)
+      let k = h text is in (
+        k.1,
+        k.2,
+        ap all_from k.3 ∙ all_turn k.0 (pieces_of k.1) (some_piece k.1) ∙ ap (λ o. of_header o then (λ head. rows_from head.0 (pieces_of k.1) then (λ n. Ok (n, head.1)))) (sym k.4)
+            ∙ ap (λ r. r then (λ head. rows_from head.0 (pieces_of k.1) then (λ n. Ok (n, head.1)))) e,
+      )
 
   pub header_fails : (d : Data) → GivesObject old new (Some d) → (e : ImageFault) → Fails e (of_version d (number_in (codes "version") d)) → Stops old e all_of
   header_fails d h e f text is =

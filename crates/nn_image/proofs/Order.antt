@@ -1,17 +1,14 @@
 -- A path above those that stand already: it isn't there, and goes in as the last.
-use Rattle.std.proofs.Common.{◌≡◌, ℕ, suc, ◌+◌, ◌≤◌, ◌<◌, List, [], ◌∷◌, ◌++◌, length, map, Bool, true, false, cond, not, ◌&&◌, Option, Some, None, Result, Ok, Err, refl, sym, ap, ◌∙◌, arith, subst, length-append, string_bytes}
-use Rattle.std.specs.Prelude.{T, IsTrue, is_some, String}
-use Rattle.std.specs.declared.alloc.Global.{Global}
-use Rattle.std.specs.Ordering.{nat_cmp, is_lt, is_eq, eq_by_cmp, ordering_reverse}
-use Rattle.std.specs.declared.cmp.Ordering.TheVariants.{Less, Equal, Greater}
-use Rattle.std.specs.Cmp.{IsTotalOrder}
+use Rattle.std.proofs.Common.{◌≡◌, ℕ, ◌+◌, [], ◌∷◌, ◌++◌, Bool, true, false, cond, not, ◌&&◌, Some, None, Ok, Err, refl, sym, ap, ◌∙◌, arith, subst, length-append}
+use Rattle.std.specs.Prelude.{T, is_some}
+use Rattle.std.specs.Ordering.{is_lt, is_eq, ordering_reverse}
+use Rattle.std.specs.declared.cmp.Ordering.TheVariants.{Less, Greater}
 use Rattle.std.specs.FinMap.Entries.{find as find_entry, put, is_sorted, below_all, by_order}
 use Rattle.nn_model.specs.declared.form.Form.{Form}
 use Rattle.nn_model.specs.Namespace.{Path, path_cmp, Namespace, with_row}
 use Rattle.nn_tree.specs.Restore.{row_fits, can_restore}
-use Rattle.nn_image.specs.declared.fault.ImageFault.{ImageFault}
 use Rattle.nn_image.specs.declared.fault.ImageFault.TheVariants.{BadLine, WrongOrder}
-use Rattle.nn_image.specs.Reading.{last_path, next_line, with_next, with_rows}
+use Rattle.nn_image.specs.Reading.{last_path, with_next, with_rows}
 use Rattle.nn_image.specs.Loading.{IsLoading}
 use Rattle.nn_image.proofs.Rows.{Rows, paths_total, and_T, T_and, T_of, less_of, true_of}
 
@@ -73,13 +70,13 @@ module _ (n : Namespace) (before : Path) (number : ℕ) (w : IsLoading n before 
     less_all : AreLess n.rows row.0
     less_all = all_less n.rows row.0 (T_of _ w.sorted) (ap (λ p. path_cmp p row.0) w.last ∙ is_lt_true before row.0 order)
 
-    fits_is : can_restore n row.0 row.1 ≡ row_fits n row.0 row.1
+    pub fits_is : can_restore n row.0 row.1 ≡ row_fits n row.0 row.1
     fits_is = ap (λ o. not (is_some o) && row_fits n row.0 row.1) (not_there n.rows row.0 less_all)
 
     pub refused : can_restore n row.0 row.1 ≡ false → with_next n (Some row) ≡ Err (BadLine number)
     refused e = rw (w.last, order, sym fits_is ∙ e) (ap (λ k. Err (BadLine k)) w.at)
 
-    pushed : (m : Namespace) → m ≡ with_row n row.0 row.1 → m ≡ with_rows n (n.rows ++ row ∷ [])
+    pub pushed : (m : Namespace) → m ≡ with_row n row.0 row.1 → m ≡ with_rows n (n.rows ++ row ∷ [])
     pushed m e = e ∙ ap (with_rows n) (put_last n.rows row.0 row.1 less_all)
 
     pub added : (m : Namespace) → m ≡ with_row n row.0 row.1 → can_restore n row.0 row.1 ≡ true → with_next n (Some row) ≡ Ok m

@@ -1,31 +1,25 @@
 -- An image is read as what it was made of.
-use Rattle.std.proofs.Common.{◌≡◌, ℕ, ◌+◌, ◌-◌, ◌≤◌, ◌<◌, ◌^◌, List, [], ◌∷◌, ◌++◌, length, drop, Bool, true, false, cond, eqb, Option, Some, None, Result, Ok, Err, refl, sym, ap, ◌∙◌, arith, append-nil, append_assoc, subst, length-append, count_by}
-use Rattle.std.specs.Prelude.{T}
+use Rattle.std.proofs.Common.{◌≡◌, ℕ, ◌-◌, ◌<◌, ◌^◌, List, [], ◌∷◌, ◌++◌, length, drop, true, eqb, Some, None, Ok, refl, sym, ap, ◌∙◌, arith, append-nil, append_assoc, subst}
 use Rattle.std.specs.List.{slice_split}
-use Rattle.std.specs.Ordering.{is_lt}
-use Rattle.std.specs.Str.{IsUtf8}
 use Rattle.std.specs.declared.cmp.Ordering.TheVariants.{Less}
 use Rattle.std.proofs.lemmas.Bool.Decides.{Decides-eqb}
 use Rattle.std.proofs.lemmas.Bool.{lt-ltb}
 use Rattle.std.proofs.lemmas.List.Elements.{All-from_recursion}
 use Rattle.std.proofs.lemmas.List.Splits.{slice_split_at, length-slice_split}
-use Rattle.serde_json.specs.Data.{Data, unsigned, number}
+use Rattle.serde_json.specs.Data.{Data}
 use Rattle.serde_json.specs.Find.{get}
 use Rattle.serde_json.specs.Written.{compact_text}
 use Rattle.std.specs.FinMap.Entries.{is_sorted}
-use Rattle.nn_types.specs.Path.{IsPath, path_text}
 use Rattle.nn_model.specs.declared.form.Form.{Form}
 use Rattle.nn_model.specs.declared.form.Form.TheVariants.{Dir, File}
-use Rattle.nn_model.specs.declared.form.FileRow.{FileRow}
 use Rattle.nn_model.specs.Namespace.{Path, path_cmp, Namespace}
 use Rattle.nn_image.specs.Reading.{with_rows}
-use Rattle.nn_tree.specs.Restore.{bare, parent_of, row_fits}
+use Rattle.nn_tree.specs.Restore.{bare, row_fits}
 use Rattle.nn_model.specs.WellFormed.{Has, IsWellFormed}
 use Rattle.nn_image.proofs.Keeps.{Keeps}
 use Rattle.nn_image.proofs.Kept.{keeps}
-use Rattle.nn_image.specs.declared.fault.ImageFault.{ImageFault}
 use Rattle.nn_image.specs.Text.{feed, line_of, header_data, form_data, row_data, end_data, row_lines, image_text}
-use Rattle.nn_image.specs.Reading.{number_of, number_in, row_in, limited, object_of, of_header, of_version, ◌then◌, last_path, with_next, at_end, nothing_more, by_key, by_value, rows_from, pieces_of, all_from, read_image}
+use Rattle.nn_image.specs.Reading.{row_in, object_of, of_header, ◌then◌, last_path, with_next, nothing_more, by_key, by_value, rows_from, pieces_of, all_from, read_image}
 use Rattle.nn_image.specs.Lawful.{HasPaths, IsCounted}
 use Rattle.nn_image.proofs.Json.{IsPlain, no_feed_compact}
 use Rattle.nn_image.proofs.Shapes.{IsShortForm, form_plain, row_read, row_object, end_plain, end_object, header_plain, header_object, header_read}

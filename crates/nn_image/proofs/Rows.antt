@@ -1,7 +1,7 @@
 -- What a well formed namespace says of each row and of the rows before it.
-use Rattle.std.proofs.Common.{◌≡◌, ℕ, ◌+◌, ◌-◌, ◌≤◌, ◌<◌, ◌^◌, List, [], ◌∷◌, ◌++◌, length, map, Bool, true, false, cond, eqb, leb, ltb, not, ◌&&◌, ◌||◌, ◌⊎◌, inl, inr, Option, Some, None, refl, sym, ap, ◌∙◌, arith, append-nil, append_assoc, subst, leb-true}
-use Rattle.std.specs.Prelude.{T, IsTrue}
-use Rattle.std.specs.List.{list_all, list_any, flat_map}
+use Rattle.std.proofs.Common.{◌≡◌, ℕ, ◌≤◌, List, [], ◌∷◌, ◌++◌, map, Bool, true, false, cond, eqb, leb, not, ◌&&◌, ◌||◌, ◌⊎◌, inl, inr, Some, None, refl, sym, ap, ◌∙◌, arith, append_assoc, subst, leb-true}
+use Rattle.std.specs.Prelude.{T}
+use Rattle.std.specs.List.{list_all}
 use Rattle.std.specs.Ordering.{nat_cmp, is_lt, is_eq, eq_by_cmp}
 use Rattle.std.specs.declared.cmp.Ordering.{Ordering}
 use Rattle.std.specs.declared.cmp.Ordering.TheVariants.{Less, Equal, Greater}
@@ -11,12 +11,11 @@ use Rattle.std.specs.FinMap.Entries.{find as find_entry, is_sorted, below_all}
 use Rattle.nn_types.specs.declared.block.Block.{Block}
 use Rattle.nn_model.specs.declared.form.Form.{Form}
 use Rattle.nn_model.specs.declared.form.Form.TheVariants.{Dir, File}
-use Rattle.nn_model.specs.declared.form.FileRow.{FileRow}
-use Rattle.nn_model.specs.Namespace.{Path, path_cmp, Namespace, lookup, blocks_of}
+use Rattle.nn_model.specs.Namespace.{Path, path_cmp, Namespace, blocks_of}
 use Rattle.nn_model.proofs.Dues.{blocks_in}
 use Rattle.nn_image.specs.Reading.{with_rows}
-use Rattle.nn_tree.specs.Restore.{parent_of, is_issued, awaiting_fits, replication_fits, block_fits, once, form_fits, row_fits, rises}
-use Rattle.nn_model.specs.Apply.{has_id, is_dir}
+use Rattle.nn_tree.specs.Restore.{parent_of, is_issued, block_fits, once, form_fits, row_fits}
+use Rattle.nn_model.specs.Apply.{has_id}
 use Rattle.nn_model.specs.WellFormed.{Has}
 use Rattle.nn_image.proofs.Keeps.{file_fits, Keeps}
 use Rattle.nn_image.specs.Reading.{last_path}

@@ -1,25 +1,22 @@
 -- The values of an image's lines: what they are made of, and that their text stands for what they were made of.
-use Rattle.std.proofs.Common.{◌≡◌, ℕ, ◌+◌, ◌-◌, ◌≤◌, ◌<◌, ◌^◌, List, [], ◌∷◌, ◌++◌, length, Bool, true, false, cond, eqb, leb, ltb, ◌&&◌, Option, Some, None, Result, Ok, Err, option_map, option_and_then, is_some, lit<, decimal, codes, refl, sym, ap, ap₂, ◌∙◌, arith, append-nil, append_assoc, subst, lit≤, max}
-use Rattle.std.specs.Option.{ok_or}
-use Rattle.std.specs.Str.{IsUtf8, is_utf8}
+use Rattle.std.proofs.Common.{◌≡◌, ℕ, ◌≤◌, ◌<◌, ◌^◌, List, [], ◌∷◌, true, cond, Some, None, Ok, is_some, lit<, codes, refl, ap, arith, lit≤, max}
+use Rattle.std.specs.Str.{IsUtf8}
 use Rattle.std.proofs.lemmas.Bool.{lt-ltb, le-leb}
 use Rattle.std.proofs.lemmas.Str.{is_utf8-from_IsUtf8}
 use Rattle.json.specs.Tree as tree
 use Rattle.json.proofs.Printed.Utf8.{IsUtf8-are_ascii}
-use Rattle.serde_json.specs.Data.{Data, unsigned, number, string, boolean, array, object, Items, no_items, item, Members, no_members, member}
-use Rattle.serde_json.specs.Read.{read, max_depth, of_json, of_items}
+use Rattle.serde_json.specs.Read.{max_depth, of_json, of_items}
 use Rattle.serde_json.specs.Written.{outline, items_outline, compact_text}
 use Rattle.serde_json.specs.Find.{as_object}
 use Rattle.serde_json.proofs.Numbers.{number_of-decimal}
-use Rattle.nn_types.specs.Path.{IsPath, path_of, path_text}
+use Rattle.nn_types.specs.Path.{IsPath, path_text}
 use Rattle.nn_types.proofs.Paths.{path_of_path_text}
 use Rattle.nn_types.specs.declared.block.Block.{Block}
 use Rattle.nn_model.specs.declared.form.Form.{Form}
 use Rattle.nn_model.specs.declared.form.Form.TheVariants.{Dir, File}
-use Rattle.nn_model.specs.declared.form.FileRow.{FileRow}
 use Rattle.nn_model.specs.Namespace.{Path, Namespace}
 use Rattle.nn_tree.specs.Restore.{bare, awaiting_fits, replication_fits}
-use Rattle.nn_image.specs.Text.{block_data, block_items, number_items, head_data, header_data, form_data, row_data, end_data}
+use Rattle.nn_image.specs.Text.{block_data, block_items, number_items, head_data, header_data, form_data, end_data}
 use Rattle.nn_image.specs.Reading.{◌>>=◌, number_of, number_in, text_in, flag_in, array_in, path_in, block_of, gathered, blocks_at, numbers_at, replication_in, file_in, form_of, form_in, row_in, fields_in, object_of, value_of, limited, of_version}
 use Rattle.nn_image.proofs.Json.{IsPlain, ItemsArePlain, read_compact, utf8_compact}
 
@@ -103,8 +100,10 @@ pub form_plain : (p : Path) (form : Form) → IsUtf8 (path_text p) → IsShortFo
 unfolding form_data
 form_plain p Dir text h = (IsUtf8-are_ascii _ refl, text, (IsUtf8-are_ascii _ refl, IsUtf8-are_ascii _ refl, tt))
 form_plain p (File file) text h = (
-  IsUtf8-are_ascii _ refl, blocks_plain file.blocks h.0,
-  (IsUtf8-are_ascii _ refl, tt, (IsUtf8-are_ascii _ refl, text, (IsUtf8-are_ascii _ refl, wider file.replication h.2, (IsUtf8-are_ascii _ refl, IsUtf8-are_ascii _ refl, tt)))))
+  IsUtf8-are_ascii _ refl,
+  blocks_plain file.blocks h.0,
+  (IsUtf8-are_ascii _ refl, tt, (IsUtf8-are_ascii _ refl, text, (IsUtf8-are_ascii _ refl, wider file.replication h.2, (IsUtf8-are_ascii _ refl, IsUtf8-are_ascii _ refl, tt)))),
+)
 
 form_deep : (p : Path) (form : Form) → tree.depth (outline (form_data p form)) ≤ max_depth
 unfolding form_data
@@ -151,12 +150,26 @@ module _ (n : Namespace) (txid : ℕ) (awaiting : AreShort n.awaiting) (block : 
   pub header_plain : IsPlain (header_data n txid)
   unfolding head_data
   header_plain = (
-    IsUtf8-are_ascii _ refl, numbers_plain n.awaiting awaiting,
-    (IsUtf8-are_ascii _ refl, IsUtf8-are_ascii _ refl,
-    (IsUtf8-are_ascii _ refl, wider n.last_block block,
-    (IsUtf8-are_ascii _ refl, wider n.last_stamp stamp,
-    (IsUtf8-are_ascii _ refl, wider txid number,
-    (IsUtf8-are_ascii _ refl, lit< tt, tt))))))
+    IsUtf8-are_ascii _ refl,
+    numbers_plain n.awaiting awaiting,
+    (
+      IsUtf8-are_ascii _ refl,
+      IsUtf8-are_ascii _ refl,
+      (
+        IsUtf8-are_ascii _ refl,
+        wider n.last_block block,
+        (
+          IsUtf8-are_ascii _ refl,
+          wider n.last_stamp stamp,
+          (
+            IsUtf8-are_ascii _ refl,
+            wider txid number,
+            (IsUtf8-are_ascii _ refl, lit< tt, tt),
+          ),
+        ),
+      ),
+    ),
+  )
 
   header_deep : tree.depth (outline (header_data n txid)) ≤ max_depth
   unfolding head_data

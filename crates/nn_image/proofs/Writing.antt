@@ -1,5 +1,5 @@
 -- Values that are written, and fronts of texts.
-use Rattle.std.proofs.Common.{◌≡◌, ℕ, suc, ◌+◌, ◌<◌, ◌≤◌, List, [], ◌∷◌, ◌++◌, length, take, drop, get_or, Bool, true, false, Option, refl, sym, ap, ◌∙◌, arith, append_assoc, append-nil, drop-cons, add-one, subst, length-append, length-drop, ◌-◌}
+use Rattle.std.proofs.Common.{◌≡◌, ℕ, ◌+◌, ◌<◌, ◌≤◌, List, [], ◌∷◌, ◌++◌, length, take, drop, get_or, false, Option, refl, sym, ap, ◌∙◌, arith, append_assoc, drop-cons, add-one, subst, length-append, ◌-◌}
 use Rattle.std.specs.List.{flat_map}
 use Rattle.std.specs.Io.KnownBytes.{Appends}
 use Rattle.std.proofs.KnownBytes.{Appends-trans, Appends-nil}
@@ -10,7 +10,6 @@ use Rattle.serde_json.specs.declared.value.Value.{Value}
 use Rattle.nn_types.specs.declared.block.Block.{Block}
 use Rattle.nn_model.specs.declared.form.Form.{Form}
 use Rattle.nn_model.specs.declared.form.Form.TheVariants.{Dir, File}
-use Rattle.nn_model.specs.declared.form.FileRow.{FileRow}
 use Rattle.nn_model.specs.Namespace.{Path, Namespace}
 use Rattle.nn_model.specs.Namespace.{path_cmp}
 use Rattle.nn_model.specs.WellFormed.{IsWellFormed}
@@ -24,11 +23,10 @@ use Rattle.nn_image.specs.declared.saving.Lines.{Lines}
 use Rattle.nn_image.proofs.Rows.{root_first, T_of, and_T}
 use Rattle.nn_image.specs.Text.{block_data, block_items, number_items, head_data, header_data, form_data, row_data, row_lines, line_of, end_data, image_text}
 use Rattle.nn_image.specs.declared.fault.SaveFault.{SaveFault}
-use Rattle.nn_image.specs.declared.fault.SaveFault.TheVariants.{WriteFault, OutOfMemory}
+use Rattle.nn_image.specs.declared.fault.SaveFault.TheVariants.{OutOfMemory}
 use Rattle.nn_image.specs.Saving.{Wrote, WroteFront, WroteTake, Tells, row_text, row_count, TakesRow, FailsOnRow, fault_of}
 use Rattle.std.proofs.lemmas.List.{take-append-drop, length-take}
 use Rattle.std.proofs.Common.{drop_of_length-le}
-use Rattle.std.proofs.Math.Seq.{take-add}
 
 -- ---- no floats
 
@@ -78,7 +76,10 @@ module _ (w0 w1 w2 : Option (List ℕ)) (a b : List ℕ) (n k : ℕ) where
 
   pub front_after : (e : SaveFault) → Wrote w0 w1 a n k → WroteFront w1 w2 b k e → WroteFront w0 w2 (a ++ b) n e
   front_after e first h = (
-    a ++ h.0, h.1, ap (λ t. a ++ t) h.2 ∙ sym (append_assoc a h.0 h.1), Appends-trans w0 w1 w2 a h.0 first.0 h.3,
+    a ++ h.0,
+    h.1,
+    ap (λ t. a ++ t) h.2 ∙ sym (append_assoc a h.0 h.1),
+    Appends-trans w0 w1 w2 a h.0 first.0 h.3,
     tells_same e (k + length h.0) (n + length (a ++ h.0)) (omega (arith, first.1, length-append a h.0)) h.4,
   )
 

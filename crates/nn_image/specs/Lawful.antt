@@ -1,5 +1,5 @@
 -- Namespaces that an image can be read back as.
-use Rattle.std.specs.Prelude.{◌≡◌, ℕ, ◌<◌, ◌≤◌, length, ◌^◌, List, Ok}
+use Rattle.std.specs.Prelude.{◌≡◌, ℕ, ◌<◌, ◌≤◌, length, ◌^◌, Ok}
 use Rattle.std.specs.Str.{IsUtf8}
 use Rattle.nn_types.specs.Path.{IsPath, path_text}
 use Rattle.nn_model.specs.declared.form.Form.{Form}

@@ -5,5 +5,7 @@ pub mod Outcome
 pub mod Lawful
 pub mod Header
 pub mod Lines
+pub mod Image
 pub mod Loading
 pub mod Saving
+pub mod ImageRows

@@ -1,5 +1,5 @@
 -- What the calls that read an image say of the bytes to come, where those are known.
-use Rattle.std.specs.Prelude.{◌≡◌, ℕ, ◌+◌, List, Bool, IsTrue, Option, Some, Result, Ok, codes, [], ◌∷◌}
+use Rattle.std.specs.Prelude.{◌≡◌, ℕ, List, IsTrue, Option, Some, Result, Ok, codes, [], ◌∷◌}
 use Rattle.std.specs.Io.KnownBytes.{IsAtEnd}
 use Rattle.std.specs.FinMap.Entries.{is_sorted}
 use Rattle.serde_json.specs.Data.{Data}
@@ -7,7 +7,7 @@ use Rattle.serde_json.specs.Find.{get}
 use Rattle.nn_model.specs.Namespace.{Path, path_cmp, Namespace}
 use Rattle.nn_image.specs.declared.fault.ImageFault.{ImageFault}
 use Rattle.nn_image.specs.Outcome.{Fails}
-use Rattle.nn_image.specs.Reading.{last_path, next_line, by_key, rows_from, at_end, number_of, pieces_of, all_from, read_image, object_of, ◌then◌}
+use Rattle.nn_image.specs.Reading.{last_path, next_line, by_key, rows_from, at_end, number_of, pieces_of, all_from, object_of, ◌then◌}
 
 -- the known bytes make the definition fail in this way, unless a read failed or memory ran out
 abbrev pub Stops : {X : Type 0} → Option (List ℕ) → ImageFault → (List ℕ → Result X ImageFault) → Type 0

@@ -19,13 +19,7 @@ pub(crate) fn number_of(value: &Value) -> Option<u64>
     ensures { result ≡ number_of (view value.now) }
 {
     match value.as_u64() {
-        Some(n) => {
-            if n < LIMIT {
-                Some(n)
-            } else {
-                None
-            }
-        }
+        Some(n) => { if n < LIMIT { Some(n) } else { None } }
         None => None,
     }
 }
@@ -292,8 +286,7 @@ fn awaiting_fits(last_block: BlockId, ids: &[BlockId]) -> bool
 fn all_issued(last_block: BlockId, ids: &[BlockId]) -> bool
     ensures { result ≡ list_all (is_issued last_block) ids.now }
 {
-    ids.iter()
-        .all(|id| 1_073_741_825 <= id.get() && id.get() <= last_block.get())
+    ids.iter().all(|id| 1_073_741_825 <= id.get() && id.get() <= last_block.get())
 }
 
 fn rises(ids: &[BlockId]) -> bool

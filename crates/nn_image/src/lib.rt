@@ -9,6 +9,6 @@ mod restoring;
 mod saving;
 
 pub use fault::{ImageFault, SaveFault};
-pub use law::reads_back;
+pub use law::{reading_is_the_image, reads_back};
 pub use restoring::load;
 pub use saving::{image_name, save};

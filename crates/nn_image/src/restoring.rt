@@ -24,10 +24,7 @@ use std::io::Read;
 
 /// Reads an image, and gives its namespace and its txid. It reads on to the end, and after a fault no further than
 /// that. Beside the namespace it takes a buffer of 65,536 bytes, and one line with its value.
-pub fn load<R: Read>(
-    alloc: Global,
-    reader: &mut R,
-) -> Result<(Namespace, u64), ImageFault>
+pub fn load<R: Read>(alloc: Global, reader: &mut R) -> Result<(Namespace, u64), ImageFault>
     ensures ok { IfOk result (λ i. Ends (R.remaining reader.old) (R.remaining reader.new) read_image i) }
     ensures fault { IfErr result (λ e. Stops (R.remaining reader.old) e read_image) }
 {
@@ -37,8 +34,12 @@ pub fn load<R: Read>(
         Err(fault) => return Err(fault),
     };
     let txid = header.txid;
-    let Ok(namespace) = Namespace::bare(alloc, header.last_block, header.last_stamp, &header.awaiting)
-    else {
+    let Ok(namespace) = Namespace::bare(
+        alloc,
+        header.last_block,
+        header.last_stamp,
+        &header.awaiting,
+    ) else {
         return Err(ImageFault::OutOfMemory);
     };
     match load_rows(alloc, reader, &mut window, namespace) {

@@ -1,12 +1,11 @@
 -- The blocks of a file enter the index one after another, and are taken out again.
-use Rattle.std.proofs.Common.{inl, inr, ◌≡◌, ℕ, zero, suc, ◌+◌, get_or, take-append-drop, Bool, true, false, cond, not, ◌&&◌, ◌||◌, List, [], ◌∷◌, ◌++◌, map, take, drop, length, ◌<◌, Option, Some, None, refl, sym, ap, subst, ◌∙◌}
+use Rattle.std.proofs.Common.{inl, inr, ◌≡◌, ℕ, zero, suc, ◌+◌, get_or, take-append-drop, Bool, true, false, cond, not, ◌&&◌, ◌||◌, List, [], ◌∷◌, ◌++◌, map, take, drop, length, ◌<◌, Option, Some, None, refl, sym, ap, ◌∙◌}
 use Rattle.std.specs.Prelude.{◌==◌, is_some}
 use Rattle.std.proofs.lemmas.List.{take_more, drop_more}
 use Rattle.std.specs.Ordering.{nat_cmp, is_eq}
-use Rattle.std.proofs.lemmas.Bool.{both_ways, cases_Bool, and_parts, and_from, or_cases, or_left, or_right, or_parts, eqb-true, eq-eqb, ne_eqb}
+use Rattle.std.proofs.lemmas.Bool.{both_ways, cases_Bool, and_parts, or_left, or_right, or_parts, eqb-true, eq-eqb, ne_eqb}
 use Rattle.nn_types.specs.declared.block.Block.{Block}
 use Rattle.nn_model.specs.Apply.{has_id}
-use Rattle.nn_model.specs.WellFormed.{Has}
 use Rattle.nn_tree.specs.declared.index.BlockRow.{BlockRow}
 use Rattle.nn_tree.specs.Entered.{entered, are_new}
 use Rattle.nn_tree.proofs.Deleted.{tie}
@@ -78,6 +77,7 @@ not_new look (x ∷ bs) b more closed there =
     last : (a t c : Bool) → t ≡ true → (a && not t && c) ≡ false
     last true t c e = rw e refl
     last false t c e = refl
+
     rest : (a t c : Bool) → c ≡ false → (a && t && c) ≡ false
     rest true true c e = e
     rest true false c e = refl

@@ -1,5 +1,5 @@
 -- Which paths may be restored, and the root alone with its numbers.
-use Rattle.std.proofs.Common.{◌≡◌, ℕ, zero, suc, ◌+◌, ◌≤◌, ◌<◌, ◌^◌, Bool, true, false, cond, not, ◌&&◌, ◌||◌, List, [], ◌∷◌, ◌++◌, length, take, get_or, Option, Some, None, refl, sym, ap, ◌∙◌, subst, inl, inr, arith, ltb, take-add, drop-cons}
+use Rattle.std.proofs.Common.{◌≡◌, ℕ, zero, suc, ◌+◌, ◌≤◌, ◌<◌, ◌^◌, true, false, not, List, [], ◌∷◌, ◌++◌, length, take, get_or, Option, Some, None, refl, sym, ap, ◌∙◌, subst, inl, inr, arith, ltb, take-add, drop-cons}
 use Rattle.std.specs.Prelude.{◌==◌, is_some}
 use Rattle.std.specs.List.{list_all}
 use Rattle.std.specs.List.Sorted.{IsStrictlySortedBy}
@@ -9,7 +9,6 @@ use Rattle.std.specs.declared.cmp.Ordering.TheVariants.{Less}
 use Rattle.std.specs.Cmp.{nat_cmp_is}
 use Rattle.std.specs.BTreeSet.{insert_key}
 use Rattle.std.proofs.lemmas.Bool.{both_ways, or_cases, and_parts, eqb-true, ltb-true, leb-true, cases_Bool}
-use Rattle.nn_types.specs.declared.block.Block.{Block}
 use Rattle.nn_types.specs.declared.edit.Edit.TheVariants as edit
 use Rattle.nn_model.specs.declared.form.Form.{Form}
 use Rattle.nn_model.specs.declared.form.Form.TheVariants.{Dir, File}
@@ -17,7 +16,7 @@ use Rattle.nn_model.specs.declared.form.FileRow.{FileRow}
 use Rattle.nn_types.specs.declared.edit_fault.EditFault.{EditFault}
 use Rattle.nn_model.specs.Namespace.{Path, Namespace, lookup, blocks_of, no_block, no_stamp}
 use Rattle.nn_model.specs.Apply.{refusal, has_id, is_dir}
-use Rattle.nn_model.specs.WellFormed.{Has, HasWellFormedBlocks, IsWellFormed}
+use Rattle.nn_model.specs.WellFormed.{Has, IsWellFormed}
 use Rattle.nn_tree.specs.Walks.{walk_fault, mkdir_fault, parent_fault, exists_fault, or_fault}
 use Rattle.nn_tree.specs.Restore.{bare, parent_of, rises, is_issued, awaiting_fits, can_restore}
 use Rattle.nn_tree.specs.View.{IsKept, Stands}
@@ -148,6 +147,7 @@ sorted_of (x ∷ ids) r = (after x ids r, sorted_of ids (rises_tail x ids r))
         let next = ltb-true y z parts.0 in
         let here : x < z = omega arith in
         (sym (nat_cmp_is x z Less here), after_less x z ids here parts.1)
+
     after : (x : ℕ) (ids : List ℕ) → rises (x ∷ ids) ≡ true → AllByRecursion (λ y. nat_cmp x y ≡ Less) ids
     after x [] r = tt
     after x (y ∷ ids) r =

@@ -1,39 +1,38 @@
 -- A file is restored with blocks that are new.
-use Rattle.std.proofs.Common.{inl, inr, ◌≡◌, ℕ, ◌+◌, ◌≤◌, Bool, true, false, cond, not, ◌&&◌, ◌||◌, List, [], ◌∷◌, ◌++◌, map, Option, Some, None, is_some, refl, sym, ap, subst, ◌∙◌, arith}
+use Rattle.std.proofs.Common.{inl, inr, ◌≡◌, ℕ, ◌+◌, ◌≤◌, Bool, true, false, cond, not, ◌&&◌, ◌||◌, List, [], ◌∷◌, ◌++◌, Option, Some, None, is_some, refl, sym, ap, subst, ◌∙◌, arith}
 use Rattle.std.specs.Prelude.{◌==◌, find, option_map, nat_le, nat_lt}
 use Rattle.std.specs.List.{list_all}
-use Rattle.std.specs.FinMap.Entries.{put, is_sorted, is_sorted-put}
-use Rattle.std.proofs.lemmas.Bool.{both_ways, cases_Bool, and_parts, and_from, or_parts, eqb-true, eq-eqb, leb-true, le-leb, ltb-true, ltb-false, cond-true, cond-false, or_right, ne_eqb}
+use Rattle.std.specs.FinMap.Entries.{is_sorted-put}
+use Rattle.std.proofs.lemmas.Bool.{both_ways, cases_Bool, and_parts, or_parts, eqb-true, eq-eqb, leb-true, le-leb, ltb-true, ltb-false, cond-true, cond-false, or_right, ne_eqb}
 use Rattle.nn_types.specs.declared.block.Block.{Block}
 use Rattle.nn_types.specs.Block.{AreBlocks}
 use Rattle.nn_types.specs.Number.{IsNumber}
 use Rattle.nn_types.specs.declared.edit.Edit.TheVariants as edit
 use Rattle.nn_types.specs.declared.edit_fault.EditFault.{EditFault}
 use Rattle.nn_types.specs.LawfulEdit.{IsLawfulEdit}
+use Rattle.nn_types.specs.Path.{IsPath}
 use Rattle.nn_model.specs.declared.form.Form.{Form}
 use Rattle.nn_model.specs.declared.form.Form.TheVariants.{Dir, File}
 use Rattle.nn_model.specs.declared.form.FileRow.{FileRow}
-use Rattle.nn_model.specs.Namespace.{Path, Namespace, path_cmp, lookup, with_row, all_blocks, blocks_of, file_or_none, no_block, no_stamp}
+use Rattle.nn_model.specs.Namespace.{Path, Namespace, path_cmp, lookup, with_row, all_blocks, no_block, no_stamp}
 use Rattle.std.specs.Prelude.{◌⊎◌}
 use Rattle.nn_types.specs.declared.edit_fault.EditFault.TheVariants.{BadReplication}
 use Rattle.nn_model.specs.Apply as apply
 use Rattle.nn_model.specs.Apply.{refusal, checks, first, has_id, is_root, is_dir, walk, exists, replication_range}
-use Rattle.nn_model.specs.Status.{block_at}
-use Rattle.nn_model.specs.WellFormed.{Has, times, IsIssued, HasWellFormedBlocks, IsWellFormed}
-use Rattle.nn_model.proofs.Dues.{all_none, when_none, blocks_put, blocks_in}
+use Rattle.nn_model.specs.WellFormed.{Has, times, IsIssued, IsWellFormed}
+use Rattle.nn_model.proofs.Dues.{all_none, when_none, blocks_put}
 use Rattle.nn_model.proofs.Lookups.{paths_total, lookup_put}
-use Rattle.nn_model.proofs.Trees.{stays_well_formed, absent}
+use Rattle.nn_model.proofs.Trees.{stays_well_formed}
 use Rattle.nn_model.proofs.Wells.{times_put, times-append, from_T, to_T}
 use Rattle.nn_tree.specs.declared.index.BlockRow.{BlockRow}
 use Rattle.nn_tree.specs.Entered.{entered, are_new}
-use Rattle.nn_tree.specs.Restore.{is_issued, replication_fits, block_fits, once, form_fits, row_fits, can_restore, parent_of}
-use Rattle.nn_tree.specs.View.{InRow, IsIndex, IsKept}
-use Rattle.nn_tree.proofs.Added.{stands_in}
+use Rattle.nn_tree.specs.Restore.{is_issued, replication_fits, block_fits, once, form_fits, can_restore, parent_of}
+use Rattle.nn_tree.specs.View.{IsKept}
 use Rattle.nn_tree.proofs.Entered.{ids, not_true, not_some}
-use Rattle.nn_tree.proofs.Indexed.{old_blocks, Writes}
+use Rattle.nn_tree.proofs.Indexed.{old_blocks}
 use Rattle.nn_tree.proofs.Kept.{mkdir_free, add_mkdir, put_index}
 use Rattle.nn_tree.proofs.Named.{block_known}
-use Rattle.nn_tree.proofs.Renamed.{same, same_true, same_self}
+use Rattle.nn_tree.proofs.Renamed.{same}
 use Rattle.nn_tree.proofs.Restored.{dir_restored, dir_refused}
 
 -- ---- Blocks of which none stands twice.
@@ -72,6 +71,7 @@ once_in_both (x ∷ xs) ys q e f =
     either : (a b : Bool) → b ≡ true → (a || b) ≡ true
     either true b e = refl
     either false b e = e
+
     last : (a b : Bool) → b ≡ false → (a && b) ≡ false
     last true b e = e
     last false b e = refl
@@ -105,8 +105,10 @@ once_of (b ∷ bs) h = at (has_id (ids bs) b.id) refl (once_of bs rest)
   where
     twice : cond {A = ℕ} (b.id == b.id) 1 0 + times b.id bs ≤ 1 → 1 ≤ times b.id bs → ⊥
     twice most least = let one : ◌≡◌ {A = ℕ} (cond {A = ℕ} (b.id == b.id) 1 0) 1 = ap (λ t. cond {A = ℕ} t 1 0) (eq-eqb b.id b.id refl) in omega (arith, one)
+
     rest : (id : ℕ) → times id bs ≤ 1
     rest id = omega (arith, h id)
+
     at : (t : Bool) → has_id (ids bs) b.id ≡ t → once bs ≡ true → once (b ∷ bs) ≡ true
     at true e more = absurd (twice (h b.id) (has_times bs b.id e))
     at false e more = rw e more
@@ -348,6 +350,17 @@ module _ (n : Namespace) (p : Path) (x : FileRow) (lawful : IsLawfulEdit (edit.A
       where
         times_append : (id : ℕ) → times id (all_blocks n ++ x.blocks) ≡ times id (all_blocks n) + times id x.blocks
         times_append id = times-append id (all_blocks n) x.blocks
+
+-- what the types see to of a form that is restored
+abbrev pub IsLawfulForm : Form → Type 0
+IsLawfulForm Dir = Unit {0}
+IsLawfulForm (File x) = IsNumber x.replication × AreBlocks x.blocks
+
+pub restored_well : (n : Namespace) (p : Path) (form : Form) → IsPath p → IsLawfulForm form → can_restore n p form ≡ true → IsWellFormed n → IsWellFormed (with_row n p form)
+restored_well n p Dir path lawful may w = stays_well_formed n (edit.Mkdir p) path (dir_applies n p w may) w
+restored_well n p (File x) path lawful may w =
+    let parts = file_parts n p x may in
+    well n p x (path, lawful.0) (add_none n p x.replication (dir_applies n p w parts.0) parts.1) w parts.2 lawful.1 parts.3
 
 -- ---- The index with the blocks of the file.
 

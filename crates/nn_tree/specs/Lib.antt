@@ -15,3 +15,4 @@ pub mod Memory
 pub mod Restore
 pub mod RestoreFault
 pub mod Entered
+pub mod RestoreRows

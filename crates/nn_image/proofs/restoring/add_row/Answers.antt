@@ -1,8 +1,5 @@
-use Rattle.std.proofs.Common.{◌≡◌, ◌+◌, refl, ap, ◌∙◌, sym, Some, Err, subst, true, false}
-use Rattle.std.specs.Ordering.{is_lt}
-use Rattle.nn_model.specs.Namespace.{path_cmp}
-use Rattle.nn_image.specs.Loading.{IsLoading}
-use Rattle.nn_image.specs.Reading.{row_in, with_next}
+use Rattle.std.proofs.Common.{ap, ◌∙◌, sym, Err, true, false}
+use Rattle.nn_image.specs.Reading.{with_next}
 use Rattle.nn_image.proofs.Order.{refused, out_of_order, added, still_loading, order_is}
 use Rattle.nn_image.proofs.restoring.add_row.Goals as goal
 

@@ -1,4 +1,4 @@
-use Rattle.std.proofs.Common.{◌≡◌, ap, ◌∙◌}
+use Rattle.std.proofs.Common.{ap, ◌∙◌}
 use Rattle.nn_tree.specs.Restore.{bare}
 use Rattle.nn_image.specs.Header.{header_value}
 use Rattle.nn_image.specs.Lines.{ahead}

@@ -1,8 +1,8 @@
-use Rattle.std.proofs.Common.{◌≡◌, ◌+◌, ◌≤◌, sym, ap, ◌∙◌, option_map, map, string_bytes, arith, codes}
+use Rattle.std.proofs.Common.{sym, arith}
 use Rattle.serde_json.specs.View.{view}
 use Rattle.nn_image.specs.Header.{object_view}
 use Rattle.nn_image.specs.Lines.{ahead}
-use Rattle.nn_image.specs.Loading.{IsLoading, rows_of, after_end}
+use Rattle.nn_image.specs.Loading.{rows_of, after_end}
 use Rattle.nn_image.proofs.Loading.{stops_before, row_turn, row_fails, end_turn, ends_turn}
 use Rattle.nn_image.proofs.restoring.load_rows.Goals as goal
 

@@ -1,4 +1,4 @@
-use Rattle.std.proofs.Common.{◌≡◌, ◌≤◌, map, string_bytes}
+use Rattle.std.proofs.Common.{◌≤◌}
 use Rattle.nn_image.specs.Lines.{ahead}
 use Rattle.nn_image.specs.Loading.{IsLoading, GoesOn, rows_of}
 use Rattle.nn_image.proofs.restoring.load_rows.Given as goal

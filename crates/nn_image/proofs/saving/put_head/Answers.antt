@@ -1,4 +1,4 @@
-use Rattle.std.proofs.Common.{◌≡◌, ap, ◌∙◌}
+use Rattle.std.proofs.Common.{ap, ◌∙◌}
 use Rattle.serde_json.specs.Written.{has_float}
 use Rattle.nn_image.proofs.Writing.{head_whole}
 use Rattle.nn_image.proofs.saving.put_head.Goals as goal

@@ -1,4 +1,4 @@
-use Rattle.std.proofs.Common.{◌≡◌, ◌∙◌, subst}
+use Rattle.std.proofs.Common.{◌∙◌, subst}
 use Rattle.serde_json.specs.View.{view}
 use Rattle.nn_image.specs.Text.{line_of}
 use Rattle.nn_image.specs.Saving.{WroteTake}

@@ -1,6 +1,4 @@
-use Rattle.std.proofs.Common.{◌≡◌, rules, refl, subst, sym}
-use Rattle.nn_image.specs.Text.{row_lines}
-use Rattle.nn_image.specs.Saving.{WroteFront}
+use Rattle.std.proofs.Common.{rules, refl}
 use Rattle.nn_image.proofs.Writing.{rows_written, rows_stopped, rows_counted}
 use Rattle.nn_image.proofs.saving.put_rows.Goals as goal
 

@@ -1,4 +1,4 @@
-use Rattle.std.proofs.Common.{◌≡◌, subst, ap}
+use Rattle.std.proofs.Common.{subst}
 use Rattle.nn_image.specs.Text.{line_of, end_data}
 use Rattle.nn_image.specs.Saving.{Wrote, WroteFront}
 use Rattle.nn_image.proofs.Writing.{head_fails, rows_fail, end_fails, all_written}

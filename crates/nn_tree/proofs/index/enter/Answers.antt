@@ -1,10 +1,9 @@
-use Rattle.std.proofs.Common.{◌≡◌, ℕ, true, false, cond, ◌+◌, ◌≤◌, length, Option, Some, refl, sym, ap, subst, ◌∙◌, arith}
+use Rattle.std.proofs.Common.{cond, Some, refl, sym, ap, ◌∙◌, arith}
 use Rattle.std.specs.Prelude.{is_some}
 use Rattle.std.specs.BTreeMap.{get, is_at}
 use Rattle.std.specs.Map.{lookup as lookup_by}
 use Rattle.std.specs.Ordering.{nat_cmp, is_eq}
-use Rattle.nn_tree.specs.declared.index.BlockRow.{BlockRow}
-use Rattle.nn_tree.proofs.Entered.{IsEntering, forgotten, there_already, one_more}
+use Rattle.nn_tree.proofs.Entered.{forgotten, there_already, one_more}
 use Rattle.nn_tree.proofs.index.enter.Goals as goal
 
 pub returns-then-contains_key-clause-refused : goal.returns-then-contains_key-clause-refused

@@ -1,4 +1,4 @@
-use Rattle.std.proofs.Common.{◌∙◌, length, min, ap, drop, sym}
+use Rattle.std.proofs.Common.{◌∙◌, length, ap, drop}
 use Rattle.std.proofs.lemmas.List.{drop_min, take_rest}
 use Rattle.nn_tree.proofs.touched.past.Goals as goal
 

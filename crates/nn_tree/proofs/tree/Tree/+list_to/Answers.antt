@@ -1,7 +1,7 @@
-use Rattle.std.proofs.Common.{rules, ◌≡◌, ◌++◌, ◌∷◌, [], map, refl, sym, ap, ◌∙◌, subst}
+use Rattle.std.proofs.Common.{rules, ◌≡◌, ◌++◌, ◌∷◌, [], map, sym, ap, ◌∙◌, subst}
 use Rattle.std.specs.Map.{values_of}
 use Rattle.std.specs.Map.Iter.{deref, deref_pair}
-use Rattle.std.proofs.lemmas.Map.Iter.{iter_end, rest_so_far, rest_more}
+use Rattle.std.proofs.lemmas.Map.Iter.{iter_end, rest_so_far}
 use Rattle.std.proofs.lemmas.List.{map-append}
 use Rattle.std.specs.String.{string_bytes}
 use Rattle.nn_model.specs.declared.form.Form.TheVariants.{Dir, File}

@@ -1,38 +1,40 @@
 -- What the parser of the command line says of words.
 use Rattle.std.proofs.Common.{◌≡◌, List, ap, true, refl, sym, subst, ◌∙◌, inl, inr}
 use Rattle.std.specs.Prelude.{◌⊎◌, codes, Option}
-use Rattle.clap.specs.Words.{App, Text, HasKind, IsAmong, fault_of, found_of, is_simple, is_simple_and_free, kind_of, matches_of, one_of, one_text, rows_of}
+use Rattle.clap.specs.Words.{App, Text, HasKind, IsAmong, fault_of, is_simple, is_simple_and_free, kind_of, matches_of, one_of, one_text, rows_of}
 use Rattle.clap.specs.declared.error.Error.{Error}
 use Rattle.clap.specs.declared.error.kind.ErrorKind.TheVariants.{DisplayHelp, InvalidValue, OutOfMemory}
 use Rattle.clap.specs.declared.parser.matches.Found.{Found}
 use Rattle.clap.proofs.OnLiterals.{clap_on_literals}
 use Rattle.clap.proofs.WalkLemmas.{one_text-rows}
 use Rattle.nn_types.specs.Settings.{Threshold}
-use Rattle.nn_command.specs.Options.{command_line, AreReadAs, AskFor}
+use Rattle.nn_command.specs.Options.{settings_line, command_line, AreReadAs, AskFor}
 use Rattle.nn_command.specs.Program.{WhyNot}
 
 pub line_is_simple : is_simple command_line ≡ true
-unfolding clap_on_literals command_line
+unfolding clap_on_literals settings_line command_line
 line_is_simple = refl
 
 pub line_is_free : is_simple_and_free command_line ≡ true
-unfolding clap_on_literals command_line
+unfolding clap_on_literals settings_line command_line
 line_is_free = refl
 
--- the texts that were found under the two names are those that the words have there
+-- the texts that were found under the names are those that the words have there
 pub asked_as_found : (words : List Text) (found : Found) (settings : Threshold) → rows_of found ≡ matches_of command_line words →
-    AreReadAs (one_text found (codes "permille")) (one_text found (codes "min")) settings → AskFor words settings
+    AreReadAs (one_text found (codes "permille")) (one_text found (codes "min")) (one_text found (codes "capacity")) settings → AskFor words settings
 asked_as_found words found settings rows read =
     let at : (name : Text) → one_text found name ≡ one_of name (matches_of command_line words) = λ name. one_text-rows found name ∙ ap (one_of name) rows in
-    subst (λ (o : Option Text). AreReadAs o (one_of (codes "min") (matches_of command_line words)) settings) (at (codes "permille"))
-    (subst (λ (o : Option Text). AreReadAs (one_text found (codes "permille")) o settings) (at (codes "min")) read)
+    subst (λ (o : Option Text). AreReadAs o (one_of (codes "min") (matches_of command_line words)) (one_of (codes "capacity") (matches_of command_line words)) settings) (at (codes "permille"))
+    (subst (λ (o : Option Text). AreReadAs (one_text found (codes "permille")) o (one_of (codes "capacity") (matches_of command_line words)) settings) (at (codes "min"))
+    (subst (λ (o : Option Text). AreReadAs (one_text found (codes "permille")) (one_text found (codes "min")) o settings) (at (codes "capacity")) read))
 
 pub found_as_asked : (words : List Text) (found : Found) (settings : Threshold) → rows_of found ≡ matches_of command_line words →
-    AskFor words settings → AreReadAs (one_text found (codes "permille")) (one_text found (codes "min")) settings
+    AskFor words settings → AreReadAs (one_text found (codes "permille")) (one_text found (codes "min")) (one_text found (codes "capacity")) settings
 found_as_asked words found settings rows asked =
     let at : (name : Text) → one_of name (matches_of command_line words) ≡ one_text found name = λ name. sym (one_text-rows found name ∙ ap (one_of name) rows) in
-    subst (λ (o : Option Text). AreReadAs o (one_text found (codes "min")) settings) (at (codes "permille"))
-    (subst (λ (o : Option Text). AreReadAs (one_of (codes "permille") (matches_of command_line words)) o settings) (at (codes "min")) asked)
+    subst (λ (o : Option Text). AreReadAs o (one_text found (codes "min")) (one_text found (codes "capacity")) settings) (at (codes "permille"))
+    (subst (λ (o : Option Text). AreReadAs (one_of (codes "permille") (matches_of command_line words)) o (one_text found (codes "capacity")) settings) (at (codes "min"))
+    (subst (λ (o : Option Text). AreReadAs (one_of (codes "permille") (matches_of command_line words)) (one_of (codes "min") (matches_of command_line words)) o settings) (at (codes "capacity")) asked))
 
 pub why_not : (words : List Text) (a : App) (e : Error) → a ≡ command_line → HasKind (fault_of a words) e → WhyNot words (kind_of e)
 why_not words a e line (inl memory) = inl memory
@@ -42,7 +44,7 @@ other_kind : InvalidValue ≡ DisplayHelp → ⊥
 other_kind e = absurd (cc)
 
 pub out_of_range : (words : List Text) (found : Found) (e : Error) → rows_of found ≡ matches_of command_line words →
-    ((settings : Threshold) → AreReadAs (one_text found (codes "permille")) (one_text found (codes "min")) settings → ⊥) →
+    ((settings : Threshold) → AreReadAs (one_text found (codes "permille")) (one_text found (codes "min")) (one_text found (codes "capacity")) settings → ⊥) →
     (kind_of e ≡ InvalidValue) ⊎ (kind_of e ≡ OutOfMemory) → WhyNot words (kind_of e)
 out_of_range words found e rows none (inl invalid) =
     inr (inr ((λ help. other_kind (sym invalid ∙ help)), (λ settings asked. none settings (found_as_asked words found settings rows asked))))

@@ -1,8 +1,8 @@
 -- The command line, and what its words ask for.
-use Rattle.std.specs.Prelude.{◌≡◌, ◌<◌, ◌^◌, ℕ, pos, List, [], ◌∷◌, Option, Some, None, codes}
+use Rattle.std.specs.Prelude.{◌≡◌, ◌<◌, ◌≤◌, ◌^◌, ℕ, pos, List, [], ◌∷◌, Option, Some, None, codes}
 use Rattle.std.specs.Str.Parse.{IsNumeral, digits_value, without_leading_plus}
 use Rattle.clap.specs.Words.{App, Rule, Text, matches_of, new_app, new_rule, one_of, with_rule}
-use Rattle.clap.specs.declared.builder.action.ArgAction.TheVariants.{Set}
+use Rattle.clap.specs.declared.builder.action.ArgAction.TheVariants.{Set, SetTrue}
 use Rattle.clap.specs.declared.builder.value_parser.ValueParser.{ValueParser}
 use Rattle.clap.specs.declared.builder.value_parser.ValueParser.TheVariants.{Signed}
 use Rattle.nn_types.specs.Settings.{Threshold, AreSettings}
@@ -11,11 +11,19 @@ use Rattle.nn_types.specs.Settings.{Threshold, AreSettings}
 abbrev pub value_rule : Text → ValueParser → Text → Rule
 value_rule name parser default = record (new_rule name) { long = Some name; action = Some Set; defaults = default ∷ []; parser = Some parser }
 
+-- `--NAME`, with no value
+abbrev pub flag_rule : Text → Rule
+flag_rule name = record (new_rule name) { long = Some name; action = Some SetTrue }
+
 -- `--permille` with a number from 0 to 1000, and `--min` with one from 1 to 512
-unfoldable pub command_line : App
-command_line =
+unfoldable pub settings_line : App
+settings_line =
     with_rule (with_rule (new_app (codes "nn_standby")) (value_rule (codes "permille") (Signed (pos 0) (pos 1000)) (codes "999")))
     (value_rule (codes "min") (Signed (pos 1) (pos 512)) (codes "1"))
+
+-- and `--capacity` with a number from 1 to 1024, and `--threads`
+unfoldable pub command_line : App
+command_line = with_rule (with_rule settings_line (value_rule (codes "capacity") (Signed (pos 1) (pos 1024)) (codes "64"))) (flag_rule (codes "threads"))
 
 -- the text is there, and reads as this number
 abbrev pub ReadsAs : Option Text → ℕ → Type 0
@@ -27,12 +35,17 @@ abbrev pub IsNumberOf : Option Text → Option ℕ → Type 0
 IsNumberOf text (Some n) = ReadsAs text n
 IsNumberOf text None = (n : ℕ) → n < 2 ^ 16 → ReadsAs text n → ⊥
 
--- the texts of the two options, `--permille` first, are these settings
-pub record AreReadAs (first second : Option Text) (settings : Threshold) : Type 0 where
+-- the text is this number of reports
+abbrev pub IsCapacity : Option Text → ℕ → Type 0
+IsCapacity text n = ReadsAs text n × (1 ≤ n) × (n ≤ 1024)
+
+-- the texts of the options with numbers, `--permille` first, are these settings, and a capacity
+pub record AreReadAs (first second third : Option Text) (settings : Threshold) : Type 0 where
   pub permille : ReadsAs first settings.permille
   pub min : ReadsAs second settings.min
   pub lawful : AreSettings settings.permille settings.min
+  pub capacity : (n : ℕ) × IsCapacity third n
 
--- the words ask for these settings, by what stands behind the two names, or by their defaults
+-- the words ask for these settings, by what stands behind the names, or by their defaults
 abbrev pub AskFor : List Text → Threshold → Type 0
-AskFor words = AreReadAs (one_of (codes "permille") (matches_of command_line words)) (one_of (codes "min") (matches_of command_line words))
+AskFor words = AreReadAs (one_of (codes "permille") (matches_of command_line words)) (one_of (codes "min") (matches_of command_line words)) (one_of (codes "capacity") (matches_of command_line words))

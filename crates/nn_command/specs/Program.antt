@@ -61,11 +61,13 @@ Writes old new text status ended =
 abbrev pub memory_line : List ℕ
 memory_line = codes "fault 55" ++ newline ∷ []
 
--- a run with these settings: its output, and the status that goes with it, or 1 where a write failed
+-- the output, and the status that goes with it, or 1 where a write failed
+abbrev pub EndsWith : Given → Option (List ℕ) → Option (List ℕ) → ℕ → Type 0
+EndsWith given output output' ended = Wrote given output output' ended ⊎ ((n : ℕ) × WroteFront given output output' n × (ended ≡ 1))
+
+-- a run with these settings
 abbrev pub Runs : Threshold → Streams → ℕ → Type 0
-Runs settings s ended =
-    let given = running settings s.before s.after s.had_failed s.has_failed in
-    (Wrote given s.output s.output' ended ⊎ ((n : ℕ) × WroteFront given s.output s.output' n × (ended ≡ 1))) × Keeps s.errors s.errors'
+Runs settings s ended = EndsWith (running settings s.before s.after s.had_failed s.has_failed) s.output s.output' ended × Keeps s.errors s.errors'
 
 -- the help text on the output, and nothing was read
 abbrev pub Helps : Streams → ℕ → Type 0

@@ -1,8 +1,9 @@
 //! The program on the devices of its process, and on a thread with stack enough for a run.
 use crate::program::{NoWords, serve};
-use nn_engine::{Input, write_output};
+use nn_engine::{Input, Open, write_output};
 use nn_scenario::MAX_INPUT;
 use std::process::ExitCode;
+use std::sync::{Arc, Wait};
 use std::thread::{Builder, Threads};
 use std::{env, io};
 
@@ -23,21 +24,25 @@ const _: () = prove!(STACK / LEVEL >= 2 * (MAX_INPUT / LINE));
 /// Does what the words ask for that the program was started with, and answers the status that it is to end with.
 ///
 /// It waits for the thread that it starts, so that it returns only if that thread ends. A runtime lends its threads only
-/// where a program begins, so `main` hands it over twice.
-pub fn start(rt: &HostRuntime, threads: &impl Threads) -> ExitCode {
+/// where a program begins, so `main` hands it over twice, and once more for the threads of a run.
+pub fn start<T: Threads + Wait + Sync + Send + Drop + 'static>(
+    rt: &HostRuntime,
+    threads: &impl Threads,
+    workers: T,
+) -> ExitCode {
     let Ok(engine_rt) = rt.clone() else {
         return out_of_memory(rt);
     };
     let engine = Builder::new()
         .stack_size(STACK)
-        .spawn(threads, move || on_devices(&engine_rt));
+        .spawn(threads, move || on_devices(&engine_rt, &workers));
     match engine {
         Ok(thread) => ExitCode::from(thread.join(threads)),
         Err(_) => out_of_memory(rt),
     }
 }
 
-fn on_devices(rt: &HostRuntime) -> u8 {
+fn on_devices<T: Threads + Wait + Sync>(rt: &HostRuntime, threads: &T) -> u8 {
     let words = words(rt);
     let words = match &words {
         Ok(words) => Ok(words.as_slice()),
@@ -46,7 +51,19 @@ fn on_devices(rt: &HostRuntime) -> u8 {
     let mut input = Input::new(rt.reader());
     let mut output = io::writer(rt);
     let mut errors = rt.stderr();
-    serve(rt.alloc(), words, &mut input, &mut output, &mut errors)
+    let Ok(gate) = Arc::new(rt.alloc(), Open) else {
+        let _ = write_output(&mut output, b"fault 55\n");
+        return 1;
+    };
+    serve(
+        threads,
+        rt.alloc(),
+        words,
+        &mut input,
+        &mut output,
+        &mut errors,
+        gate,
+    )
 }
 
 // The words that the program was started with, its name first.
@@ -62,7 +79,8 @@ fn words(rt: &HostRuntime) -> Result<Vec<String>, NoWords> {
     Ok(words)
 }
 
-fn out_of_memory(rt: &HostRuntime) -> ExitCode {
+/// The line that memory ran out, on standard output, and its status.
+pub fn out_of_memory(rt: &HostRuntime) -> ExitCode {
     let mut writer = io::writer(rt);
     let _ = write_output(&mut writer, b"fault 55\n");
     ExitCode::from(1)

@@ -1,8 +1,8 @@
 //! What the command line asks for.
-ghost use Rattle.std.specs.Prelude.{◌≡◌, ◌⊎◌, false, IfOk, IfErr, IfSome, IfNone, codes, map, string_bytes};
+ghost use Rattle.std.specs.Prelude.{◌≡◌, ◌≤◌, ◌⊎◌, ℕ, false, IfOk, IfErr, IfSome, IfNone, codes, map, string_bytes};
 ghost use Rattle.clap.specs.Words.{app_of, found_of, kind_of, one_text, rule_of};
 ghost use Rattle.nn_types.specs.Settings.{Threshold};
-ghost use Rattle.nn_command.specs.Options.{value_rule, command_line, IsNumberOf, AreReadAs};
+ghost use Rattle.nn_command.specs.Options.{value_rule, flag_rule, settings_line, command_line, IsNumberOf, IsCapacity, AreReadAs};
 ghost use Rattle.nn_command.specs.Program.{AskToRun, WhyNot};
 
 use clap::builder::ValueParser;
@@ -21,9 +21,25 @@ const PERMILLE: &str =
 
 const MIN: &str = "How many live replicas make a block safe, 1 to 512.";
 
-/// The options that words ask for, of which the first is the program's name.
-pub fn parse<'a>(alloc: Global, words: &'a [String]) -> Result<Options, Error>
-    ensures ok { IfOk result (λ options. AskToRun (map string_bytes words.entry.now) options.settings) }
+const THREADS: &str =
+    "Lets each DataNode report from a thread of its own. What is printed is the same.";
+
+const CAPACITY: &str = "How many reports of a DataNode wait at a time with --threads, 1 to 1024.";
+
+/// What the command line asks for.
+#[derive(Clone, Copy, Debug, PartialEq, Eq)]
+pub struct Request {
+    pub options: Options,
+    /// Whether each DataNode reports from a thread of its own.
+    pub threads: bool,
+    /// How many reports a lane holds at a time, 1 to 1024.
+    pub capacity: u16,
+}
+
+/// What words ask for, of which the first is the program's name.
+pub fn parse<'a>(alloc: Global, words: &'a [String]) -> Result<Request, Error>
+    ensures ok { IfOk result (λ request. AskToRun (map string_bytes words.entry.now) request.options.settings) }
+    ensures capacity { IfOk result (λ request. (1 ≤ request.capacity) × (request.capacity ≤ 1024)) }
     ensures err { IfErr result (λ error. WhyNot (map string_bytes words.entry.now) (kind_of error)) }
 {
     let Ok(line) = command(alloc) else {
@@ -33,10 +49,10 @@ pub fn parse<'a>(alloc: Global, words: &'a [String]) -> Result<Options, Error>
         Ok(matches) => matches,
         Err(error) => return Err(error),
     };
-    let Some(options) = matched(&matches) else {
+    let Some(request) = matched(&matches) else {
         return Err(out_of_range(alloc));
     };
-    Ok(options)
+    Ok(request)
 }
 
 // A number is out of its range. The parsers of the two arguments refuse such words before.
@@ -52,9 +68,20 @@ fn out_of_range(alloc: Global) -> Error
     error
 }
 
-// `--permille N` and `--min N`.
+// `--permille N`, `--min N`, `--capacity N` and `--threads`.
 fn command<'a>(alloc: Global) -> Result<Command<'a>, Error>
     ensures { IfOk result (λ command. app_of command ≡ command_line) }
+{
+    let capacity = value_parser!(u16).range(1..=1024);
+    let command = settings_command(alloc)?
+        .arg(valued(alloc, "capacity", capacity, "64", CAPACITY))?
+        .arg(flag(alloc, "threads", THREADS))?;
+    Ok(command)
+}
+
+// `--permille N` and `--min N`.
+fn settings_command<'a>(alloc: Global) -> Result<Command<'a>, Error>
+    ensures { IfOk result (λ command. app_of command ≡ settings_line) }
 {
     let permille = value_parser!(u16).range(0..=1000);
     let min = value_parser!(u16).range(1..=512);
@@ -63,6 +90,17 @@ fn command<'a>(alloc: Global) -> Result<Command<'a>, Error>
         .arg(valued(alloc, "permille", permille, "999", PERMILLE))?
         .arg(valued(alloc, "min", min, "1", MIN))?;
     Ok(command)
+}
+
+// `--NAME`.
+fn flag<'a>(alloc: Global, name: &'a str, help: &'a str) -> Arg<'a>
+    ensures rule { rule_of result ≡ flag_rule name.entry.now }
+    ensures own { result.global ≡ false }
+{
+    Arg::new(alloc, name)
+        .long(name)
+        .action(ArgAction::SetTrue)
+        .help(help)
 }
 
 // `--NAME VALUE`.
@@ -84,10 +122,11 @@ fn valued<'a>(
         .help(help)
 }
 
-// The options that were matched, where they are two numbers in range.
-fn matched(matches: &ArgMatches<'_>) -> Option<Options>
-    ensures some { IfSome result (λ options. AreReadAs (one_text (found_of matches.now) (codes "permille")) (one_text (found_of matches.now) (codes "min")) options.settings) }
-    ensures none { IfNone result ((settings : Threshold) → AreReadAs (one_text (found_of matches.now) (codes "permille")) (one_text (found_of matches.now) (codes "min")) settings → ⊥) }
+// What was matched, where the numbers are in range.
+fn matched(matches: &ArgMatches<'_>) -> Option<Request>
+    ensures some { IfSome result (λ request. AreReadAs (one_text (found_of matches.now) (codes "permille")) (one_text (found_of matches.now) (codes "min")) (one_text (found_of matches.now) (codes "capacity")) request.options.settings) }
+    ensures capacity { IfSome result (λ request. (1 ≤ request.capacity) × (request.capacity ≤ 1024)) }
+    ensures none { IfNone result ((settings : Threshold) → AreReadAs (one_text (found_of matches.now) (codes "permille")) (one_text (found_of matches.now) (codes "min")) (one_text (found_of matches.now) (codes "capacity")) settings → ⊥) }
 {
     let Some(permille) = number(matches, "permille") else {
         return None;
@@ -95,10 +134,31 @@ fn matched(matches: &ArgMatches<'_>) -> Option<Options>
     let Some(min) = number(matches, "min") else {
         return None;
     };
+    let Some(capacity) = capacity(matches) else {
+        return None;
+    };
     let Some(settings) = Settings::new(permille, min) else {
         return None;
     };
-    Some(Options { settings })
+    Some(Request {
+        options: Options { settings },
+        threads: matches.get_flag("threads"),
+        capacity,
+    })
+}
+
+// The number under `--capacity`.
+fn capacity(matches: &ArgMatches<'_>) -> Option<u16>
+    ensures some { IfSome result (λ n. IsCapacity (one_text (found_of matches.now) (codes "capacity")) n) }
+    ensures none { IfNone result ((n : ℕ) → IsCapacity (one_text (found_of matches.now) (codes "capacity")) n → ⊥) }
+{
+    let Some(n) = number(matches, "capacity") else {
+        return None;
+    };
+    if n < 1 || n > 1024 {
+        return None;
+    }
+    Some(n)
 }
 
 // The number that was matched under the name.

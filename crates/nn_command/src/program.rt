@@ -1,14 +1,18 @@
 //! What the program does for the words that it is started with, over any reader and writers.
-ghost use Rattle.std.specs.Prelude.{◌≡◌, ℕ, List, None, false, IfOk, IfErr, map, string_bytes};
+ghost use Rattle.std.specs.Prelude.{◌≡◌, ◌≤◌, ℕ, List, None, false, IfOk, IfErr, map, string_bytes};
 ghost use Rattle.std.specs.Io.KnownBytes.{Appends};
 ghost use Rattle.clap.specs.Words.{kind_of};
-ghost use Rattle.nn_command.specs.Program.{Serves, ServesNone, Tells, Writes, memory_line, streams};
+ghost use Rattle.nn_engine.specs.Run.{running};
+ghost use Rattle.nn_command.specs.Program.{EndsWith, Serves, ServesNone, Tells, Writes, memory_line, streams};
 
 use crate::options;
+use crate::options::Request;
 use clap::error::ErrorKind;
-use nn_engine::{Input, run, write_output};
+use nn_engine::{Gate, Input, Options, Threaded, run, run_threads, write_output};
 use std::alloc::Global;
 use std::io::{Read, Write};
+use std::sync::{Arc, Wait};
+use std::thread::Threads;
 
 /// The status after a fault line, and after a write that failed.
 const FAILED: u8 = 1;
@@ -29,12 +33,17 @@ pub enum NoWords {
 /// Does what the words ask for, of which the first is the program's name, and answers the status that the process is
 /// to end with: 0 after a listing or the help, 1 after a fault line or a write that failed, 2 after words that are
 /// refused, which is told on `errors`.
-pub fn serve<R: Read, W: Write, E: Write>(
+///
+/// With `--threads` each DataNode reports from a thread of its own, which passes the gate first: it waits for as long as
+/// the gate does. What is printed is the same.
+pub fn serve<R: Read, W: Write, E: Write, G: Gate + Send + Sync + Drop, T: Threads + Wait + Sync>(
+    rt: &T,
     alloc: Global,
     words: Result<&[String], NoWords>,
     input: &mut Input<R>,
     output: &mut W,
     errors: &mut E,
+    gate: Arc<G, Global>,
 ) -> u8
     ensures some { IfOk words.entry (λ words. Serves (map string_bytes words.now)
         (streams (R.remaining input.old.reader) (R.remaining input.new.reader) input.old.failed input.new.failed
@@ -48,12 +57,51 @@ pub fn serve<R: Read, W: Write, E: Write>(
         Err(NoWords::NotText) => return refuse(errors, NOT_TEXT),
         Err(NoWords::OutOfMemory) => return out_of_memory(output),
     };
-    let options = match options::parse(alloc, words) {
-        Ok(options) => options,
+    let request = match options::parse(alloc, words) {
+        Ok(request) => request,
         Err(error) => return tell(alloc, &error, output, errors),
     };
-    match run(alloc, &options, input, output) {
+    run_as_asked(rt, alloc, &request, input, output, gate)
+}
+
+// A run, with threads or without.
+fn run_as_asked<R: Read, W: Write, G: Gate + Send + Sync + Drop, T: Threads + Wait + Sync>(
+    rt: &T,
+    alloc: Global,
+    request: &Request,
+    input: &mut Input<R>,
+    output: &mut W,
+    gate: Arc<G, Global>,
+) -> u8
+    requires { (1 ≤ request.now.capacity) × (request.now.capacity ≤ 1024) }
+    ensures { EndsWith (running request.now.options.settings (R.remaining input.old.reader) (R.remaining input.new.reader) input.old.failed input.new.failed)
+        (W.contents output.old) (W.contents output.new) result }
+{
+    if !request.threads {
+        return run_plain(alloc, &request.options, input, output);
+    }
+    let asked = Threaded {
+        settings: request.options.settings,
+        capacity: usize::from(request.capacity),
+        gate,
+    };
+    match run_threads(rt, alloc, &asked, input, output) {
         Ok(end) => end.status,
+        Err(_) => FAILED,
+    }
+}
+
+fn run_plain<R: Read, W: Write>(
+    alloc: Global,
+    options: &Options,
+    input: &mut Input<R>,
+    output: &mut W,
+) -> u8
+    ensures { EndsWith (running options.now.settings (R.remaining input.old.reader) (R.remaining input.new.reader) input.old.failed input.new.failed)
+        (W.contents output.old) (W.contents output.new) result }
+{
+    match run(alloc, options, input, output) {
+        Ok(run_end) => run_end.status,
         Err(_) => FAILED,
     }
 }

@@ -3,3 +3,5 @@ pub mod LogEnds
 pub mod FollowLemmas
 pub mod TellLemmas
 pub mod WriteLemmas
+pub mod ListLemmas
+pub mod DrivenLemmas

@@ -1,12 +1,11 @@
 -- The walk over segments ends with the log that they hold.
-use Rattle.std.proofs.Common.{◌≡◌, ℕ, ◌+◌, Bool, true, false, cond, List, [], ◌∷◌, ◌++◌, length, Option, Some, None, Result, Ok, Err, refl, sym, ap, subst, ◌∙◌, arith}
+use Rattle.std.proofs.Common.{◌≡◌, ℕ, ◌+◌, true, false, cond, List, [], ◌∷◌, ◌++◌, length, Some, None, Result, Ok, Err, refl, sym, ap, subst, ◌∙◌, arith}
 use Rattle.std.specs.Prelude.{map, flat_map, nat_lt}
 use Rattle.std.proofs.lemmas.List.{length-append}
 use Rattle.nn_types.specs.declared.tx.Tx.{Tx}
-use Rattle.nn_types.specs.declared.edit_fault.EditFault.{EditFault}
 use Rattle.nn_model.specs.Namespace.{Namespace}
 use Rattle.nn_model.specs.Apply.{refusal, effect, outcome}
-use Rattle.nn_model.specs.Log.{namespace_after, IsLog, counted, CountsUp, log_of}
+use Rattle.nn_model.specs.Log.{namespace_after, IsLog, counted, CountsUp}
 use Rattle.nn_model.proofs.Logs.{counted_append, counts_up, appended_log, namespace_of_appended}
 use Rattle.nn_segment.specs.Segment.{Segment, first_txid}
 use Rattle.nn_segment.specs.LogEnd.{disorder, Stop, LogEnd, go_on, end_of_txs, and_then, end_of_log}

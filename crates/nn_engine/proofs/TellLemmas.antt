@@ -1,5 +1,5 @@
 -- A standby that has arrived and flushed tells its tables.
-use Rattle.std.proofs.Common.{◌≡◌, ℕ, List, ◌++◌, Result, sym, ap, ◌∙◌}
+use Rattle.std.proofs.Common.{◌≡◌, ℕ, List, ◌++◌, Result, Ok, sym, ap, ◌∙◌}
 use Rattle.nn_types.specs.declared.tx.Tx.{Tx}
 use Rattle.nn_model.specs.Counts.{SafeMode, safe_mode_of}
 use Rattle.nn_model.specs.Lanes.{Lanes}
@@ -23,22 +23,22 @@ abbrev pub StandsFlushed : Contents → Contents → Type 0
 StandsFlushed x y = (start : Namespace) (base : ℕ) (txs : List Tx) (lanes : Lanes) → StandsBy start base txs lanes (standby_of x)
     → Stands start base txs lanes (standby_of y) × IsWhole start txs lanes y.history × ShowsPicture y.namespace lanes (tables_of (standby_of y))
 
-module _ (x y : Contents) (lanes : Lanes) (whole : Result LogEnd Stop) (mode : SafeMode) where
-  is_picture : StandsFlushed x y → Shows y.namespace y.table → mode ≡ safe_mode_of y.permille y.table.min y.namespace (replica_at y.table) → HasArrived whole lanes x
-      → IsPicture y.permille y.table.min y.namespace lanes y.table mode
-  is_picture flush shows counts h =
-      let picture = (flush root_alone 0 h.txs lanes h.stands).2 in
-      record { shows = shows; replicas = picture.replicas; orders = picture.orders; counts = counts }
+-- the text before the tables is the listing, and the tables follow it
+pub tables_told : (y : Contents) (lanes : Lanes) (mode : SafeMode) (before after : List ℕ) → Shows y.namespace y.table
+    → mode ≡ safe_mode_of y.permille y.table.min y.namespace (replica_at y.table) → before ≡ listing_text y.last y.namespace
+    → ((permille min : ℕ) (n : Namespace) (lanes : Lanes) → IsPicture permille min n lanes y.table mode → after ≡ before ++ tables_text permille min n lanes)
+    → ShowsPicture y.namespace lanes (tables_of (standby_of y))
+    → ◌≡◌ {A = Printed} (record { text = after; status = 0 }) (after_log (record { permille = y.permille; min = y.table.min }) lanes (Ok (record { last = y.last; namespace = y.namespace })))
+tables_told y lanes mode before after shows counts listed pictured picture =
+    ap (λ text. record { text = text; status = 0 })
+    (pictured y.permille y.table.min y.namespace lanes (record { shows = shows; replicas = picture.replicas; orders = picture.orders; counts = counts })
+    ∙ ap (λ text. text ++ tables_text y.permille y.table.min y.namespace lanes) listed)
 
-  -- the text before the tables is the listing, and the tables follow it
-  pub tables_told : (before after : List ℕ) → standby_of y ≡ flushed (standby_of x) → KeepsSettings x y → StandsFlushed x y → Shows y.namespace y.table
-      → mode ≡ safe_mode_of y.permille y.table.min y.namespace (replica_at y.table) → before ≡ listing_text y.last y.namespace
-      → ((permille min : ℕ) (n : Namespace) (lanes : Lanes) → IsPicture permille min n lanes y.table mode → after ≡ before ++ tables_text permille min n lanes)
-      → HasArrived whole lanes x → ◌≡◌ {A = Printed} (record { text = after; status = 0 }) (after_log (record { permille = x.permille; min = x.table.min }) lanes whole)
-  tables_told before after done settings flush shows counts listed pictured h =
-      let all : after ≡ listing_text x.last x.namespace ++ tables_text x.permille x.table.min x.namespace lanes =
-      pictured y.permille y.table.min y.namespace lanes (is_picture flush shows counts h)
-      ∙ ap (λ text. text ++ tables_text y.permille y.table.min y.namespace lanes) listed
-      ∙ (λ j. listing_text (done j).last (done j).namespace ++ tables_text (settings.permille j) (settings.min j) (done j).namespace lanes) in
-      ap (λ text. record { text = text; status = 0 }) all
-      ∙ ap (after_log (record { permille = x.permille; min = x.table.min }) lanes) (sym h.ends)
+-- after the flush it is told as before
+pub flushed_told : (x y : Contents) (lanes : Lanes) (whole : Result LogEnd Stop) (p : Printed) → standby_of y ≡ flushed (standby_of x) → KeepsSettings x y → StandsFlushed x y
+    → ((lanes : Lanes) → ShowsPicture y.namespace lanes (tables_of (standby_of y)) → p ≡ after_log (record { permille = y.permille; min = y.table.min }) lanes (Ok (record { last = y.last; namespace = y.namespace })))
+    → HasArrived whole lanes x → p ≡ after_log (record { permille = x.permille; min = x.table.min }) lanes whole
+flushed_told x y lanes whole p done settings flush told h =
+    told lanes (flush root_alone 0 h.txs lanes h.stands).2
+    ∙ (λ j. after_log (record { permille = settings.permille j; min = settings.min j }) lanes (Ok (record { last = (done j).last; namespace = (done j).namespace })))
+    ∙ ap (after_log (record { permille = x.permille; min = x.table.min }) lanes) (sym h.ends)

@@ -7,3 +7,4 @@ pub mod Input
 pub mod Run
 pub mod RunRows
 pub mod Shown
+pub mod Listed

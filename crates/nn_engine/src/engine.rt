@@ -1,10 +1,13 @@
 //! A run: from a reader's bytes to a writer's.
-ghost use Rattle.std.specs.Prelude.{◌≡◌, ◌≢◌, ◌≤◌, length, take, codes, Result, IfOk, IfErr};
+ghost use Rattle.std.specs.Prelude.{◌≡◌, ◌≢◌, ◌≤◌, length, take, codes, Result, Ok, IfOk, IfErr};
 ghost use Rattle.std.specs.Io.KnownBytes.{Appends};
 ghost use Rattle.nn_types.specs.Settings.{Threshold};
 ghost use Rattle.nn_edits.specs.Fault.{number_of as line_number_of};
 ghost use Rattle.nn_model.specs.Lanes.{Lanes};
 ghost use Rattle.nn_model.specs.Namespace.{root_alone};
+ghost use Rattle.nn_model.specs.Picture.{ShowsPicture};
+ghost use Rattle.nn_model.specs.Stands.{tables_of};
+ghost use Rattle.nn_shadow.specs.Contents.{standby_of};
 ghost use Rattle.nn_segment.specs.Fault.{number_of as segment_number_of};
 ghost use Rattle.nn_scenario.specs.Cut.{segments_from};
 ghost use Rattle.nn_engine.specs.Follow.{serving, HasArrived, StopsAs};
@@ -38,7 +41,7 @@ pub struct Options {
 const UNREADABLE: &[u8] = b"fault 8\n";
 
 /// The line of a run for which memory was refused.
-const OUT_OF_MEMORY: &[u8] = b"fault 55\n";
+pub(crate) const OUT_OF_MEMORY: &[u8] = b"fault 55\n";
 
 /// A run's text, and its status.
 #[derive(Drop)]
@@ -83,7 +86,7 @@ pub fn run<R: Read, W: Write>(
 }
 
 // The line of an input that was not read.
-fn unread_line(fault: InputFault) -> &'static [u8]
+pub(crate) fn unread_line(fault: InputFault) -> &'static [u8]
     ensures { result.now ≡ unread_line fault }
 {
     match fault {
@@ -92,7 +95,7 @@ fn unread_line(fault: InputFault) -> &'static [u8]
     }
 }
 
-fn finish<W: Write>(writer: &mut W, text: &[u8], status: u8) -> Result<RunEnd, RunFault>
+pub(crate) fn finish<W: Write>(writer: &mut W, text: &[u8], status: u8) -> Result<RunEnd, RunFault>
     ensures ok { IfOk result (λ end. Appends (W.contents writer.old) (W.contents writer.new) text.now
         × (end.status ≡ status)) }
     ensures err { IfErr result (λ e. (e.written ≤ length text.now)
@@ -118,7 +121,7 @@ pub fn output_of(alloc: Global, settings: Settings, input: Vec<u8>) -> Result<Ou
     }
 }
 
-fn output_of_bad(alloc: Global, bad: BadLine) -> Result<Output, AllocError>
+pub(crate) fn output_of_bad(alloc: Global, bad: BadLine) -> Result<Output, AllocError>
     ensures { IfOk result (λ o. (bad.fault ≢ LineFault.OutOfMemory)
         × (shown o ≡ fault_at (codes " line ") (line_number_of bad.fault) bad.line)) }
 {
@@ -150,7 +153,7 @@ fn output_of_scenario(
     }
 }
 
-fn output_of_bad_segment(alloc: Global, bad: BadSegment) -> Result<Output, AllocError>
+pub(crate) fn output_of_bad_segment(alloc: Global, bad: BadSegment) -> Result<Output, AllocError>
     ensures { IfOk result (λ o. (bad.fault ≢ SegmentFault.OutOfMemory)
         × (shown o ≡ fault_at (codes " segment ") (segment_number_of bad.fault) bad.segment)) }
 {
@@ -183,6 +186,14 @@ fn output_of_standby(alloc: Global, standby: Shadow) -> Result<Output, AllocErro
             FlushFault::Stopped(_) => unreachable!(),
         }
     }
+    tell(alloc, standby)
+}
+
+// The listing and the tables of a standby that has flushed.
+pub(crate) fn tell(alloc: Global, standby: Shadow) -> Result<Output, AllocError>
+    ensures { IfOk result (λ o. (lanes : Lanes) → ShowsPicture standby.namespace lanes (tables_of (standby_of standby))
+        → shown o ≡ after_log (record { permille = standby.permille; min = standby.table.min }) lanes (Ok (record { last = standby.last; namespace = standby.namespace }))) }
+{
     standby.consistent();
     let mut text = listing(alloc, standby.namespace(), standby.last_txid())?;
     push_tables(alloc, &mut text, standby.replicas(), standby.safe_mode())?;
@@ -191,7 +202,12 @@ fn output_of_standby(alloc: Global, standby: Shadow) -> Result<Output, AllocErro
     Ok(Output { text, status: 0 })
 }
 
-fn fault_output(alloc: Global, number: u8, place: &str, n: u64) -> Result<Output, AllocError>
+pub(crate) fn fault_output(
+    alloc: Global,
+    number: u8,
+    place: &str,
+    n: u64,
+) -> Result<Output, AllocError>
     ensures { IfOk result (λ o. shown o ≡ fault_at place.now number n) }
 {
     let text = format!(in alloc; "fault {number}{place}{n}\n")?;

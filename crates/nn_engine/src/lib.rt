@@ -7,7 +7,9 @@ mod engine;
 mod follow;
 mod laws;
 mod log;
+mod threads;
 
 pub use device::{Input, InputFault, ReadFailed, RunFault, read_input, write_output};
 pub use engine::{Options, Output, RunEnd, output_of, run};
 pub use laws::a_walk_ends_with_the_log;
+pub use threads::{Gate, Open, Threaded, run_threads};

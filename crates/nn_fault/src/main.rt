@@ -4,5 +4,8 @@
 use std::process::ExitCode;
 
 fn main(rt: HostRuntime) -> ExitCode {
-    nn_command::start(&rt, &rt)
+    let Ok(workers) = rt.clone() else {
+        return nn_command::out_of_memory(&rt);
+    };
+    nn_command::start(&rt, &rt, workers)
 }

@@ -1,4 +1,4 @@
-use Rattle.std.proofs.Common.{◌≡◌, ◌∙◌, [], ap, sym, inl, inr, map, string_bytes, rules}
+use Rattle.std.proofs.Common.{◌≡◌, ◌∙◌, [], ap, sym, map, string_bytes}
 use Rattle.clap.specs.Words.{App, app_of, fault_of, found_of, is_simple, is_simple_and_free, matches_of, rows_of}
 use Rattle.nn_command.specs.Options.{command_line}
 use Rattle.nn_command.proofs.Words.{line_is_simple, line_is_free, asked_as_found, why_not, out_of_range}
@@ -12,7 +12,7 @@ returns-clause-ok c =
     let rows : rows_of (found_of c.in-Ok-try_get_matches_from.matches) ≡ matches_of command_line words =
     (c.in-Ok-try_get_matches_from.ensures.matches (ap is_simple line ∙ line_is_simple)).0 ∙ ap (λ (a : App). matches_of a words) line in (
       ap (λ (a : App). fault_of a words) (sym line) ∙ none,
-      asked_as_found words (found_of c.in-Ok-try_get_matches_from.matches) c.in-Some.options.settings rows c.in-Some.ensures.some,
+      asked_as_found words (found_of c.in-Ok-try_get_matches_from.matches) c.in-Some.request.options.settings rows c.in-Some.ensures.some,
     )
 
 pub returns-in-Err-clause-err : goal.returns-in-Err-clause-err

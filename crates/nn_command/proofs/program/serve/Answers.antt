@@ -1,4 +1,4 @@
-use Rattle.std.proofs.Common.{refl, inl, inr, map, string_bytes}
+use Rattle.std.proofs.Common.{inl, map, string_bytes}
 use Rattle.std.proofs.KnownBytes.{Keeps-refl}
 use Rattle.clap.specs.Words.{kind_of}
 use Rattle.nn_command.proofs.Served.{told_serves}
@@ -8,6 +8,6 @@ pub returns-in-Err-clause-some : goal.returns-in-Err-clause-some
 returns-in-Err-clause-some g c =
     rw c.in-Ok.is (told_serves (map string_bytes c.in-Ok.words.now) (kind_of c.in-Err.error) _ _ _ _ _ _ _ _ _ c.in-Err.ensures.err (Keeps-refl _) c.tell.ensures)
 
-pub returns-in-Err-run-clause-some : goal.returns-in-Err-run-clause-some
-returns-in-Err-run-clause-some g c =
-    rw c.in-Ok.is (inl (c.in-Ok-parse.options.settings, c.in-Ok-parse.ensures.ok, (inr (c.in-Err-run.field-0.written, c.in-Err-run.ensures.failed, refl), Keeps-refl _)))
+pub returns-clause-some : goal.returns-clause-some
+returns-clause-some g c =
+    rw c.in-Ok.is (inl (c.in-Ok-parse.request.options.settings, c.in-Ok-parse.ensures.ok, (c.run_as_asked.ensures, Keeps-refl _)))

@@ -1,15 +1,9 @@
-use Rattle.std.proofs.Common.{◌∙◌}
-use Rattle.std.specs.Prelude.{string_bytes}
-use Rattle.nn_shadow.specs.SafeMode.{counts_of}
-use Rattle.nn_listing.specs.Listing.{listing_text}
-use Rattle.nn_engine.proofs.TellLemmas.{tables_told}
+use Rattle.std.proofs.lemmas.Result.{IfOk-weaker}
+use Rattle.nn_engine.specs.Shown.{shown}
+use Rattle.nn_engine.proofs.TellLemmas.{flushed_told}
 use Rattle.nn_engine.proofs.engine.output_of_standby.Goals as goal
 
 pub returns : goal.returns
-returns c = λ lanes whole h.
+returns c =
     let flush = c.in_default.ensures in
-    tables_told c.args.standby c.flush.new.self lanes whole (counts_of c.safe_mode.result) (string_bytes c.in_ok-text.text) (string_bytes c.push_tables.new.text)
-    flush.ok flush.settings flush.stands c.consistent.ensures.shows c.safe_mode.ensures
-    (c.in_ok-text.ensures ∙ (λ j. listing_text (c.last_txid.ensures.last j) (c.namespace.ensures j)))
-    (λ permille min n ls picture. c.in_ok-push_tables.ensures.pictured permille min n ls (rw c.replicas.ensures picture))
-    h
+    IfOk-weaker c.tell.result _ _ (λ o told lanes whole h. flushed_told c.args.standby c.flush.new.self lanes whole (shown o) flush.ok flush.settings flush.stands told h) c.tell.ensures

@@ -1,0 +1,147 @@
+//! Drives over a log of two marks: all reports are of a block that it does not name, and wait for the flush.
+use crate::source::{Shared, Telling, Waiting, report};
+use nn_drive::{drive, with_lanes};
+use nn_segment::{MemorySource, Parsed, SegmentSource};
+use nn_tailer::{Active, Standby};
+use nn_types::Settings;
+use std::alloc::Global;
+use std::sync::atomic::Ordering;
+use std::sync::{Arc, Wait};
+use std::test::Fail;
+use std::thread::Threads;
+
+const TWO_MARKS: &str =
+    "{\"op\":\"OP_START_LOG_SEGMENT\",\"txid\":1}\n{\"op\":\"OP_END_LOG_SEGMENT\",\"txid\":2}\n";
+
+fn log(alloc: Global) -> Result<Vec<Parsed>, Fail> {
+    let mut bytes = Vec::new(alloc);
+    bytes.extend_from_slice(TWO_MARKS.as_bytes())?;
+    let name = String::from_str(alloc, "edits_0000000000000000001-0000000000000000002")?;
+    let segment = Parsed::of(alloc, name, bytes)?;
+    let mut segments = Vec::new(alloc);
+    let Ok(()) = segments.push(segment) else {
+        return Err(Fail::new("out of memory"));
+    };
+    Ok(segments)
+}
+
+// So many sources with so many reports each, which wait until so many came.
+fn sources(
+    alloc: Global,
+    shared: &Arc<Shared, Global>,
+    many: u64,
+    counts: u64,
+    wanted: u64,
+    reports: u64,
+) -> Result<Vec<Waiting>, Fail> {
+    let mut sources = Vec::new(alloc);
+    for _ in 0..many {
+        let source = Waiting {
+            shared: Arc::try_clone(shared)?,
+            counts,
+            wanted,
+            report: report()?,
+            left: reports,
+            has_come: false,
+        };
+        let Ok(()) = sources.push(source) else {
+            return Err(Fail::new("out of memory"));
+        };
+    }
+    Ok(sources)
+}
+
+// What a drive of these comes to: the promoted standby in figures, or the fault's number. A lane holds two reports.
+fn driven<T: SegmentSource + Drop, R: Threads + Wait + Sync>(
+    rt: &R,
+    alloc: Global,
+    source: T,
+    reports: Vec<Waiting>,
+) -> Result<Result<Active, u8>, Fail> {
+    if reports.len() > 256 {
+        return Err(Fail::new("too many"));
+    }
+    let Ok((workers, ends)) = with_lanes(alloc, reports, 2) else {
+        return Err(Fail::new("out of memory"));
+    };
+    if ends.is_empty() || ends.len() > 256 {
+        return Err(Fail::new("no lanes"));
+    }
+    let Some(settings) = Settings::new(999, 1) else {
+        return Err(Fail::new("no settings"));
+    };
+    let Ok(standby) = Standby::new(alloc, ends, settings) else {
+        return Err(Fail::new("out of memory"));
+    };
+    match drive(rt, alloc, standby, source, workers) {
+        Ok((_shadow, active)) => Ok(Ok(active)),
+        Err(fault) => Ok(Err(fault.number())),
+    }
+}
+
+fn flushed(flushed: u64) -> Result<Active, u8> {
+    Ok(Active { last: 2, flushed })
+}
+
+// Each source waits until all three came: they are asked at once, and not one worker after the other.
+#[test]
+fn at_once(rt: HostRuntime) -> Result<(), Fail> {
+    let shared = Shared::new(rt.alloc())?;
+    let reports = sources(rt.alloc(), &shared, 3, 1, 3, 1)?;
+    let source = MemorySource::new(log(rt.alloc())?);
+    let active = driven(&rt, rt.alloc(), source, reports)?;
+    assert_eq!(rt; active, flushed(3));
+    assert_eq!(rt; shared.vain.load(Ordering::SeqCst), 0);
+    Ok(())
+}
+
+// Each source waits until the log was asked: the standby steps while there are reports to come. Each has more reports
+// than its lane holds.
+#[test]
+fn gated_reports(rt: HostRuntime) -> Result<(), Fail> {
+    let shared = Shared::new(rt.alloc())?;
+    let reports = sources(rt.alloc(), &shared, 2, 0, 1, 5)?;
+    let source = telling(rt.alloc(), &shared, u64::MAX)?;
+    let active = driven(&rt, rt.alloc(), source, reports)?;
+    assert_eq!(rt; active, flushed(10));
+    assert_eq!(rt; shared.vain.load(Ordering::SeqCst), 0);
+    Ok(())
+}
+
+fn telling(alloc: Global, shared: &Arc<Shared, Global>, fails_at: u64) -> Result<Telling, Fail> {
+    Ok(Telling {
+        shared: Arc::try_clone(shared)?,
+        segments: log(alloc)?.into_iter(),
+        fails_at,
+        calls: 0,
+        has_failed: false,
+        over: false,
+    })
+}
+
+// As many workers as there can be: none is dropped, and each is asked from one thread.
+#[test]
+fn workers_256(rt: HostRuntime) -> Result<(), Fail> {
+    let shared = Shared::new(rt.alloc())?;
+    let reports = sources(rt.alloc(), &shared, 256, 1, 256, 1)?;
+    let source = MemorySource::new(log(rt.alloc())?);
+    let active = driven(&rt, rt.alloc(), source, reports)?;
+    assert_eq!(rt; active, flushed(256));
+    assert_eq!(rt; shared.came.load(Ordering::SeqCst), 256);
+    assert_eq!(rt; shared.vain.load(Ordering::SeqCst), 0);
+    Ok(())
+}
+
+// A source that fails at each call in turn, up to the end: the drive ends with 54, and no thread is left.
+#[test]
+fn failing_source(rt: HostRuntime) -> Result<(), Fail> {
+    for fails_at in 0..2u64 {
+        let shared = Shared::new(rt.alloc())?;
+        let reports = sources(rt.alloc(), &shared, 2, 0, 1, 5)?;
+        let source = telling(rt.alloc(), &shared, fails_at)?;
+        let active = driven(&rt, rt.alloc(), source, reports)?;
+        assert_eq!(rt; active, Err(54), "failing after {fails_at}");
+        assert_eq!(rt; Arc::strong_count(&shared), 1);
+    }
+    Ok(())
+}

@@ -1,0 +1,184 @@
+-- From a drive over reports in memory to the lanes of a scenario and the end of its log.
+use Rattle.std.proofs.Common.{◌≡◌, ℕ, zero, suc, ◌+◌, ◌<◌, ◌≤◌, ◌^◌, List, [], ◌∷◌, ◌++◌, length, map, get_or, true, false, Option, Some, None, Result, Ok, Err, refl, sym, ap, ◌∙◌, subst, arith, length-append, append-nil}
+use Rattle.std.specs.Prelude.{MatchOption, codes}
+use Rattle.std.specs.Iterator.{Yields}
+use Rattle.std.proofs.lemmas.List.{get_or_past}
+use Rattle.nn_types.specs.declared.report.Message.{Message}
+use Rattle.nn_types.specs.declared.report.Report.{Report}
+use Rattle.nn_types.specs.Settings.{Threshold}
+use Rattle.nn_model.specs.Lanes.{Lanes}
+use Rattle.nn_model.specs.Namespace.{root_alone}
+use Rattle.nn_model.specs.Picture.{ShowsPicture}
+use Rattle.nn_model.specs.Stands.{tables_of}
+use Rattle.nn_lane.specs.Ends.{Reporting, Taking, got_of}
+use Rattle.nn_lane.specs.declared.fault.Refusal.{Refusal}
+use Rattle.nn_lane.specs.declared.fault.Refusal.TheVariants.{Exhausted}
+use Rattle.nn_segment.specs.LogEnd.{end_of_log}
+use Rattle.nn_segment.specs.Segment.{Segment}
+use Rattle.nn_segment.specs.Source.{GivesNext}
+use Rattle.nn_segment.proofs.Asks.{in_order}
+use Rattle.nn_shadow.specs.Contents.{Contents, standby_of}
+use Rattle.nn_tailer.specs.Public.{IsNew}
+use Rattle.nn_tailer.specs.Tailing.{Tailer, by_node}
+use Rattle.nn_tailer.proofs.InOrder.{promoted_at_end, stopped_at}
+use Rattle.nn_drive.specs.Driven.{NotDriven, IsDriven, IsTaken}
+use Rattle.nn_drive.specs.NewLanes.{HaveLanes}
+use Rattle.nn_drive.specs.Reports.{next_message, sent_after, Reported}
+use Rattle.nn_drive.specs.declared.driving.DriveFault.{DriveFault}
+use Rattle.nn_drive.specs.declared.driving.DriveFault.TheVariants as drive
+use Rattle.nn_tailer.specs.declared.standby.Active.{Active}
+use Rattle.nn_engine.specs.Listed.{GivesReport, AreListed, MayEnd, TellsStop}
+use Rattle.nn_engine.specs.Output.{Printed, after_log, fault_at}
+
+-- ---- What a source in memory gave.
+
+gives_front : (all reports left : List Report) → Yields GivesReport all reports left → all ≡ reports ++ left
+gives_front all [] left y = y
+gives_front [] (r ∷ reports) left y = absurd (let q : Some r ≡ None = y.1.0 in cc)
+gives_front (a ∷ all) (r ∷ reports) left y =
+    let first : Some r ≡ Some a = y.1.0 in
+    let later : all ≡ reports ++ left = gives_front all reports left (let P : List Report → Type 0 = λ z. Yields GivesReport z reports left in subst P y.1.1 y.2) in
+    (λ j. (let e : a ≡ r = cc in e) j ∷ later j)
+
+none_left : (left : List Report) (t : List Report) → GivesReport left None t → left ≡ []
+none_left [] t h = refl
+none_left (r ∷ left) t h = absurd (let q : None ≡ Some r = h.0 in cc)
+
+one_left : (left : List Report) (x : Report) (t : List Report) → GivesReport left (Some x) t → 1 ≤ length left
+one_left [] x t h = absurd (let q : Some x ≡ None = h.0 in cc)
+one_left (r ∷ left) x t h = omega arith
+
+length_sent : (dn : ℕ) (sent : List Message) (reports : List Report) → length (sent_after dn sent reports) ≡ length sent + length reports
+length_sent dn sent [] = omega arith
+length_sent dn sent (r ∷ reports) =
+    let more = length_sent dn (sent ++ next_message dn sent r ∷ []) reports in
+    let one = length-append sent (next_message dn sent r ∷ []) in
+    omega (arith, more, one)
+
+-- a list that is no longer than a lane carries is sent whole
+all_sent : (all : List Report) (r u : Reporting) (t : List Report) (dn : ℕ) (answer : Result ℕ Refusal) → r.sent ≡ [] → r.lane.node ≡ dn → length all ≤ 2 ^ 62
+    → Reported GivesReport all r t u answer → u.sent ≡ sent_after dn [] all
+all_sent all r u t dn (Ok n) none node few h =
+    let whole : all ≡ h.0 = gives_front all h.0 h.2.0 h.2.1 ∙ ap (λ z. h.0 ++ z) (none_left h.2.0 t (subst (λ o. GivesReport h.2.0 o t) h.4.0 h.2.2)) ∙ append-nil h.0 in
+    h.3 ∙ (λ j. sent_after (node j) (none j) (sym whole j))
+all_sent all r u t dn (Err e) none node few h = by_last h.1 h.2.2 h.4
+  where
+    by_last : (last : Option Report) → GivesReport h.2.0 last t → MatchOption last ⊥ (λ x. (e ≡ Exhausted (next_message r.lane.node u.sent x)) × (length u.sent ≡ 2 ^ 62)) → u.sent ≡ sent_after dn [] all
+    by_last None g m = absurd m
+    by_last (Some x) g m =
+        let front = ap length (gives_front all h.0 h.2.0 h.2.1) in
+        let sum = length-append h.0 h.2.0 in
+        let sent = ap length h.3 ∙ length_sent r.lane.node r.sent h.0 in
+        let begun = ap length none in
+        let more = one_left h.2.0 x t g in
+        absurd (omega (arith, few, front, sum, sent, begun, more, m.1))
+
+-- ---- From workers to lanes.
+
+worker_at : (dn : ℕ) (ss : List (List Report)) (ws : List (List Report × Reporting)) (es : List Taking) → HaveLanes dn ss ws es
+    → (i : ℕ) (w : List Report × Reporting) → i < length ws → ((get_or ws i w).0 ≡ get_or ss i []) × ((get_or ws i w).1.sent ≡ []) × ((get_or ws i w).1.lane.node ≡ dn + i)
+worker_at dn [] [] [] h i w l = absurd (omega (arith, l))
+worker_at dn [] [] (d ∷ es) h i w l = absurd h
+worker_at dn [] (v ∷ ws) es h i w l = absurd h
+worker_at dn (r ∷ ss) [] es h i w l = absurd h
+worker_at dn (r ∷ ss) (v ∷ ws) [] h i w l = absurd h
+worker_at dn (r ∷ ss) (v ∷ ws) (d ∷ es) h zero w l = (h.0.own, h.0.none_sent, (let q = h.0.node in omega (arith, q)))
+worker_at dn (r ∷ ss) (v ∷ ws) (d ∷ es) h (suc i) w l =
+    let k = worker_at (dn + 1) ss ws es h.1 i w (omega (arith, l)) in (k.0, k.1, (let q = k.2 in omega (arith, q)))
+
+workers_many : (dn : ℕ) (ss : List (List Report)) (ws : List (List Report × Reporting)) (es : List Taking) → HaveLanes dn ss ws es → length ws ≡ length ss
+workers_many dn [] [] [] h = refl
+workers_many dn [] [] (d ∷ es) h = absurd h
+workers_many dn [] (v ∷ ws) es h = absurd h
+workers_many dn (r ∷ ss) [] es h = absurd h
+workers_many dn (r ∷ ss) (v ∷ ws) [] h = absurd h
+workers_many dn (r ∷ ss) (v ∷ ws) (d ∷ es) h = ap suc (workers_many (dn + 1) ss ws es h.1)
+
+pub ends_many : (dn : ℕ) (ss : List (List Report)) (ws : List (List Report × Reporting)) (es : List Taking) → HaveLanes dn ss ws es → length es ≡ length ss
+ends_many dn [] [] [] h = refl
+ends_many dn [] [] (d ∷ es) h = absurd h
+ends_many dn [] (v ∷ ws) es h = absurd h
+ends_many dn (r ∷ ss) [] es h = absurd h
+ends_many dn (r ∷ ss) (v ∷ ws) [] h = absurd h
+ends_many dn (r ∷ ss) (v ∷ ws) (d ∷ es) h = ap suc (ends_many (dn + 1) ss ws es h.1)
+
+some_of : {A : Type 0} (xs : List A) (i : ℕ) → i < length xs → A
+some_of [] i l = absurd (omega (arith, l))
+some_of (x ∷ xs) i l = x
+
+got_at : (es : List Taking) (k : ℕ) (x : List Message) → ((e : Taking) → k < length es → (get_or es k e).got ≡ x) → (length es ≤ k → [] ≡ x) → get_or (map got_of es) k [] ≡ x
+got_at [] k x h n = n (omega arith)
+got_at (e ∷ es) zero x h n = h e (omega arith)
+got_at (e ∷ es) (suc k) x h n = got_at es k x (λ d l. h d (omega (arith, l))) (λ l. n (omega (arith, l)))
+
+module _ (count : ℕ) (lanes : Lanes) (sources : List (List Report)) (listed : AreListed count lanes sources) (workers : List (List Report × Reporting)) (before ends : List Taking) (have : HaveLanes 1 sources workers before)
+    (as_many : length ends ≡ length workers)
+    (taken : (i : ℕ) (w : List Report × Reporting) (e : Taking) → i < length workers → IsTaken GivesReport (get_or workers i w).0 (get_or workers i w).1 (get_or ends i e).got) where
+  lane_taken : (k : ℕ) (e : Taking) → k < length ends → (get_or ends k e).got ≡ lanes (k + 1)
+  lane_taken k e l =
+      let within : k < length workers = omega (arith, l, as_many) in
+      let w = some_of workers k within in
+      let at = worker_at 1 sources workers before have k w within in
+      let t = taken k w e within in
+      let node : (get_or workers k w).1.lane.node ≡ k + 1 = let q = at.2 in omega (arith, q) in
+      let few : length (get_or workers k w).0 ≤ 2 ^ 62 = let q = ap length at.0 in let f = listed.few k in omega (arith, q, f) in
+      t.2 ∙ all_sent (get_or workers k w).0 (get_or workers k w).1 t.0.reporter t.0.source (k + 1) t.0.outcome at.1 node few t.1.1
+      ∙ ap (sent_after (k + 1) []) at.0 ∙ listed.each k
+
+  lane_beyond : (k : ℕ) → length ends ≤ k → [] ≡ lanes (k + 1)
+  lane_beyond k l =
+      let past : length sources ≤ k = let q = workers_many 1 sources workers before have in omega (arith, l, as_many, q) in
+      ap (sent_after (k + 1) []) (sym (get_or_past sources k [] past)) ∙ listed.each k
+
+  at_node : (dn : ℕ) → by_node (map got_of ends) dn ≡ lanes dn
+  at_node zero = sym listed.none
+  at_node (suc k) = got_at ends k (lanes (k + 1)) (lane_taken k) (lane_beyond k) ∙ ap lanes (let q : k + 1 ≡ suc k = omega arith in q)
+
+  pub same_lanes : by_node (map got_of ends) ≡ lanes
+  same_lanes j dn = at_node dn j
+
+-- ---- The promoted standby.
+
+pub record Arrives (settings : Threshold) (lanes : Lanes) (segments : List Segment) (x : Contents) : Type 0 where
+  pub log_end : end_of_log 0 root_alone segments ≡ Ok (record { last = x.last; namespace = x.namespace })
+  pub picture : ShowsPicture x.namespace lanes (tables_of (standby_of x))
+  pub min : x.table.min ≡ settings.min
+  pub permille : x.permille ≡ settings.permille
+
+module _ (settings : Threshold) (count : ℕ) (lanes : Lanes) (sources : List (List Report)) (listed : AreListed count lanes sources) (workers : List (List Report × Reporting)) (before : List Taking) (have : HaveLanes 1 sources workers before)
+    (standby : Tailer) (new : IsNew before standby) (kept : (standby.shadow.table.min ≡ settings.min) × (standby.shadow.permille ≡ settings.permille)) (segments : List Segment) where
+  pub arrives : (x : Contents) (active : Active) → IsDriven GivesNext (λ _. 0) GivesReport standby segments workers x active → Arrives settings lanes segments x
+  arrives x active d =
+      let p = d.8 root_alone 0 [] new.4 in
+      let order = in_order segments d.1 d.0 d.3 in
+      let same = same_lanes count lanes sources listed workers before d.2 have p.lanes p.taken in
+      record {
+        log_end = promoted_at_end root_alone 0 segments d.0 order (record { last = x.last; namespace = x.namespace }) p.ended p.log_end;
+        picture = subst (λ ls. ShowsPicture x.namespace ls (tables_of (standby_of x))) same p.picture;
+        min = d.7.min ∙ kept.0;
+        permille = d.7.permille ∙ kept.1;
+      }
+
+  pub may_end : (f : DriveFault) → NotDriven GivesNext (λ _. 0) standby segments f → MayEnd f
+  may_end drive.AlreadyActive h = let b : false ≡ true = sym new.1 ∙ h.1.2.0 in cc
+  may_end (drive.Stopped s) h = tt
+  may_end (drive.LogNotEnded f) h = let q = h.1.2.1 in omega (arith, q)
+  may_end drive.OutOfMemory h = tt
+
+  pub stop_told : (f : DriveFault) (p : Printed) → NotDriven GivesNext (λ _. 0) standby segments f → TellsStop f p → p ≡ after_log settings lanes (end_of_log 0 root_alone segments)
+  stop_told drive.AlreadyActive p h t = absurd t
+  stop_told (drive.Stopped s) p h t =
+      let order = in_order segments h.0 h.1.0 h.1.1 in
+      let w = stopped_at root_alone 0 segments h.1.0 order s (h.1.2 root_alone 0 [] new.4) in
+      t ∙ ap (λ n. fault_at (codes " txid ") n s.txid) (sym w.1) ∙ ap (after_log settings lanes) (sym w.2)
+  stop_told (drive.LogNotEnded f) p h t = absurd t
+  stop_told drive.OutOfMemory p h t = absurd t
+
+-- what is told of it is the output of the log and the lanes
+pub tells : (settings : Threshold) (lanes : Lanes) (segments : List Segment) (x : Contents) (p : Printed) → Arrives settings lanes segments x
+    → ((lanes : Lanes) → ShowsPicture x.namespace lanes (tables_of (standby_of x)) → p ≡ after_log (record { permille = x.permille; min = x.table.min }) lanes (Ok (record { last = x.last; namespace = x.namespace })))
+    → p ≡ after_log settings lanes (end_of_log 0 root_alone segments)
+tells settings lanes segments x p a told =
+    told lanes a.picture
+    ∙ (λ j. after_log (record { permille = a.permille j; min = a.min j }) lanes (Ok (record { last = x.last; namespace = x.namespace })))
+    ∙ ap (after_log settings lanes) (sym a.log_end)

@@ -1,0 +1,293 @@
+//! A run with threads: each DataNode reports from a thread of its own, while a standby tails the log.
+ghost use Rattle.std.specs.Prelude.{◌≡◌, ◌≤◌, ◌^◌, ◌++◌, ◌∷◌, [], length, replicate, IfOk, IfErr, OnOk};
+ghost use Rattle.std.specs.List.{All};
+ghost use Rattle.nn_model.specs.Lanes.{no_messages};
+ghost use Rattle.nn_model.specs.Namespace.{root_alone};
+ghost use Rattle.nn_scenario.specs.Cut.{segments_from};
+ghost use Rattle.nn_scenario.specs.Scenario.{max_input, seen, IsLawfulScenario};
+ghost use Rattle.nn_scenario.specs.Steps.{lanes_of, AreInTurn, IsStepOf};
+ghost use Rattle.nn_segment.specs.LogEnd.{end_of_log};
+ghost use Rattle.nn_engine.specs.Listed.{report_of, with_step, AreFew, AreListed, MayEnd, TellsStop};
+ghost use Rattle.nn_engine.specs.Output.{output_of, after_segments, after_log};
+ghost use Rattle.nn_engine.specs.Run.{Wrote, WroteFront, running};
+ghost use Rattle.nn_engine.specs.Shown.{shown};
+
+use crate::device::{Input, RunFault, read_input};
+use crate::engine::{
+    OUT_OF_MEMORY, Output, RunEnd, fault_output, finish, output_of_bad, output_of_bad_segment,
+    tell, unread_line,
+};
+use nn_drive::{DriveFault, ReportSource, drive, with_lanes};
+use nn_scenario::{Scenario, Step, StepList, read_lines, read_segments};
+use nn_segment::{MemorySource, Parsed};
+use nn_tailer::Standby;
+use nn_types::{Message, Report, Settings};
+use std::alloc::{AllocError, Global};
+use std::collections::VecDeque;
+use std::io::{Read, Write};
+use std::marker::Model;
+use std::sync::{Arc, Wait};
+use std::thread::Threads;
+
+/// What each worker passes before its first report.
+pub trait Gate {
+    /// A worker comes to the gate, once. Workers count from 0: worker 0 is of DataNode 1.
+    fn pass(&self, worker: u64);
+}
+
+/// A gate that stands open.
+#[derive(Drop)]
+pub struct Open;
+
+impl Gate for Open {
+    fn pass(&self, _worker: u64) {}
+}
+
+/// What a run with threads is asked for.
+#[derive(Drop)]
+pub struct Threaded<G> {
+    /// When safe mode ends.
+    pub settings: Settings,
+    /// How many reports a lane holds at a time, 1 to 1024.
+    pub capacity: usize,
+    pub gate: Arc<G, Global>,
+}
+
+/// The reports that one lane carries at most, and a list in memory has.
+const MOST: usize = 4_611_686_018_427_387_904;
+
+/// The reports of one DataNode, in memory.
+#[derive(Drop)]
+pub struct Listed<G> {
+    reports: VecDeque<Report>,
+    gate: Arc<G, Global>,
+    worker: u64,
+    passed: bool,
+}
+
+impl<G> Model for Listed<G> {
+    ghost use Rattle.std.specs.Prelude.{List};
+    ghost use Rattle.nn_types.specs.declared.report.Report.{Report};
+
+    ghost Value = { List Report };
+
+    ghost view = { λ s. s.reports.items };
+}
+
+impl<G> Listed<G> {
+    fn new(alloc: Global, gate: Arc<G, Global>, worker: u64) -> Listed<G>
+        ensures { result ≡ [] }
+    {
+        Listed {
+            reports: VecDeque::new(alloc),
+            gate,
+            worker,
+            passed: false,
+        }
+    }
+
+    // Where memory is refused the reports stay.
+    fn push(&mut self, report: Report) -> Result<(), AllocError>
+        ensures ok { OnOk result (self.new ≡ self.old ++ report ∷ []) }
+        ensures few { OnOk result (length self.new ≤ 2 ^ 62) }
+    {
+        if self.reports.len() >= MOST {
+            return Err(AllocError);
+        }
+        if let Err(_) = self.reports.push_back(report) {
+            return Err(AllocError);
+        }
+        Ok(())
+    }
+}
+
+impl<G: Gate> ReportSource for Listed<G> {
+    ghost use Rattle.nn_engine.specs.Listed.{GivesReport};
+
+    ghost gives = { GivesReport };
+
+    fn next(&mut self) -> Option<Report> {
+        if !self.passed {
+            self.passed = true;
+            self.gate.pass(self.worker);
+        }
+        self.reports.pop_front()
+    }
+}
+
+// So many sources, with no reports yet.
+fn empty_sources<G: Drop>(
+    alloc: Global,
+    gate: &Arc<G, Global>,
+    lanes: u16,
+) -> Result<Vec<Listed<G>>, AllocError>
+    ensures { IfOk result (λ v. v.items ≡ replicate lanes []) }
+{
+    let mut sources = Vec::new(alloc);
+    for worker in 0..lanes {
+        let own = Arc::try_clone(gate)?;
+        sources.push(Listed::new(alloc, own, u64::from(worker)))?;
+    }
+    Ok(sources)
+}
+
+fn report_of(message: &Message) -> Report
+    ensures { result ≡ report_of message.now }
+{
+    Report {
+        dn: message.dn,
+        block: message.block,
+        stamp: message.stamp,
+        len: message.len,
+        kind: message.kind,
+    }
+}
+
+// Puts a message's report behind those of its DataNode.
+fn take_step<G: Drop>(sources: &mut Vec<Listed<G>>, step: Step) -> Result<(), AllocError>
+    requires { IsStepOf (length sources.old.items) step }
+    ensures ok { OnOk result (sources.new.items ≡ with_step sources.old.items step) }
+    ensures few { OnOk result (AreFew sources.old.items → AreFew sources.new.items) }
+{
+    match step {
+        Step::Edit => Ok(()),
+        Step::Message(message) => {
+            let place = usize::from(message.dn) - 1;
+            sources[place].push(report_of(&message))
+        }
+    }
+}
+
+// The sources of a scenario's DataNodes: each gives what its DataNode sent in these steps.
+fn sources_of<G: Drop>(
+    alloc: Global,
+    gate: &Arc<G, Global>,
+    lanes: u16,
+    steps: StepList,
+) -> Result<Vec<Listed<G>>, AllocError>
+    requires in_turn { AreInTurn no_messages steps }
+    requires within { All (IsStepOf lanes) steps }
+    ensures { IfOk result (λ v. AreListed lanes (lanes_of steps) v.items) }
+{
+    let mut sources = empty_sources(alloc, gate, lanes)?;
+    let mut steps = steps.into_steps();
+    'steps: while let Some(step) = steps.next() {
+        if let Err(_) = take_step(&mut sources, step) {
+            return Err(AllocError);
+        }
+    }
+    Ok(sources)
+}
+
+// What a drive ended with that did not promote the standby: the line of the stop.
+fn output_of_fault(alloc: Global, fault: DriveFault) -> Result<Output, AllocError>
+    requires { MayEnd fault }
+    ensures { IfOk result (λ o. TellsStop fault (shown o)) }
+{
+    match fault {
+        DriveFault::Stopped(stop) => { fault_output(alloc, stop.number, " txid ", stop.txid.get()) }
+        DriveFault::OutOfMemory => Err(AllocError),
+        DriveFault::AlreadyActive => unreachable!(),
+        DriveFault::LogNotEnded(_) => unreachable!(),
+    }
+}
+
+// Drives a standby over these segments and steps, and tells what comes of it.
+fn output_of_drive<G: Gate + Send + Sync + Drop, R: Threads + Wait + Sync>(
+    rt: &R,
+    alloc: Global,
+    asked: &Threaded<G>,
+    lanes: u16,
+    steps: StepList,
+    segments: Vec<Parsed>,
+) -> Result<Output, AllocError>
+    requires capacity { (1 ≤ asked.now.capacity) × (asked.now.capacity ≤ 1024) }
+    requires lanes { (1 ≤ lanes) × (lanes ≤ 256) }
+    requires in_turn { AreInTurn no_messages steps }
+    requires within { All (IsStepOf lanes) steps }
+    ensures { IfOk result (λ o. shown o ≡ after_log asked.now.settings (lanes_of steps) (end_of_log 0 root_alone segments.items)) }
+{
+    let sources = sources_of(alloc, &asked.gate, lanes, steps)?;
+    let Ok((workers, ends)) = with_lanes(alloc, sources, asked.capacity) else {
+        return Err(AllocError);
+    };
+    let Ok(standby) = Standby::new(alloc, ends, asked.settings) else {
+        return Err(AllocError);
+    };
+    match drive(rt, alloc, standby, MemorySource::new(segments), workers) {
+        Ok((shadow, _active)) => tell(alloc, shadow),
+        Err(fault) => output_of_fault(alloc, fault),
+    }
+}
+
+fn output_of_threads<G: Gate + Send + Sync + Drop, R: Threads + Wait + Sync>(
+    rt: &R,
+    alloc: Global,
+    asked: &Threaded<G>,
+    scenario: Scenario,
+) -> Result<Output, AllocError>
+    requires capacity { (1 ≤ asked.now.capacity) × (asked.now.capacity ≤ 1024) }
+    requires lawful { IsLawfulScenario (seen scenario) }
+    ensures { IfOk result (λ o. shown o ≡ after_segments asked.now.settings (lanes_of scenario.steps) (segments_from 1 scenario.pieces.items)) }
+{
+    let Scenario {
+        pieces,
+        steps,
+        lanes,
+    } = scenario;
+    match read_segments(alloc, pieces) {
+        Ok(segments) => output_of_drive(rt, alloc, asked, lanes, steps, segments),
+        Err(bad) => output_of_bad_segment(alloc, bad),
+    }
+}
+
+// The output of an input, by threads.
+#[tactic(auto, unfolding(crate::specs::Output::output_of))]
+fn output_by_threads<G: Gate + Send + Sync + Drop, R: Threads + Wait + Sync>(
+    rt: &R,
+    alloc: Global,
+    asked: &Threaded<G>,
+    input: Vec<u8>,
+) -> Result<Output, AllocError>
+    requires capacity { (1 ≤ asked.now.capacity) × (asked.now.capacity ≤ 1024) }
+    requires fits { length input.items ≤ max_input }
+    ensures { IfOk result (λ o. shown o ≡ output_of asked.now.settings input.items) }
+{
+    let lines = read_lines(alloc, &input);
+    drop(input);
+    match lines {
+        Ok(scenario) => output_of_threads(rt, alloc, asked, scenario),
+        Err(bad) => output_of_bad(alloc, bad),
+    }
+}
+
+/// Reads a scenario to its end and writes its listing, or one fault line and nothing else, as `run` does; but each
+/// DataNode reports from a thread of its own, while the standby tails the log on this one. Whatever the schedule, it
+/// writes the same.
+///
+/// `fault 55` says that memory was refused, or a thread. It waits for as long as the gate does.
+pub fn run_threads<I: Read, W: Write, G: Gate + Send + Sync + Drop, R: Threads + Wait + Sync>(
+    rt: &R,
+    alloc: Global,
+    asked: &Threaded<G>,
+    input: &mut Input<I>,
+    writer: &mut W,
+) -> Result<RunEnd, RunFault>
+    requires { (1 ≤ asked.now.capacity) × (asked.now.capacity ≤ 1024) }
+    ensures written { IfOk result (λ end. Wrote
+        (running asked.now.settings (I.remaining input.old.reader) (I.remaining input.new.reader) input.old.failed input.new.failed)
+        (W.contents writer.old) (W.contents writer.new) end.status) }
+    // After a failed write the writer has a front of the output.
+    ensures failed { IfErr result (λ e. WroteFront
+        (running asked.now.settings (I.remaining input.old.reader) (I.remaining input.new.reader) input.old.failed input.new.failed)
+        (W.contents writer.old) (W.contents writer.new) e.written) }
+{
+    let bytes = match read_input(alloc, input) {
+        Ok(bytes) => bytes,
+        Err(fault) => return finish(writer, unread_line(fault), 1),
+    };
+    match output_by_threads(rt, alloc, asked, bytes) {
+        Ok(output) => finish(writer, output.text.as_bytes(), output.status),
+        Err(AllocError) => finish(writer, OUT_OF_MEMORY, 1),
+    }
+}

@@ -1,15 +1,13 @@
 //! From a reader to a namespace.
-ghost use Rattle.std.specs.Prelude.{◌≡◌, ◌≤◌, ◌<◌, ◌+◌, ◌^◌, ℕ, List, [], true, false, map, string_bytes, OnOk, IfOk, IfErr, IfSome, Ok, Some, codes, Option, option_map, ◌⊎◌};
-ghost use Rattle.std.specs.Io.KnownBytes.{IsAtEnd};
+ghost use Rattle.std.specs.Prelude.{◌≡◌, ◌≤◌, ◌<◌, ◌+◌, [], true, false, OnOk, IfOk, IfErr, Ok, Some, Option, option_map, ◌⊎◌};
 ghost use Rattle.std.specs.Ordering.{is_lt};
 ghost use Rattle.serde_json.specs.View.{view};
 ghost use Rattle.nn_model.specs.Namespace.{path_cmp, Namespace as Rows};
-ghost use Rattle.nn_tree.specs.Restore.{awaiting_fits};
 ghost use Rattle.nn_image.specs.Header.{header_value, object_view, IsLawful};
 ghost use Rattle.nn_image.specs.Lines.{ahead};
 ghost use Rattle.nn_image.specs.declared.fault.ImageFault.TheVariants.{Truncated};
 ghost use Rattle.nn_image.specs.Outcome.{Fails, IsOfDevice};
-ghost use Rattle.nn_image.specs.Reading.{next_line, with_next, row_in, read_image, of_version, number_in};
+ghost use Rattle.nn_image.specs.Reading.{next_line, with_next, row_in, read_image};
 ghost use Rattle.nn_image.specs.Loading.{GivesObject, IsTorn, Stops, GoesOn, Ends, rows_of, rows_by, after_end, all_of, with_txid, IsLoading};
 
 use crate::fault::ImageFault;

@@ -1,10 +1,9 @@
 //! From a namespace to a writer.
-ghost use Rattle.std.specs.Prelude.{◌≡◌, ◌-◌, false, map, string_bytes, length, drop, OnOk, IfOk, IfErr, codes};
+ghost use Rattle.std.specs.Prelude.{◌≡◌, ◌-◌, false, string_bytes, length, drop, OnOk, IfOk, IfErr, codes};
 ghost use Rattle.std.specs.Io.KnownBytes.{Appends};
 ghost use Rattle.serde_json.specs.View.{view, items_view};
 ghost use Rattle.serde_json.specs.Written.{has_float};
 ghost use Rattle.serde_json.specs.Data.{number, unsigned, boolean, array, string, object, member, no_members};
-ghost use Rattle.nn_types.specs.Path.{path_text};
 ghost use Rattle.nn_tree.specs.Found.{form_of};
 ghost use Rattle.nn_tree.specs.Listing.{lent_names};
 ghost use Rattle.nn_image.specs.Text.{line_of, block_data, block_items, number_items, header_data, head_data, row_data, row_lines, end_data, image_text, name_text};

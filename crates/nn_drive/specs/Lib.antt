@@ -4,4 +4,5 @@ pub mod Refusals
 pub mod Fault
 pub mod ReportRows
 pub mod NewLanes
+pub mod LaneRows
 pub mod DriveRows

@@ -8,3 +8,4 @@ pub mod Run
 pub mod RunRows
 pub mod Shown
 pub mod Listed
+pub mod ListedRows

@@ -1,11 +1,12 @@
 //! The held messages.
-ghost use Rattle.std.specs.Prelude.{◌≡◌, ◌<◌, ◌^◌, ◌↔◌, [], ◌∷◌, length, IsTrue, IfSome, IfNone, OnOk, OnErr, IfErr};
+ghost use Rattle.std.specs.Prelude.{◌≡◌, ◌<◌, ◌^◌, ◌↔◌, [], ◌∷◌, length, None, IsTrue, IfSome, IfNone, OnOk, OnErr, IfErr};
 ghost use Rattle.std.specs.List.{list_any};
 ghost use Rattle.nn_types.specs.declared.fault.TheConstants.{MEMORY};
 ghost use Rattle.nn_model.specs.Stands.{AreByBlock};
 ghost use Rattle.nn_postponed.specs.Queues.{queue, queued, is_from, IsNext, HaveIds};
-ghost use Rattle.nn_postponed.specs.Release.{due_at, first_free, without_free, freed};
+ghost use Rattle.nn_postponed.specs.Release.{due_at, first_free, without_free, IsFreeAt, freed, kept};
 
+use crate::freed::Freed;
 use crate::queue::Queue;
 use nn_types::{BlockId, Message, Status, fault};
 use std::alloc::Global;
@@ -35,8 +36,8 @@ const LIMIT: usize = 9223372036854775807;
 /// The messages that wait.
 ///
 /// Each block about which messages wait has a queue of its own: `release` takes O(log blocks + DataNodes of the block)
-/// and what `VecDeque::remove` takes, the others O(log blocks + DataNodes of the block), and `due_count` one pass over
-/// the block's queue. A queue that has become empty leaves the map.
+/// and what `VecDeque::remove` takes, the others O(log blocks + DataNodes of the block), and `due_count`, `freed` to its
+/// end and `drop_freed` one pass over the block's queue each. A queue that has become empty leaves the map.
 #[derive(Drop)]
 pub struct Postponed {
     queues: BTreeMap<BlockId, Queue>,
@@ -148,6 +149,45 @@ impl Postponed {
         }
         self.count -= 1;
         Some(message)
+    }
+
+    /// The place in the block's queue of the message that `release` would take: what it moves is no more than stands on
+    /// either side of that.
+    pub fn free_place(&self, block: BlockId, status: Status) -> Option<usize>
+        ensures some { IfSome result (IsFreeAt (due_at block status) (queue block self.now)) }
+        ensures none { IfNone result (first_free (due_at block status) [] self.now ≡ None) }
+    {
+        let Some(queue) = self.queues.get(&block) else {
+            return None;
+        };
+        queue.free_place(block, status)
+    }
+
+    /// What calls of `release` would give, one after another, lent while it is held. None, or nothing, where there is
+    /// none.
+    pub fn freed(&self, block: BlockId, status: Status) -> Option<Freed<'_>>
+        ensures some { IfSome result (λ f. f ≡ freed (due_at block status) [] self.now) }
+        ensures none { IfNone result (freed (due_at block status) [] self.now ≡ []) }
+    {
+        let Some(queue) = self.queues.get(&block) else {
+            return None;
+        };
+        Some(queue.freed(block, status))
+    }
+
+    /// Lets go of all that `freed` lends, in one pass over the block's queue. Calls of `release` leave the same, and
+    /// cost less where only a few are free.
+    pub fn drop_freed(&mut self, block: BlockId, status: Status)
+        ensures { self.new ≡ kept (due_at block status) [] self.old }
+    {
+        let Some(queue) = self.queues.get_mut(&block) else {
+            return;
+        };
+        let gone = queue.drop_freed(block, status);
+        if queue.is_empty() {
+            let _ = self.queues.remove(&block);
+        }
+        self.count -= gone;
     }
 
     /// The least block of at least `from` about which a message is held. A caller that goes on from the id

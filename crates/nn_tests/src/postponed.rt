@@ -182,6 +182,35 @@ fn the_last_waits(rt: &impl Abort, held: &mut Postponed) -> Result<(), Fail> {
     Ok(())
 }
 
+#[test]
+fn freed_at_once_of_256(rt: HostRuntime) -> Result<(), Fail> {
+    let mut held = Postponed::new(rt.alloc());
+    two_of_each_datanode(&mut held)?;
+    all_but_the_last_are_lent(&rt, &held)?;
+    held.drop_freed(block_id(FIRST)?, named(1001)?);
+    the_last_waits(&rt, &mut held)
+}
+
+fn all_but_the_last_are_lent(rt: &impl Abort, held: &Postponed) -> Result<(), Fail> {
+    let block = block_id(FIRST)?;
+    assert_eq!(rt; held.free_place(block, named(1001)?), Some(0));
+    assert!(rt; held.freed(block_id(FIRST + 1)?, named(1001)?).is_none());
+    let Some(mut freed) = held.freed(block, named(1001)?) else {
+        return Err(Fail::new("nothing is held"));
+    };
+    for dn in 1..DATANODES {
+        assert_eq!(rt; freed.next(), Some(message(dn, 1, block, 1001)?));
+    }
+    for dn in 1..DATANODES {
+        assert_eq!(rt;
+            freed.next(),
+            Some(message(DATANODES - dn, 2, block, 1001)?)
+        );
+    }
+    assert_eq!(rt; freed.next(), None);
+    Ok(())
+}
+
 // ---- A queue that runs empty and fills again, of the greatest block id.
 
 const GREATEST: u64 = 9223372036854775807;

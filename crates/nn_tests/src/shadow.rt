@@ -52,6 +52,50 @@ fn what_is_held_goes_once_its_id_is_passed_over(rt: &impl Abort, shadow: &mut Sh
     assert!(rt; shadow.replicas().has_order(1, id(B)));
 }
 
+// So many wait behind so many that stay, that they go in one pass.
+const MANY: u64 = 200;
+
+#[test]
+fn many_freed_behind_many(rt: HostRuntime) -> Result<(), Fail> {
+    let mut shadow = fresh(rt.alloc())?;
+    many_wait_behind_many(&rt, &mut shadow);
+    let path = Path::parse(rt.alloc(), "/f")?;
+    let file = Path::parse(rt.alloc(), "/f")?;
+    the_file_gets_the_block(&rt, &mut shadow, path, file);
+    those_of_its_stamp_go(&rt, &shadow);
+    Ok(())
+}
+
+fn many_wait_behind_many(rt: &impl Abort, shadow: &mut Shadow) {
+    for number in 1..MANY + 1 {
+        assert_eq!(rt; hand(shadow, received(1, number, B, FAR)), 0);
+    }
+    for number in 1..MANY + 1 {
+        assert_eq!(rt; hand(shadow, received(2, number, B, 1001)), 0);
+    }
+}
+
+fn the_file_gets_the_block(rt: &impl Abort, shadow: &mut Shadow, path: Path, file: Path) {
+    let replication = Replication::new(3).unwrap();
+    assert_eq!(rt; apply(shadow, Edit::Add { path, replication }), 0);
+    assert_eq!(rt; apply(shadow, Edit::SetGenstamp { stamp: stamp(1001) }), 0);
+    assert_eq!(rt; apply(shadow, Edit::AllocateBlockId { id: id(B) }), 0);
+    let edit = Edit::AddBlock {
+        path: file,
+        id: id(B),
+        stamp: stamp(1001),
+    };
+    assert_eq!(rt; apply(shadow, edit), 0);
+}
+
+// They are told right after the four edits, in their order.
+fn those_of_its_stamp_go(rt: &impl Abort, shadow: &Shadow) {
+    assert_eq!(rt; told_after(shadow, 4), Some(due(2, 1, B)));
+    assert_eq!(rt; told_after(shadow, 203), Some(due(2, MANY, B)));
+    assert_eq!(rt; shadow.history().len(), 204);
+    assert_eq!(rt; shadow.held_count(), 200);
+}
+
 // An edit that does not apply stops the standby for good.
 #[test]
 fn missing_file_stops(rt: HostRuntime) -> Result<(), Fail> {

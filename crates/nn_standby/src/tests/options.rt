@@ -8,7 +8,10 @@ use std::test::Fail;
 fn settings(alloc: Global, line: &str) -> Result<(u16, u16), Fail> {
     let words = words_of(alloc, line)?;
     match parse(alloc, words.as_slice()) {
-        Ok(options) => Ok((options.settings.permille(), options.settings.min())),
+        Ok(request) => Ok((
+            request.options.settings.permille(),
+            request.options.settings.min(),
+        )),
         Err(_) => Err(Fail::new("the words are refused")),
     }
 }
@@ -43,6 +46,28 @@ fn numbers_in_range_are_taken(rt: HostRuntime) -> Result<(), Fail> {
     Ok(())
 }
 
+// Whether this command line asks for threads, and for how many reports in a lane.
+fn lanes(alloc: Global, line: &str) -> Result<(bool, u16), Fail> {
+    let words = words_of(alloc, line)?;
+    match parse(alloc, words.as_slice()) {
+        Ok(request) => Ok((request.threads, request.capacity)),
+        Err(_) => Err(Fail::new("the words are refused")),
+    }
+}
+
+#[test]
+fn threads_are_asked_for(rt: HostRuntime) -> Result<(), Fail> {
+    for (line, want) in [
+        ("nn_standby", (false, 64)),
+        ("nn_standby --threads", (true, 64)),
+        ("nn_standby --capacity=1024 --threads", (true, 1024)),
+        ("nn_standby --capacity 1", (false, 1)),
+    ] {
+        assert_eq!(rt; lanes(rt.alloc(), line)?, want, "at {line}");
+    }
+    Ok(())
+}
+
 #[test]
 fn other_words_are_refused(rt: HostRuntime) -> Result<(), Fail> {
     for (line, want) in [
@@ -53,6 +78,14 @@ fn other_words_are_refused(rt: HostRuntime) -> Result<(), Fail> {
         ("nn_standby --permille x", (2, ErrorKind::ValueValidation)),
         ("nn_standby --min 0", (2, ErrorKind::ValueValidation)),
         ("nn_standby --min 513", (2, ErrorKind::ValueValidation)),
+        (
+            "nn_standby --threads --capacity 0",
+            (2, ErrorKind::ValueValidation),
+        ),
+        (
+            "nn_standby --capacity 1025",
+            (2, ErrorKind::ValueValidation),
+        ),
         ("nn_standby --most 1", (2, ErrorKind::UnknownArgument)),
         ("nn_standby --help", (0, ErrorKind::DisplayHelp)),
     ] {

@@ -1,0 +1,56 @@
+//! Workers that wait for one another at the gate.
+use super::printed_by_threads;
+use nn_engine::Gate;
+use std::alloc::Global;
+use std::sync::Arc;
+use std::sync::atomic::{AtomicU64, Ordering};
+use std::test::Fail;
+use std::thread;
+
+// The turns after which a worker gives up waiting.
+const TURNS: u32 = 10_000_000;
+
+// A gate at which each worker waits until two came.
+#[derive(Drop)]
+struct Meeting {
+    came: Arc<AtomicU64, Global>,
+    vain: Arc<AtomicU64, Global>,
+}
+
+impl Gate for Meeting {
+    fn pass(&self, _worker: u64) {
+        self.came.fetch_add(1, Ordering::SeqCst);
+        for _ in 0..TURNS {
+            if self.came.load(Ordering::SeqCst) >= 2 {
+                return;
+            }
+            thread::yield_now();
+        }
+        self.vain.fetch_add(1, Ordering::SeqCst);
+    }
+}
+
+const TWO_DATANODES: &[u8] = br#"{"op":"OP_START_LOG_SEGMENT","txid":1}
+{"dn":1,"block":5,"gen":1001,"len":5,"kind":"received"}
+{"dn":2,"block":6,"gen":1001,"len":5,"kind":"received"}
+{"dn":1,"block":7,"gen":1001,"len":5,"kind":"received"}
+{"op":"OP_END_LOG_SEGMENT","txid":2}
+"#;
+
+#[test]
+fn at_once(rt: HostRuntime) -> Result<(), Fail> {
+    let came = Arc::new(rt.alloc(), AtomicU64::new(0))?;
+    let vain = Arc::new(rt.alloc(), AtomicU64::new(0))?;
+    let gate = Meeting {
+        came: Arc::try_clone(&came)?,
+        vain: Arc::try_clone(&vain)?,
+    };
+    let (text, status) = printed_by_threads(&rt, rt.alloc(), gate, TWO_DATANODES);
+    let want =
+        b"txid 2\ndir \"/\"\norder 5 1\norder 6 2\norder 7 1\nblocks 0 safe 0 needed 0 mode off\n";
+    assert_eq!(rt; text.as_slice(), want.as_slice());
+    assert_eq!(rt; status, 0);
+    assert_eq!(rt; came.load(Ordering::SeqCst), 2);
+    assert_eq!(rt; vain.load(Ordering::SeqCst), 0);
+    Ok(())
+}

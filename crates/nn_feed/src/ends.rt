@@ -1,0 +1,44 @@
+//! The two ends of a feed.
+ghost use Rattle.std.specs.Prelude.{◌≡◌, ◌+◌, ◌^◌, ◌≤◌, false, length};
+ghost use Rattle.crossbeam_channel.specs.Claims.{IsSeatAt};
+ghost use Rattle.crossbeam_channel.specs.Ends.{sends_on, receives_on};
+ghost use Rattle.nn_feed.specs.Feeds.{has_end};
+ghost use Rattle.nn_feed.specs.Passes.{put_in, got_in, MayPut, MayGet};
+
+use crate::rule::{InOrder, Log, Placed};
+use crossbeam_channel::{Pass, RuledReceiver, RuledSender};
+use std::sync::Wait;
+
+/// The end that puts. The thread of a source has it; while it lives, the other end waits for its next item.
+#[derive(Drop)]
+pub struct Feeder {
+    pub(crate) sender: RuledSender<Placed, Log, InOrder>,
+    pub(crate) pass: Pass<Placed, Log>,
+    pub(crate) count: u64,
+    pub(crate) ended: bool,
+    ghost seat: { IsSeatAt (sends_on sender) pass },
+    ghost role: { MayPut pass },
+    ghost counted: { count ≡ length (put_in pass) },
+    ghost told: { ended ≡ has_end (put_in pass) },
+    ghost bounded: { (ended ≡ false → count ≤ 2 ^ 60) × (count ≤ 2 ^ 60 + 1) },
+}
+
+/// The end that gets, a source of segments: it gives the items that were put, in order, and waits for each; behind End it
+/// gives End again and again. Where the other end is gone and nothing is left it fails with 46.
+///
+/// It counts its failures, and would wait for ever at 2^64 - 1 of them.
+#[derive(Drop)]
+pub struct FeedEnd<'a, R: Wait> {
+    pub(crate) rt: &'a R,
+    pub(crate) receiver: RuledReceiver<Placed, Log, InOrder>,
+    pub(crate) pass: Pass<Placed, Log>,
+    pub(crate) ended: bool,
+    pub(crate) failures: u64,
+    ghost seat: { IsSeatAt (receives_on receiver) pass },
+    ghost role: { MayGet pass },
+    ghost told: { ended ≡ has_end (got_in pass) },
+}
+
+mod calls;
+
+pub use calls::{feed, meet};

@@ -1,0 +1,48 @@
+//! Why an item was not put, and why a feeder ended before End.
+ghost use Rattle.std.specs.Prelude.{◌≡◌};
+ghost use Rattle.nn_feed.specs.Fault.{number_of, number_of_fault};
+
+use nn_segment::{Item, SourceFault};
+use nn_types::fault;
+
+/// Why an item was not put. It comes back.
+#[derive(Drop)]
+pub enum Refusal {
+    /// End was put before, or the item is a segment and 2^60 were put before.
+    Ended { item: Item },
+    /// The other end is gone.
+    Gone { item: Item },
+}
+
+impl Refusal {
+    /// The fault's number.
+    pub fn number(&self) -> u8
+        ensures { result ≡ number_of self.now }
+    {
+        match self {
+            Refusal::Ended { .. } => fault::ENDED,
+            Refusal::Gone { .. } => fault::GONE,
+        }
+    }
+}
+
+/// Why a feeder ended before it had put End.
+#[derive(Drop)]
+pub enum FeedFault {
+    /// The source's fault.
+    Source(SourceFault),
+    /// The item that the source gave last was not put.
+    Refused(Refusal),
+}
+
+impl FeedFault {
+    /// The fault's number.
+    pub fn number(&self) -> u8
+        ensures { result ≡ number_of_fault self.now }
+    {
+        match self {
+            FeedFault::Source(fault) => fault.number(),
+            FeedFault::Refused(refusal) => refusal.number(),
+        }
+    }
+}

@@ -1,0 +1,9 @@
+//! The law of a feed. It is the contract of a function that does nothing.
+ghost use Rattle.nn_feed.specs.FeedLaws.{GivesWhatItsSourceGave};
+
+use nn_segment::SegmentSource;
+
+/// What the end of a feed gave, up to End, is what the source of its feeder gave, segment for segment.
+pub fn a_feed_gives_what_its_source_gave<S: SegmentSource>()
+    ensures { GivesWhatItsSourceGave S.gives }
+{}

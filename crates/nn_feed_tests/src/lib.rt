@@ -1,0 +1,7 @@
+//! Tests of the feed: that its ends work beside each other, that it holds four items, and what its refusals leave.
+#![tactic(auto)]
+
+#[cfg(test)]
+mod feed;
+#[cfg(test)]
+mod sources;

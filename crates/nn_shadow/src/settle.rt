@@ -27,9 +27,9 @@ use nn_types::{BlockId, Cause, Event, Message, Status};
 ///
 /// It leaps from a block that the edit touched to the next one that messages are held about, and back: a leap takes
 /// O(log touched blocks + log held blocks), and there are no more of them than touched blocks, nor than twice the blocks
-/// that messages are held about. It takes no time where nothing is held or nothing was touched. Of a block the first few
-/// that are free are released one by one, and the others in one pass over its messages. `written` has the ids of the
-/// changed blocks, ascending, which come in file order themselves.
+/// that messages are held about. It takes no time where nothing is held or nothing was touched. What is free about a
+/// block is released one by one as long as that moves little, and then in one pass over its messages. `written` has the
+/// ids of the changed blocks, ascending, which come in file order themselves.
 pub(crate) fn settle(
     namespace: &Namespace,
     written: &[BlockId],

@@ -8,10 +8,10 @@ use std::test::Fail;
 fn settings(alloc: Global, line: &str) -> Result<(u16, u16), Fail> {
     let words = words_of(alloc, line)?;
     match parse(alloc, words.as_slice()) {
-        Ok(request) => Ok((
-            request.options.settings.permille(),
-            request.options.settings.min(),
-        )),
+        Ok(request) => {
+            let settings = request.options.settings;
+            Ok((settings.permille(), settings.min()))
+        }
         Err(_) => Err(Fail::new("the words are refused")),
     }
 }

@@ -12,10 +12,9 @@ use Rattle.std.specs.Ordering.{is_eq}
 use Rattle.nn_tree.proofs.Prefix.{append_nil, decided, some_none, starts_split, graft_at, graft_by}
 use Rattle.nn_tree.proofs.Renamed.{starts_append}
 use Rattle.nn_tree.proofs.Maps.{mkdir_lawful, or_None, delete_by_row}
-use Rattle.std.specs.BTreeMap.{get_by_text}
 use Rattle.std.proofs.lemmas.Bool.{both_ways}
 use Rattle.nn_tree.specs.declared.tree.Tree.{Tree}
-use Rattle.nn_tree.proofs.Subtree.{Children, dir_rows, IsDir, at_top, found, subtree_below}
+use Rattle.nn_tree.proofs.Subtree.{Children, child, dir_rows, IsDir, at_top, found, subtree_below}
 use Rattle.nn_tree.proofs.Step.{Becomes, at_changed, graft_here, graft_below, graft_nothing, same_name}
 use Rattle.nn_tree.proofs.Walk.{walk_below}
 
@@ -28,14 +27,14 @@ made_fault : (f : Path → Option Form) (p : Path) → root_fault p ≡ None →
 made_fault f p r w a = ap (λ o. or_fault o (or_fault (walk_fault f p) (exists_fault (f p)))) r ∙ ap (λ o. or_fault o (exists_fault (f p))) w ∙ ap exists_fault a
 
 -- in the directory es itself, under a name that no child has
-pub made_here : (es : List (Path × Form)) (m k : Children) (n : List ℕ) (ps : Path) (t : Tree) → ps ≡ n ∷ [] → IsDir es m → get_by_text m n ≡ None → Becomes m k n (Some t) → IsMade es ps t (dir_rows k)
+pub made_here : (es : List (Path × Form)) (m k : Children) (n : List ℕ) (ps : Path) (t : Tree) → ps ≡ n ∷ [] → IsDir es m → child m n ≡ None → Becomes m k n (Some t) → IsMade es ps t (dir_rows k)
 made_here es m k n ps t e d g b =
     let free : (q : Path) → at es (n ∷ q) ≡ None = found es m n None d (sym g) in
     let walk : walk_fault (at es) (n ∷ []) ≡ None = ap (λ o. parent_fault o None) (at_top es m d) in
     subst (λ (p : Path). IsMade es p t (dir_rows k)) (sym e) (made_fault (at es) (n ∷ []) refl walk (free []), free, graft_here es m k n (Some t) d b)
 
 -- what stood there, put back in place of what came
-pub put_back : (es : List (Path × Form)) (m k l : Children) (n : List ℕ) (t w : Tree) → IsDir es m → Some w ≡ get_by_text m n → Becomes m k n (Some t) → Becomes k l n (Some w) → IsSame es (dir_rows l)
+pub put_back : (es : List (Path × Form)) (m k l : Children) (n : List ℕ) (t w : Tree) → IsDir es m → Some w ≡ child m n → Becomes m k n (Some t) → Becomes k l n (Some w) → IsSame es (dir_rows l)
 put_back es m k l n t w d g b c [] = sym (at_top es m d)
 put_back es m k l n t w d g b c (x ∷ q) =
     at_changed (dir_rows k) k l n (Some w) (record { is = refl; ordered = b.ordered }) c x q

@@ -1,5 +1,5 @@
 -- The counts of a listing, child by child.
-use Rattle.std.proofs.Common.{◌≡◌, ◌≤◌, ◌<◌, ℕ, ◌+◌, ◌-◌, ◌^◌, List, [], ◌∷◌, ◌++◌, length, refl, sym, ap, ◌∙◌, String, Global, arith, length-append}
+use Rattle.std.proofs.Common.{◌≡◌, ◌≤◌, ◌<◌, ℕ, ◌+◌, ◌-◌, ◌^◌, List, [], ◌∷◌, ◌++◌, length, refl, sym, ap, ◌∙◌, String, Global, Box, subst, arith, length-append}
 use Rattle.std.proofs.Math.Decide.{dec_le}
 use Rattle.std.specs.String.{string_bytes}
 use Rattle.nn_types.specs.Path.{joined}
@@ -8,7 +8,10 @@ use Rattle.nn_model.specs.declared.form.Form.TheVariants.{Dir}
 use Rattle.nn_model.specs.Namespace.{Path}
 use Rattle.nn_tree.specs.declared.listing.Extent.{Extent}
 use Rattle.nn_tree.specs.Extent.{capped, path_bytes, block_count, bytes_below}
-use Rattle.nn_tree.specs.Flat.{under, below}
+use Rattle.nn_tree.specs.Flat.{flat, under, below}
+use Rattle.nn_tree.specs.declared.tree.Tree.{Tree}
+use Rattle.nn_tree.specs.declared.tree.Node.{Node}
+use Rattle.nn_tree.specs.declared.tree.Node.TheVariants.{Narrow}
 use Rattle.nn_tree.specs.Falls.{length-under}
 use Rattle.nn_tree.proofs.Listings.{below-push}
 
@@ -78,6 +81,14 @@ one_counted b c cs k es first before after h start e =
       blocks = again first.blocks (block_count rows) (block_count es) before.blocks after.blocks h.blocks e.blocks
           ∙ ap (λ m. capped (first.blocks + m)) (sym blocks);
     }
+
+-- a directory of one child
+pub narrow_counted : (es : List (Path × Form)) (node : Node) (k : String Global) (t : Box Tree Global) (b : ℕ) (first before after : Extent) (c : ℕ) (below_it : List (Path × Form))
+    → flat node ≡ es → node ≡ Narrow k t → below_it ≡ t.value → Counted b first (([], Dir) ∷ []) before
+    → c ≡ capped (b + 1 + length (string_bytes k)) → Counted c before below_it after → Counted b first es after
+narrow_counted es node k t b first before after c below_it v e same own start more =
+    subst (λ rows. Counted b first rows after) (sym (ap flat e) ∙ v)
+    (one_counted b c [] k t.value first before after own start (subst (λ rows. Counted c before rows after) same more))
 
 -- ---- the root
 

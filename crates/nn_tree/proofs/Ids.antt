@@ -1,5 +1,5 @@
 -- The ids of a directory are those of its children, one after another.
-use Rattle.std.proofs.Common.{◌≡◌, ℕ, List, [], ◌∷◌, ◌++◌, map, append_assoc, refl, sym, ap, ◌∙◌, String, Global, Bor}
+use Rattle.std.proofs.Common.{◌≡◌, ℕ, List, [], ◌∷◌, ◌++◌, map, append_assoc, refl, sym, ap, ◌∙◌, String, Global, Bor, BTreeMap, Box}
 use Rattle.std.specs.Map.{values_of}
 use Rattle.std.specs.String.{string_bytes}
 use Rattle.nn_model.specs.declared.form.Form.{Form}
@@ -8,8 +8,7 @@ use Rattle.nn_tree.specs.Flat.{flat, below, under}
 use Rattle.nn_tree.specs.Ids.{ids_of, ids_of_all, row_ids}
 use Rattle.nn_tree.specs.declared.tree.Tree.{Tree}
 use Rattle.nn_tree.specs.declared.tree.Node.{Node}
-use Rattle.nn_tree.specs.declared.tree.Node.TheVariants.{Folder}
-use Rattle.nn_tree.proofs.Subtree.{Children}
+use Rattle.nn_tree.specs.declared.tree.Node.TheVariants.{Folder, Narrow}
 
 nil_right : (xs : List ℕ) → xs ++ [] ≡ xs
 nil_right [] = refl
@@ -31,5 +30,8 @@ pub ids_below : (cs : List (String Global × List (Path × Form))) → ids_of (b
 ids_below [] = refl
 ids_below (c ∷ cs) = ids_append (under (string_bytes c.0) c.1) (below cs) ∙ ap (λ r. r ++ ids_of (below cs)) (ids_under (string_bytes c.0) c.1) ∙ ap (λ r. ids_of c.1 ++ r) (ids_below cs)
 
-pub ids_of_dir : (es : List (Path × Form)) (node : Node) (m : Children) → flat node ≡ es → node ≡ Folder m → ids_of_all (values_of m.entries) ≡ ids_of es
+pub ids_of_dir : (es : List (Path × Form)) (node : Node) (m : BTreeMap (String Global) Tree) → flat node ≡ es → node ≡ Folder m → ids_of_all (values_of m.entries) ≡ ids_of es
 ids_of_dir es node m v e = sym (ids_below m.entries) ∙ ap ids_of (sym (ap flat e) ∙ v)
+
+pub ids_of_narrow : (es : List (Path × Form)) (node : Node) (k : String Global) (t : Box Tree Global) → flat node ≡ es → node ≡ Narrow k t → ids_of t.value ≡ ids_of es
+ids_of_narrow es node k t v e = sym (nil_right (ids_of t.value)) ∙ sym (ids_below ((k, t.value) ∷ [])) ∙ ap ids_of (sym (ap flat e) ∙ v)

@@ -22,7 +22,7 @@ use Rattle.nn_model.specs.declared.form.Form.TheVariants.{File}
 use Rattle.nn_tree.specs.declared.listing.ListFault.{ListFault}
 use Rattle.nn_tree.specs.declared.listing.ListFault.TheVariants.{Sink, OutOfMemory}
 use Rattle.nn_tree.specs.declared.tree.Node.{Node}
-use Rattle.nn_tree.specs.declared.tree.Node.TheVariants.{Folder, Leaf}
+use Rattle.nn_tree.specs.declared.tree.Node.TheVariants.{Folder, Narrow, Leaf}
 use Rattle.nn_tree.specs.Listing.{lent_names, Took, FailsAt, StopsIn}
 use Rattle.nn_tree.specs.Flat.{under, under_all, below, flat}
 use Rattle.nn_tree.proofs.Sorted.{AllSorted}
@@ -132,6 +132,7 @@ below-append (c ∷ cs) ds = ap (λ r. under (string_bytes c.0) c.1 ++ r) (below
 -- the first row of a node is its own
 flat_top : (node : Node) → (d : Form) × (rest : List (Path × Form)) × (flat node ≡ ([], d) ∷ rest)
 flat_top (Folder m) = (Dir, below m.entries, refl)
+flat_top (Narrow k t) = (Dir, below ((k, t.value) ∷ []), refl)
 flat_top (Leaf file) = (File file, [], refl)
 
 module _ {S E : Type 0} (takes : S → Path × Form → S → Type 0) (fails : S → Path × Form → E → S → Type 0) where

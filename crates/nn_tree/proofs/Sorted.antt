@@ -1,5 +1,5 @@
 -- The paths of a tree are in path order.
-use Rattle.std.proofs.Common.{◌≡◌, ℕ, true, ◌&&◌, List, [], ◌∷◌, ◌++◌, map, refl, sym, ap, subst, ◌∙◌, String, Global, Bor}
+use Rattle.std.proofs.Common.{◌≡◌, ℕ, true, ◌&&◌, List, [], ◌∷◌, ◌++◌, map, refl, sym, ap, subst, ◌∙◌, String, Global, Bor, BTreeMap, Box}
 use Rattle.std.specs.declared.cmp.Ordering.TheVariants.{Less}
 use Rattle.std.specs.Ordering.{is_lt, ordering_then}
 use Rattle.std.specs.List.{AllByRecursion}
@@ -17,9 +17,9 @@ use Rattle.nn_model.specs.Namespace.{Path}
 use Rattle.nn_tree.specs.Flat.{flat, below, under, IsInOrder}
 use Rattle.nn_tree.specs.At.{name_cmp}
 use Rattle.nn_tree.specs.declared.tree.Tree.{Tree}
+use Rattle.nn_tree.proofs.Subtree.{one_in_order}
 use Rattle.nn_tree.specs.declared.tree.Node.{Node}
-use Rattle.nn_tree.specs.declared.tree.Node.TheVariants.{Folder, Leaf}
-use Rattle.nn_tree.proofs.Subtree.{Children}
+use Rattle.nn_tree.specs.declared.tree.Node.TheVariants.{Folder, Narrow, Leaf}
 
 abbrev pub AllSorted : List (List (Path × Form)) → Type 0
 AllSorted [] = Unit {0}
@@ -72,9 +72,14 @@ root_below : (cs : List (String Global × List (Path × Form))) → below_all pa
 root_below [] = refl
 root_below (c ∷ cs) = root_under (string_bytes c.0) c.1 (below cs) (root_below cs)
 
-pub sorted_dir : (es : List (Path × Form)) (node : Node) (m : Children) → flat node ≡ es → IsInOrder node → node ≡ Folder m → AllSorted (values_of m.entries) → is_sorted path_cmp es ≡ true
+pub sorted_dir : (es : List (Path × Form)) (node : Node) (m : BTreeMap (String Global) Tree) → flat node ≡ es → IsInOrder node → node ≡ Folder m → AllSorted (values_of m.entries) → is_sorted path_cmp es ≡ true
 sorted_dir es node m v o e a =
     ap (is_sorted path_cmp) (sym v ∙ ap flat e) ∙ and_from (below_all path_cmp [] (below m.entries)) (is_sorted path_cmp (below m.entries)) (root_below m.entries) (sorted_below m.entries (subst IsInOrder e o) a)
+
+pub sorted_narrow : (es : List (Path × Form)) (node : Node) (k : String Global) (t : Box Tree Global) → flat node ≡ es → node ≡ Narrow k t → is_sorted path_cmp t.value ≡ true → is_sorted path_cmp es ≡ true
+sorted_narrow es node k t v e a =
+    let cs : List (String Global × List (Path × Form)) = (k, t.value) ∷ [] in
+    ap (is_sorted path_cmp) (sym v ∙ ap flat e) ∙ and_from (below_all path_cmp [] (below cs)) (is_sorted path_cmp (below cs)) (root_below cs) (sorted_below cs (one_in_order k) (a, tt))
 
 pub sorted_file : (es : List (Path × Form)) (node : Node) (f : Rattle.nn_model.specs.declared.form.FileRow.FileRow) → flat node ≡ es → node ≡ Leaf f → is_sorted path_cmp es ≡ true
 sorted_file es node f v e = ap (is_sorted path_cmp) (sym v ∙ ap flat e)

@@ -1,8 +1,11 @@
 -- A directory in which one child changes.
-use Rattle.std.proofs.Common.{◌≡◌, Result, Ok, Err, OnOk, OnErr, ℕ, Bool, true, false, cond, List, [], ◌∷◌, ◌++◌, Option, Some, None, IsSome, refl, sym, ap, subst, ◌∙◌}
+use Rattle.std.proofs.Common.{◌≡◌, Result, Ok, Err, OnOk, OnErr, ℕ, Bool, true, false, cond, List, [], ◌∷◌, ◌++◌, Option, Some, None, IsSome, refl, sym, ap, subst, ◌∙◌, not, String, Global, BTreeMap}
+use Rattle.std.specs.Map.{keys_of}
+use Rattle.std.specs.List.Sorted.{IsStrictlySortedBy}
 use Rattle.std.specs.BTreeMap.{get_by_text, IsOrdered, UpdatesBy, WritesThrough}
 use Rattle.std.specs.Ordering.{is_eq, nat_cmp}
-use Rattle.std.specs.Cmp.Lexicographic.{slice_cmp}
+use Rattle.std.specs.Cmp.Lexicographic.{slice_cmp, nat_list_eq_equiv, bytes_decides}
+use Rattle.std.specs.Str.{bytes_eq}
 use Rattle.std.specs.String.{string_bytes, string_cmp}
 use Rattle.std.proofs.lemmas.Map.Text.{is_eq-slice_cmp, btree_map_updates_text}
 use Rattle.nn_model.specs.declared.form.Form.{Form}
@@ -10,7 +13,7 @@ use Rattle.nn_model.specs.Namespace.{Path}
 use Rattle.nn_tree.specs.At.{at, rows, name_cmp, grafted, IsSubtree, IsGrafted, IsSame}
 use Rattle.nn_tree.specs.declared.tree.Tree.{Tree}
 use Rattle.nn_tree.proofs.Below.{at-below}
-use Rattle.nn_tree.proofs.Subtree.{Children, dir_rows, IsDir, at_top, at_child}
+use Rattle.nn_tree.proofs.Subtree.{none_in_order, one_in_order, Children, child, dir_rows, IsDir, at_top, at_child, found}
 use Rattle.std.specs.declared.cmp.Ordering.{Ordering}
 use Rattle.std.specs.declared.cmp.Ordering.TheVariants.{Less, Equal, Greater}
 use Rattle.std.specs.FinMap.{slice_cmp-IsAntisymmetric, nat_cmp-IsAntisymmetric}
@@ -26,20 +29,88 @@ rows_cond false o p q = refl
 
 -- the children k are m with o at the name n
 pub record Becomes (m k : Children) (n : List ℕ) (o : Option Tree) : Type 0 where
-  pub updates : UpdatesBy string_cmp (λ s. slice_cmp nat_cmp n (string_bytes s)) m k o
-  pub ordered : IsOrdered string_cmp k
+  pub updates : (x : List ℕ) → child k x ≡ cond (is_eq (name_cmp n x)) o (child m x)
+  pub ordered : IsStrictlySortedBy string_cmp (keys_of k)
+
+abbrev pub Map : Type 0
+Map = BTreeMap (String Global) Tree
+
+-- after a change of a map at one name
+pub changed : (m k : Map) (n : List ℕ) (o : Option Tree) → UpdatesBy string_cmp (λ s. slice_cmp nat_cmp n (string_bytes s)) m k o → IsOrdered string_cmp k → Becomes m.entries k.entries n o
+changed m k n o u s = record { updates = λ x. btree_map_updates_text n m k o u x ∙ ap (λ c. cond c o (get_by_text m x)) (sym (is_eq-slice_cmp n x)); ordered = s }
 
 -- after a write through `get_mut`
-pub written : (m k : Children) (n : List ℕ) (t w : Tree) → Some t ≡ get_by_text m n → WritesThrough string_cmp (λ s. slice_cmp nat_cmp n (string_bytes s)) m w k → Becomes m k n (Some w)
-written m k n t w g h = record { updates = h.3 (subst IsSome g refl); ordered = h.4 }
+pub written : (m k : Map) (n : List ℕ) (t w : Tree) → Some t ≡ get_by_text m n → WritesThrough string_cmp (λ s. slice_cmp nat_cmp n (string_bytes s)) m w k → Becomes m.entries k.entries n (Some w)
+written m k n t w g h = changed m k n (Some w) (h.3 (subst IsSome g refl)) h.4
+
+-- a name is another one where that is the first one
+turned : (n x : List ℕ) → is_eq (name_cmp x n) ≡ is_eq (name_cmp n x)
+turned n x = is_eq-slice_cmp x n ∙ nat_list_eq_equiv.symm x n ∙ sym (is_eq-slice_cmp n x)
+
+overwritten : (a b : Bool) (v u : Option Tree) → a ≡ b → cond a v None ≡ cond b v (cond a u None)
+overwritten true true v u e = refl
+overwritten true false v u e = cc
+overwritten false true v u e = cc
+overwritten false false v u e = refl
+
+erased : (a b : Bool) (u : Option Tree) → a ≡ b → None ≡ cond b None (cond a u None)
+erased true true u e = refl
+erased true false u e = cc
+erased false true u e = cc
+erased false false u e = refl
+
+-- the one child of a directory, k, which is called n, becomes w
+pub one_written : (k : String Global) (n : List ℕ) (t w : Tree) → string_bytes k ≡ n → Becomes ((k, t) ∷ []) ((k, w) ∷ []) n (Some w)
+one_written k n t w e = subst (λ x. Becomes ((k, t) ∷ []) ((k, w) ∷ []) x (Some w)) e
+    (record { updates = λ x. overwritten _ _ (Some w) (Some t) (turned (string_bytes k) x); ordered = one_in_order k })
+
+-- a directory gets its first child
+pub one_made : (k : String Global) (n : List ℕ) (w : Tree) → string_bytes k ≡ n → Becomes [] ((k, w) ∷ []) n (Some w)
+one_made k n w e = subst (λ x. Becomes [] ((k, w) ∷ []) x (Some w)) e
+    (record { updates = λ x. ap (λ b. cond b (Some w) None) (turned (string_bytes k) x); ordered = one_in_order k })
+
+-- the one child of a directory goes
+pub one_gone : (k : String Global) (n : List ℕ) (t : Tree) → string_bytes k ≡ n → Becomes ((k, t) ∷ []) [] n None
+one_gone k n t e = subst (λ x. Becomes ((k, t) ∷ []) [] x None) e
+    (record { updates = λ x. erased _ _ (Some t) (turned (string_bytes k) x); ordered = none_in_order })
+
+-- what a comparison of names tells: the child k is called n, or it isn't
+pub called : (k : String Global) (a n : List ℕ) → a ≡ string_bytes k → true ≡ bytes_eq a n → string_bytes k ≡ n
+called k a n e h = sym e ∙ (bytes_decides a n).0 (sym h)
+
+pub called_else : (k : String Global) (a n : List ℕ) → a ≡ string_bytes k → false ≡ bytes_eq a n → bytes_eq (string_bytes k) n ≡ false
+called_else k a n e h = subst (λ x. bytes_eq x n ≡ false) e (sym h)
+
+not_false : (b : Bool) → false ≡ not b → true ≡ b
+not_false true h = refl
+not_false false h = cc
+
+not_true : (b : Bool) → true ≡ not b → false ≡ b
+not_true true h = cc
+not_true false h = refl
+
+pub is_called : (k : String Global) (a n : List ℕ) → a ≡ string_bytes k → false ≡ not (bytes_eq a n) → string_bytes k ≡ n
+is_called k a n e h = called k a n e (not_false _ h)
+
+pub is_called_else : (k : String Global) (a n : List ℕ) → a ≡ string_bytes k → true ≡ not (bytes_eq a n) → bytes_eq (string_bytes k) n ≡ false
+is_called_else k a n e h = called_else k a n e (not_true _ h)
+
+-- what a directory of one child has under its name, and under another one
+pub one_found : (es : List (Path × Form)) (k : String Global) (n : List ℕ) (t w : Tree) → IsDir es ((k, t) ∷ []) → string_bytes k ≡ n → w ≡ t → (q : Path) → at es (n ∷ q) ≡ at w q
+one_found es k n t w d e s q =
+    found es ((k, t) ∷ []) n (Some t) d (ap (λ b. cond b (Some t) None) (sym (is_eq-slice_cmp n (string_bytes k) ∙ (bytes_decides n (string_bytes k)).1 (sym e)))) q
+    ∙ ap (λ x. at x q) (sym s)
+
+pub one_other : (es : List (Path × Form)) (k : String Global) (n : List ℕ) (t : Tree) → IsDir es ((k, t) ∷ []) → bytes_eq (string_bytes k) n ≡ false → (q : Path) → at es (n ∷ q) ≡ None
+one_other es k n t d e =
+    found es ((k, t) ∷ []) n None d (ap (λ b. cond b (Some t) None) (sym (is_eq-slice_cmp n (string_bytes k) ∙ nat_list_eq_equiv.symm n (string_bytes k) ∙ e)))
 
 -- a directory's rows below a name, after its child of the name n has become o
 pub at_changed : (es : List (Path × Form)) (m k : Children) (n : List ℕ) (o : Option Tree) → IsDir es m → Becomes m k n o → (x : List ℕ) (q : Path) → at (dir_rows k) (x ∷ q) ≡ cond (is_eq (name_cmp n x)) (rows o q) (at es (x ∷ q))
 at_changed es m k n o d b x q =
-    at-below x q k.entries b.ordered
-    ∙ ap (λ p. rows p q) (btree_map_updates_text n m k o b.updates x)
-    ∙ ap (λ c. rows (cond c o (get_by_text m x)) q) (sym (is_eq-slice_cmp n x))
-    ∙ rows_cond (is_eq (name_cmp n x)) o (get_by_text m x) q
+    at-below x q k b.ordered
+    ∙ ap (λ p. rows p q) (b.updates x)
+    ∙ rows_cond (is_eq (name_cmp n x)) o (child m x) q
     ∙ ap (λ r. cond (is_eq (name_cmp n x)) (rows o q) r) (sym (at_child es m x q d))
 
 -- the child of the name n becomes o

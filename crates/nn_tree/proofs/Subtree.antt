@@ -1,8 +1,11 @@
 -- What stands below a directory's child.
-use Rattle.std.proofs.Common.{◌≡◌, ℕ, true, List, [], ◌∷◌, ◌++◌, ◌<◌, length, Option, Some, None, IsSome, refl, sym, ap, subst, ◌∙◌, String, Global, arith, BTreeMap}
+use Rattle.std.proofs.Common.{◌≡◌, ℕ, true, List, [], ◌∷◌, ◌++◌, ◌<◌, length, Option, Some, None, IsSome, refl, sym, ap, subst, ◌∙◌, String, Global, arith, BTreeMap, Box}
 use Rattle.std.specs.Bool.{◌==◌}
 use Rattle.std.proofs.lemmas.Bool.{eqb-true}
-use Rattle.std.specs.BTreeMap.{get_by_text, IsOrdered}
+use Rattle.std.specs.BTreeMap.{is_at}
+use Rattle.std.specs.Map.{lookup, keys_of}
+use Rattle.std.specs.List.Sorted.{IsStrictlySortedBy}
+use Rattle.std.proofs.lemmas.Map.Text.{text_cmp}
 use Rattle.std.specs.String.{string_cmp}
 use Rattle.nn_model.specs.declared.form.Form.{Form}
 use Rattle.nn_model.specs.Namespace.{Path}
@@ -12,36 +15,56 @@ use Rattle.nn_tree.specs.Flat.{flat, below, IsInOrder}
 use Rattle.nn_tree.specs.At.{at, rows, IsSubtree}
 use Rattle.nn_tree.specs.declared.tree.Tree.{Tree}
 use Rattle.nn_tree.specs.declared.tree.Node.{Node}
-use Rattle.nn_tree.specs.declared.tree.Node.TheVariants.{Folder, Leaf}
+use Rattle.nn_tree.specs.declared.tree.Node.TheVariants.{Folder, Narrow, Leaf}
 use Rattle.nn_tree.proofs.Below.{at-below}
 
 -- a directory's children by name
 abbrev pub Children : Type 0
-Children = BTreeMap (String Global) Tree
+Children = List (String Global × Tree)
 
--- the rows of a directory with the children m
+-- the child of the name n
+abbrev pub child : Children → List ℕ → Option Tree
+child cs n = lookup (is_at (text_cmp n)) cs
+
+-- the rows of a directory with the children cs
 abbrev pub dir_rows : Children → List (Path × Form)
-dir_rows m = ([], Dir) ∷ below m.entries
+dir_rows cs = ([], Dir) ∷ below cs
 
--- es are the rows of an opened directory with the children m
-pub record IsDir (es : List (Path × Form)) (m : Children) : Type 0 where
-  pub is : dir_rows m ≡ es
-  pub ordered : IsOrdered string_cmp m
+-- es are the rows of an opened directory with the children cs
+pub record IsDir (es : List (Path × Form)) (cs : Children) : Type 0 where
+  pub is : dir_rows cs ≡ es
+  pub ordered : IsStrictlySortedBy string_cmp (keys_of cs)
 
-pub opened : (es : List (Path × Form)) (node : Node) (m : Children) → flat node ≡ es → IsInOrder node → node ≡ Folder m → IsDir es m
+-- fewer than two names are in order
+pub none_in_order : IsStrictlySortedBy {K = String Global} string_cmp []
+unfolding IsStrictlySortedBy
+none_in_order = tt
+
+pub one_in_order : (k : String Global) → IsStrictlySortedBy string_cmp (k ∷ [])
+unfolding IsStrictlySortedBy
+one_in_order k = (tt, tt)
+
+pub opened : (es : List (Path × Form)) (node : Node) (m : BTreeMap (String Global) Tree) → flat node ≡ es → IsInOrder node → node ≡ Folder m → IsDir es m.entries
 opened es node m v i e = record { is = sym (ap flat e) ∙ v; ordered = subst IsInOrder e i }
+
+pub opened_narrow : (es : List (Path × Form)) (node : Node) (k : String Global) (t : Box Tree Global) → flat node ≡ es → node ≡ Narrow k t → IsDir es ((k, t.value) ∷ [])
+opened_narrow es node k t v e = record { is = sym (ap flat e) ∙ v; ordered = one_in_order k }
 
 pub no_names : (ps : Path) → length ps ≡ 0 → ps ≡ []
 no_names [] e = refl
 no_names (p ∷ ps) e = absurd (omega arith)
 
+pub no_children : (cs : Children) → length cs ≡ 0 → cs ≡ []
+no_children [] e = refl
+no_children (c ∷ cs) e = absurd (omega arith)
+
 pub at_top : (es : List (Path × Form)) (m : Children) → IsDir es m → at es [] ≡ Some Dir
 at_top es m d = sym (ap (λ z. at z []) d.is)
 
-pub at_child : (es : List (Path × Form)) (m : Children) (n : List ℕ) (q : Path) → IsDir es m → at es (n ∷ q) ≡ rows (get_by_text m n) q
-at_child es m n q d = sym (ap (λ z. at z (n ∷ q)) d.is) ∙ at-below n q m.entries d.ordered
+pub at_child : (es : List (Path × Form)) (m : Children) (n : List ℕ) (q : Path) → IsDir es m → at es (n ∷ q) ≡ rows (child m n) q
+at_child es m n q d = sym (ap (λ z. at z (n ∷ q)) d.is) ∙ at-below n q m d.ordered
 
-pub found : (es : List (Path × Form)) (m : Children) (n : List ℕ) (o : Option Tree) → IsDir es m → o ≡ get_by_text m n → (q : Path) → at es (n ∷ q) ≡ rows o q
+pub found : (es : List (Path × Form)) (m : Children) (n : List ℕ) (o : Option Tree) → IsDir es m → o ≡ child m n → (q : Path) → at es (n ∷ q) ≡ rows o q
 found es m n o d g q = at_child es m n q d ∙ ap (λ r. rows r q) (sym g)
 
 pub at_file : (es : List (Path × Form)) (node : Node) (f : FileRow) (n : List ℕ) (q : Path) → flat node ≡ es → node ≡ Leaf f → at es (n ∷ q) ≡ None
@@ -56,6 +79,12 @@ subtree_below es t n ns ps o e h k q = ap (λ p. at es (p ++ q)) e ∙ h (ns ++ 
 -- where the first name has no child
 pub no_child : (es : List (Path × Form)) (n : List ℕ) (ns ps : Path) → ps ≡ n ∷ ns → ((q : Path) → at es (n ∷ q) ≡ None) → IsSubtree es ps None
 no_child es n ns ps e h q = ap (λ p. at es (p ++ q)) e ∙ h (ns ++ q)
+
+-- what is no directory is a file
+pub leaf_of : (node : Node) → ((k : String Global) (t : Box Tree Global) → node ≡ Narrow k t → ⊥) → ((m : BTreeMap (String Global) Tree) → node ≡ Folder m → ⊥) → (f : FileRow) × (node ≡ Leaf f)
+leaf_of (Folder m) h k = absurd (k m refl)
+leaf_of (Narrow n t) h k = absurd (h n t refl)
+leaf_of (Leaf f) h k = (f, refl)
 
 -- below a file there is nothing
 pub none_in_file : (es : List (Path × Form)) (node : Node) (f : FileRow) (ps : Path) → flat node ≡ es → node ≡ Leaf f → 0 < length ps → IsSubtree es ps None

@@ -4,7 +4,7 @@ use Rattle.std.proofs.Common.{◌≡◌, refl, ap, arith, length-append, String,
 use denote.Param.Weighed.{most}
 use Rattle.std.specs.Map.{values_of}
 use Rattle.nn_tree.specs.declared.tree.Node.{Node}
-use Rattle.nn_tree.specs.declared.tree.Node.TheVariants.{Folder, Leaf}
+use Rattle.nn_tree.specs.declared.tree.Node.TheVariants.{Folder, Narrow, Leaf}
 use Rattle.nn_tree.specs.declared.tree.Tree.TheDeep.{deep-Node}
 use Rattle.nn_model.specs.declared.form.Form.{Form}
 use Rattle.nn_model.specs.Namespace.{Path}
@@ -22,4 +22,5 @@ most_le-length-below (c ∷ cs) =
 
 pub deep_le-length-flat : (n : Node) → max (deep-Node n) 0 ≤ length (flat n)
 deep_le-length-flat (Folder m) = omega (arith, most_le-length-below m.entries)
+deep_le-length-flat (Narrow n t) = omega (arith, most_le-length-below ((n, t.value) ∷ []))
 deep_le-length-flat (Leaf f) = omega arith

@@ -7,7 +7,7 @@ use Rattle.nn_model.specs.declared.form.Form.{Form}
 use Rattle.nn_model.specs.Namespace.{Path}
 use Rattle.nn_model.specs.declared.form.Form.TheVariants.{Dir, File}
 use Rattle.nn_tree.specs.declared.tree.Node.{Node}
-use Rattle.nn_tree.specs.declared.tree.Node.TheVariants.{Folder, Leaf}
+use Rattle.nn_tree.specs.declared.tree.Node.TheVariants.{Folder, Narrow, Leaf}
 
 -- each path, below the name n
 abbrev pub under : List ℕ → List (Path × Form) → List (Path × Form)
@@ -27,9 +27,11 @@ below (c ∷ cs) = under (string_bytes c.0) c.1 ++ below cs
 -- the paths of a node, itself first
 abbrev pub flat : Node → List (Path × Form)
 flat (Folder m) = ([], Dir) ∷ below m.entries
+flat (Narrow n t) = ([], Dir) ∷ below ((n, t.value) ∷ [])
 flat (Leaf f) = ([], File f) ∷ []
 
 -- the names in a directory are in order
 abbrev pub IsInOrder : Node → Type 0
 IsInOrder (Folder m) = IsOrdered string_cmp m
+IsInOrder (Narrow n t) = Unit {0}
 IsInOrder (Leaf f) = Unit {0}

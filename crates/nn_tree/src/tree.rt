@@ -42,6 +42,8 @@ pub(crate) struct Tree {
 enum Node {
     // The children of a directory by their names.
     Folder(BTreeMap<String, Tree>),
+    // A directory with one child. A map takes a node for 15 entries at once, and most directories of a deep tree have one.
+    Narrow(String, Box<Tree>),
     Leaf(FileRow),
 }
 
@@ -91,6 +93,12 @@ impl Tree {
         let Some((first, rest)) = names.split_first() else {
             return Some(self);
         };
+        if let Node::Narrow(name, child) = &self.node {
+            if name.as_str() != first {
+                return None;
+            }
+            return child.node(&rest);
+        }
         let Node::Folder(children) = &self.node else {
             return None;
         };
@@ -110,46 +118,104 @@ impl Tree {
         ensures ok { OnOk result (IsMade self.old names.now tree self.new) }
         ensures err { OnErr result (IsSame self.old self.new) }
     {
-        let Node::Folder(children) = &mut self.node else {
-            return Err(Unchanged);
-        };
         let Some((first, rest)) = names.split_first() else {
             return Err(Unchanged);
         };
         if rest.is_empty() {
-            let Ok(name) = String::from_str(alloc, first) else {
-                return Err(Unchanged);
-            };
-            let Ok(before) = children.insert(name, tree) else {
-                return Err(Unchanged);
-            };
-            let Some(before) = before else {
-                return Ok(());
-            };
-            // One search serves where nothing stood. What did stand is put back.
-            let Some(place) = children.get_mut(first) else {
-                unreachable!()
-            };
-            *place = before;
-            return Err(Unchanged);
+            return self.add(alloc, first, tree);
         }
+        if let Node::Narrow(name, child) = &mut self.node {
+            if name.as_str() != first {
+                return Err(Unchanged);
+            }
+            return child.make(alloc, &rest, tree);
+        }
+        let Node::Folder(children) = &mut self.node else {
+            return Err(Unchanged);
+        };
         let Some(child) = children.get_mut(first) else {
             return Err(Unchanged);
         };
         child.make(alloc, &rest, tree)
     }
 
+    // Puts a tree into a directory, under a name that no child has.
+    fn add(&mut self, alloc: Global, name: &str, tree: Tree) -> Result<(), Unchanged>
+        ensures ok { OnOk result (IsMade self.old (name.now ∷ []) tree self.new) }
+        ensures err { OnErr result (IsSame self.old self.new) }
+    {
+        let Ok(()) = self.widen(alloc) else {
+            return Err(Unchanged);
+        };
+        let Node::Folder(children) = &mut self.node else {
+            return Err(Unchanged);
+        };
+        let Ok(key) = String::from_str(alloc, name) else {
+            return Err(Unchanged);
+        };
+        if children.is_empty() {
+            let Ok(child) = Box::new(alloc, tree) else {
+                return Err(Unchanged);
+            };
+            self.node = Node::Narrow(key, child);
+            return Ok(());
+        }
+        let Ok(before) = children.insert(key, tree) else {
+            return Err(Unchanged);
+        };
+        let Some(before) = before else {
+            return Ok(());
+        };
+        // One search serves where nothing stood. What did stand is put back.
+        let Some(place) = children.get_mut(name) else {
+            unreachable!()
+        };
+        *place = before;
+        Err(Unchanged)
+    }
+
+    // Gives a directory of one child a map, where memory allows. Its rows stay.
+    fn widen(&mut self, alloc: Global) -> Result<(), Unchanged>
+        ensures { self.new ≡ self.old }
+    {
+        let Node::Narrow(name, child) = &mut self.node else {
+            return Ok(());
+        };
+        let own = mem::replace(name, String::new(alloc));
+        let tree = mem::replace(&mut **child, Tree::new_dir(alloc));
+        let mut children = BTreeMap::new(alloc);
+        if let Err(refused) = children.insert(own, tree) {
+            let (own, tree) = refused.value;
+            *name = own;
+            **child = tree;
+            return Err(Unchanged);
+        }
+        self.node = Node::Folder(children);
+        Ok(())
+    }
+
     /// Takes out what stands at the path.
-    pub(crate) fn take(&mut self, names: &Names<'_>) -> Option<Tree>
+    pub(crate) fn take(&mut self, alloc: Global, names: &Names<'_>) -> Option<Tree>
         requires { 0 < length names.now }
         ensures walked { IfSome result (λ t. walk_fault (at self.old) names.now ≡ None) }
         ensures taken { IsSubtree self.old names.now result }
         ensures gone { IsGrafted self.old names.now None self.new }
     {
-        let Node::Folder(children) = &mut self.node else {
+        let Some((first, rest)) = names.split_first() else {
             return None;
         };
-        let Some((first, rest)) = names.split_first() else {
+        if let Node::Narrow(name, child) = &mut self.node {
+            if name.as_str() != first {
+                return None;
+            }
+            if !rest.is_empty() {
+                return child.take(alloc, &rest);
+            }
+            let tree = mem::replace(&mut **child, Tree::new_dir(alloc));
+            self.node = Node::Folder(BTreeMap::new(alloc));
+            return Some(tree);
+        }
+        let Node::Folder(children) = &mut self.node else {
             return None;
         };
         if rest.is_empty() {
@@ -158,7 +224,7 @@ impl Tree {
         let Some(child) = children.get_mut(first) else {
             return None;
         };
-        child.take(&rest)
+        child.take(alloc, &rest)
     }
 
     /// Puts a tree in place of what stands at the path, and gives that back.
@@ -170,6 +236,12 @@ impl Tree {
         let Some((first, rest)) = names.split_first() else {
             return mem::replace(self, tree);
         };
+        if let Node::Narrow(name, child) = &mut self.node {
+            if name.as_str() != first {
+                unreachable!()
+            }
+            return child.put(&rest, tree);
+        }
         let Node::Folder(children) = &mut self.node else {
             unreachable!()
         };
@@ -189,6 +261,15 @@ impl Tree {
             let _ = &self.node;
             return Ok(Some(self));
         };
+        if let Node::Narrow(name, child) = &self.node {
+            if name.as_str() == first {
+                return child.reach(&rest);
+            }
+            if rest.is_empty() {
+                return Ok(None);
+            }
+            return Err(EditFault::Missing);
+        }
         let Node::Folder(children) = &self.node else {
             return Err(EditFault::NotDirectory);
         };
@@ -235,6 +316,7 @@ impl Tree {
     {
         match &self.node {
             Node::Folder(_) => Found::Dir,
+            Node::Narrow(_, _) => Found::Dir,
             Node::Leaf(file) => Found::File(file),
         }
     }
@@ -297,8 +379,8 @@ impl Tree {
         let Ok(()) = self.make(alloc, dst, Tree::new_dir(alloc)) else {
             return Err(Unchanged);
         };
-        let Some(tree) = self.take(src) else {
-            let _placeholder = self.take(dst);
+        let Some(tree) = self.take(alloc, src) else {
+            let _placeholder = self.take(alloc, dst);
             return Err(Unchanged);
         };
         let _found = tree.top();
@@ -320,6 +402,16 @@ impl Tree {
         let node = &self.node;
         if let Err(fault) = sink.row(names, self.top()) {
             return Err(ListFault::Sink(fault));
+        }
+        if let Node::Narrow(name, child) = node {
+            let Ok(()) = names.push(name.as_str()) else {
+                return Err(ListFault::OutOfMemory);
+            };
+            if let Err(fault) = child.list_to(names, sink) {
+                return Err(fault);
+            }
+            names.pop();
+            return Ok(());
         }
         let Node::Folder(children) = node else {
             return Ok(());
@@ -346,6 +438,10 @@ impl Tree {
     {
         let children = match &self.node {
             Node::Leaf(file) => return extent.add(bytes, file.blocks.as_slice().len()),
+            Node::Narrow(name, child) => {
+                extent.add(bytes, 0);
+                return child.measure(bytes.saturating_add(1).saturating_add(name.len()), extent);
+            }
             Node::Folder(children) => children,
         };
         extent.add(bytes, 0);
@@ -362,6 +458,7 @@ impl Tree {
     {
         let children = match &self.node {
             Node::Leaf(file) => return push_ids(out, file.blocks.as_slice()),
+            Node::Narrow(_, child) => return child.collect_ids(out),
             Node::Folder(children) => children,
         };
         for child in children.values() {

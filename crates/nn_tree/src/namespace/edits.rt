@@ -198,7 +198,7 @@ impl Namespace {
         let Ok(()) = tree.collect_ids(&mut ids) else {
             return Err(Unchanged);
         };
-        let _gone = self.root.take(&names);
+        let _gone = self.root.take(self.alloc, &names);
         forget(&mut self.index, &ids);
         ids.sort_unstable();
         Ok(Touched::deleted(self.alloc, ids))

@@ -24,6 +24,12 @@ impl Tree {
             };
             return push_open(file, block);
         };
+        if let Node::Narrow(name, child) = &mut self.node {
+            if name.as_str() != first {
+                return Err(Unchanged);
+            }
+            return child.push_block(&rest, block);
+        }
         let Node::Folder(children) = &mut self.node else {
             return Err(Unchanged);
         };
@@ -51,6 +57,12 @@ impl Tree {
             };
             return list_open(alloc, file, blocks, closed, last_stamp);
         };
+        if let Node::Narrow(name, child) = &mut self.node {
+            if name.as_str() != first {
+                return Err(Unchanged);
+            }
+            return child.set_blocks(&rest, alloc, blocks, closed, last_stamp);
+        }
         let Node::Folder(children) = &mut self.node else {
             return Err(Unchanged);
         };
@@ -77,6 +89,12 @@ impl Tree {
             file.replication = replication;
             return Ok(());
         };
+        if let Node::Narrow(name, child) = &mut self.node {
+            if name.as_str() != first {
+                return Err(Unchanged);
+            }
+            return child.set_replication(&rest, replication);
+        }
         let Node::Folder(children) = &mut self.node else {
             return Err(Unchanged);
         };

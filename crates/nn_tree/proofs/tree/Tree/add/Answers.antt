@@ -1,0 +1,42 @@
+use Rattle.std.proofs.Common.{◌≡◌, ◌∷◌, [], ℕ, List, Some, None, sym, ap, ◌∙◌, refl, subst}
+use Rattle.std.specs.BTreeMap.{get_by_text}
+use Rattle.std.specs.String.{string_bytes}
+use Rattle.nn_tree.specs.declared.tree.Tree.{Tree}
+use Rattle.nn_tree.proofs.Subtree.{child, no_children, opened}
+use Rattle.nn_tree.proofs.Step.{Becomes, changed, written, one_made}
+use Rattle.nn_tree.proofs.Changed.{made_here, put_back}
+use Rattle.nn_tree.proofs.tree.Tree.add.Goals as goal
+
+-- the first child
+pub returns-then-is_empty-clause-ok : goal.returns-then-is_empty-clause-ok
+returns-then-is_empty-clause-ok c =
+    let d = opened c.args.self.now c.self.inside.node c.in-Folder.children (c.self.view_is ∙ c.widen.ensures) c.self.invariant c.in-Folder.is in
+    let n = c.args.name.now in
+    let k = c.in-Ok-from_str.key in
+    let none = no_children c.in-Folder.children.entries (c.if-is_empty.ensures.0 refl) in
+    let first : Becomes [] ((k, c.in-Ok-new.child.value) ∷ []) n (Some c.args.tree) =
+    subst (λ w. Becomes [] ((k, w) ∷ []) n (Some c.args.tree)) (sym c.in-Ok-new.ensures.ok) (one_made k n c.args.tree c.in-Ok-from_str.ensures.ok) in
+    made_here c.args.self.now c.in-Folder.children.entries ((k, c.in-Ok-new.child.value) ∷ []) n (n ∷ []) c.args.tree refl d (ap (λ cs. child cs n) none)
+    (subst (λ cs. Becomes cs ((k, c.in-Ok-new.child.value) ∷ []) n (Some c.args.tree)) (sym none) first)
+
+-- one more child
+pub returns-in_default-before-clause-ok : goal.returns-in_default-before-clause-ok
+returns-in_default-before-clause-ok c =
+    let d = opened c.args.self.now c.self.inside.node c.in-Folder.children (c.self.view_is ∙ c.widen.ensures) c.self.invariant c.in-Folder.is in
+    let n = string_bytes c.in-Ok-from_str.key in
+    let none : get_by_text c.in-Folder.children n ≡ None = sym c.in-Ok-insert.ensures.old ∙ c.in_default-before.is in
+    let b = changed c.in-Folder.children c.insert.new.self n (Some c.args.tree) c.in-Ok-insert.ensures.updates c.in-Ok-insert.ensures.ordered in
+    made_here c.args.self.now c.in-Folder.children.entries c.insert.new.self.entries n (c.args.name.now ∷ []) c.args.tree (ap (λ y. y ∷ []) (sym c.in-Ok-from_str.ensures.ok)) d none b
+
+-- a child of that name stays
+pub returns-clause-err : goal.returns-clause-err
+returns-clause-err c =
+    let d = opened c.args.self.now c.self.inside.node c.in-Folder.children (c.self.view_is ∙ c.widen.ensures) c.self.invariant c.in-Folder.is in
+    let n = string_bytes c.in-Ok-from_str.key in
+    let w : Tree = c.in-Some.before in
+    let l = c.get_mut.follows.lender w in
+    let was : Some w ≡ get_by_text c.in-Folder.children n = sym c.in-Some.is ∙ c.in-Ok-insert.ensures.old in
+    let b = changed c.in-Folder.children c.insert.new.self n (Some c.args.tree) c.in-Ok-insert.ensures.updates c.in-Ok-insert.ensures.ordered in
+    let back = written c.insert.new.self l c.args.name.now c.in-Some-get_mut.place.now w c.in-Some-get_mut.ensures.value (c.get_mut.follows.holds w) in
+    put_back c.args.self.now c.in-Folder.children.entries c.insert.new.self.entries l.entries n c.args.tree w d was b
+    (subst (λ (x : List ℕ). Becomes c.insert.new.self.entries l.entries x (Some w)) (sym c.in-Ok-from_str.ensures.ok) back)

@@ -1,8 +1,8 @@
 //! The next value of a line's JSON, read a token at a time and not kept: a text or a whole number is handed out, an
 //! array or object is passed over. What stands under keys that no format has goes this way, and still has to be JSON.
-ghost use Rattle.std.specs.Prelude.{◌≡◌, ◌<◌, ◌≤◌, ◌==◌, ◌∷◌, true, false, length, slice_index, IsTrue, IfOk, OnOk, OnErr, Some, None, option_map};
+ghost use Rattle.std.specs.Prelude.{◌≡◌, ◌<◌, ◌≤◌, ◌==◌, ◌∷◌, true, false, length, slice_index, IsTrue, IfOk, OnOk, OnErr, IfSome, Some, None, option_map};
 ghost use Rattle.json.specs.Reads.{token_of};
-ghost use Rattle.serde_json.specs.Data.{Data, Members, no_members};
+ghost use Rattle.serde_json.specs.Data.{Data, Members, no_members, unsigned};
 ghost use Rattle.serde_json.specs.Read.{number_of, number_from};
 ghost use Rattle.nn_edits.specs.Ahead.{data_at, members_at, PassesItems, LacksItems};
 ghost use Rattle.nn_edits.specs.Parts.{seen, scalar_of, scalar_of_num};
@@ -139,11 +139,32 @@ fn number_of<'a>(text: &str) -> Option<Member<'a>>
     ensures { option_map seen result ≡ option_map scalar_of_num (number_of text.now) }
 {
     let bytes = text.as_bytes();
+    if let Some(n) = whole(bytes) {
+        return Some(Member::Whole(n));
+    }
     if has_minus(bytes) {
         below_zero(&Numeral::scan(&bytes[1..]))
     } else {
         from_zero(&Numeral::scan(bytes))
     }
+}
+
+// The number of a text of digits alone, as most of a log are: no numeral has to be taken apart for it.
+#[inline(always)]
+fn whole(bytes: &[u8]) -> Option<u64>
+    ensures { IfSome result (λ n. number_of bytes.now ≡ Some (unsigned n)) }
+{
+    if begins_with_plus(bytes) {
+        return None;
+    }
+    fast_float::parse_u64(bytes).ok()
+}
+
+#[inline(always)]
+fn begins_with_plus(bytes: &[u8]) -> bool
+    ensures { result ≡ (slice_index bytes.now 0 == 43) }
+{
+    !bytes.is_empty() && bytes[0] == b'+'
 }
 
 #[inline(always)]

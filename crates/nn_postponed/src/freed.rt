@@ -69,7 +69,7 @@ impl<'a> Freed<'a> {
 
 /// Whether the message at this place goes, once those before it went that go. What is known of a DataNode is whether one
 /// of its messages before the place is not due.
-pub fn goes(
+pub(crate) fn goes(
     stuck: &mut [bool],
     messages: &VecDeque<Message>,
     at: usize,
@@ -92,7 +92,7 @@ pub fn goes(
 
 /// Whether one of the messages before a place is of this one's DataNode and block, and not due: what is known of the
 /// DataNode, and a look at each message only where nothing can be known of so high a DataNode.
-pub fn is_behind(
+pub(crate) fn is_behind(
     stuck: &[bool],
     messages: &VecDeque<Message>,
     end: usize,
@@ -112,7 +112,7 @@ pub fn is_behind(
 }
 
 /// From now on it is known that a message of this one's DataNode is not due.
-pub fn mark(stuck: &mut [bool], m: &Message, block: BlockId)
+pub(crate) fn mark(stuck: &mut [bool], m: &Message, block: BlockId)
     ensures knows { Marks block m.now stuck.old stuck.new }
     ensures len { length stuck.new ≡ length stuck.old }
 {
@@ -143,7 +143,7 @@ fn has_late(
 }
 
 /// Whether the message is about the block and due.
-pub fn is_due_at(m: &Message, block: BlockId, status: &Status) -> bool
+pub(crate) fn is_due_at(m: &Message, block: BlockId, status: &Status) -> bool
     ensures { result ≡ due_at block status.now m.now }
 {
     m.block == block && due(*status, m.stamp)

@@ -2,11 +2,10 @@
 ghost use Rattle.std.specs.Prelude.{◌≡◌, ◌++◌, ℕ, OnOk, string_bytes};
 ghost use Rattle.nn_model.specs.Lanes.{Lanes};
 ghost use Rattle.nn_model.specs.Namespace.{Namespace};
-ghost use Rattle.nn_shadow.specs.SafeMode.{counts_of};
+ghost use Rattle.nn_replicas.specs.SafeMode.{counts_of};
 ghost use Rattle.nn_listing.specs.Tables.{mode_text, replica_line, order_line, blocks_line, lines_of_block, lines_of_replicas, lines_of_orders, IsPicture, tables_text};
 
-use nn_replicas::{Replicas, ReplicasOf, class};
-use nn_shadow::SafeMode;
+use nn_replicas::{Replicas, ReplicasOf, SafeMode, class};
 use nn_types::{Block, BlockId, Replica};
 use std::alloc::{AllocError, Global};
 use std::fmt::Write;

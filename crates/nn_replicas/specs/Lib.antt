@@ -5,4 +5,5 @@ pub mod Calls
 pub mod Effects
 pub mod Order
 pub mod Agreement
+pub mod SafeMode
 pub mod TableRows

@@ -7,6 +7,7 @@ mod entry;
 mod laws;
 mod replicas_of;
 mod rows;
+mod safe_mode;
 mod slot;
 mod table;
 
@@ -15,4 +16,5 @@ pub use entry::{Cell, Row};
 pub use laws::{counts_are_the_namespaces, each_call_changes, tables_are_in_order};
 pub use replicas_of::ReplicasOf;
 pub use rows::Rows;
+pub use safe_mode::SafeMode;
 pub use table::Replicas;

@@ -3,8 +3,7 @@ ghost use Rattle.std.specs.Prelude.{◌≡◌, IfOk, IsTrue};
 ghost use Rattle.nn_replicas.specs.Calls.{is_kept};
 
 use nn_listing::push_tables;
-use nn_replicas::Replicas;
-use nn_shadow::SafeMode;
+use nn_replicas::{Replicas, SafeMode};
 use nn_types::{Block, BlockId, GenerationStamp, Kind, Length, Replica, Settings};
 use std::alloc::Global;
 use std::test::Fail;

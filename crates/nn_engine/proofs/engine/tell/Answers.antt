@@ -1,6 +1,6 @@
 use Rattle.std.proofs.Common.{◌∙◌}
 use Rattle.std.specs.Prelude.{string_bytes}
-use Rattle.nn_shadow.specs.SafeMode.{counts_of}
+use Rattle.nn_replicas.specs.SafeMode.{counts_of}
 use Rattle.nn_listing.specs.Listing.{listing_text}
 use Rattle.nn_engine.proofs.TellLemmas.{tables_told}
 use Rattle.nn_engine.proofs.engine.tell.Goals as goal

@@ -8,7 +8,7 @@ use Rattle.clap.specs.declared.parser.matches.Found.{Found}
 use Rattle.clap.proofs.OnLiterals.{clap_on_literals}
 use Rattle.clap.proofs.WalkLemmas.{one_text-rows}
 use Rattle.nn_types.specs.Settings.{Threshold}
-use Rattle.nn_command.specs.Options.{settings_line, command_line, AreReadAs, AskFor}
+use Rattle.nn_command.specs.Options.{settings_line, command_line, AreReadAs, AskFor, AskForThreads, IsFlagged}
 use Rattle.nn_command.specs.Program.{WhyNot}
 
 pub line_is_simple : is_simple command_line ≡ true
@@ -27,6 +27,9 @@ asked_as_found words found settings rows read =
     subst (λ (o : Option Text). AreReadAs o (one_of (codes "min") (matches_of command_line words)) (one_of (codes "capacity") (matches_of command_line words)) settings) (at (codes "permille"))
     (subst (λ (o : Option Text). AreReadAs (one_text found (codes "permille")) o (one_of (codes "capacity") (matches_of command_line words)) settings) (at (codes "min"))
     (subst (λ (o : Option Text). AreReadAs (one_text found (codes "permille")) (one_text found (codes "min")) o settings) (at (codes "capacity")) read))
+
+pub threads_asked : (words : List Text) (found : Found) → rows_of found ≡ matches_of command_line words → IsFlagged (one_text found (codes "threads")) → AskForThreads words
+threads_asked words found rows flag = subst IsFlagged (one_text-rows found (codes "threads") ∙ ap (one_of (codes "threads")) rows) flag
 
 pub found_as_asked : (words : List Text) (found : Found) (settings : Threshold) → rows_of found ≡ matches_of command_line words →
     AskFor words settings → AreReadAs (one_text found (codes "permille")) (one_text found (codes "min")) (one_text found (codes "capacity")) settings

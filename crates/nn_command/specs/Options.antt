@@ -1,5 +1,5 @@
 -- The command line, and what its words ask for.
-use Rattle.std.specs.Prelude.{◌≡◌, ◌<◌, ◌≤◌, ◌^◌, ℕ, pos, List, [], ◌∷◌, Option, Some, None, codes}
+use Rattle.std.specs.Prelude.{◌≡◌, ◌≢◌, ◌<◌, ◌≤◌, ◌^◌, ℕ, pos, List, [], ◌∷◌, Option, Some, None, codes}
 use Rattle.std.specs.Str.Parse.{IsNumeral, digits_value, without_leading_plus}
 use Rattle.clap.specs.Words.{App, Rule, Text, matches_of, new_app, new_rule, one_of, with_rule}
 use Rattle.clap.specs.declared.builder.action.ArgAction.TheVariants.{Set, SetTrue}
@@ -49,3 +49,11 @@ pub record AreReadAs (first second third : Option Text) (settings : Threshold) :
 -- the words ask for these settings, by what stands behind the names, or by their defaults
 abbrev pub AskFor : List Text → Threshold → Type 0
 AskFor words = AreReadAs (one_of (codes "permille") (matches_of command_line words)) (one_of (codes "min") (matches_of command_line words)) (one_of (codes "capacity") (matches_of command_line words))
+
+-- the flag is there: its text is there, and another than `false`
+abbrev pub IsFlagged : Option Text → Type 0
+IsFlagged text = (text ≢ None) × (text ≢ Some (codes "false"))
+
+-- `--threads` is among the words
+abbrev pub AskForThreads : List Text → Type 0
+AskForThreads words = IsFlagged (one_of (codes "threads") (matches_of command_line words))

@@ -7,10 +7,10 @@ use Rattle.clap.specs.declared.error.kind.ErrorKind.TheVariants.{DisplayHelp}
 use Rattle.clap.specs.declared.error.kind.ErrorKind.TheVariants as why
 use Rattle.nn_types.specs.Settings.{Threshold}
 use Rattle.nn_listing.specs.Listing.{newline}
-use Rattle.nn_engine.specs.Run.{Given, Wrote, WroteFront, running}
+use Rattle.nn_engine.specs.Run.{Given, NoneFailed, Wrote, WroteFront, closed_line, running}
 use Rattle.nn_command.specs.declared.program.NoWords.{NoWords}
 use Rattle.nn_command.specs.declared.program.NoWords.TheVariants.{NotText, OutOfMemory}
-use Rattle.nn_command.specs.Options.{command_line, AskFor}
+use Rattle.nn_command.specs.Options.{command_line, AskFor, AskForThreads}
 
 -- ---- What words ask for.
 
@@ -69,6 +69,14 @@ EndsWith given output output' ended = Wrote given output output' ended ⊎ ((n :
 abbrev pub Runs : Threshold → Streams → ℕ → Type 0
 Runs settings s ended = EndsWith (running settings s.before s.after s.had_failed s.has_failed) s.output s.output' ended × Keeps s.errors s.errors'
 
+-- the line that a DataNode's report was refused, since its lane was closed
+abbrev pub EndsClosed : Given → Option (List ℕ) → Option (List ℕ) → ℕ → Type 0
+EndsClosed given output output' ended = NoneFailed given × Writes output output' closed_line 1 ended
+
+-- with threads a run may write that line
+abbrev pub LaneClosed : Threshold → Streams → ℕ → Type 0
+LaneClosed settings s ended = EndsClosed (running settings s.before s.after s.had_failed s.has_failed) s.output s.output' ended × Keeps s.errors s.errors'
+
 -- the help text on the output, and nothing was read
 abbrev pub Helps : Streams → ℕ → Type 0
 Helps s ended = ((text : List ℕ) × Writes s.output s.output' text 0 ended) × Keeps s.errors s.errors' × Keeps s.before s.after
@@ -84,7 +92,7 @@ LacksMemory s ended = Writes s.output s.output' memory_line 1 ended × Keeps s.e
 -- what it does for words, of which the first is the program's name
 abbrev pub Serves : List Text → Streams → ℕ → Type 0
 Serves words s ended =
-    ((settings : Threshold) × AskToRun words settings × Runs settings s ended)
+    ((settings : Threshold) × AskToRun words settings × (Runs settings s ended ⊎ (AskForThreads words × LaneClosed settings s ended)))
     ⊎ ((AskForHelp words × Helps s ended) ⊎ ((AskForNothing words × Refuses s ended) ⊎ LacksMemory s ended))
 
 -- and where there are none

@@ -1,8 +1,8 @@
 //! What the command line asks for.
-ghost use Rattle.std.specs.Prelude.{◌≡◌, ◌≤◌, ◌⊎◌, ℕ, false, IfOk, IfErr, IfSome, IfNone, codes, map, string_bytes};
+ghost use Rattle.std.specs.Prelude.{◌≡◌, ◌≤◌, ◌⊎◌, ℕ, true, false, IfOk, IfErr, IfSome, IfNone, codes, map, string_bytes};
 ghost use Rattle.clap.specs.Words.{app_of, found_of, kind_of, one_text, rule_of};
 ghost use Rattle.nn_types.specs.Settings.{Threshold};
-ghost use Rattle.nn_command.specs.Options.{value_rule, flag_rule, settings_line, command_line, IsNumberOf, IsCapacity, AreReadAs};
+ghost use Rattle.nn_command.specs.Options.{value_rule, flag_rule, settings_line, command_line, IsNumberOf, IsCapacity, IsFlagged, AskForThreads, AreReadAs};
 ghost use Rattle.nn_command.specs.Program.{AskToRun, WhyNot};
 
 use clap::builder::ValueParser;
@@ -40,6 +40,7 @@ pub struct Request {
 pub fn parse<'a>(alloc: Global, words: &'a [String]) -> Result<Request, Error>
     ensures ok { IfOk result (λ request. AskToRun (map string_bytes words.entry.now) request.options.settings) }
     ensures capacity { IfOk result (λ request. (1 ≤ request.capacity) × (request.capacity ≤ 1024)) }
+    ensures threads { IfOk result (λ request. request.threads ≡ true → AskForThreads (map string_bytes words.entry.now)) }
     ensures err { IfErr result (λ error. WhyNot (map string_bytes words.entry.now) (kind_of error)) }
 {
     let Ok(line) = command(alloc) else {
@@ -126,6 +127,7 @@ fn valued<'a>(
 fn matched(matches: &ArgMatches<'_>) -> Option<Request>
     ensures some { IfSome result (λ request. AreReadAs (one_text (found_of matches.now) (codes "permille")) (one_text (found_of matches.now) (codes "min")) (one_text (found_of matches.now) (codes "capacity")) request.options.settings) }
     ensures capacity { IfSome result (λ request. (1 ≤ request.capacity) × (request.capacity ≤ 1024)) }
+    ensures threads { IfSome result (λ request. request.threads ≡ true → IsFlagged (one_text (found_of matches.now) (codes "threads"))) }
     ensures none { IfNone result ((settings : Threshold) → AreReadAs (one_text (found_of matches.now) (codes "permille")) (one_text (found_of matches.now) (codes "min")) (one_text (found_of matches.now) (codes "capacity")) settings → ⊥) }
 {
     let Some(permille) = number(matches, "permille") else {

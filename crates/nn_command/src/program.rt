@@ -1,9 +1,9 @@
 //! What the program does for the words that it is started with, over any reader and writers.
-ghost use Rattle.std.specs.Prelude.{◌≡◌, ◌≤◌, ℕ, List, None, false, IfOk, IfErr, map, string_bytes};
+ghost use Rattle.std.specs.Prelude.{◌≡◌, ◌⊎◌, ◌≤◌, ℕ, List, None, true, false, IfOk, IfErr, map, string_bytes};
 ghost use Rattle.std.specs.Io.KnownBytes.{Appends};
 ghost use Rattle.clap.specs.Words.{kind_of};
 ghost use Rattle.nn_engine.specs.Run.{running};
-ghost use Rattle.nn_command.specs.Program.{EndsWith, Serves, ServesNone, Tells, Writes, memory_line, streams};
+ghost use Rattle.nn_command.specs.Program.{EndsClosed, EndsWith, Serves, ServesNone, Tells, Writes, memory_line, streams};
 
 use crate::options;
 use crate::options::Request;
@@ -75,7 +75,9 @@ fn run_as_asked<R: Read, W: Write, G: Gate + Send + Sync + Drop, T: Threads + Wa
 ) -> u8
     requires { (1 ≤ request.now.capacity) × (request.now.capacity ≤ 1024) }
     ensures { EndsWith (running request.now.options.settings (R.remaining input.old.reader) (R.remaining input.new.reader) input.old.failed input.new.failed)
-        (W.contents output.old) (W.contents output.new) result }
+        (W.contents output.old) (W.contents output.new) result
+        ⊎ ((request.now.threads ≡ true) × EndsClosed (running request.now.options.settings (R.remaining input.old.reader) (R.remaining input.new.reader) input.old.failed input.new.failed)
+        (W.contents output.old) (W.contents output.new) result) }
 {
     if !request.threads {
         return run_plain(alloc, &request.options, input, output);

@@ -1,6 +1,6 @@
 -- From the threads' promises to what `drive` says of each lane.
-use Rattle.std.proofs.Common.{◌≡◌, ℕ, zero, suc, ◌<◌, ◌≤◌, Bool, true, ◌&&◌, List, [], ◌∷◌, ◌++◌, Option, length, get_or, refl, sym, ap, ◌∙◌, subst, arith, length-append, append_assoc, append-nil}
-use Rattle.std.specs.List.{list_all}
+use Rattle.std.proofs.Common.{◌≡◌, ℕ, zero, suc, ◌<◌, ◌≤◌, Bool, true, false, List, [], ◌∷◌, ◌++◌, Option, length, get_or, refl, sym, ap, ◌∙◌, subst, arith, length-append, append_assoc, append-nil}
+use Rattle.std.specs.List.{AllZip}
 use Rattle.std.specs.declared.thread.PromisedHandle.{PromisedHandle}
 use Rattle.nn_types.specs.declared.report.Report.{Report}
 use Rattle.nn_types.specs.declared.report.Message.{Message}
@@ -8,13 +8,15 @@ use Rattle.nn_model.specs.Namespace.{Namespace}
 use Rattle.nn_segment.specs.Source.{Answer}
 use Rattle.nn_lane.specs.Ends.{Reporting, Taking, counted, StartsWith}
 use Rattle.nn_tailer.specs.Tailing.{Tailer, StandsAt, Carries, AllTaken}
-use Rattle.nn_tailer.specs.LaneSteps.{SameEnd, SameEnds, closed_of, AllClosed}
+use Rattle.nn_tailer.specs.LaneSteps.{SameEnd, SameEnds, ClosesEnd, CloseEnds}
 use Rattle.nn_tailer.specs.Promotion.{Promoted, IsPromoted as Promotes}
 use Rattle.nn_tailer.proofs.Carried.{carries_then}
+use Rattle.nn_tailer.proofs.Closed.{many_closed}
 use Rattle.nn_tailer.proofs.Drained.{same_length}
 use Rattle.nn_drive.specs.declared.driving.Worked.{Worked}
 use Rattle.nn_drive.specs.declared.driving.Reports.{Reports}
-use Rattle.nn_drive.specs.Driven.{IsLane, AreLanes, ArePromised, FitHandles, IsSealed, IsTaken, SealsAll, AreFronts, Goes, IsPromoted}
+use Rattle.nn_drive.specs.Driven.{AreLanes, IsPromised, ArePromised, HasReported, IsToldOnly, IsTaken, WasTold, JoinsAll, AreOneLane, Agrees, Goes, HasEnded, IsPromoted}
+use Rattle.nn_drive.proofs.Meets.{zip_of, zip_at}
 
 same_at : (es es' : List Taking) (i : ℕ) (d : Taking) → i < length es → SameEnds es es' → SameEnd (get_or es i d) (get_or es' i d)
 same_at [] es' i d l s = absurd (omega (arith, l))
@@ -22,10 +24,24 @@ same_at (e ∷ es) [] i d l s = absurd s
 same_at (e ∷ es) (e' ∷ es') zero d l s = s.0
 same_at (e ∷ es) (e' ∷ es') (suc i) d l s = same_at es es' i d (omega (arith, l)) s.1
 
-taken_at : (es : List Taking) (ks : List (Option Message)) (i : ℕ) (d : Taking) → i < length es → AllTaken es ks → length (get_or es i d).got ≡ counted (get_or es i d)
+closes_at : (es es' : List Taking) (i : ℕ) (d : Taking) → i < length es → CloseEnds es es' → ClosesEnd (get_or es i d) (get_or es' i d)
+closes_at [] es' i d l s = absurd (omega (arith, l))
+closes_at (e ∷ es) [] i d l s = absurd s
+closes_at (e ∷ es) (e' ∷ es') zero d l s = s.0
+closes_at (e ∷ es) (e' ∷ es') (suc i) d l s = closes_at es es' i d (omega (arith, l)) s.1
+
+-- lanes that were closed are the lanes of the same workers
+pub still_lanes : {S : Type 0} (workers : List (S × Reporting)) (es es' : List Taking) → AreLanes workers es → CloseEnds es es' → AreLanes workers es'
+still_lanes workers es es' l c = (many_closed es es' c ∙ l.0, λ i w e below. (closes_at es es' i e (omega (arith, below, l.0)) c).0 ∙ l.1 i w e below)
+
+-- a lane that is closed, of which all that was counted was taken
+abbrev IsAll : Taking → Type 0
+IsAll e = (e.closed ≡ true) × (length e.got ≡ counted e)
+
+taken_at : (es : List Taking) (ks : List (Option Message)) (i : ℕ) (d : Taking) → i < length es → AllTaken es ks → IsAll (get_or es i d)
 taken_at [] ks i d l t = absurd (omega (arith, l))
 taken_at (e ∷ es) [] i d l t = absurd t
-taken_at (e ∷ es) (k ∷ ks) zero d l t = t.2
+taken_at (e ∷ es) (k ∷ ks) zero d l t = (t.0, t.2)
 taken_at (e ∷ es) (k ∷ ks) (suc i) d l t = taken_at es ks i d (omega (arith, l)) t.3
 
 none_more : (more : List Message) → length more ≡ 0 → more ≡ []
@@ -37,55 +53,86 @@ whole_front all got f h =
     let none : f.0 ≡ [] = none_more f.0 (omega (arith, h, ap length f.1, length-append got f.0)) in
     sym (append-nil got) ∙ ap (λ m. got ++ m) (sym none) ∙ sym f.1
 
-both_closed : (a b : Bool) → a ≡ true → b ≡ true → (a && b) ≡ true
-both_closed a b p q = λ j. p j && q j
+-- what the meeting says, of a lane of which all was taken
+all_got : (e : Taking) (r : Reporting) → Agrees e r → IsAll e → e.got ≡ r.sent
+all_got e r a t = whole_front r.sent e.got a.0 (t.1 ∙ a.1 t.0)
 
--- lanes that are closed one by one are all closed
-each_closed : (es : List Taking) → ((i : ℕ) (e : Taking) → i < length es → (get_or es i e).closed ≡ true) → AllClosed es
-each_closed [] h = refl
-each_closed (e ∷ es) h = both_closed (closed_of e) (list_all closed_of es) (h 0 e (omega arith)) (each_closed es (λ i d l. h (suc i) d (omega (arith, l))))
+-- an element of a list that has one
+some_of : {A : Type 0} (xs : List A) (i : ℕ) → i < length xs → A
+some_of [] i l = absurd (omega (arith, l))
+some_of (x ∷ xs) i l = x
 
-module _ {S : Type 0} (workers : List (S × Reporting)) (handles : List (PromisedHandle (Worked S) (Reports S))) where
-  pub fit_handles : (before after : List Taking) → AreLanes workers before → ArePromised workers handles → SameEnds before after → FitHandles handles after
-  fit_handles before after lanes promised same = (
-    omega (arith, promised.0, lanes.0, same_length before after same),
-    λ i h e below.
-        let w : S × Reporting = (h.promise.0.value, h.promise.1.value) in
-        let within : i < length workers = omega (arith, below, promised.0) in
-        let lane : IsLane (get_or workers i w).1 (get_or after i e) = (same_at before after i e (omega (arith, within, lanes.0)) same).0 ∙ lanes.1 i w e within in
-        subst (λ r. IsLane r (get_or after i e)) (sym (promised.1 i w h below).1) lane,
-  )
+module _ {S : Type 0} (gives : S → Option Report → S → Type 0) where
+  -- what the thread of a worker's handle reported is reported by the worker
+  reported_by : (w : S × Reporting) (h : PromisedHandle (Worked S) (Reports S)) (v : Worked S) → IsPromised w h → HasReported gives h.promise.0.value h.promise.1.value v → HasReported gives w.0 w.1 v
+  reported_by w h v p r = subst (λ x. HasReported gives w.0 x v) p.1 (subst (λ s. HasReported gives s h.promise.1.value v) p.0 r)
 
-  -- an element of a list that has one
-  some_handle : (i : ℕ) (hs : List (PromisedHandle (Worked S) (Reports S))) → i < length hs → PromisedHandle (Worked S) (Reports S)
-  some_handle i [] none = absurd (omega (arith, none))
-  some_handle i (h ∷ hs) some = h
+module _ {S : Type 0} (gives : S → Option Report → S → Type 0) (workers : List (S × Reporting)) (handles : List (PromisedHandle (Worked S) (Reports S))) (promised : ArePromised workers handles) (all : length workers ≤ length handles)
+    (x0 x1 : Tailer) (lanes : AreLanes workers x0.ends) (a1 : List Answer) (goes : Goes x0 a1 x1) where
+  -- there is a lane for each handle
+  pub fit : length handles ≤ length x1.ends
+  fit = omega (arith, promised.0, lanes.0, same_length x0.ends x1.ends goes.same_ends)
 
-  -- once each thread was started, no lane is open
-  pub all_closed : (gives : S → Option Report → S → Type 0) (x0 x1 x2 : Tailer) → AreLanes workers x0.ends → length workers ≤ length handles → SameEnds x0.ends x1.ends → SealsAll gives x1 handles x2 → AllClosed x2.ends
-  all_closed gives x0 x1 x2 lanes all same seals = each_closed x2.ends (λ i e below.
-      let within : i < length handles = omega (arith, below, seals.size, same_length x0.ends x1.ends same, lanes.0, all) in
-      (seals.sealed i (some_handle i handles within) e within).2)
-
-  module _ (gives : S → Option Report → S → Type 0) (x0 x1 x2 x3 : Tailer) (lanes : AreLanes workers x0.ends) (promised : ArePromised workers handles) (all : length workers ≤ length handles)
-      (a1 a2 : List Answer) (goes : Goes x0 a1 x1) (seals : SealsAll gives x1 handles x2) (same : SameEnds x2.ends x3.ends) (promotes : Promotes x2 a2 x3) (fronts : AreFronts x3.ends) where
-    size : length x3.ends ≡ length workers
-    size = omega (arith, lanes.0, same_length x0.ends x1.ends goes.same_ends, seals.size, same_length x2.ends x3.ends same)
-
-    is_taken : AllTaken x3.ends x3.kept → (i : ℕ) (w : S × Reporting) (e : Taking) → i < length workers → IsTaken gives (get_or workers i w).0 (get_or workers i w).1 (get_or x3.ends i e).got
-    is_taken taken i w e below =
+  module _ (reporters : List Reporting) (told : Bool) (joins : JoinsAll gives handles x1.ends reporters told) where
+    -- the handle of a worker, and what its thread gave back
+    joined_at : (i : ℕ) (w : S × Reporting) (e : Taking) (r : Reporting) → i < length workers
+        → (v : Worked S) × HasReported gives (get_or workers i w).0 (get_or workers i w).1 v × (get_or reporters i r ≡ v.reporter) × (told ≡ false → IsToldOnly v (get_or x1.ends i e))
+    joined_at i w e r below =
         let within : i < length handles = omega (arith, below, all) in
-        let h = some_handle i handles within in
-        let p = promised.1 i w h within in
-        let sealed = seals.sealed i h e within in
-        let with_source = subst (λ s. IsSealed gives s (get_or handles i h).promise.1.value (get_or x2.ends i e)) p.0 sealed in
-        let here = subst (λ r. IsSealed gives (get_or workers i w).0 r (get_or x2.ends i e)) p.1 with_source in
-        let end = same_at x2.ends x3.ends i e (omega (arith, below, size, same_length x2.ends x3.ends same)) same in
-        let whole = whole_front (get_or x3.ends i e).all (get_or x3.ends i e).got (fronts i e (omega (arith, below, size))) (taken_at x3.ends x3.kept i e (omega (arith, below, size)) taken) in
-        (here.0, here.1, whole ∙ end.2 here.2 ∙ here.3)
+        let h = some_of handles i within in
+        let j = joins.each i h e r within in
+        (j.0, reported_by gives (get_or workers i w) (get_or handles i h) j.0 (promised.1 i w h within) j.1, j.2, j.3)
 
-    pub is_promoted : (start : Namespace) (base : ℕ) (given : List Answer) → StandsAt start base given x0 → IsPromoted gives start base (given ++ (a1 ++ a2)) workers x3.ends x3.shadow
-    is_promoted start base given h =
-        let c : Carries x0 a1 x2 = subst (λ rs. Carries x0 rs x2) (append-nil a1) (carries_then x0 x1 x2 a1 [] goes.carries seals.carries) in
-        let p : Promoted start base (given ++ (a1 ++ a2)) x3 = subst (λ g. Promoted start base g x3) (append_assoc given a1 a2) (promotes start base (given ++ a1) (c start base given h)) in
-        record { stands = p.stands; whole = p.whole; picture = p.picture; none_held = p.none_held; ended = p.ended; log_end = p.log_end; lanes = size; taken = is_taken p.taken }
+    pub was_told : told ≡ true → WasTold gives workers x0.ends
+    was_told t =
+        let o = joins.one t in
+        let below : o.place < length workers = omega (arith, o.within, promised.0) in
+        let h = some_of handles o.place o.within in
+        record {
+          place = o.place;
+          within = below;
+          worked = o.worked;
+          reported = λ w. reported_by gives (get_or workers o.place w) (get_or handles o.place h) o.worked (promised.1 o.place w h o.within) (o.reported h);
+          told = o.told;
+          open_before = λ e. sym (same_at x0.ends x1.ends o.place e (omega (arith, below, lanes.0)) goes.same_ends).1 ∙ o.open_before e;
+        }
+
+    module _ (x2 x3 : Tailer) (closes : CloseEnds x1.ends x2.ends) (carries : Carries x1 [] x2) (same : SameEnds x2.ends x3.ends) where
+      size : length x3.ends ≡ length workers
+      size = omega (arith, lanes.0, same_length x0.ends x1.ends goes.same_ends, many_closed x1.ends x2.ends closes, same_length x2.ends x3.ends same)
+
+      -- each end is of the lane of its reporter
+      pub one_lanes : AllZip AreOneLane x3.ends reporters
+      one_lanes = zip_of AreOneLane x3.ends reporters (omega (arith, size, joins.size, promised.0, all)) (λ i e r l.
+          let below : i < length workers = omega (arith, l, size) in
+          let w = some_of workers i below in
+          let j = joined_at i w e r below in
+          let in0 : i < length x0.ends = omega (arith, below, lanes.0) in
+          let in1 : i < length x1.ends = omega (arith, in0, same_length x0.ends x1.ends goes.same_ends) in
+          let in2 : i < length x2.ends = omega (arith, in1, many_closed x1.ends x2.ends closes) in
+          (same_at x2.ends x3.ends i e in2 same).0 ∙ (closes_at x1.ends x2.ends i e in1 closes).0 ∙ (same_at x0.ends x1.ends i e in0 goes.same_ends).0 ∙ lanes.1 i w e below ∙ sym j.1.0 ∙ ap (λ z. z.lane) (sym j.2))
+
+      carried : Carries x0 a1 x2
+      carried = subst (λ rs. Carries x0 rs x2) (append-nil a1) (carries_then x0 x1 x2 a1 [] goes.carries carries)
+
+      module _ (a2 : List Answer) (promotes : Promotes x2 a2 x3) where
+        promoted : (start : Namespace) (base : ℕ) (given : List Answer) → StandsAt start base given x0 → Promoted start base (given ++ (a1 ++ a2)) x3
+        promoted start base given h = subst (λ g. Promoted start base g x3) (append_assoc given a1 a2) (promotes start base (given ++ a1) (carried start base given h))
+
+        pub has_ended : HasEnded x0 (a1 ++ a2)
+        has_ended start base given h = let p = promoted start base given h in (p.ended, (record { last = x3.shadow.last; namespace = x3.shadow.namespace }, p.log_end))
+
+        module _ (agree : AllZip Agrees x3.ends reporters) (none_told : told ≡ false) where
+          is_taken : AllTaken x3.ends x3.kept → (i : ℕ) (w : S × Reporting) (b e : Taking) → i < length workers → IsTaken gives (get_or workers i w).0 (get_or workers i w).1 (get_or x0.ends i b) (get_or x3.ends i e).got
+          is_taken taken i w b e below =
+              let r = (get_or workers i w).1 in
+              let j = joined_at i w b r below in
+              let in3 : i < length x3.ends = omega (arith, below, size) in
+              let whole = all_got (get_or x3.ends i e) (get_or reporters i r) (zip_at Agrees x3.ends reporters agree i e r in3) (taken_at x3.ends x3.kept i e in3 taken) in
+              let was = (same_at x0.ends x1.ends i b (omega (arith, below, lanes.0)) goes.same_ends).1 in
+              (j.0, j.1, whole ∙ ap (λ z. z.sent) j.2, λ t. sym was ∙ j.3 none_told t)
+
+          pub is_promoted : (start : Namespace) (base : ℕ) (given : List Answer) → StandsAt start base given x0 → IsPromoted gives start base (given ++ (a1 ++ a2)) workers x0.ends x3.ends x3.shadow
+          is_promoted start base given h =
+              let p = promoted start base given h in
+              record { stands = p.stands; whole = p.whole; picture = p.picture; none_held = p.none_held; ended = p.ended; log_end = p.log_end; lanes = size; taken = is_taken p.taken }

@@ -1,7 +1,7 @@
 -- What threads of DataNodes promise, and what a drive comes to.
 use Rattle.nn_model.specs.History.{is_flush}
 use Rattle.nn_tailer.specs.declared.standby.Active.{Active}
-use Rattle.std.specs.Prelude.{◌≡◌, ℕ, ◌<◌, ◌≤◌, true, Option, List, [], ◌++◌, length, map, slice_index_or, count_by, Ok}
+use Rattle.std.specs.Prelude.{◌≡◌, ℕ, ◌<◌, ◌≤◌, Bool, true, false, Option, Result, List, [], ◌++◌, length, map, slice_index_or, count_by, Ok, Err}
 use Rattle.std.specs.declared.thread.PromisedHandle.{PromisedHandle}
 use Rattle.nn_types.specs.declared.report.Report.{Report}
 use Rattle.nn_types.specs.declared.report.Message.{Message}
@@ -12,12 +12,14 @@ use Rattle.nn_model.specs.Stands.{Stands, tables_of}
 use Rattle.nn_shadow.specs.Contents.{Contents, standby_of, KeepsSettings}
 use Rattle.nn_segment.specs.Source.{Answer, Asked}
 use Rattle.nn_segment.specs.Walk.{log_in}
-use Rattle.nn_segment.specs.LogEnd.{end_of_log, given_in}
+use Rattle.nn_segment.specs.LogEnd.{LogEnd, end_of_log, given_in}
 use Rattle.nn_tailer.specs.Promotion.{IsPromoted as Promotes}
 use Rattle.nn_tailer.specs.Reads.{EndsInFault}
 use Rattle.nn_drive.specs.declared.driving.DriveFault.{DriveFault}
 use Rattle.nn_drive.specs.declared.driving.DriveFault.TheVariants as drive
-use Rattle.nn_lane.specs.Ends.{Reporting, Taking, got_of, StartsWith}
+use Rattle.nn_lane.specs.Ends.{Reporting, Taking, got_of, counted, StartsWith}
+use Rattle.nn_lane.specs.declared.fault.Refusal.{Refusal}
+use Rattle.nn_lane.specs.declared.fault.Refusal.TheVariants.{Closed, Exhausted, Full}
 use Rattle.nn_tailer.specs.Tailing.{has_begun, Tailer, StandsAt, Carries, LogStops, EndsInEnd, by_node}
 use Rattle.nn_tailer.specs.LaneSteps.{SameEnds}
 use Rattle.nn_drive.specs.declared.driving.Worked.{Worked}
@@ -33,17 +35,33 @@ abbrev pub AreLanes : {S : Type 0} → List (S × Reporting) → List Taking →
 AreLanes {S} workers ends =
     (length ends ≡ length workers) × ((i : ℕ) (w : S × Reporting) (e : Taking) → i < length workers → IsLane (slice_index_or workers i w).1 (slice_index_or ends i e))
 
+-- its last report was refused, since the lane is closed
+abbrev pub IsTold : Result ℕ Refusal → Type 0
+IsTold (Ok n) = ⊥
+IsTold (Err (Closed m n)) = Unit {0}
+IsTold (Err (Exhausted m)) = ⊥
+IsTold (Err (Full m n)) = ⊥
+
+-- it was told so only where its lane was closed before
+abbrev pub IsToldOnly : {S : Type 0} → Worked S → Taking → Type 0
+IsToldOnly w before = IsTold w.outcome → before.closed ≡ true
+
 module _ {S : Type 0} (gives : S → Option Report → S → Type 0) where
   abbrev pub HasReported : S → Reporting → Worked S → Type 0
   HasReported s r w = (w.reporter.lane ≡ r.lane) × Reported gives s r w.source w.reporter w.outcome
 
-  -- the lane is closed, with all that its DataNode had sent and that its source gave
-  abbrev pub IsSealed : S → Reporting → Taking → Type 0
-  IsSealed s r e = (w : Worked S) × HasReported s r w × (e.closed ≡ true) × (e.all ≡ w.reporter.sent)
+  -- all that its DataNode had sent and that its source gave was taken; of a lane that was closed before, up to a report that was refused
+  abbrev pub IsTaken : S → Reporting → Taking → List Message → Type 0
+  IsTaken s r before got = (w : Worked S) × HasReported s r w × (got ≡ w.reporter.sent) × IsToldOnly w before
 
-  -- and all of it was taken
-  abbrev pub IsTaken : S → Reporting → List Message → Type 0
-  IsTaken s r got = (w : Worked S) × HasReported s r w × (got ≡ w.reporter.sent)
+  -- a worker was told of a close, though its lane was open before
+  pub record WasTold (workers : List (S × Reporting)) (ends : List Taking) : Type 0 where
+    pub place : ℕ
+    pub within : place < length workers
+    pub worked : Worked S
+    pub reported : (w : S × Reporting) → HasReported (slice_index_or workers place w).0 (slice_index_or workers place w).1 worked
+    pub told : IsTold worked.outcome
+    pub open_before : (e : Taking) → (slice_index_or ends place e).closed ≡ false
 
 -- the handle of the thread that has this worker
 abbrev pub IsPromised : {S : Type 0} → S × Reporting → PromisedHandle (Worked S) (Reports S) → Type 0
@@ -55,12 +73,6 @@ ArePromised {S} workers handles =
     (length handles ≤ length workers)
     × ((i : ℕ) (w : S × Reporting) (h : PromisedHandle (Worked S) (Reports S)) → i < length handles → IsPromised (slice_index_or workers i w) (slice_index_or handles i h))
 
--- the lane at the place of each handle is that of its worker
-abbrev pub FitHandles : {S : Type 0} → List (PromisedHandle (Worked S) (Reports S)) → List Taking → Type 0
-FitHandles {S} handles ends =
-    (length handles ≤ length ends)
-    × ((i : ℕ) (h : PromisedHandle (Worked S) (Reports S)) (e : Taking) → i < length handles → IsLane (slice_index_or handles i h).promise.1.value (slice_index_or ends i e))
-
 -- the standby went on, and its lanes are the same
 pub record Goes (old : Tailer) (answers : List Answer) (new : Tailer) : Type 0 where
   pub carries : Carries old answers new
@@ -71,14 +83,20 @@ pub record Goes (old : Tailer) (answers : List Answer) (new : Tailer) : Type 0 w
 abbrev pub Went : {T : Type 0} → (T → Answer → T → Type 0) → (T → ℕ) → T → Tailer → T → Tailer → Type 0
 Went gives failures s old t new = (answers : List Answer) × Asked gives s answers t × Goes old answers new × (failures s ≤ failures t)
 
+-- wherever it stood, the log of all that was given then and of these answers ended
+abbrev pub HasEnded : Tailer → List Answer → Type 0
+HasEnded old answers = (start : Namespace) (base : ℕ) (given : List Answer) → StandsAt start base given old
+    → EndsInEnd (given ++ answers) × ((last : LogEnd) × (end_of_log base start (given_in (given ++ answers)) ≡ Ok last))
+
 -- What a fault says of the standby before, and of what its source answered since. With 53 the flush had begun, and the source was not
 -- asked. With 51 the log stops: all that was given before, and these answers. With 54 the source's fault is its last answer, and it has
--- failed more often than before. With 55 memory was refused, or a thread
+-- failed more often than before. With 55 memory was refused, or a thread. With 42 the log ended
 abbrev pub EndsEarly : {T : Type 0} → (T → ℕ) → T → Tailer → List Answer → T → DriveFault → Type 0
 EndsEarly failures s old answers t drive.AlreadyActive = (has_begun old ≡ true) × (answers ≡ [])
 EndsEarly failures s old answers t (drive.Stopped m) = LogStops old answers m
 EndsEarly failures s old answers t (drive.LogNotEnded f) = EndsInFault answers f × (failures s < failures t)
 EndsEarly failures s old answers t drive.OutOfMemory = Unit {0}
+EndsEarly failures s old answers t drive.Closed = HasEnded old answers
 
 -- the standby went on up to a fault
 abbrev pub WentUntil : {T : Type 0} → (T → Answer → T → Type 0) → (T → ℕ) → T → Tailer → T → DriveFault → Type 0
@@ -91,23 +109,37 @@ Ends gives failures s old t active new =
     × ((active.last ≡ new.shadow.last) × (active.flushed ≡ count_by is_flush new.shadow.history))
     × Promotes old answers new × (failures s ≤ failures t) × KeepsSettings old.shadow new.shadow
 
--- each handle's lane was closed, in order
-pub record SealsAll {S : Type 0} (gives : S → Option Report → S → Type 0) (old : Tailer) (handles : List (PromisedHandle (Worked S) (Reports S))) (new : Tailer) : Type 0 where
-  pub carries : Carries old [] new
-  pub size : length new.ends ≡ length old.ends
-  pub begun : has_begun new ≡ has_begun old
-  pub settings : KeepsSettings old.shadow new.shadow
-  pub sealed : (i : ℕ) (h : PromisedHandle (Worked S) (Reports S)) (e : Taking) → i < length handles
-      → IsSealed gives (slice_index_or handles i h).promise.0.value (slice_index_or handles i h).promise.1.value (slice_index_or new.ends i e)
+-- what the thread at this handle gave back
+abbrev pub IsJoined : {S : Type 0} → (S → Option Report → S → Type 0) → Bool → PromisedHandle (Worked S) (Reports S) → Taking → Reporting → Type 0
+IsJoined {S} gives told h e r = (w : Worked S) × HasReported gives h.promise.0.value h.promise.1.value w × (r ≡ w.reporter) × (told ≡ false → IsToldOnly w e)
 
--- of each lane, what was taken is the front of all
-abbrev pub AreFronts : List Taking → Type 0
-AreFronts ends = (i : ℕ) (e : Taking) → i < length ends → StartsWith (slice_index_or ends i e).all (slice_index_or ends i e).got
+-- a thread was told of a close of an open lane
+pub record ToldOne {S : Type 0} (gives : S → Option Report → S → Type 0) (handles : List (PromisedHandle (Worked S) (Reports S))) (ends : List Taking) : Type 0 where
+  pub place : ℕ
+  pub within : place < length handles
+  pub worked : Worked S
+  pub reported : (h : PromisedHandle (Worked S) (Reports S)) → HasReported gives (slice_index_or handles place h).promise.0.value (slice_index_or handles place h).promise.1.value worked
+  pub told : IsTold worked.outcome
+  pub open_before : (e : Taking) → (slice_index_or ends place e).closed ≡ false
+
+-- the reporter of each handle's thread, in order, and whether one was told of a close of an open lane
+pub record JoinsAll {S : Type 0} (gives : S → Option Report → S → Type 0) (handles : List (PromisedHandle (Worked S) (Reports S))) (ends : List Taking) (reporters : List Reporting) (told : Bool) : Type 0 where
+  pub size : length reporters ≡ length handles
+  pub each : (i : ℕ) (h : PromisedHandle (Worked S) (Reports S)) (e : Taking) (r : Reporting) → i < length handles
+      → IsJoined gives told (slice_index_or handles i h) (slice_index_or ends i e) (slice_index_or reporters i r)
+  pub one : told ≡ true → ToldOne gives handles ends
+
+-- what the meeting of the two ends of a lane says: what was taken comes first of what was sent, and a close counted all of it
+abbrev pub Agrees : Taking → Reporting → Type 0
+Agrees e r = StartsWith r.sent (got_of e) × (e.closed ≡ true → counted e ≡ length r.sent)
+
+abbrev pub AreOneLane : Taking → Reporting → Type 0
+AreOneLane e r = IsLane r e
 
 -- The standby is promoted: wherever it stood before, it stands at the log with all that the source gave in the call, up to End, and
 -- at its lanes. That log ended there and stopped nowhere. Its history is whole, and its tables are the picture. Of each lane it took what its Reporter had sent and
--- all that its source gave
-pub record IsPromoted {S : Type 0} (gives : S → Option Report → S → Type 0) (start : Namespace) (base : ℕ) (given : List Answer) (workers : List (S × Reporting)) (ends : List Taking) (x : Contents) : Type 0 where
+-- all that its source gave; of one that was closed before, up to a report that was refused
+pub record IsPromoted {S : Type 0} (gives : S → Option Report → S → Type 0) (start : Namespace) (base : ℕ) (given : List Answer) (workers : List (S × Reporting)) (before ends : List Taking) (x : Contents) : Type 0 where
   pub stands : Stands start base (log_in base given) (by_node (map got_of ends)) (standby_of x)
   pub whole : IsWhole start (log_in base given) (by_node (map got_of ends)) x.history
   pub picture : ShowsPicture x.namespace (by_node (map got_of ends)) (tables_of (standby_of x))
@@ -115,8 +147,8 @@ pub record IsPromoted {S : Type 0} (gives : S → Option Report → S → Type 0
   pub ended : EndsInEnd given
   pub log_end : end_of_log base start (given_in given) ≡ Ok (record { last = x.last; namespace = x.namespace })
   pub lanes : length ends ≡ length workers
-  pub taken : (i : ℕ) (w : S × Reporting) (e : Taking) → i < length workers
-      → IsTaken gives (slice_index_or workers i w).0 (slice_index_or workers i w).1 (slice_index_or ends i e).got
+  pub taken : (i : ℕ) (w : S × Reporting) (b e : Taking) → i < length workers
+      → IsTaken gives (slice_index_or workers i w).0 (slice_index_or workers i w).1 (slice_index_or before i b) (slice_index_or ends i e).got
 
 -- why it ended early, with what its source had given by then
 abbrev pub NotDriven : {T : Type 0} → (T → Answer → T → Type 0) → (T → ℕ) → Tailer → T → DriveFault → Type 0
@@ -127,4 +159,12 @@ module _ {T S : Type 0} (asks : T → Answer → T → Type 0) (failures : T →
   IsDriven old source workers x active =
       (answers : List Answer) × (after : T) × (ends : List Taking) × Asked asks source answers after × (failures source ≤ failures after)
       × (active.last ≡ x.last) × (active.flushed ≡ count_by is_flush x.history) × KeepsSettings old.shadow x
-      × ((start : Namespace) (base : ℕ) (given : List Answer) → StandsAt start base given old → IsPromoted gives start base (given ++ answers) workers ends x)
+      × ((start : Namespace) (base : ℕ) (given : List Answer) → StandsAt start base given old → IsPromoted gives start base (given ++ answers) workers old.ends ends x)
+
+-- with 42 a worker was told of a close of a lane that was open before
+abbrev pub OnClosed : {S : Type 0} → (S → Option Report → S → Type 0) → Tailer → List (S × Reporting) → DriveFault → Type 0
+OnClosed gives old workers drive.AlreadyActive = Unit {0}
+OnClosed gives old workers (drive.Stopped m) = Unit {0}
+OnClosed gives old workers (drive.LogNotEnded f) = Unit {0}
+OnClosed gives old workers drive.OutOfMemory = Unit {0}
+OnClosed gives old workers drive.Closed = WasTold gives workers old.ends

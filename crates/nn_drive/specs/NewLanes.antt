@@ -1,5 +1,5 @@
 -- Workers and ends of new lanes.
-use Rattle.std.specs.Prelude.{◌≡◌, ℕ, ◌+◌, List, [], ◌∷◌}
+use Rattle.std.specs.Prelude.{◌≡◌, ℕ, ◌+◌, false, List, [], ◌∷◌}
 use Rattle.nn_lane.specs.Ends.{Reporting, Taking}
 
 -- the source has a new lane of this DataNode, of which these are the ends
@@ -9,6 +9,7 @@ pub record HasLane {S : Type 0} (dn : ℕ) (source : S) (worker : S × Reporting
   pub lane : end.lane ≡ worker.1.lane
   pub none_sent : worker.1.sent ≡ []
   pub none_taken : end.got ≡ []
+  pub is_open : end.closed ≡ false
 
 -- so have all of them, of the DataNodes from this one on
 abbrev pub HaveLanes : {S : Type 0} → ℕ → List S → List (S × Reporting) → List Taking → Type 0

@@ -1,15 +1,16 @@
 //! One thread for each DataNode, and the standby on the thread that calls.
-ghost use Rattle.std.specs.Prelude.{◌≡◌, ◌<◌, ◌≤◌, ℕ, List, [], true, false, length, Some, Err, MatchBool, IfOk, IfErr, IfSome};
+ghost use Rattle.std.specs.Prelude.{◌≡◌, ◌<◌, ◌≤◌, [], true, false, length, vec_capacity, Some, Err, MatchBool, IfOk, IfErr, IfSome, ◌⊎◌};
+ghost use Rattle.std.specs.List.{AllZip};
 ghost use Rattle.nn_tailer.specs.LaneSteps.{AllClosed};
 ghost use Rattle.nn_tailer.specs.Refusals.{has_place};
 ghost use Rattle.nn_tailer.specs.Tailing.{has_begun};
 ghost use Rattle.nn_drive.specs.Fault.{number_of};
-ghost use Rattle.nn_drive.specs.Refusals.{drive_refusal, MayCome, IsSameFault};
-ghost use Rattle.nn_drive.specs.Driven.{HasReported, ArePromised, FitHandles, Went, WentUntil, Ends, SealsAll, AreFronts, AreLanes, IsDriven, NotDriven};
+ghost use Rattle.nn_drive.specs.Refusals.{drive_refusal, MayCome, IsSameFault, MayMeet};
+ghost use Rattle.nn_drive.specs.Driven.{HasReported, ArePromised, Went, WentUntil, Ends, IsTold, JoinsAll, AreOneLane, Agrees, AreLanes, IsDriven, NotDriven, OnClosed};
 ghost use Rattle.nn_drive.specs.declared.driving.DriveFault.{DriveFault as Why};
 
 use crate::reporting::{ReportSource, report_all};
-use nn_lane::{LaneEnd, Refusal, Reporter};
+use nn_lane::{LaneEnd, Refusal, Reporter, meet};
 use nn_segment::{SegmentSource, SourceFault};
 use nn_shadow::{Shadow, Stop};
 use nn_tailer::{Active, Choice, PromoteFault, Standby, StepFault};
@@ -53,6 +54,9 @@ pub enum DriveFault {
     /// Memory was refused, or a thread could not be started.
     #[error("out of memory")]
     OutOfMemory,
+    /// A DataNode's report was refused, since its lane was closed, though it was open when the drive began.
+    #[error("a lane was closed")]
+    Closed,
 }
 
 impl DriveFault {
@@ -65,6 +69,7 @@ impl DriveFault {
             DriveFault::Stopped(_) => fault::STOPPED,
             DriveFault::LogNotEnded(_) => fault::LOG_NOT_ENDED,
             DriveFault::OutOfMemory => fault::MEMORY,
+            DriveFault::Closed => fault::CLOSED,
         }
     }
 }
@@ -159,6 +164,7 @@ fn take_step<T: SegmentSource>(
     requires place { has_place standby.old choice ≡ true }
     ensures went { Went T.gives T.failures source.old standby.old source.new standby.new }
     ensures until { IfErr result (λ fault. WentUntil T.gives T.failures source.old standby.old source.new fault) }
+    ensures meets { IfErr result (λ fault. MayMeet fault) }
 {
     match standby.step(source, choice) {
         Ok(_stepped) => Ok(()),
@@ -171,6 +177,7 @@ fn take_round<T: SegmentSource>(standby: &mut Standby, source: &mut T) -> Result
     requires { has_begun standby.old ≡ false }
     ensures went { Went T.gives T.failures source.old standby.old source.new standby.new }
     ensures until { IfErr result (λ fault. WentUntil T.gives T.failures source.old standby.old source.new fault) }
+    ensures meets { IfErr result (λ fault. MayMeet fault) }
 {
     let lanes = standby.lanes();
     for i in 0..lanes {
@@ -192,6 +199,7 @@ fn engine<T: SegmentSource, R: Wait>(
     requires { has_begun standby.old ≡ false }
     ensures went { Went T.gives T.failures source.old standby.old source.new standby.new }
     ensures until { IfErr result (λ fault. WentUntil T.gives T.failures source.old standby.old source.new fault) }
+    ensures meets { IfErr result (λ fault. MayMeet fault) }
 {
     for _ in rt.forever() {
         if ended.load(Ordering::SeqCst) >= workers as u64 {
@@ -208,36 +216,52 @@ fn engine<T: SegmentSource, R: Wait>(
     unreachable!()
 }
 
-// Joins each thread, in order, and closes its lane by its reporter.
-fn seal_all<S: ReportSource + Drop, R: Threads>(
-    rt: &R,
-    standby: &mut Standby,
-    handles: Vec<PromisedHandle<Worked<S>, Reports<S>>>,
-)
-    requires fit { FitHandles handles.items standby.old.ends }
-    requires serving { has_begun standby.old ≡ false }
-    ensures { SealsAll S.gives standby.old handles.items standby.new }
+// Whether a worker was told before of a close of an open lane, or was so with this outcome.
+fn still_told(told: bool, outcome: &Result<u64, Refusal>, end: &LaneEnd) -> bool
+    ensures { MatchBool result ((told ≡ true) ⊎ (IsTold outcome.now × (end.now.closed ≡ false))) ((told ≡ false) × (IsTold outcome.now → end.now.closed ≡ true)) }
 {
+    told || (matches!(outcome, Err(Refusal::Closed { .. })) && !end.closed())
+}
+
+// Joins each thread, in order. The reporters that they give back have room in the list; the flag tells whether one was
+// told of a close of a lane that is open.
+fn join_all<S: ReportSource + Drop, R: Threads>(
+    rt: &R,
+    ends: &[LaneEnd],
+    handles: Vec<PromisedHandle<Worked<S>, Reports<S>>>,
+    reporters: Vec<Reporter>,
+) -> (Vec<Reporter>, bool)
+    requires fit { length handles.items ≤ length ends.now }
+    requires none { reporters.items ≡ [] }
+    requires room { length handles.items ≤ vec_capacity reporters }
+    ensures { JoinsAll S.gives handles.items ends.now result.0.items result.1 }
+{
+    let mut reporters = reporters;
+    let mut told = false;
     let mut place = 0usize;
     for handle in handles {
         let Worked {
             source,
             reporter,
-            outcome: _outcome,
+            outcome,
         } = handle.join(rt);
         drop(source);
-        standby.seal(place, reporter);
+        told = still_told(told, &outcome, &ends[place]);
+        reporters.push_reserved(reporter);
         place += 1;
     }
+    (reporters, told)
 }
 
-// Takes from the lanes of a standby that is given up until so many workers have ended, and joins them.
+// Gives a standby up: its lanes are closed, and taken from until so many workers have ended, which are joined.
 fn give_up<S: ReportSource + Drop, R: Threads + Wait>(
     rt: &R,
     standby: Standby,
     handles: Vec<PromisedHandle<Worked<S>, Reports<S>>>,
     ended: &AtomicU64,
 ) {
+    let mut standby = standby;
+    standby.close_intake();
     let (shadow, mut ends) = standby.into_parts();
     drop(shadow);
     let started = handles.len() as u64;
@@ -256,13 +280,18 @@ fn give_up<S: ReportSource + Drop, R: Threads + Wait>(
     }
 }
 
-// Learns of each lane that what was taken is the front of all.
-fn fronts(ends: &[LaneEnd])
-    ensures { AreFronts ends.now }
+// Ends each lane.
+fn meet_all(ends: Vec<LaneEnd>, reporters: Vec<Reporter>)
+    requires { AllZip AreOneLane ends.items reporters.items }
+    ensures { AllZip Agrees ends.items reporters.items }
 {
-    for i in 0..ends.len() {
-        let end = &ends[i];
-        let _closed = end.closed();
+    let mut ends = ends;
+    let mut reporters = reporters;
+    while let Some(end) = ends.pop() {
+        let Some(reporter) = reporters.pop() else {
+            unreachable!();
+        };
+        let _met = meet(end, reporter);
     }
 }
 
@@ -272,6 +301,7 @@ fn promote<T: SegmentSource>(standby: &mut Standby, source: &mut T) -> Result<Ac
     requires closed { AllClosed standby.old.ends }
     ensures ok { IfOk result (λ active. Ends T.gives T.failures source.old standby.old source.new active standby.new) }
     ensures err { IfErr result (λ fault. WentUntil T.gives T.failures source.old standby.old source.new fault) }
+    ensures meets { IfErr result (λ fault. MayMeet fault) }
 {
     match standby.promote(source) {
         Ok(active) => Ok(active),
@@ -303,6 +333,7 @@ fn drive_in<
     ensures refused { (fault : Why) → drive_refusal standby ≡ Some fault → result ≡ Err fault }
     ensures ok { IfOk result (λ r. IsDriven T.gives T.failures S.gives standby source workers.items r.0 r.1) }
     ensures err { IfErr result (λ fault. NotDriven T.gives T.failures standby source fault) }
+    ensures told { IfErr result (λ fault. OnClosed S.gives standby workers.items fault) }
 {
     let mut standby = standby;
     let mut source = source;
@@ -313,33 +344,44 @@ fn drive_in<
         return Err(DriveFault::Stopped(stop));
     }
     let count = workers.len();
+    let Ok(reporters) = Vec::with_capacity(alloc, count) else {
+        return Err(DriveFault::OutOfMemory);
+    };
     let handles = start_all(scope, rt, alloc, workers, ended);
     let started = handles.len();
+    if !all_started(started, count) {
+        give_up(rt, standby, handles, ended);
+        return Err(DriveFault::OutOfMemory);
+    }
     if let Err(fault) = engine(rt, &mut standby, &mut source, ended, started) {
         give_up(rt, standby, handles, ended);
         return Err(fault);
     }
-    seal_all(rt, &mut standby, handles);
-    if !all_started(started, count) {
-        return Err(DriveFault::OutOfMemory);
-    }
+    let (reporters, told) = join_all(rt, standby.ends(), handles, reporters);
+    standby.close_intake();
     let active = match promote(&mut standby, &mut source) {
         Ok(active) => active,
         Err(fault) => return Err(fault),
     };
     let (shadow, ends) = standby.into_parts();
-    fronts(ends.as_slice());
+    meet_all(ends, reporters);
+    if told {
+        return Err(DriveFault::Closed);
+    }
     Ok((shadow, active))
 }
 
 /// Runs each worker on a thread of its own, and the standby on this one: it steps the log and the lanes in rotation
-/// until all workers have ended; then each lane is closed by its reporter, and the standby promotes itself.
+/// until all workers have ended; then it closes its lanes, and promotes itself.
 ///
-/// A source of reports ends with its first None, and is not asked again; a full lane is tried again and again. The first
-/// cause of refusal is answered: 53 where the flush had begun before and 51 where the standby was stopped, both before any
-/// thread is started; and then, while it works, 51, 54, 55. It closes all lanes, so 52 never comes. After a fault nothing
-/// is handed back: the lanes are taken from, and what is taken is dropped, until all workers that were started have ended,
-/// and each thread is joined before this returns. It waits for as long as a source of reports does.
+/// A source of reports ends with its first None, and is not asked again; nor is it once a report was refused, since its
+/// lane is closed or has carried all that it can. A full lane is tried again and again. The first cause of refusal is
+/// answered: 53 where the flush had begun before and 51 where the standby was stopped, both before any thread is started;
+/// then 55 where memory or a thread is refused, and while it works 51, 54, 55; and last, once it is promoted, 42 where a
+/// report was refused by a close of a lane that was open when the drive began. It closes all lanes, so 52 never comes.
+/// After a fault nothing is handed back: the lanes are closed and taken from, and what is taken is dropped, until all
+/// workers that were started have ended, and each thread is joined before this returns. It waits for as long as a source
+/// of reports does.
 pub fn drive<T: SegmentSource + Drop, S: ReportSource + Send + Drop, R: Threads + Wait + Sync>(
     rt: &R,
     alloc: Global,
@@ -351,6 +393,7 @@ pub fn drive<T: SegmentSource + Drop, S: ReportSource + Send + Drop, R: Threads 
     ensures refused { (fault : Why) → drive_refusal standby ≡ Some fault → result ≡ Err fault }
     ensures ok { IfOk result (λ r. IsDriven T.gives T.failures S.gives standby source workers.items r.0 r.1) }
     ensures err { IfErr result (λ fault. NotDriven T.gives T.failures standby source fault) }
+    ensures told { IfErr result (λ fault. OnClosed S.gives standby workers.items fault) }
 {
     let counter = AtomicU64::new(0);
     let ended = &counter;
@@ -362,6 +405,7 @@ pub fn drive<T: SegmentSource + Drop, S: ReportSource + Send + Drop, R: Threads 
             ensures refused { (fault : Why) → drive_refusal standby ≡ Some fault → result ≡ Err fault }
             ensures ok { IfOk result (λ r. IsDriven T.gives T.failures S.gives standby source workers.items r.0 r.1) }
             ensures err { IfErr result (λ fault. NotDriven T.gives T.failures standby source fault) }
+            ensures told { IfErr result (λ fault. OnClosed S.gives standby workers.items fault) }
         { drive_in(scope, rt, alloc, standby, source, workers, ended) },
     )
 }

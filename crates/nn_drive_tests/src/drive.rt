@@ -145,3 +145,44 @@ fn failing_source(rt: HostRuntime) -> Result<(), Fail> {
     }
     Ok(())
 }
+
+// What a drive over lanes comes to that are closed when it begins.
+fn driven_closed<T: SegmentSource + Drop, R: Threads + Wait + Sync>(
+    rt: &R,
+    alloc: Global,
+    source: T,
+    reports: Vec<Waiting>,
+) -> Result<Result<Active, u8>, Fail> {
+    if reports.len() > 256 {
+        return Err(Fail::new("too many"));
+    }
+    let Ok((workers, ends)) = with_lanes(alloc, reports, 2) else {
+        return Err(Fail::new("out of memory"));
+    };
+    if ends.is_empty() || ends.len() > 256 {
+        return Err(Fail::new("no lanes"));
+    }
+    let Some(settings) = Settings::new(999, 1) else {
+        return Err(Fail::new("no settings"));
+    };
+    let Ok(mut standby) = Standby::new(alloc, ends, settings) else {
+        return Err(Fail::new("out of memory"));
+    };
+    standby.close_intake();
+    match drive(rt, alloc, standby, source, workers) {
+        Ok((_shadow, active)) => Ok(Ok(active)),
+        Err(fault) => Ok(Err(fault.number())),
+    }
+}
+
+// Of a lane that is closed when the drive begins the first report is refused, and that is no fault.
+#[test]
+fn closed_before(rt: HostRuntime) -> Result<(), Fail> {
+    let shared = Shared::new(rt.alloc())?;
+    let reports = sources(rt.alloc(), &shared, 3, 1, 3, 5)?;
+    let source = MemorySource::new(log(rt.alloc())?);
+    let active = driven_closed(&rt, rt.alloc(), source, reports)?;
+    assert_eq!(rt; active, flushed(0));
+    assert_eq!(rt; shared.came.load(Ordering::SeqCst), 3);
+    Ok(())
+}

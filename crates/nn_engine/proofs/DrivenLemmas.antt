@@ -12,7 +12,7 @@ use Rattle.nn_model.specs.Picture.{ShowsPicture}
 use Rattle.nn_model.specs.Stands.{tables_of}
 use Rattle.nn_lane.specs.Ends.{Reporting, Taking, got_of}
 use Rattle.nn_lane.specs.declared.fault.Refusal.{Refusal}
-use Rattle.nn_lane.specs.declared.fault.Refusal.TheVariants.{Exhausted}
+use Rattle.nn_lane.specs.declared.fault.Refusal.TheVariants.{Closed, Exhausted, Full}
 use Rattle.nn_segment.specs.LogEnd.{end_of_log}
 use Rattle.nn_segment.specs.Segment.{Segment}
 use Rattle.nn_segment.specs.Source.{GivesNext}
@@ -21,9 +21,9 @@ use Rattle.nn_shadow.specs.Contents.{Contents, standby_of}
 use Rattle.nn_tailer.specs.Public.{IsNew}
 use Rattle.nn_tailer.specs.Tailing.{Tailer, by_node}
 use Rattle.nn_tailer.proofs.InOrder.{promoted_at_end, stopped_at}
-use Rattle.nn_drive.specs.Driven.{NotDriven, IsDriven, IsTaken}
+use Rattle.nn_drive.specs.Driven.{NotDriven, IsDriven, IsTaken, IsTold}
 use Rattle.nn_drive.specs.NewLanes.{HaveLanes}
-use Rattle.nn_drive.specs.Reports.{next_message, sent_after, Reported}
+use Rattle.nn_drive.specs.Reports.{next_message, sent_after, TakesNoMore, Reported}
 use Rattle.nn_drive.specs.declared.driving.DriveFault.{DriveFault}
 use Rattle.nn_drive.specs.declared.driving.DriveFault.TheVariants as drive
 use Rattle.nn_tailer.specs.declared.standby.Active.{Active}
@@ -57,13 +57,19 @@ length_sent dn sent (r ∷ reports) =
 
 -- a list that is no longer than a lane carries is sent whole
 all_sent : (all : List Report) (r u : Reporting) (t : List Report) (dn : ℕ) (answer : Result ℕ Refusal) → r.sent ≡ [] → r.lane.node ≡ dn → length all ≤ 2 ^ 62
-    → Reported GivesReport all r t u answer → u.sent ≡ sent_after dn [] all
-all_sent all r u t dn (Ok n) none node few h =
+    → (IsTold answer → ⊥) → Reported GivesReport all r t u answer → u.sent ≡ sent_after dn [] all
+all_sent all r u t dn (Ok n) none node few untold h =
     let whole : all ≡ h.0 = gives_front all h.0 h.2.0 h.2.1 ∙ ap (λ z. h.0 ++ z) (none_left h.2.0 t (subst (λ o. GivesReport h.2.0 o t) h.4.0 h.2.2)) ∙ append-nil h.0 in
     h.3 ∙ (λ j. sent_after (node j) (none j) (sym whole j))
-all_sent all r u t dn (Err e) none node few h = by_last h.1 h.2.2 h.4
+all_sent all r u t dn (Err (Full m n)) none node few untold h = absurd (by_last h.1 h.4)
   where
-    by_last : (last : Option Report) → GivesReport h.2.0 last t → MatchOption last ⊥ (λ x. (e ≡ Exhausted (next_message r.lane.node u.sent x)) × (length u.sent ≡ 2 ^ 62)) → u.sent ≡ sent_after dn [] all
+    by_last : (last : Option Report) → MatchOption last ⊥ (λ x. TakesNoMore u (next_message r.lane.node u.sent x) (Full m n)) → ⊥
+    by_last None g = g
+    by_last (Some x) g = g
+all_sent all r u t dn (Err (Closed m n)) none node few untold h = absurd (untold tt)
+all_sent all r u t dn (Err (Exhausted e)) none node few untold h = by_last h.1 h.2.2 h.4
+  where
+    by_last : (last : Option Report) → GivesReport h.2.0 last t → MatchOption last ⊥ (λ x. TakesNoMore u (next_message r.lane.node u.sent x) (Exhausted e)) → u.sent ≡ sent_after dn [] all
     by_last None g m = absurd m
     by_last (Some x) g m =
         let front = ap length (gives_front all h.0 h.2.0 h.2.1) in
@@ -85,6 +91,17 @@ worker_at dn (r ∷ ss) (v ∷ ws) [] h i w l = absurd h
 worker_at dn (r ∷ ss) (v ∷ ws) (d ∷ es) h zero w l = (h.0.own, h.0.none_sent, (let q = h.0.node in omega (arith, q)))
 worker_at dn (r ∷ ss) (v ∷ ws) (d ∷ es) h (suc i) w l =
     let k = worker_at (dn + 1) ss ws es h.1 i w (omega (arith, l)) in (k.0, k.1, (let q = k.2 in omega (arith, q)))
+
+-- each lane is open at the start
+end_at : (dn : ℕ) (ss : List (List Report)) (ws : List (List Report × Reporting)) (es : List Taking) → HaveLanes dn ss ws es
+    → (i : ℕ) (e : Taking) → i < length ws → (get_or es i e).closed ≡ false
+end_at dn [] [] [] h i e l = absurd (omega (arith, l))
+end_at dn [] [] (d ∷ es) h i e l = absurd h
+end_at dn [] (v ∷ ws) es h i e l = absurd h
+end_at dn (r ∷ ss) [] es h i e l = absurd h
+end_at dn (r ∷ ss) (v ∷ ws) [] h i e l = absurd h
+end_at dn (r ∷ ss) (v ∷ ws) (d ∷ es) h zero e l = h.0.is_open
+end_at dn (r ∷ ss) (v ∷ ws) (d ∷ es) h (suc i) e l = end_at (dn + 1) ss ws es h.1 i e (omega (arith, l))
 
 workers_many : (dn : ℕ) (ss : List (List Report)) (ws : List (List Report × Reporting)) (es : List Taking) → HaveLanes dn ss ws es → length ws ≡ length ss
 workers_many dn [] [] [] h = refl
@@ -113,16 +130,17 @@ got_at (e ∷ es) (suc k) x h n = got_at es k x (λ d l. h d (omega (arith, l)))
 
 module _ (count : ℕ) (lanes : Lanes) (sources : List (List Report)) (listed : AreListed count lanes sources) (workers : List (List Report × Reporting)) (before ends : List Taking) (have : HaveLanes 1 sources workers before)
     (as_many : length ends ≡ length workers)
-    (taken : (i : ℕ) (w : List Report × Reporting) (e : Taking) → i < length workers → IsTaken GivesReport (get_or workers i w).0 (get_or workers i w).1 (get_or ends i e).got) where
+    (taken : (i : ℕ) (w : List Report × Reporting) (b e : Taking) → i < length workers → IsTaken GivesReport (get_or workers i w).0 (get_or workers i w).1 (get_or before i b) (get_or ends i e).got) where
   lane_taken : (k : ℕ) (e : Taking) → k < length ends → (get_or ends k e).got ≡ lanes (k + 1)
   lane_taken k e l =
       let within : k < length workers = omega (arith, l, as_many) in
       let w = some_of workers k within in
       let at = worker_at 1 sources workers before have k w within in
-      let t = taken k w e within in
+      let t = taken k w e e within in
+      let untold : IsTold t.0.outcome → ⊥ = λ q. let z : false ≡ true = sym (end_at 1 sources workers before have k e within) ∙ t.3 q in cc in
       let node : (get_or workers k w).1.lane.node ≡ k + 1 = let q = at.2 in omega (arith, q) in
       let few : length (get_or workers k w).0 ≤ 2 ^ 62 = let q = ap length at.0 in let f = listed.few k in omega (arith, q, f) in
-      t.2 ∙ all_sent (get_or workers k w).0 (get_or workers k w).1 t.0.reporter t.0.source (k + 1) t.0.outcome at.1 node few t.1.1
+      t.2 ∙ all_sent (get_or workers k w).0 (get_or workers k w).1 t.0.reporter t.0.source (k + 1) t.0.outcome at.1 node few untold t.1.1
       ∙ ap (sent_after (k + 1) []) at.0 ∙ listed.each k
 
   lane_beyond : (k : ℕ) → length ends ≤ k → [] ≡ lanes (k + 1)
@@ -151,7 +169,7 @@ module _ (settings : Threshold) (count : ℕ) (lanes : Lanes) (sources : List (L
   arrives x active d =
       let p = d.8 root_alone 0 [] new.4 in
       let order = in_order segments d.1 d.0 d.3 in
-      let same = same_lanes count lanes sources listed workers before d.2 have p.lanes p.taken in
+      let same = same_lanes count lanes sources listed workers before d.2 have p.lanes (λ i w b e l. subst (λ es. IsTaken GivesReport (get_or workers i w).0 (get_or workers i w).1 (get_or es i b) (get_or d.2 i e).got) new.0 (p.taken i w b e l)) in
       record {
         log_end = promoted_at_end root_alone 0 segments d.0 order (record { last = x.last; namespace = x.namespace }) p.ended p.log_end;
         picture = subst (λ ls. ShowsPicture x.namespace ls (tables_of (standby_of x))) same p.picture;
@@ -164,6 +182,7 @@ module _ (settings : Threshold) (count : ℕ) (lanes : Lanes) (sources : List (L
   may_end (drive.Stopped s) h = tt
   may_end (drive.LogNotEnded f) h = let q = h.1.2.1 in omega (arith, q)
   may_end drive.OutOfMemory h = tt
+  may_end drive.Closed h = tt
 
   pub stop_told : (f : DriveFault) (p : Printed) → NotDriven GivesNext (λ _. 0) standby segments f → TellsStop f p → p ≡ after_log settings lanes (end_of_log 0 root_alone segments)
   stop_told drive.AlreadyActive p h t = absurd t
@@ -173,10 +192,15 @@ module _ (settings : Threshold) (count : ℕ) (lanes : Lanes) (sources : List (L
       t ∙ ap (λ n. fault_at (codes " txid ") n s.txid) (sym w.1) ∙ ap (after_log settings lanes) (sym w.2)
   stop_told (drive.LogNotEnded f) p h t = absurd t
   stop_told drive.OutOfMemory p h t = absurd t
+  stop_told drive.Closed p h t = absurd t
+
+-- what is printed of a standby that was promoted
+abbrev pub TellsAll : Contents → Printed → Type 0
+TellsAll x p = (lanes : Lanes) → ShowsPicture x.namespace lanes (tables_of (standby_of x)) → p ≡ after_log (record { permille = x.permille; min = x.table.min }) lanes (Ok (record { last = x.last; namespace = x.namespace }))
 
 -- what is told of it is the output of the log and the lanes
 pub tells : (settings : Threshold) (lanes : Lanes) (segments : List Segment) (x : Contents) (p : Printed) → Arrives settings lanes segments x
-    → ((lanes : Lanes) → ShowsPicture x.namespace lanes (tables_of (standby_of x)) → p ≡ after_log (record { permille = x.permille; min = x.table.min }) lanes (Ok (record { last = x.last; namespace = x.namespace })))
+    → TellsAll x p
     → p ≡ after_log settings lanes (end_of_log 0 root_alone segments)
 tells settings lanes segments x p a told =
     told lanes a.picture

@@ -11,7 +11,7 @@ use Rattle.nn_engine.specs.declared.engine.RunEnd.{RunEnd}
 use Rattle.nn_engine.specs.Input.{IsUnread}
 use Rattle.nn_engine.specs.Output.{Printed, output_of}
 use Rattle.nn_scenario.specs.Scenario.{max_input}
-use Rattle.nn_engine.specs.Run.{Given, IsOutput, NoneFailed, Wrote, WroteFront, fault_alone, running, unread_line}
+use Rattle.nn_engine.specs.Run.{Given, IsOutput, NoneFailed, Wrote, WroteFront, WroteByThreads, WroteFrontByThreads, closed_line, fault_alone, running, unread_line}
 
 -- what a whole output, and what a front of one, is where this text was written with this status
 pub record Writes (given : Given) (r : Result RunEnd RunFault) (writer writer' : Option (List ℕ)) : Type 0 where
@@ -72,3 +72,17 @@ pub writes_unread : (settings : Threshold) (before after : Option (List ℕ)) (h
 writes_unread settings before after had has r writer writer' fault text why same ok err =
     writes (running settings before after had has) r writer writer' (unread fault) text 1 (same ∙ unread_text fault) (unread_status fault)
     (is_unread settings before after had has fault why) ok err
+
+-- ---- With threads.
+
+pub record WritesByThreads (given : Given) (r : Result RunEnd RunFault) (writer writer' : Option (List ℕ)) : Type 0 where
+  pub written : IfOk r (λ end. WroteByThreads given writer writer' end.status)
+  pub failed : IfErr r (λ e. WroteFrontByThreads given writer writer' e.written)
+
+pub by_threads : (given : Given) (r : Result RunEnd RunFault) (writer writer' : Option (List ℕ)) → Writes given r writer writer' → WritesByThreads given r writer writer'
+by_threads given r writer writer' w = record { written = IfOk-weaker r _ _ (λ end h. inl h) w.written; failed = IfErr-weaker r _ _ (λ e h. inl h) w.failed }
+
+pub writes_closed : (given : Given) (r : Result RunEnd RunFault) (writer writer' : Option (List ℕ)) → NoneFailed given →
+    IfOk r (λ end. Appends writer writer' closed_line × (end.status ≡ 1)) →
+    IfErr r (λ e. (e.written ≤ length closed_line) × Appends writer writer' (take e.written closed_line)) → WritesByThreads given r writer writer'
+writes_closed given r writer writer' none ok err = record { written = IfOk-weaker r _ _ (λ end h. inr (none, h.0, h.1)) ok; failed = IfErr-weaker r _ _ (λ e h. inr (none, h.0, h.1)) err }

@@ -5,7 +5,7 @@ use Rattle.nn_types.specs.declared.report.Report.{Report}
 use Rattle.nn_types.specs.declared.report.Kind.TheVariants.{Received}
 use Rattle.nn_drive.specs.Reports.{sent_after}
 use Rattle.nn_scenario.specs.declared.steps.Step.TheVariants as step
-use Rattle.nn_engine.specs.Listed.{GivesReport, report_of, with_step}
+use Rattle.nn_engine.specs.Listed.{GivesReport, with_step}
 
 abbrev message : ℕ → ℕ → ℕ → Message
 message dn number block = record { dn = dn; number = number; block = block; stamp = 1001; len = 5; kind = Received }

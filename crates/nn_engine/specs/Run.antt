@@ -72,3 +72,17 @@ running settings before after had_failed has_failed = record {
   had_failed = had_failed;
   has_failed = has_failed;
 }
+
+-- ---- With threads.
+
+-- the line that a DataNode's report was refused, since its lane was closed: no text determines it
+abbrev pub closed_line : List ℕ
+closed_line = (fault_alone (codes "42")).text
+
+-- what a run without threads writes was written, or that line
+abbrev pub WroteByThreads : Given → Option (List ℕ) → Option (List ℕ) → ℕ → Type 0
+WroteByThreads given writer writer' status = Wrote given writer writer' status ⊎ (NoneFailed given × Appends writer writer' closed_line × (status ≡ 1))
+
+-- the first n bytes of it
+abbrev pub WroteFrontByThreads : Given → Option (List ℕ) → Option (List ℕ) → ℕ → Type 0
+WroteFrontByThreads given writer writer' n = WroteFront given writer writer' n ⊎ (NoneFailed given × (n ≤ length closed_line) × Appends writer writer' (take n closed_line))

@@ -1,5 +1,5 @@
 //! A run with threads: each DataNode reports from a thread of its own, while a standby tails the log.
-ghost use Rattle.std.specs.Prelude.{◌≡◌, ◌≤◌, ◌^◌, ◌++◌, ◌∷◌, [], length, replicate, IfOk, IfErr, OnOk};
+ghost use Rattle.std.specs.Prelude.{◌≡◌, ◌≤◌, ◌^◌, ◌++◌, ◌∷◌, [], length, replicate, IfOk, IfErr, OnOk, Ok};
 ghost use Rattle.std.specs.List.{All};
 ghost use Rattle.nn_model.specs.Lanes.{no_messages};
 ghost use Rattle.nn_model.specs.Namespace.{root_alone};
@@ -9,7 +9,7 @@ ghost use Rattle.nn_scenario.specs.Steps.{lanes_of, AreInTurn, IsStepOf};
 ghost use Rattle.nn_segment.specs.LogEnd.{end_of_log};
 ghost use Rattle.nn_engine.specs.Listed.{report_of, with_step, AreFew, AreListed, MayEnd, TellsStop};
 ghost use Rattle.nn_engine.specs.Output.{output_of, after_segments, after_log};
-ghost use Rattle.nn_engine.specs.Run.{Wrote, WroteFront, running};
+ghost use Rattle.nn_engine.specs.Run.{WroteByThreads, WroteFrontByThreads, running};
 ghost use Rattle.nn_engine.specs.Shown.{shown};
 
 use crate::device::{Input, RunFault, read_input};
@@ -51,6 +51,16 @@ pub struct Threaded<G> {
     /// How many reports a lane holds at a time, 1 to 1024.
     pub capacity: usize,
     pub gate: Arc<G, Global>,
+}
+
+/// The line of a run in which a DataNode's report was refused, since its lane was closed.
+const CLOSED: &[u8] = b"fault 42\n";
+
+// Why a run has no output of its input.
+#[derive(Clone, Copy, Debug, PartialEq, Eq)]
+enum Halted {
+    OutOfMemory,
+    Closed,
 }
 
 /// The reports that one lane carries at most, and a list in memory has.
@@ -179,14 +189,27 @@ fn sources_of<G: Drop>(
     Ok(sources)
 }
 
+// The output, where memory was not refused for it.
+fn told(output: Result<Output, AllocError>) -> Result<Output, Halted>
+    ensures { IfOk result (λ o. output ≡ Ok o) }
+{
+    match output {
+        Ok(output) => Ok(output),
+        Err(AllocError) => Err(Halted::OutOfMemory),
+    }
+}
+
 // What a drive ended with that did not promote the standby: the line of the stop.
-fn output_of_fault(alloc: Global, fault: DriveFault) -> Result<Output, AllocError>
+fn output_of_fault(alloc: Global, fault: DriveFault) -> Result<Output, Halted>
     requires { MayEnd fault }
     ensures { IfOk result (λ o. TellsStop fault (shown o)) }
 {
     match fault {
-        DriveFault::Stopped(stop) => { fault_output(alloc, stop.number, " txid ", stop.txid.get()) }
-        DriveFault::OutOfMemory => Err(AllocError),
+        DriveFault::Stopped(stop) => {
+            told(fault_output(alloc, stop.number, " txid ", stop.txid.get()))
+        }
+        DriveFault::OutOfMemory => Err(Halted::OutOfMemory),
+        DriveFault::Closed => Err(Halted::Closed),
         DriveFault::AlreadyActive => unreachable!(),
         DriveFault::LogNotEnded(_) => unreachable!(),
     }
@@ -200,22 +223,24 @@ fn output_of_drive<G: Gate + Send + Sync + Drop, R: Threads + Wait + Sync>(
     lanes: u16,
     steps: StepList,
     segments: Vec<Parsed>,
-) -> Result<Output, AllocError>
+) -> Result<Output, Halted>
     requires capacity { (1 ≤ asked.now.capacity) × (asked.now.capacity ≤ 1024) }
     requires lanes { (1 ≤ lanes) × (lanes ≤ 256) }
     requires in_turn { AreInTurn no_messages steps }
     requires within { All (IsStepOf lanes) steps }
     ensures { IfOk result (λ o. shown o ≡ after_log asked.now.settings (lanes_of steps) (end_of_log 0 root_alone segments.items)) }
 {
-    let sources = sources_of(alloc, &asked.gate, lanes, steps)?;
+    let Ok(sources) = sources_of(alloc, &asked.gate, lanes, steps) else {
+        return Err(Halted::OutOfMemory);
+    };
     let Ok((workers, ends)) = with_lanes(alloc, sources, asked.capacity) else {
-        return Err(AllocError);
+        return Err(Halted::OutOfMemory);
     };
     let Ok(standby) = Standby::new(alloc, ends, asked.settings) else {
-        return Err(AllocError);
+        return Err(Halted::OutOfMemory);
     };
     match drive(rt, alloc, standby, MemorySource::new(segments), workers) {
-        Ok((shadow, _active)) => tell(alloc, shadow),
+        Ok((shadow, _active)) => told(tell(alloc, shadow)),
         Err(fault) => output_of_fault(alloc, fault),
     }
 }
@@ -225,7 +250,7 @@ fn output_of_threads<G: Gate + Send + Sync + Drop, R: Threads + Wait + Sync>(
     alloc: Global,
     asked: &Threaded<G>,
     scenario: Scenario,
-) -> Result<Output, AllocError>
+) -> Result<Output, Halted>
     requires capacity { (1 ≤ asked.now.capacity) × (asked.now.capacity ≤ 1024) }
     requires lawful { IsLawfulScenario (seen scenario) }
     ensures { IfOk result (λ o. shown o ≡ after_segments asked.now.settings (lanes_of scenario.steps) (segments_from 1 scenario.pieces.items)) }
@@ -237,7 +262,7 @@ fn output_of_threads<G: Gate + Send + Sync + Drop, R: Threads + Wait + Sync>(
     } = scenario;
     match read_segments(alloc, pieces) {
         Ok(segments) => output_of_drive(rt, alloc, asked, lanes, steps, segments),
-        Err(bad) => output_of_bad_segment(alloc, bad),
+        Err(bad) => told(output_of_bad_segment(alloc, bad)),
     }
 }
 
@@ -248,7 +273,7 @@ fn output_by_threads<G: Gate + Send + Sync + Drop, R: Threads + Wait + Sync>(
     alloc: Global,
     asked: &Threaded<G>,
     input: Vec<u8>,
-) -> Result<Output, AllocError>
+) -> Result<Output, Halted>
     requires capacity { (1 ≤ asked.now.capacity) × (asked.now.capacity ≤ 1024) }
     requires fits { length input.items ≤ max_input }
     ensures { IfOk result (λ o. shown o ≡ output_of asked.now.settings input.items) }
@@ -257,7 +282,7 @@ fn output_by_threads<G: Gate + Send + Sync + Drop, R: Threads + Wait + Sync>(
     drop(input);
     match lines {
         Ok(scenario) => output_of_threads(rt, alloc, asked, scenario),
-        Err(bad) => output_of_bad(alloc, bad),
+        Err(bad) => told(output_of_bad(alloc, bad)),
     }
 }
 
@@ -265,7 +290,8 @@ fn output_by_threads<G: Gate + Send + Sync + Drop, R: Threads + Wait + Sync>(
 /// DataNode reports from a thread of its own, while the standby tails the log on this one. Whatever the schedule, it
 /// writes the same.
 ///
-/// `fault 55` says that memory was refused, or a thread. It waits for as long as the gate does.
+/// `fault 55` says that memory was refused, or a thread; `fault 42`, that a DataNode's report was refused by a lane that
+/// this run had not closed. It waits for as long as the gate does.
 pub fn run_threads<I: Read, W: Write, G: Gate + Send + Sync + Drop, R: Threads + Wait + Sync>(
     rt: &R,
     alloc: Global,
@@ -274,11 +300,11 @@ pub fn run_threads<I: Read, W: Write, G: Gate + Send + Sync + Drop, R: Threads +
     writer: &mut W,
 ) -> Result<RunEnd, RunFault>
     requires { (1 ≤ asked.now.capacity) × (asked.now.capacity ≤ 1024) }
-    ensures written { IfOk result (λ end. Wrote
+    ensures written { IfOk result (λ end. WroteByThreads
         (running asked.now.settings (I.remaining input.old.reader) (I.remaining input.new.reader) input.old.failed input.new.failed)
         (W.contents writer.old) (W.contents writer.new) end.status) }
     // After a failed write the writer has a front of the output.
-    ensures failed { IfErr result (λ e. WroteFront
+    ensures failed { IfErr result (λ e. WroteFrontByThreads
         (running asked.now.settings (I.remaining input.old.reader) (I.remaining input.new.reader) input.old.failed input.new.failed)
         (W.contents writer.old) (W.contents writer.new) e.written) }
 {
@@ -288,6 +314,7 @@ pub fn run_threads<I: Read, W: Write, G: Gate + Send + Sync + Drop, R: Threads +
     };
     match output_by_threads(rt, alloc, asked, bytes) {
         Ok(output) => finish(writer, output.text.as_bytes(), output.status),
-        Err(AllocError) => finish(writer, OUT_OF_MEMORY, 1),
+        Err(Halted::OutOfMemory) => finish(writer, OUT_OF_MEMORY, 1),
+        Err(Halted::Closed) => finish(writer, CLOSED, 1),
     }
 }

@@ -1,36 +1,39 @@
 -- What contracts see of the two ends of a lane, and what their calls do.
-use Rattle.std.specs.Prelude.{◌≡◌, ℕ, ◌+◌, ◌^◌, ◌<◌, ◌≤◌, Bool, true, List, [], ◌∷◌, ◌++◌, length}
-use Rattle.std.specs.Global.{Global}
-use denote.RawPtr.{Ptr}
-use Rattle.rtrb.specs.declared.producer.Producer.{Producer}
-use Rattle.rtrb.specs.declared.consumer.Consumer.{Consumer}
+use Rattle.std.specs.Prelude.{◌≡◌, ℕ, ◌+◌, ◌^◌, ◌<◌, ◌≤◌, Bool, true, false, Result, Ok, Err, Option, Some, None, List, [], ◌∷◌, ◌++◌, length}
+use Rattle.atomic_table.specs.Seated.{TableId}
 use Rattle.nn_types.specs.declared.report.Kind.{Kind}
 use Rattle.nn_types.specs.declared.report.Message.{Message}
 use Rattle.nn_lane.specs.declared.fault.Refusal.{Refusal}
-use Rattle.nn_lane.specs.declared.fault.Refusal.TheVariants.{Exhausted, Full}
-use Rattle.nn_lane.specs.declared.message.Bounded.{Bounded}
-use Rattle.nn_lane.specs.declared.message.Item.{Item}
+use Rattle.nn_lane.specs.declared.fault.Refusal.TheVariants.{Closed, Exhausted, Full}
 use Rattle.nn_lane.specs.declared.message.Taken.{Taken}
 use Rattle.nn_lane.specs.declared.message.Taken.TheVariants as taken
 
--- which lane it is: the ring that it is made of, and the DataNode
+-- which lane it is: the table that it is made of, and the DataNode
 pub record LaneId : Type 0 where
-  pub words : Ptr
-  pub slots : Ptr
-  pub names : ℕ × (ℕ × ℕ)
-  pub heap : Global
+  pub table : TableId
   pub node : ℕ
 
--- the end that sends: all that it sent, oldest first
+-- how many messages it holds at most
+abbrev pub capacity_of : LaneId → ℕ
+capacity_of l = l.table.slots
+
+-- the end that sends: all that it sent, oldest first, and the message that it prepared; how often it looked at the
+-- other end, and how many messages were taken when it last did; whether it was told that the lane is closed
 pub record Reporting : Type 0 where
   pub lane : LaneId
   pub sent : List Message
+  pub prepared : Option Message
+  pub seen : ℕ
+  pub loads : ℕ
+  pub told : Bool
 
--- the end that takes: what was taken, and that followed by what is known to lie in the lane
+-- the end that takes: what was taken, oldest first; how often it looked at the other end to take, and how many messages
+-- were accepted when it last looked; whether it closed the lane
 pub record Taking : Type 0 where
   pub lane : LaneId
   pub got : List Message
-  pub all : List Message
+  pub seen : ℕ
+  pub loads : ℕ
   pub closed : Bool
 
 -- ---- What callers use of an end, whatever the lane is made of.
@@ -44,56 +47,57 @@ node_of e = e.lane.node
 abbrev pub got_of : Taking → List Message
 got_of e = e.got
 
+-- how often it looked for a message to take
+abbrev pub loads_of : Taking → ℕ
+loads_of e = e.loads
+
 -- how many messages are known; of a closed lane, how many it carries in all
 abbrev pub counted : Taking → ℕ
-counted e = length e.all
+counted e = e.seen
 
 -- a lane that was closed stays as it was counted
 abbrev pub StaysCounted : Taking → Taking → Type 0
-StaysCounted e e' = e'.all ≡ e.all
+StaysCounted e e' = e'.seen ≡ e.seen
 
 abbrev pub IsClosed : Taking → Type 0
 IsClosed e = e.closed ≡ true
 
--- ---- Messages and their numbers.
-
-abbrev pub message_at : ℕ → ℕ → Item → Message
-message_at dn n x = record { dn = dn; number = n; block = x.block; stamp = x.stamp; len = x.len; kind = x.kind }
-
--- the items as messages of this DataNode, with their numbers from k + 1 on
-abbrev pub numbered : ℕ → ℕ → List Item → List Message
-numbered dn k [] = []
-numbered dn k (x ∷ xs) = message_at dn (k + 1) x ∷ numbered dn (k + 1) xs
+-- ---- What the reporter's calls do.
 
 -- the message that comes next, with this content
 abbrev pub message_of : Reporting → ℕ → ℕ → ℕ → Kind → Message
 message_of r block stamp len kind = record { dn = r.lane.node; number = length r.sent + 1; block = block; stamp = stamp; len = len; kind = kind }
 
--- ---- What the calls do.
+abbrev pub StaysUntold : Reporting → Reporting → Type 0
+StaysUntold r r' = (r.told ≡ false) × (r'.told ≡ false)
 
--- a report of this message was refused so: it comes back, and 43 comes exactly where the lane has carried all that it can
-abbrev pub Refuses : Reporting → Message → Refusal → Type 0
-Refuses r x (Exhausted m) = (m ≡ x) × (length r.sent ≡ 2 ^ 62)
-Refuses r x (Full m taken) = (m ≡ x) × (length r.sent < 2 ^ 62)
+-- the reporter looked once, and saw that so many of its messages were taken
+abbrev pub Looks : Reporting → Reporting → ℕ → Type 0
+Looks r r' taken = (r'.loads ≡ r.loads + 1) × (r'.seen ≡ taken) × (r.seen ≤ taken) × (taken ≤ length r.sent)
 
--- the next message of the lane was taken; or all that are known were taken before
+-- the next message has a place, as the reporter saw when it looked, and a number
+abbrev pub HasPlace : Reporting → Reporting → Type 0
+HasPlace r r' = Looks r r' r'.seen × StaysUntold r r' × (length r.sent < r'.seen + capacity_of r.lane) × (length r.sent < 2 ^ 62)
+
+-- the message x was refused so: it comes back, 43 comes exactly where the lane has carried all that it can, and 41 where
+-- all its places were taken when the reporter looked
+abbrev pub Refuses : Reporting → Reporting → Message → Refusal → Type 0
+Refuses r r' x (Closed m n) = (m ≡ x) × (n ≡ length r.sent) × (r'.told ≡ true)
+Refuses r r' x (Exhausted m) = (m ≡ x) × (length r.sent ≡ 2 ^ 62) × StaysUntold r r'
+Refuses r r' x (Full m n) = (m ≡ x) × (length r.sent < 2 ^ 62) × StaysUntold r r' × Looks r r' n × (length r.sent ≡ n + capacity_of r.lane)
+
+-- the prepared message was sent, or the lane was closed before
+abbrev pub Publishes : Reporting → Reporting → Option (Result ℕ Refusal) → Type 0
+Publishes r r' None = (r.prepared ≡ None) × (r' ≡ r)
+Publishes r r' (Some (Ok n)) = (x : Message) × (r.prepared ≡ Some x) × (r'.sent ≡ r.sent ++ x ∷ []) × (x.number ≡ n) × (x.dn ≡ r.lane.node) × (n ≡ length r'.sent) × (n ≤ 2 ^ 62) × StaysUntold r r'
+Publishes r r' (Some (Err e)) = (x : Message) × (r.prepared ≡ Some x) × (r'.sent ≡ r.sent) × (x.number ≡ length r.sent + 1) × (x.dn ≡ r.lane.node) × (e ≡ Closed x (length r.sent)) × (r.told ≡ false) × (r'.told ≡ true)
+
+-- ---- What the other end's calls do.
+
+-- the next message of the lane was taken; or all that were accepted when the end looked, in this call, were taken before
 abbrev pub Gives : Taking → Taking → Taken → Type 0
-Gives e e' (taken.Message m) = (e'.got ≡ e.got ++ m ∷ []) × (m.number ≡ length e'.got) × (m.dn ≡ e.lane.node) × (length e'.got ≤ length e'.all)
-Gives e e' (taken.Empty n) = (e'.got ≡ e.got) × (n ≡ length e.got) × (e'.all ≡ e'.got)
+Gives e e' (taken.Message m) = (e'.got ≡ e.got ++ m ∷ []) × (m.number ≡ length e'.got) × (m.dn ≡ e.lane.node) × (length e'.got ≤ e'.seen)
+Gives e e' (taken.Empty n) = (e'.got ≡ e.got) × (e'.seen ≡ n) × (n ≡ length e.got)
 
 abbrev pub StartsWith : List Message → List Message → Type 0
 StartsWith xs ys = (more : List Message) × (xs ≡ ys ++ more)
-
--- ---- The ends of the ring that a lane is made of.
-
-abbrev pub Sender : Type 0
-Sender = Producer Item Global Bounded
-
-abbrev pub Getter : Type 0
-Getter = Consumer Item Global Bounded
-
-abbrev pub lane_of_sender : Sender → ℕ → LaneId
-lane_of_sender p dn = record { words = p.end.words; slots = p.end.slots; names = p.end.names; heap = p.end.heap; node = dn }
-
-abbrev pub lane_of_getter : Getter → ℕ → LaneId
-lane_of_getter c dn = record { words = c.end.words; slots = c.end.slots; names = c.end.names; heap = c.end.heap; node = dn }

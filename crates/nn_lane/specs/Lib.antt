@@ -1,3 +1,8 @@
 pub mod Ends
-pub mod Fault
 pub mod EndRows
+pub mod Fault
+pub mod Intake
+pub mod IntakeRows
+pub mod Lane
+pub mod Moves
+pub mod Parts

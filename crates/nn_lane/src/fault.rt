@@ -9,9 +9,12 @@ use thiserror::Error;
 /// message that is sent has it.
 #[derive(Clone, Copy, Debug, PartialEq, Eq, Error)]
 pub enum Refusal {
+    /// The other end closed the lane once `accepted` messages were sent.
+    #[error("the lane is closed")]
+    Closed { message: Message, accepted: u64 },
     #[error("the lane has carried 4611686018427387904 messages")]
     Exhausted { message: Message },
-    /// There is no place in the lane now. At least `taken` of its messages were taken, as far as the reporter saw.
+    /// There is no place in the lane: when the reporter looked, `taken` of its messages were taken.
     #[error("the lane is full")]
     Full { message: Message, taken: u64 },
 }
@@ -22,6 +25,7 @@ impl Refusal {
         ensures { result ≡ number_of self }
     {
         match self {
+            Refusal::Closed { .. } => fault::CLOSED,
             Refusal::Exhausted { .. } => fault::EXHAUSTED,
             Refusal::Full { .. } => fault::FULL,
         }

@@ -3,6 +3,10 @@
 #![tactic(auto)]
 
 #[cfg(test)]
+mod beside;
+#[cfg(test)]
+mod closing;
+#[cfg(test)]
 mod lane;
 #[cfg(test)]
 mod log;

@@ -4,10 +4,10 @@ ghost use Rattle.nn_tailer.specs.Tailing.{has_begun};
 
 use crate::log::{FIRST_THREE, FailsOnce, log_of, parsed};
 use crate::report::{FIRST, report_of};
-use nn_lane::{LaneEnd, Reporter, lane};
+use nn_lane::{LaneEnd, Refusal, Reporter, lane};
 use nn_segment::{MemorySource, Parsed};
 use nn_tailer::{Active, Choice, PromoteFault, Standby, StepFault, Stepped};
-use nn_types::{BlockId, Settings, Txid};
+use nn_types::{BlockId, Report, Settings, Txid};
 use std::alloc::Global;
 use std::process::Abort;
 use std::test::Fail;
@@ -60,11 +60,11 @@ fn send_one(reporter: &mut Reporter) -> Result<(), Fail>
 }
 
 // Its lane holds one report of the first block, with generation stamp 1001, and is closed.
-fn sealed(alloc: Global) -> Result<Standby, Fail> {
+fn closed(alloc: Global) -> Result<Standby, Fail> {
     let (mut reporter, end) = lane(alloc, 1, 4)?;
     send_one(&mut reporter)?;
     let mut standby = over(alloc, end)?;
-    standby.seal(0, reporter);
+    standby.close_intake();
     Ok(standby)
 }
 
@@ -102,13 +102,13 @@ fn promotion_flushes_unnamed(rt: HostRuntime) -> Result<(), Fail> {
         "edits_0000000000000000001-0000000000000000002",
         TWO_MARKS,
     )?);
-    let mut standby = sealed(rt.alloc())?;
+    let mut standby = closed(rt.alloc())?;
     is_promoted_once(&rt, &mut standby, &mut source);
     Ok(())
 }
 
 fn is_promoted_once(rt: &impl Abort, standby: &mut Standby, source: &mut MemorySource) {
-    assert!(rt; standby.close_intake().is_ok());
+    standby.close_intake();
     let active = standby.promote(source);
     assert_eq!(rt;
         active,
@@ -126,7 +126,7 @@ fn is_promoted_once(rt: &impl Abort, standby: &mut Standby, source: &mut MemoryS
     assert_eq!(rt; stepped(standby, source, Choice::Edit), 53);
 }
 
-// Before its lane is closed it is not promoted, and goes on.
+// Before its lane is closed it is not promoted, and goes on. The reporter learns of the close by its next report.
 #[test]
 fn open_intake(rt: HostRuntime) -> Result<(), Fail> {
     let mut source = MemorySource::new(log_of(
@@ -138,11 +138,13 @@ fn open_intake(rt: HostRuntime) -> Result<(), Fail> {
     send_one(&mut reporter)?;
     let mut standby = over(rt.alloc(), end)?;
     is_refused_while_open(&rt, &mut standby, &mut source);
+    standby.close_intake();
+    learns_of_the_close(&rt, &mut reporter, &report_of(FIRST)?);
+    assert_eq!(rt; promoted(&mut standby, &mut source), 0);
     Ok(())
 }
 
 fn is_refused_while_open(rt: &impl Abort, standby: &mut Standby, source: &mut MemorySource) {
-    assert!(rt; standby.close_intake().is_err());
     assert_eq!(rt; promoted(standby, source), 52);
     assert_eq!(rt; stepped(standby, source, Choice::Lane(0)), 56);
     assert_eq!(rt; stepped(standby, source, Choice::Lane(2)), 56);
@@ -152,11 +154,19 @@ fn is_refused_while_open(rt: &impl Abort, standby: &mut Standby, source: &mut Me
     assert_eq!(rt; empty, Ok(Stepped::Empty { accepted: 1 }));
 }
 
+// 42, with the message and the number that it would have had.
+fn learns_of_the_close(rt: &impl Abort, reporter: &mut Reporter, report: &Report) {
+    let sent = reporter.report(report.block, report.stamp, report.len, report.kind);
+    assert!(rt;
+        matches!(sent, Err(Refusal::Closed { message, accepted: 1 }) if message.number == 2)
+    );
+}
+
 // An edit that does not apply stops the standby then and later.
 #[test]
 fn missing_parent_stops(rt: HostRuntime) -> Result<(), Fail> {
     let mut source = MemorySource::new(log_of(rt.alloc(), FIRST_THREE, MISSING_PARENT)?);
-    let mut standby = sealed(rt.alloc())?;
+    let mut standby = closed(rt.alloc())?;
     assert_eq!(rt; stepped(&mut standby, &mut source, Choice::Edit), 0);
     is_stopped(&rt, &mut standby, &mut source, 2, 22);
     Ok(())
@@ -170,7 +180,7 @@ fn log_begins_too_high(rt: HostRuntime) -> Result<(), Fail> {
         "edits_0000000000000000002-0000000000000000003",
         BEGINS_AT_TWO,
     )?);
-    let mut standby = sealed(rt.alloc())?;
+    let mut standby = closed(rt.alloc())?;
     assert_eq!(rt; promoted(&mut standby, &mut source), 51);
     is_stopped(&rt, &mut standby, &mut source, 1, 57);
     Ok(())
@@ -212,7 +222,7 @@ fn overlapping(alloc: Global) -> Result<Vec<Parsed>, Fail> {
 #[test]
 fn overlapping_segments(rt: HostRuntime) -> Result<(), Fail> {
     let mut source = MemorySource::new(overlapping(rt.alloc())?);
-    let mut standby = sealed(rt.alloc())?;
+    let mut standby = closed(rt.alloc())?;
     for txid in 1..4u64 {
         applies(&rt, &mut standby, &mut source, txid);
     }
@@ -267,7 +277,7 @@ fn promoted_after_a_failure(
         has_failed: false,
         over: false,
     };
-    let mut standby = sealed(alloc)?;
+    let mut standby = closed(alloc)?;
     let number = match standby.promote(&mut source) {
         Ok(_active) => 0,
         Err(fault) => promotion_number(fault),

@@ -29,7 +29,7 @@ still_closed (e ∷ es) [] s h = absurd s
 still_closed (e ∷ es) (e' ∷ es') s h =
     let b = both_true (closed_of e) (list_all closed_of es) h in
     let r = still_closed es es' s.1 b.1 in
-    (ap (λ z. z && list_all closed_of es') (s.0.1 ∙ b.0) ∙ r.0, ap (λ n. n ∷ map counted es') (ap length (s.0.2 b.0)) ∙ ap (λ l. counted e ∷ l) r.1)
+    (ap (λ z. z && list_all closed_of es') (s.0.1 ∙ b.0) ∙ r.0, ap (λ n. n ∷ map counted es') (s.0.2 b.0) ∙ ap (λ l. counted e ∷ l) r.1)
 
 pub same_length : (es es' : List Taking) → SameEnds es es' → length es' ≡ length es
 same_length [] [] s = refl

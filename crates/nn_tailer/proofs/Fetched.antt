@@ -2,7 +2,7 @@
 use Rattle.std.proofs.Common.{◌≡◌, ℕ, zero, suc, ◌+◌, ◌<◌, ◌≤◌, true, List, [], ◌∷◌, length, get_or, set, Option, Some, None, refl, sym, ap, ◌∙◌, subst, arith}
 use Rattle.std.proofs.lemmas.List.{set-get_or, length-set}
 use Rattle.nn_types.specs.declared.report.Message.{Message}
-use Rattle.nn_lane.specs.Ends.{Taking, lane_of, node_of, Gives}
+use Rattle.nn_lane.specs.Ends.{Taking, lane_of, node_of, loads_of, StaysCounted, Gives}
 use Rattle.nn_lane.specs.declared.message.Taken.TheVariants as taken
 use Rattle.nn_tailer.specs.Tailing.{Tailer, Keeps, handed, handed_all, by_node, IsKept, kept_at, with_lane}
 use Rattle.nn_tailer.specs.Parts.{Fetches, FindsNone}
@@ -13,9 +13,9 @@ any_default [] i d e l = absurd (omega arith)
 any_default (x ∷ xs) zero d e l = refl
 any_default (x ∷ xs) (suc i) d e l = any_default xs i d e (omega arith)
 
--- a take left the lane the same, and as closed
+-- a take left the lane the same, and as closed, and looked once
 abbrev pub SameLane : Taking → Taking → Type 0
-SameLane e e' = (e'.lane ≡ e.lane) × (e'.closed ≡ e.closed) × (e.closed ≡ true → e'.all ≡ e.all)
+SameLane e e' = (lane_of e' ≡ lane_of e) × (e'.closed ≡ e.closed) × (e.closed ≡ true → StaysCounted e e') × (loads_of e' ≡ loads_of e + 1)
 
 pub keeps_lane : (x : Tailer) (i : ℕ) (e : Taking) (k : Option Message) → Keeps x → i < length x.ends → node_of e ≡ 1 + i → IsKept (1 + i) e k → handed_all (set x.ends i e) (set x.kept i k) ≡ handed_all x.ends x.kept → Keeps (with_lane x i e k)
 keeps_lane x i e k h l n m q = record {
@@ -79,9 +79,10 @@ module _ (x : Tailer) (i : ℕ) (d e' : Taking) (k : Keeps x) (l : i < length x.
         lane = λ c. (lane_here c).0;
         closed = λ c. (lane_here c).1;
         all_same = λ c h. (lane_here c).2 (sym (lane_here c).1 ∙ h);
+        looked = λ c. (lane_here c).3;
         same = same_none n g;
-        accepted_is = g.1 ∙ ap length (sym g.0);
-        all = ap length g.2;
+        accepted_is = g.2 ∙ ap length (sym g.0);
+        all = g.1 ∙ g.2 ∙ ap length (sym g.0);
       })
 
 -- a message that is kept already
@@ -91,4 +92,4 @@ fetches_kept x i m d l e =
     let to : (c : Taking) → here ≡ get_or x.ends i c = λ c. any_default x.ends i d c l in
     let q : with_lane x i here (Some m) ≡ x = ap (λ es. record { shadow = x.shadow; ends = es; kept = set x.kept i (Some m); rest = x.rest; stop = x.stop; active = x.active }) (set-get_or x.ends i d)
     ∙ ap (λ ks. record { shadow = x.shadow; ends = x.ends; kept = ks; rest = x.rest; stop = x.stop; active = x.active }) (ap (λ o. set x.kept i o) (sym e) ∙ set-get_or x.kept i None) in
-    record { end = here; now = sym q; lane = λ c. ap lane_of (to c); closed = λ c. ap (λ z. z.closed) (to c); all_same = λ c h. ap (λ z. z.all) (to c); same = refl }
+    record { end = here; now = sym q; lane = λ c. ap lane_of (to c); closed = λ c. ap (λ z. z.closed) (to c); all_same = λ c h. ap (λ z. z.seen) (to c); same = refl }

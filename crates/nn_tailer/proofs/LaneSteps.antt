@@ -230,4 +230,10 @@ step_fault old mid new i m fault.OutOfMemory v k l f h =
     )
 
 pub step_empty : (old new : Tailer) (i n : ℕ) → Keeps old → (l : i < length old.ends) → FindsNone old i n new → LaneMoves old i new (Ok (stepped.Empty n))
-step_empty old new i n k l f = let r = drained old new i n (some_end old.ends i l) k l f in (ap (λ z. z.shadow) f.now, f.same, r.0, r.1)
+step_empty old new i n k l f = let r = drained old new i n (some_end old.ends i l) k l f in (
+  ap (λ z. z.shadow) f.now,
+  f.same,
+  r.0,
+  r.1,
+  (λ d. ap (λ z. (get_or z.ends i d).loads) f.now ∙ ap (λ z. z.loads) (get_or-set_same old.ends i f.end d l) ∙ f.looked d),
+)

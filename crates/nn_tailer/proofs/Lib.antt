@@ -16,7 +16,7 @@ pub mod Applied
 pub mod Prepared
 pub mod Stepping
 pub mod Fresh
-pub mod Sealed
+pub mod Closed
 pub mod Gaps
 pub mod InOrder
 pub mod Refusing

@@ -2,7 +2,7 @@
 use Rattle.std.specs.Prelude.{◌≡◌, ◌≢◌, ℕ, ◌+◌, ◌<◌, ◌≤◌, true, false, Bool, List, [], ◌∷◌, ◌++◌, length, map, Option, None, Result, Ok, Err, slice_index_or, slice_set}
 use Rattle.std.specs.List.{list_all}
 use Rattle.nn_types.specs.declared.report.Message.{Message}
-use Rattle.nn_lane.specs.Ends.{Taking, counted, StaysCounted}
+use Rattle.nn_lane.specs.Ends.{Taking, lane_of, got_of, loads_of, counted, StaysCounted}
 use Rattle.nn_tailer.specs.declared.standby.Stepped.{Stepped}
 use Rattle.nn_tailer.specs.declared.standby.Stepped.TheVariants as stepped
 use Rattle.nn_tailer.specs.declared.fault.StepFault.{StepFault}
@@ -75,10 +75,14 @@ pub record HandsNext (old : Tailer) (i : ℕ) (was_held : Bool) (new : Tailer) :
   pub held : (start : Namespace) (base : ℕ) (given : List Answer) → StandsAt start base given old
       → is_held old.shadow.namespace (followed_by (lanes_of old) message message.dn) message ≡ was_held
 
+-- it was tried to take from the lane once
+abbrev pub LookedOnce : Tailer → ℕ → Tailer → Type 0
+LookedOnce old i new = (d : Taking) → loads_of (slice_index_or new.ends i d) ≡ loads_of (slice_index_or old.ends i d) + 1
+
 abbrev pub LaneMoves : Tailer → ℕ → Tailer → Result Stepped StepFault → Type 0
 LaneMoves old i new (Ok stepped.Processed) = HandsNext old i false new
 LaneMoves old i new (Ok stepped.Held) = HandsNext old i true new
-LaneMoves old i new (Ok (stepped.Empty n)) = (new.shadow ≡ old.shadow) × (handed_in new ≡ handed_in old) × IsDrained new i × (n ≡ handed_count new i)
+LaneMoves old i new (Ok (stepped.Empty n)) = (new.shadow ≡ old.shadow) × (handed_in new ≡ handed_in old) × IsDrained new i × (n ≡ handed_count new i) × LookedOnce old i new
 LaneMoves old i new (Ok (stepped.Applied txid)) = ⊥
 LaneMoves old i new (Ok stepped.Passed) = ⊥
 LaneMoves old i new (Ok stepped.LogEnded) = ⊥
@@ -101,3 +105,14 @@ pub record LanesFrame (old new : Tailer) : Type 0 where
 
 abbrev pub AreDrained : Tailer → Type 0
 AreDrained x = (k : ℕ) → k < length x.ends → IsDrained x k
+
+-- an end was closed: all that it carries is counted, and what was counted at an earlier close stays
+abbrev pub ClosesEnd : Taking → Taking → Type 0
+ClosesEnd e e' =
+    (lane_of e' ≡ lane_of e) × (got_of e' ≡ got_of e) × (e'.closed ≡ true) × (length (got_of e') ≤ counted e') × (e.closed ≡ true → StaysCounted e e') × (loads_of e' ≡ loads_of e)
+
+abbrev pub CloseEnds : List Taking → List Taking → Type 0
+CloseEnds [] [] = Unit {0}
+CloseEnds [] (e ∷ es) = ⊥
+CloseEnds (e ∷ es) [] = ⊥
+CloseEnds (e ∷ es) (e' ∷ es') = ClosesEnd e e' × CloseEnds es es'

@@ -7,7 +7,7 @@ use Rattle.nn_types.specs.declared.edit_fault.EditFault.{EditFault}
 use Rattle.nn_types.specs.EditFault.{number_of}
 use Rattle.nn_model.specs.Log.{counted as news}
 use Rattle.nn_model.specs.Apply.{refusal}
-use Rattle.nn_lane.specs.Ends.{Taking, lane_of, counted, StaysCounted}
+use Rattle.nn_lane.specs.Ends.{Taking, lane_of, loads_of, counted, StaysCounted}
 use Rattle.nn_shadow.specs.declared.fault.Stop.{Stop}
 use Rattle.nn_shadow.specs.Contents.{Contents}
 use Rattle.nn_segment.specs.Segment.{Segment, first_txid}
@@ -80,6 +80,7 @@ pub record FindsNone (old : Tailer) (i accepted : ℕ) (new : Tailer) : Type 0 w
   pub lane : (d : Taking) → lane_of end ≡ lane_of (slice_index_or old.ends i d)
   pub closed : (d : Taking) → end.closed ≡ (slice_index_or old.ends i d).closed
   pub all_same : (d : Taking) → end.closed ≡ true → StaysCounted (slice_index_or old.ends i d) end
+  pub looked : (d : Taking) → loads_of end ≡ loads_of (slice_index_or old.ends i d) + 1
   pub same : handed_all new.ends new.kept ≡ handed_all old.ends old.kept
   pub accepted_is : accepted ≡ length end.got
   pub all : counted end ≡ length end.got

@@ -1,7 +1,6 @@
 -- What a public step does.
 use Rattle.std.specs.Prelude.{◌≡◌, ℕ, ◌+◌, ◌<◌, true, false, List, [], ◌∷◌, length, Some, None, Result, Ok, Err, MatchResult, ◌⊎◌}
-use Rattle.std.specs.Prelude.{slice_set}
-use Rattle.nn_lane.specs.Ends.{Taking, Reporting, lane_of, node_of}
+use Rattle.nn_lane.specs.Ends.{Taking, node_of}
 use Rattle.nn_model.specs.Namespace.{root_alone}
 use Rattle.nn_segment.specs.Source.{Answer, Asked}
 use Rattle.nn_shadow.specs.Contents.{KeepsSettings}
@@ -50,14 +49,3 @@ AreNew dn (e ∷ es) = (node_of e ≡ dn) × (e.got ≡ []) × AreNew (dn + 1) e
 -- a standby with no log and no messages
 abbrev pub IsNew : List Taking → Tailer → Type 0
 IsNew ends x = (x.ends ≡ ends) × (has_begun x ≡ false) × (x.stop ≡ None) × (x.active ≡ false) × StandsAt root_alone 0 [] x
-
--- a lane was closed by its reporter, and has all that this one sent
-pub record Seals (old : Tailer) (i : ℕ) (r : Reporting) (new : Tailer) : Type 0 where
-  pub carries : Carries old [] new
-  pub end : Taking
-  pub ends : new.ends ≡ slice_set old.ends i end
-  pub begun : has_begun new ≡ has_begun old
-  pub settings : KeepsSettings old.shadow new.shadow
-  pub lane : lane_of end ≡ r.lane
-  pub closed : end.closed ≡ true
-  pub all : end.all ≡ r.sent

@@ -113,6 +113,9 @@ LogStops old answers s = (start : Namespace) (base : ℕ) (given : List Answer) 
 abbrev pub with_lane : Tailer → ℕ → Taking → Option Message → Tailer
 with_lane x i e k = record { shadow = x.shadow; ends = slice_set x.ends i e; kept = slice_set x.kept i k; rest = x.rest; stop = x.stop; active = x.active }
 
+abbrev pub with_ends : Tailer → List Taking → Tailer
+with_ends x es = record { shadow = x.shadow; ends = es; kept = x.kept; rest = x.rest; stop = x.stop; active = x.active }
+
 abbrev pub with_kept : Tailer → ℕ → Option Message → Tailer
 with_kept x i k = record { shadow = x.shadow; ends = x.ends; kept = slice_set x.kept i k; rest = x.rest; stop = x.stop; active = x.active }
 

@@ -1,6 +1,6 @@
 -- What a standby with lanes shows, on small examples, computed.
-use Rattle.std.specs.Prelude.{◌≡◌, ℕ, Bool, true, false, List, [], ◌∷◌, Some, None, Err, refl, map}
-use Rattle.std.proofs.Common.{arith}
+use Rattle.std.specs.Prelude.{◌≡◌, ℕ, ◌≤◌, Bool, true, false, List, [], ◌∷◌, length, Some, None, Ok, Err, refl, map}
+use Rattle.std.proofs.Common.{arith, ap}
 use Rattle.std.proofs.lemmas.Bool.{both_ways}
 use Rattle.nn_types.specs.declared.report.Message.{Message}
 use Rattle.nn_types.specs.declared.report.Kind.TheVariants.{Received}
@@ -8,6 +8,8 @@ use Rattle.nn_segment.specs.Source.{end}
 use Rattle.nn_segment.specs.declared.fault.SourceFault.TheVariants.{Gone}
 use Rattle.nn_lane.specs.Ends.{LaneId, Taking}
 use Rattle.nn_tailer.specs.declared.standby.Choice.TheVariants.{Edit, Lane}
+use Rattle.nn_tailer.specs.declared.standby.Stepped.TheVariants.{Empty}
+use Rattle.nn_tailer.specs.LaneSteps.{ClosesEnd, CloseEnds, LookedOnce, LaneMoves}
 use Rattle.nn_tailer.specs.Refusals.{step_refusal, promote_refusal}
 use Rattle.nn_tailer.specs.Tailing.{Tailer, handed, handed_all, by_node, EndsInEnd, AllTaken}
 use Rattle.nn_tailer.specs.Reads.{EndsInFault}
@@ -32,11 +34,12 @@ other = message 2 1
 kept_back : (handed (first ∷ second ∷ []) (Some second) ≡ first ∷ []) × (handed (first ∷ second ∷ []) None ≡ first ∷ second ∷ [])
 kept_back = (refl, refl)
 
-abbrev taking : LaneId → List Message → List Message → Bool → Taking
-taking l got all closed = record { lane = l; got = got; all = all; closed = closed }
+-- an end that saw so many messages accepted when it last looked
+abbrev taking : LaneId → List Message → ℕ → Bool → Taking
+taking l got seen closed = record { lane = l; got = got; seen = seen; loads = 0; closed = closed }
 
 handed_lane_by_lane : (l : LaneId)
-    → handed_all (taking l (first ∷ second ∷ []) [] false ∷ taking l (other ∷ []) [] false ∷ []) (Some second ∷ None ∷ []) ≡ (first ∷ []) ∷ (other ∷ []) ∷ []
+    → handed_all (taking l (first ∷ second ∷ []) 2 false ∷ taking l (other ∷ []) 1 false ∷ []) (Some second ∷ None ∷ []) ≡ (first ∷ []) ∷ (other ∷ []) ∷ []
 handed_lane_by_lane l = refl
 
 -- DataNodes count from 1
@@ -50,16 +53,16 @@ ends_in_fault : EndsInFault (end ∷ Err Gone ∷ []) Gone
 ends_in_fault = (end ∷ [], refl)
 
 -- a closed lane of which all was taken and handed on
-all_taken : (l : LaneId) → AllTaken (taking l (first ∷ []) (first ∷ []) true ∷ []) (None ∷ [])
+all_taken : (l : LaneId) → AllTaken (taking l (first ∷ []) 1 true ∷ []) (None ∷ [])
 all_taken l = (refl, refl, refl, tt)
 
-not_closed : (l : LaneId) → AllTaken (taking l (first ∷ []) (first ∷ []) false ∷ []) (None ∷ []) → ⊥
+not_closed : (l : LaneId) → AllTaken (taking l (first ∷ []) 1 false ∷ []) (None ∷ []) → ⊥
 not_closed l taken = both_ways _ refl taken.0
 
-not_taken : (l : LaneId) → AllTaken (taking l (first ∷ []) (first ∷ second ∷ []) true ∷ []) (None ∷ []) → ⊥
+not_taken : (l : LaneId) → AllTaken (taking l (first ∷ []) 2 true ∷ []) (None ∷ []) → ⊥
 not_taken l taken = let e : 1 ≡ 2 = taken.2 in omega (arith, e)
 
-kept_still : (l : LaneId) → AllTaken (taking l (first ∷ []) (first ∷ []) true ∷ []) (Some first ∷ []) → ⊥
+kept_still : (l : LaneId) → AllTaken (taking l (first ∷ []) 1 true ∷ []) (Some first ∷ []) → ⊥
 kept_still l taken = let e : Some first ≡ None = taken.1 in absurd (cc)
 
 numbers_of_steps : map number_of_step (AlreadyActive ∷ Stopped (record { txid = 3; number = 57 }) ∷ BadLane ∷ LogNotEnded Gone ∷ OutOfMemory ∷ []) ≡ 53 ∷ 51 ∷ 56 ∷ 54 ∷ 55 ∷ []
@@ -80,7 +83,7 @@ stopped x = record x { stop = Some (record { txid = 3; number = 57 }) }
 abbrev flushing : Tailer → Tailer
 flushing x = record x { shadow = record x.shadow { phase = record { stopped = None; active = true } } }
 
-no_such_datanode : (x : Tailer) (l : LaneId) → let y = serving x (taking l [] [] false ∷ []) in
+no_such_datanode : (x : Tailer) (l : LaneId) → let y = serving x (taking l [] 0 false ∷ []) in
     map (step_refusal y) (Edit ∷ Lane 0 ∷ Lane 1 ∷ Lane 2 ∷ []) ≡ None ∷ Some BadLane ∷ None ∷ Some BadLane ∷ []
 no_such_datanode x l = refl
 
@@ -90,16 +93,44 @@ stop_before_no_datanode x = refl
 active_before_all : (x : Tailer) → step_refusal (flushing (stopped (serving x []))) (Lane 1) ≡ Some AlreadyActive
 active_before_all x = refl
 
-open_lane : (x : Tailer) (l : LaneId) → map (λ closed. promote_refusal (serving x (taking l [] [] true ∷ taking l [] [] closed ∷ []))) (false ∷ true ∷ []) ≡ Some promotion.IntakeOpen ∷ None ∷ []
+open_lane : (x : Tailer) (l : LaneId) → map (λ closed. promote_refusal (serving x (taking l [] 0 true ∷ taking l [] 0 closed ∷ []))) (false ∷ true ∷ []) ≡ Some promotion.IntakeOpen ∷ None ∷ []
 open_lane x l = refl
 
 stop_before_open_lane : (x : Tailer) (l : LaneId)
-    → promote_refusal (stopped (serving x (taking l [] [] false ∷ []))) ≡ Some (promotion.Step (Stopped (record { txid = 3; number = 57 })))
+    → promote_refusal (stopped (serving x (taking l [] 0 false ∷ []))) ≡ Some (promotion.Step (Stopped (record { txid = 3; number = 57 })))
 stop_before_open_lane x l = refl
 
 promoted_before_stop : (x : Tailer) → promote_refusal (record (stopped x) { active = true }) ≡ Some promotion.AlreadyActive
 promoted_before_stop x = refl
 
 -- want of memory kept the flush from being done: it may be asked for again
-flush_again : (x : Tailer) (l : LaneId) → promote_refusal (flushing (serving x (taking l [] [] false ∷ []))) ≡ None
+flush_again : (x : Tailer) (l : LaneId) → promote_refusal (flushing (serving x (taking l [] 0 false ∷ []))) ≡ None
 flush_again x l = refl
+
+-- ---- Lanes that are closed.
+
+abbrev closed_with : LaneId → ℕ → Taking
+closed_with l seen = record { lane = l; got = first ∷ []; seen = seen; loads = 3; closed = true }
+
+-- the close counts a message that was sent since the end last looked; a second close counts none
+closes : (l : LaneId) → CloseEnds (record (closed_with l 1) { closed = false } ∷ closed_with l 1 ∷ []) (closed_with l 2 ∷ closed_with l 1 ∷ [])
+closes l = ((refl, refl, refl, omega arith, (λ q. absurd (both_ways _ refl q)), refl), ((refl, refl, refl, omega arith, (λ q. refl), refl), tt))
+
+not_left_open : (l : LaneId) → ClosesEnd (taking l [] 0 false) (taking l [] 0 false) → ⊥
+not_left_open l h = both_ways _ refl h.2
+
+not_counted_twice : (l : LaneId) → ClosesEnd (closed_with l 1) (closed_with l 2) → ⊥
+not_counted_twice l h = let e : 2 ≡ 1 = h.4 refl in omega (arith, e)
+
+not_taken_at_a_close : (l : LaneId) → ClosesEnd (taking l [] 1 false) (record (closed_with l 1) { loads = 0 }) → ⊥
+not_taken_at_a_close l h = let e : first ∷ [] ≡ [] = h.1 in let n : 1 ≡ 0 = ap length e in omega (arith, n)
+
+not_fewer_than_taken : (l : LaneId) → ClosesEnd (record (closed_with l 1) { closed = false }) (closed_with l 0) → ⊥
+not_fewer_than_taken l h = let few : 1 ≤ 0 = h.3 in omega (arith, few)
+
+-- Empty comes of a take
+looked : (x : Tailer) (l : LaneId) → LookedOnce (serving x (taking l [] 0 false ∷ [])) 0 (serving x (record (taking l [] 0 false) { loads = 1 } ∷ []))
+looked x l d = refl
+
+not_without_a_look : (x : Tailer) (l : LaneId) → let y = serving x (taking l [] 0 false ∷ []) in LaneMoves y 0 y (Ok (Empty 0)) → ⊥
+not_without_a_look x l h = let e : 0 ≡ 1 = h.4 (taking l [] 0 false) in omega (arith, e)

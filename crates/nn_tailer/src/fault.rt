@@ -1,6 +1,5 @@
 //! Why a call of the standby with lanes is refused.
 ghost use Rattle.std.specs.Prelude.{◌≡◌};
-ghost use Rattle.nn_types.specs.declared.fault.TheConstants.{INTAKE_OPEN};
 ghost use Rattle.nn_tailer.specs.Fault.{number_of_step, number_of_promotion};
 
 use nn_segment::SourceFault;
@@ -38,20 +37,6 @@ impl StepFault {
             StepFault::LogNotEnded(_) => fault::LOG_NOT_ENDED,
             StepFault::OutOfMemory => fault::MEMORY,
         }
-    }
-}
-
-/// A lane is open.
-#[derive(Clone, Copy, Debug, PartialEq, Eq, Error)]
-#[error("a lane is open")]
-pub struct IntakeOpen;
-
-impl IntakeOpen {
-    /// The fault's number.
-    pub fn number(self) -> u8
-        ensures { result ≡ INTAKE_OPEN }
-    {
-        fault::INTAKE_OPEN
     }
 }
 

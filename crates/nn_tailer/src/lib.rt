@@ -10,5 +10,5 @@ mod fault;
 mod hand;
 mod standby;
 
-pub use fault::{IntakeOpen, PromoteFault, StepFault};
+pub use fault::{PromoteFault, StepFault};
 pub use standby::{Active, Choice, Standby, Stepped};

@@ -1,22 +1,20 @@
 //! The standby over its lanes: what it keeps, and its calls but the promotion.
-ghost use Rattle.std.specs.Prelude.{◌≡◌, ◌<◌, ◌≤◌, length, false, IfOk, IfErr, OnOk, OnErr, Err, Some, None, slice_index_or, replicate};
-ghost use Rattle.std.specs.List.{list_all};
-ghost use Rattle.nn_lane.specs.Ends.{Taking};
-ghost use Rattle.nn_tailer.specs.LaneSteps.{AllClosed, closed_of};
-ghost use Rattle.nn_tailer.specs.Public.{Steps, AreNew, IsNew, Seals};
+ghost use Rattle.std.specs.Prelude.{◌≡◌, ◌<◌, ◌≤◌, [], length, IfOk, IfErr, Err, Some, None, replicate};
+ghost use Rattle.nn_tailer.specs.LaneSteps.{AllClosed, CloseEnds};
+ghost use Rattle.nn_tailer.specs.Public.{Steps, AreNew, IsNew};
 ghost use Rattle.nn_tailer.specs.declared.fault.StepFault.{StepFault as Why};
 ghost use Rattle.nn_tailer.specs.Refusals.{step_refusal};
 ghost use Rattle.nn_tailer.specs.Steps.{OnLogFault};
-ghost use Rattle.nn_tailer.specs.Tailing.{has_begun};
+ghost use Rattle.nn_tailer.specs.Tailing.{Carries, has_begun, with_ends};
 
 mod lanes;
 mod log;
 mod promote;
 
-use crate::fault::{IntakeOpen, StepFault};
+use crate::fault::StepFault;
 use crate::hand::Hand;
-use crate::standby::lanes::are_closed;
-use nn_lane::{LaneEnd, Reporter};
+use crate::standby::lanes::close_all;
+use nn_lane::LaneEnd;
 use nn_segment::SegmentSource;
 use nn_shadow::{Shadow, Stop};
 use nn_types::{Message, Settings, Txid};
@@ -148,27 +146,15 @@ impl Standby {
         }
     }
 
-    /// Closes the lane at this place, counted from 0, with its own reporter, which has ended: what is left in it is all
-    /// that this one sent.
-    pub fn seal(&mut self, i: usize, reporter: Reporter)
-        requires place { i < length self.old.ends }
-        requires own { (d : Taking) → (slice_index_or self.old.ends i d).lane ≡ reporter.lane }
-        requires serving { has_begun self.old ≡ false }
-        ensures { Seals self.old i reporter self.new }
+    /// Closes all lanes, under reporters that run: each of these learns of it by a report that is refused. What they had
+    /// sent by then is left to take; a lane that was closed stays as it is. It cannot be refused. Linear in the lanes.
+    pub fn close_intake(&mut self)
+        ensures ends { CloseEnds self.old.ends self.new.ends }
+        ensures closed { AllClosed self.new.ends }
+        ensures rest { self.new ≡ with_ends self.old self.new.ends }
+        ensures carries { Carries self.old [] self.new }
     {
-        self.ends[i].seal(reporter);
-    }
-
-    /// That each lane is closed: 52 while one is open. Linear in the lanes.
-    pub fn close_intake(&self) -> Result<(), IntakeOpen>
-        ensures closed { OnOk result (AllClosed self.now.ends) }
-        ensures open { OnErr result (list_all closed_of self.now.ends ≡ false) }
-    {
-        if are_closed(self.ends.as_slice()) {
-            Ok(())
-        } else {
-            Err(IntakeOpen)
-        }
+        close_all(self.ends.as_mut_slice());
     }
 
     /// The standby below: its namespace, its replicas and orders, its history, what it holds, its counts.
@@ -190,6 +176,13 @@ impl Standby {
         ensures { result ≡ has_begun self.now }
     {
         self.shadow.is_active()
+    }
+
+    /// The ends of its lanes, DataNode 1 first.
+    pub fn ends(&self) -> &[LaneEnd]
+        ensures { result.now ≡ self.now.ends }
+    {
+        self.ends.as_slice()
     }
 
     /// How many lanes there are.

@@ -5,7 +5,7 @@ ghost use Rattle.nn_shadow.specs.Contents.{standby_of};
 ghost use Rattle.nn_shadow.specs.Refusals.{handed_as};
 ghost use Rattle.nn_tailer.specs.Tailing.{kept_at};
 ghost use Rattle.nn_tailer.specs.Public.{HasNoPlace, IsPlace};
-ghost use Rattle.nn_tailer.specs.LaneSteps.{LaneFrame, LaneMoves, LanesFrame, AllClosed, IsDrained, AreDrained, closed_of};
+ghost use Rattle.nn_tailer.specs.LaneSteps.{LaneFrame, LaneMoves, LanesFrame, AllClosed, CloseEnds, IsDrained, AreDrained, closed_of};
 ghost use Rattle.nn_tailer.specs.Parts.{IsLive, Fetches, FindsNone, HandsKept, NotHanded};
 
 use super::{Standby, Stepped};
@@ -127,4 +127,13 @@ pub(super) fn are_closed(ends: &[LaneEnd]) -> bool
     ensures { result ≡ list_all closed_of ends.now }
 {
     ends.iter().all(|end| end.closed())
+}
+
+// Closes each lane.
+pub(super) fn close_all(ends: &mut [LaneEnd])
+    ensures { CloseEnds ends.old ends.new }
+{
+    for end in ends {
+        let _accepted = end.close();
+    }
 }

@@ -1,0 +1,51 @@
+-- One more thread is joined.
+use Rattle.std.proofs.Common.{◌≡◌, ℕ, ◌+◌, ◌<◌, Bool, true, false, List, [], ◌∷◌, ◌++◌, Option, length, get_or, refl, sym, ap, ◌∙◌, subst, arith, below_more, inl, inr}
+use Rattle.std.specs.Prelude.{MatchBool, ◌⊎◌}
+use Rattle.std.proofs.lemmas.List.{get_or_append_left, get_or_push}
+use Rattle.std.specs.declared.thread.PromisedHandle.{PromisedHandle}
+use Rattle.nn_types.specs.declared.report.Report.{Report}
+use Rattle.nn_lane.specs.Ends.{Reporting, Taking}
+use Rattle.nn_tailer.proofs.Fetched.{any_default}
+use Rattle.nn_drive.specs.declared.driving.Worked.{Worked}
+use Rattle.nn_drive.specs.declared.driving.Reports.{Reports}
+use Rattle.nn_drive.specs.Driven.{HasReported, IsTold, IsToldOnly, IsJoined, ToldOne}
+
+-- what the flag says of the threads so far, and of this one
+abbrev pub TellsOn : {S : Type 0} → Bool → Bool → Worked S → Taking → Type 0
+TellsOn was told w e = MatchBool told ((was ≡ true) ⊎ (IsTold w.outcome × (e.closed ≡ false))) ((was ≡ false) × IsToldOnly w e)
+
+none_told : {S : Type 0} (was told : Bool) (w : Worked S) (e : Taking) → TellsOn was told w e → told ≡ false → (was ≡ false) × IsToldOnly w e
+none_told was true w e h q = absurd (let z : true ≡ false = q in cc)
+none_told was false w e h q = h
+
+one_told : {S : Type 0} (was told : Bool) (w : Worked S) (e : Taking) → TellsOn was told w e → told ≡ true → (was ≡ true) ⊎ (IsTold w.outcome × (e.closed ≡ false))
+one_told was true w e h q = h
+one_told was false w e h q = absurd (let z : false ≡ true = q in cc)
+
+module _ {S : Type 0} (gives : S → Option Report → S → Type 0) (handles : List (PromisedHandle (Worked S) (Reports S))) (ends : List Taking) (n : ℕ) (was told : Bool) (w : Worked S)
+    (says : (e : Taking) → TellsOn was told w (get_or ends n e)) (h : PromisedHandle (Worked S) (Reports S)) (here : (d : PromisedHandle (Worked S) (Reports S)) → get_or handles n d ≡ h)
+    (reported : HasReported gives h.promise.0.value h.promise.1.value w) where
+  pub joined_more : (rs rs' : List Reporting) → length rs ≡ n → rs' ≡ rs ++ w.reporter ∷ []
+      → ((k : ℕ) (d : PromisedHandle (Worked S) (Reports S)) (e : Taking) (r : Reporting) → k < n → IsJoined gives was (get_or handles k d) (get_or ends k e) (get_or rs k r))
+      → (k : ℕ) (d : PromisedHandle (Worked S) (Reports S)) (e : Taking) (r : Reporting) → k < n + 1 → IsJoined gives told (get_or handles k d) (get_or ends k e) (get_or rs' k r)
+  joined_more rs rs' len q before k d e r below =
+      subst (λ z. IsJoined gives told (get_or handles k d) (get_or ends k e) (get_or z k r)) (sym q)
+      (below_more (λ i. IsJoined gives told (get_or handles i d) (get_or ends i e) (get_or (rs ++ w.reporter ∷ []) i r)) n
+      (λ i low. subst (IsJoined gives told (get_or handles i d) (get_or ends i e)) (sym (get_or_append_left rs (w.reporter ∷ []) r i (omega (arith, low, len))))
+      (let j = before i d e r low in (j.0, j.1, j.2, λ f. j.3 (none_told was told w (get_or ends n e) (says e) f).0)))
+      (subst (IsJoined gives told (get_or handles n d) (get_or ends n e)) (sym (get_or_push rs w.reporter r n len))
+      (subst (λ p. IsJoined gives told p (get_or ends n e) w.reporter) (sym (here d)) (w, reported, refl, λ f. (none_told was told w (get_or ends n e) (says e) f).1)))
+      k below)
+
+  pub told_more : (d : Taking) → n < length handles → n < length ends → (was ≡ true → ToldOne gives handles ends) → told ≡ true → ToldOne gives handles ends
+  told_more d within in_ends before t = elim (one_told was told w (get_or ends n d) (says d) t) [
+    | inl b ↦ before b
+    | inr x ↦ record {
+      place = n;
+      within = within;
+      worked = w;
+      reported = λ p. subst (λ z. HasReported gives z.promise.0.value z.promise.1.value w) (sym (here p)) reported;
+      told = x.0;
+      open_before = λ e. ap (λ z. z.closed) (any_default ends n e d in_ends) ∙ x.1;
+    }
+  ]

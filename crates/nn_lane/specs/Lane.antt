@@ -1,0 +1,166 @@
+-- The rule of a lane's table, and what each step tells.
+-- Word 0 is twice the number of accepted messages, plus 1 where the lane is closed. Word 1 is the number of taken ones. The message of the number k + 1 lies in the slot k % slots.
+use Rattle.std.specs.Prelude.{◌≡◌, ◌≢◌, ◌⊎◌, ℕ, ◌+◌, ◌*◌, ◌/◌, ◌%◌, ◌<◌, ◌≤◌, Bool, true, false, nat_lt, List, [], ◌∷◌, ◌++◌, length, Option, Some, None, MatchBool}
+use mathlib.Core.Option.{some}
+use mathlib.Core.Option as maybe
+use lib.ListN.{get_elem?}
+use Rattle.atomic_table.specs.Table.{State, Me, Step, rest}
+use Rattle.nn_types.specs.declared.report.Message.{Message}
+use Rattle.nn_lane.specs.declared.view.Sender.{Sender}
+use Rattle.nn_lane.specs.declared.view.Taker.{Taker}
+use Rattle.nn_lane.specs.declared.view.View.{View}
+use Rattle.nn_lane.specs.Ends.{StartsWith}
+use Rattle.nn_lane.specs.Intake.{bit}
+
+abbrev pub new_sender : ℕ → Sender
+new_sender node = record { node = node; sent = []; seen = 0; loads = 0; out = false; told = false }
+
+abbrev pub new_taker : ℕ → Taker
+new_taker node = record { node = node; got = []; seen = 0; loads = 0; next = None; closed = false }
+
+-- the one seat at the start shows both sides
+abbrev pub opening_view : ℕ → View
+opening_view node = record { sends = true; takes = true; met = false; sender = new_sender node; taker = new_taker node }
+
+abbrev pub taker_of : View → View
+taker_of v = record { sends = false; takes = true; met = false; sender = v.sender; taker = v.taker }
+
+abbrev pub reporter_of : View → View
+reporter_of v = record { sends = true; takes = false; met = false; sender = v.sender; taker = v.taker }
+
+abbrev pub both_of : View → View → View
+both_of v w = record { sends = true; takes = true; met = true; sender = w.sender; taker = v.taker }
+
+abbrev pub spent : View
+spent = record { sends = false; takes = false; met = true; sender = new_sender 0; taker = new_taker 0 }
+
+abbrev pub with_sender : View → Sender → View
+with_sender v r = record { sends = v.sends; takes = v.takes; met = v.met; sender = r; taker = v.taker }
+
+abbrev pub with_taker : View → Taker → View
+with_taker v e = record { sends = v.sends; takes = v.takes; met = v.met; sender = v.sender; taker = e }
+
+abbrev pub IsBoth : Bool → View → Sender → Taker → Type 0
+IsBoth met v r e = (v.sends ≡ true) × (v.takes ≡ true) × (v.met ≡ met) × (v.sender ≡ r) × (v.taker ≡ e)
+
+abbrev pub IsTaker : View → Taker → Type 0
+IsTaker v e = (v.sends ≡ false) × (v.takes ≡ true) × (v.taker ≡ e)
+
+abbrev pub IsReporter : View → Sender → Type 0
+IsReporter v r = (v.sends ≡ true) × (v.takes ≡ false) × (v.sender ≡ r)
+
+abbrev pub IsSpent : View → Type 0
+IsSpent v = (v.sends ≡ false) × (v.takes ≡ false)
+
+-- the seats: one at the start, then the taker's and the sender's, and one again at the end, beside a spent one
+abbrev pub Seated : List View → Sender → Taker → Type 0
+Seated [] r e = ⊥
+Seated (v ∷ []) r e = IsBoth false v r e
+Seated (v ∷ w ∷ []) r e = (IsTaker v e × IsReporter w r) ⊎ (IsBoth true v r e × IsSpent w)
+Seated (v ∷ w ∷ x ∷ vs) r e = ⊥
+
+abbrev pub away : Option Message → Bool
+away None = false
+away (Some m) = true
+
+-- the facts between any two steps, of a table with n slots: what was sent is what was taken and then what is left, which
+-- fits the slots; message k + 1 lies in slot k % n, but the first one that is left may be out with the taker; every other
+-- slot is at home, but the one that is out with the sender, whose message then has room; a count that an end saw is one that
+-- was true; of a closed lane the taker saw all that was sent, and the sender was told only of a close
+pub record Kept (node n : ℕ) (words : List ℕ) (homes : List (maybe.Option Message)) (r : Sender) (e : Taker) : Type 0 where
+  pub left : List Message
+  pub as_long : length homes ≡ n
+  pub some_slot : 0 < n
+  pub words_are : words ≡ (2 * length r.sent + bit e.closed) ∷ length e.got ∷ []
+  pub split : r.sent ≡ e.got ++ left
+  pub within : length left ≤ n
+  pub numbered : (k : ℕ) (m : Message) → get_elem? r.sent k ≡ some m → (m.number ≡ k + 1) × (m.dn ≡ node)
+  pub nodes : (r.node ≡ node) × (e.node ≡ node)
+  pub seen_taken : r.seen ≤ length e.got
+  pub fits : r.out ≡ true → length r.sent < r.seen + n
+  pub seen_low : length e.got ≤ e.seen
+  pub seen_high : e.seen ≤ length r.sent
+  pub closed : e.closed ≡ true → e.seen ≡ length r.sent
+  pub told : r.told ≡ true → e.closed ≡ true
+  pub next : (m : Message) → e.next ≡ Some m → get_elem? left 0 ≡ some m
+  pub ahead : (m : Message) → e.next ≡ Some m → length e.got < e.seen
+  pub lies : (k : ℕ) (m : Message) → get_elem? left k ≡ some m → (away e.next ≡ true → 0 < k) → get_elem? homes ((length e.got + k) % n) ≡ some (some m)
+  pub vacant : (i : ℕ) → i < n → (r.out ≡ true → i ≢ length r.sent % n) → (away e.next ≡ true → i ≢ length e.got % n) → (y : Message) × (get_elem? homes i ≡ some (some y))
+
+abbrev pub Lane : ℕ → State Message View → Type 0
+Lane node s = (n : ℕ) × (r : Sender) × (e : Taker) × Seated s.views r e × Kept node n s.words s.homes r e
+
+abbrev pub Sat : Type 0
+Sat = Me Message View
+
+-- the reporter loads `taken`, and takes the slot of the next message where there is room
+abbrev pub looked : Sender → ℕ → Bool → Sender
+looked r n out = record { node = r.node; sent = r.sent; seen = n; loads = r.loads + 1; out = out; told = r.told }
+
+-- what the seat holds beside the slot of the next message
+abbrev pub beside : Bool → List (ℕ × Message) → List (ℕ × Message)
+beside true cs = rest cs
+beside false cs = cs
+
+abbrev pub SawTaken : Bool → Step Message → Sat → ℕ → Sat → Type 0
+SawTaken room st m n m' = (length m.0.sender.sent ≤ n + st.slots)
+    × (m.0.sender.seen ≤ n) × (n ≤ length m.0.sender.sent)
+    × (m.0.sender.out ≡ true → length m.0.sender.sent < n + st.slots)
+    × (m'.0 ≡ with_sender m.0 (looked m.0.sender n room))
+    × MatchBool room ((y : Message) × (m'.1 ≡ (length m.0.sender.sent % st.slots, y) ∷ beside m.0.sender.out m.1)) (m'.1 ≡ m.1)
+
+abbrev pub saw_taken : Step Message → Sat → ℕ → Sat → Type 0
+saw_taken st m n m' = SawTaken (nat_lt (length m.0.sender.sent) (n + st.slots)) st m n m'
+
+-- the same, where a slot that is out goes home instead
+abbrev pub gave_back : Step Message → Sat → ℕ → Sat → Type 0
+gave_back st m n m' = (m'.0 ≡ with_sender m.0 (looked m.0.sender n false)) × (m'.1 ≡ beside m.0.sender.out m.1) × (m.0.sender.seen ≤ n)
+
+-- the reporter compare-exchanges `front`, and gives the slot back: the message is sent, or the lane is closed
+abbrev pub sent_more : Sender → Message → Sender
+sent_more r x = record { node = r.node; sent = r.sent ++ x ∷ []; seen = r.seen; loads = r.loads; out = false; told = r.told }
+
+abbrev pub was_told : Sender → Sender
+was_told r = record { node = r.node; sent = r.sent; seen = r.seen; loads = r.loads; out = false; told = true }
+
+abbrev pub accepted : Step Message → Sat → ℕ → Sat → Type 0
+accepted st m n m' = (m'.1 ≡ rest m.1)
+    × (n ≡ st.first → (x : Message) × (st.said ≡ some x) × (m'.0 ≡ with_sender m.0 (sent_more m.0.sender x)))
+    × (n ≢ st.first → m'.0 ≡ with_sender m.0 (was_told m.0.sender))
+
+-- the other end loads `front`, and takes the slot of the first untaken message
+abbrev pub saw : Taker → ℕ → Option Message → Taker
+saw e n x = record { node = e.node; got = e.got; seen = n; loads = e.loads + 1; next = x; closed = e.closed }
+
+abbrev pub SawFront : Bool → ℕ → Step Message → Sat → Sat → Type 0
+SawFront some_left q st m m' = (length m.0.taker.got ≤ q) × (m.0.taker.seen ≤ q) × (m.0.taker.closed ≡ true → q ≡ m.0.taker.seen)
+    × MatchBool some_left
+    ((x : Message) × (m'.0 ≡ with_taker m.0 (saw m.0.taker q (Some x))) × (m'.1 ≡ (length m.0.taker.got % st.slots, x) ∷ m.1)
+    × (x.number ≡ length m.0.taker.got + 1) × (x.dn ≡ m.0.taker.node))
+    ((m'.0 ≡ with_taker m.0 (saw m.0.taker q None)) × (m'.1 ≡ m.1))
+
+abbrev pub saw_front : Step Message → Sat → ℕ → Sat → Type 0
+saw_front st m n m' = SawFront (nat_lt (length m.0.taker.got) (n / 2)) (n / 2) st m m'
+
+-- it stores `taken`, and gives the slot back
+abbrev pub got_more : Taker → Message → Taker
+got_more e x = record { node = e.node; got = e.got ++ x ∷ []; seen = e.seen; loads = e.loads; next = None; closed = e.closed }
+
+abbrev pub took : Step Message → Sat → ℕ → Sat → Type 0
+took st m n m' = (m'.1 ≡ rest m.1) × ((x : Message) × (m.0.taker.next ≡ Some x) × (m'.0 ≡ with_taker m.0 (got_more m.0.taker x)))
+
+-- it sets the low bit of `front`: the lane is closed
+abbrev pub closed_at : Taker → ℕ → Taker
+closed_at e n = record { node = e.node; got = e.got; seen = n; loads = e.loads; next = e.next; closed = true }
+
+abbrev pub Shuts : ℕ → Sat → Sat → Type 0
+Shuts q m m' = (m'.1 ≡ m.1) × (m'.0 ≡ with_taker m.0 (closed_at m.0.taker q)) × (length m.0.taker.got ≤ q) × (m.0.taker.seen ≤ q) × (m.0.taker.closed ≡ true → q ≡ m.0.taker.seen)
+
+abbrev pub shut : Step Message → Sat → ℕ → Sat → Type 0
+shut st m n m' = Shuts (n / 2) m m'
+
+-- what the joined seat learns of its own view
+abbrev pub learned : Step Message → Sat → ℕ → Sat → Type 0
+learned st m n m' = (m' ≡ m) × (n / 2 ≡ length m.0.sender.sent) × StartsWith m.0.sender.sent m.0.taker.got
+    × (m.0.taker.closed ≡ true → m.0.taker.seen ≡ length m.0.sender.sent) × (m.0.sender.told ≡ true → m.0.taker.closed ≡ true)
+    × (m.0.sender.seen ≤ length m.0.taker.got) × (m.0.taker.seen ≤ length m.0.sender.sent)

@@ -1,0 +1,91 @@
+-- The steps of a lane's seats, each as the event of the intake core that it is.
+use Rattle.std.specs.Prelude.{◌≡◌, ◌≢◌, ◌⊎◌, ◌==◌, ℕ, ◌+◌, ◌*◌, true, false, List, [], ◌∷◌, ◌++◌, length, slice_index, slice_set, bit_or}
+use mathlib.Core.Option.{some, none}
+use lib.ListN.{get_elem?}
+use prog.Atomic.{either}
+use Rattle.atomic_table.specs.Table.{State, step}
+use Rattle.nn_types.specs.declared.report.Message.{Message}
+use Rattle.nn_lane.specs.declared.view.Sender.{Sender}
+use Rattle.nn_lane.specs.declared.view.Taker.{Taker}
+use Rattle.nn_lane.specs.declared.view.View.{View}
+use Rattle.nn_lane.specs.Intake.{Intake, IntakeEvent, Accept, Take, Close, Look}
+use Rattle.nn_lane.specs.Lane.{Lane, Sat, taker_of, reporter_of, both_of, spent, saw_taken, gave_back, accepted, saw_front, took, shut, learned}
+
+abbrev pub LaneState : Type 0
+LaneState = State Message View
+
+-- what the two sides show of the lane
+abbrev pub shown : Sender → Taker → Intake
+shown r e = record { accepted = r.sent; taken = length e.got; closed = e.closed }
+
+abbrev pub shown_by : (node : ℕ) (s : LaneState) → Lane node s → Intake
+shown_by node s h = shown h.1 h.2
+
+-- a seat with the view v makes one step: the word i becomes f of what it was, the seat has a new view, and the step told `then`
+abbrev pub Steps : LaneState → View → ℕ → (ℕ → ℕ) → (Sat → ℕ → Sat → Type 0) → LaneState → Type 0
+Steps s v i f then s' = (id : ℕ) × (cs : List (ℕ × Message)) × (m : Sat) × (get_elem? s.views id ≡ some v)
+    × (s'.words ≡ slice_set s.words i (f (slice_index s.words i))) × (s'.views ≡ slice_set s.views id m.0) × then (v, cs) (slice_index s.words i) m
+
+abbrev pub IsSender : View → Type 0
+IsSender v = (v.sends ≡ true) × (v.takes ≡ false)
+
+abbrev pub IsTaker : View → Type 0
+IsTaker v = (v.sends ≡ false) × (v.takes ≡ true)
+
+-- the word `front` while the lane is open
+abbrev pub open_front : View → ℕ
+open_front v = 2 * length v.sender.sent
+
+-- the reporter, with its slot out, tries to send x
+abbrev pub Tries : ℕ → LaneState → View → Message → LaneState → Type 0
+Tries n s v x s' = IsSender v × (v.sender.out ≡ true) × Steps s v 0 (λ f. either (f == open_front v) (open_front v + 2) f) (accepted (step n 0 (open_front v) (open_front v + 2) (some x))) s'
+
+abbrev pub Stores : ℕ → LaneState → View → LaneState → Type 0
+Stores n s v s' = IsTaker v × Steps s v 1 (λ _. length v.taker.got + 1) (λ m _. took (step n 1 (length v.taker.got + 1) 0 none) m (length v.taker.got + 1)) s'
+
+abbrev pub Shuts : ℕ → LaneState → View → LaneState → Type 0
+Shuts n s v s' = IsTaker v × Steps s v 0 (λ f. bit_or f 1) (shut (step n 0 1 0 none)) s'
+
+-- the reporter looks at `taken`, and takes the next slot or gives back the one that is out
+abbrev pub SeesTaken : ℕ → LaneState → View → LaneState → Type 0
+SeesTaken n s v s' = IsSender v × Steps s v 1 (λ t. t) (saw_taken (step n 1 0 0 none)) s'
+
+abbrev pub GivesBack : ℕ → LaneState → View → LaneState → Type 0
+GivesBack n s v s' = IsSender v × Steps s v 1 (λ t. t) (gave_back (step n 1 0 0 none)) s'
+
+-- the other end looks at `front`, and so does the seat of both once they met
+abbrev pub SeesFront : ℕ → LaneState → View → LaneState → Type 0
+SeesFront n s v s' = IsTaker v × Steps s v 0 (λ f. f) (saw_front (step n 0 0 0 none)) s'
+
+abbrev pub Learns : ℕ → LaneState → View → LaneState → Type 0
+Learns n s v s' = Steps s v 0 (λ f. f) (learned (step n 0 0 0 none)) s'
+
+abbrev pub Loads : ℕ → LaneState → View → LaneState → Type 0
+Loads n s v s' = SeesTaken n s v s' ⊎ GivesBack n s v s' ⊎ SeesFront n s v s' ⊎ Learns n s v s'
+
+-- a try that finds the lane closed
+abbrev pub TriesInVain : ℕ → LaneState → View → LaneState → Type 0
+TriesInVain n s v s' = (x : Message) × Tries n s v x s' × (slice_index s.words 0 ≢ open_front v)
+
+-- one step of a seat of a lane of n places: sending is the event where it finds the lane open, and a look where it does
+-- not; closing is one, and a look when the lane was closed before
+abbrev pub Moves : ℕ → LaneState → IntakeEvent → LaneState → Type 0
+Moves n s (Accept x) s' = (v : View) × Tries n s v x s' × (slice_index s.words 0 ≡ open_front v)
+Moves n s Take s' = (v : View) × Stores n s v s'
+Moves n s Close s' = (v : View) × Shuts n s v s' × (v.taker.closed ≡ false)
+Moves n s Look s' = (v : View) × (Loads n s v s' ⊎ TriesInVain n s v s' ⊎ (Shuts n s v s' × (v.taker.closed ≡ true)))
+
+-- one step after another, with the rule kept between them
+abbrev pub Runs : ℕ → ℕ → LaneState → List IntakeEvent → LaneState → Type 0
+Runs node n s [] s' = s' ≡ s
+Runs node n s (e ∷ es) s' = (m : LaneState) × Lane node m × (length m.homes ≡ n) × Moves n s e m × Runs node n m es s'
+
+-- ---- What is no event.
+
+-- the one seat of a new lane is parted in two
+abbrev pub Parts : LaneState → LaneState → Type 0
+Parts s s' = (id : ℕ) × (v : View) × (get_elem? s.views id ≡ some v) × (v.sends ≡ true) × (v.takes ≡ true) × (v.met ≡ false) × (s'.views ≡ slice_set s.views id (taker_of v) ++ reporter_of v ∷ [])
+
+-- the two seats meet, and one of them is spent
+abbrev pub Meets : LaneState → LaneState → Type 0
+Meets s s' = (id other : ℕ) × (v w : View) × (get_elem? s.views id ≡ some v) × IsTaker v × (other ≢ id) × (get_elem? (slice_set s.views id (both_of v w)) other ≡ some w) × (s'.views ≡ slice_set (slice_set s.views id (both_of v w)) other spent)

@@ -1,5 +1,5 @@
 -- What is read of a line keeps the limits of the types.
-use Rattle.std.proofs.Common.{◌≡◌, ℕ, ◌^◌, List, [], ◌∷◌, Bool, true, false, cond, ◌&&◌, Option, Some, None, Ok, Err, refl, ap, subst, ◌∙◌, codes, leb, ltb, leb-true}
+use Rattle.std.proofs.Common.{◌≡◌, ℕ, ◌<◌, ◌^◌, List, [], ◌∷◌, Bool, true, false, cond, ◌&&◌, Option, Some, None, Ok, Err, refl, ap, subst, ◌∙◌, codes, leb, ltb, leb-true}
 use Rattle.std.specs.Str.{bytes_eq}
 use Rattle.std.specs.Prelude.{option_and_then}
 use Rattle.std.specs.Option.{ok_or}
@@ -112,6 +112,18 @@ fields_lawful d head e =
       is_bare = refl;
       well = bare_is_well_formed block.0 stamp.0 ids.0 (leb-true _ _ low.1) (small_in _ d block.0 block.1) (leb-true _ _ old.1) (small_in _ d stamp.0 stamp.1) fits.1;
     })
+
+-- the txid is a number below 2^63
+pub txid_limit : (d : Data) (head : Namespace × ℕ) → fields_in d ≡ Some head → head.1 < 2 ^ 63
+unfolding fields_in
+txid_limit d head e =
+    let mark = bound (text_in (codes "image") d) _ head e in
+    let txid = bound (number_in (codes "txid") d) _ head mark.2 in
+    let block = bound (number_in (codes "last_block") d) _ head txid.2 in
+    let stamp = bound (number_in (codes "last_gen") d) _ head block.2 in
+    let ids = bound (numbers_at (codes "awaiting") d) _ head stamp.2 in
+    let all = picked (is_header mark.0 block.0 stamp.0 ids.0) (bare block.0 stamp.0 ids.0, txid.0) head ids.2 in
+    subst (λ (h : Namespace × ℕ). h.1 < 2 ^ 63) all.1 (small_in _ d txid.0 txid.1)
 
 pub header_lawful : (o : Option Data) (head : Namespace × ℕ) → of_header o ≡ Ok head → HasHeader head
 header_lawful None head e = absurd (cc)

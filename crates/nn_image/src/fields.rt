@@ -1,5 +1,5 @@
 //! What the values of an image's lines stand for. None is a value that stands for nothing.
-ghost use Rattle.std.specs.Prelude.{◌≡◌, option_map, IfOk, IfErr, IfSome, Ok, codes};
+ghost use Rattle.std.specs.Prelude.{◌≡◌, ◌<◌, ◌^◌, option_map, IfOk, IfErr, IfSome, Ok, codes};
 ghost use Rattle.std.specs.List.{list_all};
 ghost use Rattle.serde_json.specs.View.{view, items_view};
 ghost use Rattle.nn_image.specs.Reading.{number_of, number_in, text_in, flag_in, array_in, path_in, block_of, gathered, blocks_at, numbers_at, replication_in, file_in, form_of, form_in, row_in, fields_in, value_of, object_of, of_version};
@@ -345,6 +345,7 @@ pub(crate) fn header_in(alloc: Global, value: &Value) -> Result<Header, ImageFau
     ensures ok { IfOk result (λ h. of_version (view value.now) (number_in (codes "version") (view value.now))
         ≡ Ok (header_value h)) }
     ensures lawful { IfOk result IsLawful }
+    ensures limit { IfOk result (λ h. h.txid < 2 ^ 63) }
     ensures fault { IfErr result (λ e. Fails e
         (of_version (view value.now) (number_in (codes "version") (view value.now)))) }
 {

@@ -1,5 +1,5 @@
 //! From a reader to a namespace.
-ghost use Rattle.std.specs.Prelude.{◌≡◌, ◌≤◌, ◌<◌, ◌+◌, [], true, false, OnOk, IfOk, IfErr, Ok, Some, Option, option_map, ◌⊎◌};
+ghost use Rattle.std.specs.Prelude.{◌≡◌, ◌≤◌, ◌<◌, ◌+◌, ◌^◌, [], true, false, OnOk, IfOk, IfErr, Ok, Some, Option, option_map, ◌⊎◌};
 ghost use Rattle.std.specs.Ordering.{is_lt};
 ghost use Rattle.serde_json.specs.View.{view};
 ghost use Rattle.nn_model.specs.Namespace.{path_cmp, Namespace as Rows};
@@ -24,6 +24,7 @@ use std::io::Read;
 /// that. Beside the namespace it takes a buffer of 65,536 bytes, and one line with its value.
 pub fn load<R: Read>(alloc: Global, reader: &mut R) -> Result<(Namespace, u64), ImageFault>
     ensures ok { IfOk result (λ i. Ends (R.remaining reader.old) (R.remaining reader.new) read_image i) }
+    ensures limit { IfOk result (λ i. i.1 < 2 ^ 63) }
     ensures fault { IfErr result (λ e. Stops (R.remaining reader.old) e read_image) }
 {
     let mut window = Window::new(alloc)?;
@@ -72,6 +73,7 @@ fn load_header<R: Read>(
     ensures ok { IfOk result (λ h. GoesOn (ahead window.old (R.remaining reader.old)) (ahead window.new (R.remaining reader.new))
         all_of (λ left. with_txid h.txid (rows_of (header_value h).0 left))) }
     ensures lawful { IfOk result IsLawful }
+    ensures limit { IfOk result (λ h. h.txid < 2 ^ 63) }
     ensures fault { IfErr result (λ e. Stops (ahead window.old (R.remaining reader.old)) e all_of) }
 {
     let object = match next_object(alloc, reader, window) {

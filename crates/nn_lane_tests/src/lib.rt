@@ -13,4 +13,6 @@ mod log;
 #[cfg(test)]
 mod report;
 #[cfg(test)]
+mod restart;
+#[cfg(test)]
 mod standby;

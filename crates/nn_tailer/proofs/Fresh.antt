@@ -1,7 +1,7 @@
 -- A standby before its first step.
 use Rattle.std.proofs.Common.{◌≡◌, ℕ, zero, suc, ◌+◌, ◌≤◌, true, false, List, [], ◌∷◌, length, replicate, get_or, None, Some, Option, refl, sym, ap, ◌∙◌, subst}
 use Rattle.nn_types.specs.declared.report.Message.{Message}
-use Rattle.nn_model.specs.Namespace.{root_alone}
+use Rattle.nn_model.specs.Namespace.{Namespace, root_alone}
 use Rattle.nn_model.specs.Lanes.{no_messages}
 use Rattle.nn_lane.specs.Ends.{Taking}
 use Rattle.nn_model.specs.Stands.{Standby, Stands, fresh as just_begun}
@@ -12,6 +12,7 @@ use Rattle.nn_tailer.proofs.LogEnds.{behind_none}
 use Rattle.nn_tailer.proofs.Shadowing.{serving}
 use Rattle.nn_tailer.specs.Tailing.{Tailer, Keeps, AreKept, handed_all, by_node}
 use Rattle.nn_tailer.specs.Public.{AreNew, IsNew}
+use Rattle.nn_tailer.specs.Restart.{IsNewAt}
 
 kept_new : (dn : ℕ) (es : List Taking) → AreNew dn es → AreKept dn es (replicate (length es) None)
 kept_new dn [] h = tt
@@ -27,17 +28,17 @@ lanes_at es h zero = refl
 lanes_at es h (suc k) = none_at 1 es k h
 
 -- a Shadow that did nothing yet, for so many lanes
-pub record IsFresh (lanes : ℕ) (s : Contents) : Type 0 where
-  pub begun : standby_of s ≡ just_begun root_alone 0
-  pub stands : StandsBy root_alone 0 [] no_messages (standby_of s)
+pub record IsFresh (start : Namespace) (base lanes : ℕ) (s : Contents) : Type 0 where
+  pub begun : standby_of s ≡ just_begun start base
+  pub stands : StandsBy start base [] no_messages (standby_of s)
   pub phase : s.phase ≡ serving
   pub count : length s.numbers ≡ lanes
 
 abbrev pub fresh : Contents → List Taking → List (Option Message) → Tailer
 fresh s es ks = record { shadow = s; ends = es; kept = ks; rest = []; stop = None; active = false }
 
-pub keeps_fresh : (s : Contents) (es : List Taking) (ks : List (Option Message)) → length es ≤ 256 → AreNew 1 es → ks ≡ replicate (length es) None → IsFresh (length es) s → Keeps (fresh s es ks)
-keeps_fresh s es ks l n e f = subst (λ z. Keeps (fresh s es z)) (sym e) (record {
+pub keeps_fresh : (start : Namespace) (base : ℕ) (s : Contents) (es : List Taking) (ks : List (Option Message)) → length es ≤ 256 → AreNew 1 es → ks ≡ replicate (length es) None → IsFresh start base (length es) s → Keeps (fresh s es ks)
+keeps_fresh start base s es ks l n e f = subst (λ z. Keeps (fresh s es z)) (sym e) (record {
   lanes = kept_new 1 es n;
   few = l;
   count = f.count;
@@ -49,19 +50,30 @@ keeps_fresh s es ks l n e f = subst (λ z. Keeps (fresh s es z)) (sym e) (record
   not_begun = λ _. refl;
 })
 
-pub is_fresh : (s : Contents) (es : List Taking) (ks : List (Option Message)) → AreNew 1 es → ks ≡ replicate (length es) None → IsFresh (length es) s → IsNew es (fresh s es ks)
-is_fresh s es ks n e f = subst (λ z. IsNew es (fresh s es z)) (sym e) (
-  refl,
-  ap (λ z. z.active) f.phase,
-  refl,
-  refl,
-  record {
+pub is_new_at : (start : Namespace) (base : ℕ) (s : Contents) (es : List Taking) (ks : List (Option Message)) → AreNew 1 es → ks ≡ replicate (length es) None → IsFresh start base (length es) s → IsNewAt start base es (fresh s es ks)
+is_new_at start base s es ks n e f = subst (λ z. IsNewAt start base es (fresh s es z)) (sym e) (record {
+  ends = refl;
+  begun = ap (λ z. z.active) f.phase;
+  stop = refl;
+  active = refl;
+  shadow = f.begun;
+  stands = record {
     txs = [];
-    shadow = subst (λ ls. Stands root_alone 0 [] ls (standby_of s)) (sym (λ k dn. lanes_at es n dn k)) f.stands.stands;
+    shadow = subst (λ ls. Stands start base [] ls (standby_of s)) (sym (λ k dn. lanes_at es n dn k)) f.stands.stands;
     before_flush = λ _. f.stands.before_flush;
     log = refl;
-    goes_on = (λ _ later. sym (behind_none 0 root_alone later) ∙ (λ j. end_behind (sym (ap (λ (z : Standby). z.last) f.begun) j) (sym (ap (λ (z : Standby). z.namespace) f.begun) j) [] later));
+    goes_on = (λ _ later. sym (behind_none base start later) ∙ (λ j. end_behind (sym (ap (λ (z : Standby). z.last) f.begun) j) (sym (ap (λ (z : Standby). z.namespace) f.begun) j) [] later));
     stops = (λ z q. absurd (let w : None ≡ Some z = q in cc));
     ended = λ h. absurd (let w : false ≡ true = sym (ap (λ z. z.active) f.phase) ∙ h in cc);
-  },
-)
+  };
+})
+
+pub is_fresh : (s : Contents) (es : List Taking) (ks : List (Option Message)) → AreNew 1 es → ks ≡ replicate (length es) None → IsFresh root_alone 0 (length es) s → IsNew es (fresh s es ks)
+is_fresh s es ks n e f = let x = is_new_at root_alone 0 s es ks n e f in (x.ends, x.begun, x.stop, x.active, x.stands)
+
+-- it stands at its own namespace and last txid, which are those that it started with
+pub own_point : (start : Namespace) (base : ℕ) (s : Contents) → standby_of s ≡ just_begun start base → ◌≡◌ {A = Namespace × ℕ} (s.namespace, s.last) (start, base)
+own_point start base s e = ap (λ (z : Standby). (z.namespace, z.last)) e
+
+pub at_own : (start : Namespace) (base lanes : ℕ) (s : Contents) → IsFresh start base lanes s → IsFresh s.namespace s.last lanes s
+at_own start base lanes s f = let e = own_point start base s f.begun in subst (λ (p : Namespace × ℕ). IsFresh p.0 p.1 lanes s) (sym e) f

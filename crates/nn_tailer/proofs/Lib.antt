@@ -20,3 +20,4 @@ pub mod Closed
 pub mod Gaps
 pub mod InOrder
 pub mod Refusing
+pub mod Again

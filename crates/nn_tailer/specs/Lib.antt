@@ -6,6 +6,9 @@ pub mod LaneSteps
 pub mod Reads
 pub mod Promotion
 pub mod Public
+pub mod Restart
+pub mod RestartLaws
+pub mod RestartRows
 pub mod Refusals
 pub mod Shadows
 pub mod Fault

@@ -8,7 +8,11 @@
 
 mod fault;
 mod hand;
+mod laws;
+mod restart;
 mod standby;
 
 pub use fault::{PromoteFault, StepFault};
+pub use laws::a_restart_goes_on;
+pub use restart::RestartFault;
 pub use standby::{Active, Choice, Standby, Stepped};

@@ -7,6 +7,7 @@ ghost use Rattle.nn_tailer.specs.Refusals.{step_refusal};
 ghost use Rattle.nn_tailer.specs.Steps.{OnLogFault};
 ghost use Rattle.nn_tailer.specs.Tailing.{Carries, has_begun, with_ends};
 
+mod checkpoint;
 mod lanes;
 mod log;
 mod promote;

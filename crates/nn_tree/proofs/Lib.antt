@@ -28,3 +28,4 @@ pub mod RestoredFile
 mod Extents
 pub mod Renewed
 pub mod Spare
+pub mod Blocks

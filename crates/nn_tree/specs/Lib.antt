@@ -9,6 +9,8 @@ pub mod Found
 pub mod Touched
 pub mod Listing
 pub mod BlockRow
+pub mod Blocks
+pub mod BlocksRows
 pub mod Extent
 pub mod ExtentRows
 pub mod Memory

@@ -15,6 +15,7 @@ ghost use Rattle.nn_tree.specs.BlockRow.{IsInFile};
 ghost use Rattle.nn_tree.specs.Memory.{takes_memory};
 ghost use Rattle.nn_tree.specs.Touched.{shown};
 
+mod blocks;
 mod checks;
 mod edits;
 mod restore;
@@ -24,6 +25,7 @@ use crate::index::BlockRow;
 use crate::listing::{Copies, Extent, ListFault, PathRow, RowSink};
 use crate::touched::Touched;
 use crate::tree::Tree;
+pub use blocks::BlockRows;
 use nn_types::{Block, BlockId, Edit, EditFault, GenerationStamp, Path, Status};
 use std::alloc::{AllocError, Global};
 use std::collections::{BTreeMap, BTreeSet};

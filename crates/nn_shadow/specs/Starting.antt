@@ -1,0 +1,26 @@
+-- The table with which a standby starts over a namespace.
+use Rattle.std.specs.Prelude.{◌≡◌, ℕ, List, [], ◌∷◌, None, false}
+use Rattle.nn_model.specs.Namespace.{Namespace}
+use Rattle.nn_tree.specs.declared.index.BlockRow.{BlockRow}
+use Rattle.nn_tree.specs.Blocks.{AreBlocks}
+use Rattle.nn_replicas.specs.Table.{Table}
+use Rattle.nn_replicas.specs.Calls.{replica_at, has_order, empty_table, block_set}
+use Rattle.nn_replicas.specs.Agreement.{Shows}
+
+-- files hold these blocks, one after another
+abbrev pub rows_set : Table → List BlockRow → Table
+rows_set t [] = t
+rows_set t (row ∷ rows) = rows_set (block_set t row.block row.closed) rows
+
+-- the table has these blocks of the namespace, where the first ones are set and `rows` are left
+pub record IsFilling (n : Namespace) (min : ℕ) (t : Table) (rows : List BlockRow) : Type 0 where
+  pub all : List BlockRow
+  pub blocks : AreBlocks n all
+  pub left : rows_set t rows ≡ rows_set (empty_table min) all
+
+-- the table has the rows of the namespace's blocks, and no replicas and no orders
+pub record IsBlank (n : Namespace) (enough : ℕ) (t : Table) : Type 0 where
+  pub shows : Shows n t
+  pub replicas : (dn id : ℕ) → replica_at t dn id ≡ None
+  pub orders : (dn id : ℕ) → has_order t dn id ≡ false
+  pub min : t.min ≡ enough

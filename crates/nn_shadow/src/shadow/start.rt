@@ -1,0 +1,56 @@
+//! How a standby starts.
+ghost use Rattle.std.specs.Prelude.{◌≡◌, ◌≤◌, ◌<◌, ◌^◌, [], length, false, None, IfOk, IfErr};
+ghost use Rattle.nn_model.specs.Lanes.{no_messages};
+ghost use Rattle.nn_model.specs.Stands.{fresh};
+ghost use Rattle.nn_replicas.specs.Agreement.{Shows, HasCounts};
+ghost use Rattle.nn_shadow.specs.Contents.{standby_of};
+ghost use Rattle.nn_shadow.specs.Laws.{StandsBy};
+
+use super::Shadow;
+use crate::fault::FromFault;
+use crate::starting::blank_table;
+use nn_postponed::Postponed;
+use nn_tree::Namespace;
+use nn_types::Settings;
+use std::alloc::Global;
+
+impl Shadow {
+    /// A standby over a namespace, of which this was the last transaction (0 where none was), before the next one, for so
+    /// many DataNodes: no DataNode has reported anything. It takes time in the blocks of the namespace.
+    pub fn from(
+        alloc: Global,
+        namespace: Namespace,
+        txid: u64,
+        lanes: u16,
+        settings: Settings,
+    ) -> Result<Shadow, FromFault>
+        requires lanes { (1 ≤ lanes) × (lanes ≤ 256) }
+        requires txid { txid < 2 ^ 63 }
+        ensures fresh { IfOk result (λ s. standby_of s ≡ fresh namespace txid) }
+        ensures stands { IfOk result (λ s. StandsBy namespace txid [] no_messages (standby_of s)) }
+        ensures rows { IfOk result (λ s. Shows namespace s.table) }
+        ensures counts { IfOk result (λ s. HasCounts namespace s.table) }
+        ensures phase { IfOk result (λ s. s.phase ≡ record { stopped = None; active = false }) }
+        ensures settings { IfOk result (λ s. (length s.numbers ≡ lanes) × (s.table.min ≡ settings.min) × (s.permille ≡ settings.permille)) }
+        ensures err { IfErr result (λ fault. fault.namespace ≡ namespace) }
+    {
+        let Ok(numbers) = Vec::from_elem(alloc, 0u64, usize::from(lanes)) else {
+            return Err(FromFault { namespace });
+        };
+        let Ok(table) = blank_table(alloc, &namespace, settings) else {
+            return Err(FromFault { namespace });
+        };
+        namespace.well_formed();
+        Ok(Shadow {
+            namespace,
+            last: txid,
+            history: Vec::new(alloc),
+            table,
+            held: Postponed::new(alloc),
+            numbers,
+            stopped: None,
+            active: false,
+            settings,
+        })
+    }
+}

@@ -1,0 +1,34 @@
+-- What a restart keeps, as statements; the functions of the crate prove them.
+use Rattle.std.specs.Prelude.{◌≡◌, ℕ, ◌+◌, ◌<◌, ◌^◌, List, ◌++◌, length, None, Ok}
+use Rattle.std.specs.List.{AllByRecursion}
+use Rattle.nn_types.specs.declared.tx.Tx.{Tx}
+use Rattle.nn_model.specs.Namespace.{Namespace}
+use Rattle.nn_model.specs.Log.{namespace_after, IsLog}
+use Rattle.nn_model.specs.Status.{status_of}
+use Rattle.nn_model.specs.WellFormed.{IsWellFormed}
+use Rattle.nn_segment.specs.Segment.{Segment, IsSegment}
+use Rattle.nn_segment.specs.Source.{Answer}
+use Rattle.nn_segment.specs.LogEnd.{end_of_log, given_in}
+use Rattle.nn_image.specs.Text.{image_text}
+use Rattle.nn_image.specs.Lawful.{HasPaths, IsCounted}
+use Rattle.nn_image.specs.Reading.{read_image}
+use Rattle.nn_tailer.specs.Tailing.{Tailer, StandsAt}
+
+-- A standby that goes on from the namespace and the last txid of another stands at a log of that one's start: what that one
+-- had applied, and then what it applied itself.
+abbrev pub GoesOn : Type 0
+GoesOn = (start : Namespace) (base : ℕ) (given more : List Answer) (x y : Tailer) → StandsAt start base given x
+    → StandsAt x.shadow.namespace x.shadow.last more y
+    → (txs : List Tx) × IsLog start base txs × (y.shadow.namespace ≡ namespace_after start txs) × (y.shadow.last ≡ base + length txs)
+
+-- It may be given all segments again: it passes over the transactions that are in its namespace, applies the others, and
+-- ends, or stops, where one does that begins at the start.
+abbrev pub ReadsAgain : Type 0
+ReadsAgain = (start : Namespace) (base : ℕ) (given : List Answer) (x : Tailer) → StandsAt start base given x → x.stop ≡ None
+    → AllByRecursion IsSegment (given_in given) → (later : List Segment)
+    → end_of_log x.shadow.last x.shadow.namespace (given_in given ++ later) ≡ end_of_log base start (given_in given ++ later)
+
+-- what is said of each block id by the namespace that an image was written of, the namespace that it is read as says too
+abbrev pub KeepsStatus : Type 0
+KeepsStatus = (n : Namespace) (txid : ℕ) (m : Namespace × ℕ) → IsWellFormed n → HasPaths n → IsCounted n → txid < 2 ^ 63
+    → read_image (image_text n txid) ≡ Ok m → (id : ℕ) → status_of m.0 id ≡ status_of n id

@@ -1,0 +1,83 @@
+//! A standby writes an image, and starts from one.
+ghost use Rattle.std.specs.Prelude.{◌≡◌, ◌≤◌, length, OnOk, IfOk, IfErr};
+ghost use Rattle.std.specs.Io.KnownBytes.{Appends};
+ghost use Rattle.nn_image.specs.Text.{image_text};
+ghost use Rattle.nn_image.specs.Reading.{read_image};
+ghost use Rattle.nn_image.specs.Saving.{WroteFront};
+ghost use Rattle.nn_image.specs.Loading.{Ends, Stops};
+ghost use Rattle.nn_tailer.specs.Public.{AreNew};
+ghost use Rattle.nn_tailer.specs.Restart.{IsNewAt, point_of};
+
+use super::{Standby, nothing_kept};
+use crate::hand::Hand;
+use crate::restart::RestartFault;
+use nn_image::{ImageFault, SaveFault, load, save};
+use nn_lane::LaneEnd;
+use nn_shadow::Shadow;
+use nn_types::Settings;
+use std::alloc::Global;
+use std::io::{Read, Write};
+
+impl Standby {
+    /// Writes the image of its namespace, with its last txid: whatever it holds, has in hand or was stopped by is no part
+    /// of it.
+    pub fn checkpoint<W: Write>(&self, alloc: Global, writer: &mut W) -> Result<(), SaveFault>
+        ensures ok { OnOk result (Appends (W.contents writer.old) (W.contents writer.new)
+            (image_text self.now.shadow.namespace self.now.shadow.last)) }
+        ensures front { IfErr result (WroteFront (W.contents writer.old) (W.contents writer.new)
+            (image_text self.now.shadow.namespace self.now.shadow.last) 0) }
+    {
+        save(
+            alloc,
+            self.shadow.namespace(),
+            self.shadow.last_txid(),
+            writer,
+        )
+    }
+
+    /// A standby over these lanes, of DataNodes 1, 2 and so on, that starts from an image: it passes over the transactions
+    /// up to the image's, and applies those above. The reader is read to its end. After a fault the ends come back.
+    pub fn from_image<R: Read>(
+        alloc: Global,
+        ends: Vec<LaneEnd>,
+        settings: Settings,
+        reader: &mut R,
+    ) -> Result<Standby, RestartFault>
+        requires some { 1 ≤ length ends.items }
+        requires few { length ends.items ≤ 256 }
+        requires fresh { AreNew 1 ends.items }
+        ensures image { IfOk result (λ x. Ends (R.remaining reader.old) (R.remaining reader.new) read_image (point_of x)) }
+        ensures new { IfOk result (λ x. IsNewAt x.shadow.namespace x.shadow.last ends.items x) }
+        ensures settings { IfOk result (λ x. (x.shadow.table.min ≡ settings.min) × (x.shadow.permille ≡ settings.permille)) }
+        ensures fault { IfErr result (λ e. (e.ends ≡ ends) × Stops (R.remaining reader.old) e.cause read_image) }
+    {
+        let (namespace, txid) = match load(alloc, reader) {
+            Ok(loaded) => loaded,
+            Err(cause) => return Err(RestartFault { ends, cause }),
+        };
+        let lanes = ends.len();
+        let Ok(kept) = nothing_kept(alloc, lanes) else {
+            return Err(out_of_memory(ends));
+        };
+        let Ok(shadow) = Shadow::from(alloc, namespace, txid, lanes as u16, settings) else {
+            return Err(out_of_memory(ends));
+        };
+        Ok(Standby {
+            shadow,
+            ends,
+            kept,
+            hand: Hand::empty(),
+            stop: None,
+            active: false,
+        })
+    }
+}
+
+fn out_of_memory(ends: Vec<LaneEnd>) -> RestartFault
+    ensures { (result.ends ≡ ends) × (result.cause ≡ ImageFault.OutOfMemory) }
+{
+    RestartFault {
+        ends,
+        cause: ImageFault::OutOfMemory,
+    }
+}

@@ -1,0 +1,13 @@
+use Rattle.std.proofs.Common.{sym, subst}
+use Rattle.nn_model.specs.Namespace.{Namespace}
+use Rattle.nn_tree.specs.View.{seen}
+use Rattle.nn_tree.specs.Blocks.{AreBlocks}
+use Rattle.nn_tree.proofs.Blocks.{are_blocks}
+use Rattle.nn_tree.proofs.namespace.Namespace.blocks.Goals as goal
+
+pub returns : goal.returns
+returns c =
+    let i = c.self.inside in
+    subst (λ (n : Namespace). AreBlocks n c.values.result) c.self.view_is
+    (subst (AreBlocks (seen i.root i.last_block i.last_stamp i.waiting.keys)) (sym c.values.ensures.rest)
+    (are_blocks (seen i.root i.last_block i.last_stamp i.waiting.keys) i.index.entries c.values.ensures.ordered c.self.invariant))

@@ -1,0 +1,48 @@
+//! The blocks of all files, one after another.
+ghost use Rattle.std.specs.Prelude.{◌≡◌};
+ghost use Rattle.std.specs.Iterator.{YieldsFirst, item_count};
+ghost use Rattle.std.specs.BTreeMap.{values};
+ghost use Rattle.nn_tree.specs.Blocks.{AreBlocks};
+
+use super::Namespace;
+use crate::index::BlockRow;
+use std::collections::btree_map::Values;
+use std::marker::Model;
+
+/// The blocks that files have, each with whether its file is closed, by ascending id.
+#[derive(Drop)]
+pub struct BlockRows<'a> {
+    rows: Values<'a, u64, BlockRow>,
+}
+
+impl<'a> Model for BlockRows<'a> {
+    ghost use Rattle.std.specs.Prelude.{List};
+    ghost use Rattle.nn_tree.specs.declared.index.BlockRow.{BlockRow};
+
+    ghost Value = { List BlockRow };
+
+    ghost view = { λ s. s.rows };
+}
+
+impl<'a> Iterator for BlockRows<'a> {
+    type Item = BlockRow;
+
+    ghost next_gives = { YieldsFirst (λ s. s) };
+
+    ghost remaining = { item_count (λ s. s) };
+
+    fn next(&mut self) -> Option<BlockRow> {
+        self.rows.next().copied()
+    }
+}
+
+impl Namespace {
+    /// The blocks of all files, by ascending id. It looks at no path.
+    pub fn blocks(&self) -> BlockRows<'_>
+        ensures { AreBlocks self.now result }
+    {
+        BlockRows {
+            rows: self.index.values(),
+        }
+    }
+}

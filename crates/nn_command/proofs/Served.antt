@@ -1,14 +1,11 @@
 -- What is told of an error is what the words ask for.
-use Rattle.std.proofs.Common.{◌≡◌, ◌≢◌, ℕ, Bool, true, false, List, None, Option, sym, subst, ◌∙◌, inl, inr}
-use Rattle.std.specs.Prelude.{◌⊎◌}
+use Rattle.std.proofs.Common.{◌≡◌, ◌≢◌, ℕ, Bool, false, List, None, Option, sym, subst, ◌∙◌, inl, inr}
 use Rattle.std.specs.Io.KnownBytes.{Keeps}
 use Rattle.clap.specs.Words.{Text, IsAmong, fault_of}
 use Rattle.clap.specs.declared.error.kind.ErrorKind.{ErrorKind}
 use Rattle.clap.specs.declared.error.kind.ErrorKind.TheVariants.{DisplayHelp, OutOfMemory}
-use Rattle.nn_types.specs.Settings.{Threshold}
-use Rattle.nn_engine.specs.Run.{running}
-use Rattle.nn_command.specs.Options.{command_line, AskForThreads}
-use Rattle.nn_command.specs.Program.{EndsClosed, EndsWith, LaneClosed, Runs, Serves, Tells, WhyNot, AskForHelp, AskForNothing, streams}
+use Rattle.nn_command.specs.Options.{command_line}
+use Rattle.nn_command.specs.Program.{Serves, Tells, WhyNot, AskForHelp, AskForNothing, streams}
 
 memory_is_no_help : OutOfMemory ≡ DisplayHelp → ⊥
 memory_is_no_help e = absurd (cc)
@@ -31,11 +28,3 @@ told_serves words kind before after output output' errors errors' had has ended 
     inr (inl (asks_for_help words kind help.0 why, (help.1.0, help.1.1, kept)))
 told_serves words kind before after output output' errors errors' had has ended why kept (inr (inr other)) =
     inr (inr (inl (asks_for_nothing words kind other.0 other.1 why, (other.2.0, other.2.1, other.2.2, kept))))
-
--- a run with threads may end with the line of a lane that was closed, and then the words ask for threads
-pub runs_as_asked : (words : List Text) (threads : Bool) (settings : Threshold) (before after output output' errors errors' : Option (List ℕ)) (had has : Bool) (ended : ℕ) →
-    Keeps errors errors' → (threads ≡ true → AskForThreads words) →
-    EndsWith (running settings before after had has) output output' ended ⊎ ((threads ≡ true) × EndsClosed (running settings before after had has) output output' ended) →
-    Runs settings (streams before after had has output output' errors errors') ended ⊎ (AskForThreads words × LaneClosed settings (streams before after had has output output' errors errors') ended)
-runs_as_asked words threads settings before after output output' errors errors' had has ended kept asked (inl ends) = inl (ends, kept)
-runs_as_asked words threads settings before after output output' errors errors' had has ended kept asked (inr closed) = inr (asked closed.0, (closed.1, kept))

@@ -8,8 +8,9 @@ use Rattle.clap.specs.declared.parser.matches.Found.{Found}
 use Rattle.clap.proofs.OnLiterals.{clap_on_literals}
 use Rattle.clap.proofs.WalkLemmas.{one_text-rows}
 use Rattle.nn_types.specs.Settings.{Threshold}
-use Rattle.nn_command.specs.Options.{settings_line, command_line, AreReadAs, AskFor, AskForThreads, IsFlagged}
+use Rattle.nn_command.specs.Options.{settings_line, command_line, AreReadAs, AskAs, AskFor, IsCapacity, IsFlag, IsRequest}
 use Rattle.nn_command.specs.Program.{WhyNot}
+use Rattle.nn_command.specs.declared.options.Request.{Request}
 
 pub line_is_simple : is_simple command_line ≡ true
 unfolding clap_on_literals settings_line command_line
@@ -28,8 +29,14 @@ asked_as_found words found settings rows read =
     (subst (λ (o : Option Text). AreReadAs (one_text found (codes "permille")) o (one_of (codes "capacity") (matches_of command_line words)) settings) (at (codes "min"))
     (subst (λ (o : Option Text). AreReadAs (one_text found (codes "permille")) (one_text found (codes "min")) o settings) (at (codes "capacity")) read))
 
-pub threads_asked : (words : List Text) (found : Found) → rows_of found ≡ matches_of command_line words → IsFlagged (one_text found (codes "threads")) → AskForThreads words
-threads_asked words found rows flag = subst IsFlagged (one_text-rows found (codes "threads") ∙ ap (one_of (codes "threads")) rows) flag
+pub asked_so : (words : List Text) (found : Found) (r : Request) → rows_of found ≡ matches_of command_line words → IsRequest (one_text found) r → AskAs words r
+asked_so words found r rows read =
+    let at : (name : Text) → one_text found name ≡ one_of name (matches_of command_line words) = λ name. one_text-rows found name ∙ ap (one_of name) rows in record {
+      places = subst (λ (o : Option Text). IsCapacity o r.capacity) (at (codes "capacity")) read.places;
+      by_threads = subst (λ (o : Option Text). IsFlag o r.threads) (at (codes "threads")) read.by_threads;
+      with_history = subst (λ (o : Option Text). IsFlag o r.options.history) (at (codes "history")) read.with_history;
+      with_image = subst (λ (o : Option Text). IsFlag o r.options.image) (at (codes "image")) read.with_image;
+    }
 
 pub found_as_asked : (words : List Text) (found : Found) (settings : Threshold) → rows_of found ≡ matches_of command_line words →
     AskFor words settings → AreReadAs (one_text found (codes "permille")) (one_text found (codes "min")) (one_text found (codes "capacity")) settings

@@ -1,11 +1,12 @@
 -- The command line, and what its words ask for.
-use Rattle.std.specs.Prelude.{◌≡◌, ◌≢◌, ◌<◌, ◌≤◌, ◌^◌, ℕ, pos, List, [], ◌∷◌, Option, Some, None, codes}
+use Rattle.std.specs.Prelude.{◌≡◌, ◌<◌, ◌≤◌, ◌^◌, ℕ, Bool, true, false, pos, List, [], ◌∷◌, Option, Some, None, codes}
 use Rattle.std.specs.Str.Parse.{IsNumeral, digits_value, without_leading_plus}
 use Rattle.clap.specs.Words.{App, Rule, Text, matches_of, new_app, new_rule, one_of, with_rule}
 use Rattle.clap.specs.declared.builder.action.ArgAction.TheVariants.{Set, SetTrue}
 use Rattle.clap.specs.declared.builder.value_parser.ValueParser.{ValueParser}
 use Rattle.clap.specs.declared.builder.value_parser.ValueParser.TheVariants.{Signed}
 use Rattle.nn_types.specs.Settings.{Threshold, AreSettings}
+use Rattle.nn_command.specs.declared.options.Request.{Request}
 
 -- `--NAME VALUE`, and the value where the name is not there
 abbrev pub value_rule : Text → ValueParser → Text → Rule
@@ -21,9 +22,11 @@ settings_line =
     with_rule (with_rule (new_app (codes "nn_standby")) (value_rule (codes "permille") (Signed (pos 0) (pos 1000)) (codes "999")))
     (value_rule (codes "min") (Signed (pos 1) (pos 512)) (codes "1"))
 
--- and `--capacity` with a number from 1 to 1024, and `--threads`
+-- and `--capacity` with a number from 1 to 1024, `--threads`, `--history` and `--image`
 unfoldable pub command_line : App
-command_line = with_rule (with_rule settings_line (value_rule (codes "capacity") (Signed (pos 1) (pos 1024)) (codes "64"))) (flag_rule (codes "threads"))
+command_line =
+    with_rule (with_rule (with_rule (with_rule settings_line (value_rule (codes "capacity") (Signed (pos 1) (pos 1024)) (codes "64"))) (flag_rule (codes "threads")))
+    (flag_rule (codes "history"))) (flag_rule (codes "image"))
 
 -- the text is there, and reads as this number
 abbrev pub ReadsAs : Option Text → ℕ → Type 0
@@ -50,10 +53,18 @@ pub record AreReadAs (first second third : Option Text) (settings : Threshold) :
 abbrev pub AskFor : List Text → Threshold → Type 0
 AskFor words = AreReadAs (one_of (codes "permille") (matches_of command_line words)) (one_of (codes "min") (matches_of command_line words)) (one_of (codes "capacity") (matches_of command_line words))
 
--- the flag is there: its text is there, and another than `false`
-abbrev pub IsFlagged : Option Text → Type 0
-IsFlagged text = (text ≢ None) × (text ≢ Some (codes "false"))
+-- whether a flag is set: its text is `true`, or it is `false` or not there
+abbrev pub IsFlag : Option Text → Bool → Type 0
+IsFlag None set = set ≡ false
+IsFlag (Some text) set = (text ≡ codes "true" → set ≡ true) × (text ≡ codes "false" → set ≡ false)
 
--- `--threads` is among the words
-abbrev pub AskForThreads : List Text → Type 0
-AskForThreads words = IsFlagged (one_of (codes "threads") (matches_of command_line words))
+-- beside the settings, the texts behind the names are this request
+pub record IsRequest (text_of : Text → Option Text) (r : Request) : Type 0 where
+  pub places : IsCapacity (text_of (codes "capacity")) r.capacity
+  pub by_threads : IsFlag (text_of (codes "threads")) r.threads
+  pub with_history : IsFlag (text_of (codes "history")) r.options.history
+  pub with_image : IsFlag (text_of (codes "image")) r.options.image
+
+-- the words ask for it so
+abbrev pub AskAs : List Text → Request → Type 0
+AskAs words = IsRequest (λ name. one_of name (matches_of command_line words))

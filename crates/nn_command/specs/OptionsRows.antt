@@ -8,15 +8,19 @@ abbrev line : List Text → List Text
 line words = codes "nn_standby" ∷ words
 
 abbrev matched : List Text → List (Option Text)
-matched words = map (λ name. one_of name (matches_of command_line (line words))) (codes "permille" ∷ codes "min" ∷ codes "capacity" ∷ codes "threads" ∷ [])
+matched words = map (λ name. one_of name (matches_of command_line (line words))) (codes "permille" ∷ codes "min" ∷ codes "capacity" ∷ codes "threads" ∷ codes "history" ∷ codes "image" ∷ [])
 
-some_numbers : matched (codes "--min" ∷ codes "2" ∷ codes "--permille=1000" ∷ codes "--threads" ∷ codes "--capacity" ∷ codes "7" ∷ []) ≡ Some (codes "1000") ∷ Some (codes "2") ∷ Some (codes "7") ∷ Some (codes "true") ∷ []
+some_numbers : matched (codes "--min" ∷ codes "2" ∷ codes "--permille=1000" ∷ codes "--threads" ∷ codes "--image" ∷ codes "--capacity" ∷ codes "7" ∷ []) ≡ Some (codes "1000") ∷ Some (codes "2") ∷ Some (codes "7") ∷ Some (codes "true") ∷ Some (codes "false") ∷ Some (codes "true") ∷ []
 unfolding clap_on_literals settings_line command_line
 some_numbers = refl
 
-defaults : matched [] ≡ Some (codes "999") ∷ Some (codes "1") ∷ Some (codes "64") ∷ Some (codes "false") ∷ []
+defaults : matched [] ≡ Some (codes "999") ∷ Some (codes "1") ∷ Some (codes "64") ∷ Some (codes "false") ∷ Some (codes "false") ∷ Some (codes "false") ∷ []
 unfolding clap_on_literals settings_line command_line
 defaults = refl
+
+a_history : matched (codes "--history" ∷ []) ≡ Some (codes "999") ∷ Some (codes "1") ∷ Some (codes "64") ∷ Some (codes "false") ∷ Some (codes "true") ∷ Some (codes "false") ∷ []
+unfolding clap_on_literals settings_line command_line
+a_history = refl
 
 permilles_taken : map (λ n. takes command_line (line (codes "--permille" ∷ n ∷ []))) (codes "0" ∷ codes "1000" ∷ codes "1001" ∷ codes "x" ∷ [])
     ≡ true ∷ true ∷ false ∷ false ∷ []

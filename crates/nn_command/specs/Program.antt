@@ -6,11 +6,13 @@ use Rattle.clap.specs.declared.error.kind.ErrorKind.{ErrorKind}
 use Rattle.clap.specs.declared.error.kind.ErrorKind.TheVariants.{DisplayHelp}
 use Rattle.clap.specs.declared.error.kind.ErrorKind.TheVariants as why
 use Rattle.nn_types.specs.Settings.{Threshold}
+use Rattle.nn_engine.specs.declared.engine.Options.{Options as RunOptions}
 use Rattle.nn_listing.specs.Listing.{newline}
-use Rattle.nn_engine.specs.Run.{Given, NoneFailed, Wrote, WroteFront, closed_line, running}
+use Rattle.nn_engine.specs.Run.{Given, Wrote, WroteFront, running}
 use Rattle.nn_command.specs.declared.program.NoWords.{NoWords}
 use Rattle.nn_command.specs.declared.program.NoWords.TheVariants.{NotText, OutOfMemory}
-use Rattle.nn_command.specs.Options.{command_line, AskFor, AskForThreads}
+use Rattle.nn_command.specs.declared.options.Request.{Request}
+use Rattle.nn_command.specs.Options.{command_line, AskAs, AskFor}
 
 -- ---- What words ask for.
 
@@ -65,17 +67,9 @@ memory_line = codes "fault 55" ++ newline ∷ []
 abbrev pub EndsWith : Given → Option (List ℕ) → Option (List ℕ) → ℕ → Type 0
 EndsWith given output output' ended = Wrote given output output' ended ⊎ ((n : ℕ) × WroteFront given output output' n × (ended ≡ 1))
 
--- a run with these settings
-abbrev pub Runs : Threshold → Streams → ℕ → Type 0
-Runs settings s ended = EndsWith (running settings s.before s.after s.had_failed s.has_failed) s.output s.output' ended × Keeps s.errors s.errors'
-
--- the line that a DataNode's report was refused, since its lane was closed
-abbrev pub EndsClosed : Given → Option (List ℕ) → Option (List ℕ) → ℕ → Type 0
-EndsClosed given output output' ended = NoneFailed given × Writes output output' closed_line 1 ended
-
--- with threads a run may write that line
-abbrev pub LaneClosed : Threshold → Streams → ℕ → Type 0
-LaneClosed settings s ended = EndsClosed (running settings s.before s.after s.had_failed s.has_failed) s.output s.output' ended × Keeps s.errors s.errors'
+-- a run with these options, and with threads or without
+abbrev pub Runs : RunOptions → Bool → Streams → ℕ → Type 0
+Runs options threads s ended = EndsWith (running options threads s.before s.after s.had_failed s.has_failed) s.output s.output' ended × Keeps s.errors s.errors'
 
 -- the help text on the output, and nothing was read
 abbrev pub Helps : Streams → ℕ → Type 0
@@ -92,7 +86,7 @@ LacksMemory s ended = Writes s.output s.output' memory_line 1 ended × Keeps s.e
 -- what it does for words, of which the first is the program's name
 abbrev pub Serves : List Text → Streams → ℕ → Type 0
 Serves words s ended =
-    ((settings : Threshold) × AskToRun words settings × (Runs settings s ended ⊎ (AskForThreads words × LaneClosed settings s ended)))
+    ((r : Request) × AskToRun words r.options.settings × AskAs words r × Runs r.options r.threads s ended)
     ⊎ ((AskForHelp words × Helps s ended) ⊎ ((AskForNothing words × Refuses s ended) ⊎ LacksMemory s ended))
 
 -- and where there are none

@@ -1,6 +1,7 @@
 //! The program on the devices of its process, and on a thread with stack enough for a run.
+use crate::program;
 use crate::program::{NoWords, serve};
-use nn_engine::{Input, Open, write_output};
+use nn_engine::{Input, Open};
 use nn_scenario::MAX_INPUT;
 use std::process::ExitCode;
 use std::sync::{Arc, Wait};
@@ -52,8 +53,7 @@ fn on_devices<T: Threads + Wait + Sync>(rt: &HostRuntime, threads: &T) -> u8 {
     let mut output = io::writer(rt);
     let mut errors = rt.stderr();
     let Ok(gate) = Arc::new(rt.alloc(), Open) else {
-        let _ = write_output(&mut output, b"fault 55\n");
-        return 1;
+        return program::out_of_memory(&mut output);
     };
     serve(
         threads,
@@ -82,6 +82,5 @@ fn words(rt: &HostRuntime) -> Result<Vec<String>, NoWords> {
 /// The line that memory ran out, on standard output, and its status.
 pub fn out_of_memory(rt: &HostRuntime) -> ExitCode {
     let mut writer = io::writer(rt);
-    let _ = write_output(&mut writer, b"fault 55\n");
-    ExitCode::from(1)
+    ExitCode::from(program::out_of_memory(&mut writer))
 }

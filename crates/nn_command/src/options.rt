@@ -1,8 +1,8 @@
 //! What the command line asks for.
-ghost use Rattle.std.specs.Prelude.{◌≡◌, ◌≤◌, ◌⊎◌, ℕ, true, false, IfOk, IfErr, IfSome, IfNone, codes, map, string_bytes};
+ghost use Rattle.std.specs.Prelude.{◌≡◌, ◌≤◌, ◌⊎◌, ℕ, false, IfOk, IfErr, IfSome, IfNone, codes, map, string_bytes};
 ghost use Rattle.clap.specs.Words.{app_of, found_of, kind_of, one_text, rule_of};
 ghost use Rattle.nn_types.specs.Settings.{Threshold};
-ghost use Rattle.nn_command.specs.Options.{value_rule, flag_rule, settings_line, command_line, IsNumberOf, IsCapacity, IsFlagged, AskForThreads, AreReadAs};
+ghost use Rattle.nn_command.specs.Options.{value_rule, flag_rule, settings_line, command_line, IsNumberOf, IsCapacity, AreReadAs, IsRequest, AskAs};
 ghost use Rattle.nn_command.specs.Program.{AskToRun, WhyNot};
 
 use clap::builder::ValueParser;
@@ -22,7 +22,12 @@ const PERMILLE: &str =
 const MIN: &str = "How many live replicas make a block safe, 1 to 512.";
 
 const THREADS: &str =
-    "Lets each DataNode report from a thread of its own. What is printed is the same.";
+    "Lets each DataNode report from a thread of its own. What is printed is the same, but for a history.";
+
+const HISTORY: &str =
+    "Prints the history of the standby first: each transaction and each message, as it was taken.";
+
+const IMAGE: &str = "Prints the image of the namespace too, after the tables.";
 
 const CAPACITY: &str = "How many reports of a DataNode wait at a time with --threads, 1 to 1024.";
 
@@ -39,8 +44,8 @@ pub struct Request {
 /// What words ask for, of which the first is the program's name.
 pub fn parse<'a>(alloc: Global, words: &'a [String]) -> Result<Request, Error>
     ensures ok { IfOk result (λ request. AskToRun (map string_bytes words.entry.now) request.options.settings) }
+    ensures asked { IfOk result (λ request. AskAs (map string_bytes words.entry.now) request) }
     ensures capacity { IfOk result (λ request. (1 ≤ request.capacity) × (request.capacity ≤ 1024)) }
-    ensures threads { IfOk result (λ request. request.threads ≡ true → AskForThreads (map string_bytes words.entry.now)) }
     ensures err { IfErr result (λ error. WhyNot (map string_bytes words.entry.now) (kind_of error)) }
 {
     let Ok(line) = command(alloc) else {
@@ -69,14 +74,16 @@ fn out_of_range(alloc: Global) -> Error
     error
 }
 
-// `--permille N`, `--min N`, `--capacity N` and `--threads`.
+// `--permille N`, `--min N`, `--capacity N`, `--threads`, `--history` and `--image`.
 fn command<'a>(alloc: Global) -> Result<Command<'a>, Error>
     ensures { IfOk result (λ command. app_of command ≡ command_line) }
 {
     let capacity = value_parser!(u16).range(1..=1024);
     let command = settings_command(alloc)?
         .arg(valued(alloc, "capacity", capacity, "64", CAPACITY))?
-        .arg(flag(alloc, "threads", THREADS))?;
+        .arg(flag(alloc, "threads", THREADS))?
+        .arg(flag(alloc, "history", HISTORY))?
+        .arg(flag(alloc, "image", IMAGE))?;
     Ok(command)
 }
 
@@ -126,8 +133,8 @@ fn valued<'a>(
 // What was matched, where the numbers are in range.
 fn matched(matches: &ArgMatches<'_>) -> Option<Request>
     ensures some { IfSome result (λ request. AreReadAs (one_text (found_of matches.now) (codes "permille")) (one_text (found_of matches.now) (codes "min")) (one_text (found_of matches.now) (codes "capacity")) request.options.settings) }
+    ensures asked { IfSome result (λ request. IsRequest (one_text (found_of matches.now)) request) }
     ensures capacity { IfSome result (λ request. (1 ≤ request.capacity) × (request.capacity ≤ 1024)) }
-    ensures threads { IfSome result (λ request. request.threads ≡ true → IsFlagged (one_text (found_of matches.now) (codes "threads"))) }
     ensures none { IfNone result ((settings : Threshold) → AreReadAs (one_text (found_of matches.now) (codes "permille")) (one_text (found_of matches.now) (codes "min")) (one_text (found_of matches.now) (codes "capacity")) settings → ⊥) }
 {
     let Some(permille) = number(matches, "permille") else {
@@ -143,7 +150,11 @@ fn matched(matches: &ArgMatches<'_>) -> Option<Request>
         return None;
     };
     Some(Request {
-        options: Options { settings },
+        options: Options {
+            settings,
+            history: matches.get_flag("history"),
+            image: matches.get_flag("image"),
+        },
         threads: matches.get_flag("threads"),
         capacity,
     })

@@ -1,9 +1,9 @@
 //! What the program does for the words that it is started with, over any reader and writers.
-ghost use Rattle.std.specs.Prelude.{◌≡◌, ◌⊎◌, ◌≤◌, ℕ, List, None, true, false, IfOk, IfErr, map, string_bytes};
+ghost use Rattle.std.specs.Prelude.{◌≡◌, ◌≤◌, ℕ, List, None, false, IfOk, IfErr, map, string_bytes};
 ghost use Rattle.std.specs.Io.KnownBytes.{Appends};
 ghost use Rattle.clap.specs.Words.{kind_of};
 ghost use Rattle.nn_engine.specs.Run.{running};
-ghost use Rattle.nn_command.specs.Program.{EndsClosed, EndsWith, Serves, ServesNone, Tells, Writes, memory_line, streams};
+ghost use Rattle.nn_command.specs.Program.{EndsWith, Serves, ServesNone, Tells, Writes, memory_line, streams};
 
 use crate::options;
 use crate::options::Request;
@@ -35,7 +35,7 @@ pub enum NoWords {
 /// refused, which is told on `errors`.
 ///
 /// With `--threads` each DataNode reports from a thread of its own, which passes the gate first: it waits for as long as
-/// the gate does. What is printed is the same.
+/// the gate does. What is printed is the same, but that a history has the order of its own run.
 pub fn serve<R: Read, W: Write, E: Write, G: Gate + Send + Sync + Drop, T: Threads + Wait + Sync>(
     rt: &T,
     alloc: Global,
@@ -74,16 +74,14 @@ fn run_as_asked<R: Read, W: Write, G: Gate + Send + Sync + Drop, T: Threads + Wa
     gate: Arc<G, Global>,
 ) -> u8
     requires { (1 ≤ request.now.capacity) × (request.now.capacity ≤ 1024) }
-    ensures { EndsWith (running request.now.options.settings (R.remaining input.old.reader) (R.remaining input.new.reader) input.old.failed input.new.failed)
-        (W.contents output.old) (W.contents output.new) result
-        ⊎ ((request.now.threads ≡ true) × EndsClosed (running request.now.options.settings (R.remaining input.old.reader) (R.remaining input.new.reader) input.old.failed input.new.failed)
-        (W.contents output.old) (W.contents output.new) result) }
+    ensures { EndsWith (running request.now.options request.now.threads (R.remaining input.old.reader) (R.remaining input.new.reader) input.old.failed input.new.failed)
+        (W.contents output.old) (W.contents output.new) result }
 {
     if !request.threads {
         return run_plain(alloc, &request.options, input, output);
     }
     let asked = Threaded {
-        settings: request.options.settings,
+        options: request.options,
         capacity: usize::from(request.capacity),
         gate,
     };
@@ -99,7 +97,7 @@ fn run_plain<R: Read, W: Write>(
     input: &mut Input<R>,
     output: &mut W,
 ) -> u8
-    ensures { EndsWith (running options.now.settings (R.remaining input.old.reader) (R.remaining input.new.reader) input.old.failed input.new.failed)
+    ensures { EndsWith (running options.now false (R.remaining input.old.reader) (R.remaining input.new.reader) input.old.failed input.new.failed)
         (W.contents output.old) (W.contents output.new) result }
 {
     match run(alloc, options, input, output) {
@@ -140,7 +138,8 @@ fn refuse<E: Write>(errors: &mut E, text: &[u8]) -> u8
     MISUSED
 }
 
-fn out_of_memory<W: Write>(output: &mut W) -> u8
+// The line that memory ran out.
+pub(crate) fn out_of_memory<W: Write>(output: &mut W) -> u8
     ensures { Writes (W.contents output.old) (W.contents output.new) memory_line 1 result }
 {
     write_or_fail(output, b"fault 55\n", FAILED)

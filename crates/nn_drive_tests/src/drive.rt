@@ -1,6 +1,9 @@
 //! Drives over a log of two marks: all reports are of a block that it does not name, and wait for the flush.
+ghost use Rattle.nn_drive.specs.Driven.{AreLanes};
+
 use crate::source::{Shared, Telling, Waiting, report};
 use nn_drive::{drive, with_lanes};
+use nn_lane::Reporter;
 use nn_segment::{MemorySource, Parsed, SegmentSource};
 use nn_tailer::{Active, Standby};
 use nn_types::Settings;
@@ -116,7 +119,22 @@ fn telling(alloc: Global, shared: &Arc<Shared, Global>, fails_at: u64) -> Result
         calls: 0,
         has_failed: false,
         over: false,
+        holds: 0,
     })
+}
+
+// While the log holds the standby up, nothing is taken: so of each source no more is asked for than two reports that lie
+// in its lane and one in hand, and not all before the first is sent.
+#[test]
+fn held_up(rt: HostRuntime) -> Result<(), Fail> {
+    let shared = Shared::new(rt.alloc())?;
+    let reports = sources(rt.alloc(), &shared, 2, 0, 0, 5)?;
+    let mut source = telling(rt.alloc(), &shared, u64::MAX)?;
+    source.holds = 100_000;
+    let active = driven(&rt, rt.alloc(), source, reports)?;
+    assert_eq!(rt; active, flushed(10));
+    assert!(rt; shared.asked_by_then.load(Ordering::SeqCst) <= 6);
+    Ok(())
 }
 
 // As many workers as there can be: none is dropped, and each is asked from one thread.
@@ -146,6 +164,17 @@ fn failing_source(rt: HostRuntime) -> Result<(), Fail> {
     Ok(())
 }
 
+// Closes the lanes of these workers.
+fn closed(workers: &Vec<(Waiting, Reporter)>, standby: Standby) -> Standby
+    requires { AreLanes workers.now.items standby.ends }
+    ensures { AreLanes workers.now.items result.ends }
+{
+    let _ = workers;
+    let mut standby = standby;
+    standby.close_intake();
+    standby
+}
+
 // What a drive over lanes comes to that are closed when it begins.
 fn driven_closed<T: SegmentSource + Drop, R: Threads + Wait + Sync>(
     rt: &R,
@@ -165,10 +194,10 @@ fn driven_closed<T: SegmentSource + Drop, R: Threads + Wait + Sync>(
     let Some(settings) = Settings::new(999, 1) else {
         return Err(Fail::new("no settings"));
     };
-    let Ok(mut standby) = Standby::new(alloc, ends, settings) else {
+    let Ok(standby) = Standby::new(alloc, ends, settings) else {
         return Err(Fail::new("out of memory"));
     };
-    standby.close_intake();
+    let standby = closed(&workers, standby);
     match drive(rt, alloc, standby, source, workers) {
         Ok((_shadow, active)) => Ok(Ok(active)),
         Err(fault) => Ok(Err(fault.number())),

@@ -22,6 +22,10 @@ pub struct Shared {
     pub came: AtomicU64,
     /// How many waited in vain.
     pub vain: AtomicU64,
+    /// How often sources of reports were asked.
+    pub asked: AtomicU64,
+    /// And how often when a log that held its standby up let it go on.
+    pub asked_by_then: AtomicU64,
 }
 
 impl Shared {
@@ -31,6 +35,8 @@ impl Shared {
             Shared {
                 came: AtomicU64::new(0),
                 vain: AtomicU64::new(0),
+                asked: AtomicU64::new(0),
+                asked_by_then: AtomicU64::new(0),
             },
         )?;
         Ok(shared)
@@ -64,6 +70,7 @@ impl ReportSource for Waiting {
     ghost gives = { λ s r t. ⊤ };
 
     fn next(&mut self) -> Option<Report> {
+        self.shared.asked.fetch_add(1, Ordering::SeqCst);
         if !self.has_come {
             self.has_come = true;
             self.shared.came.fetch_add(self.counts, Ordering::SeqCst);
@@ -90,6 +97,20 @@ pub struct Telling {
     pub calls: u64,
     pub has_failed: bool,
     pub over: bool,
+    /// The turns for which its next call holds up whoever asks.
+    pub holds: u32,
+}
+
+// Holds up whoever calls, and notes how often sources of reports were asked by then.
+fn hold_up(shared: &Shared, turns: u32) {
+    if turns == 0 {
+        return;
+    }
+    for _ in 0..turns {
+        thread::yield_now();
+    }
+    let asked = shared.asked.load(Ordering::SeqCst);
+    shared.asked_by_then.store(asked, Ordering::SeqCst);
 }
 
 impl SegmentSource for Telling {
@@ -103,6 +124,9 @@ impl SegmentSource for Telling {
 
     fn next(&mut self) -> Result<Item, SourceFault> {
         self.shared.came.fetch_add(1, Ordering::SeqCst);
+        let turns = self.holds;
+        self.holds = 0;
+        hold_up(&self.shared, turns);
         if !self.has_failed && !self.over {
             if self.calls == self.fails_at {
                 self.has_failed = true;

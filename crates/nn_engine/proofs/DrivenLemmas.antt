@@ -7,20 +7,24 @@ use Rattle.nn_types.specs.declared.report.Message.{Message}
 use Rattle.nn_types.specs.declared.report.Report.{Report}
 use Rattle.nn_types.specs.Settings.{Threshold}
 use Rattle.nn_model.specs.Lanes.{Lanes}
+use Rattle.nn_model.specs.Lawful.{IsLawful, IsWhole}
+use Rattle.nn_model.specs.Log.{log_of}
 use Rattle.nn_model.specs.Namespace.{root_alone}
 use Rattle.nn_model.specs.Picture.{ShowsPicture}
 use Rattle.nn_model.specs.Stands.{tables_of}
 use Rattle.nn_lane.specs.Ends.{Reporting, Taking, got_of}
 use Rattle.nn_lane.specs.declared.fault.Refusal.{Refusal}
 use Rattle.nn_lane.specs.declared.fault.Refusal.TheVariants.{Closed, Exhausted, Full}
-use Rattle.nn_segment.specs.LogEnd.{end_of_log}
+use Rattle.nn_segment.specs.LogEnd.{end_of_log, given_in}
 use Rattle.nn_segment.specs.Segment.{Segment}
-use Rattle.nn_segment.specs.Source.{GivesNext}
+use Rattle.nn_segment.specs.Source.{Answer, AreInOrder, GivesNext}
+use Rattle.nn_segment.specs.Walk.{log_in, segments_in}
+use Rattle.nn_segment.specs.declared.source.Item.TheVariants as item
 use Rattle.nn_segment.proofs.Asks.{in_order}
 use Rattle.nn_shadow.specs.Contents.{Contents, standby_of}
 use Rattle.nn_tailer.specs.Public.{IsNew}
 use Rattle.nn_tailer.specs.Tailing.{Tailer, by_node}
-use Rattle.nn_tailer.proofs.InOrder.{promoted_at_end, stopped_at}
+use Rattle.nn_tailer.proofs.InOrder.{all_given, promoted_at_end, stopped_at}
 use Rattle.nn_drive.specs.Driven.{NotDriven, IsDriven, IsTaken, IsTold}
 use Rattle.nn_drive.specs.NewLanes.{HaveLanes}
 use Rattle.nn_drive.specs.Reports.{next_message, sent_after, TakesNoMore, Reported}
@@ -28,7 +32,10 @@ use Rattle.nn_drive.specs.declared.driving.DriveFault.{DriveFault}
 use Rattle.nn_drive.specs.declared.driving.DriveFault.TheVariants as drive
 use Rattle.nn_tailer.specs.declared.standby.Active.{Active}
 use Rattle.nn_engine.specs.Listed.{GivesReport, AreListed, MayEnd, TellsStop}
-use Rattle.nn_engine.specs.Output.{Printed, after_log, fault_at}
+use Rattle.nn_engine.specs.declared.engine.Options.{Options}
+use Rattle.nn_engine.specs.Output.{Printed, after_log, fault_at, with_history}
+use Rattle.nn_engine.proofs.ToldLemmas.{is_fault}
+use Rattle.nn_engine.specs.Shown.{IsFaultOf, with_settings}
 
 -- ---- What a source in memory gave.
 
@@ -157,8 +164,17 @@ module _ (count : ℕ) (lanes : Lanes) (sources : List (List Report)) (listed : 
 
 -- ---- The promoted standby.
 
+-- the transactions of the segments that were given
+segments_given : (answers : List Answer) → segments_in answers ≡ map (λ (s : Segment). s.txs) (given_in answers)
+segments_given [] = refl
+segments_given (Ok (item.Segment s) ∷ answers) = ap (λ all. s.txs ∷ all) (segments_given answers)
+segments_given (Ok item.End ∷ answers) = segments_given answers
+segments_given (Err fault ∷ answers) = segments_given answers
+
 pub record Arrives (settings : Threshold) (lanes : Lanes) (segments : List Segment) (x : Contents) : Type 0 where
   pub log_end : end_of_log 0 root_alone segments ≡ Ok (record { last = x.last; namespace = x.namespace })
+  pub lawful : IsLawful root_alone (log_of 0 (map (λ (s : Segment). s.txs) segments)) lanes x.history
+  pub whole : IsWhole root_alone (log_of 0 (map (λ (s : Segment). s.txs) segments)) lanes x.history
   pub picture : ShowsPicture x.namespace lanes (tables_of (standby_of x))
   pub min : x.table.min ≡ settings.min
   pub permille : x.permille ≡ settings.permille
@@ -170,8 +186,12 @@ module _ (settings : Threshold) (count : ℕ) (lanes : Lanes) (sources : List (L
       let p = d.8 root_alone 0 [] new.4 in
       let order = in_order segments d.1 d.0 d.3 in
       let same = same_lanes count lanes sources listed workers before d.2 have p.lanes (λ i w b e l. subst (λ es. IsTaken GivesReport (get_or workers i w).0 (get_or workers i w).1 (get_or es i b) (get_or d.2 i e).got) new.0 (p.taken i w b e l)) in
+      let log : log_in 0 d.0 ≡ log_of 0 (map (λ (s : Segment). s.txs) segments) =
+      ap (log_of 0) (segments_given d.0 ∙ ap (map (λ (s : Segment). s.txs)) (ap given_in p.ended.1 ∙ all_given segments p.ended.0 (subst (AreInOrder segments) p.ended.1 order))) in
       record {
         log_end = promoted_at_end root_alone 0 segments d.0 order (record { last = x.last; namespace = x.namespace }) p.ended p.log_end;
+        lawful = subst (λ log. IsLawful root_alone log lanes x.history) log (subst (λ ls. IsLawful root_alone (log_in 0 d.0) ls x.history) same p.stands.lawful);
+        whole = subst (λ log. IsWhole root_alone log lanes x.history) log (subst (λ ls. IsWhole root_alone (log_in 0 d.0) ls x.history) same p.whole);
         picture = subst (λ ls. ShowsPicture x.namespace ls (tables_of (standby_of x))) same p.picture;
         min = d.7.min ∙ kept.0;
         permille = d.7.permille ∙ kept.1;
@@ -184,25 +204,27 @@ module _ (settings : Threshold) (count : ℕ) (lanes : Lanes) (sources : List (L
   may_end drive.OutOfMemory h = tt
   may_end drive.Closed h = tt
 
-  pub stop_told : (f : DriveFault) (p : Printed) → NotDriven GivesNext (λ _. 0) standby segments f → TellsStop f p → p ≡ after_log settings lanes (end_of_log 0 root_alone segments)
-  stop_told drive.AlreadyActive p h t = absurd t
-  stop_told (drive.Stopped s) p h t =
+  pub stop_told : (options : Options) (f : DriveFault) (p : Printed) → NotDriven GivesNext (λ _. 0) standby segments f → TellsStop f p → IsFaultOf options lanes (end_of_log 0 root_alone segments) p
+  stop_told options drive.AlreadyActive p h t = absurd t
+  stop_told options (drive.Stopped s) p h t =
       let order = in_order segments h.0 h.1.0 h.1.1 in
       let w = stopped_at root_alone 0 segments h.1.0 order s (h.1.2 root_alone 0 [] new.4) in
-      t ∙ ap (λ n. fault_at (codes " txid ") n s.txid) (sym w.1) ∙ ap (after_log settings lanes) (sym w.2)
-  stop_told (drive.LogNotEnded f) p h t = absurd t
-  stop_told drive.OutOfMemory p h t = absurd t
-  stop_told drive.Closed p h t = absurd t
+      is_fault options lanes (end_of_log 0 root_alone segments) (record { cause = w.0; txid = s.txid }) p w.2 (t ∙ ap (λ n. fault_at (codes " txid ") n s.txid) (sym w.1))
+  stop_told options (drive.LogNotEnded f) p h t = absurd t
+  stop_told options drive.OutOfMemory p h t = absurd t
+  stop_told options drive.Closed p h t = absurd t
 
 -- what is printed of a standby that was promoted
-abbrev pub TellsAll : Contents → Printed → Type 0
-TellsAll x p = (lanes : Lanes) → ShowsPicture x.namespace lanes (tables_of (standby_of x)) → p ≡ after_log (record { permille = x.permille; min = x.table.min }) lanes (Ok (record { last = x.last; namespace = x.namespace }))
+abbrev pub TellsAll : Options → Contents → Printed → Type 0
+TellsAll options x p =
+    (lanes : Lanes) → ShowsPicture x.namespace lanes (tables_of (standby_of x))
+    → p ≡ with_history options.history x.history (after_log (with_settings options x.permille x.table.min) lanes (Ok (record { last = x.last; namespace = x.namespace })))
 
 -- what is told of it is the output of the log and the lanes
-pub tells : (settings : Threshold) (lanes : Lanes) (segments : List Segment) (x : Contents) (p : Printed) → Arrives settings lanes segments x
-    → TellsAll x p
-    → p ≡ after_log settings lanes (end_of_log 0 root_alone segments)
-tells settings lanes segments x p a told =
+pub tells : (options : Options) (lanes : Lanes) (segments : List Segment) (x : Contents) (p : Printed) → Arrives options.settings lanes segments x
+    → TellsAll options x p
+    → p ≡ with_history options.history x.history (after_log options lanes (end_of_log 0 root_alone segments))
+tells options lanes segments x p a told =
     told lanes a.picture
-    ∙ (λ j. after_log (record { permille = a.permille j; min = a.min j }) lanes (Ok (record { last = x.last; namespace = x.namespace })))
-    ∙ ap (after_log settings lanes) (sym a.log_end)
+    ∙ (λ j. with_history options.history x.history (after_log (with_settings options (a.permille j) (a.min j)) lanes (Ok (record { last = x.last; namespace = x.namespace }))))
+    ∙ ap (λ w. with_history options.history x.history (after_log options lanes w)) (sym a.log_end)

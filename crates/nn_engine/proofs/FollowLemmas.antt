@@ -1,5 +1,6 @@
 -- A standby on its way, one step further.
 use Rattle.std.proofs.Common.{◌≡◌, ℕ, ◌+◌, ◌≤◌, true, List, [], ◌∷◌, ◌++◌, length, Result, Ok, None, refl, sym, ap, ◌∙◌, arith}
+use Rattle.std.specs.Prelude.{drop, map, flat_map}
 use Rattle.std.specs.List.{All}
 use Rattle.std.proofs.lemmas.Bool.{eq-eqb, le-leb}
 use Rattle.std.proofs.lemmas.List.Elements.{All-head, All-tail}
@@ -8,15 +9,20 @@ use Rattle.nn_types.specs.declared.tx.Tx.{Tx}
 use Rattle.nn_model.specs.Apply.{applied}
 use Rattle.nn_model.specs.Lanes.{Lanes, no_messages, followed_by}
 use Rattle.nn_model.specs.Namespace.{Namespace, root_alone}
-use Rattle.nn_model.specs.Stands.{fresh}
+use Rattle.nn_model.specs.Stands.{Standby, fresh}
+use Rattle.nn_model.specs.Log.{counted, log_of}
+use Rattle.nn_shadow.specs.Calls.{applied_to, received}
+use Rattle.nn_segment.specs.Segment.{Segment}
 use Rattle.nn_model.proofs.Equals.{root_alone_is_well_formed}
 use Rattle.nn_shadow.specs.Contents.{Contents, standby_of, KeepsSettings}
 use Rattle.nn_shadow.specs.Laws.{StandsBy}
 use Rattle.nn_shadow.specs.Refusals.{is_lane, hand_refusal}
 use Rattle.nn_shadow.proofs.Standings.{begins_standing}
 use Rattle.nn_segment.specs.LogEnd.{Stop, LogEnd, go_on, end_of_txs, end_of_log}
-use Rattle.nn_engine.specs.LogLeft.{LogLeft, end_of_left}
-use Rattle.nn_engine.specs.Follow.{serving, IsWelcome, IsOnItsWay, IsFollowing}
+use Rattle.nn_engine.specs.LogLeft.{LogLeft, end_of_left, txs_left}
+use Rattle.nn_engine.specs.Turns.{next_applied, all_applied, in_turn}
+use Rattle.nn_engine.proofs.TurnLemmas.{all_applied_next}
+use Rattle.nn_engine.specs.Follow.{serving, TakesNext, TakesStep, IsWelcome, IsOnItsWay, IsFollowing}
 use Rattle.nn_scenario.specs.Steps.{lanes_after, lanes_of, AreInTurn, IsStepOf}
 use Rattle.nn_scenario.specs.declared.steps.Step.{Step}
 use Rattle.nn_scenario.specs.declared.steps.Step.TheVariants as step
@@ -115,3 +121,42 @@ sets_out count left steps x new phase size none in_turn within = record {
   phase = phase;
   count_is = size;
 }
+
+-- ---- Turns.
+
+pub one_turn : (x y : Contents) (old new : LogLeft) (tx : Tx) → txs_left x.last old ≡ tx ∷ txs_left tx.txid new → standby_of y ≡ applied_to (standby_of x) tx
+    → y.last ≡ tx.txid → TakesNext old x new y
+one_turn x y old new tx left does last = (
+  does ∙ ap (next_applied (standby_of x)) (sym left),
+  ap (λ t. txs_left t new) last ∙ ap (drop 1) (sym left),
+)
+
+-- nothing is left
+pub no_turn : (x : Contents) (old new : LogLeft) → txs_left x.last old ≡ [] → txs_left x.last new ≡ [] → TakesNext old x new x
+no_turn x old new before after = (ap (next_applied (standby_of x)) (sym before), after ∙ ap (drop 1) (sym before))
+
+pub edit_turn : (x y : Contents) (old new : LogLeft) → TakesNext old x new y → TakesStep old x step.Edit new y
+edit_turn x y old new h = λ steps. (λ j. in_turn (h.0 j) (h.1 j) steps)
+
+pub message_turn : (x y : Contents) (left : LogLeft) (m : Message) → standby_of y ≡ received (standby_of x) m → y.last ≡ x.last → TakesStep left x (step.Message m) left y
+message_turn x y left m done last = λ steps. (λ j. in_turn (done j) (txs_left (last j) left) steps)
+
+-- the rest of the log is followed further
+pub rest_further : (x y : Contents) (old new : LogLeft) (all : Standby) → TakesNext old x new y → all_applied (standby_of x) (txs_left x.last old) ≡ all
+    → all_applied (standby_of y) (txs_left y.last new) ≡ all
+rest_further x y old new all h is = (λ j. all_applied (h.0 j) (h.1 j)) ∙ all_applied_next (standby_of x) (txs_left x.last old) ∙ is
+
+-- and to its end
+pub rest_ends : (x y : Contents) (old new : LogLeft) (all : Standby) → TakesNext old x new y → txs_left x.last old ≡ []
+    → all_applied (standby_of x) (txs_left x.last old) ≡ all → standby_of y ≡ all
+rest_ends x y old new all h none is = h.0 ∙ ap (next_applied (standby_of x)) none ∙ ap (all_applied (standby_of x)) (sym none) ∙ is
+
+-- from the first step to the end of the log
+pub all_turns : (w x y : Contents) (set_out left : LogLeft) (steps : List Step) → standby_of w ≡ fresh root_alone 0 → set_out.txs ≡ []
+    → in_turn (standby_of x) (txs_left x.last left) [] ≡ in_turn (standby_of w) (txs_left w.last set_out) steps
+    → standby_of y ≡ all_applied (standby_of x) (txs_left x.last left)
+    → standby_of y ≡ in_turn (fresh root_alone 0) (log_of 0 (map (λ (s : Segment). s.txs) set_out.segments)) steps
+all_turns w x y set_out left steps new none turns rest =
+    let begun : txs_left w.last set_out ≡ log_of 0 (map (λ (s : Segment). s.txs) set_out.segments) =
+    (λ j. counted (new j).last (none j ++ flat_map (λ segment. segment) (map (λ (s : Segment). s.txs) set_out.segments))) in
+    rest ∙ turns ∙ (λ j. in_turn (new j) (begun j) steps)

@@ -1,6 +1,8 @@
 pub mod LogLemmas
 pub mod LogEnds
 pub mod FollowLemmas
+pub mod TurnLemmas
+pub mod ToldLemmas
 pub mod TellLemmas
 pub mod WriteLemmas
 pub mod ListLemmas

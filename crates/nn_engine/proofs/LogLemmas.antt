@@ -1,15 +1,17 @@
 -- What is left of a log, one transaction or one segment further.
-use Rattle.std.proofs.Common.{◌≡◌, ℕ, ◌+◌, ◌<◌, ◌≤◌, List, [], ◌∷◌, Result, Ok, Err, refl, sym, ap, ◌∙◌}
+use Rattle.std.proofs.Common.{◌≡◌, ℕ, ◌+◌, ◌<◌, ◌≤◌, List, [], ◌∷◌, ◌++◌, length, Result, Ok, Err, refl, sym, ap, ◌∙◌, arith}
+use Rattle.std.specs.Prelude.{map, flat_map}
 use Rattle.std.proofs.lemmas.Bool.{lt-ltb, le-ltb}
 use Rattle.nn_types.specs.declared.tx.Tx.{Tx}
 use Rattle.nn_types.specs.declared.edit_fault.EditFault.{EditFault}
 use Rattle.nn_model.specs.Namespace.{Namespace}
 use Rattle.nn_model.specs.Apply.{applied}
 use Rattle.nn_model.specs.Log.{counted}
+use Rattle.nn_model.proofs.Logs.{counted_append}
 use Rattle.nn_segment.specs.Segment.{Segment, first_txid}
 use Rattle.nn_segment.specs.Source.{given, end, GivesNext}
 use Rattle.nn_segment.specs.LogEnd.{disorder, Stop, LogEnd, go_on, end_of_txs, and_then, end_of_log}
-use Rattle.nn_engine.specs.LogLeft.{LogLeft, end_of_left}
+use Rattle.nn_engine.specs.LogLeft.{LogLeft, end_of_left, txs_left}
 
 and_then_on : (txid : ℕ) (r : Result Namespace EditFault) (next : Namespace → Result LogEnd Stop) (rest : LogEnd → Result LogEnd Stop)
     → and_then (go_on txid r next) rest ≡ go_on txid r (λ n. and_then (next n) rest)
@@ -63,6 +65,36 @@ module _ (last : ℕ) (n : Namespace) where
   pub segment_taken : (old : LogLeft) (s : Segment) (segments : List Segment) → counted last old.txs ≡ [] → old.segments ≡ s ∷ segments → first_txid s.txs ≤ last + 1
       → end_of_left last n old ≡ end_of_left last n (record { txs = s.txs; segments = segments })
   segment_taken old s segments none is l = spent old none ∙ ap (end_of_log last n) is ∙ segment_on s segments l
+
+-- ---- the transactions that are left
+
+-- those of segments
+abbrev txs_of : List Segment → List Tx
+txs_of segments = flat_map (λ segment. segment) (map (λ (s : Segment). s.txs) segments)
+
+-- nothing of the segment in hand counts any more
+spent_left : (last : ℕ) (old : LogLeft) → counted last old.txs ≡ [] → txs_left last old ≡ counted last (txs_of old.segments)
+spent_left last old none =
+    counted_append last old.txs (txs_of old.segments)
+    ∙ ap (λ own. own ++ counted (last + length own) (txs_of old.segments)) none
+    ∙ ap (λ k. counted k (txs_of old.segments)) (let q : last + 0 ≡ last = omega arith in q)
+
+pub one_left : (last : ℕ) (old new : LogLeft) (tx : Tx) → tx.txid ≡ last + 1 → counted last old.txs ≡ tx ∷ counted tx.txid new.txs → old.segments ≡ new.segments
+    → txs_left last old ≡ tx ∷ txs_left tx.txid new
+one_left last old new tx next is same =
+    let own = counted tx.txid new.txs in
+    let place : last + length (tx ∷ own) ≡ tx.txid + length own = omega (arith, next) in
+    counted_append last old.txs (txs_of old.segments)
+    ∙ (λ j. is j ++ counted (last + length (is j)) (txs_of (same j)))
+    ∙ ap (λ k. tx ∷ (own ++ counted k (txs_of new.segments))) place
+    ∙ ap (λ txs. tx ∷ txs) (sym (counted_append tx.txid new.txs (txs_of new.segments)))
+
+pub none_left : (last : ℕ) (old : LogLeft) → counted last old.txs ≡ [] → old.segments ≡ [] → txs_left last old ≡ []
+none_left last old none is = spent_left last old none ∙ ap (λ segments. counted last (txs_of segments)) is
+
+pub segment_left : (last : ℕ) (old : LogLeft) (s : Segment) (segments : List Segment) → counted last old.txs ≡ [] → old.segments ≡ s ∷ segments
+    → txs_left last old ≡ txs_left last (record { txs = s.txs; segments = segments })
+segment_left last old s segments none is = spent_left last old none ∙ ap (λ all. counted last (txs_of all)) is
 
 -- ---- what a source in memory gives
 

@@ -1,7 +1,8 @@
 -- A standby that has arrived and flushed tells its tables.
-use Rattle.std.proofs.Common.{◌≡◌, ℕ, List, ◌++◌, Result, Ok, sym, ap, ◌∙◌}
+use Rattle.std.proofs.Common.{◌≡◌, ℕ, Bool, true, false, List, ◌++◌, append_assoc, Result, Ok, refl, sym, ap, ◌∙◌}
 use Rattle.nn_types.specs.declared.tx.Tx.{Tx}
 use Rattle.nn_model.specs.Counts.{SafeMode, safe_mode_of}
+use Rattle.nn_model.specs.History.{History}
 use Rattle.nn_model.specs.Lanes.{Lanes}
 use Rattle.nn_model.specs.Lawful.{IsWhole}
 use Rattle.nn_model.specs.Namespace.{Namespace, root_alone}
@@ -15,7 +16,10 @@ use Rattle.nn_shadow.specs.Laws.{StandsBy}
 use Rattle.nn_engine.specs.Follow.{HasArrived}
 use Rattle.nn_listing.specs.Listing.{listing_text}
 use Rattle.nn_segment.specs.LogEnd.{LogEnd, Stop}
-use Rattle.nn_engine.specs.Output.{Printed, after_log}
+use Rattle.nn_engine.specs.declared.engine.Options.{Options}
+use Rattle.nn_engine.specs.Output.{Printed, after_log, image_part, with_history}
+use Rattle.nn_engine.specs.Shown.{history_part, with_settings}
+use Rattle.nn_listing.specs.Trail.{history_text}
 use Rattle.nn_listing.specs.Tables.{IsPicture, tables_text}
 
 -- what a flush says of every log and lanes at which the standby stood
@@ -23,22 +27,36 @@ abbrev pub StandsFlushed : Contents → Contents → Type 0
 StandsFlushed x y = (start : Namespace) (base : ℕ) (txs : List Tx) (lanes : Lanes) → StandsBy start base txs lanes (standby_of x)
     → Stands start base txs lanes (standby_of y) × IsWhole start txs lanes y.history × ShowsPicture y.namespace lanes (tables_of (standby_of y))
 
--- the text before the tables is the listing, and the tables follow it
-pub tables_told : (y : Contents) (lanes : Lanes) (mode : SafeMode) (before after : List ℕ) → Shows y.namespace y.table
-    → mode ≡ safe_mode_of y.permille y.table.min y.namespace (replica_at y.table) → before ≡ listing_text y.last y.namespace
-    → ((permille min : ℕ) (n : Namespace) (lanes : Lanes) → IsPicture permille min n lanes y.table mode → after ≡ before ++ tables_text permille min n lanes)
-    → ShowsPicture y.namespace lanes (tables_of (standby_of y))
-    → ◌≡◌ {A = Printed} (record { text = after; status = 0 }) (after_log (record { permille = y.permille; min = y.table.min }) lanes (Ok (record { last = y.last; namespace = y.namespace })))
-tables_told y lanes mode before after shows counts listed pictured picture =
+-- a text of three parts behind a history
+behind : (asked : Bool) (events : History) (listing tables image : List ℕ)
+    → ◌≡◌ {A = Printed} (record { text = ((history_part asked events ++ listing) ++ tables) ++ image; status = 0 })
+    (with_history asked events (record { text = (listing ++ tables) ++ image; status = 0 }))
+behind false events listing tables image = refl
+behind true events listing tables image =
+    let h = history_text events in
     ap (λ text. record { text = text; status = 0 })
+    (append_assoc (h ++ listing) tables image ∙ append_assoc h listing (tables ++ image) ∙ ap (λ rest. h ++ rest) (sym (append_assoc listing tables image)))
+
+-- the history comes first; the text before the tables is the listing, the tables follow it, and then the image
+pub tables_told : (options : Options) (y : Contents) (lanes : Lanes) (mode : SafeMode) (told before tables after : List ℕ) → Shows y.namespace y.table
+    → mode ≡ safe_mode_of y.permille y.table.min y.namespace (replica_at y.table) → told ≡ history_part options.history y.history → before ≡ told ++ listing_text y.last y.namespace
+    → ((permille min : ℕ) (n : Namespace) (lanes : Lanes) → IsPicture permille min n lanes y.table mode → tables ≡ before ++ tables_text permille min n lanes)
+    → after ≡ tables ++ image_part options.image (record { last = y.last; namespace = y.namespace })
+    → ShowsPicture y.namespace lanes (tables_of (standby_of y))
+    → ◌≡◌ {A = Printed} (record { text = after; status = 0 }) (with_history options.history y.history (after_log (with_settings options y.permille y.table.min) lanes (Ok (record { last = y.last; namespace = y.namespace }))))
+tables_told options y lanes mode told before tables after shows counts events listed pictured imaged picture =
+    ap (λ text. record { text = text; status = 0 })
+    (imaged ∙ ap (λ text. text ++ image_part options.image (record { last = y.last; namespace = y.namespace }))
     (pictured y.permille y.table.min y.namespace lanes (record { shows = shows; replicas = picture.replicas; orders = picture.orders; counts = counts })
-    ∙ ap (λ text. text ++ tables_text y.permille y.table.min y.namespace lanes) listed)
+    ∙ ap (λ text. text ++ tables_text y.permille y.table.min y.namespace lanes) (listed ∙ ap (λ text. text ++ listing_text y.last y.namespace) events)))
+    ∙ behind options.history y.history (listing_text y.last y.namespace) (tables_text y.permille y.table.min y.namespace lanes)
+    (image_part options.image (record { last = y.last; namespace = y.namespace }))
 
 -- after the flush it is told as before
-pub flushed_told : (x y : Contents) (lanes : Lanes) (whole : Result LogEnd Stop) (p : Printed) → standby_of y ≡ flushed (standby_of x) → KeepsSettings x y → StandsFlushed x y
-    → ((lanes : Lanes) → ShowsPicture y.namespace lanes (tables_of (standby_of y)) → p ≡ after_log (record { permille = y.permille; min = y.table.min }) lanes (Ok (record { last = y.last; namespace = y.namespace })))
-    → HasArrived whole lanes x → p ≡ after_log (record { permille = x.permille; min = x.table.min }) lanes whole
-flushed_told x y lanes whole p done settings flush told h =
+pub flushed_told : (options : Options) (x y : Contents) (lanes : Lanes) (whole : Result LogEnd Stop) (p : Printed) → standby_of y ≡ flushed (standby_of x) → KeepsSettings x y → StandsFlushed x y
+    → ((lanes : Lanes) → ShowsPicture y.namespace lanes (tables_of (standby_of y)) → p ≡ with_history options.history y.history (after_log (with_settings options y.permille y.table.min) lanes (Ok (record { last = y.last; namespace = y.namespace }))))
+    → HasArrived whole lanes x → p ≡ with_history options.history (flushed (standby_of x)).history (after_log (with_settings options x.permille x.table.min) lanes whole)
+flushed_told options x y lanes whole p done settings flush told h =
     told lanes (flush root_alone 0 h.txs lanes h.stands).2
-    ∙ (λ j. after_log (record { permille = settings.permille j; min = settings.min j }) lanes (Ok (record { last = (done j).last; namespace = (done j).namespace })))
-    ∙ ap (after_log (record { permille = x.permille; min = x.table.min }) lanes) (sym h.ends)
+    ∙ (λ j. with_history options.history (done j).history (after_log (with_settings options (settings.permille j) (settings.min j)) lanes (Ok (record { last = (done j).last; namespace = (done j).namespace }))))
+    ∙ ap (λ w. with_history options.history (flushed (standby_of x)).history (after_log (with_settings options x.permille x.table.min) lanes w)) (sym h.ends)

@@ -1,5 +1,5 @@
 -- A standby on its way through a log and the messages of a scenario.
-use Rattle.std.specs.Prelude.{◌≡◌, ℕ, false, List, length, Result, Ok, Err, None}
+use Rattle.std.specs.Prelude.{◌≡◌, ℕ, false, List, ◌∷◌, drop, length, Result, Ok, Err, None}
 use Rattle.std.specs.List.{All}
 use Rattle.nn_types.specs.declared.tx.Tx.{Tx}
 use Rattle.nn_types.specs.declared.edit_fault.EditFault.{EditFault}
@@ -9,7 +9,8 @@ use Rattle.nn_shadow.specs.Contents.{Contents, standby_of}
 use Rattle.nn_shadow.specs.Laws.{StandsBy}
 use Rattle.nn_shadow.specs.Refusals.{Phase, hand_refusal}
 use Rattle.nn_segment.specs.LogEnd.{refused, disorder, Stop, LogEnd}
-use Rattle.nn_engine.specs.LogLeft.{LogLeft, end_of_left}
+use Rattle.nn_engine.specs.LogLeft.{LogLeft, end_of_left, txs_left}
+use Rattle.nn_engine.specs.Turns.{next_applied, in_turn}
 use Rattle.nn_scenario.specs.Steps.{lanes_after, AreInTurn, IsStepOf}
 use Rattle.nn_engine.specs.declared.follow.Halt.{Halt}
 use Rattle.nn_engine.specs.declared.follow.Halt.TheVariants as halt
@@ -47,6 +48,15 @@ pub record IsFollowing (whole : Result LogEnd Stop) (count : ℕ) (all : Lanes) 
   pub ahead : lanes_after lanes steps ≡ all
   pub phase : x.phase ≡ serving
   pub count_is : length x.numbers ≡ count
+
+-- the standby took the next transaction of the log, where one was left
+abbrev pub TakesNext : LogLeft → Contents → LogLeft → Contents → Type 0
+TakesNext old x new y =
+    (standby_of y ≡ next_applied (standby_of x) (txs_left x.last old)) × (txs_left y.last new ≡ drop 1 (txs_left x.last old))
+
+-- the standby took this step in its turn, whatever steps come after it
+abbrev pub TakesStep : LogLeft → Contents → Step → LogLeft → Contents → Type 0
+TakesStep old x s new y = (steps : List Step) → in_turn (standby_of y) (txs_left y.last new) steps ≡ in_turn (standby_of x) (txs_left x.last old) (s ∷ steps)
 
 -- an edit is refused for this; want of memory says nothing
 abbrev pub IsRefusal : Halt → ℕ → Result Namespace EditFault → Type 0

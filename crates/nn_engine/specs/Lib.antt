@@ -1,6 +1,7 @@
 pub mod LogLaws
 pub mod LogLeft
 pub mod Follow
+pub mod Turns
 pub mod Output
 pub mod OutputRows
 pub mod Input

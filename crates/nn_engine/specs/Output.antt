@@ -1,9 +1,13 @@
 -- What the program prints for a scenario.
-use Rattle.std.specs.Prelude.{ℕ, List, [], ◌∷◌, ◌++◌, Result, Ok, Err, codes, decimal}
-use Rattle.nn_types.specs.Settings.{Threshold}
+use Rattle.std.specs.Prelude.{◌≡◌, ℕ, Bool, true, false, ◌&&◌, ◌==◌, if◌then◌else◌, List, [], ◌∷◌, ◌++◌, map, Result, Ok, Err, codes, decimal}
 use Rattle.nn_edits.specs.Fault.{number_of as line_number_of}
+use Rattle.nn_types.specs.declared.tx.Tx.{Tx}
+use Rattle.nn_model.specs.History.{History}
 use Rattle.nn_model.specs.Lanes.{Lanes}
+use Rattle.nn_model.specs.Lawful.{IsLawful, IsWhole}
+use Rattle.nn_model.specs.Log.{log_of}
 use Rattle.nn_model.specs.Namespace.{root_alone}
+use Rattle.nn_image.specs.Text.{image_text}
 use Rattle.nn_segment.specs.Fault.{number_of as segment_number_of}
 use Rattle.nn_segment.specs.Segment.{Segment}
 use Rattle.nn_scenario.specs.Cut.{segments_from}
@@ -12,8 +16,12 @@ use Rattle.nn_segment.specs.LogEnd.{Stop, stop_number, LogEnd, end_of_log}
 use Rattle.nn_scenario.specs.Scenario.{Scenario, scenario_of}
 use Rattle.nn_scenario.specs.Steps.{lanes_of}
 use Rattle.nn_listing.specs.Tables.{tables_text}
+use Rattle.nn_listing.specs.Trail.{history_text}
+use Rattle.nn_scenario.specs.declared.steps.Step.{Step}
 use Rattle.nn_scenario.specs.declared.scenario.BadLine.{BadLine}
 use Rattle.nn_scenario.specs.declared.segments.BadSegment.{BadSegment}
+use Rattle.nn_engine.specs.declared.engine.Options.{Options}
+use Rattle.nn_engine.specs.Turns.{history_in_turn}
 
 -- a text and the program's exit status
 pub record Printed : Type 0 where
@@ -24,23 +32,53 @@ pub record Printed : Type 0 where
 abbrev pub fault_at : List ℕ → ℕ → ℕ → Printed
 fault_at place number n = record { text = codes "fault " ++ decimal number ++ place ++ decimal n ++ newline ∷ []; status = 1 }
 
--- after the log: the namespace, and the tables that it and the messages of these lanes make
-abbrev pub after_log : Threshold → Lanes → Result LogEnd Stop → Printed
-after_log settings lanes (Ok end) = record {
-  text = listing_text end.last end.namespace ++ tables_text settings.permille settings.min end.namespace lanes;
+-- where it is asked for: the line `image`, and the image of the namespace after its last transaction
+abbrev pub image_part : Bool → LogEnd → List ℕ
+image_part false end = []
+image_part true end = codes "image" ++ newline ∷ image_text end.namespace end.last
+
+-- after the log: the namespace, the tables that it and the messages of these lanes make, and its image
+abbrev pub after_log : Options → Lanes → Result LogEnd Stop → Printed
+after_log options lanes (Ok end) = record {
+  text = (listing_text end.last end.namespace ++ tables_text options.settings.permille options.settings.min end.namespace lanes) ++ image_part options.image end;
   status = 0;
 }
-after_log settings lanes (Err stop) = fault_at (codes " txid ") (stop_number stop.cause) stop.txid
+after_log options lanes (Err stop) = fault_at (codes " txid ") (stop_number stop.cause) stop.txid
 
-abbrev pub after_segments : Threshold → Lanes → Result (List Segment) BadSegment → Printed
-after_segments settings lanes (Ok segments) = after_log settings lanes (end_of_log 0 root_alone segments)
-after_segments settings lanes (Err bad) = fault_at (codes " segment ") (segment_number_of bad.fault) bad.segment
+abbrev pub after_segments : Options → Lanes → Result (List Segment) BadSegment → Printed
+after_segments options lanes (Ok segments) = after_log options lanes (end_of_log 0 root_alone segments)
+after_segments options lanes (Err bad) = fault_at (codes " segment ") (segment_number_of bad.fault) bad.segment
 
-abbrev pub after_lines : Threshold → Result Scenario BadLine → Printed
-after_lines settings (Ok scenario) = after_segments settings (lanes_of scenario.steps) (segments_from 1 scenario.parts)
-after_lines settings (Err bad) = fault_at (codes " line ") (line_number_of bad.fault) bad.line
+abbrev pub after_lines : Options → Result Scenario BadLine → Printed
+after_lines options (Ok scenario) = after_segments options (lanes_of scenario.steps) (segments_from 1 scenario.parts)
+after_lines options (Err bad) = fault_at (codes " line ") (line_number_of bad.fault) bad.line
 
 -- what is printed for an input: the first bad line, or the first bad segment, or the first transaction that is missing or
--- refused, or the namespace and the tables. It tells of no standby: neither of what it held, nor in which order it did things.
-unfoldable pub output_of : Threshold → List ℕ → Printed
-output_of settings text = after_lines settings (scenario_of text)
+-- refused, or the namespace, the tables and the image. It tells of no standby: neither of what it held, nor in which order it did things.
+unfoldable pub output_of : Options → List ℕ → Printed
+output_of options text = after_lines options (scenario_of text)
+
+-- ---- The history before it.
+
+-- where it is asked for, the history stands before the tables; a fault line stands alone
+abbrev pub with_history : Bool → History → Printed → Printed
+with_history asked events p = if (p.status == 0) && asked then record { text = history_text events ++ p.text; status = 0 } else p
+
+-- the history of a standby that followed this log and these steps, on one thread or with a thread for each DataNode
+pub record IsHistoryOf (threads : Bool) (log : List Tx) (steps : List Step) (events : History) : Type 0 where
+  pub lawful : IsLawful root_alone log (lanes_of steps) events
+  pub whole : IsWhole root_alone log (lanes_of steps) events
+  -- without threads it is the one that the lines make in their order
+  pub one_thread : threads ≡ false → events ≡ history_in_turn log steps
+
+-- where the log of these segments ends, the events are the history of a standby that followed it and these steps
+abbrev pub AreEventsOf : Bool → List Step → Result (List Segment) BadSegment → History → Type 0
+AreEventsOf threads steps whole events =
+    (segments : List Segment) (end : LogEnd) → whole ≡ Ok segments → end_of_log 0 root_alone segments ≡ Ok end
+    → IsHistoryOf threads (log_of 0 (map (λ s. s.txs) segments)) steps events
+
+-- What is printed for an input: its output, and before it the history, where that is asked for.
+pub record IsPrinted (threads : Bool) (options : Options) (input : List ℕ) (p : Printed) : Type 0 where
+  pub events : History
+  pub happened : (scenario : Scenario) → scenario_of input ≡ Ok scenario → AreEventsOf threads scenario.steps (segments_from 1 scenario.parts) events
+  pub is : p ≡ with_history options.history events (output_of options input)

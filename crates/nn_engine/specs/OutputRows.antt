@@ -1,5 +1,5 @@
 -- Whole inputs, and what is printed for them, byte for byte.
-use Rattle.std.specs.Prelude.{◌≡◌, ℕ, List, [], ◌∷◌, ◌++◌, flat_map, codes, refl}
+use Rattle.std.specs.Prelude.{◌≡◌, ℕ, true, false, List, [], ◌∷◌, ◌++◌, flat_map, codes, refl}
 use Rattle.std.specs.Fmt.{digits}
 use Rattle.std.specs.Str.{is_utf8, chars}
 use Rattle.std.specs.Float.Numeral.{scan_numeral}
@@ -10,7 +10,6 @@ use Rattle.json.specs.Print.{escape_byte}
 use Rattle.json.specs.Text.{content}
 use Rattle.json.specs.Word.{word, after_number}
 use Rattle.serde_json.specs.Read.{number_of}
-use Rattle.nn_types.specs.Settings.{Threshold}
 use Rattle.nn_edits.specs.Reading.{edit_of_line, either_of_line, object_in, value_of, either_in, tx_in, op_in, op_of, txid_in, whole_in, number_in, path_in, edit_in, block_in, items_in, blocks_in, report_in, dn_in, kind_in, kind_of}
 use Rattle.nn_segment.specs.Lines.{reads_of}
 use Rattle.nn_segment.specs.LogEnd.{end_of_log, end_of_txs}
@@ -20,11 +19,13 @@ use Rattle.nn_scenario.specs.Cut.{segments_from, cut_from}
 use Rattle.nn_scenario.specs.Scenario.{scenario_of, lines_from}
 use Rattle.nn_listing.specs.Listing.{newline}
 use Rattle.nn_listing.specs.Tables.{datanodes}
+use Rattle.nn_image.specs.Text.{image_text, head_data, form_data, end_data}
+use Rattle.nn_engine.specs.declared.engine.Options.{Options}
 use Rattle.nn_engine.specs.Output.{Printed, output_of}
 
 -- what is asked for where the command line has no words
-abbrev usual : Threshold
-usual = record { permille = 999; min = 1 }
+abbrev usual : Options
+usual = record { settings = record { permille = 999; min = 1 }; history = false; image = false }
 
 -- lines, each with its line feed
 abbrev lines : List (List ℕ) → List ℕ
@@ -87,7 +88,7 @@ unfolding output_of read_segment fault_of txids_of name_text name_digits reads_o
 early_report = refl
 
 -- The same, where two live replicas make a block safe and all blocks have to be.
-two_are_wanted : output_of (record { permille = 1000; min = 2 }) (lines (
+two_are_wanted : output_of (record usual { settings = record { permille = 1000; min = 2 } }) (lines (
     codes "{\"op\":\"OP_START_LOG_SEGMENT\",\"txid\":1}"
     ∷ codes "{\"op\":\"OP_SET_GENSTAMP_V2\",\"gen\":1001,\"txid\":2}"
     ∷ codes "{\"op\":\"OP_ALLOCATE_BLOCK_ID\",\"id\":1073741825,\"txid\":3}"
@@ -103,3 +104,21 @@ two_are_wanted : output_of (record { permille = 1000; min = 2 }) (lines (
     ∷ codes "blocks 1 safe 0 needed 1 mode on" ∷ [])
 unfolding output_of read_segment fault_of txids_of name_text name_digits reads_of edit_of_line end_of_txs scenario_of lines_from segments_from cut_from end_of_log digits escape_byte datanodes either_of_line either_in report_in dn_in kind_in kind_of object_in value_of tx_in op_in op_of txid_in whole_in number_in path_in edit_in blocks_in items_in block_in is_utf8 chars encode value punctuate lex content word after_number number_of scan_numeral
 two_are_wanted = refl
+
+-- With an image, of a file whose block was issued and never added.
+with_an_image : output_of (record usual { image = true }) (lines (
+    codes "{\"op\":\"OP_START_LOG_SEGMENT\",\"txid\":1}"
+    ∷ codes "{\"op\":\"OP_SET_GENSTAMP_V2\",\"gen\":1001,\"txid\":2}"
+    ∷ codes "{\"op\":\"OP_ALLOCATE_BLOCK_ID\",\"id\":1073741825,\"txid\":3}"
+    ∷ codes "{\"op\":\"OP_ADD\",\"path\":\"/f\",\"replication\":3,\"txid\":4}"
+    ∷ codes "{\"op\":\"OP_END_LOG_SEGMENT\",\"txid\":5}" ∷ []))
+    ≡ printed 0 (codes "txid 5"
+    ∷ codes "dir \"/\""
+    ∷ codes "file \"/f\" 3 open"
+    ∷ codes "blocks 0 safe 0 needed 0 mode off"
+    ∷ codes "image"
+    ∷ codes "{\"awaiting\":[1073741825],\"image\":\"hdfs-standby\",\"last_block\":1073741825,\"last_gen\":1001,\"txid\":5,\"version\":1}"
+    ∷ codes "{\"blocks\":[],\"closed\":false,\"path\":\"/f\",\"replication\":3,\"type\":\"file\"}"
+    ∷ codes "{\"end\":1}" ∷ [])
+unfolding output_of read_segment fault_of txids_of name_text name_digits reads_of edit_of_line end_of_txs scenario_of lines_from segments_from cut_from end_of_log digits escape_byte datanodes either_of_line either_in report_in dn_in kind_in kind_of object_in value_of tx_in op_in op_of txid_in whole_in number_in path_in edit_in blocks_in items_in block_in is_utf8 chars encode value punctuate lex content word after_number number_of scan_numeral image_text head_data form_data end_data
+with_an_image = refl

@@ -1,13 +1,13 @@
 -- What a run wrote, beside what its reader had.
 use Rattle.std.specs.Prelude.{◌≡◌, ◌⊎◌, ◌≤◌, ◌∷◌, [], ◌++◌, ℕ, Bool, true, List, length, take, codes, Option}
 use Rattle.std.specs.Io.KnownBytes.{Appends, Consumes, IsAtEnd}
-use Rattle.nn_types.specs.Settings.{Threshold}
 use Rattle.nn_listing.specs.Listing.{newline}
 use Rattle.nn_scenario.specs.Scenario.{max_input}
 use Rattle.nn_engine.specs.Input.{Gave}
 use Rattle.nn_engine.specs.declared.device.InputFault.{InputFault}
 use Rattle.nn_engine.specs.declared.device.InputFault.TheVariants.{ReadFailed, TooLong, TooManyReads, OutOfMemory}
-use Rattle.nn_engine.specs.Output.{Printed, output_of}
+use Rattle.nn_engine.specs.declared.engine.Options.{Options}
+use Rattle.nn_engine.specs.Output.{Printed, IsPrinted}
 
 -- one line with a fault's number alone
 abbrev pub fault_alone : List ℕ → Printed
@@ -22,7 +22,8 @@ unread_line OutOfMemory = (fault_alone (codes "55")).text
 
 -- What a run is asked for, and what happened to its reader: the bytes that it had left before and after, and whether a read has failed.
 pub record Given : Type 0 where
-  pub settings : Threshold
+  pub options : Options
+  pub threads : Bool  -- whether each DataNode reports from a thread of its own
   pub before : Option (List ℕ)
   pub after : Option (List ℕ)
   pub had_failed : Bool
@@ -34,7 +35,7 @@ pub record IsOutputOfAll (given : Given) (p : Printed) : Type 0 where
   pub taken : Consumes given.before given.after input
   pub whole : IsAtEnd given.after
   pub fits : length input ≤ max_input
-  pub is : p ≡ output_of given.settings input
+  pub is : IsPrinted given.threads given.options input p
 
 -- the input cannot be read: a read failed, or the reader gave as much as an input may have, and then more or no end
 abbrev pub IsUnreadable : Given → Type 0
@@ -44,10 +45,12 @@ IsUnreadable given = (given.has_failed ≡ true) ⊎ Gave max_input given.before
 abbrev pub NoneFailed : Given → Type 0
 NoneFailed given = given.has_failed ≡ given.had_failed
 
--- the output of the whole input; or the line that it cannot be read, where that is so; or the line that memory ran out
+-- the output of the whole input; or the line that it cannot be read, where that is so; or the line that memory ran out; or, with threads,
+-- the line that a DataNode's report was refused, since its lane was closed
 abbrev pub IsOutput : Given → Printed → Type 0
 IsOutput given p =
-    (IsOutputOfAll given p × NoneFailed given) ⊎ (((p ≡ fault_alone (codes "8")) × IsUnreadable given) ⊎ ((p ≡ fault_alone (codes "55")) × NoneFailed given))
+    (IsOutputOfAll given p × NoneFailed given)
+    ⊎ (((p ≡ fault_alone (codes "8")) × IsUnreadable given) ⊎ (((p ≡ fault_alone (codes "55")) × NoneFailed given) ⊎ ((given.threads ≡ true) × (p ≡ fault_alone (codes "42")) × NoneFailed given)))
 
 -- a whole output was written, and this is its status
 pub record Wrote (given : Given) (writer writer' : Option (List ℕ)) (status : ℕ) : Type 0 where
@@ -64,25 +67,12 @@ pub record WroteFront (given : Given) (writer writer' : Option (List ℕ)) (n : 
   pub appended : Appends writer writer' (take n output.text)
 
 -- a run, its reader as it was before and after
-abbrev pub running : Threshold → Option (List ℕ) → Option (List ℕ) → Bool → Bool → Given
-running settings before after had_failed has_failed = record {
-  settings = settings;
+abbrev pub running : Options → Bool → Option (List ℕ) → Option (List ℕ) → Bool → Bool → Given
+running options threads before after had_failed has_failed = record {
+  options = options;
+  threads = threads;
   before = before;
   after = after;
   had_failed = had_failed;
   has_failed = has_failed;
 }
-
--- ---- With threads.
-
--- the line that a DataNode's report was refused, since its lane was closed: no text determines it
-abbrev pub closed_line : List ℕ
-closed_line = (fault_alone (codes "42")).text
-
--- what a run without threads writes was written, or that line
-abbrev pub WroteByThreads : Given → Option (List ℕ) → Option (List ℕ) → ℕ → Type 0
-WroteByThreads given writer writer' status = Wrote given writer writer' status ⊎ (NoneFailed given × Appends writer writer' closed_line × (status ≡ 1))
-
--- the first n bytes of it
-abbrev pub WroteFrontByThreads : Given → Option (List ℕ) → Option (List ℕ) → ℕ → Type 0
-WroteFrontByThreads given writer writer' n = WroteFront given writer writer' n ⊎ (NoneFailed given × (n ≤ length closed_line) × Appends writer writer' (take n closed_line))

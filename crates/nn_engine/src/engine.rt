@@ -1,7 +1,6 @@
 //! A run: from a reader's bytes to a writer's.
-ghost use Rattle.std.specs.Prelude.{◌≡◌, ◌≢◌, ◌≤◌, length, take, codes, Result, Ok, IfOk, IfErr};
+ghost use Rattle.std.specs.Prelude.{◌≡◌, ◌≢◌, ◌≤◌, ◌++◌, false, length, take, codes, Result, Ok, IfOk, IfErr, OnOk, string_bytes};
 ghost use Rattle.std.specs.Io.KnownBytes.{Appends};
-ghost use Rattle.nn_types.specs.Settings.{Threshold};
 ghost use Rattle.nn_edits.specs.Fault.{number_of as line_number_of};
 ghost use Rattle.nn_model.specs.Lanes.{Lanes};
 ghost use Rattle.nn_model.specs.Namespace.{root_alone};
@@ -12,20 +11,23 @@ ghost use Rattle.nn_segment.specs.Fault.{number_of as segment_number_of};
 ghost use Rattle.nn_scenario.specs.Cut.{segments_from};
 ghost use Rattle.nn_engine.specs.Follow.{serving, HasArrived, StopsAs};
 ghost use Rattle.nn_segment.specs.LogEnd.{LogEnd, Stop, end_of_log};
-ghost use Rattle.nn_engine.specs.Output.{output_of, after_segments, after_log, fault_at};
+ghost use Rattle.nn_engine.specs.declared.engine.Options.{Options as RunOptions};
+ghost use Rattle.nn_engine.specs.Output.{output_of, after_log, fault_at, with_history, IsPrinted};
+ghost use Rattle.nn_shadow.specs.Calls.{flushed};
 ghost use Rattle.nn_engine.specs.Run.{Wrote, WroteFront, running, unread_line};
 ghost use Rattle.nn_scenario.specs.Scenario.{max_input, seen, IsLawfulScenario};
-ghost use Rattle.nn_engine.specs.Shown.{shown};
+ghost use Rattle.nn_engine.specs.Shown.{history_part, shown, with_settings, IsFaultOf, IsToldOf};
 ghost use Rattle.nn_scenario.specs.Steps.{lanes_of};
 
 use crate::device::{Input, InputFault, RunFault, read_input, write_output};
 use crate::follow::{Halt, follow};
+use crate::image::push_image;
 use nn_edits::LineFault;
-use nn_listing::{listing, push_tables};
+use nn_listing::{push_history, push_tables, with_listing};
 use nn_scenario::{BadLine, BadSegment, Scenario, read_lines, read_segments};
 use nn_segment::SegmentFault;
 use nn_shadow::{FlushFault, Shadow};
-use nn_types::{Settings, fault};
+use nn_types::{Event, Settings, fault};
 use std::alloc::{AllocError, Global};
 use std::io::{Read, Write};
 use std::mem;
@@ -35,6 +37,10 @@ use std::mem;
 pub struct Options {
     /// When safe mode ends.
     pub settings: Settings,
+    /// Whether the standby's history is printed before the tables.
+    pub history: bool,
+    /// Whether the image of the namespace is printed after the tables.
+    pub image: bool,
 }
 
 /// The line of an input that a reader did not give whole.
@@ -46,7 +52,7 @@ pub(crate) const OUT_OF_MEMORY: &[u8] = b"fault 55\n";
 /// A run's text, and its status.
 #[derive(Drop)]
 pub struct Output {
-    pub text: String,
+    pub text: Vec<u8>,
     pub status: u8,
 }
 
@@ -68,19 +74,19 @@ pub fn run<R: Read, W: Write>(
     writer: &mut W,
 ) -> Result<RunEnd, RunFault>
     ensures written { IfOk result (λ end. Wrote
-        (running options.now.settings (R.remaining input.old.reader) (R.remaining input.new.reader) input.old.failed input.new.failed)
+        (running options.now false (R.remaining input.old.reader) (R.remaining input.new.reader) input.old.failed input.new.failed)
         (W.contents writer.old) (W.contents writer.new) end.status) }
     // After a failed write the writer has a front of the output.
     ensures failed { IfErr result (λ e. WroteFront
-        (running options.now.settings (R.remaining input.old.reader) (R.remaining input.new.reader) input.old.failed input.new.failed)
+        (running options.now false (R.remaining input.old.reader) (R.remaining input.new.reader) input.old.failed input.new.failed)
         (W.contents writer.old) (W.contents writer.new) e.written) }
 {
     let bytes = match read_input(alloc, input) {
         Ok(bytes) => bytes,
         Err(fault) => return finish(writer, unread_line(fault), 1),
     };
-    match output_of(alloc, options.settings, bytes) {
-        Ok(output) => finish(writer, output.text.as_bytes(), output.status),
+    match output_of(alloc, *options, bytes) {
+        Ok(output) => finish(writer, &output.text, output.status),
         Err(AllocError) => finish(writer, OUT_OF_MEMORY, 1),
     }
 }
@@ -109,14 +115,14 @@ pub(crate) fn finish<W: Write>(writer: &mut W, text: &[u8], status: u8) -> Resul
 /// nor `fault 55` is among its lines; where memory runs out there is no output. The input is dropped once its lines are
 /// read.
 #[tactic(auto, unfolding(crate::specs::Output::output_of))]
-pub fn output_of(alloc: Global, settings: Settings, input: Vec<u8>) -> Result<Output, AllocError>
+pub fn output_of(alloc: Global, options: Options, input: Vec<u8>) -> Result<Output, AllocError>
     requires { length input.items ≤ max_input }
-    ensures { IfOk result (λ o. shown o ≡ output_of settings input.items) }
+    ensures { IfOk result (λ o. IsPrinted false options input.items (shown o)) }
 {
     let lines = read_lines(alloc, &input);
     drop(input);
     match lines {
-        Ok(scenario) => output_of_scenario(alloc, settings, scenario),
+        Ok(scenario) => output_of_scenario(alloc, options, scenario),
         Err(bad) => output_of_bad(alloc, bad),
     }
 }
@@ -133,11 +139,11 @@ pub(crate) fn output_of_bad(alloc: Global, bad: BadLine) -> Result<Output, Alloc
 
 fn output_of_scenario(
     alloc: Global,
-    settings: Settings,
+    options: Options,
     scenario: Scenario,
 ) -> Result<Output, AllocError>
     requires { IsLawfulScenario (seen scenario) }
-    ensures { IfOk result (λ o. shown o ≡ after_segments settings (lanes_of scenario.steps) (segments_from 1 scenario.pieces.items)) }
+    ensures { IfOk result (λ o. IsToldOf false options scenario.steps (segments_from 1 scenario.pieces.items) (shown o)) }
 {
     let Scenario {
         pieces,
@@ -145,8 +151,8 @@ fn output_of_scenario(
         lanes,
     } = scenario;
     match read_segments(alloc, pieces) {
-        Ok(segments) => match follow(alloc, settings, lanes, steps, segments) {
-            Ok(standby) => output_of_standby(alloc, standby),
+        Ok(segments) => match follow(alloc, options.settings, lanes, steps, segments) {
+            Ok(standby) => output_of_standby(alloc, options, standby),
             Err(halt) => output_of_halt(alloc, halt),
         },
         Err(bad) => output_of_bad_segment(alloc, bad),
@@ -164,7 +170,7 @@ pub(crate) fn output_of_bad_segment(alloc: Global, bad: BadSegment) -> Result<Ou
 }
 
 fn output_of_halt(alloc: Global, halt: Halt) -> Result<Output, AllocError>
-    ensures { IfOk result (λ o. (settings : Threshold) (lanes : Lanes) (whole : Result LogEnd Stop) → StopsAs halt whole → shown o ≡ after_log settings lanes whole) }
+    ensures { IfOk result (λ o. (options : RunOptions) (lanes : Lanes) (whole : Result LogEnd Stop) → StopsAs halt whole → IsFaultOf options lanes whole (shown o)) }
 {
     match halt {
         Halt::Refused { fault, txid } => fault_output(alloc, fault.number(), " txid ", txid),
@@ -174,10 +180,10 @@ fn output_of_halt(alloc: Global, halt: Halt) -> Result<Output, AllocError>
 }
 
 // The standby followed its log to the end. It flushes what it holds, and then its tables are told.
-fn output_of_standby(alloc: Global, standby: Shadow) -> Result<Output, AllocError>
+fn output_of_standby(alloc: Global, options: Options, standby: Shadow) -> Result<Output, AllocError>
     requires { standby.phase ≡ serving }
     ensures { IfOk result (λ o. (lanes : Lanes) (whole : Result LogEnd Stop) → HasArrived whole lanes standby
-        → shown o ≡ after_log (record { permille = standby.permille; min = standby.table.min }) lanes whole) }
+        → shown o ≡ with_history options.history (flushed (standby_of standby)).history (after_log (with_settings options standby.permille standby.table.min) lanes whole)) }
 {
     let mut standby = standby;
     if let Err(fault) = standby.flush() {
@@ -186,20 +192,40 @@ fn output_of_standby(alloc: Global, standby: Shadow) -> Result<Output, AllocErro
             FlushFault::Stopped(_) => unreachable!(),
         }
     }
-    tell(alloc, standby)
+    tell(alloc, options, standby)
 }
 
-// The listing and the tables of a standby that has flushed.
-pub(crate) fn tell(alloc: Global, standby: Shadow) -> Result<Output, AllocError>
+// The history, the listing, the tables and the image of a standby that has flushed.
+pub(crate) fn tell(alloc: Global, options: Options, standby: Shadow) -> Result<Output, AllocError>
     ensures { IfOk result (λ o. (lanes : Lanes) → ShowsPicture standby.namespace lanes (tables_of (standby_of standby))
-        → shown o ≡ after_log (record { permille = standby.permille; min = standby.table.min }) lanes (Ok (record { last = standby.last; namespace = standby.namespace }))) }
+        → shown o ≡ with_history options.history standby.history (after_log (with_settings options standby.permille standby.table.min) lanes (Ok (record { last = standby.last; namespace = standby.namespace })))) }
 {
     standby.consistent();
-    let mut text = listing(alloc, standby.namespace(), standby.last_txid())?;
+    let mut text = String::new(alloc);
+    tell_history(options.history, &mut text, standby.history())?;
+    let mut text = with_listing(alloc, text, standby.namespace(), standby.last_txid())?;
     push_tables(alloc, &mut text, standby.replicas(), standby.safe_mode())?;
+    let mut text = text.into_bytes();
+    push_image(
+        alloc,
+        options.image,
+        &mut text,
+        standby.namespace(),
+        standby.last_txid(),
+    )?;
     // Taking it apart would be work for nothing: the process ends.
     mem::forget(standby);
     Ok(Output { text, status: 0 })
+}
+
+// The history, where it is asked for.
+fn tell_history(asked: bool, text: &mut String, events: &[Event]) -> Result<(), AllocError>
+    ensures { OnOk result (string_bytes text.new ≡ string_bytes text.old ++ history_part asked events.now) }
+{
+    if !asked {
+        return Ok(());
+    }
+    push_history(text, events)
 }
 
 pub(crate) fn fault_output(
@@ -210,6 +236,6 @@ pub(crate) fn fault_output(
 ) -> Result<Output, AllocError>
     ensures { IfOk result (λ o. shown o ≡ fault_at place.now number n) }
 {
-    let text = format!(in alloc; "fault {number}{place}{n}\n")?;
+    let text = format!(in alloc; "fault {number}{place}{n}\n")?.into_bytes();
     Ok(Output { text, status: 1 })
 }

@@ -1,14 +1,20 @@
 //! A standby follows the log and the DataNodes of a scenario, in the order of its lines.
-ghost use Rattle.std.specs.Prelude.{◌≡◌, ◌≤◌, ◌<◌, ◌^◌, ℕ, ◌+◌, List, ◌∷◌, ◌++◌, [], Result, Ok, None, true, false, length, IfOk, IfErr, OnOk};
+ghost use Rattle.std.specs.Prelude.{◌≡◌, ◌≤◌, ◌<◌, ◌^◌, ℕ, ◌+◌, List, ◌∷◌, ◌++◌, [], map, Result, Ok, None, true, false, length, IfOk, IfErr, OnOk};
 ghost use Rattle.std.specs.List.{All};
 ghost use Rattle.nn_types.specs.declared.tx.Tx.{Tx as Transaction};
 ghost use Rattle.nn_model.specs.Apply.{applied};
 ghost use Rattle.nn_model.specs.Lanes.{Lanes, no_messages, followed_by};
+ghost use Rattle.nn_model.specs.Log.{log_of};
+ghost use Rattle.nn_model.specs.Stands.{fresh};
+ghost use Rattle.nn_shadow.specs.Calls.{applied_to, received};
+ghost use Rattle.nn_segment.specs.Segment.{Segment};
 ghost use Rattle.nn_model.specs.Namespace.{Namespace, root_alone};
 ghost use Rattle.nn_shadow.specs.Contents.{KeepsSettings, standby_of};
 ghost use Rattle.nn_shadow.specs.Laws.{StandsBy};
 ghost use Rattle.nn_shadow.specs.Refusals.{hand_refusal};
-ghost use Rattle.nn_engine.specs.Follow.{serving, IsWelcome, IsOnItsWay, HasArrived, IsRefusal, StopsAs, IsFollowing};
+ghost use Rattle.nn_engine.specs.LogLeft.{txs_left};
+ghost use Rattle.nn_engine.specs.Turns.{all_applied, in_turn};
+ghost use Rattle.nn_engine.specs.Follow.{serving, TakesNext, TakesStep, IsWelcome, IsOnItsWay, HasArrived, IsRefusal, StopsAs, IsFollowing};
 ghost use Rattle.nn_segment.specs.LogEnd.{LogEnd, Stop, end_of_log};
 ghost use Rattle.nn_scenario.specs.Steps.{lanes_after, lanes_of, AreInTurn, IsStepOf};
 
@@ -42,6 +48,7 @@ pub fn follow(
     requires in_turn { AreInTurn no_messages steps }
     requires within { All (IsStepOf lanes) steps }
     ensures arrived { IfOk result (λ shadow. HasArrived (end_of_log 0 root_alone segments.items) (lanes_of steps) shadow) }
+    ensures turns { IfOk result (λ shadow. standby_of shadow ≡ in_turn (fresh root_alone 0) (log_of 0 (map (λ (s : Segment). s.txs) segments.items)) steps) }
     ensures serving { IfOk result (λ shadow. shadow.phase ≡ serving) }
     ensures settings { IfOk result (λ shadow. (shadow.table.min ≡ settings.min) × (shadow.permille ≡ settings.permille)) }
     ensures halted { IfErr result (λ halt. StopsAs halt (end_of_log 0 root_alone segments.items)) }
@@ -62,6 +69,7 @@ pub fn follow(
 fn take_steps(shadow: &mut Shadow, log: &mut Log, steps: StepList) -> Result<(), Halt>
     requires { IsFollowing (end_of_log 0 root_alone log.old.segments) (length shadow.old.numbers) (lanes_of steps) log.old steps shadow.old }
     ensures following { OnOk result (IsFollowing (end_of_log 0 root_alone log.old.segments) (length shadow.old.numbers) (lanes_of steps) log.new [] shadow.new) }
+    ensures turns { OnOk result (in_turn (standby_of shadow.new) (txs_left shadow.new.last log.new) [] ≡ in_turn (standby_of shadow.old) (txs_left shadow.old.last log.old) steps) }
     ensures rest { OnOk result (KeepsSettings shadow.old shadow.new) }
     ensures halted { IfErr result (λ halt. StopsAs halt (end_of_log 0 root_alone log.old.segments)) }
 {
@@ -78,6 +86,7 @@ fn take_steps(shadow: &mut Shadow, log: &mut Log, steps: StepList) -> Result<(),
 fn follow_to_end(shadow: &mut Shadow, log: &mut Log) -> Result<(), Halt>
     requires { shadow.old.phase ≡ serving }
     ensures arrived { OnOk result ((whole : Result LogEnd Stop) (lanes : Lanes) → IsOnItsWay whole log.old lanes shadow.old → HasArrived whole lanes shadow.new) }
+    ensures turns { OnOk result (standby_of shadow.new ≡ all_applied (standby_of shadow.old) (txs_left shadow.old.last log.old)) }
     ensures serving { OnOk result (shadow.new.phase ≡ serving) }
     ensures rest { OnOk result (KeepsSettings shadow.old shadow.new) }
     ensures halted { IfErr result (λ halt. (whole : Result LogEnd Stop) (lanes : Lanes) → IsOnItsWay whole log.old lanes shadow.old → StopsAs halt whole) }
@@ -96,6 +105,7 @@ fn take_step(shadow: &mut Shadow, log: &mut Log, step: Step) -> Result<(), Halt>
     requires welcome { IsWelcome shadow.old step }
     ensures goes_on { OnOk result ((whole : Result LogEnd Stop) (lanes : Lanes) → IsOnItsWay whole log.old lanes shadow.old
         → IsOnItsWay whole log.new (lanes_after lanes (step ∷ [])) shadow.new) }
+    ensures turn { OnOk result (TakesStep log.old shadow.old step log.new shadow.new) }
     ensures serving { OnOk result (shadow.new.phase ≡ serving) }
     ensures rest { OnOk result (KeepsSettings shadow.old shadow.new) }
     ensures halted { IfErr result (λ halt. (whole : Result LogEnd Stop) (lanes : Lanes) → IsOnItsWay whole log.old lanes shadow.old → StopsAs halt whole) }
@@ -119,6 +129,8 @@ fn take_step(shadow: &mut Shadow, log: &mut Log, step: Step) -> Result<(), Halt>
 fn follow_log(shadow: &mut Shadow, log: &mut Log) -> Result<bool, Halt>
     requires { shadow.old.phase ≡ serving }
     ensures goes_on { OnOk result ((whole : Result LogEnd Stop) (lanes : Lanes) → IsOnItsWay whole log.old lanes shadow.old → IsOnItsWay whole log.new lanes shadow.new) }
+    ensures turn { OnOk result (TakesNext log.old shadow.old log.new shadow.new) }
+    ensures none { IfOk result (λ more. more ≡ false → txs_left shadow.old.last log.old ≡ []) }
     ensures one { IfOk result (λ more. more ≡ true → shadow.new.last ≡ shadow.old.last + 1) }
     ensures small { OnOk result (shadow.new.last < 2 ^ 63) }
     ensures over { IfOk result (λ more. more ≡ false → (whole : Result LogEnd Stop) (lanes : Lanes) → IsOnItsWay whole log.old lanes shadow.old → HasArrived whole lanes shadow.new) }
@@ -145,6 +157,7 @@ fn follow_log(shadow: &mut Shadow, log: &mut Log) -> Result<bool, Halt>
 fn apply(shadow: &mut Shadow, tx: Tx) -> Result<(), Halt>
     requires serving { shadow.old.phase ≡ serving }
     requires next { tx.txid ≡ shadow.old.last + 1 }
+    ensures turn { OnOk result (standby_of shadow.new ≡ applied_to (standby_of shadow.old) tx) }
     ensures applied { OnOk result (applied shadow.old.namespace tx.edit ≡ Ok shadow.new.namespace) }
     ensures last { OnOk result (shadow.new.last ≡ tx.txid) }
     ensures stands { OnOk result ((start : Namespace) (base : ℕ) (txs : List Transaction) (lanes : Lanes)
@@ -173,6 +186,7 @@ fn hand(shadow: &mut Shadow, message: Message) -> Result<(), Halt>
     requires { hand_refusal (length shadow.old.numbers) shadow.old.phase (standby_of shadow.old) message ≡ None }
     ensures stands { OnOk result ((start : Namespace) (base : ℕ) (txs : List Transaction) (lanes : Lanes)
         → StandsBy start base txs lanes (standby_of shadow.old) → StandsBy start base txs (followed_by lanes message) (standby_of shadow.new)) }
+    ensures turn { OnOk result (standby_of shadow.new ≡ received (standby_of shadow.old) message) }
     ensures same { OnOk result ((shadow.new.namespace ≡ shadow.old.namespace) × (shadow.new.last ≡ shadow.old.last)) }
     ensures phase { shadow.new.phase ≡ shadow.old.phase }
     ensures rest { KeepsSettings shadow.old shadow.new }

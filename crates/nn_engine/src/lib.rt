@@ -5,6 +5,7 @@
 mod device;
 mod engine;
 mod follow;
+mod image;
 mod laws;
 mod log;
 mod threads;

@@ -1,5 +1,5 @@
 //! A run with threads: each DataNode reports from a thread of its own, while a standby tails the log.
-ghost use Rattle.std.specs.Prelude.{◌≡◌, ◌≤◌, ◌^◌, ◌++◌, ◌∷◌, [], length, replicate, IfOk, IfErr, OnOk, Ok};
+ghost use Rattle.std.specs.Prelude.{◌≡◌, ◌≤◌, ◌^◌, ◌++◌, ◌∷◌, [], length, replicate, true, Ok, IfOk, IfErr, OnOk};
 ghost use Rattle.std.specs.List.{All};
 ghost use Rattle.nn_model.specs.Lanes.{no_messages};
 ghost use Rattle.nn_model.specs.Namespace.{root_alone};
@@ -8,20 +8,20 @@ ghost use Rattle.nn_scenario.specs.Scenario.{max_input, seen, IsLawfulScenario};
 ghost use Rattle.nn_scenario.specs.Steps.{lanes_of, AreInTurn, IsStepOf};
 ghost use Rattle.nn_segment.specs.LogEnd.{end_of_log};
 ghost use Rattle.nn_engine.specs.Listed.{report_of, with_step, AreFew, AreListed, MayEnd, TellsStop};
-ghost use Rattle.nn_engine.specs.Output.{output_of, after_segments, after_log};
-ghost use Rattle.nn_engine.specs.Run.{WroteByThreads, WroteFrontByThreads, running};
-ghost use Rattle.nn_engine.specs.Shown.{shown};
+ghost use Rattle.nn_engine.specs.Output.{output_of, IsPrinted};
+ghost use Rattle.nn_engine.specs.Run.{Wrote, WroteFront, running};
+ghost use Rattle.nn_engine.specs.Shown.{shown, IsToldOf};
 
 use crate::device::{Input, RunFault, read_input};
 use crate::engine::{
-    OUT_OF_MEMORY, Output, RunEnd, fault_output, finish, output_of_bad, output_of_bad_segment,
-    tell, unread_line,
+    OUT_OF_MEMORY, Options, Output, RunEnd, fault_output, finish, output_of_bad,
+    output_of_bad_segment, tell, unread_line,
 };
 use nn_drive::{DriveFault, ReportSource, drive, with_lanes};
 use nn_scenario::{Scenario, Step, StepList, read_lines, read_segments};
 use nn_segment::{MemorySource, Parsed};
 use nn_tailer::Standby;
-use nn_types::{Message, Report, Settings};
+use nn_types::{Message, Report};
 use std::alloc::{AllocError, Global};
 use std::collections::VecDeque;
 use std::io::{Read, Write};
@@ -46,8 +46,8 @@ impl Gate for Open {
 /// What a run with threads is asked for.
 #[derive(Drop)]
 pub struct Threaded<G> {
-    /// When safe mode ends.
-    pub settings: Settings,
+    /// What a run without threads is asked for too.
+    pub options: Options,
     /// How many reports a lane holds at a time, 1 to 1024.
     pub capacity: usize,
     pub gate: Arc<G, Global>,
@@ -228,7 +228,7 @@ fn output_of_drive<G: Gate + Send + Sync + Drop, R: Threads + Wait + Sync>(
     requires lanes { (1 ≤ lanes) × (lanes ≤ 256) }
     requires in_turn { AreInTurn no_messages steps }
     requires within { All (IsStepOf lanes) steps }
-    ensures { IfOk result (λ o. shown o ≡ after_log asked.now.settings (lanes_of steps) (end_of_log 0 root_alone segments.items)) }
+    ensures { IfOk result (λ o. IsToldOf true asked.now.options steps (Ok segments.items) (shown o)) }
 {
     let Ok(sources) = sources_of(alloc, &asked.gate, lanes, steps) else {
         return Err(Halted::OutOfMemory);
@@ -236,11 +236,11 @@ fn output_of_drive<G: Gate + Send + Sync + Drop, R: Threads + Wait + Sync>(
     let Ok((workers, ends)) = with_lanes(alloc, sources, asked.capacity) else {
         return Err(Halted::OutOfMemory);
     };
-    let Ok(standby) = Standby::new(alloc, ends, asked.settings) else {
+    let Ok(standby) = Standby::new(alloc, ends, asked.options.settings) else {
         return Err(Halted::OutOfMemory);
     };
     match drive(rt, alloc, standby, MemorySource::new(segments), workers) {
-        Ok((shadow, _active)) => told(tell(alloc, shadow)),
+        Ok((shadow, _active)) => told(tell(alloc, asked.options, shadow)),
         Err(fault) => output_of_fault(alloc, fault),
     }
 }
@@ -253,7 +253,7 @@ fn output_of_threads<G: Gate + Send + Sync + Drop, R: Threads + Wait + Sync>(
 ) -> Result<Output, Halted>
     requires capacity { (1 ≤ asked.now.capacity) × (asked.now.capacity ≤ 1024) }
     requires lawful { IsLawfulScenario (seen scenario) }
-    ensures { IfOk result (λ o. shown o ≡ after_segments asked.now.settings (lanes_of scenario.steps) (segments_from 1 scenario.pieces.items)) }
+    ensures { IfOk result (λ o. IsToldOf true asked.now.options scenario.steps (segments_from 1 scenario.pieces.items) (shown o)) }
 {
     let Scenario {
         pieces,
@@ -276,7 +276,7 @@ fn output_by_threads<G: Gate + Send + Sync + Drop, R: Threads + Wait + Sync>(
 ) -> Result<Output, Halted>
     requires capacity { (1 ≤ asked.now.capacity) × (asked.now.capacity ≤ 1024) }
     requires fits { length input.items ≤ max_input }
-    ensures { IfOk result (λ o. shown o ≡ output_of asked.now.settings input.items) }
+    ensures { IfOk result (λ o. IsPrinted true asked.now.options input.items (shown o)) }
 {
     let lines = read_lines(alloc, &input);
     drop(input);
@@ -300,12 +300,12 @@ pub fn run_threads<I: Read, W: Write, G: Gate + Send + Sync + Drop, R: Threads +
     writer: &mut W,
 ) -> Result<RunEnd, RunFault>
     requires { (1 ≤ asked.now.capacity) × (asked.now.capacity ≤ 1024) }
-    ensures written { IfOk result (λ end. WroteByThreads
-        (running asked.now.settings (I.remaining input.old.reader) (I.remaining input.new.reader) input.old.failed input.new.failed)
+    ensures written { IfOk result (λ end. Wrote
+        (running asked.now.options true (I.remaining input.old.reader) (I.remaining input.new.reader) input.old.failed input.new.failed)
         (W.contents writer.old) (W.contents writer.new) end.status) }
     // After a failed write the writer has a front of the output.
-    ensures failed { IfErr result (λ e. WroteFrontByThreads
-        (running asked.now.settings (I.remaining input.old.reader) (I.remaining input.new.reader) input.old.failed input.new.failed)
+    ensures failed { IfErr result (λ e. WroteFront
+        (running asked.now.options true (I.remaining input.old.reader) (I.remaining input.new.reader) input.old.failed input.new.failed)
         (W.contents writer.old) (W.contents writer.new) e.written) }
 {
     let bytes = match read_input(alloc, input) {
@@ -313,7 +313,7 @@ pub fn run_threads<I: Read, W: Write, G: Gate + Send + Sync + Drop, R: Threads +
         Err(fault) => return finish(writer, unread_line(fault), 1),
     };
     match output_by_threads(rt, alloc, asked, bytes) {
-        Ok(output) => finish(writer, output.text.as_bytes(), output.status),
+        Ok(output) => finish(writer, &output.text, output.status),
         Err(Halted::OutOfMemory) => finish(writer, OUT_OF_MEMORY, 1),
         Err(Halted::Closed) => finish(writer, CLOSED, 1),
     }

@@ -10,8 +10,9 @@ lines_added : (before : List ℕ) (rows : List (Path × Form)) → fold (λ text
 lines_added before [] = sym (append-nil before)
 lines_added before (row ∷ rows) = lines_added (before ++ row_line row) rows ∙ append_assoc before (row_line row) (flat_map row_line rows)
 
--- all rows were handed to a text that began with the first line
-pub all_lines : (last : ℕ) (first before after : List ℕ) (n : Namespace) → first ≡ codes "txid " ++ decimal last ++ newline ∷ [] → before ≡ first
-    → after ≡ fold (λ text row. text ++ row_line row) before n.rows → after ≡ listing_text last n
-all_lines last first before after n begins same h =
+-- all rows were handed to a text that ended with the first line
+pub all_lines : (last : ℕ) (old first before after : List ℕ) (n : Namespace) → first ≡ old ++ (codes "txid " ++ decimal last ++ newline ∷ []) → before ≡ first
+    → after ≡ fold (λ text row. text ++ row_line row) before n.rows → after ≡ old ++ listing_text last n
+all_lines last old first before after n begins same h =
     h ∙ lines_added before n.rows ∙ ap (λ text. text ++ flat_map row_line n.rows) (same ∙ begins)
+    ∙ append_assoc old (codes "txid " ++ decimal last ++ newline ∷ []) (flat_map row_line n.rows)

@@ -1,11 +1,13 @@
-//! What a standby holds, as text: its namespace, its replicas and orders, and its counts.
+//! What a standby holds, as text: its history, its namespace, its replicas and orders, and its counts.
 //!
 //! The listing has a line for each path, in path order; the tables have a line for each replica and each order, by
 //! ascending block id and then by DataNode, and one line of counts.
 #![tactic(auto)]
 
+mod history;
 mod paths;
 mod tables;
 
-pub use paths::listing;
+pub use history::push_history;
+pub use paths::{listing, text_bytes, with_listing};
 pub use tables::push_tables;

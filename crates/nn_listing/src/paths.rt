@@ -34,8 +34,21 @@ const BLOCK: usize = 30;
 pub fn listing(alloc: Global, namespace: &Namespace, last: u64) -> Result<String, AllocError>
     ensures { IfOk result (λ text. string_bytes text ≡ listing_text last namespace.now) }
 {
-    let mut text = format!(in alloc; "txid {last}\n")?;
-    text.reserve_exact(listing_bytes(namespace.extent()))?;
+    with_listing(alloc, String::new(alloc), namespace, last)
+}
+
+/// A text, and the listing behind it.
+pub fn with_listing(
+    alloc: Global,
+    text: String,
+    namespace: &Namespace,
+    last: u64,
+) -> Result<String, AllocError>
+    ensures { IfOk result (λ longer. string_bytes longer ≡ string_bytes text ++ listing_text last namespace.now) }
+{
+    let mut text = text;
+    write!(text, "txid {last}\n")?;
+    text.reserve_exact(text_bytes(namespace.extent(), LINE, BLOCK))?;
     let mut lines = Lines { text, alloc };
     let Ok(()) = namespace.list_to(&mut lines) else {
         return Err(AllocError);
@@ -44,14 +57,14 @@ pub fn listing(alloc: Global, namespace: &Namespace, last: u64) -> Result<String
     Ok(text)
 }
 
-// About the bytes of a listing: no fewer than its paths have, and no more than these with so many for each line and
-// each block.
-fn listing_bytes(extent: Extent) -> usize
+/// About the bytes of a text with a line for each path, where a line has so many bytes beside its path, and so many for
+/// each block. Of a text that is larger than `usize::MAX` it is that.
+pub fn text_bytes(extent: Extent, line: usize, block: usize) -> usize
     ensures least { extent.path_bytes ≤ result }
-    ensures most { result ≤ extent.path_bytes + LINE * extent.paths + BLOCK * extent.blocks }
+    ensures most { result ≤ extent.path_bytes + line * extent.paths + block * extent.blocks }
 {
-    let lines = extent.paths.saturating_mul(LINE);
-    let blocks = extent.blocks.saturating_mul(BLOCK);
+    let lines = extent.paths.saturating_mul(line);
+    let blocks = extent.blocks.saturating_mul(block);
     extent
         .path_bytes
         .saturating_add(lines)

@@ -4,23 +4,25 @@ mod program;
 mod sizes;
 mod threads;
 
-use nn_engine::{Gate, Input, Open, Options, Threaded, run, run_threads};
+use nn_engine::{Input, Options, run};
 use nn_scenario::MAX_INPUT;
 use nn_types::Settings;
 use std::alloc::Global;
 use std::io;
 use std::io::{Read, Write};
 use std::process::Abort;
-use std::sync::{Arc, Wait};
 use std::test::Fail;
-use std::thread::Threads;
 
 const NOTHING: &str = "txid 0\ndir \"/\"\nblocks 0 safe 0 needed 0 mode off\n";
 
 // What the program asks for where the command line has no words.
 fn usual_options() -> Options {
     match Settings::new(999, 1) {
-        Some(settings) => Options { settings },
+        Some(settings) => Options {
+            settings,
+            history: false,
+            image: false,
+        },
         None => unreachable!(),
     }
 }
@@ -36,29 +38,13 @@ fn printed(alloc: Global, reader: impl Read + Drop) -> (Vec<u8>, u8) {
     (writer, status)
 }
 
-// What a run with threads prints, each lane holding one report at a time, and its status: 9 where a write failed or no
-// gate could be made.
-fn printed_by_threads<R: Threads + Wait + Sync, G: Gate + Send + Sync + Drop>(
-    rt: &R,
-    alloc: Global,
-    gate: G,
-    input: &[u8],
-) -> (Vec<u8>, u8) {
-    let mut writer = Vec::new(alloc);
-    let Ok(gate) = Arc::new(alloc, gate) else {
-        return (writer, 9);
-    };
-    let asked = Threaded {
-        settings: usual_options().settings,
-        capacity: 1,
-        gate,
-    };
-    let mut input = Input::new(input);
-    let status = match run_threads(rt, alloc, &asked, &mut input, &mut writer) {
-        Ok(end) => end.status,
-        Err(_) => 9,
-    };
-    (writer, status)
+// The words of a command line, the program's name first.
+fn words_of(alloc: Global, line: &str) -> Result<Vec<String>, Fail> {
+    let mut words = Vec::new(alloc);
+    for word in line.split(' ') {
+        words.push(String::from_str(alloc, word)?)?;
+    }
+    Ok(words)
 }
 
 // A reader that gives one byte a time and fails at its read `fail_at`, counted from 0.

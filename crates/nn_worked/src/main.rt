@@ -2,8 +2,8 @@
 //!
 //! Standard input names the scenarios, one a line, and their files lie where this runs. With the words of NAME.args on
 //! NAME.in the program has to print NAME.out and to end with NAME.status; and once more with a thread for each
-//! DataNode, and room for one report in its lane. Where NAME.args is missing there are no words, and where NAME.status
-//! is, it is 0.
+//! DataNode, and room for one report in its lane, unless a history is printed, whose order then is the schedule's. Where
+//! NAME.args is missing there are no words, and where NAME.status is, it is 0.
 #![tactic(auto)]
 
 use nn_command::serve;
@@ -31,42 +31,53 @@ fn main(rt: HostRuntime) -> io::Result<()> {
 // A runtime lends its threads only where a program begins, so it is handed over twice.
 fn agrees<T: Threads + Wait + Sync>(rt: &HostRuntime, threads: &T, name: &str) -> io::Result<bool> {
     let words = file(rt, name, "args", "")?;
-    if !plays(rt, threads, name, &words)? {
+    let worked = Worked {
+        input: file(rt, name, "in", "")?,
+        output: file(rt, name, "out", "")?,
+        status: file(rt, name, "status", "0")?,
+    };
+    if !plays(threads, rt.alloc(), &worked, &words)? {
         return Ok(false);
     }
-    if words.contains("--threads") {
+    // With threads a history has the order of its run.
+    if words.contains("--threads") || words.contains("--history") {
         return Ok(true);
     }
     let with_threads = format!(in rt.alloc(); "{words} --threads --capacity 1")?;
-    plays(rt, threads, name, &with_threads)
+    plays(threads, rt.alloc(), &worked, &with_threads)
 }
 
-// Whether the program prints what it should for these words.
+// What the files of a scenario hold.
+#[derive(Drop)]
+struct Worked {
+    input: String,
+    output: String,
+    status: String,
+}
+
+// Whether the program does for these words what it should.
 fn plays<T: Threads + Wait + Sync>(
-    rt: &HostRuntime,
     threads: &T,
-    name: &str,
+    alloc: Global,
+    worked: &Worked,
     words: &str,
 ) -> io::Result<bool> {
-    let scenario = file(rt, name, "in", "")?;
-    let wanted = file(rt, name, "out", "")?;
-    let status = file(rt, name, "status", "0")?;
-    let words = words_of(rt.alloc(), words)?;
-    let mut output = Vec::new(rt.alloc());
-    let mut errors = Vec::new(rt.alloc());
-    let mut input = Input::new(scenario.as_bytes());
-    let gate = Arc::new(rt.alloc(), Open)?;
-    let ended = serve(
+    let words = words_of(alloc, words)?;
+    let mut output = Vec::new(alloc);
+    let mut errors = Vec::new(alloc);
+    let mut input = Input::new(worked.input.as_bytes());
+    let gate = Arc::new(alloc, Open)?;
+    let status = serve(
         threads,
-        rt.alloc(),
+        alloc,
         Ok(words.as_slice()),
         &mut input,
         &mut output,
         &mut errors,
         gate,
     );
-    let ended = format!(in rt.alloc(); "{ended}")?;
-    Ok(output.as_slice() == wanted.as_bytes() && ended.as_str() == status.trim())
+    let status = format!(in alloc; "{status}")?;
+    Ok(output.as_slice() == worked.output.as_bytes() && status.as_str() == worked.status.trim())
 }
 
 // The program's name, and the words of a text with a word a line.

@@ -1,4 +1,5 @@
 //! Command lines.
+use super::words_of;
 use clap::error::ErrorKind;
 use nn_command::parse;
 use std::alloc::Global;
@@ -25,14 +26,6 @@ fn refused(alloc: Global, line: &str) -> Result<(i32, ErrorKind), Fail> {
     }
 }
 
-fn words_of(alloc: Global, line: &str) -> Result<Vec<String>, Fail> {
-    let mut words = Vec::new(alloc);
-    for word in line.split(' ') {
-        words.push(String::from_str(alloc, word)?)?;
-    }
-    Ok(words)
-}
-
 #[test]
 fn numbers_in_range_are_taken(rt: HostRuntime) -> Result<(), Fail> {
     for (line, want) in [
@@ -46,24 +39,33 @@ fn numbers_in_range_are_taken(rt: HostRuntime) -> Result<(), Fail> {
     Ok(())
 }
 
-// Whether this command line asks for threads, and for how many reports in a lane.
-fn lanes(alloc: Global, line: &str) -> Result<(bool, u16), Fail> {
+// Whether this command line asks for threads, for how many reports in a lane, for a history and for an image.
+fn ways(alloc: Global, line: &str) -> Result<(bool, u16, bool, bool), Fail> {
     let words = words_of(alloc, line)?;
     match parse(alloc, words.as_slice()) {
-        Ok(request) => Ok((request.threads, request.capacity)),
+        Ok(request) => Ok((
+            request.threads,
+            request.capacity,
+            request.options.history,
+            request.options.image,
+        )),
         Err(_) => Err(Fail::new("the words are refused")),
     }
 }
 
 #[test]
-fn threads_are_asked_for(rt: HostRuntime) -> Result<(), Fail> {
+fn ways_are_asked_for(rt: HostRuntime) -> Result<(), Fail> {
     for (line, want) in [
-        ("nn_standby", (false, 64)),
-        ("nn_standby --threads", (true, 64)),
-        ("nn_standby --capacity=1024 --threads", (true, 1024)),
-        ("nn_standby --capacity 1", (false, 1)),
+        ("nn_standby", (false, 64, false, false)),
+        ("nn_standby --threads", (true, 64, false, false)),
+        (
+            "nn_standby --capacity=1024 --threads",
+            (true, 1024, false, false),
+        ),
+        ("nn_standby --capacity 1 --image", (false, 1, false, true)),
+        ("nn_standby --history", (false, 64, true, false)),
     ] {
-        assert_eq!(rt; lanes(rt.alloc(), line)?, want, "at {line}");
+        assert_eq!(rt; ways(rt.alloc(), line)?, want, "at {line}");
     }
     Ok(())
 }

@@ -1,5 +1,5 @@
 //! What the program does for its words, over readers and writers in memory.
-use super::{LINES, LISTING, Stopping};
+use super::{LINES, LISTING, Stopping, words_of};
 use nn_command::{NoWords, serve};
 use nn_engine::{Input, Open};
 use std::alloc::Global;
@@ -12,10 +12,7 @@ use std::thread::Threads;
 type Served = (Vec<u8>, Vec<u8>, u8);
 
 fn served<R: Threads + Wait + Sync>(rt: &R, alloc: Global, line: &str) -> Result<Served, Fail> {
-    let mut words = Vec::new(alloc);
-    for word in line.split(' ') {
-        words.push(String::from_str(alloc, word)?)?;
-    }
+    let words = words_of(alloc, line)?;
     served_with(rt, alloc, Ok(words.as_slice()))
 }
 
@@ -92,10 +89,7 @@ fn a_failed_write_is_status_1(rt: HostRuntime) -> Result<(), Fail> {
 
 fn fails<R: Abort + Threads + Wait + Sync>(rt: &R, alloc: Global, line: &str) -> Result<(), Fail> {
     let gate = Arc::new(alloc, Open)?;
-    let mut words = Vec::new(alloc);
-    for word in line.split(' ') {
-        words.push(String::from_str(alloc, word)?)?;
-    }
+    let words = words_of(alloc, line)?;
     let mut input = Input::new(LINES);
     let mut errors = Vec::new(alloc);
     let mut output = Stopping {

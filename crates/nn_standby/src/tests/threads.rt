@@ -1,6 +1,7 @@
 //! Workers that wait for one another at the gate.
-use super::printed_by_threads;
-use nn_engine::Gate;
+use super::words_of;
+use nn_command::serve;
+use nn_engine::{Gate, Input};
 use std::alloc::Global;
 use std::sync::Arc;
 use std::sync::atomic::{AtomicU64, Ordering};
@@ -45,10 +46,22 @@ fn at_once(rt: HostRuntime) -> Result<(), Fail> {
         came: Arc::try_clone(&came)?,
         vain: Arc::try_clone(&vain)?,
     };
-    let (text, status) = printed_by_threads(&rt, rt.alloc(), gate, TWO_DATANODES);
+    let words = words_of(rt.alloc(), "nn_standby --threads --capacity 1")?;
+    let mut input = Input::new(TWO_DATANODES);
+    let mut output = Vec::new(rt.alloc());
+    let mut errors = Vec::new(rt.alloc());
+    let status = serve(
+        &rt,
+        rt.alloc(),
+        Ok(words.as_slice()),
+        &mut input,
+        &mut output,
+        &mut errors,
+        Arc::new(rt.alloc(), gate)?,
+    );
     let want =
         b"txid 2\ndir \"/\"\norder 5 1\norder 6 2\norder 7 1\nblocks 0 safe 0 needed 0 mode off\n";
-    assert_eq!(rt; text.as_slice(), want.as_slice());
+    assert_eq!(rt; output.as_slice(), want.as_slice());
     assert_eq!(rt; status, 0);
     assert_eq!(rt; came.load(Ordering::SeqCst), 2);
     assert_eq!(rt; vain.load(Ordering::SeqCst), 0);

@@ -12,7 +12,11 @@ returns c =
     let start : app_of c.in_ok-settings_command.field-0 ≡ settings_line = c.in_ok-settings_command.ensures in
     let capacity : rule_of c.valued.result ≡ value_rule (codes "capacity") c.range-capacity.result (codes "64") = search rules in
     let threads : rule_of c.flag.result ≡ flag_rule (codes "threads") = search rules in
+    let history : rule_of c.flag-2.result ≡ flag_rule (codes "history") = search rules in
+    let image : rule_of c.flag-3.result ≡ flag_rule (codes "image") = search rules in
     c.in_ok-command.ensures.shape (search rules)
+    ∙ ap₂ with_rule (c.in_ok-arg-3.ensures.shape (search rules)
+    ∙ ap₂ with_rule (c.in_ok-arg-2.ensures.shape (search rules)
     ∙ ap₂ with_rule (c.in_ok-arg.ensures.shape (search rules)
     ∙ ap₂ with_rule start (capacity ∙ ap (λ (p : ValueParser). value_rule (codes "capacity") p (codes "64")) range))
-    threads
+    threads) history) image

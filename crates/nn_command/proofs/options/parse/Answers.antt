@@ -1,7 +1,7 @@
 use Rattle.std.proofs.Common.{◌≡◌, ◌∙◌, [], ap, sym, map, string_bytes}
 use Rattle.clap.specs.Words.{App, app_of, fault_of, found_of, is_simple, is_simple_and_free, matches_of, rows_of}
 use Rattle.nn_command.specs.Options.{command_line}
-use Rattle.nn_command.proofs.Words.{line_is_simple, line_is_free, asked_as_found, threads_asked, why_not, out_of_range}
+use Rattle.nn_command.proofs.Words.{line_is_simple, line_is_free, asked_as_found, asked_so, why_not, out_of_range}
 use Rattle.nn_command.proofs.options.parse.Goals as goal
 
 pub returns-clause-ok : goal.returns-clause-ok
@@ -15,6 +15,14 @@ returns-clause-ok c =
       asked_as_found words (found_of c.in-Ok-try_get_matches_from.matches) c.in-Some.request.options.settings rows c.in-Some.ensures.some,
     )
 
+pub returns-clause-asked : goal.returns-clause-asked
+returns-clause-asked c =
+    let words = map string_bytes c.args.words.now in
+    let line = c.in-Ok.ensures in
+    let rows : rows_of (found_of c.in-Ok-try_get_matches_from.matches) ≡ matches_of command_line words =
+    (c.in-Ok-try_get_matches_from.ensures.matches (ap is_simple line ∙ line_is_simple)).0 ∙ ap (λ (a : App). matches_of a words) line in
+    asked_so words (found_of c.in-Ok-try_get_matches_from.matches) c.in-Some.request rows c.in-Some.ensures.asked
+
 pub returns-in-Err-clause-err : goal.returns-in-Err-clause-err
 returns-in-Err-clause-err c =
     let line = c.in-Ok.ensures in
@@ -27,11 +35,3 @@ returns-in_default-matched-clause-err c =
     let rows : rows_of (found_of c.in-Ok-try_get_matches_from.matches) ≡ matches_of command_line words =
     (c.in-Ok-try_get_matches_from.ensures.matches (ap is_simple line ∙ line_is_simple)).0 ∙ ap (λ (a : App). matches_of a words) line in
     out_of_range words (found_of c.in-Ok-try_get_matches_from.matches) c.out_of_range.result rows c.in_default-matched.ensures.none c.out_of_range.ensures
-
-pub returns-clause-threads : goal.returns-clause-threads
-returns-clause-threads c = λ flag.
-    let words = map string_bytes c.args.words.now in
-    let line = c.in-Ok.ensures in
-    let rows : rows_of (found_of c.in-Ok-try_get_matches_from.matches) ≡ matches_of command_line words =
-    (c.in-Ok-try_get_matches_from.ensures.matches (ap is_simple line ∙ line_is_simple)).0 ∙ ap (λ (a : App). matches_of a words) line in
-    threads_asked words (found_of c.in-Ok-try_get_matches_from.matches) rows (c.in-Some.ensures.threads flag)

@@ -1,7 +1,11 @@
-use Rattle.std.proofs.Common.{length, refl, ap}
+use Rattle.std.proofs.Common.{length, map, refl, ap, ◌∙◌}
+use Rattle.nn_model.specs.Log.{log_of}
+use Rattle.nn_model.specs.Stands.{fresh}
+use Rattle.nn_segment.specs.Segment.{Segment}
+use Rattle.nn_engine.specs.Turns.{in_turn}
 use Rattle.nn_model.specs.Namespace.{root_alone}
 use Rattle.nn_segment.specs.LogEnd.{end_of_log}
-use Rattle.nn_engine.proofs.FollowLemmas.{sets_out}
+use Rattle.nn_engine.proofs.FollowLemmas.{sets_out, all_turns}
 use Rattle.nn_engine.proofs.follow.follow.Goals as goal
 
 pub take_steps-requires : goal.take_steps-requires
@@ -14,3 +18,9 @@ returns-in-Err-follow_to_end-clause-halted c =
     let following = c.in_default-take_steps.ensures.following in
     rw (← ap (λ left. left.segments) c.new-log.ensures)
     (c.in-Err-follow_to_end.ensures.halted (end_of_log 0 root_alone c.new-log.result.segments) following.lanes following.way)
+
+pub returns-clause-turns : goal.returns-clause-turns
+returns-clause-turns c =
+    all_turns c.in-Ok.shadow c.take_steps.new.shadow c.follow_to_end.new.shadow c.new-log.result c.take_steps.new.log c.args.steps
+    c.in-Ok.ensures.fresh (ap (λ left. left.txs) c.new-log.ensures) c.in_default-take_steps.ensures.turns c.in_default-follow_to_end.ensures.turns
+    ∙ ap (λ left. in_turn (fresh root_alone 0) (log_of 0 (map (λ (s : Segment). s.txs) left.segments)) c.args.steps) c.new-log.ensures

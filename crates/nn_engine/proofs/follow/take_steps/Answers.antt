@@ -1,7 +1,10 @@
-use Rattle.std.proofs.Common.{length, ◌∙◌}
+use Rattle.std.proofs.Common.{length, ap, sym, ◌∙◌}
 use Rattle.nn_model.specs.Namespace.{root_alone}
 use Rattle.nn_segment.specs.LogEnd.{end_of_log}
 use Rattle.nn_scenario.specs.Steps.{lanes_of}
+use Rattle.nn_shadow.specs.Contents.{standby_of}
+use Rattle.nn_engine.specs.LogLeft.{txs_left}
+use Rattle.nn_engine.specs.Turns.{in_turn}
 use Rattle.nn_engine.proofs.FollowLemmas.{step_taken}
 use Rattle.nn_engine.proofs.follow.take_steps.Goals as goal
 
@@ -17,5 +20,8 @@ steps-preserved c =
     record {
       following = step_taken whole (length c.args.shadow.now.numbers) (lanes_of c.args.steps) c.steps.log c.take_step.new.log c.in-Some.step
           c.next.new.self c.steps.shadow c.take_step.new.shadow done.goes_on done.serving done.rest (rw (← c.in-Some.ensures.some) inv.following);
+      turns = done.turn c.next.new.self
+          ∙ ap (in_turn (standby_of c.steps.shadow) (txs_left c.steps.shadow.last c.steps.log)) (sym c.in-Some.ensures.some)
+          ∙ inv.turns;
       rest = record { lanes = done.rest.lanes ∙ inv.rest.lanes; min = done.rest.min ∙ inv.rest.min; permille = done.rest.permille ∙ inv.rest.permille };
     }

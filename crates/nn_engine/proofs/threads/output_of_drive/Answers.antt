@@ -1,11 +1,12 @@
 use Rattle.std.specs.Prelude.{IfOk}
-use Rattle.std.proofs.Common.{arith, ap, subst, ◌∙◌}
+use Rattle.std.proofs.Common.{true, Ok, map, refl, subst, arith}
 use Rattle.std.proofs.lemmas.Result.{IfOk-weaker}
-use Rattle.nn_model.specs.Namespace.{root_alone}
-use Rattle.nn_segment.specs.LogEnd.{end_of_log}
 use Rattle.nn_scenario.specs.Steps.{lanes_of}
-use Rattle.nn_engine.specs.Output.{after_log}
-use Rattle.nn_engine.specs.Shown.{shown}
+use Rattle.nn_segment.specs.Segment.{Segment}
+use Rattle.nn_model.specs.Log.{log_of}
+use Rattle.nn_engine.specs.Output.{IsHistoryOf}
+use Rattle.nn_engine.specs.Shown.{shown, IsToldOf}
+use Rattle.nn_engine.proofs.ToldLemmas.{told_history, told_fault}
 use Rattle.nn_engine.proofs.DrivenLemmas.{TellsAll, ends_many, arrives, may_end, stop_told, tells}
 use Rattle.nn_engine.proofs.threads.output_of_drive.Goals as goal
 
@@ -23,20 +24,28 @@ new-requires-clause-few g c =
 
 pub returns-in-Ok-drive : goal.returns-in-Ok-drive
 returns-in-Ok-drive g c =
-    let settings = c.args.asked.now.settings in
+    let options = c.args.asked.now.options in
+    let settings = options.settings in
     let lanes = lanes_of c.args.steps in
     let a = arrives settings c.args.lanes lanes c.in-Ok.sources.items c.in-Ok.ensures c.in-Ok-with_lanes.workers.items c.in-Ok-with_lanes.ends.items c.in-Ok-with_lanes.ensures.own c.in-Ok-new.standby c.in-Ok-new.ensures.ok c.in-Ok-new.ensures.settings c.new-2.result
     c.in-Ok-drive.shadow c.in-Ok-drive._active c.in-Ok-drive.ensures.ok in
-    IfOk-weaker c.told.result _ _ (λ o same. tells settings lanes c.new-2.result c.in-Ok-drive.shadow (shown o) a (subst (λ r. IfOk r (λ o'. TellsAll c.in-Ok-drive.shadow (shown o'))) same c.tell.ensures) ∙ ap (λ s. after_log settings lanes (end_of_log 0 root_alone s)) c.new-2.ensures) c.told.ensures
+    let happened : IsHistoryOf true (log_of 0 (map (λ (s : Segment). s.txs) c.new-2.result)) c.args.steps c.in-Ok-drive.shadow.history =
+    record { lawful = a.lawful; whole = a.whole; one_thread = λ none. absurd (cc) } in
+    IfOk-weaker c.told.result _ _ (λ o same. subst (λ s. IsToldOf true options c.args.steps (Ok s) (shown o)) c.new-2.ensures
+    (told_history true options c.args.steps (Ok c.new-2.result) c.new-2.result c.in-Ok-drive.shadow.history (shown o) refl (λ end ended. happened)
+    (tells options lanes c.new-2.result c.in-Ok-drive.shadow (shown o) a (subst (λ r. IfOk r (λ o'. TellsAll options c.in-Ok-drive.shadow (shown o'))) same c.tell.ensures)))) c.told.ensures
 
 pub output_of_fault-requires : goal.output_of_fault-requires
 output_of_fault-requires g c =
-    may_end c.args.asked.now.settings c.args.lanes (lanes_of c.args.steps) c.in-Ok.sources.items c.in-Ok.ensures c.in-Ok-with_lanes.workers.items c.in-Ok-with_lanes.ends.items c.in-Ok-with_lanes.ensures.own c.in-Ok-new.standby c.in-Ok-new.ensures.ok c.in-Ok-new.ensures.settings c.new-2.result
+    may_end c.args.asked.now.options.settings c.args.lanes (lanes_of c.args.steps) c.in-Ok.sources.items c.in-Ok.ensures c.in-Ok-with_lanes.workers.items c.in-Ok-with_lanes.ends.items c.in-Ok-with_lanes.ensures.own c.in-Ok-new.standby c.in-Ok-new.ensures.ok c.in-Ok-new.ensures.settings c.new-2.result
     c.in-Err.fault c.in-Err.ensures.err
 
 pub returns-in-Err : goal.returns-in-Err
 returns-in-Err g c =
-    let settings = c.args.asked.now.settings in
+    let options = c.args.asked.now.options in
+    let settings = options.settings in
     let lanes = lanes_of c.args.steps in
-    IfOk-weaker c.output_of_fault.result _ _ (λ o told. stop_told settings c.args.lanes lanes c.in-Ok.sources.items c.in-Ok.ensures c.in-Ok-with_lanes.workers.items c.in-Ok-with_lanes.ends.items c.in-Ok-with_lanes.ensures.own c.in-Ok-new.standby c.in-Ok-new.ensures.ok c.in-Ok-new.ensures.settings c.new-2.result
-    c.in-Err.fault (shown o) c.in-Err.ensures.err told ∙ ap (λ s. after_log settings lanes (end_of_log 0 root_alone s)) c.new-2.ensures) c.output_of_fault.ensures
+    IfOk-weaker c.output_of_fault.result _ _ (λ o told. subst (λ s. IsToldOf true options c.args.steps (Ok s) (shown o)) c.new-2.ensures
+    (told_fault true options c.args.steps (Ok c.new-2.result) c.new-2.result (shown o) refl
+    (stop_told settings c.args.lanes lanes c.in-Ok.sources.items c.in-Ok.ensures c.in-Ok-with_lanes.workers.items c.in-Ok-with_lanes.ends.items c.in-Ok-with_lanes.ensures.own c.in-Ok-new.standby c.in-Ok-new.ensures.ok c.in-Ok-new.ensures.settings c.new-2.result
+    options c.in-Err.fault (shown o) c.in-Err.ensures.err told))) c.output_of_fault.ensures

@@ -72,8 +72,13 @@ returns-in_default-push-2 g t c =
     let cs = map deref_pair c.loop-name.yielded in
     let seen = sym c.self.view_is ∙ ap flat c.in-Folder.is in
     let so_far : c.in-Folder.children.entries ≡ cs ++ c.loop-name.name-iterator = search (rules, rest_so_far) in
-    record { rows = tt; names = tt; sorted = tt; stopped = stops_between g.S.RowSink.takes g.S.RowSink.fails c.args.sink.now c.loop-name.sink p cs c.loop-name.name-iterator c.args.self.now
-    (seen ∙ ap (λ es. ([], Dir) ∷ below es) so_far) c.loop-name.invariant.0 }
+    record {
+      rows = tt;
+      names = tt;
+      sorted = tt;
+      stopped = stops_between g.S.RowSink.takes g.S.RowSink.fails c.args.sink.now c.loop-name.sink p cs c.loop-name.name-iterator c.args.self.now
+          (seen ∙ ap (λ es. ([], Dir) ∷ below es) so_far) c.loop-name.invariant.0;
+    }
 
 pub returns-in-Err-list_to-2 : goal.returns-in-Err-list_to-2
 returns-in-Err-list_to-2 g t c =
@@ -87,9 +92,14 @@ returns-in-Err-list_to-2 g t c =
     let pushed : lent_names c.push-in-loop-name.new.self.items ≡ p ++ string_bytes k ∷ [] =
     ap lent_names c.in-Ok-push.ensures.items ∙ map-append deref c.loop-name.names.items (c.as_str-in-loop-name.result ∷ [])
     ∙ ap (λ n. lent_names c.loop-name.names.items ++ n ∷ []) c.as_str-in-loop-name.ensures.value ∙ ap (λ ns. ns ++ string_bytes k ∷ []) c.loop-name.invariant.1 in
-    record { rows = tt; names = tt; sorted = tt; stopped = stops_below g.S.RowSink.takes g.S.RowSink.fails c.args.sink.now c.loop-name.sink c.list_to-in-loop-name.new.sink p k es cs c.next.new.self c.args.self.now c.in-Err-list_to-2.fault
-    (seen ∙ ap (λ rs. ([], Dir) ∷ below rs) (so_far ∙ ap (λ r. cs ++ r) step)) c.loop-name.invariant.0
-    (subst (λ ns. StopsIn g.S.RowSink.takes g.S.RowSink.fails c.loop-name.sink (under_all ns es) c.in-Err-list_to-2.fault c.list_to-in-loop-name.new.sink) pushed c.in-Err-list_to-2.ensures.stopped) }
+    record {
+      rows = tt;
+      names = tt;
+      sorted = tt;
+      stopped = stops_below g.S.RowSink.takes g.S.RowSink.fails c.args.sink.now c.loop-name.sink c.list_to-in-loop-name.new.sink p k es cs c.next.new.self c.args.self.now c.in-Err-list_to-2.fault
+          (seen ∙ ap (λ rs. ([], Dir) ∷ below rs) (so_far ∙ ap (λ r. cs ++ r) step)) c.loop-name.invariant.0
+          (subst (λ ns. StopsIn g.S.RowSink.takes g.S.RowSink.fails c.loop-name.sink (under_all ns es) c.in-Err-list_to-2.fault c.list_to-in-loop-name.new.sink) pushed c.in-Err-list_to-2.ensures.stopped);
+    }
 
 pub returns-in-Narrow-clause-rows : goal.returns-in-Narrow-clause-rows
 returns-in-Narrow-clause-rows g t c =
@@ -143,8 +153,8 @@ returns-in_default-node-2 g t c =
     let seen = sym c.self.view_is ∙ ap flat leaf.1 in
     record {
       rows = subst (λ es. Took g.S.RowSink.takes c.args.sink.now (under_all p es) c.row.new.self) (sym seen)
-      (first_taken g.S.RowSink.takes c.args.sink.now c.row.new.self p (lent_names c.deref.result.now) (File file) (form_of c.top.result)
-      c.in_default.ensures.taken (ap lent_names c.deref.ensures.value) (top_row c.args.self.now [] (File file) (form_of c.top.result) seen c.top.ensures));
+          (first_taken g.S.RowSink.takes c.args.sink.now c.row.new.self p (lent_names c.deref.result.now) (File file) (form_of c.top.result)
+          c.in_default.ensures.taken (ap lent_names c.deref.ensures.value) (top_row c.args.self.now [] (File file) (form_of c.top.result) seen c.top.ensures));
       stopped = tt;
       names = refl;
       sorted = sorted_file c.args.self.now c.self.inside.node file c.self.view_is leaf.1;

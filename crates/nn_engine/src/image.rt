@@ -1,0 +1,37 @@
+//! The image of a namespace, behind the tables of a run.
+ghost use Rattle.std.specs.Prelude.{◌≡◌, ◌++◌, OnOk};
+ghost use Rattle.nn_engine.specs.Output.{image_part};
+
+use nn_image::save;
+use nn_listing::text_bytes;
+use nn_tree::Namespace;
+use std::alloc::{AllocError, Global};
+
+/// About what a line has beside its path.
+const LINE: usize = 70;
+
+/// About what a line has for each block.
+const BLOCK: usize = 40;
+
+/// Where it is asked for, adds the line `image` and the image of the namespace after this transaction. Memory for about all of it is asked for
+/// at once, so that an image that is larger than the memory is refused before it is begun.
+pub(crate) fn push_image(
+    alloc: Global,
+    asked: bool,
+    text: &mut Vec<u8>,
+    namespace: &Namespace,
+    last: u64,
+) -> Result<(), AllocError>
+    ensures { OnOk result (text.new.items ≡ text.old.items ++ image_part asked (record { last = last; namespace = namespace.now })) }
+{
+    if !asked {
+        return Ok(());
+    }
+    text.reserve_exact(text_bytes(namespace.extent(), LINE, BLOCK))?;
+    text.extend_from_slice(b"image\n")?;
+    match save(alloc, namespace, last, text) {
+        Ok(()) => Ok(()),
+        // A write into memory fails where memory is refused.
+        Err(_) => Err(AllocError),
+    }
+}

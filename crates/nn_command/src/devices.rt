@@ -12,8 +12,9 @@ use std::{env, io};
 const STACK: usize = 268_435_456;
 
 /// Deleting, listing and dropping a namespace go one call deeper for each level of directories, in less than so many
-/// bytes of the stack.
-const LEVEL: usize = 280;
+/// bytes of the stack for each line that made a directory there: a level of one child has one such line, one with more
+/// has two and takes 352 bytes.
+const LEVEL: usize = 300;
 
 /// No input has so many lines that make a directory that they are shorter than this on the average: the operation, a
 /// path of one name and a txid of six digits, where there are more than 100,000 of them.

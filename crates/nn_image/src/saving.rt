@@ -141,6 +141,8 @@ impl<'w, W: Write> RowSink for Lines<'w, W> {
 
     ghost fails = { FailsOnRow W.contents };
 
+    // What it takes of the stack is taken once, and not at each level that a listing is in.
+    #[inline(never)]
     fn row(&mut self, names: &[&str], found: Found<'_>) -> Result<(), SaveFault> {
         // The root has no line.
         if names.is_empty() {

@@ -97,6 +97,8 @@ impl RowSink for Lines {
     // Want of memory may leave a part of the line.
     ghost fails = { λ text row e left. Unit {0} };
 
+    // What it takes of the stack is taken once, and not at each level that a listing is in.
+    #[inline(never)]
     fn row(&mut self, names: &[&str], found: Found<'_>) -> Result<(), AllocError> {
         push_line(self.alloc, &mut self.text, names, found)?;
         Ok(())

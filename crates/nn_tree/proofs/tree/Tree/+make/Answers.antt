@@ -1,10 +1,7 @@
-use Rattle.std.proofs.Common.{◌≡◌, ◌∷◌, ℕ, List, Some, None, sym, ap, ◌∙◌, subst, []}
-use Rattle.std.specs.BTreeMap.{get_by_text}
-use Rattle.std.specs.String.{string_bytes}
-use Rattle.nn_tree.specs.declared.tree.Tree.{Tree}
-use Rattle.nn_tree.proofs.Subtree.{opened, found, last_name, opened_narrow}
-use Rattle.nn_tree.proofs.Step.{Becomes, written, on_ok, on_err, same_below, is_called, one_found, one_written}
-use Rattle.nn_tree.proofs.Changed.{made_below, made_here, put_back}
+use Rattle.std.proofs.Common.{◌∷◌, Some, []}
+use Rattle.nn_tree.proofs.Subtree.{opened, found, opened_narrow}
+use Rattle.nn_tree.proofs.Step.{written, on_ok, on_err, same_below, is_called, one_found, one_written}
+use Rattle.nn_tree.proofs.Changed.{made_below}
 use Rattle.nn_tree.proofs.tree.Tree.+make.Goals as goal
 
 pub returns-clause-ok : goal.returns-clause-ok

@@ -1,4 +1,4 @@
-use Rattle.std.proofs.Common.{sym, subst, ap, ◌∙◌, Some, None, [], ◌∷◌}
+use Rattle.std.proofs.Common.{sym, subst, ap, ◌∙◌, Some, None}
 use Rattle.std.specs.Option.{option_copied}
 use Rattle.nn_model.specs.Namespace.{Path}
 use Rattle.nn_tree.specs.At.{IsSubtree}

@@ -1,4 +1,4 @@
-use Rattle.std.proofs.Common.{◌++◌, sym, ap, subst, ◌∙◌, Some, None, [], ◌∷◌, not}
+use Rattle.std.proofs.Common.{◌++◌, sym, ap, subst, ◌∙◌, Some, None, [], ◌∷◌}
 use Rattle.std.specs.Option.{option_copied_mut}
 use Rattle.nn_model.specs.Namespace.{Path}
 use Rattle.nn_tree.specs.At.{at, IsGrafted}

@@ -13,8 +13,8 @@ const LINE: usize = 70;
 /// About what a line has for each block.
 const BLOCK: usize = 40;
 
-/// Where it is asked for, adds the line `image` and the image of the namespace after this transaction. Memory for about all of it is asked for
-/// at once, so that an image that is larger than the memory is refused before it is begun.
+/// Where it is asked for, adds the line `image` and the image of the namespace after this transaction. Memory for about
+/// all of it is asked for at once, so that an image that is larger than the memory is refused before it is begun.
 pub(crate) fn push_image(
     alloc: Global,
     asked: bool,

@@ -102,12 +102,12 @@ EndsEarly failures s old answers t drive.Closed = HasEnded old answers
 abbrev pub WentUntil : {T : Type 0} → (T → Answer → T → Type 0) → (T → ℕ) → T → Tailer → T → DriveFault → Type 0
 WentUntil gives failures s old t fault = (answers : List Answer) × Asked gives s answers t × EndsEarly failures s old answers t fault × (failures s ≤ failures t)
 
--- the standby was promoted with these answers more
+-- the standby was promoted with these answers more, the last of which is End
 abbrev pub Ends : {T : Type 0} → (T → Answer → T → Type 0) → (T → ℕ) → T → Tailer → T → Active → Tailer → Type 0
 Ends gives failures s old t active new =
     (answers : List Answer) × Asked gives s answers t × SameEnds old.ends new.ends
     × ((active.last ≡ new.shadow.last) × (active.flushed ≡ count_by is_flush new.shadow.history))
-    × Promotes old answers new × (failures s ≤ failures t) × KeepsSettings old.shadow new.shadow
+    × Promotes old answers new × (failures s ≤ failures t) × KeepsSettings old.shadow new.shadow × EndsInEnd answers
 
 -- what the thread at this handle gave back
 abbrev pub IsJoined : {S : Type 0} → (S → Option Report → S → Type 0) → Bool → PromisedHandle (Worked S) (Reports S) → Taking → Reporting → Type 0

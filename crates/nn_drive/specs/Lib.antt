@@ -1,5 +1,6 @@
 pub mod Reports
 pub mod Driven
+pub mod Feeding
 pub mod Refusals
 pub mod Fault
 pub mod ReportRows

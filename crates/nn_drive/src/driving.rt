@@ -7,9 +7,13 @@ ghost use Rattle.nn_tailer.specs.Tailing.{has_begun};
 ghost use Rattle.nn_drive.specs.Fault.{number_of};
 ghost use Rattle.nn_drive.specs.Refusals.{drive_refusal, MayCome, IsSameFault, MayMeet};
 ghost use Rattle.nn_drive.specs.Driven.{HasReported, ArePromised, Went, WentUntil, Ends, IsTold, JoinsAll, AreOneLane, Agrees, AreLanes, IsDriven, NotDriven, OnClosed};
+ghost use Rattle.nn_feed.specs.Ends.{got_by, IsSameEnd};
+ghost use Rattle.nn_drive.specs.Feeding.{FailsOver, GotMore, IsDrivenOver};
 ghost use Rattle.nn_drive.specs.declared.driving.DriveFault.{DriveFault as Why};
 
+use crate::feeding::{end_feed, known_fault, receive, receive_rest, start_feeder};
 use crate::reporting::{ReportSource, report_all};
+use nn_feed::{FeedEnd, feed};
 use nn_lane::{LaneEnd, Refusal, Reporter, meet};
 use nn_segment::{SegmentSource, SourceFault};
 use nn_shadow::{Shadow, Stop};
@@ -253,28 +257,52 @@ fn join_all<S: ReportSource + Drop, R: Threads>(
     (reporters, told)
 }
 
-// Gives a standby up: its lanes are closed, and taken from until so many workers have ended, which are joined.
-fn give_up<S: ReportSource + Drop, R: Threads + Wait>(
+// Takes one message from each lane, and drops it.
+fn take_each(ends: &mut [LaneEnd]) {
+    for i in 0..ends.len() {
+        let end = &mut ends[i];
+        let _taken = end.take();
+    }
+}
+
+// Drops what lanes and the feed still bring, until so many workers and the feed have ended.
+fn drop_rest<'a, R: Wait>(
+    rt: &R,
+    ends: &mut [LaneEnd],
+    end: &mut FeedEnd<'a, R>,
+    ended: &AtomicU64,
+    started: u64,
+)
+    ensures same { IsSameEnd end.old end.new }
+    ensures more { GotMore (got_by end.old) (got_by end.new) }
+{
+    for _ in rt.forever() {
+        take_each(ends);
+        let is_over = !receive(end);
+        if is_over && ended.load(Ordering::SeqCst) >= started {
+            return;
+        }
+        thread::yield_now();
+    }
+    unreachable!()
+}
+
+// Gives a standby up: its lanes are closed, what they and the feed still bring is dropped, and the workers are joined.
+fn give_up<'a, S: ReportSource + Drop, R: Threads + Wait>(
     rt: &R,
     standby: Standby,
+    end: &mut FeedEnd<'a, R>,
     handles: Vec<PromisedHandle<Worked<S>, Reports<S>>>,
     ended: &AtomicU64,
-) {
+)
+    ensures same { IsSameEnd end.old end.new }
+    ensures more { GotMore (got_by end.old) (got_by end.new) }
+{
     let mut standby = standby;
     standby.close_intake();
     let (shadow, mut ends) = standby.into_parts();
     drop(shadow);
-    let started = handles.len() as u64;
-    for _ in rt.forever() {
-        if ended.load(Ordering::SeqCst) >= started {
-            break;
-        }
-        for i in 0..ends.len() {
-            let end = &mut ends[i];
-            let _taken = end.take();
-        }
-        thread::yield_now();
-    }
+    drop_rest(rt, &mut ends, end, ended, handles.len() as u64);
     for handle in handles {
         drop(handle.join(rt));
     }
@@ -313,11 +341,62 @@ fn promote<T: SegmentSource>(standby: &mut Standby, source: &mut T) -> Result<Ac
     }
 }
 
+// Runs the workers on threads of the scope and the standby on this one, over the end of a feed, up to the promotion.
+fn run<'s, 'a, E, S: ReportSource + Send + Drop + 's, R: Threads + Wait + Sync>(
+    scope: &Scope<'s, E>,
+    rt: &'s R,
+    alloc: Global,
+    standby: Standby,
+    end: &mut FeedEnd<'a, R>,
+    workers: Vec<(S, Reporter)>,
+    reporters: Vec<Reporter>,
+    ended: &'s AtomicU64,
+) -> Result<(Shadow, Active), DriveFault>
+    requires serving { has_begun standby ≡ false }
+    requires lanes { AreLanes workers.items standby.ends }
+    requires none { reporters.items ≡ [] }
+    requires room { length workers.items ≤ vec_capacity reporters }
+    ensures same { IsSameEnd end.old end.new }
+    ensures ok { IfOk result (λ r. IsDrivenOver S.gives standby end.old workers.items end.new r.0 r.1) }
+    ensures err { IfErr result (λ fault. FailsOver standby end.old end.new fault) }
+    ensures told { IfErr result (λ fault. OnClosed S.gives standby workers.items fault) }
+{
+    let mut standby = standby;
+    let count = workers.len();
+    let handles = start_all(scope, rt, alloc, workers, ended);
+    let started = handles.len();
+    if !all_started(started, count) {
+        give_up(rt, standby, end, handles, ended);
+        return Err(DriveFault::OutOfMemory);
+    }
+    if let Err(fault) = engine(rt, &mut standby, end, ended, started) {
+        let known = known_fault(fault, end.is_at_end());
+        give_up(rt, standby, end, handles, ended);
+        return Err(known);
+    }
+    let (reporters, told) = join_all(rt, standby.ends(), handles, reporters);
+    standby.close_intake();
+    let active = match promote(&mut standby, end) {
+        Ok(active) => active,
+        Err(fault) => {
+            let known = known_fault(fault, end.is_at_end());
+            receive_rest(rt, end);
+            return Err(known);
+        }
+    };
+    let (shadow, ends) = standby.into_parts();
+    meet_all(ends, reporters);
+    if told {
+        return Err(DriveFault::Closed);
+    }
+    Ok((shadow, active))
+}
+
 // The whole of `drive`, inside its scope.
 fn drive_in<
     's,
     E,
-    T: SegmentSource + Drop,
+    T: SegmentSource + Send + Drop + 's,
     S: ReportSource + Send + Drop + 's,
     R: Threads + Wait + Sync,
 >(
@@ -335,54 +414,50 @@ fn drive_in<
     ensures err { IfErr result (λ fault. NotDriven T.gives T.failures standby source fault) }
     ensures told { IfErr result (λ fault. OnClosed S.gives standby workers.items fault) }
 {
-    let mut standby = standby;
-    let mut source = source;
     if standby.is_active() {
         return Err(DriveFault::AlreadyActive);
     }
     if let Some(stop) = standby.stop() {
         return Err(DriveFault::Stopped(stop));
     }
-    let count = workers.len();
-    let Ok(reporters) = Vec::with_capacity(alloc, count) else {
+    let Ok(reporters) = Vec::with_capacity(alloc, workers.len()) else {
         return Err(DriveFault::OutOfMemory);
     };
-    let handles = start_all(scope, rt, alloc, workers, ended);
-    let started = handles.len();
-    if !all_started(started, count) {
-        give_up(rt, standby, handles, ended);
+    let Ok((feeder, mut end)) = feed(rt, alloc) else {
+        return Err(DriveFault::OutOfMemory);
+    };
+    let Some(feeding) = start_feeder(scope, rt, source, feeder) else {
+        return Err(DriveFault::OutOfMemory);
+    };
+    let outcome = run(
+        scope, rt, alloc, standby, &mut end, workers, reporters, ended,
+    );
+    if !end_feed(rt, end, feeding) {
         return Err(DriveFault::OutOfMemory);
     }
-    if let Err(fault) = engine(rt, &mut standby, &mut source, ended, started) {
-        give_up(rt, standby, handles, ended);
-        return Err(fault);
-    }
-    let (reporters, told) = join_all(rt, standby.ends(), handles, reporters);
-    standby.close_intake();
-    let active = match promote(&mut standby, &mut source) {
-        Ok(active) => active,
-        Err(fault) => return Err(fault),
-    };
-    let (shadow, ends) = standby.into_parts();
-    meet_all(ends, reporters);
-    if told {
-        return Err(DriveFault::Closed);
-    }
-    Ok((shadow, active))
+    outcome
 }
 
-/// Runs each worker on a thread of its own, and the standby on this one: it steps the log and the lanes in rotation
-/// until all workers have ended; then it closes its lanes, and promotes itself.
+/// Runs the source of segments and each worker on a thread of its own, and the standby on this one: it steps the log,
+/// which comes to it over a feed, and the lanes in rotation until all workers have ended; then it closes its lanes, and
+/// promotes itself.
 ///
-/// A source of reports ends with its first None, and is not asked again; nor is it once a report was refused, since its
-/// lane is closed or has carried all that it can. A full lane is tried again and again. The first cause of refusal is
+/// The source is asked up to its End or its first fault, at most five segments ahead of the one that the standby has in
+/// hand. A source of reports ends with its first None, and is not asked again; nor is it once a report was refused, since
+/// its lane is closed or has carried all that it can. A full lane is tried again and again. The first cause of refusal is
 /// answered: 53 where the flush had begun before and 51 where the standby was stopped, both before any thread is started;
 /// then 55 where memory or a thread is refused, and while it works 51, 54, 55; and last, once it is promoted, 42 where a
-/// report was refused by a close of a lane that was open when the drive began. It closes all lanes, so 52 never comes.
-/// After a fault nothing is handed back: the lanes are closed and taken from, and what is taken is dropped, until all
-/// workers that were started have ended, and each thread is joined before this returns. It waits for as long as a source
-/// of reports does.
-pub fn drive<T: SegmentSource + Drop, S: ReportSource + Send + Drop, R: Threads + Wait + Sync>(
+/// report was refused by a close of a lane that was open when the drive began. It closes all lanes, so 52 never comes. 55
+/// would also come if the feed failed while both its ends were there, which no channel does and no contract excludes.
+///
+/// After a fault nothing is handed back: the lanes are closed, and what they and the feed still bring is dropped, until the
+/// source and all workers that were started have ended; and each thread is joined before this returns. It waits for as long
+/// as a source of segments or of reports does.
+pub fn drive<
+    T: SegmentSource + Send + Drop,
+    S: ReportSource + Send + Drop,
+    R: Threads + Wait + Sync,
+>(
     rt: &R,
     alloc: Global,
     standby: Standby,

@@ -1,7 +1,7 @@
-//! Drives over a log of two marks: all reports are of a block that it does not name, and wait for the flush.
+//! Drives over logs of marks alone: all reports are of a block that they do not name, and wait for the flush.
 ghost use Rattle.nn_drive.specs.Driven.{AreLanes};
 
-use crate::source::{Shared, Telling, Waiting, report};
+use crate::source::{Gated, Shared, Telling, Waiting, report};
 use nn_drive::{drive, with_lanes};
 use nn_lane::Reporter;
 use nn_segment::{MemorySource, Parsed, SegmentSource};
@@ -16,15 +16,36 @@ use std::thread::Threads;
 const TWO_MARKS: &str =
     "{\"op\":\"OP_START_LOG_SEGMENT\",\"txid\":1}\n{\"op\":\"OP_END_LOG_SEGMENT\",\"txid\":2}\n";
 
-fn log(alloc: Global) -> Result<Vec<Parsed>, Fail> {
+const TWO_MORE: &str =
+    "{\"op\":\"OP_START_LOG_SEGMENT\",\"txid\":3}\n{\"op\":\"OP_END_LOG_SEGMENT\",\"txid\":4}\n";
+
+fn segment(alloc: Global, name: &str, text: &str) -> Result<Parsed, Fail> {
     let mut bytes = Vec::new(alloc);
-    bytes.extend_from_slice(TWO_MARKS.as_bytes())?;
-    let name = String::from_str(alloc, "edits_0000000000000000001-0000000000000000002")?;
-    let segment = Parsed::of(alloc, name, bytes)?;
-    let mut segments = Vec::new(alloc);
+    bytes.extend_from_slice(text.as_bytes())?;
+    let name = String::from_str(alloc, name)?;
+    Ok(Parsed::of(alloc, name, bytes)?)
+}
+
+fn push(segments: &mut Vec<Parsed>, segment: Parsed) -> Result<(), Fail> {
     let Ok(()) = segments.push(segment) else {
         return Err(Fail::new("out of memory"));
     };
+    Ok(())
+}
+
+// A segment of two transactions.
+fn log(alloc: Global) -> Result<Vec<Parsed>, Fail> {
+    let mut segments = Vec::new(alloc);
+    let name = "edits_0000000000000000001-0000000000000000002";
+    push(&mut segments, segment(alloc, name, TWO_MARKS)?)?;
+    Ok(segments)
+}
+
+// And a second one.
+fn longer_log(alloc: Global) -> Result<Vec<Parsed>, Fail> {
+    let mut segments = log(alloc)?;
+    let name = "edits_0000000000000000003-0000000000000000004";
+    push(&mut segments, segment(alloc, name, TWO_MORE)?)?;
     Ok(segments)
 }
 
@@ -55,7 +76,7 @@ fn sources(
 }
 
 // What a drive of these comes to: the promoted standby in figures, or the fault's number. A lane holds two reports.
-fn driven<T: SegmentSource + Drop, R: Threads + Wait + Sync>(
+fn driven<T: SegmentSource + Send + Drop, R: Threads + Wait + Sync>(
     rt: &R,
     alloc: Global,
     source: T,
@@ -86,14 +107,39 @@ fn flushed(flushed: u64) -> Result<Active, u8> {
     Ok(Active { last: 2, flushed })
 }
 
-// Each source waits until all three came: they are asked at once, and not one worker after the other.
+// Two sources of reports and the log wait until all three came: they are asked at once, and none after the other.
 #[test]
 fn at_once(rt: HostRuntime) -> Result<(), Fail> {
     let shared = Shared::new(rt.alloc())?;
-    let reports = sources(rt.alloc(), &shared, 3, 1, 3, 1)?;
-    let source = MemorySource::new(log(rt.alloc())?);
+    let reports = sources(rt.alloc(), &shared, 2, 1, 3, 1)?;
+    let mut source = telling(rt.alloc(), &shared, u64::MAX)?;
+    source.wanted = 3;
     let active = driven(&rt, rt.alloc(), source, reports)?;
-    assert_eq!(rt; active, flushed(3));
+    assert_eq!(rt; active, flushed(2));
+    assert_eq!(rt; shared.vain.load(Ordering::SeqCst), 0);
+    Ok(())
+}
+
+// The second segment is held back until the last transaction of the first one was applied: until a DataNode was asked for
+// its fifth report. Its lane holds two, so two of four were taken then, one a round, and each round has a step of the log
+// before it. The first segment waits until two reports lie there, so that none of these rounds finds the lane empty.
+#[test]
+fn gated_feed(rt: HostRuntime) -> Result<(), Fail> {
+    let shared = Shared::new(rt.alloc())?;
+    let reports = sources(rt.alloc(), &shared, 1, 0, 0, 6)?;
+    let source = Gated {
+        shared: Arc::try_clone(&shared)?,
+        segments: longer_log(rt.alloc())?.into_iter(),
+        asked: 3,
+    };
+    let active = driven(&rt, rt.alloc(), source, reports)?;
+    assert_eq!(rt;
+        active,
+        Ok(Active {
+            last: 4,
+            flushed: 6
+        })
+    );
     assert_eq!(rt; shared.vain.load(Ordering::SeqCst), 0);
     Ok(())
 }
@@ -120,6 +166,7 @@ fn telling(alloc: Global, shared: &Arc<Shared, Global>, fails_at: u64) -> Result
         has_failed: false,
         over: false,
         holds: 0,
+        wanted: 0,
     })
 }
 
@@ -164,6 +211,20 @@ fn failing_source(rt: HostRuntime) -> Result<(), Fail> {
     Ok(())
 }
 
+// A source that fails at its second segment: the drive ends each time, and with 54.
+#[test]
+fn fault_at_second(rt: HostRuntime) -> Result<(), Fail> {
+    for _ in 0..1000u32 {
+        let shared = Shared::new(rt.alloc())?;
+        let reports = sources(rt.alloc(), &shared, 1, 0, 0, 5)?;
+        let mut source = telling(rt.alloc(), &shared, 1)?;
+        source.segments = longer_log(rt.alloc())?.into_iter();
+        let active = driven(&rt, rt.alloc(), source, reports)?;
+        assert_eq!(rt; active, Err(54));
+    }
+    Ok(())
+}
+
 // Closes the lanes of these workers.
 fn closed(workers: &Vec<(Waiting, Reporter)>, standby: Standby) -> Standby
     requires { AreLanes workers.now.items standby.ends }
@@ -176,7 +237,7 @@ fn closed(workers: &Vec<(Waiting, Reporter)>, standby: Standby) -> Standby
 }
 
 // What a drive over lanes comes to that are closed when it begins.
-fn driven_closed<T: SegmentSource + Drop, R: Threads + Wait + Sync>(
+fn driven_closed<T: SegmentSource + Send + Drop, R: Threads + Wait + Sync>(
     rt: &R,
     alloc: Global,
     source: T,

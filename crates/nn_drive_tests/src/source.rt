@@ -44,14 +44,19 @@ impl Shared {
 
     // Waits until so many came.
     fn waits(&self, wanted: u64) -> bool {
-        for _ in 0..TURNS {
-            if self.came.load(Ordering::SeqCst) >= wanted {
-                return true;
-            }
-            thread::yield_now();
-        }
-        false
+        reaches(&self.came, wanted)
     }
+}
+
+// Whether the number comes to be as large, before the wait is given up. Who waits in vain is noted.
+fn reaches(number: &AtomicU64, wanted: u64) -> bool {
+    for _ in 0..TURNS {
+        if number.load(Ordering::SeqCst) >= wanted {
+            return true;
+        }
+        thread::yield_now();
+    }
+    false
 }
 
 /// Comes, waits until so many came, and then gives one report again and again.
@@ -88,6 +93,36 @@ impl ReportSource for Waiting {
     }
 }
 
+/// Gives each segment only once sources of reports were asked so often: `asked` times for the first, twice more for each
+/// after it.
+#[derive(Drop)]
+pub struct Gated {
+    pub shared: Arc<Shared, Global>,
+    pub segments: IntoIter<Parsed>,
+    pub asked: u64,
+}
+
+impl SegmentSource for Gated {
+    ghost gives = { λ s r t. ⊤ };
+
+    ghost left = { λ s. length (into_iter_items s.segments) };
+
+    ghost failures = { λ s. 0 };
+
+    ghost ended = { λ s. into_iter_items s.segments ≡ [] };
+
+    fn next(&mut self) -> Result<Item, SourceFault> {
+        let Some(segment) = self.segments.next() else {
+            return Ok(Item::End);
+        };
+        if !reaches(&self.shared.asked, self.asked) {
+            self.shared.vain.fetch_add(1, Ordering::SeqCst);
+        }
+        self.asked = self.asked.saturating_add(2);
+        Ok(Item::Segment(segment))
+    }
+}
+
 /// Counts as come each time that it is asked; its call number `fails_at`, from 0, fails.
 #[derive(Drop)]
 pub struct Telling {
@@ -99,6 +134,8 @@ pub struct Telling {
     pub over: bool,
     /// The turns for which its next call holds up whoever asks.
     pub holds: u32,
+    /// How many its next call waits for.
+    pub wanted: u64,
 }
 
 // Holds up whoever calls, and notes how often sources of reports were asked by then.
@@ -127,6 +164,11 @@ impl SegmentSource for Telling {
         let turns = self.holds;
         self.holds = 0;
         hold_up(&self.shared, turns);
+        let wanted = self.wanted;
+        self.wanted = 0;
+        if !self.shared.waits(wanted) {
+            self.shared.vain.fetch_add(1, Ordering::SeqCst);
+        }
         if !self.has_failed && !self.over {
             if self.calls == self.fails_at {
                 self.has_failed = true;

@@ -19,7 +19,7 @@ use Rattle.nn_shadow.specs.Laws.{StandsBy}
 use Rattle.nn_shadow.specs.Refusals.{is_lane, hand_refusal}
 use Rattle.nn_shadow.proofs.Standings.{begins_standing}
 use Rattle.nn_segment.specs.LogEnd.{Stop, LogEnd, go_on, end_of_txs, end_of_log}
-use Rattle.nn_engine.specs.LogLeft.{LogLeft, end_of_left, txs_left}
+use Rattle.nn_segment.specs.LogLeft.{LogLeft, end_of_left, txs_left}
 use Rattle.nn_engine.specs.Turns.{next_applied, all_applied, in_turn}
 use Rattle.nn_engine.proofs.TurnLemmas.{all_applied_next}
 use Rattle.nn_engine.specs.Follow.{serving, TakesNext, TakesStep, IsWelcome, IsOnItsWay, IsFollowing}

@@ -1,5 +1,4 @@
 pub mod LogLemmas
-pub mod LogEnds
 pub mod FollowLemmas
 pub mod TurnLemmas
 pub mod ToldLemmas
@@ -7,3 +6,4 @@ pub mod TellLemmas
 pub mod WriteLemmas
 pub mod ListLemmas
 pub mod DrivenLemmas
+pub mod InputLemmas

@@ -19,7 +19,7 @@ use Rattle.nn_scenario.specs.declared.steps.Step.{Step}
 use Rattle.nn_scenario.specs.declared.steps.Step.TheVariants as step
 use Rattle.nn_engine.specs.Turns.{next_applied, all_applied, in_turn, history_in_turn}
 use Rattle.nn_engine.specs.Output.{IsHistoryOf}
-use Rattle.nn_engine.proofs.LogEnds.{ends_with_the_log}
+use Rattle.nn_segment.proofs.LogEnds.{ends_with_the_log}
 
 -- the rest of a log after the next transaction
 pub all_applied_next : (x : Standby) (log : List Tx) → all_applied (next_applied x log) (drop 1 log) ≡ all_applied x log

@@ -9,13 +9,21 @@ use Rattle.nn_shadow.specs.Contents.{Contents, standby_of}
 use Rattle.nn_shadow.specs.Laws.{StandsBy}
 use Rattle.nn_shadow.specs.Refusals.{Phase, hand_refusal}
 use Rattle.nn_segment.specs.LogEnd.{refused, disorder, Stop, LogEnd}
-use Rattle.nn_engine.specs.LogLeft.{LogLeft, end_of_left, txs_left}
+use Rattle.nn_segment.specs.LogLeft.{LogLeft, end_of_left, txs_left, ComesNext, IsMissing, IsOver}
+use Rattle.nn_segment.specs.declared.cursor.Next.{Next}
+use Rattle.nn_segment.specs.declared.cursor.Next.TheVariants as next
 use Rattle.nn_engine.specs.Turns.{next_applied, in_turn}
 use Rattle.nn_scenario.specs.Steps.{lanes_after, AreInTurn, IsStepOf}
 use Rattle.nn_engine.specs.declared.follow.Halt.{Halt}
 use Rattle.nn_engine.specs.declared.follow.Halt.TheVariants as halt
 use Rattle.nn_scenario.specs.declared.steps.Step.{Step}
 use Rattle.nn_scenario.specs.declared.steps.Step.TheVariants as step
+
+-- what a log in memory gives after a txid: the next transaction, or that it is missing; or the log is over, and stays so
+abbrev pub LogGives : ℕ → LogLeft → Next → LogLeft → Type 0
+LogGives last old (next.Transaction tx) new = ComesNext last old tx new
+LogGives last old next.Disorder new = IsMissing last old
+LogGives last old next.Over new = IsOver last old × IsOver last new
 
 -- neither stopped nor active
 abbrev pub serving : Phase
@@ -58,14 +66,26 @@ TakesNext old x new y =
 abbrev pub TakesStep : LogLeft → Contents → Step → LogLeft → Contents → Type 0
 TakesStep old x s new y = (steps : List Step) → in_turn (standby_of y) (txs_left y.last new) steps ≡ in_turn (standby_of x) (txs_left x.last old) (s ∷ steps)
 
+-- wherever it was on its way through a log, it is on its way through what is left now, with these steps taken
+abbrev pub Advances : LogLeft → Contents → List Step → LogLeft → Contents → Type 0
+Advances old x steps new y = (whole : Result LogEnd Stop) (lanes : Lanes) → IsOnItsWay whole old lanes x → IsOnItsWay whole new (lanes_after lanes steps) y
+
+-- wherever it was on its way, it has come to the end of the log
+abbrev pub Arrives : LogLeft → Contents → Contents → Type 0
+Arrives old x y = (whole : Result LogEnd Stop) (lanes : Lanes) → IsOnItsWay whole old lanes x → HasArrived whole lanes y
+
 -- an edit is refused for this; want of memory says nothing
 abbrev pub IsRefusal : Halt → ℕ → Result Namespace EditFault → Type 0
 IsRefusal (halt.Refused fault txid) id outcome = (outcome ≡ Err fault) × (txid ≡ id)
-IsRefusal (halt.Missing txid) id outcome = ⊥
+IsRefusal (halt.Disorder txid) id outcome = ⊥
 IsRefusal halt.OutOfMemory id outcome = Unit {0}
 
 -- the whole log stops for this; want of memory says nothing
 abbrev pub StopsAs : Halt → Result LogEnd Stop → Type 0
 StopsAs (halt.Refused fault txid) whole = whole ≡ Err (record { cause = refused fault; txid = txid })
-StopsAs (halt.Missing txid) whole = whole ≡ Err (record { cause = disorder; txid = txid })
+StopsAs (halt.Disorder txid) whole = whole ≡ Err (record { cause = disorder; txid = txid })
 StopsAs halt.OutOfMemory whole = Unit {0}
+
+-- wherever it was on its way, the whole log stops for this
+abbrev pub HaltsFor : LogLeft → Contents → Halt → Type 0
+HaltsFor old x halt = (whole : Result LogEnd Stop) (lanes : Lanes) → IsOnItsWay whole old lanes x → StopsAs halt whole

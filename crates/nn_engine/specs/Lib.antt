@@ -1,5 +1,3 @@
-pub mod LogLaws
-pub mod LogLeft
 pub mod Follow
 pub mod Turns
 pub mod Output

@@ -1,11 +1,12 @@
-//! All bytes of a reader, and a text into a writer.
+//! The scenario that a reader gives, and a text into a writer.
 ghost use Rattle.std.specs.Prelude.{◌≡◌, ◌≤◌, true, false, length, take, IfOk, IfErr, OnOk, OnErr};
 ghost use Rattle.std.specs.Io.{ReadsAtMost};
-ghost use Rattle.std.specs.Io.KnownBytes.{Appends, Consumes, IsAtEnd, ReadConsumes};
-ghost use Rattle.nn_scenario.specs.Scenario.{max_input};
-ghost use Rattle.nn_engine.specs.Input.{IsUnread};
+ghost use Rattle.std.specs.Io.KnownBytes.{Appends, IsAtEnd, ReadConsumes};
+ghost use Rattle.nn_scenario.specs.Scenario.{seen, IsLawfulScenario};
+ghost use Rattle.nn_engine.specs.Input.{IsScenarioOfAll, IsUnread};
 
-use nn_scenario::MAX_INPUT;
+use nn_edits::Scratch;
+use nn_scenario::{BadLine, Lines, MAX_INPUT, Scenario};
 use std::alloc::{AllocError, Global};
 use std::io::{Read, Write};
 use thiserror::Error;
@@ -77,29 +78,37 @@ impl From<AllocError> for InputFault {
     }
 }
 
-/// Reads all bytes up to the reader's end: at most `MAX_INPUT` of them, in at most 16,777,216 reads of up
-/// to 65,536 bytes each.
-pub fn read_input<R: Read>(alloc: Global, input: &mut Input<R>) -> Result<Vec<u8>, InputFault>
-    ensures whole { IfOk result (λ v. Consumes (R.remaining input.old.reader) (R.remaining input.new.reader) v.items) }
+/// Reads a scenario to the reader's end: at most `MAX_INPUT` bytes of it, in at most 16,777,216 reads of up to 65,536
+/// bytes each. The inner result is the scenario, or its first line that is refused. It reads on behind such a line, since
+/// an input that can't be read is told first; what it read of a line is kept no longer than the line, unless the
+/// scenario has it.
+pub fn read_scenario<R: Read>(
+    alloc: Global,
+    input: &mut Input<R>,
+) -> Result<Result<Scenario, BadLine>, InputFault>
+    ensures whole { IfOk result (IsScenarioOfAll (R.remaining input.old.reader) (R.remaining input.new.reader)) }
     ensures end { OnOk result (IsAtEnd (R.remaining input.new.reader)) }
-    ensures fits { IfOk result (λ v. length v.items ≤ max_input) }
+    ensures lawful { IfOk result (λ lines. IfOk lines (λ s. IsLawfulScenario (seen s))) }
     ensures none_failed { OnOk result (input.new.failed ≡ input.old.failed) }
     ensures why { IfErr result (IsUnread (R.remaining input.old.reader) (R.remaining input.new.reader) input.old.failed input.new.failed) }
 {
-    let mut bytes = Vec::new(alloc);
+    let mut lines = Lines::new(alloc)?;
+    let mut scratch = Scratch::new(alloc);
     let mut buffer = new_buffer(alloc, BUFFER)?;
+    let mut taken = 0;
     let mut reads = 0;
     'reads: while reads < MAX_READS {
         let Ok(n) = input.read(&mut buffer) else {
             return Err(InputFault::ReadFailed);
         };
         if n == 0 {
-            return Ok(bytes);
+            return Ok(lines.end(alloc, &mut scratch));
         }
-        if n > MAX_INPUT - bytes.len() {
+        if n > MAX_INPUT - taken {
             return Err(InputFault::TooLong);
         }
-        bytes.extend_from_slice(&buffer[..n])?;
+        lines.push(alloc, &mut scratch, &buffer[..n]);
+        taken += n;
         reads += 1;
     }
     Err(InputFault::TooManyReads)

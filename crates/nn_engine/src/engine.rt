@@ -1,5 +1,5 @@
 //! A run: from a reader's bytes to a writer's.
-ghost use Rattle.std.specs.Prelude.{◌≡◌, ◌≢◌, ◌≤◌, ◌++◌, false, length, take, codes, Result, Ok, IfOk, IfErr, OnOk, string_bytes};
+ghost use Rattle.std.specs.Prelude.{◌≡◌, ◌≢◌, ◌≤◌, ◌++◌, ℕ, List, false, length, take, codes, Result, Ok, IfOk, IfErr, OnOk, string_bytes};
 ghost use Rattle.std.specs.Io.KnownBytes.{Appends};
 ghost use Rattle.nn_edits.specs.Fault.{number_of as line_number_of};
 ghost use Rattle.nn_model.specs.Lanes.{Lanes};
@@ -15,11 +15,12 @@ ghost use Rattle.nn_engine.specs.declared.engine.Options.{Options as RunOptions}
 ghost use Rattle.nn_engine.specs.Output.{output_of, after_log, fault_at, with_history, IsPrinted};
 ghost use Rattle.nn_shadow.specs.Calls.{flushed};
 ghost use Rattle.nn_engine.specs.Run.{Wrote, WroteFront, running, unread_line};
+ghost use Rattle.nn_scenario.specs.Chunks.{IsReadAs};
 ghost use Rattle.nn_scenario.specs.Scenario.{max_input, seen, IsLawfulScenario};
 ghost use Rattle.nn_engine.specs.Shown.{history_part, shown, with_settings, IsFaultOf, IsToldOf};
 ghost use Rattle.nn_scenario.specs.Steps.{lanes_of};
 
-use crate::device::{Input, InputFault, RunFault, read_input, write_output};
+use crate::device::{Input, InputFault, RunFault, read_scenario, write_output};
 use crate::follow::{Halt, follow};
 use crate::image::push_image;
 use nn_edits::LineFault;
@@ -81,11 +82,11 @@ pub fn run<R: Read, W: Write>(
         (running options.now false (R.remaining input.old.reader) (R.remaining input.new.reader) input.old.failed input.new.failed)
         (W.contents writer.old) (W.contents writer.new) e.written) }
 {
-    let bytes = match read_input(alloc, input) {
-        Ok(bytes) => bytes,
+    let lines = match read_scenario(alloc, input) {
+        Ok(lines) => lines,
         Err(fault) => return finish(writer, unread_line(fault), 1),
     };
-    match output_of(alloc, *options, bytes) {
+    match output_of_lines(alloc, *options, lines) {
         Ok(output) => finish(writer, &output.text, output.status),
         Err(AllocError) => finish(writer, OUT_OF_MEMORY, 1),
     }
@@ -114,13 +115,25 @@ pub(crate) fn finish<W: Write>(writer: &mut W, text: &[u8], status: u8) -> Resul
 /// The output of an input: the same for the same bytes, and no other. It knows of no reader, so that neither `fault 8`
 /// nor `fault 55` is among its lines; where memory runs out there is no output. The input is dropped once its lines are
 /// read.
-#[tactic(auto, unfolding(crate::specs::Output::output_of))]
 pub fn output_of(alloc: Global, options: Options, input: Vec<u8>) -> Result<Output, AllocError>
     requires { length input.items ≤ max_input }
     ensures { IfOk result (λ o. IsPrinted false options input.items (shown o)) }
 {
     let lines = read_lines(alloc, &input);
     drop(input);
+    output_of_lines(alloc, options, lines)
+}
+
+// The output of an input whose lines were read.
+#[tactic(auto, unfolding(crate::specs::Output::output_of))]
+fn output_of_lines(
+    alloc: Global,
+    options: Options,
+    lines: Result<Scenario, BadLine>,
+) -> Result<Output, AllocError>
+    requires { IfOk lines (λ s. IsLawfulScenario (seen s)) }
+    ensures { (input : List ℕ) → IsReadAs input lines → IfOk result (λ o. IsPrinted false options input (shown o)) }
+{
     match lines {
         Ok(scenario) => output_of_scenario(alloc, options, scenario),
         Err(bad) => output_of_bad(alloc, bad),
@@ -174,7 +187,7 @@ fn output_of_halt(alloc: Global, halt: Halt) -> Result<Output, AllocError>
 {
     match halt {
         Halt::Refused { fault, txid } => fault_output(alloc, fault.number(), " txid ", txid),
-        Halt::Missing { txid } => fault_output(alloc, fault::DISORDER, " txid ", txid),
+        Halt::Disorder { txid } => fault_output(alloc, fault::DISORDER, " txid ", txid),
         Halt::OutOfMemory => Err(AllocError),
     }
 }

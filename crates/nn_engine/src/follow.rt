@@ -12,15 +12,15 @@ ghost use Rattle.nn_model.specs.Namespace.{Namespace, root_alone};
 ghost use Rattle.nn_shadow.specs.Contents.{KeepsSettings, standby_of};
 ghost use Rattle.nn_shadow.specs.Laws.{StandsBy};
 ghost use Rattle.nn_shadow.specs.Refusals.{hand_refusal};
-ghost use Rattle.nn_engine.specs.LogLeft.{txs_left};
+ghost use Rattle.nn_segment.specs.LogLeft.{txs_left};
 ghost use Rattle.nn_engine.specs.Turns.{all_applied, in_turn};
-ghost use Rattle.nn_engine.specs.Follow.{serving, TakesNext, TakesStep, IsWelcome, IsOnItsWay, HasArrived, IsRefusal, StopsAs, IsFollowing};
-ghost use Rattle.nn_segment.specs.LogEnd.{LogEnd, Stop, end_of_log};
-ghost use Rattle.nn_scenario.specs.Steps.{lanes_after, lanes_of, AreInTurn, IsStepOf};
+ghost use Rattle.nn_engine.specs.Follow.{serving, Advances, Arrives, HaltsFor, TakesNext, TakesStep, IsWelcome, HasArrived, IsRefusal, StopsAs, IsFollowing};
+ghost use Rattle.nn_segment.specs.LogEnd.{end_of_log};
+ghost use Rattle.nn_scenario.specs.Steps.{lanes_of, AreInTurn, IsStepOf};
 
-use crate::log::{Log, Next};
+use crate::log::Log;
 use nn_scenario::{Step, StepList};
-use nn_segment::Parsed;
+use nn_segment::{Next, Parsed};
 use nn_shadow::{ApplyFault, HandCause, Shadow};
 use nn_types::{EditFault, Message, Settings, Tx};
 use std::alloc::Global;
@@ -31,7 +31,7 @@ pub enum Halt {
     /// The edit of this transaction doesn't apply.
     Refused { fault: EditFault, txid: u64 },
     /// The transaction with this txid should have come.
-    Missing { txid: u64 },
+    Disorder { txid: u64 },
     OutOfMemory,
 }
 
@@ -85,11 +85,11 @@ fn take_steps(shadow: &mut Shadow, log: &mut Log, steps: StepList) -> Result<(),
 // Each edit line was a step, so at the end of a scenario nothing of its log is left to follow.
 fn follow_to_end(shadow: &mut Shadow, log: &mut Log) -> Result<(), Halt>
     requires { shadow.old.phase ≡ serving }
-    ensures arrived { OnOk result ((whole : Result LogEnd Stop) (lanes : Lanes) → IsOnItsWay whole log.old lanes shadow.old → HasArrived whole lanes shadow.new) }
+    ensures arrived { OnOk result (Arrives log.old shadow.old shadow.new) }
     ensures turns { OnOk result (standby_of shadow.new ≡ all_applied (standby_of shadow.old) (txs_left shadow.old.last log.old)) }
     ensures serving { OnOk result (shadow.new.phase ≡ serving) }
     ensures rest { OnOk result (KeepsSettings shadow.old shadow.new) }
-    ensures halted { IfErr result (λ halt. (whole : Result LogEnd Stop) (lanes : Lanes) → IsOnItsWay whole log.old lanes shadow.old → StopsAs halt whole) }
+    ensures halted { IfErr result (HaltsFor log.old shadow.old) }
 {
     'rest: loop {
         match follow_log(shadow, log) {
@@ -103,12 +103,11 @@ fn follow_to_end(shadow: &mut Shadow, log: &mut Log) -> Result<(), Halt>
 fn take_step(shadow: &mut Shadow, log: &mut Log, step: Step) -> Result<(), Halt>
     requires serving { shadow.old.phase ≡ serving }
     requires welcome { IsWelcome shadow.old step }
-    ensures goes_on { OnOk result ((whole : Result LogEnd Stop) (lanes : Lanes) → IsOnItsWay whole log.old lanes shadow.old
-        → IsOnItsWay whole log.new (lanes_after lanes (step ∷ [])) shadow.new) }
+    ensures goes_on { OnOk result (Advances log.old shadow.old (step ∷ []) log.new shadow.new) }
     ensures turn { OnOk result (TakesStep log.old shadow.old step log.new shadow.new) }
     ensures serving { OnOk result (shadow.new.phase ≡ serving) }
     ensures rest { OnOk result (KeepsSettings shadow.old shadow.new) }
-    ensures halted { IfErr result (λ halt. (whole : Result LogEnd Stop) (lanes : Lanes) → IsOnItsWay whole log.old lanes shadow.old → StopsAs halt whole) }
+    ensures halted { IfErr result (HaltsFor log.old shadow.old) }
 {
     match step {
         Step::Edit => {
@@ -128,15 +127,15 @@ fn take_step(shadow: &mut Shadow, log: &mut Log, step: Step) -> Result<(), Halt>
 // Applies the next transaction of the log. False says that the log is over.
 fn follow_log(shadow: &mut Shadow, log: &mut Log) -> Result<bool, Halt>
     requires { shadow.old.phase ≡ serving }
-    ensures goes_on { OnOk result ((whole : Result LogEnd Stop) (lanes : Lanes) → IsOnItsWay whole log.old lanes shadow.old → IsOnItsWay whole log.new lanes shadow.new) }
+    ensures goes_on { OnOk result (Advances log.old shadow.old [] log.new shadow.new) }
     ensures turn { OnOk result (TakesNext log.old shadow.old log.new shadow.new) }
     ensures none { IfOk result (λ more. more ≡ false → txs_left shadow.old.last log.old ≡ []) }
     ensures one { IfOk result (λ more. more ≡ true → shadow.new.last ≡ shadow.old.last + 1) }
     ensures small { OnOk result (shadow.new.last < 2 ^ 63) }
-    ensures over { IfOk result (λ more. more ≡ false → (whole : Result LogEnd Stop) (lanes : Lanes) → IsOnItsWay whole log.old lanes shadow.old → HasArrived whole lanes shadow.new) }
+    ensures over { IfOk result (λ more. more ≡ false → Arrives log.old shadow.old shadow.new) }
     ensures serving { OnOk result (shadow.new.phase ≡ serving) }
     ensures rest { OnOk result (KeepsSettings shadow.old shadow.new) }
-    ensures halted { IfErr result (λ halt. (whole : Result LogEnd Stop) (lanes : Lanes) → IsOnItsWay whole log.old lanes shadow.old → StopsAs halt whole) }
+    ensures halted { IfErr result (HaltsFor log.old shadow.old) }
 {
     shadow.consistent();
     let last = shadow.last_txid();
@@ -148,7 +147,7 @@ fn follow_log(shadow: &mut Shadow, log: &mut Log) -> Result<bool, Halt>
             shadow.consistent();
             Ok(true)
         }
-        Next::Missing => Err(Halt::Missing { txid: last + 1 }),
+        Next::Disorder => Err(Halt::Disorder { txid: last + 1 }),
         Next::Over => Ok(false),
     }
 }

@@ -6,11 +6,10 @@ mod device;
 mod engine;
 mod follow;
 mod image;
-mod laws;
 mod log;
+mod segments;
 mod threads;
 
-pub use device::{Input, InputFault, ReadFailed, RunFault, read_input, write_output};
+pub use device::{Input, InputFault, ReadFailed, RunFault, read_scenario, write_output};
 pub use engine::{Options, Output, RunEnd, output_of, run};
-pub use laws::a_walk_ends_with_the_log;
 pub use threads::{Gate, Open, Threaded, run_threads};

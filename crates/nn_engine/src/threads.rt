@@ -1,10 +1,12 @@
-//! A run with threads: each DataNode reports from a thread of its own, while a standby tails the log.
-ghost use Rattle.std.specs.Prelude.{◌≡◌, ◌≤◌, ◌^◌, ◌++◌, ◌∷◌, [], length, replicate, true, Ok, IfOk, IfErr, OnOk};
+//! A run with threads: each DataNode reports from a thread of its own and the log comes from another, while a standby
+//! tails it.
+ghost use Rattle.std.specs.Prelude.{◌≡◌, ◌≤◌, ◌^◌, ◌++◌, ◌∷◌, [], ℕ, List, length, replicate, true, Ok, IfOk, IfErr, OnOk};
 ghost use Rattle.std.specs.List.{All};
 ghost use Rattle.nn_model.specs.Lanes.{no_messages};
 ghost use Rattle.nn_model.specs.Namespace.{root_alone};
 ghost use Rattle.nn_scenario.specs.Cut.{segments_from};
-ghost use Rattle.nn_scenario.specs.Scenario.{max_input, seen, IsLawfulScenario};
+ghost use Rattle.nn_scenario.specs.Chunks.{IsReadAs};
+ghost use Rattle.nn_scenario.specs.Scenario.{seen, IsLawfulScenario};
 ghost use Rattle.nn_scenario.specs.Steps.{lanes_of, AreInTurn, IsStepOf};
 ghost use Rattle.nn_segment.specs.LogEnd.{end_of_log};
 ghost use Rattle.nn_engine.specs.Listed.{report_of, with_step, AreFew, AreListed, MayEnd, TellsStop};
@@ -12,14 +14,15 @@ ghost use Rattle.nn_engine.specs.Output.{output_of, IsPrinted};
 ghost use Rattle.nn_engine.specs.Run.{Wrote, WroteFront, running};
 ghost use Rattle.nn_engine.specs.Shown.{shown, IsToldOf};
 
-use crate::device::{Input, RunFault, read_input};
+use crate::device::{Input, RunFault, read_scenario};
 use crate::engine::{
     OUT_OF_MEMORY, Options, Output, RunEnd, fault_output, finish, output_of_bad,
     output_of_bad_segment, tell, unread_line,
 };
+use crate::segments::Segments;
 use nn_drive::{DriveFault, ReportSource, drive, with_lanes};
-use nn_scenario::{Scenario, Step, StepList, read_lines, read_segments};
-use nn_segment::{MemorySource, Parsed};
+use nn_scenario::{BadLine, Scenario, Step, StepList, read_segments};
+use nn_segment::Parsed;
 use nn_tailer::Standby;
 use nn_types::{Message, Report};
 use std::alloc::{AllocError, Global};
@@ -29,10 +32,10 @@ use std::marker::Model;
 use std::sync::{Arc, Wait};
 use std::thread::Threads;
 
-/// What each worker passes before its first report.
+/// What each thread of a run passes: the source of segments before its first segment, each worker before its first report.
 pub trait Gate {
-    /// A worker comes to the gate, once. Workers count from 0: worker 0 is of DataNode 1.
-    fn pass(&self, worker: u64);
+    /// A thread comes to the gate, once: 0 is the source of segments, and from 1 on come the DataNodes.
+    fn pass(&self, thread: u64);
 }
 
 /// A gate that stands open.
@@ -40,7 +43,7 @@ pub trait Gate {
 pub struct Open;
 
 impl Gate for Open {
-    fn pass(&self, _worker: u64) {}
+    fn pass(&self, _thread: u64) {}
 }
 
 /// What a run with threads is asked for.
@@ -71,7 +74,7 @@ const MOST: usize = 4_611_686_018_427_387_904;
 pub struct Listed<G> {
     reports: VecDeque<Report>,
     gate: Arc<G, Global>,
-    worker: u64,
+    node: u64,
     passed: bool,
 }
 
@@ -85,13 +88,13 @@ impl<G> Model for Listed<G> {
 }
 
 impl<G> Listed<G> {
-    fn new(alloc: Global, gate: Arc<G, Global>, worker: u64) -> Listed<G>
+    fn new(alloc: Global, gate: Arc<G, Global>, node: u64) -> Listed<G>
         ensures { result ≡ [] }
     {
         Listed {
             reports: VecDeque::new(alloc),
             gate,
-            worker,
+            node,
             passed: false,
         }
     }
@@ -119,7 +122,7 @@ impl<G: Gate> ReportSource for Listed<G> {
     fn next(&mut self) -> Option<Report> {
         if !self.passed {
             self.passed = true;
-            self.gate.pass(self.worker);
+            self.gate.pass(self.node);
         }
         self.reports.pop_front()
     }
@@ -136,7 +139,7 @@ fn empty_sources<G: Drop>(
     let mut sources = Vec::new(alloc);
     for worker in 0..lanes {
         let own = Arc::try_clone(gate)?;
-        sources.push(Listed::new(alloc, own, u64::from(worker)))?;
+        sources.push(Listed::new(alloc, own, u64::from(worker) + 1))?;
     }
     Ok(sources)
 }
@@ -239,7 +242,10 @@ fn output_of_drive<G: Gate + Send + Sync + Drop, R: Threads + Wait + Sync>(
     let Ok(standby) = Standby::new(alloc, ends, asked.options.settings) else {
         return Err(Halted::OutOfMemory);
     };
-    match drive(rt, alloc, standby, MemorySource::new(segments), workers) {
+    let Ok(gate) = Arc::try_clone(&asked.gate) else {
+        return Err(Halted::OutOfMemory);
+    };
+    match drive(rt, alloc, standby, Segments::new(segments, gate), workers) {
         Ok((shadow, _active)) => told(tell(alloc, asked.options, shadow)),
         Err(fault) => output_of_fault(alloc, fault),
     }
@@ -266,20 +272,18 @@ fn output_of_threads<G: Gate + Send + Sync + Drop, R: Threads + Wait + Sync>(
     }
 }
 
-// The output of an input, by threads.
+// The output of an input whose lines were read, by threads.
 #[tactic(auto, unfolding(crate::specs::Output::output_of))]
 fn output_by_threads<G: Gate + Send + Sync + Drop, R: Threads + Wait + Sync>(
     rt: &R,
     alloc: Global,
     asked: &Threaded<G>,
-    input: Vec<u8>,
+    lines: Result<Scenario, BadLine>,
 ) -> Result<Output, Halted>
     requires capacity { (1 ≤ asked.now.capacity) × (asked.now.capacity ≤ 1024) }
-    requires fits { length input.items ≤ max_input }
-    ensures { IfOk result (λ o. IsPrinted true asked.now.options input.items (shown o)) }
+    requires lawful { IfOk lines (λ s. IsLawfulScenario (seen s)) }
+    ensures { (input : List ℕ) → IsReadAs input lines → IfOk result (λ o. IsPrinted true asked.now.options input (shown o)) }
 {
-    let lines = read_lines(alloc, &input);
-    drop(input);
     match lines {
         Ok(scenario) => output_of_threads(rt, alloc, asked, scenario),
         Err(bad) => told(output_of_bad(alloc, bad)),
@@ -287,8 +291,8 @@ fn output_by_threads<G: Gate + Send + Sync + Drop, R: Threads + Wait + Sync>(
 }
 
 /// Reads a scenario to its end and writes its listing, or one fault line and nothing else, as `run` does; but each
-/// DataNode reports from a thread of its own, while the standby tails the log on this one. Whatever the schedule, it
-/// writes the same.
+/// DataNode reports from a thread of its own and the log's segments come from another, while the standby tails the log on
+/// this one. Whatever the schedule, it writes the same.
 ///
 /// `fault 55` says that memory was refused, or a thread; `fault 42`, that a DataNode's report was refused by a lane that
 /// this run had not closed. It waits for as long as the gate does.
@@ -308,11 +312,11 @@ pub fn run_threads<I: Read, W: Write, G: Gate + Send + Sync + Drop, R: Threads +
         (running asked.now.options true (I.remaining input.old.reader) (I.remaining input.new.reader) input.old.failed input.new.failed)
         (W.contents writer.old) (W.contents writer.new) e.written) }
 {
-    let bytes = match read_input(alloc, input) {
-        Ok(bytes) => bytes,
+    let lines = match read_scenario(alloc, input) {
+        Ok(lines) => lines,
         Err(fault) => return finish(writer, unread_line(fault), 1),
     };
-    match output_by_threads(rt, alloc, asked, bytes) {
+    match output_by_threads(rt, alloc, asked, lines) {
         Ok(output) => finish(writer, &output.text, output.status),
         Err(Halted::OutOfMemory) => finish(writer, OUT_OF_MEMORY, 1),
         Err(Halted::Closed) => finish(writer, CLOSED, 1),

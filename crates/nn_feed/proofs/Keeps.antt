@@ -4,11 +4,10 @@ use mathlib.Core.Option.{some, some-ne-none}
 use lib.ListN.{get_elem?}
 use Rattle.crossbeam_channel.specs.Fifo.{Pushes, Pops, Forks, Merges, Learns}
 use Rattle.atomic_table.proofs.Lists.{at_set, at_snoc}
-use Rattle.nn_segment.specs.declared.source.Item.{Item}
 use Rattle.nn_feed.specs.declared.rule.Placed.{Placed}
 use Rattle.nn_feed.specs.declared.rule.Log.{Log}
-use Rattle.nn_segment.specs.Source.{is_end}
-use Rattle.nn_feed.specs.Feeds.{placed, has_end, IsFeed}
+use Rattle.nn_segment.specs.Source.{Answer}
+use Rattle.nn_feed.specs.Feeds.{placed, is_last, has_last, IsFeed}
 use Rattle.nn_feed.specs.Rule.{log, Fits, IsFed}
 use Rattle.nn_feed.proofs.Feeds.{feed_push, feed_prefix}
 
@@ -28,11 +27,11 @@ all_set F views pass w mine others j u e = ⊎_elim (λ (x : (j ≡ pass) × (w 
 pub begins : IsFed [] (log true true [] [] ∷ [])
 begins = (0, 0, [], [], refl, tt, all_set (Fits 0 0 [] []) (log true true [] [] ∷ []) 0 (log true true [] []) ((λ _. (refl, refl)), λ _. (refl, refl)) (λ j u other e. absurd (other (at_end [] _ u j (λ x. some-ne-none u (sym x)) e))))
 
--- what may be put: after no End, at its place, and no segment too many
-pub puts : (n pass : ℕ) (v : Log) (i : Item) (place : ℕ) → v ≡ log true false v.put [] → place ≡ length v.put → has_end v.put ≡ false → (is_end i ≡ false → place < 2 ^ 60)
-    → Pushes IsFed n pass v (placed i place) (λ w. w ≡ log true false (v.put ++ placed i place ∷ []) [])
-puts n pass v i place role at_place no_end fits items views _ h at =
-    let x : Placed = placed i place in let w : Log = log true false (v.put ++ x ∷ []) [] in let mine = h.6 pass v at in
+-- what may be put: after no last answer, at its place, and no segment too many
+pub puts : (n pass : ℕ) (v : Log) (a : Answer) (place : ℕ) → v ≡ log true false v.put [] → place ≡ length v.put → has_last v.put ≡ false → (is_last a ≡ false → place < 2 ^ 60)
+    → Pushes IsFed n pass v (placed a place) (λ w. w ≡ log true false (v.put ++ placed a place ∷ []) [])
+puts n pass v a place role at_place no_last fits items views _ h at =
+    let x : Placed = placed a place in let w : Log = log true false (v.put ++ x ∷ []) [] in let mine = h.6 pass v at in
     let may : v.puts ≡ true = ap (λ u. u.puts) role in
     let same : v.put ≡ h.2 = (mine.0 may).1 in
     let put = h.2 ++ x ∷ [] in (
@@ -43,7 +42,7 @@ puts n pass v i place role at_place no_end fits items views _ h at =
         put,
         h.3,
         ap (λ l. l ++ x ∷ []) h.4 ∙ append_assoc h.3 items (x ∷ []),
-        subst (λ l. IsFeed 0 (l ++ x ∷ [])) same (feed_push 0 v.put i place (at_place ∙ sym (zero-add (length v.put))) (subst (IsFeed 0) (sym same) h.5) no_end fits),
+        subst (λ l. IsFeed 0 (l ++ x ∷ [])) same (feed_push 0 v.put a place (at_place ∙ sym (zero-add (length v.put))) (subst (IsFeed 0) (sym same) h.5) no_last fits),
         all_set (Fits h.0 h.1 put h.3) views pass w ((λ _. ((mine.0 may).0, ap (λ l. l ++ x ∷ []) same)), λ p. absurd (true≢false (sym p)))
             (λ j u other e. ((λ p. absurd (other (((h.6 j u e).0 p).0 ∙ sym (mine.0 may).0))), (h.6 j u e).1)),
       ),

@@ -1,25 +1,29 @@
 -- What is put of one more answer of the source.
-use Rattle.std.proofs.Common.{◌≡◌, ℕ, List, [], ◌∷◌, ◌++◌, map, arith}
+use Rattle.std.proofs.Common.{◌≡◌, ℕ, List, [], ◌∷◌, ◌++◌, map, Ok, Err, OnErr, arith}
 use Rattle.std.proofs.lemmas.Grind.{common_steps}
-use Rattle.nn_segment.specs.Segment.{Segment as Whole}
-use Rattle.nn_segment.specs.declared.source.Item.{Item}
-use Rattle.nn_segment.specs.declared.source.Item.TheVariants.{Segment, End}
+use Rattle.nn_segment.specs.Segment.{Segment}
+use Rattle.nn_segment.specs.Source.{Answer, given}
 use Rattle.nn_feed.specs.declared.fault.Refusal.{Refusal}
 use Rattle.nn_feed.specs.declared.fault.Refusal.TheVariants.{Ended, Gone}
 use Rattle.nn_feed.specs.declared.rule.Placed.{Placed}
 use Rattle.nn_feed.specs.Ends.{Refuses}
-use Rattle.nn_feed.specs.Feeds.{placed}
-use Rattle.nn_feed.specs.Running.{items_of, refused_item}
+use Rattle.nn_feed.specs.Feeds.{placed, answers_of}
+use Rattle.nn_feed.specs.Running.{refused_answer, then_last}
 
-pub one_more : (now after : List Placed) (before : List Item) (xs : List Whole) (x : Whole) (n : ℕ)
-    → items_of now ≡ before ++ map Segment xs → after ≡ now ++ placed (Segment x) n ∷ [] → items_of after ≡ before ++ map Segment (xs ++ x ∷ [])
+pub one_more : (now after : List Placed) (before : List Answer) (xs : List Segment) (x : Segment) (n : ℕ)
+    → answers_of now ≡ before ++ map given xs → after ≡ now ++ placed (given x) n ∷ [] → answers_of after ≡ before ++ map given (xs ++ x ∷ [])
 one_more now after before xs x n e h = grind (arith, common_steps)
 
-pub then_end : (now after : List Placed) (before : List Item) (xs : List Whole) (n : ℕ)
-    → items_of now ≡ before ++ map Segment xs → after ≡ now ++ placed End n ∷ [] → items_of after ≡ before ++ (map Segment xs ++ End ∷ [])
-then_end now after before xs n e h = grind (arith, common_steps)
+pub one_last_more : (now after : List Placed) (before : List Answer) (xs : List Segment) (last : Answer) (n : ℕ)
+    → answers_of now ≡ before ++ map given xs → after ≡ now ++ placed last n ∷ [] → answers_of after ≡ before ++ then_last xs last
+one_last_more now after before xs last n e h = grind (arith, common_steps)
 
--- the item that comes back is the one that was to be put
-pub came_back : (put : List Placed) (i : Item) (refusal : Refusal) → Refuses put i refusal → refused_item refusal ≡ i
-came_back put i (Ended back) h = h.0
-came_back put i (Gone back) h = h.0
+-- the answer that comes back is the one that was to be put
+pub came_back : (put : List Placed) (answer : Answer) (refusal : Refusal) → Refuses put answer refusal → refused_answer refusal ≡ answer
+came_back put answer (Ended back) h = h.0
+came_back put answer (Gone back) h = h.0
+
+-- what does not come of an item
+pub on_no_fault : (P : Type 0) (answer : Answer) → OnErr answer ⊥ → OnErr answer P
+on_no_fault P (Ok item) h = tt
+on_no_fault P (Err fault) h = absurd h

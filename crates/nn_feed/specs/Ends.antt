@@ -1,15 +1,14 @@
 -- What callers see of the two ends of a feed, and what their calls do.
-use Rattle.std.specs.Prelude.{◌≡◌, ◌≤◌, ◌<◌, ◌^◌, ◌⊎◌, true, false, List, [], ◌∷◌, ◌++◌, length, MatchResult}
+use Rattle.std.specs.Prelude.{◌≡◌, ◌≤◌, ◌<◌, ◌^◌, ◌⊎◌, true, false, List, [], ◌∷◌, ◌++◌, length, Err}
 use Rattle.crossbeam_channel.specs.Ends.{sends_on, receives_on}
-use Rattle.nn_segment.specs.Source.{Answer, is_end}
-use Rattle.nn_segment.specs.declared.source.Item.{Item}
-use Rattle.nn_segment.specs.declared.source.Item.TheVariants.{End}
+use Rattle.nn_segment.specs.Source.{Answer}
+use Rattle.nn_segment.specs.declared.fault.SourceFault.TheVariants as source
 use Rattle.nn_feed.specs.declared.ends.Feeder.{Feeder}
 use Rattle.nn_feed.specs.declared.ends.FeedEnd.{FeedEnd}
 use Rattle.nn_feed.specs.declared.fault.Refusal.{Refusal}
 use Rattle.nn_feed.specs.declared.fault.Refusal.TheVariants.{Ended, Gone}
 use Rattle.nn_feed.specs.declared.rule.Placed.{Placed}
-use Rattle.nn_feed.specs.Feeds.{placed, has_end, IsFeed}
+use Rattle.nn_feed.specs.Feeds.{placed, answers_of, is_last, has_last, EndsIn, IsFeed}
 use Rattle.nn_feed.specs.Passes.{put_in, got_in}
 
 -- all that was put, with its places, oldest first
@@ -33,28 +32,34 @@ IsSameEnd old new = receives_on new.receiver ≡ receives_on old.receiver
 
 -- ---- What the calls do.
 
--- End was put, or the item is a segment too many
-abbrev pub MayNotFollow : List Placed → Item → Type 0
-MayNotFollow put item = (has_end put ≡ true) ⊎ ((is_end item ≡ false) × (2 ^ 60 ≤ length put))
+-- End or a fault was put, or the answer is a segment too many
+abbrev pub MayNotFollow : List Placed → Answer → Type 0
+MayNotFollow put answer = (has_last put ≡ true) ⊎ ((is_last answer ≡ false) × (2 ^ 60 ≤ length put))
 
--- an item was refused so: it comes back, and 45 comes where it may not follow
-abbrev pub Refuses : List Placed → Item → Refusal → Type 0
-Refuses put item (Ended back) = (back ≡ item) × MayNotFollow put item
-Refuses put item (Gone back) = (back ≡ item) × (has_end put ≡ false) × (is_end item ≡ false → length put < 2 ^ 60)
+-- an answer was refused so: it comes back, and 45 comes where it may not follow
+abbrev pub Refuses : List Placed → Answer → Refusal → Type 0
+Refuses put answer (Ended back) = (back ≡ answer) × MayNotFollow put answer
+Refuses put answer (Gone back) = (back ≡ answer) × (has_last put ≡ false) × (is_last answer ≡ false → length put < 2 ^ 60)
 
--- the next item was got, at its place; or End again, which was got before; or nothing
+-- the last answer was got before, and comes again
+abbrev pub GetsAgain : List Placed → Answer → List Placed → Type 0
+GetsAgain old answer new = (is_last answer ≡ true) × EndsIn (answers_of old) answer × (new ≡ old)
+
+-- one more answer was got, at its place
+abbrev pub GetsNext : List Placed → Answer → List Placed → Type 0
+GetsNext old answer new = (has_last old ≡ false) × (new ≡ old ++ placed answer (length old) ∷ []) × IsFeed 0 new
+
+-- nothing was got: the channel says that the other end is gone, and nothing is left
+abbrev pub GetsNothing : List Placed → Answer → List Placed → Type 0
+GetsNothing old answer new = (has_last old ≡ false) × (answer ≡ Err source.Gone) × (new ≡ old)
+
 abbrev pub Gets : List Placed → Answer → List Placed → Type 0
-Gets old answer new =
-    MatchResult answer
-    (λ item.
-    ((has_end old ≡ true) × (item ≡ End) × (new ≡ old))
-    ⊎ ((has_end old ≡ false) × (new ≡ old ++ placed item (length old) ∷ []) × IsFeed 0 new))
-    (λ _. (has_end old ≡ false) × (new ≡ old))
+Gets old answer new = GetsAgain old answer new ⊎ GetsNext old answer new ⊎ GetsNothing old answer new
 
 -- what a `next` of a feed's end gives
 abbrev pub GivesWhatIsFed : {R : Type 0} → FeedEnd R → Answer → FeedEnd R → Type 0
 GivesWhatIsFed old answer new = IsSameEnd old new × Gets (got_by old) answer (got_by new)
 
--- what was got is the front of what was put, and all of it once End was got
+-- what was put is a feed; what was got is the front of it, and all of it once its last answer was got
 abbrev pub IsMet : List Placed → List Placed → Type 0
-IsMet put got = (rest : List Placed) × (put ≡ got ++ rest) × (has_end got ≡ true → rest ≡ [])
+IsMet put got = (rest : List Placed) × (put ≡ got ++ rest) × (has_last got ≡ true → rest ≡ []) × IsFeed 0 put

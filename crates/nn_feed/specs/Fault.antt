@@ -8,8 +8,8 @@ use Rattle.nn_feed.specs.declared.fault.Refusal.{Refusal}
 use Rattle.nn_feed.specs.declared.fault.Refusal.TheVariants.{Ended, Gone}
 
 abbrev pub number_of : Refusal → ℕ
-number_of (Ended item) = ENDED
-number_of (Gone item) = GONE
+number_of (Ended answer) = ENDED
+number_of (Gone answer) = GONE
 
 abbrev pub number_of_fault : FeedFault → ℕ
 number_of_fault (Source fault) = number_of_source fault

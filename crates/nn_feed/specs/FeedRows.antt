@@ -1,43 +1,53 @@
 -- Feeds on small examples, computed.
-use Rattle.std.specs.Prelude.{◌≡◌, ℕ, ◌^◌, ◌<◌, ◌≤◌, true, false, List, [], ◌∷◌, ◌++◌, length, map, Ok, Err, refl}
+use Rattle.std.specs.Prelude.{◌≡◌, ℕ, ◌^◌, ◌<◌, ◌≤◌, true, false, List, [], ◌∷◌, length, map, Some, None, Ok, Err, refl}
 use Rattle.std.proofs.Common.{arith, sym, ◌∙◌, true≢false, ⊎_elim, inl, inr}
 use Rattle.nn_segment.specs.Segment.{Segment as Whole}
-use Rattle.nn_segment.specs.Source.{Answer, GivesNext}
+use Rattle.nn_segment.specs.Source.{Answer, GivesNext, end, given}
+use Rattle.nn_segment.specs.declared.fault.SourceFault.TheVariants.{SourceFailed}
 use Rattle.nn_segment.specs.declared.fault.SourceFault.TheVariants as source
-use Rattle.nn_segment.specs.declared.source.Item.{Item}
-use Rattle.nn_segment.specs.declared.source.Item.TheVariants.{Segment, End}
+use Rattle.nn_feed.specs.declared.ends.Ending.TheVariants as ending
 use Rattle.nn_feed.specs.declared.fault.FeedFault.TheVariants.{Source, Refused}
 use Rattle.nn_feed.specs.declared.fault.Refusal.TheVariants.{Ended, Gone}
 use Rattle.nn_feed.specs.declared.rule.Placed.{Placed}
-use Rattle.nn_feed.specs.Feeds.{placed, has_end, MayStand, IsFeed}
+use Rattle.nn_feed.specs.Feeds.{placed, is_last, has_last, EndsIn, MayStand, IsFeed}
 use Rattle.nn_feed.specs.Rule.{log, Fits}
-use Rattle.nn_feed.specs.Ends.{MayNotFollow, Refuses, Gets, IsMet}
+use Rattle.nn_feed.specs.Passes.{ended_by, as_answer, ending_in}
+use Rattle.nn_feed.specs.Ends.{MayNotFollow, Refuses, GetsAgain, GetsNext, GetsNothing, Gets, IsMet}
 use Rattle.nn_feed.specs.Fault.{number_of, number_of_fault}
-use Rattle.nn_feed.specs.Running.{last_answer, Fed}
+use Rattle.nn_feed.specs.Running.{last_answer, RefusedAnItem, ending_of, last_in, then_last, Fed}
 
 abbrev one : Whole
 one = record { name = []; bytes = []; txs = [] }
 
-abbrev segment : Item
-segment = Segment one
+abbrev segment : Answer
+segment = given one
+
+abbrev failed : Answer
+failed = Err SourceFailed
 
 -- ---- What a feed may carry.
 
-in_order : IsFeed 0 (placed segment 0 ∷ placed segment 1 ∷ placed End 2 ∷ [])
+in_order : IsFeed 0 (placed segment 0 ∷ placed segment 1 ∷ placed end 2 ∷ [])
 in_order = (refl, omega arith, (refl, omega arith, (refl, refl, tt)))
+
+up_to_a_fault : IsFeed 0 (placed segment 0 ∷ placed failed 1 ∷ [])
+up_to_a_fault = (refl, omega arith, (refl, refl, tt))
 
 not_at_another_place : IsFeed 0 (placed segment 1 ∷ []) → ⊥
 not_at_another_place h = let e : 1 ≡ 0 = h.0 in omega (arith, e)
 
 -- End carries the count before it
-not_end_without_its_count : IsFeed 0 (placed segment 0 ∷ placed End 0 ∷ []) → ⊥
+not_end_without_its_count : IsFeed 0 (placed segment 0 ∷ placed end 0 ∷ []) → ⊥
 not_end_without_its_count h = let e : 0 ≡ 1 = h.2.0 in omega (arith, e)
 
-nothing_behind_end : IsFeed 0 (placed End 0 ∷ placed segment 1 ∷ []) → ⊥
+nothing_behind_end : IsFeed 0 (placed end 0 ∷ placed segment 1 ∷ []) → ⊥
 nothing_behind_end h = let e : placed segment 1 ∷ [] ≡ [] = h.1 in cc
 
-no_second_end : IsFeed 0 (placed End 0 ∷ placed End 1 ∷ []) → ⊥
-no_second_end h = let e : placed End 1 ∷ [] ≡ [] = h.1 in cc
+no_second_end : IsFeed 0 (placed end 0 ∷ placed end 1 ∷ []) → ⊥
+no_second_end h = let e : placed end 1 ∷ [] ≡ [] = h.1 in cc
+
+nothing_behind_a_fault : IsFeed 0 (placed failed 0 ∷ placed end 1 ∷ []) → ⊥
+nothing_behind_a_fault h = let e : placed end 1 ∷ [] ≡ [] = h.1 in cc
 
 last_segment : MayStand segment 1152921504606846975 []
 last_segment = omega arith
@@ -45,19 +55,32 @@ last_segment = omega arith
 no_segment_too_many : MayStand segment 1152921504606846976 [] → ⊥
 no_segment_too_many h = let e : 1152921504606846976 < 2 ^ 60 = h in omega (arith, e)
 
-end_of_them_all : MayStand End 1152921504606846976 []
+end_of_them_all : MayStand end 1152921504606846976 []
 end_of_them_all = refl
 
-ended : (has_end (placed segment 0 ∷ placed End 1 ∷ []) ≡ true) × (has_end (placed segment 0 ∷ []) ≡ false) × (has_end [] ≡ false)
-ended = (refl, refl, refl)
+fault_behind_them_all : MayStand failed 1152921504606846976 []
+fault_behind_them_all = refl
+
+last : (is_last segment ≡ false) × (is_last end ≡ true) × (is_last failed ≡ true)
+last = (refl, refl, refl)
+
+ended : (has_last (placed segment 0 ∷ placed end 1 ∷ []) ≡ true) × (has_last (placed failed 0 ∷ []) ≡ true) × (has_last (placed segment 0 ∷ []) ≡ false) × (has_last [] ≡ false)
+ended = (refl, refl, refl, refl)
+
+ends_in_a_fault : EndsIn (segment ∷ failed ∷ []) failed
+ends_in_a_fault = (segment ∷ [], refl)
 
 -- ---- What a pass knows: pass 0 may put, pass 1 may get.
 
 abbrev put : List Placed
-put = placed segment 0 ∷ placed End 1 ∷ []
+put = placed segment 0 ∷ placed end 1 ∷ []
 
 abbrev got : List Placed
 got = placed segment 0 ∷ []
+
+-- what a source that fails at its second segment comes to
+abbrev stopped : List Placed
+stopped = placed segment 0 ∷ placed failed 1 ∷ []
 
 one_puts : Fits 0 1 put got 0 (log true false put [])
 one_puts = (λ _. (refl, refl), λ p. absurd (true≢false (sym p)))
@@ -77,10 +100,22 @@ no_other_gets h = let e : 0 ≡ 1 = (h.1 refl).0 in omega (arith, e)
 it_knows_all_that_was_got : Fits 0 1 put got 1 (log false true [] []) → ⊥
 it_knows_all_that_was_got h = let e : [] ≡ got = (h.1 refl).1 in cc
 
+again : (ended_by end ≡ Some ending.End) × (ended_by failed ≡ Some (ending.Fault SourceFailed)) × (ended_by segment ≡ None) × (as_answer ending.End ≡ end) × (as_answer (ending.Fault SourceFailed) ≡ failed)
+again = (refl, refl, refl, refl, refl)
+
+endings : (ending_in put ≡ Some ending.End) × (ending_in stopped ≡ Some (ending.Fault SourceFailed)) × (ending_in got ≡ None) × (ending_in [] ≡ None)
+endings = (refl, refl, refl, refl)
+
 -- ---- What the calls do.
 
 refused_after_end : Refuses put segment (Ended segment)
 refused_after_end = (refl, inl refl)
+
+end_refused_after_a_fault : Refuses stopped end (Ended end)
+end_refused_after_a_fault = (refl, inl refl)
+
+fault_refused_after_end : Refuses put failed (Ended failed)
+fault_refused_after_end = (refl, inl refl)
 
 not_refused_before_end : MayNotFollow got segment → ⊥
 not_refused_before_end h =
@@ -89,12 +124,16 @@ not_refused_before_end h =
 refused_as_one_too_many : (before : List Placed) → 2 ^ 60 ≤ length before → Refuses before segment (Ended segment)
 refused_as_one_too_many before many = (refl, inr (refl, many))
 
-end_is_never_too_many : (before : List Placed) → has_end before ≡ false → MayNotFollow before End → ⊥
+end_is_never_too_many : (before : List Placed) → has_last before ≡ false → MayNotFollow before end → ⊥
 end_is_never_too_many before unended h =
-    ⊎_elim (λ (e : has_end before ≡ true). true≢false (sym e ∙ unended)) (λ (e : (true ≡ false) × (2 ^ 60 ≤ length before)). true≢false e.0) h
+    ⊎_elim (λ (e : has_last before ≡ true). true≢false (sym e ∙ unended)) (λ (e : (true ≡ false) × (2 ^ 60 ≤ length before)). true≢false e.0) h
 
-another_does_not_come_back : Refuses put segment (Ended End) → ⊥
-another_does_not_come_back h = let e : End ≡ segment = h.0 in cc
+fault_is_never_too_many : (before : List Placed) → has_last before ≡ false → MayNotFollow before failed → ⊥
+fault_is_never_too_many before unended h =
+    ⊎_elim (λ (e : has_last before ≡ true). true≢false (sym e ∙ unended)) (λ (e : (true ≡ false) × (2 ^ 60 ≤ length before)). true≢false e.0) h
+
+another_does_not_come_back : Refuses put segment (Ended end) → ⊥
+another_does_not_come_back h = let e : end ≡ segment = h.0 in cc
 
 gone : Refuses got segment (Gone segment)
 gone = (refl, refl, λ _. omega arith)
@@ -102,61 +141,88 @@ gone = (refl, refl, λ _. omega arith)
 ended_comes_before_gone : Refuses put segment (Gone segment) → ⊥
 ended_comes_before_gone h = true≢false h.1
 
-next_is_got : Gets got (Ok End) put
-next_is_got = inr (refl, refl, (refl, omega arith, (refl, refl, tt)))
+next_is_got : Gets got end put
+next_is_got = inr (inl (refl, refl, (refl, omega arith, (refl, refl, tt))))
 
-end_comes_again : Gets put (Ok End) put
-end_comes_again = inl (refl, refl, refl)
+fault_is_got : Gets got failed stopped
+fault_is_got = inr (inl (refl, refl, (refl, omega arith, (refl, refl, tt))))
 
-no_segment_behind_end : (new : List Placed) → Gets put (Ok segment) new → ⊥
-no_segment_behind_end new h =
-    ⊎_elim (λ (e : (true ≡ true) × (segment ≡ End) × (new ≡ put)). let is : segment ≡ End = e.1 in cc)
-    (λ (e : (true ≡ false) × (new ≡ placed segment 0 ∷ placed End 1 ∷ placed segment 2 ∷ []) × IsFeed 0 new). true≢false e.0) h
+end_comes_again : Gets put end put
+end_comes_again = inl (refl, (segment ∷ [], refl), refl)
 
-nothing_is_got_with_a_fault : Gets got (Err source.Gone) put → ⊥
-nothing_is_got_with_a_fault h = let e : put ≡ got = h.1 in cc
+fault_comes_again : Gets stopped failed stopped
+fault_comes_again = inl (refl, (segment ∷ [], refl), refl)
 
-no_fault_behind_end : (new : List Placed) → Gets put (Err source.Gone) new → ⊥
-no_fault_behind_end new h = true≢false h.0
+-- the other end is gone, and nothing is left
+nothing_is_got : Gets got (Err source.Gone) got
+nothing_is_got = inr (inr (refl, refl, refl))
+
+segment_comes_once : GetsAgain got segment got → ⊥
+segment_comes_once h = true≢false (sym h.0)
+
+no_segment_behind_end : (new : List Placed) → GetsNext put segment new → ⊥
+no_segment_behind_end new h = true≢false h.0
+
+nothing_is_lost : GetsNothing got (Err source.Gone) put → ⊥
+nothing_is_lost h = let e : put ≡ got = h.2 in cc
+
+end_is_not_made_up : GetsNothing got end got → ⊥
+end_is_not_made_up h = let e : end ≡ Err source.Gone = h.1 in cc
+
+told_before_gone : (new : List Placed) → GetsNothing stopped (Err source.Gone) new → ⊥
+told_before_gone new h = true≢false h.0
 
 met_before_end : IsMet put got
-met_before_end = (placed End 1 ∷ [], refl, λ e. absurd (true≢false (sym e)))
+met_before_end = (placed end 1 ∷ [], refl, (λ e. absurd (true≢false (sym e))), (refl, omega arith, (refl, refl, tt)))
 
 met_at_end : IsMet put put
-met_at_end = ([], refl, λ _. refl)
+met_at_end = ([], refl, (λ _. refl), (refl, omega arith, (refl, refl, tt)))
+
+met_at_a_fault : IsMet stopped stopped
+met_at_a_fault = ([], refl, (λ _. refl), (refl, omega arith, (refl, refl, tt)))
 
 nothing_is_got_that_was_not_put : IsMet got put → ⊥
-nothing_is_got_that_was_not_put h = let e : got ≡ placed segment 0 ∷ placed End 1 ∷ h.0 = h.1 in cc
+nothing_is_got_that_was_not_put h = let e : got ≡ placed segment 0 ∷ placed end 1 ∷ h.0 = h.1 in cc
 
 -- ---- A feeder with a source in memory, and with one that fails.
 
 abbrev answers_fault : ℕ → Answer → ℕ → Type 0
-answers_fault old answer new = answer ≡ Err source.SourceFailed
+answers_fault old answer new = answer ≡ failed
 
-no_segments_alone : (segments : List Whole) → End ∷ [] ≡ map Segment segments → ⊥
-no_segments_alone [] e = cc
-no_segments_alone (s ∷ segments) e = cc
+no_fault_alone : (segments : List Whole) → failed ∷ [] ≡ map given segments → ⊥
+no_fault_alone [] e = cc
+no_fault_alone (s ∷ segments) e = cc
 
-no_segments_before_end : (segments : List Whole) → End ∷ [] ≡ map Segment segments ++ End ∷ [] → length segments ≡ 0
+no_segments_before_end : (segments : List Whole) → end ∷ [] ≡ then_last segments end → length segments ≡ 0
 no_segments_before_end [] e = refl
 no_segments_before_end (s ∷ segments) e = cc
 
 fed : Fed GivesNext (one ∷ []) [] [] put (Ok 1)
 fed = (one ∷ [], (([], (refl, refl), ([], (refl, refl), refl)), refl, refl))
 
-fed_up_to_a_fault : Fed answers_fault 0 [] 1 [] (Err (Source source.SourceFailed))
-fed_up_to_a_fault = ([], ((1, refl, refl), refl))
+fed_up_to_a_fault : Fed answers_fault 0 [] 1 [] (Err (Source SourceFailed))
+fed_up_to_a_fault = ([], ((1, refl, refl), tt, refl))
 
--- a fault puts no End
-no_end_after_a_fault : Fed answers_fault 0 [] 1 (placed End 0 ∷ []) (Err (Source source.SourceFailed)) → ⊥
-no_end_after_a_fault h = no_segments_alone h.0 h.1.1
+-- it puts no fault: who runs it tells of that
+no_fault_after_a_fault : Fed answers_fault 0 [] 1 (placed failed 0 ∷ []) (Err (Source SourceFailed)) → ⊥
+no_fault_after_a_fault h = no_fault_alone h.0 h.1.2
 
 -- the number is that of the segments
-not_another_number : Fed GivesNext [] [] [] (placed End 0 ∷ []) (Ok 1) → ⊥
+not_another_number : Fed GivesNext [] [] [] (placed end 0 ∷ []) (Ok 1) → ⊥
 not_another_number h = let n = no_segments_before_end h.0 h.1.2 in omega (arith, n, h.1.1)
 
-last_answers : (last_answer (Source source.SourceFailed) ≡ Err source.SourceFailed) × (last_answer (Refused (Gone segment)) ≡ Ok segment) × (last_answer (Refused (Ended End)) ≡ Ok End)
+it_refused_an_item : RefusedAnItem (Refused (Gone segment))
+it_refused_an_item = tt
+
+it_refused_no_fault : RefusedAnItem (Refused (Gone failed)) → ⊥
+it_refused_no_fault h = h
+
+-- what a thread tells, and what it was refused
+told : (then_last (one ∷ []) (ending_of (Ok 1)) ≡ segment ∷ end ∷ []) × (then_last [] (ending_of (Err SourceFailed)) ≡ failed ∷ []) × (last_in (Err (Gone segment)) ≡ segment) × (last_in (Err (Ended failed)) ≡ failed)
+told = (refl, refl, refl, refl)
+
+last_answers : (last_answer (Source SourceFailed) ≡ failed) × (last_answer (Refused (Gone segment)) ≡ segment) × (last_answer (Refused (Ended end)) ≡ end)
 last_answers = (refl, refl, refl)
 
-numbers : (number_of (Ended segment) ≡ 45) × (number_of (Gone segment) ≡ 46) × (number_of_fault (Source source.SourceFailed) ≡ 47) × (number_of_fault (Refused (Ended segment)) ≡ 45)
+numbers : (number_of (Ended segment) ≡ 45) × (number_of (Gone segment) ≡ 46) × (number_of_fault (Source SourceFailed) ≡ 47) × (number_of_fault (Refused (Ended segment)) ≡ 45)
 numbers = (refl, refl, refl, refl)

@@ -1,9 +1,8 @@
 -- What a call of `run_feeder` does, and what the thread of a feeder promises.
-use Rattle.std.specs.Prelude.{◌≡◌, ℕ, ◌<◌, ◌≤◌, Result, Ok, Err, List, [], ◌∷◌, ◌++◌, length, map, MatchResult}
+use Rattle.std.specs.Prelude.{◌≡◌, ℕ, ◌<◌, ◌≤◌, Result, Ok, Err, List, [], ◌∷◌, ◌++◌, length, map, MatchResult, IfOk, OnErr}
 use Rattle.nn_segment.specs.Segment.{Segment}
 use Rattle.nn_segment.specs.Source.{Answer, Asked, given, end}
-use Rattle.nn_segment.specs.declared.source.Item.{Item}
-use Rattle.nn_segment.specs.declared.source.Item.TheVariants as item
+use Rattle.nn_segment.specs.declared.fault.SourceFault.{SourceFault}
 use Rattle.nn_feed.specs.declared.ends.Feeder.{Feeder}
 use Rattle.nn_feed.specs.declared.fault.FeedFault.{FeedFault}
 use Rattle.nn_feed.specs.declared.fault.FeedFault.TheVariants.{Source, Refused}
@@ -11,22 +10,34 @@ use Rattle.nn_feed.specs.declared.fault.Refusal.{Refusal}
 use Rattle.nn_feed.specs.declared.fault.Refusal.TheVariants.{Ended, Gone}
 use Rattle.nn_feed.specs.declared.rule.Placed.{Placed}
 use Rattle.nn_feed.specs.declared.running.Ran.{Ran}
+use Rattle.nn_feed.specs.declared.running.Told.{Told}
 use Rattle.nn_feed.specs.Ends.{put_by, IsSameFeeder}
-use Rattle.nn_feed.specs.Feeds.{item_of}
+use Rattle.nn_feed.specs.Feeds.{answers_of}
 
--- the items without their places
-abbrev pub items_of : List Placed → List Item
-items_of ps = map item_of ps
-
--- the item that came back
-abbrev pub refused_item : Refusal → Item
-refused_item (Ended i) = i
-refused_item (Gone i) = i
+-- the answer that came back
+abbrev pub refused_answer : Refusal → Answer
+refused_answer (Ended answer) = answer
+refused_answer (Gone answer) = answer
 
 -- what the source answered last: its fault, or the item that was not put
 abbrev pub last_answer : FeedFault → Answer
 last_answer (Source fault) = Err fault
-last_answer (Refused refusal) = Ok (refused_item refusal)
+last_answer (Refused refusal) = refused_answer refusal
+
+-- it was an item that was refused
+abbrev pub RefusedAnItem : FeedFault → Type 0
+RefusedAnItem (Source fault) = Unit {0}
+RefusedAnItem (Refused refusal) = OnErr (refused_answer refusal) ⊥
+
+-- what the source answered last, where it was fed to its last answer: End behind so many segments, or a fault
+abbrev pub ending_of : Result ℕ SourceFault → Answer
+ending_of (Ok n) = end
+ending_of (Err fault) = Err fault
+
+-- and in a thread: the other end was told of it, or it was not put
+abbrev pub last_in : Result Told Refusal → Answer
+last_in (Ok told) = ending_of told.end
+last_in (Err refusal) = refused_answer refusal
 
 -- what holds where the source failed
 abbrev pub OnSourceFault : {T : Type 0} → Result T FeedFault → Type 0 → Type 0
@@ -34,10 +45,14 @@ OnSourceFault (Err (Source fault)) P = P
 OnSourceFault (Err (Refused refusal)) P = Unit {0}
 OnSourceFault (Ok x) P = Unit {0}
 
+-- these segments, and then this answer
+abbrev pub then_last : List Segment → Answer → List Answer
+then_last segments last = map given segments ++ last ∷ []
+
 module _ {S : Type 0} (gives : S → Answer → S → Type 0) where
   -- the source gave these segments, and then this
   abbrev pub GaveThen : S → List Segment → Answer → S → Type 0
-  GaveThen old segments last new = Asked gives old (map given segments ++ last ∷ []) new
+  GaveThen old segments last new = Asked gives old (then_last segments last) new
 
   -- Put were just the segments that the source gave, in order, and behind them the End that it gave; or, where its last
   -- answer was a fault or was not put, the segments before it
@@ -45,14 +60,16 @@ module _ {S : Type 0} (gives : S → Answer → S → Type 0) where
   Fed old before new after result =
       (segments : List Segment)
       × MatchResult result
-      (λ n. GaveThen old segments end new × (n ≡ length segments) × (items_of after ≡ items_of before ++ (map item.Segment segments ++ item.End ∷ [])))
-      (λ e. GaveThen old segments (last_answer e) new × (items_of after ≡ items_of before ++ map item.Segment segments))
+      (λ n. GaveThen old segments end new × (n ≡ length segments) × (answers_of after ≡ answers_of before ++ then_last segments end))
+      (λ e. GaveThen old segments (last_answer e) new × RefusedAnItem e × (answers_of after ≡ answers_of before ++ map given segments))
 
-  -- the feeder comes back with what its source gave in this call, up to End; or its source's last answer is why not
-  abbrev pub HasRun : (S → ℕ) → S → Feeder → Ran S → Type 0
-  HasRun failures source feeder ran =
-      (failures source ≤ failures ran.source)
-      × OnSourceFault ran.outcome (failures source < failures ran.source)
-      × MatchResult ran.outcome
-      (λ done. IsSameFeeder feeder done.1 × Fed source (put_by feeder) ran.source (put_by done.1) (Ok done.0))
-      (λ e. (segments : List Segment) × GaveThen source segments (last_answer e) ran.source)
+  -- The source gave these segments in this call, and then End or a fault. Where the feeder comes back, all of that was put, in order:
+  -- so the other end is told how it ended. Else the last answer was not put
+  pub record HasRun (failures : S → ℕ) (source : S) (feeder : Feeder) (ran : Ran S) : Type 0 where
+    pub segments : List Segment
+    pub gave : GaveThen source segments (last_in ran.outcome) ran.source
+    pub put : IfOk ran.outcome
+        (λ told. IsSameFeeder feeder told.feeder × (answers_of (put_by told.feeder) ≡ answers_of (put_by feeder) ++ then_last segments (ending_of told.end)))
+    pub counted : IfOk ran.outcome (λ told. IfOk told.end (λ n. n ≡ length segments))
+    pub failed : OnErr (last_in ran.outcome) (failures source < failures ran.source)
+    pub not_fewer : failures source ≤ failures ran.source

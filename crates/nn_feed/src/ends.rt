@@ -1,15 +1,17 @@
 //! The two ends of a feed.
 ghost use Rattle.std.specs.Prelude.{◌≡◌, ◌+◌, ◌^◌, ◌≤◌, false, length};
+ghost use Rattle.std.specs.Option.{is_some};
 ghost use Rattle.crossbeam_channel.specs.Claims.{IsSeatAt};
 ghost use Rattle.crossbeam_channel.specs.Ends.{sends_on, receives_on};
-ghost use Rattle.nn_feed.specs.Feeds.{has_end};
-ghost use Rattle.nn_feed.specs.Passes.{put_in, got_in, MayPut, MayGet};
+ghost use Rattle.nn_feed.specs.Feeds.{has_last};
+ghost use Rattle.nn_feed.specs.Passes.{put_in, got_in, MayPut, MayGet, ending_in};
 
 use crate::rule::{InOrder, Log, Placed};
 use crossbeam_channel::{Pass, RuledReceiver, RuledSender};
+use nn_segment::SourceFault;
 use std::sync::Wait;
 
-/// The end that puts. The thread of a source has it; while it lives, the other end waits for its next item.
+/// The end that puts. The thread of a source has it; while it lives, the other end waits for its next answer.
 #[derive(Drop)]
 pub struct Feeder {
     pub(crate) sender: RuledSender<Placed, Log, InOrder>,
@@ -19,12 +21,20 @@ pub struct Feeder {
     ghost seat: { IsSeatAt (sends_on sender) pass },
     ghost role: { MayPut pass },
     ghost counted: { count ≡ length (put_in pass) },
-    ghost told: { ended ≡ has_end (put_in pass) },
+    ghost told: { ended ≡ has_last (put_in pass) },
     ghost bounded: { (ended ≡ false → count ≤ 2 ^ 60) × (count ≤ 2 ^ 60 + 1) },
 }
 
-/// The end that gets, a source of segments: it gives the items that were put, in order, and waits for each; behind End it
-/// gives End again and again. Where the other end is gone and nothing is left it fails with 46.
+// How a source ended.
+#[derive(Clone, Copy)]
+pub enum Ending {
+    End,
+    Fault(SourceFault),
+}
+
+/// The end that gets, a source of segments: it gives the answers that were put, in order, and waits for each; behind End
+/// it gives End again and again, and behind a fault that fault. Where the other end is gone and nothing is left it fails
+/// with 46.
 ///
 /// It counts its failures, and would wait for ever at 2^64 - 1 of them.
 #[derive(Drop)]
@@ -32,11 +42,12 @@ pub struct FeedEnd<'a, R: Wait> {
     pub(crate) rt: &'a R,
     pub(crate) receiver: RuledReceiver<Placed, Log, InOrder>,
     pub(crate) pass: Pass<Placed, Log>,
-    pub(crate) ended: bool,
+    pub(crate) ending: Option<Ending>,
     pub(crate) failures: u64,
     ghost seat: { IsSeatAt (receives_on receiver) pass },
     ghost role: { MayGet pass },
-    ghost told: { ended ≡ has_end (got_in pass) },
+    ghost told: { is_some ending ≡ has_last (got_in pass) },
+    ghost last: { ending ≡ ending_in (got_in pass) },
 }
 
 mod calls;

@@ -1,17 +1,17 @@
-//! Why an item was not put, and why a feeder ended before End.
+//! Why an answer was not put, and why a feeder ended before End.
 ghost use Rattle.std.specs.Prelude.{◌≡◌};
 ghost use Rattle.nn_feed.specs.Fault.{number_of, number_of_fault};
 
 use nn_segment::{Item, SourceFault};
 use nn_types::fault;
 
-/// Why an item was not put. It comes back.
+/// Why an answer of a source, an item or its fault, was not put. It comes back.
 #[derive(Drop)]
 pub enum Refusal {
-    /// End was put before, or the item is a segment and 2^60 were put before.
-    Ended { item: Item },
+    /// End or a fault was put before, or the answer is a segment and 2^60 were put before.
+    Ended { answer: Result<Item, SourceFault> },
     /// The other end is gone.
-    Gone { item: Item },
+    Gone { answer: Result<Item, SourceFault> },
 }
 
 impl Refusal {

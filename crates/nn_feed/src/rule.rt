@@ -1,13 +1,13 @@
-//! The rule of the channel: what was got and then what lies in it is what was put, each item at its place, and nothing
-//! behind End. One pass puts and one gets.
+//! The rule of the channel: what was got and then what lies in it is what was put, each answer at its place, and nothing
+//! behind End or a fault. One pass puts and one gets.
 use crossbeam_channel::protocol::{Join, Lesson, Outcome, Protocol, Split};
-use nn_segment::Item;
+use nn_segment::{Item, SourceFault};
 use std::collections::LinkedList;
 
-/// An item with the number of items before it.
+/// An answer of a source, with the number of answers before it.
 #[derive(Drop)]
 pub struct Placed {
-    pub item: Item,
+    pub answer: Result<Item, SourceFault>,
     pub place: u64,
 }
 
@@ -52,7 +52,7 @@ impl Join<Log> for Roles {
     ghost spent = { log false false [] [] };
 }
 
-// A send: what was put grew by the item.
+// A send: what was put grew by the answer.
 pub struct Puts;
 
 impl Outcome<Placed, Log> for Puts {
@@ -66,7 +66,7 @@ impl Lesson<Placed, Log> for Puts {
     ghost fact = { λ v items. Unit {0} };
 }
 
-// A receive: what was got grew by the item, and is what a feed may carry.
+// A receive: what was got grew by the answer, and is what a feed may carry.
 pub struct Gets;
 
 impl Outcome<Placed, Log> for Gets {

@@ -1,15 +1,23 @@
 //! The loop that feeds, and the thread that it runs on.
 use crate::ends::Feeder;
-use crate::fault::FeedFault;
+use crate::fault::Refusal;
+use nn_segment::SourceFault;
 use std::snapshot::Snapshot;
 
-/// What the thread of a feeder gives back: its source, and how many segments were put, with the feeder; or the fault.
-/// After a fault the feeder is gone, so that the other end is told: one that was kept up to the join would leave it
-/// waiting for ever.
+/// What the thread of a feeder gives back: its source, and the feeder, where the other end is told of the source's last
+/// answer; or why that answer was not put. Then the feeder is gone: one that was kept up to the join would leave the other
+/// end waiting for ever.
 #[derive(Drop)]
 pub struct Ran<S> {
     pub source: S,
-    pub outcome: Result<(u64, Feeder), FeedFault>,
+    pub outcome: Result<Told, Refusal>,
+}
+
+/// A feeder that put its source's last answer: behind so many segments its End, or its fault.
+#[derive(Drop)]
+pub struct Told {
+    pub feeder: Feeder,
+    pub end: Result<u64, SourceFault>,
 }
 
 /// The promise of a feeder's thread: the source and the feeder that it began with.

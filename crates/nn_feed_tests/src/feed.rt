@@ -1,7 +1,7 @@
-//! What no clause of a feed says: it goes on, it is full at four, and a feeder that failed tells the other end.
+//! What no clause of a feed says: it goes on, it is full at four, and a feeder that is gone tells the other end.
 use crate::sources::{FailsAtSecond, Gated, reaches, segment};
-use nn_feed::{Feeder, Ran, Refusal, feed, meet, run_feeder, run_thread};
-use nn_segment::{Item, SegmentSource};
+use nn_feed::{FeedFault, Feeder, Ran, Refusal, feed, meet, run_feeder, run_thread};
+use nn_segment::{Item, SegmentSource, SourceFault};
 use std::alloc::Global;
 use std::sync::Wait;
 use std::sync::atomic::{AtomicU64, Ordering};
@@ -9,14 +9,26 @@ use std::test::Fail;
 use std::thread;
 use std::thread::join;
 
-// How many segments came before End, or before a fault, with the number of it.
+// Whether the same fault comes thrice more.
+fn comes_again(end: &mut (impl SegmentSource + Drop), fault: SourceFault) -> bool {
+    for _ in 0..3u8 {
+        match end.next() {
+            Err(again) if again == fault => {}
+            _ => return false,
+        }
+    }
+    true
+}
+
+// How many segments came before End, or before a fault that came again, with the number of it.
 fn get_all(mut end: impl SegmentSource + Drop, got: &AtomicU64) -> (u64, u8) {
     for count in 0..u64::MAX {
         got.store(count, Ordering::SeqCst);
         match end.next() {
             Ok(Item::Segment(_)) => {}
             Ok(Item::End) => return (count, 0),
-            Err(fault) => return (count, fault.number()),
+            Err(fault) if comes_again(&mut end, fault) => return (count, fault.number()),
+            Err(_) => return (count, 1),
         }
     }
     (0, 1)
@@ -49,15 +61,18 @@ fn gated_feed(rt: HostRuntime) -> Result<(), Fail> {
     Ok(())
 }
 
-// The number of the fault.
-fn fault_of(ran: Ran<FailsAtSecond>) -> u8 {
+// The number of the fault of a source whose feeder told the other end of it.
+fn told_of(ran: Ran<FailsAtSecond>) -> u8 {
     match ran.outcome {
-        Ok(_) => 0,
-        Err(fault) => fault.number(),
+        Ok(told) => match told.end {
+            Ok(_) => 0,
+            Err(fault) => fault.number(),
+        },
+        Err(_) => 1,
     }
 }
 
-// The source's fault is answered, no End is put, and the other end, which waits, is told that its feeder is gone.
+// The source's fault is answered, and the other end, which waits, is told of it.
 #[test]
 fn fault_at_second(rt: HostRuntime) -> Result<(), Fail> {
     for _ in 0..1000 {
@@ -72,8 +87,8 @@ fn fault_at_second(rt: HostRuntime) -> Result<(), Fail> {
             || run_thread(handle, source, feeder),
             || get_all(end, got),
         );
-        assert_eq!(rt; fault_of(ran), 47);
-        assert_eq!(rt; taken, (1, 46));
+        assert_eq!(rt; told_of(ran), 47);
+        assert_eq!(rt; taken, (1, 47));
     }
     Ok(())
 }
@@ -97,13 +112,49 @@ fn after_end(rt: HostRuntime) -> Result<(), Fail> {
         matches!(
             refusal,
             Refusal::Ended {
-                item: Item::Segment(_)
+                answer: Ok(Item::Segment(_))
             }
         )
     );
     assert!(rt; matches!(end.next(), Ok(Item::End)));
     assert!(rt; matches!(end.next(), Ok(Item::End)));
     meet(feeder, end);
+    Ok(())
+}
+
+// Feeds what a source gives that fails at its second segment, and tells the other end of the fault.
+fn feed_and_fail(rt: &impl Wait, alloc: Global, feeder: &mut Feeder) -> Result<(), Fail> {
+    let mut source = FailsAtSecond { alloc, calls: 0 };
+    let Err(FeedFault::Source(fault)) = run_feeder(rt, &mut source, feeder) else {
+        return Err(Fail::new("the source did not fail"));
+    };
+    if feeder.fail(rt, fault).is_err() {
+        return Err(Fail::new("nobody was told"));
+    }
+    Ok(())
+}
+
+// The feeder's loop puts neither the fault of a source nor End: so the other end can still be told, and that ends it.
+#[test]
+fn after_a_fault(rt: HostRuntime) -> Result<(), Fail> {
+    let zero = AtomicU64::new(0);
+    let (mut feeder, end) = feed(&rt, rt.alloc())?;
+    feed_and_fail(&rt, rt.alloc(), &mut feeder)?;
+    let Err(refusal) = feeder.put(&rt, Item::End) else {
+        return Err(Fail::new("put after a fault"));
+    };
+    assert_eq!(rt; refusal.number(), 45);
+    assert_eq!(rt; get_all(end, &zero), (1, 47));
+    Ok(())
+}
+
+#[test]
+fn at_end(rt: HostRuntime) -> Result<(), Fail> {
+    let (mut feeder, mut end) = feed(&rt, rt.alloc())?;
+    let _put = feeder.put(&rt, Item::End);
+    let before = end.is_at_end();
+    let _got = end.next();
+    assert_eq!(rt; (before, end.is_at_end()), (false, true));
     Ok(())
 }
 
@@ -119,10 +170,37 @@ fn other_end_gone(rt: HostRuntime) -> Result<(), Fail> {
         matches!(
             refusal,
             Refusal::Gone {
-                item: Item::Segment(_)
+                answer: Ok(Item::Segment(_))
             }
         )
     );
+    Ok(())
+}
+
+// A thread whose other end is gone gives back what was not put, a segment or its source's fault.
+#[test]
+fn nobody_is_told(rt: HostRuntime) -> Result<(), Fail> {
+    for calls in 0..2u64 {
+        let alloc = rt.alloc();
+        let (feeder, end) = feed(&rt, alloc)?;
+        drop(end);
+        let ran = run_thread(&rt, FailsAtSecond { alloc, calls }, feeder);
+        let Err(Refusal::Gone { answer }) = ran.outcome else {
+            return Err(Fail::new("put for nobody"));
+        };
+        assert_eq!(rt; answer.is_ok(), calls == 0);
+    }
+    Ok(())
+}
+
+// The other end of a feeder that is gone, and told nothing, gets what was put, and then no more.
+#[test]
+fn feeder_gone(rt: HostRuntime) -> Result<(), Fail> {
+    let zero = AtomicU64::new(0);
+    let (mut feeder, end) = feed(&rt, rt.alloc())?;
+    assert!(rt; feeder.put(&rt, a_segment(rt.alloc())?).is_ok());
+    drop(feeder);
+    assert_eq!(rt; get_all(end, &zero), (1, 46));
     Ok(())
 }
 

@@ -1,4 +1,4 @@
-//! Tests of the feed: that its ends work beside each other, that it holds four items, and what its refusals leave.
+//! Tests of the feed: that its ends work beside each other, that it holds four answers, and what its refusals leave.
 #![tactic(auto)]
 
 #[cfg(test)]

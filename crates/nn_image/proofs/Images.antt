@@ -80,7 +80,7 @@ image_read text n txid i =
     let left = i.lines ++ i.last ∷ [] ∷ [] in
     let pieces : pieces_of text ≡ i.head ∷ left =
     ap pieces_of i.spelled ∙ pieces_of_lines (i.head ∷ (i.lines ++ i.last ∷ [])) i.plain ∙ ap (λ ps. i.head ∷ ps) (append_assoc i.lines (i.last ∷ []) ([] ∷ [])) in
-    let rows : rows_from (bare n.last_block n.last_stamp n.awaiting) left ≡ Ok n = lines_read n w i.last (subst (IsEnd i.last) count i.counted) i.lines root.0 ([], Dir) [] are root.1 in
+    let rows : rows_from (bare n.issued) left ≡ Ok n = lines_read n w i.last (subst (IsEnd i.last) count i.counted) i.lines root.0 ([], Dir) [] are root.1 in
     ap all_from pieces ∙ all_turn i.head left (some_left i.lines i.last)
     ∙ ap (λ r. r then (λ h. rows_from h.0 left then (λ m. Ok (m, h.1)))) i.header
     ∙ ap (λ r. r then (λ m. Ok (m, txid))) rows
@@ -185,7 +185,7 @@ image_of : (text head : List ℕ) (pieces : List (List ℕ)) (start n : Namespac
 image_of text head pieces start n txid are header has h =
     let split = lines_of text (head ∷ (h.lines ++ h.last ∷ [])) (are ∙ ap (λ ps. head ∷ ps) (h.are ∙ sym (append_assoc h.lines (h.last ∷ []) ([] ∷ [])))) in
     let rows : n.rows ≡ ([], Dir) ∷ h.rest = ap (λ k. k.rows) h.grown ∙ ap (λ k. k.rows ++ h.rest) has.is_bare in
-    let same : start ≡ bare n.last_block n.last_stamp n.awaiting = has.is_bare ∙ (λ j. bare (sym h.grown j).last_block (sym h.grown j).last_stamp (sym h.grown j).awaiting) in
+    let same : start ≡ bare n.issued = has.is_bare ∙ (λ j. bare (sym h.grown j).issued) in
     let count : length n.rows - 1 ≡ length h.lines = omega (arith, rows_counted h.lines h.rest h.rows, ap length rows) in
     record {
       head = head;

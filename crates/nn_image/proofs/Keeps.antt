@@ -18,11 +18,11 @@ pub record Keeps (n : Namespace) : Type 0 where
   pub root : lookup n [] ≡ Some Dir
   pub parents : (row : Path × Form) → Has n.rows row → lookup n (parent_of row.0) ≡ Some Dir
   pub replications : (row : Path × Form) → Has n.rows row → file_fits row.1
-  pub last_block_from : 1073741824 ≤ n.last_block
-  pub last_block_to : n.last_block < 2 ^ 63
-  pub last_stamp_from : 1000 ≤ n.last_stamp
-  pub last_stamp_to : n.last_stamp < 2 ^ 63
-  pub awaiting : awaiting_fits n.last_block n.awaiting ≡ true
-  pub issued : (b : Block) → Has (blocks_in n.rows) b → block_fits n b ≡ true
+  pub last_block_from : 1073741824 ≤ n.issued.last_block
+  pub last_block_to : n.issued.last_block < 2 ^ 63
+  pub last_stamp_from : 1000 ≤ n.issued.last_stamp
+  pub last_stamp_to : n.issued.last_stamp < 2 ^ 63
+  pub awaiting : awaiting_fits n.issued.last_block n.issued.awaiting ≡ true
+  pub issued : (b : Block) → Has (blocks_in n.rows) b → block_fits n.issued b ≡ true
   pub once : once (blocks_in n.rows) ≡ true
   pub lengths : (b : Block) → Has (blocks_in n.rows) b → b.len < 2 ^ 63

@@ -12,7 +12,7 @@ use Rattle.std.proofs.lemmas.Bool.Decides.{Decides-eqb}
 use Rattle.nn_types.specs.declared.block.Block.{Block}
 use Rattle.nn_model.specs.declared.form.Form.{Form}
 use Rattle.nn_model.specs.declared.form.Form.TheVariants.{Dir, File}
-use Rattle.nn_model.specs.Namespace.{Path, path_cmp, Namespace, lookup, no_block}
+use Rattle.nn_model.specs.Namespace.{Path, path_cmp, Issued, Namespace, lookup, no_block}
 use Rattle.nn_model.specs.Apply.{has_id}
 use Rattle.nn_model.specs.WellFormed.{Has, IsIssued, IsWellFormed}
 use Rattle.nn_model.proofs.Dues.{blocks_in}
@@ -80,9 +80,9 @@ rises_of (i ∷ j ∷ ids) sorted = rw (lt-ltb i j (nat_less i j sorted.0.0)) (r
 
 -- ---- blocks
 
-fits_of : (n : Namespace) (b : Block) → IsIssued n b → block_fits n b ≡ true
-fits_of n b is =
-    rw (le-leb 1073741825 b.id is.from_first, le-leb b.id n.last_block is.to_last, is.not_awaiting, le-leb 1001 b.stamp is.stamp_from, le-leb b.stamp n.last_stamp is.stamp_to) refl
+fits_of : (issued : Issued) (b : Block) → IsIssued issued b → block_fits issued b ≡ true
+fits_of issued b is =
+    rw (le-leb 1073741825 b.id is.from_first, le-leb b.id issued.last_block is.to_last, is.not_awaiting, le-leb 1001 b.stamp is.stamp_from, le-leb b.stamp issued.last_stamp is.stamp_to) refl
 
 -- ---- all of it
 
@@ -99,8 +99,8 @@ keeps n w = record {
   last_block_to = w.last_block_to;
   last_stamp_from = w.last_stamp_from;
   last_stamp_to = w.last_stamp_to;
-  awaiting = rw (all_issued n.last_block n.awaiting w.blocks.awaiting_from) (rises_of n.awaiting w.blocks.awaiting_in_order);
-  issued = λ b here. fits_of n b (w.blocks.issued b here);
+  awaiting = rw (all_issued n.issued.last_block n.issued.awaiting w.blocks.awaiting_from) (rises_of n.issued.awaiting w.blocks.awaiting_in_order);
+  issued = λ b here. fits_of n.issued b (w.blocks.issued b here);
   once = once_of (blocks_in n.rows) w.blocks.once;
   lengths = λ b here. (w.blocks.issued b here).length;
 }

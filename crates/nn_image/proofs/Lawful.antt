@@ -93,7 +93,7 @@ row_lawful d row e =
 -- ---- the header
 
 pub record HasHeader (head : Namespace × ℕ) : Type 0 where
-  pub is_bare : head.0 ≡ bare head.0.last_block head.0.last_stamp head.0.awaiting
+  pub is_bare : head.0 ≡ bare head.0.issued
   pub well : IsWellFormed head.0
 
 fields_lawful : (d : Data) (head : Namespace × ℕ) → fields_in d ≡ Some head → HasHeader head
@@ -104,13 +104,13 @@ fields_lawful d head e =
     let block = bound (number_in (codes "last_block") d) _ head txid.2 in
     let stamp = bound (number_in (codes "last_gen") d) _ head block.2 in
     let ids = bound (numbers_at (codes "awaiting") d) _ head stamp.2 in
-    let all = picked (is_header mark.0 block.0 stamp.0 ids.0) (bare block.0 stamp.0 ids.0, txid.0) head ids.2 in
+    let all = picked (is_header mark.0 block.0 stamp.0 ids.0) (bare (record { last_block = block.0; last_stamp = stamp.0; awaiting = ids.0 }), txid.0) head ids.2 in
     let fits = and_true (bytes_eq mark.0 (codes "hdfs-standby") && leb 1073741824 block.0 && leb 1000 stamp.0) (awaiting_fits block.0 ids.0) all.0 in
     let old = and_true (bytes_eq mark.0 (codes "hdfs-standby") && leb 1073741824 block.0) (leb 1000 stamp.0) fits.0 in
     let low = and_true (bytes_eq mark.0 (codes "hdfs-standby")) (leb 1073741824 block.0) old.0 in
     subst HasHeader all.1 (record {
       is_bare = refl;
-      well = bare_is_well_formed block.0 stamp.0 ids.0 (leb-true _ _ low.1) (small_in _ d block.0 block.1) (leb-true _ _ old.1) (small_in _ d stamp.0 stamp.1) fits.1;
+      well = bare_is_well_formed (record { last_block = block.0; last_stamp = stamp.0; awaiting = ids.0 }) (leb-true _ _ low.1) (small_in _ d block.0 block.1) (leb-true _ _ old.1) (small_in _ d stamp.0 stamp.1) fits.1;
     })
 
 -- the txid is a number below 2^63
@@ -122,7 +122,7 @@ txid_limit d head e =
     let block = bound (number_in (codes "last_block") d) _ head txid.2 in
     let stamp = bound (number_in (codes "last_gen") d) _ head block.2 in
     let ids = bound (numbers_at (codes "awaiting") d) _ head stamp.2 in
-    let all = picked (is_header mark.0 block.0 stamp.0 ids.0) (bare block.0 stamp.0 ids.0, txid.0) head ids.2 in
+    let all = picked (is_header mark.0 block.0 stamp.0 ids.0) (bare (record { last_block = block.0; last_stamp = stamp.0; awaiting = ids.0 }), txid.0) head ids.2 in
     subst (λ (h : Namespace × ℕ). h.1 < 2 ^ 63) all.1 (small_in _ d txid.0 txid.1)
 
 pub header_lawful : (o : Option Data) (head : Namespace × ℕ) → of_header o ≡ Ok head → HasHeader head

@@ -12,7 +12,7 @@ use Rattle.std.proofs.lemmas.Bool.Decides.{Decides-eqb}
 use Rattle.std.specs.Prelude.{codes}
 use Rattle.serde_json.specs.Data.{Data}
 use Rattle.serde_json.specs.Find.{get}
-use Rattle.nn_model.specs.Namespace.{Namespace}
+use Rattle.nn_model.specs.Namespace.{Issued, Namespace}
 use Rattle.nn_tree.specs.Restore.{bare}
 use Rattle.std.proofs.KnownBytes.{prepend_known-nil}
 use Rattle.nn_image.specs.declared.fault.ImageFault.{ImageFault}
@@ -231,5 +231,5 @@ module _ (window : List ℕ) (left : Option (List ℕ)) (none : window ≡ []) w
         let j = ends k.0 k.1 in
         (k.2 ∙ ap (with_txid txid) j.0, at_end_behind window' left' j.1)
 
-pub bare_loads : (last_block last_stamp : ℕ) (ids : List ℕ) → IsLoading (bare last_block last_stamp ids) [] 2
-bare_loads last_block last_stamp ids = record { sorted = refl; last = refl; at = refl }
+pub bare_loads : (issued : Issued) → IsLoading (bare issued) [] 2
+bare_loads issued = record { sorted = refl; last = refl; at = refl }

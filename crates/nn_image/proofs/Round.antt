@@ -114,11 +114,11 @@ reads_back n txid well paths counted small =
     let plain : IsPlain head = header_plain n txid awaiting w.last_block_to w.last_stamp_to small in
     let left = row_lines (drop 1 n.rows) ++ line_of (end_data (length n.rows - 1)) in
     let is : object_of (compact_text head) ≡ Some head = header_object n txid awaiting w.last_block_to w.last_stamp_to small in
-    let found : of_header (object_of (compact_text head)) ≡ Ok (bare n.last_block n.last_stamp n.awaiting, txid) =
+    let found : of_header (object_of (compact_text head)) ≡ Ok (bare n.issued, txid) =
     ap of_header is ∙ header_read n txid awaiting w.last_block_to w.last_stamp_to small w.awaiting w.last_block_from w.last_stamp_from in
     let below : drop 1 n.rows ≡ root.0 = ap (drop 1) root.1 in
-    let rows : rows_from (bare n.last_block n.last_stamp n.awaiting) (pieces_of left) ≡ Ok n =
-    ap (λ rs. rows_from (bare n.last_block n.last_stamp n.awaiting) (pieces_of (row_lines rs ++ line_of (end_data (length n.rows - 1))))) below
+    let rows : rows_from (bare n.issued) (pieces_of left) ≡ Ok n =
+    ap (λ rs. rows_from (bare n.issued) (pieces_of (row_lines rs ++ line_of (end_data (length n.rows - 1))))) below
     ∙ rows_read n w paths counted root.0 ([], Dir) [] root.1 in
     ap all_from (piece_line head left plain) ∙ all_turn (compact_text head) (pieces_of left) (some_piece left)
     ∙ ap (λ r. r then (λ h. rows_from h.0 (pieces_of left) then (λ m. Ok (m, h.1)))) found

@@ -160,21 +160,21 @@ blocks_mid (x ∷ before) row rest =
 module _ (n : Namespace) (w : Keeps n) where
   pub short_block : (b : Block) → Has (blocks_in n.rows) b → IsShortBlock b
   short_block b h =
-      let fits = and_true _ (leb b.stamp n.last_stamp) (w.issued b h) in
-      let issued = and_true (is_issued n.last_block b.id) (not (has_id n.awaiting b.id)) (and_true (is_issued n.last_block b.id && not (has_id n.awaiting b.id)) (leb 1001 b.stamp) fits.0).0 in
-      let id_to : b.id ≤ n.last_block = leb-true b.id n.last_block (and_true (leb 1073741825 b.id) (leb b.id n.last_block) issued.0).1 in
-      let stamp_to : b.stamp ≤ n.last_stamp = leb-true b.stamp n.last_stamp fits.1 in
+      let fits = and_true _ (leb b.stamp n.issued.last_stamp) (w.issued b h) in
+      let issued = and_true (is_issued n.issued.last_block b.id) (not (has_id n.issued.awaiting b.id)) (and_true (is_issued n.issued.last_block b.id && not (has_id n.issued.awaiting b.id)) (leb 1001 b.stamp) fits.0).0 in
+      let id_to : b.id ≤ n.issued.last_block = leb-true b.id n.issued.last_block (and_true (leb 1073741825 b.id) (leb b.id n.issued.last_block) issued.0).1 in
+      let stamp_to : b.stamp ≤ n.issued.last_stamp = leb-true b.stamp n.issued.last_stamp fits.1 in
       (omega (arith, w.last_block_to), omega (arith, w.last_stamp_to), w.lengths b h)
 
-  short_ids : (ids : List ℕ) → list_all (is_issued n.last_block) ids ≡ true → AreShort ids
+  short_ids : (ids : List ℕ) → list_all (is_issued n.issued.last_block) ids ≡ true → AreShort ids
   short_ids [] e = tt
   short_ids (i ∷ ids) e =
-      let both = and_true (is_issued n.last_block i) _ e in
-      let to : i ≤ n.last_block = leb-true i n.last_block (and_true (leb 1073741825 i) _ both.0).1 in
+      let both = and_true (is_issued n.issued.last_block i) _ e in
+      let to : i ≤ n.issued.last_block = leb-true i n.issued.last_block (and_true (leb 1073741825 i) _ both.0).1 in
       (omega (arith, w.last_block_to), short_ids ids both.1)
 
-  pub short_awaiting : AreShort n.awaiting
-  short_awaiting = short_ids n.awaiting (and_true (list_all (is_issued n.last_block) n.awaiting) _ w.awaiting).0
+  pub short_awaiting : AreShort n.issued.awaiting
+  short_awaiting = short_ids n.issued.awaiting (and_true (list_all (is_issued n.issued.last_block) n.issued.awaiting) _ w.awaiting).0
 
   module _ (before : Rows) (row : Path × Form) (rest : Rows) (same : n.rows ≡ before ++ row ∷ rest) where
     row_has : Has n.rows row
@@ -204,6 +204,6 @@ module _ (n : Namespace) (w : Keeps n) where
         sym (find_front (parent_of row.0) before row rest mid_sorted less) ∙ ap (find_entry path_cmp (parent_of row.0)) (sym same) ∙ w.parents row row_has in
         rw parent (at row.1 (w.replications row row_has) (λ b h. w.issued b (block_has b h)) once_before)
       where
-        at : (form : Form) → file_fits form → ((b : Block) → Has (blocks_of form) b → block_fits n b ≡ true) → once (blocks_in before ++ blocks_of form) ≡ true → form_fits (with_rows n before) form ≡ true
+        at : (form : Form) → file_fits form → ((b : Block) → Has (blocks_of form) b → block_fits n.issued b ≡ true) → once (blocks_in before ++ blocks_of form) ≡ true → form_fits (with_rows n before) form ≡ true
         at Dir h k e = refl
-        at (File file) h k e = rw (h, all_of (block_fits n) file.blocks k, e) refl
+        at (File file) h k e = rw (h, all_of (block_fits n.issued) file.blocks k, e) refl

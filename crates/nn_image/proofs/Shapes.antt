@@ -146,21 +146,21 @@ end_object count h =
 
 -- ---- the header
 
-module _ (n : Namespace) (txid : ℕ) (awaiting : AreShort n.awaiting) (block : n.last_block < 2 ^ 63) (stamp : n.last_stamp < 2 ^ 63) (number : txid < 2 ^ 63) where
+module _ (n : Namespace) (txid : ℕ) (awaiting : AreShort n.issued.awaiting) (block : n.issued.last_block < 2 ^ 63) (stamp : n.issued.last_stamp < 2 ^ 63) (number : txid < 2 ^ 63) where
   pub header_plain : IsPlain (header_data n txid)
   unfolding head_data
   header_plain = (
     IsUtf8-are_ascii _ refl,
-    numbers_plain n.awaiting awaiting,
+    numbers_plain n.issued.awaiting awaiting,
     (
       IsUtf8-are_ascii _ refl,
       IsUtf8-are_ascii _ refl,
       (
         IsUtf8-are_ascii _ refl,
-        wider n.last_block block,
+        wider n.issued.last_block block,
         (
           IsUtf8-are_ascii _ refl,
-          wider n.last_stamp stamp,
+          wider n.issued.last_stamp stamp,
           (
             IsUtf8-are_ascii _ refl,
             wider txid number,
@@ -173,12 +173,12 @@ module _ (n : Namespace) (txid : ℕ) (awaiting : AreShort n.awaiting) (block : 
 
   header_deep : tree.depth (outline (header_data n txid)) ≤ max_depth
   unfolding head_data
-  header_deep = omega (arith, numbers_deep n.awaiting)
+  header_deep = omega (arith, numbers_deep n.issued.awaiting)
 
   header_same : of_json (outline (header_data n txid)) ≡ Some (header_data n txid)
   unfolding head_data
   header_same =
-      rw (numbers_same n.awaiting awaiting, number_of-decimal n.last_block (wider n.last_block block), number_of-decimal n.last_stamp (wider n.last_stamp stamp), number_of-decimal txid (wider txid number), number_of-decimal 1 (lit< tt)) refl
+      rw (numbers_same n.issued.awaiting awaiting, number_of-decimal n.issued.last_block (wider n.issued.last_block block), number_of-decimal n.issued.last_stamp (wider n.issued.last_stamp stamp), number_of-decimal txid (wider txid number), number_of-decimal 1 (lit< tt)) refl
 
   header_is_object : (Some (header_data n txid) >>= λ d. cond (is_some (as_object d)) (Some d) None) ≡ Some (header_data n txid)
   unfolding head_data
@@ -189,8 +189,8 @@ module _ (n : Namespace) (txid : ℕ) (awaiting : AreShort n.awaiting) (block : 
   header_object =
       rw (is_utf8-from_IsUtf8 _ (utf8_compact (header_data n txid) header_plain), read_compact (header_data n txid) header_plain header_deep header_same) header_is_object
 
-  pub header_read : awaiting_fits n.last_block n.awaiting ≡ true → 1073741824 ≤ n.last_block → 1000 ≤ n.last_stamp
-      → of_version (header_data n txid) (number_in (codes "version") (header_data n txid)) ≡ Ok (bare n.last_block n.last_stamp n.awaiting, txid)
+  pub header_read : awaiting_fits n.issued.last_block n.issued.awaiting ≡ true → 1073741824 ≤ n.issued.last_block → 1000 ≤ n.issued.last_stamp
+      → of_version (header_data n txid) (number_in (codes "version") (header_data n txid)) ≡ Ok (bare n.issued, txid)
   unfolding head_data fields_in number_in text_in numbers_at array_in
   header_read fits low old =
-      rw (limited_ok txid number, limited_ok n.last_block block, limited_ok n.last_stamp stamp, numbers_read n.awaiting awaiting, le-leb 1073741824 n.last_block low, le-leb 1000 n.last_stamp old, fits) refl
+      rw (limited_ok txid number, limited_ok n.issued.last_block block, limited_ok n.issued.last_stamp stamp, numbers_read n.issued.awaiting awaiting, le-leb 1073741824 n.issued.last_block low, le-leb 1000 n.issued.last_stamp old, fits) refl

@@ -10,7 +10,7 @@ use Rattle.serde_json.specs.declared.value.Value.{Value}
 use Rattle.nn_types.specs.declared.block.Block.{Block}
 use Rattle.nn_model.specs.declared.form.Form.{Form}
 use Rattle.nn_model.specs.declared.form.Form.TheVariants.{Dir, File}
-use Rattle.nn_model.specs.Namespace.{Path, Namespace}
+use Rattle.nn_model.specs.Namespace.{Path, Issued, Namespace}
 use Rattle.nn_model.specs.Namespace.{path_cmp}
 use Rattle.nn_model.specs.WellFormed.{IsWellFormed}
 use Rattle.std.specs.Prelude.{T}
@@ -38,9 +38,9 @@ blocks_whole : (bs : List Block) → items_have_float (block_items bs) ≡ false
 blocks_whole [] = refl
 blocks_whole (b ∷ bs) = blocks_whole bs
 
-pub head_whole : (last_block last_stamp : ℕ) (awaiting : List ℕ) (txid : ℕ) → has_float (head_data last_block last_stamp awaiting txid) ≡ false
+pub head_whole : (issued : Issued) (txid : ℕ) → has_float (head_data issued txid) ≡ false
 unfolding head_data
-head_whole last_block last_stamp awaiting txid = rw (numbers_whole awaiting) refl
+head_whole issued txid = rw (numbers_whole issued.awaiting) refl
 
 pub row_whole : (p : Path) (form : Form) → has_float (form_data p form) ≡ false
 unfolding form_data

@@ -17,7 +17,7 @@ with_feed line = line ++ feed ∷ []
 
 -- the line is a header with the numbers of the namespace, and the txid
 abbrev pub IsHeader : List ℕ → Namespace → ℕ → Type 0
-IsHeader line n txid = of_header (object_of line) ≡ Ok (bare n.last_block n.last_stamp n.awaiting, txid)
+IsHeader line n txid = of_header (object_of line) ≡ Ok (bare n.issued, txid)
 
 -- the line is an object that gives this row, and no end line
 pub record IsRow (line : List ℕ) (row : Path × Form) : Type 0 where

@@ -14,7 +14,7 @@ abbrev b : List ℕ
 b = codes "b"
 
 abbrev start : Namespace
-start = bare 1073741830 1005 (1073741826 ∷ [])
+start = bare (record { last_block = 1073741830; last_stamp = 1005; awaiting = 1073741826 ∷ [] })
 
 abbrev one : Namespace
 one = with_row start (b ∷ []) Dir

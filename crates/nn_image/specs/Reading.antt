@@ -100,7 +100,7 @@ fields_in d = do
   last_block ← number_in (codes "last_block") d
   last_stamp ← number_in (codes "last_gen") d
   ids ← numbers_at (codes "awaiting") d
-  (if is_header mark last_block last_stamp ids then Some (bare last_block last_stamp ids, txid) else None)
+  (if is_header mark last_block last_stamp ids then Some (bare (record { last_block = last_block; last_stamp = last_stamp; awaiting = ids }), txid) else None)
 
 abbrev pub of_version : Data → Option ℕ → Result (Namespace × ℕ) ImageFault
 of_version d None = Err NotHeader

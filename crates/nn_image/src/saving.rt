@@ -246,7 +246,7 @@ fn head_value(
     awaiting: &[BlockId],
     txid: u64,
 ) -> Result<Value, AllocError>
-    ensures { IfOk result (λ v. view v ≡ head_data last_block last_stamp awaiting.now txid) }
+    ensures { IfOk result (λ v. view v ≡ head_data (record { last_block = last_block; last_stamp = last_stamp; awaiting = awaiting.now }) txid) }
 {
     let ids = Value::Array(number_values(alloc, awaiting)?);
     let version = 1u64;

@@ -30,7 +30,7 @@ unfolding escape_byte digits
 file_of_two_blocks = refl
 
 abbrev of_two : Namespace
-of_two = record { rows = ([], Dir) ∷ (codes "a" ∷ [], Dir) ∷ []; last_block = 1073741824; last_stamp = 1000; awaiting = [] }
+of_two = record { rows = ([], Dir) ∷ (codes "a" ∷ [], Dir) ∷ []; issued = record { last_block = 1073741824; last_stamp = 1000; awaiting = [] } }
 
 -- the last transaction first, then each path
 whole : listing_text 9 of_two ≡ codes "txid 9" ++ newline ∷ codes "dir \"/\"" ++ newline ∷ codes "dir \"/a\"" ++ newline ∷ []

@@ -16,9 +16,7 @@ line text = text ++ newline ∷ []
 abbrev one_file : Namespace
 one_file = record {
   rows = ([], Dir) ∷ (f, File (record { replication = 1; closed = true; blocks = block b 1002 5 ∷ block c 1001 7 ∷ [] })) ∷ [];
-  last_block = 1073741827;
-  last_stamp = 1002;
-  awaiting = [];
+  issued = record { last_block = 1073741827; last_stamp = 1002; awaiting = [] };
 }
 
 -- an id that no file holds

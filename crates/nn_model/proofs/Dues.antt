@@ -4,8 +4,7 @@ use Rattle.std.proofs.Common.{inl, inr, arith}
 use Rattle.std.specs.Prelude.{◌⊎◌, ◌==◌, nat_le, find, filter, flat_map, if◌then◌else◌}
 use Rattle.std.specs.List.{list_any}
 use Rattle.std.specs.Ordering.{eq_by_cmp}
-use Rattle.std.specs.declared.cmp.Ordering.TheVariants.{Less, Equal, Greater}
-use Rattle.std.specs.FinMap.Entries.{find as find_entry, put, by_order}
+use Rattle.std.specs.FinMap.Entries.{find as find_entry, is_sorted}
 use Rattle.std.proofs.lemmas.Bool.{or_parts, or_from, both_ways, and_parts, eqb-true, eq-eqb, ne_eqb, leb-true, leb-false, le-leb, cases_Bool, cond-true}
 use Rattle.std.proofs.lemmas.Bool.{cond-false, not-false}
 use Rattle.nn_types.specs.declared.block.Block.{Block}
@@ -18,25 +17,11 @@ use Rattle.nn_model.specs.declared.form.Form.{Form}
 use Rattle.nn_model.specs.declared.form.Form.TheVariants.{Dir, File}
 use Rattle.nn_types.specs.declared.edit_fault.EditFault.{EditFault}
 use Rattle.nn_model.specs.Namespace.{Path, path_cmp, Namespace, with_row, file_at, file_or_none, blocks_of, all_blocks, begins_with}
-use Rattle.nn_model.specs.Apply.{first, when, checks, refusal, effect, has_id, keeps_ids, keeps_stamps, with_blocks, in_path_order, moved, list_checks}
+use Rattle.nn_model.specs.Apply.{first, when, checks, refusal, effect, has_id, keeps_ids, keeps_stamps, with_blocks, moved, list_checks}
 use Rattle.nn_model.specs.Status.{block_at, status_unheld, status_from, due_in}
 use Rattle.nn_model.specs.WellFormed.{Has, times, HasWellFormedBlocks}
-
--- ---- lists
-
-pub has_left : {A : Type 0} (xs ys : List A) (x : A) → Has xs x → Has (xs ++ ys) x
-has_left [] ys x here = absurd here
-has_left (y ∷ xs) ys x (inl same) = inl same
-has_left (y ∷ xs) ys x (inr here) = inr (has_left xs ys x here)
-
-pub has_right : {A : Type 0} (xs ys : List A) (x : A) → Has ys x → Has (xs ++ ys) x
-has_right [] ys x here = here
-has_right (y ∷ xs) ys x here = inr (has_right xs ys x here)
-
-pub has_either : {A : Type 0} (xs ys : List A) (x : A) → Has (xs ++ ys) x → Has xs x ⊎ Has ys x
-has_either [] ys x here = inr here
-has_either (y ∷ xs) ys x (inl same) = inl (inl same)
-has_either (y ∷ xs) ys x (inr here) = elim (has_either xs ys x here) [ inl a ↦ inl (inr a) | inr b ↦ inr b ]
+use Rattle.nn_model.proofs.InRows.{put_from, order_from, moved_from, filter_from}
+pub use Rattle.nn_model.proofs.InRows.{has_left, has_right, has_either}
 
 -- the blocks of rows
 abbrev pub blocks_in : List (Path × Form) → List Block
@@ -97,25 +82,25 @@ once_same (b ∷ bs) x y once hx hy same =
 
 -- where a block of the new namespace comes from: from one of the old with the same id and no greater stamp, or from an awaiting id
 abbrev pub Comes : Namespace → Block → Type 0
-Comes n b = ((a : Block) × Has (all_blocks n) a × (a.id ≡ b.id) × (a.stamp ≤ b.stamp)) ⊎ (has_id n.awaiting b.id ≡ true)
+Comes n b = ((a : Block) × Has (all_blocks n) a × (a.id ≡ b.id) × (a.stamp ≤ b.stamp)) ⊎ (has_id n.issued.awaiting b.id ≡ true)
 
 -- what an edit may do to the blocks, the ids and the awaiting ids
 pub record GoesOn (n new : Namespace) : Type 0 where
   pub each : (b : Block) → Has (all_blocks new) b → Comes n b
-  pub last : n.last_block ≤ new.last_block
-  pub awaiting : (id : ℕ) → id ≤ n.last_block → has_id n.awaiting id ≡ false → has_id new.awaiting id ≡ false
+  pub last : n.issued.last_block ≤ new.issued.last_block
+  pub awaiting : (id : ℕ) → id ≤ n.issued.last_block → has_id n.issued.awaiting id ≡ false → has_id new.issued.awaiting id ≡ false
 
 -- what is said of an id that no file holds: it awaits, or was issued, or is still to come
-said_awaiting : (n : Namespace) (id : ℕ) → has_id n.awaiting id ≡ true → status_unheld n id ≡ Awaiting
-said_awaiting n id waits = cond-true (has_id n.awaiting id) Awaiting (if nat_le id n.last_block then Retired else Unnamed) waits
+said_awaiting : (n : Namespace) (id : ℕ) → has_id n.issued.awaiting id ≡ true → status_unheld n id ≡ Awaiting
+said_awaiting n id waits = cond-true (has_id n.issued.awaiting id) Awaiting (if nat_le id n.issued.last_block then Retired else Unnamed) waits
 
-said_issued : (n : Namespace) (id : ℕ) → has_id n.awaiting id ≡ false → status_unheld n id ≡ (if nat_le id n.last_block then Retired else Unnamed)
-said_issued n id free = cond-false (has_id n.awaiting id) Awaiting (if nat_le id n.last_block then Retired else Unnamed) free
+said_issued : (n : Namespace) (id : ℕ) → has_id n.issued.awaiting id ≡ false → status_unheld n id ≡ (if nat_le id n.issued.last_block then Retired else Unnamed)
+said_issued n id free = cond-false (has_id n.issued.awaiting id) Awaiting (if nat_le id n.issued.last_block then Retired else Unnamed) free
 
-pub retired : (n : Namespace) (id stamp : ℕ) → block_at n id ≡ None → has_id n.awaiting id ≡ false → id ≤ n.last_block → due_in n id stamp ≡ true
+pub retired : (n : Namespace) (id stamp : ℕ) → block_at n id ≡ None → has_id n.issued.awaiting id ≡ false → id ≤ n.issued.last_block → due_in n id stamp ≡ true
 retired n id stamp none free low =
     ap (λ b. is_due (status_from b (status_unheld n id)) stamp) none
-    ∙ ap (λ s. is_due s stamp) (said_issued n id free ∙ cond-true (nat_le id n.last_block) Retired Unnamed (le-leb _ _ low))
+    ∙ ap (λ s. is_due s stamp) (said_issued n id free ∙ cond-true (nat_le id n.issued.last_block) Retired Unnamed (le-leb _ _ low))
 
 pub named : (n : Namespace) (id stamp : ℕ) (b : Block) → block_at n id ≡ Some b → stamp ≤ b.stamp → due_in n id stamp ≡ true
 named n id stamp b found low = ap (λ o. is_due (status_from o (status_unheld n id)) stamp) found ∙ le-leb _ _ low
@@ -124,15 +109,15 @@ named n id stamp b found low = ap (λ o. is_due (status_from o (status_unheld n 
 pub due_named : (n : Namespace) (id stamp : ℕ) (b : Block) → block_at n id ≡ Some b → due_in n id stamp ≡ true → stamp ≤ b.stamp
 due_named n id stamp b found due = leb-true _ _ (sym (ap (λ o. is_due (status_from o (status_unheld n id)) stamp) found) ∙ due)
 
-pub due_retired : (n : Namespace) (id stamp : ℕ) → block_at n id ≡ None → due_in n id stamp ≡ true → (has_id n.awaiting id ≡ false) × (id ≤ n.last_block)
+pub due_retired : (n : Namespace) (id stamp : ℕ) → block_at n id ≡ None → due_in n id stamp ≡ true → (has_id n.issued.awaiting id ≡ false) × (id ≤ n.issued.last_block)
 due_retired n id stamp none due =
     let unnamed : is_due (status_unheld n id) stamp ≡ true = sym (ap (λ o. is_due (status_from o (status_unheld n id)) stamp) none) ∙ due in
-    elim (cases_Bool (has_id n.awaiting id)) [
+    elim (cases_Bool (has_id n.issued.awaiting id)) [
       | inl waits ↦ absurd (both_ways _ refl (sym (ap (λ s. is_due s stamp) (said_awaiting n id waits)) ∙ unnamed))
-      | inr free ↦ elim (cases_Bool (nat_le id n.last_block)) [
+      | inr free ↦ elim (cases_Bool (nat_le id n.issued.last_block)) [
         | inl low ↦ (free, leb-true _ _ low)
         | inr high ↦
-            let said = said_issued n id free ∙ cond-false (nat_le id n.last_block) Retired Unnamed high in
+            let said = said_issued n id free ∙ cond-false (nat_le id n.issued.last_block) Retired Unnamed high in
             absurd (both_ways _ refl (sym (ap (λ s. is_due s stamp) said) ∙ unnamed))
       ]
     ]
@@ -141,15 +126,32 @@ pub cases_block : (o : Option Block) → ((b : Block) × (o ≡ Some b)) ⊎ (o 
 cases_block (Some b) = inl (b, refl)
 cases_block None = inr refl
 
-goes_on : (n new : Namespace) → HasWellFormedBlocks n → GoesOn n new → (id stamp : ℕ) → due_in n id stamp ≡ true → due_in new id stamp ≡ true
+-- rows are in order, each id stands once, ids of files were issued and don't await, and awaiting ids were issued
+pub record HasIds (n : Namespace) : Type 0 where
+  pub in_order : is_sorted path_cmp n.rows ≡ true
+  pub once : (id : ℕ) → times id (all_blocks n) ≤ 1
+  pub issued : (b : Block) → Has (all_blocks n) b → (b.id ≤ n.issued.last_block) × (has_id n.issued.awaiting b.id ≡ false)
+  pub awaiting : (id : ℕ) → has_id n.issued.awaiting id ≡ true → id ≤ n.issued.last_block
+
+pub ids_of_well : (n : Namespace) → HasWellFormedBlocks n → HasIds n
+ids_of_well n w = record {
+  in_order = w.in_order;
+  once = w.once;
+  issued = λ b here. let is = w.issued b here in (is.to_last, is.not_awaiting);
+  awaiting = λ id waits. (w.awaiting_from id waits).1;
+}
+
+pub goes_on : (n new : Namespace) → HasIds n → GoesOn n new → (id stamp : ℕ) → due_in n id stamp ≡ true → due_in new id stamp ≡ true
 goes_on n new w g id stamp due =
+    let awaits : (b : Block) → b.id ≡ id → has_id n.issued.awaiting id ≡ false → has_id n.issued.awaiting b.id ≡ true → ⊥ =
+    λ b is free waits. both_ways _ free (subst (λ k. has_id n.issued.awaiting k ≡ true) is waits) in
     elim (cases_block (block_at n id)) [
       | inl was ↦
           let at = found_in (all_blocks n) id was.0 was.1 in
           let issued = w.issued was.0 at.0 in
           let low = due_named n id stamp was.0 was.1 due in
-          let free : has_id n.awaiting id ≡ false = subst (λ k. has_id n.awaiting k ≡ false) at.1 issued.not_awaiting in
-          let in_last : id ≤ n.last_block = subst (λ k. k ≤ n.last_block) at.1 issued.to_last in
+          let free : has_id n.issued.awaiting id ≡ false = subst (λ k. has_id n.issued.awaiting k ≡ false) at.1 issued.1 in
+          let in_last : id ≤ n.issued.last_block = subst (λ k. k ≤ n.issued.last_block) at.1 issued.0 in
           elim (cases_block (block_at new id)) [
             | inl now ↦
                 let there = found_in (all_blocks new) id now.0 now.1 in
@@ -158,7 +160,7 @@ goes_on n new w g id stamp due =
                       let same : from.0 ≡ was.0 = once_same (all_blocks n) from.0 was.0 (w.once was.0.id) from.1 at.0 (from.2 ∙ there.1 ∙ sym at.1) in
                       let e : from.0.stamp ≡ was.0.stamp = ap (λ b. b.stamp) same in
                       named new id stamp now.0 now.1 (omega (arith, low, e, from.3))
-                  | inr waits ↦ absurd (both_ways _ (subst (λ k. has_id n.awaiting k ≡ false) (sym there.1) free) waits)
+                  | inr waits ↦ absurd (awaits now.0 there.1 free waits)
                 ]
             | inr gone ↦ retired new id stamp gone (g.awaiting id in_last free) (omega (arith, in_last, g.last))
           ]
@@ -169,27 +171,13 @@ goes_on n new w g id stamp due =
                 let there = found_in (all_blocks new) id now.0 now.1 in
                 elim (g.each now.0 there.0) [
                   | inl from ↦ absurd (none_found (all_blocks n) id from.0 none from.1 (from.2 ∙ there.1))
-                  | inr waits ↦ absurd (both_ways _ (subst (λ k. has_id n.awaiting k ≡ false) (sym there.1) r.0) waits)
+                  | inr waits ↦ absurd (awaits now.0 there.1 r.0 waits)
                 ]
             | inr still ↦ retired new id stamp still (g.awaiting id r.1 r.0) (omega (arith, r.1, g.last))
           ]
     ]
 
 -- ---- what an edit does to the blocks
-
-pub blocks_put : (p : Path) (form : Form) (rows : List (Path × Form)) (b : Block) → Has (blocks_in (put path_cmp p form rows)) b →
-    Has (blocks_of form) b ⊎ Has (blocks_in rows) b
-blocks_put p form [] b here = has_either (blocks_of form) [] b here
-blocks_put p form (row ∷ rows) b here =
-    elim (path_cmp p row.0) as (λ o. Has (blocks_in (by_order o ((p, form) ∷ row ∷ rows) ((row.0, form) ∷ rows) (row ∷ put path_cmp p form rows))) b
-    → Has (blocks_of form) b ⊎ Has (blocks_in (row ∷ rows)) b) [
-      | Less ↦ λ h. has_either (blocks_of form) (blocks_in (row ∷ rows)) b h
-      | Equal ↦ λ h. elim (has_either (blocks_of form) (blocks_in rows) b h) [ inl a ↦ inl a | inr c ↦ inr (has_right (blocks_of row.1) (blocks_in rows) b c) ]
-      | Greater ↦ λ h. elim (has_either (blocks_of row.1) (blocks_in (put path_cmp p form rows)) b h) [
-        | inl a ↦ inr (has_left (blocks_of row.1) (blocks_in rows) b a)
-        | inr c ↦ elim (blocks_put p form rows b c) [ inl d ↦ inl d | inr d ↦ inr (has_right (blocks_of row.1) (blocks_in rows) b d) ]
-      ]
-    ] here
 
 form_has : (form : Form) (b : Block) → Has (file_or_none (Some form)).blocks b → Has (blocks_of form) b
 form_has Dir b here = here
@@ -203,33 +191,6 @@ file_has p (row ∷ rows) b here =
       | true ↦ λ h. has_left (blocks_of row.1) (blocks_in rows) b (form_has row.1 b h)
       | false ↦ λ h. has_right (blocks_of row.1) (blocks_in rows) b (file_has p rows b h)
     ] here
-
-pub blocks_filter : (test : Path × Form → Bool) (rows : List (Path × Form)) (b : Block) → Has (blocks_in (filter test rows)) b → Has (blocks_in rows) b
-blocks_filter test [] b here = here
-blocks_filter test (row ∷ rows) b here =
-    elim (test row) as (λ t. Has (blocks_in (cond t (row ∷ filter test rows) (filter test rows))) b → Has (blocks_in (row ∷ rows)) b) [
-      | true ↦ λ h. elim (has_either (blocks_of row.1) (blocks_in (filter test rows)) b h) [
-        | inl a ↦ has_left (blocks_of row.1) (blocks_in rows) b a
-        | inr c ↦ has_right (blocks_of row.1) (blocks_in rows) b (blocks_filter test rows b c)
-      ]
-      | false ↦ λ h. has_right (blocks_of row.1) (blocks_in rows) b (blocks_filter test rows b h)
-    ] here
-
-pub blocks_in_order : (rows : List (Path × Form)) (b : Block) → Has (blocks_in (in_path_order rows)) b → Has (blocks_in rows) b
-blocks_in_order [] b here = here
-blocks_in_order (row ∷ rows) b here =
-    elim (blocks_put row.0 row.1 (in_path_order rows) b here) [
-      | inl a ↦ has_left (blocks_of row.1) (blocks_in rows) b a
-      | inr c ↦ has_right (blocks_of row.1) (blocks_in rows) b (blocks_in_order rows b c)
-    ]
-
-pub blocks_moved : (f : Path → Path) (rows : List (Path × Form)) (b : Block) → Has (blocks_in (map (λ row. (f row.0, row.1)) rows)) b → Has (blocks_in rows) b
-blocks_moved f [] b here = here
-blocks_moved f (row ∷ rows) b here =
-    elim (has_either (blocks_of row.1) (blocks_in (map (λ r. (f r.0, r.1)) rows)) b here) [
-      | inl a ↦ has_left (blocks_of row.1) (blocks_in rows) b a
-      | inr c ↦ has_right (blocks_of row.1) (blocks_in rows) b (blocks_moved f rows b c)
-    ]
 
 -- a block of a new list comes from the one in its place
 pub listed : (last : ℕ) (old new : List Block) (b : Block) → keeps_ids old new ≡ true → keeps_stamps last old new ≡ true → Has new b →
@@ -265,12 +226,12 @@ when_none false fault none = refl
 stays : (n : Namespace) (b : Block) → Has (all_blocks n) b → Comes n b
 stays n b here = inl (b, here, refl, omega arith)
 
-same_ids : (n : Namespace) (id : ℕ) → id ≤ n.last_block → has_id n.awaiting id ≡ false → has_id n.awaiting id ≡ false
+same_ids : (n : Namespace) (id : ℕ) → id ≤ n.issued.last_block → has_id n.issued.awaiting id ≡ false → has_id n.issued.awaiting id ≡ false
 same_ids n id low free = free
 
 row_goes_on : (n : Namespace) (p : Path) (form : Form) → ((b : Block) → Has (blocks_of form) b → Comes n b) → GoesOn n (with_row n p form)
 row_goes_on n p form comes = record {
-  each = λ b here. elim (blocks_put p form n.rows b here) [ inl a ↦ comes b a | inr c ↦ stays n b c ];
+  each = λ b here. elim (put_from blocks_of p form n.rows b here) [ inl a ↦ comes b a | inr c ↦ stays n b c ];
   last = omega arith;
   awaiting = same_ids n;
 }
@@ -293,7 +254,7 @@ list_goes_on n p bs closed applies =
     let ids = not-false _ (when_none _ _ found.1.1.1.1.1.0) in
     let stamps = not-false _ (when_none _ _ found.1.1.1.1.1.1.0) in
     row_goes_on n p (File (record { replication = (file_at n p).replication; closed = closed; blocks = bs })) (λ b here.
-    let from = listed n.last_stamp (file_at n p).blocks bs b ids stamps here in
+    let from = listed n.issued.last_stamp (file_at n p).blocks bs b ids stamps here in
     inl (from.0, file_has p n.rows from.0 from.1, from.2, from.3))
 
 pub edit_goes_on : (n : Namespace) (edit : Edit) → refusal n edit ≡ None → GoesOn n (effect n edit)
@@ -303,25 +264,25 @@ edit_goes_on n (Mkdir p) applies = row_goes_on n p Dir (λ b none. absurd none)
 edit_goes_on n (Add p r) applies = row_goes_on n p (File (record { replication = r; closed = false; blocks = [] })) (λ b none. absurd none)
 edit_goes_on n (AddBlock p i stamp) applies =
     let found = all_none (checks n (AddBlock p i stamp)) applies in
-    let waits : has_id n.awaiting i ≡ true = not-false _ (when_none _ _ found.1.1.1.1.1.0) in
+    let waits : has_id n.issued.awaiting i ≡ true = not-false _ (when_none _ _ found.1.1.1.1.1.0) in
     let new : Block = record { id = i; stamp = stamp; len = 0 } in
     let bs = (file_at n p).blocks ++ new ∷ [] in
     let put_in = row_goes_on n p (File (record { replication = (file_at n p).replication; closed = false; blocks = bs })) (λ b here.
     elim (has_either (file_at n p).blocks (new ∷ []) b here) [
       | inl old ↦ stays n b (file_has p n.rows b old)
-      | inr (inl same) ↦ inr (subst (λ y. has_id n.awaiting y.id ≡ true) same waits)
+      | inr (inl same) ↦ inr (subst (λ y. has_id n.issued.awaiting y.id ≡ true) same waits)
       | inr (inr none) ↦ absurd none
     ]) in
-    record { each = put_in.each; last = omega arith; awaiting = λ id low free. filter_none (λ k. k == id) (λ k. not (k == i)) n.awaiting free }
+    record { each = put_in.each; last = omega arith; awaiting = λ id low free. filter_none (λ k. k == id) (λ k. not (k == i)) n.issued.awaiting free }
 edit_goes_on n (UpdateBlocks p bs) applies = list_goes_on n p bs false applies
 edit_goes_on n (Close p bs) applies = list_goes_on n p bs true applies
 edit_goes_on n (Rename s d) applies = record {
-  each = λ b here. stays n b (blocks_moved (moved s d) n.rows b (blocks_in_order (map (λ row. (moved s d row.0, row.1)) n.rows) b here));
+  each = λ b here. stays n b (moved_from blocks_of (moved s d) n.rows b (order_from blocks_of (map (λ row. (moved s d row.0, row.1)) n.rows) b here));
   last = omega arith;
   awaiting = same_ids n;
 }
 edit_goes_on n (Delete p) applies =
-    record { each = λ b here. stays n b (blocks_filter (λ row. not (begins_with p row.0)) n.rows b here); last = omega arith; awaiting = same_ids n }
+    record { each = λ b here. stays n b (filter_from blocks_of (λ row. not (begins_with p row.0)) n.rows b here); last = omega arith; awaiting = same_ids n }
 edit_goes_on n (SetReplication p r) applies =
     row_goes_on n p (File (record {
       replication =
@@ -331,29 +292,29 @@ edit_goes_on n (SetReplication p r) applies =
     })) (λ b here. stays n b (file_has p n.rows b here))
 edit_goes_on n (AllocateBlockId i) applies =
     let found = all_none (checks n (AllocateBlockId i)) applies in
-    let above : n.last_block < i = leb-false _ _ (when_none _ _ found.0) in
-    record { each = stays n; last = omega arith; awaiting = λ id low free. any_push (λ k. k == id) n.awaiting i free (ne_eqb _ _ (λ same. omega arith)) }
+    let above : n.issued.last_block < i = leb-false _ _ (when_none _ _ found.0) in
+    record { each = stays n; last = omega arith; awaiting = λ id low free. any_push (λ k. k == id) n.issued.awaiting i free (ne_eqb _ _ (λ same. omega arith)) }
 edit_goes_on n (SetGenstamp stamp) applies = record { each = stays n; last = omega arith; awaiting = same_ids n }
 
 pub due_stays : (n : Namespace) (edit : Edit) → HasWellFormedBlocks n → refusal n edit ≡ None → (id stamp : ℕ) → due_in n id stamp ≡ true →
     due_in (effect n edit) id stamp ≡ true
-due_stays n edit w applies = goes_on n (effect n edit) w (edit_goes_on n edit applies)
+due_stays n edit w applies = goes_on n (effect n edit) (ids_of_well n w) (edit_goes_on n edit applies)
 
 -- an id that is not awaiting and that no file holds stays so
-pub stays_gone : (n new : Namespace) → GoesOn n new → (id : ℕ) → block_at n id ≡ None → has_id n.awaiting id ≡ false → block_at new id ≡ None
+pub stays_gone : (n new : Namespace) → GoesOn n new → (id : ℕ) → block_at n id ≡ None → has_id n.issued.awaiting id ≡ false → block_at new id ≡ None
 stays_gone n new g id none free =
     elim (cases_block (block_at new id)) [
       | inl now ↦
           let there = found_in (all_blocks new) id now.0 now.1 in
           elim (g.each now.0 there.0) [
             | inl from ↦ absurd (none_found (all_blocks n) id from.0 none from.1 (from.2 ∙ there.1))
-            | inr waits ↦ absurd (both_ways _ (subst (λ k. has_id n.awaiting k ≡ false) (sym there.1) free) waits)
+            | inr waits ↦ absurd (both_ways _ (subst (λ k. has_id n.issued.awaiting k ≡ false) (sym there.1) free) waits)
           ]
       | inr gone ↦ gone
     ]
 
 -- what is due and in no file is not awaiting
-pub due_not_awaiting : (n : Namespace) (id stamp : ℕ) → block_at n id ≡ None → due_in n id stamp ≡ true → has_id n.awaiting id ≡ false
+pub due_not_awaiting : (n : Namespace) (id stamp : ℕ) → block_at n id ≡ None → due_in n id stamp ≡ true → has_id n.issued.awaiting id ≡ false
 due_not_awaiting n id stamp none due = (due_retired n id stamp none due).0
 
 -- what is due with a stamp is due with none

@@ -1,5 +1,5 @@
 -- What is due stays due along a log, whatever the lengths of blocks are: ids alone have to be in order.
-use Rattle.std.proofs.Common.{◌≡◌, ℕ, zero, suc, ◌+◌, ◌≤◌, ◌<◌, Bool, true, false, cond, not, List, [], ◌∷◌, ◌++◌, take, map, None, refl, sym, ap, subst, ◌∙◌, inl, inr, arith}
+use Rattle.std.proofs.Common.{◌≡◌, ℕ, zero, suc, ◌+◌, ◌≤◌, ◌<◌, Bool, true, false, cond, not, List, [], ◌∷◌, ◌++◌, take, map, None, refl, sym, subst, inl, inr, arith}
 use Rattle.std.specs.Prelude.{◌==◌, filter}
 use Rattle.std.specs.FinMap.Entries.{put, is_sorted, is_sorted-put, is_sorted-where_key}
 use Rattle.std.proofs.lemmas.Bool.{both_ways, eqb-true, leb-false, cases_Bool, not-false}
@@ -11,66 +11,13 @@ use Rattle.nn_model.specs.declared.form.Form.{Form}
 use Rattle.nn_model.specs.declared.form.Form.TheVariants.{Dir, File}
 use Rattle.nn_model.specs.Namespace.{Path, path_cmp, Namespace, with_row, file_at, blocks_of, all_blocks, begins_with}
 use Rattle.nn_model.specs.Apply.{first, checks, refusal, effect, has_id, with_blocks, in_path_order, moved, list_checks}
-use Rattle.nn_model.specs.Status.{block_at, due_in}
+use Rattle.nn_model.specs.Status.{due_in}
 use Rattle.nn_model.specs.WellFormed.{Has, times, HasWellFormedBlocks}
 use Rattle.nn_model.specs.Log.{namespace_after, IsLog}
 use Rattle.nn_model.proofs.Lookups.{paths_total}
-use Rattle.nn_model.proofs.Dues.{retired, named, due_named, due_retired, cases_block, found_in, none_found, once_same, stands_times, blocks_in, all_none, when_none, filter_none, any_push, GoesOn, edit_goes_on}
+use Rattle.nn_model.proofs.Dues.{HasIds, ids_of_well, goes_on, stands_times, blocks_in, all_none, when_none, filter_none, any_push, GoesOn, edit_goes_on}
 use Rattle.nn_model.proofs.Wells.{times_in_order, times_moved, times-append, absent, from_T, to_T, times_put, times_filter, times_listed, sorted_in_order, filtered_out}
 use Rattle.nn_model.proofs.Places.{DueAlong}
-
--- rows are in order, each id stands once, ids of files were issued and don't await, and awaiting ids were issued
-record HasIds (n : Namespace) : Type 0 where
-  in_order : is_sorted path_cmp n.rows ≡ true
-  once : (id : ℕ) → times id (all_blocks n) ≤ 1
-  issued : (b : Block) → Has (all_blocks n) b → (b.id ≤ n.last_block) × (has_id n.awaiting b.id ≡ false)
-  awaiting : (id : ℕ) → has_id n.awaiting id ≡ true → id ≤ n.last_block
-
-ids_of_well : (n : Namespace) → HasWellFormedBlocks n → HasIds n
-ids_of_well n w = record {
-  in_order = w.in_order;
-  once = w.once;
-  issued = λ b here. let is = w.issued b here in (is.to_last, is.not_awaiting);
-  awaiting = λ id waits. (w.awaiting_from id waits).1;
-}
-
--- ---- what is due
-
-due_goes_on : (n new : Namespace) → HasIds n → GoesOn n new → (id stamp : ℕ) → due_in n id stamp ≡ true → due_in new id stamp ≡ true
-due_goes_on n new w g id stamp due =
-    let awaits : (b : Block) → b.id ≡ id → has_id n.awaiting id ≡ false → has_id n.awaiting b.id ≡ true → ⊥ =
-    λ b is free waits. both_ways _ free (subst (λ k. has_id n.awaiting k ≡ true) is waits) in
-    elim (cases_block (block_at n id)) [
-      | inl was ↦
-          let at = found_in (all_blocks n) id was.0 was.1 in
-          let issued = w.issued was.0 at.0 in
-          let low = due_named n id stamp was.0 was.1 due in
-          let free : has_id n.awaiting id ≡ false = subst (λ k. has_id n.awaiting k ≡ false) at.1 issued.1 in
-          let in_last : id ≤ n.last_block = subst (λ k. k ≤ n.last_block) at.1 issued.0 in
-          elim (cases_block (block_at new id)) [
-            | inl now ↦
-                let there = found_in (all_blocks new) id now.0 now.1 in
-                elim (g.each now.0 there.0) [
-                  | inl from ↦
-                      let same : from.0 ≡ was.0 = once_same (all_blocks n) from.0 was.0 (w.once was.0.id) from.1 at.0 (from.2 ∙ there.1 ∙ sym at.1) in
-                      let e : from.0.stamp ≡ was.0.stamp = ap (λ b. b.stamp) same in
-                      named new id stamp now.0 now.1 (omega (arith, low, e, from.3))
-                  | inr waits ↦ absurd (awaits now.0 there.1 free waits)
-                ]
-            | inr gone ↦ retired new id stamp gone (g.awaiting id in_last free) (omega (arith, in_last, g.last))
-          ]
-      | inr none ↦
-          let r = due_retired n id stamp none due in
-          elim (cases_block (block_at new id)) [
-            | inl now ↦
-                let there = found_in (all_blocks new) id now.0 now.1 in
-                elim (g.each now.0 there.0) [
-                  | inl from ↦ absurd (none_found (all_blocks n) id from.0 none from.1 (from.2 ∙ there.1))
-                  | inr waits ↦ absurd (awaits now.0 there.1 r.0 waits)
-                ]
-            | inr still ↦ retired new id stamp still (g.awaiting id r.1 r.0) (omega (arith, r.1, g.last))
-          ]
-    ]
 
 -- ---- what an edit keeps
 
@@ -80,16 +27,16 @@ module _ (n : Namespace) (w : HasIds n) where
 
   -- the blocks of the new namespace come from the old one's and from awaiting ids; nothing else is issued, and those don't await
   ids_from : (new : Namespace) → GoesOn n new → is_sorted path_cmp new.rows ≡ true → ((id : ℕ) → times id (all_blocks new) ≤ 1) →
-      ((b : Block) → Has (all_blocks new) b → has_id n.awaiting b.id ≡ true → has_id new.awaiting b.id ≡ false) →
-      ((id : ℕ) → has_id new.awaiting id ≡ true → id ≤ new.last_block) → HasIds new
+      ((b : Block) → Has (all_blocks new) b → has_id n.issued.awaiting b.id ≡ true → has_id new.issued.awaiting b.id ≡ false) →
+      ((id : ℕ) → has_id new.issued.awaiting id ≡ true → id ≤ new.issued.last_block) → HasIds new
   ids_from new g sorted once added awaiting = record {
     in_order = sorted;
     once = once;
     issued = λ b here. elim (g.each b here) [
       | inl from ↦
           let was = w.issued from.0 from.1 in
-          let low : b.id ≤ n.last_block = subst (λ k. k ≤ n.last_block) from.2 was.0 in
-          (omega (arith, low, g.last), g.awaiting b.id low (subst (λ k. has_id n.awaiting k ≡ false) from.2 was.1))
+          let low : b.id ≤ n.issued.last_block = subst (λ k. k ≤ n.issued.last_block) from.2 was.0 in
+          (omega (arith, low, g.last), g.awaiting b.id low (subst (λ k. has_id n.issued.awaiting k ≡ false) from.2 was.1))
       | inr waits ↦ (omega (arith, w.awaiting b.id waits, g.last), added b here waits)
     ];
     awaiting = awaiting;
@@ -102,7 +49,7 @@ module _ (n : Namespace) (w : HasIds n) where
   fewer_ids rows g sorted fewer = ids_from (record n { rows = rows }) g sorted (λ id. omega (arith, fewer id, w.once id))
       (λ b here waits.
       let none : times b.id (all_blocks n) ≡ 0 = absent b.id (all_blocks n)
-      (λ a there is. both_ways _ (subst (λ k. has_id n.awaiting k ≡ false) is (w.issued a there).1) waits) in
+      (λ a there is. both_ways _ (subst (λ k. has_id n.issued.awaiting k ≡ false) is (w.issued a there).1) waits) in
       let some : 1 ≤ times b.id (blocks_in rows) = stands_times (blocks_in rows) b b.id here refl in
       let at_most = fewer b.id in
       absurd (omega arith))
@@ -122,31 +69,31 @@ module _ (n : Namespace) (w : HasIds n) where
   add_block_ids : (p : Path) (i stamp : ℕ) → refusal n (AddBlock p i stamp) ≡ None → HasIds (effect n (AddBlock p i stamp))
   add_block_ids p i stamp applies =
       let found = all_none (checks n (AddBlock p i stamp)) applies in
-      let waits : has_id n.awaiting i ≡ true = not-false _ (when_none _ _ found.1.1.1.1.1.0) in
+      let waits : has_id n.issued.awaiting i ≡ true = not-false _ (when_none _ _ found.1.1.1.1.1.0) in
       let new : Block = record { id = i; stamp = stamp; len = 0 } in
       let blocks = (file_at n p).blocks ++ new ∷ [] in
       let form = File (record { replication = (file_at n p).replication; closed = false; blocks = blocks }) in
       let after = effect n (AddBlock p i stamp) in
-      let away : (id : ℕ) → has_id n.awaiting id ≡ true → times id (all_blocks n) ≡ 0 = λ id awaits.
-      absent id (all_blocks n) (λ a there is. both_ways _ (subst (λ k. has_id n.awaiting k ≡ false) is (w.issued a there).1) awaits) in
+      let away : (id : ℕ) → has_id n.issued.awaiting id ≡ true → times id (all_blocks n) ≡ 0 = λ id awaits.
+      absent id (all_blocks n) (λ a there is. both_ways _ (subst (λ k. has_id n.issued.awaiting k ≡ false) is (w.issued a there).1) awaits) in
       let more : (id : ℕ) → times id (blocks_in (put path_cmp p form n.rows)) ≡ times id (all_blocks n) + times id (new ∷ []) = λ id.
       omega (arith, times_put id p form n.rows w.in_order, times-append id (file_at n p).blocks (new ∷ [])) in
       let other : (id : ℕ) → (i == id) ≡ false → times id (new ∷ []) ≡ 0 = λ id apart. subst (λ t. cond t 1 0 + 0 ≡ 0) (sym apart) (omega arith) in
       ids_from after (edit_goes_on n (AddBlock p i stamp) applies) (sorted_row p form)
       (λ id. elim (cases_Bool (i == id)) [
         | inl same ↦ (let one : times id (new ∷ []) ≡ 1 = subst (λ t. cond t 1 0 + 0 ≡ 1) (sym same) (omega arith) in
-            omega (arith, more id, one, away id (subst (λ k. has_id n.awaiting k ≡ true) (eqb-true i id same) waits)))
+            omega (arith, more id, one, away id (subst (λ k. has_id n.issued.awaiting k ≡ true) (eqb-true i id same) waits)))
         | inr apart ↦ omega (arith, more id, other id apart, w.once id)
       ])
       (λ b here awaits. elim (cases_Bool (i == b.id)) [
-        | inl same ↦ subst (λ k. has_id after.awaiting k ≡ false) (eqb-true i b.id same) (filtered_out i n.awaiting)
+        | inl same ↦ subst (λ k. has_id after.issued.awaiting k ≡ false) (eqb-true i b.id same) (filtered_out i n.issued.awaiting)
         | inr apart ↦ (let some : 1 ≤ times b.id (blocks_in (put path_cmp p form n.rows)) =
             stands_times (blocks_in (put path_cmp p form n.rows)) b b.id here refl in
             absurd (omega (arith, some, more b.id, other b.id apart, away b.id awaits)))
       ])
-      (λ id still. w.awaiting id (elim (cases_Bool (has_id n.awaiting id)) [
+      (λ id still. w.awaiting id (elim (cases_Bool (has_id n.issued.awaiting id)) [
         | inl was ↦ was
-        | inr none ↦ absurd (both_ways _ (filter_none (λ k. k == id) (λ k. not (k == i)) n.awaiting none) still)
+        | inr none ↦ absurd (both_ways _ (filter_none (λ k. k == id) (λ k. not (k == i)) n.issued.awaiting none) still)
       ]))
 
   edit_ids : (edit : Edit) → refusal n edit ≡ None → HasIds (effect n edit)
@@ -169,14 +116,14 @@ module _ (n : Namespace) (w : HasIds n) where
       (λ id. omega arith)
   edit_ids (AllocateBlockId i) applies =
       let found = all_none (checks n (AllocateBlockId i)) applies in
-      let above : n.last_block < i = leb-false _ _ (when_none _ _ found.0) in
+      let above : n.issued.last_block < i = leb-false _ _ (when_none _ _ found.0) in
       ids_from (effect n (AllocateBlockId i)) (edit_goes_on n (AllocateBlockId i) applies) w.in_order w.once
       (λ b here waits. absurd (both_ways _ (w.issued b here).1 waits))
-      (λ id still. elim (cases_Bool (has_id n.awaiting id)) [
+      (λ id still. elim (cases_Bool (has_id n.issued.awaiting id)) [
         | inl was ↦ omega (arith, w.awaiting id was)
         | inr none ↦ elim (cases_Bool (i == id)) [
           | inl same ↦ (let e : i ≡ id = eqb-true _ _ same in omega arith)
-          | inr other ↦ absurd (both_ways _ (any_push (λ k. k == id) n.awaiting i none other) still)
+          | inr other ↦ absurd (both_ways _ (any_push (λ k. k == id) n.issued.awaiting i none other) still)
         ]
       ])
   edit_ids (SetGenstamp stamp) applies = record { in_order = w.in_order; once = w.once; issued = w.issued; awaiting = w.awaiting }
@@ -189,7 +136,7 @@ due_after n base txs zero id stamp log w due = due
 due_after n base [] (suc l) id stamp log w due = due
 due_after n base (x ∷ txs) (suc l) id stamp log w due =
     due_after (effect n x.edit) x.txid txs l id stamp log.2 (edit_ids n w x.edit log.1)
-    (due_goes_on n (effect n x.edit) w (edit_goes_on n x.edit log.1) id stamp due)
+    (goes_on n (effect n x.edit) w (edit_goes_on n x.edit log.1) id stamp due)
 
 between : (n : Namespace) (base : ℕ) (txs : List Tx) → IsLog n base txs → HasIds n → DueAlong n txs
 between n base txs log w zero l id stamp le due = due_after n base txs l id stamp log w due

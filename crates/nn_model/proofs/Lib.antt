@@ -1,3 +1,4 @@
+pub mod InRows
 pub mod Dues
 pub mod Wells
 pub mod Lookups

@@ -24,9 +24,9 @@ same_rows rows others s o same = same_entries path_cmp paths_total paths_apart r
 pub lookup_put : (n : Namespace) (p q : Path) (form : Form) → lookup (with_row n p form) q ≡ cond (eq_by_cmp path_cmp q p) (Some form) (lookup n q)
 lookup_put n p q form = find-put path_cmp paths_total q p form n.rows
 
-pub lookup_delete : (n : Namespace) (p q : Path) →
-    find_entry path_cmp q (filter (λ row. not (begins_with p row.0)) n.rows) ≡ cond (not (begins_with p q)) (lookup n q) None
-lookup_delete n p q = find-where_key path_cmp (λ x. not (begins_with p x)) q (λ x e. ap (λ y. not (begins_with p y)) (sym (paths_apart q x e))) n.rows
+pub lookup_delete : (rows : List (Path × Form)) (p q : Path) →
+    find_entry path_cmp q (filter (λ row. not (begins_with p row.0)) rows) ≡ cond (not (begins_with p q)) (find_entry path_cmp q rows) None
+lookup_delete rows p q = find-where_key path_cmp (λ x. not (begins_with p x)) q (λ x e. ap (λ y. not (begins_with p y)) (sym (paths_apart q x e))) rows
 
 pub find_in_order : (q : Path) (rows : List (Path × Form)) → find_entry path_cmp q (in_path_order rows) ≡ find_entry path_cmp q rows
 find_in_order q [] = refl

@@ -1,11 +1,9 @@
 -- The blocks of rows, each with whether its file is closed: where they come from and where they go.
-use Rattle.std.proofs.Common.{◌≡◌, ℕ, ◌+◌, ◌≤◌, Bool, true, false, cond, not, List, [], ◌∷◌, ◌++◌, map, filter, Option, Some, None, refl, sym, ap, subst, ◌∙◌}
+use Rattle.std.proofs.Common.{◌≡◌, ℕ, ◌+◌, ◌≤◌, Bool, true, false, cond, List, [], ◌∷◌, ◌++◌, map, Option, Some, refl, sym, ap, subst, ◌∙◌}
 use Rattle.std.proofs.Common.{inl, inr, arith}
-use Rattle.std.specs.Prelude.{◌⊎◌, ◌==◌, find, flat_map}
+use Rattle.std.specs.Prelude.{◌==◌, find, flat_map}
 use Rattle.std.specs.Option.{option_map}
-use Rattle.std.specs.Ordering.{eq_by_cmp, is_eq}
-use Rattle.std.specs.declared.cmp.Ordering.TheVariants.{Less, Equal, Greater}
-use Rattle.std.specs.FinMap.Entries.{find as find_entry, put, by_order, is_sorted, below_all}
+use Rattle.std.specs.FinMap.Entries.{find as find_entry, is_sorted, below_all}
 use Rattle.std.proofs.lemmas.List.{map-append}
 use Rattle.std.proofs.lemmas.Bool.{both_ways, cases_Bool, cond-true, cond-false, eqb-true, eq-eqb, and_parts, false_from_ne_true}
 use Rattle.nn_types.specs.declared.block.Block.{Block}
@@ -13,10 +11,10 @@ use Rattle.nn_model.specs.declared.form.Form.{Form}
 use Rattle.nn_model.specs.declared.form.Form.TheVariants.{Dir, File}
 use Rattle.nn_model.specs.declared.form.BlockRow.{BlockRow}
 use Rattle.nn_model.specs.Namespace.{Path, path_cmp, blocks_of}
-use Rattle.nn_model.specs.Apply.{in_path_order}
 use Rattle.nn_model.specs.Blocks.{block_row, rows_of}
 use Rattle.nn_model.specs.WellFormed.{Has, times}
-use Rattle.nn_model.proofs.Dues.{has_left, has_right, has_either, blocks_in, stands_times}
+use Rattle.nn_model.proofs.Dues.{has_either, blocks_in, stands_times}
+use Rattle.nn_model.proofs.InRows.{all_at}
 use Rattle.nn_model.proofs.Wells.{not_below}
 use Rattle.nn_model.proofs.Prefixes.{same, same_true, same_self}
 
@@ -25,8 +23,7 @@ rows_in rows = flat_map (λ row. rows_of row.1) rows
 
 -- the rows of what stands at a path
 abbrev pub rows_at : Option Form → List BlockRow
-rows_at None = []
-rows_at (Some form) = rows_of form
+rows_at = all_at rows_of
 
 -- ---- their blocks
 
@@ -107,110 +104,7 @@ row_of_file closed [] r here = absurd here
 row_of_file closed (x ∷ bs) r (inl same) = (inl (ap (λ y. y.block) same), ap (λ y. y.closed) (sym same))
 row_of_file closed (x ∷ bs) r (inr here) = let rest = row_of_file closed bs r here in (inr rest.0, rest.1)
 
--- ---- a row put at a path, rows left out, moved and set in order
-
-pub put_has : (p : Path) (form : Form) (rows : List (Path × Form)) (r : BlockRow) → Has (rows_of form) r → Has (rows_in (put path_cmp p form rows)) r
-put_has p form [] r here = has_left (rows_of form) [] r here
-put_has p form (row ∷ rows) r here =
-    elim (path_cmp p row.0) as (λ o. Has (rows_in (by_order o ((p, form) ∷ row ∷ rows) ((row.0, form) ∷ rows) (row ∷ put path_cmp p form rows))) r) [
-      | Less ↦ has_left (rows_of form) (rows_in (row ∷ rows)) r here
-      | Equal ↦ has_left (rows_of form) (rows_in rows) r here
-      | Greater ↦ has_right (rows_of row.1) (rows_in (put path_cmp p form rows)) r (put_has p form rows r here)
-    ]
-
--- what stood elsewhere still stands
-pub put_keeps : (p : Path) (form : Form) (rows : List (Path × Form)) (r : BlockRow) → Has (rows_in rows) r →
-    Has (rows_in (put path_cmp p form rows)) r ⊎ Has (rows_at (find_entry path_cmp p rows)) r
-put_keeps p form [] r here = absurd here
-put_keeps p form (row ∷ rows) r here =
-    elim (path_cmp p row.0) as (λ o. Has (rows_in (by_order o ((p, form) ∷ row ∷ rows) ((row.0, form) ∷ rows) (row ∷ put path_cmp p form rows))) r
-    ⊎ Has (rows_at (cond (is_eq o) (Some row.1) (find_entry path_cmp p rows))) r) [
-      | Less ↦ inl (has_right (rows_of form) (rows_in (row ∷ rows)) r here)
-      | Equal ↦ elim (has_either (rows_of row.1) (rows_in rows) r here) [
-        | inl own ↦ inr own
-        | inr other ↦ inl (has_right (rows_of form) (rows_in rows) r other)
-      ]
-      | Greater ↦ elim (has_either (rows_of row.1) (rows_in rows) r here) [
-        | inl own ↦ inl (has_left (rows_of row.1) (rows_in (put path_cmp p form rows)) r own)
-        | inr other ↦ elim (put_keeps p form rows r other) [
-          | inl still ↦ inl (has_right (rows_of row.1) (rows_in (put path_cmp p form rows)) r still)
-          | inr there ↦ inr there
-        ]
-      ]
-    ]
-
-pub put_from : (p : Path) (form : Form) (rows : List (Path × Form)) (r : BlockRow) → Has (rows_in (put path_cmp p form rows)) r →
-    Has (rows_of form) r ⊎ Has (rows_in rows) r
-put_from p form [] r here = has_either (rows_of form) [] r here
-put_from p form (row ∷ rows) r here =
-    elim (path_cmp p row.0) as (λ o. Has (rows_in (by_order o ((p, form) ∷ row ∷ rows) ((row.0, form) ∷ rows) (row ∷ put path_cmp p form rows))) r
-    → Has (rows_of form) r ⊎ Has (rows_in (row ∷ rows)) r) [
-      | Less ↦ λ h. has_either (rows_of form) (rows_in (row ∷ rows)) r h
-      | Equal ↦ λ h. elim (has_either (rows_of form) (rows_in rows) r h) [ inl a ↦ inl a | inr c ↦ inr (has_right (rows_of row.1) (rows_in rows) r c) ]
-      | Greater ↦ λ h. elim (has_either (rows_of row.1) (rows_in (put path_cmp p form rows)) r h) [
-        | inl a ↦ inr (has_left (rows_of row.1) (rows_in rows) r a)
-        | inr c ↦ elim (put_from p form rows r c) [ inl d ↦ inl d | inr d ↦ inr (has_right (rows_of row.1) (rows_in rows) r d) ]
-      ]
-    ] here
-
-pub filter_either : (test : Path × Form → Bool) (rows : List (Path × Form)) (r : BlockRow) → Has (rows_in rows) r →
-    Has (rows_in (filter test rows)) r ⊎ Has (rows_in (filter (λ row. not (test row)) rows)) r
-filter_either test [] r here = absurd here
-filter_either test (row ∷ rows) r here =
-    elim (test row) as (λ t. Has (rows_in (cond t (row ∷ filter test rows) (filter test rows))) r
-    ⊎ Has (rows_in (cond (not t) (row ∷ filter (λ x. not (test x)) rows) (filter (λ x. not (test x)) rows))) r) [
-      | true ↦ elim (has_either (rows_of row.1) (rows_in rows) r here) [
-        | inl own ↦ inl (has_left (rows_of row.1) (rows_in (filter test rows)) r own)
-        | inr later ↦ elim (filter_either test rows r later) [
-          | inl in_it ↦ inl (has_right (rows_of row.1) (rows_in (filter test rows)) r in_it)
-          | inr out ↦ inr out
-        ]
-      ]
-      | false ↦ elim (has_either (rows_of row.1) (rows_in rows) r here) [
-        | inl own ↦ inr (has_left (rows_of row.1) (rows_in (filter (λ x. not (test x)) rows)) r own)
-        | inr later ↦ elim (filter_either test rows r later) [
-          | inl in_it ↦ inl in_it
-          | inr out ↦ inr (has_right (rows_of row.1) (rows_in (filter (λ x. not (test x)) rows)) r out)
-        ]
-      ]
-    ]
-
-pub filter_from : (test : Path × Form → Bool) (rows : List (Path × Form)) (r : BlockRow) → Has (rows_in (filter test rows)) r → Has (rows_in rows) r
-filter_from test [] r here = here
-filter_from test (row ∷ rows) r here =
-    elim (test row) as (λ t. Has (rows_in (cond t (row ∷ filter test rows) (filter test rows))) r → Has (rows_in (row ∷ rows)) r) [
-      | true ↦ λ h. elim (has_either (rows_of row.1) (rows_in (filter test rows)) r h) [
-        | inl a ↦ has_left (rows_of row.1) (rows_in rows) r a
-        | inr c ↦ has_right (rows_of row.1) (rows_in rows) r (filter_from test rows r c)
-      ]
-      | false ↦ λ h. has_right (rows_of row.1) (rows_in rows) r (filter_from test rows r h)
-    ] here
-
-pub order_from : (rows : List (Path × Form)) (r : BlockRow) → Has (rows_in (in_path_order rows)) r → Has (rows_in rows) r
-order_from [] r here = here
-order_from (row ∷ rows) r here =
-    elim (put_from row.0 row.1 (in_path_order rows) r here) [
-      | inl a ↦ has_left (rows_of row.1) (rows_in rows) r a
-      | inr c ↦ has_right (rows_of row.1) (rows_in rows) r (order_from rows r c)
-    ]
-
-pub moved_from : (f : Path → Path) (rows : List (Path × Form)) (r : BlockRow) → Has (rows_in (map (λ row. (f row.0, row.1)) rows)) r → Has (rows_in rows) r
-moved_from f [] r here = here
-moved_from f (row ∷ rows) r here =
-    elim (has_either (rows_of row.1) (rows_in (map (λ x. (f x.0, x.1)) rows)) r here) [
-      | inl a ↦ has_left (rows_of row.1) (rows_in rows) r a
-      | inr c ↦ has_right (rows_of row.1) (rows_in rows) r (moved_from f rows r c)
-    ]
-
 -- ---- by look-ups
-
-pub at_path : (p : Path) (rows : List (Path × Form)) (r : BlockRow) → Has (rows_at (find_entry path_cmp p rows)) r → Has (rows_in rows) r
-at_path p [] r here = absurd here
-at_path p (row ∷ rows) r here =
-    elim (eq_by_cmp path_cmp p row.0) as (λ t. Has (rows_at (cond t (Some row.1) (find_entry path_cmp p rows))) r → Has (rows_in (row ∷ rows)) r) [
-      | true ↦ λ h. has_left (rows_of row.1) (rows_in rows) r h
-      | false ↦ λ h. has_right (rows_of row.1) (rows_in rows) r (at_path p rows r h)
-    ] here
 
 -- each stands at some path
 pub some_path : (rows : List (Path × Form)) → is_sorted path_cmp rows ≡ true → (r : BlockRow) → Has (rows_in rows) r →

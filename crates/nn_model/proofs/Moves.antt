@@ -1,48 +1,29 @@
 -- What stands at a path after a rename, and what a walk and an absent path say of the paths around them.
-use Rattle.std.proofs.Common.{◌≡◌, ℕ, Bool, true, false, cond, List, [], ◌∷◌, ◌++◌, length, drop, map, Option, Some, None, refl, sym, ap, ◌∙◌, append-nil}
+use Rattle.std.proofs.Common.{◌≡◌, ℕ, Bool, true, false, cond, ◌&&◌, List, [], ◌∷◌, ◌++◌, length, drop, map, Option, Some, None, refl, sym, ap, ◌∙◌, append-nil}
 use Rattle.std.proofs.Common.{append_assoc}
-use Rattle.std.specs.Prelude.{is_some}
+use Rattle.std.specs.Prelude.{is_some, nat_lt}
 use Rattle.std.specs.FinMap.Entries.{find as find_entry}
-use Rattle.std.proofs.lemmas.Bool.{cond-true, cond-false}
+use Rattle.std.proofs.lemmas.Bool.{both_ways, false_from_ne_true, and_from, cond-true, cond-false}
 use Rattle.nn_model.specs.declared.form.Form.{Form}
 use Rattle.nn_model.specs.declared.form.Form.TheVariants.{Dir, File}
 use Rattle.nn_types.specs.declared.edit_fault.EditFault.{EditFault}
-use Rattle.nn_model.specs.Namespace.{Path, path_cmp, Namespace, lookup, begins_with}
-use Rattle.nn_model.specs.Apply.{first, no_directory, parents, walk, in_path_order, moved}
+use Rattle.nn_model.specs.Namespace.{Path, path_cmp, begins_with}
+use Rattle.nn_model.specs.Apply.{in_directory, walk, in_path_order, moved}
 use Rattle.nn_model.proofs.Lookups.{find_in_order}
-use Rattle.nn_model.proofs.Dues.{all_none}
-use Rattle.nn_model.proofs.Prefixes.{same, same_after, apart_by, apart_from, begins_append, begins_split}
+use Rattle.nn_model.proofs.Prefixes.{same, same_after, apart_by, apart_from, begins_append, begins_split, longer}
 
 -- ---- walks
 
-is_directory : (o : Option Form) → no_directory o ≡ None → o ≡ Some Dir
-is_directory None h = absurd (cc)
-is_directory (Some Dir) h = refl
-is_directory (Some (File file)) h = absurd (cc)
+-- what finds no fault in a directory has one before it
+pub is_directory : (o : Option Form) (found : Option EditFault) → in_directory o found ≡ None → (o ≡ Some Dir) × (found ≡ None)
+is_directory None found h = absurd (cc)
+is_directory (Some Dir) found h = (refl, h)
+is_directory (Some (File file)) found h = absurd (cc)
 
-map_map : {A B C : Type 0} (g : B → C) (f : A → B) (xs : List A) → map g (map f xs) ≡ map (λ x. g (f x)) xs
-map_map g f [] = refl
-map_map g f (x ∷ xs) = ap (λ ys. g (f x) ∷ ys) (map_map g f xs)
-
--- a walk that went through, over any look-ups
-abbrev pub went : (Path → Option Form) → Path → Type 0
-went f p = first (map (λ parent. no_directory (f parent)) (parents p)) ≡ None
-
-pub last_parent : (f : Path → Option Form) (p : Path) (name : List ℕ) → went f (p ++ name ∷ []) → f p ≡ Some Dir
-last_parent f [] name h = is_directory (f []) (all_none (no_directory (f []) ∷ []) h).0
-last_parent f (x ∷ p) name h =
-    let found = all_none (no_directory (f []) ∷ map (λ parent. no_directory (f parent)) (map (λ parent. x ∷ parent) (parents (p ++ name ∷ [])))) h in
-    let one_map = map_map (λ parent. no_directory (f parent)) (λ parent. x ∷ parent) (parents (p ++ name ∷ [])) in
-    last_parent (λ q. f (x ∷ q)) p name (ap first (sym one_map) ∙ rest_none (f []) _ h)
-  where
-    rest_none : (o : Option Form) (checks : List (Option EditFault)) → first (no_directory o ∷ checks) ≡ None → first checks ≡ None
-    rest_none None checks none = absurd (cc)
-    rest_none (Some Dir) checks none = none
-    rest_none (Some (File file)) checks none = absurd (cc)
-
--- the parent of a path whose walk went through is a directory
-pub walked : (n : Namespace) (p : Path) (name : List ℕ) → walk n (p ++ name ∷ []) ≡ None → lookup n p ≡ Some Dir
-walked n p name h = last_parent (lookup n) p name h
+-- the parent of a path whose walk finds no fault is a directory
+pub last_parent : (f : Path → Option Form) (p : Path) (name : List ℕ) → walk f (p ++ name ∷ []) ≡ None → f p ≡ Some Dir
+last_parent f [] name h = (is_directory (f []) None h).0
+last_parent f (x ∷ p) name h = last_parent (λ q. f (x ∷ q)) p name (is_directory (f []) _ h).1
 
 -- ---- absent paths
 
@@ -59,6 +40,15 @@ pub nothing_below : (f : Path → Option Form) → HasParents f → (p rest : Pa
 nothing_below f h p [] none = ap f (append-nil p) ∙ none
 nothing_below f h p (name ∷ rest) none =
     ap f (sym (append_assoc p (name ∷ []) rest)) ∙ nothing_below f h (p ++ name ∷ []) rest (absent (f (p ++ name ∷ [])) (f p) (h p name) none)
+
+-- a target that is free lies not below the source
+pub not_below : (f : Path → Option Form) (s d : Path) → f d ≡ None → is_some (f s) ≡ true → (begins_with s d && nat_lt (length s) (length d)) ≡ false →
+    begins_with s d ≡ false
+not_below f s d free there outside = false_from_ne_true _ (λ below. inside (drop (length s) d) (begins_split s d below) below)
+  where
+    inside : (rest : Path) → d ≡ s ++ rest → begins_with s d ≡ true → ⊥
+    inside [] is below = both_ways _ refl (sym (ap is_some (ap f (sym (append-nil s) ∙ sym is) ∙ free)) ∙ there)
+    inside (name ∷ rest) is below = both_ways _ outside (and_from _ _ below (longer s rest d name is))
 
 -- ---- a rename
 
@@ -97,7 +87,7 @@ test_other s d q k h beside =
       | false ↦ λ e. refl
     ] refl
 
-abbrev found : Path → List (Path × Form) → Option Form
+abbrev pub found : Path → List (Path × Form) → Option Form
 found q rows = find_entry path_cmp q rows
 
 find_below : (rows : List (Path × Form)) (s d rest : Path) → found (d ++ rest) rows ≡ None → found (d ++ rest) (moved_all s d rows) ≡ found (s ++ rest) rows
@@ -131,15 +121,15 @@ at_source f s d q beside below = cond-false (begins_with d q) _ _ beside ∙ con
 pub elsewhere : (f : Path → Option Form) (s d q : Path) → begins_with d q ≡ false → begins_with s q ≡ false → after_rename f s d q ≡ f q
 elsewhere f s d q beside apart = cond-false (begins_with d q) _ _ beside ∙ cond-false (begins_with s q) _ _ apart
 
-pub lookup_rename : (n : Namespace) (s d q : Path) → ((rest : Path) → lookup n (d ++ rest) ≡ None) →
-    find_entry path_cmp q (in_path_order (moved_all s d n.rows)) ≡ after_rename (lookup n) s d q
-lookup_rename n s d q free =
-    find_in_order q (moved_all s d n.rows)
-    ∙ elim (begins_with d q) as (λ b. begins_with d q ≡ b → found q (moved_all s d n.rows)
-    ≡ cond b (lookup n (s ++ drop (length d) q)) (cond (begins_with s q) None (lookup n q))) [
-      | true ↦ λ e. ap (λ x. found x (moved_all s d n.rows)) (begins_split d q e) ∙ find_below n.rows s d (drop (length d) q) (free _)
-      | false ↦ λ e. elim (begins_with s q) as (λ b. begins_with s q ≡ b → found q (moved_all s d n.rows) ≡ cond b None (lookup n q)) [
-        | true ↦ λ g. find_old n.rows s d q e g
-        | false ↦ λ g. find_other n.rows s d q e g
+pub lookup_rename : (rows : List (Path × Form)) (s d q : Path) → ((rest : Path) → found (d ++ rest) rows ≡ None) →
+    found q (in_path_order (moved_all s d rows)) ≡ after_rename (λ p. found p rows) s d q
+lookup_rename rows s d q free =
+    find_in_order q (moved_all s d rows)
+    ∙ elim (begins_with d q) as (λ b. begins_with d q ≡ b → found q (moved_all s d rows)
+    ≡ cond b (found (s ++ drop (length d) q) rows) (cond (begins_with s q) None (found q rows))) [
+      | true ↦ λ e. ap (λ x. found x (moved_all s d rows)) (begins_split d q e) ∙ find_below rows s d (drop (length d) q) (free _)
+      | false ↦ λ e. elim (begins_with s q) as (λ b. begins_with s q ≡ b → found q (moved_all s d rows) ≡ cond b None (found q rows)) [
+        | true ↦ λ g. find_old rows s d q e g
+        | false ↦ λ g. find_other rows s d q e g
       ] refl
     ] refl

@@ -1,11 +1,11 @@
 -- Paths that begin with a path.
-use Rattle.std.proofs.Common.{◌≡◌, ℕ, ◌<◌, Bool, true, false, ◌&&◌, List, [], ◌∷◌, ◌++◌, length, drop, refl, sym, ap, subst, ◌∙◌, arith, length-append}
+use Rattle.std.proofs.Common.{◌≡◌, ℕ, ◌<◌, Bool, true, false, ◌&&◌, List, [], ◌∷◌, ◌++◌, length, drop, refl, sym, ap, subst, ◌∙◌, arith, length-append, inl, inr}
 use Rattle.std.specs.Prelude.{nat_lt, bytes_eq}
 use Rattle.std.specs.Ordering.{eq_by_cmp, is_eq, ordering_then}
 use Rattle.std.specs.Cmp.Lexicographic.{nat_list_cmp_total}
 use Rattle.std.specs.declared.cmp.Ordering.{Ordering}
 use Rattle.std.specs.declared.cmp.Ordering.TheVariants.{Less, Equal, Greater}
-use Rattle.std.proofs.lemmas.Bool.{and_parts, and_from, both_ways, lt-ltb, false_from_ne_true}
+use Rattle.std.proofs.lemmas.Bool.{and_parts, and_from, both_ways, lt-ltb, false_from_ne_true, cases_Bool}
 use Rattle.std.proofs.lemmas.Cmp.{tied_itself}
 use Rattle.std.proofs.lemmas.Slice.Eq.{bytes_eq-Decides}
 use Rattle.nn_model.specs.Namespace.{Path, path_cmp, begins_with}
@@ -15,7 +15,7 @@ use Rattle.nn_model.proofs.Lookups.{paths_total, paths_apart}
 abbrev pub same : Path → Path → Bool
 same = eq_by_cmp path_cmp
 
-equal : (o : Ordering) → is_eq o ≡ true → o ≡ Equal
+pub equal : (o : Ordering) → is_eq o ≡ true → o ≡ Equal
 equal Less h = absurd (both_ways _ refl h)
 equal Equal h = refl
 equal Greater h = absurd (both_ways _ refl h)
@@ -29,10 +29,10 @@ same_self p = ap is_eq (tied_itself paths_total p)
 pub same_from : (p q : Path) → p ≡ q → same p q ≡ true
 same_from p q e = subst (λ x. same p x ≡ true) e (same_self p)
 
-name_same : (a b : List ℕ) → bytes_eq a b ≡ true → a ≡ b
+pub name_same : (a b : List ℕ) → bytes_eq a b ≡ true → a ≡ b
 name_same a b h = (bytes_eq-Decides a b).0 h
 
-name_self : (a : List ℕ) → bytes_eq a a ≡ true
+pub name_self : (a : List ℕ) → bytes_eq a a ≡ true
 name_self a = (bytes_eq-Decides a a).1 refl
 
 -- ---- a path and a rest
@@ -85,6 +85,12 @@ longer s rest d name e = lt-ltb _ _ (subst (λ (x : Path). length s < length x) 
 pub same_after : (p a b : Path) → same (p ++ a) (p ++ b) ≡ same a b
 same_after [] a b = refl
 same_after (name ∷ p) a b = ap (λ o. is_eq (ordering_then o (path_cmp (p ++ a) (p ++ b)))) (tied_itself nat_list_cmp_total name) ∙ same_after p a b
+
+pub same_cons : (x n : List ℕ) (q p : Path) → same (x ∷ q) (n ∷ p) ≡ (bytes_eq n x && same q p)
+same_cons x n q p = elim (cases_Bool (bytes_eq n x)) [
+  | inl e ↦ ap (λ y. same (y ∷ q) (n ∷ p)) (sym (name_same n x e)) ∙ same_after (n ∷ []) q p ∙ sym (ap (λ b. b && same q p) e)
+  | inr e ↦ false_from_ne_true _ (λ h. both_ways _ e ((bytes_eq-Decides n x).1 (let is = same_true (x ∷ q) (n ∷ p) h in (cc)))) ∙ sym (ap (λ b. b && same q p) e)
+]
 
 -- paths of which just one begins with s are two
 pub apart_by : (s a b : Path) → begins_with s a ≡ true → begins_with s b ≡ false → same a b ≡ false

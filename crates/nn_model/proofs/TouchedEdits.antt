@@ -25,8 +25,8 @@ use Rattle.nn_model.proofs.Wells.{times_put, blocks_stay_well_formed}
 use Rattle.nn_model.proofs.Prefixes.{begins_append, begins_split}
 use Rattle.nn_model.proofs.Moves.{after_rename, at_target, elsewhere, nothing_below, lookup_rename}
 use Rattle.nn_model.proofs.Trees.{absent}
-use Rattle.nn_model.proofs.Members.{rows_in, rows_at, blocks_of_all, block_has, of_block, row_of_file, put_has, put_keeps, put_from, filter_either}
-use Rattle.nn_model.proofs.Members.{filter_from, order_from, moved_from, at_path, some_path}
+use Rattle.nn_model.proofs.InRows.{put_has, put_keeps, put_from, filter_either, filter_from, order_from, moved_from, at_path}
+use Rattle.nn_model.proofs.Members.{rows_in, rows_at, blocks_of_all, block_has, of_block, row_of_file, some_path}
 use Rattle.nn_model.proofs.Touches.{Tells, tells, block_of_row, block_told, ids_has, ids_times, ascending_has, times_split}
 
 -- ---- a new list of a file's blocks
@@ -76,10 +76,10 @@ stands_in rows r here = stands_times (blocks_in rows) r.block r.block.id (block_
 
 module _ (n : Namespace) (w : HasWellFormedBlocks n) where
   from_file : (p : Path) (r : BlockRow) → Has (rows_in_file n p) r → Has (block_rows n) r
-  from_file p r here = at_path p n.rows r (subst (λ rs. Has rs r) (sym (file_rows (lookup n p))) here)
+  from_file p r here = at_path rows_of p n.rows r (subst (λ rs. Has rs r) (sym (file_rows (lookup n p))) here)
 
   put_rest : (p : Path) (form : Form) (r : BlockRow) → Has (block_rows n) r → Has (block_rows (with_row n p form)) r ⊎ Has (rows_in_file n p) r
-  put_rest p form r here = elim (put_keeps p form n.rows r here) [
+  put_rest p form r here = elim (put_keeps rows_of p form n.rows r here) [
     | inl still ↦ inl still
     | inr there ↦ inr (subst (λ rs. Has rs r) (file_rows (lookup n p)) there)
   ]
@@ -88,8 +88,8 @@ module _ (n : Namespace) (w : HasWellFormedBlocks n) where
   same_row : (p : Path) (form : Form) → rows_of form ≡ rows_in_file n p → Tells n (with_row n p form) nothing false
   same_row p form same = record {
     into = λ b none. absurd none;
-    stays = λ r here _ _. elim (put_rest p form r here) [ inl still ↦ still | inr file ↦ put_has p form n.rows r (subst (λ rs. Has rs r) (sym same) file) ];
-    comes = λ r here. elim (put_from p form n.rows r here) [ inl own ↦ inr (from_file p r (subst (λ rs. Has rs r) same own)) | inr there ↦ inr there ];
+    stays = λ r here _ _. elim (put_rest p form r here) [ inl still ↦ still | inr file ↦ put_has rows_of p form n.rows r (subst (λ rs. Has rs r) (sym same) file) ];
+    comes = λ r here. elim (put_from rows_of p form n.rows r here) [ inl own ↦ inr (from_file p r (subst (λ rs. Has rs r) same own)) | inr there ↦ inr there ];
     gone = λ r here. refl;
   }
 
@@ -101,13 +101,13 @@ module _ (n : Namespace) (w : HasWellFormedBlocks n) where
       let opened : rows_in_file n p ≡ map (λ b. block_row false b) old = ap (λ closed. map (λ b. block_row closed b) old) is_open in
       let halves : rows_of form ≡ map (λ b. block_row false b) old ++ map (λ b. block_row false b) new = map-append (λ b. block_row false b) old new in
       record {
-        into = λ b here. put_has p form n.rows (block_row false b) (of_block false (old ++ new) b (has_right old new b here));
+        into = λ b here. put_has rows_of p form n.rows (block_row false b) (of_block false (old ++ new) b (has_right old new b here));
         stays = λ r here _ _. elim (put_rest p form r here) [
           | inl still ↦ still
-          | inr file ↦ put_has p form n.rows r (subst (λ rs. Has rs r) (sym halves)
+          | inr file ↦ put_has rows_of p form n.rows r (subst (λ rs. Has rs r) (sym halves)
               (has_left (map (λ b. block_row false b) old) (map (λ b. block_row false b) new) r (subst (λ rs. Has rs r) opened file)))
         ];
-        comes = λ r here. elim (put_from p form n.rows r here) [
+        comes = λ r here. elim (put_from rows_of p form n.rows r here) [
           | inl own ↦ elim (has_either (map (λ b. block_row false b) old) (map (λ b. block_row false b) new) r (subst (λ rs. Has rs r) halves own)) [
             | inl file ↦ inr (from_file p r (subst (λ rs. Has rs r) (sym opened) file))
             | inr fresh ↦ inl (row_of_file false new r fresh).0
@@ -124,7 +124,7 @@ module _ (n : Namespace) (w : HasWellFormedBlocks n) where
       let keeps : keeps_ids old bs ≡ true = not-false _ (when_none _ _ (all_none (list_checks n p bs) applies).1.1.1.1.1.0) in
       let form = File (record { replication = (file_at n p).replication; closed = now_closed; blocks = bs }) in
       record {
-        into = λ b here. put_has p form n.rows (block_row now_closed b) (of_block now_closed bs b here);
+        into = λ b here. put_has rows_of p form n.rows (block_row now_closed b) (of_block now_closed bs b here);
         stays = λ r here retired changed. elim (put_rest p form r here) [
           | inl still ↦ still
           | inr file ↦ elim (in_list_or_out old bs r.block keeps (row_of_file (file_at n p).closed old r file).0) [
@@ -132,7 +132,7 @@ module _ (n : Namespace) (w : HasWellFormedBlocks n) where
             | inr out ↦ absurd (both_ways _ retired out)
           ]
         ];
-        comes = λ r here. elim (put_from p form n.rows r here) [ inl own ↦ inl (row_of_file now_closed bs r own).0 | inr there ↦ inr there ];
+        comes = λ r here. elim (put_from rows_of p form n.rows r here) [ inl own ↦ inl (row_of_file now_closed bs r own).0 | inr there ↦ inr there ];
         gone = λ r here. false_from_ne_true _ (λ out.
             let stands = stands_in (put path_cmp p form n.rows) r here in
             let left_out = ids_times (drop (length bs) old) r.block.id out in
@@ -145,13 +145,13 @@ module _ (n : Namespace) (w : HasWellFormedBlocks n) where
       let goes = filter test n.rows in
       record {
         into = λ b none. absurd none;
-        stays = λ r here retired _. elim (filter_either test n.rows r here) [
+        stays = λ r here retired _. elim (filter_either rows_of test n.rows r here) [
           | inl below ↦
               let went = ids_has (blocks_in goes) r.block r.block.id (block_in goes r below) refl in
               absurd (both_ways _ retired (ascending_has (ids_of (blocks_in goes)) r.block.id ∙ went))
           | inr still ↦ still
         ];
-        comes = λ r here. inr (filter_from (λ row. not (begins_with p row.0)) n.rows r here);
+        comes = λ r here. inr (filter_from rows_of (λ row. not (begins_with p row.0)) n.rows r here);
         gone = λ r here. ascending_has (ids_of (blocks_in goes)) r.block.id ∙ false_from_ne_true _ (λ below.
             let stands = stands_in (filter (λ row. not (test row)) n.rows) r here in
             let went = ids_times (blocks_in goes) r.block.id below in
@@ -163,13 +163,13 @@ module _ (n : Namespace) (w : HasWellFormedBlocks n) where
   renamed s d look free = record {
     into = λ b none. absurd none;
     stays = λ r here _ _. (let at = some_path n.rows w.in_order r here in goes at.0 r at.1);
-    comes = λ r here. inr (moved_from (moved s d) n.rows r (order_from (map (λ row. (moved s d row.0, row.1)) n.rows) r here));
+    comes = λ r here. inr (moved_from rows_of (moved s d) n.rows r (order_from rows_of (map (λ row. (moved s d row.0, row.1)) n.rows) r here));
     gone = λ r here. refl;
   }
     where
       there : (p q : Path) (r : BlockRow) → after_rename (lookup n) s d q ≡ lookup n p → Has (rows_at (lookup n p)) r →
           Has (block_rows (effect n (Rename s d))) r
-      there p q r is here = at_path q (effect n (Rename s d)).rows r (subst (λ (o : Option Form). Has (rows_at o) r) (sym (look q ∙ is)) here)
+      there p q r is here = at_path rows_of q (effect n (Rename s d)).rows r (subst (λ (o : Option Form). Has (rows_at o) r) (sym (look q ∙ is)) here)
 
       goes : (p : Path) (r : BlockRow) → Has (rows_at (lookup n p)) r → Has (block_rows (effect n (Rename s d))) r
       goes p r here = elim (cases_Bool (begins_with s p)) [
@@ -203,18 +203,18 @@ edit_tells : (n : Namespace) (edit : Edit) → IsWellFormed n → refusal n edit
 edit_tells n StartSegment w applies = all_stays n n refl
 edit_tells n EndSegment w applies = all_stays n n refl
 edit_tells n (Mkdir p) w applies =
-    let ok = all_none (checks n (Mkdir p)) applies in same_row n w.blocks p Dir (no_rows n p (absent n p ok.1.1.0))
+    let ok = all_none (checks n (Mkdir p)) applies in same_row n w.blocks p Dir (no_rows n p (absent (lookup n p) ok.1.1.0))
 edit_tells n (Add p r) w applies =
     let ok = all_none (checks n (Add p r)) applies in
-    same_row n w.blocks p (File (record { replication = r; closed = false; blocks = [] })) (no_rows n p (absent n p ok.1.1.1.0))
+    same_row n w.blocks p (File (record { replication = r; closed = false; blocks = [] })) (no_rows n p (absent (lookup n p) ok.1.1.1.0))
 edit_tells n (AddBlock p i stamp) w applies =
     added n w.blocks p i stamp (when_none _ _ (all_none (checks n (AddBlock p i stamp)) applies).1.1.1.1.0)
 edit_tells n (UpdateBlocks p bs) w applies = relisted n w.blocks p bs false applies
 edit_tells n (Close p bs) w applies = relisted n w.blocks p bs true applies
 edit_tells n (Rename s d) w applies =
     let ok = all_none (checks n (Rename s d)) applies in
-    let free : (rest : Path) → lookup n (d ++ rest) ≡ None = λ rest. nothing_below (lookup n) w.parents d rest (absent n d ok.1.1.1.1.1.1.0) in
-    renamed n w.blocks s d (λ p. lookup_rename n s d p free) free
+    let free : (rest : Path) → lookup n (d ++ rest) ≡ None = λ rest. nothing_below (lookup n) w.parents d rest (absent (lookup n d) ok.1.1.1.1.1.1.0) in
+    renamed n w.blocks s d (λ p. lookup_rename n.rows s d p free) free
 edit_tells n (Delete p) w applies = deleted n w.blocks p
 edit_tells n (SetReplication p r) w applies = same_row n w.blocks p (File (record (file_at n p) { replication = r })) refl
 edit_tells n (AllocateBlockId i) w applies =

@@ -1,9 +1,9 @@
 -- Edits keep a namespace a tree of directories with files as leaves, and its numbers in their limits.
-use Rattle.std.proofs.Common.{◌≡◌, ℕ, ◌≤◌, ◌<◌, Bool, true, false, cond, ◌&&◌, not, List, [], ◌∷◌, ◌++◌, length, drop, Option, Some, None, refl, sym, ap}
-use Rattle.std.proofs.Common.{subst, ◌∙◌, arith, append-nil, append_assoc, length-append, inl, inr}
+use Rattle.std.proofs.Common.{◌≡◌, ℕ, ◌≤◌, ◌<◌, Bool, true, false, cond, not, List, [], ◌∷◌, ◌++◌, length, drop, Option, Some, None, refl, sym, ap}
+use Rattle.std.proofs.Common.{subst, ◌∙◌, arith, append_assoc, length-append, inl, inr}
 use Rattle.std.specs.Prelude.{is_some, nat_lt}
 use Rattle.std.proofs.lemmas.List.{drop-append-le}
-use Rattle.std.proofs.lemmas.Bool.{both_ways, false_from_ne_true, cases_Bool, cond-true, cond-false, not-false, or_parts, ltb-false, leb-false, and_from}
+use Rattle.std.proofs.lemmas.Bool.{both_ways, false_from_ne_true, cases_Bool, cond-true, cond-false, not-false, or_parts, ltb-false, leb-false}
 use Rattle.nn_types.specs.declared.block.Block.{Block}
 use Rattle.nn_types.specs.Number.{IsNumber}
 use Rattle.nn_types.specs.declared.edit.Edit.{Edit}
@@ -14,26 +14,23 @@ use Rattle.nn_model.specs.declared.form.Form.{Form}
 use Rattle.nn_model.specs.declared.form.Form.TheVariants.{Dir, File}
 use Rattle.nn_model.specs.declared.form.FileRow.{FileRow}
 use Rattle.nn_model.specs.Namespace.{Path, Namespace, no_stamp, lookup, with_row, begins_with, file_at, file_or_none}
-use Rattle.nn_model.specs.Apply.{first, checks, refusal, effect, is_root, is_dir, walk, exists, missing, no_file_at, replication_range, list_checks}
+use Rattle.nn_model.specs.Apply.{first, checks, refusal, effect, is_root, is_dir, walk, exists, missing, not_file, replication_range, list_checks}
 use Rattle.nn_model.specs.Apply.{with_blocks}
 use Rattle.nn_model.specs.WellFormed.{IsWellFormed}
 use Rattle.nn_model.proofs.Dues.{all_none, when_none}
 use Rattle.nn_model.proofs.Lookups.{lookup_put, lookup_delete}
 use Rattle.nn_model.proofs.Wells.{blocks_stay_well_formed}
-use Rattle.nn_model.proofs.Prefixes.{same, same_true, begins_more, begins_last, begins_split, longer}
-use Rattle.nn_model.proofs.Moves.{went, last_parent, HasParents, nothing_below, after_rename, at_target, at_source, elsewhere, lookup_rename}
+use Rattle.nn_model.proofs.Prefixes.{same, same_true, begins_more, begins_last, begins_split}
+use Rattle.nn_model.proofs.Moves.{not_below, last_parent, HasParents, nothing_below, after_rename, at_target, at_source, elsewhere, lookup_rename}
 
 -- ---- what checks say that found nothing
 
-none_from : (o : Option Form) → is_some o ≡ false → o ≡ None
-none_from None h = refl
-none_from (Some form) h = absurd (both_ways _ h refl)
+pub absent : (o : Option Form) → exists o ≡ None → o ≡ None
+absent None h = refl
+absent (Some form) h = absurd (cc)
 
-pub absent : (n : Namespace) (p : Path) → exists n p ≡ None → lookup n p ≡ None
-absent n p h = none_from (lookup n p) (when_none _ _ h)
-
-pub stands : (n : Namespace) (p : Path) → missing n p ≡ None → is_some (lookup n p) ≡ true
-stands n p h = not-false _ (when_none _ _ h)
+pub stands : (o : Option Form) → missing o ≡ None → is_some o ≡ true
+stands o h = not-false _ (when_none _ _ h)
 
 in_range : (r : ℕ) → replication_range r ≡ None → (1 ≤ r) × (r ≤ 512)
 in_range r h = let parts = or_parts (nat_lt r 1) (nat_lt 512 r) (when_none _ _ h) in (ltb-false _ _ parts.0, ltb-false _ _ parts.1)
@@ -44,8 +41,8 @@ a_file (Some Dir) some no_dir = absurd (both_ways _ no_dir refl)
 a_file (Some (File file)) some no_dir = refl
 
 -- the path holds a file
-pub its_file : (n : Namespace) (p : Path) → missing n p ≡ None → no_file_at n p ≡ None → lookup n p ≡ Some (File (file_at n p))
-its_file n p some no_dir = a_file (lookup n p) (stands n p some) (when_none _ _ no_dir)
+pub its_file : (n : Namespace) (p : Path) → missing (lookup n p) ≡ None → not_file (lookup n p) ≡ None → lookup n p ≡ Some (File (file_at n p))
+its_file n p some no_dir = a_file (lookup n p) (stands (lookup n p) some) (when_none _ _ no_dir)
 
 -- ---- trees, as look-ups
 
@@ -67,12 +64,12 @@ same_tree f g same t = record {
 
 module _ (f : Path → Option Form) (t : IsTree f) where
   -- something new at a path whose parents are directories, and which is no directory itself
-  row_tree : (p : Path) (form : Form) → is_root p ≡ None → went f p → (f p ≡ Some Dir → ⊥) → InRange form → IsTree (λ q. cond (same q p) (Some form) (f q))
+  row_tree : (p : Path) (form : Form) → is_root p ≡ None → walk f p ≡ None → (f p ≡ Some Dir → ⊥) → InRange form → IsTree (λ q. cond (same q p) (Some form) (f q))
   row_tree p form below_root walk_went no_dir range = record {
     root = cond-false (same [] p) (Some form) (f []) (not_root p below_root) ∙ t.root;
     parents = λ q name some.
         let dir : f q ≡ Some Dir = elim (cases_Bool (same (q ++ name ∷ []) p)) [
-          | inl one ↦ last_parent f q name (subst (went f) (sym (same_true _ _ one)) walk_went)
+          | inl one ↦ last_parent f q name (subst (λ x. walk f x ≡ None) (sym (same_true _ _ one)) walk_went)
           | inr other ↦ t.parents q name (sym (ap is_some (cond-false (same (q ++ name ∷ []) p) (Some form) (f (q ++ name ∷ [])) other)) ∙ some)
         ] in
         cond-false (same q p) (Some form) (f q) (false_from_ne_true _ (λ one. no_dir (ap f (sym (same_true q p one)) ∙ dir))) ∙ dir;
@@ -117,7 +114,7 @@ module _ (f : Path → Option Form) (t : IsTree f) where
         let fits : length d ≤ length q = omega (arith, ap length (begins_split d q below), length-append d (drop (length d) q)) in
         append_assoc s (drop (length d) q) (name ∷ []) ∙ ap (λ rest. s ++ rest) (sym (drop-append-le (length d) q (name ∷ []) fits))
 
-    rename_parents : went f d → begins_with s d ≡ false → HasParents (after_rename f s d)
+    rename_parents : walk f d ≡ None → begins_with s d ≡ false → HasParents (after_rename f s d)
     rename_parents walk_went outside q name some =
         elim (cases_Bool (begins_with d (q ++ name ∷ []))) [
           | inl below ↦ elim (cases_Bool (begins_with d q)) [
@@ -127,7 +124,7 @@ module _ (f : Path → Option Form) (t : IsTree f) where
             | inr at ↦
                 let is : d ≡ q ++ name ∷ [] = begins_last d q name below at in
                 let not_source : begins_with s q ≡ false = above_too s q name (subst (λ p. begins_with s p ≡ false) is outside) in
-                elsewhere f s d q at not_source ∙ last_parent f q name (subst (went f) is walk_went)
+                elsewhere f s d q at not_source ∙ last_parent f q name (subst (λ x. walk f x ≡ None) is walk_went)
           ]
           | inr beside ↦ elim (cases_Bool (begins_with s (q ++ name ∷ []))) [
             | inl gone ↦ absurd (none_is_some _ (at_source f s d _ beside gone) some)
@@ -146,7 +143,7 @@ module _ (f : Path → Option Form) (t : IsTree f) where
           ]
         ]
 
-  rename_tree : (s d : Path) → is_root s ≡ None → is_root d ≡ None → went f d → begins_with s d ≡ false → IsTree (after_rename f s d)
+  rename_tree : (s d : Path) → is_root s ≡ None → is_root d ≡ None → walk f d ≡ None → begins_with s d ≡ false → IsTree (after_rename f s d)
   rename_tree [] d source target walk_went outside = absurd (cc)
   rename_tree (x ∷ s) [] source target walk_went outside = absurd (cc)
   rename_tree (x ∷ s) (y ∷ d) source target walk_went outside = record {
@@ -154,14 +151,6 @@ module _ (f : Path → Option Form) (t : IsTree f) where
     parents = rename_parents (x ∷ s) (y ∷ d) walk_went outside;
     replications = rename_ranges (x ∷ s) (y ∷ d);
   }
-
-  -- a target that is free lies not below the source
-  not_below : (s d : Path) → f d ≡ None → is_some (f s) ≡ true → (begins_with s d && nat_lt (length s) (length d)) ≡ false → begins_with s d ≡ false
-  not_below s d free there outside = false_from_ne_true _ (λ below. inside (drop (length s) d) (begins_split s d below) below)
-    where
-      inside : (rest : Path) → d ≡ s ++ rest → begins_with s d ≡ true → ⊥
-      inside [] is below = both_ways _ refl (sym (ap is_some (ap f (sym (append-nil s) ∙ sym is) ∙ free)) ∙ there)
-      inside (name ∷ rest) is below = both_ways _ outside (and_from _ _ below (longer s rest d name is))
 
 -- ---- edit by edit
 
@@ -173,23 +162,23 @@ tree_of n w = record { root = w.root; parents = w.parents; replications = λ p f
     ranges p (File file) there = w.replications p file there
 
 module _ (n : Namespace) (t : IsTree (lookup n)) where
-  row : (p : Path) (form : Form) → is_root p ≡ None → walk n p ≡ None → (lookup n p ≡ Some Dir → ⊥) → InRange form → IsTree (lookup (with_row n p form))
+  row : (p : Path) (form : Form) → is_root p ≡ None → walk (lookup n) p ≡ None → (lookup n p ≡ Some Dir → ⊥) → InRange form → IsTree (lookup (with_row n p form))
   row p form below_root walked no_dir range =
       same_tree (λ q. cond (same q p) (Some form) (lookup n q)) (lookup (with_row n p form)) (λ q. lookup_put n p q form)
       (row_tree (lookup n) t p form below_root walked no_dir range)
 
-  free_row : (p : Path) (form : Form) → is_root p ≡ None → walk n p ≡ None → exists n p ≡ None → InRange form → IsTree (lookup (with_row n p form))
+  free_row : (p : Path) (form : Form) → is_root p ≡ None → walk (lookup n) p ≡ None → exists (lookup n p) ≡ None → InRange form → IsTree (lookup (with_row n p form))
   free_row p form below_root walked free =
-      row p form below_root walked (λ dir. let none = absent n p free in let e : None ≡ Some Dir = sym none ∙ dir in absurd (cc))
+      row p form below_root walked (λ dir. let none = absent (lookup n p) free in let e : None ≡ Some Dir = sym none ∙ dir in absurd (cc))
 
   -- a file's row with the same replication or another one
-  file_row : (p : Path) (file : FileRow) → is_root p ≡ None → walk n p ≡ None → missing n p ≡ None → no_file_at n p ≡ None → InRange (File file) →
+  file_row : (p : Path) (file : FileRow) → is_root p ≡ None → walk (lookup n) p ≡ None → missing (lookup n p) ≡ None → not_file (lookup n p) ≡ None → InRange (File file) →
       IsTree (lookup (with_row n p (File file)))
   file_row p file below_root walked there no_dir =
       row p (File file) below_root walked (λ dir.
       let e : Some (File (file_at n p)) ≡ Some Dir = sym (its_file n p there no_dir) ∙ dir in absurd (cc))
 
-  same_range : (p : Path) → missing n p ≡ None → no_file_at n p ≡ None → InRange (File (file_at n p))
+  same_range : (p : Path) → missing (lookup n p) ≡ None → not_file (lookup n p) ≡ None → InRange (File (file_at n p))
   same_range p there no_dir = t.replications p (File (file_at n p)) (its_file n p there no_dir)
 
   list_tree : (p : Path) (bs : List Block) (now_closed : Bool) → first (list_checks n p bs) ≡ None → IsTree (lookup (with_blocks n p bs now_closed))
@@ -222,14 +211,14 @@ module _ (n : Namespace) (t : IsTree (lookup n)) where
   edit_tree (Close p bs) applies = list_tree p bs true applies
   edit_tree (Rename s d) applies =
       let ok = all_none (checks n (Rename s d)) applies in
-      let free = absent n d ok.1.1.1.1.1.1.0 in
-      let outside = not_below (lookup n) t s d free (stands n s ok.1.1.1.0) (when_none _ _ ok.1.1.1.1.0) in
+      let free = absent (lookup n d) ok.1.1.1.1.1.1.0 in
+      let outside = not_below (lookup n) s d free (stands (lookup n s) ok.1.1.1.0) (when_none _ _ ok.1.1.1.1.0) in
       same_tree (after_rename (lookup n) s d) (lookup (effect n (Rename s d)))
-      (λ q. lookup_rename n s d q (λ rest. nothing_below (lookup n) t.parents d rest free))
+      (λ q. lookup_rename n.rows s d q (λ rest. nothing_below (lookup n) t.parents d rest free))
       (rename_tree (lookup n) t s d ok.0 ok.1.0 ok.1.1.1.1.1.0 outside)
   edit_tree (Delete p) applies =
       let ok = all_none (checks n (Delete p)) applies in
-      same_tree (λ q. cond (not (begins_with p q)) (lookup n q) None) (lookup (effect n (Delete p))) (λ q. lookup_delete n p q)
+      same_tree (λ q. cond (not (begins_with p q)) (lookup n q) None) (lookup (effect n (Delete p))) (λ q. lookup_delete n.rows p q)
       (delete_tree (lookup n) t p ok.0)
   edit_tree (SetReplication p r) applies =
       let ok = all_none (checks n (SetReplication p r)) applies in
@@ -242,8 +231,8 @@ module _ (n : Namespace) (t : IsTree (lookup n)) where
 abbrev InLimits : ℕ → ℕ → Type 0
 InLimits block stamp = IsNumber block × (no_stamp ≤ stamp) × IsNumber stamp
 
-edit_limits : (n : Namespace) (edit : Edit) → IsLawfulEdit edit → refusal n edit ≡ None → InLimits n.last_block n.last_stamp →
-    InLimits (effect n edit).last_block (effect n edit).last_stamp
+edit_limits : (n : Namespace) (edit : Edit) → IsLawfulEdit edit → refusal n edit ≡ None → InLimits n.issued.last_block n.issued.last_stamp →
+    InLimits (effect n edit).issued.last_block (effect n edit).issued.last_stamp
 edit_limits n StartSegment lawful applies l = l
 edit_limits n EndSegment lawful applies l = l
 edit_limits n (Mkdir p) lawful applies l = l
@@ -256,7 +245,7 @@ edit_limits n (Delete p) lawful applies l = l
 edit_limits n (SetReplication p r) lawful applies l = l
 edit_limits n (AllocateBlockId i) lawful applies l = (lawful, l.1, l.2)
 edit_limits n (SetGenstamp stamp) lawful applies l =
-    let above : n.last_stamp < stamp = leb-false _ _ (when_none _ _ (all_none (checks n (SetGenstamp stamp)) applies).0) in
+    let above : n.issued.last_stamp < stamp = leb-false _ _ (when_none _ _ (all_none (checks n (SetGenstamp stamp)) applies).0) in
     (l.0, omega (arith, l.1), lawful)
 
 pub stays_well_formed : (n : Namespace) (edit : Edit) → IsLawfulEdit edit → refusal n edit ≡ None → IsWellFormed n → IsWellFormed (effect n edit)

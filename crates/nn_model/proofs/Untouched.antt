@@ -101,15 +101,15 @@ unheld_stays n (Mkdir p) applies id stamp out = refl
 unheld_stays n (Add p r) applies id stamp out = refl
 unheld_stays n (AddBlock p i s) applies id stamp out =
     let not_new = (or_parts (i == id) false (or_parts _ false (or_parts _ false out).0).0).0 in
-    ap (λ t. due_unheld t (nat_le id n.last_block) stamp) (still_waits i id n.awaiting (λ same. both_ways _ not_new (eq-eqb i id same)))
+    ap (λ t. due_unheld t (nat_le id n.issued.last_block) stamp) (still_waits i id n.issued.awaiting (λ same. both_ways _ not_new (eq-eqb i id same)))
 unheld_stays n (UpdateBlocks p bs) applies id stamp out = refl
 unheld_stays n (Close p bs) applies id stamp out = refl
 unheld_stays n (Rename s d) applies id stamp out = refl
 unheld_stays n (Delete p) applies id stamp out = refl
 unheld_stays n (SetReplication p r) applies id stamp out = refl
 unheld_stays n (AllocateBlockId i) applies id stamp out =
-    let above : n.last_block < i = leb-false _ _ (when_none _ _ (all_none (checks n (AllocateBlockId i)) applies).0) in
-    allocated n.last_block i id stamp n.awaiting above out
+    let above : n.issued.last_block < i = leb-false _ _ (when_none _ _ (all_none (checks n (AllocateBlockId i)) applies).0) in
+    allocated n.issued.last_block i id stamp n.issued.awaiting above out
 unheld_stays n (SetGenstamp s) applies id stamp out = refl
 
 pub only_touched_become_due : OnlyTouchedBecomeDue

@@ -21,10 +21,11 @@ use Rattle.nn_types.specs.declared.edit.Edit.TheVariants.{AllocateBlockId, SetGe
 use Rattle.nn_types.specs.LawfulEdit.{IsLawfulEdit}
 use Rattle.nn_model.specs.declared.form.Form.{Form}
 use Rattle.nn_model.specs.declared.form.Form.TheVariants.{Dir, File}
-use Rattle.nn_model.specs.Namespace.{Path, path_cmp, Namespace, no_block, no_stamp, with_row, file_at, file_or_none, blocks_of, all_blocks, begins_with}
+use Rattle.nn_model.specs.Namespace.{Path, path_cmp, Issued, Namespace, no_block, no_stamp, with_row, file_at, file_or_none, blocks_of, all_blocks, begins_with}
 use Rattle.nn_model.specs.Apply.{first, checks, refusal, effect, has_id, keeps_ids, keeps_stamps, with_blocks, in_path_order, moved, list_checks}
 use Rattle.nn_model.specs.WellFormed.{Has, times, IsIssued, HasWellFormedBlocks}
-use Rattle.nn_model.proofs.Dues.{has_either, blocks_in, blocks_put, file_has, blocks_filter, blocks_in_order, blocks_moved, listed, all_none, when_none}
+use Rattle.nn_model.proofs.Dues.{has_either, blocks_in, file_has, listed, all_none, when_none}
+use Rattle.nn_model.proofs.InRows.{put_from, order_from, moved_from, filter_from}
 use Rattle.nn_model.proofs.Dues.{filter_none, any_push}
 use Rattle.nn_model.proofs.Lookups.{paths_total}
 
@@ -200,10 +201,10 @@ sorted_push (x ∷ ids) i above sorted = (
   sorted_push ids i (λ id here. above id (or_right (x == id) (has_id ids id) here)) sorted.1,
 )
 
--- a block that was issued is so in a namespace whose last id and last stamp are no lower and where it doesn't await
-still_issued : (n new : Namespace) (b : Block) → n.last_block ≤ new.last_block → n.last_stamp ≤ new.last_stamp → has_id new.awaiting b.id ≡ false →
-    IsIssued n b → IsIssued new b
-still_issued n new b block stamp free is = record {
+-- a block that was issued is so where the last id and the last stamp are no lower and where it doesn't await
+still_issued : (old new : Issued) (b : Block) → old.last_block ≤ new.last_block → old.last_stamp ≤ new.last_stamp → has_id new.awaiting b.id ≡ false →
+    IsIssued old b → IsIssued new b
+still_issued old new b block stamp free is = record {
   from_first = is.from_first;
   to_last = omega arith;
   not_awaiting = free;
@@ -217,24 +218,24 @@ still_issued n new b block stamp free is = record {
 module _ (n : Namespace) (w : HasWellFormedBlocks n) where
   -- other rows, with the same ids and stamps issued and the same ids awaiting
   rows_well : (rows : List (Path × Form)) → is_sorted path_cmp rows ≡ true → ((id : ℕ) → times id (blocks_in rows) ≤ 1) →
-      ((b : Block) → Has (blocks_in rows) b → IsIssued n b) → HasWellFormedBlocks (record n { rows = rows })
+      ((b : Block) → Has (blocks_in rows) b → IsIssued n.issued b) → HasWellFormedBlocks (record n { rows = rows })
   rows_well rows sorted once issued = record {
     in_order = sorted;
     last_block_from = w.last_block_from;
     awaiting_in_order = w.awaiting_in_order;
     awaiting_from = w.awaiting_from;
     once = once;
-    issued = λ b here. let is = issued b here in still_issued n (record n { rows = rows }) b (omega arith) (omega arith) is.not_awaiting is;
+    issued = issued;
   }
 
   sorted_row : (p : Path) (form : Form) → is_sorted path_cmp (put path_cmp p form n.rows) ≡ true
   sorted_row p form = from_T _ (is_sorted-put path_cmp paths_total p form n.rows (to_T _ w.in_order))
 
-  row_well : (p : Path) (form : Form) → ((b : Block) → Has (blocks_of form) b → IsIssued n b) →
+  row_well : (p : Path) (form : Form) → ((b : Block) → Has (blocks_of form) b → IsIssued n.issued b) →
       ((id : ℕ) → times id (blocks_of form) ≤ times id (file_at n p).blocks) → HasWellFormedBlocks (with_row n p form)
   row_well p form new fewer =
       rows_well (put path_cmp p form n.rows) (sorted_row p form) (λ id. omega (arith, times_put id p form n.rows w.in_order, w.once id, fewer id))
-      (λ b here. elim (blocks_put p form n.rows b here) [ inl own ↦ new b own | inr old ↦ w.issued b old ])
+      (λ b here. elim (put_from blocks_of p form n.rows b here) [ inl own ↦ new b own | inr old ↦ w.issued b old ])
 
   -- some of the rows, in another order or at other paths
   fewer_well : (rows : List (Path × Form)) → is_sorted path_cmp rows ≡ true → ((id : ℕ) → times id (blocks_in rows) ≤ times id (all_blocks n)) →
@@ -249,14 +250,14 @@ module _ (n : Namespace) (w : HasWellFormedBlocks n) where
       let stamps = not-false _ (when_none _ _ found.1.1.1.1.1.1.0) in
       row_well p (File (record { replication = (file_at n p).replication; closed = now_closed; blocks = bs }))
       (λ b here.
-      let a = listed n.last_stamp (file_at n p).blocks bs b ids stamps here in
+      let a = listed n.issued.last_stamp (file_at n p).blocks bs b ids stamps here in
       let i = w.issued a.0 (file_has p n.rows a.0 a.1) in
       record {
         from_first = subst (λ k. no_block + 1 ≤ k) a.2 i.from_first;
-        to_last = subst (λ k. k ≤ n.last_block) a.2 i.to_last;
-        not_awaiting = subst (λ k. has_id n.awaiting k ≡ false) a.2 i.not_awaiting;
+        to_last = subst (λ k. k ≤ n.issued.last_block) a.2 i.to_last;
+        not_awaiting = subst (λ k. has_id n.issued.awaiting k ≡ false) a.2 i.not_awaiting;
         stamp_from = omega (arith, i.stamp_from, a.3);
-        stamp_to = listed_top n.last_stamp (file_at n p).blocks bs b ids stamps here;
+        stamp_to = listed_top n.issued.last_stamp (file_at n p).blocks bs b ids stamps here;
         length = length_of bs b are here;
       })
       (λ id. times_listed id (file_at n p).blocks bs ids)
@@ -264,23 +265,23 @@ module _ (n : Namespace) (w : HasWellFormedBlocks n) where
   add_block_well : (p : Path) (i stamp : ℕ) → refusal n (AddBlock p i stamp) ≡ None → HasWellFormedBlocks (effect n (AddBlock p i stamp))
   add_block_well p i stamp applies =
       let found = all_none (checks n (AddBlock p i stamp)) applies in
-      let waits : has_id n.awaiting i ≡ true = not-false _ (when_none _ _ found.1.1.1.1.1.0) in
-      let range = or_parts (nat_le stamp no_stamp) (nat_lt n.last_stamp stamp) (when_none _ _ found.1.1.1.1.1.1.0) in
+      let waits : has_id n.issued.awaiting i ≡ true = not-false _ (when_none _ _ found.1.1.1.1.1.0) in
+      let range = or_parts (nat_le stamp no_stamp) (nat_lt n.issued.last_stamp stamp) (when_none _ _ found.1.1.1.1.1.1.0) in
       let new : Block = record { id = i; stamp = stamp; len = 0 } in
       let form = File (record { replication = (file_at n p).replication; closed = false; blocks = (file_at n p).blocks ++ new ∷ [] }) in
       let after = effect n (AddBlock p i stamp) in
       let apart : (id : ℕ) → i ≡ id → times id (all_blocks n) ≡ 0 = λ id same.
-      absent id (all_blocks n) (λ b here is. both_ways _ (w.issued b here).not_awaiting (subst (λ k. has_id n.awaiting k ≡ true) (same ∙ sym is) waits)) in
-      let freed : (id : ℕ) → has_id n.awaiting id ≡ false → has_id after.awaiting id ≡ false =
-      λ id. filter_none (λ k. k == id) (λ k. not (k == i)) n.awaiting in
-      let old : (b : Block) → Has (all_blocks n) b → IsIssued after b = λ b there.
-      (let is = w.issued b there in still_issued n after b (omega arith) (omega arith) (freed b.id is.not_awaiting) is) in
+      absent id (all_blocks n) (λ b here is. both_ways _ (w.issued b here).not_awaiting (subst (λ k. has_id n.issued.awaiting k ≡ true) (same ∙ sym is) waits)) in
+      let freed : (id : ℕ) → has_id n.issued.awaiting id ≡ false → has_id after.issued.awaiting id ≡ false =
+      λ id. filter_none (λ k. k == id) (λ k. not (k == i)) n.issued.awaiting in
+      let old : (b : Block) → Has (all_blocks n) b → IsIssued after.issued b = λ b there.
+      (let is = w.issued b there in still_issued n.issued after.issued b (omega arith) (omega arith) (freed b.id is.not_awaiting) is) in
       record {
         in_order = sorted_row p form;
         last_block_from = w.last_block_from;
-        awaiting_in_order = IsStrictlySortedBy-filter nat_cmp (λ id. not (id == i)) n.awaiting w.awaiting_in_order;
+        awaiting_in_order = IsStrictlySortedBy-filter nat_cmp (λ id. not (id == i)) n.issued.awaiting w.awaiting_in_order;
         awaiting_from =
-            λ id still. w.awaiting_from id (elim (cases_Bool (has_id n.awaiting id)) [ inl was ↦ was | inr none ↦ absurd (both_ways _ (freed id none) still) ]);
+            λ id still. w.awaiting_from id (elim (cases_Bool (has_id n.issued.awaiting id)) [ inl was ↦ was | inr none ↦ absurd (both_ways _ (freed id none) still) ]);
         once = λ id. let t = times_put id p form n.rows w.in_order in let a = times-append id (file_at n p).blocks (new ∷ []) in
             elim (cases_Bool (i == id)) [
               | inl same ↦ (let one : times id (new ∷ []) ≡ 1 = subst (λ c. cond c 1 0 + 0 ≡ 1) (sym same) (omega arith) in
@@ -288,13 +289,13 @@ module _ (n : Namespace) (w : HasWellFormedBlocks n) where
               | inr other ↦ (let none : times id (new ∷ []) ≡ 0 = subst (λ c. cond c 1 0 + 0 ≡ 0) (sym other) (omega arith) in
                   omega (arith, t, a, none, w.once id))
             ];
-        issued = λ b here. elim (blocks_put p form n.rows b here) [
+        issued = λ b here. elim (put_from blocks_of p form n.rows b here) [
           | inl own ↦ elim (has_either (file_at n p).blocks (new ∷ []) b own) [
             | inl there ↦ old b (file_has p n.rows b there)
-            | inr (inl same) ↦ subst (IsIssued after) same (record {
+            | inr (inl same) ↦ subst (IsIssued after.issued) same (record {
               from_first = (w.awaiting_from i waits).0;
               to_last = (w.awaiting_from i waits).1;
-              not_awaiting = filtered_out i n.awaiting;
+              not_awaiting = filtered_out i n.issued.awaiting;
               stamp_from = omega (arith, leb-false _ _ range.0);
               stamp_to = ltb-false _ _ range.1;
               length = lit< tt;
@@ -308,36 +309,36 @@ module _ (n : Namespace) (w : HasWellFormedBlocks n) where
   allocate_well : (i : ℕ) → refusal n (AllocateBlockId i) ≡ None → HasWellFormedBlocks (effect n (AllocateBlockId i))
   allocate_well i applies =
       let found = all_none (checks n (AllocateBlockId i)) applies in
-      let above : n.last_block < i = leb-false _ _ (when_none _ _ found.0) in
+      let above : n.issued.last_block < i = leb-false _ _ (when_none _ _ found.0) in
       let after = effect n (AllocateBlockId i) in
       record {
         in_order = w.in_order;
         last_block_from = omega (arith, w.last_block_from);
-        awaiting_in_order = sorted_push n.awaiting i (λ id waits. omega (arith, (w.awaiting_from id waits).1)) w.awaiting_in_order;
-        awaiting_from = λ id still. elim (cases_Bool (has_id n.awaiting id)) [
+        awaiting_in_order = sorted_push n.issued.awaiting i (λ id waits. omega (arith, (w.awaiting_from id waits).1)) w.awaiting_in_order;
+        awaiting_from = λ id still. elim (cases_Bool (has_id n.issued.awaiting id)) [
           | inl was ↦ (let range = w.awaiting_from id was in (range.0, omega (arith, range.1)))
           | inr none ↦ elim (cases_Bool (i == id)) [
             | inl same ↦ (let e : i ≡ id = eqb-true _ _ same in (omega (arith, w.last_block_from), omega arith))
-            | inr other ↦ absurd (both_ways _ (any_push (λ k. k == id) n.awaiting i none other) still)
+            | inr other ↦ absurd (both_ways _ (any_push (λ k. k == id) n.issued.awaiting i none other) still)
           ]
         ];
         once = w.once;
         issued = λ b here. let is = w.issued b here in
-            still_issued n after b (omega arith) (omega arith)
-            (any_push (λ k. k == b.id) n.awaiting i is.not_awaiting (ne_eqb _ _ (λ same. omega (arith, is.to_last)))) is;
+            still_issued n.issued after.issued b (omega arith) (omega arith)
+            (any_push (λ k. k == b.id) n.issued.awaiting i is.not_awaiting (ne_eqb _ _ (λ same. omega (arith, is.to_last)))) is;
       }
 
   stamp_well : (stamp : ℕ) → refusal n (SetGenstamp stamp) ≡ None → HasWellFormedBlocks (effect n (SetGenstamp stamp))
   stamp_well stamp applies =
       let found = all_none (checks n (SetGenstamp stamp)) applies in
-      let above : n.last_stamp < stamp = leb-false _ _ (when_none _ _ found.0) in
+      let above : n.issued.last_stamp < stamp = leb-false _ _ (when_none _ _ found.0) in
       record {
         in_order = w.in_order;
         last_block_from = w.last_block_from;
         awaiting_in_order = w.awaiting_in_order;
         awaiting_from = w.awaiting_from;
         once = w.once;
-        issued = λ b here. let is = w.issued b here in still_issued n (effect n (SetGenstamp stamp)) b (omega arith) (omega arith) is.not_awaiting is;
+        issued = λ b here. let is = w.issued b here in still_issued n.issued (effect n (SetGenstamp stamp)).issued b (omega arith) (omega arith) is.not_awaiting is;
       }
 
   pub edit_well : (edit : Edit) → IsLawfulEdit edit → refusal n edit ≡ None → HasWellFormedBlocks (effect n edit)
@@ -351,11 +352,11 @@ module _ (n : Namespace) (w : HasWellFormedBlocks n) where
   edit_well (Rename s d) lawful applies =
       let rows = map (λ (row : Path × Form). (moved s d row.0, row.1)) n.rows in
       fewer_well (in_path_order rows) (sorted_in_order rows) (λ id. omega (arith, times_in_order id rows, times_moved id (moved s d) n.rows))
-      (λ b here. blocks_moved (moved s d) n.rows b (blocks_in_order rows b here))
+      (λ b here. moved_from blocks_of (moved s d) n.rows b (order_from blocks_of rows b here))
   edit_well (Delete p) lawful applies =
       fewer_well (filter (λ row. not (begins_with p row.0)) n.rows)
       (from_T _ (is_sorted-where_key path_cmp (λ q. not (begins_with p q)) n.rows (to_T _ w.in_order)))
-      (λ id. times_filter id (λ row. not (begins_with p row.0)) n.rows) (λ b here. blocks_filter (λ row. not (begins_with p row.0)) n.rows b here)
+      (λ id. times_filter id (λ row. not (begins_with p row.0)) n.rows) (λ b here. filter_from blocks_of (λ row. not (begins_with p row.0)) n.rows b here)
   edit_well (SetReplication p r) lawful applies =
       row_well p (File (record (file_at n p) { replication = r })) (λ b here. w.issued b (file_has p n.rows b here)) (λ id. omega arith)
   edit_well (AllocateBlockId i) lawful applies = allocate_well i applies

@@ -12,9 +12,10 @@ use Rattle.nn_model.specs.declared.form.Form.TheVariants.{Dir, File}
 use Rattle.nn_types.specs.declared.edit_fault.EditFault.{EditFault}
 use Rattle.nn_types.specs.declared.edit_fault.EditFault.TheVariants.{Exists, Missing, NotDirectory, NotFile, IsRoot, IntoItself, NotOpen, WrongBlocks}
 use Rattle.nn_types.specs.declared.edit_fault.EditFault.TheVariants.{BadGeneration, BadBlockId, BadReplication}
-use Rattle.nn_model.specs.Namespace.{Path, path_cmp, Namespace, lookup, with_row, begins_with, file_at, no_stamp}
+use Rattle.nn_model.specs.Namespace.{Path, path_cmp, Namespace, lookup, with_row, begins_with, file_at, file_or_none, no_stamp}
 
--- ---- Why an edit is refused: the checks of an edit in order, of which the first that finds a fault decides.
+-- ---- Why an edit is refused: the checks of an edit in order, of which the first that finds a fault decides. What stands at a path
+-- is asked by look-ups.
 
 -- a fault where the test holds
 abbrev pub when : Bool → EditFault → Option EditFault
@@ -27,41 +28,37 @@ first [] = None
 first (Some fault ∷ checks) = Some fault
 first (None ∷ checks) = first checks
 
--- what a path that has to be a directory lacks
-abbrev pub no_directory : Option Form → Option EditFault
-no_directory None = Some Missing
-no_directory (Some Dir) = None
-no_directory (Some (File file)) = Some NotDirectory
+-- what is found in a directory, where it is one
+abbrev pub in_directory : Option Form → Option EditFault → Option EditFault
+in_directory None found = Some Missing
+in_directory (Some Dir) found = found
+in_directory (Some (File file)) found = Some NotDirectory
 
--- the parents of a path, from the root down
-abbrev pub parents : Path → List Path
-parents [] = []
-parents (name ∷ p) = [] ∷ map (λ parent. name ∷ parent) (parents p)
-
--- the first parent, from the root down, that is missing or is a file
-abbrev pub walk : Namespace → Path → Option EditFault
-walk n p = first (map (λ parent. no_directory (lookup n parent)) (parents p))
+-- the first parent of a path, from the root down, that is missing or is a file
+abbrev pub walk : (Path → Option Form) → Path → Option EditFault
+walk look [] = None
+walk look (name ∷ p) = in_directory (look []) (walk (λ q. look (name ∷ q)) p)
 
 abbrev pub is_root : Path → Option EditFault
 is_root [] = Some IsRoot
 is_root (name ∷ p) = None
 
-abbrev pub exists : Namespace → Path → Option EditFault
-exists n p = when (is_some (lookup n p)) Exists
+abbrev pub exists : Option Form → Option EditFault
+exists form = when (is_some form) Exists
 
-abbrev pub missing : Namespace → Path → Option EditFault
-missing n p = when (not (is_some (lookup n p))) Missing
+abbrev pub missing : Option Form → Option EditFault
+missing form = when (not (is_some form)) Missing
 
 abbrev pub is_dir : Option Form → Bool
 is_dir (Some Dir) = true
 is_dir (Some (File file)) = false
 is_dir None = false
 
-abbrev pub no_file_at : Namespace → Path → Option EditFault
-no_file_at n p = when (is_dir (lookup n p)) NotFile
+abbrev pub not_file : Option Form → Option EditFault
+not_file form = when (is_dir form) NotFile
 
-abbrev pub closed : Namespace → Path → Option EditFault
-closed n p = when (file_at n p).closed NotOpen
+abbrev pub not_open : Option Form → Option EditFault
+not_open form = when (file_or_none form).closed NotOpen
 
 -- a replication is 1 to 512
 abbrev pub replication_range : ℕ → Option EditFault
@@ -87,32 +84,32 @@ has_id ids i = list_any (λ id. id == i) ids
 -- the checks of a new list of blocks for a file
 abbrev pub list_checks : Namespace → Path → List Block → List (Option EditFault)
 list_checks n p bs =
-    is_root p ∷ walk n p ∷ missing n p ∷ no_file_at n p ∷ closed n p
+    is_root p ∷ walk (lookup n) p ∷ missing (lookup n p) ∷ not_file (lookup n p) ∷ not_open (lookup n p)
     ∷ when (not (keeps_ids (file_at n p).blocks bs)) WrongBlocks
-    ∷ when (not (keeps_stamps n.last_stamp (file_at n p).blocks bs)) BadGeneration
+    ∷ when (not (keeps_stamps n.issued.last_stamp (file_at n p).blocks bs)) BadGeneration
     ∷ []
 
 -- the checks of an edit, in order
 abbrev pub checks : Namespace → Edit → List (Option EditFault)
 checks n StartSegment = []
 checks n EndSegment = []
-checks n (Mkdir p) = is_root p ∷ walk n p ∷ exists n p ∷ []
-checks n (Add p r) = is_root p ∷ replication_range r ∷ walk n p ∷ exists n p ∷ []
+checks n (Mkdir p) = is_root p ∷ walk (lookup n) p ∷ exists (lookup n p) ∷ []
+checks n (Add p r) = is_root p ∷ replication_range r ∷ walk (lookup n) p ∷ exists (lookup n p) ∷ []
 checks n (AddBlock p i stamp) =
-    is_root p ∷ walk n p ∷ missing n p ∷ no_file_at n p ∷ closed n p
-    ∷ when (not (has_id n.awaiting i)) BadBlockId
-    ∷ when (nat_le stamp no_stamp || nat_lt n.last_stamp stamp) BadGeneration
+    is_root p ∷ walk (lookup n) p ∷ missing (lookup n p) ∷ not_file (lookup n p) ∷ not_open (lookup n p)
+    ∷ when (not (has_id n.issued.awaiting i)) BadBlockId
+    ∷ when (nat_le stamp no_stamp || nat_lt n.issued.last_stamp stamp) BadGeneration
     ∷ []
 checks n (UpdateBlocks p bs) = list_checks n p bs
 checks n (Close p bs) = list_checks n p bs
 checks n (Rename s d) =
-    is_root s ∷ is_root d ∷ walk n s ∷ missing n s
+    is_root s ∷ is_root d ∷ walk (lookup n) s ∷ missing (lookup n s)
     ∷ when (begins_with s d && nat_lt (length s) (length d)) IntoItself
-    ∷ walk n d ∷ exists n d ∷ []
-checks n (Delete p) = is_root p ∷ walk n p ∷ missing n p ∷ []
-checks n (SetReplication p r) = is_root p ∷ replication_range r ∷ walk n p ∷ missing n p ∷ no_file_at n p ∷ []
-checks n (AllocateBlockId i) = when (nat_le i n.last_block) BadBlockId ∷ []
-checks n (SetGenstamp stamp) = when (nat_le stamp n.last_stamp) BadGeneration ∷ []
+    ∷ walk (lookup n) d ∷ exists (lookup n d) ∷ []
+checks n (Delete p) = is_root p ∷ walk (lookup n) p ∷ missing (lookup n p) ∷ []
+checks n (SetReplication p r) = is_root p ∷ replication_range r ∷ walk (lookup n) p ∷ missing (lookup n p) ∷ not_file (lookup n p) ∷ []
+checks n (AllocateBlockId i) = when (nat_le i n.issued.last_block) BadBlockId ∷ []
+checks n (SetGenstamp stamp) = when (nat_le stamp n.issued.last_stamp) BadGeneration ∷ []
 
 -- why the namespace refuses the edit, or None where it applies
 abbrev pub refusal : Namespace → Edit → Option EditFault
@@ -144,14 +141,16 @@ effect n EndSegment = n
 effect n (Mkdir p) = with_row n p Dir
 effect n (Add p r) = with_row n p (File (record { replication = r; closed = false; blocks = [] }))
 effect n (AddBlock p i stamp) =
-    record (with_blocks n p ((file_at n p).blocks ++ new_block i stamp ∷ []) false) { awaiting = filter (λ id. not (id == i)) n.awaiting }
+    record (with_blocks n p ((file_at n p).blocks ++ new_block i stamp ∷ []) false) {
+      issued = record n.issued { awaiting = filter (λ id. not (id == i)) n.issued.awaiting };
+    }
 effect n (UpdateBlocks p bs) = with_blocks n p bs false
 effect n (Close p bs) = with_blocks n p bs true
 effect n (Rename s d) = record n { rows = in_path_order (map (λ row. (moved s d row.0, row.1)) n.rows) }
 effect n (Delete p) = record n { rows = filter (λ row. not (begins_with p row.0)) n.rows }
 effect n (SetReplication p r) = with_row n p (File (record (file_at n p) { replication = r }))
-effect n (AllocateBlockId i) = record n { last_block = i; awaiting = n.awaiting ++ i ∷ [] }
-effect n (SetGenstamp stamp) = record n { last_stamp = stamp }
+effect n (AllocateBlockId i) = record n { issued = record n.issued { last_block = i; awaiting = n.issued.awaiting ++ i ∷ [] } }
+effect n (SetGenstamp stamp) = record n { issued = record n.issued { last_stamp = stamp } }
 
 -- the new namespace, or the first fault
 abbrev pub outcome : Option EditFault → Namespace → Result Namespace EditFault

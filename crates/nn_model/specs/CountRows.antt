@@ -54,9 +54,7 @@ two_files = record {
   rows = ([], Dir)
       ∷ (codes "e" ∷ [], File (record { replication = 1; closed = false; blocks = block 1073741827 1002 5 ∷ [] }))
       ∷ (f, File (record { replication = 1; closed = true; blocks = the_block ∷ block c 1001 7 ∷ [] })) ∷ [];
-  last_block = 1073741827;
-  last_stamp = 1002;
-  awaiting = [];
+  issued = record { last_block = 1073741827; last_stamp = 1002; awaiting = [] };
 }
 
 -- DataNodes 1 and 2 have the first block, DataNode 3 has the second one, and DataNode 4 has the open file's

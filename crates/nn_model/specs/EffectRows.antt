@@ -79,7 +79,7 @@ new_row = refl
 row_in_place : with_row n a_f (open_file []) ≡ two_files (open_file []) (open_file []) (d ∷ e ∷ [])
 row_in_place = refl
 
-before_the_first_edit : root_alone ≡ record { rows = ([], Dir) ∷ []; last_block = 1073741824; last_stamp = 1000; awaiting = [] }
+before_the_first_edit : root_alone ≡ record { rows = ([], Dir) ∷ []; issued = record { last_block = 1073741824; last_stamp = 1000; awaiting = [] } }
 before_the_first_edit = refl
 
 -- ---- Effects.
@@ -124,10 +124,10 @@ delete = refl
 set_replication : effect n (SetReplication a_f 7) ≡ two_files (file 7 true (block c 1001 5 ∷ block b 1002 6 ∷ [])) (open_file []) (d ∷ e ∷ [])
 set_replication = refl
 
-allocate_block_id : effect n (AllocateBlockId 1073741840) ≡ record n { last_block = 1073741840; awaiting = d ∷ e ∷ 1073741840 ∷ [] }
+allocate_block_id : effect n (AllocateBlockId 1073741840) ≡ record n { issued = record n.issued { last_block = 1073741840; awaiting = d ∷ e ∷ 1073741840 ∷ [] } }
 allocate_block_id = refl
 
-set_genstamp : effect n (SetGenstamp 2000) ≡ record n { last_stamp = 2000 }
+set_genstamp : effect n (SetGenstamp 2000) ≡ record n { issued = record n.issued { last_stamp = 2000 } }
 set_genstamp = refl
 
 -- ---- What edits touch.

@@ -50,7 +50,7 @@ OnlyTouchedBecomeDue = (n : Namespace) (edit : Edit) → IsLawfulEdit edit → r
 -- namespaces that answer alike, at every path and of every id, are one
 abbrev pub EqualLookUps : Type 0
 EqualLookUps = (n other : Namespace) → HasWellFormedBlocks n → HasWellFormedBlocks other → ((p : Path) → lookup n p ≡ lookup other p) →
-    n.last_block ≡ other.last_block → n.last_stamp ≡ other.last_stamp → ((id : ℕ) → has_id n.awaiting id ≡ has_id other.awaiting id) → n ≡ other
+    n.issued.last_block ≡ other.issued.last_block → n.issued.last_stamp ≡ other.issued.last_stamp → ((id : ℕ) → has_id n.issued.awaiting id ≡ has_id other.issued.awaiting id) → n ≡ other
 
 -- ---- Along a log.
 

@@ -33,9 +33,7 @@ left_out_log =
 abbrev left_out_end : Namespace
 left_out_end = record {
   rows = ([], Dir) ∷ (f, File (record { replication = 1; closed = true; blocks = block b 1001 5 ∷ [] })) ∷ [];
-  last_block = c;
-  last_stamp = 1002;
-  awaiting = [];
+  issued = record { last_block = c; last_stamp = 1002; awaiting = [] };
 }
 
 abbrev left_out_report : Message

@@ -1,5 +1,4 @@
--- The namespace: a finite map from paths to directories and files, with the last issued block id, the last issued generation
--- stamp, and the ids that were issued and not yet added to a file.
+-- The namespace: a finite map from paths to directories and files, and what the log has issued.
 use Rattle.std.specs.Prelude.{ℕ, Bool, true, false, ◌&&◌, List, [], ◌∷◌, flat_map, Option, Some, None, bytes_eq}
 use Rattle.std.specs.Ordering.{nat_cmp}
 use Rattle.std.specs.declared.cmp.Ordering.{Ordering}
@@ -18,11 +17,15 @@ Path = List (List ℕ)
 abbrev pub path_cmp : Path → Path → Ordering
 path_cmp = slice_cmp (slice_cmp nat_cmp)
 
-pub record Namespace : Type 0 where
-  pub rows : List (Path × Form)  -- one for each path, in path order
+-- what the log has issued: the last block id, the last generation stamp, and the ids that no file has got yet
+pub record Issued : Type 0 where
   pub last_block : ℕ
   pub last_stamp : ℕ
   pub awaiting : List ℕ  -- ascending
+
+pub record Namespace : Type 0 where
+  pub rows : List (Path × Form)  -- one for each path, in path order
+  pub issued : Issued
 
 -- what stands at a path
 abbrev pub lookup : Namespace → Path → Option Form
@@ -69,4 +72,4 @@ no_stamp = 1000
 
 -- the namespace before the first edit: the root alone
 abbrev pub root_alone : Namespace
-root_alone = record { rows = ([], Dir) ∷ []; last_block = no_block; last_stamp = no_stamp; awaiting = [] }
+root_alone = record { rows = ([], Dir) ∷ []; issued = record { last_block = no_block; last_stamp = no_stamp; awaiting = [] } }

@@ -49,7 +49,10 @@ file replication closed blocks = File (record { replication = replication; close
 
 -- the root and these rows, with this last id, this last stamp and these ids awaiting
 abbrev pub namespace : List (Path × Form) → ℕ → ℕ → List ℕ → Namespace
-namespace rows last_block last_stamp awaiting = record { rows = ([], Dir) ∷ rows; last_block = last_block; last_stamp = last_stamp; awaiting = awaiting }
+namespace rows last_block last_stamp awaiting = record {
+  rows = ([], Dir) ∷ rows;
+  issued = record { last_block = last_block; last_stamp = last_stamp; awaiting = awaiting };
+}
 
 -- the statuses of a block after so many transactions of the log
 abbrev statuses : List Tx → ℕ → List ℕ → List Status

@@ -7,8 +7,8 @@ use Rattle.nn_model.specs.declared.form.Form.TheVariants.{Dir}
 use Rattle.nn_types.specs.declared.edit_fault.EditFault.{EditFault}
 use Rattle.nn_types.specs.declared.edit_fault.EditFault.TheVariants.{Exists, Missing, NotDirectory, NotFile, IsRoot, IntoItself}
 use Rattle.nn_types.specs.declared.edit_fault.EditFault.TheVariants.{NotOpen, WrongBlocks, BadGeneration, BadBlockId, BadReplication}
-use Rattle.nn_model.specs.Namespace.{Path, Namespace}
-use Rattle.nn_model.specs.Apply.{refusal, applied, effect, parents, is_dir}
+use Rattle.nn_model.specs.Namespace.{Path, Namespace, lookup}
+use Rattle.nn_model.specs.Apply.{walk, refusal, applied, effect, is_dir}
 use Rattle.nn_model.specs.NamespaceRows.{a, a_b, ab, b, c, f, block, file, namespace}
 
 -- ---- The namespace that the tables speak of.
@@ -211,9 +211,14 @@ set_genstamp = refl
 outcomes : (applied n (Mkdir a) ≡ Err Exists) × (applied n (Mkdir (below x)) ≡ Err Missing) × (applied n (Mkdir x) ≡ Ok (effect n (Mkdir x)))
 outcomes = (refl, refl, refl)
 
--- the parents of a path, from the root down; the root has none
-parents_of_a_path : map parents ([] ∷ x ∷ below a_b ∷ []) ≡ [] ∷ ([] ∷ []) ∷ ([] ∷ a ∷ a_b ∷ []) ∷ []
-parents_of_a_path = refl
+-- a walk asks the parents of a path, from the root down, and not the path; the root has none
+walks : map (walk (lookup n)) ([] ∷ x ∷ f ∷ below f ∷ below x ∷ below (below f) ∷ below a_b ∷ [])
+    ≡ None ∷ None ∷ None ∷ Some NotDirectory ∷ Some Missing ∷ Some NotDirectory ∷ None ∷ []
+walks = refl
+
+-- where nothing stands, not even the root, each path but the root misses a parent
+walks_of_nothing : map (walk (λ q. None)) ([] ∷ x ∷ a_b ∷ []) ≡ None ∷ Some Missing ∷ Some Missing ∷ []
+walks_of_nothing = refl
 
 -- neither a file nor nothing is a directory
 directories : map is_dir (Some Dir ∷ Some (file 1 true []) ∷ None ∷ []) ≡ true ∷ false ∷ false ∷ []

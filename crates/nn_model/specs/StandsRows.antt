@@ -208,9 +208,7 @@ the_log_skips s = omega (arith, s.log.0)
 abbrev twice : Namespace
 twice = record {
   rows = ([], Dir) ∷ (f, File (record { replication = 1; closed = false; blocks = block b 1001 5 ∷ block b 1001 5 ∷ [] })) ∷ [];
-  last_block = b;
-  last_stamp = 1001;
-  awaiting = [];
+  issued = record { last_block = b; last_stamp = 1001; awaiting = [] };
 }
 
 the_base_has_an_id_twice : Stands twice 0 [] no_messages (fresh twice 0) → ⊥
@@ -222,8 +220,8 @@ a_lane_begins_with_two s = omega (arith, (s.numbered 1).1)
 a_lane_has_another_datanodes : Stands root_alone 0 waiting_log (two_lanes (other_of_b ∷ []) []) waiting → ⊥
 a_lane_has_another_datanodes s = omega (arith, (s.numbered 1).0)
 
-another_namespace : Stands root_alone 0 waiting_log waiting_lanes (record waiting { namespace = record root_alone { last_block = b } }) → ⊥
-another_namespace s = omega (arith, ap (λ n. n.last_block) s.namespace)
+another_namespace : Stands root_alone 0 waiting_log waiting_lanes (record waiting { namespace = record root_alone { issued = record root_alone.issued { last_block = b } } }) → ⊥
+another_namespace s = omega (arith, ap (λ n. n.issued.last_block) s.namespace)
 
 another_last_txid : Stands root_alone 0 waiting_log waiting_lanes (record waiting { last = 2 }) → ⊥
 another_last_txid s = omega (arith, s.last)

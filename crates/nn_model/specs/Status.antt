@@ -13,7 +13,7 @@ block_at n id = find (λ b. b.id == id) (all_blocks n)
 
 -- what is said of an id that no file holds
 abbrev pub status_unheld : Namespace → ℕ → Status
-status_unheld n id = if has_id n.awaiting id then Awaiting else if nat_le id n.last_block then Retired else Unnamed
+status_unheld n id = if has_id n.issued.awaiting id then Awaiting else if nat_le id n.issued.last_block then Retired else Unnamed
 
 abbrev pub status_from : Option Block → Status → Status
 status_from (Some b) unheld = Named b.stamp

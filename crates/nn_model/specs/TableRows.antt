@@ -143,7 +143,7 @@ nothing_to_show : ShowsPicture root_alone no_messages (starting_at root_alone)
 nothing_to_show = record { namespace = refl; replicas = λ dn id. refl; orders = λ dn id. refl }
 
 shows_another_namespace : ShowsPicture root_alone no_messages (starting_at early_end) → ⊥
-shows_another_namespace shows = omega (arith, ap (λ n. n.last_block) shows.namespace)
+shows_another_namespace shows = omega (arith, ap (λ n. n.issued.last_block) shows.namespace)
 
 lacks_a_replica : ShowsPicture early_end early_lanes (starting_at early_end) → ⊥
 lacks_a_replica shows = let e : None ≡ Some (received 1001 5) = shows.replicas 1 b in absurd (cc)

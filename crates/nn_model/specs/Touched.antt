@@ -43,7 +43,7 @@ touched n (AddBlock p i stamp) = record { changed = new_block i stamp ∷ []; re
 touched n (UpdateBlocks p bs) = listed n p bs
 touched n (Close p bs) = listed n p bs
 touched n (Delete p) = record { changed = []; retired = ascending (ids_below n p); skipped = None }
-touched n (AllocateBlockId i) = record { changed = []; retired = []; skipped = if nat_lt (n.last_block + 1) i then Some (n.last_block + 1, i - 1) else None }
+touched n (AllocateBlockId i) = record { changed = []; retired = []; skipped = if nat_lt (n.issued.last_block + 1) i then Some (n.issued.last_block + 1, i - 1) else None }
 touched n StartSegment = nothing
 touched n EndSegment = nothing
 touched n (Mkdir p) = nothing

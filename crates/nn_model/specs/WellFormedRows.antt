@@ -76,7 +76,7 @@ abbrev with_block : Block → Namespace
 with_block x = namespace ((a, file 1 true (block b 1001 5 ∷ [])) ∷ (f, file 1 true (x ∷ [])) ∷ []) 1073741828 1002 (1073741827 ∷ [])
 
 -- what a well formed namespace says of the block
-said_of : (x : Block) → HasWellFormedBlocks (with_block x) → IsIssued (with_block x) x
+said_of : (x : Block) → HasWellFormedBlocks (with_block x) → IsIssued (with_block x).issued x
 said_of x w = w.issued x (inr (inl refl))
 
 block_twice : HasWellFormedBlocks (with_block (block b 1001 5)) → ⊥

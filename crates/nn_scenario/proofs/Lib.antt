@@ -3,3 +3,4 @@ pub mod StepLemmas
 pub mod LineLemmas
 pub mod LawfulLemmas
 pub mod SegmentLemmas
+pub mod ChunkLemmas

@@ -19,6 +19,7 @@ use Rattle.nn_segment.specs.Segment.{is_end}
 use Rattle.nn_scenario.specs.Cut.{no_lines, with_line, last_part, cut_from}
 use Rattle.nn_scenario.specs.Scenario.{ScenarioLine, edit, report, line_as, is_blank, and_later, with_read, lines_from, edit_lines, steps_from}
 use Rattle.nn_scenario.specs.Scenario.{Scenario, scenario_with, scenario_from, scenario_of}
+use Rattle.nn_scenario.specs.Chunks.{and_lines, follow}
 use Rattle.nn_scenario.specs.SoFar.{SoFar, nothing_read, followed_by_line}
 use Rattle.nn_scenario.specs.Steps.{next_message, lanes_of, with_report}
 use Rattle.nn_scenario.specs.declared.scenario.BadLine.{BadLine}
@@ -38,13 +39,6 @@ pub edit_from_one : (line : List ℕ) (tx : Tx) → either_of_line line ≡ Ok (
 edit_from_one line tx is = (either_line_ok line (either.Edit tx) is).2.from_one
 
 -- ---- what was read, and then the lines that are left
-
-abbrev pub and_lines : SoFar → List ScenarioLine → Scenario
-and_lines x lines = scenario_with (x.parts ++ cut_from x.in_hand (edit_lines lines)) (x.steps ++ steps_from (lanes_of x.steps) lines)
-
-abbrev pub follow : SoFar → Result (List ScenarioLine) BadLine → Result Scenario BadLine
-follow x (Ok lines) = Ok (and_lines x lines)
-follow x (Err e) = Err e
 
 edit_steps : (steps : List Step) (lines : List ScenarioLine) → steps ++ step.Edit ∷ steps_from (lanes_of steps) lines
     ≡ (steps ++ step.Edit ∷ []) ++ steps_from (lanes_of (steps ++ step.Edit ∷ [])) lines
@@ -120,31 +114,6 @@ whole_input text = same (lines_from 1 (pieces text))
 abbrev pub ends : ℕ → Bool
 ends b = eqb b newline
 
-pub last_piece : (text : List ℕ) → position_or_len ends text ≡ length text → pieces text ≡ text ∷ []
-last_piece [] e = refl
-last_piece (b ∷ text) e = at (ends b) e (last_piece text)
-  where
-    at : (t : Bool) → cond (not t) (1 + position_or_len ends text) 0 ≡ suc (length text) → (position_or_len ends text ≡ length text → pieces text ≡ text ∷ [])
-        → cond t ([] ∷ pieces text) (onto_first b (pieces text)) ≡ (b ∷ text) ∷ []
-    at true e later = absurd (omega arith)
-    at false e later = rw (later (omega arith)) refl
-
-pub first_piece : (text : List ℕ) → position_or_len ends text < length text →
-    pieces text ≡ take (position_or_len ends text) text ∷ pieces (drop (position_or_len ends text + 1) text)
-first_piece text within = slice_split_first ends text 0 within
-
--- the first line, however many follow
-pub some_piece : (text : List ℕ) (n : ℕ) → n ≡ position_or_len ends text → n ≤ length text → (lines : List (List ℕ)) × (pieces text ≡ take n text ∷ lines)
-some_piece text n is within = at (ltb n (length text)) refl
-  where
-    at : (t : Bool) → ltb n (length text) ≡ t → (lines : List (List ℕ)) × (pieces text ≡ take n text ∷ lines)
-    at true h =
-        let less : position_or_len ends text < length text = omega (arith, ltb-true n (length text) h) in
-        (pieces (drop (position_or_len ends text + 1) text), first_piece text less ∙ rw (← is) refl)
-    at false h =
-        let all : n ≡ length text = omega (arith, ltb-false n (length text) h) in
-        ([], last_piece text (sym is ∙ all) ∙ ap (λ l. l ∷ []) (sym (take_all n text (omega arith))))
-
 -- no line feed stands in the first line
 pub first_unbroken : (text : List ℕ) → is_unbroken (take (position_or_len ends text) text) ≡ true
 first_unbroken [] = refl
@@ -156,14 +125,3 @@ first_unbroken (b ∷ text) = at (ends b) refl (first_unbroken text)
     at false e later =
         let one : suc (position_or_len ends text) ≡ 1 + position_or_len ends text = omega arith in
         subst (λ k. is_unbroken (take k (b ∷ text)) ≡ true) one (rw e later)
-
--- the last line was read
-pub last_read : (text rest : List ℕ) (line end : ℕ) (x next : SoFar) → follow x (lines_from (line + 1) (pieces rest)) ≡ scenario_of text →
-    end ≡ position_or_len ends rest → end ≡ length rest → Turned (take end rest) x next →
-    scenario_of text ≡ Ok (scenario_with (next.parts ++ last_part next.in_hand) next.steps)
-last_read text rest line end x next same is whole turned =
-    let one : pieces rest ≡ take end rest ∷ [] = last_piece rest (sym is ∙ whole) ∙ ap (λ l. l ∷ []) (sym (take_all end rest (omega arith))) in
-    sym same
-    ∙ ap (λ ls. follow x (lines_from (line + 1) ls)) one
-    ∙ turn (line + 1) (take end rest) [] x next turned
-    ∙ no_more (line + 1 + 1) next

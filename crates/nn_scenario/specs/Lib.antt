@@ -3,5 +3,6 @@ pub mod StepList
 pub mod Cut
 pub mod Scenario
 pub mod SoFar
+pub mod Chunks
 pub mod CutRows
 pub mod StepRows

@@ -4,11 +4,13 @@
 //! mark; its reports are the messages of their DataNodes, numbered from 1. The steps keep the order of the lines.
 #![tactic(auto)]
 
+mod lines;
 mod scenario;
 mod segments;
 mod step_list;
 mod steps;
 
+pub use lines::Lines;
 pub use scenario::{BadLine, MAX_INPUT, Scenario, read_lines};
 pub use segments::{BadSegment, Piece, read_segments};
 pub use step_list::{StepList, StepsLeft};

@@ -10,6 +10,7 @@ ghost use Rattle.nn_scenario.specs.Scenario.{max_input, scenario_of, seen, HasMe
 ghost use Rattle.nn_scenario.specs.SoFar.{nothing_read, with_edit_line, followed_by_line};
 ghost use Rattle.nn_segment.specs.Lines.{newline, is_unbroken};
 
+use crate::lines::Lines;
 use crate::segments::{Piece, is_end};
 use crate::step_list::StepList;
 use crate::steps::Steps;
@@ -51,26 +52,15 @@ pub fn read_lines(alloc: Global, input: &[u8]) -> Result<Scenario, BadLine>
     ensures lawful { IfOk result (λ s. IsLawfulScenario (seen s)) }
     ensures bad { IfErr result (λ e. e.fault ≢ LineFault.OutOfMemory → scenario_of input.now ≡ Err e) }
 {
-    let Ok(mut reading) = Reading::new(alloc) else {
+    let Ok(mut lines) = Lines::new(alloc) else {
         return Err(no_memory(0));
     };
     let mut scratch = Scratch::new(alloc);
-    let mut line = 0u64;
-    let mut rest = input;
-    'lines: loop {
-        let end = line_end(rest);
-        line += 1;
-        if let Err(bad) = reading.push_text(alloc, &mut scratch, &rest[..end], line) {
-            return Err(bad);
-        }
-        if end == rest.len() {
-            return reading.into_scenario(line);
-        }
-        rest = &rest[end + 1..];
-    }
+    lines.push(alloc, &mut scratch, input);
+    lines.end(alloc, &mut scratch)
 }
 
-fn no_memory(line: u64) -> BadLine
+pub(crate) fn no_memory(line: u64) -> BadLine
     ensures { result ≡ record { fault = LineFault.OutOfMemory; line = line } }
 {
     let fault = LineFault::OutOfMemory;
@@ -78,10 +68,11 @@ fn no_memory(line: u64) -> BadLine
 }
 
 // Where the first line ends: at its line feed, or with the bytes.
-fn line_end(bytes: &[u8]) -> usize
+pub(crate) fn line_end(bytes: &[u8]) -> usize
     ensures end { result ≡ position_or_len (λ b. b == newline) bytes.now }
     ensures within { result ≤ length bytes.now }
     ensures unbroken { is_unbroken (take result bytes.now) ≡ true }
+    ensures there { result < length bytes.now → slice_index bytes.now result ≡ newline }
 {
     line_feed(bytes)
 }
@@ -97,7 +88,7 @@ fn line_feed(bytes: &[u8]) -> usize
 
 // What was read so far: the pieces that ended, the one in hand, and the steps.
 #[derive(Drop)]
-struct Reading {
+pub(crate) struct Reading {
     pieces: Vec<Piece>,
     in_hand: Piece,
     steps: Steps,
@@ -112,7 +103,7 @@ impl Model for Reading {
 }
 
 impl Reading {
-    fn new(alloc: Global) -> Result<Reading, AllocError>
+    pub(crate) fn new(alloc: Global) -> Result<Reading, AllocError>
         ensures { IfOk result (λ reading. reading ≡ nothing_read) }
     {
         let steps = Steps::new(alloc)?;
@@ -124,7 +115,7 @@ impl Reading {
     }
 
     // Reads one more line, unless it is blank.
-    fn push_text(
+    pub(crate) fn push_text(
         &mut self,
         alloc: Global,
         scratch: &mut Scratch,
@@ -182,7 +173,7 @@ impl Reading {
     }
 
     // All that was read, at the last line.
-    fn into_scenario(self, line: u64) -> Result<Scenario, BadLine>
+    pub(crate) fn into_scenario(self, line: u64) -> Result<Scenario, BadLine>
         ensures ok { IfOk result (λ s. seen s ≡ scenario_with (self.parts ++ last_part self.in_hand) self.steps) }
         ensures bad { IfErr result (λ e. e.fault ≡ LineFault.OutOfMemory) }
     {

@@ -1,8 +1,11 @@
 -- Calls of a source, one after another.
-use Rattle.std.proofs.Common.{List, [], ◌∷◌, ◌++◌, map, refl, subst, sym}
-use Rattle.std.proofs.lemmas.List.{map-append}
+use Rattle.std.proofs.Common.{◌≡◌, List, [], ◌∷◌, ◌++◌, map, Ok, Err, refl, subst, sym, ap, ◌∙◌, append_assoc}
+use Rattle.std.proofs.lemmas.List.{append-nil, map-append}
 use Rattle.nn_segment.specs.Segment.{Segment}
-use Rattle.nn_segment.specs.Source.{Answer, given, Asked, AreInOrder, GivesInOrder}
+use Rattle.nn_segment.specs.Source.{Answer, given, end, Asked, GivesNext, AreInOrder, GivesInOrder}
+use Rattle.nn_segment.specs.LogEnd.{given_in}
+use Rattle.nn_segment.specs.declared.fault.SourceFault.{SourceFault}
+use Rattle.nn_segment.specs.declared.source.Item.TheVariants as item
 
 pub asked_append : {S : Type 0} (gives : S → Answer → S → Type 0) (old between new : S) (answers more : List Answer)
     → Asked gives old answers between → Asked gives between more new → Asked gives old (answers ++ more) new
@@ -27,3 +30,28 @@ pub asked_more : {S : Type 0} (gives : S → Answer → S → Type 0) (old betwe
     → Asked gives old (map given segments) between → gives between (given s) new → Asked gives old (map given (segments ++ s ∷ [])) new
 asked_more gives old between new segments s first h =
     subst (λ answers. Asked gives old answers new) (sym (map-append given segments (s ∷ []))) (asked_again gives old between new (map given segments) (given s) first h)
+
+-- ---- the segments among the answers
+
+pub given-append : (answers more : List Answer) → given_in (answers ++ more) ≡ given_in answers ++ given_in more
+given-append [] more = refl
+given-append (Ok (item.Segment s) ∷ answers) more = ap (λ ss. s ∷ ss) (given-append answers more)
+given-append (Ok item.End ∷ answers) more = given-append answers more
+given-append (Err fault ∷ answers) more = given-append answers more
+
+pub end_gives_none : (answers : List Answer) → given_in (answers ++ end ∷ []) ≡ given_in answers
+end_gives_none answers = given-append answers (end ∷ []) ∙ append-nil (given_in answers)
+
+pub fault_gives_none : (fault : SourceFault) (answers : List Answer) → given_in (answers ++ Err fault ∷ []) ≡ given_in answers
+fault_gives_none fault answers = given-append answers (Err fault ∷ []) ∙ append-nil (given_in answers)
+
+pub one_given : (answers : List Answer) (s : Segment) (later : List Segment) → given_in (answers ++ given s ∷ []) ++ later ≡ given_in answers ++ (s ∷ later)
+one_given answers s later = ap (λ g. g ++ later) (given-append answers (given s ∷ [])) ∙ append_assoc (given_in answers) (s ∷ []) later
+
+-- a source in memory gave its first segments, and has the others
+pub memory_left : (old new : List Segment) (answers : List Answer) → Asked GivesNext old answers new → given_in answers ++ new ≡ old
+memory_left old new [] asked = sym asked
+memory_left [] new (answer ∷ answers) asked =
+    ap (λ a. given_in (a ∷ answers) ++ new) asked.1.0 ∙ memory_left asked.0 new answers asked.2 ∙ asked.1.1
+memory_left (s ∷ segments) new (answer ∷ answers) asked =
+    ap (λ a. given_in (a ∷ answers) ++ new) asked.1.0 ∙ ap (λ rest. s ∷ rest) (memory_left asked.0 new answers asked.2 ∙ asked.1.1)

@@ -7,3 +7,6 @@ pub mod Outcomes
 pub mod Asks
 pub mod Walks
 pub mod JoinedLines
+pub mod LogLemmas
+pub mod LogEnds
+pub mod CursorLemmas

@@ -7,6 +7,9 @@ pub mod Outcome
 pub mod Source
 pub mod Walk
 pub mod LogEnd
+pub mod LogLeft
+pub mod Cursor
+pub mod LogLaws
 pub mod NameRows
 pub mod ReadingRows
 pub mod LogRows

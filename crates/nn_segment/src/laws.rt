@@ -4,6 +4,7 @@ ghost use Rattle.std.specs.Prelude.{◌≡◌, List, ℕ, Ok, true, map};
 ghost use Rattle.std.specs.List.{list_all};
 ghost use Rattle.nn_edits.specs.Reading.{edit_of_line};
 ghost use Rattle.nn_types.specs.declared.tx.Tx.{Tx};
+ghost use Rattle.nn_segment.specs.LogLaws.{EndsWithTheLog};
 ghost use Rattle.nn_segment.specs.Lines.{reads_of, joined_lines, is_unbroken, JoinedAreCutBack};
 ghost use Rattle.nn_segment.specs.Reading.{read_segment};
 ghost use Rattle.nn_segment.specs.Segment.{Segment, IsSegment};
@@ -42,4 +43,9 @@ pub fn a_walk_goes_through()
     ensures behind { SegmentBehindTheRest }
     ensures end { EndAddsNothing }
     ensures fault { FaultAddsNothing }
+{}
+
+/// Where the walk over segments ends, the namespace is the one after the log that the segments hold.
+pub fn a_walk_ends_with_the_log()
+    ensures { EndsWithTheLog }
 {}

@@ -218,7 +218,8 @@ fn is_named(txids: (Txid, Txid), txs: &[Tx]) -> bool
     txids.0.get() == first_txid(txs) && txids.1.get() == last_txid(txs)
 }
 
-fn first_txid(txs: &[Tx]) -> u64
+// The txid of the first transaction, 0 where there is none.
+pub(crate) fn first_txid(txs: &[Tx]) -> u64
     ensures { result ≡ first_txid txs.now }
 {
     match txs.first() {

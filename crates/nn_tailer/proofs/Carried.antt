@@ -21,7 +21,8 @@ use Rattle.nn_segment.proofs.Walks.{behind_the_rest, end_adds_nothing, fault_add
 use Rattle.nn_types.specs.declared.fault.TheConstants.{DISORDER}
 use Rattle.nn_model.specs.Apply.{refusal}
 use Rattle.nn_segment.specs.LogEnd.{refused, disorder, end_of_log, end_behind, given_in}
-use Rattle.nn_tailer.proofs.LogEnds.{behind_none, behind_gap, behind_segment, behind_applied, behind_refused, end_gives_none, fault_gives_none, one_given, same_given, same_way, not_refused}
+use Rattle.nn_segment.proofs.Asks.{end_gives_none, fault_gives_none, one_given}
+use Rattle.nn_tailer.proofs.LogEnds.{behind_none, behind_gap, behind_segment, behind_applied, behind_refused, same_given, same_way, not_refused}
 use Rattle.nn_tailer.proofs.Shadowing.{same_last, same_namespace, applied_last, applied_namespace, handed_last, handed_namespace}
 use Rattle.nn_tailer.specs.Tailing.{has_begun, Tailer, StopsLog, Keeps, StandsAt, Carries, lanes_of, handed_all, by_node, kept_at, with_kept, with_lane, with_shadow, stopping}
 use Rattle.nn_tailer.specs.Parts.{IsLive, AppliesNext, StopsAt, HandsKept, Unchanged}

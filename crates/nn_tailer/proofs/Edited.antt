@@ -6,13 +6,12 @@ use Rattle.nn_model.specs.Log.{counted as news}
 use Rattle.nn_model.specs.Apply.{refusal}
 use Rattle.nn_segment.specs.declared.source.Item.TheVariants.{Segment as segment}
 use Rattle.nn_tailer.proofs.Sources.{asked_one}
-use Rattle.nn_tailer.specs.declared.standby.log.Begins.TheVariants as begins
-use Rattle.nn_tailer.specs.declared.standby.log.Asks.TheVariants as asks
+use Rattle.nn_segment.specs.declared.cursor.TakenUp.TheVariants as taken_up
 use Rattle.nn_tailer.specs.declared.standby.Stepped.TheVariants as stepped
 use Rattle.nn_tailer.specs.declared.fault.StepFault.{StepFault}
 use Rattle.nn_tailer.specs.declared.fault.StepFault.TheVariants as fault
 use Rattle.nn_tailer.specs.Tailing.{Tailer, Carries, with_rest}
-use Rattle.nn_tailer.specs.Parts.{IsLive, AppliesNext, NotApplied, TakesUp}
+use Rattle.nn_tailer.specs.Parts.{IsLive, AppliesNext, NotApplied}
 use Rattle.nn_tailer.specs.Steps.{OnceAsked, SameLanes, Edits, in_hand}
 use Rattle.nn_tailer.proofs.Carried.{carries_same, carries_then, carries_answer, carries_segment, carries_gap, carries_applied, carries_stop, carries_unchanged, end_adds_none, fault_adds_none, AddsNone, TakesIn}
 use Rattle.nn_shadow.specs.Contents.{standby_of}
@@ -37,13 +36,13 @@ ready_now old l = record { carries = carries_same old; lanes = same_lanes old; s
 takes_in : (old : Tailer) (p : Segment) (mid : Tailer) → IsLive old → old.rest ≡ [] → first_txid p.txs ≤ old.shadow.last + 1 → mid ≡ with_rest old (news old.shadow.last p.txs) → TakesIn old p mid
 takes_in old p mid l e w q = subst (TakesIn old p) (sym q) (record { live = l; was = e; shadow = refl; ends = refl; kept = refl; begun = refl; stop = l.1; low = w; now = refl })
 
-pub ready_new : (old mid : Tailer) (p : Segment) → IsLive old → old.rest ≡ [] → TakesUp old p mid begins.New → Ready old (Ok (segment p) ∷ []) mid
-ready_new old mid p l e t = record {
-  carries = carries_segment old mid p (takes_in old p mid l e t.0 t.2);
-  lanes = subst (SameLanes old) (sym t.2) (record { ends = refl; kept = refl; begun = refl; active = refl; settings = settings_same old.shadow });
-  shadow = ap (λ z. z.shadow) t.2;
-  stop = ap (λ z. z.stop) t.2 ∙ l.1;
-  rest = sym (ap (λ z. z.rest) t.2);
+pub ready_new : (old mid : Tailer) (p : Segment) → IsLive old → old.rest ≡ [] → first_txid p.txs ≤ old.shadow.last + 1 → mid ≡ with_rest old (news old.shadow.last p.txs) → Ready old (Ok (segment p) ∷ []) mid
+ready_new old mid p l e low now = record {
+  carries = carries_segment old mid p (takes_in old p mid l e low now);
+  lanes = subst (SameLanes old) (sym now) (record { ends = refl; kept = refl; begun = refl; active = refl; settings = settings_same old.shadow });
+  shadow = ap (λ z. z.shadow) now;
+  stop = ap (λ z. z.stop) now ∙ l.1;
+  rest = sym (ap (λ z. z.rest) now);
 }
 
 -- it is as live
@@ -108,16 +107,15 @@ module _ {S : Type 0} (gives : S → Answer → S → Type 0) where
     (ap (λ q. q ∷ []) h.0, e, h.1),
   )
   asked_then s t old new r (fault.Stopped m) l e g h =
-      let q : Ok (segment h.0) ∷ [] ≡ r ∷ [] = ap (λ q. q ∷ []) (sym h.1) in
-      let u = h.2 in (
+      let q : Ok (segment h.0) ∷ [] ≡ r ∷ [] = ap (λ q. q ∷ []) (sym h.1) in (
         r ∷ [],
         asked_one gives s t r g,
-        subst (λ rs. Carries old rs new) q (carries_gap old new h.0 m (record { live = l; was = e; high = u.0; none = u.1; txid = u.2; number = u.3; now = u.4 })),
-        subst (SameLanes old) (sym u.4) (record { ends = refl; kept = refl; begun = refl; active = refl; settings = settings_same old.shadow }),
-        (ap (λ z. z.stop) u.4, u.2, subst (λ z. ShowsSame old.shadow z) (sym (ap (λ z. z.shadow) u.4)) (nothing_new old.shadow), ap (λ z. z.rest) u.4 ∙ e ∙ sym u.1 ∙ ap (in_hand old) q, inr (h.0, sym q, u.0, u.3)),
+        subst (λ rs. Carries old rs new) q (carries_gap old new h.0 m (record { live = l; was = e; high = h.2; none = h.3; txid = h.4; number = h.5; now = h.6 })),
+        subst (SameLanes old) (sym h.6) (record { ends = refl; kept = refl; begun = refl; active = refl; settings = settings_same old.shadow }),
+        (ap (λ z. z.stop) h.6, h.4, subst (λ z. ShowsSame old.shadow z) (sym (ap (λ z. z.shadow) h.6)) (nothing_new old.shadow), ap (λ z. z.rest) h.6 ∙ e ∙ sym h.3 ∙ ap (in_hand old) q, inr (h.0, sym q, h.2, h.5)),
       )
 
-  pub ended_then : (s t : S) (old new : Tailer) (r : Answer) → IsLive old → old.rest ≡ [] → gives s r t → OnceAsked old r new (Ok asks.Ended) → Edits gives s old t new (Ok stepped.LogEnded)
+  pub ended_then : (s t : S) (old new : Tailer) (r : Answer) → IsLive old → old.rest ≡ [] → gives s r t → OnceAsked old r new (Ok taken_up.End) → Edits gives s old t new (Ok stepped.LogEnded)
   ended_then s t old new r l e g h = (
     r ∷ [],
     asked_one gives s t r g,
@@ -126,18 +124,17 @@ module _ {S : Type 0} (gives : S → Answer → S → Type 0) where
     (ap (λ q. q ∷ []) h.0, e, h.1),
   )
 
-  pub passed_then : (s t : S) (old new : Tailer) (r : Answer) → IsLive old → old.rest ≡ [] → gives s r t → OnceAsked old r new (Ok asks.Old) → Edits gives s old t new (Ok stepped.Passed)
+  pub passed_then : (s t : S) (old new : Tailer) (r : Answer) → IsLive old → old.rest ≡ [] → gives s r t → OnceAsked old r new (Ok taken_up.Old) → Edits gives s old t new (Ok stepped.Passed)
   passed_then s t old new r l e g h =
-      let q : Ok (segment h.0) ∷ [] ≡ r ∷ [] = ap (λ q. q ∷ []) (sym h.1) in
-      let u = h.2 in (
+      let q : Ok (segment h.0) ∷ [] ≡ r ∷ [] = ap (λ q. q ∷ []) (sym h.1) in (
         r ∷ [],
         asked_one gives s t r g,
-        subst (λ rs. Carries old rs new) q (carries_segment old new h.0 (subst (TakesIn old h.0) (sym u.2) (record { live = l; was = e; shadow = refl; ends = refl; kept = refl; begun = refl; stop = l.1; low = u.0; now = e ∙ sym u.1 }))),
-        subst (SameLanes old) (sym u.2) (same_lanes old),
-        (h.0, sym q, u.0, u.1, u.2),
+        subst (λ rs. Carries old rs new) q (carries_segment old new h.0 (subst (TakesIn old h.0) (sym h.4) (record { live = l; was = e; shadow = refl; ends = refl; kept = refl; begun = refl; stop = l.1; low = h.2; now = e ∙ sym h.3 }))),
+        subst (SameLanes old) (sym h.4) (same_lanes old),
+        (h.0, sym q, h.2, h.3, h.4),
       )
 
-  pub new_asked : (s t : S) (old mid : Tailer) (r : Answer) → IsLive old → old.rest ≡ [] → gives s r t → OnceAsked old r mid (Ok asks.New) → Asked gives s (r ∷ []) t × Ready old (r ∷ []) mid
+  pub new_asked : (s t : S) (old mid : Tailer) (r : Answer) → IsLive old → old.rest ≡ [] → gives s r t → OnceAsked old r mid (Ok taken_up.New) → Asked gives s (r ∷ []) t × Ready old (r ∷ []) mid
   new_asked s t old mid r l e g h =
       let q : Ok (segment h.0) ∷ [] ≡ r ∷ [] = ap (λ q. q ∷ []) (sym h.1) in
-      (asked_one gives s t r g, subst (λ rs. Ready old rs mid) q (ready_new old mid h.0 l e h.2))
+      (asked_one gives s t r g, subst (λ rs. Ready old rs mid) q (ready_new old mid h.0 l e h.2 h.4))

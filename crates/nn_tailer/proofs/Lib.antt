@@ -1,7 +1,6 @@
 pub mod Sources
 pub mod LogEnds
 pub mod Shadowing
-pub mod Rests
 pub mod Lanes
 pub mod Moves
 pub mod Fetched

@@ -3,8 +3,8 @@ use Rattle.std.proofs.Common.{append_assoc, ◌≡◌, ℕ, ◌+◌, ◌<◌, �
 use Rattle.nn_segment.specs.Source.{Answer, Asked}
 use Rattle.nn_segment.specs.declared.source.Item.TheVariants.{End}
 use Rattle.nn_segment.specs.Source.{end}
-use Rattle.nn_tailer.specs.declared.standby.log.Asks.{Asks}
-use Rattle.nn_tailer.specs.declared.standby.log.Asks.TheVariants as asks
+use Rattle.nn_segment.specs.declared.cursor.TakenUp.{TakenUp}
+use Rattle.nn_segment.specs.declared.cursor.TakenUp.TheVariants as taken_up
 use Rattle.nn_tailer.specs.declared.fault.StepFault.{StepFault}
 use Rattle.nn_tailer.specs.declared.fault.StepFault.TheVariants as fault
 use Rattle.nn_tailer.specs.Tailing.{Tailer, Carries, EndsInEnd}
@@ -90,26 +90,26 @@ over_asked x y r fault.AlreadyActive l n h = absurd h
 over_asked x y r fault.BadLane l n h = absurd h
 over_asked x y r fault.OutOfMemory l n h = absurd h
 over_asked x y r (fault.LogNotEnded f) l n h = (carries_bare x y r (Err f) l h.0 (fault_adds_none f) h.1, subst (SameLanes x) (sym h.1) (lanes_same x), (ap (λ z. z.stop) h.1 ∙ l.1, ([], ap (λ q. q ∷ []) h.0)))
-over_asked x y r (fault.Stopped m) l n h =
-    let u = h.2 in (
-      subst (λ rs. Carries x rs y) (ap (λ q. q ∷ []) (sym h.1)) (carries_gap x y h.0 m (record { live = l; was = n; high = u.0; none = u.1; txid = u.2; number = u.3; now = u.4 })),
-      subst (SameLanes x) (sym u.4) (record { ends = refl; kept = refl; begun = refl; active = refl; settings = settings_same x.shadow }),
-      (ap (λ z. z.stop) u.4, u.2 ∙ ap (λ n. n + 1) (sym (ap (λ z. z.shadow.last) u.4))),
-    )
+over_asked x y r (fault.Stopped m) l n h = (
+  subst (λ rs. Carries x rs y) (ap (λ q. q ∷ []) (sym h.1)) (carries_gap x y h.0 m (record { live = l; was = n; high = h.2; none = h.3; txid = h.4; number = h.5; now = h.6 })),
+  subst (SameLanes x) (sym h.6) (record { ends = refl; kept = refl; begun = refl; active = refl; settings = settings_same x.shadow }),
+  (ap (λ z. z.stop) h.6, h.4 ∙ ap (λ n. n + 1) (sym (ap (λ z. z.shadow.last) h.6))),
+)
 
-pub going_asked : (x y : Tailer) (r : Answer) (a : Asks) → IsLive x → x.rest ≡ [] → OnceAsked x r y (Ok a) → Going x (r ∷ []) y
-going_asked x y r asks.Ended l n h = record { carries = carries_bare x y r end l h.0 end_adds_none h.1; lanes = subst (SameLanes x) (sym h.1) (lanes_same x); stop = ap (λ z. z.stop) h.1 ∙ l.1 }
-going_asked x y r asks.Old l n h =
-    let u = h.2 in record {
-      carries = subst (λ rs. Carries x rs y) (ap (λ q. q ∷ []) (sym h.1)) (carries_segment x y h.0 (subst (TakesIn x h.0) (sym u.2) (record { live = l; was = n; shadow = refl; ends = refl; kept = refl; begun = refl; stop = l.1; low = u.0; now = n ∙ sym u.1 })));
-      lanes = subst (SameLanes x) (sym u.2) (lanes_same x);
-      stop = ap (λ z. z.stop) u.2 ∙ l.1;
+pub going_asked : (x y : Tailer) (r : Answer) (a : TakenUp) → IsLive x → x.rest ≡ [] → OnceAsked x r y (Ok a) → Going x (r ∷ []) y
+going_asked x y r taken_up.End l n h = record { carries = carries_bare x y r end l h.0 end_adds_none h.1; lanes = subst (SameLanes x) (sym h.1) (lanes_same x); stop = ap (λ z. z.stop) h.1 ∙ l.1 }
+going_asked x y r taken_up.Disorder l n h = absurd h
+going_asked x y r taken_up.Old l n h =
+    record {
+      carries = subst (λ rs. Carries x rs y) (ap (λ q. q ∷ []) (sym h.1)) (carries_segment x y h.0 (subst (TakesIn x h.0) (sym h.4) (record { live = l; was = n; shadow = refl; ends = refl; kept = refl; begun = refl; stop = l.1; low = h.2; now = n ∙ sym h.3 })));
+      lanes = subst (SameLanes x) (sym h.4) (lanes_same x);
+      stop = ap (λ z. z.stop) h.4 ∙ l.1;
     }
-going_asked x y r asks.New l n h =
-    let u = h.2 in record {
-      carries = subst (λ rs. Carries x rs y) (ap (λ q. q ∷ []) (sym h.1)) (carries_segment x y h.0 (subst (TakesIn x h.0) (sym u.2) (record { live = l; was = n; shadow = refl; ends = refl; kept = refl; begun = refl; stop = l.1; low = u.0; now = refl })));
-      lanes = subst (SameLanes x) (sym u.2) (record { ends = refl; kept = refl; begun = refl; active = refl; settings = settings_same x.shadow });
-      stop = ap (λ z. z.stop) u.2 ∙ l.1;
+going_asked x y r taken_up.New l n h =
+    record {
+      carries = subst (λ rs. Carries x rs y) (ap (λ q. q ∷ []) (sym h.1)) (carries_segment x y h.0 (subst (TakesIn x h.0) (sym h.4) (record { live = l; was = n; shadow = refl; ends = refl; kept = refl; begun = refl; stop = l.1; low = h.2; now = refl })));
+      lanes = subst (SameLanes x) (sym h.4) (record { ends = refl; kept = refl; begun = refl; active = refl; settings = settings_same x.shadow });
+      stop = ap (λ z. z.stop) h.4 ∙ l.1;
     }
 
 -- what EditsOn says, the way round
@@ -141,7 +141,7 @@ no_fault (fault.LogNotEnded f) P h = absurd h
 no_fault (fault.Stopped m) P h = tt
 no_fault fault.OutOfMemory P h = tt
 
-pub later : (e : StepFault) (a b c : ℕ) → a ≤ b → OnLogFault {A = Asks} (Err e) (b < c) → OnLogFault {A = Unit {0}} (Err e) (a < c)
+pub later : (e : StepFault) (a b c : ℕ) → a ≤ b → OnLogFault {A = TakenUp} (Err e) (b < c) → OnLogFault {A = Unit {0}} (Err e) (a < c)
 later fault.AlreadyActive a b c l h = tt
 later fault.BadLane a b c l h = tt
 later (fault.LogNotEnded f) a b c l h = omega (arith, l, h)

@@ -1,5 +1,5 @@
 -- From a live standby to a promoted one.
-use Rattle.std.proofs.Common.{◌≡◌, true, false, List, [], ◌∷◌, ◌++◌, Result, Ok, Err, refl, sym, ap, ◌∙◌, subst}
+use Rattle.std.proofs.Common.{◌≡◌, true, false, true≢false, List, [], ◌∷◌, ◌++◌, Result, Ok, Err, refl, sym, ap, ◌∙◌, subst}
 use Rattle.std.proofs.lemmas.List.{append-nil, append_assoc}
 use Rattle.nn_segment.specs.Source.{Answer, Asked}
 use Rattle.nn_segment.specs.declared.source.Item.TheVariants.{End}
@@ -82,7 +82,7 @@ module _ {S : Type 0} (gives : S → Answer → S → Type 0) where
     q,
     (λ start base given h. (f.4 start base (given ++ rs) (p.0 start base given h) p.4.1 (ends_more given rs p.4.2) p.4.3).1),
     ends_then x.ends y.ends z.ends p.1 (subst (λ es. SameEnds y.ends es) (sym f.3) (ends_same y.ends)),
-    (f.0, f.1, f.2, (λ start base given h. (f.4 start base (given ++ rs) (p.0 start base given h) p.4.1 (ends_more given rs p.4.2) p.4.3).0)),
+    (f.0, f.1, f.2, (λ start base given h. (f.4 start base (given ++ rs) (p.0 start base given h) p.4.1 (ends_more given rs p.4.2) p.4.3).0), λ _. p.4.2),
     settings_then x.shadow y.shadow z.shadow p.5 f.5,
   )
   promote_finished s t x y z rs (Err (promote_fault.Step fault.OutOfMemory)) b v q p f = (
@@ -107,7 +107,7 @@ module _ {S : Type 0} (gives : S → Answer → S → Type 0) where
     refl,
     (λ start base given h. let e = h.ended b in subst (λ g. StandsAt start base g z) (sym (append-nil given)) (f.4 start base given h e.0 e.1 e.2).1),
     subst (λ es. SameEnds x.ends es) (sym f.3) (ends_same x.ends),
-    (f.0, f.1, f.2, (λ start base given h. let e = h.ended b in subst (λ g. Promoted start base g z) (sym (append-nil given)) (f.4 start base given h e.0 e.1 e.2).0)),
+    (f.0, f.1, f.2, (λ start base given h. let e = h.ended b in subst (λ g. Promoted start base g z) (sym (append-nil given)) (f.4 start base given h e.0 e.1 e.2).0), λ fresh. absurd (true≢false (sym b ∙ fresh))),
     f.5,
   )
   promote_resumed s x z (Err (promote_fault.Step fault.OutOfMemory)) b f = (

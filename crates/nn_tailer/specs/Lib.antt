@@ -1,5 +1,4 @@
 pub mod Tailing
-pub mod Hands
 pub mod Parts
 pub mod Steps
 pub mod LaneSteps

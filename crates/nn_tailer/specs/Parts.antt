@@ -12,19 +12,12 @@ use Rattle.nn_shadow.specs.declared.fault.Stop.{Stop}
 use Rattle.nn_shadow.specs.Contents.{Contents}
 use Rattle.nn_segment.specs.Segment.{Segment, first_txid}
 use Rattle.nn_tailer.specs.Shadows.{ShowsSame, IsApplied, IsHanded}
-use Rattle.nn_tailer.specs.declared.standby.log.Begins.{Begins}
-use Rattle.nn_tailer.specs.declared.standby.log.Begins.TheVariants.{TooHigh, Old, New}
 use Rattle.nn_tailer.specs.declared.fault.StepFault.{StepFault}
 use Rattle.nn_tailer.specs.declared.fault.StepFault.TheVariants.{AlreadyActive, Stopped, BadLane, LogNotEnded, OutOfMemory}
 use Rattle.nn_tailer.specs.Tailing.{has_begun, Tailer, handed_all, with_lane, with_kept, with_shadow, with_rest, stopping}
 
 abbrev pub IsLive : Tailer → Type 0
 IsLive x = (has_begun x ≡ false) × (x.stop ≡ None) × (x.active ≡ false)
-
-abbrev pub TakesUp : Tailer → Segment → Tailer → Begins → Type 0
-TakesUp old p new (TooHigh s) = (old.shadow.last + 1 < first_txid p.txs) × (news old.shadow.last p.txs ≡ []) × (s.txid ≡ old.shadow.last + 1) × (s.number ≡ DISORDER) × (new ≡ stopping old s)
-TakesUp old p new Old = (first_txid p.txs ≤ old.shadow.last + 1) × (news old.shadow.last p.txs ≡ []) × (new ≡ old)
-TakesUp old p new New = (first_txid p.txs ≤ old.shadow.last + 1) × (news old.shadow.last p.txs ≢ []) × (new ≡ with_rest old (news old.shadow.last p.txs))
 
 pub record AppliesNext (old : Tailer) (txid : ℕ) (new : Tailer) : Type 0 where
   pub tx : Tx

@@ -73,8 +73,9 @@ NotPromoted old answers new promote_fault.IntakeOpen = (list_all closed_of old.e
 NotPromoted old answers new (promote_fault.Step f) = (new.active ≡ old.active) × WhyEnded answers new f × StopsFor old answers f
 
 module _ {S : Type 0} (gives : S → Answer → S → Type 0) where
+  -- it is promoted with these answers more, and read up to End where the flush had not begun before; or it says why not
   abbrev pub Promotes : S → Tailer → S → Tailer → Result Active PromoteFault → Type 0
   Promotes s old t new result =
       (answers : List Answer) × Asked gives s answers t × Carries old answers new × SameEnds old.ends new.ends
-      × MatchResult result (λ a. (new.active ≡ true) × (a.last ≡ new.shadow.last) × (a.flushed ≡ count_by is_flush new.shadow.history) × IsPromoted old answers new) (NotPromoted old answers new)
+      × MatchResult result (λ a. (new.active ≡ true) × (a.last ≡ new.shadow.last) × (a.flushed ≡ count_by is_flush new.shadow.history) × IsPromoted old answers new × (has_begun old ≡ false → EndsInEnd answers)) (NotPromoted old answers new)
       × KeepsSettings old.shadow new.shadow

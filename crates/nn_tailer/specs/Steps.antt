@@ -1,5 +1,5 @@
 -- What a step does.
-use Rattle.std.specs.Prelude.{◌≡◌, ◌+◌, ◌<◌, ◌≤◌, List, [], ◌∷◌, Some, None, Result, Ok, Err, MatchResult, ◌⊎◌}
+use Rattle.std.specs.Prelude.{◌≡◌, ◌≢◌, ◌+◌, ◌<◌, ◌≤◌, List, [], ◌∷◌, Some, None, Result, Ok, Err, MatchResult, ◌⊎◌}
 use Rattle.nn_types.specs.declared.tx.Tx.{Tx}
 use Rattle.nn_types.specs.declared.edit_fault.EditFault.{EditFault}
 use Rattle.nn_model.specs.Apply.{refusal}
@@ -10,25 +10,26 @@ use Rattle.nn_segment.specs.Segment.{Segment, first_txid}
 use Rattle.nn_segment.specs.Source.{Answer, Asked}
 use Rattle.nn_model.specs.Log.{counted as news}
 use Rattle.nn_segment.specs.declared.source.Item.TheVariants.{Segment as segment, End}
-use Rattle.nn_tailer.specs.declared.standby.log.Begins.TheVariants as begins
-use Rattle.nn_tailer.specs.declared.standby.log.Asks.{Asks}
-use Rattle.nn_tailer.specs.declared.standby.log.Asks.TheVariants as asks
+use Rattle.nn_segment.specs.declared.cursor.TakenUp.{TakenUp}
+use Rattle.nn_segment.specs.declared.cursor.TakenUp.TheVariants as taken_up
 use Rattle.nn_tailer.specs.declared.standby.Stepped.{Stepped}
 use Rattle.nn_tailer.specs.declared.standby.Stepped.TheVariants as stepped
 use Rattle.nn_tailer.specs.declared.fault.StepFault.{StepFault}
 use Rattle.nn_tailer.specs.declared.fault.StepFault.TheVariants as fault
-use Rattle.nn_tailer.specs.Tailing.{has_begun, Tailer, Carries}
+use Rattle.nn_tailer.specs.Tailing.{has_begun, Tailer, Carries, with_rest, stopping}
 use Rattle.nn_types.specs.declared.fault.TheConstants.{DISORDER}
 use Rattle.nn_types.specs.EditFault.{number_of}
 use Rattle.nn_tailer.specs.Shadows.{ShowsSame}
-use Rattle.nn_tailer.specs.Parts.{TakesUp}
 
--- the source was asked once, and this is what came of it
-abbrev pub OnceAsked : Tailer → Answer → Tailer → Result Asks StepFault → Type 0
-OnceAsked old r new (Ok asks.Ended) = (r ≡ Ok End) × (new ≡ old)
-OnceAsked old r new (Ok asks.Old) = (p : Segment) × (r ≡ Ok (segment p)) × TakesUp old p new begins.Old
-OnceAsked old r new (Ok asks.New) = (p : Segment) × (r ≡ Ok (segment p)) × TakesUp old p new begins.New
-OnceAsked old r new (Err (fault.Stopped s)) = (p : Segment) × (r ≡ Ok (segment p)) × TakesUp old p new (begins.TooHigh s)
+-- The source was asked once, and this is what came of it: of a segment what counts is in hand; a segment that begins too high stops the
+-- standby
+abbrev pub OnceAsked : Tailer → Answer → Tailer → Result TakenUp StepFault → Type 0
+OnceAsked old r new (Ok taken_up.End) = (r ≡ Ok End) × (new ≡ old)
+OnceAsked old r new (Ok taken_up.Old) = (p : Segment) × (r ≡ Ok (segment p)) × (first_txid p.txs ≤ old.shadow.last + 1) × (news old.shadow.last p.txs ≡ []) × (new ≡ old)
+OnceAsked old r new (Ok taken_up.New) = (p : Segment) × (r ≡ Ok (segment p)) × (first_txid p.txs ≤ old.shadow.last + 1) × (news old.shadow.last p.txs ≢ []) × (new ≡ with_rest old (news old.shadow.last p.txs))
+OnceAsked old r new (Ok taken_up.Disorder) = ⊥
+OnceAsked old r new (Err (fault.Stopped s)) =
+    (p : Segment) × (r ≡ Ok (segment p)) × (old.shadow.last + 1 < first_txid p.txs) × (news old.shadow.last p.txs ≡ []) × (s.txid ≡ old.shadow.last + 1) × (s.number ≡ DISORDER) × (new ≡ stopping old s)
 OnceAsked old r new (Err (fault.LogNotEnded f)) = (r ≡ Err f) × (new ≡ old)
 OnceAsked old r new (Err fault.AlreadyActive) = ⊥
 OnceAsked old r new (Err fault.BadLane) = ⊥
@@ -89,8 +90,9 @@ OnLogFault (Err fault.BadLane) P = Unit {0}
 OnLogFault (Err (fault.LogNotEnded f)) P = P
 OnLogFault (Err fault.OutOfMemory) P = Unit {0}
 
-abbrev pub HasSegment : Result Asks StepFault → Type 0 → Type 0
-HasSegment (Ok asks.Ended) P = Unit {0}
-HasSegment (Ok asks.Old) P = P
-HasSegment (Ok asks.New) P = P
+abbrev pub HasSegment : Result TakenUp StepFault → Type 0 → Type 0
+HasSegment (Ok taken_up.End) P = Unit {0}
+HasSegment (Ok taken_up.Old) P = P
+HasSegment (Ok taken_up.New) P = P
+HasSegment (Ok taken_up.Disorder) P = Unit {0}
 HasSegment (Err f) P = Unit {0}

@@ -7,7 +7,6 @@
 #![tactic(auto)]
 
 mod fault;
-mod hand;
 mod laws;
 mod restart;
 mod standby;

@@ -13,10 +13,9 @@ mod log;
 mod promote;
 
 use crate::fault::StepFault;
-use crate::hand::Hand;
 use crate::standby::lanes::close_all;
 use nn_lane::LaneEnd;
-use nn_segment::SegmentSource;
+use nn_segment::{Cursor, SegmentSource};
 use nn_shadow::{Shadow, Stop};
 use nn_types::{Message, Settings, Txid};
 use std::alloc::{AllocError, Global};
@@ -68,7 +67,7 @@ pub struct Standby {
     ends: Vec<LaneEnd>,
     // Of each lane the message that was taken, and that want of memory kept from being handed on.
     kept: Vec<Option<Message>>,
-    hand: Hand,
+    cursor: Cursor,
     // An edit that does not apply stops the shadow too; a segment that begins too high stops the standby alone.
     stop: Option<Stop>,
     // Whether it was promoted.
@@ -80,9 +79,9 @@ impl Model for Standby {
 
     ghost Value = { Tailer };
 
-    ghost view = { λ s. record { shadow = s.shadow; ends = s.ends.items; kept = s.kept.items; rest = s.hand; stop = s.stop; active = s.active } };
+    ghost view = { λ s. record { shadow = s.shadow; ends = s.ends.items; kept = s.kept.items; rest = s.cursor; stop = s.stop; active = s.active } };
 
-    ghost invariant = { λ s. Keeps (record { shadow = s.shadow; ends = s.ends.items; kept = s.kept.items; rest = s.hand; stop = s.stop; active = s.active }) };
+    ghost invariant = { λ s. Keeps (record { shadow = s.shadow; ends = s.ends.items; kept = s.kept.items; rest = s.cursor; stop = s.stop; active = s.active }) };
 }
 
 impl Standby {
@@ -111,7 +110,7 @@ impl Standby {
             shadow,
             ends,
             kept,
-            hand: Hand::empty(),
+            cursor: Cursor::new(alloc),
             stop: None,
             active: false,
         })
@@ -203,7 +202,7 @@ impl Standby {
             shadow,
             ends,
             kept: _,
-            hand: _,
+            cursor: _,
             stop: _,
             active: _,
         } = self;

@@ -1,14 +1,8 @@
 -- The index after a block was added.
 use Rattle.std.proofs.Common.{inl, inr, ◌≡◌, ℕ, true, false, cond, not, List, [], ◌∷◌, ◌++◌, Option, Some, None, refl, sym, ap, subst, ◌∙◌}
 use Rattle.std.specs.Prelude.{◌==◌, filter}
-use Rattle.std.specs.List.{AllByRecursion}
-use Rattle.std.specs.List.Sorted.{IsStrictlySortedBy}
-use Rattle.std.specs.declared.cmp.Ordering.TheVariants.{Less}
 use Rattle.std.specs.Ordering.{is_eq, nat_cmp}
-use Rattle.std.specs.BTreeMap.{is_at}
-use Rattle.std.specs.Set.{remove_key}
 use Rattle.std.proofs.lemmas.Bool.{both_ways, cases_Bool, eqb-true, eq-eqb, ne_eqb, not-false}
-use Rattle.std.proofs.lemmas.Map.Keys.{sorted_head, sorted_tail}
 use Rattle.nn_types.specs.declared.block.Block.{Block}
 use Rattle.nn_types.specs.declared.edit.Edit.TheVariants as edit
 use Rattle.nn_types.specs.LawfulEdit.{IsLawfulEdit}
@@ -16,38 +10,21 @@ use Rattle.nn_model.proofs.Trees.{stays_well_formed}
 use Rattle.nn_model.specs.declared.form.Form.TheVariants.{File}
 use Rattle.nn_model.specs.declared.form.FileRow.{FileRow}
 use Rattle.nn_model.specs.Namespace.{Namespace, lookup, with_row, all_blocks, file_at, file_or_none}
-use Rattle.nn_model.specs.Apply.{refusal, effect, checks, has_id, in_path_order}
+use Rattle.nn_model.specs.Apply.{refusal, effect, checks, has_id}
 use Rattle.nn_model.specs.WellFormed.{Has}
 use Rattle.nn_model.proofs.Dues.{all_none, when_none, has_left, has_right, has_either, file_has}
 use Rattle.nn_model.proofs.Wells.{blocks_of_found}
 use Rattle.nn_model.specs.declared.form.Form.{Form}
-use Rattle.nn_model.specs.Namespace.{Path}
+use Rattle.nn_model.specs.Namespace.{Path, Issued}
 use Rattle.nn_tree.specs.At.{IsSubtree, IsGrafted}
 use Rattle.nn_tree.specs.declared.index.BlockRow.{BlockRow}
 use Rattle.nn_tree.specs.View.{seen, Stands, IsKept}
-use Rattle.nn_tree.proofs.Bridge.{tied}
 use Rattle.nn_tree.proofs.Deleted.{tie}
 use Rattle.nn_tree.proofs.Indexed.{old_blocks, apart}
 use Rattle.nn_tree.proofs.Kept.{put_index, file_seen, file_was}
 
--- ---- the ids that wait
-others : (ks : List ℕ) (i : ℕ) → AllByRecursion (λ y. nat_cmp i y ≡ Less) ks → filter (λ k. not (k == i)) ks ≡ ks
-others [] i a = refl
-others (k ∷ ks) i a = ap (λ b. cond (not b) (k ∷ filter (λ j. not (j == i)) ks) (filter (λ j. not (j == i)) ks)) (sym (tied i k) ∙ ap is_eq a.0) ∙ ap (λ r. k ∷ r) (others ks i a.1)
-
-pub without_id : (ks : List ℕ) (i : ℕ) → IsStrictlySortedBy nat_cmp ks → remove_key (is_at (nat_cmp i)) ks ≡ filter (λ k. not (k == i)) ks
-without_id [] i s = refl
-without_id (k ∷ ks) i s =
-    ap (λ b. cond b ks (k ∷ remove_key (is_at (nat_cmp i)) ks)) (tied i k)
-    ∙ elim (cases_Bool (k == i)) [
-      | inl e ↦ ap (λ b. cond b ks (k ∷ remove_key (is_at (nat_cmp i)) ks)) e ∙ sym (others ks i (subst (λ x. AllByRecursion (λ y. nat_cmp x y ≡ Less) ks) (eqb-true k i e) (sorted_head nat_cmp _ _ s)))
-          ∙ sym (ap (λ b. cond (not b) (k ∷ filter (λ j. not (j == i)) ks) (filter (λ j. not (j == i)) ks)) e)
-      | inr e ↦ ap (λ b. cond b ks (k ∷ remove_key (is_at (nat_cmp i)) ks)) e ∙ ap (λ r. k ∷ r) (without_id ks i (sorted_tail nat_cmp _ _ s))
-          ∙ sym (ap (λ b. cond (not b) (k ∷ filter (λ j. not (j == i)) ks) (filter (λ j. not (j == i)) ks)) e)
-    ]
-
 -- ---- the index
-pub waits : (n : Namespace) (p : Path) (i stamp : ℕ) → refusal n (edit.AddBlock p i stamp) ≡ None → has_id n.awaiting i ≡ true
+pub waits : (n : Namespace) (p : Path) (i stamp : ℕ) → refusal n (edit.AddBlock p i stamp) ≡ None → has_id n.issued.awaiting i ≡ true
 waits n p i stamp lawful = let a = all_none (checks n (edit.AddBlock p i stamp)) lawful in not-false _ (when_none _ _ a.1.1.1.1.1.0)
 
 pub open_file : (n : Namespace) (p : Path) (i stamp : ℕ) → refusal n (edit.AddBlock p i stamp) ≡ None → (file_at n p).closed ≡ false
@@ -56,13 +33,13 @@ open_file n p i stamp lawful = let a = all_none (checks n (edit.AddBlock p i sta
 pub stands_in : (n : Namespace) (b : BlockRow) → Stands (lookup n) b → Has (all_blocks n) b.block
 stands_in n b s = file_has s.0 n.rows b.block (subst (λ o. Has (old_blocks o) b.block) (sym s.2) (subst (λ bs. Has bs b.block) (sym (blocks_of_found s.1)) s.3.1))
 
-pub not_yet : (n : Namespace) (i : ℕ) (look : ℕ → Option BlockRow) → has_id n.awaiting i ≡ true → IsKept n look → look i ≡ None
+pub not_yet : (n : Namespace) (i : ℕ) (look : ℕ → Option BlockRow) → has_id n.issued.awaiting i ≡ true → IsKept n look → look i ≡ None
 not_yet n i look waiting k =
     elim (look i) as (λ o. look i ≡ o → o ≡ None) [
       | None ↦ λ e. refl
       | Some b ↦ λ e. let s = k.index.sound i b e in
           let is = k.well.blocks.issued b.block (stands_in n b s.1) in
-          absurd (both_ways _ (subst (λ j. has_id n.awaiting j ≡ false) s.0 is.not_awaiting) waiting)
+          absurd (both_ways _ (subst (λ j. has_id n.issued.awaiting j ≡ false) s.0 is.not_awaiting) waiting)
     ] refl
 
 pub add_block_kept : (n : Namespace) (p : Path) (i stamp : ℕ) (x : FileRow) (look next : ℕ → Option BlockRow) → IsLawfulEdit (edit.AddBlock p i stamp) → refusal n (edit.AddBlock p i stamp) ≡ None → lookup n p ≡ Some (File x) →
@@ -102,16 +79,16 @@ add_block_kept n p i stamp x look next l lawful was goes k =
     }
 
 -- ---- what is seen
-pub add_block_seen : (es new : List (Path × Form)) (last stamp : ℕ) (ks keys : List ℕ) (p ns : Path) (i g : ℕ) (x y : FileRow) → ns ≡ p → IsSubtree es ns (Some (([], File x) ∷ [])) → IsGrafted es ns (Some (([], File y) ∷ [])) new →
-    IsStrictlySortedBy nat_cmp ks → keys ≡ remove_key (is_at (nat_cmp i)) ks → y ≡ record { replication = x.replication; closed = false; blocks = x.blocks ++ record { id = i; stamp = g; len = 0 } ∷ [] } →
-    seen new last stamp keys ≡ effect (seen es last stamp ks) (edit.AddBlock p i g)
-add_block_seen es new last stamp ks keys p ns i g x y e h k sorted is yx =
-    let s = seen es last stamp ks in
-    let was : x ≡ file_at s p = sym (ap file_or_none (file_was es last stamp ks p ns x e h)) in
-    let rows_are : in_path_order new ≡ (with_row s p (File y)).rows = ap (λ n. n.rows) (file_seen es new last stamp ks p ns x y e h k) in
-    (λ j. record { rows = rows_are j; last_block = last; last_stamp = stamp; awaiting = (is ∙ without_id ks i sorted) j })
-    ∙ ap (λ (f : FileRow). record { rows = (with_row s p (File f)).rows; last_block = last; last_stamp = stamp; awaiting = filter (λ k. not (k == i)) ks }) yx
-    ∙ ap (λ (f : FileRow). record { rows = (with_row s p (File (record { replication = f.replication; closed = false; blocks = f.blocks ++ record { id = i; stamp = g; len = 0 } ∷ [] }))).rows; last_block = last; last_stamp = stamp; awaiting = filter (λ k. not (k == i)) ks }) was
+pub add_block_seen : (es new : List (Path × Form)) (issued : Issued) (p ns : Path) (i g : ℕ) (x y : FileRow) → ns ≡ p → IsSubtree es ns (Some (([], File x) ∷ [])) → IsGrafted es ns (Some (([], File y) ∷ [])) new →
+    y ≡ record { replication = x.replication; closed = false; blocks = x.blocks ++ record { id = i; stamp = g; len = 0 } ∷ [] } →
+    seen new (record { last_block = issued.last_block; last_stamp = issued.last_stamp; awaiting = filter (λ k. not (k == i)) issued.awaiting }) ≡ effect (seen es issued) (edit.AddBlock p i g)
+add_block_seen es new issued p ns i g x y e h k yx =
+    let s = seen es issued in
+    let was : x ≡ file_at s p = sym (ap file_or_none (file_was es issued p ns x e h)) in
+    let after : Namespace → Namespace = λ n. record n { issued = record n.issued { awaiting = filter (λ k. not (k == i)) n.issued.awaiting } } in
+    ap after (file_seen es new issued p ns x y e h k
+    ∙ ap (λ (f : FileRow). with_row s p (File f)) yx
+    ∙ ap (λ (f : FileRow). with_row s p (File (record { replication = f.replication; closed = false; blocks = f.blocks ++ record { id = i; stamp = g; len = 0 } ∷ [] }))) was)
 
 pub kept_looks : (n : Namespace) (look next : ℕ → Option BlockRow) → ((id : ℕ) → next id ≡ look id) → IsKept n look → IsKept n next
 kept_looks n look next h k = subst (λ (f : ℕ → Option BlockRow). IsKept n f) (λ j id. sym (h id) j) k

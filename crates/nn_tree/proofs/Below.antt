@@ -2,8 +2,8 @@
 use Rattle.std.proofs.Common.{◌≡◌, ℕ, true, false, cond, List, [], ◌∷◌, ◌++◌, Option, Some, None, refl, ap, ◌∙◌, String, Global}
 use Rattle.std.specs.declared.cmp.Ordering.{Ordering}
 use Rattle.std.specs.declared.cmp.Ordering.TheVariants.{Less, Equal, Greater}
-use Rattle.std.specs.Ordering.{is_eq, ordering_then}
-use Rattle.std.specs.Cmp.Lexicographic.{nat_list_cmp_total}
+use Rattle.std.specs.Ordering.{is_eq, ordering_then, nat_cmp}
+use Rattle.std.specs.Cmp.Lexicographic.{slice_cmp, nat_list_cmp_total}
 use Rattle.std.specs.BTreeMap.{is_at}
 use Rattle.std.specs.Map.{lookup, keys_of}
 use Rattle.std.specs.List.{AllByRecursion}
@@ -12,9 +12,13 @@ use Rattle.std.specs.String.{string_bytes, string_cmp}
 use Rattle.std.proofs.lemmas.Map.Keys.{sorted_head, sorted_tail}
 use Rattle.std.proofs.lemmas.Map.Text.{text_cmp}
 use Rattle.nn_model.specs.declared.form.Form.{Form}
-use Rattle.nn_model.specs.Namespace.{Path}
+use Rattle.nn_model.specs.Namespace.{Path, path_cmp}
 use Rattle.nn_tree.specs.Flat.{under, below}
-use Rattle.nn_tree.specs.At.{at, rows, name_cmp, path_cmp}
+use Rattle.nn_tree.specs.At.{at, rows}
+
+-- names by bytes
+abbrev pub name_cmp : List ℕ → List ℕ → Ordering
+name_cmp = slice_cmp nat_cmp
 
 abbrev pub or_else : {X : Type 0} → Option X → Option X → Option X
 or_else None b = b

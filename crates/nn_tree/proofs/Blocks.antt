@@ -14,11 +14,12 @@ use Rattle.nn_model.specs.declared.form.Form.TheVariants.{Dir, File}
 use Rattle.nn_model.specs.Namespace.{Path, Namespace, lookup}
 use Rattle.nn_model.specs.Blocks.{block_row, block_rows, block_row_at, rows_of}
 use Rattle.nn_model.specs.WellFormed.{Has}
-use Rattle.nn_model.proofs.Members.{rows_at, row_found, of_block, row_of_file, at_path, some_path}
+use Rattle.nn_model.proofs.InRows.{at_path}
+use Rattle.nn_model.proofs.Members.{rows_at, row_found, of_block, row_of_file, some_path}
 use Rattle.nn_tree.specs.declared.index.BlockRow.{BlockRow}
 use Rattle.nn_tree.specs.Blocks.{as_row, AreBlocks}
 use Rattle.nn_tree.specs.View.{InRow, Stands, IsKept}
-use Rattle.nn_tree.proofs.Bridge.{tied}
+use Rattle.nn_tree.proofs.Waiting.{tied}
 
 -- ---- the index tells each block row
 
@@ -32,7 +33,7 @@ in_rows Dir b h = h.1
 in_rows (File file) b h = subst (λ c. Has (rows_of (File file)) (block_row c b.block)) (sym h.0) (of_block file.closed file.blocks b.block h.1)
 
 stands_in_rows : (n : Namespace) (b : BlockRow) → Stands (lookup n) b → Has (block_rows n) (defined b)
-stands_in_rows n b s = at_path s.0 n.rows (defined b) (subst (λ (o : Option Form). Has (rows_at o) (defined b)) (sym s.2) (in_rows s.1 b s.3))
+stands_in_rows n b s = at_path rows_of s.0 n.rows (defined b) (subst (λ (o : Option Form). Has (rows_at o) (defined b)) (sym s.2) (in_rows s.1 b s.3))
 
 -- and a block row stands in a file
 row_stands : (n : Namespace) (p : Path) (o : Option Form) (r : DefinedRow) → lookup n p ≡ o → Has (rows_at o) r → Stands (lookup n) (as_row r)

@@ -6,34 +6,31 @@ use Rattle.std.specs.Ordering.{is_eq, nat_cmp}
 use Rattle.std.specs.FinMap.{nat_cmp-IsAntisymmetric}
 use Rattle.std.specs.FinMap.Entries.{is_sorted, below_all}
 use Rattle.std.proofs.lemmas.Cmp.{nat_cmp_total, tied_itself}
-use Rattle.std.proofs.lemmas.Bool.{both_ways, cases_Bool, and_parts, eqb-true, eq-eqb, or_left, or_right}
+use Rattle.std.proofs.lemmas.Bool.{both_ways, cases_Bool, and_parts, eqb-true, eq-eqb, or_left, or_right, false_from_ne_true}
 use Rattle.nn_types.specs.declared.block.Block.{Block}
 use Rattle.nn_types.specs.declared.edit.Edit.TheVariants as edit
 use Rattle.nn_types.specs.LawfulEdit.{IsLawfulEdit}
 use Rattle.nn_model.proofs.Trees.{stays_well_formed}
-use Rattle.nn_model.specs.Namespace.{Namespace, path_cmp, lookup, blocks_of}
+use Rattle.nn_model.specs.Namespace.{Namespace, path_cmp, lookup, blocks_of, begins_with}
 use Rattle.nn_model.specs.Apply.{refusal, effect, has_id}
 use Rattle.nn_model.specs.WellFormed.{Has, HasWellFormedBlocks, IsWellFormed}
 use Rattle.nn_model.proofs.Wells.{blocks_of_found, not_below}
 use Rattle.nn_model.proofs.Lookups.{find_in_order}
 use Rattle.nn_model.specs.declared.form.Form.{Form}
-use Rattle.nn_model.specs.Namespace.{Path}
+use Rattle.nn_model.specs.Namespace.{Path, Issued}
 use Rattle.nn_tree.specs.At.{at, IsSubtree, IsGrafted}
 use Rattle.nn_tree.specs.Ids.{ids_of, row_ids}
-use Rattle.nn_tree.specs.Walks.{starts_with}
 use Rattle.nn_tree.specs.declared.index.BlockRow.{BlockRow}
 use Rattle.nn_tree.specs.View.{seen, IsIndex, IsKept}
-use Rattle.nn_tree.proofs.Step.{equal}
-use Rattle.nn_tree.proofs.Prefix.{starts_split, decided}
+use Rattle.nn_model.proofs.Prefixes.{equal, same, same_true, same_self, begins_append, begins_split}
 use Rattle.nn_tree.proofs.Maps.{graft_gone}
-use Rattle.nn_tree.proofs.Renamed.{same, same_true, same_self, starts_append}
 use Rattle.nn_tree.proofs.Edited.{gone_there}
 use Rattle.nn_tree.proofs.Indexed.{old_blocks, apart}
 
 pub tie : (i k : ℕ) → is_eq (nat_cmp i k) ≡ (i == k)
 tie i k = elim (cases_Bool (i == k)) [
   | inl h ↦ ap (λ x. is_eq (nat_cmp i x)) (sym (eqb-true i k h)) ∙ ap is_eq (tied_itself nat_cmp_total i) ∙ sym h
-  | inr h ↦ decided (is_eq (nat_cmp i k)) (λ e. both_ways _ h (eq-eqb i k (nat_cmp-IsAntisymmetric i k (equal (nat_cmp i k) e)))) ∙ sym h
+  | inr h ↦ false_from_ne_true (is_eq (nat_cmp i k)) (λ e. both_ways _ h (eq-eqb i k (nat_cmp-IsAntisymmetric i k (equal (nat_cmp i k) e)))) ∙ sym h
 ]
 
 pub any_append : (p : ℕ → Bool) (xs ys : List ℕ) → list_any p (xs ++ ys) ≡ (list_any p xs || list_any p ys)
@@ -74,7 +71,7 @@ in_ids (c ∷ es) id s h =
       | inl first ↦ (let x = here_id (blocks_of c.1) id first in (c.0, c.1, x.0, ap (λ b. cond b (Some c.1) (at es c.0)) (same_self c.0), x.1, x.2))
       | inr other ↦
           (let w = in_ids es id parts.1 (sym (ap (λ b. b || has_id (ids_of es) id) other) ∙ sym (any_append (λ i. i == id) (row_ids c.1) (ids_of es)) ∙ h) in
-          let off : same w.0 c.0 ≡ false = decided (same w.0 c.0) (λ e. let n : at es w.0 ≡ None = ap (at es) (same_true w.0 c.0 e) ∙ not_below c.0 es parts.0 in (cc (n, w.3))) in
+          let off : same w.0 c.0 ≡ false = false_from_ne_true (same w.0 c.0) (λ e. let n : at es w.0 ≡ None = ap (at es) (same_true w.0 c.0 e) ∙ not_below c.0 es parts.0 in (cc (n, w.3))) in
           (w.0, w.1, w.2, ap (λ b. cond b (Some c.1) (at es w.0)) off ∙ w.3, w.4, w.5))
     ]
 
@@ -82,7 +79,7 @@ kept_row : (b : Bool) (o : Option Form) (r : Form) → cond (not b) o None ≡ S
 kept_row true o r h = cc
 kept_row false o r h = (refl, h)
 
-pub index_deleted : (n : Namespace) (g : Path → Option Form) (p : Path) (t : List (Path × Form)) (look next : ℕ → Option BlockRow) → HasWellFormedBlocks n → ((q : Path) → g q ≡ cond (not (starts_with p q)) (lookup n q) None) → ((q : Path) → lookup n (p ++ q) ≡ at t q) →
+pub index_deleted : (n : Namespace) (g : Path → Option Form) (p : Path) (t : List (Path × Form)) (look next : ℕ → Option BlockRow) → HasWellFormedBlocks n → ((q : Path) → g q ≡ cond (not (begins_with p q)) (lookup n q) None) → ((q : Path) → lookup n (p ++ q) ≡ at t q) →
     is_sorted path_cmp t ≡ true → ((id : ℕ) → next id ≡ cond (has_id (ids_of t) id) None (look id)) → IsIndex (lookup n) look → IsIndex g next
 index_deleted n g p t look next w e sub sorted goes x = record {
   sound = λ id b h.
@@ -95,34 +92,34 @@ index_deleted n g p t look next w e sub sorted goes x = record {
               (
                 q,
                 s.1.1,
-                e q ∙ ap (λ k. cond (not k) (lookup n q) None) (decided (starts_with p q) (λ below. both_ways _ stays (subst (λ i. has_id (ids_of t) i ≡ true) s.0
-                    (of_ids t (drop (length p) q) s.1.1 b.block (sym (sub (drop (length p) q)) ∙ ap (lookup n) (sym (starts_split p q below)) ∙ s.1.2) s.1.3.1)))) ∙ s.1.2,
+                e q ∙ ap (λ k. cond (not k) (lookup n q) None) (false_from_ne_true (begins_with p q) (λ below. both_ways _ stays (subst (λ i. has_id (ids_of t) i ≡ true) s.0
+                    (of_ids t (drop (length p) q) s.1.1 b.block (sym (sub (drop (length p) q)) ∙ ap (lookup n) (sym (begins_split p q below)) ∙ s.1.2) s.1.3.1)))) ∙ s.1.2,
                 s.1.3,
               ),
             ))
       ];
   complete = λ b s.
-      let k = kept_row (starts_with p s.0) (lookup n s.0) s.1 (sym (e s.0) ∙ s.2) in
+      let k = kept_row (begins_with p s.0) (lookup n s.0) s.1 (sym (e s.0) ∙ s.2) in
       goes b.block.id
-      ∙ ap (λ o. cond o None (look b.block.id)) (decided (has_id (ids_of t) b.block.id) (λ out.
+      ∙ ap (λ o. cond o None (look b.block.id)) (false_from_ne_true (has_id (ids_of t) b.block.id) (λ out.
       let v = in_ids t b.block.id sorted out in
       let at_p : lookup n (p ++ v.0) ≡ Some v.1 = sub v.0 ∙ v.3 in
       let one = apart n (p ++ v.0) s.0 v.2 s.1 b.block w (subst (λ o. Has (old_blocks o) v.2) (sym at_p) (subst (λ bs. Has bs v.2) (sym (blocks_of_found v.1)) v.4)) k.1 s.3.1 (sym v.5) in
-      both_ways _ k.0 (ap (starts_with p) (same_true s.0 (p ++ v.0) one) ∙ starts_append p v.0)))
+      both_ways _ k.0 (ap (begins_with p) (same_true s.0 (p ++ v.0) one) ∙ begins_append p v.0)))
       ∙ x.complete b (s.0, s.1, k.1, s.3);
 }
 
-pub deleted_seen : (es new : List (Path × Form)) (last stamp : ℕ) (ks : List ℕ) (p ns : Path) → ns ≡ p → IsGrafted es ns None new → seen new last stamp ks ≡ effect (seen es last stamp ks) (edit.Delete p)
-deleted_seen es new last stamp ks p ns e h = ap (λ x. record { rows = x; last_block = last; last_stamp = stamp; awaiting = ks }) (gone_there es new p (λ q. subst (λ (s : Path). at new q ≡ Rattle.nn_tree.specs.At.grafted (at es) s (Rattle.nn_tree.specs.At.rows None) q) e (h q)))
+pub deleted_seen : (es new : List (Path × Form)) (issued : Issued) (p ns : Path) → ns ≡ p → IsGrafted es ns None new → seen new issued ≡ effect (seen es issued) (edit.Delete p)
+deleted_seen es new issued p ns e h = ap (λ x. record { rows = x; issued = issued }) (gone_there es new p (λ q. subst (λ (s : Path). at new q ≡ Rattle.nn_tree.specs.At.grafted (at es) s (Rattle.nn_tree.specs.At.rows None) q) e (h q)))
 
-pub delete_kept : (es new t : List (Path × Form)) (last stamp : ℕ) (ks ids : List ℕ) (look next : ℕ → Option BlockRow) (p ns : Path) → ns ≡ p → IsLawfulEdit (edit.Delete p) → refusal (seen es last stamp ks) (edit.Delete p) ≡ None → IsGrafted es ns None new → IsSubtree es ns (Some t) → is_sorted path_cmp t ≡ true → ids ≡ ids_of t →
-    ((id : ℕ) → next id ≡ cond (has_id ids id) None (look id)) → IsKept (seen es last stamp ks) look → IsKept (seen new last stamp ks) next
-delete_kept es new t last stamp ks ids look next p ns e l lawful h sub sorted is goes k =
-    let n = seen es last stamp ks in
+pub delete_kept : (es new t : List (Path × Form)) (issued : Issued) (ids : List ℕ) (look next : ℕ → Option BlockRow) (p ns : Path) → ns ≡ p → IsLawfulEdit (edit.Delete p) → refusal (seen es issued) (edit.Delete p) ≡ None → IsGrafted es ns None new → IsSubtree es ns (Some t) → is_sorted path_cmp t ≡ true → ids ≡ ids_of t →
+    ((id : ℕ) → next id ≡ cond (has_id ids id) None (look id)) → IsKept (seen es issued) look → IsKept (seen new issued) next
+delete_kept es new t issued ids look next p ns e l lawful h sub sorted is goes k =
+    let n = seen es issued in
     record {
-      well = subst IsWellFormed (sym (deleted_seen es new last stamp ks p ns e h)) (stays_well_formed n (edit.Delete p) l lawful k.well);
-      index = index_deleted n (lookup (seen new last stamp ks)) ns t look next k.well.blocks
-          (λ q. find_in_order q new ∙ h q ∙ graft_gone (at es) ns q ∙ ap (λ o. cond (not (starts_with ns q)) o None) (sym (find_in_order q es)))
+      well = subst IsWellFormed (sym (deleted_seen es new issued p ns e h)) (stays_well_formed n (edit.Delete p) l lawful k.well);
+      index = index_deleted n (lookup (seen new issued)) ns t look next k.well.blocks
+          (λ q. find_in_order q new ∙ h q ∙ graft_gone (at es) ns q ∙ ap (λ o. cond (not (begins_with ns q)) o None) (sym (find_in_order q es)))
           (λ q. find_in_order (ns ++ q) es ∙ sub q) sorted (λ id. goes id ∙ ap (λ (x : List ℕ). cond (has_id x id) None (look id)) is) k.index;
     }
 

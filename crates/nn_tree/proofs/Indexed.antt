@@ -2,7 +2,7 @@
 use Rattle.std.proofs.Common.{inl, inr, ◌≡◌, ℕ, true, false, cond, List, [], ◌∷◌, ◌++◌, length, drop, Option, Some, None, IsSome, refl, sym, ap, subst, ◌∙◌, arith}
 use Rattle.std.specs.Prelude.{◌⊎◌, find, ◌==◌}
 use Rattle.std.specs.FinMap.Entries.{find as find_entry, put, find-put}
-use Rattle.std.proofs.lemmas.Bool.{both_ways, cases_Bool}
+use Rattle.std.proofs.lemmas.Bool.{both_ways, cases_Bool, false_from_ne_true}
 use Rattle.nn_types.specs.declared.block.Block.{Block}
 use Rattle.nn_model.specs.declared.form.Form.TheVariants.{Dir}
 use Rattle.nn_model.specs.Namespace.{Namespace, path_cmp, lookup, blocks_of, file_or_none}
@@ -11,12 +11,13 @@ use Rattle.nn_model.proofs.Dues.{found_in, none_found, stands_times, file_has, b
 use Rattle.nn_model.proofs.Wells.{times_put, blocks_of_found}
 use Rattle.nn_model.proofs.Lookups.{paths_total}
 use Rattle.nn_model.specs.declared.form.Form.{Form}
-use Rattle.nn_model.specs.Namespace.{Path}
-use Rattle.nn_tree.specs.Walks.{starts_with, moved, moved_rows}
+use Rattle.nn_model.specs.Namespace.{Path, begins_with}
+use Rattle.nn_model.specs.Apply.{moved}
+use Rattle.nn_tree.specs.Walks.{moved_rows}
 use Rattle.nn_tree.specs.declared.index.BlockRow.{BlockRow}
 use Rattle.nn_tree.specs.View.{closed_of, InRow, IsIndex}
-use Rattle.nn_tree.proofs.Prefix.{starts_split, decided, CanMove, some_none}
-use Rattle.nn_tree.proofs.Renamed.{same, starts_append, same_true}
+use Rattle.nn_tree.proofs.Prefix.{CanMove, some_none}
+use Rattle.nn_model.proofs.Prefixes.{same, same_true, begins_append, begins_split}
 
 -- ---- a rename
 drop_after : (d r : Path) → drop (length d) (d ++ r) ≡ r
@@ -26,19 +27,19 @@ drop_after (n ∷ ns) r = drop_after ns r
 -- where a row stands after the rename: at the moved path
 row_moves : (f : Path → Option Form) (s d p : Path) (r : Form) → CanMove f s d → f p ≡ Some r → moved_rows f s d (moved s d p) ≡ Some r
 row_moves f s d p r c h =
-    elim (starts_with s p) as (λ b. starts_with s p ≡ b → moved_rows f s d (cond b (d ++ drop (length s) p) p) ≡ Some r) [
-      | true ↦ λ e. ap (λ b. cond b (f (s ++ drop (length d) (d ++ drop (length s) p))) (cond (starts_with s (d ++ drop (length s) p)) None (f (d ++ drop (length s) p)))) (starts_append d (drop (length s) p))
-          ∙ ap (λ x. f (s ++ x)) (drop_after d (drop (length s) p)) ∙ ap f (sym (starts_split s p e)) ∙ h
-      | false ↦ λ e. ap (λ b. cond b (f (s ++ drop (length d) p)) (cond (starts_with s p) None (f p))) (decided (starts_with d p) (λ g. some_none (f p) (ap f (starts_split d p g) ∙ c.free _) (subst IsSome (sym h) refl)))
+    elim (begins_with s p) as (λ b. begins_with s p ≡ b → moved_rows f s d (cond b (d ++ drop (length s) p) p) ≡ Some r) [
+      | true ↦ λ e. ap (λ b. cond b (f (s ++ drop (length d) (d ++ drop (length s) p))) (cond (begins_with s (d ++ drop (length s) p)) None (f (d ++ drop (length s) p)))) (begins_append d (drop (length s) p))
+          ∙ ap (λ x. f (s ++ x)) (drop_after d (drop (length s) p)) ∙ ap f (sym (begins_split s p e)) ∙ h
+      | false ↦ λ e. ap (λ b. cond b (f (s ++ drop (length d) p)) (cond (begins_with s p) None (f p))) (false_from_ne_true (begins_with d p) (λ g. some_none (f p) (ap f (begins_split d p g) ∙ c.free _) (subst IsSome (sym h) refl)))
           ∙ ap (λ b. cond b None (f p)) e ∙ h
     ] refl
 
 -- and where it stood before
 row_moved : (f : Path → Option Form) (s d q : Path) (r : Form) → moved_rows f s d q ≡ Some r → (p : Path) × (f p ≡ Some r)
 row_moved f s d q r h =
-    elim (starts_with d q) as (λ b. cond b (f (s ++ drop (length d) q)) (cond (starts_with s q) None (f q)) ≡ Some r → (p : Path) × (f p ≡ Some r)) [
+    elim (begins_with d q) as (λ b. cond b (f (s ++ drop (length d) q)) (cond (begins_with s q) None (f q)) ≡ Some r → (p : Path) × (f p ≡ Some r)) [
       | true ↦ λ g. (s ++ drop (length d) q, g)
-      | false ↦ λ g. elim (starts_with s q) as (λ b. cond b None (f q) ≡ Some r → (p : Path) × (f p ≡ Some r)) [ true ↦ λ k. cc | false ↦ λ k. (q, k) ] g
+      | false ↦ λ g. elim (begins_with s q) as (λ b. cond b None (f q) ≡ Some r → (p : Path) × (f p ≡ Some r)) [ true ↦ λ k. cc | false ↦ λ k. (q, k) ] g
     ] h
 
 pub index_renamed : (f : Path → Option Form) (s d : Path) (look : ℕ → Option BlockRow) → CanMove f s d → IsIndex f look → IsIndex (moved_rows f s d) look
@@ -95,7 +96,7 @@ index_written f g p y look next e self w x = record {
                 (
                   q,
                   t.1.1,
-                  e q ∙ ap (λ k. cond k (Some y) (f q)) (decided (same q p) (λ at_p. before b.block (subst (λ o. Has (old_blocks o) b.block) (sym t.1.2 ∙ ap f (same_true q p at_p)) (subst (λ bs. Has bs b.block) (sym (blocks_of_found t.1.1)) t.1.3.1)) t.0)) ∙ t.1.2,
+                  e q ∙ ap (λ k. cond k (Some y) (f q)) (false_from_ne_true (same q p) (λ at_p. before b.block (subst (λ o. Has (old_blocks o) b.block) (sym t.1.2 ∙ ap f (same_true q p at_p)) (subst (λ bs. Has bs b.block) (sym (blocks_of_found t.1.1)) t.1.3.1)) t.0)) ∙ t.1.2,
                   t.1.3,
                 ),
               )

@@ -1,11 +1,7 @@
 -- What an edit of the fields shows, and that it keeps the index.
-use Rattle.std.proofs.Common.{inl, inr, ◌≡◌, ℕ, true, false, cond, List, [], ◌∷◌, ◌++◌, ◌<◌, Option, Some, None, refl, sym, ap, subst, ◌∙◌, arith}
-use Rattle.std.specs.Prelude.{◌⊎◌, ◌==◌}
-use Rattle.std.specs.Ordering.{nat_cmp, match_ordering}
-use Rattle.std.specs.declared.cmp.Ordering.TheVariants.{Greater}
-use Rattle.std.specs.Cmp.{nat_cmp_is}
-use Rattle.std.specs.BTreeSet.{insert_key}
-use Rattle.std.proofs.lemmas.Bool.{leb-false, eq-eqb, or_left, or_right}
+use Rattle.std.proofs.Common.{append-nil, inl, inr, ◌≡◌, ℕ, true, false, cond, List, [], ◌∷◌, ◌<◌, Option, Some, None, refl, sym, ap, subst, ◌∙◌, arith}
+use Rattle.std.specs.Prelude.{◌⊎◌}
+use Rattle.std.proofs.lemmas.Bool.{leb-false}
 use Rattle.nn_types.specs.declared.block.Block.{Block}
 use Rattle.nn_types.specs.declared.edit.Edit.TheVariants as edit
 use Rattle.nn_types.specs.LawfulEdit.{IsLawfulEdit}
@@ -14,26 +10,27 @@ use Rattle.nn_model.specs.declared.form.Form.TheVariants.{Dir, File}
 use Rattle.nn_model.specs.declared.form.FileRow.{FileRow}
 use Rattle.nn_model.proofs.Equals.{root_alone_is_well_formed}
 use Rattle.nn_model.specs.Namespace.{Namespace, root_alone, lookup, with_row, blocks_of, file_at, file_or_none}
-use Rattle.nn_model.specs.Apply.{refusal, effect, checks, list_checks, first, when, in_path_order, has_id, is_dir}
-use Rattle.nn_model.specs.Apply as apply
+use Rattle.nn_model.specs.Apply.{refusal, effect, checks, first}
 use Rattle.nn_model.specs.WellFormed.{Has, HasWellFormedBlocks, IsWellFormed}
 use Rattle.nn_model.proofs.Dues.{all_none, when_none}
 use Rattle.nn_model.proofs.Lookups.{lookup_put, find_in_order}
 use Rattle.nn_model.specs.declared.form.Form.{Form}
-use Rattle.nn_model.specs.Namespace.{Path}
+use Rattle.nn_model.specs.Namespace.{Path, Issued}
 use Rattle.nn_tree.specs.At.{at, IsSubtree, IsGrafted, IsSame}
-use Rattle.nn_tree.specs.Walks.{IsFree, rename_fault, moved_rows, IsRenamed}
+use Rattle.nn_tree.specs.Walks.{rename_fault, moved_rows, IsRenamed}
 use Rattle.nn_tree.specs.declared.index.BlockRow.{BlockRow}
+use Rattle.nn_tree.specs.Issued.{AreBelow}
 use Rattle.nn_tree.specs.View.{seen, InRow, Stands, IsIndex, IsKept}
-use Rattle.nn_tree.proofs.Prefix.{append_nil, can_move}
-use Rattle.nn_tree.proofs.Renamed.{same, same_self, moved_there}
+use Rattle.nn_model.proofs.Prefixes.{same, same_self}
+use Rattle.nn_tree.proofs.Prefix.{can_move}
+use Rattle.nn_tree.proofs.Renamed.{moved_there}
 use Rattle.nn_tree.proofs.Bridge.{looks}
 use Rattle.nn_tree.proofs.Edited.{graft_leaf, put_there, same_there, set_once}
 use Rattle.nn_tree.proofs.Indexed.{old_blocks, Writes, index_written, index_renamed, index_alike, apart}
 
 -- nothing stands where an edit makes something, or below it
 pub mkdir_free : (n : Namespace) (p : Path) → refusal n (edit.Mkdir p) ≡ None → lookup n p ≡ None
-mkdir_free n p applies = absent n p (all_none (checks n (edit.Mkdir p)) applies).1.1.0
+mkdir_free n p applies = absent (lookup n p) (all_none (checks n (edit.Mkdir p)) applies).1.1.0
 
 -- ---- the namespace before the first edit
 no_block_stands : (b : BlockRow) → Stands (lookup root_alone) b → ⊥
@@ -50,15 +47,15 @@ new_kept n look e none = record {
 }
 
 -- ---- nothing changes
-pub still_seen : (es new : List (Path × Form)) (last stamp : ℕ) (ks : List ℕ) → IsSame es new → seen new last stamp ks ≡ seen es last stamp ks
-still_seen es new last stamp ks h = ap (λ r. record { rows = r; last_block = last; last_stamp = stamp; awaiting = ks }) (same_there es new h)
+pub still_seen : (es new : List (Path × Form)) (issued : Issued) → IsSame es new → seen new issued ≡ seen es issued
+still_seen es new issued h = ap (λ r. record { rows = r; issued = issued }) (same_there es new h)
 
-pub still_kept : (es new : List (Path × Form)) (last stamp : ℕ) (ks : List ℕ) (look : ℕ → Option BlockRow) → IsSame es new → IsKept (seen es last stamp ks) look → IsKept (seen new last stamp ks) look
-still_kept es new last stamp ks look h k = subst (λ n. IsKept n look) (sym (still_seen es new last stamp ks h)) k
+pub still_kept : (es new : List (Path × Form)) (issued : Issued) (look : ℕ → Option BlockRow) → IsSame es new → IsKept (seen es issued) look → IsKept (seen new issued) look
+still_kept es new issued look h k = subst (λ n. IsKept n look) (sym (still_seen es new issued h)) k
 
 -- ---- a row in place of another
-pub put_seen : (es new : List (Path × Form)) (last stamp : ℕ) (ks : List ℕ) (p : Path) (r : Form) → ((q : Path) → at new q ≡ cond (same q p) (Some r) (at es q)) → seen new last stamp ks ≡ with_row (seen es last stamp ks) p r
-put_seen es new last stamp ks p r h = ap (λ x. record { rows = x; last_block = last; last_stamp = stamp; awaiting = ks }) (put_there es new p r h)
+pub put_seen : (es new : List (Path × Form)) (issued : Issued) (p : Path) (r : Form) → ((q : Path) → at new q ≡ cond (same q p) (Some r) (at es q)) → seen new issued ≡ with_row (seen es issued) p r
+put_seen es new issued p r h = ap (λ x. record { rows = x; issued = issued }) (put_there es new p r h)
 
 pub put_index : (n : Namespace) (p : Path) (r : Form) (look next : ℕ → Option BlockRow) → Writes (lookup n) p r look next → IsIndex (lookup n) look → IsIndex (lookup (with_row n p r)) next
 put_index n p r look next w x = index_written (lookup n) (lookup (with_row n p r)) p r look next (λ q. lookup_put n p q r) (same_self p) w x
@@ -72,12 +69,9 @@ fresh_writes f p r look e z = record {
   gone = λ x b a. absurd (subst (λ o. Has (old_blocks o) x) e b);
 }
 
-pub free_top : (f : Path → Option Form) (p : Path) → IsFree f p → f p ≡ None
-free_top f p h = ap f (sym (append_nil p)) ∙ h []
-
-pub made : (es new : List (Path × Form)) (last stamp : ℕ) (ks : List ℕ) (p ns : Path) (r : Form) → ns ≡ p → IsSubtree es ns None → IsGrafted es ns (Some (([], r) ∷ [])) new → seen new last stamp ks ≡ with_row (seen es last stamp ks) p r
-made es new last stamp ks p ns r e free h =
-    put_seen es new last stamp ks p r (λ q. h q ∙ graft_leaf (at es) ns r (λ n x. free (n ∷ x)) q ∙ ap (λ x. cond (same q x) (Some r) (at es q)) e)
+pub made : (es new : List (Path × Form)) (issued : Issued) (p ns : Path) (r : Form) → ns ≡ p → IsSubtree es ns None → IsGrafted es ns (Some (([], r) ∷ [])) new → seen new issued ≡ with_row (seen es issued) p r
+made es new issued p ns r e free h =
+    put_seen es new issued p r (λ q. h q ∙ graft_leaf (at es) ns r (λ n x. free (n ∷ x)) q ∙ ap (λ x. cond (same q x) (Some r) (at es q)) e)
 
 pub mkdir_kept : (n : Namespace) (p : Path) (look : ℕ → Option BlockRow) → IsLawfulEdit (edit.Mkdir p) → refusal n (edit.Mkdir p) ≡ None → IsKept n look → IsKept (effect n (edit.Mkdir p)) look
 mkdir_kept n p look l lawful k = record {
@@ -89,7 +83,7 @@ mkdir_kept n p look l lawful k = record {
 pub add_mkdir : (n : Namespace) (p : Path) (r : ℕ) → refusal n (edit.Add p r) ≡ None → refusal n (edit.Mkdir p) ≡ None
 add_mkdir n p r h =
     let a = all_none (checks n (edit.Add p r)) h in
-    ap (λ o. first (o ∷ apply.walk n p ∷ apply.exists n p ∷ [])) a.0 ∙ ap (λ o. first (o ∷ apply.exists n p ∷ [])) a.1.1.0 ∙ ap (λ o. first (o ∷ [])) a.1.1.1.0
+    λ j. first (a.0 j ∷ a.1.1.0 j ∷ a.1.1.1.0 j ∷ [])
 
 pub add_kept : (n : Namespace) (p : Path) (r : ℕ) (look : ℕ → Option BlockRow) → IsLawfulEdit (edit.Add p r) → refusal n (edit.Add p r) ≡ None → IsKept n look → IsKept (effect n (edit.Add p r)) look
 add_kept n p r look l lawful k =
@@ -99,31 +93,31 @@ add_kept n p r look l lawful k =
     }
 
 -- ---- a rename
-pub renamed_seen : (es new : List (Path × Form)) (last stamp : ℕ) (ks : List ℕ) (s d ss ds : Path) → ss ≡ s → ds ≡ d → IsSubtree es ds None → IsRenamed es ss ds new → seen new last stamp ks ≡ effect (seen es last stamp ks) (edit.Rename s d)
-renamed_seen es new last stamp ks s d ss ds e f free h =
-    ap (λ x. record { rows = x; last_block = last; last_stamp = stamp; awaiting = ks })
+pub renamed_seen : (es new : List (Path × Form)) (issued : Issued) (s d ss ds : Path) → ss ≡ s → ds ≡ d → IsSubtree es ds None → IsRenamed es ss ds new → seen new issued ≡ effect (seen es issued) (edit.Rename s d)
+renamed_seen es new issued s d ss ds e f free h =
+    ap (λ x. record { rows = x; issued = issued })
     (moved_there es new s d (subst (λ (p : Path). IsSubtree es p None) f free) (λ q. h q ∙ (λ j. moved_rows (at es) (e j) (f j) q)))
 
-pub rename_kept : (es new : List (Path × Form)) (last stamp : ℕ) (ks : List ℕ) (look : ℕ → Option BlockRow) (s d ss ds : Path) → ss ≡ s → ds ≡ d → IsLawfulEdit (edit.Rename s d) → refusal (seen es last stamp ks) (edit.Rename s d) ≡ None → rename_fault (at es) ss ds ≡ None →
-    IsSubtree es ds None → IsRenamed es ss ds new → IsKept (seen es last stamp ks) look → IsKept (seen new last stamp ks) look
-rename_kept es new last stamp ks look s d ss ds e f l lawful fault free h k =
-    let n = seen es last stamp ks in
-    let is = renamed_seen es new last stamp ks s d ss ds e f free h in
+pub rename_kept : (es new : List (Path × Form)) (issued : Issued) (look : ℕ → Option BlockRow) (s d ss ds : Path) → ss ≡ s → ds ≡ d → IsLawfulEdit (edit.Rename s d) → refusal (seen es issued) (edit.Rename s d) ≡ None → rename_fault (at es) ss ds ≡ None →
+    IsSubtree es ds None → IsRenamed es ss ds new → IsKept (seen es issued) look → IsKept (seen new issued) look
+rename_kept es new issued look s d ss ds e f l lawful fault free h k =
+    let n = seen es issued in
+    let is = renamed_seen es new issued s d ss ds e f free h in
     let move = can_move (at es) ss ds fault free in
     let same_rows : (q : Path) → at es q ≡ lookup n q = λ q. sym (find_in_order q es) in
     record {
       well = subst IsWellFormed (sym is) (stays_well_formed n (edit.Rename s d) l lawful k.well);
-      index = index_alike (at new) (lookup (seen new last stamp ks)) look (λ q. find_in_order q new)
+      index = index_alike (at new) (lookup (seen new issued)) look (λ q. find_in_order q new)
           (index_alike (moved_rows (at es) ss ds) (at new) look h (index_renamed (at es) ss ds look move (index_alike (lookup n) (at es) look same_rows k.index)));
     }
 
 -- ---- a file in place of a file
 -- the file that stood there
-pub file_was : (es : List (Path × Form)) (last stamp : ℕ) (ks : List ℕ) (p ns : Path) (x : FileRow) → ns ≡ p → IsSubtree es ns (Some (([], File x) ∷ [])) → lookup (seen es last stamp ks) p ≡ Some (File x)
-file_was es last stamp ks p ns x e h = sym (λ j. looks es (seen es last stamp ks) refl j (e j)) ∙ ap (at es) (sym (append_nil ns)) ∙ h []
+pub file_was : (es : List (Path × Form)) (issued : Issued) (p ns : Path) (x : FileRow) → ns ≡ p → IsSubtree es ns (Some (([], File x) ∷ [])) → lookup (seen es issued) p ≡ Some (File x)
+file_was es issued p ns x e h = sym (λ j. looks es (seen es issued) refl j (e j)) ∙ ap (at es) (sym (append-nil ns)) ∙ h []
 
-pub file_seen : (es new : List (Path × Form)) (last stamp : ℕ) (ks : List ℕ) (p ns : Path) (x y : FileRow) → ns ≡ p → IsSubtree es ns (Some (([], File x) ∷ [])) → IsGrafted es ns (Some (([], File y) ∷ [])) new → seen new last stamp ks ≡ with_row (seen es last stamp ks) p (File y)
-file_seen es new last stamp ks p ns x y e h k = put_seen es new last stamp ks p (File y) (λ q. set_once es new ns (File x) (File y) h k q ∙ ap (λ s. cond (same q s) (Some (File y)) (at es q)) e)
+pub file_seen : (es new : List (Path × Form)) (issued : Issued) (p ns : Path) (x y : FileRow) → ns ≡ p → IsSubtree es ns (Some (([], File x) ∷ [])) → IsGrafted es ns (Some (([], File y) ∷ [])) new → seen new issued ≡ with_row (seen es issued) p (File y)
+file_seen es new issued p ns x y e h k = put_seen es new issued p (File y) (λ q. set_once es new ns (File x) (File y) h k q ∙ ap (λ s. cond (same q s) (Some (File y)) (at es q)) e)
 
 -- the blocks of a file that is written stand nowhere else, if they are old ones
 pub old_own : (n : Namespace) (p : Path) (y : Form) → HasWellFormedBlocks n → ((x : Block) → Has (blocks_of y) x → (o : Block) × Has (old_blocks (lookup n p)) o × (o.id ≡ x.id)) →
@@ -149,28 +143,14 @@ set_replication_kept n p r x look l lawful was k =
     }
 
 -- ---- ids and stamps
-pub insert_last : (ks : List ℕ) (i : ℕ) → ((k : ℕ) → has_id ks k ≡ true → k < i) → insert_key nat_cmp ks i ≡ ks ++ i ∷ []
-insert_last [] i below = refl
-insert_last (k ∷ ks) i below =
-    ap (λ o. match_ordering o (i ∷ k ∷ ks) (k ∷ ks) (k ∷ insert_key nat_cmp ks i)) (sym (nat_cmp_is i k Greater (below k (or_left (k == k) (has_id ks k) (eq-eqb k k refl)))))
-    ∙ ap (λ r. k ∷ r) (insert_last ks i (λ j h. below j (or_right (k == j) (has_id ks j) h)))
+-- ids that wait are below the next one
+pub below_next : (n : Namespace) (i : ℕ) → HasWellFormedBlocks n → refusal n (edit.AllocateBlockId i) ≡ None → AreBelow i n.issued.awaiting
+below_next n i w lawful k waits =
+    let above : n.issued.last_block < i = leb-false _ _ (when_none _ _ (all_none (checks n (edit.AllocateBlockId i)) lawful).0) in
+    omega (arith, (w.awaiting_from k waits).1)
 
-pub allocated : (n : Namespace) (i : ℕ) (keys : List ℕ) → HasWellFormedBlocks n → refusal n (edit.AllocateBlockId i) ≡ None → keys ≡ insert_key nat_cmp n.awaiting i → keys ≡ n.awaiting ++ i ∷ []
-allocated n i keys w lawful e =
-    let found = all_none (checks n (edit.AllocateBlockId i)) lawful in
-    let above : n.last_block < i = leb-false _ _ (when_none _ _ found.0) in
-    e ∙ insert_last n.awaiting i (λ k h. omega (arith, (w.awaiting_from k h).1))
-
-pub allocated_seen : (es : List (Path × Form)) (last stamp i : ℕ) (ks keys : List ℕ) → HasWellFormedBlocks (seen es last stamp ks) → refusal (seen es last stamp ks) (edit.AllocateBlockId i) ≡ None → keys ≡ insert_key nat_cmp ks i →
-    seen es i stamp keys ≡ effect (seen es last stamp ks) (edit.AllocateBlockId i)
-allocated_seen es last stamp i ks keys w lawful e = ap (λ x. record { rows = in_path_order es; last_block = i; last_stamp = stamp; awaiting = x }) (allocated (seen es last stamp ks) i keys w lawful e)
-
-pub allocate_kept : (es : List (Path × Form)) (last stamp i : ℕ) (ks keys : List ℕ) (look : ℕ → Option BlockRow) → IsLawfulEdit (edit.AllocateBlockId i) → refusal (seen es last stamp ks) (edit.AllocateBlockId i) ≡ None → keys ≡ insert_key nat_cmp ks i →
-    IsKept (seen es last stamp ks) look → IsKept (seen es i stamp keys) look
-allocate_kept es last stamp i ks keys look l lawful e k = record {
-  well = subst IsWellFormed (sym (allocated_seen es last stamp i ks keys k.well.blocks lawful e)) (stays_well_formed (seen es last stamp ks) (edit.AllocateBlockId i) l lawful k.well);
-  index = k.index;
-}
+pub allocate_kept : (n : Namespace) (i : ℕ) (look : ℕ → Option BlockRow) → IsLawfulEdit (edit.AllocateBlockId i) → refusal n (edit.AllocateBlockId i) ≡ None → IsKept n look → IsKept (effect n (edit.AllocateBlockId i)) look
+allocate_kept n i look l lawful k = record { well = stays_well_formed n (edit.AllocateBlockId i) l lawful k.well; index = k.index }
 
 pub genstamp_kept : (n : Namespace) (stamp : ℕ) (look : ℕ → Option BlockRow) → IsLawfulEdit (edit.SetGenstamp stamp) → refusal n (edit.SetGenstamp stamp) ≡ None → IsKept n look → IsKept (effect n (edit.SetGenstamp stamp)) look
 genstamp_kept n stamp look l lawful k = record { well = stays_well_formed n (edit.SetGenstamp stamp) l lawful k.well; index = k.index }

@@ -4,10 +4,12 @@ pub mod Step
 pub mod Walk
 pub mod Changed
 pub mod Applies
+pub mod Does
 pub mod Maps
 pub mod Prefix
 pub mod Files
 pub mod Bridge
+pub mod Waiting
 pub mod Edited
 pub mod Renamed
 pub mod Indexed

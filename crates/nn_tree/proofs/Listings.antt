@@ -5,12 +5,9 @@ use Rattle.std.specs.List.{fold}
 use Rattle.std.specs.FinMap.Entries.{is_sorted}
 use Rattle.std.specs.Map.{values_of}
 use Rattle.std.specs.String.{string_bytes}
-use Rattle.std.specs.Prelude.{◌==◌}
-use Rattle.std.proofs.Common.{Some, ◌+◌, ◌-◌, true, arith, ◌<◌, ◌^◌}
-use Rattle.std.proofs.lemmas.Bool.{or_left, or_right, eq-eqb}
-use Rattle.nn_model.specs.WellFormed.{IsWellFormed}
-use Rattle.nn_model.specs.Namespace.{Namespace, path_cmp}
-use Rattle.nn_model.specs.Apply.{in_path_order, has_id}
+use Rattle.std.proofs.Common.{Some, ◌+◌, ◌-◌, true, arith}
+use Rattle.nn_model.specs.Namespace.{path_cmp}
+use Rattle.nn_model.specs.Apply.{in_path_order}
 use Rattle.nn_model.specs.declared.form.Form.TheVariants.{Dir}
 use Rattle.nn_model.proofs.Lookups.{same_rows, find_in_order}
 use Rattle.nn_model.proofs.Wells.{sorted_in_order, to_T}
@@ -207,13 +204,3 @@ all_pushed first after rows none h = took_fold (λ done row. done ++ row ∷ [])
 -- rows that are in order stay as they are
 pub in_order_already : (es : List (Path × Form)) → is_sorted path_cmp es ≡ true → in_path_order es ≡ es
 in_order_already es h = same_rows (in_path_order es) es (to_T _ (sorted_in_order es)) (to_T _ h) (λ q. find_in_order q es)
-
--- ---- the ids that await
-stands_here : (xs ys : List ℕ) (k : ℕ) → has_id (xs ++ k ∷ ys) k ≡ true
-stands_here [] ys k = or_left (k == k) (has_id ys k) (eq-eqb k k refl)
-stands_here (x ∷ xs) ys k = or_right (x == k) (has_id (xs ++ k ∷ ys) k) (stands_here xs ys k)
-
-pub awaiting_number : (n : Namespace) (xs ys : List ℕ) (k : ℕ) → IsWellFormed n → xs ++ k ∷ ys ≡ n.awaiting → k < 2 ^ 63
-awaiting_number n xs ys k w e =
-    let issued = w.blocks.awaiting_from k (ap (λ ids. has_id ids k) (sym e) ∙ stands_here xs ys k) in
-    omega (arith, issued.1, w.last_block_to)

@@ -1,93 +1,65 @@
--- The map of a list of paths.
-use Rattle.std.proofs.Common.{◌≡◌, Bool, true, false, cond, not, ◌&&◌, [], ◌∷◌, ◌++◌, ◌<◌, length, Option, Some, None, is_some, refl, sym, ap, ◌∙◌, arith}
-use Rattle.std.specs.declared.cmp.Ordering.TheVariants.{Less, Equal, Greater}
-use Rattle.std.specs.Ordering.{is_eq, eq_by_cmp, ordering_then, ordering_reverse}
+-- Why a tree refuses a change, from what a walk found, and what is left where a tree was taken.
+use Rattle.std.proofs.Common.{◌≡◌, Bool, true, false, cond, not, ◌&&◌, List, [], ◌∷◌, ◌++◌, ◌<◌, length, Option, Some, None, is_some, refl, sym, ap, ◌∙◌, arith}
+use Rattle.std.specs.Prelude.{bytes_eq}
 use Rattle.std.specs.Bool.{◌==◌}
-use Rattle.std.specs.Cmp.{IsTotalOrder}
-use Rattle.std.specs.Cmp.Lexicographic.{nat_list_cmp_total, lists_total}
-use Rattle.std.specs.FinMap.{IsAntisymmetric, slice_cmp-IsAntisymmetric, nat_cmp-IsAntisymmetric}
-use Rattle.std.proofs.lemmas.Cmp.{tied_back}
-use Rattle.nn_model.specs.declared.form.Form.{Form}
-use Rattle.nn_model.specs.Namespace.{Path}
-use Rattle.nn_tree.specs.At.{at, rows, name_cmp, path_cmp, grafted}
-use Rattle.nn_tree.specs.Walks.{or_fault, root_fault, walk_fault, exists_fault, missing_fault, mkdir_fault, delete_fault, starts_with}
 use Rattle.nn_types.specs.declared.edit_fault.EditFault.{EditFault}
-use Rattle.nn_types.specs.declared.edit_fault.EditFault.TheVariants.{Exists, Missing, IsRoot}
-use Rattle.nn_tree.proofs.Step.{same_name}
-use Rattle.nn_tree.proofs.Subtree.{no_names}
-use Rattle.std.proofs.lemmas.Bool.{eqb-true}
+use Rattle.nn_types.specs.declared.edit_fault.EditFault.TheVariants.{Exists, Missing}
+use Rattle.nn_model.specs.declared.form.Form.{Form}
+use Rattle.nn_model.specs.Namespace.{Path, begins_with}
+use Rattle.nn_model.specs.Apply.{first, when, walk, is_root, exists, missing}
+use Rattle.nn_model.proofs.Dues.{all_none}
+use Rattle.nn_model.proofs.Prefixes.{name_same}
+use Rattle.nn_model.proofs.Trees.{absent}
+use Rattle.nn_tree.specs.At.{rows, grafted}
+use Rattle.nn_tree.specs.Walks.{mkdir_fault, delete_fault}
 
-pub path_total : IsTotalOrder path_cmp
-path_total = lists_total nat_list_cmp_total
+-- ---- Checks in order.
 
-pub path_antisymmetric : IsAntisymmetric path_cmp
-path_antisymmetric = slice_cmp-IsAntisymmetric (slice_cmp-IsAntisymmetric nat_cmp-IsAntisymmetric)
+-- a fault that some checks find, and what comes after them where they find none
+pub found_first : (os more : List (Option EditFault)) (e : EditFault) → first os ≡ Some e → Some e ≡ first (os ++ more)
+found_first [] more e h = absurd (cc)
+found_first (None ∷ os) more e h = found_first os more e h
+found_first (Some x ∷ os) more e h = sym h
 
-pub not_root : (xs : Path) → false ≡ (length xs == 0) → root_fault xs ≡ None
+pub found_later : (os more : List (Option EditFault)) → first os ≡ None → first more ≡ first (os ++ more)
+found_later [] more h = refl
+found_later (None ∷ os) more h = found_later os more h
+found_later (Some x ∷ os) more h = absurd (cc)
+
+pub not_root : (xs : Path) → false ≡ (length xs == 0) → is_root xs ≡ None
 not_root [] h = cc
 not_root (x ∷ xs) h = refl
 
-pub is_root : (xs : Path) → true ≡ (length xs == 0) → root_fault xs ≡ Some IsRoot
-is_root xs h = ap root_fault (no_names xs (eqb-true _ _ (sym h)))
+-- what a walk found is the fault, and otherwise what stands there decides
+pub by_walk : (f : Path → Option Form) (p : Path) (more : List (Option EditFault)) (e : EditFault) → is_root p ≡ None → walk f p ≡ Some e → Some e ≡ first (is_root p ∷ walk f p ∷ more)
+by_walk f p more e r w = sym (λ j. first (r j ∷ w j ∷ more))
 
--- the rest of a fault, after the root's
-after_root : (p : Path) (x : Option EditFault) → root_fault p ≡ None → or_fault (root_fault p) x ≡ x
-after_root p x r = ap (λ o. or_fault o x) r
+pub past_walk : (f : Path → Option Form) (p : Path) (more : List (Option EditFault)) → is_root p ≡ None → walk f p ≡ None → first more ≡ first (is_root p ∷ walk f p ∷ more)
+past_walk f p more r w = sym (λ j. first (r j ∷ w j ∷ more))
 
-after_walk : (w : Option EditFault) (x : Option EditFault) → w ≡ None → or_fault w x ≡ x
-after_walk w x r = ap (λ o. or_fault o x) r
+pub mkdir_by_row : (f : Path → Option Form) (p : Path) (b : Bool) → is_root p ≡ None → walk f p ≡ None → is_some (f p) ≡ b → first (when b Exists ∷ []) ≡ mkdir_fault f p
+mkdir_by_row f p b r w s = sym (ap (λ t. first (when t Exists ∷ [])) s) ∙ past_walk f p (exists (f p) ∷ []) r w
 
-pub mkdir_by_walk : (f : Path → Option Form) (p : Path) (e : EditFault) → root_fault p ≡ None → walk_fault f p ≡ Some e → Some e ≡ mkdir_fault f p
-mkdir_by_walk f p e r w = sym (after_root p _ r ∙ ap (λ o. or_fault o (exists_fault (f p))) w)
+pub delete_by_row : (f : Path → Option Form) (p : Path) (b : Bool) → is_root p ≡ None → walk f p ≡ None → is_some (f p) ≡ b → first (when (not b) Missing ∷ []) ≡ delete_fault f p
+delete_by_row f p b r w s = sym (ap (λ t. first (when (not t) Missing ∷ [])) s) ∙ past_walk f p (missing (f p) ∷ []) r w
 
-pub mkdir_by_row : (f : Path → Option Form) (p : Path) (b : Bool) → root_fault p ≡ None → walk_fault f p ≡ None → is_some (f p) ≡ b → cond b (Some Exists) None ≡ mkdir_fault f p
-mkdir_by_row f p b r w s = sym (after_root p _ r ∙ after_walk (walk_fault f p) _ w ∙ ap (λ c. cond c (Some Exists) None) s)
+-- ---- What a lawful edit found.
 
-pub delete_by_walk : (f : Path → Option Form) (p : Path) (e : EditFault) → root_fault p ≡ None → walk_fault f p ≡ Some e → Some e ≡ delete_fault f p
-delete_by_walk f p e r w = sym (after_root p _ r ∙ ap (λ o. or_fault o (missing_fault (f p))) w)
+pub mkdir_lawful : (f : Path → Option Form) (p : Path) → mkdir_fault f p ≡ None → (walk f p ≡ None) × (f p ≡ None)
+mkdir_lawful f p h = let found = all_none (is_root p ∷ walk f p ∷ exists (f p) ∷ []) h in (found.1.0, absent (f p) found.1.1.0)
 
-pub delete_by_row : (f : Path → Option Form) (p : Path) (b : Bool) → root_fault p ≡ None → walk_fault f p ≡ None → is_some (f p) ≡ b → cond b None (Some Missing) ≡ delete_fault f p
-delete_by_row f p b r w s = sym (after_root p _ r ∙ after_walk (walk_fault f p) _ w ∙ ap (λ c. cond c None (Some Missing)) s)
+-- a path that isn't the root has a name
+pub has_name : (xs : Path) (more : List (Option EditFault)) → first (is_root xs ∷ more) ≡ None → 0 < length xs
+has_name [] more h = absurd (cc)
+has_name (y ∷ xs) more h = omega arith
 
--- what a lawful edit found
-pub or_None : (a b : Option EditFault) → or_fault a b ≡ None → (a ≡ None) × (b ≡ None)
-or_None None b h = (refl, h)
-or_None (Some e) b h = (cc, cc)
+-- ---- A tree that was taken.
 
-absent : (o : Option Form) → exists_fault o ≡ None → o ≡ None
-absent None h = refl
-absent (Some r) h = cc
-
-pub mkdir_lawful : (f : Path → Option Form) (p : Path) → mkdir_fault f p ≡ None → (walk_fault f p ≡ None) × (f p ≡ None)
-mkdir_lawful f p h =
-    let a = (or_None (root_fault p) _ h).1 in
-    let b = or_None (walk_fault f p) _ a in
-    (b.0, absent (f p) b.1)
-
--- the map with a directory made
-pub graft_dir : (f : Path → Option Form) (p : Path) (r : Form) → ((q : Path) → f (p ++ q) ≡ None) → (q : Path) → grafted f p (at (([], r) ∷ [])) q ≡ cond (eq_by_cmp path_cmp q p) (Some r) (f q)
-graft_dir f [] r h q = ap (λ o. cond (eq_by_cmp path_cmp q []) (Some r) o) (sym (h q))
-graft_dir f (n ∷ ns) r h [] = refl
-graft_dir f (n ∷ ns) r h (x ∷ q) =
-    elim (name_cmp n x) as (λ o. name_cmp n x ≡ o → cond (is_eq o) (grafted (λ y. f (n ∷ y)) ns (at (([], r) ∷ [])) q) (f (x ∷ q)) ≡ cond (is_eq (ordering_then (name_cmp x n) (path_cmp q ns))) (Some r) (f (x ∷ q))) [
-      | Less ↦ λ e. ap (λ c. cond (is_eq (ordering_then c (path_cmp q ns))) (Some r) (f (x ∷ q))) (sym (nat_list_cmp_total.antisymm x n ∙ ap ordering_reverse e))
-      | Equal ↦ λ e. graft_dir (λ y. f (n ∷ y)) ns r (λ y. h y) q
-          ∙ ap (λ y. cond (eq_by_cmp path_cmp q ns) (Some r) (f (y ∷ q))) (same_name n x (ap is_eq e))
-          ∙ ap (λ c. cond (is_eq (ordering_then c (path_cmp q ns))) (Some r) (f (x ∷ q))) (sym (tied_back nat_list_cmp_total n x e))
-      | Greater ↦ λ e. ap (λ c. cond (is_eq (ordering_then c (path_cmp q ns))) (Some r) (f (x ∷ q))) (sym (nat_list_cmp_total.antisymm x n ∙ ap ordering_reverse e))
-    ] refl
-
--- ---- removal
-pub graft_gone : (f : Path → Option Form) (p q : Path) → grafted f p (rows None) q ≡ cond (not (starts_with p q)) (f q) None
+pub graft_gone : (f : Path → Option Form) (p q : Path) → grafted f p (rows None) q ≡ cond (not (begins_with p q)) (f q) None
 graft_gone f [] q = refl
 graft_gone f (n ∷ ns) [] = refl
 graft_gone f (n ∷ ns) (x ∷ q) =
-    elim (is_eq (name_cmp n x)) as (λ b. is_eq (name_cmp n x) ≡ b → cond b (grafted (λ r. f (n ∷ r)) ns (rows None) q) (f (x ∷ q)) ≡ cond (not (b && starts_with ns q)) (f (x ∷ q)) None) [
-      | true ↦ λ e. graft_gone (λ r. f (n ∷ r)) ns q ∙ ap (λ y. cond (not (starts_with ns q)) (f (y ∷ q)) None) (same_name n x e)
+    elim (bytes_eq n x) as (λ b. bytes_eq n x ≡ b → cond b (grafted (λ r. f (n ∷ r)) ns (rows None) q) (f (x ∷ q)) ≡ cond (not (b && begins_with ns q)) (f (x ∷ q)) None) [
+      | true ↦ λ e. graft_gone (λ r. f (n ∷ r)) ns q ∙ ap (λ y. cond (not (begins_with ns q)) (f (y ∷ q)) None) (name_same n x e)
       | false ↦ λ e. refl
     ] refl
-
--- a path that isn't the root has a name
-pub has_name : (xs : Path) (x : Option EditFault) → None ≡ or_fault (root_fault xs) x → 0 < length xs
-has_name [] x h = cc
-has_name (y ∷ xs) x h = omega arith

@@ -1,5 +1,5 @@
 -- No check of an edit finds that memory ran out.
-use Rattle.std.proofs.Common.{◌≡◌, Bool, true, false, List, [], ◌∷◌, map, Option, Some, None}
+use Rattle.std.proofs.Common.{◌≡◌, Bool, true, false, List, [], ◌∷◌, Option, Some, None}
 use Rattle.nn_types.specs.declared.block.Block.{Block}
 use Rattle.nn_types.specs.declared.edit.Edit.{Edit}
 use Rattle.nn_types.specs.declared.edit.Edit.TheVariants.{StartSegment, EndSegment, Mkdir, Add, AddBlock, UpdateBlocks, Close, Rename, Delete, SetReplication, AllocateBlockId, SetGenstamp}
@@ -8,7 +8,7 @@ use Rattle.nn_model.specs.declared.form.Form.TheVariants.{Dir, File}
 use Rattle.nn_types.specs.declared.edit_fault.EditFault.{EditFault}
 use Rattle.nn_types.specs.declared.edit_fault.EditFault.TheVariants.{Exists, Missing, NotFile, NotOpen, IntoItself, WrongBlocks, BadGeneration, BadBlockId, BadReplication, OutOfMemory}
 use Rattle.nn_model.specs.Namespace.{Path, Namespace, lookup}
-use Rattle.nn_model.specs.Apply.{first, when, is_root, no_directory, parents, walk, checks, list_checks, refusal}
+use Rattle.nn_model.specs.Apply.{first, when, is_root, in_directory, walk, checks, list_checks, refusal}
 
 -- a check that does not find that memory ran out
 abbrev IsOther : Option EditFault → Type 0
@@ -31,17 +31,14 @@ other_root : (p : Path) → IsOther (is_root p)
 other_root [] e = absurd (cc)
 other_root (name ∷ p) e = absurd (cc)
 
-other_directory : (o : Option Form) → IsOther (no_directory o)
-other_directory None e = absurd (cc)
-other_directory (Some Dir) e = absurd (cc)
-other_directory (Some (File file)) e = absurd (cc)
+other_directory : (o : Option Form) (found : Option EditFault) → IsOther found → IsOther (in_directory o found)
+other_directory None found h e = absurd (cc)
+other_directory (Some Dir) found h e = h e
+other_directory (Some (File file)) found h e = absurd (cc)
 
-others_above : (n : Namespace) (ps : List Path) → AreOthers (map (λ parent. no_directory (lookup n parent)) ps)
-others_above n [] = tt
-others_above n (p ∷ ps) = (other_directory (lookup n p), others_above n ps)
-
-other_walk : (n : Namespace) (p : Path) → IsOther (walk n p)
-other_walk n p = other_first (map (λ parent. no_directory (lookup n parent)) (parents p)) (others_above n (parents p))
+other_walk : (f : Path → Option Form) (p : Path) → IsOther (walk f p)
+other_walk f [] e = absurd (cc)
+other_walk f (name ∷ p) e = other_directory (f []) _ (other_walk (λ q. f (name ∷ q)) p) e
 
 -- each fault of the table is another one
 is_exists : IsOther (Some Exists)
@@ -72,19 +69,19 @@ is_bad_replication : IsOther (Some BadReplication)
 is_bad_replication e = absurd (cc)
 
 others_of_list : (n : Namespace) (p : Path) (bs : List Block) → AreOthers (list_checks n p bs)
-others_of_list n p bs = (other_root p, (other_walk n p, (other_when _ Missing is_missing, (other_when _ NotFile is_not_file, (other_when _ NotOpen is_not_open, (other_when _ WrongBlocks is_wrong_blocks, (other_when _ BadGeneration is_bad_generation, tt)))))))
+others_of_list n p bs = (other_root p, (other_walk (lookup n) p, (other_when _ Missing is_missing, (other_when _ NotFile is_not_file, (other_when _ NotOpen is_not_open, (other_when _ WrongBlocks is_wrong_blocks, (other_when _ BadGeneration is_bad_generation, tt)))))))
 
 others : (n : Namespace) (edit : Edit) → AreOthers (checks n edit)
 others n StartSegment = tt
 others n EndSegment = tt
-others n (Mkdir p) = (other_root p, (other_walk n p, (other_when _ Exists is_exists, tt)))
-others n (Add p r) = (other_root p, (other_when _ BadReplication is_bad_replication, (other_walk n p, (other_when _ Exists is_exists, tt))))
-others n (AddBlock p i stamp) = (other_root p, (other_walk n p, (other_when _ Missing is_missing, (other_when _ NotFile is_not_file, (other_when _ NotOpen is_not_open, (other_when _ BadBlockId is_bad_block_id, (other_when _ BadGeneration is_bad_generation, tt)))))))
+others n (Mkdir p) = (other_root p, (other_walk (lookup n) p, (other_when _ Exists is_exists, tt)))
+others n (Add p r) = (other_root p, (other_when _ BadReplication is_bad_replication, (other_walk (lookup n) p, (other_when _ Exists is_exists, tt))))
+others n (AddBlock p i stamp) = (other_root p, (other_walk (lookup n) p, (other_when _ Missing is_missing, (other_when _ NotFile is_not_file, (other_when _ NotOpen is_not_open, (other_when _ BadBlockId is_bad_block_id, (other_when _ BadGeneration is_bad_generation, tt)))))))
 others n (UpdateBlocks p bs) = others_of_list n p bs
 others n (Close p bs) = others_of_list n p bs
-others n (Rename s d) = (other_root s, (other_root d, (other_walk n s, (other_when _ Missing is_missing, (other_when _ IntoItself is_into_itself, (other_walk n d, (other_when _ Exists is_exists, tt)))))))
-others n (Delete p) = (other_root p, (other_walk n p, (other_when _ Missing is_missing, tt)))
-others n (SetReplication p r) = (other_root p, (other_when _ BadReplication is_bad_replication, (other_walk n p, (other_when _ Missing is_missing, (other_when _ NotFile is_not_file, tt)))))
+others n (Rename s d) = (other_root s, (other_root d, (other_walk (lookup n) s, (other_when _ Missing is_missing, (other_when _ IntoItself is_into_itself, (other_walk (lookup n) d, (other_when _ Exists is_exists, tt)))))))
+others n (Delete p) = (other_root p, (other_walk (lookup n) p, (other_when _ Missing is_missing, tt)))
+others n (SetReplication p r) = (other_root p, (other_when _ BadReplication is_bad_replication, (other_walk (lookup n) p, (other_when _ Missing is_missing, (other_when _ NotFile is_not_file, tt)))))
 others n (AllocateBlockId i) = (other_when _ BadBlockId is_bad_block_id, tt)
 others n (SetGenstamp stamp) = (other_when _ BadGeneration is_bad_generation, tt)
 

@@ -2,7 +2,7 @@
 use Rattle.std.proofs.Common.{inl, inr, ◌≡◌, ℕ, Bool, true, false, cond, List, [], ◌∷◌, Option, Some, None, refl, sym, ap, ◌∙◌}
 use Rattle.std.specs.Prelude.{IfSome, ◌==◌, option_map, find, nat_le, if◌then◌else◌}
 use Rattle.std.specs.FinMap.Entries.{find as find_entry, is_sorted, below_all}
-use Rattle.std.proofs.lemmas.Bool.{and_parts}
+use Rattle.std.proofs.lemmas.Bool.{and_parts, false_from_ne_true}
 use Rattle.nn_types.specs.declared.block.Block.{Block}
 use Rattle.nn_types.specs.declared.status.Status.TheVariants.{Unnamed, Awaiting, Named, Retired}
 use Rattle.nn_model.specs.Namespace.{Namespace, path_cmp, lookup, blocks_of, all_blocks}
@@ -17,8 +17,7 @@ use Rattle.nn_tree.specs.declared.index.BlockRow.{BlockRow}
 use Rattle.nn_model.specs.declared.form.Form.TheVariants.{Dir, File}
 use Rattle.nn_tree.specs.BlockRow.{IsInFile}
 use Rattle.nn_tree.specs.View.{InRow, closed_of, IsKept}
-use Rattle.nn_tree.proofs.Prefix.{decided}
-use Rattle.nn_tree.proofs.Renamed.{same, same_true, same_self}
+use Rattle.nn_model.proofs.Prefixes.{same, same_true, same_self}
 use Rattle.nn_tree.proofs.Added.{stands_in}
 
 -- the row of a block
@@ -30,7 +29,7 @@ row_of (c ∷ rows) b s h =
       | inl here ↦ (c.0, c.1, ap (λ k. cond k (Some c.1) (find_entry path_cmp c.0 rows)) (same_self c.0), here)
       | inr later ↦
           (let w = row_of rows b parts.1 later in
-          let off : same w.0 c.0 ≡ false = decided (same w.0 c.0) (λ e. let n : find_entry path_cmp w.0 rows ≡ None = ap (λ q. find_entry path_cmp q rows) (same_true w.0 c.0 e) ∙ not_below c.0 rows parts.0 in (cc (n, w.2))) in
+          let off : same w.0 c.0 ≡ false = false_from_ne_true (same w.0 c.0) (λ e. let n : find_entry path_cmp w.0 rows ≡ None = ap (λ q. find_entry path_cmp q rows) (same_true w.0 c.0 e) ∙ not_below c.0 rows parts.0 in (cc (n, w.2))) in
           (w.0, w.1, ap (λ k. cond k (Some c.1) (find_entry path_cmp w.0 rows)) off ∙ w.2, w.3))
     ]
 
@@ -60,7 +59,7 @@ block_known n look id k =
 pub status_named : (n : Namespace) (id : ℕ) (b : Block) → block_at n id ≡ Some b → Named b.stamp ≡ status_of n id
 status_named n id b e = sym (ap (λ o. status_from o (status_unheld n id)) e)
 
-pub status_other : (n : Namespace) (id : ℕ) (a b : Bool) → block_at n id ≡ None → has_id n.awaiting id ≡ a → nat_le id n.last_block ≡ b → (if a then Awaiting else if b then Retired else Unnamed) ≡ status_of n id
+pub status_other : (n : Namespace) (id : ℕ) (a b : Bool) → block_at n id ≡ None → has_id n.issued.awaiting id ≡ a → nat_le id n.issued.last_block ≡ b → (if a then Awaiting else if b then Retired else Unnamed) ≡ status_of n id
 status_other n id a b e h k = (λ j. if sym h j then Awaiting else if sym k j then Retired else Unnamed) ∙ sym (ap (λ o. status_from o (status_unheld n id)) e)
 
 -- a row of the index tells of a file

@@ -1,4 +1,4 @@
--- Which paths may be restored, and the root alone with its numbers.
+-- Which paths may be restored, and the root alone with what was issued.
 use Rattle.std.proofs.Common.{◌≡◌, ℕ, zero, suc, ◌+◌, ◌≤◌, ◌<◌, ◌^◌, true, false, not, List, [], ◌∷◌, ◌++◌, length, take, get_or, Option, Some, None, refl, sym, ap, ◌∙◌, subst, inl, inr, arith, ltb, take-add, drop-cons}
 use Rattle.std.specs.Prelude.{◌==◌, is_some}
 use Rattle.std.specs.List.{list_all}
@@ -13,22 +13,18 @@ use Rattle.nn_types.specs.declared.edit.Edit.TheVariants as edit
 use Rattle.nn_model.specs.declared.form.Form.{Form}
 use Rattle.nn_model.specs.declared.form.Form.TheVariants.{Dir, File}
 use Rattle.nn_model.specs.declared.form.FileRow.{FileRow}
-use Rattle.nn_types.specs.declared.edit_fault.EditFault.{EditFault}
-use Rattle.nn_model.specs.Namespace.{Path, Namespace, lookup, blocks_of, no_block, no_stamp}
-use Rattle.nn_model.specs.Apply.{refusal, has_id, is_dir}
+use Rattle.nn_model.specs.Namespace.{Path, Issued, Namespace, lookup, blocks_of, no_block, no_stamp}
+use Rattle.nn_model.specs.Apply.{refusal, checks, walk, has_id, is_dir}
 use Rattle.nn_model.specs.WellFormed.{Has, IsWellFormed}
-use Rattle.nn_tree.specs.Walks.{walk_fault, mkdir_fault, parent_fault, exists_fault, or_fault}
 use Rattle.nn_tree.specs.Restore.{bare, parent_of, rises, is_issued, awaiting_fits, can_restore}
 use Rattle.nn_tree.specs.View.{IsKept, Stands}
 use Rattle.nn_tree.specs.declared.index.BlockRow.{BlockRow}
-use Rattle.nn_tree.proofs.Bridge.{mkdir_is}
-use Rattle.nn_tree.proofs.Kept.{insert_last}
+use Rattle.nn_model.proofs.Dues.{all_none}
+use Rattle.nn_model.proofs.Moves.{HasParents, is_directory}
+use Rattle.nn_model.proofs.Trees.{absent}
+use Rattle.nn_tree.proofs.Waiting.{insert_last}
 
 -- ---- Walks down to a directory.
-
--- where something stands, its parent is a directory
-abbrev pub HasParents : (Path → Option Form) → Type 0
-HasParents f = (p : Path) (name : List ℕ) → is_some (f (p ++ name ∷ [])) ≡ true → f p ≡ Some Dir
 
 below : (f : Path → Option Form) (n : List ℕ) → HasParents f → HasParents (λ q. f (n ∷ q))
 below f n h p name there = h (n ∷ p) name there
@@ -38,20 +34,14 @@ top_dir f [] h e = e
 top_dir f (n ∷ q) h e = h [] n (ap is_some (top_dir (λ r. f (n ∷ r)) q (below f n h) e))
 
 -- a path whose parent is a directory is walked to
-walks : (f : Path → Option Form) (n : List ℕ) (p : Path) → HasParents f → f (parent_of (n ∷ p)) ≡ Some Dir → walk_fault f (n ∷ p) ≡ None
+walks : (f : Path → Option Form) (n : List ℕ) (p : Path) → HasParents f → f (parent_of (n ∷ p)) ≡ Some Dir → walk f (n ∷ p) ≡ None
 walks f n [] h e = rw e refl
 walks f n (m ∷ p) h e = rw (top_dir f (parent_of (n ∷ m ∷ p)) h e) (walks (λ q. f (n ∷ q)) m p (below f n h) e)
 
--- what no walk finds at the root of its path
-top_of : (o : Option Form) (rest : Option EditFault) → parent_fault o rest ≡ None → (o ≡ Some Dir) × (rest ≡ None)
-top_of None rest e = absurd (cc)
-top_of (Some Dir) rest e = (refl, e)
-top_of (Some (File x)) rest e = absurd (cc)
-
 -- and the walk finds the parent
-walked : (f : Path → Option Form) (n : List ℕ) (p : Path) → walk_fault f (n ∷ p) ≡ None → f (parent_of (n ∷ p)) ≡ Some Dir
-walked f n [] e = (top_of (f []) _ e).0
-walked f n (m ∷ p) e = walked (λ q. f (n ∷ q)) m p (top_of (f []) _ e).1
+walked : (f : Path → Option Form) (n : List ℕ) (p : Path) → walk f (n ∷ p) ≡ None → f (parent_of (n ∷ p)) ≡ Some Dir
+walked f n [] e = (is_directory (f []) _ e).0
+walked f n (m ∷ p) e = walked (λ q. f (n ∷ q)) m p (is_directory (f []) _ e).1
 
 dir_is : (o : Option Form) → is_dir o ≡ true → o ≡ Some Dir
 dir_is None e = absurd (both_ways _ refl e)
@@ -62,24 +52,13 @@ none_is : (o : Option Form) → not (is_some o) ≡ true → o ≡ None
 none_is None e = refl
 none_is (Some x) e = absurd (both_ways _ refl e)
 
-both_none : (a b : Option EditFault) → or_fault a b ≡ None → (a ≡ None) × (b ≡ None)
-both_none None b e = (refl, e)
-both_none (Some x) b e = absurd (cc)
-
-free_of : (o : Option Form) → exists_fault o ≡ None → o ≡ None
-free_of None e = refl
-free_of (Some x) e = absurd (cc)
-
 -- ---- A directory may be restored where one can be made.
 
 pub dir_restored : (n : Namespace) (p : Path) → IsWellFormed n → refusal n (edit.Mkdir p) ≡ None → can_restore n p Dir ≡ true
-dir_restored n p w e = at p (mkdir_is n p ∙ e)
-  where
-    at : (p : Path) → mkdir_fault (lookup n) p ≡ None → can_restore n p Dir ≡ true
-    at [] e = absurd (cc)
-    at (name ∷ p) e =
-        let parts = both_none (walk_fault (lookup n) (name ∷ p)) (exists_fault (lookup n (name ∷ p))) e in
-        rw (free_of (lookup n (name ∷ p)) parts.1, walked (lookup n) name p parts.0) refl
+dir_restored n [] w e = absurd (cc)
+dir_restored n (name ∷ p) w e =
+    let found = all_none (checks n (edit.Mkdir (name ∷ p))) e in
+    rw (absent (lookup n (name ∷ p)) found.1.1.0, walked (lookup n) name p found.1.0) refl
 
 pub dir_refused : (n : Namespace) (p : Path) → IsWellFormed n → is_some (refusal n (edit.Mkdir p)) ≡ true → can_restore n p Dir ≡ false
 dir_refused n p w e = elim (cases_Bool (can_restore n p Dir)) [
@@ -93,7 +72,7 @@ dir_refused n p w e = elim (cases_Bool (can_restore n p Dir)) [
         let parts = and_parts (not (is_some (lookup n (name ∷ p)))) _ h in
         let free = none_is (lookup n (name ∷ p)) parts.0 in
         let parent = dir_is (lookup n (parent_of (name ∷ p))) (and_parts (is_dir (lookup n (parent_of (name ∷ p)))) true parts.1).0 in
-        sym (mkdir_is n (name ∷ p)) ∙ rw (walks (lookup n) name p w.parents parent, free) refl
+        rw (walks (lookup n) name p w.parents parent, free) refl
 
 -- ---- Ids that rise.
 
@@ -124,7 +103,7 @@ one_more ids keys new i x d last fits within is so_far e =
     let one : take (i + 1) ids ≡ take i ids ++ x ∷ [] = take-add i 1 ids ∙ ap (λ r. take i ids ++ take 1 r) (drop-cons ids i d within) ∙ ap (λ y. take i ids ++ y ∷ []) (sym is) in
     e ∙ ap (λ ks. insert_key nat_cmp ks x) so_far ∙ insert_last (take i ids) x (λ k h. subst (λ y. k < y) (sym is) (taken_below ids i d k r within h)) ∙ sym one
 
--- ---- The root alone, with its numbers.
+-- ---- The root alone, with what was issued.
 
 issued_of : (last : ℕ) (ids : List ℕ) (id : ℕ) → list_all (is_issued last) ids ≡ true → has_id ids id ≡ true → (no_block + 1 ≤ id) × (id ≤ last)
 issued_of last [] id all e = absurd (both_ways _ refl e)
@@ -155,26 +134,26 @@ sorted_of (x ∷ ids) r = (after x ids r, sorted_of ids (rises_tail x ids r))
         let less = ltb-true x y parts.0 in
         (sym (nat_cmp_is x y Less less), after_less x y ids less parts.1)
 
-no_child : (last stamp : ℕ) (ids : List ℕ) (p : Path) (name : List ℕ) → is_some (lookup (bare last stamp ids) (p ++ name ∷ [])) ≡ true → lookup (bare last stamp ids) p ≡ Some Dir
-no_child last stamp ids [] name some = refl
-no_child last stamp ids (x ∷ p) name some = absurd (both_ways _ refl some)
+no_child : (issued : Issued) (p : Path) (name : List ℕ) → is_some (lookup (bare issued) (p ++ name ∷ [])) ≡ true → lookup (bare issued) p ≡ Some Dir
+no_child issued [] name some = refl
+no_child issued (x ∷ p) name some = absurd (both_ways _ refl some)
 
-no_files : (last stamp : ℕ) (ids : List ℕ) (p : Path) (file : FileRow) → lookup (bare last stamp ids) p ≡ Some (File file) → (1 ≤ file.replication) × (file.replication ≤ 512)
-no_files last stamp ids [] file there = let e : Some Dir ≡ Some (File file) = there in absurd (cc)
-no_files last stamp ids (x ∷ p) file there = let e : None ≡ Some (File file) = there in absurd (cc)
+no_files : (issued : Issued) (p : Path) (file : FileRow) → lookup (bare issued) p ≡ Some (File file) → (1 ≤ file.replication) × (file.replication ≤ 512)
+no_files issued [] file there = let e : Some Dir ≡ Some (File file) = there in absurd (cc)
+no_files issued (x ∷ p) file there = let e : None ≡ Some (File file) = there in absurd (cc)
 
-pub bare_is_well_formed : (last stamp : ℕ) (ids : List ℕ) → no_block ≤ last → last < 2 ^ 63 → no_stamp ≤ stamp → stamp < 2 ^ 63 → awaiting_fits last ids ≡ true → IsWellFormed (bare last stamp ids)
-bare_is_well_formed last stamp ids low small old short fits =
-    let parts = and_parts (list_all (is_issued last) ids) (rises ids) fits in
+pub bare_is_well_formed : (issued : Issued) → no_block ≤ issued.last_block → issued.last_block < 2 ^ 63 → no_stamp ≤ issued.last_stamp → issued.last_stamp < 2 ^ 63 → awaiting_fits issued.last_block issued.awaiting ≡ true → IsWellFormed (bare issued)
+bare_is_well_formed issued low small old short fits =
+    let parts = and_parts (list_all (is_issued issued.last_block) issued.awaiting) (rises issued.awaiting) fits in
     record {
       root = refl;
-      parents = no_child last stamp ids;
-      replications = no_files last stamp ids;
+      parents = no_child issued;
+      replications = no_files issued;
       blocks = record {
         in_order = refl;
         last_block_from = low;
-        awaiting_in_order = sorted_of ids parts.1;
-        awaiting_from = λ id waits. issued_of last ids id parts.0 waits;
+        awaiting_in_order = sorted_of issued.awaiting parts.1;
+        awaiting_from = λ id waits. issued_of issued.last_block issued.awaiting id parts.0 waits;
         once = λ id. omega arith;
         issued = λ b here. absurd here;
       };
@@ -183,15 +162,15 @@ bare_is_well_formed last stamp ids low small old short fits =
       last_stamp_to = short;
     }
 
-no_block_stands : (last stamp : ℕ) (ids : List ℕ) (b : BlockRow) → Stands (lookup (bare last stamp ids)) b → ⊥
-no_block_stands last stamp ids b ([], r, e, here) = let is : Dir ≡ r = cc in subst (λ form. Has (blocks_of form) b.block) (sym is) here.1
-no_block_stands last stamp ids b (name ∷ p, r, e, here) = absurd (cc)
+no_block_stands : (issued : Issued) (b : BlockRow) → Stands (lookup (bare issued)) b → ⊥
+no_block_stands issued b ([], r, e, here) = let is : Dir ≡ r = cc in subst (λ form. Has (blocks_of form) b.block) (sym is) here.1
+no_block_stands issued b (name ∷ p, r, e, here) = absurd (cc)
 
-pub bare_kept : (n : Namespace) (look : ℕ → Option BlockRow) (last stamp : ℕ) (ids : List ℕ) → n ≡ bare last stamp ids → IsWellFormed (bare last stamp ids) → ((id : ℕ) → look id ≡ None) → IsKept n look
-bare_kept n look last stamp ids e w none = record {
+pub bare_kept : (n : Namespace) (look : ℕ → Option BlockRow) (issued : Issued) → n ≡ bare issued → IsWellFormed (bare issued) → ((id : ℕ) → look id ≡ None) → IsKept n look
+bare_kept n look issued e w none = record {
   well = subst IsWellFormed (sym e) w;
   index = record {
     sound = λ id b h. absurd (let m = none id in (cc (m, h)));
-    complete = λ b stands. absurd (no_block_stands last stamp ids b (subst (λ m. Stands (lookup m) b) e stands));
+    complete = λ b stands. absurd (no_block_stands issued b (subst (λ m. Stands (lookup m) b) e stands));
   };
 }

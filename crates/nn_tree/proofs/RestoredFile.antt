@@ -14,13 +14,14 @@ use Rattle.nn_types.specs.Path.{IsPath}
 use Rattle.nn_model.specs.declared.form.Form.{Form}
 use Rattle.nn_model.specs.declared.form.Form.TheVariants.{Dir, File}
 use Rattle.nn_model.specs.declared.form.FileRow.{FileRow}
-use Rattle.nn_model.specs.Namespace.{Path, Namespace, path_cmp, lookup, with_row, all_blocks, no_block, no_stamp}
+use Rattle.nn_model.specs.Namespace.{Path, Namespace, path_cmp, lookup, with_row, blocks_of, all_blocks, no_block, no_stamp}
 use Rattle.std.specs.Prelude.{◌⊎◌}
 use Rattle.nn_types.specs.declared.edit_fault.EditFault.TheVariants.{BadReplication}
 use Rattle.nn_model.specs.Apply as apply
 use Rattle.nn_model.specs.Apply.{refusal, checks, first, has_id, is_root, is_dir, walk, exists, replication_range}
 use Rattle.nn_model.specs.WellFormed.{Has, times, IsIssued, IsWellFormed}
-use Rattle.nn_model.proofs.Dues.{all_none, when_none, blocks_put}
+use Rattle.nn_model.proofs.Dues.{all_none, when_none}
+use Rattle.nn_model.proofs.InRows.{put_from}
 use Rattle.nn_model.proofs.Lookups.{paths_total, lookup_put}
 use Rattle.nn_model.proofs.Trees.{stays_well_formed}
 use Rattle.nn_model.proofs.Wells.{times_put, times-append, from_T, to_T}
@@ -32,7 +33,7 @@ use Rattle.nn_tree.proofs.Entered.{ids, not_true, not_some}
 use Rattle.nn_tree.proofs.Indexed.{old_blocks}
 use Rattle.nn_tree.proofs.Kept.{mkdir_free, add_mkdir, put_index}
 use Rattle.nn_tree.proofs.Named.{block_known}
-use Rattle.nn_tree.proofs.Renamed.{same}
+use Rattle.nn_model.proofs.Prefixes.{same}
 use Rattle.nn_tree.proofs.Restored.{dir_restored, dir_refused}
 
 -- ---- Blocks of which none stands twice.
@@ -189,22 +190,22 @@ old_not_once n look bs k e = elim (why_old look bs e) [
 all_and : (a b c : Bool) → a ≡ true → b ≡ true → c ≡ true → (a && b && c) ≡ true
 all_and a b c e f g = rw (e, f, g) refl
 
-pub file_fits : (n : Namespace) (p : Path) (x : FileRow) → can_restore n p Dir ≡ true → replication_fits x.replication ≡ true → list_all (block_fits n) x.blocks ≡ true → once (all_blocks n ++ x.blocks) ≡ true → can_restore n p (File x) ≡ true
+pub file_fits : (n : Namespace) (p : Path) (x : FileRow) → can_restore n p Dir ≡ true → replication_fits x.replication ≡ true → list_all (block_fits n.issued) x.blocks ≡ true → once (all_blocks n ++ x.blocks) ≡ true → can_restore n p (File x) ≡ true
 file_fits n p x e range fit new =
     let parts = and_parts (not (is_some (lookup n p))) (is_dir (lookup n (parent_of p)) && true) e in
     let dir = (and_parts (is_dir (lookup n (parent_of p))) true parts.1).0 in
     rw (parts.0, dir, range, fit, new) refl
 
 -- a file may stand only where a directory may
-pub file_parts : (n : Namespace) (p : Path) (x : FileRow) → can_restore n p (File x) ≡ true → (can_restore n p Dir ≡ true) × (replication_fits x.replication ≡ true) × (list_all (block_fits n) x.blocks ≡ true) × (once (all_blocks n ++ x.blocks) ≡ true)
+pub file_parts : (n : Namespace) (p : Path) (x : FileRow) → can_restore n p (File x) ≡ true → (can_restore n p Dir ≡ true) × (replication_fits x.replication ≡ true) × (list_all (block_fits n.issued) x.blocks ≡ true) × (once (all_blocks n ++ x.blocks) ≡ true)
 file_parts n p x e =
     let parts = and_parts (not (is_some (lookup n p))) (is_dir (lookup n (parent_of p)) && form_fits n (File x)) e in
     let dir = and_parts (is_dir (lookup n (parent_of p))) (form_fits n (File x)) parts.1 in
-    let form = and_parts (replication_fits x.replication && list_all (block_fits n) x.blocks) (once (all_blocks n ++ x.blocks)) dir.1 in
-    let both = and_parts (replication_fits x.replication) (list_all (block_fits n) x.blocks) form.0 in
+    let form = and_parts (replication_fits x.replication && list_all (block_fits n.issued) x.blocks) (once (all_blocks n ++ x.blocks)) dir.1 in
+    let both = and_parts (replication_fits x.replication) (list_all (block_fits n.issued) x.blocks) form.0 in
     (rw (parts.0, dir.0) refl, both.0, both.1, form.1)
 
-pub not_fit : (n : Namespace) (p : Path) (x : FileRow) → list_all (block_fits n) x.blocks ≡ false → can_restore n p (File x) ≡ false
+pub not_fit : (n : Namespace) (p : Path) (x : FileRow) → list_all (block_fits n.issued) x.blocks ≡ false → can_restore n p (File x) ≡ false
 not_fit n p x e = elim (cases_Bool (can_restore n p (File x))) [
   | inl may ↦ absurd (both_ways _ e (file_parts n p x may).2)
   | inr may_not ↦ may_not
@@ -248,7 +249,7 @@ file_refused n p x w some = elim (cases_Bool (can_restore n p (File x))) [
   | inr may_not ↦ may_not
 ]
 
-pub file_restored : (n : Namespace) (p : Path) (x : FileRow) (look : ℕ → Option BlockRow) → refusal n (edit.Add p x.replication) ≡ None → list_all (block_fits n) x.blocks ≡ true → are_new look x.blocks ≡ true → IsKept n look → can_restore n p (File x) ≡ true
+pub file_restored : (n : Namespace) (p : Path) (x : FileRow) (look : ℕ → Option BlockRow) → refusal n (edit.Add p x.replication) ≡ None → list_all (block_fits n.issued) x.blocks ≡ true → are_new look x.blocks ≡ true → IsKept n look → can_restore n p (File x) ≡ true
 file_restored n p x look applies fit new k =
     file_fits n p x (dir_restored n p k.well (add_mkdir n p x.replication applies)) (add_fits n p x.replication applies) fit (new_is_once n look x.blocks k new)
 
@@ -298,16 +299,16 @@ module _ (n : Namespace) (p : Path) (x : FileRow) (lawful : IsLawfulEdit (edit.A
     | inr other ↦ w.replications q file (sym (elsewhere x q other) ∙ e)
   ]
 
-  module _ (fit : list_all (block_fits n) x.blocks ≡ true) (lengths : AreBlocks x.blocks) (once_all : once (all_blocks n ++ x.blocks) ≡ true) where
-    new_issued : (bs : List Block) (b : Block) → list_all (block_fits n) bs ≡ true → AreBlocks bs → Has bs b → IsIssued (with_row n p (File x)) b
+  module _ (fit : list_all (block_fits n.issued) x.blocks ≡ true) (lengths : AreBlocks x.blocks) (once_all : once (all_blocks n ++ x.blocks) ≡ true) where
+    new_issued : (bs : List Block) (b : Block) → list_all (block_fits n.issued) bs ≡ true → AreBlocks bs → Has bs b → IsIssued n.issued b
     new_issued [] b e are here = absurd here
     new_issued (y ∷ bs) b e are (inl is) =
-        let parts = and_parts (block_fits n y) (list_all (block_fits n) bs) e in
-        let all = and_parts (is_issued n.last_block y.id && not (has_id n.awaiting y.id) && nat_le (no_stamp + 1) y.stamp) (nat_le y.stamp n.last_stamp) parts.0 in
-        let three = and_parts (is_issued n.last_block y.id && not (has_id n.awaiting y.id)) (nat_le (no_stamp + 1) y.stamp) all.0 in
-        let two = and_parts (is_issued n.last_block y.id) (not (has_id n.awaiting y.id)) three.0 in
-        let one = and_parts (nat_le (no_block + 1) y.id) (nat_le y.id n.last_block) two.0 in
-        subst (IsIssued (with_row n p (File x))) is (record {
+        let parts = and_parts (block_fits n.issued y) (list_all (block_fits n.issued) bs) e in
+        let all = and_parts (is_issued n.issued.last_block y.id && not (has_id n.issued.awaiting y.id) && nat_le (no_stamp + 1) y.stamp) (nat_le y.stamp n.issued.last_stamp) parts.0 in
+        let three = and_parts (is_issued n.issued.last_block y.id && not (has_id n.issued.awaiting y.id)) (nat_le (no_stamp + 1) y.stamp) all.0 in
+        let two = and_parts (is_issued n.issued.last_block y.id) (not (has_id n.issued.awaiting y.id)) three.0 in
+        let one = and_parts (nat_le (no_block + 1) y.id) (nat_le y.id n.issued.last_block) two.0 in
+        subst (IsIssued n.issued) is (record {
           from_first = leb-true _ _ one.0;
           to_last = leb-true _ _ one.1;
           not_awaiting = not_true _ two.1;
@@ -315,17 +316,7 @@ module _ (n : Namespace) (p : Path) (x : FileRow) (lawful : IsLawfulEdit (edit.A
           stamp_to = leb-true _ _ all.1;
           length = are.0.2;
         })
-    new_issued (y ∷ bs) b e are (inr here) = new_issued bs b (and_parts (block_fits n y) (list_all (block_fits n) bs) e).1 are.1 here
-
-    old_issued : (b : Block) → Has (all_blocks n) b → IsIssued (with_row n p (File x)) b
-    old_issued b here = let is = w.blocks.issued b here in record {
-      from_first = is.from_first;
-      to_last = is.to_last;
-      not_awaiting = is.not_awaiting;
-      stamp_from = is.stamp_from;
-      stamp_to = is.stamp_to;
-      length = is.length;
-    }
+    new_issued (y ∷ bs) b e are (inr here) = new_issued bs b (and_parts (block_fits n.issued y) (list_all (block_fits n.issued) bs) e).1 are.1 here
 
     none_before : (id : ℕ) → times id (old_blocks (lookup n p)) ≡ 0
     none_before id = ap (λ o. times id (old_blocks o)) free
@@ -341,7 +332,7 @@ module _ (n : Namespace) (p : Path) (x : FileRow) (lawful : IsLawfulEdit (edit.A
         awaiting_in_order = w.blocks.awaiting_in_order;
         awaiting_from = w.blocks.awaiting_from;
         once = λ id. omega (arith, times_put id p (File x) n.rows w.blocks.in_order, none_before id, times_append id, times_of (all_blocks n ++ x.blocks) once_all id);
-        issued = λ b here. elim (blocks_put p (File x) n.rows b here) [ inl own ↦ new_issued x.blocks b fit lengths own | inr old ↦ old_issued b old ];
+        issued = λ b here. elim (put_from blocks_of p (File x) n.rows b here) [ inl own ↦ new_issued x.blocks b fit lengths own | inr old ↦ w.blocks.issued b old ];
       };
       last_block_to = w.last_block_to;
       last_stamp_from = w.last_stamp_from;
@@ -386,7 +377,7 @@ entered_apart look [] closed id away = refl
 entered_apart look (y ∷ bs) closed id away =
     ap (λ t. cond t (Some (record { block = y; closed = closed })) (entered look bs closed id)) (ne_eqb y.id id (away y (inl refl))) ∙ entered_apart look bs closed id (λ b here. away b (inr here))
 
-pub file_kept : (n : Namespace) (p : Path) (x : FileRow) (look next : ℕ → Option BlockRow) → IsLawfulEdit (edit.Add p x.replication) → refusal n (edit.Add p x.replication) ≡ None → list_all (block_fits n) x.blocks ≡ true → AreBlocks x.blocks
+pub file_kept : (n : Namespace) (p : Path) (x : FileRow) (look next : ℕ → Option BlockRow) → IsLawfulEdit (edit.Add p x.replication) → refusal n (edit.Add p x.replication) ≡ None → list_all (block_fits n.issued) x.blocks ≡ true → AreBlocks x.blocks
     → are_new look x.blocks ≡ true → ((q : ℕ) → next q ≡ entered look x.blocks x.closed q) → IsKept n look → IsKept (with_row n p (File x)) next
 file_kept n p x look next lawful applies fit lengths new goes k = record {
   well = well n p x lawful applies k.well fit lengths (new_is_once n look x.blocks k new);

@@ -1,10 +1,10 @@
 -- The ids that a delete collects are those of all files at its path and below.
 use Rattle.std.proofs.Common.{inl, inr, ◌≡◌, ℕ, Bool, true, false, ◌&&◌, cond, List, [], ◌∷◌, ◌++◌, length, drop, Option, None, refl, sym, ap, ◌∙◌}
-use Rattle.std.specs.Prelude.{filter, flat_map}
-use Rattle.std.specs.Ordering.{is_eq}
+use Rattle.std.specs.Prelude.{filter, flat_map, bytes_eq}
+use Rattle.std.proofs.lemmas.Map.Text.{is_eq-slice_cmp}
 use Rattle.std.specs.FinMap.Entries.{is_sorted, find-where_key, is_sorted-where_key}
-use Rattle.std.specs.Cmp.Lexicographic.{nat_list_cmp_total}
-use Rattle.std.proofs.lemmas.Bool.{cases_Bool, both_ways}
+use Rattle.std.specs.Cmp.Lexicographic.{nat_list_cmp_total, nat_list_eq_equiv}
+use Rattle.std.proofs.lemmas.Bool.{cases_Bool}
 use Rattle.std.proofs.lemmas.Cmp.{tied_itself}
 use Rattle.std.proofs.lemmas.List.{map-append}
 use Rattle.nn_model.specs.Namespace.{Namespace, path_cmp, lookup, begins_with, blocks_of}
@@ -15,37 +15,34 @@ use Rattle.nn_model.proofs.Wells.{to_T}
 use Rattle.nn_model.specs.declared.form.Form.{Form}
 use Rattle.nn_model.specs.Namespace.{Path}
 use Rattle.nn_tree.specs.Flat.{under, under_all}
-use Rattle.nn_tree.specs.At.{at, name_cmp}
-use Rattle.nn_tree.specs.Walks.{starts_with}
+use Rattle.nn_tree.specs.At.{at}
 use Rattle.nn_tree.specs.Ids.{ids_of, row_ids}
-use Rattle.nn_tree.proofs.Below.{at-under-same, at-under-other}
-use Rattle.nn_tree.proofs.Bridge.{starts_is}
+use Rattle.nn_tree.proofs.Below.{name_cmp, at-under-same, at-under-other}
 use Rattle.nn_tree.proofs.Ids.{ids_under}
-use Rattle.nn_tree.proofs.Prefix.{starts_split, decided}
+use Rattle.nn_model.proofs.Prefixes.{name_same, begins_split}
 use Rattle.nn_tree.proofs.Sorted.{sorted_under}
-use Rattle.nn_tree.proofs.Step.{same_name}
 
 top_under : (n : List ℕ) (es : List (Path × Form)) → at (under n es) [] ≡ None
 top_under n [] = refl
 top_under n (e ∷ es) = top_under n es
 
-at_under : (n x : List ℕ) (q : Path) (es : List (Path × Form)) → at (under n es) (x ∷ q) ≡ cond (is_eq (name_cmp n x)) (at es q) None
+at_under : (n x : List ℕ) (q : Path) (es : List (Path × Form)) → at (under n es) (x ∷ q) ≡ cond (bytes_eq n x) (at es q) None
 at_under n x q es =
-    elim (cases_Bool (is_eq (name_cmp n x))) [
-      | inl e ↦ at-under-same x n q es (ap (λ y. name_cmp x y) (same_name n x e) ∙ tied_itself nat_list_cmp_total x) ∙ sym (ap (λ b. cond b (at es q) None) e)
-      | inr e ↦ at-under-other x n q es (decided (is_eq (name_cmp x n)) (λ h. both_ways _ e (ap (λ y. is_eq (name_cmp n y)) (same_name x n h) ∙ ap is_eq (tied_itself nat_list_cmp_total n)))) ∙ sym (ap (λ b. cond b (at es q) None) e)
+    elim (cases_Bool (bytes_eq n x)) [
+      | inl e ↦ at-under-same x n q es (ap (λ y. name_cmp x y) (name_same n x e) ∙ tied_itself nat_list_cmp_total x) ∙ sym (ap (λ b. cond b (at es q) None) e)
+      | inr e ↦ at-under-other x n q es (is_eq-slice_cmp x n ∙ nat_list_eq_equiv.symm x n ∙ e) ∙ sym (ap (λ b. cond b (at es q) None) e)
     ]
 
 cond_both : (a b : Bool) (o : Option Form) → cond a (cond b o None) None ≡ cond (a && b) o None
 cond_both true b o = refl
 cond_both false b o = refl
 
-at_under_all : (p q : Path) (t : List (Path × Form)) → at (under_all p t) q ≡ cond (starts_with p q) (at t (drop (length p) q)) None
+at_under_all : (p q : Path) (t : List (Path × Form)) → at (under_all p t) q ≡ cond (begins_with p q) (at t (drop (length p) q)) None
 at_under_all [] q t = refl
 at_under_all (n ∷ p) [] t = top_under n (under_all p t)
 at_under_all (n ∷ p) (x ∷ q) t =
-    at_under n x q (under_all p t) ∙ ap (λ o. cond (is_eq (name_cmp n x)) o None) (at_under_all p q t)
-    ∙ cond_both (is_eq (name_cmp n x)) (starts_with p q) (at t (drop (length p) q))
+    at_under n x q (under_all p t) ∙ ap (λ o. cond (bytes_eq n x) o None) (at_under_all p q t)
+    ∙ cond_both (bytes_eq n x) (begins_with p q) (at t (drop (length p) q))
 
 sorted_under_all : (p : Path) (t : List (Path × Form)) → is_sorted path_cmp (under_all p t) ≡ is_sorted path_cmp t
 sorted_under_all [] t = refl
@@ -64,9 +61,8 @@ rows_below : (n : Namespace) (p : Path) (t : List (Path × Form)) → is_sorted 
 rows_below n p t rows_sorted sorted sub =
     same_rows (filter (λ row. begins_with p row.0) n.rows) (under_all p t) (is_sorted-where_key path_cmp (λ q. begins_with p q) n.rows (to_T _ rows_sorted)) (to_T _ (sorted_under_all p t ∙ sorted))
     (λ q. find-where_key path_cmp (λ x. begins_with p x) q (λ x e. ap (begins_with p) (sym (paths_apart q x e))) n.rows
-    ∙ ap (λ b. cond b (lookup n q) None) (sym (starts_is p q))
-    ∙ elim (cases_Bool (starts_with p q)) [
-      | inl e ↦ ap (λ b. cond b (lookup n q) None) e ∙ ap (lookup n) (starts_split p q e) ∙ sub (drop (length p) q) ∙ sym (ap (λ b. cond b (at t (drop (length p) q)) None) e)
+    ∙ elim (cases_Bool (begins_with p q)) [
+      | inl e ↦ ap (λ b. cond b (lookup n q) None) e ∙ ap (lookup n) (begins_split p q e) ∙ sub (drop (length p) q) ∙ sym (ap (λ b. cond b (at t (drop (length p) q)) None) e)
       | inr e ↦ ap (λ b. cond b (lookup n q) None) e ∙ sym (ap (λ b. cond b (at t (drop (length p) q)) None) e)
     ]
     ∙ sym (at_under_all p q t))

@@ -15,7 +15,7 @@ use Rattle.nn_model.specs.Namespace.{path_cmp}
 use Rattle.nn_model.specs.declared.form.Form.{Form}
 use Rattle.nn_model.specs.Namespace.{Path}
 use Rattle.nn_tree.specs.Flat.{flat, below, under, IsInOrder}
-use Rattle.nn_tree.specs.At.{name_cmp}
+use Rattle.nn_tree.proofs.Below.{name_cmp}
 use Rattle.nn_tree.specs.declared.tree.Tree.{Tree}
 use Rattle.nn_tree.proofs.Subtree.{one_in_order}
 use Rattle.nn_tree.specs.declared.tree.Node.{Node}

@@ -7,7 +7,7 @@ use Rattle.nn_types.specs.declared.edit_fault.EditFault.TheVariants.{Missing, No
 use Rattle.nn_model.specs.declared.form.Form.{Form}
 use Rattle.nn_model.specs.declared.form.Form.TheVariants.{Dir, File}
 use Rattle.nn_model.specs.Namespace.{Path, Namespace, lookup}
-use Rattle.nn_model.specs.Apply.{first, when, is_root, replication_range, walk, missing, no_file_at, is_dir, refusal, in_path_order}
+use Rattle.nn_model.specs.Apply.{first, when, is_root, replication_range, walk, missing, not_file, is_dir, refusal, in_path_order}
 use Rattle.nn_tree.specs.At.{at}
 use Rattle.nn_tree.specs.Walks.{is_file}
 use Rattle.nn_tree.proofs.Bridge.{looks}
@@ -28,8 +28,8 @@ stands (Some (File x)) a b = refl
 -- what gets another replication is a file
 gets_replication : (n : Namespace) (p : Path) (r : ℕ) → refusal n (edit.SetReplication p r) ≡ None → is_file (lookup n p) ≡ true
 gets_replication n p r none =
-    let from_missing = later_none (walk n p) _ (later_none (replication_range r) _ (later_none (is_root p) _ none)) in
-    stands (lookup n p) (first_none (missing n p) _ from_missing) (first_none (no_file_at n p) [] (later_none (missing n p) _ from_missing))
+    let from_missing = later_none (walk (lookup n) p) _ (later_none (replication_range r) _ (later_none (is_root p) _ none)) in
+    stands (lookup n p) (first_none (missing (lookup n p)) _ from_missing) (first_none (not_file (lookup n p)) [] (later_none (missing (lookup n p)) _ from_missing))
 
 -- so where there is none, it is refused
 pub no_file_refused : (es : List (Path × Form)) (n : Namespace) (p ns : Path) (r : ℕ) → in_path_order es ≡ n.rows → ns ≡ p → is_file (at es ns) ≡ false →

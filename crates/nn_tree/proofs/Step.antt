@@ -10,18 +10,11 @@ use Rattle.std.specs.String.{string_bytes, string_cmp}
 use Rattle.std.proofs.lemmas.Map.Text.{is_eq-slice_cmp, btree_map_updates_text}
 use Rattle.nn_model.specs.declared.form.Form.{Form}
 use Rattle.nn_model.specs.Namespace.{Path}
-use Rattle.nn_tree.specs.At.{at, rows, name_cmp, grafted, IsSubtree, IsGrafted, IsSame}
+use Rattle.nn_tree.specs.At.{at, rows, grafted, IsSubtree, IsGrafted, IsSame}
 use Rattle.nn_tree.specs.declared.tree.Tree.{Tree}
-use Rattle.nn_tree.proofs.Below.{at-below}
+use Rattle.nn_model.proofs.Prefixes.{name_same}
+use Rattle.nn_tree.proofs.Below.{name_cmp, at-below}
 use Rattle.nn_tree.proofs.Subtree.{none_in_order, one_in_order, Children, child, dir_rows, IsDir, at_top, at_child, found}
-use Rattle.std.specs.declared.cmp.Ordering.{Ordering}
-use Rattle.std.specs.declared.cmp.Ordering.TheVariants.{Less, Equal, Greater}
-use Rattle.std.specs.FinMap.{slice_cmp-IsAntisymmetric, nat_cmp-IsAntisymmetric}
-
-pub equal : (o : Ordering) → is_eq o ≡ true → o ≡ Equal
-equal Less e = cc
-equal Equal e = refl
-equal Greater e = cc
 
 rows_cond : (b : Bool) (o p : Option Tree) (q : Path) → rows (cond b o p) q ≡ cond b (rows o q) (rows p q)
 rows_cond true o p q = refl
@@ -29,7 +22,7 @@ rows_cond false o p q = refl
 
 -- the children k are m with o at the name n
 pub record Becomes (m k : Children) (n : List ℕ) (o : Option Tree) : Type 0 where
-  pub updates : (x : List ℕ) → child k x ≡ cond (is_eq (name_cmp n x)) o (child m x)
+  pub updates : (x : List ℕ) → child k x ≡ cond (bytes_eq n x) o (child m x)
   pub ordered : IsStrictlySortedBy string_cmp (keys_of k)
 
 abbrev pub Map : Type 0
@@ -37,15 +30,15 @@ Map = BTreeMap (String Global) Tree
 
 -- after a change of a map at one name
 pub changed : (m k : Map) (n : List ℕ) (o : Option Tree) → UpdatesBy string_cmp (λ s. slice_cmp nat_cmp n (string_bytes s)) m k o → IsOrdered string_cmp k → Becomes m.entries k.entries n o
-changed m k n o u s = record { updates = λ x. btree_map_updates_text n m k o u x ∙ ap (λ c. cond c o (get_by_text m x)) (sym (is_eq-slice_cmp n x)); ordered = s }
+changed m k n o u s = record { updates = btree_map_updates_text n m k o u; ordered = s }
 
 -- after a write through `get_mut`
 pub written : (m k : Map) (n : List ℕ) (t w : Tree) → Some t ≡ get_by_text m n → WritesThrough string_cmp (λ s. slice_cmp nat_cmp n (string_bytes s)) m w k → Becomes m.entries k.entries n (Some w)
 written m k n t w g h = changed m k n (Some w) (h.3 (subst IsSome g refl)) h.4
 
 -- a name is another one where that is the first one
-turned : (n x : List ℕ) → is_eq (name_cmp x n) ≡ is_eq (name_cmp n x)
-turned n x = is_eq-slice_cmp x n ∙ nat_list_eq_equiv.symm x n ∙ sym (is_eq-slice_cmp n x)
+turned : (n x : List ℕ) → is_eq (name_cmp x n) ≡ bytes_eq n x
+turned n x = is_eq-slice_cmp x n ∙ nat_list_eq_equiv.symm x n
 
 overwritten : (a b : Bool) (v u : Option Tree) → a ≡ b → cond a v None ≡ cond b v (cond a u None)
 overwritten true true v u e = refl
@@ -106,12 +99,12 @@ one_other es k n t d e =
     found es ((k, t) ∷ []) n None d (ap (λ b. cond b (Some t) None) (sym (is_eq-slice_cmp n (string_bytes k) ∙ nat_list_eq_equiv.symm n (string_bytes k) ∙ e)))
 
 -- a directory's rows below a name, after its child of the name n has become o
-pub at_changed : (es : List (Path × Form)) (m k : Children) (n : List ℕ) (o : Option Tree) → IsDir es m → Becomes m k n o → (x : List ℕ) (q : Path) → at (dir_rows k) (x ∷ q) ≡ cond (is_eq (name_cmp n x)) (rows o q) (at es (x ∷ q))
+pub at_changed : (es : List (Path × Form)) (m k : Children) (n : List ℕ) (o : Option Tree) → IsDir es m → Becomes m k n o → (x : List ℕ) (q : Path) → at (dir_rows k) (x ∷ q) ≡ cond (bytes_eq n x) (rows o q) (at es (x ∷ q))
 at_changed es m k n o d b x q =
     at-below x q k b.ordered
     ∙ ap (λ p. rows p q) (b.updates x)
-    ∙ rows_cond (is_eq (name_cmp n x)) o (child m x) q
-    ∙ ap (λ r. cond (is_eq (name_cmp n x)) (rows o q) r) (sym (at_child es m x q d))
+    ∙ rows_cond (bytes_eq n x) o (child m x) q
+    ∙ ap (λ r. cond (bytes_eq n x) (rows o q) r) (sym (at_child es m x q d))
 
 -- the child of the name n becomes o
 pub graft_here : (es : List (Path × Form)) (m k : Children) (n : List ℕ) (o : Option Tree) → IsDir es m → Becomes m k n o → IsGrafted es (n ∷ []) o (dir_rows k)
@@ -122,22 +115,19 @@ graft_cons : (es : List (Path × Form)) (m k : Children) (n : List ℕ) (ns : Pa
 graft_cons es m k n ns t w o d b f h [] = sym (at_top es m d)
 graft_cons es m k n ns t w o d b f h (x ∷ q) =
     at_changed es m k n (Some w) d b x q
-    ∙ ap (λ r. cond (is_eq (name_cmp n x)) r (at es (x ∷ q))) (h q ∙ (λ j. grafted (λ r. sym (f r) j) ns (rows o) q))
+    ∙ ap (λ r. cond (bytes_eq n x) r (at es (x ∷ q))) (h q ∙ (λ j. grafted (λ r. sym (f r) j) ns (rows o) q))
 
 -- the child t of the name n becomes w, in which the rest of the path is changed
 pub graft_below : (es : List (Path × Form)) (m k : Children) (n : List ℕ) (ns ps : Path) (t w : Tree) (o : Option Tree) → ps ≡ n ∷ ns → IsDir es m → Becomes m k n (Some w) → ((q : Path) → at es (n ∷ q) ≡ at t q) → IsGrafted t ns o w → IsGrafted es ps o (dir_rows k)
 graft_below es m k n ns ps t w o e d b f h q = graft_cons es m k n ns t w o d b f h q ∙ (λ j. grafted (at es) (sym e j) (rows o) q)
-
-pub same_name : (n x : List ℕ) → is_eq (name_cmp n x) ≡ true → n ≡ x
-same_name n x e = slice_cmp-IsAntisymmetric nat_cmp-IsAntisymmetric n x (equal (name_cmp n x) e)
 
 -- the same, where nothing changes
 pub same_below : (es : List (Path × Form)) (m k : Children) (n : List ℕ) (t w : Tree) → IsDir es m → Becomes m k n (Some w) → ((q : Path) → at es (n ∷ q) ≡ at t q) → IsSame t w → IsSame es (dir_rows k)
 same_below es m k n t w d b f h [] = sym (at_top es m d)
 same_below es m k n t w d b f h (x ∷ q) =
     at_changed es m k n (Some w) d b x q
-    ∙ elim (is_eq (name_cmp n x)) as (λ c. is_eq (name_cmp n x) ≡ c → cond c (at w q) (at es (x ∷ q)) ≡ at es (x ∷ q)) [
-      | true ↦ λ e. h q ∙ sym (f q) ∙ ap (λ y. at es (y ∷ q)) (same_name n x e)
+    ∙ elim (bytes_eq n x) as (λ c. bytes_eq n x ≡ c → cond c (at w q) (at es (x ∷ q)) ≡ at es (x ∷ q)) [
+      | true ↦ λ e. h q ∙ sym (f q) ∙ ap (λ y. at es (y ∷ q)) (name_same n x e)
       | false ↦ λ e. refl
     ] refl
 
@@ -154,8 +144,8 @@ pub graft_nothing : (f : Path → Option Form) (p : Path) → ((q : Path) → f 
 graft_nothing f [] h q = sym (h q)
 graft_nothing f (n ∷ ns) h [] = refl
 graft_nothing f (n ∷ ns) h (x ∷ q) =
-    elim (is_eq (name_cmp n x)) as (λ c. is_eq (name_cmp n x) ≡ c → cond c (grafted (λ r. f (n ∷ r)) ns (rows None) q) (f (x ∷ q)) ≡ f (x ∷ q)) [
-      | true ↦ λ e. graft_nothing (λ r. f (n ∷ r)) ns (λ r. h r) q ∙ ap (λ y. f (y ∷ q)) (same_name n x e)
+    elim (bytes_eq n x) as (λ c. bytes_eq n x ≡ c → cond c (grafted (λ r. f (n ∷ r)) ns (rows None) q) (f (x ∷ q)) ≡ f (x ∷ q)) [
+      | true ↦ λ e. graft_nothing (λ r. f (n ∷ r)) ns (λ r. h r) q ∙ ap (λ y. f (y ∷ q)) (name_same n x e)
       | false ↦ λ e. refl
     ] refl
 

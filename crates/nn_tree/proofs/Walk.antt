@@ -5,18 +5,18 @@ use Rattle.nn_model.specs.declared.form.Form.{Form}
 use Rattle.nn_model.specs.Namespace.{Path}
 use Rattle.nn_model.specs.declared.form.Form.TheVariants.{Dir}
 use Rattle.nn_tree.specs.At.{at}
-use Rattle.nn_tree.specs.Walks.{walk_fault, parent_fault}
+use Rattle.nn_model.specs.Apply.{walk, in_directory}
 use Rattle.nn_types.specs.declared.edit_fault.EditFault.TheVariants.{Missing}
 
-pub walk_below : (es t : List (Path × Form)) (n : List ℕ) (ns ps : Path) → ps ≡ n ∷ ns → at es [] ≡ Some Dir → ((q : Path) → at es (n ∷ q) ≡ at t q) → walk_fault (at es) ps ≡ walk_fault (at t) ns
+pub walk_below : (es t : List (Path × Form)) (n : List ℕ) (ns ps : Path) → ps ≡ n ∷ ns → at es [] ≡ Some Dir → ((q : Path) → at es (n ∷ q) ≡ at t q) → walk (at es) ps ≡ walk (at t) ns
 walk_below es t n ns ps e top h =
-    ap (walk_fault (at es)) e ∙ ap (λ o. parent_fault o (walk_fault (λ q. at es (n ∷ q)) ns)) top ∙ (λ j. walk_fault (λ q. h q j) ns)
+    ap (walk (at es)) e ∙ ap (λ o. in_directory o (walk (λ q. at es (n ∷ q)) ns)) top ∙ (λ j. walk (λ q. h q j) ns)
 
-pub walk_missing : (es : List (Path × Form)) (n : List ℕ) (rest ps : Path) → ps ≡ n ∷ rest → at es [] ≡ Some Dir → ((q : Path) → at es (n ∷ q) ≡ None) → false ≡ (length rest == 0) → walk_fault (at es) ps ≡ Some Missing
+pub walk_missing : (es : List (Path × Form)) (n : List ℕ) (rest ps : Path) → ps ≡ n ∷ rest → at es [] ≡ Some Dir → ((q : Path) → at es (n ∷ q) ≡ None) → false ≡ (length rest == 0) → walk (at es) ps ≡ Some Missing
 walk_missing es n [] ps e top h z = cc
 walk_missing es n (r ∷ rs) ps e top h z =
-    ap (walk_fault (at es)) e ∙ ap (λ o. parent_fault o (walk_fault (λ q. at es (n ∷ q)) (r ∷ rs))) top
-    ∙ ap (λ o. parent_fault o (walk_fault (λ q. at es (n ∷ (r ∷ q))) rs)) (h [])
+    ap (walk (at es)) e ∙ ap (λ o. in_directory o (walk (λ q. at es (n ∷ q)) (r ∷ rs))) top
+    ∙ ap (λ o. in_directory o (walk (λ q. at es (n ∷ (r ∷ q))) rs)) (h [])
 
 pub same_answer : {X E : Type 0} (r : Result X E) (a b : Option E) → a ≡ b → MatchResult r (λ o. b ≡ None) (λ e. b ≡ Some e) → MatchResult r (λ o. a ≡ None) (λ e. a ≡ Some e)
 same_answer (Ok x) a b e h = e ∙ h
@@ -35,5 +35,5 @@ if_some_too None f p = tt
 if_some_too (Some x) f p = f x p
 
 -- a path of one name
-pub walk_last : (es : List (Path × Form)) (n : List ℕ) (ps : Path) → ps ≡ n ∷ [] → at es [] ≡ Some Dir → walk_fault (at es) ps ≡ None
-walk_last es n ps e top = ap (walk_fault (at es)) e ∙ ap (λ o. parent_fault o None) top
+pub walk_last : (es : List (Path × Form)) (n : List ℕ) (ps : Path) → ps ≡ n ∷ [] → at es [] ≡ Some Dir → walk (at es) ps ≡ None
+walk_last es n ps e top = ap (walk (at es)) e ∙ ap (λ o. in_directory o None) top

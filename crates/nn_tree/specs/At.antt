@@ -1,21 +1,10 @@
 -- What a list of paths has at a path.
-use Rattle.std.specs.Prelude.{◌≡◌, ℕ, List, [], ◌∷◌, ◌++◌, map, cond, Option, Some, None}
-use Rattle.std.specs.declared.cmp.Ordering.{Ordering}
-use Rattle.std.specs.Ordering.{nat_cmp, is_eq}
-use Rattle.std.specs.Cmp.Lexicographic.{slice_cmp}
+use Rattle.std.specs.Prelude.{◌≡◌, List, [], ◌∷◌, ◌++◌, map, cond, Option, Some, None, bytes_eq}
 use Rattle.std.specs.FinMap.{find}
 use Rattle.std.specs.String.{string_bytes}
 use Rattle.std.specs.declared.string.String.{String}
 use Rattle.nn_model.specs.declared.form.Form.{Form}
-use Rattle.nn_model.specs.Namespace.{Path}
-
--- names by bytes
-abbrev pub name_cmp : List ℕ → List ℕ → Ordering
-name_cmp = slice_cmp nat_cmp
-
--- paths as lists of names
-abbrev pub path_cmp : Path → Path → Ordering
-path_cmp = slice_cmp name_cmp
+use Rattle.nn_model.specs.Namespace.{Path, path_cmp}
 
 -- the row at the path p
 abbrev pub at : List (Path × Form) → Path → Option Form
@@ -38,7 +27,7 @@ IsSubtree es p o = (q : Path) → at es (p ++ q) ≡ rows o q
 abbrev pub grafted : (Path → Option Form) → Path → (Path → Option Form) → Path → Option Form
 grafted f [] g q = g q
 grafted f (n ∷ ns) g [] = f []
-grafted f (n ∷ ns) g (m ∷ q) = cond (is_eq (name_cmp n m)) (grafted (λ r. f (n ∷ r)) ns g q) (f (m ∷ q))
+grafted f (n ∷ ns) g (m ∷ q) = cond (bytes_eq n m) (grafted (λ r. f (n ∷ r)) ns g q) (f (m ∷ q))
 
 -- new is old with o at the path p in place of what stood there, and below it
 abbrev pub IsGrafted : List (Path × Form) → Path → Option (List (Path × Form)) → List (Path × Form) → Type 0

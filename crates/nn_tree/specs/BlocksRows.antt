@@ -6,7 +6,7 @@ use Rattle.std.proofs.Common.{ap, arith}
 use Rattle.nn_types.specs.declared.block.Block.{Block}
 use Rattle.nn_model.specs.declared.form.Form.{Form}
 use Rattle.nn_model.specs.declared.form.Form.TheVariants.{File}
-use Rattle.nn_model.specs.Namespace.{Namespace, with_row}
+use Rattle.nn_model.specs.Namespace.{Issued, Namespace, with_row}
 use Rattle.nn_model.specs.Blocks.{block_row}
 use Rattle.nn_tree.specs.declared.index.BlockRow.{BlockRow}
 use Rattle.nn_tree.specs.Restore.{bare}
@@ -21,9 +21,12 @@ second = record { id = 1073741826; stamp = 1002; len = 9 }
 abbrev file : Bool → Block → Form
 file closed block = File (record { replication = 3; closed = closed; blocks = block ∷ [] })
 
+abbrev issued : Issued
+issued = record { last_block = 1073741826; last_stamp = 1002; awaiting = [] }
+
 -- /a is closed and has the second block, /b is open and has the first one
 abbrev files : Namespace
-files = with_row (with_row (bare 1073741826 1002 []) (codes "a" ∷ []) (file true second)) (codes "b" ∷ []) (file false first)
+files = with_row (with_row (bare issued) (codes "a" ∷ []) (file true second)) (codes "b" ∷ []) (file false first)
 
 abbrev row : Bool → Block → BlockRow
 row closed block = record { block = block; closed = closed }
@@ -58,5 +61,5 @@ is_closed (Some r) = r.closed
 closed_told_as_open : AreBlocks files (row false first ∷ row false second ∷ []) → ⊥
 closed_told_as_open r = both_ways false refl (ap is_closed (r.all 1073741826))
 
-one_too_many : AreBlocks (bare 1073741826 1002 []) (row false first ∷ []) → ⊥
+one_too_many : AreBlocks (bare issued) (row false first ∷ []) → ⊥
 one_too_many r = let found = r.all 1073741825 in cc

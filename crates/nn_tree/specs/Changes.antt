@@ -5,11 +5,11 @@ use Rattle.nn_model.specs.declared.form.Form.{Form}
 use Rattle.nn_model.specs.declared.form.Form.TheVariants.{File}
 use Rattle.nn_model.specs.declared.form.FileRow.{FileRow}
 use Rattle.nn_model.specs.Namespace.{Path}
-use Rattle.nn_model.specs.Apply.{keeps_ids, keeps_stamps}
+use Rattle.nn_model.specs.Apply.{walk, keeps_ids, keeps_stamps}
 use Rattle.nn_tree.specs.declared.touched.Touched.{Touched as Told}
 use Rattle.nn_tree.specs.At.{at, IsSubtree, IsGrafted}
 use Rattle.nn_tree.specs.Touched.{shown}
-use Rattle.nn_tree.specs.Walks.{walk_fault, mkdir_fault}
+use Rattle.nn_tree.specs.Walks.{mkdir_fault}
 
 -- nothing stood at the path p or below it, and now t does
 abbrev pub IsMade : List (Path × Form) → Path → List (Path × Form) → List (Path × Form) → Type 0
@@ -18,7 +18,7 @@ IsMade old p t new = (mkdir_fault (at old) p ≡ None) × IsSubtree old p None �
 -- a file x stood at the path p, and now y stands there, where x and y are as R says
 abbrev pub IsFileChanged : List (Path × Form) → Path → List (Path × Form) → (FileRow → FileRow → Type 0) → Type 0
 IsFileChanged old p new R =
-    (x : FileRow) × (y : FileRow) × (walk_fault (at old) p ≡ None) × IsSubtree old p (Some (([], File x) ∷ [])) × IsGrafted old p (Some (([], File y) ∷ [])) new × R x y
+    (x : FileRow) × (y : FileRow) × (walk (at old) p ≡ None) × IsSubtree old p (Some (([], File x) ∷ [])) × IsGrafted old p (Some (([], File y) ∷ [])) new × R x y
 
 -- the open file x got the block b at its end
 abbrev pub GetsBlock : Block → FileRow → FileRow → Type 0

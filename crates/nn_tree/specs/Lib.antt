@@ -3,7 +3,9 @@ pub mod Falls
 pub mod At
 pub mod Walks
 pub mod Changes
+pub mod Does
 pub mod Ids
+pub mod Issued
 pub mod View
 pub mod Found
 pub mod Touched

@@ -1,10 +1,10 @@
--- What a namespace is built of, path by path: the root alone with its numbers, and which path may be restored.
+-- What a namespace is built of, path by path: the root alone with what was issued, and which path may be restored.
 use Rattle.std.specs.Prelude.{ℕ, ◌+◌, Bool, true, not, ◌&&◌, List, [], ◌∷◌, ◌++◌, map, is_some, nat_le, nat_lt}
 use Rattle.std.specs.List.{list_all}
 use Rattle.nn_types.specs.declared.block.Block.{Block}
 use Rattle.nn_model.specs.declared.form.Form.{Form}
 use Rattle.nn_model.specs.declared.form.Form.TheVariants.{Dir, File}
-use Rattle.nn_model.specs.Namespace.{Path, Namespace, lookup, all_blocks, no_block, no_stamp}
+use Rattle.nn_model.specs.Namespace.{Path, Issued, Namespace, lookup, all_blocks, no_block, no_stamp}
 use Rattle.nn_model.specs.Apply.{has_id, is_dir}
 
 -- the path of the directory that holds this one. The root has none
@@ -13,9 +13,9 @@ parent_of [] = []
 parent_of (name ∷ []) = []
 parent_of (name ∷ next ∷ p) = name ∷ parent_of (next ∷ p)
 
--- the root alone, with these numbers
-abbrev pub bare : ℕ → ℕ → List ℕ → Namespace
-bare last_block last_stamp awaiting = record { rows = ([], Dir) ∷ []; last_block = last_block; last_stamp = last_stamp; awaiting = awaiting }
+-- the root alone, where this was issued
+abbrev pub bare : Issued → Namespace
+bare issued = record { rows = ([], Dir) ∷ []; issued = issued }
 
 -- ---- Which ids may await.
 
@@ -38,8 +38,9 @@ abbrev pub replication_fits : ℕ → Bool
 replication_fits r = nat_le 1 r && nat_le r 512
 
 -- a block's id was issued and awaits no more, and its generation stamp was issued
-abbrev pub block_fits : Namespace → Block → Bool
-block_fits n b = is_issued n.last_block b.id && not (has_id n.awaiting b.id) && nat_le (no_stamp + 1) b.stamp && nat_le b.stamp n.last_stamp
+abbrev pub block_fits : Issued → Block → Bool
+block_fits issued b =
+    is_issued issued.last_block b.id && not (has_id issued.awaiting b.id) && nat_le (no_stamp + 1) b.stamp && nat_le b.stamp issued.last_stamp
 
 -- no block id stands twice
 abbrev pub once : List Block → Bool
@@ -49,7 +50,7 @@ once (b ∷ bs) = not (has_id (map (λ c. c.id) bs) b.id) && once bs
 -- the replication and the blocks of a file that is to stand in the namespace
 abbrev pub form_fits : Namespace → Form → Bool
 form_fits n Dir = true
-form_fits n (File file) = replication_fits file.replication && list_all (block_fits n) file.blocks && once (all_blocks n ++ file.blocks)
+form_fits n (File file) = replication_fits file.replication && list_all (block_fits n.issued) file.blocks && once (all_blocks n ++ file.blocks)
 
 -- what may stand at a path where nothing stands yet: its parent is a directory
 abbrev pub row_fits : Namespace → Path → Form → Bool

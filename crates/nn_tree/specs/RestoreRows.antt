@@ -14,7 +14,7 @@ b = codes "b"
 
 -- the ids up to 1073741830 were issued, of which 1073741826 awaits, and the stamps up to 1005
 abbrev start : Namespace
-start = bare 1073741830 1005 (1073741826 ∷ [])
+start = bare (record { last_block = 1073741830; last_stamp = 1005; awaiting = 1073741826 ∷ [] })
 
 abbrev block : ℕ → ℕ → Block
 block id stamp = record { id = id; stamp = stamp; len = 0 }

@@ -3,14 +3,14 @@ use Rattle.std.specs.Prelude.{◌≡◌, ℕ, Bool, false, List, [], ◌∷◌, 
 use Rattle.nn_types.specs.declared.block.Block.{Block}
 use Rattle.nn_model.specs.declared.form.Form.{Form}
 use Rattle.nn_model.specs.declared.form.Form.TheVariants.{Dir, File}
-use Rattle.nn_model.specs.Namespace.{Path, Namespace, lookup, blocks_of}
+use Rattle.nn_model.specs.Namespace.{Path, Issued, Namespace, lookup, blocks_of}
 use Rattle.nn_model.specs.Apply.{in_path_order}
 use Rattle.nn_model.specs.WellFormed.{Has, IsWellFormed}
 use Rattle.nn_tree.specs.declared.index.BlockRow.{BlockRow}
 
--- the namespace of a tree's paths
-abbrev pub seen : List (Path × Form) → ℕ → ℕ → List ℕ → Namespace
-seen es last_block last_stamp awaiting = record { rows = in_path_order es; last_block = last_block; last_stamp = last_stamp; awaiting = awaiting }
+-- the namespace of a tree's paths, and of what was issued
+abbrev pub seen : List (Path × Form) → Issued → Namespace
+seen es issued = record { rows = in_path_order es; issued = issued }
 
 -- whether it is a closed file
 abbrev pub closed_of : Form → Bool

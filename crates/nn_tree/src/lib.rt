@@ -12,6 +12,7 @@
 mod fault;
 mod found;
 mod index;
+mod issued;
 mod listing;
 mod namespace;
 mod touched;

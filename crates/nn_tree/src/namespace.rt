@@ -1,8 +1,8 @@
 //! The namespace: a directory tree, seen as its rows in path order, and an index of the blocks in its files.
-ghost use Rattle.std.specs.Prelude.{◌≡◌, OnOk, OnErr, IfOk, IfErr, IfSome, IsErrOf, None, Ok, true, option_map, nat_le, length};
+ghost use Rattle.std.specs.Prelude.{◌≡◌, OnOk, OnErr, IfOk, IfErr, IfSome, IsErrOf, None, Ok, true, option_map, length};
 ghost use Rattle.nn_types.specs.LawfulEdit.{IsLawfulEdit};
 ghost use Rattle.nn_types.specs.Block.{AreBlocks};
-ghost use Rattle.nn_model.specs.Namespace.{root_alone, no_block, no_stamp, lookup};
+ghost use Rattle.nn_model.specs.Namespace.{root_alone, lookup};
 ghost use Rattle.nn_model.specs.Apply.{applied, refusal};
 ghost use Rattle.nn_types.specs.EditFault.{IsFault};
 ghost use Rattle.nn_model.specs.Status.{block_at, status_of};
@@ -22,20 +22,15 @@ mod restore;
 
 use crate::found::Found;
 use crate::index::BlockRow;
+use crate::issued::Issued;
 use crate::listing::{Copies, Extent, ListFault, PathRow, RowSink};
 use crate::touched::Touched;
 use crate::tree::Tree;
 pub use blocks::BlockRows;
 use nn_types::{Block, BlockId, Edit, EditFault, GenerationStamp, Path, Status};
 use std::alloc::{AllocError, Global};
-use std::collections::{BTreeMap, BTreeSet};
+use std::collections::BTreeMap;
 use std::marker::Model;
-
-/// The last id before the first one that a log issues.
-const NO_BLOCK: u64 = 1_073_741_824;
-
-/// The last generation stamp before the first one that a log issues.
-const NO_STAMP: u64 = 1000;
 
 /// A namespace. Contracts see it as the definition's own record.
 #[derive(Drop)]
@@ -43,10 +38,7 @@ pub struct Namespace {
     root: Tree,
     // The blocks of all files by id. No row names a path, so that a rename changes none.
     index: BTreeMap<u64, BlockRow>,
-    // The ids that were issued and that no file has got yet.
-    waiting: BTreeSet<u64>,
-    last_block: BlockId,
-    last_stamp: GenerationStamp,
+    issued: Issued,
     alloc: Global,
 }
 
@@ -58,9 +50,9 @@ impl Model for Namespace {
 
     ghost Value = { Seen };
 
-    ghost view = { λ a. seen a.root a.last_block a.last_stamp a.waiting.keys };
+    ghost view = { λ a. seen a.root a.issued };
 
-    ghost invariant = { λ a. IsKept (seen a.root a.last_block a.last_stamp a.waiting.keys) (λ id. get nat_cmp a.index id) };
+    ghost invariant = { λ a. IsKept (seen a.root a.issued) (λ id. get nat_cmp a.index id) };
 }
 
 impl Namespace {
@@ -71,9 +63,7 @@ impl Namespace {
         Namespace {
             root: Tree::new_dir(alloc),
             index: BTreeMap::new(alloc),
-            waiting: BTreeSet::new(alloc),
-            last_block: no_block(),
-            last_stamp: no_stamp(),
+            issued: Issued::new(alloc),
             alloc,
         }
     }
@@ -208,14 +198,13 @@ impl Namespace {
     pub fn status(&self, id: BlockId) -> Status
         ensures { result ≡ status_of self.now id }
     {
-        let key = id.get();
-        if let Some(row) = self.index.get(&key) {
+        if let Some(row) = self.index.get(&id.get()) {
             return Status::Named(row.block.stamp);
         }
-        if self.waiting.contains(&key) {
+        if self.issued.awaits(id) {
             return Status::Awaiting;
         }
-        if was_issued(self.last_block, id) {
+        if self.issued.has_block(id) {
             return Status::Retired;
         }
         Status::Unnamed
@@ -223,49 +212,24 @@ impl Namespace {
 
     /// The ids that were issued and that no file has got yet, ascending.
     pub fn awaiting(&self, alloc: Global) -> Result<Vec<BlockId>, AllocError>
-        ensures { IfOk result (λ ids. ids.items ≡ self.now.awaiting) }
+        ensures { IfOk result (λ ids. ids.items ≡ self.now.issued.awaiting) }
     {
-        let mut ids = Vec::new(alloc);
-        for key in self.waiting.iter() {
-            let Some(id) = BlockId::new(*key) else {
-                unreachable!()
-            };
-            ids.push(id)?;
-        }
-        Ok(ids)
+        self.issued.awaiting(alloc)
     }
 
     /// The last block id that the log issued.
     pub fn last_block(&self) -> BlockId
-        ensures { result ≡ self.now.last_block }
+        ensures { result ≡ self.now.issued.last_block }
     {
-        self.last_block
+        self.issued.last_block()
     }
 
     /// The last generation stamp that the log issued.
     pub fn last_stamp(&self) -> GenerationStamp
-        ensures { result ≡ self.now.last_stamp }
+        ensures { result ≡ self.now.issued.last_stamp }
     {
-        self.last_stamp
+        self.issued.last_stamp()
     }
-}
-
-fn no_block() -> BlockId
-    ensures { result ≡ no_block }
-{
-    BlockId::new(NO_BLOCK).unwrap()
-}
-
-fn no_stamp() -> GenerationStamp
-    ensures { result ≡ no_stamp }
-{
-    GenerationStamp::new(NO_STAMP).unwrap()
-}
-
-fn was_issued(last: BlockId, id: BlockId) -> bool
-    ensures { result ≡ nat_le id last }
-{
-    id <= last
 }
 
 // The paths and numbers of an edit keep their limits. This does nothing.

@@ -1,6 +1,7 @@
 //! A directory tree, seen as the list of its paths with what stands there. It knows no ids and no index.
 ghost use Rattle.std.specs.Prelude.{◌≡◌, [], ◌∷◌, ◌++◌, ◌&&◌, nat_lt, OnOk, OnErr, ◌+◌, ◌<◌, length, IsSome, is_some, Some, None, true, MatchResult, IfOk, IfErr, IfSome};
-ghost use Rattle.nn_tree.specs.Walks.{file_fault, walk_fault, mkdir_fault, delete_fault, rename_fault, starts_with, IsRenamed};
+ghost use Rattle.nn_tree.specs.Walks.{file_fault, mkdir_fault, delete_fault, rename_fault, IsRenamed};
+ghost use Rattle.nn_model.specs.Apply.{walk};
 ghost use Rattle.std.specs.String.{string_bytes};
 ghost use Rattle.std.specs.Option.{option_copied};
 ghost use Rattle.nn_model.specs.declared.form.Form.TheVariants.{Dir, File};
@@ -10,7 +11,7 @@ ghost use Rattle.nn_tree.specs.Flat.{under_all};
 ghost use Rattle.nn_tree.specs.Listing.{lent_names, Took, StopsIn};
 ghost use Rattle.nn_tree.specs.Found.{form_of};
 ghost use Rattle.std.specs.FinMap.Entries.{is_sorted};
-ghost use Rattle.nn_model.specs.Namespace.{path_cmp};
+ghost use Rattle.nn_model.specs.Namespace.{path_cmp, begins_with};
 ghost use Rattle.nn_tree.specs.At.{at, IsSubtree, IsGrafted, IsSame};
 ghost use Rattle.nn_tree.specs.Changes.{IsMade};
 
@@ -197,7 +198,7 @@ impl Tree {
     /// Takes out what stands at the path.
     pub(crate) fn take(&mut self, alloc: Global, names: &Names<'_>) -> Option<Tree>
         requires { 0 < length names.now }
-        ensures walked { IfSome result (λ t. walk_fault (at self.old) names.now ≡ None) }
+        ensures walked { IfSome result (λ t. walk (at self.old) names.now ≡ None) }
         ensures taken { IsSubtree self.old names.now result }
         ensures gone { IsGrafted self.old names.now None self.new }
     {
@@ -253,7 +254,7 @@ impl Tree {
 
     /// Walks the parents of a path, and then gives what stands at it.
     pub(crate) fn reach(&self, names: &Names<'_>) -> Result<Option<&Tree>, EditFault>
-        ensures walked { MatchResult result (λ o. walk_fault (at self.now) names.now ≡ None) (λ e. walk_fault (at self.now) names.now ≡ Some e) }
+        ensures walked { MatchResult result (λ o. walk (at self.now) names.now ≡ None) (λ e. walk (at self.now) names.now ≡ Some e) }
         ensures found { IfOk result (λ o. IsSubtree self.now names.now (option_copied o)) }
         ensures present { IfOk result (λ o. is_some (at self.now names.now) ≡ is_some o) }
     {
@@ -470,7 +471,7 @@ impl Tree {
 
 // Whether the path begins with the prefix.
 fn begins_with(names: &Names<'_>, prefix: &Names<'_>) -> bool
-    ensures { result ≡ starts_with prefix.now names.now }
+    ensures { result ≡ begins_with prefix.now names.now }
 {
     let Some((p, ps)) = prefix.split_first() else {
         return true;
@@ -486,7 +487,7 @@ fn begins_with(names: &Names<'_>, prefix: &Names<'_>) -> bool
 
 // Whether the path lies below the prefix: begins with it, and goes on.
 fn lies_below(names: &Names<'_>, prefix: &Names<'_>) -> bool
-    ensures { result ≡ (starts_with prefix.now names.now && nat_lt (length prefix.now) (length names.now)) }
+    ensures { result ≡ (begins_with prefix.now names.now && nat_lt (length prefix.now) (length names.now)) }
 {
     let Some((p, ps)) = prefix.split_first() else {
         return !names.is_empty();

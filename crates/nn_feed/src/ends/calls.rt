@@ -1,10 +1,10 @@
 // The calls of the two ends.
-ghost use Rattle.std.specs.Prelude.{◌≡◌, ◌+◌, ◌<◌, [], ◌∷◌, ◌++◌, length, IfOk, IfErr, OnOk};
-ghost use Rattle.nn_segment.specs.Source.{is_end};
-ghost use Rattle.nn_feed.specs.Ends.{put_by, got_by, IsSameFeeder, AreOfOneFeed, Refuses, IsMet};
-ghost use Rattle.nn_feed.specs.Feeds.{placed};
+ghost use Rattle.std.specs.Prelude.{◌≡◌, ◌+◌, ◌<◌, [], ◌∷◌, ◌++◌, length, Ok, Err, IfOk, IfErr, OnOk};
+ghost use Rattle.nn_feed.specs.Ends.{put_by, got_by, IsSameFeeder, AreOfOneFeed, Refuses, GivesWhatIsFed, IsMet};
+ghost use Rattle.nn_feed.specs.Feeds.{placed, has_last, is_last};
+ghost use Rattle.nn_feed.specs.Passes.{ended_by, as_answer};
 
-use super::{FeedEnd, Feeder};
+use super::{Ending, FeedEnd, Feeder};
 use crate::fault::Refusal;
 use crate::rule::{Gets, InOrder, Log, Placed, Puts, Roles, Whole};
 use crossbeam_channel::{SendError, bounded_with};
@@ -13,13 +13,13 @@ use std::alloc::{AllocError, Global};
 use std::sync::Wait;
 use std::thread;
 
-// So many items lie in a feed at most.
+// So many answers lie in a feed at most.
 const CAPACITY: usize = 4;
 
 // No feed carries more segments.
 const MOST: u64 = 1 << 60;
 
-/// The two ends of a new feed, which holds at most four items at a time. No other call takes memory.
+/// The two ends of a new feed, which holds at most four answers at a time. No other call takes memory.
 pub fn feed<'a, R: Wait>(rt: &'a R, alloc: Global) -> Result<(Feeder, FeedEnd<'a, R>), AllocError>
     ensures one_feed { IfOk result (λ ends. AreOfOneFeed ends.0 ends.1) }
     ensures empty { IfOk result (λ ends. (put_by ends.0 ≡ []) × (got_by ends.1 ≡ [])) }
@@ -38,48 +38,94 @@ pub fn feed<'a, R: Wait>(rt: &'a R, alloc: Global) -> Result<(Feeder, FeedEnd<'a
         rt,
         receiver,
         pass: other,
-        ended: false,
+        ending: None,
         failures: 0,
     };
     Ok((feeder, end))
 }
 
-fn is_end(item: &Item) -> bool
-    ensures { result ≡ is_end item.now }
+// Whether nothing follows this answer.
+fn is_last(answer: &Result<Item, SourceFault>) -> bool
+    ensures { result ≡ is_last answer.now }
 {
-    matches!(item, Item::End)
+    match answer {
+        Ok(Item::Segment(_)) => false,
+        Ok(Item::End) => true,
+        Err(_) => true,
+    }
+}
+
+// How this answer ends its source.
+fn ended_by(answer: &Result<Item, SourceFault>) -> Option<Ending>
+    ensures { result ≡ ended_by answer.now }
+{
+    match answer {
+        Ok(Item::Segment(_)) => None,
+        Ok(Item::End) => Some(Ending::End),
+        Err(fault) => Some(Ending::Fault(*fault)),
+    }
+}
+
+// The answer that ended it so.
+fn again(ending: Ending) -> Result<Item, SourceFault>
+    ensures { result ≡ as_answer ending }
+{
+    match ending {
+        Ending::End => Ok(Item::End),
+        Ending::Fault(fault) => Err(fault),
+    }
 }
 
 impl Feeder {
-    /// Puts one item behind the others. Where the feed holds four, it waits until one is got, or the other end is gone.
+    /// Puts one item behind the others. Where the feed holds four answers, it waits until one is got, or the other end is
+    /// gone.
     ///
-    /// 45 once End was put, and for a segment behind 2^60 of them; then 46 where the other end is gone. After a refusal
-    /// what was put is as it was, and the item comes back. An item that was put may still never be got.
+    /// 45 once End or a fault was put, and for a segment behind 2^60 of them; then 46 where the other end is gone. After a
+    /// refusal what was put is as it was, and the item comes back. An item that was put may still never be got.
     pub fn put<R: Wait>(&mut self, rt: &R, item: Item) -> Result<(), Refusal>
         ensures same { IsSameFeeder self.old self.new }
-        ensures ok { OnOk result (put_by self.new ≡ put_by self.old ++ placed item (length (put_by self.old)) ∷ []) }
-        ensures refused { IfErr result (λ e. (put_by self.new ≡ put_by self.old) × Refuses (put_by self.old) item e) }
+        ensures ok { OnOk result (put_by self.new ≡ put_by self.old ++ placed (Ok item) (length (put_by self.old)) ∷ []) }
+        ensures refused { IfErr result (λ e. (put_by self.new ≡ put_by self.old) × Refuses (put_by self.old) (Ok item) e) }
     {
-        let is_last = is_end(&item);
-        if self.ended || (!is_last && self.count >= MOST) {
-            return Err(Refusal::Ended { item });
+        self.place(rt, Ok(item))
+    }
+
+    /// Tells the other end that the source failed: puts its fault as the last answer. It waits and is refused as an item
+    /// is, but for the number of segments.
+    pub fn fail<R: Wait>(&mut self, rt: &R, fault: SourceFault) -> Result<(), Refusal>
+        ensures same { IsSameFeeder self.old self.new }
+        ensures ok { OnOk result (put_by self.new ≡ put_by self.old ++ placed (Err fault) (length (put_by self.old)) ∷ []) }
+        ensures refused { IfErr result (λ e. (put_by self.new ≡ put_by self.old) × Refuses (put_by self.old) (Err fault) e) }
+    {
+        self.place(rt, Err(fault))
+    }
+
+    // Puts one answer.
+    fn place<R: Wait>(&mut self, rt: &R, answer: Result<Item, SourceFault>) -> Result<(), Refusal>
+        ensures same { IsSameFeeder self.old self.new }
+        ensures ok { OnOk result (put_by self.new ≡ put_by self.old ++ placed answer (length (put_by self.old)) ∷ []) }
+        ensures refused { IfErr result (λ e. (put_by self.new ≡ put_by self.old) × Refuses (put_by self.old) answer e) }
+    {
+        let last = is_last(&answer);
+        if self.ended || (!last && self.count >= MOST) {
+            return Err(Refusal::Ended { answer });
         }
         let message = Placed {
-            item,
+            answer,
             place: self.count,
         };
         match self.sender.send_as::<Puts, R>(rt, &mut self.pass, message) {
             Ok(()) => {
                 self.count += 1;
-                self.ended = is_last;
+                self.ended = last;
                 Ok(())
             }
             Err(SendError::Disconnected(back)) => {
                 let Placed {
-                    item,
+                    answer,
                     place: _place,
                 } = back;
-                Err(Refusal::Gone { item })
+                Err(Refusal::Gone { answer })
             }
             Err(SendError::OutOfMemory(_)) => unreachable!(),
         }
@@ -99,10 +145,39 @@ fn raised<R: Wait>(rt: &R, count: u64) -> u64
     unreachable!()
 }
 
+impl<'a, R: Wait> FeedEnd<'a, R> {
+    /// Whether the source's last answer was got: End, or a fault.
+    pub fn is_at_end(&self) -> bool
+        ensures { result ≡ has_last (got_by self.now) }
+    {
+        self.ending.is_some()
+    }
+
+    // The next answer, not counted where it is a fault.
+    fn ask(&mut self) -> Result<Item, SourceFault>
+        ensures gives { GivesWhatIsFed self.old result self.new }
+        ensures uncounted { self.new.failures ≡ self.old.failures }
+    {
+        if let Some(ending) = self.ending {
+            return again(ending);
+        }
+        let Ok(message) = self.receiver.recv_as::<Gets, R>(self.rt, &mut self.pass) else {
+            return Err(SourceFault::Gone);
+        };
+        let Placed {
+            answer,
+            place: _place,
+        } = message;
+        self.ending = ended_by(&answer);
+        answer
+    }
+}
+
 impl<'a, R: Wait> SegmentSource for FeedEnd<'a, R> {
-    ghost use Rattle.std.specs.Prelude.{◌≡◌, ◌-◌, ◌^◌, true, length};
+    ghost use Rattle.std.specs.Prelude.{◌≡◌, ◌-◌, ◌^◌, length};
+    ghost use Rattle.nn_segment.specs.Source.{end};
     ghost use Rattle.nn_feed.specs.Ends.{got_by, GivesWhatIsFed};
-    ghost use Rattle.nn_feed.specs.Feeds.{has_end};
+    ghost use Rattle.nn_feed.specs.Feeds.{answers_of, EndsIn};
 
     ghost gives = { GivesWhatIsFed };
 
@@ -110,30 +185,21 @@ impl<'a, R: Wait> SegmentSource for FeedEnd<'a, R> {
 
     ghost failures = { λ e. e.failures };
 
-    ghost ended = { λ e. has_end (got_by e) ≡ true };
+    ghost ended = { λ e. EndsIn (answers_of (got_by e)) end };
 
     fn next(&mut self) -> Result<Item, SourceFault> {
-        if self.ended {
-            return Ok(Item::End);
-        }
-        match self.receiver.recv_as::<Gets, R>(self.rt, &mut self.pass) {
-            Ok(message) => {
-                let Placed {
-                    item,
-                    place: _place,
-                } = message;
-                self.ended = is_end(&item);
-                Ok(item)
-            }
-            Err(_) => {
+        match self.ask() {
+            Ok(item) => Ok(item),
+            Err(fault) => {
                 self.failures = raised(self.rt, self.failures);
-                Err(SourceFault::Gone)
+                Err(fault)
             }
         }
     }
 }
 
-/// Ends a feed, with both ends in one thread: what was got is the front of what was put, and all of it once End was got.
+/// Ends a feed, with both ends in one thread: what was got is the front of what was put, and all of it once its last
+/// answer was got.
 pub fn meet<'a, R: Wait>(feeder: Feeder, end: FeedEnd<'a, R>)
     requires { AreOfOneFeed feeder end }
     ensures { IsMet (put_by feeder) (got_by end.entry) }
@@ -148,7 +214,7 @@ pub fn meet<'a, R: Wait>(feeder: Feeder, end: FeedEnd<'a, R>)
         rt: _,
         receiver,
         pass: other,
-        ended: _,
+        ending: _,
         failures: _,
     } = end;
     sender.absorb::<Roles>(&mut pass, other);

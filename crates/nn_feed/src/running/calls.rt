@@ -3,7 +3,7 @@ ghost use Rattle.std.specs.Prelude.{◌<◌, ◌≤◌};
 ghost use Rattle.nn_feed.specs.Ends.{put_by, IsSameFeeder};
 ghost use Rattle.nn_feed.specs.Running.{Fed, HasRun, OnSourceFault};
 
-use super::{Began, Ran};
+use super::{Began, Ran, Told};
 use crate::ends::Feeder;
 use crate::fault::FeedFault;
 use nn_segment::{Item, SegmentSource};
@@ -48,23 +48,35 @@ pub fn run_feeder<S: SegmentSource, R: Wait>(
     unreachable!()
 }
 
-/// What the thread of a feeder runs: all that its source gives. After a fault it drops the feeder before it returns.
+/// What the thread of a feeder runs: it puts all that its source gives, and then its End or its fault. Where one of these
+/// is refused, it drops the feeder before it returns.
 pub fn run_thread<S: SegmentSource, R: Wait>(rt: &R, source: S, feeder: Feeder) -> Ran<S>
     ensures { HasRun S.gives S.failures source feeder result }
 {
     let mut source = source;
     let mut feeder = feeder;
-    match run_feeder(rt, &mut source, &mut feeder) {
-        Ok(count) => Ran {
-            source,
-            outcome: Ok((count, feeder)),
-        },
-        Err(fault) => {
-            drop(feeder);
-            Ran {
-                source,
-                outcome: Err(fault),
+    let end = match run_feeder(rt, &mut source, &mut feeder) {
+        Ok(count) => Ok(count),
+        Err(FeedFault::Source(fault)) => {
+            if let Err(refusal) = feeder.fail(rt, fault) {
+                drop(feeder);
+                return Ran {
+                    source,
+                    outcome: Err(refusal),
+                };
             }
+            Err(fault)
         }
+        Err(FeedFault::Refused(refusal)) => {
+            drop(feeder);
+            return Ran {
+                source,
+                outcome: Err(refusal),
+            };
+        }
+    };
+    Ran {
+        source,
+        outcome: Ok(Told { feeder, end }),
     }
 }

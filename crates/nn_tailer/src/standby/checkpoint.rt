@@ -9,10 +9,10 @@ ghost use Rattle.nn_tailer.specs.Public.{AreNew};
 ghost use Rattle.nn_tailer.specs.Restart.{IsNewAt, point_of};
 
 use super::{Standby, nothing_kept};
-use crate::hand::Hand;
 use crate::restart::RestartFault;
 use nn_image::{ImageFault, SaveFault, load, save};
 use nn_lane::LaneEnd;
+use nn_segment::Cursor;
 use nn_shadow::Shadow;
 use nn_types::Settings;
 use std::alloc::Global;
@@ -66,7 +66,7 @@ impl Standby {
             shadow,
             ends,
             kept,
-            hand: Hand::empty(),
+            cursor: Cursor::new(alloc),
             stop: None,
             active: false,
         })

@@ -1,66 +1,19 @@
 //! The log: a segment in hand, and the next transaction of it.
-ghost use Rattle.std.specs.Prelude.{◌≡◌, ◌≢◌, ◌<◌, ◌≤◌, ◌∷◌, [], List, MatchBool, IfOk, IfErr};
+ghost use Rattle.std.specs.Prelude.{◌≡◌, ◌≢◌, ◌+◌, ◌^◌, ◌<◌, ◌≤◌, ◌∷◌, [], List, MatchBool, IfOk, IfErr};
 ghost use Rattle.nn_segment.specs.Source.{Answer, Asked};
-ghost use Rattle.nn_tailer.specs.Tailing.{EndsInEnd};
-ghost use Rattle.nn_tailer.specs.Parts.{TakesUp, IsLive, AppliesNext, NotApplied};
+ghost use Rattle.nn_types.specs.declared.fault.TheConstants.{DISORDER};
+ghost use Rattle.nn_tailer.specs.Tailing.{stopping, EndsInEnd};
+ghost use Rattle.nn_tailer.specs.Parts.{IsLive, AppliesNext, NotApplied};
 ghost use Rattle.nn_tailer.specs.Reads.{EditsOn};
 ghost use Rattle.nn_tailer.specs.Steps.{OnceAsked, Edits, OnLogFault, HasSegment};
 
 use super::{Standby, Stepped};
 use crate::fault::StepFault;
-use crate::hand::Hand;
-use nn_segment::{Item, Parsed, SegmentSource};
+use nn_segment::{SegmentSource, TakenUp};
 use nn_shadow::{ApplyFault, Stop};
 use nn_types::{Txid, fault};
 
-// How a segment begins.
-#[derive(Clone, Copy)]
-enum Begins {
-    TooHigh(Stop),
-    Old,
-    New,
-}
-
-// What came of asking the source.
-#[derive(Clone, Copy)]
-enum Asks {
-    Ended,
-    Old,
-    New,
-}
-
 impl Standby {
-    // Takes a segment in hand.
-    fn take_up(&mut self, segment: Parsed) -> Begins
-        requires { IsLive self.old }
-        ensures { TakesUp self.old segment self.new result }
-    {
-        let last = self.shadow.last_txid();
-        let txs = segment.txs();
-        let Some(tx) = txs.first() else {
-            unreachable!();
-        };
-        let below = tx.txid.get() - 1;
-        if below > last {
-            let Some(txid) = Txid::new(last + 1) else {
-                unreachable!();
-            };
-            let stop = Stop {
-                txid,
-                number: fault::DISORDER,
-            };
-            let mark = stop;
-            self.stop = Some(mark);
-            return Begins::TooHigh(stop);
-        }
-        let skip = (last - below) as usize;
-        if skip >= txs.len() {
-            return Begins::Old;
-        }
-        self.hand = Hand::of(segment, skip);
-        Begins::New
-    }
-
     // Applies the next transaction in hand.
     fn apply_next(&mut self) -> Result<Txid, StepFault>
         requires live { IsLive self.old }
@@ -68,13 +21,13 @@ impl Standby {
         ensures ok { IfOk result (λ txid. AppliesNext self.old txid self.new) }
         ensures err { IfErr result (λ fault. NotApplied self.old self.new fault) }
     {
-        let Some(tx) = self.hand.first() else {
+        let Some(tx) = self.cursor.first() else {
             unreachable!();
         };
         let txid = tx.txid;
         match self.shadow.apply(tx) {
             Ok(()) => {
-                self.hand.advance();
+                self.cursor.advance();
                 Ok(txid)
             }
             Err(fault) => match fault {
@@ -99,24 +52,44 @@ impl Standby {
     fn has_none(&self) -> bool
         ensures { MatchBool result (self.now.rest ≡ []) (self.now.rest ≢ []) }
     {
-        self.hand.first().is_none()
+        self.cursor.first().is_none()
+    }
+
+    // Stops where the next transaction is missing.
+    fn stop_at_gap(&mut self) -> Stop
+        requires live { IsLive self.old }
+        requires missing { self.old.shadow.last + 1 < 2 ^ 63 }
+        ensures next { result.txid ≡ self.old.shadow.last + 1 }
+        ensures number { result.number ≡ DISORDER }
+        ensures stops { self.new ≡ stopping self.old result }
+    {
+        let last = self.shadow.last_txid();
+        let Some(txid) = Txid::new(last + 1) else {
+            unreachable!();
+        };
+        let stop = Stop {
+            txid,
+            number: fault::DISORDER,
+        };
+        let mark = stop;
+        self.stop = Some(mark);
+        stop
     }
 
     // Asks the source for the next segment, and takes it in hand.
-    fn ask<S: SegmentSource>(&mut self, source: &mut S) -> Result<Asks, StepFault>
+    fn ask<S: SegmentSource>(&mut self, source: &mut S) -> Result<TakenUp, StepFault>
         requires { IsLive self.old }
         ensures asked { (answer : Answer) × S.gives source.old answer source.new × OnceAsked self.old answer self.new result }
         ensures lower { HasSegment result (S.left source.new < S.left source.old) }
         ensures failed { OnLogFault result (S.failures source.old < S.failures source.new) }
         ensures counted { S.failures source.old ≤ S.failures source.new }
     {
-        match source.next() {
-            Ok(Item::Segment(segment)) => match self.take_up(segment) {
-                Begins::TooHigh(stop) => Err(StepFault::Stopped(stop)),
-                Begins::Old => Ok(Asks::Old),
-                Begins::New => Ok(Asks::New),
-            },
-            Ok(Item::End) => Ok(Asks::Ended),
+        let last = self.shadow.last_txid();
+        match self.cursor.take_up(source, last) {
+            Ok(TakenUp::New) => Ok(TakenUp::New),
+            Ok(TakenUp::Old) => Ok(TakenUp::Old),
+            Ok(TakenUp::Disorder) => Err(StepFault::Stopped(self.stop_at_gap())),
+            Ok(TakenUp::End) => Ok(TakenUp::End),
             Err(fault) => Err(StepFault::LogNotEnded(fault)),
         }
     }
@@ -137,11 +110,12 @@ impl Standby {
             });
         }
         match self.ask(source)? {
-            Asks::Ended => Ok(Stepped::LogEnded),
-            Asks::Old => Ok(Stepped::Passed),
-            Asks::New => Ok(Stepped::Applied {
+            TakenUp::End => Ok(Stepped::LogEnded),
+            TakenUp::Old => Ok(Stepped::Passed),
+            TakenUp::New => Ok(Stepped::Applied {
                 txid: self.apply_next()?,
             }),
+            TakenUp::Disorder => unreachable!(),
         }
     }
 
@@ -166,7 +140,7 @@ impl Standby {
     {
         loop {
             self.apply_rest()?;
-            if let Asks::Ended = self.ask(source)? {
+            if let TakenUp::End = self.ask(source)? {
                 return Ok(());
             }
         }

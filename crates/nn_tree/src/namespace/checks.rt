@@ -1,10 +1,9 @@
 //! Why an edit is refused: the checks of each edit in order, with no memory taken.
-ghost use Rattle.std.specs.Prelude.{◌≡◌, not, ◌||◌, nat_lt, nat_le};
+ghost use Rattle.std.specs.Prelude.{◌≡◌, not, ◌||◌, nat_lt};
 ghost use Rattle.nn_types.specs.declared.edit.Edit.TheVariants as edit;
-ghost use Rattle.nn_model.specs.Namespace.{no_stamp};
 ghost use Rattle.nn_model.specs.Apply.{refusal, first, list_checks, keeps_ids, keeps_stamps};
 
-use super::{NO_STAMP, Namespace};
+use super::Namespace;
 use crate::tree::files::{keeps_ids, keeps_stamps};
 use nn_types::{BlockId, Blocks, EditFault, GenerationStamp, Path, Replication};
 
@@ -43,10 +42,10 @@ impl Namespace {
         if file.closed {
             return Some(EditFault::NotOpen);
         }
-        if !self.waiting.contains(&id.get()) {
+        if !self.issued.awaits(id) {
             return Some(EditFault::BadBlockId);
         }
-        if !is_issued(self.last_stamp, stamp) {
+        if !self.issued.has_stamp(stamp) {
             return Some(EditFault::BadGeneration);
         }
         None
@@ -67,7 +66,7 @@ impl Namespace {
         if !keeps_ids(old, new) {
             return Some(EditFault::WrongBlocks);
         }
-        if !keeps_stamps(self.last_stamp, old, new) {
+        if !keeps_stamps(self.issued.last_stamp(), old, new) {
             return Some(EditFault::BadGeneration);
         }
         None
@@ -108,7 +107,7 @@ impl Namespace {
     pub(super) fn allocate_refusal(&self, id: BlockId) -> Option<EditFault>
         ensures { result ≡ refusal self.now (edit.AllocateBlockId id) }
     {
-        if id <= self.last_block {
+        if self.issued.has_block(id) {
             return Some(EditFault::BadBlockId);
         }
         None
@@ -117,7 +116,7 @@ impl Namespace {
     pub(super) fn set_genstamp_refusal(&self, stamp: GenerationStamp) -> Option<EditFault>
         ensures { result ≡ refusal self.now (edit.SetGenstamp stamp) }
     {
-        if stamp <= self.last_stamp {
+        if stamp <= self.issued.last_stamp() {
             return Some(EditFault::BadGeneration);
         }
         None
@@ -130,11 +129,4 @@ pub(super) fn is_replication(replication: Replication) -> bool
 {
     let replicas = replication.get();
     1 <= replicas && replicas <= 512
-}
-
-// Whether the log has issued the generation stamp, where this is the last one.
-pub(super) fn is_issued(last: GenerationStamp, stamp: GenerationStamp) -> bool
-    ensures { (nat_le stamp no_stamp || nat_lt last stamp) ≡ not result }
-{
-    NO_STAMP < stamp.get() && stamp <= last
 }

@@ -3,13 +3,14 @@
 ghost use Rattle.std.specs.Prelude.{◌≡◌, ◌≢◌, None, OnOk, OnErr, IfOk, false, []};
 ghost use Rattle.nn_types.specs.declared.edit.Edit.TheVariants as edit;
 ghost use Rattle.nn_types.specs.LawfulEdit.{IsLawfulEdit};
-ghost use Rattle.nn_model.specs.Apply.{refusal, effect, first, list_checks, with_blocks};
-ghost use Rattle.nn_model.specs.Touched.{touched, listed};
+ghost use Rattle.nn_model.specs.Apply.{refusal, first, list_checks, with_blocks};
+ghost use Rattle.nn_model.specs.Touched.{listed};
+ghost use Rattle.nn_tree.specs.Does.{Does};
 ghost use Rattle.nn_tree.specs.Memory.{takes_memory};
 ghost use Rattle.nn_tree.specs.Touched.{shown};
 
 use super::Namespace;
-use super::checks::{is_issued, is_replication};
+use super::checks::is_replication;
 use crate::index::{BlockRow, forget, renew};
 use crate::touched::{Touched, empty_block};
 use crate::tree::{Tree, Unchanged};
@@ -21,10 +22,7 @@ impl Namespace {
     // Makes the change of an edit, if it applies.
     pub(super) fn change(&mut self, edit: &Edit) -> Result<Touched, Unchanged>
         requires lawful { IsLawfulEdit edit.now }
-        ensures applies { OnOk result (refusal self.old edit.now ≡ None) }
-        ensures ok { OnOk result (self.new ≡ effect self.old edit.now) }
-        ensures touched { IfOk result (λ t. shown t ≡ touched self.old edit.now) }
-        ensures err { OnErr result (self.new ≡ self.old) }
+        ensures does { Does edit.now self.old result self.new }
         ensures spare { OnErr result (takes_memory edit.now ≡ false → refusal self.old edit.now ≢ None) }
     {
         match edit {
@@ -44,10 +42,7 @@ impl Namespace {
 
     pub(super) fn mkdir(&mut self, path: &Path) -> Result<Touched, Unchanged>
         requires lawful { IsLawfulEdit (edit.Mkdir path.now) }
-        ensures applies { OnOk result (refusal self.old (edit.Mkdir path.now) ≡ None) }
-        ensures ok { OnOk result (self.new ≡ effect self.old (edit.Mkdir path.now)) }
-        ensures touched { IfOk result (λ t. shown t ≡ touched self.old (edit.Mkdir path.now)) }
-        ensures err { OnErr result (self.new ≡ self.old) }
+        ensures { Does (edit.Mkdir path.now) self.old result self.new }
     {
         let Ok(()) = self
             .root
@@ -60,10 +55,7 @@ impl Namespace {
 
     fn add(&mut self, path: &Path, replication: Replication) -> Result<Touched, Unchanged>
         requires lawful { IsLawfulEdit (edit.Add path.now replication) }
-        ensures applies { OnOk result (refusal self.old (edit.Add path.now replication) ≡ None) }
-        ensures ok { OnOk result (self.new ≡ effect self.old (edit.Add path.now replication)) }
-        ensures touched { IfOk result (λ t. shown t ≡ touched self.old (edit.Add path.now replication)) }
-        ensures err { OnErr result (self.new ≡ self.old) }
+        ensures { Does (edit.Add path.now replication) self.old result self.new }
     {
         if !is_replication(replication) {
             return Err(Unchanged);
@@ -85,20 +77,17 @@ impl Namespace {
         stamp: GenerationStamp,
     ) -> Result<Touched, Unchanged>
         requires lawful { IsLawfulEdit (edit.AddBlock path.now id stamp) }
-        ensures applies { OnOk result (refusal self.old (edit.AddBlock path.now id stamp) ≡ None) }
-        ensures ok { OnOk result (self.new ≡ effect self.old (edit.AddBlock path.now id stamp)) }
-        ensures touched { IfOk result (λ t. shown t ≡ touched self.old (edit.AddBlock path.now id stamp)) }
-        ensures err { OnErr result (self.new ≡ self.old) }
+        ensures { Does (edit.AddBlock path.now id stamp) self.old result self.new }
     {
         let names = path.names();
         let key = id.get();
         if names.is_empty() {
             return Err(Unchanged);
         }
-        if !self.waiting.contains(&key) {
+        if !self.issued.awaits(id) {
             return Err(Unchanged);
         }
-        if !is_issued(self.last_stamp, stamp) {
+        if !self.issued.has_stamp(stamp) {
             return Err(Unchanged);
         }
         let row = BlockRow {
@@ -115,26 +104,20 @@ impl Namespace {
             let _row = self.index.remove(&key);
             return Err(Unchanged);
         };
-        let _waited = self.waiting.remove(&key);
+        self.issued.give(id);
         Ok(touched)
     }
 
     fn update_blocks(&mut self, path: &Path, blocks: &Blocks) -> Result<Touched, Unchanged>
         requires lawful { IsLawfulEdit (edit.UpdateBlocks path.now blocks.now) }
-        ensures applies { OnOk result (refusal self.old (edit.UpdateBlocks path.now blocks.now) ≡ None) }
-        ensures ok { OnOk result (self.new ≡ effect self.old (edit.UpdateBlocks path.now blocks.now)) }
-        ensures touched { IfOk result (λ t. shown t ≡ touched self.old (edit.UpdateBlocks path.now blocks.now)) }
-        ensures err { OnErr result (self.new ≡ self.old) }
+        ensures { Does (edit.UpdateBlocks path.now blocks.now) self.old result self.new }
     {
         self.set_blocks(path, blocks, false)
     }
 
     fn close(&mut self, path: &Path, blocks: &Blocks) -> Result<Touched, Unchanged>
         requires lawful { IsLawfulEdit (edit.Close path.now blocks.now) }
-        ensures applies { OnOk result (refusal self.old (edit.Close path.now blocks.now) ≡ None) }
-        ensures ok { OnOk result (self.new ≡ effect self.old (edit.Close path.now blocks.now)) }
-        ensures touched { IfOk result (λ t. shown t ≡ touched self.old (edit.Close path.now blocks.now)) }
-        ensures err { OnErr result (self.new ≡ self.old) }
+        ensures { Does (edit.Close path.now blocks.now) self.old result self.new }
     {
         self.set_blocks(path, blocks, true)
     }
@@ -156,7 +139,7 @@ impl Namespace {
         if names.is_empty() {
             return Err(Unchanged);
         }
-        let last_stamp = self.last_stamp;
+        let last_stamp = self.issued.last_stamp();
         let told = self
             .root
             .set_blocks(&names, self.alloc, blocks, closed, last_stamp);
@@ -169,10 +152,7 @@ impl Namespace {
 
     fn rename(&mut self, src: &Path, dst: &Path) -> Result<Touched, Unchanged>
         requires lawful { IsLawfulEdit (edit.Rename src.now dst.now) }
-        ensures applies { OnOk result (refusal self.old (edit.Rename src.now dst.now) ≡ None) }
-        ensures ok { OnOk result (self.new ≡ effect self.old (edit.Rename src.now dst.now)) }
-        ensures touched { IfOk result (λ t. shown t ≡ touched self.old (edit.Rename src.now dst.now)) }
-        ensures err { OnErr result (self.new ≡ self.old) }
+        ensures { Does (edit.Rename src.now dst.now) self.old result self.new }
     {
         let Ok(()) = self.root.rename(self.alloc, &src.names(), &dst.names()) else {
             return Err(Unchanged);
@@ -182,10 +162,7 @@ impl Namespace {
 
     fn delete(&mut self, path: &Path) -> Result<Touched, Unchanged>
         requires lawful { IsLawfulEdit (edit.Delete path.now) }
-        ensures applies { OnOk result (refusal self.old (edit.Delete path.now) ≡ None) }
-        ensures ok { OnOk result (self.new ≡ effect self.old (edit.Delete path.now)) }
-        ensures touched { IfOk result (λ t. shown t ≡ touched self.old (edit.Delete path.now)) }
-        ensures err { OnErr result (self.new ≡ self.old) }
+        ensures { Does (edit.Delete path.now) self.old result self.new }
     {
         let names = path.names();
         if names.is_empty() {
@@ -210,10 +187,7 @@ impl Namespace {
         replication: Replication,
     ) -> Result<Touched, Unchanged>
         requires lawful { IsLawfulEdit (edit.SetReplication path.now replication) }
-        ensures applies { OnOk result (refusal self.old (edit.SetReplication path.now replication) ≡ None) }
-        ensures ok { OnOk result (self.new ≡ effect self.old (edit.SetReplication path.now replication)) }
-        ensures touched { IfOk result (λ t. shown t ≡ touched self.old (edit.SetReplication path.now replication)) }
-        ensures err { OnErr result (self.new ≡ self.old) }
+        ensures does { Does (edit.SetReplication path.now replication) self.old result self.new }
         ensures refused { OnErr result (refusal self.old (edit.SetReplication path.now replication) ≢ None) }
     {
         let names = path.names();
@@ -231,34 +205,27 @@ impl Namespace {
 
     fn allocate(&mut self, id: BlockId) -> Result<Touched, Unchanged>
         requires lawful { IsLawfulEdit (edit.AllocateBlockId id) }
-        ensures applies { OnOk result (refusal self.old (edit.AllocateBlockId id) ≡ None) }
-        ensures ok { OnOk result (self.new ≡ effect self.old (edit.AllocateBlockId id)) }
-        ensures touched { IfOk result (λ t. shown t ≡ touched self.old (edit.AllocateBlockId id)) }
-        ensures err { OnErr result (self.new ≡ self.old) }
+        ensures { Does (edit.AllocateBlockId id) self.old result self.new }
     {
         if self.allocate_refusal(id).is_some() {
             return Err(Unchanged);
         }
-        let Ok(_added) = self.waiting.insert(id.get()) else {
+        let touched = Touched::issued(self.alloc, self.issued.last_block(), id);
+        let Ok(()) = self.issued.allocate(id) else {
             return Err(Unchanged);
         };
-        let touched = Touched::issued(self.alloc, self.last_block, id);
-        self.last_block = id;
         Ok(touched)
     }
 
     fn set_genstamp(&mut self, stamp: GenerationStamp) -> Result<Touched, Unchanged>
         requires lawful { IsLawfulEdit (edit.SetGenstamp stamp) }
-        ensures applies { OnOk result (refusal self.old (edit.SetGenstamp stamp) ≡ None) }
-        ensures ok { OnOk result (self.new ≡ effect self.old (edit.SetGenstamp stamp)) }
-        ensures touched { IfOk result (λ t. shown t ≡ touched self.old (edit.SetGenstamp stamp)) }
-        ensures err { OnErr result (self.new ≡ self.old) }
+        ensures does { Does (edit.SetGenstamp stamp) self.old result self.new }
         ensures refused { OnErr result (refusal self.old (edit.SetGenstamp stamp) ≢ None) }
     {
         if self.set_genstamp_refusal(stamp).is_some() {
             return Err(Unchanged);
         }
-        self.last_stamp = stamp;
+        self.issued.set_stamp(stamp);
         Ok(Touched::nothing(self.alloc))
     }
 }

@@ -5,18 +5,18 @@ ghost use Rattle.nn_types.specs.declared.edit.Edit.TheVariants as edit;
 ghost use Rattle.nn_model.specs.declared.form.Form.TheVariants as form;
 ghost use Rattle.nn_model.specs.Namespace.{with_row, no_block, no_stamp};
 ghost use Rattle.nn_model.specs.Apply.{refusal};
-ghost use Rattle.nn_tree.specs.Restore.{bare, can_restore, awaiting_fits, is_issued, block_fits};
+ghost use Rattle.nn_tree.specs.Restore.{bare, can_restore, awaiting_fits, block_fits};
 
-use super::checks::is_issued;
-use super::{NO_BLOCK, Namespace, lawful_blocks};
+use super::{Namespace, lawful_blocks};
 use crate::fault::RestoreFault;
 use crate::index::{enter, forget};
+use crate::issued::Issued;
 use crate::touched::push_ids;
 use crate::tree::Tree;
 use nn_model::{FileRow, Form};
 use nn_types::{Block, BlockId, GenerationStamp, Path};
 use std::alloc::{AllocError, Global};
-use std::collections::{BTreeMap, BTreeSet};
+use std::collections::BTreeMap;
 
 impl Namespace {
     /// The root alone, with these numbers. The ids await.
@@ -29,17 +29,15 @@ impl Namespace {
         requires low { no_block ≤ last_block }
         requires old { no_stamp ≤ last_stamp }
         requires awaits { awaiting_fits last_block awaiting.now ≡ true }
-        ensures { IfOk result (λ n. n ≡ bare last_block last_stamp awaiting.now) }
+        ensures { IfOk result (λ n. n ≡ bare (record { last_block = last_block; last_stamp = last_stamp; awaiting = awaiting.now })) }
     {
         last_block.get();
         last_stamp.get();
-        let waiting = waiting_set(alloc, last_block, awaiting)?;
+        let issued = Issued::of(alloc, last_block, last_stamp, awaiting)?;
         Ok(Namespace {
             root: Tree::new_dir(alloc),
             index: BTreeMap::new(alloc),
-            waiting,
-            last_block,
-            last_stamp,
+            issued,
             alloc,
         })
     }
@@ -100,7 +98,7 @@ impl Namespace {
     // Makes a file, where only its blocks may still stand elsewhere.
     fn place(&mut self, path: &Path, file: FileRow, ids: &[BlockId]) -> Result<(), RestoreFault>
         requires applies { refusal self.old (edit.Add path.now file.replication) ≡ None }
-        requires fit { list_all (block_fits self.old) file.blocks ≡ true }
+        requires fit { list_all (block_fits self.old.issued) file.blocks ≡ true }
         requires ids { ids.now ≡ map (λ b. b.id) file.blocks }
         ensures ok { OnOk result (self.new ≡ with_row self.old path.now (form.File file)) }
         ensures lawful { OnOk result (can_restore self.old path.now (form.File file) ≡ true) }
@@ -123,43 +121,8 @@ impl Namespace {
 
     // Whether each of the blocks was issued and awaits no more.
     fn may_hold(&self, blocks: &[Block]) -> bool
-        ensures { result ≡ list_all (block_fits self.now) blocks.now }
+        ensures { result ≡ list_all (block_fits self.now.issued) blocks.now }
     {
-        blocks.iter().all(|block| self.may_hold_one(block))
+        blocks.iter().all(|block| self.issued.may_hold(block))
     }
-
-    fn may_hold_one(&self, block: &Block) -> bool
-        ensures { result ≡ block_fits self.now block.now }
-    {
-        if !was_given(self.last_block, block.id) {
-            return false;
-        }
-        if self.waiting.contains(&block.id.get()) {
-            return false;
-        }
-        is_issued(self.last_stamp, block.stamp)
-    }
-}
-
-// Whether the log has issued the block id, where this is the last one.
-fn was_given(last: BlockId, id: BlockId) -> bool
-    ensures { result ≡ is_issued last id }
-{
-    NO_BLOCK < id.get() && id <= last
-}
-
-// The ids as a set.
-fn waiting_set(
-    alloc: Global,
-    last_block: BlockId,
-    ids: &[BlockId],
-) -> Result<BTreeSet<u64>, AllocError>
-    requires { awaiting_fits last_block ids.now ≡ true }
-    ensures { IfOk result (λ set. set.keys ≡ ids.now) }
-{
-    let mut waiting = BTreeSet::new(alloc);
-    for id in ids {
-        let _added = waiting.insert(id.get())?;
-    }
-    Ok(waiting)
 }

@@ -5,7 +5,7 @@ use Rattle.nn_drive.proofs.Steps.{begun_or_not, same_meets, promotion_may_come, 
 use Rattle.nn_drive.proofs.driving.promote.Goals as goal
 
 pub returns-in-Ok-clause-ok : goal.returns-in-Ok-clause-ok
-returns-in-Ok-clause-ok g c = let p = c.in-Ok.ensures.promotes in (p.0, p.1, p.3, (p.4.1, p.4.2), p.4.3, c.in-Ok.ensures.counted, p.5)
+returns-in-Ok-clause-ok g c = let p = c.in-Ok.ensures.promotes in (p.0, p.1, p.3, (p.4.1, p.4.2), p.4.3, c.in-Ok.ensures.counted, p.5, p.4.4 c.requires.serving)
 
 pub fault_of-requires : goal.fault_of-requires
 fault_of-requires g c =

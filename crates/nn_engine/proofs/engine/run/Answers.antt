@@ -7,43 +7,45 @@ use Rattle.nn_engine.proofs.engine.run.Goals as goal
 
 pub returns-in-Err : goal.returns-in-Err
 returns-in-Err g c =
-    let w = writes_unread c.args.options.now false (g.R.Read.remaining c.args.input.now.reader) (g.R.Read.remaining c.read_input.new.input.reader)
-    c.args.input.now.failed c.read_input.new.input.failed c.finish.result (g.W.Write.contents c.args.writer.now) (g.W.Write.contents c.finish.new.writer)
+    let w = writes_unread c.args.options.now false (g.R.Read.remaining c.args.input.now.reader) (g.R.Read.remaining c.read_scenario.new.input.reader)
+    c.args.input.now.failed c.read_scenario.new.input.failed c.finish.result (g.W.Write.contents c.args.writer.now) (g.W.Write.contents c.finish.new.writer)
     c.in-Err.fault c.unread_line.result.now c.in-Err.ensures.why c.unread_line.ensures c.finish.ensures.ok c.finish.ensures.err in
     record { written = w.written; failed = w.failed }
 
-pub returns-in-Ok-output_of-clause-written : goal.returns-in-Ok-output_of-clause-written
-returns-in-Ok-output_of-clause-written g c =
-    let given = running c.args.options.now false (g.R.Read.remaining c.args.input.now.reader) (g.R.Read.remaining c.read_input.new.input.reader)
-    c.args.input.now.failed c.read_input.new.input.failed in
-    let is : IsPrinted false c.args.options.now c.in-Ok.bytes.items (shown c.in-Ok-output_of.output) = c.in-Ok-output_of.ensures in
-    (writes given c.finish-in-Ok-output_of.result (g.W.Write.contents c.args.writer.now) (g.W.Write.contents c.finish-in-Ok-output_of.new.writer)
-    (shown c.in-Ok-output_of.output) _ _ c.deref.ensures.value refl
-    (is_output_of_all given (shown c.in-Ok-output_of.output) c.in-Ok.bytes.items c.in-Ok.ensures.whole c.in-Ok.ensures.end c.in-Ok.ensures.fits c.in-Ok.ensures.none_failed is)
-    c.finish-in-Ok-output_of.ensures.ok c.finish-in-Ok-output_of.ensures.err).written
+pub returns-in-Ok-output_of_lines-clause-written : goal.returns-in-Ok-output_of_lines-clause-written
+returns-in-Ok-output_of_lines-clause-written g c =
+    let given = running c.args.options.now false (g.R.Read.remaining c.args.input.now.reader) (g.R.Read.remaining c.read_scenario.new.input.reader)
+    c.args.input.now.failed c.read_scenario.new.input.failed in
+    let all = c.in-Ok.ensures.whole in
+    let is : IsPrinted false c.args.options.now all.input (shown c.in-Ok-output_of_lines.output) = c.in-Ok-output_of_lines.ensures all.input all.read in
+    (writes given c.finish-in-Ok-output_of_lines.result (g.W.Write.contents c.args.writer.now) (g.W.Write.contents c.finish-in-Ok-output_of_lines.new.writer)
+    (shown c.in-Ok-output_of_lines.output) _ _ c.deref.ensures.value refl
+    (is_output_of_all given (shown c.in-Ok-output_of_lines.output) all.input all.taken c.in-Ok.ensures.end all.fits c.in-Ok.ensures.none_failed is)
+    c.finish-in-Ok-output_of_lines.ensures.ok c.finish-in-Ok-output_of_lines.ensures.err).written
 
-pub returns-in-Ok-output_of-clause-failed : goal.returns-in-Ok-output_of-clause-failed
-returns-in-Ok-output_of-clause-failed g c =
-    let given = running c.args.options.now false (g.R.Read.remaining c.args.input.now.reader) (g.R.Read.remaining c.read_input.new.input.reader)
-    c.args.input.now.failed c.read_input.new.input.failed in
-    let is : IsPrinted false c.args.options.now c.in-Ok.bytes.items (shown c.in-Ok-output_of.output) = c.in-Ok-output_of.ensures in
-    (writes given c.finish-in-Ok-output_of.result (g.W.Write.contents c.args.writer.now) (g.W.Write.contents c.finish-in-Ok-output_of.new.writer)
-    (shown c.in-Ok-output_of.output) _ _ c.deref.ensures.value refl
-    (is_output_of_all given (shown c.in-Ok-output_of.output) c.in-Ok.bytes.items c.in-Ok.ensures.whole c.in-Ok.ensures.end c.in-Ok.ensures.fits c.in-Ok.ensures.none_failed is)
-    c.finish-in-Ok-output_of.ensures.ok c.finish-in-Ok-output_of.ensures.err).failed
+pub returns-in-Ok-output_of_lines-clause-failed : goal.returns-in-Ok-output_of_lines-clause-failed
+returns-in-Ok-output_of_lines-clause-failed g c =
+    let given = running c.args.options.now false (g.R.Read.remaining c.args.input.now.reader) (g.R.Read.remaining c.read_scenario.new.input.reader)
+    c.args.input.now.failed c.read_scenario.new.input.failed in
+    let all = c.in-Ok.ensures.whole in
+    let is : IsPrinted false c.args.options.now all.input (shown c.in-Ok-output_of_lines.output) = c.in-Ok-output_of_lines.ensures all.input all.read in
+    (writes given c.finish-in-Ok-output_of_lines.result (g.W.Write.contents c.args.writer.now) (g.W.Write.contents c.finish-in-Ok-output_of_lines.new.writer)
+    (shown c.in-Ok-output_of_lines.output) _ _ c.deref.ensures.value refl
+    (is_output_of_all given (shown c.in-Ok-output_of_lines.output) all.input all.taken c.in-Ok.ensures.end all.fits c.in-Ok.ensures.none_failed is)
+    c.finish-in-Ok-output_of_lines.ensures.ok c.finish-in-Ok-output_of_lines.ensures.err).failed
 
-pub returns-in-Err-output_of-clause-written : goal.returns-in-Err-output_of-clause-written
-returns-in-Err-output_of-clause-written g c =
-    let given = running c.args.options.now false (g.R.Read.remaining c.args.input.now.reader) (g.R.Read.remaining c.read_input.new.input.reader)
-    c.args.input.now.failed c.read_input.new.input.failed in
-    (writes given c.finish-in-Err-output_of.result (g.W.Write.contents c.args.writer.now) (g.W.Write.contents c.finish-in-Err-output_of.new.writer)
+pub returns-in-Err-output_of_lines-clause-written : goal.returns-in-Err-output_of_lines-clause-written
+returns-in-Err-output_of_lines-clause-written g c =
+    let given = running c.args.options.now false (g.R.Read.remaining c.args.input.now.reader) (g.R.Read.remaining c.read_scenario.new.input.reader)
+    c.args.input.now.failed c.read_scenario.new.input.failed in
+    (writes given c.finish-in-Err-output_of_lines.result (g.W.Write.contents c.args.writer.now) (g.W.Write.contents c.finish-in-Err-output_of_lines.new.writer)
     (fault_alone (codes "55")) _ _ refl refl (is_no_memory given c.in-Ok.ensures.none_failed)
-    c.finish-in-Err-output_of.ensures.ok c.finish-in-Err-output_of.ensures.err).written
+    c.finish-in-Err-output_of_lines.ensures.ok c.finish-in-Err-output_of_lines.ensures.err).written
 
-pub returns-in-Err-output_of-clause-failed : goal.returns-in-Err-output_of-clause-failed
-returns-in-Err-output_of-clause-failed g c =
-    let given = running c.args.options.now false (g.R.Read.remaining c.args.input.now.reader) (g.R.Read.remaining c.read_input.new.input.reader)
-    c.args.input.now.failed c.read_input.new.input.failed in
-    (writes given c.finish-in-Err-output_of.result (g.W.Write.contents c.args.writer.now) (g.W.Write.contents c.finish-in-Err-output_of.new.writer)
+pub returns-in-Err-output_of_lines-clause-failed : goal.returns-in-Err-output_of_lines-clause-failed
+returns-in-Err-output_of_lines-clause-failed g c =
+    let given = running c.args.options.now false (g.R.Read.remaining c.args.input.now.reader) (g.R.Read.remaining c.read_scenario.new.input.reader)
+    c.args.input.now.failed c.read_scenario.new.input.failed in
+    (writes given c.finish-in-Err-output_of_lines.result (g.W.Write.contents c.args.writer.now) (g.W.Write.contents c.finish-in-Err-output_of_lines.new.writer)
     (fault_alone (codes "55")) _ _ refl refl (is_no_memory given c.in-Ok.ensures.none_failed)
-    c.finish-in-Err-output_of.ensures.ok c.finish-in-Err-output_of.ensures.err).failed
+    c.finish-in-Err-output_of_lines.ensures.ok c.finish-in-Err-output_of_lines.ensures.err).failed

@@ -1,5 +1,5 @@
 use Rattle.std.proofs.Common.{sym, ap, ◌∙◌}
-use Rattle.nn_engine.specs.LogLeft.{end_of_left, txs_left}
+use Rattle.nn_segment.specs.LogLeft.{end_of_left, txs_left}
 use Rattle.nn_engine.proofs.FollowLemmas.{one_further, one_turn}
 use Rattle.nn_engine.proofs.follow.follow_log.Goals as goal
 

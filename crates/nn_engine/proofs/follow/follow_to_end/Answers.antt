@@ -1,6 +1,6 @@
 use Rattle.std.proofs.Common.{◌∙◌}
 use Rattle.nn_shadow.specs.Contents.{standby_of}
-use Rattle.nn_engine.specs.LogLeft.{txs_left}
+use Rattle.nn_segment.specs.LogLeft.{txs_left}
 use Rattle.nn_engine.specs.Turns.{all_applied}
 use Rattle.nn_engine.proofs.FollowLemmas.{rest_further, rest_ends}
 use Rattle.nn_engine.proofs.follow.follow_to_end.Goals as goal

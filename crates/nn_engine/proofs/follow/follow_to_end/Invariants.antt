@@ -2,7 +2,7 @@ use Rattle.std.proofs.Common.{◌≡◌, ◌-◌, ◌^◌, Result}
 use Rattle.nn_model.specs.Lanes.{Lanes}
 use Rattle.nn_shadow.specs.Contents.{KeepsSettings, standby_of}
 use Rattle.nn_engine.specs.Follow.{IsOnItsWay, serving}
-use Rattle.nn_engine.specs.LogLeft.{txs_left}
+use Rattle.nn_segment.specs.LogLeft.{txs_left}
 use Rattle.nn_engine.specs.Turns.{all_applied}
 use Rattle.nn_segment.specs.LogEnd.{LogEnd, Stop}
 use Rattle.nn_engine.proofs.follow.follow_to_end.Given as goal

@@ -2,7 +2,7 @@ use Rattle.std.proofs.Common.{◌≡◌, length}
 use Rattle.nn_model.specs.Namespace.{root_alone}
 use Rattle.nn_shadow.specs.Contents.{KeepsSettings, standby_of}
 use Rattle.nn_engine.specs.Follow.{IsFollowing}
-use Rattle.nn_engine.specs.LogLeft.{txs_left}
+use Rattle.nn_segment.specs.LogLeft.{txs_left}
 use Rattle.nn_engine.specs.Turns.{in_turn}
 use Rattle.nn_segment.specs.LogEnd.{end_of_log}
 use Rattle.nn_scenario.specs.Steps.{lanes_of}

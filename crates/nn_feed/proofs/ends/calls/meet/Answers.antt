@@ -15,4 +15,4 @@ pub returns : goal.returns
 returns g c =
     let learned = c.learn_as.ensures.rule in let rest = learned.0 in
     let fact = subst (λ v. (v.put ≡ v.got ++ rest) × IsFeed 0 v.put) c.absorb.ensures.rule learned.1 in
-    (rest, fact.0, λ over. feed_end 0 (got_by c.args.end) rest (subst (IsFeed 0) fact.0 fact.1) over)
+    (rest, fact.0, (λ over. feed_end 0 (got_by c.args.end) rest (subst (IsFeed 0) fact.0 fact.1) over), fact.1)

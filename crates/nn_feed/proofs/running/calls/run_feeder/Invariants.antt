@@ -1,9 +1,8 @@
 use Rattle.std.proofs.Common.{◌≡◌, ◌≤◌, List, ◌++◌, length, map}
 use Rattle.nn_segment.specs.Segment.{Segment}
 use Rattle.nn_segment.specs.Source.{Asked, given}
-use Rattle.nn_segment.specs.declared.source.Item.TheVariants as item
 use Rattle.nn_feed.specs.Ends.{put_by, IsSameFeeder}
-use Rattle.nn_feed.specs.Running.{items_of}
+use Rattle.nn_feed.specs.Feeds.{answers_of}
 use Rattle.nn_feed.proofs.running.calls.run_feeder.Given as goal
 
 -- the source gave the segments so far, and these were put
@@ -13,6 +12,6 @@ invariant-items g l = record {
   counted : g.S.SegmentSource.failures l.initial.source ≤ g.S.SegmentSource.failures l.source;
   put : (segments : List Segment)
       × Asked g.S.SegmentSource.gives l.initial.source (map given segments) l.source
-      × (items_of (put_by l.feeder) ≡ items_of (put_by l.initial.feeder) ++ map item.Segment segments)
+      × (answers_of (put_by l.feeder) ≡ answers_of (put_by l.initial.feeder) ++ map given segments)
       × (l.count ≡ length segments);
 }

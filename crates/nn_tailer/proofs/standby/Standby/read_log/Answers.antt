@@ -2,7 +2,7 @@ use Rattle.std.proofs.Common.{refl, [], ◌∷◌, ◌++◌, Ok, subst, sym, ◌
 use Rattle.std.proofs.lemmas.Result.{err_from_is_err_and}
 use Rattle.nn_segment.proofs.Asks.{asked_append}
 use Rattle.nn_tailer.proofs.Sources.{asked_one}
-use Rattle.nn_tailer.specs.declared.standby.log.Asks.{Asks}
+use Rattle.nn_segment.specs.declared.cursor.TakenUp.{TakenUp}
 use Rattle.nn_tailer.specs.Steps.{OnceAsked}
 use Rattle.nn_tailer.proofs.Logs.{going_start, going_live, going_on, going_then, going_asked, going_done, done_going, over_then, over_asked, no_fault, later, ended_there}
 use Rattle.nn_tailer.proofs.standby.Standby.read_log.Goals as goal
@@ -31,8 +31,8 @@ returns-in_err-ask-clause-edits g c =
     let asked = asked_append g.S.SegmentSource.gives c.args.source.now c.loop-self.source c.ask.new.source i.answers (q.0 ∷ []) i.asked (asked_one g.S.SegmentSource.gives c.loop-self.source c.ask.new.source q.0 q.1) in
     let p = err_from_is_err_and c.from_residual-in_err-ask.result c.from_residual-in_err-ask.ensures.1 in rw (p.1, p.2) (i.answers ++ q.0 ∷ [], asked, k)
 
-pub returns-in-Ended-clause-edits : goal.returns-in-Ended-clause-edits
-returns-in-Ended-clause-edits g c =
+pub returns-in-End-clause-edits : goal.returns-in-End-clause-edits
+returns-in-End-clause-edits g c =
     let i = c.loop-self.invariant in
     let rest = going_done c.loop-self.self c.apply_rest.new.self [] _ c.in_ok-apply_rest.ensures.edits in
     let so_far = going_on c.args.self.now c.loop-self.self c.apply_rest.new.self i.answers i.going rest.0 in
@@ -40,7 +40,7 @@ returns-in-Ended-clause-edits g c =
     let now = going_then c.args.self.now c.apply_rest.new.self c.ask.new.self i.answers (q.0 ∷ []) so_far
     (going_asked c.apply_rest.new.self c.ask.new.self q.0 c.in_ok-ask.field-0 (going_live c.args.self.now c.apply_rest.new.self i.answers c.requires so_far) rest.1 q.2) in
     let asked = asked_append g.S.SegmentSource.gives c.args.source.now c.loop-self.source c.ask.new.source i.answers (q.0 ∷ []) i.asked (asked_one g.S.SegmentSource.gives c.loop-self.source c.ask.new.source q.0 q.1) in
-    let h = subst (λ (z : Asks). OnceAsked c.apply_rest.new.self q.0 c.ask.new.self (Ok z)) c.in-Ended.is q.2 in
+    let h = subst (λ (z : TakenUp). OnceAsked c.apply_rest.new.self q.0 c.ask.new.self (Ok z)) c.in-End.is q.2 in
     (i.answers ++ q.0 ∷ [], asked, done_going c.args.self.now c.ask.new.self (i.answers ++ q.0 ∷ []) _ now (ended_there i.answers q.0 h.0, subst (λ z. z.rest ≡ []) (sym h.1) rest.1))
 
 pub loop-self-preserved : goal.loop-self-preserved

@@ -1,6 +1,6 @@
 use Rattle.std.proofs.Common.{[], Ok, refl, subst, ◌∷◌}
 use Rattle.std.proofs.lemmas.Result.{err_from_is_err_and}
-use Rattle.nn_tailer.specs.declared.standby.log.Asks.{Asks}
+use Rattle.nn_segment.specs.declared.cursor.TakenUp.{TakenUp}
 use Rattle.nn_tailer.specs.Steps.{OnceAsked}
 use Rattle.nn_tailer.proofs.Edited.{ready_now, applied_then, refused_then, asked_then, ended_then, passed_then, new_asked}
 use Rattle.nn_tailer.proofs.standby.Standby.step_edit.Goals as goal
@@ -23,22 +23,22 @@ returns-in_err-ask-clause-edits g c =
 pub returns-in_err-apply_next-in-New-clause-edits : goal.returns-in_err-apply_next-in-New-clause-edits
 returns-in_err-apply_next-in-New-clause-edits g c =
     let q = c.in_ok-ask.ensures.asked in
-    let h = new_asked g.S.SegmentSource.gives c.args.source.now c.ask.new.source c.args.self.now c.ask.new.self q.0 c.requires c.if-not-has_none.ensures q.1 (subst (λ (z : Asks). OnceAsked c.args.self.now q.0 c.ask.new.self (Ok z)) c.in-New.is q.2) in
+    let h = new_asked g.S.SegmentSource.gives c.args.source.now c.ask.new.source c.args.self.now c.ask.new.self q.0 c.requires c.if-not-has_none.ensures q.1 (subst (λ (z : TakenUp). OnceAsked c.args.self.now q.0 c.ask.new.self (Ok z)) c.in-New.is q.2) in
     let k = refused_then g.S.SegmentSource.gives c.args.source.now c.ask.new.source c.args.self.now c.ask.new.self c.apply_next-in-New.new.self (q.0 ∷ []) c.in_err-apply_next-in-New.field-0.0 c.requires h.0 h.1 c.in_err-apply_next-in-New.ensures.err in
     let p = err_from_is_err_and c.from_residual-in_err-apply_next-in-New.result c.from_residual-in_err-apply_next-in-New.ensures.1 in rw (p.1, p.2) k
 
-pub returns-in-Ended-clause-edits : goal.returns-in-Ended-clause-edits
-returns-in-Ended-clause-edits g c =
+pub returns-in-End-clause-edits : goal.returns-in-End-clause-edits
+returns-in-End-clause-edits g c =
     let q = c.in_ok-ask.ensures.asked in
-    ended_then g.S.SegmentSource.gives c.args.source.now c.ask.new.source c.args.self.now c.ask.new.self q.0 c.requires c.if-not-has_none.ensures q.1 (subst (λ (z : Asks). OnceAsked c.args.self.now q.0 c.ask.new.self (Ok z)) c.in-Ended.is q.2)
+    ended_then g.S.SegmentSource.gives c.args.source.now c.ask.new.source c.args.self.now c.ask.new.self q.0 c.requires c.if-not-has_none.ensures q.1 (subst (λ (z : TakenUp). OnceAsked c.args.self.now q.0 c.ask.new.self (Ok z)) c.in-End.is q.2)
 
 pub returns-in-Old-clause-edits : goal.returns-in-Old-clause-edits
 returns-in-Old-clause-edits g c =
     let q = c.in_ok-ask.ensures.asked in
-    passed_then g.S.SegmentSource.gives c.args.source.now c.ask.new.source c.args.self.now c.ask.new.self q.0 c.requires c.if-not-has_none.ensures q.1 (subst (λ (z : Asks). OnceAsked c.args.self.now q.0 c.ask.new.self (Ok z)) c.in-Old.is q.2)
+    passed_then g.S.SegmentSource.gives c.args.source.now c.ask.new.source c.args.self.now c.ask.new.self q.0 c.requires c.if-not-has_none.ensures q.1 (subst (λ (z : TakenUp). OnceAsked c.args.self.now q.0 c.ask.new.self (Ok z)) c.in-Old.is q.2)
 
 pub returns-in_ok-apply_next-in-New-clause-edits : goal.returns-in_ok-apply_next-in-New-clause-edits
 returns-in_ok-apply_next-in-New-clause-edits g c =
     let q = c.in_ok-ask.ensures.asked in
-    let h = new_asked g.S.SegmentSource.gives c.args.source.now c.ask.new.source c.args.self.now c.ask.new.self q.0 c.requires c.if-not-has_none.ensures q.1 (subst (λ (z : Asks). OnceAsked c.args.self.now q.0 c.ask.new.self (Ok z)) c.in-New.is q.2) in
+    let h = new_asked g.S.SegmentSource.gives c.args.source.now c.ask.new.source c.args.self.now c.ask.new.self q.0 c.requires c.if-not-has_none.ensures q.1 (subst (λ (z : TakenUp). OnceAsked c.args.self.now q.0 c.ask.new.self (Ok z)) c.in-New.is q.2) in
     applied_then g.S.SegmentSource.gives c.args.source.now c.ask.new.source c.args.self.now c.ask.new.self c.apply_next-in-New.new.self (q.0 ∷ []) c.in_ok-apply_next-in-New.field-0 c.requires h.0 h.1 c.in_ok-apply_next-in-New.ensures.ok

@@ -11,42 +11,35 @@ use Rattle.nn_tree.specs.At.{IsGrafted}
 use Rattle.nn_tree.specs.View.{seen, IsKept}
 use Rattle.nn_tree.proofs.Applies.{add_applies}
 use Rattle.nn_tree.proofs.Kept.{still_seen, still_kept, made, add_kept}
+use Rattle.nn_tree.proofs.Does.{done}
 use Rattle.nn_tree.proofs.namespace.Namespace.add.Goals as goal
 
 pub invariant_of-self : goal.invariant_of-self
 invariant_of-self c =
     let i = c.self.inside in
-    still_kept i.root c.make.new.self i.last_block i.last_stamp i.waiting.keys _ c.in_default.ensures.err c.self.invariant
+    still_kept i.root c.make.new.self i.issued _ c.in_default.ensures.err c.self.invariant
 
-pub returns-in_default-clause-err : goal.returns-in_default-clause-err
-returns-in_default-clause-err c =
+pub returns-in_default : goal.returns-in_default
+returns-in_default c =
     let i = c.self.inside in
-    still_seen i.root c.make.new.self i.last_block i.last_stamp i.waiting.keys c.in_default.ensures.err ∙ c.self.view_is
+    still_seen i.root c.make.new.self i.issued c.in_default.ensures.err ∙ c.self.view_is
 
 pub invariant_of-self-2 : goal.invariant_of-self-2
 invariant_of-self-2 c =
     let i = c.self.inside in
-    let s = seen i.root i.last_block i.last_stamp i.waiting.keys in
+    let s = seen i.root i.issued in
     let p = c.args.path.now in
     let ns = c.names.result in
     let lawful : refusal s (edit.Add p c.args.replication) ≡ None = add_applies i.root s p ns c.args.replication refl c.names.ensures.names c.in-Ok.ensures.ok.0 (c.is_replication.ensures ∙ ap not c.if-not-is_replication.false) in
-    let is : seen c.make.new.self i.last_block i.last_stamp i.waiting.keys ≡ effect s (edit.Add c.args.path.now c.args.replication) = made i.root c.make.new.self i.last_block i.last_stamp i.waiting.keys p ns (File (record { replication = c.args.replication; closed = false; blocks = [] })) c.names.ensures.names c.in-Ok.ensures.ok.1 (subst (λ (es : List (Path × Form)). IsGrafted i.root ns (Some es) c.make.new.self) (c.new_file.ensures ∙ ap (λ (x : FileRow). ([], File x) ∷ []) c.empty_file-file.ensures) c.in-Ok.ensures.ok.2) in
+    let is : seen c.make.new.self i.issued ≡ effect s (edit.Add c.args.path.now c.args.replication) = made i.root c.make.new.self i.issued p ns (File (record { replication = c.args.replication; closed = false; blocks = [] })) c.names.ensures.names c.in-Ok.ensures.ok.1 (subst (λ (es : List (Path × Form)). IsGrafted i.root ns (Some es) c.make.new.self) (c.new_file.ensures ∙ ap (λ (x : FileRow). ([], File x) ∷ []) c.empty_file-file.ensures) c.in-Ok.ensures.ok.2) in
     subst (λ (n : Namespace). IsKept n (λ id. get nat_cmp i.index id)) (sym is) (add_kept s p c.args.replication _ c.requires.lawful lawful c.self.invariant)
 
-pub returns-clause-applies : goal.returns-clause-applies
-returns-clause-applies c =
+pub returns : goal.returns
+returns c =
     let i = c.self.inside in
-    let s = seen i.root i.last_block i.last_stamp i.waiting.keys in
+    let s = seen i.root i.issued in
     let p = c.args.path.now in
     let ns = c.names.result in
     let lawful : refusal s (edit.Add p c.args.replication) ≡ None = add_applies i.root s p ns c.args.replication refl c.names.ensures.names c.in-Ok.ensures.ok.0 (c.is_replication.ensures ∙ ap not c.if-not-is_replication.false) in
-    subst (λ (n : Namespace). refusal n (edit.Add c.args.path.now c.args.replication) ≡ None) c.self.view_is lawful
-
-pub returns-clause-ok : goal.returns-clause-ok
-returns-clause-ok c =
-    let i = c.self.inside in
-    let s = seen i.root i.last_block i.last_stamp i.waiting.keys in
-    let p = c.args.path.now in
-    let ns = c.names.result in
-    let is : seen c.make.new.self i.last_block i.last_stamp i.waiting.keys ≡ effect s (edit.Add c.args.path.now c.args.replication) = made i.root c.make.new.self i.last_block i.last_stamp i.waiting.keys p ns (File (record { replication = c.args.replication; closed = false; blocks = [] })) c.names.ensures.names c.in-Ok.ensures.ok.1 (subst (λ (es : List (Path × Form)). IsGrafted i.root ns (Some es) c.make.new.self) (c.new_file.ensures ∙ ap (λ (x : FileRow). ([], File x) ∷ []) c.empty_file-file.ensures) c.in-Ok.ensures.ok.2) in
-    is ∙ ap (λ (n : Namespace). effect n (edit.Add c.args.path.now c.args.replication)) c.self.view_is
+    let is : seen c.make.new.self i.issued ≡ effect s (edit.Add p c.args.replication) = made i.root c.make.new.self i.issued p ns (File (record { replication = c.args.replication; closed = false; blocks = [] })) c.names.ensures.names c.in-Ok.ensures.ok.1 (subst (λ (es : List (Path × Form)). IsGrafted i.root ns (Some es) c.make.new.self) (c.new_file.ensures ∙ ap (λ (x : FileRow). ([], File x) ∷ []) c.empty_file-file.ensures) c.in-Ok.ensures.ok.2) in
+    done (edit.Add p c.args.replication) c.self.view_is lawful is c.nothing.ensures

@@ -1,19 +1,19 @@
 use Rattle.std.proofs.Common.{◌≡◌, not, None, ap, subst, ◌∙◌, refl}
 use Rattle.nn_types.specs.declared.edit.Edit.TheVariants as edit
 use Rattle.nn_model.specs.Namespace.{Namespace}
-use Rattle.nn_model.specs.Apply.{refusal}
+use Rattle.nn_model.specs.Apply.{refusal, is_root}
 use Rattle.nn_tree.specs.View.{seen}
 use Rattle.nn_model.specs.Namespace.{Path}
-use Rattle.nn_tree.specs.Walks.{root_fault}
-use Rattle.nn_tree.proofs.Bridge.{mkdir_refused, add_past}
+use Rattle.nn_tree.specs.Walks.{mkdir_fault}
+use Rattle.nn_tree.proofs.Bridge.{looks, add_past}
 use Rattle.nn_tree.proofs.Maps.{not_root}
 use Rattle.nn_tree.proofs.namespace.Namespace.add_refusal.Goals as goal
 
 pub returns : goal.returns
 returns c =
     let i = c.self.inside in
-    let s = seen i.root i.last_block i.last_stamp i.waiting.keys in
+    let s = seen i.root i.issued in
     let p = c.args.path.now in
     let ns = c.names-names.result in
     subst (λ (n : Namespace). c.mkdir_refusal.result ≡ refusal n (edit.Add c.args.path.now c.args.replication)) c.self.view_is
-    (c.mkdir_refusal.ensures ∙ mkdir_refused i.root s p ns refl c.names-names.ensures.names ∙ add_past s p c.args.replication (subst (λ (q : Path). root_fault q ≡ None) c.names-names.ensures.names (not_root c.names-names.result c.if-is_empty.ensures)) (c.is_replication.ensures ∙ ap not c.if-not-is_replication.false))
+    (c.mkdir_refusal.ensures ∙ (λ j. mkdir_fault (looks i.root s refl j) (c.names-names.ensures.names j)) ∙ add_past s p c.args.replication (subst (λ (q : Path). is_root q ≡ None) c.names-names.ensures.names (not_root c.names-names.result c.if-is_empty.ensures)) (c.is_replication.ensures ∙ ap not c.if-not-is_replication.false))

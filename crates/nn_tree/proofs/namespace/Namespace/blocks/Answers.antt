@@ -9,5 +9,5 @@ pub returns : goal.returns
 returns c =
     let i = c.self.inside in
     subst (λ (n : Namespace). AreBlocks n c.values.result) c.self.view_is
-    (subst (AreBlocks (seen i.root i.last_block i.last_stamp i.waiting.keys)) (sym c.values.ensures.rest)
-    (are_blocks (seen i.root i.last_block i.last_stamp i.waiting.keys) i.index.entries c.values.ensures.ordered c.self.invariant))
+    (subst (AreBlocks (seen i.root i.issued)) (sym c.values.ensures.rest)
+    (are_blocks (seen i.root i.issued) i.index.entries c.values.ensures.ordered c.self.invariant))

@@ -4,7 +4,7 @@ use Rattle.nn_tree.specs.At.{at, IsSubtree}
 use Rattle.nn_tree.specs.Found.{form_of}
 use Rattle.nn_tree.proofs.Bridge.{looks}
 use Rattle.nn_tree.proofs.Files.{at_found}
-use Rattle.nn_tree.proofs.Kept.{free_top}
+use Rattle.nn_tree.proofs.Prefix.{free_top}
 use Rattle.nn_tree.proofs.namespace.Namespace.lookup.Goals as goal
 
 pub returns-in_default : goal.returns-in_default

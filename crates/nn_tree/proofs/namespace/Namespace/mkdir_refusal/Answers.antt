@@ -1,8 +1,9 @@
 use Rattle.std.proofs.Common.{◌∙◌, ap}
-use Rattle.nn_tree.proofs.Bridge.{mkdir_refused}
+use Rattle.nn_tree.specs.Walks.{mkdir_fault}
+use Rattle.nn_tree.proofs.Bridge.{looks}
 use Rattle.nn_tree.proofs.namespace.Namespace.mkdir_refusal.Goals as goal
 
 pub returns : goal.returns
 returns c =
     c.mkdir_refusal.ensures
-    ∙ mkdir_refused c.self.inside.root c.args.self.now c.args.path.now (c.names.result) (ap (λ n. n.rows) c.self.view_is) c.names.ensures.names
+    ∙ (λ j. mkdir_fault (looks c.self.inside.root c.args.self.now (ap (λ n. n.rows) c.self.view_is) j) (c.names.ensures.names j))

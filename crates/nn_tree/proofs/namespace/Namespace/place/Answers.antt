@@ -23,7 +23,7 @@ pub returns-in-Err-clause-refused : goal.returns-in-Err-clause-refused
 returns-in-Err-clause-refused c =
     λ refused.
     let i = c.self.inside in
-    let s = seen i.root i.last_block i.last_stamp i.waiting.keys in
+    let s = seen i.root i.issued in
     let look : ℕ → Option BlockRow = λ id. get nat_cmp i.index id in
     subst (λ (n : Namespace). can_restore n c.args.path.now (File c.args.file) ≡ false) c.self.view_is
     (file_is_old s c.args.path.now c.args.file look (ap (are_new look) (sym c.as_slice-blocks.ensures) ∙ c.in-Err.ensures.refused refused) c.self.invariant)
@@ -34,28 +34,28 @@ invariant_of-self-in_default-make c =
     let look : ℕ → Option BlockRow = λ id. get nat_cmp i.index id in
     let bs = c.as_slice-blocks.result.now in
     let keys = c.requires.ids ∙ ap (map (λ b. b.id)) (sym c.as_slice-blocks.ensures) in
-    kept_looks (seen c.make.new.self i.last_block i.last_stamp i.waiting.keys) look (λ id. get nat_cmp c.forget.new.index id)
+    kept_looks (seen c.make.new.self i.issued) look (λ id. get nat_cmp c.forget.new.index id)
     (λ q. c.forget.ensures q ∙ (λ j. cond (has_id (keys j) q) None (c.in_default.ensures.ok q j)) ∙ undone look bs c.args.file.closed q c.in_default.ensures.lawful)
-    (still_kept i.root c.make.new.self i.last_block i.last_stamp i.waiting.keys look c.in_default-make.ensures.err c.self.invariant)
+    (still_kept i.root c.make.new.self i.issued look c.in_default-make.ensures.err c.self.invariant)
 
 pub returns-in_default-make-clause-err : goal.returns-in_default-make-clause-err
 returns-in_default-make-clause-err c =
     let i = c.self.inside in
-    still_seen i.root c.make.new.self i.last_block i.last_stamp i.waiting.keys c.in_default-make.ensures.err ∙ c.self.view_is
+    still_seen i.root c.make.new.self i.issued c.in_default-make.ensures.err ∙ c.self.view_is
 
 pub invariant_of-self-in-Ok : goal.invariant_of-self-in-Ok
 invariant_of-self-in-Ok c =
     let i = c.self.inside in
-    let s = seen i.root i.last_block i.last_stamp i.waiting.keys in
+    let s = seen i.root i.issued in
     let look : ℕ → Option BlockRow = λ id. get nat_cmp i.index id in
     let p = c.args.path.now in
     let ns = c.names-names.result in
     let x = c.args.file in
-    let is : seen c.make.new.self i.last_block i.last_stamp i.waiting.keys ≡ with_row s p (File x) =
-    made i.root c.make.new.self i.last_block i.last_stamp i.waiting.keys p ns (File x) c.names-names.ensures.names c.in-Ok.ensures.ok.1 (subst (λ (es : List (Path × Form)). IsGrafted i.root ns (Some es) c.make.new.self) c.new_file.ensures c.in-Ok.ensures.ok.2) in
+    let is : seen c.make.new.self i.issued ≡ with_row s p (File x) =
+    made i.root c.make.new.self i.issued p ns (File x) c.names-names.ensures.names c.in-Ok.ensures.ok.1 (subst (λ (es : List (Path × Form)). IsGrafted i.root ns (Some es) c.make.new.self) c.new_file.ensures c.in-Ok.ensures.ok.2) in
     let listed = c.as_slice-blocks.ensures in
     let applies : refusal s (edit.Add p x.replication) ≡ None = subst (λ (n : Namespace). refusal n (edit.Add p x.replication) ≡ None) (sym c.self.view_is) c.requires.applies in
-    let fit : list_all (block_fits s) x.blocks ≡ true = subst (λ (n : Namespace). list_all (block_fits n) x.blocks ≡ true) (sym c.self.view_is) c.requires.fit in
+    let fit : list_all (block_fits s.issued) x.blocks ≡ true = subst (λ (n : Namespace). list_all (block_fits n.issued) x.blocks ≡ true) (sym c.self.view_is) c.requires.fit in
     subst (λ (n : Namespace). IsKept n (λ id. get nat_cmp c.enter.new.index id)) (sym is)
     (file_kept s p x look (λ id. get nat_cmp c.enter.new.index id) (c.names-names.ensures.lawful, c.get.ensures.limit) applies fit
     (subst AreBlocks listed c.lawful_blocks.ensures) (ap (are_new look) (sym listed) ∙ c.in_default.ensures.lawful)
@@ -67,17 +67,17 @@ returns-clause-ok c =
     let p = c.args.path.now in
     let ns = c.names-names.result in
     let x = c.args.file in
-    made i.root c.make.new.self i.last_block i.last_stamp i.waiting.keys p ns (File x) c.names-names.ensures.names c.in-Ok.ensures.ok.1 (subst (λ (es : List (Path × Form)). IsGrafted i.root ns (Some es) c.make.new.self) c.new_file.ensures c.in-Ok.ensures.ok.2)
+    made i.root c.make.new.self i.issued p ns (File x) c.names-names.ensures.names c.in-Ok.ensures.ok.1 (subst (λ (es : List (Path × Form)). IsGrafted i.root ns (Some es) c.make.new.self) c.new_file.ensures c.in-Ok.ensures.ok.2)
     ∙ ap (λ (n : Namespace). with_row n p (File x)) c.self.view_is
 
 pub returns-clause-lawful : goal.returns-clause-lawful
 returns-clause-lawful c =
     let i = c.self.inside in
-    let s = seen i.root i.last_block i.last_stamp i.waiting.keys in
+    let s = seen i.root i.issued in
     let look : ℕ → Option BlockRow = λ id. get nat_cmp i.index id in
     let p = c.args.path.now in
     let x = c.args.file in
     let applies : refusal s (edit.Add p x.replication) ≡ None = subst (λ (n : Namespace). refusal n (edit.Add p x.replication) ≡ None) (sym c.self.view_is) c.requires.applies in
-    let fit : list_all (block_fits s) x.blocks ≡ true = subst (λ (n : Namespace). list_all (block_fits n) x.blocks ≡ true) (sym c.self.view_is) c.requires.fit in
+    let fit : list_all (block_fits s.issued) x.blocks ≡ true = subst (λ (n : Namespace). list_all (block_fits n.issued) x.blocks ≡ true) (sym c.self.view_is) c.requires.fit in
     subst (λ (n : Namespace). can_restore n p (File x) ≡ true) c.self.view_is
     (file_restored s p x look applies fit (ap (are_new look) (sym c.as_slice-blocks.ensures) ∙ c.in_default.ensures.lawful) c.self.invariant)

@@ -12,4 +12,4 @@ returns-then-is_some-clause-refused c =
 pub returns-then-not-may_hold-clause-refused : goal.returns-then-not-may_hold-clause-refused
 returns-then-not-may_hold-clause-refused c =
     λ refused. not_fit c.args.self.now c.args.path.now c.args.file
-    (ap (list_all (block_fits c.args.self.now)) (sym c.as_slice.ensures) ∙ sym c.may_hold.ensures ∙ c.if-not-may_hold.true)
+    (ap (list_all (block_fits c.args.self.now.issued)) (sym c.as_slice.ensures) ∙ sym c.may_hold.ensures ∙ c.if-not-may_hold.true)

@@ -4,11 +4,11 @@ use Rattle.std.specs.Ordering.{nat_cmp}
 use Rattle.nn_model.specs.declared.form.Form.TheVariants.{File}
 use Rattle.nn_model.specs.declared.form.FileRow.{FileRow}
 use Rattle.nn_model.specs.Namespace.{Namespace, lookup, with_row, file_or_none, file_at}
-use Rattle.nn_model.specs.Apply.{first, list_checks, with_blocks}
+use Rattle.nn_model.specs.Apply.{first, keeps_stamps, list_checks, with_blocks}
 use Rattle.nn_model.specs.Touched.{listed}
 use Rattle.nn_tree.specs.declared.index.BlockRow.{BlockRow}
 use Rattle.nn_tree.specs.View.{seen, IsKept, renewed}
-use Rattle.nn_tree.proofs.Applies.{HasFile, list_applies}
+use Rattle.nn_tree.proofs.Applies.{HasFile, has_file, list_applies}
 use Rattle.nn_tree.proofs.Kept.{still_seen, still_kept, file_was, file_seen}
 use Rattle.nn_tree.proofs.Listed.{list_kept, list_touched}
 use Rattle.nn_tree.proofs.Maps.{not_root}
@@ -17,27 +17,27 @@ use Rattle.nn_tree.proofs.namespace.Namespace.set_blocks.Goals as goal
 pub invariant_of-self : goal.invariant_of-self
 invariant_of-self c =
     let i = c.self.inside in
-    still_kept i.root c.set_blocks-told.new.self i.last_block i.last_stamp i.waiting.keys _ c.in_default.ensures.err c.self.invariant
+    still_kept i.root c.set_blocks-told.new.self i.issued _ c.in_default.ensures.err c.self.invariant
 
 pub returns-in_default-clause-err : goal.returns-in_default-clause-err
 returns-in_default-clause-err c =
     let i = c.self.inside in
-    still_seen i.root c.set_blocks-told.new.self i.last_block i.last_stamp i.waiting.keys c.in_default.ensures.err ∙ c.self.view_is
+    still_seen i.root c.set_blocks-told.new.self i.issued c.in_default.ensures.err ∙ c.self.view_is
 
 pub invariant_of-self-2 : goal.invariant_of-self-2
 invariant_of-self-2 c =
     let i = c.self.inside in
-    let s = seen i.root i.last_block i.last_stamp i.waiting.keys in
+    let s = seen i.root i.issued in
     let p = c.args.path.now in
     let ns = c.names-names.result in
     let bs = c.args.blocks.now in
     let done = c.in-Ok.ensures.ok in
-    let has : HasFile i.root s p ns done.0 = record { rows = refl; names = c.names-names.ensures.names; root = not_root c.names-names.result c.if-is_empty.ensures; walked = done.2; stands = done.3 } in
-    let lawful : first (list_checks s p bs) ≡ None = list_applies i.root s p ns done.0 bs has done.5.0 (ap not done.5.1) (ap not done.5.2) in
-    let was : lookup s p ≡ Some (File done.0) = file_was i.root i.last_block i.last_stamp i.waiting.keys p ns done.0 c.names-names.ensures.names done.3 in
+    let has : HasFile s p done.0 = has_file i.root s p ns done.0 refl c.names-names.ensures.names (not_root c.names-names.result c.if-is_empty.ensures) done.2 done.3 in
+    let lawful : first (list_checks s p bs) ≡ None = list_applies s p done.0 bs has done.5.0 (ap not done.5.1) (ap (λ t. not (keeps_stamps t done.0.blocks bs)) (sym c.last_stamp-last_stamp.ensures) ∙ ap not done.5.2) in
+    let was : lookup s p ≡ Some (File done.0) = file_was i.root i.issued p ns done.0 c.names-names.ensures.names done.3 in
     let old : done.0 ≡ file_at s p = sym (ap file_or_none was) in
-    let is : seen c.set_blocks-told.new.self i.last_block i.last_stamp i.waiting.keys ≡ with_blocks s p bs c.args.closed =
-    file_seen i.root c.set_blocks-told.new.self i.last_block i.last_stamp i.waiting.keys p ns done.0 done.1 c.names-names.ensures.names done.3 done.4
+    let is : seen c.set_blocks-told.new.self i.issued ≡ with_blocks s p bs c.args.closed =
+    file_seen i.root c.set_blocks-told.new.self i.issued p ns done.0 done.1 c.names-names.ensures.names done.3 done.4
     ∙ ap (λ (f : FileRow). with_row s p (File f)) done.5.3
     ∙ ap (λ (f : FileRow). with_row s p (File (record { replication = f.replication; closed = c.args.closed; blocks = bs }))) old in
     let look : ℕ → Option BlockRow = λ id. get nat_cmp i.index id in
@@ -48,27 +48,27 @@ invariant_of-self-2 c =
 pub returns-clause-applies : goal.returns-clause-applies
 returns-clause-applies c =
     let i = c.self.inside in
-    let s = seen i.root i.last_block i.last_stamp i.waiting.keys in
+    let s = seen i.root i.issued in
     let p = c.args.path.now in
     let ns = c.names-names.result in
     let bs = c.args.blocks.now in
     let done = c.in-Ok.ensures.ok in
-    let has : HasFile i.root s p ns done.0 = record { rows = refl; names = c.names-names.ensures.names; root = not_root c.names-names.result c.if-is_empty.ensures; walked = done.2; stands = done.3 } in
-    let lawful : first (list_checks s p bs) ≡ None = list_applies i.root s p ns done.0 bs has done.5.0 (ap not done.5.1) (ap not done.5.2) in
+    let has : HasFile s p done.0 = has_file i.root s p ns done.0 refl c.names-names.ensures.names (not_root c.names-names.result c.if-is_empty.ensures) done.2 done.3 in
+    let lawful : first (list_checks s p bs) ≡ None = list_applies s p done.0 bs has done.5.0 (ap not done.5.1) (ap (λ t. not (keeps_stamps t done.0.blocks bs)) (sym c.last_stamp-last_stamp.ensures) ∙ ap not done.5.2) in
     subst (λ (n : Namespace). first (list_checks n p bs) ≡ None) c.self.view_is lawful
 
 pub returns-clause-ok : goal.returns-clause-ok
 returns-clause-ok c =
     let i = c.self.inside in
-    let s = seen i.root i.last_block i.last_stamp i.waiting.keys in
+    let s = seen i.root i.issued in
     let p = c.args.path.now in
     let ns = c.names-names.result in
     let bs = c.args.blocks.now in
     let done = c.in-Ok.ensures.ok in
-    let was : lookup s p ≡ Some (File done.0) = file_was i.root i.last_block i.last_stamp i.waiting.keys p ns done.0 c.names-names.ensures.names done.3 in
+    let was : lookup s p ≡ Some (File done.0) = file_was i.root i.issued p ns done.0 c.names-names.ensures.names done.3 in
     let old : done.0 ≡ file_at s p = sym (ap file_or_none was) in
-    let is : seen c.set_blocks-told.new.self i.last_block i.last_stamp i.waiting.keys ≡ with_blocks s p bs c.args.closed =
-    file_seen i.root c.set_blocks-told.new.self i.last_block i.last_stamp i.waiting.keys p ns done.0 done.1 c.names-names.ensures.names done.3 done.4
+    let is : seen c.set_blocks-told.new.self i.issued ≡ with_blocks s p bs c.args.closed =
+    file_seen i.root c.set_blocks-told.new.self i.issued p ns done.0 done.1 c.names-names.ensures.names done.3 done.4
     ∙ ap (λ (f : FileRow). with_row s p (File f)) done.5.3
     ∙ ap (λ (f : FileRow). with_row s p (File (record { replication = f.replication; closed = c.args.closed; blocks = bs }))) old in
     is ∙ ap (λ (n : Namespace). with_blocks n p bs c.args.closed) c.self.view_is
@@ -76,10 +76,10 @@ returns-clause-ok c =
 pub returns-clause-touched : goal.returns-clause-touched
 returns-clause-touched c =
     let i = c.self.inside in
-    let s = seen i.root i.last_block i.last_stamp i.waiting.keys in
+    let s = seen i.root i.issued in
     let p = c.args.path.now in
     let ns = c.names-names.result in
     let bs = c.args.blocks.now in
     let done = c.in-Ok.ensures.ok in
-    let was : lookup s p ≡ Some (File done.0) = file_was i.root i.last_block i.last_stamp i.waiting.keys p ns done.0 c.names-names.ensures.names done.3 in
+    let was : lookup s p ≡ Some (File done.0) = file_was i.root i.issued p ns done.0 c.names-names.ensures.names done.3 in
     done.5.4 ∙ list_touched s p bs done.0 was ∙ ap (λ (n : Namespace). listed n p bs) c.self.view_is

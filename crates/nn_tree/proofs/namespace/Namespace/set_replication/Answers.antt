@@ -7,68 +7,60 @@ use Rattle.nn_model.specs.Apply.{refusal, effect}
 use Rattle.std.specs.BTreeMap.{get}
 use Rattle.std.specs.Ordering.{nat_cmp}
 use Rattle.nn_tree.specs.View.{seen, IsKept}
-use Rattle.nn_tree.proofs.Applies.{HasFile, set_replication_applies}
+use Rattle.nn_tree.proofs.Applies.{HasFile, has_file, set_replication_applies}
 use Rattle.nn_tree.proofs.Kept.{still_seen, still_kept, file_was, file_seen, set_replication_kept}
 use Rattle.nn_tree.proofs.Maps.{not_root}
 use Rattle.nn_tree.proofs.Spare.{no_file_refused}
+use Rattle.nn_tree.proofs.Does.{done}
 use Rattle.nn_tree.proofs.namespace.Namespace.set_replication.Goals as goal
 
 pub invariant_of-self : goal.invariant_of-self
 invariant_of-self c =
     let i = c.self.inside in
-    still_kept i.root c.set_replication.new.self i.last_block i.last_stamp i.waiting.keys _ c.in_default.ensures.err c.self.invariant
+    still_kept i.root c.set_replication.new.self i.issued _ c.in_default.ensures.err c.self.invariant
 
-pub returns-in_default-clause-err : goal.returns-in_default-clause-err
-returns-in_default-clause-err c =
+pub returns-in_default-clause-does : goal.returns-in_default-clause-does
+returns-in_default-clause-does c =
     let i = c.self.inside in
-    still_seen i.root c.set_replication.new.self i.last_block i.last_stamp i.waiting.keys c.in_default.ensures.err ∙ c.self.view_is
+    still_seen i.root c.set_replication.new.self i.issued c.in_default.ensures.err ∙ c.self.view_is
 
 pub invariant_of-self-2 : goal.invariant_of-self-2
 invariant_of-self-2 c =
     let i = c.self.inside in
-    let s = seen i.root i.last_block i.last_stamp i.waiting.keys in
+    let s = seen i.root i.issued in
     let p = c.args.path.now in
     let ns = c.names-names.result in
     let done = c.in-Ok.ensures.ok in
-    let has : HasFile i.root s p ns done.0 = record { rows = refl; names = c.names-names.ensures.names; root = not_root c.names-names.result c.if-is_empty.ensures; walked = done.2; stands = done.3 } in
-    let lawful : refusal s (edit.SetReplication p c.args.replication) ≡ None = set_replication_applies i.root s p ns done.0 c.args.replication has (c.is_replication.ensures ∙ ap not c.if-not-is_replication.false) in
-    let was : lookup s p ≡ Some (File done.0) = file_was i.root i.last_block i.last_stamp i.waiting.keys p ns done.0 c.names-names.ensures.names done.3 in
+    let has : HasFile s p done.0 = has_file i.root s p ns done.0 refl c.names-names.ensures.names (not_root c.names-names.result c.if-is_empty.ensures) done.2 done.3 in
+    let lawful : refusal s (edit.SetReplication p c.args.replication) ≡ None = set_replication_applies s p done.0 c.args.replication has (c.is_replication.ensures ∙ ap not c.if-not-is_replication.false) in
+    let was : lookup s p ≡ Some (File done.0) = file_was i.root i.issued p ns done.0 c.names-names.ensures.names done.3 in
     let old : done.0 ≡ file_at s p = sym (ap file_or_none was) in
-    let is : seen c.set_replication.new.self i.last_block i.last_stamp i.waiting.keys ≡ effect s (edit.SetReplication p c.args.replication) =
-    file_seen i.root c.set_replication.new.self i.last_block i.last_stamp i.waiting.keys p ns done.0 done.1 c.names-names.ensures.names done.3 done.4
+    let is : seen c.set_replication.new.self i.issued ≡ effect s (edit.SetReplication p c.args.replication) =
+    file_seen i.root c.set_replication.new.self i.issued p ns done.0 done.1 c.names-names.ensures.names done.3 done.4
     ∙ ap (λ (f : FileRow). with_row s p (File f)) done.5
     ∙ ap (λ (f : FileRow). with_row s p (File (record { replication = c.args.replication; closed = f.closed; blocks = f.blocks }))) old in
     subst (λ (n : Namespace). IsKept n (λ id. get nat_cmp i.index id)) (sym is) (set_replication_kept s p c.args.replication done.0 _ c.requires.lawful lawful was c.self.invariant)
-
-pub returns-clause-applies : goal.returns-clause-applies
-returns-clause-applies c =
-    let i = c.self.inside in
-    let s = seen i.root i.last_block i.last_stamp i.waiting.keys in
-    let p = c.args.path.now in
-    let ns = c.names-names.result in
-    let done = c.in-Ok.ensures.ok in
-    let has : HasFile i.root s p ns done.0 = record { rows = refl; names = c.names-names.ensures.names; root = not_root c.names-names.result c.if-is_empty.ensures; walked = done.2; stands = done.3 } in
-    let lawful : refusal s (edit.SetReplication p c.args.replication) ≡ None = set_replication_applies i.root s p ns done.0 c.args.replication has (c.is_replication.ensures ∙ ap not c.if-not-is_replication.false) in
-    subst (λ (n : Namespace). refusal n (edit.SetReplication p c.args.replication) ≡ None) c.self.view_is lawful
-
-pub returns-clause-ok : goal.returns-clause-ok
-returns-clause-ok c =
-    let i = c.self.inside in
-    let s = seen i.root i.last_block i.last_stamp i.waiting.keys in
-    let p = c.args.path.now in
-    let ns = c.names-names.result in
-    let done = c.in-Ok.ensures.ok in
-    let was : lookup s p ≡ Some (File done.0) = file_was i.root i.last_block i.last_stamp i.waiting.keys p ns done.0 c.names-names.ensures.names done.3 in
-    let old : done.0 ≡ file_at s p = sym (ap file_or_none was) in
-    let is : seen c.set_replication.new.self i.last_block i.last_stamp i.waiting.keys ≡ effect s (edit.SetReplication p c.args.replication) =
-    file_seen i.root c.set_replication.new.self i.last_block i.last_stamp i.waiting.keys p ns done.0 done.1 c.names-names.ensures.names done.3 done.4
-    ∙ ap (λ (f : FileRow). with_row s p (File f)) done.5
-    ∙ ap (λ (f : FileRow). with_row s p (File (record { replication = c.args.replication; closed = f.closed; blocks = f.blocks }))) old in
-    is ∙ ap (λ (n : Namespace). effect n (edit.SetReplication p c.args.replication)) c.self.view_is
 
 pub returns-in_default-clause-refused : goal.returns-in_default-clause-refused
 returns-in_default-clause-refused c e =
     let i = c.self.inside in
     let p = c.args.path.now in
-    no_file_refused i.root (seen i.root i.last_block i.last_stamp i.waiting.keys) p c.names-names.result c.args.replication refl c.names-names.ensures.names
+    no_file_refused i.root (seen i.root i.issued) p c.names-names.result c.args.replication refl c.names-names.ensures.names
     c.in_default.ensures.no_file (subst (λ (n : Namespace). refusal n (edit.SetReplication p c.args.replication) ≡ None) (sym c.self.view_is) e)
+
+pub returns-clause-does : goal.returns-clause-does
+returns-clause-does c =
+    let i = c.self.inside in
+    let s = seen i.root i.issued in
+    let p = c.args.path.now in
+    let ns = c.names-names.result in
+    let made = c.in-Ok.ensures.ok in
+    let has : HasFile s p made.0 = has_file i.root s p ns made.0 refl c.names-names.ensures.names (not_root c.names-names.result c.if-is_empty.ensures) made.2 made.3 in
+    let lawful : refusal s (edit.SetReplication p c.args.replication) ≡ None = set_replication_applies s p made.0 c.args.replication has (c.is_replication.ensures ∙ ap not c.if-not-is_replication.false) in
+    let was : lookup s p ≡ Some (File made.0) = file_was i.root i.issued p ns made.0 c.names-names.ensures.names made.3 in
+    let old : made.0 ≡ file_at s p = sym (ap file_or_none was) in
+    let is : seen c.set_replication.new.self i.issued ≡ effect s (edit.SetReplication p c.args.replication) =
+    file_seen i.root c.set_replication.new.self i.issued p ns made.0 made.1 c.names-names.ensures.names made.3 made.4
+    ∙ ap (λ (f : FileRow). with_row s p (File f)) made.5
+    ∙ ap (λ (f : FileRow). with_row s p (File (record { replication = c.args.replication; closed = f.closed; blocks = f.blocks }))) old in
+    done (edit.SetReplication p c.args.replication) c.self.view_is lawful is c.nothing.ensures

@@ -10,7 +10,7 @@ use Rattle.nn_tree.proofs.Prefix.{can_move, place_kept, moves}
 use Rattle.nn_tree.proofs.tree.Tree.rename.Goals as goal
 
 pub take-placeholder-requires : goal.take-placeholder-requires
-take-placeholder-requires c = has_name c.args.dst.now _ (sym c.in-Ok.ensures.ok.0)
+take-placeholder-requires c = has_name c.args.dst.now _ c.in-Ok.ensures.ok.0
 
 pub returns-in_default-take-clause-err : goal.returns-in_default-take-clause-err
 returns-in_default-take-clause-err c =

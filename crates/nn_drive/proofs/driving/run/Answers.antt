@@ -1,0 +1,127 @@
+use Rattle.std.specs.Prelude.{vec_items, ◌++◌, count_by, length}
+use Rattle.std.specs.List.{AllZip}
+use Rattle.std.proofs.Common.{◌≡◌, ◌≤◌, false, [], List, arith, ap, sym, ◌∙◌, subst, append-nil}
+use Rattle.nn_model.specs.History.{is_flush}
+use Rattle.nn_segment.proofs.Asks.{asked_append}
+use Rattle.nn_lane.specs.Ends.{Taking}
+use Rattle.nn_shadow.specs.Contents.{Contents, KeepsSettings}
+use Rattle.nn_tailer.specs.Tailing.{has_begun, Carries}
+use Rattle.nn_tailer.proofs.Carried.{carries_then}
+use Rattle.nn_tailer.proofs.Shadowing.{settings_then}
+use Rattle.nn_feed.specs.Ends.{GivesWhatIsFed}
+use Rattle.nn_drive.specs.Driven.{JoinsAll, AreOneLane, Agrees, IsPromoted}
+use Rattle.nn_drive.proofs.Drives.{fit, was_told, one_lanes, has_ended, is_promoted}
+use Rattle.nn_drive.proofs.Fed.{ends_behind, same_then, same_asked, nothing_begun, fails_over, closed_over, still_meets}
+use Rattle.nn_drive.proofs.Steps.{until_then}
+use Rattle.nn_drive.proofs.driving.run.Goals as goal
+
+pub returns-then-not-all_started-clause-err : goal.returns-then-not-all_started-clause-err
+returns-then-not-all_started-clause-err g c = nothing_begun c.args.standby c.args.end.now c.args.end.now c.give_up.new.end c.give_up.ensures.more
+
+pub returns-in-Err-clause-same : goal.returns-in-Err-clause-same
+returns-in-Err-clause-same g c =
+    let e = c.engine.ensures.went in same_then c.args.end.now c.engine.new.source c.give_up-in-Err.new.end (same_asked c.args.end.now c.engine.new.source e.0 e.1) c.give_up-in-Err.ensures.same
+
+pub returns-in-Err-clause-err : goal.returns-in-Err-clause-err
+returns-in-Err-clause-err g c =
+    fails_over c.args.standby c.args.end.now c.engine.new.source c.give_up-in-Err.new.end (λ e. e.failures) c.in-Err.fault c.known_fault-known.result c.is_at_end.result c.requires.serving c.in-Err.ensures.meets c.in-Err.ensures.until
+    c.is_at_end.ensures c.known_fault-known.ensures c.give_up-in-Err.ensures.more
+
+pub returns-in-Err-clause-told : goal.returns-in-Err-clause-told
+returns-in-Err-clause-told g c =
+    still_meets g.S.ReportSource.gives c.args.standby c.args.workers.items c.in-Err.fault c.known_fault-known.result c.is_at_end.result c.known_fault-known.ensures c.in-Err.ensures.meets
+
+pub join_all-reporters-requires-clause-fit : goal.join_all-reporters-requires-clause-fit
+join_all-reporters-requires-clause-fit g c =
+    let all : length c.args.workers.items ≤ length (vec_items c.start_all-handles.result) = omega (arith, c.if-not-all_started.ensures, c.len-count.ensures, c.len-started.ensures, c.args.workers.ok.0, c.start_all-handles.result.ok.0) in
+    let f = fit g.S.ReportSource.gives c.args.workers.items (vec_items c.start_all-handles.result) c.start_all-handles.ensures all c.args.standby c.engine.new.standby c.requires.lanes c.engine.ensures.went.0 c.engine.ensures.went.2 in
+    subst (λ (es : List Taking). length (vec_items c.start_all-handles.result) ≤ length es) (sym c.ends.ensures) f
+
+pub returns-in-Err-promote-clause-same : goal.returns-in-Err-promote-clause-same
+returns-in-Err-promote-clause-same g c =
+    let e = c.engine.ensures.went in let p = c.in-Err-promote.ensures.err in
+    same_then c.args.end.now c.promote.new.source c.receive_rest.new.end
+    (same_then c.args.end.now c.engine.new.source c.promote.new.source (same_asked c.args.end.now c.engine.new.source e.0 e.1) (same_asked c.engine.new.source c.promote.new.source p.0 p.1))
+    c.receive_rest.ensures.same
+
+pub returns-in-Err-promote-clause-err : goal.returns-in-Err-promote-clause-err
+returns-in-Err-promote-clause-err g c =
+    let e = c.engine.ensures.went in
+    let x0 = c.args.standby in
+    let x2 = c.close_intake.new.self in
+    let carries : Carries x0 e.0 x2 = subst (λ rs. Carries x0 rs x2) (append-nil e.0) (carries_then x0 c.engine.new.standby x2 e.0 [] e.2.carries c.close_intake.ensures.carries) in
+    let begun : has_begun x2 ≡ false = ap has_begun c.close_intake.ensures.rest ∙ e.2.begun ∙ c.requires.serving in
+    let until = until_then GivesWhatIsFed (λ e. e.failures) c.args.end.now c.engine.new.source c.promote.new.source x0 x2 e.0 c.in-Err-promote.fault e.1 carries begun e.3 c.in-Err-promote.ensures.err in
+    fails_over x0 c.args.end.now c.promote.new.source c.receive_rest.new.end (λ e. e.failures) c.in-Err-promote.fault c.known_fault-known-in-Err-promote.result c.is_at_end-in-Err-promote.result c.requires.serving c.in-Err-promote.ensures.meets until
+    c.is_at_end-in-Err-promote.ensures c.known_fault-known-in-Err-promote.ensures c.receive_rest.ensures.more
+
+pub returns-in-Err-promote-clause-told : goal.returns-in-Err-promote-clause-told
+returns-in-Err-promote-clause-told g c =
+    still_meets g.S.ReportSource.gives c.args.standby c.args.workers.items c.in-Err-promote.fault c.known_fault-known-in-Err-promote.result c.is_at_end-in-Err-promote.result c.known_fault-known-in-Err-promote.ensures c.in-Err-promote.ensures.meets
+
+pub meet_all-requires : goal.meet_all-requires
+meet_all-requires g c =
+    let gives = g.S.ReportSource.gives in let workers = c.args.workers.items in let handles = vec_items c.start_all-handles.result in
+    let x0 = c.args.standby in let x1 = c.engine.new.standby in let x2 = c.close_intake.new.self in let x3 = c.promote.new.standby in
+    let e = c.engine.ensures.went in let p = c.in-Ok.ensures.ok in let parts = c.into_parts-shadow.ensures in
+    let reporters = c.join_all-reporters.result.0.items in let told = c.join_all-reporters.result.1 in
+    let all : length c.args.workers.items ≤ length (vec_items c.start_all-handles.result) = omega (arith, c.if-not-all_started.ensures, c.len-count.ensures, c.len-started.ensures, c.args.workers.ok.0, c.start_all-handles.result.ok.0) in
+    let joins : JoinsAll gives handles x1.ends reporters told = subst (λ (es : List Taking). JoinsAll gives handles es reporters told) c.ends.ensures c.join_all-reporters.ensures in
+    subst (λ (es : List Taking). AllZip AreOneLane es reporters) (sym parts.1)
+    (one_lanes gives workers handles c.start_all-handles.ensures all x0 x1 c.requires.lanes e.0 e.2 reporters told joins x2 x3 c.close_intake.ensures.ends c.close_intake.ensures.carries p.2)
+
+pub returns-then-told-clause-same : goal.returns-then-told-clause-same
+returns-then-told-clause-same g c =
+    let e = c.engine.ensures.went in let p = c.in-Ok.ensures.ok in
+    same_then c.args.end.now c.engine.new.source c.promote.new.source (same_asked c.args.end.now c.engine.new.source e.0 e.1) (same_asked c.engine.new.source c.promote.new.source p.0 p.1)
+
+pub returns-then-told-clause-err : goal.returns-then-told-clause-err
+returns-then-told-clause-err g c =
+    let gives = g.S.ReportSource.gives in let workers = c.args.workers.items in let handles = vec_items c.start_all-handles.result in
+    let x0 = c.args.standby in let x1 = c.engine.new.standby in let x2 = c.close_intake.new.self in let x3 = c.promote.new.standby in
+    let e = c.engine.ensures.went in let p = c.in-Ok.ensures.ok in let parts = c.into_parts-shadow.ensures in
+    let reporters = c.join_all-reporters.result.0.items in let told = c.join_all-reporters.result.1 in
+    let all : length c.args.workers.items ≤ length (vec_items c.start_all-handles.result) = omega (arith, c.if-not-all_started.ensures, c.len-count.ensures, c.len-started.ensures, c.args.workers.ok.0, c.start_all-handles.result.ok.0) in
+    let joins : JoinsAll gives handles x1.ends reporters told = subst (λ (es : List Taking). JoinsAll gives handles es reporters told) c.ends.ensures c.join_all-reporters.ensures in
+    closed_over x0 c.args.end.now c.promote.new.source c.promote.new.source (e.0 ++ p.0)
+    (asked_append GivesWhatIsFed c.args.end.now c.engine.new.source c.promote.new.source e.0 p.0 e.1 p.1)
+    (ends_behind e.0 p.0 p.7)
+    (has_ended gives workers handles c.start_all-handles.ensures all x0 x1 c.requires.lanes e.0 e.2 reporters told joins x2 x3 c.close_intake.ensures.ends c.close_intake.ensures.carries p.2 p.0 p.4)
+
+pub returns-then-told-clause-told : goal.returns-then-told-clause-told
+returns-then-told-clause-told g c =
+    let gives = g.S.ReportSource.gives in let workers = c.args.workers.items in let handles = vec_items c.start_all-handles.result in
+    let x0 = c.args.standby in let x1 = c.engine.new.standby in let x2 = c.close_intake.new.self in let x3 = c.promote.new.standby in
+    let e = c.engine.ensures.went in let p = c.in-Ok.ensures.ok in let parts = c.into_parts-shadow.ensures in
+    let reporters = c.join_all-reporters.result.0.items in let told = c.join_all-reporters.result.1 in
+    let all : length c.args.workers.items ≤ length (vec_items c.start_all-handles.result) = omega (arith, c.if-not-all_started.ensures, c.len-count.ensures, c.len-started.ensures, c.args.workers.ok.0, c.start_all-handles.result.ok.0) in
+    let joins : JoinsAll gives handles x1.ends reporters told = subst (λ (es : List Taking). JoinsAll gives handles es reporters told) c.ends.ensures c.join_all-reporters.ensures in
+    was_told gives workers handles c.start_all-handles.ensures all x0 x1 c.requires.lanes e.0 e.2 reporters told joins c.if-told.true
+
+pub returns-clause-same : goal.returns-clause-same
+returns-clause-same g c =
+    let e = c.engine.ensures.went in let p = c.in-Ok.ensures.ok in
+    same_then c.args.end.now c.engine.new.source c.promote.new.source (same_asked c.args.end.now c.engine.new.source e.0 e.1) (same_asked c.engine.new.source c.promote.new.source p.0 p.1)
+
+pub returns-clause-ok : goal.returns-clause-ok
+returns-clause-ok g c =
+    let gives = g.S.ReportSource.gives in let workers = c.args.workers.items in let handles = vec_items c.start_all-handles.result in
+    let x0 = c.args.standby in let x1 = c.engine.new.standby in let x2 = c.close_intake.new.self in let x3 = c.promote.new.standby in
+    let e = c.engine.ensures.went in let p = c.in-Ok.ensures.ok in let parts = c.into_parts-shadow.ensures in
+    let reporters = c.join_all-reporters.result.0.items in let told = c.join_all-reporters.result.1 in
+    let all : length c.args.workers.items ≤ length (vec_items c.start_all-handles.result) = omega (arith, c.if-not-all_started.ensures, c.len-count.ensures, c.len-started.ensures, c.args.workers.ok.0, c.start_all-handles.result.ok.0) in
+    let joins : JoinsAll gives handles x1.ends reporters told = subst (λ (es : List Taking). JoinsAll gives handles es reporters told) c.ends.ensures c.join_all-reporters.ensures in
+    let agree = subst (λ (es : List Taking). AllZip Agrees es reporters) parts.1 c.meet_all.ensures in
+    record {
+      answers = e.0 ++ p.0;
+      asked = asked_append GivesWhatIsFed c.args.end.now c.engine.new.source c.promote.new.source e.0 p.0 e.1 p.1;
+      ended = ends_behind e.0 p.0 p.7;
+      last = p.3.0 ∙ ap (λ (z : Contents). z.last) (sym parts.0);
+      flushed = p.3.1 ∙ ap (λ (z : Contents). count_by is_flush z.history) (sym parts.0);
+      settings = subst (λ (z : Contents). KeepsSettings x0.shadow z) (sym parts.0)
+          (settings_then x0.shadow x1.shadow x3.shadow e.2.settings (subst (λ (z : Contents). KeepsSettings z x3.shadow) (ap (λ z. z.shadow) c.close_intake.ensures.rest) p.6));
+      ends = x3.ends;
+      promoted = λ start base given h.
+          subst (λ (z : Contents). IsPromoted gives start base (given ++ (e.0 ++ p.0)) workers x0.ends x3.ends z) (sym parts.0)
+          (is_promoted gives workers handles c.start_all-handles.ensures all x0 x1 c.requires.lanes e.0 e.2 reporters told joins x2 x3 c.close_intake.ensures.ends c.close_intake.ensures.carries p.2 p.0 p.4 agree c.if-told.false start base given h);
+    }

@@ -1,0 +1,86 @@
+//! The source of segments on a thread of its own, and the end of its feed.
+ghost use Rattle.std.specs.Prelude.{◌≡◌, [], IfSome};
+ghost use Rattle.nn_feed.specs.Ends.{put_by, got_by, AreOfOneFeed, IsSameEnd};
+ghost use Rattle.nn_feed.specs.Running.{HasRun};
+ghost use Rattle.nn_drive.specs.Feeding.{GotMore, HasAnswered, IsKnown};
+
+use crate::driving::DriveFault;
+use nn_feed::{Began, FeedEnd, Feeder, Ran, Told, meet, run_thread};
+use nn_segment::{Item, SegmentSource};
+use std::snapshot::Snapshot;
+use std::sync::Wait;
+use std::thread::{PromisedHandle, Scope, Threads};
+
+// The feeder on a thread of the scope.
+pub(crate) fn start_feeder<'s, E, T: SegmentSource + Send + Drop + 's, R: Wait + Sync>(
+    scope: &Scope<'s, E>,
+    rt: &'s R,
+    source: T,
+    feeder: Feeder,
+) -> Option<PromisedHandle<Ran<T>, Began<T>>>
+    ensures { IfSome result (λ h. (h.promise.0.value ≡ source) × (h.promise.1.value ≡ feeder)) }
+{
+    let promise = Began(Snapshot::of(&source), Snapshot::of(&feeder));
+    let run = move || -> Ran<T>
+        ensures { HasRun T.gives T.failures source feeder result }
+    { run_thread(rt, source, feeder) };
+    scope.spawn_with(promise, run).ok()
+}
+
+// Receives one answer more, or the last one again. False says that none will come.
+pub(crate) fn receive<'a, R: Wait>(end: &mut FeedEnd<'a, R>) -> bool
+    ensures same { IsSameEnd end.old end.new }
+    ensures more { GotMore (got_by end.old) (got_by end.new) }
+{
+    matches!(end.next(), Ok(Item::Segment(_)))
+}
+
+// Joins the feeder's thread, and ends the feed. False says that an answer of the source was not put, though the end of
+// the feed was there: no channel does so, and no contract says so.
+pub(crate) fn end_feed<'a, T: SegmentSource + Drop, R: Threads + Wait>(
+    rt: &R,
+    end: FeedEnd<'a, R>,
+    feeding: PromisedHandle<Ran<T>, Began<T>>,
+) -> bool
+    requires one_feed { AreOfOneFeed feeding.promise.1.value end }
+    requires new { put_by feeding.promise.1.value ≡ [] }
+    ensures { HasAnswered T.gives T.failures feeding.promise.0.value (got_by end.entry) result }
+{
+    let Ran { source, outcome } = feeding.join(rt);
+    drop(source);
+    let Ok(Told { feeder, end: _ }) = outcome else {
+        return false;
+    };
+    meet(feeder, end);
+    true
+}
+
+// Receives all that comes, up to the last answer.
+pub(crate) fn receive_rest<'a, R: Wait>(rt: &R, end: &mut FeedEnd<'a, R>)
+    ensures same { IsSameEnd end.old end.new }
+    ensures more { GotMore (got_by end.old) (got_by end.new) }
+{
+    for _ in rt.forever() {
+        if !receive(end) {
+            return;
+        }
+    }
+    unreachable!()
+}
+
+// What a drive answers for a fault that it met at the end of a feed: 54 only where the feed told it as its source's. No
+// channel fails while both its ends are there, but no contract says so.
+pub(crate) fn known_fault(fault: DriveFault, is_told: bool) -> DriveFault
+    ensures { IsKnown fault is_told result }
+{
+    if is_told {
+        return fault;
+    }
+    match fault {
+        DriveFault::LogNotEnded(_) => DriveFault::OutOfMemory,
+        DriveFault::AlreadyActive
+        | DriveFault::Stopped(_)
+        | DriveFault::OutOfMemory
+        | DriveFault::Closed => fault,
+    }
+}

@@ -1,0 +1,61 @@
+//! The segments of a run with threads, in memory: the source comes to the gate before it gives its first.
+ghost use Rattle.std.specs.Prelude.{◌≡◌};
+
+use crate::threads::Gate;
+use nn_segment::{Item, MemorySource, Parsed, SegmentSource, SourceFault};
+use std::alloc::Global;
+use std::marker::Model;
+use std::sync::Arc;
+
+/// Where the source of segments comes to the gate.
+pub const SOURCE: u64 = 0;
+
+/// The segments of a run.
+#[derive(Drop)]
+pub struct Segments<G> {
+    source: MemorySource,
+    gate: Arc<G, Global>,
+    passed: bool,
+}
+
+impl<G> Model for Segments<G> {
+    ghost use Rattle.std.specs.Prelude.{List};
+    ghost use Rattle.nn_segment.specs.Segment.{Segment};
+
+    ghost Value = { List Segment };
+
+    ghost view = { λ s. s.source };
+}
+
+impl<G> Segments<G> {
+    pub fn new(segments: Vec<Parsed>, gate: Arc<G, Global>) -> Segments<G>
+        ensures { result ≡ segments.items }
+    {
+        Segments {
+            source: MemorySource::new(segments),
+            gate,
+            passed: false,
+        }
+    }
+}
+
+impl<G: Gate> SegmentSource for Segments<G> {
+    ghost use Rattle.std.specs.Prelude.{◌≡◌, [], length};
+    ghost use Rattle.nn_segment.specs.Source.{GivesNext};
+
+    ghost gives = { GivesNext };
+
+    ghost left = { length };
+
+    ghost failures = { λ _. 0 };
+
+    ghost ended = { λ s. s ≡ [] };
+
+    fn next(&mut self) -> Result<Item, SourceFault> {
+        if !self.passed {
+            self.passed = true;
+            self.gate.pass(SOURCE);
+        }
+        self.source.next()
+    }
+}

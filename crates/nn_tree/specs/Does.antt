@@ -1,0 +1,14 @@
+-- What came of the try to make an edit.
+use Rattle.std.specs.Prelude.{◌≡◌, Result, Ok, Err, None}
+use Rattle.nn_types.specs.declared.edit.Edit.{Edit}
+use Rattle.nn_model.specs.Namespace.{Namespace}
+use Rattle.nn_model.specs.Apply.{refusal, effect}
+use Rattle.nn_model.specs.Touched.{touched}
+use Rattle.nn_tree.specs.declared.touched.Touched.{Touched as Told}
+use Rattle.nn_tree.specs.declared.tree.Unchanged.{Unchanged}
+use Rattle.nn_tree.specs.Touched.{shown}
+
+-- The edit applies, has its effect, and tells what that touched; or nothing changed.
+abbrev pub Does : Edit → Namespace → Result Told Unchanged → Namespace → Type 0
+Does edit old (Ok told) new = (refusal old edit ≡ None) × (new ≡ effect old edit) × (shown told ≡ touched old edit)
+Does edit old (Err unchanged) new = new ≡ old

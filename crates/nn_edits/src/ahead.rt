@@ -15,41 +15,41 @@ use std::alloc::AllocError;
 
 /// Why a value was not read to its end.
 #[derive(Clone, Copy, Drop)]
-pub(crate) enum Stop {
+pub(crate) enum TokenFault {
     /// It is no JSON, nests too deep, or has a number beyond every float.
     Invalid,
     OutOfMemory,
 }
 
-impl From<Invalid> for Stop {
-    ghost use Rattle.nn_edits.specs.declared.ahead.Stop.TheVariants.{Invalid as invalid};
+impl From<Invalid> for TokenFault {
+    ghost use Rattle.nn_edits.specs.declared.ahead.TokenFault.TheVariants.{Invalid as invalid};
 
     ghost from_gives = { λ _ e. e ≡ invalid };
 
-    fn from(_e: Invalid) -> Stop {
-        Stop::Invalid
+    fn from(_e: Invalid) -> TokenFault {
+        TokenFault::Invalid
     }
 }
 
-impl From<AllocError> for Stop {
-    ghost use Rattle.nn_edits.specs.declared.ahead.Stop.TheVariants.{OutOfMemory};
+impl From<AllocError> for TokenFault {
+    ghost use Rattle.nn_edits.specs.declared.ahead.TokenFault.TheVariants.{OutOfMemory};
 
     ghost from_gives = { λ _ e. e ≡ OutOfMemory };
 
-    fn from(_e: AllocError) -> Stop {
-        Stop::OutOfMemory
+    fn from(_e: AllocError) -> TokenFault {
+        TokenFault::OutOfMemory
     }
 }
 
-impl From<Stop> for LineFault {
-    ghost use Rattle.nn_edits.specs.Fault.{fault_of_stop};
+impl From<TokenFault> for LineFault {
+    ghost use Rattle.nn_edits.specs.Fault.{fault_of_tokens};
 
-    ghost from_gives = { λ s e. e ≡ fault_of_stop s };
+    ghost from_gives = { λ s e. e ≡ fault_of_tokens s };
 
-    fn from(e: Stop) -> LineFault {
+    fn from(e: TokenFault) -> LineFault {
         match e {
-            Stop::Invalid => LineFault::NotJson,
-            Stop::OutOfMemory => LineFault::OutOfMemory,
+            TokenFault::Invalid => LineFault::NotJson,
+            TokenFault::OutOfMemory => LineFault::OutOfMemory,
         }
     }
 }

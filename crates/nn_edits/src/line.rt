@@ -11,7 +11,7 @@ ghost use Rattle.nn_edits.specs.declared.line.Line.{Line as LineData};
 ghost use Rattle.nn_types.specs.declared.tx.Tx.{Tx as TxData};
 ghost use Rattle.nn_types.specs.declared.report.Report.{Report as ReportData};
 
-use crate::ahead::{Stop, read_member};
+use crate::ahead::{TokenFault, read_member};
 use crate::blocks::read_blocks;
 use crate::fault::LineFault;
 use crate::fields::Fields;
@@ -151,13 +151,13 @@ fn read_fields<'a>(
     reader: &mut Reader<'a>,
     depth: usize,
     fields: &mut Fields<'a>,
-) -> Result<(), Stop>
+) -> Result<(), TokenFault>
     requires deep { 1 < depth }
     requires none { seen_fields fields.old ≡ parts_of (object no_members) }
     ensures ok { OnOk result ((ms : Members)
         × (members_at depth (length reader.old) no_members reader.old ≡ Some (ms, reader.new))
         × (seen_fields fields.new ≡ parts_of (object ms))) }
-    ensures err { result ≡ Err Stop.Invalid
+    ensures err { result ≡ Err TokenFault.Invalid
         → members_at depth (length reader.old) no_members reader.old ≡ None }
 {
     'members: while let Some(key) = reader.next_key()? {

@@ -9,7 +9,7 @@ use Rattle.nn_types.specs.declared.tx.Tx.{Tx}
 use Rattle.nn_model.specs.Apply.{applied}
 use Rattle.nn_model.specs.Lanes.{Lanes, no_messages, followed_by}
 use Rattle.nn_model.specs.Namespace.{Namespace, root_alone}
-use Rattle.nn_model.specs.Stands.{Standby, fresh}
+use Rattle.nn_model.specs.Stands.{StandbyState, fresh}
 use Rattle.nn_model.specs.Log.{counted, log_of}
 use Rattle.nn_shadow.specs.Calls.{applied_to, received}
 use Rattle.nn_segment.specs.Segment.{Segment}
@@ -18,7 +18,7 @@ use Rattle.nn_shadow.specs.Contents.{Contents, standby_of, KeepsSettings}
 use Rattle.nn_shadow.specs.Laws.{StandsBy}
 use Rattle.nn_shadow.specs.Refusals.{is_lane, hand_refusal}
 use Rattle.nn_shadow.proofs.Standings.{begins_standing}
-use Rattle.nn_segment.specs.LogEnd.{Stop, LogEnd, go_on, end_of_txs, end_of_log}
+use Rattle.nn_segment.specs.LogEnd.{LogStop, LogEnd, go_on, end_of_txs, end_of_log}
 use Rattle.nn_segment.specs.LogLeft.{LogLeft, end_of_left, txs_left}
 use Rattle.nn_engine.specs.Turns.{next_applied, all_applied, in_turn}
 use Rattle.nn_engine.proofs.TurnLemmas.{all_applied_next}
@@ -35,7 +35,7 @@ ComesFirst last old tx new = (n : Namespace) → end_of_left last n old ≡ go_o
 abbrev pub AppliesOne : Tx → Contents → Contents → Type 0
 AppliesOne tx x y = (start : Namespace) (base : ℕ) (txs : List Tx) (lanes : Lanes) → StandsBy start base txs lanes (standby_of x) → StandsBy start base (txs ++ tx ∷ []) lanes (standby_of y)
 
-pub one_further : (whole : Result LogEnd Stop) (lanes : Lanes) (x y : Contents) (old new : LogLeft) (tx : Tx) → ComesFirst x.last old tx new
+pub one_further : (whole : Result LogEnd LogStop) (lanes : Lanes) (x y : Contents) (old new : LogLeft) (tx : Tx) → ComesFirst x.last old tx new
     → applied x.namespace tx.edit ≡ Ok y.namespace → y.last ≡ tx.txid → AppliesOne tx x y → IsOnItsWay whole old lanes x → IsOnItsWay whole new lanes y
 one_further whole lanes x y old new tx first does last stands h = record {
   txs = h.txs ++ tx ∷ [];
@@ -47,12 +47,12 @@ one_further whole lanes x y old new tx first does last stands h = record {
 }
 
 -- nothing is left
-pub nothing_further : (whole : Result LogEnd Stop) (lanes : Lanes) (x : Contents) (old new : LogLeft)
+pub nothing_further : (whole : Result LogEnd LogStop) (lanes : Lanes) (x : Contents) (old new : LogLeft)
     → end_of_left x.last x.namespace old ≡ Ok (record { last = x.last; namespace = x.namespace })
     → end_of_left x.last x.namespace new ≡ Ok (record { last = x.last; namespace = x.namespace }) → IsOnItsWay whole old lanes x → IsOnItsWay whole new lanes x
 nothing_further whole lanes x old new before after h = record { txs = h.txs; stands = h.stands; ends = after ∙ sym before ∙ h.ends }
 
-pub a_message_further : (whole : Result LogEnd Stop) (lanes : Lanes) (x y : Contents) (left : LogLeft) (m : Message) → (y.namespace ≡ x.namespace) × (y.last ≡ x.last)
+pub a_message_further : (whole : Result LogEnd LogStop) (lanes : Lanes) (x y : Contents) (left : LogLeft) (m : Message) → (y.namespace ≡ x.namespace) × (y.last ≡ x.last)
     → ((start : Namespace) (base : ℕ) (txs : List Tx) (lanes : Lanes) → StandsBy start base txs lanes (standby_of x) → StandsBy start base txs (followed_by lanes m) (standby_of y))
     → IsOnItsWay whole left lanes x → IsOnItsWay whole left (followed_by lanes m) y
 a_message_further whole lanes x y left m same stands h = record {
@@ -74,14 +74,14 @@ none_holds count x lanes m phase size known last next =
     let lane : is_lane (length x.numbers) m.dn ≡ true = ap (λ n. is_lane n m.dn) size ∙ in_range count m.dn known in
     rw (phase, lane, eq-eqb m.number ((standby_of x).last_number m.dn + 1) number) refl
 
-pub is_welcome : (whole : Result LogEnd Stop) (count : ℕ) (all : Lanes) (left : LogLeft) (next : Step) (steps : List Step) (x : Contents)
+pub is_welcome : (whole : Result LogEnd LogStop) (count : ℕ) (all : Lanes) (left : LogLeft) (next : Step) (steps : List Step) (x : Contents)
     → IsFollowing whole count all left (next ∷ steps) x → IsWelcome x next
 is_welcome whole count all left step.Edit steps x h = tt
 is_welcome whole count all left (step.Message m) steps x h =
     none_holds count x h.lanes m h.phase h.count_is (All-head (IsStepOf count) (step.Message m) steps h.within) (h.way.stands.stands.last_numbers m.dn) h.in_turn.0
 
-pub step_taken : (whole : Result LogEnd Stop) (count : ℕ) (all : Lanes) (old new : LogLeft) (next : Step) (steps : List Step) (x y : Contents)
-    → ((whole : Result LogEnd Stop) (lanes : Lanes) → IsOnItsWay whole old lanes x → IsOnItsWay whole new (lanes_after lanes (next ∷ [])) y)
+pub step_taken : (whole : Result LogEnd LogStop) (count : ℕ) (all : Lanes) (old new : LogLeft) (next : Step) (steps : List Step) (x y : Contents)
+    → ((whole : Result LogEnd LogStop) (lanes : Lanes) → IsOnItsWay whole old lanes x → IsOnItsWay whole new (lanes_after lanes (next ∷ [])) y)
     → y.phase ≡ serving → KeepsSettings x y → IsFollowing whole count all old (next ∷ steps) x → IsFollowing whole count all new steps y
 step_taken whole count all old new step.Edit steps x y on phase rest h = record {
   lanes = h.lanes;
@@ -90,7 +90,7 @@ step_taken whole count all old new step.Edit steps x y on phase rest h = record 
   within = All-tail (IsStepOf count) step.Edit steps h.within;
   ahead = h.ahead;
   phase = phase;
-  count_is = rest.lanes ∙ h.count_is;
+  count_is = rest.datanodes ∙ h.count_is;
 }
 step_taken whole count all old new (step.Message m) steps x y on phase rest h = record {
   lanes = followed_by h.lanes m;
@@ -99,7 +99,7 @@ step_taken whole count all old new (step.Message m) steps x y on phase rest h = 
   within = All-tail (IsStepOf count) (step.Message m) steps h.within;
   ahead = h.ahead;
   phase = phase;
-  count_is = rest.lanes ∙ h.count_is;
+  count_is = rest.datanodes ∙ h.count_is;
 }
 
 pub all_is_left : (left : LogLeft) → left.txs ≡ [] → end_of_left 0 root_alone left ≡ end_of_log 0 root_alone left.segments
@@ -142,12 +142,12 @@ pub message_turn : (x y : Contents) (left : LogLeft) (m : Message) → standby_o
 message_turn x y left m done last = λ steps. (λ j. in_turn (done j) (txs_left (last j) left) steps)
 
 -- the rest of the log is followed further
-pub rest_further : (x y : Contents) (old new : LogLeft) (all : Standby) → TakesNext old x new y → all_applied (standby_of x) (txs_left x.last old) ≡ all
+pub rest_further : (x y : Contents) (old new : LogLeft) (all : StandbyState) → TakesNext old x new y → all_applied (standby_of x) (txs_left x.last old) ≡ all
     → all_applied (standby_of y) (txs_left y.last new) ≡ all
 rest_further x y old new all h is = (λ j. all_applied (h.0 j) (h.1 j)) ∙ all_applied_next (standby_of x) (txs_left x.last old) ∙ is
 
 -- and to its end
-pub rest_ends : (x y : Contents) (old new : LogLeft) (all : Standby) → TakesNext old x new y → txs_left x.last old ≡ []
+pub rest_ends : (x y : Contents) (old new : LogLeft) (all : StandbyState) → TakesNext old x new y → txs_left x.last old ≡ []
     → all_applied (standby_of x) (txs_left x.last old) ≡ all → standby_of y ≡ all
 rest_ends x y old new all h none is = h.0 ∙ ap (next_applied (standby_of x)) none ∙ ap (all_applied (standby_of x)) (sym none) ∙ is
 

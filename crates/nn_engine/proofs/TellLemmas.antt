@@ -15,7 +15,7 @@ use Rattle.nn_shadow.specs.Contents.{Contents, standby_of, KeepsSettings}
 use Rattle.nn_shadow.specs.Laws.{StandsBy}
 use Rattle.nn_engine.specs.Follow.{HasArrived}
 use Rattle.nn_listing.specs.Listing.{listing_text}
-use Rattle.nn_segment.specs.LogEnd.{LogEnd, Stop}
+use Rattle.nn_segment.specs.LogEnd.{LogEnd, LogStop}
 use Rattle.nn_engine.specs.declared.engine.Options.{Options}
 use Rattle.nn_engine.specs.Output.{Printed, after_log, image_part, with_history}
 use Rattle.nn_engine.specs.Shown.{history_part, with_settings}
@@ -53,7 +53,7 @@ tables_told options y lanes mode told before tables after shows counts events li
     (image_part options.image (record { last = y.last; namespace = y.namespace }))
 
 -- after the flush it is told as before
-pub flushed_told : (options : Options) (x y : Contents) (lanes : Lanes) (whole : Result LogEnd Stop) (p : Printed) → standby_of y ≡ flushed (standby_of x) → KeepsSettings x y → StandsFlushed x y
+pub flushed_told : (options : Options) (x y : Contents) (lanes : Lanes) (whole : Result LogEnd LogStop) (p : Printed) → standby_of y ≡ flushed (standby_of x) → KeepsSettings x y → StandsFlushed x y
     → ((lanes : Lanes) → ShowsPicture y.namespace lanes (tables_of (standby_of y)) → p ≡ with_history options.history y.history (after_log (with_settings options y.permille y.table.min) lanes (Ok (record { last = y.last; namespace = y.namespace }))))
     → HasArrived whole lanes x → p ≡ with_history options.history (flushed (standby_of x)).history (after_log (with_settings options x.permille x.table.min) lanes whole)
 flushed_told options x y lanes whole p done settings flush told h =

@@ -7,7 +7,7 @@ use Rattle.nn_model.specs.Lanes.{Lanes, no_messages}
 use Rattle.nn_model.specs.Log.{log_of}
 use Rattle.nn_model.specs.Namespace.{root_alone}
 use Rattle.nn_model.specs.Stands.{fresh}
-use Rattle.nn_segment.specs.LogEnd.{LogEnd, Stop, stop_number, end_of_log}
+use Rattle.nn_segment.specs.LogEnd.{LogEnd, LogStop, stop_number, end_of_log}
 use Rattle.nn_segment.specs.Segment.{Segment}
 use Rattle.nn_shadow.specs.Calls.{flushed}
 use Rattle.nn_shadow.specs.Contents.{Contents, standby_of}
@@ -23,7 +23,7 @@ use Rattle.nn_engine.proofs.TurnLemmas.{turns_are_lawful}
 
 -- ---- A log.
 
-pub is_fault : (options : Options) (lanes : Lanes) (whole : Result LogEnd Stop) (stop : Stop) (p : Printed) → whole ≡ Err stop
+pub is_fault : (options : Options) (lanes : Lanes) (whole : Result LogEnd LogStop) (stop : LogStop) (p : Printed) → whole ≡ Err stop
     → p ≡ fault_at (codes " txid ") (stop_number stop.cause) stop.txid → IsFaultOf options lanes whole p
 is_fault options lanes whole stop p stopped is = record {
   stopped = λ end ended. (let q : Err stop ≡ Ok end = sym stopped ∙ ended in absurd (cc));
@@ -52,7 +52,7 @@ told_history threads options steps whole segments events p are happened is = rec
 pub told_in_turn : (options : Options) (steps : List Step) (whole : Result (List Segment) BadSegment) (segments : List Segment) (x : Contents) (p : Printed)
     → whole ≡ Ok segments → AreInTurn no_messages steps → HasArrived (end_of_log 0 root_alone segments) (lanes_of steps) x
     → standby_of x ≡ in_turn (fresh root_alone 0) (log_in segments) steps → (x.table.min ≡ options.settings.min) × (x.permille ≡ options.settings.permille)
-    → ((lanes : Lanes) (end : Result LogEnd Stop) → HasArrived end lanes x
+    → ((lanes : Lanes) (end : Result LogEnd LogStop) → HasArrived end lanes x
     → p ≡ with_history options.history (flushed (standby_of x)).history (after_log (with_settings options x.permille x.table.min) lanes end))
     → IsToldOf false options steps whole p
 told_in_turn options steps whole segments x p are in_order arrived turns settings told =

@@ -7,7 +7,7 @@ use Rattle.nn_types.specs.declared.tx.Tx.{Tx}
 use Rattle.nn_model.specs.Lanes.{Lanes, no_messages, followed_by}
 use Rattle.nn_model.specs.Log.{IsLog, log_of}
 use Rattle.nn_model.specs.Namespace.{root_alone}
-use Rattle.nn_model.specs.Stands.{Standby, fresh}
+use Rattle.nn_model.specs.Stands.{StandbyState, fresh}
 use Rattle.nn_model.proofs.Equals.{root_alone_is_well_formed}
 use Rattle.nn_shadow.specs.Calls.{applied_to, processing, received, waits}
 use Rattle.nn_shadow.specs.Laws.{StandsBy}
@@ -22,28 +22,28 @@ use Rattle.nn_engine.specs.Output.{IsHistoryOf}
 use Rattle.nn_segment.proofs.LogEnds.{ends_with_the_log}
 
 -- the rest of a log after the next transaction
-pub all_applied_next : (x : Standby) (log : List Tx) → all_applied (next_applied x log) (drop 1 log) ≡ all_applied x log
+pub all_applied_next : (x : StandbyState) (log : List Tx) → all_applied (next_applied x log) (drop 1 log) ≡ all_applied x log
 all_applied_next x [] = refl
 all_applied_next x (tx ∷ log) = refl
 
 -- a message changes neither the namespace nor the last txid
-held_or_processed : (b : Bool) (x : Standby) (m : Message) (held : List Message) →
+held_or_processed : (b : Bool) (x : StandbyState) (m : Message) (held : List Message) →
     ((cond b (record x { held = held }) (processing Due (m ∷ []) x)).namespace ≡ x.namespace)
     × ((cond b (record x { held = held }) (processing Due (m ∷ []) x)).last ≡ x.last)
 held_or_processed true x m held = (refl, refl)
 held_or_processed false x m held = (refl, refl)
 
-stays : (x : Standby) (m : Message) → ((received x m).namespace ≡ x.namespace) × ((received x m).last ≡ x.last)
+stays : (x : StandbyState) (m : Message) → ((received x m).namespace ≡ x.namespace) × ((received x m).last ≡ x.last)
 stays x m = held_or_processed (waits x m) x m _
 
-all_applied_stands : (log done : List Tx) (lanes : Lanes) (x : Standby) → StandsBy root_alone 0 done lanes x → IsLog x.namespace x.last log
+all_applied_stands : (log done : List Tx) (lanes : Lanes) (x : StandbyState) → StandsBy root_alone 0 done lanes x → IsLog x.namespace x.last log
     → StandsBy root_alone 0 (done ++ log) lanes (all_applied x log)
 all_applied_stands [] done lanes x s l = subst (λ txs. StandsBy root_alone 0 txs lanes x) (sym (append-nil done)) s
 all_applied_stands (tx ∷ log) done lanes x s l =
     subst (λ txs. StandsBy root_alone 0 txs lanes (all_applied (applied_to x tx) log)) (append_assoc done (tx ∷ []) log)
     (all_applied_stands log (done ++ tx ∷ []) lanes (applied_to x tx) (applies root_alone 0 done lanes x tx s l.0 l.1) l.2)
 
-in_turn_stands : (steps : List Step) (log done : List Tx) (lanes : Lanes) (x : Standby) → StandsBy root_alone 0 done lanes x → IsLog x.namespace x.last log
+in_turn_stands : (steps : List Step) (log done : List Tx) (lanes : Lanes) (x : StandbyState) → StandsBy root_alone 0 done lanes x → IsLog x.namespace x.last log
     → AreInTurn lanes steps → StandsBy root_alone 0 (done ++ log) (lanes_after lanes steps) (in_turn x log steps)
 in_turn_stands [] log done lanes x s l t = all_applied_stands log done lanes x s l
 in_turn_stands (step.Edit ∷ steps) [] done lanes x s l t = in_turn_stands steps [] done lanes x s l t

@@ -8,7 +8,7 @@ use Rattle.nn_model.specs.Namespace.{Namespace, root_alone}
 use Rattle.nn_shadow.specs.Contents.{Contents, standby_of}
 use Rattle.nn_shadow.specs.Laws.{StandsBy}
 use Rattle.nn_shadow.specs.Refusals.{Phase, hand_refusal}
-use Rattle.nn_segment.specs.LogEnd.{refused, disorder, Stop, LogEnd}
+use Rattle.nn_segment.specs.LogEnd.{refused, disorder, LogStop, LogEnd}
 use Rattle.nn_segment.specs.LogLeft.{LogLeft, end_of_left, txs_left, ComesNext, IsMissing, IsOver}
 use Rattle.nn_segment.specs.declared.cursor.Next.{Next}
 use Rattle.nn_segment.specs.declared.cursor.Next.TheVariants as next
@@ -36,19 +36,19 @@ IsWelcome x (step.Message m) = hand_refusal (length x.numbers) x.phase (standby_
 
 -- The standby stands where it has received these lanes and some of a log, of which this much is left. What is left ends
 -- as the whole log does.
-pub record IsOnItsWay (whole : Result LogEnd Stop) (left : LogLeft) (lanes : Lanes) (x : Contents) : Type 0 where
+pub record IsOnItsWay (whole : Result LogEnd LogStop) (left : LogLeft) (lanes : Lanes) (x : Contents) : Type 0 where
   pub txs : List Tx
   pub stands : StandsBy root_alone 0 txs lanes (standby_of x)
   pub ends : end_of_left x.last x.namespace left ≡ whole
 
 -- the standby stands at these lanes, and at the end of the whole log
-pub record HasArrived (whole : Result LogEnd Stop) (lanes : Lanes) (x : Contents) : Type 0 where
+pub record HasArrived (whole : Result LogEnd LogStop) (lanes : Lanes) (x : Contents) : Type 0 where
   pub txs : List Tx
   pub stands : StandsBy root_alone 0 txs lanes (standby_of x)
   pub ends : whole ≡ Ok (record { last = x.last; namespace = x.namespace })
 
 -- The standby is on its way, so many DataNodes being there and these steps ahead; after them it will have received these lanes.
-pub record IsFollowing (whole : Result LogEnd Stop) (count : ℕ) (all : Lanes) (left : LogLeft) (steps : List Step) (x : Contents) : Type 0 where
+pub record IsFollowing (whole : Result LogEnd LogStop) (count : ℕ) (all : Lanes) (left : LogLeft) (steps : List Step) (x : Contents) : Type 0 where
   pub lanes : Lanes
   pub way : IsOnItsWay whole left lanes x
   pub in_turn : AreInTurn lanes steps
@@ -68,11 +68,11 @@ TakesStep old x s new y = (steps : List Step) → in_turn (standby_of y) (txs_le
 
 -- wherever it was on its way through a log, it is on its way through what is left now, with these steps taken
 abbrev pub Advances : LogLeft → Contents → List Step → LogLeft → Contents → Type 0
-Advances old x steps new y = (whole : Result LogEnd Stop) (lanes : Lanes) → IsOnItsWay whole old lanes x → IsOnItsWay whole new (lanes_after lanes steps) y
+Advances old x steps new y = (whole : Result LogEnd LogStop) (lanes : Lanes) → IsOnItsWay whole old lanes x → IsOnItsWay whole new (lanes_after lanes steps) y
 
 -- wherever it was on its way, it has come to the end of the log
 abbrev pub Arrives : LogLeft → Contents → Contents → Type 0
-Arrives old x y = (whole : Result LogEnd Stop) (lanes : Lanes) → IsOnItsWay whole old lanes x → HasArrived whole lanes y
+Arrives old x y = (whole : Result LogEnd LogStop) (lanes : Lanes) → IsOnItsWay whole old lanes x → HasArrived whole lanes y
 
 -- an edit is refused for this; want of memory says nothing
 abbrev pub IsRefusal : Halt → ℕ → Result Namespace EditFault → Type 0
@@ -81,11 +81,11 @@ IsRefusal (halt.Disorder txid) id outcome = ⊥
 IsRefusal halt.OutOfMemory id outcome = Unit {0}
 
 -- the whole log stops for this; want of memory says nothing
-abbrev pub StopsAs : Halt → Result LogEnd Stop → Type 0
+abbrev pub StopsAs : Halt → Result LogEnd LogStop → Type 0
 StopsAs (halt.Refused fault txid) whole = whole ≡ Err (record { cause = refused fault; txid = txid })
 StopsAs (halt.Disorder txid) whole = whole ≡ Err (record { cause = disorder; txid = txid })
 StopsAs halt.OutOfMemory whole = Unit {0}
 
 -- wherever it was on its way, the whole log stops for this
 abbrev pub HaltsFor : LogLeft → Contents → Halt → Type 0
-HaltsFor old x halt = (whole : Result LogEnd Stop) (lanes : Lanes) → IsOnItsWay whole old lanes x → StopsAs halt whole
+HaltsFor old x halt = (whole : Result LogEnd LogStop) (lanes : Lanes) → IsOnItsWay whole old lanes x → StopsAs halt whole

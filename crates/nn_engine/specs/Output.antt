@@ -12,7 +12,7 @@ use Rattle.nn_segment.specs.Fault.{number_of as segment_number_of}
 use Rattle.nn_segment.specs.Segment.{Segment}
 use Rattle.nn_scenario.specs.Cut.{segments_from}
 use Rattle.nn_listing.specs.Listing.{newline, listing_text}
-use Rattle.nn_segment.specs.LogEnd.{Stop, stop_number, LogEnd, end_of_log}
+use Rattle.nn_segment.specs.LogEnd.{LogStop, stop_number, LogEnd, end_of_log}
 use Rattle.nn_scenario.specs.Scenario.{Scenario, scenario_of}
 use Rattle.nn_scenario.specs.Steps.{lanes_of}
 use Rattle.nn_listing.specs.Tables.{tables_text}
@@ -38,7 +38,7 @@ image_part false end = []
 image_part true end = codes "image" ++ newline ∷ image_text end.namespace end.last
 
 -- after the log: the namespace, the tables that it and the messages of these lanes make, and its image
-abbrev pub after_log : Options → Lanes → Result LogEnd Stop → Printed
+abbrev pub after_log : Options → Lanes → Result LogEnd LogStop → Printed
 after_log options lanes (Ok end) = record {
   text = (listing_text end.last end.namespace ++ tables_text options.settings.permille options.settings.min end.namespace lanes) ++ image_part options.image end;
   status = 0;

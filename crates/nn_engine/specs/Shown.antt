@@ -2,7 +2,7 @@
 use Rattle.std.specs.Prelude.{◌≡◌, ℕ, Bool, true, false, List, [], Result, Ok}
 use Rattle.nn_model.specs.History.{History}
 use Rattle.nn_model.specs.Lanes.{Lanes}
-use Rattle.nn_segment.specs.LogEnd.{LogEnd, Stop}
+use Rattle.nn_segment.specs.LogEnd.{LogEnd, LogStop}
 use Rattle.nn_segment.specs.Segment.{Segment}
 use Rattle.nn_listing.specs.Trail.{history_text}
 use Rattle.nn_scenario.specs.Steps.{lanes_of}
@@ -31,6 +31,6 @@ history_part false events = []
 history_part true events = history_text events
 
 -- the fault line of a log that did not end, which no history stands before
-pub record IsFaultOf (options : Options) (lanes : Lanes) (whole : Result LogEnd Stop) (p : Printed) : Type 0 where
+pub record IsFaultOf (options : Options) (lanes : Lanes) (whole : Result LogEnd LogStop) (p : Printed) : Type 0 where
   pub stopped : (end : LogEnd) → whole ≡ Ok end → ⊥
   pub is : p ≡ with_history options.history [] (after_log options lanes whole)

@@ -10,7 +10,7 @@ ghost use Rattle.nn_shadow.specs.Contents.{standby_of};
 ghost use Rattle.nn_segment.specs.Fault.{number_of as segment_number_of};
 ghost use Rattle.nn_scenario.specs.Cut.{segments_from};
 ghost use Rattle.nn_engine.specs.Follow.{serving, HasArrived, StopsAs};
-ghost use Rattle.nn_segment.specs.LogEnd.{LogEnd, Stop, end_of_log};
+ghost use Rattle.nn_segment.specs.LogEnd.{LogEnd, LogStop, end_of_log};
 ghost use Rattle.nn_engine.specs.declared.engine.Options.{Options as RunOptions};
 ghost use Rattle.nn_engine.specs.Output.{output_of, after_log, fault_at, with_history, IsPrinted};
 ghost use Rattle.nn_shadow.specs.Calls.{flushed};
@@ -156,15 +156,15 @@ fn output_of_scenario(
     scenario: Scenario,
 ) -> Result<Output, AllocError>
     requires { IsLawfulScenario (seen scenario) }
-    ensures { IfOk result (λ o. IsToldOf false options scenario.steps (segments_from 1 scenario.pieces.items) (shown o)) }
+    ensures { IfOk result (λ o. IsToldOf false options scenario.steps (segments_from 1 scenario.parts.items) (shown o)) }
 {
     let Scenario {
-        pieces,
+        parts,
         steps,
-        lanes,
+        datanodes,
     } = scenario;
-    match read_segments(alloc, pieces) {
-        Ok(segments) => match follow(alloc, options.settings, lanes, steps, segments) {
+    match read_segments(alloc, parts) {
+        Ok(segments) => match follow(alloc, options.settings, datanodes, steps, segments) {
             Ok(standby) => output_of_standby(alloc, options, standby),
             Err(halt) => output_of_halt(alloc, halt),
         },
@@ -183,7 +183,7 @@ pub(crate) fn output_of_bad_segment(alloc: Global, bad: BadSegment) -> Result<Ou
 }
 
 fn output_of_halt(alloc: Global, halt: Halt) -> Result<Output, AllocError>
-    ensures { IfOk result (λ o. (options : RunOptions) (lanes : Lanes) (whole : Result LogEnd Stop) → StopsAs halt whole → IsFaultOf options lanes whole (shown o)) }
+    ensures { IfOk result (λ o. (options : RunOptions) (lanes : Lanes) (whole : Result LogEnd LogStop) → StopsAs halt whole → IsFaultOf options lanes whole (shown o)) }
 {
     match halt {
         Halt::Refused { fault, txid } => fault_output(alloc, fault.number(), " txid ", txid),
@@ -195,7 +195,7 @@ fn output_of_halt(alloc: Global, halt: Halt) -> Result<Output, AllocError>
 // The standby followed its log to the end. It flushes what it holds, and then its tables are told.
 fn output_of_standby(alloc: Global, options: Options, standby: Shadow) -> Result<Output, AllocError>
     requires { standby.phase ≡ serving }
-    ensures { IfOk result (λ o. (lanes : Lanes) (whole : Result LogEnd Stop) → HasArrived whole lanes standby
+    ensures { IfOk result (λ o. (lanes : Lanes) (whole : Result LogEnd LogStop) → HasArrived whole lanes standby
         → shown o ≡ with_history options.history (flushed (standby_of standby)).history (after_log (with_settings options standby.permille standby.table.min) lanes whole)) }
 {
     let mut standby = standby;

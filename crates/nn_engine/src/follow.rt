@@ -40,20 +40,20 @@ pub enum Halt {
 pub fn follow(
     alloc: Global,
     settings: Settings,
-    lanes: u16,
+    datanodes: u16,
     steps: StepList,
     segments: Vec<Parsed>,
 ) -> Result<Shadow, Halt>
-    requires lanes { (1 ≤ lanes) × (lanes ≤ 256) }
+    requires datanodes { (1 ≤ datanodes) × (datanodes ≤ 256) }
     requires in_turn { AreInTurn no_messages steps }
-    requires within { All (IsStepOf lanes) steps }
+    requires within { All (IsStepOf datanodes) steps }
     ensures arrived { IfOk result (λ shadow. HasArrived (end_of_log 0 root_alone segments.items) (lanes_of steps) shadow) }
     ensures turns { IfOk result (λ shadow. standby_of shadow ≡ in_turn (fresh root_alone 0) (log_of 0 (map (λ (s : Segment). s.txs) segments.items)) steps) }
     ensures serving { IfOk result (λ shadow. shadow.phase ≡ serving) }
     ensures settings { IfOk result (λ shadow. (shadow.table.min ≡ settings.min) × (shadow.permille ≡ settings.permille)) }
     ensures halted { IfErr result (λ halt. StopsAs halt (end_of_log 0 root_alone segments.items)) }
 {
-    let Ok(mut shadow) = Shadow::new(alloc, lanes, settings) else {
+    let Ok(mut shadow) = Shadow::new(alloc, datanodes, settings) else {
         return Err(Halt::OutOfMemory);
     };
     let mut log = Log::new(alloc, segments);

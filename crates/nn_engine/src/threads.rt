@@ -132,12 +132,12 @@ impl<G: Gate> ReportSource for Listed<G> {
 fn empty_sources<G: Drop>(
     alloc: Global,
     gate: &Arc<G, Global>,
-    lanes: u16,
+    datanodes: u16,
 ) -> Result<Vec<Listed<G>>, AllocError>
-    ensures { IfOk result (λ v. v.items ≡ replicate lanes []) }
+    ensures { IfOk result (λ v. v.items ≡ replicate datanodes []) }
 {
     let mut sources = Vec::new(alloc);
-    for worker in 0..lanes {
+    for worker in 0..datanodes {
         let own = Arc::try_clone(gate)?;
         sources.push(Listed::new(alloc, own, u64::from(worker) + 1))?;
     }
@@ -175,14 +175,14 @@ fn take_step<G: Drop>(sources: &mut Vec<Listed<G>>, step: Step) -> Result<(), Al
 fn sources_of<G: Drop>(
     alloc: Global,
     gate: &Arc<G, Global>,
-    lanes: u16,
+    datanodes: u16,
     steps: StepList,
 ) -> Result<Vec<Listed<G>>, AllocError>
     requires in_turn { AreInTurn no_messages steps }
-    requires within { All (IsStepOf lanes) steps }
-    ensures { IfOk result (λ v. AreListed lanes (lanes_of steps) v.items) }
+    requires within { All (IsStepOf datanodes) steps }
+    ensures { IfOk result (λ v. AreListed datanodes (lanes_of steps) v.items) }
 {
-    let mut sources = empty_sources(alloc, gate, lanes)?;
+    let mut sources = empty_sources(alloc, gate, datanodes)?;
     let mut steps = steps.into_steps();
     'steps: while let Some(step) = steps.next() {
         if let Err(_) = take_step(&mut sources, step) {
@@ -223,17 +223,17 @@ fn output_of_drive<G: Gate + Send + Sync + Drop, R: Threads + Wait + Sync>(
     rt: &R,
     alloc: Global,
     asked: &Threaded<G>,
-    lanes: u16,
+    datanodes: u16,
     steps: StepList,
     segments: Vec<Parsed>,
 ) -> Result<Output, Halted>
     requires capacity { (1 ≤ asked.now.capacity) × (asked.now.capacity ≤ 1024) }
-    requires lanes { (1 ≤ lanes) × (lanes ≤ 256) }
+    requires datanodes { (1 ≤ datanodes) × (datanodes ≤ 256) }
     requires in_turn { AreInTurn no_messages steps }
-    requires within { All (IsStepOf lanes) steps }
+    requires within { All (IsStepOf datanodes) steps }
     ensures { IfOk result (λ o. IsToldOf true asked.now.options steps (Ok segments.items) (shown o)) }
 {
-    let Ok(sources) = sources_of(alloc, &asked.gate, lanes, steps) else {
+    let Ok(sources) = sources_of(alloc, &asked.gate, datanodes, steps) else {
         return Err(Halted::OutOfMemory);
     };
     let Ok((workers, ends)) = with_lanes(alloc, sources, asked.capacity) else {
@@ -259,15 +259,15 @@ fn output_of_threads<G: Gate + Send + Sync + Drop, R: Threads + Wait + Sync>(
 ) -> Result<Output, Halted>
     requires capacity { (1 ≤ asked.now.capacity) × (asked.now.capacity ≤ 1024) }
     requires lawful { IsLawfulScenario (seen scenario) }
-    ensures { IfOk result (λ o. IsToldOf true asked.now.options scenario.steps (segments_from 1 scenario.pieces.items) (shown o)) }
+    ensures { IfOk result (λ o. IsToldOf true asked.now.options scenario.steps (segments_from 1 scenario.parts.items) (shown o)) }
 {
     let Scenario {
-        pieces,
+        parts,
         steps,
-        lanes,
+        datanodes,
     } = scenario;
-    match read_segments(alloc, pieces) {
-        Ok(segments) => output_of_drive(rt, alloc, asked, lanes, steps, segments),
+    match read_segments(alloc, parts) {
+        Ok(segments) => output_of_drive(rt, alloc, asked, datanodes, steps, segments),
         Err(bad) => told(output_of_bad_segment(alloc, bad)),
     }
 }

@@ -13,7 +13,7 @@ use Rattle.nn_model.specs.Lanes.{Lanes, IsSent, no_messages}
 use Rattle.nn_model.specs.Replay.{replay}
 use Rattle.nn_model.specs.Picture.{ShowsPicture}
 use Rattle.nn_model.specs.Counts.{safe_mode_of}
-use Rattle.nn_model.specs.Stands.{Standby, Stands, IsLeft}
+use Rattle.nn_model.specs.Stands.{StandbyState, Stands, IsLeft}
 use Rattle.nn_model.specs.HistoryLaws.{EndsInPicture, ReplaysPicture, TablesShowPicture, ShowSame, SameWhenFlushed, SameBeforeFlush, FreshStands}
 use Rattle.nn_model.proofs.Events.{any_true_at}
 use Rattle.nn_model.proofs.Ids.{due_along}
@@ -36,7 +36,7 @@ tables_show_picture start base txs lanes x s no_flush =
 -- ---- Two standbys at one log and at the same lanes.
 
 -- tables that show one picture are the same
-same_tables : (start : Namespace) (base : ℕ) (txs : List Tx) (lanes counted : Lanes) (x y : Standby) → Stands start base txs lanes x → Stands start base txs lanes y →
+same_tables : (start : Namespace) (base : ℕ) (txs : List Tx) (lanes counted : Lanes) (x y : StandbyState) → Stands start base txs lanes x → Stands start base txs lanes y →
     ShowsPicture (namespace_after start txs) counted (replay start txs lanes x.history) →
     ShowsPicture (namespace_after start txs) counted (replay start txs lanes y.history) → ShowSame x y
 same_tables start base txs lanes counted x y s t p q =
@@ -53,7 +53,7 @@ same_tables start base txs lanes counted x y s t p q =
 
 pub same_when_flushed : SameWhenFlushed
 same_when_flushed start base txs lanes x y s t whole whole' =
-    let picture : (z : Standby) → Stands start base txs lanes z → IsWhole start txs lanes z.history →
+    let picture : (z : StandbyState) → Stands start base txs lanes z → IsWhole start txs lanes z.history →
     ShowsPicture (namespace_after start txs) lanes (replay start txs lanes z.history) =
     λ z at w. ends_in_picture start base txs lanes z.history at.well_formed at.log at.numbered at.lawful w in
     same_tables start base txs lanes lanes x y s t (picture x s whole) (picture y t whole')
@@ -70,7 +70,7 @@ left_too start txs lanes events others m no_flush left = record {
 pub same_before_flush : SameBeforeFlush
 same_before_flush start base txs lanes x y s t no_flush no_flush' =
     let n = namespace_after start txs in
-    let picture : (z : Standby) → Stands start base txs lanes z → IsBeforeFlush z.history →
+    let picture : (z : StandbyState) → Stands start base txs lanes z → IsBeforeFlush z.history →
     ShowsPicture n (without_held n lanes) (replay start txs lanes z.history) =
     λ z at none. picture_of_free start base txs lanes z.history (due_along start base txs at.log at.well_formed) at.log at.numbered at.lawful none in (
       same_tables start base txs lanes (without_held n lanes) x y s t (picture x s no_flush) (picture y t no_flush'),

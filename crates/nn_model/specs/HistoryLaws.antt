@@ -14,7 +14,7 @@ use Rattle.nn_model.specs.Lawful.{IsLawful, IsWhole, IsLooselyLawful}
 use Rattle.nn_model.specs.Replay.{replay}
 use Rattle.nn_model.specs.Picture.{ShowsPicture}
 use Rattle.nn_model.specs.Counts.{safe_mode_of}
-use Rattle.nn_model.specs.Stands.{Standby, Stands, tables_of, fresh}
+use Rattle.nn_model.specs.Stands.{StandbyState, Stands, tables_of, fresh}
 
 -- a lawful and whole history ends in the picture of all messages, whatever its order was
 abbrev pub EndsInPicture : Type 0
@@ -25,13 +25,13 @@ EndsInPicture =
 -- before the flush, the history of a standby that stands ends in the picture of the messages that are not held
 abbrev pub ReplaysPicture : Type 0
 ReplaysPicture =
-    (start : Namespace) (base : ℕ) (txs : List Tx) (lanes : Lanes) (x : Standby) → Stands start base txs lanes x → IsBeforeFlush x.history →
+    (start : Namespace) (base : ℕ) (txs : List Tx) (lanes : Lanes) (x : StandbyState) → Stands start base txs lanes x → IsBeforeFlush x.history →
     ShowsPicture x.namespace (without_held x.namespace lanes) (replay start txs lanes x.history)
 
 -- and so its tables show that picture
 abbrev pub TablesShowPicture : Type 0
 TablesShowPicture =
-    (start : Namespace) (base : ℕ) (txs : List Tx) (lanes : Lanes) (x : Standby) → Stands start base txs lanes x → IsBeforeFlush x.history →
+    (start : Namespace) (base : ℕ) (txs : List Tx) (lanes : Lanes) (x : StandbyState) → Stands start base txs lanes x → IsBeforeFlush x.history →
     ShowsPicture x.namespace (without_held x.namespace lanes) (tables_of x)
 
 -- a lawful history processes each message at most once
@@ -64,7 +64,7 @@ LawfulIsLoose =
     (start : Namespace) (txs : List Tx) (lanes : Lanes) (events : History) → IsLawful start txs lanes events → IsLooselyLawful start txs lanes events
 
 -- two standbys show the same log, the same tables, and the same counts and safe mode for whatever is asked of them
-pub record ShowSame (x y : Standby) : Type 0 where
+pub record ShowSame (x y : StandbyState) : Type 0 where
   pub namespace : x.namespace ≡ y.namespace
   pub last : x.last ≡ y.last
   pub replicas : (dn id : ℕ) → x.replica dn id ≡ y.replica dn id
@@ -74,13 +74,13 @@ pub record ShowSame (x y : Standby) : Type 0 where
 -- after their flush two standbys that stand at one log and at the same lanes show the same
 abbrev pub SameWhenFlushed : Type 0
 SameWhenFlushed =
-    (start : Namespace) (base : ℕ) (txs : List Tx) (lanes : Lanes) (x y : Standby) → Stands start base txs lanes x → Stands start base txs lanes y →
+    (start : Namespace) (base : ℕ) (txs : List Tx) (lanes : Lanes) (x y : StandbyState) → Stands start base txs lanes x → Stands start base txs lanes y →
     IsWhole start txs lanes x.history → IsWhole start txs lanes y.history → ShowSame x y
 
 -- and before it too, and hold the same messages, in whatever order these came
 abbrev pub SameBeforeFlush : Type 0
 SameBeforeFlush =
-    (start : Namespace) (base : ℕ) (txs : List Tx) (lanes : Lanes) (x y : Standby) → Stands start base txs lanes x → Stands start base txs lanes y →
+    (start : Namespace) (base : ℕ) (txs : List Tx) (lanes : Lanes) (x y : StandbyState) → Stands start base txs lanes x → Stands start base txs lanes y →
     IsBeforeFlush x.history → IsBeforeFlush y.history → ShowSame x y × ((m : Message) → Has x.held m ↔ Has y.held m)
 
 -- a standby that did nothing yet stands at the empty log and at no messages, over any base with well formed blocks

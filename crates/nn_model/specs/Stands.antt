@@ -15,7 +15,7 @@ use Rattle.nn_model.specs.Lawful.{IsLawful}
 use Rattle.nn_model.specs.Replay.{Sequential, replay}
 
 -- what a standby shows
-pub record Standby : Type 0 where
+pub record StandbyState : Type 0 where
   pub namespace : Namespace
   pub last : ℕ  -- the last txid
   pub history : History
@@ -25,7 +25,7 @@ pub record Standby : Type 0 where
   pub last_number : ℕ → ℕ  -- of each DataNode
 
 -- a standby that did nothing yet
-abbrev pub fresh : Namespace → ℕ → Standby
+abbrev pub fresh : Namespace → ℕ → StandbyState
 fresh n base = record {
   namespace = n;
   last = base;
@@ -37,7 +37,7 @@ fresh n base = record {
 }
 
 -- its tables, as those of the sequential standby
-abbrev pub tables_of : Standby → Sequential
+abbrev pub tables_of : StandbyState → Sequential
 tables_of x = record { namespace = x.namespace; replica = x.replica; has_order = x.has_order }
 
 -- block ids ascend
@@ -61,7 +61,7 @@ pub record IsLeft (start : Namespace) (txs : List Tx) (lanes : Lanes) (events : 
   pub not_flushed : Has events (processed Flush m) → ⊥
 
 -- The standby stands at the log of these transactions, which goes on from a base txid and a starting namespace, and at these lanes
-pub record Stands (start : Namespace) (base : ℕ) (txs : List Tx) (lanes : Lanes) (x : Standby) : Type 0 where
+pub record Stands (start : Namespace) (base : ℕ) (txs : List Tx) (lanes : Lanes) (x : StandbyState) : Type 0 where
   pub log : IsLog start base txs
   pub well_formed : HasWellFormedBlocks start
   pub numbered : AreLanes lanes

@@ -16,7 +16,7 @@ use Rattle.nn_model.specs.WellFormed.{Has, HasWellFormedBlocks}
 use Rattle.nn_model.specs.Lanes.{Lanes, no_messages}
 use Rattle.nn_model.specs.Held.{IsHeld, IsFree}
 use Rattle.nn_model.specs.History.{History, processed}
-use Rattle.nn_model.specs.Stands.{Standby, IsLeft, Stands, fresh}
+use Rattle.nn_model.specs.Stands.{StandbyState, IsLeft, Stands, fresh}
 use Rattle.nn_model.specs.MessageRows.{tx, b, c, f, block, message, received, two_lanes, of_sent, are_lanes, early_log, early_lanes, early_report}
 use Rattle.nn_model.specs.MessageRowsLater.{unnamed_log, unnamed_lanes, unnamed_report, unnamed_history, promotion_flushes_unnamed_lawful}
 
@@ -52,7 +52,7 @@ waiting_lanes = two_lanes (report_of_c ∷ first_of_b ∷ second_of_b ∷ []) (o
 abbrev waiting_log : List Tx
 waiting_log = tx 1 StartSegment ∷ []
 
-abbrev waiting : Standby
+abbrev waiting : StandbyState
 waiting = record {
   namespace = root_alone;
   last = 1;
@@ -117,7 +117,7 @@ named_log = take 5 early_log
 abbrev released : History
 released = Applied 1 ∷ Applied 2 ∷ Applied 3 ∷ Applied 4 ∷ Applied 5 ∷ Processed 1 1 b Due ∷ []
 
-abbrev serving : Standby
+abbrev serving : StandbyState
 serving = record {
   namespace = namespace_after root_alone named_log;
   last = 5;
@@ -162,7 +162,7 @@ serving_stands = record {
 
 -- ---- After the flush nothing is held.
 
-abbrev flushed : Standby
+abbrev flushed : StandbyState
 flushed = record {
   namespace = root_alone;
   last = 2;

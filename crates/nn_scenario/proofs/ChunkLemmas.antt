@@ -14,7 +14,7 @@ use Rattle.nn_segment.specs.Lines.{newline, is_unbroken}
 use Rattle.nn_scenario.specs.Chunks.{Chunks, IsKept, HasCome, IsReadAs, follow, goes_on}
 use Rattle.nn_scenario.specs.Cut.{last_part}
 use Rattle.nn_scenario.specs.Scenario.{Scenario, is_blank, lines_from, scenario_of, scenario_with, seen}
-use Rattle.nn_scenario.specs.SoFar.{SoFar, nothing_read}
+use Rattle.nn_scenario.specs.Reading.{Reading, nothing_read}
 use Rattle.nn_scenario.specs.declared.scenario.BadLine.{BadLine}
 use Rattle.nn_scenario.specs.declared.scenario.Scenario.{Scenario as Read}
 use Rattle.nn_scenario.proofs.LawfulLemmas.{has_messages, lawful_scenario}
@@ -41,7 +41,7 @@ unbroken_joined torn text u v = list_all-append (λ b. not (eqb b newline)) torn
 
 -- ---- a line ends
 
-abbrev after_line : Chunks → SoFar → Chunks
+abbrev after_line : Chunks → Reading → Chunks
 after_line c next = record { so_far = next; ended = c.ended + 1; torn = []; bad = None }
 
 first_of : (c : Chunks) (text more : List ℕ) → is_unbroken (c.torn ++ text) ≡ true →
@@ -50,7 +50,7 @@ first_of c text more whole =
     ap (λ t. follow c.so_far (lines_from (c.ended + 1) (pieces t))) (sym (append_assoc c.torn text (newline ∷ more)))
     ∙ ap (λ ls. follow c.so_far (lines_from (c.ended + 1) ls)) (cut_first (c.torn ++ text) more whole)
 
-pub line_ended : (c : Chunks) (text : List ℕ) (next : SoFar) → is_unbroken (c.torn ++ text) ≡ true → Turned (c.torn ++ text) c.so_far next →
+pub line_ended : (c : Chunks) (text : List ℕ) (next : Reading) → is_unbroken (c.torn ++ text) ≡ true → Turned (c.torn ++ text) c.so_far next →
     (more : List ℕ) → goes_on c (text ++ newline ∷ more) ≡ goes_on (after_line c next) more
 line_ended c text next whole turned more = first_of c text more whole ∙ turn (c.ended + 1) (c.torn ++ text) (pieces more) c.so_far next turned
 
@@ -59,7 +59,7 @@ pub line_refused : (c : Chunks) (text : List ℕ) (d : LineFault) → is_unbroke
 line_refused c text d whole blank is more = first_of c text more whole ∙ refused (c.ended + 1) (c.torn ++ text) (pieces more) d c.so_far blank is
 
 -- the same where the text was put behind what stood, and the line was read
-pub line_taken : (k : Chunks) (x next : SoFar) (n : ℕ) (torn torn' line text : List ℕ) (b : Option BadLine) (r : Result (Unit {0}) BadLine) →
+pub line_taken : (k : Chunks) (x next : Reading) (n : ℕ) (torn torn' line text : List ℕ) (b : Option BadLine) (r : Result (Unit {0}) BadLine) →
     record { so_far = x; ended = n; torn = torn; bad = b } ≡ k → is_unbroken torn ≡ true → is_unbroken text ≡ true → line ≡ torn ++ text → torn' ≡ [] → k.bad ≡ None →
     OnOk r (Turned line x next) →
     OnOk r ((b ≡ None) × ((more : List ℕ) → goes_on k (text ++ newline ∷ more) ≡ goes_on (record { so_far = next; ended = n + 1; torn = torn'; bad = b }) more))
@@ -77,7 +77,7 @@ line_taken k x next n torn torn' line text b (Ok done) view u v joined empty goo
 abbrev pub Refused : List ℕ → ℕ → BadLine → Type 0
 Refused line n e = (e.line ≡ n) × (is_blank line ≡ false) × (e.fault ≢ OutOfMemory → either_of_line line ≡ Err e.fault)
 
-pub line_not_taken : (k : Chunks) (x : SoFar) (n : ℕ) (torn line text : List ℕ) (b : Option BadLine) (r : Result (Unit {0}) BadLine) →
+pub line_not_taken : (k : Chunks) (x : Reading) (n : ℕ) (torn line text : List ℕ) (b : Option BadLine) (r : Result (Unit {0}) BadLine) →
     record { so_far = x; ended = n; torn = torn; bad = b } ≡ k → is_unbroken torn ≡ true → is_unbroken text ≡ true → line ≡ torn ++ text → IfErr r (Refused line (n + 1)) →
     IfErr r (λ e. e.fault ≢ OutOfMemory → (more : List ℕ) → goes_on k (text ++ newline ∷ more) ≡ Err e)
 line_not_taken k x n torn line text b (Ok done) view u v joined why = tt
@@ -98,7 +98,7 @@ cut_there rest more end less there =
 
 -- ---- what has come
 
-pub new_come : (x : SoFar) (torn : List ℕ) → x ≡ nothing_read → torn ≡ [] → HasCome [] (record { so_far = x; ended = 0; torn = torn; bad = None })
+pub new_come : (x : Reading) (torn : List ℕ) → x ≡ nothing_read → torn ≡ [] → HasCome [] (record { so_far = x; ended = 0; torn = torn; bad = None })
 new_come x torn none empty = λ more.
     sym (ap (λ t. follow x (lines_from 1 (pieces (t ++ more)))) empty ∙ ap (λ y. follow y (lines_from 1 (pieces more))) none ∙ whole_input more)
 
@@ -132,7 +132,7 @@ last_of text c whole good come =
     ∙ ap (λ t. follow c.so_far (lines_from (c.ended + 1) (pieces t))) (append-nil c.torn)
     ∙ ap (λ ls. follow c.so_far (lines_from (c.ended + 1) ls)) (one_line c.torn whole)
 
-last_line : (text : List ℕ) (c : Chunks) (next : SoFar) → is_unbroken c.torn ≡ true → c.bad ≡ None → Turned c.torn c.so_far next → HasCome text c →
+last_line : (text : List ℕ) (c : Chunks) (next : Reading) → is_unbroken c.torn ≡ true → c.bad ≡ None → Turned c.torn c.so_far next → HasCome text c →
     scenario_of text ≡ Ok (scenario_with (next.parts ++ last_part next.in_hand) next.steps)
 last_line text c next whole good turned come = last_of text c whole good come ∙ turn (c.ended + 1) c.torn [] c.so_far next turned ∙ no_more (c.ended + 1 + 1) next
 
@@ -158,7 +158,7 @@ bad_is_told text c e bad come other =
 pub end_bad : (text : List ℕ) (c : Chunks) (e : BadLine) → c.bad ≡ Some e → HasCome text c → IsReadAs text (Err e)
 end_bad text c e bad come = refused_as text e (bad_is_told text c e bad come)
 
-pub end_refused : (text : List ℕ) (k : Chunks) (x : SoFar) (n : ℕ) {torn : List ℕ} (line : List ℕ) {b : Option BadLine} (e : BadLine) →
+pub end_refused : (text : List ℕ) (k : Chunks) (x : Reading) (n : ℕ) {torn : List ℕ} (line : List ℕ) {b : Option BadLine} (e : BadLine) →
     record { so_far = x; ended = n; torn = torn; bad = b } ≡ k → is_unbroken torn ≡ true → line ≡ torn → b ≡ None → Refused line (n + 1) e → HasCome text k → IsReadAs text (Err e)
 end_refused text k x n {torn} line {b} e view whole same none why come =
     let old : Chunks = record { so_far = x; ended = n; torn = torn; bad = b } in
@@ -167,7 +167,7 @@ end_refused text k x n {torn} line {b} e view whole same none why come =
     (λ other. last_refused text old e.fault whole none why'.1 (why'.2 other) (subst (HasCome text) (sym view) come)
     ∙ ap (λ l. Err (record { fault = e.fault; line = l })) (sym why'.0))
 
-pub end_told : (text : List ℕ) (k : Chunks) (x next : SoFar) (n : ℕ) {torn : List ℕ} (line : List ℕ) {b : Option BadLine} (r : Result Read BadLine) →
+pub end_told : (text : List ℕ) (k : Chunks) (x next : Reading) (n : ℕ) {torn : List ℕ} (line : List ℕ) {b : Option BadLine} (r : Result Read BadLine) →
     record { so_far = x; ended = n; torn = torn; bad = b } ≡ k → is_unbroken torn ≡ true → line ≡ torn → b ≡ None → Turned line x next
     → IfOk r (λ s. seen s ≡ scenario_with (next.parts ++ last_part next.in_hand) next.steps) → IfErr r (λ e. e.fault ≡ OutOfMemory) → HasCome text k → IsReadAs text r
 end_told text k x next n {torn} line {b} r view whole same none turned ok memory come =

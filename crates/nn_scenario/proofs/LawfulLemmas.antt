@@ -18,7 +18,7 @@ use Rattle.nn_segment.specs.Segment.{is_end}
 use Rattle.nn_scenario.specs.Cut.{EditLine, Part, no_lines, with_line, cut_from, cut}
 use Rattle.nn_scenario.specs.Scenario.{ScenarioLine, edit, report, line_as, is_blank, and_later, with_read, lines_from, edit_lines, steps_from, steps_of}
 use Rattle.nn_scenario.specs.Scenario.{Scenario, lines_of, scenario_with, scenario_from, scenario_of, HasMessagesOf, IsLawfulScenario}
-use Rattle.nn_scenario.specs.Steps.{next_message, lanes_of, lane_count, edit_count, IsStepOf}
+use Rattle.nn_scenario.specs.Steps.{next_message, lanes_of, datanode_count, edit_count, IsStepOf}
 use Rattle.nn_scenario.specs.declared.scenario.BadLine.{BadLine}
 use Rattle.nn_scenario.specs.declared.steps.Step.{Step}
 use Rattle.nn_scenario.specs.declared.steps.Step.TheVariants as step
@@ -57,17 +57,17 @@ lines_lawful n (text ∷ texts) lines is = at (is_blank text) (either_of_line te
 
 -- ---- their steps
 
-count_from : (steps : List Step) → 1 ≤ lane_count steps
+count_from : (steps : List Step) → 1 ≤ datanode_count steps
 count_from [] = omega arith
 count_from (step.Edit ∷ steps) = count_from steps
 count_from (step.Message m ∷ steps) = omega (arith, count_from steps)
 
-count_to : (lanes : Lanes) (lines : List ScenarioLine) → AreLawful lines → lane_count (steps_from lanes lines) ≤ 256
+count_to : (lanes : Lanes) (lines : List ScenarioLine) → AreLawful lines → datanode_count (steps_from lanes lines) ≤ 256
 count_to lanes [] h = omega arith
 count_to lanes (edit line ∷ lines) h = count_to lanes lines h.1
 count_to lanes (report r ∷ lines) h = omega (arith, h.0.dn_to, count_to (followed_by lanes (next_message lanes r)) lines h.1)
 
-steps_within : (k : ℕ) (lanes : Lanes) (lines : List ScenarioLine) → AreLawful lines → lane_count (steps_from lanes lines) ≤ k →
+steps_within : (k : ℕ) (lanes : Lanes) (lines : List ScenarioLine) → AreLawful lines → datanode_count (steps_from lanes lines) ≤ k →
     All (IsStepOf k) (steps_from lanes lines)
 steps_within k lanes [] h below = All-nil (IsStepOf k)
 steps_within k lanes (edit line ∷ lines) h below = All-cons (IsStepOf k) step.Edit (steps_from lanes lines) tt (steps_within k lanes lines h.1 below)
@@ -115,9 +115,9 @@ lawful_lines lines h = record {
   edits = edits_of_steps no_messages lines ∙ sym (txs_counted (edit_lines lines)) ∙ ap length (sym (cut_keeps no_lines (edit_lines lines)));
   in_turn = steps_in_turn no_messages lines;
   messages = steps_are_lanes lines;
-  within = steps_within (lane_count (steps_of lines)) no_messages lines h (omega arith);
-  lanes_from = count_from (steps_of lines);
-  lanes_to = count_to no_messages lines h;
+  within = steps_within (datanode_count (steps_of lines)) no_messages lines h (omega arith);
+  datanodes_from = count_from (steps_of lines);
+  datanodes_to = count_to no_messages lines h;
 }
 
 pub has_messages : (text : List ℕ) (s : Scenario) → scenario_of text ≡ Ok s → HasMessagesOf text s

@@ -20,7 +20,7 @@ use Rattle.nn_scenario.specs.Cut.{no_lines, with_line, last_part, cut_from}
 use Rattle.nn_scenario.specs.Scenario.{ScenarioLine, edit, report, line_as, is_blank, and_later, with_read, lines_from, edit_lines, steps_from}
 use Rattle.nn_scenario.specs.Scenario.{Scenario, scenario_with, scenario_from, scenario_of}
 use Rattle.nn_scenario.specs.Chunks.{and_lines, follow}
-use Rattle.nn_scenario.specs.SoFar.{SoFar, nothing_read, followed_by_line}
+use Rattle.nn_scenario.specs.Reading.{Reading, nothing_read, followed_by_line}
 use Rattle.nn_scenario.specs.Steps.{next_message, lanes_of, with_report}
 use Rattle.nn_scenario.specs.declared.scenario.BadLine.{BadLine}
 use Rattle.nn_scenario.specs.declared.steps.Step.{Step}
@@ -53,7 +53,7 @@ report_steps steps r lines =
     ap (λ lanes. steps ++ step.Message m ∷ steps_from lanes lines) (sym (lanes_after_message no_messages steps m))
     ∙ sym (append_assoc steps (step.Message m ∷ []) (steps_from (lanes_of (with_report steps r)) lines))
 
-taken : (x : SoFar) (line : ScenarioLine) (lines : List ScenarioLine) → and_lines x (line ∷ lines) ≡ and_lines (followed_by_line x line) lines
+taken : (x : Reading) (line : ScenarioLine) (lines : List ScenarioLine) → and_lines x (line ∷ lines) ≡ and_lines (followed_by_line x line) lines
 unfolding cut_from
 taken x (report r) lines = ap (λ steps. scenario_with (x.parts ++ cut_from x.in_hand (edit_lines lines)) steps) (report_steps x.steps r lines)
 taken x (edit line) lines =
@@ -69,15 +69,15 @@ taken x (edit line) lines =
         (sym (append_assoc x.parts (with_line x.in_hand line ∷ []) (cut_from no_lines (edit_lines lines))))
     at false = refl
 
-one_taken : (x : SoFar) (line : ScenarioLine) (r : Result (List ScenarioLine) BadLine) → follow x (and_later line r) ≡ follow (followed_by_line x line) r
+one_taken : (x : Reading) (line : ScenarioLine) (r : Result (List ScenarioLine) BadLine) → follow x (and_later line r) ≡ follow (followed_by_line x line) r
 one_taken x line (Ok lines) = ap Ok (taken x line lines)
 one_taken x line (Err e) = refl
 
 -- what a line that was taken up leaves
-abbrev pub Turned : List ℕ → SoFar → SoFar → Type 0
+abbrev pub Turned : List ℕ → Reading → Reading → Type 0
 Turned text x next = MatchBool (is_blank text) (next ≡ x) ((line : Line) × (either_of_line text ≡ Ok line) × (next ≡ followed_by_line x (line_as text line)))
 
-pub turn : (n : ℕ) (text : List ℕ) (texts : List (List ℕ)) (x next : SoFar) → Turned text x next
+pub turn : (n : ℕ) (text : List ℕ) (texts : List (List ℕ)) (x next : Reading) → Turned text x next
     → follow x (lines_from n (text ∷ texts)) ≡ follow next (lines_from (n + 1) texts)
 unfolding lines_from
 turn n text texts x next h = at (is_blank text) h
@@ -92,12 +92,12 @@ turn n text texts x next h = at (is_blank text) h
         ∙ ap (λ y. follow y (lines_from (n + 1) texts)) (sym h.2)
 
 -- a line that was refused
-pub refused : (n : ℕ) (text : List ℕ) (texts : List (List ℕ)) (d : LineFault) (x : SoFar) → is_blank text ≡ false → either_of_line text ≡ Err d
+pub refused : (n : ℕ) (text : List ℕ) (texts : List (List ℕ)) (d : LineFault) (x : Reading) → is_blank text ≡ false → either_of_line text ≡ Err d
     → follow x (lines_from n (text ∷ texts)) ≡ Err (record { fault = d; line = n })
 unfolding lines_from
 refused n text texts d x e h = rw (e, h) refl
 
-pub no_more : (n : ℕ) (x : SoFar) → follow x (lines_from n []) ≡ Ok (scenario_with (x.parts ++ last_part x.in_hand) x.steps)
+pub no_more : (n : ℕ) (x : Reading) → follow x (lines_from n []) ≡ Ok (scenario_with (x.parts ++ last_part x.in_hand) x.steps)
 unfolding lines_from cut_from
 no_more n x = ap (λ steps. Ok (scenario_with (x.parts ++ last_part x.in_hand) steps)) (append-nil x.steps)
 

@@ -8,7 +8,7 @@ use Rattle.nn_types.specs.declared.report.Message.{Message}
 use Rattle.nn_types.specs.declared.report.Report.{Report}
 use Rattle.nn_model.specs.Lanes.{Lanes, no_messages, followed_by, AreNumbered, AreLanes}
 use Rattle.nn_scenario.specs.Scenario.{ScenarioLine, edit, report, numbered, messages_of, steps_from, steps_of}
-use Rattle.nn_scenario.specs.Steps.{message, next_message, lanes_after, lanes_of, AreInTurn, lane_count, with_report, IsCounted}
+use Rattle.nn_scenario.specs.Steps.{message, next_message, lanes_after, lanes_of, AreInTurn, datanode_count, with_report, IsCounted}
 use Rattle.nn_scenario.specs.declared.steps.Step.{Step}
 use Rattle.nn_scenario.specs.declared.steps.Step.TheVariants as step
 
@@ -25,12 +25,12 @@ lanes_after_message lanes [] m = refl
 lanes_after_message lanes (step.Edit ∷ steps) m = lanes_after_message lanes steps m
 lanes_after_message lanes (step.Message x ∷ steps) m = lanes_after_message (followed_by lanes x) steps m
 
-pub count_after_edit : (steps : List Step) → lane_count (steps ++ step.Edit ∷ []) ≡ lane_count steps
+pub count_after_edit : (steps : List Step) → datanode_count (steps ++ step.Edit ∷ []) ≡ datanode_count steps
 count_after_edit [] = refl
 count_after_edit (step.Edit ∷ steps) = count_after_edit steps
 count_after_edit (step.Message m ∷ steps) = ap (max m.dn) (count_after_edit steps)
 
-pub count_after_message : (steps : List Step) (m : Message) → lane_count (steps ++ step.Message m ∷ []) ≡ max m.dn (lane_count steps)
+pub count_after_message : (steps : List Step) (m : Message) → datanode_count (steps ++ step.Message m ∷ []) ≡ max m.dn (datanode_count steps)
 count_after_message [] m = refl
 count_after_message (step.Edit ∷ steps) m = count_after_message steps m
 count_after_message (step.Message x ∷ steps) m = let later = count_after_message steps m in omega (arith, later)
@@ -88,7 +88,7 @@ counted_report steps sent lanes r within h = record {
     m : Message
     m = next_message (lanes_of steps) r
 
-    grows : max lanes r.dn ≡ max r.dn (lane_count steps)
+    grows : max lanes r.dn ≡ max r.dn (datanode_count steps)
     grows = omega (arith, h.greatest)
 
     each : (dn : ℕ) → dn < 257 → get_or (set sent r.dn (get_or sent r.dn 0 + 1)) dn 0 ≡ length (followed_by (lanes_of steps) m dn)

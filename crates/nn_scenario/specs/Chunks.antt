@@ -5,23 +5,23 @@ use Rattle.nn_edits.specs.declared.fault.LineFault.TheVariants.{OutOfMemory}
 use Rattle.nn_segment.specs.Lines.{newline}
 use Rattle.nn_scenario.specs.Cut.{cut_from}
 use Rattle.nn_scenario.specs.Scenario.{ScenarioLine, Scenario, HasMessagesOf, IsLawfulScenario, edit_lines, lines_from, scenario_of, scenario_with, seen, steps_from}
-use Rattle.nn_scenario.specs.SoFar.{SoFar}
+use Rattle.nn_scenario.specs.Reading.{Reading}
 use Rattle.nn_scenario.specs.Steps.{lanes_of}
 use Rattle.nn_scenario.specs.declared.scenario.BadLine.{BadLine}
 use Rattle.nn_scenario.specs.declared.scenario.Scenario.{Scenario as Read}
 
 -- what was read of the lines that ended, how many these are, the bytes behind them, and the first line that was refused
 pub record Chunks : Type 0 where
-  pub so_far : SoFar
+  pub so_far : Reading
   pub ended : ℕ
   pub torn : List ℕ
   pub bad : Option BadLine
 
 -- the scenario of what was read and of lines after it
-abbrev pub and_lines : SoFar → List ScenarioLine → Scenario
+abbrev pub and_lines : Reading → List ScenarioLine → Scenario
 and_lines x lines = scenario_with (x.parts ++ cut_from x.in_hand (edit_lines lines)) (x.steps ++ steps_from (lanes_of x.steps) lines)
 
-abbrev pub follow : SoFar → Result (List ScenarioLine) BadLine → Result Scenario BadLine
+abbrev pub follow : Reading → Result (List ScenarioLine) BadLine → Result Scenario BadLine
 follow x (Ok lines) = Ok (and_lines x lines)
 follow x (Err e) = Err e
 

@@ -10,7 +10,7 @@ use Rattle.nn_edits.specs.declared.line.Line.TheVariants as either
 use Rattle.nn_model.specs.Lanes.{Lanes, AreLanes, no_messages, followed_by}
 use Rattle.nn_scenario.specs.Cut.{EditLine, Part, cut}
 use Rattle.nn_segment.specs.Lines.{newline}
-use Rattle.nn_scenario.specs.Steps.{message, next_message, lanes_of, lane_count, edit_count, AreInTurn, IsStepOf}
+use Rattle.nn_scenario.specs.Steps.{message, next_message, lanes_of, datanode_count, edit_count, AreInTurn, IsStepOf}
 use Rattle.nn_scenario.specs.declared.scenario.BadLine.{BadLine}
 use Rattle.nn_scenario.specs.declared.scenario.Scenario.{Scenario as Read}
 use Rattle.nn_scenario.specs.declared.steps.Step.{Step}
@@ -88,10 +88,10 @@ steps_of lines = steps_from no_messages lines
 pub record Scenario : Type 0 where
   pub parts : List Part
   pub steps : List Step
-  pub lanes : ℕ  -- at least 1
+  pub datanodes : ℕ  -- at least 1
 
 abbrev pub scenario_with : List Part → List Step → Scenario
-scenario_with parts steps = record { parts = parts; steps = steps; lanes = lane_count steps }
+scenario_with parts steps = record { parts = parts; steps = steps; datanodes = datanode_count steps }
 
 abbrev pub scenario_from : Result (List ScenarioLine) BadLine → Result Scenario BadLine
 scenario_from (Ok lines) = Ok (scenario_with (cut (edit_lines lines)) (steps_of lines))
@@ -105,7 +105,7 @@ scenario_of text = scenario_from (lines_of text)
 
 -- a scenario of the code as its parts, steps and DataNodes
 abbrev pub seen : Read → Scenario
-seen s = record { parts = s.pieces.items; steps = s.steps; lanes = s.lanes }
+seen s = record { parts = s.parts.items; steps = s.steps; datanodes = s.datanodes }
 
 -- the messages of the steps are those of the text's lines: of each DataNode its reports, numbered from 1
 abbrev pub HasMessagesOf : List ℕ → Scenario → Type 0
@@ -117,6 +117,6 @@ pub record IsLawfulScenario (s : Scenario) : Type 0 where
   pub edits : edit_count s.steps ≡ length (flat_map (λ part. part.txs) s.parts)
   pub in_turn : AreInTurn no_messages s.steps
   pub messages : AreLanes (lanes_of s.steps)
-  pub within : All (IsStepOf s.lanes) s.steps
-  pub lanes_from : 1 ≤ s.lanes
-  pub lanes_to : s.lanes ≤ 256
+  pub within : All (IsStepOf s.datanodes) s.steps
+  pub datanodes_from : 1 ≤ s.datanodes
+  pub datanodes_to : s.datanodes ≤ 256

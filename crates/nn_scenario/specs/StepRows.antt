@@ -4,7 +4,7 @@ use Rattle.nn_types.specs.declared.report.Kind.TheVariants.{Received}
 use Rattle.nn_types.specs.declared.report.Report.{Report}
 use Rattle.nn_types.specs.declared.edit.Edit.TheVariants.{StartSegment}
 use Rattle.nn_scenario.specs.Scenario.{ScenarioLine, edit, report, edit_lines, messages_of, steps_of}
-use Rattle.nn_scenario.specs.Steps.{message, lane_count, lanes_of}
+use Rattle.nn_scenario.specs.Steps.{message, datanode_count, lanes_of}
 use Rattle.nn_scenario.specs.declared.steps.Step.TheVariants as step
 
 abbrev about : ℕ → ℕ → Report
@@ -30,11 +30,11 @@ same_lane = refl
 nobody_else : messages_of three_reports 3 ≡ []
 nobody_else = refl
 
-greatest : lane_count (steps_of three_reports) ≡ 2
+greatest : datanode_count (steps_of three_reports) ≡ 2
 greatest = refl
 
 -- where nobody speaks there is one DataNode still
-at_least_one : lane_count (steps_of (mark ∷ [])) ≡ 1
+at_least_one : datanode_count (steps_of (mark ∷ [])) ≡ 1
 at_least_one = refl
 
 edits_alone : edit_lines three_reports ≡ edit_lines (mark ∷ [])

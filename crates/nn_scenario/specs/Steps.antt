@@ -25,10 +25,10 @@ abbrev pub lanes_of : List Step → Lanes
 lanes_of steps = lanes_after no_messages steps
 
 -- the greatest DataNode of any message, and at least 1
-abbrev pub lane_count : List Step → ℕ
-lane_count [] = 1
-lane_count (step.Edit ∷ steps) = lane_count steps
-lane_count (step.Message m ∷ steps) = max m.dn (lane_count steps)
+abbrev pub datanode_count : List Step → ℕ
+datanode_count [] = 1
+datanode_count (step.Edit ∷ steps) = datanode_count steps
+datanode_count (step.Message m ∷ steps) = max m.dn (datanode_count steps)
 
 -- each message of the steps is the next one of its DataNode, where the DataNodes sent this before them
 abbrev pub AreInTurn : Lanes → List Step → Type 0
@@ -44,15 +44,15 @@ edit_count (step.Message m ∷ steps) = edit_count steps
 
 -- an edit, or a message of a DataNode from 1 to this
 abbrev pub IsStepOf : ℕ → Step → Type 0
-IsStepOf lanes step.Edit = Unit {0}
-IsStepOf lanes (step.Message m) = (1 ≤ m.dn) × (m.dn ≤ lanes)
+IsStepOf datanodes step.Edit = Unit {0}
+IsStepOf datanodes (step.Message m) = (1 ≤ m.dn) × (m.dn ≤ datanodes)
 
 -- the steps and one more, a report
 abbrev pub with_report : List Step → Report → List Step
 with_report steps r = steps ++ step.Message (next_message (lanes_of steps) r) ∷ []
 
 -- of each DataNode that there can be it is known how many messages it sent in these steps, and the greatest that sent one
-pub record IsCounted (steps : List Step) (sent : List ℕ) (lanes : ℕ) : Type 0 where
+pub record IsCounted (steps : List Step) (sent : List ℕ) (datanodes : ℕ) : Type 0 where
   pub places : length sent ≡ 257
   pub each : (dn : ℕ) → dn < 257 → slice_index sent dn ≡ length (lanes_of steps dn)
-  pub greatest : lanes ≡ lane_count steps
+  pub greatest : datanodes ≡ datanode_count steps

@@ -12,6 +12,6 @@ mod steps;
 
 pub use lines::Lines;
 pub use scenario::{BadLine, MAX_INPUT, Scenario, read_lines};
-pub use segments::{BadSegment, Piece, read_segments};
+pub use segments::{BadSegment, Part, read_segments};
 pub use step_list::{StepList, StepsLeft};
 pub use steps::Step;

@@ -7,11 +7,11 @@ ghost use Rattle.nn_edits.specs.Reading.{edit_of_line, either_of_line};
 ghost use Rattle.nn_edits.specs.declared.line.Line.{Line as LineData};
 ghost use Rattle.nn_scenario.specs.Cut.{last_part};
 ghost use Rattle.nn_scenario.specs.Scenario.{max_input, scenario_of, seen, HasMessagesOf, IsLawfulScenario, is_blank, line_as, scenario_with};
-ghost use Rattle.nn_scenario.specs.SoFar.{nothing_read, with_edit_line, followed_by_line};
+ghost use Rattle.nn_scenario.specs.Reading.{nothing_read, with_edit_line, followed_by_line};
 ghost use Rattle.nn_segment.specs.Lines.{newline, is_unbroken};
 
 use crate::lines::Lines;
-use crate::segments::{Piece, is_end};
+use crate::segments::{Part, is_end};
 use crate::step_list::StepList;
 use crate::steps::Steps;
 use memchr::memchr;
@@ -35,11 +35,11 @@ pub struct BadLine {
 #[derive(Drop)]
 pub struct Scenario {
     /// The edit lines, cut after each end mark.
-    pub pieces: Vec<Piece>,
-    /// Edits and messages in the order of their lines. The transactions stand in the pieces, in the same order.
+    pub parts: Vec<Part>,
+    /// Edits and messages in the order of their lines. The transactions stand in the parts, in the same order.
     pub steps: StepList,
     /// The greatest DataNode of any message, and at least 1.
-    pub lanes: u16,
+    pub datanodes: u16,
 }
 
 /// The scenario of a text, or its first line that is refused. Lines end with a line feed, which the last may lack; a
@@ -86,20 +86,20 @@ fn line_feed(bytes: &[u8]) -> usize
     memchr(b'\n', bytes).unwrap_or(bytes.len())
 }
 
-// What was read so far: the pieces that ended, the one in hand, and the steps.
+// What was read so far: the parts that ended, the one in hand, and the steps.
 #[derive(Drop)]
 pub(crate) struct Reading {
-    pieces: Vec<Piece>,
-    in_hand: Piece,
+    parts: Vec<Part>,
+    in_hand: Part,
     steps: Steps,
 }
 
 impl Model for Reading {
-    ghost use Rattle.nn_scenario.specs.SoFar.{SoFar};
+    ghost use Rattle.nn_scenario.specs.Reading.{Reading};
 
-    ghost Value = { SoFar };
+    ghost Value = { Reading };
 
-    ghost view = { λ r. record { parts = r.pieces.items; in_hand = r.in_hand; steps = r.steps } };
+    ghost view = { λ r. record { parts = r.parts.items; in_hand = r.in_hand; steps = r.steps } };
 }
 
 impl Reading {
@@ -108,8 +108,8 @@ impl Reading {
     {
         let steps = Steps::new(alloc)?;
         Ok(Reading {
-            pieces: Vec::new(alloc),
-            in_hand: Piece::new(alloc),
+            parts: Vec::new(alloc),
+            in_hand: Part::new(alloc),
             steps,
         })
     }
@@ -153,7 +153,7 @@ impl Reading {
         }
     }
 
-    // An end mark ends the piece in hand.
+    // An end mark ends the part in hand.
     fn push_edit(&mut self, alloc: Global, text: &[u8], tx: Tx) -> Result<(), AllocError>
         requires unbroken { is_unbroken text.now ≡ true }
         requires read { edit_of_line text.now ≡ Ok tx }
@@ -162,13 +162,13 @@ impl Reading {
     {
         self.steps.push_edit()?;
         let ends = is_end(&tx.edit);
-        let in_hand = mem::replace(&mut self.in_hand, Piece::new(alloc));
-        let piece = in_hand.with_line(text, tx)?;
+        let in_hand = mem::replace(&mut self.in_hand, Part::new(alloc));
+        let part = in_hand.with_line(text, tx)?;
         if !ends {
-            self.in_hand = piece;
+            self.in_hand = part;
             return Ok(());
         }
-        self.pieces.push(piece)?;
+        self.parts.push(part)?;
         Ok(())
     }
 
@@ -178,18 +178,18 @@ impl Reading {
         ensures bad { IfErr result (λ e. e.fault ≡ LineFault.OutOfMemory) }
     {
         let Reading {
-            mut pieces,
+            mut parts,
             in_hand,
             steps,
         } = self;
-        if in_hand.end(&mut pieces).is_err() {
+        if in_hand.end(&mut parts).is_err() {
             return Err(no_memory(line));
         }
-        let lanes = steps.lanes();
+        let datanodes = steps.datanodes();
         Ok(Scenario {
-            pieces,
+            parts,
             steps: steps.into_list(),
-            lanes,
+            datanodes,
         })
     }
 }

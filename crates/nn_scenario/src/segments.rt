@@ -15,12 +15,12 @@ use std::marker::Model;
 /// Lines of the log that are to become one segment: their bytes, each with one line feed after it, and the
 /// transactions that they were read as.
 #[derive(Drop)]
-pub struct Piece {
+pub struct Part {
     bytes: Vec<u8>,
     txs: Vec<Tx>,
 }
 
-impl Model for Piece {
+impl Model for Part {
     ghost use Rattle.nn_scenario.specs.Cut.{Part, AreRead};
 
     ghost Value = { Part };
@@ -30,38 +30,38 @@ impl Model for Piece {
     ghost invariant = { λ p. AreRead (record { bytes = p.bytes.items; txs = p.txs.items }) };
 }
 
-impl Piece {
+impl Part {
     /// No lines. Takes no memory.
-    pub fn new(alloc: Global) -> Piece
+    pub fn new(alloc: Global) -> Part
         ensures { result ≡ no_lines }
     {
-        Piece {
+        Part {
             bytes: Vec::new(alloc),
             txs: Vec::new(alloc),
         }
     }
 
     /// The lines and one more, which is lent without a line feed. Where memory is refused all of them are gone.
-    pub fn with_line(self, text: &[u8], tx: Tx) -> Result<Piece, AllocError>
+    pub fn with_line(self, text: &[u8], tx: Tx) -> Result<Part, AllocError>
         requires unbroken { is_unbroken text.now ≡ true }
         requires read { edit_of_line text.now ≡ Ok tx }
         requires from_one { 1 ≤ tx.txid }
-        ensures { IfOk result (λ piece. piece ≡ with_line self (record { text = text.now; tx = tx })) }
+        ensures { IfOk result (λ part. part ≡ with_line self (record { text = text.now; tx = tx })) }
     {
-        let Piece { mut bytes, mut txs } = self;
+        let Part { mut bytes, mut txs } = self;
         add_line(&mut bytes, text)?;
         push(&mut txs, tx)?;
-        Ok(Piece { bytes, txs })
+        Ok(Part { bytes, txs })
     }
 
-    /// Adds the lines to the pieces, if there are any.
-    pub fn end(self, pieces: &mut Vec<Piece>) -> Result<(), AllocError>
-        ensures { OnOk result (pieces.new.items ≡ pieces.old.items ++ last_part self) }
+    /// Adds the lines to the parts, if there are any.
+    pub fn end(self, parts: &mut Vec<Part>) -> Result<(), AllocError>
+        ensures { OnOk result (parts.new.items ≡ parts.old.items ++ last_part self) }
     {
         if self.txs.is_empty() {
             return Ok(());
         }
-        pieces.push(self)?;
+        parts.push(self)?;
         Ok(())
     }
 
@@ -70,7 +70,7 @@ impl Piece {
     pub fn into_segment(self, alloc: Global) -> Result<Parsed, SegmentFault>
         ensures { Gives result (segment_of self) }
     {
-        let Piece { bytes, txs } = self;
+        let Part { bytes, txs } = self;
         match name_of(alloc, &txs) {
             Ok(name) => Parsed::from_lines(name, bytes, txs),
             Err(AllocError) => Err(SegmentFault::OutOfMemory),
@@ -128,15 +128,15 @@ pub struct BadSegment {
     pub segment: u64,
 }
 
-/// The segments of pieces, or the first that has a fault.
-pub fn read_segments(alloc: Global, pieces: Vec<Piece>) -> Result<Vec<Parsed>, BadSegment>
-    ensures ok { IfOk result (λ v. segments_from 1 pieces.items ≡ Ok v.items) }
-    ensures bad { IfErr result (λ e. e.fault ≢ SegmentFault.OutOfMemory → segments_from 1 pieces.items ≡ Err e) }
+/// The segments of parts, or the first that has a fault.
+pub fn read_segments(alloc: Global, parts: Vec<Part>) -> Result<Vec<Parsed>, BadSegment>
+    ensures ok { IfOk result (λ v. segments_from 1 parts.items ≡ Ok v.items) }
+    ensures bad { IfErr result (λ e. e.fault ≢ SegmentFault.OutOfMemory → segments_from 1 parts.items ≡ Err e) }
 {
     let mut segments = Vec::new(alloc);
-    for piece in pieces {
+    for part in parts {
         let segment = segments.len() as u64 + 1;
-        let parsed = match piece.into_segment(alloc) {
+        let parsed = match part.into_segment(alloc) {
             Ok(parsed) => parsed,
             Err(fault) => return Err(BadSegment { fault, segment }),
         };

@@ -1,6 +1,6 @@
 //! The steps of a scenario, with its messages numbered.
 ghost use Rattle.std.specs.Prelude.{◌≡◌, ◌≤◌, ◌++◌, ◌∷◌, [], IfOk, OnOk, OnErr, replicate};
-ghost use Rattle.nn_scenario.specs.Steps.{message, with_report, lane_count};
+ghost use Rattle.nn_scenario.specs.Steps.{message, with_report, datanode_count};
 
 use crate::step_list::StepList;
 use nn_types::{Message, Report};
@@ -24,7 +24,7 @@ pub struct Steps {
     items: StepList,
     // how many messages each DataNode sent
     sent: Vec<u64>,
-    lanes: u16,
+    datanodes: u16,
 }
 
 impl Model for Steps {
@@ -36,7 +36,7 @@ impl Model for Steps {
 
     ghost view = { λ s. s.items };
 
-    ghost invariant = { λ s. IsCounted s.items s.sent.items s.lanes };
+    ghost invariant = { λ s. IsCounted s.items s.sent.items s.datanodes };
 }
 
 impl Steps {
@@ -48,7 +48,7 @@ impl Steps {
         Ok(Steps {
             items: StepList::new(alloc),
             sent,
-            lanes: 1,
+            datanodes: 1,
         })
     }
 
@@ -78,16 +78,16 @@ impl Steps {
             return Err(AllocError);
         }
         self.sent[usize::from(dn)] = number;
-        let lanes = self.lanes;
-        self.lanes = lanes.max(dn);
+        let datanodes = self.datanodes;
+        self.datanodes = datanodes.max(dn);
         Ok(())
     }
 
     /// The greatest DataNode of any message, and at least 1.
-    pub fn lanes(&self) -> u16
-        ensures { result ≡ lane_count self.now }
+    pub fn datanodes(&self) -> u16
+        ensures { result ≡ datanode_count self.now }
     {
-        self.lanes
+        self.datanodes
     }
 
     /// The steps alone.

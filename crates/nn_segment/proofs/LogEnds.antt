@@ -8,7 +8,7 @@ use Rattle.nn_model.specs.Apply.{refusal, effect, outcome}
 use Rattle.nn_model.specs.Log.{namespace_after, IsLog, counted, CountsUp}
 use Rattle.nn_model.proofs.Logs.{counted_append, counts_up, appended_log, namespace_of_appended}
 use Rattle.nn_segment.specs.Segment.{Segment, first_txid}
-use Rattle.nn_segment.specs.LogEnd.{disorder, Stop, LogEnd, go_on, end_of_txs, and_then, end_of_log}
+use Rattle.nn_segment.specs.LogEnd.{disorder, LogStop, LogEnd, go_on, end_of_txs, and_then, end_of_log}
 use Rattle.nn_segment.specs.LogLaws.{IsEndOf, EndsWithTheLog}
 
 ends_here : (last : ℕ) (n : Namespace) (end : LogEnd) → record { last = last; namespace = n } ≡ end → IsEndOf last n [] end
@@ -51,7 +51,7 @@ ends_with_the_log last n (s ∷ segments) end is =
     let own = counted last s.txs in
     let later : List Tx = flat_map (λ segment. segment) (map (λ (x : Segment). x.txs) segments) in
     let Goal : Type 0 = IsEndOf last n (counted last (s.txs ++ later)) end in
-    let after : (r : Result LogEnd Stop) → end_of_txs last n own ≡ r → and_then r (λ e. end_of_log e.last e.namespace segments) ≡ Ok end → Goal =
+    let after : (r : Result LogEnd LogStop) → end_of_txs last n own ≡ r → and_then r (λ e. end_of_log e.last e.namespace segments) ≡ Ok end → Goal =
     λ r. elim r as (λ q. end_of_txs last n own ≡ q → and_then q (λ e. end_of_log e.last e.namespace segments) ≡ Ok end → Goal) [
       | Ok mid ↦ λ at e.
           let first = txs_end last n own mid (counts_up last s.txs) at in

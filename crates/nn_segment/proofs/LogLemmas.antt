@@ -9,17 +9,17 @@ use Rattle.nn_model.specs.Apply.{applied}
 use Rattle.nn_model.specs.Log.{counted}
 use Rattle.nn_model.proofs.Logs.{counted_append}
 use Rattle.nn_segment.specs.Segment.{Segment, first_txid}
-use Rattle.nn_segment.specs.LogEnd.{disorder, Stop, LogEnd, go_on, end_of_txs, and_then, end_of_log}
+use Rattle.nn_segment.specs.LogEnd.{disorder, LogStop, LogEnd, go_on, end_of_txs, and_then, end_of_log}
 use Rattle.nn_segment.specs.LogLeft.{LogLeft, end_of_left, txs_left}
 
-and_then_on : (txid : ℕ) (r : Result Namespace EditFault) (next : Namespace → Result LogEnd Stop) (rest : LogEnd → Result LogEnd Stop)
+and_then_on : (txid : ℕ) (r : Result Namespace EditFault) (next : Namespace → Result LogEnd LogStop) (rest : LogEnd → Result LogEnd LogStop)
     → and_then (go_on txid r next) rest ≡ go_on txid r (λ n. and_then (next n) rest)
 and_then_on txid (Ok n) next rest = refl
 and_then_on txid (Err fault) next rest = refl
 
 module _ (last : ℕ) (n : Namespace) where
   -- from a namespace on: the transactions that count, and then the segments
-  abbrev from : List Tx → List Segment → Result LogEnd Stop
+  abbrev from : List Tx → List Segment → Result LogEnd LogStop
   from txs segments = and_then (end_of_txs last n txs) (λ end. end_of_log end.last end.namespace segments)
 
   one_first : (tx : Tx) (later : List Tx) → end_of_txs last n (tx ∷ later) ≡ go_on tx.txid (applied n tx.edit) (λ after. end_of_txs tx.txid after later)

@@ -5,7 +5,7 @@ use Rattle.nn_model.specs.Namespace.{Namespace}
 use Rattle.nn_model.specs.Apply.{applied}
 use Rattle.nn_model.specs.Log.{counted}
 use Rattle.nn_segment.specs.Segment.{Segment}
-use Rattle.nn_segment.specs.LogEnd.{disorder, Stop, LogEnd, go_on, end_of_txs, and_then, end_of_log}
+use Rattle.nn_segment.specs.LogEnd.{disorder, LogStop, LogEnd, go_on, end_of_txs, and_then, end_of_log}
 
 -- transactions of the segment in hand, and the segments after it
 pub record LogLeft : Type 0 where
@@ -13,7 +13,7 @@ pub record LogLeft : Type 0 where
   pub segments : List Segment
 
 -- the end of what is left of a log, where it goes on from a txid and a namespace, or where and why it stops
-abbrev pub end_of_left : ℕ → Namespace → LogLeft → Result LogEnd Stop
+abbrev pub end_of_left : ℕ → Namespace → LogLeft → Result LogEnd LogStop
 end_of_left last n left = and_then (end_of_txs last n (counted last left.txs)) (λ end. end_of_log end.last end.namespace left.segments)
 
 -- the transactions of it that count after a txid

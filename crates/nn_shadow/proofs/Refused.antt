@@ -2,7 +2,7 @@
 use Rattle.std.proofs.Common.{◌≡◌, Some, None, refl, sym, ap, subst, ◌∙◌, inl, inr}
 use Rattle.nn_types.specs.declared.tx.Tx.{Tx}
 use Rattle.nn_model.specs.Apply.{refusal}
-use Rattle.nn_model.specs.Stands.{Standby}
+use Rattle.nn_model.specs.Stands.{StandbyState}
 use Rattle.nn_shadow.specs.declared.fault.ApplyFault.{ApplyFault}
 use Rattle.nn_shadow.specs.declared.fault.ApplyFault.TheVariants.{OutOfMemory}
 use Rattle.nn_shadow.specs.Refusals.{Phase, turn_refusal, IsApplyFault, phase_after_apply}
@@ -25,7 +25,7 @@ refused_before x tx fault is =
       left = (refl, stays);
       same = λ other. ap (λ (phase : Phase). record x { phase = phase }) stays;
       numbers = refl;
-      settings = record { lanes = refl; min = refl; permille = refl };
+      settings = record { datanodes = refl; min = refl; permille = refl };
     }
 
 -- a fault other than want of memory is the edit's
@@ -41,7 +41,7 @@ pub refused_after : (old mid new : Contents) (tx : Tx) (fault : ApplyFault) → 
     IsApplyFault mid.phase (standby_of mid) tx fault → new ≡ record mid { phase = phase_after_apply mid.phase tx fault } → Refuses old tx fault new
 refused_after old mid new tx fault turn kept same numbers why left =
     let why_old : IsApplyFault old.phase (standby_of old) tx fault = subst (λ (phase : Phase). IsApplyFault phase (standby_of old) tx fault) kept.phase
-    (subst (λ (s : Standby). IsApplyFault mid.phase s tx fault) kept.standby why) in
+    (subst (λ (s : StandbyState). IsApplyFault mid.phase s tx fault) kept.standby why) in
     record {
       why = why_old;
       left = (
@@ -50,11 +50,11 @@ refused_after old mid new tx fault turn kept same numbers why left =
       );
       same = λ other. left ∙ ap (λ (x : Contents). record x { phase = phase_after_apply x.phase tx fault }) (same (not_made old tx fault turn why_old other));
       numbers = ap (λ (x : Contents). x.numbers) left ∙ numbers;
-      settings = subst (KeepsSettings old) (sym left) (record { lanes = kept.settings.lanes; min = kept.settings.min; permille = kept.settings.permille });
+      settings = subst (KeepsSettings old) (sym left) (record { datanodes = kept.settings.datanodes; min = kept.settings.min; permille = kept.settings.permille });
     }
 
 pub turn_still : (old mid : Contents) (tx : Tx) → Becomes old (standby_of old) mid → turn_refusal old.phase (standby_of old) tx ≡ None →
     turn_refusal mid.phase (standby_of mid) tx ≡ None
 turn_still old mid tx kept turn =
     subst (λ (phase : Phase). turn_refusal phase (standby_of mid) tx ≡ None) (sym kept.phase)
-    (subst (λ (s : Standby). turn_refusal old.phase s tx ≡ None) (sym kept.standby) turn)
+    (subst (λ (s : StandbyState). turn_refusal old.phase s tx ≡ None) (sym kept.standby) turn)

@@ -12,7 +12,7 @@ ghost use Rattle.nn_postponed.specs.Release.{due_at, first_free, freed, kept};
 ghost use Rattle.nn_shadow.specs.Calls.{is_due_in};
 ghost use Rattle.nn_shadow.specs.Rounds.{TakesBlock, FillsBlock, LeavesOthers};
 ghost use Rattle.nn_shadow.specs.Touching.{IsQuiet, Rises};
-ghost use Rattle.nn_tree.specs.Touched.{shown};
+ghost use Rattle.nn_tree.specs.Touched.{seen};
 ghost use Rattle.nn_shadow.specs.Steps.{messages_taken, HavePlaces};
 
 use crate::table::process;
@@ -42,8 +42,8 @@ pub(crate) fn settle(
     requires placed { HavePlaces table.old held.old }
     requires order { AreByBlock held.old }
     requires written { (held.old ≡ []) ⊎ (written.now ≡ ascending (ids_of touched.now.changed)) }
-    requires rises { Rises (shown touched.now).retired }
-    requires quiet { IsQuiet (shown touched.now) (is_due_in namespace.now) held.old }
+    requires rises { Rises (seen touched.now).retired }
+    requires quiet { IsQuiet (seen touched.now) (is_due_in namespace.now) held.old }
     ensures told { history.new.items ≡ history.old.items ++ map (processed Due) (freed (is_due_in namespace.now) [] held.old) }
     ensures left { held.new ≡ kept (is_due_in namespace.now) [] held.old }
     ensures table { table.new ≡ messages_taken table.old (freed (is_due_in namespace.now) [] held.old) }

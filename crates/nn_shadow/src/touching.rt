@@ -1,7 +1,7 @@
 //! Which blocks an edit touched, one after another.
 ghost use Rattle.std.specs.Prelude.{◌≡◌, ℕ, ◌≤◌, ◌++◌, [], None, OnOk, IfOk, ◌⊎◌, IfSome};
 ghost use Rattle.nn_model.specs.Touched.{ids_of, ascending};
-ghost use Rattle.nn_tree.specs.Touched.{shown};
+ghost use Rattle.nn_tree.specs.Touched.{seen};
 ghost use Rattle.nn_shadow.specs.Touching.{written, Rises, IsNextTouched, IsNextSkipped, lower, lowest, earlier, later};
 
 use nn_postponed::Postponed;
@@ -71,8 +71,8 @@ pub(crate) fn next_touched(
     from: BlockId,
 ) -> Option<BlockId>
     requires written { written.now ≡ ascending (ids_of touched.now.changed) }
-    requires rises { Rises (shown touched.now).retired }
-    ensures { IsNextTouched (shown touched.now) from held.now result }
+    requires rises { Rises (seen touched.now).retired }
+    ensures { IsNextTouched (seen touched.now) from held.now result }
 {
     let changed = least_from(written, from);
     let retired = least_from(touched.retired.as_slice(), from);

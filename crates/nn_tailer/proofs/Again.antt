@@ -16,7 +16,7 @@ use Rattle.nn_segment.specs.Segment.{Segment, IsSegment, first_txid}
 use Rattle.nn_segment.specs.Source.{Answer}
 use Rattle.nn_segment.specs.Walk.{segments_in}
 use Rattle.nn_segment.specs.declared.source.Item.TheVariants as item
-use Rattle.nn_segment.specs.LogEnd.{Stop as LogStop, LogEnd, refused, disorder, go_on, end_of_txs, and_then, end_of_log, end_behind, given_in}
+use Rattle.nn_segment.specs.LogEnd.{LogStop, LogEnd, refused, disorder, go_on, end_of_txs, and_then, end_of_log, end_behind, given_in}
 use Rattle.nn_segment.proofs.Walks.{passed_over, next_taken}
 use Rattle.nn_image.proofs.Round.{reads_back}
 use Rattle.nn_tailer.specs.RestartLaws.{GoesOn, ReadsAgain, KeepsStatus}

@@ -2,7 +2,7 @@
 use Rattle.std.proofs.Common.{◌≡◌, ℕ, ◌+◌, true, false, List, ◌∷◌, Some, None, sym, ap, ◌∙◌, subst}
 use Rattle.nn_types.specs.declared.tx.Tx.{Tx}
 use Rattle.nn_model.specs.Log.{CountsUp}
-use Rattle.nn_model.specs.Stands.{Standby}
+use Rattle.nn_model.specs.Stands.{StandbyState}
 use Rattle.nn_shadow.specs.declared.fault.Stop.{Stop}
 use Rattle.nn_shadow.specs.Contents.{Contents}
 use Rattle.nn_tailer.specs.Shadows.{ShowsSame, IsApplied, IsFlushed}
@@ -23,7 +23,7 @@ keeps_applied x tx rest s k l e a =
     let last : s.last ≡ tx.txid = applied_last x.shadow s tx a in record {
       lanes = k.lanes;
       few = k.few;
-      count = a.settings.lanes ∙ k.count;
+      count = a.settings.datanodes ∙ k.count;
       numbers = λ dn. applied_numbers x.shadow s tx a dn ∙ k.numbers dn;
       next = (let P : ℕ → Type 0 = λ n. CountsUp n rest in subst P (sym last) (goes_on x tx rest k e).1);
       live = λ q. ap (λ z. z.stopped) a.phase ∙ k.live q;
@@ -39,7 +39,7 @@ pub keeps_unchanged : (x : Tailer) (s : Contents) → Keeps x → ShowsSame x.sh
 keeps_unchanged x s k h p = record {
   lanes = k.lanes;
   few = k.few;
-  count = h.settings.lanes ∙ k.count;
+  count = h.settings.datanodes ∙ k.count;
   numbers = λ dn. same_numbers x.shadow s h dn ∙ k.numbers dn;
   next = still_next x s k h;
   live = λ q. ap (λ z. z.stopped) p ∙ k.live q;
@@ -52,7 +52,7 @@ pub keeps_stopped : (x : Tailer) (s : Contents) (m : Stop) → Keeps x → IsLiv
 keeps_stopped x s m k l h p n = record {
   lanes = k.lanes;
   few = k.few;
-  count = h.settings.lanes ∙ k.count;
+  count = h.settings.datanodes ∙ k.count;
   numbers = λ dn. same_numbers x.shadow s h dn ∙ k.numbers dn;
   next = still_next x s k h;
   live = λ q. absurd (let w : Some m ≡ None = q in cc);
@@ -65,7 +65,7 @@ pub keeps_flushing : (x : Tailer) (s : Contents) → Keeps x → x.stop ≡ None
 keeps_flushing x s k l h p = record {
   lanes = k.lanes;
   few = k.few;
-  count = h.settings.lanes ∙ k.count;
+  count = h.settings.datanodes ∙ k.count;
   numbers = λ dn. same_numbers x.shadow s h dn ∙ k.numbers dn;
   next = still_next x s k h;
   live = λ q. ap (λ z. z.stopped) p ∙ k.live q;
@@ -75,14 +75,14 @@ keeps_flushing x s k l h p = record {
 }
 
 flushed_last : (x s : Contents) → IsFlushed x s → s.last ≡ x.last
-flushed_last x s f = ap (λ (z : Standby). z.last) f.standby
+flushed_last x s f = ap (λ (z : StandbyState). z.last) f.standby
 
 pub keeps_active : (x : Tailer) (s : Contents) → Keeps x → x.stop ≡ None → IsFlushed x.shadow s → Keeps (activated x s)
 keeps_active x s k l f = record {
   lanes = k.lanes;
   few = k.few;
-  count = f.settings.lanes ∙ k.count;
-  numbers = λ dn. ap (λ (z : Standby). z.last_number dn) f.standby ∙ k.numbers dn;
+  count = f.settings.datanodes ∙ k.count;
+  numbers = λ dn. ap (λ (z : StandbyState). z.last_number dn) f.standby ∙ k.numbers dn;
   next = (let P : ℕ → Type 0 = λ n. CountsUp n x.rest in subst P (sym (flushed_last x.shadow s f)) k.next);
   live = λ q. ap (λ z. z.stopped) f.phase ∙ k.live q;
   stops = λ z q. k.stops z q ∙ ap (λ n. n + 1) (sym (flushed_last x.shadow s f));

@@ -6,7 +6,7 @@ use Rattle.nn_model.specs.Namespace.{Namespace}
 use Rattle.nn_model.specs.Lanes.{Lanes}
 use Rattle.nn_lane.specs.Ends.{Taking}
 use Rattle.nn_model.specs.History.{IsBeforeFlush}
-use Rattle.nn_model.specs.Stands.{Standby, Stands}
+use Rattle.nn_model.specs.Stands.{StandbyState, Stands}
 use Rattle.nn_shadow.specs.Contents.{Contents, standby_of}
 use Rattle.nn_shadow.specs.Laws.{StandsBy}
 use Rattle.nn_tailer.specs.Shadows.{ShowsSame}
@@ -106,7 +106,7 @@ more base given p txs last e l =
 lanes_by : (x y : Tailer) → y.ends ≡ x.ends → y.kept ≡ x.kept → lanes_of y ≡ lanes_of x
 lanes_by x y e k = ap (λ es. by_node (handed_all es y.kept)) e ∙ ap (λ ks. by_node (handed_all x.ends ks)) k
 
-moved : (start : Namespace) (base : ℕ) (txs : List Tx) (lanes lanes' : Lanes) (s s' : Standby) → s' ≡ s → lanes' ≡ lanes → Stands start base txs lanes s → Stands start base txs lanes' s'
+moved : (start : Namespace) (base : ℕ) (txs : List Tx) (lanes lanes' : Lanes) (s s' : StandbyState) → s' ≡ s → lanes' ≡ lanes → Stands start base txs lanes s → Stands start base txs lanes' s'
 moved start base txs lanes lanes' s s' e l h = subst (λ z. Stands start base txs z s') (sym l) (subst (λ z. Stands start base txs lanes z) (sym e) h)
 
 -- from there the log goes on with this segment
@@ -166,7 +166,7 @@ pub still_stands : (start : Namespace) (base : ℕ) (txs : List Tx) (lanes : Lan
 still_stands start base txs lanes x y q h = subst (Stands start base txs lanes) (sym q.standby) h
 
 pub still_before : (x y : Contents) → ShowsSame x y → IsBeforeFlush x.history → IsBeforeFlush y.history
-still_before x y q h = subst (λ (z : Standby). IsBeforeFlush z.history) (sym q.standby) h
+still_before x y q h = subst (λ (z : StandbyState). IsBeforeFlush z.history) (sym q.standby) h
 
 pub carries_stop : (old new : Tailer) (m : Stop) → IsLive old → StopsAt old m new → Carries old [] new
 carries_stop old new m l a = subst (λ z. Carries old [] z) (sym a.now) (λ start base given s. record {

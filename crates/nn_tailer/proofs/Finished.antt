@@ -6,7 +6,7 @@ use Rattle.nn_model.specs.Namespace.{Namespace}
 use Rattle.nn_model.specs.Lanes.{Lanes}
 use Rattle.nn_model.specs.Lawful.{IsWhole}
 use Rattle.nn_model.specs.Picture.{ShowsPicture}
-use Rattle.nn_model.specs.Stands.{Standby, Stands, tables_of}
+use Rattle.nn_model.specs.Stands.{StandbyState, Stands, tables_of}
 use Rattle.nn_lane.specs.Ends.{got_of}
 use Rattle.nn_shadow.specs.Contents.{Contents, standby_of}
 use Rattle.nn_segment.specs.Segment.{Segment}
@@ -45,7 +45,7 @@ promotes x s a n f start base given h r e t =
     let lanes : lanes_of x ≡ by_node (map got_of x.ends) = ap by_node (handed_got x.ends x.kept t) in
     let by = f.stands start base h.txs (lanes_of x) (record { stands = h.shadow; before_flush = h.before_flush a }) in
     let way : x.stop ≡ None → (later : List Segment) → end_of_log base start (given_in given ++ later) ≡ way_on (activated x s) later =
-    λ q later. h.goes_on q later ∙ same_way x (activated x s) later (ap (λ (z : Standby). z.last) f.standby) (ap (λ (z : Standby). z.namespace) f.standby) refl in
+    λ q later. h.goes_on q later ∙ same_way x (activated x s) later (ap (λ (z : StandbyState). z.last) f.standby) (ap (λ (z : StandbyState). z.namespace) f.standby) refl in
     let S : List Tx → Lanes → Type 0 = λ txs ls. Stands start base txs ls (standby_of s) in
     let W : List Tx → Lanes → Type 0 = λ txs ls. IsWhole start txs ls s.history in
     let P : Lanes → Type 0 = λ ls. ShowsPicture s.namespace ls (tables_of (standby_of s)) in (
@@ -53,7 +53,7 @@ promotes x s a n f start base given h r e t =
         stands = subst (λ ls. S (log_in base given) ls) lanes (subst (λ txs. S txs (lanes_of x)) log by.0);
         whole = subst (λ ls. W (log_in base given) ls) lanes (subst (λ txs. W txs (lanes_of x)) log by.1);
         picture = subst P lanes by.2;
-        none_held = ap (λ (z : Standby). z.held) f.standby;
+        none_held = ap (λ (z : StandbyState). z.held) f.standby;
         ended = e;
         log_end = ap (end_of_log base start) (sym (append-nil (given_in given))) ∙ way n [] ∙ ap (λ r. end_behind s.last s.namespace r []) r ∙ behind_none s.last s.namespace [] ∙ no_more s.last s.namespace;
         taken = t;

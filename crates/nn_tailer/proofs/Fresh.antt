@@ -4,7 +4,7 @@ use Rattle.nn_types.specs.declared.report.Message.{Message}
 use Rattle.nn_model.specs.Namespace.{Namespace, root_alone}
 use Rattle.nn_model.specs.Lanes.{no_messages}
 use Rattle.nn_lane.specs.Ends.{Taking}
-use Rattle.nn_model.specs.Stands.{Standby, Stands, fresh as just_begun}
+use Rattle.nn_model.specs.Stands.{StandbyState, Stands, fresh as just_begun}
 use Rattle.nn_shadow.specs.Contents.{Contents, standby_of}
 use Rattle.nn_shadow.specs.Laws.{StandsBy}
 use Rattle.nn_segment.specs.LogEnd.{end_behind}
@@ -42,7 +42,7 @@ keeps_fresh start base s es ks l n e f = subst (λ z. Keeps (fresh s es z)) (sym
   lanes = kept_new 1 es n;
   few = l;
   count = f.count;
-  numbers = λ dn. ap (λ (z : Standby). z.last_number dn) f.begun ∙ ap length (sym (lanes_at es n dn));
+  numbers = λ dn. ap (λ (z : StandbyState). z.last_number dn) f.begun ∙ ap length (sym (lanes_at es n dn));
   next = tt;
   live = λ _. ap (λ z. z.stopped) f.phase;
   stops = λ z q. absurd (let w : None ≡ Some z = q in cc);
@@ -62,7 +62,7 @@ is_new_at start base s es ks n e f = subst (λ z. IsNewAt start base es (fresh s
     shadow = subst (λ ls. Stands start base [] ls (standby_of s)) (sym (λ k dn. lanes_at es n dn k)) f.stands.stands;
     before_flush = λ _. f.stands.before_flush;
     log = refl;
-    goes_on = (λ _ later. sym (behind_none base start later) ∙ (λ j. end_behind (sym (ap (λ (z : Standby). z.last) f.begun) j) (sym (ap (λ (z : Standby). z.namespace) f.begun) j) [] later));
+    goes_on = (λ _ later. sym (behind_none base start later) ∙ (λ j. end_behind (sym (ap (λ (z : StandbyState). z.last) f.begun) j) (sym (ap (λ (z : StandbyState). z.namespace) f.begun) j) [] later));
     stops = (λ z q. absurd (let w : None ≡ Some z = q in cc));
     ended = λ h. absurd (let w : false ≡ true = sym (ap (λ z. z.active) f.phase) ∙ h in cc);
   };
@@ -73,7 +73,7 @@ is_fresh s es ks n e f = let x = is_new_at root_alone 0 s es ks n e f in (x.ends
 
 -- it stands at its own namespace and last txid, which are those that it started with
 pub own_point : (start : Namespace) (base : ℕ) (s : Contents) → standby_of s ≡ just_begun start base → ◌≡◌ {A = Namespace × ℕ} (s.namespace, s.last) (start, base)
-own_point start base s e = ap (λ (z : Standby). (z.namespace, z.last)) e
+own_point start base s e = ap (λ (z : StandbyState). (z.namespace, z.last)) e
 
 pub at_own : (start : Namespace) (base lanes : ℕ) (s : Contents) → IsFresh start base lanes s → IsFresh s.namespace s.last lanes s
 at_own start base lanes s f = let e = own_point start base s f.begun in subst (λ (p : Namespace × ℕ). IsFresh p.0 p.1 lanes s) (sym e) f

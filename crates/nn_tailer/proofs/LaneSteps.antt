@@ -8,7 +8,7 @@ use Rattle.nn_tailer.specs.declared.standby.Stepped.TheVariants as stepped
 use Rattle.nn_tailer.specs.declared.fault.StepFault.{StepFault}
 use Rattle.nn_tailer.specs.declared.fault.StepFault.TheVariants as fault
 use Rattle.nn_tailer.specs.Tailing.{has_begun, Tailer, Keeps, Carries, lanes_of, handed, handed_all, kept_at, with_lane}
-use Rattle.nn_model.specs.Stands.{Standby}
+use Rattle.nn_model.specs.Stands.{StandbyState}
 use Rattle.nn_shadow.specs.Contents.{Contents, standby_of, KeepsSettings}
 use Rattle.nn_shadow.specs.Calls.{waits}
 use Rattle.nn_shadow.specs.Refusals.{handed_as}
@@ -143,14 +143,14 @@ moves_then : (old mid new : Tailer) (i : ℕ) (m : Message) → handed_in mid �
 moves_then old mid new i m q h = subst (λ H. (m.dn ≡ i + 1) × (handed_in new ≡ set H i (get_or H i [] ++ m ∷ [])) × (length (get_or H i []) + 1 ≤ all_count new i)) q h
 
 -- the answer tells whether it waits
-pub was_held : (x : Standby) (m : Message) → handed_as x m ≡ handed_shadow.Held → waits x m ≡ true
+pub was_held : (x : StandbyState) (m : Message) → handed_as x m ≡ handed_shadow.Held → waits x m ≡ true
 was_held x m = by_answer (waits x m)
   where
     by_answer : (b : Bool) → (if b then handed_shadow.Held else handed_shadow.Processed) ≡ handed_shadow.Held → b ≡ true
     by_answer true e = refl
     by_answer false e = absurd (cc)
 
-pub was_processed : (x : Standby) (m : Message) → handed_as x m ≡ handed_shadow.Processed → waits x m ≡ false
+pub was_processed : (x : StandbyState) (m : Message) → handed_as x m ≡ handed_shadow.Processed → waits x m ≡ false
 was_processed x m = by_answer (waits x m)
   where
     by_answer : (b : Bool) → (if b then handed_shadow.Held else handed_shadow.Processed) ≡ handed_shadow.Processed → b ≡ false

@@ -100,7 +100,7 @@ keeps_handed x i m d s k l e h =
     record {
       lanes = lanes_after 1 x.ends x.kept i k.lanes;
       few = k.few;
-      count = h.settings.lanes ∙ k.count;
+      count = h.settings.datanodes ∙ k.count;
       numbers = λ dn. handed_numbers x.shadow s m h dn ∙ grown_numbers (number_in x.shadow.numbers) (lanes_of x) m dn (k.numbers dn) (next_number x i m d k l e) ∙ ap (λ ls. length (ls dn)) (sym (lanes_grow x i m d s k l e));
       next = (let P : ℕ → Type 0 = λ j. CountsUp j x.rest in subst P (sym last) k.next);
       live = λ q. ap (λ z. z.stopped) h.phase ∙ k.live q;

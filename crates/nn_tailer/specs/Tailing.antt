@@ -13,7 +13,7 @@ use Rattle.nn_shadow.specs.Contents.{Contents, standby_of, number_in}
 use Rattle.nn_segment.specs.Source.{Answer, end}
 use Rattle.nn_segment.specs.Segment.{Segment}
 use Rattle.nn_segment.specs.Walk.{log_in}
-use Rattle.nn_segment.specs.LogEnd.{Cause, stop_number, Stop as LogStop, LogEnd, end_of_log, end_behind, given_in}
+use Rattle.nn_segment.specs.LogEnd.{StopCause, stop_number, LogStop, LogEnd, end_of_log, end_behind, given_in}
 
 pub record Tailer : Type 0 where
   pub shadow : Contents
@@ -86,7 +86,7 @@ way_on x later = end_behind x.shadow.last x.shadow.namespace x.rest later
 -- the log of what was given stops with this, whatever segments come later
 abbrev pub StopsLog : Namespace → ℕ → List Answer → Stop → Type 0
 StopsLog start base given s =
-    (cause : Cause) × (stop_number cause ≡ s.number) × ((later : List Segment) → end_of_log base start (given_in given ++ later) ≡ Err (record { cause = cause; txid = s.txid }))
+    (cause : StopCause) × (stop_number cause ≡ s.number) × ((later : List Segment) → end_of_log base start (given_in given ++ later) ≡ Err (record { cause = cause; txid = s.txid }))
 
 -- The standby stands at its base, at what the sources answered so far, and at the messages that were handed on:
 -- its Shadow stands at the first part of the log of all segments given, and the rest of that log is in hand. Whatever

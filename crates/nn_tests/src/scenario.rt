@@ -50,7 +50,7 @@ fn each_datanode_counts_by_itself(rt: HostRuntime) -> Result<(), Fail> {
 }
 
 fn two_lanes_are_told(rt: &impl Abort, alloc: Global, scenario: Scenario) -> Result<(), Fail> {
-    assert_eq!(rt; (scenario.lanes, scenario.pieces.len()), (200, 1));
+    assert_eq!(rt; (scenario.datanodes, scenario.parts.len()), (200, 1));
     assert_eq!(rt; scenario.steps.len(), 7);
     let steps = told(alloc, scenario.steps)?;
     let want = [
@@ -88,7 +88,7 @@ fn first_message(alloc: Global, input: &[u8]) -> Result<Message, Fail> {
 // The lanes of a scenario, or 0 where a line is bad.
 fn lanes_of(alloc: Global, input: &str) -> u16 {
     match read(alloc, input.as_bytes()) {
-        Ok(scenario) => scenario.lanes,
+        Ok(scenario) => scenario.datanodes,
         Err(_) => 0,
     }
 }

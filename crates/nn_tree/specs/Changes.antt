@@ -8,7 +8,7 @@ use Rattle.nn_model.specs.Namespace.{Path}
 use Rattle.nn_model.specs.Apply.{walk, keeps_ids, keeps_stamps}
 use Rattle.nn_tree.specs.declared.touched.Touched.{Touched as Told}
 use Rattle.nn_tree.specs.At.{at, IsSubtree, IsGrafted}
-use Rattle.nn_tree.specs.Touched.{shown}
+use Rattle.nn_tree.specs.Touched.{seen}
 use Rattle.nn_tree.specs.Walks.{mkdir_fault}
 
 -- nothing stood at the path p or below it, and now t does
@@ -29,7 +29,7 @@ abbrev pub GetsList : List Block → Bool → ℕ → Told × List Block → Fil
 GetsList bs closed last told x y =
     (x.closed ≡ false) × (keeps_ids x.blocks bs ≡ true) × (keeps_stamps last x.blocks bs ≡ true)
     × (y ≡ record { replication = x.replication; closed = closed; blocks = bs })
-    × (shown told.0 ≡ record { changed = bs; retired = map (λ b. b.id) (drop (length bs) x.blocks); skipped = None })
+    × (seen told.0 ≡ record { changed = bs; retired = map (λ b. b.id) (drop (length bs) x.blocks); skipped = None })
     × (told.1 ≡ x.blocks)
 
 -- the file x got another replication

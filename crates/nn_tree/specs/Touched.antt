@@ -3,5 +3,5 @@ use Rattle.nn_model.specs.Touched.{Touched}
 use Rattle.nn_tree.specs.declared.touched.Touched.{Touched as Told}
 
 -- the fields of the code's record, as those of the definition's
-abbrev pub shown : Told → Touched
-shown t = record { changed = t.changed; retired = t.retired.items; skipped = t.skipped }
+abbrev pub seen : Told → Touched
+seen t = record { changed = t.changed; retired = t.retired.items; skipped = t.skipped }

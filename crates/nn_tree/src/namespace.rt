@@ -13,7 +13,7 @@ ghost use Rattle.nn_tree.specs.Listing.{rows_of, Took, StopsIn};
 ghost use Rattle.nn_model.specs.WellFormed.{IsWellFormed};
 ghost use Rattle.nn_tree.specs.BlockRow.{IsInFile};
 ghost use Rattle.nn_tree.specs.Memory.{takes_memory};
-ghost use Rattle.nn_tree.specs.Touched.{shown};
+ghost use Rattle.nn_tree.specs.Touched.{seen};
 
 mod blocks;
 mod checks;
@@ -72,7 +72,7 @@ impl Namespace {
     /// OP_SET_REPLICATION and OP_SET_GENSTAMP_V2 never want memory.
     pub fn apply(&mut self, edit: &Edit) -> Result<Touched, EditFault>
         ensures ok { OnOk result (applied self.old edit.now ≡ Ok self.new) }
-        ensures touched { IfOk result (λ t. shown t ≡ touched self.old edit.now) }
+        ensures touched { IfOk result (λ t. seen t ≡ touched self.old edit.now) }
         ensures fault { IfErr result (λ fault. IsFault fault (refusal self.old edit.now)) }
         ensures memory { IsErrOf result EditFault.OutOfMemory → refusal self.old edit.now ≡ None }
         ensures spare { IsErrOf result EditFault.OutOfMemory → takes_memory edit.now ≡ true }

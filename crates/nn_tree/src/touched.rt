@@ -2,7 +2,7 @@
 ghost use Rattle.std.specs.Prelude.{◌≡◌, ◌+◌, ◌-◌, ◌++◌, ◌∷◌, [], ◌<◌, nat_lt, if◌then◌else◌, map, drop, length, IfOk, IfErr, OnOk, Some, None};
 ghost use Rattle.nn_model.specs.Apply.{new_block};
 ghost use Rattle.nn_model.specs.Touched.{nothing};
-ghost use Rattle.nn_tree.specs.Touched.{shown};
+ghost use Rattle.nn_tree.specs.Touched.{seen};
 
 use nn_types::{Block, BlockId, Blocks, GenerationStamp, Length};
 use std::alloc::{AllocError, Global};
@@ -21,7 +21,7 @@ pub struct Touched {
 impl Touched {
     /// Nothing, which takes no memory.
     pub(crate) fn nothing(alloc: Global) -> Touched
-        ensures { shown result ≡ nothing }
+        ensures { seen result ≡ nothing }
     {
         Touched {
             changed: Blocks::new(alloc),
@@ -36,7 +36,7 @@ impl Touched {
         id: BlockId,
         stamp: GenerationStamp,
     ) -> Result<Touched, AllocError>
-        ensures { IfOk result (λ t. shown t ≡ record nothing { changed = new_block id stamp ∷ [] }) }
+        ensures { IfOk result (λ t. seen t ≡ record nothing { changed = new_block id stamp ∷ [] }) }
     {
         let mut changed = Blocks::new(alloc);
         changed.push(empty_block(id, stamp))?;
@@ -49,7 +49,7 @@ impl Touched {
 
     /// A list of blocks in place of another one, which may have more of them.
     pub(crate) fn listed(alloc: Global, old: &[Block], new: &Blocks) -> Result<Touched, AllocError>
-        ensures { IfOk result (λ t. shown t
+        ensures { IfOk result (λ t. seen t
             ≡ record { changed = new.now; retired = map (λ b. b.id) (drop (length new.now) old.now); skipped = None }) }
     {
         let changed = new.copied()?;
@@ -64,7 +64,7 @@ impl Touched {
 
     /// Ids that left the namespace.
     pub(crate) fn deleted(alloc: Global, retired: Vec<BlockId>) -> Touched
-        ensures { shown result ≡ record nothing { retired = retired.items } }
+        ensures { seen result ≡ record nothing { retired = retired.items } }
     {
         Touched {
             changed: Blocks::new(alloc),
@@ -75,7 +75,7 @@ impl Touched {
 
     /// The ids between the last one that was issued and a higher one.
     pub(crate) fn issued(alloc: Global, last: BlockId, id: BlockId) -> Touched
-        ensures { shown result ≡ record nothing { skipped = if nat_lt (last + 1) id then Some (last + 1, id - 1) else None } }
+        ensures { seen result ≡ record nothing { skipped = if nat_lt (last + 1) id then Some (last + 1, id - 1) else None } }
     {
         Touched {
             changed: Blocks::new(alloc),

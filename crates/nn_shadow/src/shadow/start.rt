@@ -21,20 +21,20 @@ impl Shadow {
         alloc: Global,
         namespace: Namespace,
         txid: u64,
-        lanes: u16,
+        datanodes: u16,
         settings: Settings,
     ) -> Result<Shadow, FromFault>
-        requires lanes { (1 ≤ lanes) × (lanes ≤ 256) }
+        requires datanodes { (1 ≤ datanodes) × (datanodes ≤ 256) }
         requires txid { txid < 2 ^ 63 }
         ensures fresh { IfOk result (λ s. standby_of s ≡ fresh namespace txid) }
         ensures stands { IfOk result (λ s. StandsBy namespace txid [] no_messages (standby_of s)) }
         ensures rows { IfOk result (λ s. Shows namespace s.table) }
         ensures counts { IfOk result (λ s. HasCounts namespace s.table) }
         ensures phase { IfOk result (λ s. s.phase ≡ record { stopped = None; active = false }) }
-        ensures settings { IfOk result (λ s. (length s.numbers ≡ lanes) × (s.table.min ≡ settings.min) × (s.permille ≡ settings.permille)) }
+        ensures settings { IfOk result (λ s. (length s.numbers ≡ datanodes) × (s.table.min ≡ settings.min) × (s.permille ≡ settings.permille)) }
         ensures err { IfErr result (λ fault. fault.namespace ≡ namespace) }
     {
-        let Ok(numbers) = Vec::from_elem(alloc, 0u64, usize::from(lanes)) else {
+        let Ok(numbers) = Vec::from_elem(alloc, 0u64, usize::from(datanodes)) else {
             return Err(FromFault { namespace });
         };
         let Ok(table) = blank_table(alloc, &namespace, settings) else {

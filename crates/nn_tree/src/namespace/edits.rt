@@ -7,7 +7,7 @@ ghost use Rattle.nn_model.specs.Apply.{refusal, first, list_checks, with_blocks}
 ghost use Rattle.nn_model.specs.Touched.{listed};
 ghost use Rattle.nn_tree.specs.Does.{Does};
 ghost use Rattle.nn_tree.specs.Memory.{takes_memory};
-ghost use Rattle.nn_tree.specs.Touched.{shown};
+ghost use Rattle.nn_tree.specs.Touched.{seen};
 
 use super::Namespace;
 use super::checks::is_replication;
@@ -132,7 +132,7 @@ impl Namespace {
         requires lawful { IsLawfulEdit (edit.Close path.now blocks.now) }
         ensures applies { OnOk result (first (list_checks self.old path.now blocks.now) ≡ None) }
         ensures ok { OnOk result (self.new ≡ with_blocks self.old path.now blocks.now closed) }
-        ensures touched { IfOk result (λ t. shown t ≡ listed self.old path.now blocks.now) }
+        ensures touched { IfOk result (λ t. seen t ≡ listed self.old path.now blocks.now) }
         ensures err { OnErr result (self.new ≡ self.old) }
     {
         let names = path.names();

@@ -10,7 +10,7 @@ use Rattle.nn_engine.proofs.engine.output_of_scenario.Goals as goal
 
 pub returns-in-Ok-follow : goal.returns-in-Ok-follow
 returns-in-Ok-follow c =
-    let whole = segments_from 1 c.args.scenario.pieces.items in
+    let whole = segments_from 1 c.args.scenario.parts.items in
     let followed = c.in-Ok-follow.ensures in
     IfOk-weaker c.output_of_standby.result _ _ (λ o told.
     told_in_turn c.args.options c.args.scenario.steps whole c.in-Ok.segments.items c.in-Ok-follow.standby (shown o) c.in-Ok.ensures.ok c.requires.in_turn
@@ -18,7 +18,7 @@ returns-in-Ok-follow c =
 
 pub returns-in-Err-follow : goal.returns-in-Err-follow
 returns-in-Err-follow c =
-    let whole = segments_from 1 c.args.scenario.pieces.items in
+    let whole = segments_from 1 c.args.scenario.parts.items in
     IfOk-weaker c.output_of_halt.result _ _ (λ o told.
     told_fault false c.args.options c.args.scenario.steps whole c.in-Ok.segments.items (shown o) c.in-Ok.ensures.ok
     (told c.args.options (lanes_of c.args.scenario.steps) (end_of_log 0 root_alone c.in-Ok.segments.items) c.in-Err-follow.ensures.halted)) c.output_of_halt.ensures

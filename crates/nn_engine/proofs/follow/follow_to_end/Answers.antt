@@ -14,7 +14,7 @@ rest-preserved c =
       turns = rest_further c.rest.shadow c.follow_log.new.shadow c.rest.log c.follow_log.new.log
           (all_applied (standby_of c.args.shadow.now) (txs_left c.args.shadow.now.last c.args.log.now)) done.turn inv.turns;
       phase = done.serving;
-      rest = record { lanes = done.rest.lanes ∙ inv.rest.lanes; min = done.rest.min ∙ inv.rest.min; permille = done.rest.permille ∙ inv.rest.permille };
+      rest = record { datanodes = done.rest.datanodes ∙ inv.rest.datanodes; min = done.rest.min ∙ inv.rest.min; permille = done.rest.permille ∙ inv.rest.permille };
     }
 
 pub returns-in-Ok-false-clause-turns : goal.returns-in-Ok-false-clause-turns

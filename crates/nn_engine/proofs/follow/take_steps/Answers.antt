@@ -23,5 +23,5 @@ steps-preserved c =
       turns = done.turn c.next.new.self
           ∙ ap (in_turn (standby_of c.steps.shadow) (txs_left c.steps.shadow.last c.steps.log)) (sym c.in-Some.ensures.some)
           ∙ inv.turns;
-      rest = record { lanes = done.rest.lanes ∙ inv.rest.lanes; min = done.rest.min ∙ inv.rest.min; permille = done.rest.permille ∙ inv.rest.permille };
+      rest = record { datanodes = done.rest.datanodes ∙ inv.rest.datanodes; min = done.rest.min ∙ inv.rest.min; permille = done.rest.permille ∙ inv.rest.permille };
     }

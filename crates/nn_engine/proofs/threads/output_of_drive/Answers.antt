@@ -14,20 +14,20 @@ pub new-requires-clause-some : goal.new-requires-clause-some
 new-requires-clause-some g c =
     let q = ends_many 1 c.in-Ok.sources.items c.in-Ok-with_lanes.workers.items c.in-Ok-with_lanes.ends.items c.in-Ok-with_lanes.ensures.own in
     let n = c.in-Ok.ensures.size in
-    omega (arith, q, n, c.requires.lanes.0)
+    omega (arith, q, n, c.requires.datanodes.0)
 
 pub new-requires-clause-few : goal.new-requires-clause-few
 new-requires-clause-few g c =
     let q = ends_many 1 c.in-Ok.sources.items c.in-Ok-with_lanes.workers.items c.in-Ok-with_lanes.ends.items c.in-Ok-with_lanes.ensures.own in
     let n = c.in-Ok.ensures.size in
-    omega (arith, q, n, c.requires.lanes.1)
+    omega (arith, q, n, c.requires.datanodes.1)
 
 pub returns-in-Ok-drive : goal.returns-in-Ok-drive
 returns-in-Ok-drive g c =
     let options = c.args.asked.now.options in
     let settings = options.settings in
     let lanes = lanes_of c.args.steps in
-    let a = arrives settings c.args.lanes lanes c.in-Ok.sources.items c.in-Ok.ensures c.in-Ok-with_lanes.workers.items c.in-Ok-with_lanes.ends.items c.in-Ok-with_lanes.ensures.own c.in-Ok-new.standby c.in-Ok-new.ensures.ok c.in-Ok-new.ensures.settings c.new-2.result
+    let a = arrives settings c.args.datanodes lanes c.in-Ok.sources.items c.in-Ok.ensures c.in-Ok-with_lanes.workers.items c.in-Ok-with_lanes.ends.items c.in-Ok-with_lanes.ensures.own c.in-Ok-new.standby c.in-Ok-new.ensures.ok c.in-Ok-new.ensures.settings c.new-2.result
     c.in-Ok-drive.shadow c.in-Ok-drive._active c.in-Ok-drive.ensures.ok in
     let happened : IsHistoryOf true (log_of 0 (map (λ (s : Segment). s.txs) c.new-2.result)) c.args.steps c.in-Ok-drive.shadow.history =
     record { lawful = a.lawful; whole = a.whole; one_thread = λ none. absurd (cc) } in
@@ -37,7 +37,7 @@ returns-in-Ok-drive g c =
 
 pub output_of_fault-requires : goal.output_of_fault-requires
 output_of_fault-requires g c =
-    may_end c.args.asked.now.options.settings c.args.lanes (lanes_of c.args.steps) c.in-Ok.sources.items c.in-Ok.ensures c.in-Ok-with_lanes.workers.items c.in-Ok-with_lanes.ends.items c.in-Ok-with_lanes.ensures.own c.in-Ok-new.standby c.in-Ok-new.ensures.ok c.in-Ok-new.ensures.settings c.new-2.result
+    may_end c.args.asked.now.options.settings c.args.datanodes (lanes_of c.args.steps) c.in-Ok.sources.items c.in-Ok.ensures c.in-Ok-with_lanes.workers.items c.in-Ok-with_lanes.ends.items c.in-Ok-with_lanes.ensures.own c.in-Ok-new.standby c.in-Ok-new.ensures.ok c.in-Ok-new.ensures.settings c.new-2.result
     c.in-Err.fault c.in-Err.ensures.err
 
 pub returns-in-Err : goal.returns-in-Err
@@ -47,5 +47,5 @@ returns-in-Err g c =
     let lanes = lanes_of c.args.steps in
     IfOk-weaker c.output_of_fault.result _ _ (λ o told. subst (λ s. IsToldOf true options c.args.steps (Ok s) (shown o)) c.new-2.ensures
     (told_fault true options c.args.steps (Ok c.new-2.result) c.new-2.result (shown o) refl
-    (stop_told settings c.args.lanes lanes c.in-Ok.sources.items c.in-Ok.ensures c.in-Ok-with_lanes.workers.items c.in-Ok-with_lanes.ends.items c.in-Ok-with_lanes.ensures.own c.in-Ok-new.standby c.in-Ok-new.ensures.ok c.in-Ok-new.ensures.settings c.new-2.result
+    (stop_told settings c.args.datanodes lanes c.in-Ok.sources.items c.in-Ok.ensures c.in-Ok-with_lanes.workers.items c.in-Ok-with_lanes.ends.items c.in-Ok-with_lanes.ensures.own c.in-Ok-new.standby c.in-Ok-new.ensures.ok c.in-Ok-new.ensures.settings c.new-2.result
     options c.in-Err.fault (shown o) c.in-Err.ensures.err told))) c.output_of_fault.ensures

@@ -4,14 +4,14 @@ use Rattle.nn_engine.proofs.ListLemmas.{Listing, nothing_listed, first_within, s
 use Rattle.nn_engine.proofs.threads.sources_of.Goals as goal
 
 pub steps-init : goal.steps-init
-steps-init g c = subst (λ l. Listing c.args.lanes (lanes_of c.args.steps) l c.in_ok-sources.sources.items) (sym c.into_steps-steps.ensures) (nothing_listed c.args.lanes c.args.steps c.in_ok-sources.sources.items c.in_ok-sources.ensures c.requires.in_turn c.requires.within)
+steps-init g c = subst (λ l. Listing c.args.datanodes (lanes_of c.args.steps) l c.in_ok-sources.sources.items) (sym c.into_steps-steps.ensures) (nothing_listed c.args.datanodes c.args.steps c.in_ok-sources.sources.items c.in_ok-sources.ensures c.requires.in_turn c.requires.within)
 
 pub take_step-requires : goal.take_step-requires
 take_step-requires g c =
-    first_within c.args.lanes (lanes_of c.args.steps) c.in-Some.step c.next.new.self c.steps.sources.items
-    (subst (λ l. Listing c.args.lanes (lanes_of c.args.steps) l c.steps.sources.items) c.in-Some.ensures.some c.steps.invariant)
+    first_within c.args.datanodes (lanes_of c.args.steps) c.in-Some.step c.next.new.self c.steps.sources.items
+    (subst (λ l. Listing c.args.datanodes (lanes_of c.args.steps) l c.steps.sources.items) c.in-Some.ensures.some c.steps.invariant)
 
 pub steps-preserved : goal.steps-preserved
 steps-preserved g c =
-    step_listed c.args.lanes (lanes_of c.args.steps) c.in-Some.step c.next.new.self c.steps.sources.items c.take_step.new.sources.items c.in_default-take_step.ensures.ok c.in_default-take_step.ensures.few
-    (subst (λ l. Listing c.args.lanes (lanes_of c.args.steps) l c.steps.sources.items) c.in-Some.ensures.some c.steps.invariant)
+    step_listed c.args.datanodes (lanes_of c.args.steps) c.in-Some.step c.next.new.self c.steps.sources.items c.take_step.new.sources.items c.in_default-take_step.ensures.ok c.in_default-take_step.ensures.few
+    (subst (λ l. Listing c.args.datanodes (lanes_of c.args.steps) l c.steps.sources.items) c.in-Some.ensures.some c.steps.invariant)

@@ -5,23 +5,23 @@ use Rattle.nn_scenario.proofs.segments.read_segments.Goals as goal
 
 pub returns-in-Err-clause-bad : goal.returns-in-Err-clause-bad
 returns-in-Err-clause-bad c =
-    let front = c.loop-piece.segments.items in
+    let front = c.loop-part.segments.items in
     let fault = c.in-Err.fault in
-    let before : length front ≡ c.len.result = omega (arith, c.len.ensures, c.loop-piece.segments.ok.0) in
+    let before : length front ≡ c.len.result = omega (arith, c.len.ensures, c.loop-part.segments.ok.0) in
     λ other.
-    sym c.loop-piece.invariant
+    sym c.loop-part.invariant
     ∙ ap (λ parts. prepend front (segments_from (length front + 1) parts)) c.in-Some.ensures.steps.0
-    ∙ part_refused (length front + 1) c.in-Some.piece _ front fault (fault_given fault _ c.in-Err.ensures other)
+    ∙ part_refused (length front + 1) c.in-Some.part _ front fault (fault_given fault _ c.in-Err.ensures other)
     ∙ ap (λ k. Err (record { fault = fault; segment = k + 1 })) before
 
-pub loop-piece-preserved : goal.loop-piece-preserved
-loop-piece-preserved c =
-    let front = c.loop-piece.segments.items in
-    part_read c.in-Some.piece _ front c.push.new.list.items c.in-Ok.parsed c.in-Ok.ensures c.in_default.ensures
+pub loop-part-preserved : goal.loop-part-preserved
+loop-part-preserved c =
+    let front = c.loop-part.segments.items in
+    part_read c.in-Some.part _ front c.push.new.list.items c.in-Ok.parsed c.in-Ok.ensures c.in_default.ensures
     ∙ sym (ap (λ parts. prepend front (segments_from (length front + 1) parts)) c.in-Some.ensures.steps.0)
-    ∙ c.loop-piece.invariant
+    ∙ c.loop-part.invariant
 
 pub returns-clause-ok : goal.returns-clause-ok
 returns-clause-ok c =
-    sym c.loop-piece.invariant
-    ∙ no_parts (length c.loop-piece.segments.items + 1) c.loop-piece.segments.items _ (omega (arith, c.loop-piece.piece-iterator.rest.ok.0, c.in-None.ensures.steps.0))
+    sym c.loop-part.invariant
+    ∙ no_parts (length c.loop-part.segments.items + 1) c.loop-part.segments.items _ (omega (arith, c.loop-part.part-iterator.rest.ok.0, c.in-None.ensures.steps.0))

@@ -1,6 +1,6 @@
 use Rattle.std.proofs.Common.{None, ap, ◌∙◌, subst, sym}
 use Rattle.nn_model.specs.Touched.{ids_of}
-use Rattle.nn_tree.specs.Touched.{shown}
+use Rattle.nn_tree.specs.Touched.{seen}
 use Rattle.nn_shadow.specs.Touching.{lowest, earlier, Rises}
 use Rattle.nn_shadow.proofs.Quiet.{next_is}
 use Rattle.nn_shadow.proofs.Searching.{ascending_rises, lowest_ascending}
@@ -14,7 +14,7 @@ least_from-retired-requires c = subst Rises (sym c.as_slice.ensures.value) c.req
 
 pub returns : goal.returns
 returns c =
-    next_is (shown c.args.touched.now) c.args.from c.args.held.now c.least_from-changed.result c.least_from-retired.result
+    next_is (seen c.args.touched.now) c.args.from c.args.held.now c.least_from-changed.result c.least_from-retired.result
     c.next_skipped-skipped.result c.earlier-2.result
     (c.least_from-changed.ensures ∙ ap (lowest c.args.from None) c.requires.written ∙ lowest_ascending c.args.from None (ids_of c.args.touched.now.changed))
     (c.least_from-retired.ensures ∙ ap (lowest c.args.from None) c.as_slice.ensures.value)

@@ -9,7 +9,7 @@ use Rattle.nn_shadow.proofs.Consistent.{Leaves, edit_applied, edit_failed, edit_
 use Rattle.nn_model.specs.Namespace.{Namespace}
 use Rattle.nn_model.specs.Apply.{effect, refusal}
 use Rattle.nn_model.specs.Touched.{Touched}
-use Rattle.nn_tree.specs.Touched.{shown}
+use Rattle.nn_tree.specs.Touched.{seen}
 use Rattle.nn_shadow.specs.Touching.{IsQuiet}
 use Rattle.nn_shadow.proofs.Quiet.{begins_quiet}
 use Rattle.nn_shadow.proofs.Refusing.{fits_if}
@@ -80,7 +80,7 @@ returns-clause-ok c =
 pub settle-requires-clause-quiet : goal.settle-requires-clause-quiet
 settle-requires-clause-quiet c =
     let x = the_view c.self.inside in
-    subst (λ (n : Namespace). IsQuiet (shown c.in-Ok-change.touched) (is_due_in n) x.held) (sym c.in-Ok-change.ensures.namespace)
+    subst (λ (n : Namespace). IsQuiet (seen c.in-Ok-change.touched) (is_due_in n) x.held) (sym c.in-Ok-change.ensures.namespace)
     (subst (λ (t : Touched). IsQuiet t (is_due_in (effect x.namespace c.args.tx.now.edit)) x.held) (sym c.in-Ok-change.ensures.touched)
     (begins_quiet x.namespace c.args.tx.now.edit x.held c.in-Ok-change.ensures.lawful c.in-Ok-change.ensures.applies
     c.self.invariant.well_formed c.self.invariant.settled))

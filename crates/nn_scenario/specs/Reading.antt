@@ -9,25 +9,25 @@ use Rattle.nn_scenario.specs.declared.steps.Step.{Step}
 use Rattle.nn_scenario.specs.declared.steps.Step.TheVariants as step
 
 -- the parts that ended, the part in hand, and the steps
-pub record SoFar : Type 0 where
+pub record Reading : Type 0 where
   pub parts : List Part
   pub in_hand : Part
   pub steps : List Step
 
-abbrev pub nothing_read : SoFar
+abbrev pub nothing_read : Reading
 nothing_read = record { parts = []; in_hand = no_lines; steps = [] }
 
 -- an edit line was put into the part in hand, which an end mark put behind the parts before it
-abbrev pub with_edit_line : SoFar → EditLine → SoFar
+abbrev pub with_edit_line : Reading → EditLine → Reading
 with_edit_line x line =
     if is_end line.tx.edit
     then record { parts = x.parts ++ with_line x.in_hand line ∷ []; in_hand = no_lines; steps = x.steps ++ step.Edit ∷ [] }
     else record { parts = x.parts; in_hand = with_line x.in_hand line; steps = x.steps ++ step.Edit ∷ [] }
 
-abbrev pub with_report_line : SoFar → Report → SoFar
+abbrev pub with_report_line : Reading → Report → Reading
 with_report_line x r = record { parts = x.parts; in_hand = x.in_hand; steps = with_report x.steps r }
 
 -- one more line was read
-abbrev pub followed_by_line : SoFar → ScenarioLine → SoFar
+abbrev pub followed_by_line : Reading → ScenarioLine → Reading
 followed_by_line x (edit line) = with_edit_line x line
 followed_by_line x (report r) = with_report_line x r

@@ -1,7 +1,7 @@
 use Rattle.std.proofs.Common.{sym, subst}
 use Rattle.nn_scenario.specs.Cut.{AreRead}
 use Rattle.nn_scenario.proofs.SegmentLemmas.{one_more_read}
-use Rattle.nn_scenario.proofs.segments.Piece.with_line.Goals as goal
+use Rattle.nn_scenario.proofs.segments.Part.with_line.Goals as goal
 
 pub invariant_of-result : goal.invariant_of-result
 invariant_of-result c =

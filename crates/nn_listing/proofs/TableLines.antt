@@ -1,42 +1,29 @@
 -- What a table lists of a picture is the picture's text.
 use Rattle.std.proofs.Common.{◌≡◌, ℕ, ◌+◌, Bool, true, false, cond, List, [], ◌∷◌, ◌++◌, map, Option, Some, None, is_some, refl, sym, ap, ◌∙◌, arith}
 use Rattle.std.proofs.Common.{nat_cmp, append_assoc}
-use Rattle.std.specs.Prelude.{◌==◌, flat_map, unwrap_or, option_and_then}
-use Rattle.std.specs.Prelude as std
+use Rattle.std.specs.Prelude.{flat_map, unwrap_or, option_and_then}
 use Rattle.std.specs.List.{range_with_len}
 use Rattle.std.specs.Option.{option_map}
 use Rattle.std.specs.FinMap.Entries.{find}
 use Rattle.nn_types.specs.declared.block.Block.{Block}
 use Rattle.nn_types.specs.declared.replica.Replica.{Replica}
+use Rattle.nn_model.specs.declared.form.BlockRow.{BlockRow}
 use Rattle.nn_model.specs.Counts.{SafeMode, safe_mode_of}
 use Rattle.nn_model.specs.Lanes.{Lanes}
 use Rattle.nn_model.specs.Namespace.{Namespace}
 use Rattle.nn_model.specs.Picture.{has_now, picture_replica, picture_order}
 use Rattle.nn_model.specs.Replay.{is_named}
 use Rattle.nn_model.specs.Status.{block_at}
-use Rattle.nn_replicas.specs.declared.entry.Row.{Row}
 use Rattle.nn_replicas.specs.declared.entry.Cell.{Cell}
-use Rattle.nn_replicas.specs.Agreement.{all_rows}
 use Rattle.nn_replicas.specs.Calls.{row_at, replica_at, has_order, entry_or_none, replicas_at}
 use Rattle.nn_replicas.specs.Entry.{is_ordered, no_entry, row_in, replica_in, order_in, orders_in}
 use Rattle.nn_replicas.specs.Table.{Table}
-use Rattle.nn_replicas.proofs.Ties.{block_of, blocks_of_rows}
+use Rattle.nn_model.proofs.Touches.{block_of_row}
+use Rattle.nn_replicas.proofs.Ties.{block_of}
 use Rattle.nn_listing.specs.Tables.{datanodes, said_by, said_ids, replica_line, replica_text, replica_lines, order_line, order_text, order_lines}
 use Rattle.nn_listing.specs.Tables.{blocks_line, lines_of_block, lines_of_replicas, lines_of_orders, IsPicture, tables_text}
 use Rattle.nn_listing.proofs.KeyTexts.{given, texts_of_some, texts_of_lists, same_texts, no_texts, Within, bound, below_bound, gathered}
 use Rattle.nn_listing.proofs.SaidIds.{marked, ids_sorted, silent}
-
--- ---- the blocks of the rows
-
-found_block : (id : ℕ) (rs : List Row) → std.find (λ b. b.id == id) (map block_of rs) ≡ option_map block_of (std.find (λ r. r.block.id == id) rs)
-found_block id [] = refl
-found_block id (r ∷ rs) = cases (r.block.id == id) (found_block id rs)
-  where
-    cases : (same : Bool) → std.find (λ b. b.id == id) (map block_of rs) ≡ option_map block_of (std.find (λ r. r.block.id == id) rs)
-        → cond same (Some r.block) (std.find (λ b. b.id == id) (map block_of rs))
-        ≡ option_map block_of (cond same (Some r) (std.find (λ r. r.block.id == id) rs))
-    cases true next = refl
-    cases false next = next
 
 -- ---- texts over ids
 
@@ -55,7 +42,7 @@ module _ (permille min : ℕ) (n : Namespace) (lanes : Lanes) (t : Table) (mode 
     (count : ℕ) (count_is : 256 ≡ count) (all : datanodes ≡ range_with_len 1 count) where
   block_shown : (id : ℕ) → block_at n id ≡ option_map block_of (row_at t id)
   block_shown id =
-      ap (std.find (λ b. b.id == id)) (sym (blocks_of_rows n.rows)) ∙ found_block id (all_rows n) ∙ ap (option_map block_of) (sym (h.shows.rows id))
+      sym (block_of_row n id) ∙ ap (option_map block_of) (sym (h.shows.rows id))
 
   -- the range of all ids that the table or a DataNode knows
   abbrev last : ℕ
@@ -108,10 +95,10 @@ module _ (permille min : ℕ) (n : Namespace) (lanes : Lanes) (t : Table) (mode 
       cases dn None = refl
       cases dn (Some r) = refl
 
-  abbrev row_text : ℕ × Row → List ℕ
+  abbrev row_text : ℕ × BlockRow → List ℕ
   row_text row = lines_of_block row.0 row.1.block (replicas_at t row.0)
 
-  block_replicas : (id : ℕ) (o : Option Row) → row_at t id ≡ o
+  block_replicas : (id : ℕ) (o : Option BlockRow) → row_at t id ≡ o
       → given row_text (option_map (λ row. (id, row)) o) ≡ flat_map (λ dn. replica_text id (option_map block_of o) dn (replica_at t dn id)) datanodes
   block_replicas id None e = sym (no_texts (λ dn. replica_text id None dn (replica_at t dn id)) datanodes (λ dn. refl))
   block_replicas id (Some row) e = replicas_of_block id row.block

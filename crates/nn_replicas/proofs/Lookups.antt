@@ -8,7 +8,7 @@ use Rattle.std.specs.Cmp.{nat_cmp_total}
 use Rattle.std.specs.FinMap.Entries.{find, put, find-put, is_sorted}
 use Rattle.nn_types.specs.declared.block.Block.{Block}
 use Rattle.nn_types.specs.declared.replica.Replica.{Replica}
-use Rattle.nn_replicas.specs.declared.entry.Row.{Row}
+use Rattle.nn_model.specs.declared.form.BlockRow.{BlockRow}
 use Rattle.nn_replicas.specs.declared.entry.Cell.{Cell}
 use Rattle.nn_replicas.specs.Table.{BlockEntry, Table}
 use Rattle.nn_replicas.specs.Entry.{is_ordered, no_cell, no_entry, cell_put, cell_erased, cell_retired, cell_of, has_cell, with_row, with_cell, with_place, with_put, with_erased, retired}
@@ -215,7 +215,7 @@ erased_row e dn = elim (has_cell e dn) as (λ b. (cond b (with_cell e dn (cell_e
 
 pub set_block_names : (t : Table) (block : Block) (closed : Bool) → Names t block closed (block_set t block closed)
 set_block_names t block closed =
-    let row : Row = record { block = block; closed = closed } in
+    let row : BlockRow = record { block = block; closed = closed } in
     let e = with_row (entry_or_none t block.id) row in
     let cells = λ (d b : ℕ). kept (λ x. find nat_cmp d x.cells) t block.id e refl b in
     record {

@@ -9,14 +9,16 @@ use Rattle.nn_types.specs.declared.block.Block.{Block}
 use Rattle.nn_types.specs.declared.replica.Replica.{Replica}
 use Rattle.nn_model.specs.declared.form.Form.{Form}
 use Rattle.nn_model.specs.declared.form.Form.TheVariants.{Dir, File}
-use Rattle.nn_model.specs.Namespace.{Path, Namespace, blocks_of}
+use Rattle.nn_model.specs.declared.form.BlockRow.{BlockRow}
+use Rattle.nn_model.specs.Namespace.{Path, Namespace}
+use Rattle.nn_model.specs.Blocks.{block_row, rows_of, block_rows}
 use Rattle.nn_model.specs.WellFormed.{times, HasWellFormedBlocks}
 use Rattle.nn_model.specs.Counts.{is_live, live_up_to, live_count, closed_blocks_of, closed_blocks}
-use Rattle.nn_replicas.specs.declared.entry.Row.{Row}
+use Rattle.nn_model.proofs.Members.{rows_in, blocks_of_all}
 use Rattle.nn_replicas.specs.declared.entry.Cell.{Cell}
 use Rattle.nn_replicas.specs.Table.{BlockEntry, Table}
 use Rattle.nn_replicas.specs.Entry.{no_entry, is_closed, is_closed_row, is_safe, is_safe_row, live_cells}
-use Rattle.nn_replicas.specs.Agreement.{rows_of, all_rows, Shows, HasCounts, CountsAgree}
+use Rattle.nn_replicas.specs.Agreement.{Shows, HasCounts, CountsAgree}
 use Rattle.nn_replicas.specs.Calls.{entry_or_none, replica_at}
 use Rattle.nn_replicas.proofs.Entries.{weight, counted, counted_put, counted_cons, tail_sorted, put_sorted, find_below, halves, same_some}
 use Rattle.nn_replicas.proofs.Lookups.{find_put, eq_is}
@@ -75,14 +77,14 @@ module _ (p : BlockEntry → Bool) (none : p no_entry ≡ false) where
 
 -- ---- the rows of a namespace
 
-abbrev pub block_of : Row → Block
+abbrev pub block_of : BlockRow → Block
 block_of r = r.block
 
-abbrev pub chosen : (Row → Bool) → Option Row → Bool
+abbrev pub chosen : (BlockRow → Bool) → Option BlockRow → Bool
 chosen q None = false
 chosen q (Some r) = q r
 
-absent_row : (q : Row → Bool) (id : ℕ) (rs : List Row) → times id (map block_of rs) ≤ 0 → has_block id (map block_of (filter q rs)) ≡ false
+absent_row : (q : BlockRow → Bool) (id : ℕ) (rs : List BlockRow) → times id (map block_of rs) ≤ 0 → has_block id (map block_of (filter q rs)) ≡ false
 absent_row q id [] h = refl
 absent_row q id (r ∷ rs) h = cases (absent_row q id rs) (r.block.id == id) refl (q r) h
   where
@@ -92,7 +94,7 @@ absent_row q id (r ∷ rs) h = cases (absent_row q id rs) (r.block.id == id) ref
     cases next false e false g = next (omega (arith, g))
 
 -- the first row with an id is chosen where one of the chosen ones has the id
-pub chosen_has : (q : Row → Bool) (id : ℕ) (rs : List Row) → times id (map block_of rs) ≤ 1 → chosen q (std.find (λ r. r.block.id == id) rs) ≡ has_block id (map block_of (filter q rs))
+pub chosen_has : (q : BlockRow → Bool) (id : ℕ) (rs : List BlockRow) → times id (map block_of rs) ≤ 1 → chosen q (std.find (λ r. r.block.id == id) rs) ≡ has_block id (map block_of (filter q rs))
 chosen_has q id [] h = refl
 chosen_has q id (r ∷ rs) h = cases (chosen_has q id rs) (r.block.id == id) refl (q r) refl h
   where
@@ -104,7 +106,7 @@ chosen_has q id (r ∷ rs) h = cases (chosen_has q id rs) (r.block.id == id) ref
     cases next false e false f g = next (omega (arith, g))
 
 -- no id stands more often among the chosen ones
-pub chosen_once : (q : Row → Bool) (id : ℕ) (rs : List Row) → times id (map block_of (filter q rs)) ≤ times id (map block_of rs)
+pub chosen_once : (q : BlockRow → Bool) (id : ℕ) (rs : List BlockRow) → times id (map block_of (filter q rs)) ≤ times id (map block_of rs)
 chosen_once q id [] = omega arith
 chosen_once q id (r ∷ rs) = cases (chosen_once q id rs) (q r)
   where
@@ -112,33 +114,16 @@ chosen_once q id (r ∷ rs) = cases (chosen_once q id rs) (q r)
     cases next true = omega (arith, next)
     cases next false = omega (arith, next)
 
-map_over : (xs ys : List Row) → map block_of (xs ++ ys) ≡ map block_of xs ++ map block_of ys
-map_over [] ys = refl
-map_over (x ∷ xs) ys = ap (λ r. x.block ∷ r) (map_over xs ys)
-
-file_blocks : (closed : Bool) (bs : List Block) → map block_of (map (λ b. record { block = b; closed = closed }) bs) ≡ bs
-file_blocks closed [] = refl
-file_blocks closed (b ∷ bs) = ap (λ r. b ∷ r) (file_blocks closed bs)
-
-form_blocks : (f : Form) → map block_of (rows_of f) ≡ blocks_of f
-form_blocks Dir = refl
-form_blocks (File file) = file_blocks file.closed file.blocks
-
-pub blocks_of_rows : (rows : List (Path × Form)) → map block_of (flat_map (λ row. rows_of row.1) rows) ≡ flat_map (λ row. blocks_of row.1) rows
-blocks_of_rows [] = refl
-blocks_of_rows (row ∷ rows) =
-    map_over (rows_of row.1) (flat_map (λ row. rows_of row.1) rows) ∙ ap (λ r. r ++ map block_of (flat_map (λ row. rows_of row.1) rows)) (form_blocks row.1) ∙ ap (λ r. blocks_of row.1 ++ r) (blocks_of_rows rows)
-
 -- the blocks of closed files that pass, as chosen rows
 module _ (p : Block → Bool) where
-  abbrev passing : Row → Bool
+  abbrev passing : BlockRow → Bool
   passing r = r.closed && p r.block
 
-  file_chosen : (closed : Bool) (bs : List Block) (rs : List Row) → map block_of (filter passing (map (λ b. record { block = b; closed = closed }) bs ++ rs)) ≡ filter p (cond closed bs []) ++ map block_of (filter passing rs)
+  file_chosen : (closed : Bool) (bs : List Block) (rs : List BlockRow) → map block_of (filter passing (map (block_row closed) bs ++ rs)) ≡ filter p (cond closed bs []) ++ map block_of (filter passing rs)
   file_chosen true [] rs = refl
   file_chosen true (b ∷ bs) rs =
-      let left = filter passing (map (λ b. let r : Row = record { block = b; closed = true } in r) bs ++ rs) in
-      elim (p b) as (λ x. map block_of (cond x (record { block = b; closed = true } ∷ left) left) ≡ cond x (b ∷ filter p bs) (filter p bs) ++ map block_of (filter passing rs)) [
+      let left = filter passing (map (block_row true) bs ++ rs) in
+      elim (p b) as (λ x. map block_of (cond x (block_row true b ∷ left) left) ≡ cond x (b ∷ filter p bs) (filter p bs) ++ map block_of (filter passing rs)) [
         | true ↦ ap (λ z. b ∷ z) (file_chosen true bs rs)
         | false ↦ file_chosen true bs rs
       ]
@@ -149,14 +134,14 @@ module _ (p : Block → Bool) where
   filter_over [] ys = refl
   filter_over (x ∷ xs) ys = elim (p x) as (λ b. cond b (x ∷ filter p (xs ++ ys)) (filter p (xs ++ ys)) ≡ cond b (x ∷ filter p xs) (filter p xs) ++ filter p ys) [ true ↦ ap (λ r. x ∷ r) (filter_over xs ys) | false ↦ filter_over xs ys ]
 
-  form_chosen : (f : Form) (rs : List Row) → map block_of (filter passing (rows_of f ++ rs)) ≡ filter p (closed_blocks_of f) ++ map block_of (filter passing rs)
+  form_chosen : (f : Form) (rs : List BlockRow) → map block_of (filter passing (rows_of f ++ rs)) ≡ filter p (closed_blocks_of f) ++ map block_of (filter passing rs)
   form_chosen Dir rs = refl
   form_chosen (File file) rs = file_chosen file.closed file.blocks rs
 
-  pub rows_chosen : (rows : List (Path × Form)) → map block_of (filter passing (flat_map (λ row. rows_of row.1) rows)) ≡ filter p (flat_map (λ row. closed_blocks_of row.1) rows)
+  pub rows_chosen : (rows : List (Path × Form)) → map block_of (filter passing (rows_in rows)) ≡ filter p (flat_map (λ row. closed_blocks_of row.1) rows)
   rows_chosen [] = refl
   rows_chosen (row ∷ rows) =
-      form_chosen row.1 (flat_map (λ row. rows_of row.1) rows) ∙ ap (λ r. filter p (closed_blocks_of row.1) ++ r) (rows_chosen rows)
+      form_chosen row.1 (rows_in rows) ∙ ap (λ r. filter p (closed_blocks_of row.1) ++ r) (rows_chosen rows)
       ∙ sym (filter_over (closed_blocks_of row.1) (flat_map (λ row. closed_blocks_of row.1) rows))
 
 -- ---- live replicas, by DataNode and by cell
@@ -216,7 +201,7 @@ module _ (b : Block) where
 
 -- ---- the counts
 
-found_id : (id : ℕ) (rs : List Row) (r : Row) → std.find (λ row. row.block.id == id) rs ≡ Some r → (r.block.id == id) ≡ true
+found_id : (id : ℕ) (rs : List BlockRow) (r : BlockRow) → std.find (λ row. row.block.id == id) rs ≡ Some r → (r.block.id == id) ≡ true
 found_id id [] r h = cc
 found_id id (x ∷ rs) r h = cases (found_id id rs r) (x.block.id == id) refl h
   where
@@ -228,7 +213,7 @@ and_true : (b : Bool) → (b && true) ≡ b
 and_true true = refl
 and_true false = refl
 
-closed_chosen : (o : Option Row) → is_closed_row o ≡ chosen (λ r. r.closed && true) o
+closed_chosen : (o : Option BlockRow) → is_closed_row o ≡ chosen (λ r. r.closed && true) o
 closed_chosen None = refl
 closed_chosen (Some r) = sym (and_true r.closed)
 
@@ -237,33 +222,33 @@ all_pass [] = refl
 all_pass (b ∷ bs) = ap (λ r. b ∷ r) (all_pass bs)
 
 module _ (n : Namespace) (t : Table) (well : HasWellFormedBlocks n) (shows : Shows n t) where
-  once : (id : ℕ) → times id (map block_of (all_rows n)) ≤ 1
-  once id = subst (λ bs. times id bs ≤ 1) (sym (blocks_of_rows n.rows)) (well.once id)
+  once : (id : ℕ) → times id (map block_of (block_rows n)) ≤ 1
+  once id = subst (λ bs. times id bs ≤ 1) (sym (blocks_of_all n.rows)) (well.once id)
 
-  count_chosen : (p : BlockEntry → Bool) → p no_entry ≡ false → (q : Row → Bool) → ((id : ℕ) → p (entry_or_none t id) ≡ chosen q (std.find (λ row. row.block.id == id) (all_rows n)))
-      → counted p t.entries ≡ length (map block_of (filter q (all_rows n)))
+  count_chosen : (p : BlockEntry → Bool) → p no_entry ≡ false → (q : BlockRow → Bool) → ((id : ℕ) → p (entry_or_none t id) ≡ chosen q (std.find (λ row. row.block.id == id) (block_rows n)))
+      → counted p t.entries ≡ length (map block_of (filter q (block_rows n)))
   count_chosen p none q h =
-      counts_ids p none (map block_of (filter q (all_rows n))) t.entries shows.in_order.blocks
-      (λ id. (let a = once id in omega (arith, a, chosen_once q id (all_rows n)))) (λ id. h id ∙ chosen_has q id (all_rows n) (once id))
+      counts_ids p none (map block_of (filter q (block_rows n))) t.entries shows.in_order.blocks
+      (λ id. (let a = once id in omega (arith, a, chosen_once q id (block_rows n)))) (λ id. h id ∙ chosen_has q id (block_rows n) (once id))
 
   live_here : (id : ℕ) (b : Block) → b.id ≡ id → live_cells b (entry_or_none t id).cells ≡ live_count (replica_at t) b
   live_here id b e =
       cells_live b 256 (entry_or_none t id).cells (shows.in_order.datanodes id) (λ dn h. shows.datanodes dn id h)
       ∙ same_live b 256 (of_cells (entry_or_none t id).cells) (replica_at t) (λ dn. ap (replica_at t dn) (sym e))
 
-  safe_row : (id : ℕ) (o : Option Row) → std.find (λ row. row.block.id == id) (all_rows n) ≡ o
+  safe_row : (id : ℕ) (o : Option BlockRow) → std.find (λ row. row.block.id == id) (block_rows n) ≡ o
       → is_safe_row t.min o (entry_or_none t id).cells ≡ chosen (λ r. r.closed && nat_le t.min (live_count (replica_at t) r.block)) o
   safe_row id None e = refl
-  safe_row id (Some r) e = ap (λ k. r.closed && nat_le t.min k) (live_here id r.block (eqb-true r.block.id id (found_id id (all_rows n) r e)))
+  safe_row id (Some r) e = ap (λ k. r.closed && nat_le t.min k) (live_here id r.block (eqb-true r.block.id id (found_id id (block_rows n) r e)))
 
   pub counts : HasCounts n t
   counts = record {
     total =
-        count_chosen is_closed refl (λ r. r.closed && true) (λ id. ap is_closed_row (shows.rows id) ∙ closed_chosen (std.find (λ row. row.block.id == id) (all_rows n)))
+        count_chosen is_closed refl (λ r. r.closed && true) (λ id. ap is_closed_row (shows.rows id) ∙ closed_chosen (std.find (λ row. row.block.id == id) (block_rows n)))
         ∙ ap length (rows_chosen (λ b. true) n.rows ∙ all_pass (closed_blocks n));
     safe =
         count_chosen (is_safe t.min) refl (λ r. r.closed && nat_le t.min (live_count (replica_at t) r.block))
-        (λ id. ap (λ o. is_safe_row t.min o (entry_or_none t id).cells) (shows.rows id) ∙ safe_row id (std.find (λ row. row.block.id == id) (all_rows n)) refl)
+        (λ id. ap (λ o. is_safe_row t.min o (entry_or_none t id).cells) (shows.rows id) ∙ safe_row id (std.find (λ row. row.block.id == id) (block_rows n)) refl)
         ∙ ap length (rows_chosen (λ b. nat_le t.min (live_count (replica_at t) b)) n.rows);
   }
 

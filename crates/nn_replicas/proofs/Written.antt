@@ -8,7 +8,7 @@ use Rattle.std.specs.FinMap.Entries.{find, put, below_all, is_sorted}
 use Rattle.std.specs.Ordering.{is_lt}
 use Rattle.std.proofs.lemmas.List.Edits.{map_over_more}
 use Rattle.std.proofs.lemmas.Bool.{both_ways}
-use Rattle.nn_replicas.specs.declared.entry.Row.{Row}
+use Rattle.nn_model.specs.declared.form.BlockRow.{BlockRow}
 use Rattle.nn_replicas.specs.declared.entry.Cell.{Cell}
 use Rattle.nn_replicas.specs.Table.{BlockEntry}
 use Rattle.nn_replicas.specs.Entry.{is_ordered, no_cell, cell_erased, cell_retired, cell_of, has_cell, with_cell, with_place, with_erased}
@@ -19,7 +19,7 @@ use Rattle.nn_replicas.proofs.Scanned.{put_here, put_new, find_here, find_gone, 
 abbrev pub Cells : Type 0
 Cells = List (ℕ × Cell)
 
-abbrev pub entry : Option Row → Cells → BlockEntry
+abbrev pub entry : Option BlockRow → Cells → BlockEntry
 entry row xs = record { row = row; cells = xs }
 
 -- ---- the cells stay in order
@@ -43,7 +43,7 @@ sorted_retired (x ∷ xs) = ap (λ b. b && is_sorted nat_cmp (map (λ c. (c.0, c
 -- ---- a cell that stands is written
 
 -- what f makes of the DataNode's cell
-pub wrote_here : (e : BlockEntry) (row : Option Row) (xs : Cells) (dn k : ℕ) (named : Bool) (x z : ℕ × Cell) (f : Bool → Cell → Cell)
+pub wrote_here : (e : BlockEntry) (row : Option BlockRow) (xs : Cells) (dn k : ℕ) (named : Bool) (x z : ℕ × Cell) (f : Bool → Cell → Cell)
     → entry row xs ≡ e → k ≡ place dn xs → is_here dn xs ≡ true → x ≡ get_or xs k x → named ≡ is_some row → z ≡ (x.0, f named x.1)
     → entry row (set xs k z) ≡ with_cell e dn (f (is_some e.row) (cell_of e dn))
 wrote_here e row xs dn k named x z f v p h g n m =
@@ -53,7 +53,7 @@ wrote_here e row xs dn k named x z f v p h g n m =
     ap (λ y. entry row (set xs k y)) m ∙ ap (λ y. entry row (set xs k (y.0, w))) g ∙ ap (λ j. entry row (set xs j ((get_or xs j x).0, w))) p ∙ ap (entry row) (sym (put_here dn w xs x h))
     ∙ ap (λ c. entry row (put nat_cmp dn c xs)) cell ∙ ap (λ y. with_cell y dn (f (is_some y.row) (cell_of y dn))) v
 
-pub wrote_new : (e : BlockEntry) (row : Option Row) (xs fs : Cells) (dn k : ℕ) (named : Bool) (z : ℕ × Cell) (f : Bool → Cell → Cell)
+pub wrote_new : (e : BlockEntry) (row : Option BlockRow) (xs fs : Cells) (dn k : ℕ) (named : Bool) (z : ℕ × Cell) (f : Bool → Cell → Cell)
     → entry row xs ≡ e → is_sorted nat_cmp xs ≡ true → k ≡ place dn xs → is_here dn xs ≡ false → fs ≡ insert xs k z → named ≡ is_some row → z ≡ (dn, f named no_cell)
     → entry row fs ≡ with_cell e dn (f (is_some e.row) (cell_of e dn))
 wrote_new e row xs fs dn k named z f v s p h g n m =
@@ -64,10 +64,10 @@ wrote_new e row xs fs dn k named z f v s p h g n m =
 
 -- ---- whether there is a cell
 
-pub there : (e : BlockEntry) (row : Option Row) (xs : Cells) (dn : ℕ) → entry row xs ≡ e → is_here dn xs ≡ true → has_cell e dn ≡ true
+pub there : (e : BlockEntry) (row : Option BlockRow) (xs : Cells) (dn : ℕ) → entry row xs ≡ e → is_here dn xs ≡ true → has_cell e dn ≡ true
 there e row xs dn v h = ap (λ y. has_cell y dn) (sym v) ∙ ap is_some (find_here dn xs (dn, no_cell) h)
 
-pub not_there : (e : BlockEntry) (row : Option Row) (xs : Cells) (dn : ℕ) → entry row xs ≡ e → is_sorted nat_cmp xs ≡ true → is_here dn xs ≡ false → has_cell e dn ≡ false
+pub not_there : (e : BlockEntry) (row : Option BlockRow) (xs : Cells) (dn : ℕ) → entry row xs ≡ e → is_sorted nat_cmp xs ≡ true → is_here dn xs ≡ false → has_cell e dn ≡ false
 not_there e row xs dn v s h = ap (λ y. has_cell y dn) (sym v) ∙ ap is_some (find_gone dn xs s h)
 
 pub placed_there : (e : BlockEntry) (dn : ℕ) → has_cell e dn ≡ true → e ≡ with_place e dn
@@ -103,11 +103,11 @@ sorted_refilled xs ws s h = ap (is_sorted nat_cmp) (refilled xs ws h) ∙ sorted
 
 -- ---- whether the DataNode is to delete what it has
 
-pub order_none : (e : BlockEntry) (row : Option Row) (xs : Cells) (dn k : ℕ) → entry row xs ≡ e → is_sorted nat_cmp xs ≡ true → k ≡ place dn xs → length xs ≤ k → false ≡ is_ordered (find nat_cmp dn e.cells)
+pub order_none : (e : BlockEntry) (row : Option BlockRow) (xs : Cells) (dn k : ℕ) → entry row xs ≡ e → is_sorted nat_cmp xs ≡ true → k ≡ place dn xs → length xs ≤ k → false ≡ is_ordered (find nat_cmp dn e.cells)
 order_none e row xs dn k v s p l =
     sym (ap is_ordered (find_gone dn xs s (not_here dn xs (subst (λ (n : ℕ). length xs ≤ n) p l)))) ∙ ap (λ y. is_ordered (find nat_cmp dn y.cells)) v
 
-pub order_there : (e : BlockEntry) (row : Option Row) (xs : Cells) (dn k : ℕ) (x : ℕ × Cell) (same : Bool) → entry row xs ≡ e → is_sorted nat_cmp xs ≡ true → k ≡ place dn xs → k < length xs → x ≡ get_or xs k x → nat_eq x.0 dn ≡ same
+pub order_there : (e : BlockEntry) (row : Option BlockRow) (xs : Cells) (dn k : ℕ) (x : ℕ × Cell) (same : Bool) → entry row xs ≡ e → is_sorted nat_cmp xs ≡ true → k ≡ place dn xs → k < length xs → x ≡ get_or xs k x → nat_eq x.0 dn ≡ same
     → cond same x.1.ordered false ≡ is_ordered (find nat_cmp dn e.cells)
 order_there e row xs dn k x same v s p l g q =
     let at : x ≡ get_or xs (place dn xs) x = g ∙ ap (λ j. get_or xs j x) p in

@@ -1,28 +1,17 @@
 -- A table that shows a namespace. Its counts are the namespace's.
-use Rattle.std.specs.Prelude.{◌≡◌, ℕ, ◌≤◌, ◌==◌, List, [], map, flat_map, find, IsTrue}
-use Rattle.nn_model.specs.declared.form.Form.{Form}
-use Rattle.nn_model.specs.declared.form.Form.TheVariants.{Dir, File}
+use Rattle.std.specs.Prelude.{◌≡◌, ℕ, ◌≤◌, IsTrue}
 use Rattle.nn_model.specs.Namespace.{Namespace}
+use Rattle.nn_model.specs.Blocks.{block_row_at}
 use Rattle.nn_model.specs.WellFormed.{HasWellFormedBlocks}
 use Rattle.nn_model.specs.Counts as model
-use Rattle.nn_replicas.specs.declared.entry.Row.{Row}
 use Rattle.nn_replicas.specs.Table.{Table}
 use Rattle.nn_replicas.specs.Calls.{row_at, replica_at, is_placed, total_of, safe_of}
 use Rattle.nn_replicas.specs.Order.{IsInOrder}
 
--- the rows of a file's blocks
-abbrev pub rows_of : Form → List Row
-rows_of Dir = []
-rows_of (File file) = map (λ b. record { block = b; closed = file.closed }) file.blocks
-
--- the rows of the blocks of all files
-abbrev pub all_rows : Namespace → List Row
-all_rows n = flat_map (λ row. rows_of row.1) n.rows
-
 -- the table has the rows of the namespace's blocks, and DataNodes from 1 to 256
 pub record Shows (n : Namespace) (t : Table) : Type 0 where
   pub in_order : IsInOrder t
-  pub rows : (id : ℕ) → row_at t id ≡ find (λ row. row.block.id == id) (all_rows n)
+  pub rows : (id : ℕ) → row_at t id ≡ block_row_at n id
   pub datanodes : (dn id : ℕ) → IsTrue (is_placed t dn id) → (1 ≤ dn) × (dn ≤ 256)
 
 -- the counts of the table are those of the namespace with the table's replicas

@@ -8,7 +8,7 @@ use Rattle.nn_types.specs.declared.block.Block.{Block}
 use Rattle.nn_types.specs.declared.report.Kind.{Kind}
 use Rattle.nn_types.specs.declared.report.Kind.TheVariants.{Receiving, Received, Deleted}
 use Rattle.nn_types.specs.declared.replica.Replica.{Replica}
-use Rattle.nn_replicas.specs.declared.entry.Row.{Row}
+use Rattle.nn_model.specs.declared.form.BlockRow.{BlockRow}
 use Rattle.nn_replicas.specs.declared.entry.Cell.{Cell}
 use Rattle.nn_replicas.specs.Table.{BlockEntry, Table}
 use Rattle.nn_replicas.specs.Entry.{is_ordered, no_entry, with_row, with_place, with_put, with_erased, retired, rows_in, replicas_in, orders_in}
@@ -24,11 +24,11 @@ abbrev pub entry_or_none : Table → ℕ → BlockEntry
 entry_or_none t id = unwrap_or (entry_at t id) no_entry
 
 -- the row of a block, where a file holds it
-abbrev pub row_at : Table → ℕ → Option Row
+abbrev pub row_at : Table → ℕ → Option BlockRow
 row_at t id = (entry_or_none t id).row
 
 -- the ids of all blocks that files hold, and the rows
-abbrev pub rows_of : Table → List (ℕ × Row)
+abbrev pub rows_of : Table → List (ℕ × BlockRow)
 rows_of t = rows_in t.entries
 
 abbrev pub cell_at : Table → ℕ → ℕ → Option Cell

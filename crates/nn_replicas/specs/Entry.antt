@@ -7,7 +7,7 @@ use Rattle.std.specs.Ordering.{nat_cmp}
 use Rattle.nn_types.specs.declared.block.Block.{Block}
 use Rattle.nn_types.specs.declared.replica.Replica.{Replica}
 use Rattle.nn_model.specs.Counts.{is_live}
-use Rattle.nn_replicas.specs.declared.entry.Row.{Row}
+use Rattle.nn_model.specs.declared.form.BlockRow.{BlockRow}
 use Rattle.nn_replicas.specs.declared.entry.Cell.{Cell}
 use Rattle.nn_replicas.specs.Table.{BlockEntry}
 
@@ -39,7 +39,7 @@ abbrev pub no_entry : BlockEntry
 no_entry = record { row = None; cells = [] }
 
 -- the block is named
-abbrev pub with_row : BlockEntry → Row → BlockEntry
+abbrev pub with_row : BlockEntry → BlockRow → BlockEntry
 with_row e row = record e { row = Some row }
 
 abbrev pub cell_of : BlockEntry → ℕ → Cell
@@ -72,11 +72,11 @@ retired e = record { row = None; cells = map (λ c. (c.0, cell_retired c.1)) e.c
 abbrev pub replica_in : ℕ × Cell → Option (ℕ × Replica)
 replica_in c = option_map (λ r. (c.0, r)) c.1.replica
 
-abbrev pub row_in : ℕ × BlockEntry → Option (ℕ × Row)
+abbrev pub row_in : ℕ × BlockEntry → Option (ℕ × BlockRow)
 row_in e = option_map (λ row. (e.0, row)) e.1.row
 
 -- the ids of the blocks that files hold, and the rows
-abbrev pub rows_in : List (ℕ × BlockEntry) → List (ℕ × Row)
+abbrev pub rows_in : List (ℕ × BlockEntry) → List (ℕ × BlockRow)
 rows_in entries = filter_map row_in entries
 
 -- the DataNodes with a replica of the block, and the replicas
@@ -92,7 +92,7 @@ orders_in id cells = filter_map (order_in id) cells
 
 -- ---- How it counts.
 
-abbrev pub is_closed_row : Option Row → Bool
+abbrev pub is_closed_row : Option BlockRow → Bool
 is_closed_row None = false
 is_closed_row (Some row) = row.closed
 
@@ -104,7 +104,7 @@ is_closed e = is_closed_row e.row
 abbrev pub live_cells : Block → List (ℕ × Cell) → ℕ
 live_cells b cells = count_by (λ c. is_live c.1.replica b) cells
 
-abbrev pub is_safe_row : ℕ → Option Row → List (ℕ × Cell) → Bool
+abbrev pub is_safe_row : ℕ → Option BlockRow → List (ℕ × Cell) → Bool
 is_safe_row min None cells = false
 is_safe_row min (Some row) cells = row.closed && nat_le min (live_cells row.block cells)
 

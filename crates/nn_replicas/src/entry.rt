@@ -9,18 +9,11 @@ ghost use Rattle.nn_replicas.specs.Entry.{replicas_in, orders_in, is_ordered, ce
 use crate::classes::class;
 use crate::replicas_of::ReplicasOf;
 use crate::slot::Slot;
+use nn_model::BlockRow;
 use nn_types::{Block, BlockId, Class, Replica};
 use smallvec::SmallVec;
 use std::alloc::{AllocError, Global};
 use std::marker::Model;
-
-/// The row of a block that a file holds.
-#[derive(Clone, Copy, Debug, PartialEq, Eq)]
-pub struct Row {
-    pub block: Block,
-    /// Whether the file is closed. Blocks of open files do not count.
-    pub closed: bool,
-}
 
 /// What is known of a DataNode and a block.
 #[derive(Clone, Copy, Debug, Default, PartialEq, Eq)]
@@ -35,7 +28,8 @@ pub struct Cell {
 // and takes no memory. Up to three cells lie in the entry itself.
 #[derive(Drop)]
 pub struct Entry {
-    row: Option<Row>,
+    // Where a file holds the block. Blocks of open files do not count.
+    row: Option<BlockRow>,
     cells: SmallVec<Slot, 3>,
 }
 
@@ -62,13 +56,13 @@ impl Entry {
         }
     }
 
-    pub fn set_row(&mut self, row: Row)
+    pub fn set_row(&mut self, row: BlockRow)
         ensures { self.new ≡ with_row self.old row }
     {
         self.row = Some(row);
     }
 
-    pub fn row(&self) -> Option<Row>
+    pub fn row(&self) -> Option<BlockRow>
         ensures { result ≡ self.now.row }
     {
         self.row

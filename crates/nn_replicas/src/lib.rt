@@ -12,8 +12,9 @@ mod slot;
 mod table;
 
 pub use classes::class;
-pub use entry::{Cell, Row};
+pub use entry::Cell;
 pub use laws::{counts_are_the_namespaces, each_call_changes, tables_are_in_order};
+pub use nn_model::BlockRow;
 pub use replicas_of::ReplicasOf;
 pub use rows::Rows;
 pub use safe_mode::SafeMode;

@@ -3,7 +3,8 @@ ghost use Rattle.std.specs.Prelude.{◌≡◌};
 ghost use Rattle.std.specs.Iterator.{YieldsFirst, item_count};
 ghost use Rattle.nn_replicas.specs.Entry.{rows_in};
 
-use crate::entry::{Entry, Row};
+use crate::entry::Entry;
+use nn_model::BlockRow;
 use nn_types::BlockId;
 use std::collections::btree_map::Iter;
 use std::marker::Model;
@@ -16,10 +17,10 @@ pub struct Rows<'a> {
 
 impl<'a> Model for Rows<'a> {
     ghost use Rattle.std.specs.Prelude.{ℕ, List};
-    ghost use Rattle.nn_replicas.specs.declared.entry.Row.{Row};
+    ghost use Rattle.nn_model.specs.declared.form.BlockRow.{BlockRow};
     ghost use Rattle.nn_replicas.specs.Entry.{rows_in};
 
-    ghost Value = { List (ℕ × Row) };
+    ghost Value = { List (ℕ × BlockRow) };
 
     ghost view = { λ s. rows_in s.entries };
 }
@@ -33,13 +34,13 @@ impl<'a> Rows<'a> {
 }
 
 impl<'a> Iterator for Rows<'a> {
-    type Item = (BlockId, Row);
+    type Item = (BlockId, BlockRow);
 
     ghost next_gives = { YieldsFirst (λ s. s) };
 
     ghost remaining = { item_count (λ s. s) };
 
-    fn next(&mut self) -> Option<(BlockId, Row)> {
+    fn next(&mut self) -> Option<(BlockId, BlockRow)> {
         while let Some((block, entry)) = self.entries.next() {
             if let Some(row) = entry.row() {
                 return Some((*block, row));

@@ -4,9 +4,10 @@ ghost use Rattle.std.specs.FinMap.Entries.{is_sorted};
 ghost use Rattle.std.specs.Ordering.{nat_cmp};
 ghost use Rattle.nn_replicas.specs.Calls.{row_at, rows_of, replicas_at, orders_of, AreAscending, has_order, is_placed, is_kept, total_of, safe_of, empty_table, block_set, pair_placed, replica_put, replica_erased, block_retired};
 
-use crate::entry::{Entry, Row};
+use crate::entry::Entry;
 use crate::replicas_of::ReplicasOf;
 use crate::rows::Rows;
+use nn_model::BlockRow;
 use nn_types::{Block, BlockId, Replica, Settings};
 use std::alloc::{AllocError, Global};
 use std::collections::BTreeMap;
@@ -66,7 +67,7 @@ impl Replicas {
     {
         // Fewer blocks than 2^63 fit in memory, so the counters do not overflow.
         let _count = self.entries.len();
-        let row = Row { block, closed };
+        let row = BlockRow { block, closed };
         let Some(entry) = self.entries.get_mut(&block.id) else {
             let mut entry = Entry::new(self.alloc);
             entry.set_row(row);

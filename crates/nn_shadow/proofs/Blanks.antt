@@ -1,32 +1,26 @@
 -- A table that is filled with the blocks of a namespace shows it.
 use Rattle.std.proofs.Common.{◌≡◌, ℕ, zero, suc, true, cond, List, [], ◌∷◌, map, replicate, Option, Some, None, refl, sym, ap, subst, ◌∙◌, inl, inr}
 use Rattle.std.specs.Prelude.{◌==◌, find, slice_index}
-use Rattle.std.specs.Option.{option_map}
 use Rattle.std.specs.Ordering.{nat_cmp}
 use Rattle.std.specs.declared.cmp.Ordering.TheVariants.{Less}
 use Rattle.std.specs.List.{AllByRecursion}
 use Rattle.std.specs.List.Sorted.{IsStrictlySortedBy}
 use Rattle.std.proofs.lemmas.Bool.{both_ways, cases_Bool, eqb-true}
 use Rattle.std.proofs.lemmas.Cmp.{nat_cmp_total, tied_itself}
-use Rattle.nn_model.specs.declared.form.BlockRow.{BlockRow as DefinedRow}
+use Rattle.nn_model.specs.declared.form.BlockRow.{BlockRow}
 use Rattle.nn_model.specs.Namespace.{Namespace}
-use Rattle.nn_model.specs.Blocks.{block_row_at}
-use Rattle.nn_tree.specs.declared.index.BlockRow.{BlockRow}
-use Rattle.nn_tree.specs.Blocks.{as_row, AreBlocks}
-use Rattle.nn_replicas.specs.declared.entry.Row.{Row}
+use Rattle.nn_tree.specs.Blocks.{AreBlocks}
 use Rattle.nn_replicas.specs.Table.{Table}
 use Rattle.nn_replicas.specs.Calls.{row_at, empty_table, block_set}
 use Rattle.nn_replicas.proofs.Lookups.{set_block_names, new_in_order}
-use Rattle.nn_shadow.specs.EditLaws.{or_before_row}
 use Rattle.nn_shadow.specs.Starting.{rows_set, IsFilling, IsBlank}
 use Rattle.nn_shadow.proofs.Follows.{eq_swap, KeepsReplicas, nothing_changed, block_kept, replicas_kept}
-use Rattle.nn_shadow.proofs.Rows.{row_in_namespace}
 
 -- ---- the rows
 
--- a block's row as a table keeps it
-abbrev kept : BlockRow → Row
-kept r = record { block = r.block; closed = r.closed }
+abbrev or_before : Option BlockRow → Option BlockRow → Option BlockRow
+or_before (Some row) before = Some row
+or_before None before = before
 
 abbrev found : List BlockRow → ℕ → Option BlockRow
 found rows id = find (λ row. row.block.id == id) rows
@@ -46,30 +40,26 @@ none_below k id (r ∷ rows) same below =
 
 -- the row of an id is the last one that was set
 rows_at : (t : Table) (rows : List BlockRow) (id : ℕ) → IsStrictlySortedBy nat_cmp (ids rows) →
-    row_at (rows_set t rows) id ≡ or_before_row (option_map kept (found rows id)) (row_at t id)
+    row_at (rows_set t rows) id ≡ or_before (found rows id) (row_at t id)
 unfolding IsStrictlySortedBy
 rows_at t [] id sorted = refl
 rows_at t (r ∷ rows) id sorted =
     rows_at (block_set t r.block r.closed) rows id sorted.1
     ∙ elim (cases_Bool (r.block.id == id)) [
       | inl here ↦
-          ap (λ o. or_before_row (option_map kept o) (row_at (block_set t r.block r.closed) id)) (none_below r.block.id id rows here sorted.0)
+          ap (λ o. or_before o (row_at (block_set t r.block r.closed) id)) (none_below r.block.id id rows here sorted.0)
           ∙ (set_block_names t r.block r.closed).rows id
-          ∙ ap (λ x. cond x (Some (kept r)) (row_at t id)) (eq_swap id r.block.id ∙ here)
-          ∙ sym (ap (λ x. or_before_row (option_map kept (cond x (Some r) (found rows id))) (row_at t id)) here)
+          ∙ ap (λ x. cond x (Some r) (row_at t id)) (eq_swap id r.block.id ∙ here)
+          ∙ sym (ap (λ x. or_before (cond x (Some r) (found rows id)) (row_at t id)) here)
       | inr other ↦
-          ap (or_before_row (option_map kept (found rows id)))
-          ((set_block_names t r.block r.closed).rows id ∙ ap (λ x. cond x (Some (kept r)) (row_at t id)) (eq_swap id r.block.id ∙ other))
-          ∙ sym (ap (λ x. or_before_row (option_map kept (cond x (Some r) (found rows id))) (row_at t id)) other)
+          ap (or_before (found rows id))
+          ((set_block_names t r.block r.closed).rows id ∙ ap (λ x. cond x (Some r) (row_at t id)) (eq_swap id r.block.id ∙ other))
+          ∙ sym (ap (λ x. or_before (cond x (Some r) (found rows id)) (row_at t id)) other)
     ]
 
-or_nothing : (o : Option Row) → or_before_row o None ≡ o
+or_nothing : (o : Option BlockRow) → or_before o None ≡ o
 or_nothing None = refl
 or_nothing (Some r) = refl
-
-kept_twice : (o : Option DefinedRow) → option_map kept (option_map as_row o) ≡ option_map (λ r. record { block = r.block; closed = r.closed }) o
-kept_twice None = refl
-kept_twice (Some r) = refl
 
 rows_keep : (t : Table) (rows : List BlockRow) → KeepsReplicas t (rows_set t rows)
 rows_keep t [] = nothing_changed t
@@ -88,10 +78,8 @@ is_blank n min t rows none f =
       shows = record {
         in_order = keeps.in_order (new_in_order min);
         rows = λ id. rows_at start f.all id f.blocks.ascending
-            ∙ or_nothing (option_map kept (found f.all id))
-            ∙ ap (option_map kept) (f.blocks.all id)
-            ∙ kept_twice (block_row_at n id)
-            ∙ sym (row_in_namespace n id);
+            ∙ or_nothing (found f.all id)
+            ∙ f.blocks.all id;
         datanodes = λ dn id here. absurd (both_ways _ (keeps.room dn id) here);
       };
       replicas = keeps.replicas;

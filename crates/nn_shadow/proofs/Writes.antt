@@ -18,7 +18,7 @@ use Rattle.nn_types.specs.declared.edit_fault.EditFault.{EditFault}
 use Rattle.nn_model.specs.Apply.{new_block, refusal, effect, outcome, applied}
 use Rattle.nn_model.specs.Touched.{touched}
 use Rattle.nn_model.specs.Blocks.{closes}
-use Rattle.nn_replicas.specs.declared.entry.Row.{Row}
+use Rattle.nn_model.specs.declared.form.BlockRow.{BlockRow}
 use Rattle.nn_replicas.specs.declared.entry.Cell.{Cell}
 use Rattle.nn_replicas.specs.Table.{BlockEntry, Table}
 use Rattle.nn_replicas.specs.Entry.{no_cell, no_entry, cell_put, with_row, with_cell, with_place, with_put}
@@ -56,7 +56,7 @@ set_twice t b closed =
     ap (λ o. with_entry (with_entry t b.id e) b.id (with_row (unwrap_or o no_entry) row)) (found b.id e t.entries)
     ∙ ap (λ es. record t { entries = es }) (put_put b.id e e t.entries)
   where
-    row : Row
+    row : BlockRow
     row = record { block = b; closed = closed }
 
     e : BlockEntry

@@ -2,7 +2,7 @@
 ghost use Rattle.std.specs.Prelude.{IsTrue, ◌<◌, ◌^◌};
 ghost use Rattle.nn_replicas.specs.Calls.{is_kept};
 
-use nn_replicas::{Replicas, Row, class};
+use nn_replicas::{BlockRow, Replicas, class};
 use nn_types::{Block, BlockId, Class, GenerationStamp, Kind, Length, Replica, Settings};
 use std::alloc::Global;
 use std::process::Abort;
@@ -222,7 +222,7 @@ fn rows_are_by_id(rt: &impl Abort, table: &Replicas) -> Result<(), Fail> {
     let mut rows = table.rows();
     for (number, len, closed) in [(B, 5, false), (B + 3, 7, true)] {
         let block = block(number, 1001, len)?;
-        assert_eq!(rt; rows.next(), Some((block.id, Row { block, closed })));
+        assert_eq!(rt; rows.next(), Some((block.id, BlockRow { block, closed })));
     }
     assert!(rt; rows.next().is_none());
     Ok(())

@@ -17,7 +17,7 @@ use Rattle.nn_model.proofs.Wells.{blocks_of_found}
 use Rattle.nn_model.specs.declared.form.Form.{Form}
 use Rattle.nn_model.specs.Namespace.{Path, Issued}
 use Rattle.nn_tree.specs.At.{IsSubtree, IsGrafted}
-use Rattle.nn_tree.specs.declared.index.BlockRow.{BlockRow}
+use Rattle.nn_model.specs.declared.form.BlockRow.{BlockRow}
 use Rattle.nn_tree.specs.View.{seen, Stands, IsKept}
 use Rattle.nn_tree.proofs.Deleted.{tie}
 use Rattle.nn_tree.proofs.Indexed.{old_blocks, apart}

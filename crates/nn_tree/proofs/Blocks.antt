@@ -1,6 +1,6 @@
 -- The values of the index are the blocks of the namespace.
 use Rattle.std.proofs.Common.{inl, inr, ◌≡◌, ℕ, true, cond, List, [], ◌∷◌, map, Option, Some, None, refl, sym, ap, subst, ◌∙◌}
-use Rattle.std.specs.Prelude.{◌==◌, find, option_map}
+use Rattle.std.specs.Prelude.{◌==◌, find}
 use Rattle.std.specs.Ordering.{nat_cmp, is_eq}
 use Rattle.std.specs.declared.cmp.Ordering.TheVariants.{Less}
 use Rattle.std.specs.BTreeMap.{is_at}
@@ -8,7 +8,7 @@ use Rattle.std.specs.Map.{keys_of, values_of, lookup as lookup_at}
 use Rattle.std.specs.List.{AllByRecursion}
 use Rattle.std.specs.List.Sorted.{IsStrictlySortedBy}
 use Rattle.std.proofs.lemmas.Bool.{both_ways, cases_Bool, cond-true, cond-false, eqb-true, eq-eqb}
-use Rattle.nn_model.specs.declared.form.BlockRow.{BlockRow as DefinedRow}
+use Rattle.nn_model.specs.declared.form.BlockRow.{BlockRow}
 use Rattle.nn_model.specs.declared.form.Form.{Form}
 use Rattle.nn_model.specs.declared.form.Form.TheVariants.{Dir, File}
 use Rattle.nn_model.specs.Namespace.{Path, Namespace, lookup}
@@ -16,32 +16,27 @@ use Rattle.nn_model.specs.Blocks.{block_row, block_rows, block_row_at, rows_of}
 use Rattle.nn_model.specs.WellFormed.{Has}
 use Rattle.nn_model.proofs.InRows.{at_path}
 use Rattle.nn_model.proofs.Members.{rows_at, row_found, of_block, row_of_file, some_path}
-use Rattle.nn_tree.specs.declared.index.BlockRow.{BlockRow}
-use Rattle.nn_tree.specs.Blocks.{as_row, AreBlocks}
+use Rattle.nn_tree.specs.Blocks.{AreBlocks}
 use Rattle.nn_tree.specs.View.{InRow, Stands, IsKept}
 use Rattle.nn_tree.proofs.Waiting.{tied}
 
 -- ---- the index tells each block row
 
--- a row of the index as the definition's
-abbrev defined : BlockRow → DefinedRow
-defined b = block_row b.closed b.block
-
 -- what stands in a file is a block row
-in_rows : (form : Form) (b : BlockRow) → InRow b form → Has (rows_of form) (defined b)
+in_rows : (form : Form) (b : BlockRow) → InRow b form → Has (rows_of form) b
 in_rows Dir b h = h.1
 in_rows (File file) b h = subst (λ c. Has (rows_of (File file)) (block_row c b.block)) (sym h.0) (of_block file.closed file.blocks b.block h.1)
 
-stands_in_rows : (n : Namespace) (b : BlockRow) → Stands (lookup n) b → Has (block_rows n) (defined b)
-stands_in_rows n b s = at_path rows_of s.0 n.rows (defined b) (subst (λ (o : Option Form). Has (rows_at o) (defined b)) (sym s.2) (in_rows s.1 b s.3))
+stands_in_rows : (n : Namespace) (b : BlockRow) → Stands (lookup n) b → Has (block_rows n) b
+stands_in_rows n b s = at_path rows_of s.0 n.rows b (subst (λ (o : Option Form). Has (rows_at o) b) (sym s.2) (in_rows s.1 b s.3))
 
 -- and a block row stands in a file
-row_stands : (n : Namespace) (p : Path) (o : Option Form) (r : DefinedRow) → lookup n p ≡ o → Has (rows_at o) r → Stands (lookup n) (as_row r)
+row_stands : (n : Namespace) (p : Path) (o : Option Form) (r : BlockRow) → lookup n p ≡ o → Has (rows_at o) r → Stands (lookup n) r
 row_stands n p None r e h = absurd h
 row_stands n p (Some Dir) r e h = absurd h
 row_stands n p (Some (File file)) r e h = let f = row_of_file file.closed file.blocks r h in (p, File file, e, (f.1, f.0))
 
-none_known : (rs : List DefinedRow) (id : ℕ) (r : DefinedRow) → find (λ x. x.block.id == id) rs ≡ None → Has rs r → r.block.id ≡ id → ⊥
+none_known : (rs : List BlockRow) (id : ℕ) (r : BlockRow) → find (λ x. x.block.id == id) rs ≡ None → Has rs r → r.block.id ≡ id → ⊥
 none_known [] id r none here is = here
 none_known (x ∷ rs) id r none here is =
     elim (cases_Bool (x.block.id == id)) [
@@ -52,17 +47,17 @@ none_known (x ∷ rs) id r none here is =
       ]
     ]
 
-look_known : (n : Namespace) (look : ℕ → Option BlockRow) (id : ℕ) → IsKept n look → look id ≡ option_map as_row (block_row_at n id)
+look_known : (n : Namespace) (look : ℕ → Option BlockRow) (id : ℕ) → IsKept n look → look id ≡ block_row_at n id
 look_known n look id k =
-    elim (block_row_at n id) as (λ o. block_row_at n id ≡ o → look id ≡ option_map as_row o) [
+    elim (block_row_at n id) as (λ o. block_row_at n id ≡ o → look id ≡ o) [
       | Some r ↦ λ e.
           let found = row_found (block_rows n) id r e in
           let w = some_path n.rows k.well.blocks.in_order r found.0 in
-          ap look (sym found.1) ∙ k.index.complete (as_row r) (row_stands n w.0 (lookup n w.0) r refl w.1)
+          ap look (sym found.1) ∙ k.index.complete r (row_stands n w.0 (lookup n w.0) r refl w.1)
       | None ↦ λ e.
           elim (look id) as (λ o. look id ≡ o → o ≡ None) [
             | None ↦ λ h. refl
-            | Some b ↦ λ h. let s = k.index.sound id b h in absurd (none_known (block_rows n) id (defined b) e (stands_in_rows n b s.1) s.0)
+            | Some b ↦ λ h. let s = k.index.sound id b h in absurd (none_known (block_rows n) id b e (stands_in_rows n b s.1) s.0)
           ] refl
     ] refl
 

@@ -20,7 +20,7 @@ use Rattle.nn_model.specs.declared.form.Form.{Form}
 use Rattle.nn_model.specs.Namespace.{Path, Issued}
 use Rattle.nn_tree.specs.At.{at, IsSubtree, IsGrafted}
 use Rattle.nn_tree.specs.Ids.{ids_of, row_ids}
-use Rattle.nn_tree.specs.declared.index.BlockRow.{BlockRow}
+use Rattle.nn_model.specs.declared.form.BlockRow.{BlockRow}
 use Rattle.nn_tree.specs.View.{seen, IsIndex, IsKept}
 use Rattle.nn_model.proofs.Prefixes.{equal, same, same_true, same_self, begins_append, begins_split}
 use Rattle.nn_tree.proofs.Maps.{graft_gone}

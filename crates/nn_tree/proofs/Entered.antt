@@ -6,7 +6,7 @@ use Rattle.std.specs.Ordering.{nat_cmp, is_eq}
 use Rattle.std.proofs.lemmas.Bool.{both_ways, cases_Bool, and_parts, or_left, or_right, or_parts, eqb-true, eq-eqb, ne_eqb}
 use Rattle.nn_types.specs.declared.block.Block.{Block}
 use Rattle.nn_model.specs.Apply.{has_id}
-use Rattle.nn_tree.specs.declared.index.BlockRow.{BlockRow}
+use Rattle.nn_model.specs.declared.form.BlockRow.{BlockRow}
 use Rattle.nn_tree.specs.Entered.{entered, are_new}
 use Rattle.nn_tree.proofs.Deleted.{tie}
 

@@ -14,7 +14,7 @@ use Rattle.nn_model.specs.declared.form.Form.{Form}
 use Rattle.nn_model.specs.Namespace.{Path, begins_with}
 use Rattle.nn_model.specs.Apply.{moved}
 use Rattle.nn_tree.specs.Walks.{moved_rows}
-use Rattle.nn_tree.specs.declared.index.BlockRow.{BlockRow}
+use Rattle.nn_model.specs.declared.form.BlockRow.{BlockRow}
 use Rattle.nn_tree.specs.View.{closed_of, InRow, IsIndex}
 use Rattle.nn_tree.proofs.Prefix.{CanMove, some_none}
 use Rattle.nn_model.proofs.Prefixes.{same, same_true, begins_append, begins_split}

@@ -18,7 +18,7 @@ use Rattle.nn_model.specs.declared.form.Form.{Form}
 use Rattle.nn_model.specs.Namespace.{Path, Issued}
 use Rattle.nn_tree.specs.At.{at, IsSubtree, IsGrafted, IsSame}
 use Rattle.nn_tree.specs.Walks.{rename_fault, moved_rows, IsRenamed}
-use Rattle.nn_tree.specs.declared.index.BlockRow.{BlockRow}
+use Rattle.nn_model.specs.declared.form.BlockRow.{BlockRow}
 use Rattle.nn_tree.specs.Issued.{AreBelow}
 use Rattle.nn_tree.specs.View.{seen, InRow, Stands, IsIndex, IsKept}
 use Rattle.nn_model.proofs.Prefixes.{same, same_self}

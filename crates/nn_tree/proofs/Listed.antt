@@ -15,7 +15,7 @@ use Rattle.nn_model.specs.WellFormed.{Has, times, IsWellFormed}
 use Rattle.nn_model.proofs.Dues.{all_none, when_none, stands_times}
 use Rattle.nn_model.proofs.Wells.{times_put}
 use Rattle.nn_model.specs.Namespace.{Path}
-use Rattle.nn_tree.specs.declared.index.BlockRow.{BlockRow}
+use Rattle.nn_model.specs.declared.form.BlockRow.{BlockRow}
 use Rattle.nn_tree.specs.View.{IsKept, renewed}
 use Rattle.nn_tree.proofs.Indexed.{old_blocks}
 use Rattle.nn_tree.proofs.Kept.{put_index, old_own}

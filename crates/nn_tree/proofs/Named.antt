@@ -13,9 +13,9 @@ use Rattle.nn_model.proofs.Dues.{found_in, none_found, once_same, blocks_in, has
 use Rattle.nn_model.proofs.Wells.{not_below}
 use Rattle.nn_model.specs.declared.form.Form.{Form}
 use Rattle.nn_model.specs.Namespace.{Path}
-use Rattle.nn_tree.specs.declared.index.BlockRow.{BlockRow}
+use Rattle.nn_model.specs.declared.form.BlockRow.{BlockRow}
 use Rattle.nn_model.specs.declared.form.Form.TheVariants.{Dir, File}
-use Rattle.nn_tree.specs.BlockRow.{IsInFile}
+use Rattle.nn_tree.specs.Blocks.{IsInFile}
 use Rattle.nn_tree.specs.View.{InRow, closed_of, IsKept}
 use Rattle.nn_model.proofs.Prefixes.{same, same_true, same_self}
 use Rattle.nn_tree.proofs.Added.{stands_in}

@@ -3,7 +3,7 @@ use Rattle.std.proofs.Common.{◌≡◌, ℕ, ◌+◌, ◌-◌, ◌<◌, ◌≤�
 use Rattle.std.specs.Prelude.{◌==◌}
 use Rattle.std.proofs.lemmas.List.{drop_more}
 use Rattle.nn_types.specs.declared.block.Block.{Block}
-use Rattle.nn_tree.specs.declared.index.BlockRow.{BlockRow}
+use Rattle.nn_model.specs.declared.form.BlockRow.{BlockRow}
 use Rattle.nn_tree.specs.View.{renewed, rewritten}
 
 -- one more row

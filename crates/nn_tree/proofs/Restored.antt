@@ -18,7 +18,7 @@ use Rattle.nn_model.specs.Apply.{refusal, checks, walk, has_id, is_dir}
 use Rattle.nn_model.specs.WellFormed.{Has, IsWellFormed}
 use Rattle.nn_tree.specs.Restore.{bare, parent_of, rises, is_issued, awaiting_fits, can_restore}
 use Rattle.nn_tree.specs.View.{IsKept, Stands}
-use Rattle.nn_tree.specs.declared.index.BlockRow.{BlockRow}
+use Rattle.nn_model.specs.declared.form.BlockRow.{BlockRow}
 use Rattle.nn_model.proofs.Dues.{all_none}
 use Rattle.nn_model.proofs.Moves.{HasParents, is_directory}
 use Rattle.nn_model.proofs.Trees.{absent}

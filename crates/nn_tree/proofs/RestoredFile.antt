@@ -25,7 +25,7 @@ use Rattle.nn_model.proofs.InRows.{put_from}
 use Rattle.nn_model.proofs.Lookups.{paths_total, lookup_put}
 use Rattle.nn_model.proofs.Trees.{stays_well_formed}
 use Rattle.nn_model.proofs.Wells.{times_put, times-append, from_T, to_T}
-use Rattle.nn_tree.specs.declared.index.BlockRow.{BlockRow}
+use Rattle.nn_model.specs.declared.form.BlockRow.{BlockRow}
 use Rattle.nn_tree.specs.Entered.{entered, are_new}
 use Rattle.nn_tree.specs.Restore.{is_issued, replication_fits, block_fits, once, form_fits, can_restore, parent_of}
 use Rattle.nn_tree.specs.View.{IsKept}

@@ -1,16 +1,16 @@
 -- The blocks of a namespace in order, and lists that are not them.
-use Rattle.std.specs.Prelude.{◌≡◌, ℕ, Bool, true, false, cond, [], ◌∷◌, ◌==◌, Option, Some, None, option_map, codes, refl}
+use Rattle.std.specs.Prelude.{◌≡◌, ℕ, Bool, true, false, cond, [], ◌∷◌, ◌==◌, Option, Some, None, codes, refl}
 use Rattle.std.specs.List.Sorted.{IsStrictlySortedBy}
 use Rattle.std.proofs.lemmas.Bool.{eqb-true, both_ways}
 use Rattle.std.proofs.Common.{ap, arith}
 use Rattle.nn_types.specs.declared.block.Block.{Block}
 use Rattle.nn_model.specs.declared.form.Form.{Form}
 use Rattle.nn_model.specs.declared.form.Form.TheVariants.{File}
+use Rattle.nn_model.specs.declared.form.BlockRow.{BlockRow}
 use Rattle.nn_model.specs.Namespace.{Issued, Namespace, with_row}
-use Rattle.nn_model.specs.Blocks.{block_row}
-use Rattle.nn_tree.specs.declared.index.BlockRow.{BlockRow}
+use Rattle.nn_model.specs.Blocks.{block_row as row}
 use Rattle.nn_tree.specs.Restore.{bare}
-use Rattle.nn_tree.specs.Blocks.{as_row, AreBlocks}
+use Rattle.nn_tree.specs.Blocks.{AreBlocks}
 
 abbrev first : Block
 first = record { id = 1073741825; stamp = 1001; len = 0 }
@@ -28,13 +28,10 @@ issued = record { last_block = 1073741826; last_stamp = 1002; awaiting = [] }
 abbrev files : Namespace
 files = with_row (with_row (bare issued) (codes "a" ∷ []) (file true second)) (codes "b" ∷ []) (file false first)
 
-abbrev row : Bool → Block → BlockRow
-row closed block = record { block = block; closed = closed }
-
 -- the two are found in either order
 either : (id : ℕ) (p q : Bool) → (1073741825 == id) ≡ p → (1073741826 == id) ≡ q →
     cond p (Some (row false first)) (cond q (Some (row true second)) None)
-    ≡ option_map as_row (cond q (Some (block_row true second)) (cond p (Some (block_row false first)) None))
+    ≡ cond q (Some (row true second)) (cond p (Some (row false first)) None)
 either id true true h k = absurd (omega (arith, eqb-true 1073741825 id h, eqb-true 1073741826 id k))
 either id true false h k = refl
 either id false true h k = refl

@@ -10,7 +10,6 @@ pub mod View
 pub mod Found
 pub mod Touched
 pub mod Listing
-pub mod BlockRow
 pub mod Blocks
 pub mod BlocksRows
 pub mod Extent

@@ -6,7 +6,7 @@ use Rattle.nn_model.specs.declared.form.Form.TheVariants.{Dir, File}
 use Rattle.nn_model.specs.Namespace.{Path, Issued, Namespace, lookup, blocks_of}
 use Rattle.nn_model.specs.Apply.{in_path_order}
 use Rattle.nn_model.specs.WellFormed.{Has, IsWellFormed}
-use Rattle.nn_tree.specs.declared.index.BlockRow.{BlockRow}
+use Rattle.nn_model.specs.declared.form.BlockRow.{BlockRow}
 
 -- the namespace of a tree's paths, and of what was issued
 abbrev pub seen : List (Path × Form) → Issued → Namespace

@@ -7,15 +7,9 @@ ghost use Rattle.nn_tree.specs.Entered.{entered, are_new};
 ghost use Rattle.nn_tree.specs.View.{renewed, rewritten};
 
 use crate::fault::RestoreFault;
+use nn_model::BlockRow;
 use nn_types::{Block, BlockId};
 use std::collections::BTreeMap;
-
-/// A block of a file, and whether the file is closed.
-#[derive(Clone, Copy, Debug, PartialEq, Eq)]
-pub struct BlockRow {
-    pub block: Block,
-    pub closed: bool,
-}
 
 // Takes ids out of an index.
 pub(crate) fn forget(index: &mut BTreeMap<u64, BlockRow>, ids: &[BlockId])

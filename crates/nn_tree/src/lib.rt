@@ -20,9 +20,8 @@ mod tree;
 
 pub use fault::RestoreFault;
 pub use found::Found;
-pub use index::BlockRow;
 pub use listing::{Extent, ListFault, PathRow, RowSink, push_text};
 pub use namespace::{BlockRows, Namespace};
-pub use nn_model::{FileRow, Form};
+pub use nn_model::{BlockRow, FileRow, Form};
 pub use nn_types::EditFault;
 pub use touched::Touched;

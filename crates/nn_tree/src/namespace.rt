@@ -11,7 +11,7 @@ ghost use Rattle.nn_tree.specs.Extent.{capped, path_bytes, block_count};
 ghost use Rattle.nn_tree.specs.Found.{form_of};
 ghost use Rattle.nn_tree.specs.Listing.{rows_of, Took, StopsIn};
 ghost use Rattle.nn_model.specs.WellFormed.{IsWellFormed};
-ghost use Rattle.nn_tree.specs.BlockRow.{IsInFile};
+ghost use Rattle.nn_tree.specs.Blocks.{IsInFile};
 ghost use Rattle.nn_tree.specs.Memory.{takes_memory};
 ghost use Rattle.nn_tree.specs.Touched.{seen};
 
@@ -21,12 +21,12 @@ mod edits;
 mod restore;
 
 use crate::found::Found;
-use crate::index::BlockRow;
 use crate::issued::Issued;
 use crate::listing::{Copies, Extent, ListFault, PathRow, RowSink};
 use crate::touched::Touched;
 use crate::tree::Tree;
 pub use blocks::BlockRows;
+use nn_model::BlockRow;
 use nn_types::{Block, BlockId, Edit, EditFault, GenerationStamp, Path, Status};
 use std::alloc::{AllocError, Global};
 use std::collections::BTreeMap;

@@ -5,7 +5,7 @@ ghost use Rattle.std.specs.BTreeMap.{values};
 ghost use Rattle.nn_tree.specs.Blocks.{AreBlocks};
 
 use super::Namespace;
-use crate::index::BlockRow;
+use nn_model::BlockRow;
 use std::collections::btree_map::Values;
 use std::marker::Model;
 
@@ -17,7 +17,7 @@ pub struct BlockRows<'a> {
 
 impl<'a> Model for BlockRows<'a> {
     ghost use Rattle.std.specs.Prelude.{List};
-    ghost use Rattle.nn_tree.specs.declared.index.BlockRow.{BlockRow};
+    ghost use Rattle.nn_model.specs.declared.form.BlockRow.{BlockRow};
 
     ghost Value = { List BlockRow };
 

@@ -11,10 +11,10 @@ ghost use Rattle.nn_tree.specs.Touched.{seen};
 
 use super::Namespace;
 use super::checks::is_replication;
-use crate::index::{BlockRow, forget, renew};
+use crate::index::{forget, renew};
 use crate::touched::{Touched, empty_block};
 use crate::tree::{Tree, Unchanged};
-use nn_model::FileRow;
+use nn_model::{BlockRow, FileRow};
 use nn_types::{BlockId, Blocks, Edit, GenerationStamp, Path, Replication};
 use std::alloc::Global;
 

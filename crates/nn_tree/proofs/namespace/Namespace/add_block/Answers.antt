@@ -6,7 +6,7 @@ use Rattle.nn_types.specs.declared.edit.Edit.TheVariants as edit
 use Rattle.nn_model.specs.declared.form.Form.TheVariants.{File}
 use Rattle.nn_model.specs.Namespace.{Namespace, lookup}
 use Rattle.nn_model.specs.Apply.{refusal, effect, new_block, has_id}
-use Rattle.nn_tree.specs.declared.index.BlockRow.{BlockRow}
+use Rattle.nn_model.specs.declared.form.BlockRow.{BlockRow}
 use Rattle.nn_tree.specs.View.{seen, IsKept}
 use Rattle.nn_tree.proofs.Applies.{HasFile, has_file, add_block_applies}
 use Rattle.nn_tree.proofs.Kept.{file_was, still_seen, still_kept}

@@ -1,6 +1,6 @@
 use Rattle.std.proofs.Common.{subst, ap, ◌∙◌}
 use Rattle.std.specs.Prelude.{IfSome, option_map}
-use Rattle.nn_tree.specs.BlockRow.{IsInFile}
+use Rattle.nn_tree.specs.Blocks.{IsInFile}
 use Rattle.std.specs.BTreeMap.{get}
 use Rattle.std.specs.Ordering.{nat_cmp}
 use Rattle.nn_model.specs.Namespace.{Namespace}

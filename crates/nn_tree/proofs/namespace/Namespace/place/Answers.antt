@@ -12,7 +12,7 @@ use Rattle.nn_tree.specs.At.{IsGrafted}
 use Rattle.nn_tree.specs.Entered.{entered, are_new}
 use Rattle.nn_tree.specs.Restore.{can_restore, block_fits}
 use Rattle.nn_tree.specs.View.{seen, IsKept}
-use Rattle.nn_tree.specs.declared.index.BlockRow.{BlockRow}
+use Rattle.nn_model.specs.declared.form.BlockRow.{BlockRow}
 use Rattle.nn_tree.proofs.Added.{kept_looks}
 use Rattle.nn_tree.proofs.Entered.{undone}
 use Rattle.nn_tree.proofs.Kept.{made, still_seen, still_kept}

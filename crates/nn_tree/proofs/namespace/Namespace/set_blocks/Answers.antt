@@ -6,7 +6,7 @@ use Rattle.nn_model.specs.declared.form.FileRow.{FileRow}
 use Rattle.nn_model.specs.Namespace.{Namespace, lookup, with_row, file_or_none, file_at}
 use Rattle.nn_model.specs.Apply.{first, keeps_stamps, list_checks, with_blocks}
 use Rattle.nn_model.specs.Touched.{listed}
-use Rattle.nn_tree.specs.declared.index.BlockRow.{BlockRow}
+use Rattle.nn_model.specs.declared.form.BlockRow.{BlockRow}
 use Rattle.nn_tree.specs.View.{seen, IsKept, renewed}
 use Rattle.nn_tree.proofs.Applies.{HasFile, has_file, list_applies}
 use Rattle.nn_tree.proofs.Kept.{still_seen, still_kept, file_was, file_seen}

@@ -18,7 +18,8 @@ use Rattle.nn_shadow.specs.declared.fault.Stop.{Stop}
 use Rattle.nn_tailer.specs.declared.standby.Active.{Active}
 use Rattle.nn_tailer.specs.Reads.{EndsInFault}
 use Rattle.nn_tailer.specs.Tailing.{has_begun, Tailer, LogStops, EndsInEnd, by_node}
-use Rattle.nn_segment.proofs.Asks.{given-append}
+use Rattle.nn_segment.proofs.Asks.{given-append, segments_given}
+use Rattle.nn_tailer.proofs.Logs.{ends_behind}
 use Rattle.nn_feed.specs.declared.ends.FeedEnd.{FeedEnd}
 use Rattle.nn_feed.specs.declared.rule.Placed.{Placed}
 use Rattle.nn_feed.specs.Ends.{put_by, got_by, IsSameFeeder, Gets, GivesWhatIsFed, IsMet, IsSameEnd}
@@ -27,8 +28,8 @@ use Rattle.nn_feed.specs.declared.ends.Feeder.{Feeder}
 use Rattle.nn_feed.specs.declared.running.Ran.{Ran}
 use Rattle.nn_feed.specs.declared.running.Told.{Told}
 use Rattle.nn_feed.specs.Running.{HasRun, GaveThen, then_last, last_in, ending_of}
-use Rattle.nn_feed.proofs.Feeds.{last_among}
-use Rattle.nn_feed.proofs.Wholes.{segments_given, asked_gets, given_is_got, ends_in_end, ends_in_last}
+use Rattle.nn_feed.proofs.Feeds.{last_among, one_last}
+use Rattle.nn_feed.proofs.Wholes.{asked_gets, given_is_got, ends_in_end, ends_in_last}
 use Rattle.nn_drive.specs.declared.driving.DriveFault.{DriveFault}
 use Rattle.nn_drive.specs.declared.driving.DriveFault.TheVariants as drive
 use Rattle.nn_drive.specs.Driven.{HasEnded, EndsEarly, WentUntil, IsPromoted, IsDriven, NotDriven, OnClosed}
@@ -65,19 +66,6 @@ pub got_next : {R : Type 0} (old new : FeedEnd R) (answer : Answer) → GivesWha
 got_next old new answer h = got_by_one (got_by old) (got_by new) answer h.1
 
 -- ---- Answers with the same segments.
-
-no_more : {A : Type 0} (xs : List A) (x : A) → [] ≡ xs ++ x ∷ [] → ⊥
-no_more [] x e = cc
-no_more (y ∷ xs) x e = cc
-
-same_last : {A : Type 0} (xs ys : List A) (x y : A) → xs ++ x ∷ [] ≡ ys ++ y ∷ [] → x ≡ y
-same_last [] [] x y e = cc
-same_last [] (z ∷ ys) x y e = absurd (no_more ys y (let t : [] ≡ ys ++ y ∷ [] = cc in t))
-same_last (z ∷ xs) [] x y e = absurd (no_more xs x (let t : [] ≡ xs ++ x ∷ [] = cc in t))
-same_last (z ∷ xs) (w ∷ ys) x y e = same_last xs ys x y (let t : xs ++ x ∷ [] ≡ ys ++ y ∷ [] = cc in t)
-
-pub ends_behind : (before answers : List Answer) → EndsInEnd answers → EndsInEnd (before ++ answers)
-ends_behind before answers e = (before ++ e.0, ap (λ z. before ++ z) e.1 ∙ sym (append_assoc before e.0 (end ∷ [])))
 
 given_behind : (before answers more others : List Answer) → given_in others ≡ given_in answers ++ given_in more → given_in (before ++ others) ≡ given_in (before ++ answers) ++ given_in more
 given_behind before answers more others e =
@@ -147,7 +135,7 @@ module _ {T : Type 0} (gives : T → Answer → T → Type 0) (failures : T → 
         asked = subst (λ l. Asked gives s l t) (sym answers) gave;
         whole = λ l. ap answers_of (met.2 l);
         failed = λ f e.
-            let is : last ≡ Err f = same_last (map given segments) e.0 last (Err f) (sym answers ∙ e.1) in
+            let is : last ≡ Err f = one_last (then_last segments last) last (Err f) (map given segments, refl) (e.0, sym answers ∙ e.1) in
             subst (λ a. OnErr a (failures s < failures t)) is fails;
       }
 

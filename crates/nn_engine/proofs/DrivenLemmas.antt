@@ -17,10 +17,9 @@ use Rattle.nn_lane.specs.declared.fault.Refusal.{Refusal}
 use Rattle.nn_lane.specs.declared.fault.Refusal.TheVariants.{Closed, Exhausted, Full}
 use Rattle.nn_segment.specs.LogEnd.{end_of_log, given_in}
 use Rattle.nn_segment.specs.Segment.{Segment}
-use Rattle.nn_segment.specs.Source.{Answer, AreInOrder, GivesNext}
-use Rattle.nn_segment.specs.Walk.{log_in, segments_in}
-use Rattle.nn_segment.specs.declared.source.Item.TheVariants as item
-use Rattle.nn_segment.proofs.Asks.{in_order}
+use Rattle.nn_segment.specs.Source.{AreInOrder, GivesNext}
+use Rattle.nn_segment.specs.Walk.{log_in}
+use Rattle.nn_segment.proofs.Asks.{in_order, segments_given}
 use Rattle.nn_shadow.specs.Contents.{Contents, standby_of}
 use Rattle.nn_tailer.specs.Public.{IsNew}
 use Rattle.nn_tailer.specs.Tailing.{Tailer, by_node}
@@ -163,13 +162,6 @@ module _ (count : ℕ) (lanes : Lanes) (sources : List (List Report)) (listed : 
   same_lanes j dn = at_node dn j
 
 -- ---- The promoted standby.
-
--- the transactions of the segments that were given
-segments_given : (answers : List Answer) → segments_in answers ≡ map (λ (s : Segment). s.txs) (given_in answers)
-segments_given [] = refl
-segments_given (Ok (item.Segment s) ∷ answers) = ap (λ all. s.txs ∷ all) (segments_given answers)
-segments_given (Ok item.End ∷ answers) = segments_given answers
-segments_given (Err fault ∷ answers) = segments_given answers
 
 pub record Arrives (settings : Threshold) (lanes : Lanes) (segments : List Segment) (x : Contents) : Type 0 where
   pub log_end : end_of_log 0 root_alone segments ≡ Ok (record { last = x.last; namespace = x.namespace })

@@ -5,9 +5,9 @@ use Rattle.crossbeam_channel.specs.Ends.{receives_on}
 use Rattle.nn_segment.specs.Segment.{Segment as Whole}
 use Rattle.nn_segment.specs.LogEnd.{given_in}
 use Rattle.nn_segment.specs.Source.{Answer, Asked, given, end}
-use Rattle.nn_segment.specs.Walk.{segments_in}
 use Rattle.nn_segment.specs.declared.fault.SourceFault.{SourceFault}
 use Rattle.nn_segment.specs.declared.source.Item.TheVariants.{Segment, End}
+use Rattle.nn_segment.proofs.Asks.{given-append}
 use Rattle.nn_feed.specs.declared.ends.FeedEnd.{FeedEnd}
 use Rattle.nn_feed.specs.declared.rule.Placed.{Placed}
 use Rattle.nn_feed.specs.Ends.{got_by, IsSameEnd, GivesWhatIsFed, Gets, IsMet}
@@ -18,18 +18,6 @@ use Rattle.nn_feed.proofs.Answered.{gets_elim, gets_ended, gets_last}
 use Rattle.nn_feed.proofs.Feeds.{last_among, one_last}
 
 -- ---- Answers and the segments among them.
-
-pub segments_given : (answers : List Answer) → segments_in answers ≡ map (λ (s : Whole). s.txs) (given_in answers)
-segments_given [] = refl
-segments_given (Ok (Segment s) ∷ answers) = let rest = segments_given answers in cc
-segments_given (Ok End ∷ answers) = segments_given answers
-segments_given (Err fault ∷ answers) = segments_given answers
-
-pub given-append : (answers more : List Answer) → given_in (answers ++ more) ≡ given_in answers ++ given_in more
-given-append [] more = refl
-given-append (Ok (Segment s) ∷ answers) more = let rest = given-append answers more in cc
-given-append (Ok End ∷ answers) more = given-append answers more
-given-append (Err fault ∷ answers) more = given-append answers more
 
 given_of : (segments : List Whole) → given_in (map given segments) ≡ segments
 given_of [] = refl

@@ -4,6 +4,7 @@ use Rattle.std.proofs.lemmas.List.{append-nil, map-append}
 use Rattle.nn_segment.specs.Segment.{Segment}
 use Rattle.nn_segment.specs.Source.{Answer, given, end, Asked, GivesNext, AreInOrder, GivesInOrder}
 use Rattle.nn_segment.specs.LogEnd.{given_in}
+use Rattle.nn_segment.specs.Walk.{segments_in}
 use Rattle.nn_segment.specs.declared.fault.SourceFault.{SourceFault}
 use Rattle.nn_segment.specs.declared.source.Item.TheVariants as item
 
@@ -32,6 +33,13 @@ asked_more gives old between new segments s first h =
     subst (λ answers. Asked gives old answers new) (sym (map-append given segments (s ∷ []))) (asked_again gives old between new (map given segments) (given s) first h)
 
 -- ---- the segments among the answers
+
+-- their transactions are those of the answers
+pub segments_given : (answers : List Answer) → segments_in answers ≡ map (λ (s : Segment). s.txs) (given_in answers)
+segments_given [] = refl
+segments_given (Ok (item.Segment s) ∷ answers) = ap (λ all. s.txs ∷ all) (segments_given answers)
+segments_given (Ok item.End ∷ answers) = segments_given answers
+segments_given (Err fault ∷ answers) = segments_given answers
 
 pub given-append : (answers more : List Answer) → given_in (answers ++ more) ≡ given_in answers ++ given_in more
 given-append [] more = refl

@@ -1,5 +1,5 @@
 -- Reading the log.
-use Rattle.std.proofs.Common.{append_assoc, ◌≡◌, ℕ, ◌+◌, ◌<◌, ◌≤◌, List, [], ◌∷◌, ◌++◌, length, None, Ok, Err, refl, sym, ap, ◌∙◌, subst, arith}
+use Rattle.std.proofs.Common.{append_assoc, append-nil, ◌≡◌, ℕ, ◌+◌, ◌<◌, ◌≤◌, List, [], ◌∷◌, ◌++◌, length, None, Ok, Err, refl, sym, ap, ◌∙◌, subst, arith}
 use Rattle.nn_segment.specs.Source.{Answer, Asked}
 use Rattle.nn_segment.specs.declared.source.Item.TheVariants.{End}
 use Rattle.nn_segment.specs.Source.{end}
@@ -35,12 +35,8 @@ going_live x y rs l g = (g.lanes.begun ∙ l.0, g.stop, g.lanes.active ∙ l.2)
 pub going_then : (x y z : Tailer) (rs qs : List Answer) → Going x rs y → Going y qs z → Going x (rs ++ qs) z
 going_then x y z rs qs f g = record { carries = carries_then x y z rs qs f.carries g.carries; lanes = lanes_then x y z f.lanes g.lanes; stop = g.stop }
 
-no_more : (rs : List Answer) → rs ++ [] ≡ rs
-no_more [] = refl
-no_more (r ∷ rs) = ap (λ l. r ∷ l) (no_more rs)
-
 pub going_on : (x y z : Tailer) (rs : List Answer) → Going x rs y → Going y [] z → Going x rs z
-going_on x y z rs f g = subst (λ q. Going x q z) (no_more rs) (going_then x y z rs [] f g)
+going_on x y z rs f g = subst (λ q. Going x q z) (append-nil rs) (going_then x y z rs [] f g)
 
 pub going_applied : (x y : Tailer) (txid : ℕ) → IsLive x → AppliesNext x txid y → Going x [] y
 going_applied x y txid l a = record {
@@ -67,7 +63,7 @@ pub over_then : (x y z : Tailer) (rs qs : List Answer) (e : StepFault) → Going
 over_then x y z rs qs e f g = (carries_then x y z rs qs f.carries g.0, lanes_then x y z f.lanes g.1, why_later rs qs z e g.2)
 
 pub over_on : (x y z : Tailer) (rs : List Answer) (e : StepFault) → Going x rs y → Over y [] z e → Over x rs z e
-over_on x y z rs e f g = subst (λ q. Over x q z e) (no_more rs) (over_then x y z rs [] e f g)
+over_on x y z rs e f g = subst (λ q. Over x q z e) (append-nil rs) (over_then x y z rs [] e f g)
 
 pub over_refused : (x y : Tailer) (e : StepFault) → IsLive x → NotApplied x y e → Over x [] y e
 over_refused x y fault.AlreadyActive l h = absurd h
@@ -151,3 +147,6 @@ later fault.OutOfMemory a b c l h = tt
 -- the log was read to its end
 pub ended_there : (answers : List Answer) (r : Answer) → r ≡ Ok End → EndsInEnd (answers ++ r ∷ [])
 ended_there answers r e = (answers, ap (λ z. answers ++ z ∷ []) e)
+
+pub ends_behind : (before answers : List Answer) → EndsInEnd answers → EndsInEnd (before ++ answers)
+ends_behind before answers e = (before ++ e.0, ap (λ z. before ++ z) e.1 ∙ sym (append_assoc before e.0 (end ∷ [])))

@@ -1,8 +1,7 @@
 -- From a live standby to a promoted one.
-use Rattle.std.proofs.Common.{◌≡◌, true, false, true≢false, List, [], ◌∷◌, ◌++◌, Result, Ok, Err, refl, sym, ap, ◌∙◌, subst}
-use Rattle.std.proofs.lemmas.List.{append-nil, append_assoc}
+use Rattle.std.proofs.Common.{◌≡◌, true, false, true≢false, List, [], ◌++◌, Result, Ok, Err, refl, sym, ◌∙◌, subst}
+use Rattle.std.proofs.lemmas.List.{append-nil}
 use Rattle.nn_segment.specs.Source.{Answer, Asked}
-use Rattle.nn_segment.specs.declared.source.Item.TheVariants.{End}
 use Rattle.nn_tailer.specs.declared.fault.StepFault.{StepFault}
 use Rattle.nn_tailer.specs.declared.fault.StepFault.TheVariants as fault
 use Rattle.nn_tailer.specs.declared.fault.PromoteFault.{PromoteFault}
@@ -16,7 +15,7 @@ use Rattle.nn_tailer.specs.Promotion.{Promoted, Finishes, NotPromoted, Prepares,
 use Rattle.nn_tailer.proofs.Carried.{carries_same, carries_then}
 use Rattle.nn_tailer.proofs.Lanes.{same_many}
 use Rattle.nn_tailer.proofs.LaneSteps.{ends_same, ends_then}
-use Rattle.nn_tailer.proofs.Logs.{Going}
+use Rattle.nn_tailer.proofs.Logs.{Going, ends_behind}
 use Rattle.nn_tailer.proofs.Shadowing.{settings_same, settings_then}
 use Rattle.nn_tailer.proofs.Drained.{still_closed, all_taken}
 
@@ -72,23 +71,20 @@ module _ {S : Type 0} (gives : S → Answer → S → Type 0) where
   pub promote_unready : (s t : S) (x y : Tailer) (rs : List Answer) (e : StepFault) → Asked gives s rs t → Prepares x rs y (Err e) → Promotes gives s x t y (Err (promote_fault.Step e))
   promote_unready s t x y rs e a p = (rs, a, p.0, p.1, (p.3, p.4, stops_for x y rs e p.0 p.4), p.5)
 
-  ends_more : (given rs : List Answer) → EndsInEnd rs → EndsInEnd (given ++ rs)
-  ends_more given rs e = (given ++ e.0, ap (λ z. given ++ z) e.1 ∙ sym (append_assoc given e.0 (Ok End ∷ [])))
-
   -- the flush came to its end, or not
   pub promote_finished : (s t : S) (x y z : Tailer) (rs : List Answer) (r : Result Active PromoteFault) → has_begun x ≡ false → x.active ≡ false → Asked gives s rs t → Prepares x rs y (Ok tt) → Finishes y z r → Promotes gives s x t z r
   promote_finished s t x y z rs (Ok a) b v q p f = (
     rs,
     q,
-    (λ start base given h. (f.4 start base (given ++ rs) (p.0 start base given h) p.4.1 (ends_more given rs p.4.2) p.4.3).1),
+    (λ start base given h. (f.4 start base (given ++ rs) (p.0 start base given h) p.4.1 (ends_behind given rs p.4.2) p.4.3).1),
     ends_then x.ends y.ends z.ends p.1 (subst (λ es. SameEnds y.ends es) (sym f.3) (ends_same y.ends)),
-    (f.0, f.1, f.2, (λ start base given h. (f.4 start base (given ++ rs) (p.0 start base given h) p.4.1 (ends_more given rs p.4.2) p.4.3).0), λ _. p.4.2),
+    (f.0, f.1, f.2, (λ start base given h. (f.4 start base (given ++ rs) (p.0 start base given h) p.4.1 (ends_behind given rs p.4.2) p.4.3).0), λ _. p.4.2),
     settings_then x.shadow y.shadow z.shadow p.5 f.5,
   )
   promote_finished s t x y z rs (Err (promote_fault.Step fault.OutOfMemory)) b v q p f = (
     rs,
     q,
-    (λ start base given h. f.3 start base (given ++ rs) (p.0 start base given h) p.4.1 (ends_more given rs p.4.2) p.4.3),
+    (λ start base given h. f.3 start base (given ++ rs) (p.0 start base given h) p.4.1 (ends_behind given rs p.4.2) p.4.3),
     ends_then x.ends y.ends z.ends p.1 (subst (λ es. SameEnds y.ends es) (sym f.2) (ends_same y.ends)),
     (f.0 ∙ p.3, f.1, tt),
     settings_then x.shadow y.shadow z.shadow p.5 f.4,

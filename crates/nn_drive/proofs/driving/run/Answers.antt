@@ -7,11 +7,12 @@ use Rattle.nn_lane.specs.Ends.{Taking}
 use Rattle.nn_shadow.specs.Contents.{Contents, KeepsSettings}
 use Rattle.nn_tailer.specs.Tailing.{has_begun, Carries}
 use Rattle.nn_tailer.proofs.Carried.{carries_then}
+use Rattle.nn_tailer.proofs.Logs.{ends_behind}
 use Rattle.nn_tailer.proofs.Shadowing.{settings_then}
 use Rattle.nn_feed.specs.Ends.{GivesWhatIsFed}
 use Rattle.nn_drive.specs.Driven.{JoinsAll, AreOneLane, Agrees, IsPromoted}
 use Rattle.nn_drive.proofs.Drives.{fit, was_told, one_lanes, has_ended, is_promoted}
-use Rattle.nn_drive.proofs.Fed.{ends_behind, same_then, same_asked, nothing_begun, fails_over, closed_over, still_meets}
+use Rattle.nn_drive.proofs.Fed.{same_then, same_asked, nothing_begun, fails_over, closed_over, still_meets}
 use Rattle.nn_drive.proofs.Steps.{until_then}
 use Rattle.nn_drive.proofs.driving.run.Goals as goal
 

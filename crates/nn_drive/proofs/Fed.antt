@@ -211,19 +211,21 @@ no_log : {P : Type 0} (g : DriveFault) (f : SourceFault) → g ≡ drive.OutOfMe
 no_log g f a b = absurd (let e : drive.OutOfMemory ≡ drive.LogNotEnded f = sym a ∙ b in cc)
 
 module _ {R : Type 0} (x : Tailer) (e0 e1 e2 : FeedEnd R) where
-  pub nothing_begun : GotMore (got_by e0) (got_by e2) → FailsOver x e0 e2 drive.OutOfMemory
-  nothing_begun more = record { answers = []; between = e0; asked = refl; why = tt; told = λ f w. no_log drive.OutOfMemory f refl w; more = more }
+  pub nothing_begun : (told : Bool) (g : DriveFault) → IsKnown drive.OutOfMemory told g → GotMore (got_by e0) (got_by e2) → FailsOver x e0 e2 g
+  nothing_begun told g known more =
+      let is : g ≡ drive.OutOfMemory = elim known [ inl q ↦ q | inr q ↦ q.0 ] in
+      record { answers = []; between = e0; asked = refl; why = subst (WhyFailed x []) (sym is) tt; told = λ f w. no_log g f is w; more = more }
 
-  pub fails_over : (failures : FeedEnd R → ℕ) (f g : DriveFault) (told : Bool) → has_begun x ≡ false → MayMeet f → WentUntil GivesWhatIsFed failures e0 x e1 f
-      → told ≡ has_last (got_by e1) → IsKnown f told g → GotMore (got_by e1) (got_by e2) → FailsOver x e0 e2 g
-  fails_over failures f g told b m h seen known more = elim known [
+  pub fails_over : (failures : FeedEnd R → ℕ) (f g : DriveFault) → has_begun x ≡ false → MayMeet f → WentUntil GivesWhatIsFed failures e0 x e1 f
+      → IsKnown f (has_last (got_by e1)) g → GotMore (got_by e1) (got_by e2) → FailsOver x e0 e2 g
+  fails_over failures f g b m h known more = elim known [
     | inl q ↦ record { answers = h.0; between = e1; asked = h.1; why = subst (WhyFailed x h.0) (sym q) tt; told = λ e w. no_log g e q w; more = more }
     | inr q ↦ record {
       answers = h.0;
       between = e1;
       asked = h.1;
       why = subst (WhyFailed x h.0) (sym q.0) (why_of failures e0 e1 x h.0 f b m h.2);
-      told = λ e w. sym seen ∙ q.1 e (sym q.0 ∙ w);
+      told = λ e w. q.1 e (sym q.0 ∙ w);
       more = more;
     }
   ]

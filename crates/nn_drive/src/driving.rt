@@ -8,10 +8,11 @@ ghost use Rattle.nn_drive.specs.Fault.{number_of};
 ghost use Rattle.nn_drive.specs.Refusals.{drive_refusal, MayCome, IsSameFault, MayMeet};
 ghost use Rattle.nn_drive.specs.Driven.{HasReported, ArePromised, Went, WentUntil, Ends, IsTold, JoinsAll, AreOneLane, Agrees, AreLanes, IsDriven, NotDriven, OnClosed};
 ghost use Rattle.nn_feed.specs.Ends.{got_by, IsSameEnd};
-ghost use Rattle.nn_drive.specs.Feeding.{FailsOver, GotMore, IsDrivenOver};
+ghost use Rattle.nn_feed.specs.Feeds.{has_last};
+ghost use Rattle.nn_drive.specs.Feeding.{FailsOver, GotMore, IsDrivenOver, IsKnown};
 ghost use Rattle.nn_drive.specs.declared.driving.DriveFault.{DriveFault as Why};
 
-use crate::feeding::{end_feed, known_fault, receive, receive_rest, start_feeder};
+use crate::feeding::{end_feed, known_fault, receive, start_feeder};
 use crate::reporting::{ReportSource, report_all};
 use nn_feed::{FeedEnd, feed};
 use nn_lane::{LaneEnd, Refusal, Reporter, meet};
@@ -287,17 +288,21 @@ fn drop_rest<'a, R: Wait>(
     unreachable!()
 }
 
-// Gives a standby up: its lanes are closed, what they and the feed still bring is dropped, and the workers are joined.
+// Gives a standby up for a fault: its lanes are closed, what they and the feed still bring is dropped, and the workers
+// are joined. Answers what a drive answers for the fault.
 fn give_up<'a, S: ReportSource + Drop, R: Threads + Wait>(
     rt: &R,
     standby: Standby,
     end: &mut FeedEnd<'a, R>,
     handles: Vec<PromisedHandle<Worked<S>, Reports<S>>>,
     ended: &AtomicU64,
-)
+    fault: DriveFault,
+) -> DriveFault
     ensures same { IsSameEnd end.old end.new }
     ensures more { GotMore (got_by end.old) (got_by end.new) }
+    ensures known { IsKnown fault (has_last (got_by end.old)) result }
 {
+    let known = known_fault(fault, end.is_at_end());
     let mut standby = standby;
     standby.close_intake();
     let (shadow, mut ends) = standby.into_parts();
@@ -306,6 +311,7 @@ fn give_up<'a, S: ReportSource + Drop, R: Threads + Wait>(
     for handle in handles {
         drop(handle.join(rt));
     }
+    known
 }
 
 // Ends each lane.
@@ -366,22 +372,19 @@ fn run<'s, 'a, E, S: ReportSource + Send + Drop + 's, R: Threads + Wait + Sync>(
     let handles = start_all(scope, rt, alloc, workers, ended);
     let started = handles.len();
     if !all_started(started, count) {
-        give_up(rt, standby, end, handles, ended);
-        return Err(DriveFault::OutOfMemory);
+        let fault = DriveFault::OutOfMemory;
+        return Err(give_up(rt, standby, end, handles, ended, fault));
     }
     if let Err(fault) = engine(rt, &mut standby, end, ended, started) {
-        let known = known_fault(fault, end.is_at_end());
-        give_up(rt, standby, end, handles, ended);
-        return Err(known);
+        return Err(give_up(rt, standby, end, handles, ended, fault));
     }
     let (reporters, told) = join_all(rt, standby.ends(), handles, reporters);
     standby.close_intake();
     let active = match promote(&mut standby, end) {
         Ok(active) => active,
         Err(fault) => {
-            let known = known_fault(fault, end.is_at_end());
-            receive_rest(rt, end);
-            return Err(known);
+            let joined = Vec::new(alloc);
+            return Err(give_up::<S, R>(rt, standby, end, joined, ended, fault));
         }
     };
     let (shadow, ends) = standby.into_parts();

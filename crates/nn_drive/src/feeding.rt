@@ -55,19 +55,6 @@ pub(crate) fn end_feed<'a, T: SegmentSource + Drop, R: Threads + Wait>(
     true
 }
 
-// Receives all that comes, up to the last answer.
-pub(crate) fn receive_rest<'a, R: Wait>(rt: &R, end: &mut FeedEnd<'a, R>)
-    ensures same { IsSameEnd end.old end.new }
-    ensures more { GotMore (got_by end.old) (got_by end.new) }
-{
-    for _ in rt.forever() {
-        if !receive(end) {
-            return;
-        }
-    }
-    unreachable!()
-}
-
 // What a drive answers for a fault that it met at the end of a feed: 54 only where the feed told it as its source's. No
 // channel fails while both its ends are there, but no contract says so.
 pub(crate) fn known_fault(fault: DriveFault, is_told: bool) -> DriveFault

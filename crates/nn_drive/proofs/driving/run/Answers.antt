@@ -9,7 +9,9 @@ use Rattle.nn_tailer.specs.Tailing.{has_begun, Carries}
 use Rattle.nn_tailer.proofs.Carried.{carries_then}
 use Rattle.nn_tailer.proofs.Logs.{ends_behind}
 use Rattle.nn_tailer.proofs.Shadowing.{settings_then}
-use Rattle.nn_feed.specs.Ends.{GivesWhatIsFed}
+use Rattle.nn_feed.specs.Ends.{got_by, GivesWhatIsFed}
+use Rattle.nn_feed.specs.Feeds.{has_last}
+use Rattle.nn_drive.specs.declared.driving.DriveFault.TheVariants as drive
 use Rattle.nn_drive.specs.Driven.{JoinsAll, AreOneLane, Agrees, IsPromoted}
 use Rattle.nn_drive.proofs.Drives.{fit, was_told, one_lanes, has_ended, is_promoted}
 use Rattle.nn_drive.proofs.Fed.{same_then, same_asked, nothing_begun, fails_over, closed_over, still_meets}
@@ -17,7 +19,12 @@ use Rattle.nn_drive.proofs.Steps.{until_then}
 use Rattle.nn_drive.proofs.driving.run.Goals as goal
 
 pub returns-then-not-all_started-clause-err : goal.returns-then-not-all_started-clause-err
-returns-then-not-all_started-clause-err g c = nothing_begun c.args.standby c.args.end.now c.args.end.now c.give_up.new.end c.give_up.ensures.more
+returns-then-not-all_started-clause-err g c =
+    nothing_begun c.args.standby c.args.end.now c.args.end.now c.give_up.new.end (has_last (got_by c.args.end.now)) c.give_up.result c.give_up.ensures.known c.give_up.ensures.more
+
+pub returns-then-not-all_started-clause-told : goal.returns-then-not-all_started-clause-told
+returns-then-not-all_started-clause-told g c =
+    still_meets g.S.ReportSource.gives c.args.standby c.args.workers.items drive.OutOfMemory c.give_up.result (has_last (got_by c.args.end.now)) c.give_up.ensures.known tt
 
 pub returns-in-Err-clause-same : goal.returns-in-Err-clause-same
 returns-in-Err-clause-same g c =
@@ -25,12 +32,12 @@ returns-in-Err-clause-same g c =
 
 pub returns-in-Err-clause-err : goal.returns-in-Err-clause-err
 returns-in-Err-clause-err g c =
-    fails_over c.args.standby c.args.end.now c.engine.new.source c.give_up-in-Err.new.end (λ e. e.failures) c.in-Err.fault c.known_fault-known.result c.is_at_end.result c.requires.serving c.in-Err.ensures.meets c.in-Err.ensures.until
-    c.is_at_end.ensures c.known_fault-known.ensures c.give_up-in-Err.ensures.more
+    fails_over c.args.standby c.args.end.now c.engine.new.source c.give_up-in-Err.new.end (λ e. e.failures) c.in-Err.fault c.give_up-in-Err.result c.requires.serving c.in-Err.ensures.meets c.in-Err.ensures.until
+    c.give_up-in-Err.ensures.known c.give_up-in-Err.ensures.more
 
 pub returns-in-Err-clause-told : goal.returns-in-Err-clause-told
 returns-in-Err-clause-told g c =
-    still_meets g.S.ReportSource.gives c.args.standby c.args.workers.items c.in-Err.fault c.known_fault-known.result c.is_at_end.result c.known_fault-known.ensures c.in-Err.ensures.meets
+    still_meets g.S.ReportSource.gives c.args.standby c.args.workers.items c.in-Err.fault c.give_up-in-Err.result (has_last (got_by c.engine.new.source)) c.give_up-in-Err.ensures.known c.in-Err.ensures.meets
 
 pub join_all-reporters-requires-clause-fit : goal.join_all-reporters-requires-clause-fit
 join_all-reporters-requires-clause-fit g c =
@@ -41,9 +48,9 @@ join_all-reporters-requires-clause-fit g c =
 pub returns-in-Err-promote-clause-same : goal.returns-in-Err-promote-clause-same
 returns-in-Err-promote-clause-same g c =
     let e = c.engine.ensures.went in let p = c.in-Err-promote.ensures.err in
-    same_then c.args.end.now c.promote.new.source c.receive_rest.new.end
+    same_then c.args.end.now c.promote.new.source c.give_up-in-Err-promote.new.end
     (same_then c.args.end.now c.engine.new.source c.promote.new.source (same_asked c.args.end.now c.engine.new.source e.0 e.1) (same_asked c.engine.new.source c.promote.new.source p.0 p.1))
-    c.receive_rest.ensures.same
+    c.give_up-in-Err-promote.ensures.same
 
 pub returns-in-Err-promote-clause-err : goal.returns-in-Err-promote-clause-err
 returns-in-Err-promote-clause-err g c =
@@ -53,12 +60,13 @@ returns-in-Err-promote-clause-err g c =
     let carries : Carries x0 e.0 x2 = subst (λ rs. Carries x0 rs x2) (append-nil e.0) (carries_then x0 c.engine.new.standby x2 e.0 [] e.2.carries c.close_intake.ensures.carries) in
     let begun : has_begun x2 ≡ false = ap has_begun c.close_intake.ensures.rest ∙ e.2.begun ∙ c.requires.serving in
     let until = until_then GivesWhatIsFed (λ e. e.failures) c.args.end.now c.engine.new.source c.promote.new.source x0 x2 e.0 c.in-Err-promote.fault e.1 carries begun e.3 c.in-Err-promote.ensures.err in
-    fails_over x0 c.args.end.now c.promote.new.source c.receive_rest.new.end (λ e. e.failures) c.in-Err-promote.fault c.known_fault-known-in-Err-promote.result c.is_at_end-in-Err-promote.result c.requires.serving c.in-Err-promote.ensures.meets until
-    c.is_at_end-in-Err-promote.ensures c.known_fault-known-in-Err-promote.ensures c.receive_rest.ensures.more
+    fails_over x0 c.args.end.now c.promote.new.source c.give_up-in-Err-promote.new.end (λ e. e.failures) c.in-Err-promote.fault c.give_up-in-Err-promote.result c.requires.serving c.in-Err-promote.ensures.meets until
+    c.give_up-in-Err-promote.ensures.known c.give_up-in-Err-promote.ensures.more
 
 pub returns-in-Err-promote-clause-told : goal.returns-in-Err-promote-clause-told
 returns-in-Err-promote-clause-told g c =
-    still_meets g.S.ReportSource.gives c.args.standby c.args.workers.items c.in-Err-promote.fault c.known_fault-known-in-Err-promote.result c.is_at_end-in-Err-promote.result c.known_fault-known-in-Err-promote.ensures c.in-Err-promote.ensures.meets
+    still_meets g.S.ReportSource.gives c.args.standby c.args.workers.items c.in-Err-promote.fault c.give_up-in-Err-promote.result (has_last (got_by c.promote.new.source)) c.give_up-in-Err-promote.ensures.known
+    c.in-Err-promote.ensures.meets
 
 pub meet_all-requires : goal.meet_all-requires
 meet_all-requires g c =

@@ -5,6 +5,7 @@
 mod device;
 mod engine;
 mod follow;
+mod gate;
 mod image;
 mod log;
 mod segments;
@@ -12,4 +13,5 @@ mod threads;
 
 pub use device::{Input, InputFault, ReadFailed, RunFault, read_scenario, write_output};
 pub use engine::{Options, Output, RunEnd, output_of, run};
-pub use threads::{Gate, Open, Threaded, run_threads};
+pub use gate::{Gate, Open};
+pub use threads::{Threaded, run_threads};

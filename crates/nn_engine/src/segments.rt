@@ -1,21 +1,17 @@
 //! The segments of a run with threads, in memory: the source comes to the gate before it gives its first.
 ghost use Rattle.std.specs.Prelude.{◌≡◌};
 
-use crate::threads::Gate;
+use crate::gate::{Gate, SOURCE, Way};
 use nn_segment::{Item, MemorySource, Parsed, SegmentSource, SourceFault};
 use std::alloc::Global;
 use std::marker::Model;
 use std::sync::Arc;
 
-/// Where the source of segments comes to the gate.
-pub const SOURCE: u64 = 0;
-
 /// The segments of a run.
 #[derive(Drop)]
 pub struct Segments<G> {
     source: MemorySource,
-    gate: Arc<G, Global>,
-    passed: bool,
+    way: Way<G>,
 }
 
 impl<G> Model for Segments<G> {
@@ -33,8 +29,7 @@ impl<G> Segments<G> {
     {
         Segments {
             source: MemorySource::new(segments),
-            gate,
-            passed: false,
+            way: Way::new(gate, SOURCE),
         }
     }
 }
@@ -52,10 +47,7 @@ impl<G: Gate> SegmentSource for Segments<G> {
     ghost ended = { λ s. s ≡ [] };
 
     fn next(&mut self) -> Result<Item, SourceFault> {
-        if !self.passed {
-            self.passed = true;
-            self.gate.pass(SOURCE);
-        }
+        self.way.come();
         self.source.next()
     }
 }

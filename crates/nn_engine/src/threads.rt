@@ -19,6 +19,7 @@ use crate::engine::{
     OUT_OF_MEMORY, Options, Output, RunEnd, fault_output, finish, output_of_bad,
     output_of_bad_segment, tell, unread_line,
 };
+use crate::gate::{Gate, Way};
 use crate::segments::Segments;
 use nn_drive::{DriveFault, ReportSource, drive, with_lanes};
 use nn_scenario::{BadLine, Scenario, Step, StepList, read_segments};
@@ -31,20 +32,6 @@ use std::io::{Read, Write};
 use std::marker::Model;
 use std::sync::{Arc, Wait};
 use std::thread::Threads;
-
-/// What each thread of a run passes: the source of segments before its first segment, each worker before its first report.
-pub trait Gate {
-    /// A thread comes to the gate, once: 0 is the source of segments, and from 1 on come the DataNodes.
-    fn pass(&self, thread: u64);
-}
-
-/// A gate that stands open.
-#[derive(Drop)]
-pub struct Open;
-
-impl Gate for Open {
-    fn pass(&self, _thread: u64) {}
-}
 
 /// What a run with threads is asked for.
 #[derive(Drop)]
@@ -73,9 +60,7 @@ const MOST: usize = 4_611_686_018_427_387_904;
 #[derive(Drop)]
 pub struct Listed<G> {
     reports: VecDeque<Report>,
-    gate: Arc<G, Global>,
-    node: u64,
-    passed: bool,
+    way: Way<G>,
 }
 
 impl<G> Model for Listed<G> {
@@ -93,9 +78,7 @@ impl<G> Listed<G> {
     {
         Listed {
             reports: VecDeque::new(alloc),
-            gate,
-            node,
-            passed: false,
+            way: Way::new(gate, node),
         }
     }
 
@@ -120,10 +103,7 @@ impl<G: Gate> ReportSource for Listed<G> {
     ghost gives = { GivesReport };
 
     fn next(&mut self) -> Option<Report> {
-        if !self.passed {
-            self.passed = true;
-            self.gate.pass(self.node);
-        }
+        self.way.come();
         self.reports.pop_front()
     }
 }

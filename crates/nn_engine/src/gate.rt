@@ -1,0 +1,49 @@
+//! The gate of a run with threads: each of them comes to it once.
+use std::alloc::Global;
+use std::sync::Arc;
+
+/// What each thread of a run passes: the source of segments before its first segment, each worker before its first report.
+pub trait Gate {
+    /// A thread comes to the gate, once: 0 is the source of segments, and from 1 on come the DataNodes.
+    fn pass(&self, thread: u64);
+}
+
+/// A gate that stands open.
+#[derive(Drop)]
+pub struct Open;
+
+impl Gate for Open {
+    fn pass(&self, _thread: u64) {}
+}
+
+/// The thread of the source of segments.
+pub const SOURCE: u64 = 0;
+
+/// The way of one thread through the gate.
+#[derive(Drop)]
+pub struct Way<G> {
+    gate: Arc<G, Global>,
+    thread: u64,
+    has_come: bool,
+}
+
+impl<G> Way<G> {
+    pub fn new(gate: Arc<G, Global>, thread: u64) -> Way<G> {
+        Way {
+            gate,
+            thread,
+            has_come: false,
+        }
+    }
+}
+
+impl<G: Gate> Way<G> {
+    /// Passes the gate, at the first call.
+    pub fn come(&mut self) {
+        if self.has_come {
+            return;
+        }
+        self.has_come = true;
+        self.gate.pass(self.thread);
+    }
+}

@@ -1,5 +1,5 @@
 //! The lines of a scenario whose bytes come in chunks: each is read as soon as it has ended, and its bytes are let go.
-ghost use Rattle.std.specs.Prelude.{◌≡◌, ◌≢◌, ◌≤◌, ◌==◌, ◌+◌, ◌++◌, ◌∷◌, [], List, ℕ, true, length, Err, None, Some, is_some, IfOk, IfErr, OnOk};
+ghost use Rattle.std.specs.Prelude.{◌≡◌, ◌≢◌, ◌≤◌, ◌+◌, ◌++◌, ◌∷◌, [], List, ℕ, true, length, Err, None, Some, is_some, IfOk, IfErr, OnOk};
 ghost use Rattle.nn_scenario.specs.Chunks.{HasCome, IsReadAs, goes_on};
 ghost use Rattle.nn_scenario.specs.Scenario.{max_input};
 ghost use Rattle.nn_segment.specs.Lines.{newline, is_unbroken};
@@ -137,7 +137,7 @@ impl Lines {
     {
         self.ended += 1;
         let line = self.ended;
-        if is_none(&self.torn) {
+        if self.torn.is_empty() {
             return self.reading.push_text(alloc, scratch, text, line);
         }
         if let Err(_) = self.torn.extend_from_slice(text) {
@@ -163,10 +163,4 @@ impl Lines {
         }
         Ok(())
     }
-}
-
-fn is_none(bytes: &[u8]) -> bool
-    ensures { result ≡ (length bytes.now == 0) }
-{
-    bytes.is_empty()
 }

@@ -1,28 +1,28 @@
-use Rattle.std.proofs.Common.{◌≡◌, [], ◌∙◌, ◌++◌, true, sym, ap, refl}
+use Rattle.std.proofs.Common.{◌≡◌, [], ◌∙◌, ◌++◌, eqb, sym, ap}
 use Rattle.nn_segment.proofs.LineLemmas.{no_bytes}
 use Rattle.nn_scenario.proofs.ChunkLemmas.{line_taken, line_not_taken}
 use Rattle.nn_scenario.proofs.lines.Lines.end_line.Goals as goal
 
-pub returns-then-is_none-clause-ok : goal.returns-then-is_none-clause-ok
-returns-then-is_none-clause-ok c =
-    let empty : c.self.inside.torn.items ≡ [] = sym c.deref.ensures.value ∙ no_bytes c.deref.result.now c.is_none.result c.is_none.ensures c.if-is_none.true in
+pub returns-then-is_empty-clause-ok : goal.returns-then-is_empty-clause-ok
+returns-then-is_empty-clause-ok c =
+    let empty : c.self.inside.torn.items ≡ [] = no_bytes c.self.inside.torn.items c.is_empty.result (c.is_empty.ensures ∙ ap (λ n. eqb n 0) c.self.inside.torn.ok.0) c.if-is_empty.true in
     line_taken c.args.self.now c.self.inside.reading c.push_text.new.self c.self.inside.ended c.self.inside.torn.items c.self.inside.torn.items c.args.text.now c.args.text.now
     c.self.inside.bad c.push_text.result c.self.view_is c.self.invariant c.requires.unbroken (ap (λ t. t ++ c.args.text.now) (sym empty)) empty c.requires.good c.push_text.ensures.ok
 
-pub returns-then-is_none-clause-bad : goal.returns-then-is_none-clause-bad
-returns-then-is_none-clause-bad c =
-    let empty : c.self.inside.torn.items ≡ [] = sym c.deref.ensures.value ∙ no_bytes c.deref.result.now c.is_none.result c.is_none.ensures c.if-is_none.true in
+pub returns-then-is_empty-clause-bad : goal.returns-then-is_empty-clause-bad
+returns-then-is_empty-clause-bad c =
+    let empty : c.self.inside.torn.items ≡ [] = no_bytes c.self.inside.torn.items c.is_empty.result (c.is_empty.ensures ∙ ap (λ n. eqb n 0) c.self.inside.torn.ok.0) c.if-is_empty.true in
     line_not_taken c.args.self.now c.self.inside.reading c.self.inside.ended c.self.inside.torn.items c.args.text.now c.args.text.now
     c.self.inside.bad c.push_text.result c.self.view_is c.self.invariant c.requires.unbroken (ap (λ t. t ++ c.args.text.now) (sym empty)) c.push_text.ensures.bad
 
 pub returns-clause-ok : goal.returns-clause-ok
 returns-clause-ok c =
-    let joined : c.deref-2.result.now ≡ c.self.inside.torn.items ++ c.args.text.now = c.deref-2.ensures.value ∙ c.in_default.ensures.items in
-    line_taken c.args.self.now c.self.inside.reading c.push_text-read.new.self c.self.inside.ended c.self.inside.torn.items c.clear.new.self.items c.deref-2.result.now c.args.text.now
+    let joined : c.deref.result.now ≡ c.self.inside.torn.items ++ c.args.text.now = c.deref.ensures.value ∙ c.in_default.ensures.items in
+    line_taken c.args.self.now c.self.inside.reading c.push_text-read.new.self c.self.inside.ended c.self.inside.torn.items c.clear.new.self.items c.deref.result.now c.args.text.now
     c.self.inside.bad c.push_text-read.result c.self.view_is c.self.invariant c.requires.unbroken joined c.clear.ensures.items c.requires.good c.push_text-read.ensures.ok
 
 pub returns-clause-bad : goal.returns-clause-bad
 returns-clause-bad c =
-    let joined : c.deref-2.result.now ≡ c.self.inside.torn.items ++ c.args.text.now = c.deref-2.ensures.value ∙ c.in_default.ensures.items in
-    line_not_taken c.args.self.now c.self.inside.reading c.self.inside.ended c.self.inside.torn.items c.deref-2.result.now c.args.text.now
+    let joined : c.deref.result.now ≡ c.self.inside.torn.items ++ c.args.text.now = c.deref.ensures.value ∙ c.in_default.ensures.items in
+    line_not_taken c.args.self.now c.self.inside.reading c.self.inside.ended c.self.inside.torn.items c.deref.result.now c.args.text.now
     c.self.inside.bad c.push_text-read.result c.self.view_is c.self.invariant c.requires.unbroken joined c.push_text-read.ensures.bad

@@ -113,24 +113,25 @@ impl<'a> Fields<'a> {
     }
 }
 
+// A match of bytes looks at their number first; one of texts compares with each key in turn.
 #[inline(always)]
 #[tactic(auto, unfolding(crate::specs::Parts::slot_of))]
 fn slot_of(key: &str) -> Option<Slot>
     ensures { result ≡ slot_of key.now }
 {
-    match key {
-        "op" => Some(Slot::Op),
-        "path" => Some(Slot::Path),
-        "txid" => Some(Slot::Txid),
-        "id" => Some(Slot::Id),
-        "gen" => Some(Slot::Stamp),
-        "len" => Some(Slot::Len),
-        "src" => Some(Slot::Src),
-        "dst" => Some(Slot::Dst),
-        "replication" => Some(Slot::Replication),
-        "dn" => Some(Slot::Dn),
-        "block" => Some(Slot::Block),
-        "kind" => Some(Slot::Kind),
+    match key.as_bytes() {
+        b"op" => Some(Slot::Op),
+        b"path" => Some(Slot::Path),
+        b"txid" => Some(Slot::Txid),
+        b"id" => Some(Slot::Id),
+        b"gen" => Some(Slot::Stamp),
+        b"len" => Some(Slot::Len),
+        b"src" => Some(Slot::Src),
+        b"dst" => Some(Slot::Dst),
+        b"replication" => Some(Slot::Replication),
+        b"dn" => Some(Slot::Dn),
+        b"block" => Some(Slot::Block),
+        b"kind" => Some(Slot::Kind),
         _ => None,
     }
 }

@@ -1,11 +1,8 @@
 -- Lines, one after another.
-use Rattle.std.proofs.Common.{◌≡◌, ℕ, suc, ◌+◌, ◌<◌, List, [], ◌∷◌, ◌++◌, length, drop, Bool, true, false, Result, Ok, Err, refl, sym, ap, ◌∙◌, subst, arith}
-use Rattle.std.proofs.Common.{append_assoc, append-nil, eqb, cond, not, take, ltb, ltb-true, ◌≤◌}
-use Rattle.std.proofs.lemmas.Bool.{ltb-false}
-use Rattle.std.proofs.lemmas.List.{take_all}
+use Rattle.std.proofs.Common.{◌≡◌, ℕ, suc, ◌+◌, List, [], ◌∷◌, ◌++◌, Bool, true, false, Result, Ok, Err, refl, sym, ap, ◌∙◌, subst, arith}
+use Rattle.std.proofs.Common.{append_assoc, append-nil, eqb, cond, not, take, ◌≤◌}
 use Rattle.std.specs.Bool.{MatchBool}
-use Rattle.std.specs.List.{slice_split, onto_first, position_or_len}
-use Rattle.std.proofs.lemmas.List.Splits.{slice_split_first}
+use Rattle.std.specs.List.{slice_split, position_or_len}
 use Rattle.nn_types.specs.declared.report.Report.{Report}
 use Rattle.nn_edits.specs.Reading.{edit_of_line, either_of_line}
 use Rattle.nn_edits.specs.declared.fault.LineFault.{LineFault}
@@ -18,7 +15,7 @@ use Rattle.nn_segment.specs.Lines.{is_unbroken}
 use Rattle.nn_segment.specs.Segment.{is_end}
 use Rattle.nn_scenario.specs.Cut.{no_lines, with_line, last_part, cut_from}
 use Rattle.nn_scenario.specs.Scenario.{ScenarioLine, edit, report, line_as, is_blank, and_later, with_read, lines_from, edit_lines, steps_from}
-use Rattle.nn_scenario.specs.Scenario.{Scenario, scenario_with, scenario_from, scenario_of}
+use Rattle.nn_scenario.specs.Scenario.{scenario_with, scenario_from, scenario_of}
 use Rattle.nn_scenario.specs.Chunks.{and_lines, follow}
 use Rattle.nn_scenario.specs.Reading.{Reading, nothing_read, followed_by_line}
 use Rattle.nn_scenario.specs.Steps.{next_message, lanes_of, with_report}

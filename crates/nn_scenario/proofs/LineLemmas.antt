@@ -105,20 +105,3 @@ whole_input text = same (lines_from 1 (pieces text))
     same : (r : Result (List ScenarioLine) BadLine) → follow nothing_read r ≡ scenario_from r
     same (Ok lines) = refl
     same (Err e) = refl
-
--- ---- the first line's end
-
-abbrev pub ends : ℕ → Bool
-ends b = eqb b newline
-
--- no line feed stands in the first line
-pub first_unbroken : (text : List ℕ) → is_unbroken (take (position_or_len ends text) text) ≡ true
-first_unbroken [] = refl
-first_unbroken (b ∷ text) = at (ends b) refl (first_unbroken text)
-  where
-    at : (t : Bool) → ends b ≡ t → is_unbroken (take (position_or_len ends text) text) ≡ true
-        → is_unbroken (take (cond (not t) (1 + position_or_len ends text) 0) (b ∷ text)) ≡ true
-    at true e later = refl
-    at false e later =
-        let one : suc (position_or_len ends text) ≡ 1 + position_or_len ends text = omega arith in
-        subst (λ k. is_unbroken (take k (b ∷ text)) ≡ true) one (rw e later)

@@ -4,8 +4,9 @@ ghost use Rattle.nn_scenario.specs.Chunks.{HasCome, IsReadAs, goes_on};
 ghost use Rattle.nn_scenario.specs.Scenario.{max_input};
 ghost use Rattle.nn_segment.specs.Lines.{newline, is_unbroken};
 
-use crate::scenario::{BadLine, Reading, Scenario, line_end, no_memory};
+use crate::scenario::{BadLine, Reading, Scenario, no_memory};
 use nn_edits::{LineFault, Scratch};
+use nn_segment::line_end;
 use std::alloc::{AllocError, Global};
 use std::marker::Model;
 

@@ -1,21 +1,20 @@
 //! A scenario's bytes as the lines of segments and as steps: cut into lines, each line read.
-ghost use Rattle.std.specs.Prelude.{◌≡◌, ◌≢◌, ◌≤◌, ◌<◌, ◌==◌, ◌++◌, ℕ, true, false, length, take, slice_index, Ok, Err, IfOk, IfErr, OnOk};
+ghost use Rattle.std.specs.Prelude.{◌≡◌, ◌≢◌, ◌≤◌, ◌<◌, ◌==◌, ◌++◌, true, false, length, Ok, Err, IfOk, IfErr, OnOk};
 ghost use Rattle.std.specs.Bool.{MatchBool as IfElse};
-ghost use Rattle.std.specs.List.{position_or_len};
 ghost use Rattle.nn_edits.specs.Grammar.{IsLawfulLine};
 ghost use Rattle.nn_edits.specs.Reading.{edit_of_line, either_of_line};
 ghost use Rattle.nn_edits.specs.declared.line.Line.{Line as LineData};
 ghost use Rattle.nn_scenario.specs.Cut.{last_part};
 ghost use Rattle.nn_scenario.specs.Scenario.{max_input, scenario_of, seen, HasMessagesOf, IsLawfulScenario, is_blank, line_as, scenario_with};
 ghost use Rattle.nn_scenario.specs.Reading.{nothing_read, with_edit_line, followed_by_line};
-ghost use Rattle.nn_segment.specs.Lines.{newline, is_unbroken};
+ghost use Rattle.nn_segment.specs.Lines.{is_unbroken};
 
 use crate::lines::Lines;
-use crate::segments::{Part, is_end};
+use crate::segments::Part;
 use crate::step_list::StepList;
 use crate::steps::Steps;
-use memchr::memchr;
 use nn_edits::{Line, LineFault, Scratch, read_line};
+use nn_segment::is_end;
 use nn_types::Tx;
 use std::alloc::{AllocError, Global};
 use std::marker::Model;
@@ -65,25 +64,6 @@ pub(crate) fn no_memory(line: u64) -> BadLine
 {
     let fault = LineFault::OutOfMemory;
     BadLine { fault, line }
-}
-
-// Where the first line ends: at its line feed, or with the bytes.
-pub(crate) fn line_end(bytes: &[u8]) -> usize
-    ensures end { result ≡ position_or_len (λ b. b == newline) bytes.now }
-    ensures within { result ≤ length bytes.now }
-    ensures unbroken { is_unbroken (take result bytes.now) ≡ true }
-    ensures there { result < length bytes.now → slice_index bytes.now result ≡ newline }
-{
-    line_feed(bytes)
-}
-
-// The place of the first line feed, or the length.
-fn line_feed(bytes: &[u8]) -> usize
-    ensures within { result ≤ length bytes.now }
-    ensures before { (k : ℕ) → k < result → slice_index bytes.now k ≢ newline }
-    ensures there { result < length bytes.now → slice_index bytes.now result ≡ newline }
-{
-    memchr(b'\n', bytes).unwrap_or(bytes.len())
 }
 
 // What was read so far: the parts that ended, the one in hand, and the steps.

@@ -50,7 +50,7 @@ impl Part {
     {
         let Part { mut bytes, mut txs } = self;
         add_line(&mut bytes, text)?;
-        push(&mut txs, tx)?;
+        txs.push(tx)?;
         Ok(Part { bytes, txs })
     }
 
@@ -84,20 +84,6 @@ fn add_line(bytes: &mut Vec<u8>, text: &[u8]) -> Result<(), AllocError>
     bytes.extend_from_slice(text)?;
     bytes.push(b'\n')?;
     Ok(())
-}
-
-fn push<T: Drop>(list: &mut Vec<T>, item: T) -> Result<(), AllocError>
-    ensures { OnOk result (list.new.items ≡ list.old.items ++ item ∷ []) }
-{
-    list.push(item)?;
-    Ok(())
-}
-
-/// Whether the transaction ends its segment.
-pub fn is_end(edit: &Edit) -> bool
-    ensures { result ≡ is_end edit.now }
-{
-    matches!(edit, Edit::EndSegment)
 }
 
 // The name of transactions; no text where there are none.
@@ -140,7 +126,7 @@ pub fn read_segments(alloc: Global, parts: Vec<Part>) -> Result<Vec<Parsed>, Bad
             Ok(parsed) => parsed,
             Err(fault) => return Err(BadSegment { fault, segment }),
         };
-        if let Err(_) = push(&mut segments, parsed) {
+        if let Err(_) = segments.push(parsed) {
             let fault = SegmentFault::OutOfMemory;
             return Err(BadSegment { fault, segment });
         }

@@ -1,5 +1,5 @@
 -- Lines, one after another.
-use Rattle.std.proofs.Common.{◌≡◌, ℕ, suc, ◌+◌, ◌-◌, ◌<◌, List, [], ◌∷◌, ◌++◌, length, map, take, drop, get_or, Bool, true, false, cond, not, eqb, Result, Ok, refl, sym, ap, ◌∙◌, arith, append_assoc, count_by}
+use Rattle.std.proofs.Common.{◌≡◌, ℕ, suc, ◌+◌, ◌-◌, ◌<◌, List, [], ◌∷◌, ◌++◌, length, map, take, drop, get_or, Bool, true, false, cond, not, eqb, Result, Ok, refl, sym, ap, ◌∙◌, arith, append_assoc, count_by, subst}
 use Rattle.std.proofs.lemmas.Bool.{eqb-true}
 use Rattle.std.proofs.lemmas.List.{map-append}
 use Rattle.std.proofs.lemmas.List.Sums.{sum_by-cons}
@@ -7,7 +7,7 @@ use Rattle.std.specs.List.{onto_first, position_or_len}
 use Rattle.nn_edits.specs.Reading.{edit_of_line}
 use Rattle.nn_edits.specs.declared.fault.LineFault.{LineFault}
 use Rattle.nn_types.specs.declared.tx.Tx.{Tx}
-use Rattle.nn_segment.specs.Lines.{newline, lines_of, is_ended, reads_of}
+use Rattle.nn_segment.specs.Lines.{newline, lines_of, is_ended, is_unbroken, reads_of}
 
 abbrev pub ends : ℕ → Bool
 ends b = eqb b newline
@@ -96,3 +96,15 @@ some_bytes (b ∷ bytes) r is none = omega arith
 pub no_bytes : (bytes : List ℕ) (r : Bool) → r ≡ eqb (length bytes) 0 → r ≡ true → bytes ≡ []
 no_bytes [] r is none = refl
 no_bytes (b ∷ bytes) r is none = let e = eqb-true (suc (length bytes)) 0 (sym is ∙ none) in absurd (omega (arith, e))
+
+-- no line feed stands in the first line
+pub first_unbroken : (text : List ℕ) → is_unbroken (take (position_or_len ends text) text) ≡ true
+first_unbroken [] = refl
+first_unbroken (b ∷ text) = at (ends b) refl (first_unbroken text)
+  where
+    at : (t : Bool) → ends b ≡ t → is_unbroken (take (position_or_len ends text) text) ≡ true
+        → is_unbroken (take (cond (not t) (1 + position_or_len ends text) 0) (b ∷ text)) ≡ true
+    at true e later = refl
+    at false e later =
+        let one : suc (position_or_len ends text) ≡ 1 + position_or_len ends text = omega arith in
+        subst (λ k. is_unbroken (take k (b ∷ text)) ≡ true) one (rw e later)

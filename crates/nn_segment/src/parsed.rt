@@ -249,7 +249,8 @@ fn is_start(edit: &Edit) -> bool
     matches!(edit, Edit::StartSegment)
 }
 
-fn is_end(edit: &Edit) -> bool
+/// Whether the edit is the mark that ends a segment.
+pub fn is_end(edit: &Edit) -> bool
     ensures { result ≡ is_end edit.now }
 {
     matches!(edit, Edit::EndSegment)

@@ -17,7 +17,7 @@ returns-in-Err-clause-bad c =
 pub loop-part-preserved : goal.loop-part-preserved
 loop-part-preserved c =
     let front = c.loop-part.segments.items in
-    part_read c.in-Some.part _ front c.push.new.list.items c.in-Ok.parsed c.in-Ok.ensures c.in_default.ensures
+    part_read c.in-Some.part _ front c.push.new.self.items c.in-Ok.parsed c.in-Ok.ensures c.in_default.ensures.items
     ∙ sym (ap (λ parts. prepend front (segments_from (length front + 1) parts)) c.in-Some.ensures.steps.0)
     ∙ c.loop-part.invariant
 

@@ -1,13 +1,20 @@
-use Rattle.std.proofs.Common.{◌≡◌, true, sym, length, get_or, refl, arith}
+use Rattle.std.proofs.Common.{◌≡◌, true, sym, subst, take, get_or}
+use Rattle.std.proofs.lemmas.Bool.{ne_eqb, eq-eqb}
 use Rattle.std.proofs.lemmas.List.Sums.{position_or_len_is}
-use Rattle.nn_segment.proofs.LineLemmas.{ends}
+use Rattle.nn_segment.specs.Lines.{newline, is_unbroken}
+use Rattle.nn_segment.proofs.LineLemmas.{ends, first_unbroken}
 use Rattle.nn_segment.proofs.lines.line_end.Goals as goal
-
-pub returns-then-b-eq10-clause-end : goal.returns-then-b-eq10-clause-end
-returns-then-b-eq10-clause-end c =
-    let here : ends (get_or c.args.bytes.now c.loop-at.at 0) ≡ true = rw c.if-b-eq10.true refl in
-    sym (position_or_len_is ends c.args.bytes.now c.loop-at.at 0 c.loop-at.auto.at-end c.loop-at.invariant (λ _. here))
 
 pub returns-clause-end : goal.returns-clause-end
 returns-clause-end c =
-    sym (position_or_len_is ends c.args.bytes.now (length c.args.bytes.now) 0 (omega arith) (λ k l. c.loop-at.invariant k (omega (arith, l, c.loop-at-test.false))) (λ l. absurd (omega arith)))
+    let found = c.line_feed.ensures in
+    let bytes = c.args.bytes.now in
+    sym (position_or_len_is ends bytes c.line_feed.result 0 found.within (λ k l. ne_eqb (get_or bytes k 0) newline (found.before k l)) (λ l. eq-eqb (get_or bytes c.line_feed.result 0) newline (found.there l)))
+
+pub returns-clause-unbroken : goal.returns-clause-unbroken
+returns-clause-unbroken c =
+    let found = c.line_feed.ensures in
+    let bytes = c.args.bytes.now in
+    subst (λ n. is_unbroken (take n bytes) ≡ true)
+    (position_or_len_is ends bytes c.line_feed.result 0 found.within (λ k l. ne_eqb (get_or bytes k 0) newline (found.before k l)) (λ l. eq-eqb (get_or bytes c.line_feed.result 0) newline (found.there l)))
+    (first_unbroken bytes)

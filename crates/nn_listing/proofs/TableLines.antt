@@ -1,5 +1,5 @@
 -- What a table lists of a picture is the picture's text.
-use Rattle.std.proofs.Common.{◌≡◌, ℕ, ◌+◌, Bool, true, false, cond, List, [], ◌∷◌, ◌++◌, map, Option, Some, None, is_some, refl, sym, ap, ◌∙◌, arith}
+use Rattle.std.proofs.Common.{◌≡◌, ℕ, ◌+◌, Bool, true, false, cond, List, [], ◌∷◌, ◌++◌, Option, Some, None, is_some, refl, sym, ap, ◌∙◌, arith}
 use Rattle.std.proofs.Common.{nat_cmp, append_assoc}
 use Rattle.std.specs.Prelude.{flat_map, unwrap_or, option_and_then}
 use Rattle.std.specs.List.{range_with_len}

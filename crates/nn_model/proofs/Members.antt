@@ -30,7 +30,7 @@ rows_at = all_at rows_of
 abbrev pub blocks_of_rows : List BlockRow → List Block
 blocks_of_rows rs = map (λ r. r.block) rs
 
-just_blocks : (closed : Bool) (bs : List Block) → blocks_of_rows (map (λ b. block_row closed b) bs) ≡ bs
+pub just_blocks : (closed : Bool) (bs : List Block) → blocks_of_rows (map (λ b. block_row closed b) bs) ≡ bs
 just_blocks closed [] = refl
 just_blocks closed (b ∷ bs) = ap (λ xs. b ∷ xs) (just_blocks closed bs)
 

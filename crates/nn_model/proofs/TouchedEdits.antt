@@ -17,7 +17,7 @@ use Rattle.nn_model.specs.declared.form.BlockRow.{BlockRow}
 use Rattle.nn_model.specs.Namespace.{Path, path_cmp, Namespace, lookup, with_row, file_at, file_or_none, begins_with}
 use Rattle.nn_model.specs.Apply.{first, checks, refusal, effect, has_id, keeps_ids, list_checks, with_blocks, new_block, moved}
 use Rattle.nn_model.specs.Touched.{ids_of, nothing, listed, touched, block_after}
-use Rattle.nn_model.specs.Blocks.{block_row, rows_of, block_rows, block_row_at, closes}
+use Rattle.nn_model.specs.Blocks.{block_row, rows_of, block_rows, block_row_at}
 use Rattle.nn_model.specs.WellFormed.{Has, times, HasWellFormedBlocks, IsWellFormed}
 use Rattle.nn_model.specs.Laws.{TouchedTells, RowsAreTold}
 use Rattle.nn_model.proofs.Dues.{has_left, has_right, has_either, blocks_in, stands_times, all_none, when_none}
@@ -26,7 +26,7 @@ use Rattle.nn_model.proofs.Prefixes.{begins_append, begins_split}
 use Rattle.nn_model.proofs.Moves.{after_rename, at_target, elsewhere, nothing_below, lookup_rename}
 use Rattle.nn_model.proofs.Trees.{absent}
 use Rattle.nn_model.proofs.InRows.{put_has, put_keeps, put_from, filter_either, filter_from, order_from, moved_from, at_path}
-use Rattle.nn_model.proofs.Members.{rows_in, rows_at, blocks_of_all, block_has, of_block, row_of_file, some_path}
+use Rattle.nn_model.proofs.Members.{rows_in, rows_at, just_blocks, blocks_of_all, block_has, row_of_file, some_path}
 use Rattle.nn_model.proofs.Touches.{Tells, tells, block_of_row, block_told, ids_has, ids_times, ascending_has, times_split}
 
 -- ---- a new list of a file's blocks
@@ -85,15 +85,15 @@ module _ (n : Namespace) (w : HasWellFormedBlocks n) where
   ]
 
   -- a row with the same blocks, in a file that is closed or open as before
-  same_row : (p : Path) (form : Form) → rows_of form ≡ rows_in_file n p → Tells n (with_row n p form) nothing false
+  same_row : (p : Path) (form : Form) → rows_of form ≡ rows_in_file n p → Tells n (with_row n p form) nothing
   same_row p form same = record {
-    into = λ b none. absurd none;
+    into = λ r none. absurd none;
     stays = λ r here _ _. elim (put_rest p form r here) [ inl still ↦ still | inr file ↦ put_has rows_of p form n.rows r (subst (λ rs. Has rs r) (sym same) file) ];
     comes = λ r here. elim (put_from rows_of p form n.rows r here) [ inl own ↦ inr (from_file p r (subst (λ rs. Has rs r) same own)) | inr there ↦ inr there ];
     gone = λ r here. refl;
   }
 
-  added : (p : Path) (i stamp : ℕ) → (file_at n p).closed ≡ false → Tells n (effect n (AddBlock p i stamp)) (touched n (AddBlock p i stamp)) false
+  added : (p : Path) (i stamp : ℕ) → (file_at n p).closed ≡ false → Tells n (effect n (AddBlock p i stamp)) (touched n (AddBlock p i stamp))
   added p i stamp is_open =
       let old = (file_at n p).blocks in
       let new = new_block i stamp ∷ [] in
@@ -101,7 +101,8 @@ module _ (n : Namespace) (w : HasWellFormedBlocks n) where
       let opened : rows_in_file n p ≡ map (λ b. block_row false b) old = ap (λ closed. map (λ b. block_row closed b) old) is_open in
       let halves : rows_of form ≡ map (λ b. block_row false b) old ++ map (λ b. block_row false b) new = map-append (λ b. block_row false b) old new in
       record {
-        into = λ b here. put_has rows_of p form n.rows (block_row false b) (of_block false (old ++ new) b (has_right old new b here));
+        into = λ r here. put_has rows_of p form n.rows r (subst (λ rs. Has rs r) (sym halves)
+            (has_right (map (λ b. block_row false b) old) (map (λ b. block_row false b) new) r here));
         stays = λ r here _ _. elim (put_rest p form r here) [
           | inl still ↦ still
           | inr file ↦ put_has rows_of p form n.rows r (subst (λ rs. Has rs r) (sym halves)
@@ -110,7 +111,7 @@ module _ (n : Namespace) (w : HasWellFormedBlocks n) where
         comes = λ r here. elim (put_from rows_of p form n.rows r here) [
           | inl own ↦ elim (has_either (map (λ b. block_row false b) old) (map (λ b. block_row false b) new) r (subst (λ rs. Has rs r) halves own)) [
             | inl file ↦ inr (from_file p r (subst (λ rs. Has rs r) (sym opened) file))
-            | inr fresh ↦ inl (row_of_file false new r fresh).0
+            | inr fresh ↦ inl fresh
           ]
           | inr there ↦ inr there
         ];
@@ -118,33 +119,33 @@ module _ (n : Namespace) (w : HasWellFormedBlocks n) where
       }
 
   relisted : (p : Path) (bs : List Block) (now_closed : Bool) → first (list_checks n p bs) ≡ None →
-      Tells n (with_blocks n p bs now_closed) (listed n p bs) now_closed
+      Tells n (with_blocks n p bs now_closed) (listed n p bs now_closed)
   relisted p bs now_closed applies =
       let old = (file_at n p).blocks in
       let keeps : keeps_ids old bs ≡ true = not-false _ (when_none _ _ (all_none (list_checks n p bs) applies).1.1.1.1.1.0) in
       let form = File (record { replication = (file_at n p).replication; closed = now_closed; blocks = bs }) in
       record {
-        into = λ b here. put_has rows_of p form n.rows (block_row now_closed b) (of_block now_closed bs b here);
+        into = λ r here. put_has rows_of p form n.rows r here;
         stays = λ r here retired changed. elim (put_rest p form r here) [
           | inl still ↦ still
           | inr file ↦ elim (in_list_or_out old bs r.block keeps (row_of_file (file_at n p).closed old r file).0) [
-            | inl in_list ↦ absurd (both_ways _ changed in_list)
+            | inl in_list ↦ absurd (both_ways _ (ap (λ xs. has_id (ids_of xs) r.block.id) (sym (just_blocks now_closed bs)) ∙ changed) in_list)
             | inr out ↦ absurd (both_ways _ retired out)
           ]
         ];
-        comes = λ r here. elim (put_from rows_of p form n.rows r here) [ inl own ↦ inl (row_of_file now_closed bs r own).0 | inr there ↦ inr there ];
+        comes = λ r here. elim (put_from rows_of p form n.rows r here) [ inl own ↦ inl own | inr there ↦ inr there ];
         gone = λ r here. false_from_ne_true _ (λ out.
             let stands = stands_in (put path_cmp p form n.rows) r here in
             let left_out = ids_times (drop (length bs) old) r.block.id out in
             omega (arith, stands, left_out, times_of_list r.block.id old bs keeps, times_put r.block.id p form n.rows w.in_order, w.once r.block.id));
       }
 
-  deleted : (p : Path) → Tells n (effect n (Delete p)) (touched n (Delete p)) false
+  deleted : (p : Path) → Tells n (effect n (Delete p)) (touched n (Delete p))
   deleted p =
       let test : Path × Form → Bool = λ row. begins_with p row.0 in
       let goes = filter test n.rows in
       record {
-        into = λ b none. absurd none;
+        into = λ r none. absurd none;
         stays = λ r here retired _. elim (filter_either rows_of test n.rows r here) [
           | inl below ↦
               let went = ids_has (blocks_in goes) r.block r.block.id (block_in goes r below) refl in
@@ -159,9 +160,9 @@ module _ (n : Namespace) (w : HasWellFormedBlocks n) where
       }
 
   renamed : (s d : Path) → ((p : Path) → lookup (effect n (Rename s d)) p ≡ after_rename (lookup n) s d p) → ((rest : Path) → lookup n (d ++ rest) ≡ None) →
-      Tells n (effect n (Rename s d)) nothing false
+      Tells n (effect n (Rename s d)) nothing
   renamed s d look free = record {
-    into = λ b none. absurd none;
+    into = λ r none. absurd none;
     stays = λ r here _ _. (let at = some_path n.rows w.in_order r here in goes at.0 r at.1);
     comes = λ r here. inr (moved_from rows_of (moved s d) n.rows r (order_from rows_of (map (λ row. (moved s d row.0, row.1)) n.rows) r here));
     gone = λ r here. refl;
@@ -188,9 +189,9 @@ module _ (n : Namespace) (w : HasWellFormedBlocks n) where
 
 -- ---- every edit
 
-all_stays : (n new : Namespace) → block_rows new ≡ block_rows n → Tells n new nothing false
+all_stays : (n new : Namespace) → block_rows new ≡ block_rows n → Tells n new nothing
 all_stays n new same = record {
-  into = λ b none. absurd none;
+  into = λ r none. absurd none;
   stays = λ r here _ _. subst (λ rs. Has rs r) (sym same) here;
   comes = λ r here. inr (subst (λ rs. Has rs r) same here);
   gone = λ r here. refl;
@@ -199,7 +200,7 @@ all_stays n new same = record {
 no_rows : (n : Namespace) (p : Path) → lookup n p ≡ None → [] ≡ rows_in_file n p
 no_rows n p none = sym (sym (file_rows (lookup n p)) ∙ ap rows_at none)
 
-edit_tells : (n : Namespace) (edit : Edit) → IsWellFormed n → refusal n edit ≡ None → Tells n (effect n edit) (touched n edit) (closes edit)
+edit_tells : (n : Namespace) (edit : Edit) → IsWellFormed n → refusal n edit ≡ None → Tells n (effect n edit) (touched n edit)
 edit_tells n StartSegment w applies = all_stays n n refl
 edit_tells n EndSegment w applies = all_stays n n refl
 edit_tells n (Mkdir p) w applies =
@@ -223,11 +224,11 @@ edit_tells n (SetGenstamp stamp) w applies = all_stays n (effect n (SetGenstamp 
 
 pub rows_told : RowsAreTold
 rows_told n edit lawful applies w id =
-    tells n (effect n edit) (touched n edit) (closes edit) (blocks_stay_well_formed n edit lawful applies w.blocks) (edit_tells n edit w applies) id
+    tells n (effect n edit) (touched n edit) (blocks_stay_well_formed n edit lawful applies w.blocks) (edit_tells n edit w applies) id
 
 pub touched_tells : TouchedTells
 touched_tells n edit lawful applies w id =
     sym (block_of_row (effect n edit) id)
     ∙ ap (option_map (λ r. r.block)) (rows_told n edit lawful applies w id)
-    ∙ block_told (touched n edit) (closes edit) (block_row_at n id) id
+    ∙ block_told (touched n edit) (block_row_at n id) id
     ∙ ap (λ o. block_after (touched n edit) o id) (block_of_row n id)

@@ -10,10 +10,10 @@ use Rattle.nn_model.specs.declared.form.BlockRow.{BlockRow}
 use Rattle.nn_model.specs.Namespace.{Path, Namespace, blocks_of}
 use Rattle.nn_model.specs.Apply.{has_id}
 use Rattle.nn_model.specs.Status.{block_at}
-use Rattle.nn_model.specs.Touched.{Touched, ids_of, with_id, ascending, or_before, block_after}
-use Rattle.nn_model.specs.Blocks.{block_row, block_rows, block_row_at, row_or_before, row_after}
+use Rattle.nn_model.specs.Touched.{Touched, ids_of, with_id, ascending, changed_blocks, changed_ids, or_before, row_after, block_after}
+use Rattle.nn_model.specs.Blocks.{block_rows, block_row_at}
 use Rattle.nn_model.specs.WellFormed.{Has, times, HasWellFormedBlocks}
-use Rattle.nn_model.proofs.Dues.{blocks_in, cases_block, found_in, none_found}
+use Rattle.nn_model.proofs.Dues.{blocks_in, none_found}
 use Rattle.nn_model.proofs.Wells.{times-append}
 use Rattle.nn_model.proofs.Members.{blocks_of_rows, blocks_of_all, block_has, find_block, row_found, row_known}
 
@@ -73,12 +73,12 @@ times_split id test (row ∷ rows) =
 
 -- ---- the general law
 
--- what an edit that touched this, and leaves its file closed or open, may do to the blocks
-pub record Tells (n new : Namespace) (t : Touched) (closed : Bool) : Type 0 where
-  pub into : (b : Block) → Has t.changed b → Has (block_rows new) (block_row closed b)
-  pub stays : (r : BlockRow) → Has (block_rows n) r → has_id t.retired r.block.id ≡ false → has_id (ids_of t.changed) r.block.id ≡ false →
+-- what an edit that touched this may do to the blocks
+pub record Tells (n new : Namespace) (t : Touched) : Type 0 where
+  pub into : (r : BlockRow) → Has t.changed r → Has (block_rows new) r
+  pub stays : (r : BlockRow) → Has (block_rows n) r → has_id t.retired r.block.id ≡ false → has_id (changed_ids t) r.block.id ≡ false →
       Has (block_rows new) r
-  pub comes : (r : BlockRow) → Has (block_rows new) r → Has t.changed r.block ⊎ Has (block_rows n) r
+  pub comes : (r : BlockRow) → Has (block_rows new) r → Has t.changed r ⊎ Has (block_rows n) r
   pub gone : (r : BlockRow) → Has (block_rows new) r → has_id t.retired r.block.id ≡ false
 
 cases_row : (o : Option BlockRow) → ((r : BlockRow) × (o ≡ Some r)) ⊎ (o ≡ None)
@@ -89,17 +89,18 @@ cases_row None = inr refl
 pub block_of_row : (n : Namespace) (id : ℕ) → option_map (λ r. r.block) (block_row_at n id) ≡ block_at n id
 block_of_row n id = find_block (block_rows n) id ∙ ap (find (λ b. b.id == id)) (blocks_of_all n.rows)
 
-no_row : (n : Namespace) (id : ℕ) (r : BlockRow) → block_row_at n id ≡ None → Has (block_rows n) r → r.block.id ≡ id → ⊥
-no_row n id r none here is =
-    let no_block : find (λ b. b.id == id) (blocks_of_rows (block_rows n)) ≡ None = sym (find_block (block_rows n) id) ∙ ap (option_map (λ x. x.block)) none in
-    none_found (blocks_of_rows (block_rows n)) id r.block no_block (block_has (block_rows n) r here) is
+no_block : (rs : List BlockRow) (id : ℕ) → find (λ r. r.block.id == id) rs ≡ None → find (λ b. b.id == id) (blocks_of_rows rs) ≡ None
+no_block rs id none = sym (find_block rs id) ∙ ap (option_map (λ r. r.block)) none
 
-pub tells : (n new : Namespace) (t : Touched) (closed : Bool) → HasWellFormedBlocks new → Tells n new t closed →
-    (id : ℕ) → block_row_at new id ≡ row_after t closed (block_row_at n id) id
-tells n new t closed w h id =
+no_row : (rs : List BlockRow) (id : ℕ) (r : BlockRow) → find (λ x. x.block.id == id) rs ≡ None → Has rs r → r.block.id ≡ id → ⊥
+no_row rs id r none here is = none_found (blocks_of_rows rs) id r.block (no_block rs id none) (block_has rs r here) is
+
+pub tells : (n new : Namespace) (t : Touched) → HasWellFormedBlocks new → Tells n new t →
+    (id : ℕ) → block_row_at new id ≡ row_after t (block_row_at n id) id
+tells n new t w h id =
     let known : (r : BlockRow) → Has (block_rows new) r → r.block.id ≡ id → block_row_at new id ≡ Some r = λ r here is.
     row_known (block_rows new) r id (subst (λ bs. times id bs ≤ 1) (sym (blocks_of_all new.rows)) (w.once id)) here is in
-    let changed_or_before = row_or_before (find (λ b. b.id == id) t.changed) closed (block_row_at n id) in
+    let changed_or_before = or_before (find (λ r. r.block.id == id) t.changed) (block_row_at n id) in
     elim (cases_Bool (has_id t.retired id)) [
       | inl retired ↦
           elim (cases_row (block_row_at new id)) [
@@ -110,42 +111,42 @@ tells n new t closed w h id =
           ]
           ∙ sym (cond-true (has_id t.retired id) None changed_or_before retired)
       | inr here ↦
-          elim (cases_block (find (λ b. b.id == id) t.changed)) [
+          elim (cases_row (find (λ r. r.block.id == id) t.changed)) [
             | inl changed ↦
-                let at = found_in t.changed id changed.0 changed.1 in
-                known (block_row closed changed.0) (h.into changed.0 at.0) at.1 ∙ ap (λ o. row_or_before o closed (block_row_at n id)) (sym changed.1)
+                let at = row_found t.changed id changed.0 changed.1 in
+                known changed.0 (h.into changed.0 at.0) at.1 ∙ ap (λ o. or_before o (block_row_at n id)) (sym changed.1)
             | inr unchanged ↦
                 elim (cases_row (block_row_at n id)) [
                   | inl was ↦
                       let at = row_found (block_rows n) id was.0 was.1 in
                       let not_retired = subst (λ k. has_id t.retired k ≡ false) (sym at.1) here in
-                      let not_changed = subst (λ k. has_id (ids_of t.changed) k ≡ false) (sym at.1) (none_has t.changed id unchanged) in
+                      let not_changed = subst (λ k. has_id (changed_ids t) k ≡ false) (sym at.1) (none_has (changed_blocks t) id (no_block t.changed id unchanged)) in
                       known was.0 (h.stays was.0 at.0 not_retired not_changed) at.1 ∙ sym was.1
                   | inr none ↦
                       elim (cases_row (block_row_at new id)) [
                         | inl now ↦
                             let at = row_found (block_rows new) id now.0 now.1 in
                             elim (h.comes now.0 at.0) [
-                              | inl there ↦ absurd (none_found t.changed id now.0.block unchanged there at.1)
-                              | inr there ↦ absurd (no_row n id now.0 none there at.1)
+                              | inl there ↦ absurd (no_row t.changed id now.0 unchanged there at.1)
+                              | inr there ↦ absurd (no_row (block_rows n) id now.0 none there at.1)
                             ]
                         | inr still ↦ still
                       ] ∙ sym none
-                ] ∙ ap (λ o. row_or_before o closed (block_row_at n id)) (sym unchanged)
+                ] ∙ ap (λ o. or_before o (block_row_at n id)) (sym unchanged)
           ]
           ∙ sym (cond-false (has_id t.retired id) None changed_or_before here)
     ]
 
 -- the law of the blocks follows from that of the rows
-pub block_told : (t : Touched) (closed : Bool) (before : Option BlockRow) (id : ℕ) →
-    option_map (λ r. r.block) (row_after t closed before id) ≡ block_after t (option_map (λ r. r.block) before) id
-block_told t closed before id =
-    elim (has_id t.retired id) as (λ gone. option_map (λ r. r.block) (cond gone None (row_or_before (find (λ b. b.id == id) t.changed) closed before))
-    ≡ cond gone None (or_before (find (λ b. b.id == id) t.changed) (option_map (λ r. r.block) before))) [
+pub block_told : (t : Touched) (before : Option BlockRow) (id : ℕ) →
+    option_map (λ r. r.block) (row_after t before id) ≡ block_after t (option_map (λ r. r.block) before) id
+block_told t before id =
+    elim (has_id t.retired id) as (λ gone. option_map (λ r. r.block) (cond gone None (or_before (find (λ r. r.block.id == id) t.changed) before))
+    ≡ cond gone None (or_before (find (λ b. b.id == id) (changed_blocks t)) (option_map (λ r. r.block) before))) [
       | true ↦ refl
-      | false ↦ elim (find (λ b. b.id == id) t.changed) as (λ o. option_map (λ r. r.block) (row_or_before o closed before)
-          ≡ or_before o (option_map (λ r. r.block) before)) [
-            | Some b ↦ refl
-            | None ↦ refl
-          ]
+      | false ↦ told (find (λ r. r.block.id == id) t.changed) ∙ ap (λ o. or_before o (option_map (λ r. r.block) before)) (find_block t.changed id)
     ]
+  where
+    told : (o : Option BlockRow) → option_map (λ r. r.block) (or_before o before) ≡ or_before (option_map (λ r. r.block) o) (option_map (λ r. r.block) before)
+    told (Some r) = refl
+    told None = refl

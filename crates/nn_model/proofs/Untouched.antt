@@ -14,7 +14,7 @@ use Rattle.nn_types.specs.declared.edit.Edit.TheVariants.{AllocateBlockId, SetGe
 use Rattle.nn_model.specs.Namespace.{Namespace}
 use Rattle.nn_model.specs.Apply.{refusal, checks, effect, has_id}
 use Rattle.nn_model.specs.Status.{block_at, status_unheld, status_from}
-use Rattle.nn_model.specs.Touched.{Touched, ids_of, touched, or_before, block_after, is_within, is_touched}
+use Rattle.nn_model.specs.Touched.{Touched, ids_of, touched, changed_blocks, changed_ids, or_before, block_after, is_within, is_touched}
 use Rattle.nn_model.specs.Laws.{OnlyTouchedBecomeDue}
 use Rattle.nn_model.proofs.Dues.{all_none, when_none}
 use Rattle.nn_model.proofs.TouchedEdits.{touched_tells}
@@ -26,11 +26,11 @@ unchanged (b ∷ bs) id none =
     let parts = or_parts (b.id == id) (has_id (ids_of bs) id) none in
     cond-false (b.id == id) (Some b) (find (λ x. x.id == id) bs) parts.0 ∙ unchanged bs id parts.1
 
-same_block : (t : Touched) (before : Option Block) (id : ℕ) → has_id (ids_of t.changed) id ≡ false → has_id t.retired id ≡ false →
+same_block : (t : Touched) (before : Option Block) (id : ℕ) → has_id (changed_ids t) id ≡ false → has_id t.retired id ≡ false →
     block_after t before id ≡ before
 same_block t before id changed retired =
-    cond-false (has_id t.retired id) None (or_before (find (λ b. b.id == id) t.changed) before) retired
-    ∙ ap (λ o. or_before o before) (unchanged t.changed id changed)
+    cond-false (has_id t.retired id) None (or_before (find (λ b. b.id == id) (changed_blocks t)) before) retired
+    ∙ ap (λ o. or_before o before) (unchanged (changed_blocks t) id changed)
 
 -- what is due of an id that no file holds
 abbrev due_unheld : Bool → Bool → ℕ → Bool
@@ -114,8 +114,8 @@ unheld_stays n (SetGenstamp s) applies id stamp out = refl
 
 pub only_touched_become_due : OnlyTouchedBecomeDue
 only_touched_become_due n edit lawful applies w id stamp out =
-    let parts = or_parts (has_id (ids_of (touched n edit).changed) id || has_id (touched n edit).retired id) (is_within (touched n edit).skipped id) out in
-    let held = or_parts (has_id (ids_of (touched n edit).changed) id) (has_id (touched n edit).retired id) parts.0 in
+    let parts = or_parts (has_id (changed_ids (touched n edit)) id || has_id (touched n edit).retired id) (is_within (touched n edit).skipped id) out in
+    let held = or_parts (has_id (changed_ids (touched n edit)) id) (has_id (touched n edit).retired id) parts.0 in
     from_blocks (block_at n id) (block_at (effect n edit) id) (status_unheld n id) (status_unheld (effect n edit) id) stamp
     (touched_tells n edit lawful applies w id ∙ same_block (touched n edit) (block_at n id) id held.0 held.1)
     (unheld_stays n edit applies id stamp out)

@@ -10,8 +10,8 @@ use Rattle.nn_model.specs.declared.form.Form.TheVariants.{Dir}
 use Rattle.nn_model.specs.Namespace.{Path, path_cmp, Namespace, lookup, with_row, begins_with, no_file, file_at, all_blocks, no_block, no_stamp, root_alone}
 use Rattle.nn_model.specs.Apply.{effect, moved}
 use Rattle.nn_model.specs.Status.{block_at, status_of, due_in}
-use Rattle.nn_model.specs.Touched.{nothing, touched, block_after, is_touched}
-use Rattle.nn_model.specs.Blocks.{block_row, block_row_at, closes, row_after}
+use Rattle.nn_model.specs.Touched.{nothing, touched, changed_blocks, changed_ids, row_after, block_after, is_touched}
+use Rattle.nn_model.specs.Blocks.{block_row, block_row_at}
 use Rattle.nn_model.specs.NamespaceRows.{a, a_b, ab, b, c, f, block, file, namespace}
 
 -- ---- Two directories with a file in each, and two ids that await. The last id was passed over.
@@ -139,14 +139,20 @@ touched_nothing = refl
 nothing_is_empty : nothing ≡ record { changed = []; retired = []; skipped = None }
 nothing_is_empty = refl
 
-touched_by_add_block : touched with_two (AddBlock ab_f 7 1003) ≡ record nothing { changed = block 7 1003 0 ∷ [] }
+touched_by_add_block : touched with_two (AddBlock ab_f 7 1003) ≡ record nothing { changed = block_row false (block 7 1003 0) ∷ [] }
 touched_by_add_block = refl
 
-touched_by_update_blocks : touched with_two (UpdateBlocks ab_f (block d 1003 9 ∷ [])) ≡ record nothing { changed = block d 1003 9 ∷ []; retired = e ∷ [] }
+touched_by_update_blocks : touched with_two (UpdateBlocks ab_f (block d 1003 9 ∷ [])) ≡ record nothing { changed = block_row false (block d 1003 9) ∷ []; retired = e ∷ [] }
 touched_by_update_blocks = refl
 
-touched_by_close : touched with_two (Close ab_f (block d 1003 9 ∷ block e 1003 8 ∷ [])) ≡ record nothing { changed = block d 1003 9 ∷ block e 1003 8 ∷ [] }
+-- a close alone closes the file of what it changed
+touched_by_close : touched with_two (Close ab_f (block d 1003 9 ∷ block e 1003 8 ∷ []))
+    ≡ record nothing { changed = block_row true (block d 1003 9) ∷ block_row true (block e 1003 8) ∷ [] }
 touched_by_close = refl
+
+changed_by_close : let what = touched with_two (Close ab_f (block d 1003 9 ∷ block e 1003 8 ∷ [])) in
+    (changed_blocks what ≡ block d 1003 9 ∷ block e 1003 8 ∷ []) × (changed_ids what ≡ d ∷ e ∷ [])
+changed_by_close = (refl, refl)
 
 -- the ids that go are in ascending order, though c stands before b in its file; another directory's stay
 touched_by_delete : touched with_two (Delete a) ≡ record nothing { retired = b ∷ c ∷ [] }
@@ -174,16 +180,15 @@ row_of_an_open_file = refl
 no_row_of_what_awaits : block_row_at n d ≡ None
 no_row_of_what_awaits = refl
 
--- a close closes the file of the blocks that it changed, any other edit leaves it open
 closed_by_a_close : let edit = Close ab_f (block d 1003 9 ∷ []) in
-    map (λ id. row_after (touched with_two edit) (closes edit) (block_row_at with_two id) id) (b ∷ d ∷ e ∷ [])
+    map (λ id. row_after (touched with_two edit) (block_row_at with_two id) id) (b ∷ d ∷ e ∷ [])
     ≡ Some (block_row true (block b 1002 6)) ∷ Some (block_row true (block d 1003 9)) ∷ None ∷ []
 closed_by_a_close = refl
 
-open_after_others : map closes (StartSegment ∷ EndSegment ∷ Mkdir f ∷ Add f 1 ∷ AddBlock f d 1001 ∷ UpdateBlocks f [] ∷ Rename a f
-    ∷ Delete a ∷ SetReplication f 1 ∷ AllocateBlockId 1 ∷ SetGenstamp 1 ∷ [])
-    ≡ false ∷ false ∷ false ∷ false ∷ false ∷ false ∷ false ∷ false ∷ false ∷ false ∷ false ∷ []
-open_after_others = refl
+open_after_an_update : let edit = UpdateBlocks ab_f (block d 1003 9 ∷ []) in
+    map (λ id. row_after (touched with_two edit) (block_row_at with_two id) id) (b ∷ d ∷ e ∷ [])
+    ≡ Some (block_row true (block b 1002 6)) ∷ Some (block_row false (block d 1003 9)) ∷ None ∷ []
+open_after_an_update = refl
 
 changed_and_retired_are_touched : map (is_touched (touched with_two (UpdateBlocks ab_f (block d 1003 9 ∷ [])))) (b ∷ d ∷ e ∷ []) ≡ false ∷ true ∷ true ∷ []
 changed_and_retired_are_touched = refl

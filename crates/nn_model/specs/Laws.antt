@@ -7,8 +7,8 @@ use Rattle.nn_types.specs.LawfulEdit.{IsLawfulEdit}
 use Rattle.nn_model.specs.Namespace.{Path, Namespace, lookup}
 use Rattle.nn_model.specs.Apply.{has_id, refusal, effect}
 use Rattle.nn_model.specs.Status.{block_at, due_in}
-use Rattle.nn_model.specs.Touched.{touched, block_after, is_touched}
-use Rattle.nn_model.specs.Blocks.{block_row_at, closes, row_after}
+use Rattle.nn_model.specs.Touched.{touched, row_after, block_after, is_touched}
+use Rattle.nn_model.specs.Blocks.{block_row_at}
 use Rattle.nn_model.specs.WellFormed.{Has, HasWellFormedBlocks, IsWellFormed}
 use Rattle.nn_model.specs.Log.{namespace_after, IsLog, run, counted, log_of, CountsUp, AreLawful}
 
@@ -40,7 +40,7 @@ TouchedTells = (n : Namespace) (edit : Edit) → IsLawfulEdit edit → refusal n
 -- it also tells whether the block's file is closed
 abbrev pub RowsAreTold : Type 0
 RowsAreTold = (n : Namespace) (edit : Edit) → IsLawfulEdit edit → refusal n edit ≡ None → IsWellFormed n →
-    (id : ℕ) → block_row_at (effect n edit) id ≡ row_after (touched n edit) (closes edit) (block_row_at n id) id
+    (id : ℕ) → block_row_at (effect n edit) id ≡ row_after (touched n edit) (block_row_at n id) id
 
 -- a message becomes due by an edit only where the edit touched its block: changed it, retired it or passed it over
 abbrev pub OnlyTouchedBecomeDue : Type 0

@@ -1,7 +1,7 @@
 pub mod Namespace
 pub mod Apply
-pub mod Touched
 pub mod Blocks
+pub mod Touched
 pub mod Status
 pub mod WellFormed
 pub mod Log

@@ -13,6 +13,7 @@ use Rattle.nn_types.specs.declared.edit_fault.EditFault.TheVariants.{Missing, In
 use Rattle.nn_model.specs.Namespace.{Path, Namespace, root_alone}
 use Rattle.nn_model.specs.Apply.{refusal, applied}
 use Rattle.nn_model.specs.Status.{status_of, due_in}
+use Rattle.nn_model.specs.Blocks.{block_row}
 use Rattle.nn_model.specs.Touched.{touched}
 use Rattle.nn_model.specs.Log.{namespace_after, IsLog, run}
 
@@ -152,7 +153,7 @@ left_out_block_is_retired_status : (statuses left_out_log c (7 ∷ 8 ∷ 9 ∷ [
 left_out_block_is_retired_status = (refl, refl)
 
 left_out_block_is_retired_touched : touched (namespace_after root_alone (take 8 left_out_log)) (UpdateBlocks f (block b 1001 5 ∷ []))
-    ≡ record { changed = block b 1001 5 ∷ []; retired = c ∷ []; skipped = None }
+    ≡ record { changed = block_row false (block b 1001 5) ∷ []; retired = c ∷ []; skipped = None }
 left_out_block_is_retired_touched = refl
 
 -- ---- One list raises the stamps of two blocks, which stand in the file in the order in which they were added.
@@ -171,5 +172,5 @@ released_by_block_status : (statuses released_log c (4 ∷ 6 ∷ 9 ∷ []) ≡ A
 released_by_block_status = (refl, refl)
 
 released_by_block_touched : touched (namespace_after root_alone (take 8 released_log)) (UpdateBlocks f (block c 1002 5 ∷ block b 1002 5 ∷ []))
-    ≡ record { changed = block c 1002 5 ∷ block b 1002 5 ∷ []; retired = []; skipped = None }
+    ≡ record { changed = block_row false (block c 1002 5) ∷ block_row false (block b 1002 5) ∷ []; retired = []; skipped = None }
 released_by_block_touched = refl

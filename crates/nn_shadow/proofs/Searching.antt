@@ -9,10 +9,11 @@ use Rattle.nn_types.specs.declared.edit.Edit.{Edit}
 use Rattle.nn_types.specs.declared.edit.Edit.TheVariants.{StartSegment, EndSegment, Mkdir, Add, AddBlock, UpdateBlocks, Close, Rename, Delete}
 use Rattle.nn_types.specs.declared.edit.Edit.TheVariants.{SetReplication, AllocateBlockId, SetGenstamp}
 use Rattle.nn_model.specs.Namespace.{Namespace, Path, file_at}
-use Rattle.nn_model.specs.Touched.{touched, ids_of, ids_below, with_id, ascending}
+use Rattle.nn_model.specs.Touched.{touched, ids_of, ids_below, with_id, ascending, changed_ids}
 use Rattle.nn_model.specs.Apply.{first, keeps_ids, list_checks, refusal}
 use Rattle.nn_model.proofs.Dues.{all_none}
 use Rattle.nn_model.proofs.Dues.{when_none}
+use Rattle.nn_model.proofs.Members.{just_blocks}
 use Rattle.nn_shadow.specs.Touching.{written, Rises, lower, lower_from, lowest}
 
 first_least : (x : ℕ) (xs : List ℕ) (k d : ℕ) → list_any (λ y. nat_lt y x) xs ≡ false → k < length xs → x ≤ get_or xs k d
@@ -152,14 +153,14 @@ pub lowest_ascending : (from : ℕ) (found : Option ℕ) (ids : List ℕ) → lo
 lowest_ascending from found [] = refl
 lowest_ascending from found (i ∷ ids) = lowest_with from found i (ascending ids) ∙ lowest_ascending from (lower_from from found i) ids
 
-pub written_is : (n : Namespace) (edit : Edit) → written edit ≡ ids_of (touched n edit).changed
+pub written_is : (n : Namespace) (edit : Edit) → written edit ≡ changed_ids (touched n edit)
 written_is n StartSegment = refl
 written_is n EndSegment = refl
 written_is n (Mkdir p) = refl
 written_is n (Add p r) = refl
 written_is n (AddBlock p i stamp) = refl
-written_is n (UpdateBlocks p bs) = refl
-written_is n (Close p bs) = refl
+written_is n (UpdateBlocks p bs) = ap ids_of (sym (just_blocks false bs))
+written_is n (Close p bs) = ap ids_of (sym (just_blocks true bs))
 written_is n (Rename s d) = refl
 written_is n (Delete p) = refl
 written_is n (SetReplication p r) = refl

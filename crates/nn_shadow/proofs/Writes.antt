@@ -17,7 +17,6 @@ use Rattle.nn_model.specs.Namespace.{Namespace}
 use Rattle.nn_types.specs.declared.edit_fault.EditFault.{EditFault}
 use Rattle.nn_model.specs.Apply.{new_block, refusal, effect, outcome, applied}
 use Rattle.nn_model.specs.Touched.{touched}
-use Rattle.nn_model.specs.Blocks.{closes}
 use Rattle.nn_model.specs.declared.form.BlockRow.{BlockRow}
 use Rattle.nn_replicas.specs.declared.entry.Cell.{Cell}
 use Rattle.nn_replicas.specs.Table.{BlockEntry, Table}
@@ -63,7 +62,7 @@ set_twice t b closed =
     e = with_row (entry_or_none t b.id) row
 
 -- the row of a block that was added is as the edit left it
-pub added_followed : (n : Namespace) (t : Table) (edit : Edit) → is_some (block_added edit) ≡ true → row_made t edit ≡ followed (row_made t edit) (touched n edit) (closes edit)
+pub added_followed : (n : Namespace) (t : Table) (edit : Edit) → is_some (block_added edit) ≡ true → row_made t edit ≡ followed (row_made t edit) (touched n edit)
 added_followed n t StartSegment added = absurd (cc)
 added_followed n t EndSegment added = absurd (cc)
 added_followed n t (Mkdir p) added = absurd (cc)

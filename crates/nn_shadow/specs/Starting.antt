@@ -1,16 +1,12 @@
 -- The table with which a standby starts over a namespace.
-use Rattle.std.specs.Prelude.{◌≡◌, ℕ, List, [], ◌∷◌, None, false}
+use Rattle.std.specs.Prelude.{◌≡◌, ℕ, List, None, false}
 use Rattle.nn_model.specs.declared.form.BlockRow.{BlockRow}
 use Rattle.nn_model.specs.Namespace.{Namespace}
 use Rattle.nn_tree.specs.Blocks.{AreBlocks}
 use Rattle.nn_replicas.specs.Table.{Table}
-use Rattle.nn_replicas.specs.Calls.{replica_at, has_order, empty_table, block_set}
+use Rattle.nn_replicas.specs.Calls.{replica_at, has_order, empty_table}
 use Rattle.nn_replicas.specs.Agreement.{Shows}
-
--- files hold these blocks, one after another
-abbrev pub rows_set : Table → List BlockRow → Table
-rows_set t [] = t
-rows_set t (row ∷ rows) = rows_set (block_set t row.block row.closed) rows
+use Rattle.nn_shadow.specs.Steps.{rows_set}
 
 -- the table has these blocks of the namespace, where the first ones are set and `rows` are left
 pub record IsFilling (n : Namespace) (min : ℕ) (t : Table) (rows : List BlockRow) : Type 0 where

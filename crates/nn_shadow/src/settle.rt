@@ -5,7 +5,7 @@ ghost use Rattle.std.specs.List.{list_any};
 ghost use Rattle.nn_types.specs.declared.report.Message.{Message};
 ghost use Rattle.nn_types.specs.declared.event.Cause.TheVariants.{Due, Flush};
 ghost use Rattle.nn_model.specs.History.{processed};
-ghost use Rattle.nn_model.specs.Touched.{ids_of, ascending};
+ghost use Rattle.nn_model.specs.Touched.{ascending, changed_ids};
 ghost use Rattle.nn_model.specs.Stands.{AreByBlock};
 ghost use Rattle.nn_postponed.specs.Queues.{queue};
 ghost use Rattle.nn_postponed.specs.Release.{due_at, first_free, freed, kept};
@@ -41,7 +41,7 @@ pub(crate) fn settle(
     requires room { vec_len history.old + length held.old ≤ vec_capacity history.old }
     requires placed { HavePlaces table.old held.old }
     requires order { AreByBlock held.old }
-    requires written { (held.old ≡ []) ⊎ (written.now ≡ ascending (ids_of touched.now.changed)) }
+    requires written { (held.old ≡ []) ⊎ (written.now ≡ ascending (changed_ids (seen touched.now))) }
     requires rises { Rises (seen touched.now).retired }
     requires quiet { IsQuiet (seen touched.now) (is_due_in namespace.now) held.old }
     ensures told { history.new.items ≡ history.old.items ++ map (processed Due) (freed (is_due_in namespace.now) [] held.old) }

@@ -1,6 +1,6 @@
 //! Which blocks an edit touched, one after another.
 ghost use Rattle.std.specs.Prelude.{◌≡◌, ℕ, ◌≤◌, ◌++◌, [], None, OnOk, IfOk, ◌⊎◌, IfSome};
-ghost use Rattle.nn_model.specs.Touched.{ids_of, ascending};
+ghost use Rattle.nn_model.specs.Touched.{ids_of, ascending, changed_ids};
 ghost use Rattle.nn_tree.specs.Touched.{seen};
 ghost use Rattle.nn_shadow.specs.Touching.{written, Rises, IsNextTouched, IsNextSkipped, lower, lowest, earlier, later};
 
@@ -70,7 +70,7 @@ pub(crate) fn next_touched(
     held: &Postponed,
     from: BlockId,
 ) -> Option<BlockId>
-    requires written { written.now ≡ ascending (ids_of touched.now.changed) }
+    requires written { written.now ≡ ascending (changed_ids (seen touched.now)) }
     requires rises { Rises (seen touched.now).retired }
     ensures { IsNextTouched (seen touched.now) from held.now result }
 {

@@ -1,5 +1,5 @@
 //! Edits in few words and what becomes of them, in the order in which they come.
-use nn_tree::{Found, Namespace, Touched};
+use nn_tree::{BlockRow, Found, Namespace, Touched};
 use nn_types::{Block, BlockId, Blocks, Edit, GenerationStamp, Length, Path, Replication, Status};
 use std::alloc::Global;
 use std::process::Abort;
@@ -267,7 +267,11 @@ fn a_block_is_left_out(
     let second = id_of("1073741826")?;
     let kept = block_of("1073741825", "1002", "7")?;
     let touched = apply(namespace, alloc, "update /f 1073741825 1002 7")?;
-    assert_eq!(rt; touched.changed.as_slice(), [kept].as_slice());
+    let row = BlockRow {
+        block: kept,
+        closed: false,
+    };
+    assert_eq!(rt; touched.changed.as_slice(), [row].as_slice());
     assert_eq!(rt; touched.retired.as_slice(), [second].as_slice());
     assert_eq!(rt; namespace.status(second), Status::Retired);
     Ok(())

@@ -1,5 +1,5 @@
 -- The index after a file's list was replaced.
-use Rattle.std.proofs.Common.{inl, inr, ◌≡◌, ℕ, Bool, true, false, cond, ◌≤◌, ◌+◌, List, drop, [], ◌∷◌, length, Option, Some, None, is_some, refl, sym, ap, subst, ◌∙◌, arith}
+use Rattle.std.proofs.Common.{inl, inr, ◌≡◌, ℕ, Bool, true, false, cond, ◌≤◌, ◌+◌, List, map, drop, [], ◌∷◌, length, Option, Some, None, is_some, refl, sym, ap, subst, ◌∙◌, arith}
 use Rattle.std.specs.Prelude.{◌==◌, option_map}
 use Rattle.std.proofs.lemmas.Bool.{both_ways, eqb-true, eq-eqb, ne_eqb, not-false, and_parts}
 use Rattle.nn_types.specs.declared.block.Block.{Block}
@@ -10,6 +10,7 @@ use Rattle.nn_model.specs.declared.form.Form.TheVariants.{Dir, File}
 use Rattle.nn_model.specs.declared.form.FileRow.{FileRow}
 use Rattle.nn_model.specs.Namespace.{Namespace, lookup, file_at, file_or_none}
 use Rattle.nn_model.specs.Apply.{first, list_checks, with_blocks, keeps_ids}
+use Rattle.nn_model.specs.Blocks.{block_row}
 use Rattle.nn_model.specs.Touched.{listed, ids_of}
 use Rattle.nn_model.specs.WellFormed.{Has, times, IsWellFormed}
 use Rattle.nn_model.proofs.Dues.{all_none, when_none, stands_times}
@@ -103,5 +104,7 @@ list_kept n p bs closed x look next l lawful was goes k =
     }
 
 -- what a new list touched
-pub list_touched : (n : Namespace) (p : Path) (bs : List Block) (x : FileRow) → lookup n p ≡ Some (File x) → record { changed = bs; retired = ids_of (drop (length bs) x.blocks); skipped = None } ≡ listed n p bs
-list_touched n p bs x was = ap (λ (f : FileRow). record { changed = bs; retired = ids_of (drop (length bs) f.blocks); skipped = None }) (sym (ap file_or_none was))
+pub list_touched : (n : Namespace) (p : Path) (bs : List Block) (closed : Bool) (x : FileRow) → lookup n p ≡ Some (File x) →
+    record { changed = map (λ b. block_row closed b) bs; retired = ids_of (drop (length bs) x.blocks); skipped = None } ≡ listed n p bs closed
+list_touched n p bs closed x was =
+    ap (λ (f : FileRow). record { changed = map (λ b. block_row closed b) bs; retired = ids_of (drop (length bs) f.blocks); skipped = None }) (sym (ap file_or_none was))

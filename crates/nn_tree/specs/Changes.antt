@@ -6,6 +6,7 @@ use Rattle.nn_model.specs.declared.form.Form.TheVariants.{File}
 use Rattle.nn_model.specs.declared.form.FileRow.{FileRow}
 use Rattle.nn_model.specs.Namespace.{Path}
 use Rattle.nn_model.specs.Apply.{walk, keeps_ids, keeps_stamps}
+use Rattle.nn_model.specs.Blocks.{block_row}
 use Rattle.nn_tree.specs.declared.touched.Touched.{Touched as Told}
 use Rattle.nn_tree.specs.At.{at, IsSubtree, IsGrafted}
 use Rattle.nn_tree.specs.Touched.{seen}
@@ -24,12 +25,12 @@ IsFileChanged old p new R =
 abbrev pub GetsBlock : Block → FileRow → FileRow → Type 0
 GetsBlock b x y = (x.closed ≡ false) × (y ≡ record { replication = x.replication; closed = false; blocks = x.blocks ++ b ∷ [] })
 
--- The open file x got the list bs, which keeps its ids and stamps. Told are what that touched, and the list before.
+-- The open file x got the list bs, which keeps its ids and stamps, and is closed or open now. Told are what that touched, and the list before.
 abbrev pub GetsList : List Block → Bool → ℕ → Told × List Block → FileRow → FileRow → Type 0
 GetsList bs closed last told x y =
     (x.closed ≡ false) × (keeps_ids x.blocks bs ≡ true) × (keeps_stamps last x.blocks bs ≡ true)
     × (y ≡ record { replication = x.replication; closed = closed; blocks = bs })
-    × (seen told.0 ≡ record { changed = bs; retired = map (λ b. b.id) (drop (length bs) x.blocks); skipped = None })
+    × (seen told.0 ≡ record { changed = map (λ b. block_row closed b) bs; retired = map (λ b. b.id) (drop (length bs) x.blocks); skipped = None })
     × (told.1 ≡ x.blocks)
 
 -- the file x got another replication

@@ -1,17 +1,19 @@
 //! What an edit touched.
-ghost use Rattle.std.specs.Prelude.{◌≡◌, ◌+◌, ◌-◌, ◌++◌, ◌∷◌, [], ◌<◌, nat_lt, if◌then◌else◌, map, drop, length, IfOk, IfErr, OnOk, Some, None};
+ghost use Rattle.std.specs.Prelude.{◌≡◌, ◌+◌, ◌-◌, ◌++◌, ◌∷◌, [], ◌<◌, nat_lt, false, if◌then◌else◌, map, drop, length, IfOk, IfErr, OnOk, Some, None};
 ghost use Rattle.nn_model.specs.Apply.{new_block};
+ghost use Rattle.nn_model.specs.Blocks.{block_row};
 ghost use Rattle.nn_model.specs.Touched.{nothing};
 ghost use Rattle.nn_tree.specs.Touched.{seen};
 
-use nn_types::{Block, BlockId, Blocks, GenerationStamp, Length};
+use nn_model::BlockRow;
+use nn_types::{Block, BlockId, GenerationStamp, Length};
 use std::alloc::{AllocError, Global};
 
 /// What an edit touched: all that a table of replicas has to follow.
 #[derive(Drop)]
 pub struct Touched {
-    /// The blocks that the edit added or wrote anew, in file order.
-    pub changed: Blocks,
+    /// The blocks that the edit added or wrote anew, in file order, each with whether its file is closed now.
+    pub changed: Vec<BlockRow>,
     /// The ids of the blocks that left the namespace, ascending.
     pub retired: Vec<BlockId>,
     /// The first and the last of the ids that the issue of a higher one passed over.
@@ -24,7 +26,7 @@ impl Touched {
         ensures { seen result ≡ nothing }
     {
         Touched {
-            changed: Blocks::new(alloc),
+            changed: Vec::new(alloc),
             retired: Vec::new(alloc),
             skipped: None,
         }
@@ -36,10 +38,13 @@ impl Touched {
         id: BlockId,
         stamp: GenerationStamp,
     ) -> Result<Touched, AllocError>
-        ensures { IfOk result (λ t. seen t ≡ record nothing { changed = new_block id stamp ∷ [] }) }
+        ensures { IfOk result (λ t. seen t ≡ record nothing { changed = block_row false (new_block id stamp) ∷ [] }) }
     {
-        let mut changed = Blocks::new(alloc);
-        changed.push(empty_block(id, stamp))?;
+        let mut changed = Vec::new(alloc);
+        changed.push(BlockRow {
+            block: empty_block(id, stamp),
+            closed: false,
+        })?;
         Ok(Touched {
             changed,
             retired: Vec::new(alloc),
@@ -47,14 +52,20 @@ impl Touched {
         })
     }
 
-    /// A list of blocks in place of another one, which may have more of them.
-    pub(crate) fn listed(alloc: Global, old: &[Block], new: &Blocks) -> Result<Touched, AllocError>
+    /// A list of blocks in place of another one, which may have more of them, in a file that is closed or open now.
+    pub(crate) fn listed(
+        alloc: Global,
+        old: &[Block],
+        new: &[Block],
+        closed: bool,
+    ) -> Result<Touched, AllocError>
         ensures { IfOk result (λ t. seen t
-            ≡ record { changed = new.now; retired = map (λ b. b.id) (drop (length new.now) old.now); skipped = None }) }
+            ≡ record { changed = map (λ b. block_row closed b) new.now; retired = map (λ b. b.id) (drop (length new.now) old.now); skipped = None }) }
     {
-        let changed = new.copied()?;
+        let mut changed = Vec::with_capacity(alloc, new.len())?;
+        push_rows(&mut changed, new, closed)?;
         let mut retired = Vec::new(alloc);
-        push_ids(&mut retired, past(old, new.as_slice()))?;
+        push_ids(&mut retired, past(old, new))?;
         Ok(Touched {
             changed,
             retired,
@@ -67,7 +78,7 @@ impl Touched {
         ensures { seen result ≡ record nothing { retired = retired.items } }
     {
         Touched {
-            changed: Blocks::new(alloc),
+            changed: Vec::new(alloc),
             retired,
             skipped: None,
         }
@@ -78,7 +89,7 @@ impl Touched {
         ensures { seen result ≡ record nothing { skipped = if nat_lt (last + 1) id then Some (last + 1, id - 1) else None } }
     {
         Touched {
-            changed: Blocks::new(alloc),
+            changed: Vec::new(alloc),
             retired: Vec::new(alloc),
             skipped: between(last, id),
         }
@@ -121,6 +132,19 @@ pub(crate) fn push_ids(out: &mut Vec<BlockId>, blocks: &[Block]) -> Result<(), A
 {
     for block in blocks {
         out.push(block.id)?;
+    }
+    Ok(())
+}
+
+// Adds the rows of blocks of one file, which is closed or open, at the end.
+fn push_rows(out: &mut Vec<BlockRow>, list: &[Block], closed: bool) -> Result<(), AllocError>
+    ensures { OnOk result (out.new.items ≡ out.old.items ++ map (λ b. block_row closed b) list.now) }
+{
+    for block in list {
+        out.push(BlockRow {
+            block: *block,
+            closed,
+        })?;
     }
     Ok(())
 }

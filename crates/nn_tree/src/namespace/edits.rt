@@ -132,7 +132,7 @@ impl Namespace {
         requires lawful { IsLawfulEdit (edit.Close path.now blocks.now) }
         ensures applies { OnOk result (first (list_checks self.old path.now blocks.now) ≡ None) }
         ensures ok { OnOk result (self.new ≡ with_blocks self.old path.now blocks.now closed) }
-        ensures touched { IfOk result (λ t. seen t ≡ listed self.old path.now blocks.now) }
+        ensures touched { IfOk result (λ t. seen t ≡ listed self.old path.now blocks.now closed) }
         ensures err { OnErr result (self.new ≡ self.old) }
     {
         let names = path.names();

@@ -141,7 +141,7 @@ fn list_open(
     if !keeps_stamps(last_stamp, old, new) {
         return Err(Unchanged);
     }
-    let Ok(touched) = Touched::listed(alloc, old, blocks) else {
+    let Ok(touched) = Touched::listed(alloc, old, new, closed) else {
         return Err(Unchanged);
     };
     let Ok(copy) = blocks.copied() else {

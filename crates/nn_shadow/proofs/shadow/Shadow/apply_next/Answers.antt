@@ -1,4 +1,4 @@
-use Rattle.std.proofs.Common.{◌≡◌, ◌∷◌, [], ◌++◌, None, ap, subst, sym, ◌∙◌}
+use Rattle.std.proofs.Common.{◌≡◌, ◌∷◌, [], ◌++◌, None, ap, subst, sym, ◌∙◌, inl, inr}
 use Rattle.nn_types.specs.declared.event.Event.TheVariants.{Applied}
 use Rattle.nn_shadow.specs.contracts.shadow.Shadow.{the_view}
 use Rattle.nn_replicas.specs.Calls.{is_placed}
@@ -8,13 +8,13 @@ use Rattle.nn_shadow.specs.Refusals.{turn_refusal}
 use Rattle.nn_shadow.proofs.Consistent.{Leaves, edit_applied, edit_failed, edit_refused, edit_room}
 use Rattle.nn_model.specs.Namespace.{Namespace}
 use Rattle.nn_model.specs.Apply.{effect, refusal}
-use Rattle.nn_model.specs.Touched.{Touched}
+use Rattle.nn_model.specs.Touched.{Touched, ascending, changed_ids}
 use Rattle.nn_tree.specs.Touched.{seen}
 use Rattle.nn_shadow.specs.Touching.{IsQuiet}
 use Rattle.nn_shadow.proofs.Quiet.{begins_quiet}
 use Rattle.nn_shadow.proofs.Refusing.{fits_if}
 use Rattle.nn_shadow.specs.Touching.{Rises}
-use Rattle.nn_shadow.proofs.Searching.{retired_rises}
+use Rattle.nn_shadow.proofs.Searching.{retired_rises, written_is}
 use Rattle.nn_shadow.proofs.shadow.Shadow.apply_next.Goals as goal
 
 failed : (c : goal.After-drop-written) → Leaves (the_view c.self.inside) (standby_of (the_view c.self.inside))
@@ -76,6 +76,14 @@ returns-clause-ok c =
       held = c.settle.new.held;
     }))
     c.self.view_is (made c).becomes
+
+pub settle-requires-clause-written : goal.settle-requires-clause-written
+settle-requires-clause-written c =
+    elim c.in-Ok-written_ids.ensures [
+      | inl none ↦ inl none
+      | inr is ↦ inr (c.as_slice.ensures.value ∙ is ∙ ap ascending (written_is (the_view c.self.inside).namespace c.args.tx.now.edit)
+          ∙ ap (λ t. ascending (changed_ids t)) (sym c.in-Ok-change.ensures.touched))
+    ]
 
 pub settle-requires-clause-quiet : goal.settle-requires-clause-quiet
 settle-requires-clause-quiet c =

@@ -82,4 +82,4 @@ returns-clause-touched c =
     let bs = c.args.blocks.now in
     let done = c.in-Ok.ensures.ok in
     let was : lookup s p ≡ Some (File done.0) = file_was i.root i.issued p ns done.0 c.names-names.ensures.names done.3 in
-    done.5.4 ∙ list_touched s p bs done.0 was ∙ ap (λ (n : Namespace). listed n p bs) c.self.view_is
+    done.5.4 ∙ list_touched s p bs c.args.closed done.0 was ∙ ap (λ (n : Namespace). listed n p bs c.args.closed) c.self.view_is

@@ -53,6 +53,12 @@ enum Halted {
     Closed,
 }
 
+impl From<AllocError> for Halted {
+    fn from(_e: AllocError) -> Halted {
+        Halted::OutOfMemory
+    }
+}
+
 /// The reports that one lane carries at most, and a list in memory has.
 const MOST: usize = 4_611_686_018_427_387_904;
 
@@ -172,16 +178,6 @@ fn sources_of<G: Drop>(
     Ok(sources)
 }
 
-// The output, where memory was not refused for it.
-fn told(output: Result<Output, AllocError>) -> Result<Output, Halted>
-    ensures { IfOk result (λ o. output ≡ Ok o) }
-{
-    match output {
-        Ok(output) => Ok(output),
-        Err(AllocError) => Err(Halted::OutOfMemory),
-    }
-}
-
 // What a drive ended with that did not promote the standby: the line of the stop.
 fn output_of_fault(alloc: Global, fault: DriveFault) -> Result<Output, Halted>
     requires { MayEnd fault }
@@ -189,7 +185,8 @@ fn output_of_fault(alloc: Global, fault: DriveFault) -> Result<Output, Halted>
 {
     match fault {
         DriveFault::Stopped(stop) => {
-            told(fault_output(alloc, stop.number, " txid ", stop.txid.get()))
+            let output = fault_output(alloc, stop.number, " txid ", stop.txid.get())?;
+            Ok(output)
         }
         DriveFault::OutOfMemory => Err(Halted::OutOfMemory),
         DriveFault::Closed => Err(Halted::Closed),
@@ -213,20 +210,14 @@ fn output_of_drive<G: Gate + Send + Sync + Drop, R: Threads + Wait + Sync>(
     requires within { All (IsStepOf datanodes) steps }
     ensures { IfOk result (λ o. IsToldOf true asked.now.options steps (Ok segments.items) (shown o)) }
 {
-    let Ok(sources) = sources_of(alloc, &asked.gate, datanodes, steps) else {
-        return Err(Halted::OutOfMemory);
-    };
-    let Ok((workers, ends)) = with_lanes(alloc, sources, asked.capacity) else {
-        return Err(Halted::OutOfMemory);
-    };
+    let sources = sources_of(alloc, &asked.gate, datanodes, steps)?;
+    let (workers, ends) = with_lanes(alloc, sources, asked.capacity)?;
     let Ok(standby) = Standby::new(alloc, ends, asked.options.settings) else {
         return Err(Halted::OutOfMemory);
     };
-    let Ok(gate) = Arc::try_clone(&asked.gate) else {
-        return Err(Halted::OutOfMemory);
-    };
+    let gate = Arc::try_clone(&asked.gate)?;
     match drive(rt, alloc, standby, Segments::new(segments, gate), workers) {
-        Ok((shadow, _active)) => told(tell(alloc, asked.options, shadow)),
+        Ok((shadow, _active)) => Ok(tell(alloc, asked.options, shadow)?),
         Err(fault) => output_of_fault(alloc, fault),
     }
 }
@@ -248,7 +239,7 @@ fn output_of_threads<G: Gate + Send + Sync + Drop, R: Threads + Wait + Sync>(
     } = scenario;
     match read_segments(alloc, parts) {
         Ok(segments) => output_of_drive(rt, alloc, asked, datanodes, steps, segments),
-        Err(bad) => told(output_of_bad_segment(alloc, bad)),
+        Err(bad) => Ok(output_of_bad_segment(alloc, bad)?),
     }
 }
 
@@ -266,7 +257,7 @@ fn output_by_threads<G: Gate + Send + Sync + Drop, R: Threads + Wait + Sync>(
 {
     match lines {
         Ok(scenario) => output_of_threads(rt, alloc, asked, scenario),
-        Err(bad) => told(output_of_bad(alloc, bad)),
+        Err(bad) => Ok(output_of_bad(alloc, bad)?),
     }
 }
 

@@ -1,5 +1,4 @@
 use Rattle.std.proofs.Common.{false, refl, codes}
-use Rattle.nn_engine.specs.Output.{IsPrinted}
 use Rattle.nn_engine.specs.Run.{fault_alone, running}
 use Rattle.nn_engine.specs.Shown.{shown}
 use Rattle.nn_engine.proofs.WriteLemmas.{writes, writes_unread, is_output_of_all, is_no_memory}
@@ -12,40 +11,22 @@ returns-in-Err g c =
     c.in-Err.fault c.unread_line.result.now c.in-Err.ensures.why c.unread_line.ensures c.finish.ensures.ok c.finish.ensures.err in
     record { written = w.written; failed = w.failed }
 
-pub returns-in-Ok-output_of_lines-clause-written : goal.returns-in-Ok-output_of_lines-clause-written
-returns-in-Ok-output_of_lines-clause-written g c =
+pub returns-in-Ok-output_of_lines : goal.returns-in-Ok-output_of_lines
+returns-in-Ok-output_of_lines g c =
     let given = running c.args.options.now false (g.R.Read.remaining c.args.input.now.reader) (g.R.Read.remaining c.read_scenario.new.input.reader)
     c.args.input.now.failed c.read_scenario.new.input.failed in
     let all = c.in-Ok.ensures.whole in
-    let is : IsPrinted false c.args.options.now all.input (shown c.in-Ok-output_of_lines.output) = c.in-Ok-output_of_lines.ensures all.input all.read in
-    (writes given c.finish-in-Ok-output_of_lines.result (g.W.Write.contents c.args.writer.now) (g.W.Write.contents c.finish-in-Ok-output_of_lines.new.writer)
-    (shown c.in-Ok-output_of_lines.output) _ _ c.deref.ensures.value refl
-    (is_output_of_all given (shown c.in-Ok-output_of_lines.output) all.input all.taken c.in-Ok.ensures.end all.fits c.in-Ok.ensures.none_failed is)
-    c.finish-in-Ok-output_of_lines.ensures.ok c.finish-in-Ok-output_of_lines.ensures.err).written
+    let p = shown c.in-Ok-output_of_lines.output in
+    let w = writes given c.finish-in-Ok-output_of_lines.result (g.W.Write.contents c.args.writer.now) (g.W.Write.contents c.finish-in-Ok-output_of_lines.new.writer) p _ _ c.deref.ensures.value refl
+    (is_output_of_all given p all.input all.taken c.in-Ok.ensures.end all.fits c.in-Ok.ensures.none_failed (c.in-Ok-output_of_lines.ensures all.input all.read))
+    c.finish-in-Ok-output_of_lines.ensures.ok c.finish-in-Ok-output_of_lines.ensures.err in
+    record { written = w.written; failed = w.failed }
 
-pub returns-in-Ok-output_of_lines-clause-failed : goal.returns-in-Ok-output_of_lines-clause-failed
-returns-in-Ok-output_of_lines-clause-failed g c =
+pub returns-in-Err-output_of_lines : goal.returns-in-Err-output_of_lines
+returns-in-Err-output_of_lines g c =
     let given = running c.args.options.now false (g.R.Read.remaining c.args.input.now.reader) (g.R.Read.remaining c.read_scenario.new.input.reader)
     c.args.input.now.failed c.read_scenario.new.input.failed in
-    let all = c.in-Ok.ensures.whole in
-    let is : IsPrinted false c.args.options.now all.input (shown c.in-Ok-output_of_lines.output) = c.in-Ok-output_of_lines.ensures all.input all.read in
-    (writes given c.finish-in-Ok-output_of_lines.result (g.W.Write.contents c.args.writer.now) (g.W.Write.contents c.finish-in-Ok-output_of_lines.new.writer)
-    (shown c.in-Ok-output_of_lines.output) _ _ c.deref.ensures.value refl
-    (is_output_of_all given (shown c.in-Ok-output_of_lines.output) all.input all.taken c.in-Ok.ensures.end all.fits c.in-Ok.ensures.none_failed is)
-    c.finish-in-Ok-output_of_lines.ensures.ok c.finish-in-Ok-output_of_lines.ensures.err).failed
-
-pub returns-in-Err-output_of_lines-clause-written : goal.returns-in-Err-output_of_lines-clause-written
-returns-in-Err-output_of_lines-clause-written g c =
-    let given = running c.args.options.now false (g.R.Read.remaining c.args.input.now.reader) (g.R.Read.remaining c.read_scenario.new.input.reader)
-    c.args.input.now.failed c.read_scenario.new.input.failed in
-    (writes given c.finish-in-Err-output_of_lines.result (g.W.Write.contents c.args.writer.now) (g.W.Write.contents c.finish-in-Err-output_of_lines.new.writer)
+    let w = writes given c.finish-in-Err-output_of_lines.result (g.W.Write.contents c.args.writer.now) (g.W.Write.contents c.finish-in-Err-output_of_lines.new.writer)
     (fault_alone (codes "55")) _ _ refl refl (is_no_memory given c.in-Ok.ensures.none_failed)
-    c.finish-in-Err-output_of_lines.ensures.ok c.finish-in-Err-output_of_lines.ensures.err).written
-
-pub returns-in-Err-output_of_lines-clause-failed : goal.returns-in-Err-output_of_lines-clause-failed
-returns-in-Err-output_of_lines-clause-failed g c =
-    let given = running c.args.options.now false (g.R.Read.remaining c.args.input.now.reader) (g.R.Read.remaining c.read_scenario.new.input.reader)
-    c.args.input.now.failed c.read_scenario.new.input.failed in
-    (writes given c.finish-in-Err-output_of_lines.result (g.W.Write.contents c.args.writer.now) (g.W.Write.contents c.finish-in-Err-output_of_lines.new.writer)
-    (fault_alone (codes "55")) _ _ refl refl (is_no_memory given c.in-Ok.ensures.none_failed)
-    c.finish-in-Err-output_of_lines.ensures.ok c.finish-in-Err-output_of_lines.ensures.err).failed
+    c.finish-in-Err-output_of_lines.ensures.ok c.finish-in-Err-output_of_lines.ensures.err in
+    record { written = w.written; failed = w.failed }

@@ -25,15 +25,9 @@ pub fn with_lanes<S: ReportSource + Drop>(
     let mut ends = Vec::new(alloc);
     for source in sources {
         let dn = (workers.len() + 1) as u16;
-        let Ok((reporter, end)) = lane(alloc, dn, capacity) else {
-            return Err(AllocError);
-        };
-        if let Err(_) = push(&mut workers, (source, reporter)) {
-            return Err(AllocError);
-        }
-        if let Err(_) = push(&mut ends, end) {
-            return Err(AllocError);
-        }
+        let (reporter, end) = lane(alloc, dn, capacity)?;
+        push(&mut workers, (source, reporter))?;
+        push(&mut ends, end)?;
     }
     Ok((workers, ends))
 }

@@ -171,9 +171,7 @@ fn sources_of<G: Drop>(
     let mut sources = empty_sources(alloc, gate, datanodes)?;
     let mut steps = steps.into_steps();
     'steps: while let Some(step) = steps.next() {
-        if let Err(_) = take_step(&mut sources, step) {
-            return Err(AllocError);
-        }
+        take_step(&mut sources, step)?;
     }
     Ok(sources)
 }

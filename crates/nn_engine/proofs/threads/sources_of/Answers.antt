@@ -13,5 +13,5 @@ take_step-requires g c =
 
 pub steps-preserved : goal.steps-preserved
 steps-preserved g c =
-    step_listed c.args.datanodes (lanes_of c.args.steps) c.in-Some.step c.next.new.self c.steps.sources.items c.take_step.new.sources.items c.in_default-take_step.ensures.ok c.in_default-take_step.ensures.few
+    step_listed c.args.datanodes (lanes_of c.args.steps) c.in-Some.step c.next.new.self c.steps.sources.items c.take_step.new.sources.items c.in_ok-take_step.ensures.ok c.in_ok-take_step.ensures.few
     (subst (λ l. Listing c.args.datanodes (lanes_of c.args.steps) l c.steps.sources.items) c.in-Some.ensures.some c.steps.invariant)

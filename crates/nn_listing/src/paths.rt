@@ -1,7 +1,8 @@
 //! What the program prints of its namespace.
-ghost use Rattle.std.specs.Prelude.{◌≡◌, ◌≤◌, ◌+◌, ◌*◌, ◌++◌, ◌∷◌, [], true, IfOk, OnOk, codes, decimal, flat_map, string_bytes};
+ghost use Rattle.std.specs.Prelude.{◌≡◌, ◌+◌, ◌*◌, ◌++◌, ◌∷◌, [], true, IfOk, OnOk, codes, decimal, flat_map, string_bytes};
 ghost use Rattle.nn_model.specs.declared.form.Form.{Form};
 ghost use Rattle.nn_model.specs.declared.form.Form.TheVariants.{File};
+ghost use Rattle.nn_tree.specs.Extent.{capped};
 ghost use Rattle.nn_tree.specs.Found.{form_of};
 ghost use Rattle.nn_tree.specs.Listing.{lent_names};
 ghost use Rattle.nn_listing.specs.Listing.{listing_text, line_of, path_json, block_text, state_text};
@@ -57,11 +58,10 @@ pub fn with_listing(
     Ok(text)
 }
 
-/// About the bytes of a text with a line for each path, where a line has so many bytes beside its path, and so many for
-/// each block. Of a text that is larger than `usize::MAX` it is that.
+/// The bytes of a text with a line for each path, where a line has so many bytes beside its path, and so many for each
+/// block.
 pub fn text_bytes(extent: Extent, line: usize, block: usize) -> usize
-    ensures least { extent.path_bytes ≤ result }
-    ensures most { result ≤ extent.path_bytes + line * extent.paths + block * extent.blocks }
+    ensures { result ≡ capped (extent.path_bytes + line * extent.paths + block * extent.blocks) }
 {
     let lines = extent.paths.saturating_mul(line);
     let blocks = extent.blocks.saturating_mul(block);

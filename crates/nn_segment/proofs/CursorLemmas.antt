@@ -1,12 +1,13 @@
 -- What is passed over, taken in hand, and read on.
 use Rattle.std.proofs.Common.{◌≡◌, ℕ, ◌+◌, ◌-◌, ◌^◌, ◌<◌, ◌≤◌, true, false, cond, List, [], ◌∷◌, ◌++◌, length, Ok, Err, refl, sym, ap, ◌∙◌, subst, arith}
 use Rattle.std.specs.Prelude.{not, ◌==◌, drop, map, flat_map}
+use Rattle.std.proofs.lemmas.List.{map-append}
 use Rattle.std.proofs.lemmas.Bool.{eq-eqb, eqb-true, not-false}
 use Rattle.nn_types.specs.declared.tx.Tx.{Tx}
 use Rattle.nn_model.specs.Log.{counted, CountsUp}
 use Rattle.nn_model.proofs.Logs.{counted_append, counts_up}
 use Rattle.nn_segment.specs.Segment.{Segment, first_txid, IsSegment}
-use Rattle.nn_segment.specs.Source.{Answer, Asked, given}
+use Rattle.nn_segment.specs.Source.{Answer, Asked, given, end}
 use Rattle.nn_segment.specs.LogEnd.{end_of_txs, and_then, end_of_log, given_in}
 use Rattle.nn_segment.specs.LogLeft.{LogLeft, end_of_left, ComesNext, IsMissing, LeavesSame}
 use Rattle.nn_segment.specs.Cursor.{is_passed, PassesOver, TakesUp, left_by, ReadsOn}
@@ -121,7 +122,30 @@ pub record Walking {S : Type 0} (gives : S → Answer → S → Type 0) (failure
   pub counted : failures s ≤ failures t
   pub answers : List Answer
   pub asked : Asked gives s answers t
+  pub segments : List Segment
+  pub all_given : answers ≡ map given segments
   pub same : (later : List Segment) → LeavesSame last (left_by old answers later) (left_by new [] later)
+
+-- nothing was asked yet
+pub walk_begins : {S : Type 0} (gives : S → Answer → S → Type 0) (failures : S → ℕ) (last : ℕ) (s : S) (old : List Tx) → Walking gives failures last s s old old
+walk_begins gives failures last s old = record {
+  counted = omega arith;
+  answers = [];
+  asked = refl;
+  segments = [];
+  all_given = refl;
+  same = λ later. (λ n. refl, refl);
+}
+
+-- one more segment was given
+more_given : (answers : List Answer) (segments : List Segment) (answer : Answer) (s : Segment) → answers ≡ map given segments → answer ≡ given s
+    → answers ++ answer ∷ [] ≡ map given (segments ++ s ∷ [])
+more_given answers segments answer s all is =
+    ap (λ a. answers ++ a ∷ []) is ∙ ap (λ given_so_far. given_so_far ++ given s ∷ []) all ∙ sym (map-append given segments (s ∷ []))
+
+-- and at last another answer
+then_given : (answers : List Answer) (segments : List Segment) (answer to : Answer) → answers ≡ map given segments → answer ≡ to → answers ++ answer ∷ [] ≡ map given segments ++ to ∷ []
+then_given answers segments answer to all is = ap (λ a. answers ++ a ∷ []) is ∙ ap (λ given_so_far. given_so_far ++ to ∷ []) all
 
 module _ (last : ℕ) (old : List Tx) (answers : List Answer) (mid : List Tx) (same : (later : List Segment) → LeavesSame last (left_by old answers later) (left_by mid [] later)) where
   -- one more answer
@@ -165,7 +189,7 @@ IsSpent last mid hand = (counted last mid ≡ []) × (hand ≡ [])
 
 module _ {S : Type 0} (gives : S → Answer → S → Type 0) (failures : S → ℕ) (last : ℕ) (s t : S) (old mid : List Tx) (w : Walking gives failures last s t old mid) where
   pub walk_gives : (tx : Tx) (new : List Tx) → (tx.txid ≡ last + 1) × (counted last mid ≡ tx ∷ counted tx.txid new) → ReadsOn gives last s old t new (Ok (next.Transaction tx))
-  walk_gives tx new h = (w.answers, w.asked, λ later. reads_transaction last old w.answers mid w.same tx new later h.0 h.1)
+  walk_gives tx new h = (w.answers, w.asked, λ later. reads_transaction last old w.answers mid w.same tx new later h.0 h.1, (w.segments, w.all_given))
 
   module _ (u : S) (answer : Answer) (asked : gives t answer u) (hand new : List Tx) (spent : IsSpent last mid hand) where
     all_asked : Asked gives s (w.answers ++ answer ∷ []) u
@@ -176,6 +200,8 @@ module _ {S : Type 0} (gives : S → Answer → S → Type 0) (failures : S → 
       counted = (let first = w.counted in omega (arith, first, more));
       answers = w.answers ++ answer ∷ [];
       asked = all_asked;
+      segments = w.segments ++ p ∷ [];
+      all_given = more_given w.answers w.segments answer p w.all_given is;
       same = λ later. reads_segment last old w.answers mid w.same new answer p later spent.0 is low counts;
     }
 
@@ -186,7 +212,12 @@ module _ {S : Type 0} (gives : S → Answer → S → Type 0) (failures : S → 
     walk_on_old more h = walk_takes h.0 more h.1 h.2 (h.3 ∙ sym (ap (counted last) (h.4 ∙ spent.1)))
 
     pub walk_stops : TakesUp last hand answer new (Ok taken_up.Disorder) → ReadsOn gives last s old u new (Ok next.Disorder)
-    walk_stops h = (w.answers ++ answer ∷ [], all_asked, λ later. reads_gap last old w.answers mid w.same hand answer h.0 later spent.0 h.1 h.2)
+    walk_stops h = (
+      w.answers ++ answer ∷ [],
+      all_asked,
+      λ later. reads_gap last old w.answers mid w.same hand answer h.0 later spent.0 h.1 h.2,
+      (w.segments ++ h.0 ∷ [], more_given w.answers w.segments answer h.0 w.all_given h.1),
+    )
 
     -- an answer with no segment
     nothing_more : given_in (w.answers ++ answer ∷ []) ≡ given_in w.answers → new ≡ hand → (later : List Segment)
@@ -197,7 +228,17 @@ module _ {S : Type 0} (gives : S → Answer → S → Type 0) (failures : S → 
         (same_counts last mid new later (spent.0 ∙ sym (ap (counted last) (same ∙ spent.1))))
 
     pub walk_ends : TakesUp last hand answer new (Ok taken_up.End) → ReadsOn gives last s old u new (Ok next.Over)
-    walk_ends h = (w.answers ++ answer ∷ [], all_asked, nothing_more (ap (λ a. given_in (w.answers ++ a ∷ [])) h.0 ∙ end_gives_none w.answers) h.1)
+    walk_ends h = (
+      w.answers ++ answer ∷ [],
+      all_asked,
+      nothing_more (ap (λ a. given_in (w.answers ++ a ∷ [])) h.0 ∙ end_gives_none w.answers) h.1,
+      (w.segments, then_given w.answers w.segments answer end w.all_given h.0),
+    )
 
     pub walk_fails : (fault : SourceFault) → TakesUp last hand answer new (Err fault) → ReadsOn gives last s old u new (Err fault)
-    walk_fails fault h = (w.answers ++ answer ∷ [], all_asked, nothing_more (ap (λ a. given_in (w.answers ++ a ∷ [])) h.0 ∙ fault_gives_none fault w.answers) h.1)
+    walk_fails fault h = (
+      w.answers ++ answer ∷ [],
+      all_asked,
+      nothing_more (ap (λ a. given_in (w.answers ++ a ∷ [])) h.0 ∙ fault_gives_none fault w.answers) h.1,
+      (w.segments, then_given w.answers w.segments answer (Err fault) w.all_given h.0),
+    )

@@ -1,5 +1,5 @@
 -- How a log is read: transactions that are passed over, what comes of asking a source once, and what comes next.
-use Rattle.std.specs.Prelude.{◌≡◌, ◌≢◌, ℕ, ◌+◌, ◌<◌, ◌≤◌, Bool, false, not, ◌==◌, List, [], ◌∷◌, ◌++◌, Result, Ok, Err}
+use Rattle.std.specs.Prelude.{◌≡◌, ◌≢◌, ℕ, ◌+◌, ◌<◌, ◌≤◌, Bool, false, not, ◌==◌, List, [], ◌∷◌, ◌++◌, map, Result, Ok, Err}
 use Rattle.nn_types.specs.declared.tx.Tx.{Tx}
 use Rattle.nn_model.specs.Log.{counted, CountsUp}
 use Rattle.nn_segment.specs.Segment.{Segment, first_txid}
@@ -41,7 +41,15 @@ ComesAfter last old (Ok next.Disorder) new = IsMissing last old
 ComesAfter last old (Ok next.Over) new = LeavesSame last old new
 ComesAfter last old (Err fault) new = LeavesSame last old new
 
+-- the answers were segments; then the end where the log is over, and the fault where one is told
+abbrev pub AnswersSo : List Answer → Result Next SourceFault → Type 0
+AnswersSo answers (Ok (next.Transaction tx)) = (segments : List Segment) × (answers ≡ map given segments)
+AnswersSo answers (Ok next.Disorder) = (segments : List Segment) × (answers ≡ map given segments)
+AnswersSo answers (Ok next.Over) = (segments : List Segment) × (answers ≡ map given segments ++ end ∷ [])
+AnswersSo answers (Err fault) = (segments : List Segment) × (answers ≡ map given segments ++ Err fault ∷ [])
+
 -- a log was read on by answers of its source, whatever segments come later
 abbrev pub ReadsOn : {S : Type 0} → (S → Answer → S → Type 0) → ℕ → S → List Tx → S → List Tx → Result Next SourceFault → Type 0
 ReadsOn gives last s old t new result =
     (answers : List Answer) × Asked gives s answers t × ((later : List Segment) → ComesAfter last (left_by old answers later) result (left_by new [] later))
+    × AnswersSo answers result

@@ -1,5 +1,8 @@
-use Rattle.nn_segment.proofs.CursorLemmas.{walk_gives, walk_on_new, walk_on_old, walk_stops, walk_ends, walk_fails}
+use Rattle.nn_segment.proofs.CursorLemmas.{walk_begins, walk_gives, walk_on_new, walk_on_old, walk_stops, walk_ends, walk_fails}
 use Rattle.nn_segment.proofs.cursor.Cursor.next.Goals as goal
+
+pub segments-init : goal.segments-init
+segments-init g c = walk_begins g.S.SegmentSource.gives g.S.SegmentSource.failures c.args.last c.args.source.now c.args.self.now
 
 pub returns-in-Some-clause-reads : goal.returns-in-Some-clause-reads
 returns-in-Some-clause-reads g c =

@@ -137,18 +137,10 @@ fn matched(matches: &ArgMatches<'_>) -> Option<Request>
     ensures capacity { IfSome result (λ request. (1 ≤ request.capacity) × (request.capacity ≤ 1024)) }
     ensures none { IfNone result ((settings : Threshold) → AreReadAs (one_text (found_of matches.now) (codes "permille")) (one_text (found_of matches.now) (codes "min")) (one_text (found_of matches.now) (codes "capacity")) settings → ⊥) }
 {
-    let Some(permille) = number(matches, "permille") else {
-        return None;
-    };
-    let Some(min) = number(matches, "min") else {
-        return None;
-    };
-    let Some(capacity) = capacity(matches) else {
-        return None;
-    };
-    let Some(settings) = Settings::new(permille, min) else {
-        return None;
-    };
+    let permille = number(matches, "permille")?;
+    let min = number(matches, "min")?;
+    let capacity = capacity(matches)?;
+    let settings = Settings::new(permille, min)?;
     Some(Request {
         options: Options {
             settings,
@@ -165,9 +157,7 @@ fn capacity(matches: &ArgMatches<'_>) -> Option<u16>
     ensures some { IfSome result (λ n. IsCapacity (one_text (found_of matches.now) (codes "capacity")) n) }
     ensures none { IfNone result ((n : ℕ) → IsCapacity (one_text (found_of matches.now) (codes "capacity")) n → ⊥) }
 {
-    let Some(n) = number(matches, "capacity") else {
-        return None;
-    };
+    let n = number(matches, "capacity")?;
     if n < 1 || n > 1024 {
         return None;
     }

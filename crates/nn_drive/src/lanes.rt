@@ -1,5 +1,5 @@
 //! A lane for each source of reports.
-ghost use Rattle.std.specs.Prelude.{◌≡◌, ◌≤◌, ◌++◌, ◌∷◌, [], length, IfOk, OnOk};
+ghost use Rattle.std.specs.Prelude.{◌≤◌, length, IfOk};
 ghost use Rattle.nn_tailer.specs.Public.{AreNew};
 ghost use Rattle.nn_drive.specs.Driven.{AreLanes};
 ghost use Rattle.nn_drive.specs.NewLanes.{HaveLanes};
@@ -26,15 +26,8 @@ pub fn with_lanes<S: ReportSource + Drop>(
     for source in sources {
         let dn = (workers.len() + 1) as u16;
         let (reporter, end) = lane(alloc, dn, capacity)?;
-        push(&mut workers, (source, reporter))?;
-        push(&mut ends, end)?;
+        workers.push((source, reporter))?;
+        ends.push(end)?;
     }
     Ok((workers, ends))
-}
-
-fn push<T: Drop>(list: &mut Vec<T>, item: T) -> Result<(), AllocError>
-    ensures { OnOk result (list.new.items ≡ list.old.items ++ item ∷ []) }
-{
-    list.push(item)?;
-    Ok(())
 }

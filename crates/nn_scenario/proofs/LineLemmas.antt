@@ -1,8 +1,8 @@
 -- Lines, one after another.
-use Rattle.std.proofs.Common.{◌≡◌, ℕ, suc, ◌+◌, List, [], ◌∷◌, ◌++◌, Bool, true, false, Result, Ok, Err, refl, sym, ap, ◌∙◌, subst, arith}
-use Rattle.std.proofs.Common.{append_assoc, append-nil, eqb, cond, not, take, ◌≤◌}
+use Rattle.std.proofs.Common.{◌≡◌, ℕ, ◌+◌, List, [], ◌∷◌, ◌++◌, Bool, true, false, Result, Ok, Err, refl, sym, ap, ◌∙◌}
+use Rattle.std.proofs.Common.{append_assoc, append-nil, eqb, cond, ◌≤◌}
 use Rattle.std.specs.Bool.{MatchBool}
-use Rattle.std.specs.List.{slice_split, position_or_len}
+use Rattle.std.specs.List.{slice_split}
 use Rattle.nn_types.specs.declared.report.Report.{Report}
 use Rattle.nn_edits.specs.Reading.{edit_of_line, either_of_line}
 use Rattle.nn_edits.specs.declared.fault.LineFault.{LineFault}
@@ -11,7 +11,6 @@ use Rattle.nn_edits.specs.declared.line.Line.TheVariants as either
 use Rattle.nn_types.specs.declared.tx.Tx.{Tx}
 use Rattle.nn_edits.proofs.LineGrammar.{either_line_ok, edit_line_has}
 use Rattle.nn_model.specs.Lanes.{no_messages}
-use Rattle.nn_segment.specs.Lines.{is_unbroken}
 use Rattle.nn_segment.specs.Segment.{is_end}
 use Rattle.nn_scenario.specs.Cut.{no_lines, with_line, last_part, cut_from}
 use Rattle.nn_scenario.specs.Scenario.{ScenarioLine, edit, report, line_as, is_blank, and_later, with_read, lines_from, edit_lines, steps_from}

@@ -80,9 +80,7 @@ impl Lines {
             return Err(bad);
         }
         let line = ended + 1;
-        if let Err(bad) = reading.push_text(alloc, scratch, &torn, line) {
-            return Err(bad);
-        }
+        reading.push_text(alloc, scratch, &torn, line)?;
         reading.into_scenario(line)
     }
 
@@ -118,9 +116,7 @@ impl Lines {
             if end == rest.len() {
                 return self.keep(rest);
             }
-            if let Err(bad) = self.end_line(alloc, scratch, &rest[..end]) {
-                return Err(bad);
-            }
+            self.end_line(alloc, scratch, &rest[..end])?;
             rest = &rest[end + 1..];
         }
     }

@@ -48,11 +48,7 @@ pub fn feed<'a, R: Wait>(rt: &'a R, alloc: Global) -> Result<(Feeder, FeedEnd<'a
 fn is_last(answer: &Result<Item, SourceFault>) -> bool
     ensures { result ≡ is_last answer.now }
 {
-    match answer {
-        Ok(Item::Segment(_)) => false,
-        Ok(Item::End) => true,
-        Err(_) => true,
-    }
+    ended_by(answer).is_some()
 }
 
 // How this answer ends its source.

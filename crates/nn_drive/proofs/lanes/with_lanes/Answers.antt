@@ -23,8 +23,8 @@ loop-source-preserved g c =
     let e = c.in_ok-reporter.ensures in
     let dn : c.len.result + 1 ≡ length c.loop-source.workers.items + 1 = omega (arith, c.len.ensures, c.loop-source.workers.ok.0) in
     let lane = subst (λ n. HasLane n c.in-Some.source (c.in-Some.source, c.in_ok-reporter.reporter) c.in_ok-reporter.end) dn (record { own = refl; node = e.one_lane.1; lane = sym e.one_lane.0; none_sent = e.empty.0; none_taken = e.empty.2; is_open = e.open.1 }) in
-    one_lane c.args.sources.items (into_iter_items c.next.new.self) c.in-Some.source c.loop-source.workers.items c.push.new.list.items c.loop-source.ends.items c.push-in-loop-source.new.list.items
-    (c.in-Some.source, c.in_ok-reporter.reporter) c.in_ok-reporter.end here lane c.in_ok-push.ensures c.in_ok-push-2.ensures
+    one_lane c.args.sources.items (into_iter_items c.next.new.self) c.in-Some.source c.loop-source.workers.items c.push.new.self.items c.loop-source.ends.items c.push-in-loop-source.new.self.items
+    (c.in-Some.source, c.in_ok-reporter.reporter) c.in_ok-reporter.end here lane c.in_ok-push.ensures.items c.in_ok-push-2.ensures.items
 
 pub returns-clause-own : goal.returns-clause-own
 returns-clause-own g c =

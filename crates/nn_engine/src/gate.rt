@@ -1,4 +1,6 @@
 //! The gate of a run with threads: each of them comes to it once.
+ghost use Rattle.std.specs.Prelude.{◌≡◌, true, false};
+
 use std::alloc::Global;
 use std::sync::Arc;
 
@@ -28,7 +30,10 @@ pub struct Way<G> {
 }
 
 impl<G> Way<G> {
-    pub fn new(gate: Arc<G, Global>, thread: u64) -> Way<G> {
+    /// The way of a thread that has not come yet.
+    pub fn new(gate: Arc<G, Global>, thread: u64) -> Way<G>
+        ensures { result ≡ record { gate = gate; thread = thread; has_come = false } }
+    {
         Way {
             gate,
             thread,
@@ -38,8 +43,10 @@ impl<G> Way<G> {
 }
 
 impl<G: Gate> Way<G> {
-    /// Passes the gate, at the first call.
-    pub fn come(&mut self) {
+    /// Passes the gate, at the first call. What a gate does no clause can say, and so not that it was passed.
+    pub fn come(&mut self)
+        ensures { self.new ≡ record { gate = self.old.gate; thread = self.old.thread; has_come = true } }
+    {
         if self.has_come {
             return;
         }

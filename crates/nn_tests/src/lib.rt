@@ -1,4 +1,5 @@
-//! Tests of the libraries' public calls: worked rows, faults in their order, and each call once on its happy path.
+//! Tests of the libraries' public calls: each once on its happy path, some that are refused, and large values. What the
+//! program does with a scenario is told by the files of nn_worked.
 //!
 //! Every call is proved where it stands, and a proof says nothing of want of memory that never came: so each call is
 //! run here with ample memory. They stand apart, in one crate, since proving a crate's tests proves the crate once more.
@@ -22,3 +23,5 @@ mod sizes;
 mod tables;
 #[cfg(test)]
 mod tree;
+#[cfg(test)]
+mod values;

@@ -1,40 +1,24 @@
 //! Messages of two DataNodes about one block, about two blocks, and of all DataNodes about one.
+use crate::values::{id, length, stamp};
 use nn_postponed::Postponed;
-use nn_types::{BlockId, GenerationStamp, Kind, Length, Message, Status};
+use nn_types::{BlockId, Kind, Message, Status};
 use std::process::Abort;
 use std::test::Fail;
 
 // The first id that a log issues.
 const FIRST: u64 = 1073741825;
 
-fn block_id(value: u64) -> Result<BlockId, Fail> {
-    let Some(id) = BlockId::new(value) else {
-        return Err(Fail::new("no block id"));
-    };
-    Ok(id)
-}
-
-fn stamp(value: u64) -> Result<GenerationStamp, Fail> {
-    let Some(stamp) = GenerationStamp::new(value) else {
-        return Err(Fail::new("no generation stamp"));
-    };
-    Ok(stamp)
-}
-
 fn named(value: u64) -> Result<Status, Fail> {
     Ok(Status::Named(stamp(value)?))
 }
 
 fn message(dn: u16, number: u64, block: BlockId, value: u64) -> Result<Message, Fail> {
-    let Some(len) = Length::new(0) else {
-        return Err(Fail::new("no length"));
-    };
     Ok(Message {
         dn,
         number,
         block,
         stamp: stamp(value)?,
-        len,
+        len: length(0)?,
         kind: Kind::Received,
     })
 }
@@ -58,7 +42,7 @@ fn released_in_turn(rt: HostRuntime) -> Result<(), Fail> {
 }
 
 fn held_of_two_datanodes(rt: &impl Abort, held: &mut Postponed) -> Result<(), Fail> {
-    let block = block_id(FIRST)?;
+    let block = id(FIRST)?;
     hold(held, message(1, 1, block, 1001)?)?;
     hold(held, message(2, 1, block, 1002)?)?;
     hold(held, message(1, 2, block, 0)?)?;
@@ -66,20 +50,20 @@ fn held_of_two_datanodes(rt: &impl Abort, held: &mut Postponed) -> Result<(), Fa
     is_due(rt, held, block, named(1001)?, 2);
     is_due(rt, held, block, Status::Unnamed, 0);
     stands_in_order(rt, held, block, &[(1, 1), (2, 1), (1, 2)]);
-    stands_in_order(rt, held, block_id(FIRST + 1)?, &[]);
+    stands_in_order(rt, held, id(FIRST + 1)?, &[]);
     Ok(())
 }
 
 fn released_by_datanode(rt: &impl Abort, held: &mut Postponed) -> Result<(), Fail> {
-    let block = block_id(FIRST)?;
+    let block = id(FIRST)?;
     releases(rt, held, block, Some(message(1, 1, block, 1001)?))?;
     releases(rt, held, block, Some(message(1, 2, block, 0)?))?;
     releases(rt, held, block, None)
 }
 
 fn left_of_the_other_datanode(rt: &impl Abort, held: &mut Postponed) -> Result<(), Fail> {
-    let block = block_id(FIRST)?;
-    next_is(rt, held, block_id(0)?, Some(block));
+    let block = id(FIRST)?;
+    next_is(rt, held, id(0)?, Some(block));
     assert!(rt; held.holds(2, block) && !held.holds(1, block));
     takes(rt, held, Some(message(2, 1, block, 1002)?));
     takes(rt, held, None);
@@ -96,7 +80,7 @@ fn lower_block_first(rt: HostRuntime) -> Result<(), Fail> {
 }
 
 fn held_of_two_blocks(held: &mut Postponed) -> Result<(), Fail> {
-    let (low, high) = (block_id(FIRST)?, block_id(FIRST + 1)?);
+    let (low, high) = (id(FIRST)?, id(FIRST + 1)?);
     hold(held, message(1, 1, high, 1002)?)?;
     hold(held, message(1, 2, high, 1001)?)?;
     hold(held, message(2, 1, low, 1001)?)
@@ -104,7 +88,7 @@ fn held_of_two_blocks(held: &mut Postponed) -> Result<(), Fail> {
 
 // The second message is due by itself, and waits behind the first one.
 fn waits_behind_the_first(rt: &impl Abort, held: &mut Postponed) -> Result<(), Fail> {
-    let high = block_id(FIRST + 1)?;
+    let high = id(FIRST + 1)?;
     is_due(rt, held, high, named(1001)?, 0);
     releases(rt, held, high, None)?;
     is_due(rt, held, high, Status::Retired, 2);
@@ -112,16 +96,16 @@ fn waits_behind_the_first(rt: &impl Abort, held: &mut Postponed) -> Result<(), F
 }
 
 fn next_of_two_blocks(rt: &impl Abort, held: &mut Postponed) -> Result<(), Fail> {
-    let (low, high) = (block_id(FIRST)?, block_id(FIRST + 1)?);
+    let (low, high) = (id(FIRST)?, id(FIRST + 1)?);
     is_due(rt, held, low, Status::Awaiting, 0);
     next_is(rt, held, low, Some(low));
     next_is(rt, held, high, Some(high));
-    next_is(rt, held, block_id(FIRST + 2)?, None);
+    next_is(rt, held, id(FIRST + 2)?, None);
     Ok(())
 }
 
 fn goes_by_block(rt: &impl Abort, held: &mut Postponed) -> Result<(), Fail> {
-    let (low, high) = (block_id(FIRST)?, block_id(FIRST + 1)?);
+    let (low, high) = (id(FIRST)?, id(FIRST + 1)?);
     takes(rt, held, Some(message(2, 1, low, 1001)?));
     next_is(rt, held, low, Some(high));
     takes(rt, held, Some(message(1, 1, high, 1002)?));
@@ -144,7 +128,7 @@ fn released_in_turn_of_256(rt: HostRuntime) -> Result<(), Fail> {
 
 // The second ones come in the opposite order, and the first one of the last DataNode waits.
 fn two_of_each_datanode(held: &mut Postponed) -> Result<(), Fail> {
-    let block = block_id(FIRST)?;
+    let block = id(FIRST)?;
     for dn in 1..DATANODES {
         hold(held, message(dn, 1, block, 1001)?)?;
     }
@@ -156,7 +140,7 @@ fn two_of_each_datanode(held: &mut Postponed) -> Result<(), Fail> {
 }
 
 fn all_but_the_last_go(rt: &impl Abort, held: &mut Postponed) -> Result<(), Fail> {
-    let block = block_id(FIRST)?;
+    let block = id(FIRST)?;
     is_due(rt, held, block, named(1001)?, 510);
     for dn in 1..DATANODES {
         releases(rt, held, block, Some(message(dn, 1, block, 1001)?))?;
@@ -173,7 +157,7 @@ fn all_but_the_last_go(rt: &impl Abort, held: &mut Postponed) -> Result<(), Fail
 }
 
 fn the_last_waits(rt: &impl Abort, held: &mut Postponed) -> Result<(), Fail> {
-    let block = block_id(FIRST)?;
+    let block = id(FIRST)?;
     stands_in_order(rt, held, block, &[(256, 1), (256, 2)]);
     is_due(rt, held, block, named(1002)?, 2);
     takes(rt, held, Some(message(DATANODES, 1, block, 1002)?));
@@ -187,14 +171,14 @@ fn freed_at_once_of_256(rt: HostRuntime) -> Result<(), Fail> {
     let mut held = Postponed::new(rt.alloc());
     two_of_each_datanode(&mut held)?;
     all_but_the_last_are_lent(&rt, &held)?;
-    held.drop_freed(block_id(FIRST)?, named(1001)?);
+    held.drop_freed(id(FIRST)?, named(1001)?);
     the_last_waits(&rt, &mut held)
 }
 
 fn all_but_the_last_are_lent(rt: &impl Abort, held: &Postponed) -> Result<(), Fail> {
-    let block = block_id(FIRST)?;
+    let block = id(FIRST)?;
     assert_eq!(rt; held.free_place(block, named(1001)?), Some(0));
-    assert!(rt; held.freed(block_id(FIRST + 1)?, named(1001)?).is_none());
+    assert!(rt; held.freed(id(FIRST + 1)?, named(1001)?).is_none());
     let Some(mut freed) = held.freed(block, named(1001)?) else {
         return Err(Fail::new("nothing is held"));
     };
@@ -223,12 +207,12 @@ fn fills_again(rt: HostRuntime) -> Result<(), Fail> {
 }
 
 fn runs_empty(rt: &impl Abort, held: &mut Postponed) -> Result<(), Fail> {
-    let block = block_id(GREATEST)?;
+    let block = id(GREATEST)?;
     hold(held, message(1, 1, block, 1001)?)?;
-    next_is(rt, held, block_id(0)?, Some(block));
+    next_is(rt, held, id(0)?, Some(block));
     next_is(rt, held, block, Some(block));
     releases(rt, held, block, Some(message(1, 1, block, 1001)?))?;
-    next_is(rt, held, block_id(0)?, None);
+    next_is(rt, held, id(0)?, None);
     stands_in_order(rt, held, block, &[]);
     assert_eq!(rt; held.len(), 0);
     Ok(())

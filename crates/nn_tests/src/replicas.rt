@@ -1,9 +1,10 @@
 //! The table on calls, and the threshold of safe mode.
-ghost use Rattle.std.specs.Prelude.{IsTrue, ◌<◌, ◌^◌};
+ghost use Rattle.std.specs.Prelude.{IsTrue};
 ghost use Rattle.nn_replicas.specs.Calls.{is_kept};
 
+use crate::values::{block, id, length, settings, stamp};
 use nn_replicas::{BlockRow, Replicas, class};
-use nn_types::{Block, BlockId, Class, GenerationStamp, Kind, Length, Replica, Settings};
+use nn_types::{Block, Class, Kind, Replica};
 use std::alloc::Global;
 use std::process::Abort;
 use std::test::Fail;
@@ -17,42 +18,6 @@ const M: u64 = 9_223_372_036_854_775_807;
 
 // A test owns its table and lends it to the checks, each of which is short: whoever owns one shows at each of its exits
 // that it is dropped.
-
-fn id(value: u64) -> Result<BlockId, Fail> {
-    let Some(made) = BlockId::new(value) else {
-        return Err(Fail::new("no block id"));
-    };
-    Ok(made)
-}
-
-fn stamp(value: u64) -> Result<GenerationStamp, Fail> {
-    let Some(made) = GenerationStamp::new(value) else {
-        return Err(Fail::new("no generation stamp"));
-    };
-    Ok(made)
-}
-
-fn length(value: u64) -> Result<Length, Fail> {
-    let Some(made) = Length::new(value) else {
-        return Err(Fail::new("no length"));
-    };
-    Ok(made)
-}
-
-fn settings(permille: u16, min: u16) -> Result<Settings, Fail> {
-    let Some(made) = Settings::new(permille, min) else {
-        return Err(Fail::new("no settings"));
-    };
-    Ok(made)
-}
-
-fn block(block: u64, generation: u64, len: u64) -> Result<Block, Fail> {
-    Ok(Block {
-        id: id(block)?,
-        stamp: stamp(generation)?,
-        len: length(len)?,
-    })
-}
 
 fn set(table: &mut Replicas, block: Block, closed: bool) -> Result<(), Fail> {
     table.set_block(block, closed)?;
@@ -225,57 +190,6 @@ fn rows_are_by_id(rt: &impl Abort, table: &Replicas) -> Result<(), Fail> {
         assert_eq!(rt; rows.next(), Some((block.id, BlockRow { block, closed })));
     }
     assert!(rt; rows.next().is_none());
-    Ok(())
-}
-
-// A closed block with the number, and with a live replica.
-fn add_block(table: &mut Replicas, number: u64) -> Result<(), Fail>
-    requires { number < 2 ^ 32 }
-{
-    table.set_block(block(B + number, 1001, 5)?, true)?;
-    put(table, 7, B + number, Kind::Received, 1001, 5)
-}
-
-fn add_blocks(table: &mut Replicas, count: u64) -> Result<(), Fail>
-    requires { count < 2 ^ 32 }
-{
-    for number in 0..count {
-        add_block(table, number)?;
-    }
-    Ok(())
-}
-
-#[test]
-fn safe_mode_threshold(rt: HostRuntime) -> Result<(), Fail> {
-    let settings = settings(999, 1)?;
-    let mut table = Replicas::new(rt.alloc(), settings);
-    add_blocks(&mut table, 1000)?;
-    two_of_1000_are_lost(&rt, &mut table, settings)?;
-    one_of_1001_is_new(&rt, &mut table, settings)
-}
-
-fn two_of_1000_are_lost(
-    rt: &impl Abort,
-    table: &mut Replicas,
-    settings: Settings,
-) -> Result<(), Fail> {
-    table.erase(7, id(B)?);
-    table.erase(7, id(B + 999)?);
-    assert_eq!(rt; counts(table), (1000, 998));
-    assert_eq!(rt; settings.needed(table.total()), 999);
-    Ok(())
-}
-
-fn one_of_1001_is_new(
-    rt: &impl Abort,
-    table: &mut Replicas,
-    settings: Settings,
-) -> Result<(), Fail> {
-    put(table, 8, B, Kind::Received, 1001, 5)?;
-    assert_eq!(rt; counts(table), (1000, 999));
-    set(table, block(B + 1000, 1001, 5)?, true)?;
-    assert_eq!(rt; counts(table), (1001, 999));
-    assert_eq!(rt; settings.needed(table.total()), 999);
     Ok(())
 }
 

@@ -1,14 +1,13 @@
 //! Segments typed by hand from the format, faults by their numbers, and each call once on its happy path.
-ghost use Rattle.std.specs.Prelude.{◌≡◌, ◌++◌, ◌∷◌, [], Ok, IfOk, OnOk};
+ghost use Rattle.std.specs.Prelude.{◌≡◌, ◌++◌, ◌∷◌, [], Ok, OnOk};
 ghost use Rattle.nn_edits.specs.Reading.{edit_of_line};
 ghost use Rattle.nn_types.specs.declared.tx.Tx.{Tx as TxData};
 ghost use Rattle.nn_segment.specs.Lines.{newline};
 
-use nn_edits::{LineFault, Scratch, read_edit};
-use nn_segment::{
-    Item, MemorySource, Parsed, SegmentFault, SegmentSource, gather, parse_name, segment_name,
-};
-use nn_types::{Tx, Txid};
+use crate::values::txid;
+use nn_edits::{Scratch, read_edit};
+use nn_segment::{Item, MemorySource, Parsed, SegmentSource, gather, parse_name, segment_name};
+use nn_types::Tx;
 use std::alloc::Global;
 use std::process::Abort;
 use std::test::Fail;
@@ -20,12 +19,6 @@ const START: &str = "{\"op\":\"OP_START_LOG_SEGMENT\",\"txid\":1}\n";
 const MKDIR: &str = "{\"op\":\"OP_MKDIR\",\"txid\":2,\"path\":\"/a\"}\n";
 
 const END: &str = "{\"op\":\"OP_END_LOG_SEGMENT\",\"txid\":3}\n";
-
-fn txid(value: u64) -> Result<Txid, Fail>
-    ensures { IfOk result (λ txid. txid ≡ value) }
-{
-    Ok(Txid::new(value).ok_or(LineFault::BadNumber)?)
-}
 
 // The bytes of these texts, one after another.
 fn bytes_of(alloc: Global, texts: &[&str]) -> Result<Vec<u8>, Fail> {
@@ -43,13 +36,13 @@ fn parsed(alloc: Global, name: &str, texts: &[&str]) -> Result<Parsed, Fail> {
     Ok(Parsed::of(alloc, name, bytes)?)
 }
 
-// Why these lines are no segment of that name.
-fn fault_of(alloc: Global, name: &str, texts: &[&str]) -> Result<SegmentFault, Fail> {
+// The number of the fault for which these lines are no segment of that name, or 0.
+fn fault_of(alloc: Global, name: &str, texts: &[&str]) -> Result<u8, Fail> {
     let bytes = bytes_of(alloc, texts)?;
     let name = String::from_str(alloc, name)?;
     match Parsed::of(alloc, name, bytes) {
-        Ok(_) => Err(Fail::new("it is a segment")),
-        Err(fault) => Ok(fault),
+        Ok(_) => Ok(0),
+        Err(fault) => Ok(fault.number()),
     }
 }
 
@@ -88,70 +81,38 @@ fn a_name_has_19_digits_twice(rt: HostRuntime) -> Result<(), Fail> {
     Ok(())
 }
 
-#[test]
-fn gap_in_segment(rt: HostRuntime) -> Result<(), Fail> {
-    let name = "edits_0000000000000000001-0000000000000000004";
-    let end = "{\"op\":\"OP_END_LOG_SEGMENT\",\"txid\":4}\n";
-    let fault = fault_of(rt.alloc(), name, &[START, MKDIR, end])?;
-    assert_eq!(rt; fault, SegmentFault::Gap { expected: 3 });
-    assert_eq!(rt; fault.number(), 14);
-    Ok(())
-}
+// Texts under a name, and the number of the fault for which they are no segment.
+type Faulty = (&'static str, [&'static str; 5], u8);
 
-#[test]
-fn torn_last_line(rt: HostRuntime) -> Result<(), Fail> {
+const TO_4: &str = "edits_0000000000000000001-0000000000000000004";
+
+fn faulty() -> [Faulty; 10] {
     let torn = "{\"op\":\"OP_END_LOG_SEGMENT\",\"txid\":3}";
-    let fault = fault_of(rt.alloc(), NAME, &[START, MKDIR, torn])?;
-    assert_eq!(rt; fault, SegmentFault::TornLine { line: 3 });
-    assert_eq!(rt; fault.number(), 15);
-    Ok(())
-}
-
-#[test]
-fn mark_inside_a_segment(rt: HostRuntime) -> Result<(), Fail> {
-    let name = "edits_0000000000000000001-0000000000000000005";
+    let end = "{\"op\":\"OP_END_LOG_SEGMENT\",\"txid\":4}\n";
     let start = "{\"op\":\"OP_START_LOG_SEGMENT\",\"txid\":4}\n";
-    let end = "{\"op\":\"OP_END_LOG_SEGMENT\",\"txid\":5}\n";
-    let fault = fault_of(rt.alloc(), name, &[START, MKDIR, END, start, end])?;
-    assert_eq!(rt; fault, SegmentFault::NoEnd);
-    assert_eq!(rt; fault.number(), 13);
-    let start = "{\"op\":\"OP_START_LOG_SEGMENT\",\"txid\":2}\n";
-    let end = "{\"op\":\"OP_END_LOG_SEGMENT\",\"txid\":3}\n";
-    let fault = fault_of(rt.alloc(), name, &[START, MKDIR, END, start, end])?;
-    assert_eq!(rt; fault, SegmentFault::Gap { expected: 4 });
-    Ok(())
+    let again = "{\"op\":\"OP_START_LOG_SEGMENT\",\"txid\":2}\n";
+    [
+        ("edits_1-3", ["", "", "", "", ""], 11),
+        (NAME, [END, "", "", "", ""], 12),
+        (NAME, [START, "", "", "", ""], 13),
+        // A mark inside, behind which all is in order, and one behind which there is a gap.
+        (TO_4, [START, MKDIR, END, start, ""], 13),
+        (NAME, [START, MKDIR, END, again, END], 14),
+        (TO_4, [START, MKDIR, end, "", ""], 14),
+        (NAME, [START, MKDIR, torn, "", ""], 15),
+        (TO_4, [START, MKDIR, END, "", ""], 16),
+        (NAME, [START, "\n", END, "", ""], 18),
+        // The bad line stands behind a gap.
+        (NAME, [START, END, "\n", "", ""], 14),
+    ]
 }
 
 #[test]
 fn the_first_fault_of_a_segment(rt: HostRuntime) -> Result<(), Fail> {
-    let alloc = rt.alloc();
-    let fault = fault_of(alloc, "edits_1-3", &[])?;
-    assert_eq!(rt; fault.number(), 11);
-    let fault = fault_of(alloc, NAME, &[END])?;
-    assert_eq!(rt; fault, SegmentFault::NoStart);
-    let fault = fault_of(alloc, NAME, &[START])?;
-    assert_eq!(rt; fault, SegmentFault::NoEnd);
-    let fault = fault_of(
-        alloc,
-        "edits_0000000000000000001-0000000000000000004",
-        &[START, MKDIR, END],
-    )?;
-    assert_eq!(rt; fault.number(), 16);
-    Ok(())
-}
-
-#[test]
-fn a_bad_line_of_a_segment(rt: HostRuntime) -> Result<(), Fail> {
-    let empty_line = SegmentFault::BadLine {
-        line: 2,
-        fault: LineFault::NotJson,
-    };
-    let fault = fault_of(rt.alloc(), NAME, &[START, "\n", END])?;
-    assert_eq!(rt; fault, empty_line);
-    assert_eq!(rt; fault.number(), 18);
-    // The bad line stands behind a gap.
-    let fault = fault_of(rt.alloc(), NAME, &[START, END, "\n"])?;
-    assert_eq!(rt; fault, SegmentFault::Gap { expected: 2 });
+    for (name, texts, number) in &faulty() {
+        let fault = fault_of(rt.alloc(), name, texts)?;
+        assert_eq!(rt; fault, *number, "of {name}");
+    }
     Ok(())
 }
 
@@ -169,18 +130,12 @@ fn a_carriage_return_is_white_space(rt: HostRuntime) -> Result<(), Fail> {
 }
 
 #[test]
-fn after_the_greatest_txid(rt: HostRuntime) -> Result<(), Fail> {
+fn up_to_the_greatest_txid(rt: HostRuntime) -> Result<(), Fail> {
     let name = "edits_9223372036854775806-9223372036854775807";
     let start = "{\"op\":\"OP_START_LOG_SEGMENT\",\"txid\":9223372036854775806}\n";
     let end = "{\"op\":\"OP_END_LOG_SEGMENT\",\"txid\":9223372036854775807}\n";
     assert_eq!(rt; count_of(rt.alloc(), name, &[start, end])?, 2);
-    let fault = fault_of(rt.alloc(), name, &[start, end, end])?;
-    assert_eq!(rt;
-        fault,
-        SegmentFault::Gap {
-            expected: 9_223_372_036_854_775_808
-        }
-    );
+    assert_eq!(rt; fault_of(rt.alloc(), name, &[start, end, end])?, 14);
     Ok(())
 }
 

@@ -1,21 +1,18 @@
-//! Reports that come before the log names their block, and what becomes of them.
+//! Refused calls, and many messages at once. Whole histories are worked scenarios.
 ghost use Rattle.std.specs.Prelude.{◌<◌, ◌^◌};
 
-mod histories;
-
+use crate::values::settings;
 use nn_shadow::{ApplyFault, HandCause, Shadow};
 use nn_types::{
-    BlockId, Cause, Edit, Event, GenerationStamp, Kind, Length, Message, Path, Replication,
-    Settings, Tx, Txid,
+    BlockId, Cause, Edit, Event, GenerationStamp, Kind, Length, Message, Path, Replication, Tx,
+    Txid,
 };
 use std::alloc::Global;
 use std::process::Abort;
 use std::test::Fail;
 
-// The first two block ids that a log issues, and a generation stamp that none reaches.
+// The first block id that a log issues, and a generation stamp that none reaches.
 const B: u64 = 1_073_741_825;
-
-const C: u64 = 1_073_741_826;
 
 const FAR: u64 = 9_223_372_036_854_775_807;
 
@@ -34,22 +31,6 @@ fn the_flush_takes_up_what_is_held(rt: &impl Abort, shadow: &mut Shadow) {
     assert_eq!(rt; flushed(shadow), 1);
     assert_eq!(rt; flushed(shadow), 0);
     assert_eq!(rt; hand(shadow, deleted(1, 2, B)), 53);
-}
-
-#[test]
-fn skipped_block_released(rt: HostRuntime) -> Result<(), Fail> {
-    let mut shadow = fresh(rt.alloc())?;
-    what_is_held_goes_once_its_id_is_passed_over(&rt, &mut shadow);
-    Ok(())
-}
-
-fn what_is_held_goes_once_its_id_is_passed_over(rt: &impl Abort, shadow: &mut Shadow) {
-    assert_eq!(rt; hand(shadow, received(1, 1, B, 1001)), 0);
-    assert_eq!(rt; hand(shadow, received(1, 2, C, 1001)), 0);
-    assert_eq!(rt; apply(shadow, Edit::AllocateBlockId { id: id(C) }), 0);
-    assert_eq!(rt; told_after(shadow, 1), Some(due(1, 1, B)));
-    assert_eq!(rt; shadow.held_count(), 1);
-    assert!(rt; shadow.replicas().has_order(1, id(B)));
 }
 
 // So many wait behind so many that stay, that they go in one pass.
@@ -133,8 +114,7 @@ fn each_datanode_counts_from_1(rt: &impl Abort, shadow: &mut Shadow) {
 // ---- Steps.
 
 fn fresh(alloc: Global) -> Result<Shadow, Fail> {
-    let settings = Settings::new(1000, 1).ok_or("no settings")?;
-    Ok(Shadow::new(alloc, 2, settings)?)
+    Ok(Shadow::new(alloc, 2, settings(1000, 1)?)?)
 }
 
 // The number of the fault, 0 where the transaction is applied.

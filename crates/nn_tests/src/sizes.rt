@@ -1,13 +1,12 @@
 //! Calls on more than any small case has. No clause can say that memory suffices, so a body that gave up at the fifth
 //! item would be proved; here it would be seen. All run on a test's own stack, which is no larger than usual.
-ghost use Rattle.std.specs.Prelude.{◌+◌, ◌<◌, ◌^◌};
+ghost use Rattle.std.specs.Prelude.{◌+◌, ◌<◌};
 
+use crate::values;
+use crate::values::{replication, settings, stamp};
 use nn_replicas::Replicas;
 use nn_tree::{Found, Namespace};
-use nn_types::{
-    Block, BlockId, Blocks, Edit, GenerationStamp, Kind, Length, Path, Replica, Replication,
-    Settings,
-};
+use nn_types::{Block, Blocks, Edit, Kind, Path, Replica};
 use std::alloc::Global;
 use std::process::Abort;
 use std::test::Fail;
@@ -15,34 +14,9 @@ use std::test::Fail;
 // The last block id before the first that a log issues.
 const BEFORE: u64 = 1_073_741_824;
 
-fn id(value: u64) -> Result<BlockId, Fail> {
-    let Some(made) = BlockId::new(value) else {
-        return Err(Fail::new("no block id"));
-    };
-    Ok(made)
-}
-
-fn stamp(value: u64) -> Result<GenerationStamp, Fail> {
-    let Some(made) = GenerationStamp::new(value) else {
-        return Err(Fail::new("no generation stamp"));
-    };
-    Ok(made)
-}
-
-fn length(value: u64) -> Result<Length, Fail> {
-    let Some(made) = Length::new(value) else {
-        return Err(Fail::new("no length"));
-    };
-    Ok(made)
-}
-
 // The n-th block that a log issues, with its stamp and length.
 fn block(n: u32, generation: u64, len: u64) -> Result<Block, Fail> {
-    Ok(Block {
-        id: id(BEFORE + u64::from(n))?,
-        stamp: stamp(generation)?,
-        len: length(len)?,
-    })
+    values::block(BEFORE + u64::from(n), generation, len)
 }
 
 // ---- A file of many blocks.
@@ -90,9 +64,7 @@ fn apply(namespace: &mut Namespace, edit: Edit) -> Result<(), Fail> {
 fn make(alloc: Global, namespace: &mut Namespace) -> Result<(), Fail> {
     let stamp = stamp(1_001)?;
     apply(namespace, Edit::SetGenstamp { stamp })?;
-    let Some(replication) = Replication::new(3) else {
-        return Err(Fail::new("no replication"));
-    };
+    let replication = replication(3)?;
     let path = path(alloc)?;
     apply(namespace, Edit::Add { path, replication })
 }
@@ -162,21 +134,14 @@ fn has_blocks(
 
 #[test]
 fn a_block_of_6_datanodes(rt: HostRuntime) -> Result<(), Fail> {
-    let mut table = Replicas::new(rt.alloc(), settings(6)?);
+    let mut table = Replicas::new(rt.alloc(), settings(1_000, 6)?);
     spreads(&rt, &mut table, 6)
 }
 
 #[test]
 fn a_block_of_256_datanodes(rt: HostRuntime) -> Result<(), Fail> {
-    let mut table = Replicas::new(rt.alloc(), settings(256)?);
+    let mut table = Replicas::new(rt.alloc(), settings(1_000, 256)?);
     spreads(&rt, &mut table, 256)
-}
-
-fn settings(min: u16) -> Result<Settings, Fail> {
-    let Some(made) = Settings::new(1_000, min) else {
-        return Err(Fail::new("no settings"));
-    };
-    Ok(made)
 }
 
 // So many DataNodes report a block of a closed file; it is safe once all have.

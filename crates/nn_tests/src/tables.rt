@@ -2,41 +2,24 @@
 ghost use Rattle.std.specs.Prelude.{◌≡◌, IfOk, IsTrue};
 ghost use Rattle.nn_replicas.specs.Calls.{is_kept};
 
+use crate::values;
+use crate::values::{block, id, settings};
 use nn_listing::push_tables;
 use nn_replicas::{Replicas, SafeMode};
-use nn_types::{Block, BlockId, GenerationStamp, Kind, Length, Replica, Settings};
+use nn_types::{Kind, Replica, Settings};
 use std::alloc::Global;
 use std::test::Fail;
 
 // The first block id that a log issues.
 const B: u64 = 1_073_741_825;
 
-fn id(value: u64) -> Result<BlockId, Fail> {
-    let Some(made) = BlockId::new(value) else {
-        return Err(Fail::new("no block id"));
-    };
-    Ok(made)
-}
-
 fn replica(stamp: u64, len: u64, kind: Kind) -> Result<Replica, Fail>
     ensures { IfOk result (λ r. r.kind ≡ kind) }
 {
-    let Some(stamp) = GenerationStamp::new(stamp) else {
-        return Err(Fail::new("no generation stamp"));
-    };
-    let Some(len) = Length::new(len) else {
-        return Err(Fail::new("no length"));
-    };
-    Ok(Replica { stamp, len, kind })
-}
-
-// A closed file's block with the generation stamp 1002 and 5 bytes.
-fn block(value: u64) -> Result<Block, Fail> {
-    let like = replica(1002, 5, Kind::Received)?;
-    Ok(Block {
-        id: id(value)?,
-        stamp: like.stamp,
-        len: like.len,
+    Ok(Replica {
+        stamp: values::stamp(stamp)?,
+        len: values::length(len)?,
+        kind,
     })
 }
 
@@ -58,7 +41,7 @@ fn lines_of_each_class(rt: HostRuntime) -> Result<(), Fail> {
 
 // The lines of a table with a replica of each class, behind a line that stands there already.
 fn listed(alloc: Global) -> Result<String, Fail> {
-    let settings = Settings::new(999, 1).ok_or("no settings")?;
+    let settings = settings(999, 1)?;
     let mut table = Replicas::new(alloc, settings);
     fill(&mut table)?;
     lines_of(alloc, &table, settings)
@@ -66,8 +49,8 @@ fn listed(alloc: Global) -> Result<String, Fail> {
 
 // Whoever owns a table shows at each of its exits that it is dropped, so a table is filled and listed on loan.
 fn fill(table: &mut Replicas) -> Result<(), Fail> {
-    table.set_block(block(B + 1)?, true)?;
-    table.set_block(block(B)?, true)?;
+    table.set_block(block(B + 1, 1002, 5)?, true)?;
+    table.set_block(block(B, 1002, 5)?, true)?;
     put(table, 256, B, replica(1002, 5, Kind::Received)?)?;
     put(table, 2, B, replica(1002, 4, Kind::Received)?)?;
     put(table, 1, B, replica(1001, 5, Kind::Received)?)?;
@@ -100,10 +83,7 @@ fn lines_of(alloc: Global, table: &Replicas, settings: Settings) -> Result<Strin
 
 #[test]
 fn safe_mode_on(rt: HostRuntime) -> Result<(), Fail> {
-    let Some(settings) = Settings::new(1000, 1) else {
-        return Err(Fail::new("no settings"));
-    };
-    let table = Replicas::new(rt.alloc(), settings);
+    let table = Replicas::new(rt.alloc(), settings(1000, 1)?);
     let mode = SafeMode {
         total: 1001,
         safe: 1000,

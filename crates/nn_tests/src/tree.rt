@@ -1,12 +1,11 @@
-//! Edits in few words and what becomes of them, in the order in which they come.
+//! Edits in few words and what becomes of them, in the order in which they come. Which fault an edit has is told by
+//! worked scenarios.
+use crate::values;
 use nn_tree::{BlockRow, Found, Namespace, Touched};
-use nn_types::{Block, BlockId, Blocks, Edit, GenerationStamp, Length, Path, Replication, Status};
+use nn_types::{Block, BlockId, Blocks, Edit, GenerationStamp, Path, Replication, Status};
 use std::alloc::Global;
 use std::process::Abort;
 use std::test::Fail;
-
-// An edit in words, and the number of its fault, or 0.
-type Step = (&'static str, u8);
 
 // What a look-up finds: nothing, a directory, or a file with its replication.
 #[derive(Clone, Copy, Debug, PartialEq, Eq)]
@@ -19,137 +18,13 @@ enum Seen {
 // A test owns its namespace and lends it to the checks, each of which is short: whoever owns one shows at each of its
 // exits that it is dropped.
 
-// The faults of these edits, in a namespace of their own. A fault changes nothing, so one serves the whole list.
-fn faults(rt: &impl Abort, alloc: Global, steps: &[Step]) -> Result<(), Fail> {
-    let mut namespace = Namespace::new(alloc);
-    answers(rt, alloc, &mut namespace, steps)
-}
-
-#[test]
-fn faults_of_directories(rt: HostRuntime) -> Result<(), Fail> {
-    faults(&rt, rt.alloc(), &directories())
-}
-
-fn directories() -> [Step; 8] {
-    [
-        ("mkdir /", 25),
-        ("mkdir /a", 0),
-        ("mkdir /a", 21),
-        ("mkdir /x/y", 22),
-        ("add /f 3", 0),
-        ("mkdir /f/x", 23),
-        ("delete /", 25),
-        ("delete /x", 22),
-    ]
-}
-
-// A bad replication comes before the walk.
-#[test]
-fn faults_of_replications(rt: HostRuntime) -> Result<(), Fail> {
-    faults(&rt, rt.alloc(), &replications())
-}
-
-fn replications() -> [Step; 6] {
-    [
-        ("mkdir /a", 0),
-        ("add /f 3", 0),
-        ("add /x/f 0", 31),
-        ("replicate /x/f 513", 31),
-        ("replicate /f 512", 0),
-        ("replicate /a 3", 24),
-    ]
-}
-
-// An id that does not await comes before a bad stamp.
-#[test]
-fn faults_of_blocks(rt: HostRuntime) -> Result<(), Fail> {
-    faults(&rt, rt.alloc(), &blocks())
-}
-
-fn blocks() -> [Step; 12] {
-    [
-        ("mkdir /a", 0),
-        ("add /f 3", 0),
-        ("allocate 1073741824", 30),
-        ("allocate 1073741825", 0),
-        ("stamp 1000", 29),
-        ("stamp 1001", 0),
-        ("block /a 1073741825 1001", 24),
-        ("block /f 1073741826 1002", 30),
-        ("block /f 1073741825 1002", 29),
-        ("block /f 1073741825 1000", 29),
-        ("block /f 1073741825 1001", 0),
-        ("block /f 1073741825 1001", 30),
-    ]
-}
-
-// A wrong id in the second place comes before a bad stamp in the first, and a closed file before both.
-#[test]
-fn faults_of_lists(rt: HostRuntime) -> Result<(), Fail> {
-    faults(&rt, rt.alloc(), &block_lists())
-}
-
-fn block_lists() -> [Step; 10] {
-    [
-        ("add /f 3", 0),
-        ("stamp 1001", 0),
-        ("allocate 1073741825", 0),
-        ("block /f 1073741825 1001", 0),
-        ("update /f 1073741825 1000 0 1073741826 1001 0", 28),
-        ("update /f 1073741825 1000 0", 29),
-        ("update /f 1073741825 1001 4", 0),
-        ("close /f 1073741825 1001 5", 0),
-        ("block /f 1 1", 27),
-        ("close /f", 27),
-    ]
-}
-
-// A missing source comes before a target below it, and that before the walk of the target.
-#[test]
-fn faults_of_renames(rt: HostRuntime) -> Result<(), Fail> {
-    faults(&rt, rt.alloc(), &renames())
-}
-
-fn renames() -> [Step; 8] {
-    [
-        ("mkdir /a", 0),
-        ("add /f 3", 0),
-        ("rename /x /x/y", 22),
-        ("rename /f /f/x/y", 26),
-        ("rename /a /f/x", 23),
-        ("rename /a /a", 21),
-        ("rename / /b", 25),
-        ("rename /a /", 25),
-    ]
-}
-
-// What a rename moves and what it refuses. Paths are in the order of their names: `/a-b` comes after `/a/b`.
+// What lies below a path moves with it. Paths are in the order of their names: `/a-b` comes after `/a/b`.
 #[test]
 fn rename_rules(rt: HostRuntime) -> Result<(), Fail> {
     let mut namespace = Namespace::new(rt.alloc());
-    renames_are_refused(&rt, rt.alloc(), &mut namespace)?;
-    renames_move_what_lies_below(&rt, rt.alloc(), &mut namespace)
-}
-
-fn renames_are_refused(
-    rt: &impl Abort,
-    alloc: Global,
-    namespace: &mut Namespace,
-) -> Result<(), Fail> {
     let made = ["mkdir /a", "mkdir /a/b", "add /a/b/f 1", "add /a-b 2"];
-    apply_all(namespace, alloc, &made)?;
-    lists(rt, alloc, namespace, "/ /a /a/b /a/b/f /a-b")?;
-    answers(rt, alloc, namespace, &refused_renames())
-}
-
-fn refused_renames() -> [Step; 5] {
-    [
-        ("rename /a /a", 21),
-        ("rename /a /a/b/c", 26),
-        ("rename /a-b /a-b/c", 26),
-        ("rename /a /x/y", 22),
-        ("rename /a /a-b/c", 23),
-    ]
+    apply_all(&mut namespace, rt.alloc(), &made)?;
+    renames_move_what_lies_below(&rt, rt.alloc(), &mut namespace)
 }
 
 fn renames_move_what_lies_below(
@@ -157,6 +32,7 @@ fn renames_move_what_lies_below(
     alloc: Global,
     namespace: &mut Namespace,
 ) -> Result<(), Fail> {
+    lists(rt, alloc, namespace, "/ /a /a/b /a/b/f /a-b")?;
     apply_all(namespace, alloc, &["rename /a /c"])?;
     lists(rt, alloc, namespace, "/ /a-b /c /c/b /c/b/f")?;
     apply_all(namespace, alloc, &["rename /c/b/f /a", "delete /c"])?;
@@ -364,40 +240,11 @@ fn apply(namespace: &mut Namespace, alloc: Global, words: &str) -> Result<Touche
     Ok(namespace.apply(&edit)?)
 }
 
-// Asks for the fault of each edit, applies it, and compares both numbers with the one that is wanted.
-fn answers(
-    rt: &impl Abort,
-    alloc: Global,
-    namespace: &mut Namespace,
-    steps: &[Step],
-) -> Result<(), Fail> {
-    for (words, number) in steps {
-        let faults = both_faults(namespace, alloc, words)?;
-        assert_eq!(rt; faults, (*number, *number), "at {words}");
-    }
-    Ok(())
-}
-
-// The number of the fault that an edit would have, and that of applying it.
-fn both_faults(namespace: &mut Namespace, alloc: Global, words: &str) -> Result<(u8, u8), Fail> {
-    let edit = edit_of(alloc, words)?;
-    let refused = namespace.refusal(&edit);
-    let refused = refused.map_or(0, |fault| fault.number());
-    Ok((refused, number_of(namespace, &edit)))
-}
-
 fn apply_all(namespace: &mut Namespace, alloc: Global, steps: &[&str]) -> Result<(), Fail> {
     for words in steps {
         apply(namespace, alloc, words)?;
     }
     Ok(())
-}
-
-// Applies an edit, and gives the number of its fault, or 0.
-fn number_of(namespace: &mut Namespace, edit: &Edit) -> u8 {
-    namespace
-        .apply(edit)
-        .map_or_else(|fault| fault.number(), |_touched| 0)
 }
 
 fn edit_of(alloc: Global, line: &str) -> Result<Edit, Fail> {
@@ -479,21 +326,17 @@ fn push_block(blocks: &mut Blocks, words: &[&str]) -> Result<(), Fail> {
 }
 
 fn block_of(id: &str, stamp: &str, len: &str) -> Result<Block, Fail> {
-    Ok(Block {
-        id: id_of(id)?,
-        stamp: stamp_of(stamp)?,
-        len: Length::new(len.parse()?).ok_or("no length")?,
-    })
+    values::block(id.parse()?, stamp.parse()?, len.parse()?)
 }
 
 fn id_of(word: &str) -> Result<BlockId, Fail> {
-    Ok(BlockId::new(word.parse()?).ok_or("no id")?)
+    values::id(word.parse()?)
 }
 
 fn stamp_of(word: &str) -> Result<GenerationStamp, Fail> {
-    Ok(GenerationStamp::new(word.parse()?).ok_or("no stamp")?)
+    values::stamp(word.parse()?)
 }
 
 fn replication_of(word: &str) -> Result<Replication, Fail> {
-    Ok(Replication::new(word.parse()?).ok_or("no replication")?)
+    values::replication(word.parse()?)
 }

@@ -3,14 +3,13 @@ ghost use Rattle.std.specs.Prelude.{◌≡◌, ◌≢◌, ◌≤◌, ◌++◌, �
 ghost use Rattle.std.specs.Io.KnownBytes.{Appends};
 ghost use Rattle.nn_edits.specs.Fault.{number_of as line_number_of};
 ghost use Rattle.nn_model.specs.Lanes.{Lanes};
-ghost use Rattle.nn_model.specs.Namespace.{root_alone};
 ghost use Rattle.nn_model.specs.Picture.{ShowsPicture};
 ghost use Rattle.nn_model.specs.Stands.{tables_of};
 ghost use Rattle.nn_shadow.specs.Contents.{standby_of};
 ghost use Rattle.nn_segment.specs.Fault.{number_of as segment_number_of};
 ghost use Rattle.nn_scenario.specs.Cut.{segments_from};
 ghost use Rattle.nn_engine.specs.Follow.{serving, HasArrived, StopsAs};
-ghost use Rattle.nn_segment.specs.LogEnd.{LogEnd, LogStop, end_of_log};
+ghost use Rattle.nn_segment.specs.LogEnd.{LogEnd, LogStop};
 ghost use Rattle.nn_engine.specs.declared.engine.Options.{Options as RunOptions};
 ghost use Rattle.nn_engine.specs.Output.{output_of, after_log, fault_at, with_history, IsPrinted};
 ghost use Rattle.nn_shadow.specs.Calls.{flushed};
@@ -18,7 +17,6 @@ ghost use Rattle.nn_engine.specs.Run.{Wrote, WroteFront, running, unread_line};
 ghost use Rattle.nn_scenario.specs.Chunks.{IsReadAs};
 ghost use Rattle.nn_scenario.specs.Scenario.{max_input, seen, IsLawfulScenario};
 ghost use Rattle.nn_engine.specs.Shown.{history_part, shown, with_settings, IsFaultOf, IsToldOf};
-ghost use Rattle.nn_scenario.specs.Steps.{lanes_of};
 
 use crate::device::{Input, InputFault, RunFault, read_scenario, write_output};
 use crate::follow::{Halt, follow};

@@ -3,12 +3,10 @@
 ghost use Rattle.std.specs.Prelude.{◌≡◌, ◌≤◌, ◌^◌, ◌++◌, ◌∷◌, [], ℕ, List, length, replicate, true, Ok, IfOk, IfErr, OnOk};
 ghost use Rattle.std.specs.List.{All};
 ghost use Rattle.nn_model.specs.Lanes.{no_messages};
-ghost use Rattle.nn_model.specs.Namespace.{root_alone};
 ghost use Rattle.nn_scenario.specs.Cut.{segments_from};
 ghost use Rattle.nn_scenario.specs.Chunks.{IsReadAs};
 ghost use Rattle.nn_scenario.specs.Scenario.{seen, IsLawfulScenario};
 ghost use Rattle.nn_scenario.specs.Steps.{lanes_of, AreInTurn, IsStepOf};
-ghost use Rattle.nn_segment.specs.LogEnd.{end_of_log};
 ghost use Rattle.nn_engine.specs.Listed.{report_of, with_step, AreFew, AreListed, MayEnd, TellsStop};
 ghost use Rattle.nn_engine.specs.Output.{output_of, IsPrinted};
 ghost use Rattle.nn_engine.specs.Run.{Wrote, WroteFront, running};

@@ -1,5 +1,5 @@
 //! Segments typed by hand, and sources for the tests.
-ghost use Rattle.std.specs.Prelude.{◌≡◌, ◌-◌, ◌≤◌, ⊤, true, if◌then◌else◌};
+ghost use Rattle.std.specs.Prelude.{◌-◌, ◌≤◌, ⊤, true, if◌then◌else◌};
 
 use nn_segment::{Item, Parsed, SegmentSource, SourceFault};
 use std::alloc::Global;

@@ -1,6 +1,6 @@
 //! The two ends of a lane.
-ghost use Rattle.std.specs.Prelude.{◌≡◌, ◌≤◌, ◌<◌, ◌^◌, ◌+◌, ◌∷◌, ◌++◌, ℕ, length, true, false, [], IfOk, IfErr, Some, None};
-ghost use Rattle.nn_lane.specs.Ends.{capacity_of, message_of, StaysUntold, HasPlace, Refuses, Publishes, Gives, StartsWith};
+ghost use Rattle.std.specs.Prelude.{◌≡◌, ◌≤◌, ◌<◌, ◌^◌, ◌+◌, ◌∷◌, ◌++◌, length, true, false, [], IfOk, IfErr, Some, None};
+ghost use Rattle.nn_lane.specs.Ends.{capacity_of, message_of, HasPlace, Refuses, Publishes, Gives, StartsWith};
 
 use crate::fault::Refusal;
 use crate::message::{Met, Taken};

@@ -1,5 +1,5 @@
 //! The two ends of a lane on two threads: every message comes once, in order, however few places there are.
-ghost use Rattle.std.specs.Prelude.{◌≡◌, ◌≤◌};
+ghost use Rattle.std.specs.Prelude.{◌≤◌};
 
 use crate::report::{FIRST, report_of};
 use nn_lane::{LaneEnd, Reporter, Taken, lane};

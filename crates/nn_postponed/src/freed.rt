@@ -1,5 +1,5 @@
 //! The messages that an edit set free about a block, and the pass through its queue that finds them.
-ghost use Rattle.std.specs.Prelude.{◌≡◌, ◌≤◌, ◌<◌, ◌+◌, ◌&&◌, not, take, length, [], ◌∷◌, ◌++◌, IfSome, IfNone};
+ghost use Rattle.std.specs.Prelude.{◌≡◌, ◌≤◌, ◌<◌, ◌+◌, ◌&&◌, not, take, length, [], ◌∷◌, IfSome, IfNone};
 ghost use Rattle.std.specs.List.{list_any};
 ghost use Rattle.std.specs.VecDeque.{deque_len};
 ghost use Rattle.nn_postponed.specs.Scans.{KnowsStuck, GoesAt, Marks};

@@ -1,5 +1,5 @@
 //! Laws over the definitions: functions that do nothing, whose contracts hold.
-ghost use Rattle.std.specs.Prelude.{◌≡◌, ℕ, Bool, Some, None};
+ghost use Rattle.std.specs.Prelude.{ℕ, Bool, Some, None};
 ghost use Rattle.nn_types.specs.declared.block.Block.{Block};
 ghost use Rattle.nn_types.specs.declared.replica.Replica.{Replica};
 ghost use Rattle.nn_replicas.specs.Table.{Table};

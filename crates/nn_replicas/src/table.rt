@@ -1,5 +1,5 @@
 //! The replica table.
-ghost use Rattle.std.specs.Prelude.{◌≡◌, IsOk, OnOk, OnErr, IfOk, IsTrue, is_some, true};
+ghost use Rattle.std.specs.Prelude.{◌≡◌, IsOk, OnOk, OnErr, IfOk, IsTrue, is_some};
 ghost use Rattle.std.specs.FinMap.Entries.{is_sorted};
 ghost use Rattle.std.specs.Ordering.{nat_cmp};
 ghost use Rattle.nn_replicas.specs.Calls.{row_at, rows_of, replicas_at, orders_of, AreAscending, has_order, is_placed, is_kept, total_of, safe_of, empty_table, block_set, pair_placed, replica_put, replica_erased, block_retired};

@@ -1,14 +1,13 @@
 //! The edit lines of a scenario as segments.
-ghost use Rattle.std.specs.Prelude.{◌≡◌, ◌≢◌, ◌≤◌, ◌++◌, ◌∷◌, [], true, Ok, Err, IfOk, IfErr, OnOk, length, max, string_bytes};
+ghost use Rattle.std.specs.Prelude.{◌≡◌, ◌≢◌, ◌≤◌, ◌++◌, ◌∷◌, [], true, Ok, Err, IfOk, IfErr, OnOk, max, string_bytes};
 ghost use Rattle.std.specs.List.{All};
 ghost use Rattle.nn_edits.specs.Reading.{edit_of_line};
 ghost use Rattle.nn_segment.specs.Lines.{newline, is_unbroken};
 ghost use Rattle.nn_segment.specs.Outcome.{Gives};
-ghost use Rattle.nn_segment.specs.Segment.{is_end};
 ghost use Rattle.nn_scenario.specs.Cut.{no_lines, with_line, last_part, name_of, segment_of, segments_from};
 
 use nn_segment::{Parsed, SegmentFault, segment_name};
-use nn_types::{Edit, Tx, Txid};
+use nn_types::{Tx, Txid};
 use std::alloc::{AllocError, Global};
 use std::marker::Model;
 

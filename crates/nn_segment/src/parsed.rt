@@ -1,10 +1,9 @@
 //! A segment that was found whole.
-ghost use Rattle.std.specs.Prelude.{◌≡◌, ◌⊎◌, ◌≤◌, ◌<◌, ◌^◌, ◌+◌, ◌∷◌, [], ◌||◌, ℕ, None, Some, Ok, Err, length, map, drop, is_none, string_bytes, MatchResult};
+ghost use Rattle.std.specs.Prelude.{◌≡◌, ◌⊎◌, ◌≤◌, ◌<◌, ◌^◌, ◌+◌, ◌∷◌, [], ◌||◌, ℕ, None, Some, Ok, Err, map, drop, is_none, string_bytes, MatchResult};
 ghost use Rattle.nn_segment.specs.declared.fault.SegmentFault.TheVariants.{BadName};
-ghost use Rattle.nn_edits.specs.Outcome.{Fails};
 ghost use Rattle.nn_segment.specs.Name.{txids_of};
-ghost use Rattle.nn_segment.specs.Lines.{newline, lines_of, is_ended, reads_of};
-ghost use Rattle.nn_segment.specs.Segment.{is_start, is_end, ends_once, first_txid, last_txid, max_bytes, IsSegment};
+ghost use Rattle.nn_segment.specs.Lines.{reads_of};
+ghost use Rattle.nn_segment.specs.Segment.{is_start, is_end, ends_once, first_txid, last_txid, IsSegment};
 ghost use Rattle.nn_segment.specs.Reading.{first, when, bytes_checks, lines_fault, later_fault, is_named, read_segment, fault_of_line};
 ghost use Rattle.nn_segment.specs.Outcome.{Gives, StopsAt};
 

@@ -1,5 +1,5 @@
 //! Which blocks an edit touched, one after another.
-ghost use Rattle.std.specs.Prelude.{◌≡◌, ℕ, ◌≤◌, ◌++◌, [], None, OnOk, IfOk, ◌⊎◌, IfSome};
+ghost use Rattle.std.specs.Prelude.{◌≡◌, ◌++◌, [], None, OnOk, IfOk, ◌⊎◌};
 ghost use Rattle.nn_model.specs.Touched.{ids_of, ascending, changed_ids};
 ghost use Rattle.nn_tree.specs.Touched.{seen};
 ghost use Rattle.nn_shadow.specs.Touching.{written, Rises, IsNextTouched, IsNextSkipped, lower, lowest, earlier, later};

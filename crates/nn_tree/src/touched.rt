@@ -1,5 +1,5 @@
 //! What an edit touched.
-ghost use Rattle.std.specs.Prelude.{◌≡◌, ◌+◌, ◌-◌, ◌++◌, ◌∷◌, [], ◌<◌, nat_lt, false, if◌then◌else◌, map, drop, length, IfOk, IfErr, OnOk, Some, None};
+ghost use Rattle.std.specs.Prelude.{◌≡◌, ◌+◌, ◌-◌, ◌++◌, ◌∷◌, [], ◌<◌, nat_lt, false, if◌then◌else◌, map, drop, length, IfOk, OnOk, Some, None};
 ghost use Rattle.nn_model.specs.Apply.{new_block};
 ghost use Rattle.nn_model.specs.Blocks.{block_row};
 ghost use Rattle.nn_model.specs.Touched.{nothing};

@@ -2,7 +2,6 @@
 ghost use Rattle.std.specs.Prelude.{◌≡◌, [], ◌∷◌, ◌++◌, ◌&&◌, nat_lt, OnOk, OnErr, ◌+◌, ◌<◌, length, IsSome, is_some, Some, None, true, MatchResult, IfOk, IfErr, IfSome};
 ghost use Rattle.nn_tree.specs.Walks.{file_fault, mkdir_fault, delete_fault, rename_fault, IsRenamed};
 ghost use Rattle.nn_model.specs.Apply.{walk};
-ghost use Rattle.std.specs.String.{string_bytes};
 ghost use Rattle.std.specs.Option.{option_copied};
 ghost use Rattle.nn_model.specs.declared.form.Form.TheVariants.{Dir, File};
 ghost use Rattle.nn_tree.specs.Ids.{ids_of};

@@ -1,5 +1,5 @@
 //! The log: a segment in hand, and the next transaction of it.
-ghost use Rattle.std.specs.Prelude.{◌≡◌, ◌≢◌, ◌+◌, ◌^◌, ◌<◌, ◌≤◌, ◌∷◌, [], List, MatchBool, IfOk, IfErr};
+ghost use Rattle.std.specs.Prelude.{◌≡◌, ◌≢◌, ◌+◌, ◌^◌, ◌<◌, ◌≤◌, [], List, MatchBool, IfOk, IfErr};
 ghost use Rattle.nn_segment.specs.Source.{Answer, Asked};
 ghost use Rattle.nn_types.specs.declared.fault.TheConstants.{DISORDER};
 ghost use Rattle.nn_tailer.specs.Tailing.{stopping, EndsInEnd};

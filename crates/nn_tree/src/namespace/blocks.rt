@@ -1,5 +1,4 @@
 //! The blocks of all files, one after another.
-ghost use Rattle.std.specs.Prelude.{◌≡◌};
 ghost use Rattle.std.specs.Iterator.{YieldsFirst, item_count};
 ghost use Rattle.std.specs.BTreeMap.{values};
 ghost use Rattle.nn_tree.specs.Blocks.{AreBlocks};

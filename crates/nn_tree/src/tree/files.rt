@@ -1,5 +1,5 @@
 //! Changes of a file, made where it stands: one walk down its path checks and changes.
-ghost use Rattle.std.specs.Prelude.{◌≡◌, ◌++◌, ◌∷◌, [], false, IfOk, OnOk, OnErr};
+ghost use Rattle.std.specs.Prelude.{◌≡◌, false, IfOk, OnOk, OnErr};
 ghost use Rattle.nn_model.specs.Apply.{keeps_ids, keeps_stamps};
 ghost use Rattle.nn_tree.specs.At.{at, IsSame};
 ghost use Rattle.nn_tree.specs.Walks.{is_file};

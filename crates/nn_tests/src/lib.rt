@@ -20,8 +20,6 @@ mod shadow;
 #[cfg(test)]
 mod sizes;
 #[cfg(test)]
-mod tables;
-#[cfg(test)]
 mod tree;
 #[cfg(test)]
 mod values;

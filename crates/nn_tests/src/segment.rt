@@ -122,18 +122,12 @@ fn count_of(alloc: Global, name: &str, texts: &[&str]) -> Result<usize, Fail> {
     Ok(segment.txs().len())
 }
 
-#[test]
-fn a_carriage_return_is_white_space(rt: HostRuntime) -> Result<(), Fail> {
-    let end = "{\"op\":\"OP_END_LOG_SEGMENT\",\"txid\":3}\r\n";
-    assert_eq!(rt; count_of(rt.alloc(), NAME, &[START, MKDIR, end])?, 3);
-    Ok(())
-}
-
+// A carriage return is white space.
 #[test]
 fn up_to_the_greatest_txid(rt: HostRuntime) -> Result<(), Fail> {
     let name = "edits_9223372036854775806-9223372036854775807";
     let start = "{\"op\":\"OP_START_LOG_SEGMENT\",\"txid\":9223372036854775806}\n";
-    let end = "{\"op\":\"OP_END_LOG_SEGMENT\",\"txid\":9223372036854775807}\n";
+    let end = "{\"op\":\"OP_END_LOG_SEGMENT\",\"txid\":9223372036854775807}\r\n";
     assert_eq!(rt; count_of(rt.alloc(), name, &[start, end])?, 2);
     assert_eq!(rt; fault_of(rt.alloc(), name, &[start, end, end])?, 14);
     Ok(())

@@ -1,12 +1,9 @@
-//! Refused calls, and many messages at once. Whole histories are worked scenarios.
+//! Refused calls. Whole histories are worked scenarios.
 ghost use Rattle.std.specs.Prelude.{◌<◌, ◌^◌};
 
 use crate::values::settings;
 use nn_shadow::{ApplyFault, HandCause, Shadow};
-use nn_types::{
-    BlockId, Cause, Edit, Event, GenerationStamp, Kind, Length, Message, Path, Replication, Tx,
-    Txid,
-};
+use nn_types::{BlockId, Edit, GenerationStamp, Kind, Length, Message, Path, Tx, Txid};
 use std::alloc::Global;
 use std::process::Abort;
 use std::test::Fail;
@@ -31,50 +28,6 @@ fn the_flush_takes_up_what_is_held(rt: &impl Abort, shadow: &mut Shadow) {
     assert_eq!(rt; flushed(shadow), 1);
     assert_eq!(rt; flushed(shadow), 0);
     assert_eq!(rt; hand(shadow, deleted(1, 2, B)), 53);
-}
-
-// So many wait behind so many that stay, that they go in one pass.
-const MANY: u64 = 200;
-
-#[test]
-fn many_freed_behind_many(rt: HostRuntime) -> Result<(), Fail> {
-    let mut shadow = fresh(rt.alloc())?;
-    many_wait_behind_many(&rt, &mut shadow);
-    let path = Path::parse(rt.alloc(), "/f")?;
-    let file = Path::parse(rt.alloc(), "/f")?;
-    the_file_gets_the_block(&rt, &mut shadow, path, file);
-    those_of_its_stamp_go(&rt, &shadow);
-    Ok(())
-}
-
-fn many_wait_behind_many(rt: &impl Abort, shadow: &mut Shadow) {
-    for number in 1..MANY + 1 {
-        assert_eq!(rt; hand(shadow, received(1, number, B, FAR)), 0);
-    }
-    for number in 1..MANY + 1 {
-        assert_eq!(rt; hand(shadow, received(2, number, B, 1001)), 0);
-    }
-}
-
-fn the_file_gets_the_block(rt: &impl Abort, shadow: &mut Shadow, path: Path, file: Path) {
-    let replication = Replication::new(3).unwrap();
-    assert_eq!(rt; apply(shadow, Edit::Add { path, replication }), 0);
-    assert_eq!(rt; apply(shadow, Edit::SetGenstamp { stamp: stamp(1001) }), 0);
-    assert_eq!(rt; apply(shadow, Edit::AllocateBlockId { id: id(B) }), 0);
-    let edit = Edit::AddBlock {
-        path: file,
-        id: id(B),
-        stamp: stamp(1001),
-    };
-    assert_eq!(rt; apply(shadow, edit), 0);
-}
-
-// They are told right after the four edits, in their order.
-fn those_of_its_stamp_go(rt: &impl Abort, shadow: &Shadow) {
-    assert_eq!(rt; told_after(shadow, 4), Some(due(2, 1, B)));
-    assert_eq!(rt; told_after(shadow, 203), Some(due(2, MANY, B)));
-    assert_eq!(rt; shadow.history().len(), 204);
-    assert_eq!(rt; shadow.held_count(), 200);
 }
 
 // An edit that does not apply stops the standby for good.
@@ -148,22 +101,6 @@ fn flushed(shadow: &mut Shadow) -> u64 {
     match shadow.flush() {
         Ok(count) => count,
         Err(fault) => u64::from(fault.number()),
-    }
-}
-
-// The event at this place of the history.
-fn told_after(shadow: &Shadow, place: usize) -> Option<Event> {
-    shadow.history().get(place).copied()
-}
-
-fn due(dn: u16, number: u64, block: u64) -> Event
-    requires { block < 2 ^ 63 }
-{
-    Event::Processed {
-        dn,
-        number,
-        block: id(block),
-        cause: Cause::Due,
     }
 }
 

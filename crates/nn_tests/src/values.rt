@@ -7,27 +7,45 @@ use std::test::Fail;
 pub fn txid(value: u64) -> Result<Txid, Fail>
     ensures { IfOk result (λ txid. txid ≡ value) }
 {
-    Ok(Txid::new(value).ok_or("no txid")?)
+    let Some(made) = Txid::new(value) else {
+        return Err(Fail::new("no txid"));
+    };
+    Ok(made)
 }
 
 pub fn id(value: u64) -> Result<BlockId, Fail> {
-    Ok(BlockId::new(value).ok_or("no block id")?)
+    let Some(made) = BlockId::new(value) else {
+        return Err(Fail::new("no block id"));
+    };
+    Ok(made)
 }
 
 pub fn stamp(value: u64) -> Result<GenerationStamp, Fail> {
-    Ok(GenerationStamp::new(value).ok_or("no generation stamp")?)
+    let Some(made) = GenerationStamp::new(value) else {
+        return Err(Fail::new("no generation stamp"));
+    };
+    Ok(made)
 }
 
 pub fn length(value: u64) -> Result<Length, Fail> {
-    Ok(Length::new(value).ok_or("no length")?)
+    let Some(made) = Length::new(value) else {
+        return Err(Fail::new("no length"));
+    };
+    Ok(made)
 }
 
 pub fn replication(value: u64) -> Result<Replication, Fail> {
-    Ok(Replication::new(value).ok_or("no replication")?)
+    let Some(made) = Replication::new(value) else {
+        return Err(Fail::new("no replication"));
+    };
+    Ok(made)
 }
 
 pub fn settings(permille: u16, min: u16) -> Result<Settings, Fail> {
-    Ok(Settings::new(permille, min).ok_or("no settings")?)
+    let Some(made) = Settings::new(permille, min) else {
+        return Err(Fail::new("no settings"));
+    };
+    Ok(made)
 }
 
 pub fn block(block: u64, generation: u64, len: u64) -> Result<Block, Fail> {

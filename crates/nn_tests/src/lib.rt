@@ -1,8 +1,8 @@
-//! Tests of the libraries' public calls: each once on its happy path, some that are refused, and large values. What the
-//! program does with a scenario is told by the files of nn_worked.
+//! Tests of the libraries' public calls: those that no scenario comes to on their happy path, refused ones, and large
+//! values. What the program does with a scenario is told by the files of nn_worked.
 //!
-//! Every call is proved where it stands, and a proof says nothing of want of memory that never came: so each call is
-//! run here with ample memory. They stand apart, in one crate, since proving a crate's tests proves the crate once more.
+//! Every call is proved where it stands, and a proof says nothing of want of memory that never came: so calls are run
+//! here with ample memory. They stand apart, in one crate, since proving a crate's tests proves the crate once more.
 #![tactic(auto)]
 
 #[cfg(test)]

@@ -52,6 +52,10 @@ enum Halted {
 }
 
 impl From<AllocError> for Halted {
+    ghost use Rattle.nn_engine.specs.declared.threads.Halted.TheVariants.{OutOfMemory};
+
+    ghost from_gives = { λ _ e. e ≡ OutOfMemory };
+
     fn from(_e: AllocError) -> Halted {
         Halted::OutOfMemory
     }

@@ -5,8 +5,10 @@ ghost use Rattle.nn_types.specs.declared.tx.Tx.{Tx as TxData};
 ghost use Rattle.nn_segment.specs.Lines.{newline};
 
 use crate::values::txid;
-use nn_edits::{Scratch, read_edit};
-use nn_segment::{Item, MemorySource, Parsed, SegmentSource, gather, parse_name, segment_name};
+use nn_edits::{LineFault, Scratch, read_edit};
+use nn_segment::{
+    Item, MemorySource, Parsed, SegmentFault, SegmentSource, gather, parse_name, segment_name,
+};
 use nn_types::Tx;
 use std::alloc::Global;
 use std::process::Abort;
@@ -36,13 +38,13 @@ fn parsed(alloc: Global, name: &str, texts: &[&str]) -> Result<Parsed, Fail> {
     Ok(Parsed::of(alloc, name, bytes)?)
 }
 
-// The number of the fault for which these lines are no segment of that name, or 0.
-fn fault_of(alloc: Global, name: &str, texts: &[&str]) -> Result<u8, Fail> {
+// Why these lines are no segment of that name.
+fn fault_of(alloc: Global, name: &str, texts: &[&str]) -> Result<SegmentFault, Fail> {
     let bytes = bytes_of(alloc, texts)?;
     let name = String::from_str(alloc, name)?;
     match Parsed::of(alloc, name, bytes) {
-        Ok(_) => Ok(0),
-        Err(fault) => Ok(fault.number()),
+        Ok(_) => Err(Fail::new("it is a segment")),
+        Err(fault) => Ok(fault),
     }
 }
 
@@ -81,37 +83,62 @@ fn a_name_has_19_digits_twice(rt: HostRuntime) -> Result<(), Fail> {
     Ok(())
 }
 
-// Texts under a name, and the number of the fault for which they are no segment.
-type Faulty = (&'static str, [&'static str; 5], u8);
+// Texts under a name, the fault for which they are no segment, and its number.
+type Faulty = (&'static str, [&'static str; 5], SegmentFault, u8);
 
 const TO_4: &str = "edits_0000000000000000001-0000000000000000004";
 
+const TO_5: &str = "edits_0000000000000000001-0000000000000000005";
+
+const TORN: &str = "{\"op\":\"OP_END_LOG_SEGMENT\",\"txid\":3}";
+
+const END_4: &str = "{\"op\":\"OP_END_LOG_SEGMENT\",\"txid\":4}\n";
+
+const END_5: &str = "{\"op\":\"OP_END_LOG_SEGMENT\",\"txid\":5}\n";
+
+const START_2: &str = "{\"op\":\"OP_START_LOG_SEGMENT\",\"txid\":2}\n";
+
+const START_4: &str = "{\"op\":\"OP_START_LOG_SEGMENT\",\"txid\":4}\n";
+
 fn faulty() -> [Faulty; 10] {
-    let torn = "{\"op\":\"OP_END_LOG_SEGMENT\",\"txid\":3}";
-    let end = "{\"op\":\"OP_END_LOG_SEGMENT\",\"txid\":4}\n";
-    let start = "{\"op\":\"OP_START_LOG_SEGMENT\",\"txid\":4}\n";
-    let again = "{\"op\":\"OP_START_LOG_SEGMENT\",\"txid\":2}\n";
+    let not_json = SegmentFault::BadLine {
+        line: 2,
+        fault: LineFault::NotJson,
+    };
+    let torn = SegmentFault::TornLine { line: 3 };
+    let gap = |expected: u64| SegmentFault::Gap { expected };
     [
-        ("edits_1-3", ["", "", "", "", ""], 11),
-        (NAME, [END, "", "", "", ""], 12),
-        (NAME, [START, "", "", "", ""], 13),
+        ("edits_1-3", ["", "", "", "", ""], SegmentFault::BadName, 11),
+        (NAME, [END, "", "", "", ""], SegmentFault::NoStart, 12),
+        (NAME, [START, "", "", "", ""], SegmentFault::NoEnd, 13),
         // A mark inside, behind which all is in order, and one behind which there is a gap.
-        (TO_4, [START, MKDIR, END, start, ""], 13),
-        (NAME, [START, MKDIR, END, again, END], 14),
-        (TO_4, [START, MKDIR, end, "", ""], 14),
-        (NAME, [START, MKDIR, torn, "", ""], 15),
-        (TO_4, [START, MKDIR, END, "", ""], 16),
-        (NAME, [START, "\n", END, "", ""], 18),
+        (
+            TO_5,
+            [START, MKDIR, END, START_4, END_5],
+            SegmentFault::NoEnd,
+            13,
+        ),
+        (TO_5, [START, MKDIR, END, START_2, END], gap(4), 14),
+        (TO_4, [START, MKDIR, END_4, "", ""], gap(3), 14),
+        (NAME, [START, MKDIR, TORN, "", ""], torn, 15),
+        (
+            TO_4,
+            [START, MKDIR, END, "", ""],
+            SegmentFault::NameMismatch,
+            16,
+        ),
+        (NAME, [START, "\n", END, "", ""], not_json, 18),
         // The bad line stands behind a gap.
-        (NAME, [START, END, "\n", "", ""], 14),
+        (NAME, [START, END, "\n", "", ""], gap(2), 14),
     ]
 }
 
 #[test]
 fn the_first_fault_of_a_segment(rt: HostRuntime) -> Result<(), Fail> {
-    for (name, texts, number) in &faulty() {
+    for (name, texts, want, number) in &faulty() {
         let fault = fault_of(rt.alloc(), name, texts)?;
-        assert_eq!(rt; fault, *number, "of {name}");
+        assert_eq!(rt; fault, *want, "of {name}");
+        assert_eq!(rt; fault.number(), *number, "of {name}");
     }
     Ok(())
 }
@@ -122,14 +149,26 @@ fn count_of(alloc: Global, name: &str, texts: &[&str]) -> Result<usize, Fail> {
     Ok(segment.txs().len())
 }
 
-// A carriage return is white space.
 #[test]
-fn up_to_the_greatest_txid(rt: HostRuntime) -> Result<(), Fail> {
+fn a_carriage_return_is_white_space(rt: HostRuntime) -> Result<(), Fail> {
+    let end = "{\"op\":\"OP_END_LOG_SEGMENT\",\"txid\":3}\r\n";
+    assert_eq!(rt; count_of(rt.alloc(), NAME, &[START, MKDIR, end])?, 3);
+    Ok(())
+}
+
+#[test]
+fn after_the_greatest_txid(rt: HostRuntime) -> Result<(), Fail> {
     let name = "edits_9223372036854775806-9223372036854775807";
     let start = "{\"op\":\"OP_START_LOG_SEGMENT\",\"txid\":9223372036854775806}\n";
-    let end = "{\"op\":\"OP_END_LOG_SEGMENT\",\"txid\":9223372036854775807}\r\n";
+    let end = "{\"op\":\"OP_END_LOG_SEGMENT\",\"txid\":9223372036854775807}\n";
     assert_eq!(rt; count_of(rt.alloc(), name, &[start, end])?, 2);
-    assert_eq!(rt; fault_of(rt.alloc(), name, &[start, end, end])?, 14);
+    let fault = fault_of(rt.alloc(), name, &[start, end, end])?;
+    assert_eq!(rt;
+        fault,
+        SegmentFault::Gap {
+            expected: 9_223_372_036_854_775_808
+        }
+    );
     Ok(())
 }
 

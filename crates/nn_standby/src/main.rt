@@ -1,9 +1,6 @@
 //! The program: a scenario on standard input; the namespace, replicas, orders and counts that it leaves on standard output.
 #![tactic(auto)]
 
-#[cfg(test)]
-mod tests;
-
 use std::process::ExitCode;
 
 fn main(rt: HostRuntime) -> ExitCode {

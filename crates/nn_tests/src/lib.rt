@@ -1,16 +1,14 @@
-//! Tests of the libraries' public calls: those that no scenario comes to on their happy path, refused ones, and large
-//! values. What the program does with a scenario is told by the files of nn_worked.
+//! Tests of the libraries' public calls that neither a scenario of nn_worked nor a script of nn_calls can state: devices
+//! that fail, large values, calls that those two do not make. They start no threads.
 //!
-//! Every call is proved where it stands, and a proof says nothing of want of memory that never came: so calls are run
-//! here with ample memory. They stand apart, in one crate, since proving a crate's tests proves the crate once more.
+//! Every call is proved where it stands, and a proof says nothing of memory that never ran out: so calls are run here
+//! with ample memory. They stand apart, in one crate, since proving a crate's tests proves the crate once more.
 #![tactic(auto)]
 
 #[cfg(test)]
+mod devices;
+#[cfg(test)]
 mod edits;
-#[cfg(test)]
-mod postponed;
-#[cfg(test)]
-mod replicas;
 #[cfg(test)]
 mod scenario;
 #[cfg(test)]
@@ -19,7 +17,5 @@ mod segment;
 mod shadow;
 #[cfg(test)]
 mod sizes;
-#[cfg(test)]
-mod tree;
 #[cfg(test)]
 mod values;

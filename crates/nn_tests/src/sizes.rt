@@ -1,12 +1,11 @@
-//! Calls on more than any small case has. No clause can say that memory suffices, so a body that gave up at the fifth
-//! item would be proved; here it would be seen. All run on a test's own stack, which is no larger than usual.
+//! A file of more blocks than any small case has. No clause can say that memory suffices, so a body that gave up at the fifth
+//! item would be proved; here it would be seen. It runs on a test's own stack, which is no larger than usual.
 ghost use Rattle.std.specs.Prelude.{◌+◌, ◌<◌};
 
 use crate::values;
-use crate::values::{replication, settings, stamp};
-use nn_replicas::Replicas;
+use crate::values::{replication, stamp};
 use nn_tree::{Found, Namespace};
-use nn_types::{Block, Blocks, Edit, Kind, Path, Replica};
+use nn_types::{Block, Blocks, Edit, Path};
 use std::alloc::Global;
 use std::process::Abort;
 use std::test::Fail;
@@ -19,18 +18,10 @@ fn block(n: u32, generation: u64, len: u64) -> Result<Block, Fail> {
     values::block(BEFORE + u64::from(n), generation, len)
 }
 
-// ---- A file of many blocks.
-
 #[test]
-fn a_file_of_2_000_blocks(rt: HostRuntime) -> Result<(), Fail> {
+fn a_file_of_500_000_blocks(rt: HostRuntime) -> Result<(), Fail> {
     let mut namespace = Namespace::new(rt.alloc());
-    lives(&rt, rt.alloc(), &mut namespace, 2_000)
-}
-
-#[test]
-fn a_file_of_1_000_000_blocks(rt: HostRuntime) -> Result<(), Fail> {
-    let mut namespace = Namespace::new(rt.alloc());
-    lives(&rt, rt.alloc(), &mut namespace, 1_000_000)
+    lives(&rt, rt.alloc(), &mut namespace, 500_000)
 }
 
 // A file gets so many blocks, loses the last one and gets lengths, is closed, and is deleted.
@@ -127,42 +118,5 @@ fn has_blocks(
         return Err(Fail::new("no file"));
     };
     assert_eq!(rt; file.blocks.as_slice().len(), count);
-    Ok(())
-}
-
-// ---- A block that many DataNodes have.
-
-#[test]
-fn a_block_of_6_datanodes(rt: HostRuntime) -> Result<(), Fail> {
-    let mut table = Replicas::new(rt.alloc(), settings(1_000, 6)?);
-    spreads(&rt, &mut table, 6)
-}
-
-#[test]
-fn a_block_of_256_datanodes(rt: HostRuntime) -> Result<(), Fail> {
-    let mut table = Replicas::new(rt.alloc(), settings(1_000, 256)?);
-    spreads(&rt, &mut table, 256)
-}
-
-// So many DataNodes report a block of a closed file; it is safe once all have.
-fn spreads(rt: &impl Abort, table: &mut Replicas, count: u16) -> Result<(), Fail> {
-    table.set_block(block(1, 1_001, 5)?, true)?;
-    for dn in 1..=count {
-        assert_eq!(rt; table.safe_count(), 0);
-        put(table, dn)?;
-    }
-    assert_eq!(rt; table.safe_count(), 1);
-    Ok(())
-}
-
-// The DataNode has a live replica of the block.
-fn put(table: &mut Replicas, dn: u16) -> Result<(), Fail> {
-    let Block { id, stamp, len } = block(1, 1_001, 5)?;
-    let replica = Replica {
-        stamp,
-        len,
-        kind: Kind::Received,
-    };
-    table.put(dn, id, replica)?;
     Ok(())
 }

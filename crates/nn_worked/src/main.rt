@@ -3,7 +3,8 @@
 //! Standard input names the scenarios, one a line, and their files lie where this runs. With the words of NAME.args on
 //! NAME.in the program has to print NAME.out and to end with NAME.status; and once more with a thread for each
 //! DataNode, and room for one report in its lane, unless a history is printed, whose order then is the schedule's. Where
-//! NAME.args is missing there are no words, and where NAME.status is, it is 0.
+//! NAME.args is missing there are no words, and where NAME.status is, it is 0. Standard error has to begin with
+//! NAME.err; where that is missing, nothing may be written there.
 #![tactic(auto)]
 
 use nn_command::serve;
@@ -34,6 +35,7 @@ fn agrees<T: Threads + Wait + Sync>(rt: &HostRuntime, threads: &T, name: &str) -
     let worked = Worked {
         input: file(rt, name, "in", "")?,
         output: file(rt, name, "out", "")?,
+        errors: file(rt, name, "err", "")?,
         status: file(rt, name, "status", "0")?,
     };
     if !plays(threads, rt.alloc(), &worked, &words)? {
@@ -41,6 +43,10 @@ fn agrees<T: Threads + Wait + Sync>(rt: &HostRuntime, threads: &T, name: &str) -
     }
     // With threads a history has the order of its run.
     if words.contains("--threads") || words.contains("--history") {
+        return Ok(true);
+    }
+    // The capacity is given once.
+    if words.contains("--capacity") {
         return Ok(true);
     }
     let with_threads = format!(in rt.alloc(); "{words} --threads --capacity 1")?;
@@ -52,6 +58,7 @@ fn agrees<T: Threads + Wait + Sync>(rt: &HostRuntime, threads: &T, name: &str) -
 struct Worked {
     input: String,
     output: String,
+    errors: String,
     status: String,
 }
 
@@ -77,7 +84,12 @@ fn plays<T: Threads + Wait + Sync>(
         gate,
     );
     let status = format!(in alloc; "{status}")?;
-    Ok(output.as_slice() == worked.output.as_bytes() && status.as_str() == worked.status.trim())
+    Ok(
+        output.as_slice() == worked.output.as_bytes()
+            && errors.starts_with(worked.errors.as_bytes())
+            && errors.is_empty() == worked.errors.is_empty()
+            && status.as_str() == worked.status.trim(),
+    )
 }
 
 // The program's name, and the words of a text with a word a line.

@@ -1,7 +1,7 @@
 //! Block ids.
 ghost use Rattle.std.specs.Prelude.{◌≡◌, ◌<◌, ◌^◌, SomeIff};
 
-use super::LIMIT;
+use super::in_range;
 use std::marker::Model;
 
 /// The id of a block. The first id that a log issues is 1073741825.
@@ -27,7 +27,7 @@ impl BlockId {
     pub fn new(value: u64) -> Option<BlockId>
         ensures { SomeIff result (value < 2 ^ 63) value }
     {
-        if value < LIMIT {
+        if in_range(value) {
             Some(BlockId { value })
         } else {
             None

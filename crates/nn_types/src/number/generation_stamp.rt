@@ -1,7 +1,7 @@
 //! Generation stamps.
 ghost use Rattle.std.specs.Prelude.{◌≡◌, ◌<◌, ◌^◌, SomeIff};
 
-use super::LIMIT;
+use super::in_range;
 use std::marker::Model;
 
 /// The generation stamp of a block or a replica. The first one that a log issues is 1001.
@@ -27,7 +27,7 @@ impl GenerationStamp {
     pub fn new(value: u64) -> Option<GenerationStamp>
         ensures { SomeIff result (value < 2 ^ 63) value }
     {
-        if value < LIMIT {
+        if in_range(value) {
             Some(GenerationStamp { value })
         } else {
             None

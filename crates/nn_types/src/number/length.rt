@@ -1,7 +1,7 @@
 //! Lengths.
 ghost use Rattle.std.specs.Prelude.{◌≡◌, ◌<◌, ◌^◌, SomeIff};
 
-use super::LIMIT;
+use super::in_range;
 use std::marker::Model;
 
 /// The length of a block or a replica, in bytes.
@@ -27,7 +27,7 @@ impl Length {
     pub fn new(value: u64) -> Option<Length>
         ensures { SomeIff result (value < 2 ^ 63) value }
     {
-        if value < LIMIT {
+        if in_range(value) {
             Some(Length { value })
         } else {
             None

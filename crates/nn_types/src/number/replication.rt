@@ -1,7 +1,7 @@
 //! Replications.
 ghost use Rattle.std.specs.Prelude.{◌≡◌, ◌<◌, ◌^◌, SomeIff};
 
-use super::LIMIT;
+use super::in_range;
 use std::marker::Model;
 
 /// How many replicas a file asks for. A line may give any number; an edit is refused outside 1 to 512.
@@ -27,7 +27,7 @@ impl Replication {
     pub fn new(value: u64) -> Option<Replication>
         ensures { SomeIff result (value < 2 ^ 63) value }
     {
-        if value < LIMIT {
+        if in_range(value) {
             Some(Replication { value })
         } else {
             None

@@ -1,7 +1,7 @@
 //! Transaction numbers.
 ghost use Rattle.std.specs.Prelude.{◌≡◌, ◌<◌, ◌^◌, SomeIff};
 
-use super::LIMIT;
+use super::in_range;
 use std::marker::Model;
 
 /// The number of a transaction of the log. A log's transactions count up by one, from 1.
@@ -27,7 +27,7 @@ impl Txid {
     pub fn new(value: u64) -> Option<Txid>
         ensures { SomeIff result (value < 2 ^ 63) value }
     {
-        if value < LIMIT {
+        if in_range(value) {
             Some(Txid { value })
         } else {
             None

@@ -1,0 +1,141 @@
+//! A namespace, and its image as a text.
+use crate::call::Call;
+use nn_edits::{Scratch, read_edit};
+use nn_image::{image_name, load, save};
+use nn_tree::{Found, Namespace, Touched};
+use nn_types::{Path, Status, text_of};
+
+/// Calls on a namespace, and on its image. Whether this was one.
+pub fn change(files: &mut Namespace, text: &mut Vec<u8>, call: &mut Call<'_>) -> bool {
+    if call.is("apply") {
+        apply(files, call);
+    } else if call.is("load") {
+        restore(files, text, call);
+    } else if call.is("save") {
+        text.clear();
+        let txid = call.number(1);
+        call.failed = save(call.alloc, files, txid, text).is_err() || call.failed;
+    } else if call.is("show") {
+        show_lines(text, call);
+    } else if call.is("image_name") {
+        let txid = call.number(1);
+        if let Ok(name) = image_name(call.alloc, txid) {
+            call.say(&name);
+        }
+    } else {
+        return read(files, call);
+    }
+    true
+}
+
+fn apply(files: &mut Namespace, call: &mut Call<'_>) {
+    let line = call.word(1).as_bytes();
+    let Ok(tx) = read_edit(call.alloc, &mut Scratch::new(call.alloc), line) else {
+        call.failed = true;
+        return;
+    };
+    match files.apply(&tx.edit) {
+        Ok(touched) => show_touched(&touched, call),
+        Err(fault) => call.fault(fault.number(), &fault),
+    }
+}
+
+fn show_touched(touched: &Touched, call: &mut Call<'_>) {
+    for row in &touched.changed {
+        call.say("changed");
+        call.show_row(row);
+    }
+    for id in &touched.retired {
+        call.say("retired");
+        call.show(&id.get());
+    }
+    if let Some((first, last)) = touched.skipped {
+        call.say("skipped");
+        call.show(&first.get());
+        call.show(&last.get());
+    }
+}
+
+// Takes the namespace of an image, and answers its txid.
+fn restore(files: &mut Namespace, text: &[u8], call: &mut Call<'_>) {
+    match load(call.alloc, &mut &text[..]) {
+        Ok((namespace, txid)) => {
+            *files = namespace;
+            call.show(&txid);
+        }
+        Err(fault) => call.fault(fault.number(), &fault),
+    }
+}
+
+// The lines of a text, with a blank between them.
+fn show_lines(text: &[u8], call: &mut Call<'_>) {
+    let Ok(text) = str::from_utf8(text) else {
+        call.failed = true;
+        return;
+    };
+    for line in text.lines() {
+        call.say(line);
+    }
+}
+
+// Calls that change nothing.
+fn read(files: &Namespace, call: &mut Call<'_>) -> bool {
+    if call.is("list") {
+        show_paths(files, call);
+    } else if call.is("lookup") {
+        look_up(files, call);
+    } else if call.is("status") {
+        match files.status(call.id(1)) {
+            Status::Unnamed => call.say("unnamed"),
+            Status::Awaiting => call.say("awaiting"),
+            Status::Retired => call.say("retired"),
+            Status::Named(stamp) => call.show(&stamp.get()),
+        }
+    } else if call.is("block") {
+        if let Some(row) = files.block(call.id(1)) {
+            call.show_row(&row);
+        }
+    } else if call.is("awaiting") {
+        if let Ok(ids) = files.awaiting(call.alloc) {
+            for id in &ids {
+                call.show(&id.get());
+            }
+        }
+    } else if call.is("issued") {
+        call.show(&files.last_block().get());
+        call.show(&files.last_stamp().get());
+    } else {
+        return false;
+    }
+    call.none();
+    true
+}
+
+fn show_paths(files: &Namespace, call: &mut Call<'_>) {
+    let Ok(rows) = files.list() else {
+        call.failed = true;
+        return;
+    };
+    for row in &rows {
+        if let Ok(path) = text_of(call.alloc, &row.names) {
+            call.say(&path);
+        }
+    }
+}
+
+// What stands at a path: a directory, or a file with its replication and number of blocks.
+fn look_up(files: &Namespace, call: &mut Call<'_>) {
+    let Ok(path) = Path::parse(call.alloc, call.word(1)) else {
+        call.failed = true;
+        return;
+    };
+    match files.lookup(&path) {
+        Some(Found::Dir) => call.say("dir"),
+        Some(Found::File(file)) => {
+            call.say("file");
+            call.show(&file.replication.get());
+            call.show(&file.blocks.as_slice().len());
+        }
+        None => {}
+    }
+}

@@ -1,0 +1,74 @@
+//! Held messages.
+use crate::call::Call;
+use nn_postponed::Postponed;
+
+/// Calls that change what is held. Whether this was one.
+pub fn change(held: &mut Postponed, call: &mut Call<'_>) -> bool {
+    if call.is("hold") {
+        call.failed = held.hold(call.message()).is_err() || call.failed;
+    } else if call.is("take_first") {
+        if let Some(message) = held.take_first() {
+            call.show_message(&message);
+        }
+        call.none();
+    } else if call.is("release") {
+        if let Some(message) = held.release(call.id(1), call.status(2)) {
+            call.show_message(&message);
+        }
+        call.none();
+    } else if call.is("drop_freed") {
+        held.drop_freed(call.id(1), call.status(2));
+    } else {
+        return read(held, call);
+    }
+    true
+}
+
+// Calls that change nothing.
+fn read(held: &Postponed, call: &mut Call<'_>) -> bool {
+    if call.is("waiting") {
+        if !held.is_empty() {
+            call.show(&held.len());
+        }
+    } else if call.is("held") {
+        show_queue(held, call);
+    } else if call.is("holds") {
+        let holds = held.holds(call.datanode(1), call.id(2));
+        call.show(&holds);
+    } else if call.is("next_held") {
+        if let Some(id) = held.next_held(call.id(1)) {
+            call.show(&id.get());
+        }
+    } else if call.is("due") {
+        let count = held.due_count(call.id(1), call.status(2));
+        call.show(&count);
+    } else if call.is("free") {
+        if let Some(place) = held.free_place(call.id(1), call.status(2)) {
+            call.show(&place);
+        }
+    } else if call.is("freed") {
+        show_freed(held, call);
+    } else {
+        return false;
+    }
+    call.none();
+    true
+}
+
+fn show_queue(held: &Postponed, call: &mut Call<'_>) {
+    if let Some(queue) = held.queue(call.id(1)) {
+        for message in queue.iter() {
+            call.show_message(message);
+        }
+    }
+}
+
+fn show_freed(held: &Postponed, call: &mut Call<'_>) {
+    if let Some(mut freed) = held.freed(call.id(1), call.status(2)) {
+        for _ in 0..held.len() {
+            if let Some(message) = freed.next() {
+                call.show_message(&message);
+            }
+        }
+    }
+}

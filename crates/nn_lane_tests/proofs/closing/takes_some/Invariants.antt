@@ -1,5 +1,0 @@
-use Rattle.std.proofs.Common.{◌≡◌}
-use Rattle.nn_lane_tests.proofs.closing.takes_some.Given as goal
-
-abbrev pub invariant-loop : goal.invariant-loop
-invariant-loop l = l.end.lane ≡ l.initial.end.lane

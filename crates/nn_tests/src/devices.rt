@@ -1,0 +1,132 @@
+//! Readers and writers of images that fail, and readers that give little at a time.
+use nn_image::{SaveFault, load, save};
+use nn_tree::Namespace;
+use std::alloc::Global;
+use std::io;
+use std::io::{Read, Write};
+use std::process::Abort;
+
+// The image of a log up to a file that has no block yet.
+const OPEN_FILE: &str =
+    r#"{"awaiting":[1073741825],"image":"hdfs-standby","last_block":1073741825,"last_gen":1001,"txid":5,"version":1}
+{"blocks":[],"closed":false,"path":"/f","replication":3,"type":"file"}
+{"end":1}
+"#;
+
+// A reader that gives one byte a time and fails at its read `fail_at`, counted from 0.
+#[derive(Drop)]
+struct Slow<'a> {
+    bytes: &'a [u8],
+    reads: u64,
+    fail_at: u64,
+}
+
+impl Read for Slow<'_> {
+    fn read(&mut self, buf: &mut [u8]) -> io::Result<usize> {
+        if self.reads == self.fail_at {
+            return Err(io::Error::from(io::ErrorKind::Other));
+        }
+        self.reads = self.reads.saturating_add(1);
+        match (self.bytes, buf) {
+            ([first, rest @ ..], [place, ..]) => {
+                *place = *first;
+                self.bytes = rest;
+                Ok(1)
+            }
+            _ => Ok(0),
+        }
+    }
+}
+
+// A writer that takes at most two bytes a time, and fails or takes nothing at its write `stop_at`, counted from 0.
+#[derive(Drop)]
+struct Stopping {
+    got: Vec<u8>,
+    writes: u64,
+    stop_at: u64,
+    fails: bool,
+}
+
+impl Write for Stopping {
+    fn write(&mut self, buf: &[u8]) -> io::Result<usize> {
+        if self.writes == self.stop_at {
+            if self.fails {
+                return Err(io::Error::from(io::ErrorKind::Other));
+            }
+            return Ok(0);
+        }
+        self.writes = self.writes.saturating_add(1);
+        let n = buf.len().min(2);
+        self.got.extend_from_slice(&buf[..n])?;
+        Ok(n)
+    }
+
+    fn flush(&mut self) -> io::Result<()> {
+        Ok(())
+    }
+}
+
+// Up to the last byte of the end line a failed read is 67. After it one more read shows the end.
+#[test]
+fn failing_readers(rt: HostRuntime) {
+    let reads = OPEN_FILE.len() as u64 + 1;
+    for fail_at in 0..reads {
+        assert_eq!(rt; number_at(rt.alloc(), fail_at), 67, "at {fail_at}");
+    }
+    assert_eq!(rt; number_at(rt.alloc(), reads), 0);
+}
+
+fn number_at(alloc: Global, fail_at: u64) -> u8 {
+    let mut reader = Slow {
+        bytes: OPEN_FILE.as_bytes(),
+        reads: 0,
+        fail_at,
+    };
+    match load(alloc, &mut reader) {
+        Ok(_) => 0,
+        Err(fault) => fault.number(),
+    }
+}
+
+#[test]
+fn failing_writers(rt: HostRuntime) {
+    match load(rt.alloc(), &mut OPEN_FILE.as_bytes()) {
+        Ok((namespace, txid)) => stops(&rt, rt.alloc(), &namespace, txid),
+        Err(fault) => assert_eq!(rt; fault.number(), 0),
+    }
+}
+
+// Each line is written on its own, two bytes a time.
+fn stops(rt: &impl Abort, alloc: Global, namespace: &Namespace, txid: u64) {
+    let mut writes = 0u64;
+    for line in OPEN_FILE.split_inclusive('\n') {
+        writes = writes.saturating_add((line.len() as u64).div_ceil(2));
+    }
+    for fails in [false, true] {
+        for stop_at in 0..writes {
+            stops_at(rt, alloc, namespace, txid, stop_at, fails);
+        }
+    }
+}
+
+fn stops_at(
+    rt: &impl Abort,
+    alloc: Global,
+    namespace: &Namespace,
+    txid: u64,
+    stop_at: u64,
+    fails: bool,
+) {
+    let mut writer = Stopping {
+        got: Vec::new(alloc),
+        writes: 0,
+        stop_at,
+        fails,
+    };
+    let told = match save(alloc, namespace, txid, &mut writer) {
+        Err(SaveFault::WriteFault { written }) => written,
+        _ => u64::MAX,
+    };
+    assert!(rt; OPEN_FILE.as_bytes().starts_with(&writer.got));
+    assert_eq!(rt; told, writer.got.len() as u64, "at {stop_at}");
+}

@@ -1,0 +1,266 @@
+//! Drives over logs of marks alone: all reports are of a block that they do not name, and wait for the flush.
+ghost use Rattle.nn_drive.specs.Driven.{AreLanes};
+
+use crate::sources::{AT_ANY_TIME, Pace, Waiting, new_watched};
+use crate::values::{FIRST, Shared, TWO_MARKS, Text, report_of};
+use nn_drive::{drive, with_lanes};
+use nn_lane::Reporter;
+use nn_tailer::Standby;
+use nn_types::Settings;
+use std::alloc::Global;
+use std::process::Abort;
+use std::sync::atomic::Ordering;
+use std::sync::{Arc, Wait};
+use std::thread::Threads;
+
+const TWO_MORE: Text = (
+    "edits_0000000000000000003-0000000000000000004",
+    "{\"op\":\"OP_START_LOG_SEGMENT\",\"txid\":3}\n{\"op\":\"OP_END_LOG_SEGMENT\",\"txid\":4}\n",
+);
+
+// A drive, and what comes of it.
+#[derive(Clone, Copy)]
+struct Driven {
+    name: &'static str,
+    // How often it is tried.
+    times: u64,
+    // So many sources with so many reports each, which wait until so many came, and are counted as come or not.
+    sources: u64,
+    reports: u64,
+    wanted: u64,
+    counts: u64,
+    // Whether their lanes are closed when it begins.
+    closed: bool,
+    log: &'static [Text],
+    pace: Pace,
+    // The log's call that fails, from 0.
+    fails_at: u64,
+    // The last txid and how many reports the flush processed, or the fault's number; and how many came.
+    end: Result<(u64, u64), u8>,
+    came: u64,
+}
+
+// Two sources of a report each.
+const PLAIN: Driven = Driven {
+    name: "",
+    times: 1,
+    sources: 2,
+    reports: 1,
+    wanted: 0,
+    counts: 0,
+    closed: false,
+    log: &[TWO_MARKS],
+    pace: AT_ANY_TIME,
+    fails_at: u64::MAX,
+    end: Ok((2, 2)),
+    came: 0,
+};
+
+// Two sources of reports and the log wait until all three came: they are asked at once, and none after the other.
+const AT_ONCE: Driven = Driven {
+    name: "at once",
+    wanted: 3,
+    counts: 1,
+    pace: Pace {
+        counts: 1,
+        wanted: 3,
+        ..AT_ANY_TIME
+    },
+    came: 3,
+    ..PLAIN
+};
+
+// The second segment is held back until the last transaction of the first one was applied: until a DataNode was asked for
+// its fifth report. Its lane holds two, so two of four were taken then, one a round, and each round has a step of the log
+// before it. The first segment waits until two reports lie there, so that none of these rounds finds the lane empty.
+const GATED_FEED: Driven = Driven {
+    name: "gated feed",
+    sources: 1,
+    reports: 6,
+    log: &[TWO_MARKS, TWO_MORE],
+    pace: Pace {
+        gates: 2,
+        asked: 3,
+        more: 2,
+        ..AT_ANY_TIME
+    },
+    end: Ok((4, 6)),
+    ..PLAIN
+};
+
+// Each source waits until the log was asked: the standby steps while there are reports to come. Each has more reports
+// than its lane holds.
+const GATED_REPORTS: Driven = Driven {
+    name: "gated reports",
+    reports: 5,
+    wanted: 1,
+    pace: Pace {
+        counts: 1,
+        ..AT_ANY_TIME
+    },
+    end: Ok((2, 10)),
+    came: 1,
+    ..PLAIN
+};
+
+// While the log holds the standby up, nothing is taken: so of each source no more is asked for than two reports that lie
+// in its lane and one in hand, and not all before the first is sent.
+const HELD_UP: Driven = Driven {
+    name: "held up",
+    reports: 5,
+    pace: Pace {
+        holds: 100_000,
+        ..AT_ANY_TIME
+    },
+    end: Ok((2, 10)),
+    ..PLAIN
+};
+
+// As many workers as there can be: none is dropped, and each is asked from one thread.
+const WORKERS_256: Driven = Driven {
+    name: "256 workers",
+    sources: 256,
+    wanted: 256,
+    counts: 1,
+    end: Ok((2, 256)),
+    came: 256,
+    ..PLAIN
+};
+
+// A source that fails at its first call, and one that fails at its end: the drive ends with 54, and no thread is left.
+const FAILS_AT_ONCE: Driven = Driven {
+    name: "failing after 0",
+    fails_at: 0,
+    end: Err(54),
+    ..GATED_REPORTS
+};
+
+const FAILS_AT_ITS_END: Driven = Driven {
+    name: "failing after 1",
+    fails_at: 1,
+    end: Err(54),
+    ..GATED_REPORTS
+};
+
+// A source that fails at its second segment: the drive ends each time, and with 54.
+const FAILS_AT_SECOND: Driven = Driven {
+    name: "failing at the second segment",
+    times: 1000,
+    sources: 1,
+    reports: 5,
+    log: &[TWO_MARKS, TWO_MORE],
+    fails_at: 1,
+    end: Err(54),
+    ..PLAIN
+};
+
+// Of a lane that is closed when the drive begins the first report is refused, and that is no fault.
+const CLOSED_BEFORE: Driven = Driven {
+    name: "closed before",
+    sources: 3,
+    reports: 5,
+    wanted: 3,
+    counts: 1,
+    closed: true,
+    end: Ok((2, 0)),
+    came: 3,
+    ..PLAIN
+};
+
+#[test]
+fn drives(rt: HostRuntime) {
+    for driven in [
+        AT_ONCE,
+        GATED_FEED,
+        GATED_REPORTS,
+        HELD_UP,
+        WORKERS_256,
+        FAILS_AT_ONCE,
+        FAILS_AT_ITS_END,
+        FAILS_AT_SECOND,
+        CLOSED_BEFORE,
+    ] {
+        for _ in 0..driven.times {
+            ends(&rt, rt.alloc(), &driven);
+        }
+    }
+}
+
+// The drive ends as it should, nothing waits in vain, and no thread is left.
+fn ends<R: Abort + Threads + Wait + Sync>(rt: &R, alloc: Global, driven: &Driven) {
+    let name = driven.name;
+    let Some(shared) = Shared::new(alloc) else {
+        assert!(rt; false, "out of memory");
+        return;
+    };
+    let end = end_of(rt, alloc, driven, &shared);
+    assert_eq!(rt; end, Some(driven.end), "{name}");
+    assert_eq!(rt; shared.came.load(Ordering::SeqCst), driven.came, "{name}");
+    assert_eq!(rt; shared.vain.load(Ordering::SeqCst), 0, "{name}");
+    assert!(rt; shared.asked_by_then.load(Ordering::SeqCst) <= 6, "{name}");
+    assert_eq!(rt; Arc::strong_count(&shared), 1, "{name}");
+}
+
+// What a drive comes to. A lane holds two reports.
+fn end_of<R: Threads + Wait + Sync>(
+    rt: &R,
+    alloc: Global,
+    driven: &Driven,
+    shared: &Arc<Shared, Global>,
+) -> Option<Result<(u64, u64), u8>> {
+    let log = new_watched(alloc, shared, driven.log, driven.fails_at, driven.pace)?;
+    let sources = sources_of(alloc, driven, shared)?;
+    if sources.len() > 256 {
+        return None;
+    }
+    let (workers, ends) = with_lanes(alloc, sources, 2).ok()?;
+    if ends.is_empty() || ends.len() > 256 {
+        return None;
+    }
+    let settings = Settings::new(999, 1)?;
+    let Ok(standby) = Standby::new(alloc, ends, settings) else {
+        return None;
+    };
+    let standby = begun(&workers, standby, driven.closed);
+    match drive(rt, alloc, standby, log, workers) {
+        Ok((_shadow, active)) => Some(Ok((active.last, active.flushed))),
+        Err(fault) => Some(Err(fault.number())),
+    }
+}
+
+fn sources_of(
+    alloc: Global,
+    driven: &Driven,
+    shared: &Arc<Shared, Global>,
+) -> Option<Vec<Waiting>> {
+    let report = report_of(FIRST, 1001)?;
+    let mut sources = Vec::new(alloc);
+    for _ in 0..driven.sources {
+        let source = Waiting {
+            shared: Arc::try_clone(shared).ok()?,
+            counts: driven.counts,
+            wanted: driven.wanted,
+            report,
+            left: driven.reports,
+            has_come: false,
+        };
+        let Ok(()) = sources.push(source) else {
+            return None;
+        };
+    }
+    Some(sources)
+}
+
+// Closes the lanes of these workers, or leaves them open.
+fn begun(workers: &Vec<(Waiting, Reporter)>, standby: Standby, closed: bool) -> Standby
+    requires { AreLanes workers.now.items standby.ends }
+    ensures { AreLanes workers.now.items result.ends }
+{
+    let _ = workers;
+    let mut standby = standby;
+    if !closed {
+        return standby;
+    }
+    standby.close_intake();
+    standby
+}

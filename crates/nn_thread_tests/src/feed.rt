@@ -1,0 +1,370 @@
+//! What no clause of a feed says: it goes on, it is full at four, and a feeder that is gone tells the other end.
+use crate::sources::{AT_ANY_TIME, FailsOnce, Pace, Watched, new_watched};
+use crate::values::{Shared, TWO_MARKS, Text, log_of, reaches};
+use nn_feed::{FeedFault, Feeder, Ran, Refusal, Told, feed, meet, run_feeder, run_thread};
+use nn_segment::{Item, SegmentSource, SourceFault};
+use std::alloc::Global;
+use std::process::Abort;
+use std::sync::atomic::{AtomicU64, Ordering};
+use std::sync::{Arc, Wait};
+use std::thread;
+use std::thread::{Threads, join};
+
+// ---- A feed between two threads.
+
+// What the thread that gets does.
+#[derive(Clone, Copy)]
+enum Gets {
+    All,
+    // The first segment, once the feed is full.
+    First,
+    // None: it goes once the feed is full.
+    Leaves,
+}
+
+// A feed, and what comes of it.
+#[derive(Clone, Copy)]
+struct Fed {
+    name: &'static str,
+    times: u64,
+    log: &'static [Text],
+    pace: Pace,
+    // The log's call that fails, from 0.
+    fails_at: u64,
+    gets: Gets,
+    // How many segments the feeder put before End, or the number of the fault that kept it from that.
+    put: Result<u64, u8>,
+    // How often the log was asked.
+    calls: u64,
+    // How many segments were got, and the number of the fault behind them. Or how many were put before the first was
+    // got, and after.
+    got: (u64, u64),
+}
+
+// Each segment goes through the feed while its source waits for that: neither end works before the other.
+const GATED: Fed = Fed {
+    name: "gated",
+    times: 1,
+    log: &[TWO_MARKS; 9],
+    pace: Pace {
+        gates: 9,
+        more: 1,
+        ..AT_ANY_TIME
+    },
+    fails_at: u64::MAX,
+    gets: Gets::All,
+    put: Ok(9),
+    calls: 10,
+    got: (9, 0),
+};
+
+// The source's fault is answered, and the other end, which waits, is told of it.
+const FAILS_AT_SECOND: Fed = Fed {
+    name: "failing at the second segment",
+    times: 1000,
+    log: &[TWO_MARKS],
+    pace: AT_ANY_TIME,
+    fails_at: 1,
+    gets: Gets::All,
+    put: Err(47),
+    calls: 2,
+    got: (1, 47),
+};
+
+// The fifth segment is put once the first was got, and then the log is asked for more.
+const FOUR_ARE_HELD: Fed = Fed {
+    name: "four are held",
+    times: 1,
+    log: &[TWO_MARKS; 5],
+    pace: AT_ANY_TIME,
+    fails_at: u64::MAX,
+    gets: Gets::First,
+    put: Err(46),
+    calls: 6,
+    got: (4, 5),
+};
+
+// A feeder that waits at a full feed is told that the other end is gone.
+const LEFT_WHILE_FULL: Fed = Fed {
+    name: "left while full",
+    gets: Gets::Leaves,
+    calls: 5,
+    got: (4, 0),
+    ..FOUR_ARE_HELD
+};
+
+#[test]
+fn feeds(rt: HostRuntime) {
+    for fed in [GATED, FAILS_AT_SECOND, FOUR_ARE_HELD, LEFT_WHILE_FULL] {
+        for _ in 0..fed.times {
+            ends(&rt, rt.alloc(), &fed);
+        }
+    }
+}
+
+fn ends<R: Abort + Threads + Wait + Sync>(rt: &R, alloc: Global, fed: &Fed) {
+    let name = fed.name;
+    let Some(shared) = Shared::new(alloc) else {
+        assert!(rt; false, "out of memory");
+        return;
+    };
+    let both = put_and_got(rt, alloc, fed, &shared);
+    assert_eq!(rt; both, Some((fed.put, fed.got)), "{name}");
+    assert_eq!(rt; shared.calls.load(Ordering::SeqCst), fed.calls, "{name}");
+    assert_eq!(rt; shared.vain.load(Ordering::SeqCst), 0, "{name}");
+}
+
+// What both threads come to.
+fn put_and_got<R: Threads + Wait + Sync>(
+    rt: &R,
+    alloc: Global,
+    fed: &Fed,
+    shared: &Arc<Shared, Global>,
+) -> Option<(Result<u64, u8>, (u64, u64))> {
+    let source = new_watched(alloc, shared, fed.log, fed.fails_at, fed.pace)?;
+    let Ok((feeder, end)) = feed(rt, alloc) else {
+        return None;
+    };
+    let gets = fed.gets;
+    Some(join(
+        rt,
+        || put_by(run_thread(rt, source, feeder)),
+        || got_from(end, gets, shared),
+    ))
+}
+
+fn put_by(ran: Ran<Watched>) -> Result<u64, u8> {
+    let Ran { source, outcome } = ran;
+    drop(source);
+    match outcome {
+        Ok(told) => {
+            let Told { feeder, end } = told;
+            drop(feeder);
+            match end {
+                Ok(count) => Ok(count),
+                Err(fault) => Err(fault.number()),
+            }
+        }
+        Err(refusal) => Err(refusal.number()),
+    }
+}
+
+fn got_from(end: impl SegmentSource + Drop, gets: Gets, shared: &Shared) -> (u64, u64) {
+    match gets {
+        Gets::All => get_all(end, &shared.asked),
+        Gets::First => get_first(end, shared),
+        Gets::Leaves => {
+            let before = put_when_full(shared);
+            drop(end);
+            (before, 0)
+        }
+    }
+}
+
+// How many segments came before End, or before a fault that came again, with the number of it.
+fn get_all(mut end: impl SegmentSource + Drop, got: &AtomicU64) -> (u64, u64) {
+    for count in 0..u64::MAX {
+        got.store(count, Ordering::SeqCst);
+        match end.next() {
+            Ok(Item::Segment(_)) => {}
+            Ok(Item::End) => return (count, 0),
+            Err(fault) if comes_again(&mut end, fault) => {
+                return (count, u64::from(fault.number()));
+            }
+            Err(_) => return (count, 1),
+        }
+    }
+    (0, 1)
+}
+
+// Whether the same fault comes thrice more.
+fn comes_again(end: &mut (impl SegmentSource + Drop), fault: SourceFault) -> bool {
+    for _ in 0..3u8 {
+        match end.next() {
+            Err(again) if again == fault => {}
+            _ => return false,
+        }
+    }
+    true
+}
+
+// How many segments were put before the first was got, and after.
+fn get_first(mut end: impl SegmentSource + Drop, shared: &Shared) -> (u64, u64) {
+    let before = put_when_full(shared);
+    let _first = end.next();
+    if !reaches(&shared.calls, 6) {
+        return (before, 0);
+    }
+    (before, 5)
+}
+
+// How many segments were put once nothing more is: the log is asked for the next one when one was put.
+fn put_when_full(shared: &Shared) -> u64 {
+    if !reaches(&shared.calls, 5) {
+        return 0;
+    }
+    for _ in 0..10_000u32 {
+        thread::yield_now();
+    }
+    shared.calls.load(Ordering::SeqCst).saturating_sub(1)
+}
+
+// ---- Both ends on one thread.
+
+fn a_segment(alloc: Global) -> Option<Item> {
+    let segment = log_of(alloc, &[TWO_MARKS])?.pop()?;
+    Some(Item::Segment(segment))
+}
+
+// A log of one segment, whose call with this number fails, counted from 0.
+fn one_segment(alloc: Global, fails_at: u64) -> Option<FailsOnce> {
+    Some(FailsOnce::new(log_of(alloc, &[TWO_MARKS])?, fails_at))
+}
+
+// The number of a refusal, or 0.
+fn number_of(put: Result<(), Refusal>) -> u8 {
+    match put {
+        Ok(()) => 0,
+        Err(refusal) => refusal.number(),
+    }
+}
+
+// The number of the refusal with which a segment comes back.
+fn put_refused(rt: &impl Wait, alloc: Global, feeder: &mut Feeder) -> Option<u8> {
+    let segment = a_segment(alloc)?;
+    let Err(refusal) = feeder.put(rt, segment) else {
+        return None;
+    };
+    let number = refusal.number();
+    if !gives_back(&refusal) {
+        return None;
+    }
+    Some(number)
+}
+
+// Whether a segment comes back with the refusal.
+fn gives_back(refusal: &Refusal) -> bool {
+    match refusal {
+        Refusal::Ended { answer } => is_segment(answer),
+        Refusal::Gone { answer } => is_segment(answer),
+    }
+}
+
+fn is_segment(answer: &Result<Item, SourceFault>) -> bool {
+    matches!(answer, Ok(Item::Segment(_)))
+}
+
+// Behind End nothing is put, and End comes again and again.
+#[test]
+fn after_end(rt: HostRuntime) {
+    let Ok((mut feeder, mut end)) = feed(&rt, rt.alloc()) else {
+        assert!(rt; false, "out of memory");
+        return;
+    };
+    let put = feeder.put(&rt, Item::End).is_ok();
+    let refused = put_refused(&rt, rt.alloc(), &mut feeder);
+    let before = end.is_at_end();
+    let first = is_end(&mut end);
+    let behind = end.is_at_end();
+    let again = is_end(&mut end);
+    drop(feeder);
+    drop(end);
+    assert_eq!(rt; (put, refused), (true, Some(45)));
+    assert_eq!(rt; (before, first, behind, again), (false, true, true, true));
+}
+
+#[test]
+fn ends_meet(rt: HostRuntime) {
+    assert!(rt; meets(&rt, rt.alloc()));
+}
+
+fn meets(rt: &impl Wait, alloc: Global) -> bool {
+    let Ok((mut feeder, mut end)) = feed(rt, alloc) else {
+        return false;
+    };
+    let put = feeder.put(rt, Item::End).is_ok();
+    let got = matches!(end.next(), Ok(Item::End));
+    meet(feeder, end);
+    put && got
+}
+
+fn is_end(end: &mut (impl SegmentSource + Drop)) -> bool {
+    matches!(end.next(), Ok(Item::End))
+}
+
+// The feeder's loop puts neither the fault of a source nor End: so the other end can still be told, and that ends it.
+#[test]
+fn after_a_fault(rt: HostRuntime) {
+    let zero = AtomicU64::new(0);
+    let Ok((mut feeder, end)) = feed(&rt, rt.alloc()) else {
+        assert!(rt; false, "out of memory");
+        return;
+    };
+    let has_failed = feeds_and_fails(&rt, rt.alloc(), &mut feeder);
+    let behind = number_of(feeder.put(&rt, Item::End));
+    let got = get_all(end, &zero);
+    drop(feeder);
+    assert_eq!(rt; (has_failed, behind), (true, 45));
+    assert_eq!(rt; got, (1, 47));
+}
+
+// Whether a source failed at its second segment, and the other end was told of the fault.
+fn feeds_and_fails(rt: &impl Wait, alloc: Global, feeder: &mut Feeder) -> bool {
+    let Some(mut source) = one_segment(alloc, 1) else {
+        return false;
+    };
+    match run_feeder(rt, &mut source, feeder) {
+        Err(FeedFault::Source(fault)) => feeder.fail(rt, fault).is_ok(),
+        _ => false,
+    }
+}
+
+// What is put for nobody comes back: a segment; and of a thread a segment, or its source's fault.
+#[test]
+fn other_end_gone(rt: HostRuntime) {
+    assert_eq!(rt; put_for_nobody(&rt, rt.alloc()), Some(46));
+    assert_eq!(rt; run_for_nobody(&rt, rt.alloc(), 1), Some(true));
+    assert_eq!(rt; run_for_nobody(&rt, rt.alloc(), 0), Some(false));
+}
+
+fn put_for_nobody(rt: &impl Wait, alloc: Global) -> Option<u8> {
+    let Ok((mut feeder, end)) = feed(rt, alloc) else {
+        return None;
+    };
+    drop(end);
+    put_refused(rt, alloc, &mut feeder)
+}
+
+// Whether a segment came back, and no fault.
+fn run_for_nobody(rt: &impl Wait, alloc: Global, fails_at: u64) -> Option<bool> {
+    let source = one_segment(alloc, fails_at)?;
+    let Ok((feeder, end)) = feed(rt, alloc) else {
+        return None;
+    };
+    drop(end);
+    let Ran { source, outcome } = run_thread(rt, source, feeder);
+    drop(source);
+    match outcome {
+        Err(Refusal::Gone { answer }) => Some(answer.is_ok()),
+        _ => None,
+    }
+}
+
+// The other end of a feeder that is gone, and told nothing, gets what was put, and then no more.
+#[test]
+fn feeder_gone(rt: HostRuntime) {
+    let zero = AtomicU64::new(0);
+    let Some(segment) = a_segment(rt.alloc()) else {
+        assert!(rt; false, "out of memory");
+        return;
+    };
+    let Ok((mut feeder, end)) = feed(&rt, rt.alloc()) else {
+        assert!(rt; false, "out of memory");
+        return;
+    };
+    let put = number_of(feeder.put(&rt, segment));
+    drop(feeder);
+    let got = get_all(end, &zero);
+    assert_eq!(rt; put, 0);
+    assert_eq!(rt; got, (1, 46));
+}

@@ -1,0 +1,18 @@
+//! Tests of what no clause says: lanes, feeds and drives between threads, a standby call by call, and the program on devices
+//! that fail and on large inputs.
+#![tactic(auto)]
+
+#[cfg(test)]
+mod drive;
+#[cfg(test)]
+mod feed;
+#[cfg(test)]
+mod lane;
+#[cfg(test)]
+mod program;
+#[cfg(test)]
+mod sources;
+#[cfg(test)]
+mod standby;
+#[cfg(test)]
+mod values;

@@ -1,0 +1,118 @@
+//! Reports, segments typed by hand, and what the threads of a test have in common.
+use nn_segment::Parsed;
+use nn_types::{BlockId, GenerationStamp, Kind, Length, Report};
+use std::alloc::Global;
+use std::sync::Arc;
+use std::sync::atomic::{AtomicU64, Ordering};
+use std::thread;
+
+/// The first block id that a log issues.
+pub const FIRST: u64 = 1073741825;
+
+/// A test that waits gives up after so many vain turns.
+pub const TURNS: u64 = 10_000_000;
+
+/// A received replica of this block with this generation stamp, and with 5 bytes.
+pub fn report_of(block: u64, stamp: u64) -> Option<Report> {
+    Some(Report {
+        dn: 1,
+        block: BlockId::new(block)?,
+        stamp: GenerationStamp::new(stamp)?,
+        len: Length::new(5)?,
+        kind: Kind::Received,
+    })
+}
+
+// ---- Logs.
+
+/// The name of a segment, and its text.
+pub type Text = (&'static str, &'static str);
+
+/// A start mark and an end mark.
+pub const TWO_MARKS: Text = (
+    "edits_0000000000000000001-0000000000000000002",
+    "{\"op\":\"OP_START_LOG_SEGMENT\",\"txid\":1}\n{\"op\":\"OP_END_LOG_SEGMENT\",\"txid\":2}\n",
+);
+
+/// The segments of these names and texts.
+pub fn log_of(alloc: Global, texts: &[Text]) -> Option<Vec<Parsed>> {
+    let mut segments = Vec::new(alloc);
+    for (name, text) in texts {
+        let segment = segment(alloc, name, text)?;
+        let Ok(()) = segments.push(segment) else {
+            return None;
+        };
+    }
+    Some(segments)
+}
+
+fn segment(alloc: Global, name: &str, text: &str) -> Option<Parsed> {
+    let mut bytes = Vec::new(alloc);
+    bytes.extend_from_slice(text.as_bytes()).ok()?;
+    let name = String::from_str(alloc, name).ok()?;
+    Parsed::of(alloc, name, bytes).ok()
+}
+
+// ---- Threads.
+
+/// What the threads of a test have in common.
+#[derive(Drop)]
+pub struct Shared {
+    /// How many came.
+    pub came: AtomicU64,
+    /// How many waited in vain.
+    pub vain: AtomicU64,
+    /// How often a log was asked.
+    pub calls: AtomicU64,
+    /// How often sources of reports were asked, or how many segments came out of a feed.
+    pub asked: AtomicU64,
+    /// A byte for each of the threads that came, in order of their numbers.
+    pub places: AtomicU64,
+    /// And how often when a log that held its standby up let it go on.
+    pub asked_by_then: AtomicU64,
+}
+
+impl Shared {
+    pub fn new(alloc: Global) -> Option<Arc<Shared, Global>> {
+        let shared = Arc::new(
+            alloc,
+            Shared {
+                came: AtomicU64::new(0),
+                vain: AtomicU64::new(0),
+                calls: AtomicU64::new(0),
+                asked: AtomicU64::new(0),
+                places: AtomicU64::new(0),
+                asked_by_then: AtomicU64::new(0),
+            },
+        );
+        shared.ok()
+    }
+
+    /// Waits until so many came, and answers whether they did. Who waits in vain is noted.
+    pub fn wait_for_all(&self, wanted: u64) -> bool {
+        self.note(reaches(&self.came, wanted))
+    }
+
+    /// Waits until sources of reports were asked so often.
+    pub fn wait_until_asked(&self, wanted: u64) -> bool {
+        self.note(reaches(&self.asked, wanted))
+    }
+
+    fn note(&self, has_reached: bool) -> bool {
+        if !has_reached {
+            self.vain.fetch_add(1, Ordering::SeqCst);
+        }
+        has_reached
+    }
+}
+
+/// Whether the number comes to be as large, before the wait is given up.
+pub fn reaches(number: &AtomicU64, wanted: u64) -> bool {
+    for _ in 0..TURNS {
+        if number.load(Ordering::SeqCst) >= wanted {
+            return true;
+        }
+        thread::yield_now();
+    }
+    false
+}

@@ -63,7 +63,13 @@ impl<'a> Call<'a> {
     }
 
     pub fn datanode(&mut self, at: usize) -> u16 {
-        u16::try_from(self.number(at)).unwrap_or(0)
+        match u16::try_from(self.number(at)) {
+            Ok(dn) => dn,
+            Err(_) => {
+                self.failed = true;
+                0
+            }
+        }
     }
 
     pub fn id(&mut self, at: usize) -> BlockId {

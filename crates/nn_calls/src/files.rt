@@ -19,8 +19,9 @@ pub fn change(files: &mut Namespace, text: &mut Vec<u8>, call: &mut Call<'_>) ->
         show_lines(text, call);
     } else if call.is("image_name") {
         let txid = call.number(1);
-        if let Ok(name) = image_name(call.alloc, txid) {
-            call.say(&name);
+        match image_name(call.alloc, txid) {
+            Ok(name) => call.say(&name),
+            Err(_) => call.failed = true,
         }
     } else {
         return read(files, call);
@@ -96,11 +97,7 @@ fn read(files: &Namespace, call: &mut Call<'_>) -> bool {
             call.show_row(&row);
         }
     } else if call.is("awaiting") {
-        if let Ok(ids) = files.awaiting(call.alloc) {
-            for id in &ids {
-                call.show(&id.get());
-            }
-        }
+        show_awaiting(files, call);
     } else if call.is("issued") {
         call.show(&files.last_block().get());
         call.show(&files.last_stamp().get());
@@ -111,14 +108,25 @@ fn read(files: &Namespace, call: &mut Call<'_>) -> bool {
     true
 }
 
+fn show_awaiting(files: &Namespace, call: &mut Call<'_>) {
+    let Ok(ids) = files.awaiting(call.alloc) else {
+        call.failed = true;
+        return;
+    };
+    for id in &ids {
+        call.show(&id.get());
+    }
+}
+
 fn show_paths(files: &Namespace, call: &mut Call<'_>) {
     let Ok(rows) = files.list() else {
         call.failed = true;
         return;
     };
     for row in &rows {
-        if let Ok(path) = text_of(call.alloc, &row.names) {
-            call.say(&path);
+        match text_of(call.alloc, &row.names) {
+            Ok(path) => call.say(&path),
+            Err(_) => call.failed = true,
         }
     }
 }

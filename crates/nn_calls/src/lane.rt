@@ -34,12 +34,16 @@ pub fn play(lane: &mut Lane, call: &mut Call<'_>) -> bool {
             send(&mut ends.reporter, call);
         } else if let Some(reporter) = &mut lane.reporter {
             send(reporter, call);
+        } else {
+            call.failed = true;
         }
     } else if call.is("take") || call.is("close") || call.is("closed") {
         if let Some(ends) = &mut lane.ends {
             take(&mut ends.end, call);
         } else if let Some(end) = &mut lane.end {
             take(end, call);
+        } else {
+            call.failed = true;
         }
     } else {
         return false;
@@ -56,7 +60,10 @@ fn open(call: &mut Call<'_>) -> Option<Ends> {
     }
     match lane(call.alloc, dn, usize::from(capacity)) {
         Ok((reporter, end)) => Some(Ends { reporter, end }),
-        Err(_) => None,
+        Err(_) => {
+            call.failed = true;
+            None
+        }
     }
 }
 

@@ -1,4 +1,4 @@
-//! A transaction whose line would be too long.
+//! Transactions of many blocks: a long line, and one that would be too long.
 use crate::values::{block, txid};
 use nn_edits::write_edit;
 use nn_types::{Blocks, Edit, Path, Tx};
@@ -28,6 +28,7 @@ fn fault_of_writing(alloc: Global, count: usize) -> Result<u8, Fail> {
 
 #[test]
 fn too_long_to_write(rt: HostRuntime) -> Result<(), Fail> {
+    assert_eq!(rt; fault_of_writing(rt.alloc(), 1000)?, 0);
     assert_eq!(rt; fault_of_writing(rt.alloc(), 2000)?, 6);
     Ok(())
 }

@@ -1,4 +1,4 @@
-//! A log whose segments overlap, as a source gives it.
+//! A log whose segments overlap, as a source gives it, and one of many segments.
 use nn_segment::{Item, MemorySource, Parsed, SegmentSource, gather};
 use std::alloc::Global;
 use std::process::Abort;
@@ -46,6 +46,17 @@ fn overlapping_segments_in_order(rt: HostRuntime) -> Result<(), Fail> {
 fn gathers_both(rt: &impl Abort, alloc: Global, source: &mut MemorySource) -> Result<(), Fail> {
     let gathered = gather(alloc, source)?;
     are_both(rt, &gathered);
+    Ok(())
+}
+
+#[test]
+fn a_thousand_segments(rt: HostRuntime) -> Result<(), Fail> {
+    let mut segments = Vec::new(rt.alloc());
+    for _ in 0..1000 {
+        segments.push(parsed(rt.alloc(), NAME, SEGMENT)?)?;
+    }
+    let gathered = gather(rt.alloc(), &mut MemorySource::new(segments))?;
+    assert_eq!(rt; gathered.len(), 1000);
     Ok(())
 }
 

@@ -1,7 +1,7 @@
 //! The program on readers and writers that fail, without words, on large inputs, and with threads that wait for one another.
 use crate::values::Shared;
 use nn_command::{NoWords, serve};
-use nn_engine::{Gate, Input, Open, Options, run};
+use nn_engine::{Gate, Input, Open, Options, output_of, run};
 use nn_scenario::MAX_INPUT;
 use nn_types::Settings;
 use std::alloc::Global;
@@ -255,6 +255,18 @@ fn prints(rt: &impl Abort, alloc: Global, long: &Long) {
     let (text, status) = printed(alloc, input.as_slice());
     assert!(rt; text.starts_with(long.want.as_bytes()), "at {}", long.bytes);
     assert_eq!(rt; status, long.status);
+    let (same, status) = printed_without_devices(alloc, input);
+    assert!(rt; same == text && status == long.status, "at {}", long.bytes);
+}
+
+fn printed_without_devices(alloc: Global, input: Vec<u8>) -> (Vec<u8>, u8) {
+    if input.len() > MAX_INPUT {
+        return (Vec::new(alloc), 9);
+    }
+    match output_of(alloc, usual_options(), input) {
+        Ok(output) => (output.text, output.status),
+        Err(_) => (Vec::new(alloc), 9),
+    }
 }
 
 fn text_of(alloc: Global, long: &Long) -> Option<Vec<u8>> {

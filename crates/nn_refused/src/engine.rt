@@ -1,0 +1,70 @@
+//! `run`, with a history and an image.
+use crate::heap::Heap;
+use crate::scenario::Halt;
+use crate::trial::{Answer, Changing, Fate, change};
+use nn_engine::{Input, Options, run};
+use nn_types::Settings;
+use std::alloc::Global;
+
+// A report that comes before its block is named.
+const LINES: &[u8] = br#"{"op":"OP_START_LOG_SEGMENT","txid":1}
+{"op":"OP_SET_GENSTAMP_V2","gen":1001,"txid":2}
+{"op":"OP_ALLOCATE_BLOCK_ID","id":1073741825,"txid":3}
+{"op":"OP_ADD","path":"/f","replication":3,"txid":4}
+{"dn":1,"block":1073741825,"gen":1001,"len":5,"kind":"received"}
+{"op":"OP_ADD_BLOCK","gen":1001,"id":1073741825,"path":"/f","txid":5}
+{"op":"OP_CLOSE","blocks":[{"gen":1001,"id":1073741825,"len":5}],"path":"/f","txid":6}
+{"op":"OP_END_LOG_SEGMENT","txid":7}
+"#;
+
+const OUT_OF_MEMORY: &[u8] = b"fault 55\n";
+
+// Room for the output.
+const ROOM: usize = 65_536;
+
+#[derive(Clone, Copy)]
+struct Run {
+    alloc: Global,
+    options: Options,
+}
+
+impl Changing for Run {
+    type Subject = Vec<u8>;
+
+    fn call(&self, output: &mut Vec<u8>) -> Answer {
+        output.clear();
+        let mut input = Input::new(LINES);
+        match run(self.alloc, &self.options, &mut input, output) {
+            Ok(_) if output.as_slice() == OUT_OF_MEMORY => Answer::OutOfMemory,
+            Ok(_) => Answer::Done,
+            Err(_) => Answer::Other,
+        }
+    }
+
+    // It prints one line, which `call` has seen, and changes nothing.
+    fn is_unchanged(&self, _output: &Vec<u8>, _twin: &Vec<u8>) -> bool {
+        true
+    }
+}
+
+/// Runs a scenario.
+pub fn run_scenario(alloc: Global, is_ample: bool, settings: Settings) -> Result<Fate, Halt> {
+    let run = Run {
+        alloc,
+        options: Options {
+            settings,
+            history: true,
+            image: true,
+        },
+    };
+    let (output, fate) = play(alloc, is_ample, &run)?;
+    let (undisturbed, other) = play(alloc, true, &run)?;
+    Ok(fate.and(other).if_same(output == undisturbed))
+}
+
+fn play(alloc: Global, is_ample: bool, run: &Run) -> Result<(Vec<u8>, Fate), Halt> {
+    let mut output = Vec::with_capacity(alloc, ROOM)?;
+    let mut heap = Heap::new(alloc, is_ample)?;
+    let fate = change(&mut heap, run, &mut output, &Vec::new(alloc));
+    Ok((output, fate))
+}

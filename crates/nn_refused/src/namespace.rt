@@ -1,0 +1,171 @@
+//! `Namespace::apply`, with each operation.
+ghost use Rattle.std.specs.Prelude.{◌<◌};
+
+use crate::heap::Heap;
+use crate::scenario::{Halt, Scenario};
+use crate::trial::{Answer, Changing, Fate, both, change_both};
+use nn_listing::listing;
+use nn_tree::{Found, Namespace};
+use nn_types::{BlockId, Edit, EditFault, Path};
+use std::alloc::Global;
+
+/// How many operations there are.
+pub const OPERATIONS: usize = 12;
+
+/// The names of the operations, each at its place.
+pub const NAMES: [&str; OPERATIONS] = [
+    "OP_START_LOG_SEGMENT",
+    "OP_MKDIR",
+    "OP_ADD",
+    "OP_ALLOCATE_BLOCK_ID",
+    "OP_SET_GENSTAMP_V2",
+    "OP_ADD_BLOCK",
+    "OP_UPDATE_BLOCKS",
+    "OP_CLOSE",
+    "OP_SET_REPLICATION",
+    "OP_RENAME",
+    "OP_DELETE",
+    "OP_END_LOG_SEGMENT",
+];
+
+// The place of an edit's operation.
+fn place_of(edit: &Edit) -> usize
+    ensures { result < 12 }
+{
+    match edit {
+        Edit::StartSegment => 0,
+        Edit::Mkdir { .. } => 1,
+        Edit::Add { .. } => 2,
+        Edit::AllocateBlockId { .. } => 3,
+        Edit::SetGenstamp { .. } => 4,
+        Edit::AddBlock { .. } => 5,
+        Edit::UpdateBlocks { .. } => 6,
+        Edit::Close { .. } => 7,
+        Edit::SetReplication { .. } => 8,
+        Edit::Rename { .. } => 9,
+        Edit::Delete { .. } => 10,
+        Edit::EndSegment => 11,
+    }
+}
+
+// An edit of a log.
+#[derive(Clone, Copy)]
+struct Apply<'a> {
+    edit: &'a Edit,
+    scenario: &'a Scenario,
+}
+
+impl Changing for Apply<'_> {
+    type Subject = Namespace;
+
+    fn call(&self, namespace: &mut Namespace) -> Answer {
+        match namespace.apply(self.edit) {
+            Ok(_touched) => Answer::Done,
+            Err(EditFault::OutOfMemory) => Answer::OutOfMemory,
+            Err(_) => Answer::Other,
+        }
+    }
+
+    fn is_unchanged(&self, namespace: &Namespace, twin: &Namespace) -> bool {
+        are_alike(namespace, twin, self.scenario)
+    }
+}
+
+/// Applies the scenario's log to a new namespace.
+pub fn apply_log(
+    alloc: Global,
+    is_ample: bool,
+    scenario: &Scenario,
+) -> Result<[Fate; OPERATIONS], Halt> {
+    let (namespace, fates) = play(alloc, is_ample, scenario)?;
+    let (undisturbed, others) = play(alloc, true, scenario)?;
+    let is_same = listing(alloc, &namespace, 0)? == listing(alloc, &undisturbed, 0)?
+        && are_alike(&namespace, &undisturbed, scenario);
+    Ok(both(fates, others, is_same))
+}
+
+fn play(
+    alloc: Global,
+    is_ample: bool,
+    scenario: &Scenario,
+) -> Result<(Namespace, [Fate; OPERATIONS]), Halt> {
+    let mut namespace = Namespace::new(alloc);
+    let mut twin = Namespace::new(alloc);
+    let mut heap = Heap::new(alloc, is_ample)?;
+    let mut fates = [Fate::Untried; OPERATIONS];
+    for segment in &scenario.segments {
+        for tx in segment.txs() {
+            let call = Apply {
+                edit: &tx.edit,
+                scenario,
+            };
+            let fate = &mut fates[place_of(&tx.edit)];
+            *fate = fate.and(change_both(&mut heap, &call, &mut namespace, &mut twin));
+        }
+    }
+    Ok((namespace, fates))
+}
+
+/// Whether two namespaces show the same at all paths and block ids of the log, in their blocks and in their
+/// extents. It takes no memory.
+pub fn are_alike(namespace: &Namespace, twin: &Namespace, scenario: &Scenario) -> bool {
+    namespace.extent() == twin.extent()
+        && namespace.last_block() == twin.last_block()
+        && namespace.last_stamp() == twin.last_stamp()
+        && have_the_same_blocks(namespace, twin)
+        && show_the_same(namespace, twin, scenario)
+}
+
+fn have_the_same_blocks(namespace: &Namespace, twin: &Namespace) -> bool {
+    let mut others = twin.blocks();
+    for row in namespace.blocks() {
+        if others.next() != Some(row) {
+            return false;
+        }
+    }
+    others.next().is_none()
+}
+
+fn show_the_same(namespace: &Namespace, twin: &Namespace, scenario: &Scenario) -> bool {
+    for segment in &scenario.segments {
+        for tx in segment.txs() {
+            if !show_the_same_of(namespace, twin, &tx.edit) {
+                return false;
+            }
+        }
+    }
+    true
+}
+
+fn show_the_same_of(namespace: &Namespace, twin: &Namespace, edit: &Edit) -> bool {
+    match edit {
+        Edit::StartSegment | Edit::EndSegment | Edit::SetGenstamp { .. } => true,
+        Edit::AllocateBlockId { id } => have_the_same_status(namespace, twin, *id),
+        Edit::Rename { src, dst } => {
+            have_the_same_at(namespace, twin, src) && have_the_same_at(namespace, twin, dst)
+        }
+        Edit::Mkdir { path }
+        | Edit::Add { path, .. }
+        | Edit::AddBlock { path, .. }
+        | Edit::UpdateBlocks { path, .. }
+        | Edit::Close { path, .. }
+        | Edit::SetReplication { path, .. }
+        | Edit::Delete { path } => have_the_same_at(namespace, twin, path),
+    }
+}
+
+fn have_the_same_status(namespace: &Namespace, twin: &Namespace, id: BlockId) -> bool {
+    namespace.status(id) == twin.status(id)
+}
+
+fn have_the_same_at(namespace: &Namespace, twin: &Namespace, path: &Path) -> bool {
+    match (namespace.lookup(path), twin.lookup(path)) {
+        (None, None) | (Some(Found::Dir), Some(Found::Dir)) => true,
+        (Some(Found::File(file)), Some(Found::File(other))) => {
+            file.replication == other.replication
+                && file.closed == other.closed
+                && file.blocks.as_slice() == other.blocks.as_slice()
+        }
+        _ => false,
+    }
+}

@@ -1,0 +1,113 @@
+//! The scenario that the trials play.
+use nn_edits::LineFault;
+use nn_scenario::{BadLine, BadSegment, MAX_INPUT, Step, read_lines, read_segments};
+use nn_segment::{Parsed, SegmentFault};
+use nn_tree::Namespace;
+use nn_types::{BlockId, Tx};
+use std::alloc::{AllocError, Global};
+
+/// Why nothing is printed but a fault.
+#[derive(Clone, Copy)]
+pub enum Halt {
+    OutOfMemory,
+    /// Standard input is no scenario.
+    BadScenario,
+}
+
+impl From<AllocError> for Halt {
+    fn from(_error: AllocError) -> Halt {
+        Halt::OutOfMemory
+    }
+}
+
+/// A scenario of two segments. A standby that starts from an image starts after the first.
+#[derive(Drop)]
+pub struct Scenario {
+    pub segments: Vec<Parsed>,
+    pub steps: Vec<Step>,
+    // The blocks of its messages, in their order; once for messages that follow one another.
+    pub blocks: Vec<BlockId>,
+}
+
+impl Scenario {
+    /// Reads a text.
+    pub fn read(alloc: Global, text: &[u8]) -> Result<Scenario, Halt> {
+        if text.len() > MAX_INPUT {
+            return Err(Halt::BadScenario);
+        }
+        let lines = match read_lines(alloc, text) {
+            Ok(lines) => lines,
+            Err(bad) => return Err(halt_of_line(&bad)),
+        };
+        let segments = match read_segments(alloc, lines.parts) {
+            Ok(segments) => segments,
+            Err(bad) => return Err(halt_of_segment(&bad)),
+        };
+        let mut left = lines.steps.into_steps();
+        let mut steps = Vec::new(alloc);
+        let mut blocks = Vec::new(alloc);
+        for _ in 0..text.len() {
+            if let Some(step) = left.next() {
+                note_block(&mut blocks, &step)?;
+                steps.push(step).map_err(|_| Halt::OutOfMemory)?;
+            }
+        }
+        Ok(Scenario {
+            segments,
+            steps,
+            blocks,
+        })
+    }
+
+    /// The transactions of the segment at this place, counted from 0.
+    pub fn txs(&self, place: usize) -> &[Tx] {
+        match self.segments.get(place) {
+            Some(segment) => segment.txs(),
+            None => &[],
+        }
+    }
+
+    /// The last txid of the first segment, 0 where there is none.
+    pub fn image_txid(&self) -> u64 {
+        match self.txs(0).last() {
+            Some(tx) => tx.txid.get(),
+            None => 0,
+        }
+    }
+
+    /// The namespace after the first segment.
+    pub fn after_the_first(&self, alloc: Global) -> Result<Namespace, Halt> {
+        let mut namespace = Namespace::new(alloc);
+        for tx in self.txs(0) {
+            if namespace.apply(&tx.edit).is_err() {
+                return Err(Halt::OutOfMemory);
+            }
+        }
+        Ok(namespace)
+    }
+}
+
+// Adds the block of a message, unless the message before is about the same.
+fn note_block(blocks: &mut Vec<BlockId>, step: &Step) -> Result<(), Halt> {
+    let Step::Message(message) = step else {
+        return Ok(());
+    };
+    if blocks.last() != Some(&message.block) {
+        blocks.push(message.block).map_err(|_| Halt::OutOfMemory)?;
+    }
+    Ok(())
+}
+
+fn halt_of_line(bad: &BadLine) -> Halt {
+    match bad.fault {
+        LineFault::OutOfMemory => Halt::OutOfMemory,
+        _ => Halt::BadScenario,
+    }
+}
+
+fn halt_of_segment(bad: &BadSegment) -> Halt {
+    match bad.fault {
+        SegmentFault::OutOfMemory => Halt::OutOfMemory,
+        _ => Halt::BadScenario,
+    }
+}

@@ -1,0 +1,337 @@
+//! `Standby::new`, `from_image`, `step` and `promote`.
+ghost use Rattle.std.specs.Prelude.{◌≤◌, length};
+
+use crate::heap::Heap;
+use crate::image::image_of;
+use crate::scenario::{Halt, Scenario};
+use crate::shadow::are_alike;
+use crate::text::are_same;
+use crate::trial::{Answer, Changing, Fate, Making, both, change_both, make};
+use nn_image::ImageFault;
+use nn_lane::{LaneEnd, Reporter, lane};
+use nn_scenario::Step;
+use nn_segment::MemorySource;
+use nn_tailer::{Choice, PromoteFault, Standby, StepFault};
+use nn_types::{Message, Settings};
+use std::alloc::Global;
+use std::marker::Model;
+
+/// What is printed for each call.
+pub const NAMES: [&str; 6] = [
+    "Standby::new",
+    "Standby::step, an edit",
+    "Standby::step, a lane",
+    "Standby::promote, after all steps",
+    "Standby::from_image",
+    "Standby::promote, before any step",
+];
+
+// The messages that a lane has room for.
+const CAPACITY: usize = 1024;
+
+// ---- The lanes.
+
+// The ends of new lanes, those of DataNodes 1 and 2.
+#[derive(Drop)]
+struct NewEnds {
+    ends: Vec<LaneEnd>,
+}
+
+impl Model for NewEnds {
+    ghost use Rattle.std.specs.Prelude.{List, ◌≤◌, length};
+    ghost use Rattle.nn_lane.specs.Ends.{Taking};
+    ghost use Rattle.nn_tailer.specs.Public.{AreNew};
+
+    ghost Value = { List Taking };
+
+    ghost view = { λ s. s.ends.items };
+
+    ghost invariant = { λ s. AreNew 1 s.ends.items × (1 ≤ length s.ends.items) × (length s.ends.items ≤ 256) };
+}
+
+// Lanes that hold all messages of their DataNodes.
+fn lanes(alloc: Global, scenario: &Scenario) -> Result<NewEnds, Halt> {
+    let (mut first, first_end) = lane(alloc, 1, CAPACITY)?;
+    let (mut second, second_end) = lane(alloc, 2, CAPACITY)?;
+    send_all(&mut first, 1, scenario)?;
+    send_all(&mut second, 2, scenario)?;
+    let mut ends = Vec::new(alloc);
+    if ends.push(first_end).is_err() || ends.push(second_end).is_err() {
+        return Err(Halt::OutOfMemory);
+    }
+    Ok(NewEnds { ends })
+}
+
+fn send_all(reporter: &mut Reporter, dn: u16, scenario: &Scenario) -> Result<(), Halt> {
+    for step in &scenario.steps {
+        if let Step::Message(message) = step
+            && message.dn == dn
+        {
+            send(reporter, message)?;
+        }
+    }
+    Ok(())
+}
+
+fn send(reporter: &mut Reporter, message: &Message) -> Result<(), Halt> {
+    match reporter.report(message.block, message.stamp, message.len, message.kind) {
+        Ok(_) => Ok(()),
+        Err(_) => Err(Halt::BadScenario),
+    }
+}
+
+// ---- The calls.
+
+#[derive(Clone, Copy)]
+struct New {
+    alloc: Global,
+    settings: Settings,
+}
+
+impl Making for New {
+    type Given = NewEnds;
+
+    type Made = Standby;
+
+    fn call(&self, given: NewEnds) -> Result<Standby, NewEnds> {
+        match Standby::new(self.alloc, given.ends, self.settings) {
+            Ok(standby) => Ok(standby),
+            Err(ends) => Err(NewEnds { ends }),
+        }
+    }
+
+    // What comes back is an end for each lane, with all messages: the standby that is made of them shows it.
+    fn is_unchanged(&self, given: &NewEnds) -> bool {
+        given.ends.len() == 2
+    }
+}
+
+#[derive(Clone, Copy)]
+struct FromImage<'a> {
+    alloc: Global,
+    settings: Settings,
+    image: &'a [u8],
+}
+
+impl Making for FromImage<'_> {
+    type Given = NewEnds;
+
+    type Made = Standby;
+
+    // After any fault but out of memory the call is refused for ever, which the line shows.
+    fn call(&self, given: NewEnds) -> Result<Standby, NewEnds> {
+        let mut reader = self.image;
+        match Standby::from_image(self.alloc, given.ends, self.settings, &mut reader) {
+            Ok(standby) => Ok(standby),
+            Err(fault) => Err(NewEnds { ends: fault.ends }),
+        }
+    }
+
+    fn is_unchanged(&self, given: &NewEnds) -> bool {
+        given.ends.len() == 2
+    }
+}
+
+// A standby and the source of its log.
+#[derive(Drop)]
+struct Tailing {
+    standby: Standby,
+    source: MemorySource,
+}
+
+#[derive(Clone, Copy)]
+struct TakeStep<'a> {
+    choice: Choice,
+    scenario: &'a Scenario,
+}
+
+impl Changing for TakeStep<'_> {
+    type Subject = Tailing;
+
+    fn call(&self, tailing: &mut Tailing) -> Answer {
+        match tailing.standby.step(&mut tailing.source, self.choice) {
+            Ok(_) => Answer::Done,
+            Err(StepFault::OutOfMemory) => Answer::OutOfMemory,
+            Err(_) => Answer::Other,
+        }
+    }
+
+    fn is_unchanged(&self, tailing: &Tailing, twin: &Tailing) -> bool {
+        are_alike(
+            tailing.standby.shadow(),
+            twin.standby.shadow(),
+            self.scenario,
+        )
+    }
+}
+
+#[derive(Clone, Copy)]
+struct Promote;
+
+impl Changing for Promote {
+    type Subject = Tailing;
+
+    fn call(&self, tailing: &mut Tailing) -> Answer {
+        match tailing.standby.promote(&mut tailing.source) {
+            Ok(_) => Answer::Done,
+            Err(PromoteFault::Step(StepFault::OutOfMemory)) => Answer::OutOfMemory,
+            Err(_) => Answer::Other,
+        }
+    }
+
+    // A promotion that is refused memory may have gone on: it adds to the history, and takes nothing from it.
+    fn is_unchanged(&self, tailing: &Tailing, twin: &Tailing) -> bool {
+        let history = tailing.standby.shadow().history();
+        history.starts_with(twin.standby.shadow().history())
+    }
+}
+
+// ---- What is played.
+
+// A standby, and its twin.
+#[derive(Drop)]
+struct Pair {
+    tailing: Tailing,
+    twin: Tailing,
+}
+
+impl Pair {
+    fn change<C: Changing<Subject = Tailing>>(&mut self, heap: &mut Heap, call: &C) -> Fate {
+        change_both(heap, call, &mut self.tailing, &mut self.twin)
+    }
+}
+
+// What both standbys are made of. All of it is there before the heap is full.
+#[derive(Drop)]
+struct Given {
+    ends: NewEnds,
+    source: MemorySource,
+}
+
+impl Given {
+    fn new(alloc: Global, text: &[u8]) -> Result<Given, Halt> {
+        let scenario = Scenario::read(alloc, text)?;
+        let ends = lanes(alloc, &scenario)?;
+        Ok(Given {
+            ends,
+            source: MemorySource::new(scenario.segments),
+        })
+    }
+}
+
+// Two standbys are made.
+fn begin<M: Making<Given = NewEnds, Made = Standby>>(
+    heap: &mut Heap,
+    call: &M,
+    given: Given,
+    other: Given,
+) -> (Fate, Option<Pair>) {
+    let (fate, standby) = make(heap, call, given.ends);
+    let (other_fate, twin) = make(heap, call, other.ends);
+    let fate = fate.and(other_fate);
+    let (Some(standby), Some(twin)) = (standby, twin) else {
+        return (fate, None);
+    };
+    let tailing = Tailing {
+        standby,
+        source: given.source,
+    };
+    let twin = Tailing {
+        standby: twin,
+        source: other.source,
+    };
+    (fate, Some(Pair { tailing, twin }))
+}
+
+// Each edit and each message of the lanes is taken, in the order of the scenario's lines.
+fn take_steps(heap: &mut Heap, pair: &mut Pair, scenario: &Scenario) -> (Fate, Fate) {
+    let mut fates = (Fate::Untried, Fate::Untried);
+    for step in &scenario.steps {
+        let choice = match step {
+            Step::Edit => Choice::Edit,
+            Step::Message(message) if message.dn <= 2 => Choice::Lane(message.dn),
+            Step::Message(_) => continue,
+        };
+        let fate = pair.change(heap, &TakeStep { choice, scenario });
+        match choice {
+            Choice::Edit => fates.0 = fates.0.and(fate),
+            Choice::Lane(_) => fates.1 = fates.1.and(fate),
+        }
+    }
+    fates
+}
+
+fn close_and_promote(heap: &mut Heap, pair: &mut Pair) -> Fate {
+    pair.tailing.standby.close_intake();
+    pair.twin.standby.close_intake();
+    pair.change(heap, &Promote)
+}
+
+/// A new standby takes all steps and is promoted. Another one starts from the image after the first segment, and is
+/// promoted at once: so it reads the rest of the log and drains its lanes.
+pub fn follow_lanes(
+    alloc: Global,
+    is_ample: bool,
+    settings: Settings,
+    text: &[u8],
+) -> Result<[Fate; 6], Halt> {
+    let (by_steps, fates) = play_steps(alloc, is_ample, settings, text)?;
+    let (undisturbed, others) = play_steps(alloc, true, settings, text)?;
+    let steps = both(fates, others, are_equal(alloc, &by_steps, &undisturbed)?);
+    let (at_once, fates) = play_restart(alloc, is_ample, settings, text)?;
+    let (undisturbed, others) = play_restart(alloc, true, settings, text)?;
+    let restart = both(fates, others, are_equal(alloc, &at_once, &undisturbed)?);
+    Ok([
+        steps[0], steps[1], steps[2], steps[3], restart[0], restart[1],
+    ])
+}
+
+fn are_equal(alloc: Global, pair: &Option<Pair>, other: &Option<Pair>) -> Result<bool, Halt> {
+    let (Some(pair), Some(other)) = (pair, other) else {
+        return Ok(false);
+    };
+    let shadow = pair.tailing.standby.shadow();
+    Ok(are_same(alloc, shadow, other.tailing.standby.shadow())?)
+}
+
+fn play_steps(
+    alloc: Global,
+    is_ample: bool,
+    settings: Settings,
+    text: &[u8],
+) -> Result<(Option<Pair>, [Fate; 4]), Halt> {
+    let scenario = Scenario::read(alloc, text)?;
+    let given = Given::new(alloc, text)?;
+    let other = Given::new(alloc, text)?;
+    let mut heap = Heap::new(alloc, is_ample)?;
+    let (made, pair) = begin(&mut heap, &New { alloc, settings }, given, other);
+    let Some(mut pair) = pair else {
+        return Ok((None, [made; 4]));
+    };
+    let (edits, messages) = take_steps(&mut heap, &mut pair, &scenario);
+    let promoted = close_and_promote(&mut heap, &mut pair);
+    Ok((Some(pair), [made, edits, messages, promoted]))
+}
+
+fn play_restart(
+    alloc: Global,
+    is_ample: bool,
+    settings: Settings,
+    text: &[u8],
+) -> Result<(Option<Pair>, [Fate; 2]), Halt> {
+    let image = image_of(alloc, &Scenario::read(alloc, text)?)?;
+    let given = Given::new(alloc, text)?;
+    let other = Given::new(alloc, text)?;
+    let mut heap = Heap::new(alloc, is_ample)?;
+    let call = FromImage {
+        alloc,
+        settings,
+        image: &image,
+    };
+    let (made, pair) = begin(&mut heap, &call, given, other);
+    let Some(mut pair) = pair else {
+        return Ok((None, [made; 2]));
+    };
+    let promoted = close_and_promote(&mut heap, &mut pair);
+    Ok((Some(pair), [made, promoted]))
+}

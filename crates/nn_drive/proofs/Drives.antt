@@ -15,7 +15,7 @@ use Rattle.nn_tailer.proofs.Closed.{many_closed}
 use Rattle.nn_tailer.proofs.Drained.{same_length}
 use Rattle.nn_drive.specs.declared.driving.Worked.{Worked}
 use Rattle.nn_drive.specs.declared.driving.Reports.{Reports}
-use Rattle.nn_drive.specs.Driven.{AreLanes, IsPromised, ArePromised, HasReported, IsToldOnly, IsTaken, WasTold, JoinsAll, AreOneLane, Agrees, Goes, HasEnded, IsPromoted}
+use Rattle.nn_drive.specs.Driven.{AreLanes, IsPromised, ArePromised, HasReported, IsToldOnly, IsTaken, JoinsAll, AreOneLane, Agrees, Goes, IsPromoted}
 use Rattle.nn_drive.proofs.Meets.{zip_of, zip_at}
 
 same_at : (es es' : List Taking) (i : ℕ) (d : Taking) → i < length es → SameEnds es es' → SameEnd (get_or es i d) (get_or es' i d)
@@ -83,19 +83,25 @@ module _ {S : Type 0} (gives : S → Option Report → S → Type 0) (workers : 
         let j = joins.each i h e r within in
         (j.0, reported_by gives (get_or workers i w) (get_or handles i h) j.0 (promised.1 i w h within) j.1, j.2, j.3)
 
-    pub was_told : told ≡ true → WasTold gives workers x0.ends
-    was_told t =
+    -- before the close, each end is of the lane of its reporter
+    pub lanes_now : AllZip AreOneLane x1.ends reporters
+    lanes_now =
+        let many = same_length x0.ends x1.ends goes.same_ends in
+        zip_of AreOneLane x1.ends reporters (omega (arith, many, lanes.0, joins.size, promised.0, all)) (λ i e r l.
+        let below : i < length workers = omega (arith, l, many, lanes.0) in
+        let w = some_of workers i below in
+        let j = joined_at i w e r below in
+        let in0 : i < length x0.ends = omega (arith, below, lanes.0) in
+        (same_at x0.ends x1.ends i e in0 goes.same_ends).0 ∙ lanes.1 i w e below ∙ sym j.1.0 ∙ ap (λ z. z.lane) (sym j.2))
+
+    -- so none was told of a close
+    pub none_closed : AllZip Agrees x1.ends reporters → told ≡ true → ⊥
+    none_closed agree t =
         let o = joins.one t in
-        let below : o.place < length workers = omega (arith, o.within, promised.0) in
-        let h = some_of handles o.place o.within in
-        record {
-          place = o.place;
-          within = below;
-          worked = o.worked;
-          reported = λ w. reported_by gives (get_or workers o.place w) (get_or handles o.place h) o.worked (promised.1 o.place w h o.within) (o.reported h);
-          told = o.told;
-          open_before = λ e. sym (same_at x0.ends x1.ends o.place e (omega (arith, below, lanes.0)) goes.same_ends).1 ∙ o.open_before e;
-        }
+        let within : o.place < length x1.ends = omega (arith, o.within, joins.size, promised.0, lanes.0, same_length x0.ends x1.ends goes.same_ends) in
+        let e = some_of x1.ends o.place within in
+        let r = some_of reporters o.place o.within in
+        let z : true ≡ false = sym ((zip_at Agrees x1.ends reporters agree o.place e r within).2 (o.told r)) ∙ o.is_open e in cc
 
     module _ (x2 x3 : Tailer) (closes : CloseEnds x1.ends x2.ends) (carries : Carries x1 [] x2) (same : SameEnds x2.ends x3.ends) where
       size : length x3.ends ≡ length workers
@@ -118,9 +124,6 @@ module _ {S : Type 0} (gives : S → Option Report → S → Type 0) (workers : 
       module _ (a2 : List Answer) (promotes : Promotes x2 a2 x3) where
         promoted : (start : Namespace) (base : ℕ) (given : List Answer) → StandsAt start base given x0 → Promoted start base (given ++ (a1 ++ a2)) x3
         promoted start base given h = subst (λ g. Promoted start base g x3) (append_assoc given a1 a2) (promotes start base (given ++ a1) (carried start base given h))
-
-        pub has_ended : HasEnded x0 (a1 ++ a2)
-        has_ended start base given h = let p = promoted start base given h in (p.ended, (record { last = x3.shadow.last; namespace = x3.shadow.namespace }, p.log_end))
 
         module _ (agree : AllZip Agrees x3.ends reporters) (none_told : told ≡ false) where
           is_taken : AllTaken x3.ends x3.kept → (i : ℕ) (w : S × Reporting) (b e : Taking) → i < length workers → IsTaken gives (get_or workers i w).0 (get_or workers i w).1 (get_or x0.ends i b) (get_or x3.ends i e).got

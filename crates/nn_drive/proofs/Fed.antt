@@ -32,9 +32,8 @@ use Rattle.nn_feed.proofs.Feeds.{last_among, one_last}
 use Rattle.nn_feed.proofs.Wholes.{asked_gets, given_is_got, ends_in_end, ends_in_last}
 use Rattle.nn_drive.specs.declared.driving.DriveFault.{DriveFault}
 use Rattle.nn_drive.specs.declared.driving.DriveFault.TheVariants as drive
-use Rattle.nn_drive.specs.Driven.{HasEnded, EndsEarly, WentUntil, IsPromoted, IsDriven, NotDriven, OnClosed}
-use Rattle.nn_drive.specs.Refusals.{MayMeet}
-use Rattle.nn_drive.proofs.Steps.{begun_or_not, meets_none}
+use Rattle.nn_drive.specs.Driven.{EndsEarly, WentUntil, IsPromoted, IsDriven, NotDriven}
+use Rattle.nn_drive.proofs.Steps.{begun_or_not}
 use Rattle.nn_drive.specs.Feeding.{GotMore, HasAnswered, Sourced, WhyFailed, FailsOver, IsDrivenOver, IsKnown}
 
 -- ---- More was got.
@@ -88,10 +87,6 @@ module _ (answers others : List Answer) (same : given_in others ≡ given_in ans
   same_log : (base : ℕ) (before : List Answer) → log_in base (before ++ answers) ≡ log_in base (before ++ others)
   same_log base before = ap (log_of base)
       (segments_given (before ++ answers) ∙ ap (λ l. map (λ (s : Segment). s.txs) l) (sym (same_behind before)) ∙ sym (segments_given (before ++ others)))
-
-  ended_same : (x : Tailer) → HasEnded x answers → HasEnded x others
-  ended_same x h start base before at =
-      let e = h start base before at in (ends_behind before others ended, (e.1.0, ap (λ l. end_of_log base start l) (same_behind before) ∙ e.1.1))
 
   promoted_same : {S : Type 0} (gives : S → Option Report → S → Type 0) (start : Namespace) (base : ℕ) (before : List Answer) (workers : List (S × Reporting)) (was ends : List Taking) (x : Contents)
       → IsPromoted gives start base (before ++ answers) workers was ends x → IsPromoted gives start base (before ++ others) workers was ends x
@@ -169,7 +164,6 @@ module _ {T : Type 0} (gives : T → Answer → T → Type 0) (failures : T → 
         let last = told f refl in let g = (ends_in_last [] (got_by e1) answers (Err f) gets w last).0 in
         let here : EndsInFault of_source f = (g.0, all_got last ∙ g.1) in (here, k.failed f here)
     why_failed x drive.OutOfMemory w told = tt
-    why_failed x drive.Closed w told = ended_same answers of_source (given_alike w.1) (ends_alike w.1) x w.0
 
   pub failed : {R : Type 0} (x : Tailer) (e0 e2 : FeedEnd R) (f : DriveFault) → got_by e0 ≡ [] → FailsOver x e0 e2 f → failures s ≤ failures t → Sourced gives failures s (got_by e2) t → WentUntil gives failures s x t f
   failed x e0 e2 f new h counted all =
@@ -200,12 +194,11 @@ same_then e0 e1 e2 a b = b ∙ a
 pub same_asked : {R : Type 0} (e0 e1 : FeedEnd R) (answers : List Answer) → Asked GivesWhatIsFed e0 answers e1 → IsSameEnd e0 e1
 same_asked e0 e1 answers asked = (asked_gets e0 e1 answers asked).1
 
-why_of : {Q : Type 0} (failures : Q → ℕ) (s t : Q) (x : Tailer) (answers : List Answer) (f : DriveFault) → has_begun x ≡ false → MayMeet f → EndsEarly failures s x answers t f → WhyFailed x answers f
-why_of failures s t x answers drive.AlreadyActive b m h = begun_or_not x b h.0
-why_of failures s t x answers (drive.Stopped stop) b m h = h
-why_of failures s t x answers (drive.LogNotEnded f) b m h = h.0
-why_of failures s t x answers drive.OutOfMemory b m h = tt
-why_of failures s t x answers drive.Closed b m h = absurd m
+why_of : {Q : Type 0} (failures : Q → ℕ) (s t : Q) (x : Tailer) (answers : List Answer) (f : DriveFault) → has_begun x ≡ false → EndsEarly failures s x answers t f → WhyFailed x answers f
+why_of failures s t x answers drive.AlreadyActive b h = begun_or_not x b h.0
+why_of failures s t x answers (drive.Stopped stop) b h = h
+why_of failures s t x answers (drive.LogNotEnded f) b h = h.0
+why_of failures s t x answers drive.OutOfMemory b h = tt
 
 no_log : {P : Type 0} (g : DriveFault) (f : SourceFault) → g ≡ drive.OutOfMemory → g ≡ drive.LogNotEnded f → P
 no_log g f a b = absurd (let e : drive.OutOfMemory ≡ drive.LogNotEnded f = sym a ∙ b in cc)
@@ -216,30 +209,19 @@ module _ {R : Type 0} (x : Tailer) (e0 e1 e2 : FeedEnd R) where
       let is : g ≡ drive.OutOfMemory = elim known [ inl q ↦ q | inr q ↦ q.0 ] in
       record { answers = []; between = e0; asked = refl; why = subst (WhyFailed x []) (sym is) tt; told = λ f w. no_log g f is w; more = more }
 
-  pub fails_over : (failures : FeedEnd R → ℕ) (f g : DriveFault) → has_begun x ≡ false → MayMeet f → WentUntil GivesWhatIsFed failures e0 x e1 f
+  pub fails_over : (failures : FeedEnd R → ℕ) (f g : DriveFault) → has_begun x ≡ false → WentUntil GivesWhatIsFed failures e0 x e1 f
       → IsKnown f (has_last (got_by e1)) g → GotMore (got_by e1) (got_by e2) → FailsOver x e0 e2 g
-  fails_over failures f g b m h known more = elim known [
+  fails_over failures f g b h known more = elim known [
     | inl q ↦ record { answers = h.0; between = e1; asked = h.1; why = subst (WhyFailed x h.0) (sym q) tt; told = λ e w. no_log g e q w; more = more }
     | inr q ↦ record {
       answers = h.0;
       between = e1;
       asked = h.1;
-      why = subst (WhyFailed x h.0) (sym q.0) (why_of failures e0 e1 x h.0 f b m h.2);
+      why = subst (WhyFailed x h.0) (sym q.0) (why_of failures e0 e1 x h.0 f b h.2);
       told = λ e w. q.1 e (sym q.0 ∙ w);
       more = more;
     }
   ]
-
-  -- the log ended in this call, and the standby is promoted, but a worker was told of a close
-  pub closed_over : (answers : List Answer) → Asked GivesWhatIsFed e0 answers e1 → EndsInEnd answers → HasEnded x answers → FailsOver x e0 e1 drive.Closed
-  closed_over answers asked ended has = record { answers = answers; between = e1; asked = asked; why = (has, ended); told = λ f w. absurd (let e : drive.Closed ≡ drive.LogNotEnded f = w in cc); more = got_none (got_by e1) }
-
--- and it says nothing of a close
-pub still_meets : {S : Type 0} (gives : S → Option Report → S → Type 0) (x : Tailer) (workers : List (S × Reporting)) (f g : DriveFault) (told : Bool) → IsKnown f told g → MayMeet f → OnClosed gives x workers g
-still_meets gives x workers f g told known m = elim known [
-  | inl q ↦ subst (OnClosed gives x workers) (sym q) tt
-  | inr q ↦ subst (OnClosed gives x workers) (sym q.0) (meets_none gives x workers f m)
-]
 
 -- a source whose feed did not meet
 pub not_met : {T : Type 0} (gives : T → Answer → T → Type 0) (failures : T → ℕ) (s : T) (x : Tailer) (got : List Placed) (met : Bool) → HasAnswered gives failures s got met → NotDriven gives failures x s drive.OutOfMemory

@@ -1,14 +1,18 @@
 -- One more thread is joined.
-use Rattle.std.proofs.Common.{◌≡◌, ℕ, ◌+◌, ◌<◌, Bool, true, false, List, [], ◌∷◌, ◌++◌, Option, length, get_or, refl, sym, ap, ◌∙◌, subst, arith, below_more, inl, inr}
-use Rattle.std.specs.Prelude.{MatchBool, ◌⊎◌}
+use Rattle.std.proofs.Common.{◌≡◌, ℕ, ◌+◌, ◌<◌, Bool, true, false, List, [], ◌∷◌, ◌++◌, Option, Some, None, Result, Ok, Err, length, length-append, get_or, refl, sym, ap, ◌∙◌, subst, arith, below_more, inl, inr}
+use Rattle.std.specs.Prelude.{MatchBool, MatchOption, MatchResult, ◌⊎◌}
 use Rattle.std.proofs.lemmas.List.{get_or_append_left, get_or_push}
 use Rattle.std.specs.declared.thread.PromisedHandle.{PromisedHandle}
 use Rattle.nn_types.specs.declared.report.Report.{Report}
+use Rattle.nn_types.specs.declared.report.Message.{Message}
 use Rattle.nn_lane.specs.Ends.{Reporting, Taking}
+use Rattle.nn_lane.specs.declared.fault.Refusal.{Refusal}
+use Rattle.nn_lane.specs.declared.fault.Refusal.TheVariants.{Closed, Exhausted, Full}
 use Rattle.nn_tailer.proofs.Fetched.{any_default}
 use Rattle.nn_drive.specs.declared.driving.Worked.{Worked}
 use Rattle.nn_drive.specs.declared.driving.Reports.{Reports}
 use Rattle.nn_drive.specs.Driven.{HasReported, IsTold, IsToldOnly, IsJoined, ToldOne}
+use Rattle.nn_drive.specs.Reports.{next_message, TakesNoMore}
 
 -- what the flag says of the threads so far, and of this one
 abbrev pub TellsOn : {S : Type 0} → Bool → Bool → Worked S → Taking → Type 0
@@ -21,6 +25,17 @@ none_told was false w e h q = h
 one_told : {S : Type 0} (was told : Bool) (w : Worked S) (e : Taking) → TellsOn was told w e → told ≡ true → (was ≡ true) ⊎ (IsTold w.outcome × (e.closed ≡ false))
 one_told was true w e h q = h
 one_told was false w e h q = absurd (let z : false ≡ true = q in cc)
+
+-- what a reporter answered last, its own model says
+told_last : (P : ℕ → Type 0) (u : Reporting) (f : Report → Message) (last : Option Report) (answer : Result ℕ Refusal) → IsTold answer → MatchResult answer P (λ e. MatchOption last ⊥ (λ x. TakesNoMore u (f x) e)) → u.told ≡ true
+told_last P u f last (Ok n) t h = absurd t
+told_last P u f last (Err (Exhausted m)) t h = absurd t
+told_last P u f last (Err (Full m n)) t h = absurd t
+told_last P u f last (Err (Closed m n)) t h = by_last last h
+  where
+    by_last : (last : Option Report) → MatchOption last ⊥ (λ x. TakesNoMore u (f x) (Closed m n)) → u.told ≡ true
+    by_last None g = absurd g
+    by_last (Some x) g = g.2
 
 module _ {S : Type 0} (gives : S → Option Report → S → Type 0) (handles : List (PromisedHandle (Worked S) (Reports S))) (ends : List Taking) (n : ℕ) (was told : Bool) (w : Worked S)
     (says : (e : Taking) → TellsOn was told w (get_or ends n e)) (h : PromisedHandle (Worked S) (Reports S)) (here : (d : PromisedHandle (Worked S) (Reports S)) → get_or handles n d ≡ h)
@@ -37,15 +52,22 @@ module _ {S : Type 0} (gives : S → Option Report → S → Type 0) (handles : 
       (subst (λ p. IsJoined gives told p (get_or ends n e) w.reporter) (sym (here d)) (w, reported, refl, λ f. (none_told was told w (get_or ends n e) (says e) f).1)))
       k below)
 
-  pub told_more : (d : Taking) → n < length handles → n < length ends → (was ≡ true → ToldOne gives handles ends) → told ≡ true → ToldOne gives handles ends
-  told_more d within in_ends before t = elim (one_told was told w (get_or ends n d) (says d) t) [
-    | inl b ↦ before b
-    | inr x ↦ record {
-      place = n;
-      within = within;
-      worked = w;
-      reported = λ p. subst (λ z. HasReported gives z.promise.0.value z.promise.1.value w) (sym (here p)) reported;
-      told = x.0;
-      open_before = λ e. ap (λ z. z.closed) (any_default ends n e d in_ends) ∙ x.1;
-    }
-  ]
+  pub told_more : (rs rs' : List Reporting) → length rs ≡ n → rs' ≡ rs ++ w.reporter ∷ [] → (d : Taking) → n < length ends → (was ≡ true → ToldOne ends rs) → told ≡ true → ToldOne ends rs'
+  told_more rs rs' len q d in_ends before t =
+      let longer = length-append rs (w.reporter ∷ []) in
+      subst (ToldOne ends) (sym q) (elim (one_told was told w (get_or ends n d) (says d) t) [
+        | inl b ↦ (
+            let o = before b in
+            record {
+              place = o.place;
+              within = omega (arith, o.within, longer);
+              told = λ r. ap (λ z. z.told) (get_or_append_left rs (w.reporter ∷ []) r o.place o.within) ∙ o.told r;
+              is_open = o.is_open;
+            })
+        | inr x ↦ record {
+          place = n;
+          within = omega (arith, len, longer);
+          told = λ r. ap (λ z. z.told) (get_or_push rs w.reporter r n len) ∙ told_last (λ k. (reported.1.1 ≡ None) × (k ≡ length reported.1.0)) w.reporter (next_message h.promise.1.value.lane.node w.reporter.sent) reported.1.1 w.outcome x.0 reported.1.4;
+          is_open = λ e. ap (λ z. z.closed) (any_default ends n e d in_ends) ∙ x.1;
+        }
+      ])

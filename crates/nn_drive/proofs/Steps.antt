@@ -8,8 +8,7 @@ use Rattle.nn_shadow.specs.Refusals.{fault_if, first_fault}
 use Rattle.nn_tailer.specs.declared.standby.Choice.{Choice}
 use Rattle.nn_tailer.specs.declared.standby.Choice.TheVariants.{Lane}
 use Rattle.nn_tailer.specs.declared.standby.Stepped.{Stepped}
-use Rattle.nn_segment.specs.LogEnd.{LogEnd, end_of_log, given_in}
-use Rattle.nn_tailer.specs.Tailing.{has_begun, Tailer, StopsLog, Carries, EndsInEnd}
+use Rattle.nn_tailer.specs.Tailing.{has_begun, Tailer, StopsLog, Carries}
 use Rattle.nn_tailer.specs.LaneSteps.{SameEnds}
 use Rattle.nn_tailer.specs.Public.{NotStepped, Steps}
 use Rattle.nn_tailer.specs.Reads.{WhyEnded, StopsFor}
@@ -24,10 +23,8 @@ use Rattle.nn_tailer.proofs.Refusing.{has_one, has_none}
 use Rattle.nn_tailer.proofs.Shadowing.{settings_same, settings_then}
 use Rattle.nn_drive.specs.declared.driving.DriveFault.{DriveFault}
 use Rattle.nn_drive.specs.declared.driving.DriveFault.TheVariants as drive
-use Rattle.nn_types.specs.declared.report.Report.{Report}
-use Rattle.nn_lane.specs.Ends.{Reporting}
-use Rattle.nn_drive.specs.Driven.{Went, EndsEarly, WentUntil, OnClosed}
-use Rattle.nn_drive.specs.Refusals.{drive_refusal, MayCome, MayMeet, IsSameFault}
+use Rattle.nn_drive.specs.Driven.{Went, EndsEarly, WentUntil}
+use Rattle.nn_drive.specs.Refusals.{drive_refusal, MayCome, IsSameFault}
 
 -- ---- Which faults come.
 
@@ -41,21 +38,6 @@ step_may_come x y c rs step.BadLane b p h =
     absurd (let w : true ≡ false = sym p ∙ ap (has_place x) h.1 ∙ has_none x h.0 h.2 in cc)
 step_may_come x y c rs (step.LogNotEnded f) b p h = tt
 step_may_come x y c rs step.OutOfMemory b p h = tt
-
-pub same_meets : (f : StepFault) (g : DriveFault) → IsSameFault f g → MayMeet g
-same_meets step.AlreadyActive g h = absurd h
-same_meets (step.Stopped m) g h = subst MayMeet (sym h) tt
-same_meets step.BadLane g h = absurd h
-same_meets (step.LogNotEnded f) g h = subst MayMeet (sym h) tt
-same_meets step.OutOfMemory g h = subst MayMeet (sym h) tt
-
--- a fault that is met says nothing of a close
-pub meets_none : {S : Type 0} (gives : S → Option Report → S → Type 0) (x : Tailer) (workers : List (S × Reporting)) (f : DriveFault) → MayMeet f → OnClosed gives x workers f
-meets_none gives x workers drive.AlreadyActive h = tt
-meets_none gives x workers (drive.Stopped m) h = tt
-meets_none gives x workers (drive.LogNotEnded f) h = tt
-meets_none gives x workers drive.OutOfMemory h = tt
-meets_none gives x workers drive.Closed h = absurd h
 
 pub promotion_may_come : (rs : List Answer) (y : Tailer) (f : StepFault) → WhyEnded rs y f → MayCome f
 promotion_may_come rs y step.AlreadyActive h = h
@@ -106,7 +88,6 @@ module _ {T : Type 0} (gives : T → Answer → T → Type 0) (failures : T → 
   later_ends s t u x y rs qs (drive.Stopped m) b c l h = λ start base given at. subst (λ g. StopsLog start base g m) (append_assoc given rs qs) (h start base (given ++ rs) (c start base given at))
   later_ends s t u x y rs qs (drive.LogNotEnded e) b c l h = ((rs ++ h.0.0, ap (λ z. rs ++ z) h.0.1 ∙ sym (append_assoc rs h.0.0 (Err e ∷ []))), omega (arith, l, h.1))
   later_ends s t u x y rs qs drive.OutOfMemory b c l h = tt
-  later_ends s t u x y rs qs drive.Closed b c l h = λ start base given at. subst (λ g. EndsInEnd g × ((e : LogEnd) × (end_of_log base start (given_in g) ≡ Ok e))) (append_assoc given rs qs) (h start base (given ++ rs) (c start base given at))
 
   pub until_then : (s t u : T) (x y : Tailer) (rs : List Answer) (f : DriveFault) → Asked gives s rs t → Carries x rs y → has_begun y ≡ false → failures s ≤ failures t → WentUntil gives failures t y u f
       → WentUntil gives failures s x u f

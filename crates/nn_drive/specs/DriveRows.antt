@@ -5,7 +5,7 @@ use Rattle.nn_shadow.specs.declared.fault.Stop.{Stop}
 use Rattle.nn_tailer.specs.Tailing.{Tailer}
 use Rattle.nn_drive.specs.Fault.{number_of}
 use Rattle.nn_drive.specs.Refusals.{drive_refusal}
-use Rattle.nn_drive.specs.declared.driving.DriveFault.TheVariants.{AlreadyActive, Stopped, LogNotEnded, OutOfMemory, Closed}
+use Rattle.nn_drive.specs.declared.driving.DriveFault.TheVariants.{AlreadyActive, Stopped, LogNotEnded, OutOfMemory}
 
 abbrev gap : Stop
 gap = record { txid = 3; number = 57 }
@@ -17,5 +17,5 @@ first_causes : (x : Tailer) → map drive_refusal (standby x false None ∷ stan
     ≡ None ∷ Some (Stopped gap) ∷ Some AlreadyActive ∷ Some AlreadyActive ∷ []
 first_causes x = refl
 
-numbers : map number_of (AlreadyActive ∷ Stopped gap ∷ LogNotEnded Gone ∷ OutOfMemory ∷ Closed ∷ []) ≡ 53 ∷ 51 ∷ 54 ∷ 55 ∷ 42 ∷ []
+numbers : map number_of (AlreadyActive ∷ Stopped gap ∷ LogNotEnded Gone ∷ OutOfMemory ∷ []) ≡ 53 ∷ 51 ∷ 54 ∷ 55 ∷ []
 numbers = refl

@@ -54,15 +54,6 @@ module _ {S : Type 0} (gives : S → Option Report → S → Type 0) where
   abbrev pub IsTaken : S → Reporting → Taking → List Message → Type 0
   IsTaken s r before got = (w : Worked S) × HasReported s r w × (got ≡ w.reporter.sent) × IsToldOnly w before
 
-  -- a worker was told of a close, though its lane was open before
-  pub record WasTold (workers : List (S × Reporting)) (ends : List Taking) : Type 0 where
-    pub place : ℕ
-    pub within : place < length workers
-    pub worked : Worked S
-    pub reported : (w : S × Reporting) → HasReported (slice_index_or workers place w).0 (slice_index_or workers place w).1 worked
-    pub told : IsTold worked.outcome
-    pub open_before : (e : Taking) → (slice_index_or ends place e).closed ≡ false
-
 -- the handle of the thread that has this worker
 abbrev pub IsPromised : {S : Type 0} → S × Reporting → PromisedHandle (Worked S) (Reports S) → Type 0
 IsPromised w h = (h.promise.0.value ≡ w.0) × (h.promise.1.value ≡ w.1)
@@ -83,20 +74,14 @@ pub record Goes (old : Tailer) (answers : List Answer) (new : Tailer) : Type 0 w
 abbrev pub Went : {T : Type 0} → (T → Answer → T → Type 0) → (T → ℕ) → T → Tailer → T → Tailer → Type 0
 Went gives failures s old t new = (answers : List Answer) × Asked gives s answers t × Goes old answers new × (failures s ≤ failures t)
 
--- wherever it stood, the log of all that was given then and of these answers ended
-abbrev pub HasEnded : Tailer → List Answer → Type 0
-HasEnded old answers = (start : Namespace) (base : ℕ) (given : List Answer) → StandsAt start base given old
-    → EndsInEnd (given ++ answers) × ((last : LogEnd) × (end_of_log base start (given_in (given ++ answers)) ≡ Ok last))
-
 -- What a fault says of the standby before, and of what its source answered since. With 53 the flush had begun, and the source was not
 -- asked. With 51 the log stops: all that was given before, and these answers. With 54 the source's fault is its last answer, and it has
--- failed more often than before. With 55 memory was refused, or a thread. With 42 the log ended
+-- failed more often than before. With 55 memory was refused, or a thread
 abbrev pub EndsEarly : {T : Type 0} → (T → ℕ) → T → Tailer → List Answer → T → DriveFault → Type 0
 EndsEarly failures s old answers t drive.AlreadyActive = (has_begun old ≡ true) × (answers ≡ [])
 EndsEarly failures s old answers t (drive.Stopped m) = LogStops old answers m
 EndsEarly failures s old answers t (drive.LogNotEnded f) = EndsInFault answers f × (failures s < failures t)
 EndsEarly failures s old answers t drive.OutOfMemory = Unit {0}
-EndsEarly failures s old answers t drive.Closed = HasEnded old answers
 
 -- the standby went on up to a fault
 abbrev pub WentUntil : {T : Type 0} → (T → Answer → T → Type 0) → (T → ℕ) → T → Tailer → T → DriveFault → Type 0
@@ -113,25 +98,24 @@ Ends gives failures s old t active new =
 abbrev pub IsJoined : {S : Type 0} → (S → Option Report → S → Type 0) → Bool → PromisedHandle (Worked S) (Reports S) → Taking → Reporting → Type 0
 IsJoined {S} gives told h e r = (w : Worked S) × HasReported gives h.promise.0.value h.promise.1.value w × (r ≡ w.reporter) × (told ≡ false → IsToldOnly w e)
 
--- a thread was told of a close of an open lane
-pub record ToldOne {S : Type 0} (gives : S → Option Report → S → Type 0) (handles : List (PromisedHandle (Worked S) (Reports S))) (ends : List Taking) : Type 0 where
+-- a reporter was told of a close of an open lane
+pub record ToldOne (ends : List Taking) (reporters : List Reporting) : Type 0 where
   pub place : ℕ
-  pub within : place < length handles
-  pub worked : Worked S
-  pub reported : (h : PromisedHandle (Worked S) (Reports S)) → HasReported gives (slice_index_or handles place h).promise.0.value (slice_index_or handles place h).promise.1.value worked
-  pub told : IsTold worked.outcome
-  pub open_before : (e : Taking) → (slice_index_or ends place e).closed ≡ false
+  pub within : place < length reporters
+  pub told : (r : Reporting) → (slice_index_or reporters place r).told ≡ true
+  pub is_open : (e : Taking) → (slice_index_or ends place e).closed ≡ false
 
 -- the reporter of each handle's thread, in order, and whether one was told of a close of an open lane
 pub record JoinsAll {S : Type 0} (gives : S → Option Report → S → Type 0) (handles : List (PromisedHandle (Worked S) (Reports S))) (ends : List Taking) (reporters : List Reporting) (told : Bool) : Type 0 where
   pub size : length reporters ≡ length handles
   pub each : (i : ℕ) (h : PromisedHandle (Worked S) (Reports S)) (e : Taking) (r : Reporting) → i < length handles
       → IsJoined gives told (slice_index_or handles i h) (slice_index_or ends i e) (slice_index_or reporters i r)
-  pub one : told ≡ true → ToldOne gives handles ends
+  pub one : told ≡ true → ToldOne ends reporters
 
--- what the meeting of the two ends of a lane says: what was taken comes first of what was sent, and a close counted all of it
+-- what the meeting of the two ends of a lane says: what was taken comes first of what was sent, a close counted all of it, and none is
+-- told of a close but that of a closed lane
 abbrev pub Agrees : Taking → Reporting → Type 0
-Agrees e r = StartsWith r.sent (got_of e) × (e.closed ≡ true → counted e ≡ length r.sent)
+Agrees e r = StartsWith r.sent (got_of e) × (e.closed ≡ true → counted e ≡ length r.sent) × (r.told ≡ true → e.closed ≡ true)
 
 abbrev pub AreOneLane : Taking → Reporting → Type 0
 AreOneLane e r = IsLane r e
@@ -160,11 +144,3 @@ module _ {T S : Type 0} (asks : T → Answer → T → Type 0) (failures : T →
       (answers : List Answer) × (after : T) × (ends : List Taking) × Asked asks source answers after × (failures source ≤ failures after)
       × (active.last ≡ x.last) × (active.flushed ≡ count_by is_flush x.history) × KeepsSettings old.shadow x
       × ((start : Namespace) (base : ℕ) (given : List Answer) → StandsAt start base given old → IsPromoted gives start base (given ++ answers) workers old.ends ends x)
-
--- with 42 a worker was told of a close of a lane that was open before
-abbrev pub OnClosed : {S : Type 0} → (S → Option Report → S → Type 0) → Tailer → List (S × Reporting) → DriveFault → Type 0
-OnClosed gives old workers drive.AlreadyActive = Unit {0}
-OnClosed gives old workers (drive.Stopped m) = Unit {0}
-OnClosed gives old workers (drive.LogNotEnded f) = Unit {0}
-OnClosed gives old workers drive.OutOfMemory = Unit {0}
-OnClosed gives old workers drive.Closed = WasTold gives workers old.ends

@@ -14,7 +14,7 @@ use Rattle.nn_feed.specs.declared.ends.FeedEnd.{FeedEnd}
 use Rattle.nn_feed.specs.declared.rule.Placed.{Placed}
 use Rattle.nn_feed.specs.Ends.{got_by, GivesWhatIsFed}
 use Rattle.nn_feed.specs.Feeds.{has_last, answers_of}
-use Rattle.nn_drive.specs.Driven.{HasEnded, IsPromoted}
+use Rattle.nn_drive.specs.Driven.{IsPromoted}
 use Rattle.nn_drive.specs.declared.driving.DriveFault.{DriveFault}
 use Rattle.nn_drive.specs.declared.driving.DriveFault.TheVariants as drive
 
@@ -45,7 +45,6 @@ WhyFailed old answers drive.AlreadyActive = ⊥
 WhyFailed old answers (drive.Stopped m) = LogStops old answers m
 WhyFailed old answers (drive.LogNotEnded f) = EndsInFault answers f
 WhyFailed old answers drive.OutOfMemory = Unit {0}
-WhyFailed old answers drive.Closed = HasEnded old answers × EndsInEnd answers
 
 -- a run over the end of a feed failed, which went from there to here: with the answers up to a point between, behind which more was got
 pub record FailsOver {R : Type 0} (old : Tailer) (end : FeedEnd R) (after : FeedEnd R) (fault : DriveFault) : Type 0 where

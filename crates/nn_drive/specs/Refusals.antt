@@ -28,11 +28,3 @@ IsSameFault (step.Stopped s) g = g ≡ drive.Stopped s
 IsSameFault step.BadLane g = ⊥
 IsSameFault (step.LogNotEnded f) g = g ≡ drive.LogNotEnded f
 IsSameFault step.OutOfMemory g = g ≡ drive.OutOfMemory
-
--- a fault that is met before the standby is promoted
-abbrev pub MayMeet : DriveFault → Type 0
-MayMeet drive.AlreadyActive = Unit {0}
-MayMeet (drive.Stopped s) = Unit {0}
-MayMeet (drive.LogNotEnded f) = Unit {0}
-MayMeet drive.OutOfMemory = Unit {0}
-MayMeet drive.Closed = ⊥

@@ -5,8 +5,8 @@ ghost use Rattle.nn_tailer.specs.LaneSteps.{AllClosed};
 ghost use Rattle.nn_tailer.specs.Refusals.{has_place};
 ghost use Rattle.nn_tailer.specs.Tailing.{has_begun};
 ghost use Rattle.nn_drive.specs.Fault.{number_of};
-ghost use Rattle.nn_drive.specs.Refusals.{drive_refusal, MayCome, IsSameFault, MayMeet};
-ghost use Rattle.nn_drive.specs.Driven.{HasReported, ArePromised, Went, WentUntil, Ends, IsTold, JoinsAll, AreOneLane, Agrees, AreLanes, IsDriven, NotDriven, OnClosed};
+ghost use Rattle.nn_drive.specs.Refusals.{drive_refusal, MayCome, IsSameFault};
+ghost use Rattle.nn_drive.specs.Driven.{HasReported, ArePromised, Went, WentUntil, Ends, IsTold, JoinsAll, AreOneLane, Agrees, AreLanes, IsDriven, NotDriven};
 ghost use Rattle.nn_feed.specs.Ends.{got_by, IsSameEnd};
 ghost use Rattle.nn_feed.specs.Feeds.{has_last};
 ghost use Rattle.nn_drive.specs.Feeding.{FailsOver, GotMore, IsDrivenOver, IsKnown};
@@ -59,9 +59,6 @@ pub enum DriveFault {
     /// Memory was refused, or a thread could not be started.
     #[error("out of memory")]
     OutOfMemory,
-    /// A DataNode's report was refused, since its lane was closed, though it was open when the drive began.
-    #[error("a lane was closed")]
-    Closed,
 }
 
 impl DriveFault {
@@ -74,7 +71,6 @@ impl DriveFault {
             DriveFault::Stopped(_) => fault::STOPPED,
             DriveFault::LogNotEnded(_) => fault::LOG_NOT_ENDED,
             DriveFault::OutOfMemory => fault::MEMORY,
-            DriveFault::Closed => fault::CLOSED,
         }
     }
 }
@@ -169,7 +165,6 @@ fn take_step<T: SegmentSource>(
     requires place { has_place standby.old choice ≡ true }
     ensures went { Went T.gives T.failures source.old standby.old source.new standby.new }
     ensures until { IfErr result (λ fault. WentUntil T.gives T.failures source.old standby.old source.new fault) }
-    ensures meets { IfErr result (λ fault. MayMeet fault) }
 {
     match standby.step(source, choice) {
         Ok(_stepped) => Ok(()),
@@ -182,7 +177,6 @@ fn take_round<T: SegmentSource>(standby: &mut Standby, source: &mut T) -> Result
     requires { has_begun standby.old ≡ false }
     ensures went { Went T.gives T.failures source.old standby.old source.new standby.new }
     ensures until { IfErr result (λ fault. WentUntil T.gives T.failures source.old standby.old source.new fault) }
-    ensures meets { IfErr result (λ fault. MayMeet fault) }
 {
     let lanes = standby.lanes();
     for i in 0..lanes {
@@ -204,7 +198,6 @@ fn engine<T: SegmentSource, R: Wait>(
     requires { has_begun standby.old ≡ false }
     ensures went { Went T.gives T.failures source.old standby.old source.new standby.new }
     ensures until { IfErr result (λ fault. WentUntil T.gives T.failures source.old standby.old source.new fault) }
-    ensures meets { IfErr result (λ fault. MayMeet fault) }
 {
     for _ in rt.forever() {
         if ended.load(Ordering::SeqCst) >= workers as u64 {
@@ -335,7 +328,6 @@ fn promote<T: SegmentSource>(standby: &mut Standby, source: &mut T) -> Result<Ac
     requires closed { AllClosed standby.old.ends }
     ensures ok { IfOk result (λ active. Ends T.gives T.failures source.old standby.old source.new active standby.new) }
     ensures err { IfErr result (λ fault. WentUntil T.gives T.failures source.old standby.old source.new fault) }
-    ensures meets { IfErr result (λ fault. MayMeet fault) }
 {
     match standby.promote(source) {
         Ok(active) => Ok(active),
@@ -365,7 +357,6 @@ fn run<'s, 'a, E, S: ReportSource + Send + Drop + 's, R: Threads + Wait + Sync>(
     ensures same { IsSameEnd end.old end.new }
     ensures ok { IfOk result (λ r. IsDrivenOver S.gives standby end.old workers.items end.new r.0 r.1) }
     ensures err { IfErr result (λ fault. FailsOver standby end.old end.new fault) }
-    ensures told { IfErr result (λ fault. OnClosed S.gives standby workers.items fault) }
 {
     let mut standby = standby;
     let count = workers.len();
@@ -379,6 +370,12 @@ fn run<'s, 'a, E, S: ReportSource + Send + Drop + 's, R: Threads + Wait + Sync>(
         return Err(give_up(rt, standby, end, handles, ended, fault));
     }
     let (reporters, told) = join_all(rt, standby.ends(), handles, reporters);
+    if told {
+        // A reporter was told of a close, and the end of its lane is open: they cannot meet.
+        let (_shadow, ends) = standby.into_parts();
+        meet_all(ends, reporters);
+        unreachable!();
+    }
     standby.close_intake();
     let active = match promote(&mut standby, end) {
         Ok(active) => active,
@@ -389,9 +386,6 @@ fn run<'s, 'a, E, S: ReportSource + Send + Drop + 's, R: Threads + Wait + Sync>(
     };
     let (shadow, ends) = standby.into_parts();
     meet_all(ends, reporters);
-    if told {
-        return Err(DriveFault::Closed);
-    }
     Ok((shadow, active))
 }
 
@@ -415,7 +409,6 @@ fn drive_in<
     ensures refused { (fault : Why) → drive_refusal standby ≡ Some fault → result ≡ Err fault }
     ensures ok { IfOk result (λ r. IsDriven T.gives T.failures S.gives standby source workers.items r.0 r.1) }
     ensures err { IfErr result (λ fault. NotDriven T.gives T.failures standby source fault) }
-    ensures told { IfErr result (λ fault. OnClosed S.gives standby workers.items fault) }
 {
     if standby.is_active() {
         return Err(DriveFault::AlreadyActive);
@@ -449,8 +442,8 @@ fn drive_in<
 /// hand. A source of reports ends with its first None, and is not asked again; nor is it once a report was refused, since
 /// its lane is closed or has carried all that it can. A full lane is tried again and again. The first cause of refusal is
 /// answered: 53 where the flush had begun before and 51 where the standby was stopped, both before any thread is started;
-/// then 55 where memory or a thread is refused, and while it works 51, 54, 55; and last, once it is promoted, 42 where a
-/// report was refused by a close of a lane that was open when the drive began. It closes all lanes, so 52 never comes. 55
+/// then 55 where memory or a thread is refused, and while it works 51, 54, 55. Only once all workers have ended does it
+/// close the lanes. So 52 never comes, and no report is refused by 42 in a lane that was open when the drive began. 55
 /// would also come if the feed failed while both its ends were there, which no channel does and no contract excludes.
 ///
 /// After a fault nothing is handed back: the lanes are closed, and what they and the feed still bring is dropped, until the
@@ -471,7 +464,6 @@ pub fn drive<
     ensures refused { (fault : Why) → drive_refusal standby ≡ Some fault → result ≡ Err fault }
     ensures ok { IfOk result (λ r. IsDriven T.gives T.failures S.gives standby source workers.items r.0 r.1) }
     ensures err { IfErr result (λ fault. NotDriven T.gives T.failures standby source fault) }
-    ensures told { IfErr result (λ fault. OnClosed S.gives standby workers.items fault) }
 {
     let counter = AtomicU64::new(0);
     let ended = &counter;
@@ -483,7 +475,6 @@ pub fn drive<
             ensures refused { (fault : Why) → drive_refusal standby ≡ Some fault → result ≡ Err fault }
             ensures ok { IfOk result (λ r. IsDriven T.gives T.failures S.gives standby source workers.items r.0 r.1) }
             ensures err { IfErr result (λ fault. NotDriven T.gives T.failures standby source fault) }
-            ensures told { IfErr result (λ fault. OnClosed S.gives standby workers.items fault) }
         { drive_in(scope, rt, alloc, standby, source, workers, ended) },
     )
 }

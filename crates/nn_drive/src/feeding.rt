@@ -65,9 +65,6 @@ pub(crate) fn known_fault(fault: DriveFault, is_told: bool) -> DriveFault
     }
     match fault {
         DriveFault::LogNotEnded(_) => DriveFault::OutOfMemory,
-        DriveFault::AlreadyActive
-        | DriveFault::Stopped(_)
-        | DriveFault::OutOfMemory
-        | DriveFault::Closed => fault,
+        DriveFault::AlreadyActive | DriveFault::Stopped(_) | DriveFault::OutOfMemory => fault,
     }
 }

@@ -194,7 +194,6 @@ module _ (settings : Threshold) (count : ℕ) (lanes : Lanes) (sources : List (L
   may_end (drive.Stopped s) h = tt
   may_end (drive.LogNotEnded f) h = let q = h.1.2.1 in omega (arith, q)
   may_end drive.OutOfMemory h = tt
-  may_end drive.Closed h = tt
 
   pub stop_told : (options : Options) (f : DriveFault) (p : Printed) → NotDriven GivesNext (λ _. 0) standby segments f → TellsStop f p → IsFaultOf options lanes (end_of_log 0 root_alone segments) p
   stop_told options drive.AlreadyActive p h t = absurd t
@@ -204,7 +203,6 @@ module _ (settings : Threshold) (count : ℕ) (lanes : Lanes) (sources : List (L
       is_fault options lanes (end_of_log 0 root_alone segments) (record { cause = w.0; txid = s.txid }) p w.2 (t ∙ ap (λ n. fault_at (codes " txid ") n s.txid) (sym w.1))
   stop_told options (drive.LogNotEnded f) p h t = absurd t
   stop_told options drive.OutOfMemory p h t = absurd t
-  stop_told options drive.Closed p h t = absurd t
 
 -- what is printed of a standby that was promoted
 abbrev pub TellsAll : Options → Contents → Printed → Type 0

@@ -37,11 +37,7 @@ pub is_output_of_all : (given : Given) (p : Printed) (input : List ℕ) → Cons
 is_output_of_all given p input taken whole fits none is = inl (record { input = input; taken = taken; whole = whole; fits = fits; is = is }, none)
 
 pub is_no_memory : (given : Given) → NoneFailed given → IsOutput given (fault_alone (codes "55"))
-is_no_memory given none = inr (inr (inl (refl, none)))
-
--- with threads
-pub is_closed : (given : Given) → given.threads ≡ true → NoneFailed given → IsOutput given (fault_alone (codes "42"))
-is_closed given threads none = inr (inr (inr (threads, refl, none)))
+is_no_memory given none = inr (inr (refl, none))
 
 -- the output of an input that was not read
 abbrev unread : InputFault → Printed
@@ -67,7 +63,7 @@ is_unread : (options : Options) (threads : Bool) (before after : Option (List �
 is_unread options threads before after had has ReadFailed why = inr (inl (refl, inl why))
 is_unread options threads before after had has TooLong why = inr (inl (refl, inr (why.0.0, (let k = why.0.1 in omega (arith, k)), why.0.2)))
 is_unread options threads before after had has TooManyReads why = inr (inl (refl, inr why.0))
-is_unread options threads before after had has OutOfMemory why = inr (inr (inl (refl, why)))
+is_unread options threads before after had has OutOfMemory why = inr (inr (refl, why))
 
 pub writes_unread : (options : Options) (threads : Bool) (before after : Option (List ℕ)) (had has : Bool) (r : Result RunEnd RunFault) (writer writer' : Option (List ℕ))
     (fault : InputFault) (text : List ℕ) → IsUnread before after had has fault → text ≡ unread_line fault →

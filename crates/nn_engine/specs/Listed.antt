@@ -43,7 +43,6 @@ MayEnd drive.AlreadyActive = ⊥
 MayEnd (drive.Stopped s) = Unit {0}
 MayEnd (drive.LogNotEnded f) = ⊥
 MayEnd drive.OutOfMemory = Unit {0}
-MayEnd drive.Closed = Unit {0}
 
 -- the line of the stop
 abbrev pub TellsStop : DriveFault → Printed → Type 0
@@ -51,4 +50,3 @@ TellsStop drive.AlreadyActive p = ⊥
 TellsStop (drive.Stopped s) p = p ≡ fault_at (codes " txid ") s.number s.txid
 TellsStop (drive.LogNotEnded f) p = ⊥
 TellsStop drive.OutOfMemory p = ⊥
-TellsStop drive.Closed p = ⊥

@@ -45,12 +45,11 @@ IsUnreadable given = (given.has_failed ≡ true) ⊎ Gave max_input given.before
 abbrev pub NoneFailed : Given → Type 0
 NoneFailed given = given.has_failed ≡ given.had_failed
 
--- the output of the whole input; or the line that it cannot be read, where that is so; or the line that memory ran out; or, with threads,
--- the line that a DataNode's report was refused, since its lane was closed
+-- the output of the whole input; or the line that it cannot be read, where that is so; or the line that memory ran out
 abbrev pub IsOutput : Given → Printed → Type 0
 IsOutput given p =
     (IsOutputOfAll given p × NoneFailed given)
-    ⊎ (((p ≡ fault_alone (codes "8")) × IsUnreadable given) ⊎ (((p ≡ fault_alone (codes "55")) × NoneFailed given) ⊎ ((given.threads ≡ true) × (p ≡ fault_alone (codes "42")) × NoneFailed given)))
+    ⊎ (((p ≡ fault_alone (codes "8")) × IsUnreadable given) ⊎ ((p ≡ fault_alone (codes "55")) × NoneFailed given))
 
 -- a whole output was written, and this is its status
 pub record Wrote (given : Given) (writer writer' : Option (List ℕ)) (status : ℕ) : Type 0 where

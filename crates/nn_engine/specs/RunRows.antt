@@ -1,9 +1,8 @@
 -- What is printed for an input that is not read.
-use Rattle.std.specs.Prelude.{◌≡◌, [], ◌∷◌, ◌++◌, map, codes, refl, true}
-use Rattle.std.proofs.Common.{inr}
+use Rattle.std.specs.Prelude.{◌≡◌, [], ◌∷◌, ◌++◌, map, codes, refl}
 use Rattle.nn_listing.specs.Listing.{newline}
 use Rattle.nn_engine.specs.declared.device.InputFault.TheVariants.{ReadFailed, TooLong, TooManyReads, OutOfMemory}
-use Rattle.nn_engine.specs.Run.{Given, IsOutput, fault_alone, unread_line}
+use Rattle.nn_engine.specs.Run.{fault_alone, unread_line}
 
 unread : map unread_line (ReadFailed ∷ TooLong ∷ TooManyReads ∷ OutOfMemory ∷ [])
     ≡ (codes "fault 8" ++ newline ∷ []) ∷ (codes "fault 8" ++ newline ∷ []) ∷ (codes "fault 8" ++ newline ∷ []) ∷ (codes "fault 55" ++ newline ∷ []) ∷ []
@@ -12,7 +11,3 @@ unread = refl
 -- neither is a listing
 status : map (λ number. (fault_alone number).status) (codes "8" ∷ codes "55" ∷ []) ≡ 1 ∷ 1 ∷ []
 status = refl
-
--- the line of a closed lane is one of a run with threads alone
-closed : (given : Given) → IsOutput (record given { threads = true; has_failed = given.had_failed }) (record { text = codes "fault 42" ++ newline ∷ []; status = 1 })
-closed given = inr (inr (inr (refl, refl, refl)))

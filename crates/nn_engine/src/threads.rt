@@ -41,26 +41,6 @@ pub struct Threaded<G> {
     pub gate: Arc<G, Global>,
 }
 
-/// The line of a run in which a DataNode's report was refused, since its lane was closed.
-const CLOSED: &[u8] = b"fault 42\n";
-
-// Why a run has no output of its input.
-#[derive(Clone, Copy, Debug, PartialEq, Eq)]
-enum Halted {
-    OutOfMemory,
-    Closed,
-}
-
-impl From<AllocError> for Halted {
-    ghost use Rattle.nn_engine.specs.declared.threads.Halted.TheVariants.{OutOfMemory};
-
-    ghost from_gives = { λ _ e. e ≡ OutOfMemory };
-
-    fn from(_e: AllocError) -> Halted {
-        Halted::OutOfMemory
-    }
-}
-
 /// The reports that one lane carries at most, and a list in memory has.
 const MOST: usize = 4_611_686_018_427_387_904;
 
@@ -179,7 +159,7 @@ fn sources_of<G: Drop>(
 }
 
 // What a drive ended with that did not promote the standby: the line of the stop.
-fn output_of_fault(alloc: Global, fault: DriveFault) -> Result<Output, Halted>
+fn output_of_fault(alloc: Global, fault: DriveFault) -> Result<Output, AllocError>
     requires { MayEnd fault }
     ensures { IfOk result (λ o. TellsStop fault (shown o)) }
 {
@@ -188,8 +168,7 @@ fn output_of_fault(alloc: Global, fault: DriveFault) -> Result<Output, Halted>
             let output = fault_output(alloc, stop.number, " txid ", stop.txid.get())?;
             Ok(output)
         }
-        DriveFault::OutOfMemory => Err(Halted::OutOfMemory),
-        DriveFault::Closed => Err(Halted::Closed),
+        DriveFault::OutOfMemory => Err(AllocError),
         DriveFault::AlreadyActive => unreachable!(),
         DriveFault::LogNotEnded(_) => unreachable!(),
     }
@@ -203,7 +182,7 @@ fn output_of_drive<G: Gate + Send + Sync + Drop, R: Threads + Wait + Sync>(
     datanodes: u16,
     steps: StepList,
     segments: Vec<Parsed>,
-) -> Result<Output, Halted>
+) -> Result<Output, AllocError>
     requires capacity { (1 ≤ asked.now.capacity) × (asked.now.capacity ≤ 1024) }
     requires datanodes { (1 ≤ datanodes) × (datanodes ≤ 256) }
     requires in_turn { AreInTurn no_messages steps }
@@ -213,7 +192,7 @@ fn output_of_drive<G: Gate + Send + Sync + Drop, R: Threads + Wait + Sync>(
     let sources = sources_of(alloc, &asked.gate, datanodes, steps)?;
     let (workers, ends) = with_lanes(alloc, sources, asked.capacity)?;
     let Ok(standby) = Standby::new(alloc, ends, asked.options.settings) else {
-        return Err(Halted::OutOfMemory);
+        return Err(AllocError);
     };
     let gate = Arc::try_clone(&asked.gate)?;
     match drive(rt, alloc, standby, Segments::new(segments, gate), workers) {
@@ -227,7 +206,7 @@ fn output_of_threads<G: Gate + Send + Sync + Drop, R: Threads + Wait + Sync>(
     alloc: Global,
     asked: &Threaded<G>,
     scenario: Scenario,
-) -> Result<Output, Halted>
+) -> Result<Output, AllocError>
     requires capacity { (1 ≤ asked.now.capacity) × (asked.now.capacity ≤ 1024) }
     requires lawful { IsLawfulScenario (seen scenario) }
     ensures { IfOk result (λ o. IsToldOf true asked.now.options scenario.steps (segments_from 1 scenario.parts.items) (shown o)) }
@@ -250,7 +229,7 @@ fn output_by_threads<G: Gate + Send + Sync + Drop, R: Threads + Wait + Sync>(
     alloc: Global,
     asked: &Threaded<G>,
     lines: Result<Scenario, BadLine>,
-) -> Result<Output, Halted>
+) -> Result<Output, AllocError>
     requires capacity { (1 ≤ asked.now.capacity) × (asked.now.capacity ≤ 1024) }
     requires lawful { IfOk lines (λ s. IsLawfulScenario (seen s)) }
     ensures { (input : List ℕ) → IsReadAs input lines → IfOk result (λ o. IsPrinted true asked.now.options input (shown o)) }
@@ -265,8 +244,7 @@ fn output_by_threads<G: Gate + Send + Sync + Drop, R: Threads + Wait + Sync>(
 /// DataNode reports from a thread of its own and the log's segments come from another, while the standby tails the log on
 /// this one. Whatever the schedule, it writes the same.
 ///
-/// `fault 55` says that memory was refused, or a thread; `fault 42`, that a DataNode's report was refused by a lane that
-/// this run had not closed. It waits for as long as the gate does.
+/// `fault 55` says that memory was refused, or a thread. It waits for as long as the gate does.
 pub fn run_threads<I: Read, W: Write, G: Gate + Send + Sync + Drop, R: Threads + Wait + Sync>(
     rt: &R,
     alloc: Global,
@@ -289,7 +267,6 @@ pub fn run_threads<I: Read, W: Write, G: Gate + Send + Sync + Drop, R: Threads +
     };
     match output_by_threads(rt, alloc, asked, lines) {
         Ok(output) => finish(writer, &output.text, output.status),
-        Err(Halted::OutOfMemory) => finish(writer, OUT_OF_MEMORY, 1),
-        Err(Halted::Closed) => finish(writer, CLOSED, 1),
+        Err(AllocError) => finish(writer, OUT_OF_MEMORY, 1),
     }
 }

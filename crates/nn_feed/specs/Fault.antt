@@ -9,7 +9,7 @@ use Rattle.nn_feed.specs.declared.fault.Refusal.TheVariants.{Ended, Gone}
 
 abbrev pub number_of : Refusal → ℕ
 number_of (Ended answer) = ENDED
-number_of (Gone answer) = GONE
+number_of (Gone answer place) = GONE
 
 abbrev pub number_of_fault : FeedFault → ℕ
 number_of_fault (Source fault) = number_of_source fault

@@ -135,11 +135,15 @@ fault_is_never_too_many before unended h =
 another_does_not_come_back : Refuses put segment (Ended end) → ⊥
 another_does_not_come_back h = let e : end ≡ segment = h.0 in cc
 
-gone : Refuses got segment (Gone segment)
-gone = (refl, refl, λ _. omega arith)
+gone : Refuses got segment (Gone segment 1)
+gone = (refl, refl, (λ _. omega arith), refl)
 
-ended_comes_before_gone : Refuses put segment (Gone segment) → ⊥
+ended_comes_before_gone : Refuses put segment (Gone segment 2) → ⊥
 ended_comes_before_gone h = true≢false h.1
+
+-- the send that failed is its own
+not_gone_by_another_send : Refuses got segment (Gone segment 0) → ⊥
+not_gone_by_another_send h = let e : 0 ≡ 1 = h.3 in omega (arith, e)
 
 next_is_got : Gets got end put
 next_is_got = inr (inl (refl, refl, (refl, omega arith, (refl, refl, tt))))
@@ -201,28 +205,28 @@ fed : Fed GivesNext (one ∷ []) [] [] put (Ok 1)
 fed = (one ∷ [], (([], (refl, refl), ([], (refl, refl), refl)), refl, refl))
 
 fed_up_to_a_fault : Fed answers_fault 0 [] 1 [] (Err (Source SourceFailed))
-fed_up_to_a_fault = ([], ((1, refl, refl), tt, refl))
+fed_up_to_a_fault = ([], ((1, refl, refl), tt, tt, refl))
 
 -- it puts no fault: who runs it tells of that
 no_fault_after_a_fault : Fed answers_fault 0 [] 1 (placed failed 0 ∷ []) (Err (Source SourceFailed)) → ⊥
-no_fault_after_a_fault h = no_fault_alone h.0 h.1.2
+no_fault_after_a_fault h = no_fault_alone h.0 h.1.3
 
 -- the number is that of the segments
 not_another_number : Fed GivesNext [] [] [] (placed end 0 ∷ []) (Ok 1) → ⊥
 not_another_number h = let n = no_segments_before_end h.0 h.1.2 in omega (arith, n, h.1.1)
 
-it_refused_an_item : RefusedAnItem (Refused (Gone segment))
+it_refused_an_item : RefusedAnItem (Refused (Gone segment 1))
 it_refused_an_item = tt
 
-it_refused_no_fault : RefusedAnItem (Refused (Gone failed)) → ⊥
+it_refused_no_fault : RefusedAnItem (Refused (Gone failed 1)) → ⊥
 it_refused_no_fault h = h
 
 -- what a thread tells, and what it was refused
-told : (then_last (one ∷ []) (ending_of (Ok 1)) ≡ segment ∷ end ∷ []) × (then_last [] (ending_of (Err SourceFailed)) ≡ failed ∷ []) × (last_in (Err (Gone segment)) ≡ segment) × (last_in (Err (Ended failed)) ≡ failed)
+told : (then_last (one ∷ []) (ending_of (Ok 1)) ≡ segment ∷ end ∷ []) × (then_last [] (ending_of (Err SourceFailed)) ≡ failed ∷ []) × (last_in (Err (Gone segment 1)) ≡ segment) × (last_in (Err (Ended failed)) ≡ failed)
 told = (refl, refl, refl, refl)
 
-last_answers : (last_answer (Source SourceFailed) ≡ failed) × (last_answer (Refused (Gone segment)) ≡ segment) × (last_answer (Refused (Ended end)) ≡ end)
+last_answers : (last_answer (Source SourceFailed) ≡ failed) × (last_answer (Refused (Gone segment 1)) ≡ segment) × (last_answer (Refused (Ended end)) ≡ end)
 last_answers = (refl, refl, refl)
 
-numbers : (number_of (Ended segment) ≡ 45) × (number_of (Gone segment) ≡ 46) × (number_of_fault (Source SourceFailed) ≡ 47) × (number_of_fault (Refused (Ended segment)) ≡ 45)
+numbers : (number_of (Ended segment) ≡ 45) × (number_of (Gone segment 1) ≡ 46) × (number_of_fault (Source SourceFailed) ≡ 47) × (number_of_fault (Refused (Ended segment)) ≡ 45)
 numbers = (refl, refl, refl, refl)

@@ -1,5 +1,5 @@
 -- What a call of `run_feeder` does, and what the thread of a feeder promises.
-use Rattle.std.specs.Prelude.{◌≡◌, ℕ, ◌<◌, ◌≤◌, Result, Ok, Err, List, [], ◌∷◌, ◌++◌, length, map, MatchResult, IfOk, OnErr}
+use Rattle.std.specs.Prelude.{◌≡◌, ℕ, ◌<◌, ◌≤◌, Result, Ok, Err, List, [], ◌∷◌, ◌++◌, length, map, MatchResult, IfOk, IfErr, OnErr}
 use Rattle.nn_segment.specs.Segment.{Segment}
 use Rattle.nn_segment.specs.Source.{Answer, Asked, given, end}
 use Rattle.nn_segment.specs.declared.fault.SourceFault.{SourceFault}
@@ -11,13 +11,13 @@ use Rattle.nn_feed.specs.declared.fault.Refusal.TheVariants.{Ended, Gone}
 use Rattle.nn_feed.specs.declared.rule.Placed.{Placed}
 use Rattle.nn_feed.specs.declared.running.Ran.{Ran}
 use Rattle.nn_feed.specs.declared.running.Told.{Told}
-use Rattle.nn_feed.specs.Ends.{put_by, IsSameFeeder}
+use Rattle.nn_feed.specs.Ends.{put_by, IsSameFeeder, Refuses}
 use Rattle.nn_feed.specs.Feeds.{answers_of}
 
 -- the answer that came back
 abbrev pub refused_answer : Refusal → Answer
 refused_answer (Ended answer) = answer
-refused_answer (Gone answer) = answer
+refused_answer (Gone answer place) = answer
 
 -- what the source answered last: its fault, or the item that was not put
 abbrev pub last_answer : FeedFault → Answer
@@ -28,6 +28,11 @@ last_answer (Refused refusal) = refused_answer refusal
 abbrev pub RefusedAnItem : FeedFault → Type 0
 RefusedAnItem (Source fault) = Unit {0}
 RefusedAnItem (Refused refusal) = OnErr (refused_answer refusal) ⊥
+
+-- and it was refused as the feeder refuses it, with this put
+abbrev pub WasRefused : List Placed → FeedFault → Type 0
+WasRefused put (Source fault) = Unit {0}
+WasRefused put (Refused refusal) = Refuses put (refused_answer refusal) refusal
 
 -- what the source answered last, where it was fed to its last answer: End behind so many segments, or a fault
 abbrev pub ending_of : Result ℕ SourceFault → Answer
@@ -61,15 +66,17 @@ module _ {S : Type 0} (gives : S → Answer → S → Type 0) where
       (segments : List Segment)
       × MatchResult result
       (λ n. GaveThen old segments end new × (n ≡ length segments) × (answers_of after ≡ answers_of before ++ then_last segments end))
-      (λ e. GaveThen old segments (last_answer e) new × RefusedAnItem e × (answers_of after ≡ answers_of before ++ map given segments))
+      (λ e. GaveThen old segments (last_answer e) new × RefusedAnItem e × WasRefused after e × (answers_of after ≡ answers_of before ++ map given segments))
 
   -- The source gave these segments in this call, and then End or a fault. Where the feeder comes back, all of that was put, in order:
-  -- so the other end is told how it ended. Else the last answer was not put
+  -- so the other end is told how it ended. Else the last answer was not put: it was refused as the feeder refuses it, with the segments put
   pub record HasRun (failures : S → ℕ) (source : S) (feeder : Feeder) (ran : Ran S) : Type 0 where
     pub segments : List Segment
     pub gave : GaveThen source segments (last_in ran.outcome) ran.source
     pub put : IfOk ran.outcome
         (λ told. IsSameFeeder feeder told.feeder × (answers_of (put_by told.feeder) ≡ answers_of (put_by feeder) ++ then_last segments (ending_of told.end)))
+    pub refused : IfErr ran.outcome
+        (λ e. (after : List Placed) × (answers_of after ≡ answers_of (put_by feeder) ++ map given segments) × Refuses after (refused_answer e) e)
     pub counted : IfOk ran.outcome (λ told. IfOk told.end (λ n. n ≡ length segments))
     pub failed : OnErr (last_in ran.outcome) (failures source < failures ran.source)
     pub not_fewer : failures source ≤ failures ran.source

@@ -2,6 +2,7 @@
 ghost use Rattle.std.specs.Prelude.{◌≡◌};
 ghost use Rattle.nn_feed.specs.Fault.{number_of, number_of_fault};
 
+use crate::send::FailedSend;
 use nn_segment::{Item, SourceFault};
 use nn_types::fault;
 
@@ -9,9 +10,14 @@ use nn_types::fault;
 #[derive(Drop)]
 pub enum Refusal {
     /// End or a fault was put before, or the answer is a segment and 2^60 were put before.
-    Ended { answer: Result<Item, SourceFault> },
-    /// The other end is gone.
-    Gone { answer: Result<Item, SourceFault> },
+    Ended {
+        answer: Result<Item, SourceFault>,
+    },
+    /// The other end is gone: the send failed.
+    Gone {
+        answer: Result<Item, SourceFault>,
+        failed: FailedSend,
+    },
 }
 
 impl Refusal {

@@ -9,8 +9,10 @@ mod fault;
 mod laws;
 mod rule;
 mod running;
+mod send;
 
 pub use ends::{FeedEnd, Feeder, feed, meet};
 pub use fault::{FeedFault, Refusal};
 pub use laws::a_feed_gives_what_its_source_gave;
 pub use running::{Began, Ran, Told, run_feeder, run_thread};
+pub use send::FailedSend;

@@ -4,23 +4,23 @@ use Rattle.std.specs.Prelude.{◌/◌, slice_index, slice_set, nat_lt}
 use mathlib.Core.Option.{some, none, some-injective}
 use mathlib.Core.Option as maybe
 use lib.ListN.{get_elem?}
-use Rattle.atomic_table.specs.Table.{Step, step, opening, Act, keeps, takes, gives, chain, Allows, stepped, homes_after, carried_after}
+use Rattle.atomic_table.specs.Table.{opening, Act, keeps, takes, gives, chain, Allows, stepped, homes_after, carried_after}
 use Rattle.atomic_table.proofs.Lists.{set_again}
 use Rattle.nn_types.specs.declared.report.Message.{Message}
 use Rattle.nn_lane.specs.declared.view.Sender.{Sender}
 use Rattle.nn_lane.specs.declared.view.Taker.{Taker}
 use Rattle.nn_lane.specs.declared.view.View.{View}
-use Rattle.nn_lane.specs.Intake.{Intake, IntakeEvent, Accept, Take, Close, Look, no_intake, after_event, intake_after, May, MayAll, words_of}
-use Rattle.nn_lane.specs.Lane.{Sat, Seated, opening_view, Kept, Lane, SawFront, with_sender, with_taker, looked, sent_more, was_told, saw, got_more, closed_at}
+use Rattle.nn_lane.specs.Intake.{Intake, IntakeEvent, Accept, Take, Close, Look, no_intake, after_event, intake_after, May, MayAll, words_of, front_word, taken_word}
+use Rattle.nn_lane.specs.Lane.{Sat, Seated, opening_view, Kept, Lane, NextOut, with_sender, with_taker, looked, sent_more, was_told, saw, got_more, closed_at}
 use Rattle.nn_lane.specs.Moves.{LaneState, shown, shown_by, IsSender, IsTaker, Steps, open_front, Tries, TriesInVain, Stores, Shuts, SeesTaken, GivesBack, SeesFront, Learns, Loads, Moves, Runs, Parts, Meets}
 use Rattle.nn_lane.proofs.Seats.{reporter_moves, taker_moves, cuts, joins}
 use Rattle.nn_lane.proofs.Sides.{one_pair}
 use Rattle.nn_lane.proofs.Steps.{is_open}
 
--- what a load of `front` makes of the other end, whether or not a message is left
-found_of : (left : Bool) (q : ℕ) (st : Step Message) (m m' : Sat) → SawFront left q st m m' → (o : Option Message) × (m'.0 ≡ with_taker m.0 (saw m.0.taker q o))
-found_of true q st m m' t = (Some t.3.0, t.3.1)
-found_of false q st m m' t = (None, t.3.0)
+-- what a step makes of the other end, whether or not it holds a slot then
+next_of : (left : Bool) (k slots : ℕ) (f : Option Message → Taker) (cs : List (ℕ × Message)) (m m' : Sat) → NextOut left k slots f cs m m' → (o : Option Message) × (m'.0 ≡ with_taker m.0 (f o))
+next_of true k slots f cs m m' t = (Some t.0, t.1)
+next_of false k slots f cs m m' t = (None, t.0)
 
 module _ (node n : ℕ) (s s' : LaneState) (h : Lane node s) (h' : Lane node s') (long : length s.homes ≡ n) where
   K : Kept node n s.words s.homes h.1 h.2
@@ -41,40 +41,41 @@ module _ (node n : ℕ) (s s' : LaneState) (h : Lane node s) (h' : Lane node s')
   abbrev Event : IntakeEvent → Type 0
   Event e = May n (shown_by node s h) e × (shown_by node s' h' ≡ after_event (shown_by node s h) e)
 
-  accepts : (x : Message) (v : View) → Tries n s v x s' → slice_index s.words 0 ≡ open_front v → Event (Accept x)
-  accepts x v t found = let st = t.2 in let new = st.6.1 found in
+  accepts : (x : Message) (v : View) → Tries n s v x s' → slice_index s.words front_word ≡ open_front v → Event (Accept x)
+  accepts x v t found = let st = t.2 in let new = st.6.0 found in
+      let room = nat_lt (length v.sender.sent + 1) (v.sender.seen + n) in
       let same : new.0 ≡ x = sym (some-injective x new.0 new.1) in
-      let a = sender_after v st.2.0 st.0 (sent_more v.sender x) t.0 st.3 st.5 (new.2 ∙ ap (λ z. with_sender v (sent_more v.sender z)) same) in
-      let open_ : h.2.closed ≡ false = is_open node n st.0 v h.2.closed (length h.1.sent) (sym (ap (λ ws. slice_index ws 0) K.words_are) ∙ found ∙ ap (λ (r : Sender). 2 * length r.sent) a.0) in
+      let a = sender_after v st.2.0 st.0 (sent_more v.sender x room) t.0 st.3 st.5 (new.2.0 ∙ ap (λ z. with_sender v (sent_more v.sender z room)) same) in
+      let open_ : h.2.closed ≡ false = is_open node n st.0 v h.2.closed (length h.1.sent) (sym (ap (λ ws. slice_index ws front_word) K.words_are) ∙ found ∙ ap (λ (r : Sender). 2 * length r.sent) a.0) in
       let fits = K.fits (sym (ap (λ r. r.out) a.0) ∙ t.1) in let seen = K.seen_taken in
-      ((open_, omega arith), shows (sent_more v.sender x) h.2 a.1 a.2 ∙ ap (λ r. shown (sent_more r x) h.2) a.0)
+      ((open_, omega arith), shows (sent_more v.sender x room) h.2 a.1 a.2 ∙ ap (λ r. shown (sent_more r x room) h.2) a.0)
 
   fails : (v : View) → TriesInVain n s v s' → Event Look
-  fails v u = let t = u.1 in let st = t.2 in let a = sender_after v st.2.0 st.0 (was_told v.sender) t.0 st.3 st.5 (st.6.2 u.2) in
+  fails v u = let t = u.1 in let st = t.2 in let a = sender_after v st.2.0 st.0 (was_told v.sender) t.0 st.3 st.5 (st.6.1 u.2).0 in
       (tt, shows (was_told v.sender) h.2 a.1 a.2 ∙ ap (λ r. shown (was_told r) h.2) a.0)
 
   takes_one : (v : View) → Stores n s v s' → Event Take
-  takes_one v t = let st = t.1 in let next = st.6.1 in let a = taker_after v st.2.0 st.0 (got_more v.taker next.0) t.0 st.3 st.5 next.2 in
+  takes_one v t = let st = t.1 in let next = st.6 in let o = next_of _ _ _ (got_more v.taker next.0) _ (v, st.1) st.2 next.2 in let a = taker_after v st.2.0 st.0 (got_more v.taker next.0 o.0) t.0 st.3 st.5 o.1 in
       let ahead = K.ahead next.0 (sym (ap (λ e. e.next) a.0) ∙ next.1) in let high = K.seen_high in (
         omega arith,
-        shows h.1 (got_more v.taker next.0) a.1 a.2 ∙ ap (λ e. shown h.1 (got_more e next.0)) a.0
+        shows h.1 (got_more v.taker next.0 o.0) a.1 a.2 ∙ ap (λ e. shown h.1 (got_more e next.0 o.0)) a.0
             ∙ ap (λ k. record { accepted = h.1.sent; taken = k; closed = h.2.closed }) (length-append h.2.got (next.0 ∷ [])),
       )
 
   shuts : (v : View) → Shuts n s v s' → (v.taker ≡ h.2) × (shown h'.1 h'.2 ≡ record { accepted = h.1.sent; taken = length h.2.got; closed = true })
-  shuts v t = let st = t.1 in let q = slice_index s.words 0 / 2 in let a = taker_after v st.2.0 st.0 (closed_at v.taker q) t.0 st.3 st.5 st.6.1 in
-      (a.0, shows h.1 (closed_at v.taker q) a.1 a.2 ∙ ap (λ e. shown h.1 (closed_at e q)) a.0)
+  shuts v t = let st = t.1 in let q = slice_index s.words front_word / 2 in let o = next_of _ _ _ (closed_at v.taker q) _ (v, st.1) st.2 st.6.3 in let a = taker_after v st.2.0 st.0 (closed_at v.taker q o.0) t.0 st.3 st.5 o.1 in
+      (a.0, shows h.1 (closed_at v.taker q o.0) a.1 a.2 ∙ ap (λ e. shown h.1 (closed_at e q o.0)) a.0)
 
   sees_taken : (v : View) → SeesTaken n s v s' → Event Look
-  sees_taken v t = let st = t.1 in let r = looked v.sender (slice_index s.words 1) (nat_lt (length v.sender.sent) (slice_index s.words 1 + n)) in let a = sender_after v st.2.0 st.0 r t.0 st.3 st.5 st.6.4 in
+  sees_taken v t = let st = t.1 in let r = looked v.sender (slice_index s.words taken_word) (nat_lt (length v.sender.sent) (slice_index s.words taken_word + n)) in let a = sender_after v st.2.0 st.0 r t.0 st.3 st.5 st.6.4 in
       (tt, shows r h.2 a.1 a.2 ∙ ap (λ (r : Sender). shown r h.2) a.0)
 
   gives_back : (v : View) → GivesBack n s v s' → Event Look
-  gives_back v t = let st = t.1 in let r = looked v.sender (slice_index s.words 1) false in let a = sender_after v st.2.0 st.0 r t.0 st.3 st.5 st.6.0 in
+  gives_back v t = let st = t.1 in let r = looked v.sender (slice_index s.words taken_word) false in let a = sender_after v st.2.0 st.0 r t.0 st.3 st.5 st.6.0 in
       (tt, shows r h.2 a.1 a.2 ∙ ap (λ (r : Sender). shown r h.2) a.0)
 
   sees_front : (v : View) → SeesFront n s v s' → Event Look
-  sees_front v t = let st = t.1 in let f = found_of _ _ (step n 0 0 0 none) (v, t.1.1) _ st.6 in let e = saw v.taker (slice_index s.words 0 / 2) f.0 in let a = taker_after v st.2.0 st.0 e t.0 st.3 st.5 f.1 in
+  sees_front v t = let st = t.1 in let f = next_of _ _ _ (saw v.taker (slice_index s.words front_word / 2)) _ (v, st.1) st.2 st.6.3 in let e = saw v.taker (slice_index s.words front_word / 2) f.0 in let a = taker_after v st.2.0 st.0 e t.0 st.3 st.5 f.1 in
       (tt, shows h.1 e a.1 a.2 ∙ ap (λ (e : Taker). shown h.1 e) a.0)
 
   learns : (v : View) → Learns n s v s' → Event Look
@@ -116,7 +117,7 @@ moves node n id i f told v cs allows s h long at fits = let a = allows s h long 
 -- ---- What is no event.
 
 module _ (node : ℕ) where
-  pub new_lane : (slots : List Message) (h : Lane node (opening (0 ∷ 0 ∷ []) slots (opening_view node))) → shown h.1 h.2 ≡ no_intake
+  pub new_lane : (slots : List Message) (h : Lane node (opening (words_of no_intake) slots (opening_view node))) → shown h.1 h.2 ≡ no_intake
   new_lane slots h = λ i. shown (sym h.3.3 i) (sym h.3.4 i)
 
   module _ (s s' : LaneState) (h : Lane node s) (h' : Lane node s') where

@@ -9,8 +9,8 @@ use Rattle.atomic_table.proofs.Lists.{set_here, set_else, at_longer}
 use Rattle.nn_types.specs.declared.report.Message.{Message}
 use Rattle.nn_lane.specs.declared.view.Sender.{Sender}
 use Rattle.nn_lane.specs.declared.view.Taker.{Taker}
-use Rattle.nn_lane.specs.Intake.{bit}
-use Rattle.nn_lane.specs.Lane.{away, Kept, new_sender, new_taker, looked, sent_more, was_told, saw, got_more, closed_at}
+use Rattle.nn_lane.specs.Intake.{bit, laid}
+use Rattle.nn_lane.specs.Lane.{away, Kept, new_sender, new_taker, holding, with_next, looked, sent_more, was_told, saw, got_more, closed_at}
 use Rattle.nn_lane.proofs.Rows.{at_within, at_end, at_after, head_of, apart}
 
 abbrev Homes : Type 0
@@ -116,8 +116,9 @@ module _ {node n : ℕ} {words : List ℕ} {homes : Homes} {r : Sender} {e : Tak
       at_next : away e.next ≡ true → length r.sent % n ≢ length e.got % n
       at_next aw = let one = has_one e.next refl aw in let long = sent_length in apart (length e.got) (length r.sent) n (omega arith) (let h : length r.sent < length e.got + n = room in h)
 
-  pub sees_room : length r.sent < length e.got + n → Kept node n words (set homes (length r.sent % n) none) (looked r (length e.got) true) e
-  sees_room room = let long = sent_length in record {
+  -- the slot of the next message is taken, where the reporter knows that there is room
+  pub holds_room : length r.sent < r.seen + n → Kept node n words (set homes (length r.sent % n) none) (holding r true) e
+  holds_room fits = let long = sent_length in let seen = K.seen_taken in record {
     left = K.left;
     as_long = length-set homes _ _ ∙ K.as_long;
     some_slot = K.some_slot;
@@ -126,8 +127,8 @@ module _ {node n : ℕ} {words : List ℕ} {homes : Homes} {r : Sender} {e : Tak
     within = K.within;
     numbered = K.numbered;
     nodes = K.nodes;
-    seen_taken = omega arith;
-    fits = λ _. room;
+    seen_taken = K.seen_taken;
+    fits = λ _. fits;
     seen_low = K.seen_low;
     seen_high = K.seen_high;
     closed = K.closed;
@@ -141,13 +142,13 @@ module _ {node n : ℕ} {words : List ℕ} {homes : Homes} {r : Sender} {e : Tak
 
   -- the exchange of `front`, where it wins: the lane is open, and the slot goes home with the next message
   pub accepts : (x : Message) → e.closed ≡ false → r.out ≡ true → x.number ≡ length r.sent + 1 → x.dn ≡ node
-      → Kept node n ((2 * length r.sent + 2) ∷ length e.got ∷ []) (set homes (length r.sent % n) (some x)) (sent_more r x) e
+      → Kept node n (laid (2 * length r.sent + 2) (length e.got)) (set homes (length r.sent % n) (some x)) (sent_more r x false) e
   accepts x open_ out number dn = let long = sent_length in let fits = K.fits out in let near = K.seen_taken in let grown : length (r.sent ++ x ∷ []) ≡ length r.sent + 1 = length-append r.sent (x ∷ []) in
       record {
         left = K.left ++ x ∷ [];
         as_long = length-set homes _ _ ∙ K.as_long;
         some_slot = K.some_slot;
-        words_are = λ i. front open_ grown i ∷ length e.got ∷ [];
+        words_are = λ i. laid (front open_ grown i) (length e.got);
         split = ap (λ l. l ++ x ∷ []) K.split ∙ append_assoc e.got K.left (x ∷ []);
         within = let more = length-append K.left (x ∷ []) in omega arith;
         numbered = λ k m at. ⊎_elim (λ was. K.numbered k m was) (λ (h : (k ≡ length r.sent) × (x ≡ m)). (sym (ap (λ z. z.number) h.1) ∙ number ∙ ap (λ z. z + 1) (sym h.0), sym (ap (λ z. z.dn) h.1) ∙ dn)) (at_end r.sent x m k at);
@@ -178,11 +179,11 @@ module _ {node n : ℕ} {words : List ℕ} {homes : Homes} {r : Sender} {e : Tak
       spot i l b (yes same) = (x, ap (get_elem? (set homes (length r.sent % n) (some x))) same ∙ set_here homes (length r.sent % n) (some x) (subst (λ z. length r.sent % n < z) (sym K.as_long) (mod-lt (length r.sent) K.some_slot)))
       spot i l b (no other) = let was = K.vacant i l (λ _. other) b in (was.0, set_else homes (length r.sent % n) i (some x) other ∙ was.1)
 
-  -- the exchange of `front`, where it fails: the lane is closed, and the slot goes home with what it has
-  pub tells : (x : Message) → e.closed ≡ true → r.out ≡ true → Kept node n words (set homes (length r.sent % n) (some x)) (was_told r) e
-  tells x shut_ out = let long = sent_length in let fits = K.fits out in let near = K.seen_taken in record {
+  -- the exchange of `front`, where it fails: the lane is closed
+  pub tells : e.closed ≡ true → Kept node n words homes (was_told r) e
+  tells shut_ = record {
     left = K.left;
-    as_long = length-set homes _ _ ∙ K.as_long;
+    as_long = K.as_long;
     some_slot = K.some_slot;
     words_are = K.words_are;
     split = K.split;
@@ -190,25 +191,20 @@ module _ {node n : ℕ} {words : List ℕ} {homes : Homes} {r : Sender} {e : Tak
     numbered = K.numbered;
     nodes = K.nodes;
     seen_taken = K.seen_taken;
-    fits = λ o. absurd (off o);
+    fits = K.fits;
     seen_low = K.seen_low;
     seen_high = K.seen_high;
     closed = K.closed;
     told = λ _. shut_;
     next = K.next;
     ahead = K.ahead;
-    lies = λ k m at b. let inside = at_within K.left k m at in
-        set_else homes (length r.sent % n) ((length e.got + k) % n) (some x) (λ same. apart (length e.got + k) (length r.sent) n (omega arith) (omega arith) (sym same)) ∙ K.lies k m at b;
-    vacant = λ i l _ b. spot i l b (ℕ_discrete i (length r.sent % n));
+    lies = K.lies;
+    vacant = K.vacant;
   }
-    where
-      spot : (i : ℕ) → i < n → (away e.next ≡ true → i ≢ length e.got % n) → Dec (i ≡ length r.sent % n) → (y : Message) × (get_elem? (set homes (length r.sent % n) (some x)) i ≡ some (some y))
-      spot i l b (yes same) = (x, ap (get_elem? (set homes (length r.sent % n) (some x))) same ∙ set_here homes (length r.sent % n) (some x) (subst (λ z. length r.sent % n < z) (sym K.as_long) (mod-lt (length r.sent) K.some_slot)))
-      spot i l b (no other) = let was = K.vacant i l (λ _. other) b in (was.0, set_else homes (length r.sent % n) i (some x) other ∙ was.1)
 
-  -- a load of `front`, with nothing untaken
-  pub sees_none : e.next ≡ None → length r.sent ≤ length e.got → Kept node n words homes r (saw e (length r.sent) None)
-  sees_none is none_left = let long = sent_length in record {
+  -- a load of `front`, before a slot is taken
+  pub sees : e.next ≡ None → Kept node n words homes r (saw e (length r.sent) None)
+  sees is = let long = sent_length in record {
     left = K.left;
     as_long = K.as_long;
     some_slot = K.some_slot;
@@ -229,10 +225,10 @@ module _ {node n : ℕ} {words : List ℕ} {homes : Homes} {r : Sender} {e : Tak
     vacant = λ i l a _. K.vacant i l a (λ aw. absurd (off (ap away (sym is) ∙ aw)));
   }
 
-  -- a load of `front`, with an untaken message: its slot is taken
-  pub sees_one : e.next ≡ None → length e.got < length r.sent
-      → (x : Message) × (get_elem? homes (length e.got % n) ≡ some (some x)) × (x.number ≡ length e.got + 1) × (x.dn ≡ node) × Kept node n words (set homes (length e.got % n) none) r (saw e (length r.sent) (Some x))
-  sees_one is some_left = let long = sent_length in
+  -- the slot of the first untaken message is taken, where the other end knows of one
+  pub holds_next : e.next ≡ None → length e.got < e.seen
+      → (x : Message) × (get_elem? homes (length e.got % n) ≡ some (some x)) × (x.number ≡ length e.got + 1) × (x.dn ≡ node) × Kept node n words (set homes (length e.got % n) none) r (with_next e (Some x))
+  holds_next is some_left = let long = sent_length in let seen = K.seen_high in
       let h = head_of K.left (let more : 0 < length K.left = omega arith in more) in
       let first : get_elem? K.left 0 ≡ some h.0 = ap (λ l. get_elem? l 0) h.2 in
       let none_out : away e.next ≡ true → ⊥ = λ aw. off (ap away (sym is) ∙ aw) in
@@ -255,9 +251,9 @@ module _ {node n : ℕ} {words : List ℕ} {homes : Homes} {r : Sender} {e : Tak
           nodes = K.nodes;
           seen_taken = K.seen_taken;
           fits = K.fits;
-          seen_low = omega arith;
-          seen_high = omega arith;
-          closed = λ _. refl;
+          seen_low = K.seen_low;
+          seen_high = K.seen_high;
+          closed = K.closed;
           told = K.told;
           next = λ m same. first ∙ ap (λ o. some (value_or m o)) same;
           ahead = λ m same. some_left;
@@ -268,10 +264,10 @@ module _ {node n : ℕ} {words : List ℕ} {homes : Homes} {r : Sender} {e : Tak
       )
 
   -- the store of `taken`: the first untaken message is taken, and its slot goes home with whatever it has
-  pub takes : (x y : Message) → e.next ≡ Some x → Kept node n ((2 * length r.sent + bit e.closed) ∷ (length e.got + 1) ∷ []) (set homes (length e.got % n) (some y)) r (got_more e x)
+  pub takes : (x y : Message) → e.next ≡ Some x → Kept node n (laid (2 * length r.sent + bit e.closed) (length e.got + 1)) (set homes (length e.got % n) (some y)) r (got_more e x None)
   takes x y is = go K.left refl
     where
-      go : (l : List Message) → l ≡ K.left → Kept node n ((2 * length r.sent + bit e.closed) ∷ (length e.got + 1) ∷ []) (set homes (length e.got % n) (some y)) r (got_more e x)
+      go : (l : List Message) → l ≡ K.left → Kept node n (laid (2 * length r.sent + bit e.closed) (length e.got + 1)) (set homes (length e.got % n) (some y)) r (got_more e x None)
       go [] l_is = absurd (some-ne-none x (sym (ap (λ l. get_elem? l 0) l_is ∙ K.next x is)))
       go (z ∷ zs) l_is =
           let first : z ≡ x = some-injective z x (ap (λ l. get_elem? l 0) l_is ∙ K.next x is) in
@@ -282,7 +278,7 @@ module _ {node n : ℕ} {words : List ℕ} {homes : Homes} {r : Sender} {e : Tak
             left = zs;
             as_long = length-set homes _ _ ∙ K.as_long;
             some_slot = K.some_slot;
-            words_are = λ i. (2 * length r.sent + bit e.closed) ∷ sym grown i ∷ [];
+            words_are = λ i. laid (2 * length r.sent + bit e.closed) (sym grown i);
             split = K.split ∙ ap (λ l. e.got ++ l) (sym l_is) ∙ ap (λ w. e.got ++ w ∷ zs) first ∙ sym (append_assoc e.got (x ∷ []) zs);
             within = omega arith;
             numbered = K.numbered;
@@ -308,7 +304,7 @@ module _ {node n : ℕ} {words : List ℕ} {homes : Homes} {r : Sender} {e : Tak
           spot i l a (no other) = let was = K.vacant i l a (λ _. other) in (was.0, set_else homes (length e.got % n) i (some y) other ∙ was.1)
 
   -- the close
-  pub shuts : Kept node n ((2 * length r.sent + 1) ∷ length e.got ∷ []) homes r (closed_at e (length r.sent))
+  pub shuts : Kept node n (laid (2 * length r.sent + 1) (length e.got)) homes r (closed_at e (length r.sent) e.next)
   shuts = record {
     left = K.left;
     as_long = K.as_long;
@@ -330,7 +326,7 @@ module _ {node n : ℕ} {words : List ℕ} {homes : Homes} {r : Sender} {e : Tak
     vacant = K.vacant;
   }
 
-pub begins : (node n : ℕ) (homes : Homes) → 0 < n → length homes ≡ n → ((i : ℕ) → i < n → (y : Message) × (get_elem? homes i ≡ some (some y))) → Kept node n (0 ∷ 0 ∷ []) homes (new_sender node) (new_taker node)
+pub begins : (node n : ℕ) (homes : Homes) → 0 < n → length homes ≡ n → ((i : ℕ) → i < n → (y : Message) × (get_elem? homes i ≡ some (some y))) → Kept node n (laid 0 0) homes (new_sender node) (new_taker node)
 begins node n homes pos long each = record {
   left = [];
   as_long = long;

@@ -1,12 +1,12 @@
 -- Lanes on small examples, computed.
 use Rattle.std.specs.Prelude.{◌≡◌, ℕ, ◌+◌, ◌≤◌, ⊤, Ok, Err, Option, Some, None, true, false, List, [], ◌∷◌, length, refl}
-use Rattle.std.proofs.Common.{ap, sym, subst, get_or, true≢false, arith}
+use Rattle.std.proofs.Common.{ap, sym, inl, inr, ⊎_elim, subst, get_or, true≢false, arith}
 use Rattle.nn_types.specs.declared.report.Message.{Message}
 use Rattle.nn_types.specs.declared.report.Kind.{Kind}
 use Rattle.nn_types.specs.declared.report.Kind.TheVariants.{Receiving, Received}
 use Rattle.nn_lane.specs.declared.fault.Refusal.TheVariants.{Closed, Exhausted, Full}
 use Rattle.nn_lane.specs.declared.message.Taken.TheVariants as taken
-use Rattle.nn_lane.specs.Ends.{LaneId, Reporting, Taking, node_of, got_of, loads_of, counted, StaysCounted, message_of, HasPlace, Refuses, Publishes, Gives, StartsWith, capacity_of}
+use Rattle.nn_lane.specs.Ends.{LaneId, Reporting, Taking, node_of, got_of, loads_of, counted, StaysCounted, message_of, Looks, HasPlace, Refuses, Publishes, Gives, LooksOnce, Looked, StartsWith, capacity_of}
 use Rattle.nn_lane.specs.Fault.{number_of}
 
 abbrev message : ℕ → ℕ → ℕ → Kind → Message
@@ -49,13 +49,22 @@ next_number l = refl
 -- ---- A report, where the lane has one place.
 
 first_has_a_place : (l : LaneId) → HasPlace (reporting l [] 0 0) (reporting l (first ∷ []) 1 0)
-first_has_a_place l = ((refl, refl, omega arith, omega arith), (refl, refl), omega arith, omega arith)
+first_has_a_place l = (inl (refl, refl, omega arith, omega arith), (refl, refl), omega arith, omega arith)
+
+-- it was seen before that nothing was taken
+first_has_a_place_unlooked : (l : LaneId) → HasPlace (reporting l [] 1 0) (reporting l (first ∷ []) 1 0)
+first_has_a_place_unlooked l = (inr (refl, refl), (refl, refl), omega arith, omega arith)
+
+-- with no look it knows no more than it did
+not_more_places_unlooked : (l : LaneId) → HasPlace (reporting l [] 1 0) (reporting l (first ∷ []) 1 1) → ⊥
+not_more_places_unlooked l h =
+    ⊎_elim (λ (k : Looks (reporting l [] 1 0) (reporting l (first ∷ []) 1 1) 1). let e : 1 ≡ 1 + 1 = k.0 in omega (arith, e)) (λ (k : (1 ≡ 1) × (1 ≡ 0)). let e : 1 ≡ 0 = k.1 in omega (arith, e)) h.0
 
 second_has_none_yet : (l : LaneId) → HasPlace (reporting l (first ∷ []) 1 0) (reporting l (first ∷ second ∷ []) 2 0) → ⊥
 second_has_none_yet l h = let e = h.2 in omega (arith, e)
 
 second_has_one_then : (l : LaneId) → HasPlace (reporting l (first ∷ []) 1 0) (reporting l (first ∷ second ∷ []) 2 1)
-second_has_one_then l = ((refl, refl, omega arith, omega arith), (refl, refl), omega arith, omega arith)
+second_has_one_then l = (inl (refl, refl, omega arith, omega arith), (refl, refl), omega arith, omega arith)
 
 none_once_told : (l : LaneId) (r : Reporting) → HasPlace (told (reporting l [] 0 0)) r → ⊥
 none_once_told l r h = true≢false h.1.0
@@ -118,6 +127,17 @@ not_the_second_first l e h = let n : 2 ≡ length e.got = h.1 in let g = ap leng
 
 not_one_unseen : (l : LaneId) → Gives (taking l [] 0 0) (taking l (first ∷ []) 1 0) (taken.Message first) → ⊥
 not_one_unseen l h = let e : 1 ≤ 0 = h.3 in omega (arith, e)
+
+-- two were seen before, so the first is taken with no look; but none is found without one
+taken_unlooked : (l : LaneId) → Looked (taking l [] 1 2) (taking l (first ∷ []) 1 2) (taken.Message first)
+taken_unlooked l = inr (refl, refl)
+
+not_more_messages_unlooked : (l : LaneId) → Looked (taking l [] 1 0) (taking l (first ∷ []) 1 1) (taken.Message first) → ⊥
+not_more_messages_unlooked l h =
+    ⊎_elim (λ (k : LooksOnce (taking l [] 1 0) (taking l (first ∷ []) 1 1)). let e : 1 ≡ 1 + 1 = k.0 in omega (arith, e)) (λ (k : (1 ≡ 1) × (1 ≡ 0)). let e : 1 ≡ 0 = k.1 in omega (arith, e)) h
+
+not_empty_unlooked : (l : LaneId) → Looked (taking l (first ∷ []) 1 1) (taking l (first ∷ []) 1 1) (taken.Empty 1) → ⊥
+not_empty_unlooked l h = let e : 1 ≡ 1 + 1 = h.0 in omega (arith, e)
 
 -- nothing is left where all that were accepted were taken
 empty : (l : LaneId) → Gives (taking l (first ∷ []) 1 1) (taking l (first ∷ []) 2 1) (taken.Empty 1)

@@ -1,5 +1,5 @@
 -- What contracts see of the two ends of a lane, and what their calls do.
-use Rattle.std.specs.Prelude.{◌≡◌, ℕ, ◌+◌, ◌^◌, ◌<◌, ◌≤◌, Bool, true, false, Result, Ok, Err, Option, Some, None, List, [], ◌∷◌, ◌++◌, length}
+use Rattle.std.specs.Prelude.{◌≡◌, ◌⊎◌, ℕ, ◌+◌, ◌^◌, ◌<◌, ◌≤◌, Bool, true, false, Result, Ok, Err, Option, Some, None, List, [], ◌∷◌, ◌++◌, length}
 use Rattle.atomic_table.specs.Seated.{TableId}
 use Rattle.nn_types.specs.declared.report.Kind.{Kind}
 use Rattle.nn_types.specs.declared.report.Message.{Message}
@@ -75,9 +75,13 @@ StaysUntold r r' = (r.told ≡ false) × (r'.told ≡ false)
 abbrev pub Looks : Reporting → Reporting → ℕ → Type 0
 Looks r r' taken = (r'.loads ≡ r.loads + 1) × (r'.seen ≡ taken) × (r.seen ≤ taken) × (taken ≤ length r.sent)
 
--- the next message has a place, as the reporter saw when it looked, and a number
+-- the reporter looked once, or goes by what it saw when it last did
+abbrev pub Knows : Reporting → Reporting → Type 0
+Knows r r' = Looks r r' r'.seen ⊎ ((r'.loads ≡ r.loads) × (r'.seen ≡ r.seen))
+
+-- the next message has a place, as the reporter saw when it last looked, and a number
 abbrev pub HasPlace : Reporting → Reporting → Type 0
-HasPlace r r' = Looks r r' r'.seen × StaysUntold r r' × (length r.sent < r'.seen + capacity_of r.lane) × (length r.sent < 2 ^ 62)
+HasPlace r r' = Knows r r' × StaysUntold r r' × (length r.sent < r'.seen + capacity_of r.lane) × (length r.sent < 2 ^ 62)
 
 -- the message x was refused so: it comes back, 43 comes exactly where the lane has carried all that it can, and 41 where
 -- all its places were taken when the reporter looked
@@ -98,6 +102,15 @@ Publishes r r' (Some (Err e)) = (x : Message) × (r.prepared ≡ Some x) × (r'.
 abbrev pub Gives : Taking → Taking → Taken → Type 0
 Gives e e' (taken.Message m) = (e'.got ≡ e.got ++ m ∷ []) × (m.number ≡ length e'.got) × (m.dn ≡ e.lane.node) × (length e'.got ≤ e'.seen)
 Gives e e' (taken.Empty n) = (e'.got ≡ e.got) × (e'.seen ≡ n) × (n ≡ length e.got)
+
+-- the end looked once
+abbrev pub LooksOnce : Taking → Taking → Type 0
+LooksOnce e e' = (e'.loads ≡ e.loads + 1) × (e.seen ≤ e'.seen)
+
+-- it looks wherever it finds none; a message may be one that it knew of
+abbrev pub Looked : Taking → Taking → Taken → Type 0
+Looked e e' (taken.Message m) = LooksOnce e e' ⊎ ((e'.loads ≡ e.loads) × (e'.seen ≡ e.seen))
+Looked e e' (taken.Empty n) = LooksOnce e e'
 
 abbrev pub StartsWith : List Message → List Message → Type 0
 StartsWith xs ys = (more : List Message) × (xs ≡ ys ++ more)

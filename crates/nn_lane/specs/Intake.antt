@@ -43,6 +43,17 @@ abbrev pub bit : Bool → ℕ
 bit true = 1
 bit false = 0
 
--- the two words of the lane's table
+-- where the two words lie that are used: far enough from each other, and from what lies before and behind, to have cache
+-- lines of their own
+abbrev pub front_word : ℕ
+front_word = 8
+
+abbrev pub taken_word : ℕ
+taken_word = 24
+
+abbrev pub laid : ℕ → ℕ → List ℕ
+laid front taken = 0 ∷ 0 ∷ 0 ∷ 0 ∷ 0 ∷ 0 ∷ 0 ∷ 0 ∷ front ∷ 0 ∷ 0 ∷ 0 ∷ 0 ∷ 0 ∷ 0 ∷ 0 ∷ 0 ∷ 0 ∷ 0 ∷ 0 ∷ 0 ∷ 0 ∷ 0 ∷ 0 ∷ taken ∷ 0 ∷ 0 ∷ 0 ∷ 0 ∷ 0 ∷ 0 ∷ 0 ∷ []
+
+-- the words of the lane's table
 abbrev pub words_of : Intake → List ℕ
-words_of c = (2 * length c.accepted + bit c.closed) ∷ c.taken ∷ []
+words_of c = laid (2 * length c.accepted + bit c.closed) c.taken

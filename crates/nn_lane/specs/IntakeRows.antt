@@ -1,9 +1,9 @@
 -- The intake core on small examples, computed.
-use Rattle.std.specs.Prelude.{◌≡◌, ℕ, ◌+◌, ◌<◌, true, false, List, [], ◌∷◌, refl}
+use Rattle.std.specs.Prelude.{◌≡◌, ℕ, ◌+◌, ◌<◌, true, false, List, [], ◌∷◌, length, slice_index, refl}
 use Rattle.std.proofs.Common.{true≢false, arith}
 use Rattle.nn_types.specs.declared.report.Message.{Message}
 use Rattle.nn_types.specs.declared.report.Kind.TheVariants.{Received}
-use Rattle.nn_lane.specs.Intake.{IntakeEvent, Accept, Take, Close, Look, no_intake, intake_after, MayAll, words_of}
+use Rattle.nn_lane.specs.Intake.{IntakeEvent, Accept, Take, Close, Look, no_intake, intake_after, MayAll, words_of, laid, front_word, taken_word}
 
 abbrev message : ℕ → Message
 message number = record { dn = 3; number = number; block = 1073741825; stamp = 1001; len = 5; kind = Received }
@@ -41,8 +41,12 @@ closed_once : MayAll 4 no_intake (Close ∷ Close ∷ []) → ⊥
 closed_once h = true≢false h.1.0
 
 -- two accepted, one taken: the words are 4 and 1; closed, 5 and 1
-words : words_of (intake_after no_intake (Accept (message 1) ∷ Accept (message 2) ∷ Take ∷ [])) ≡ 4 ∷ 1 ∷ []
+words : words_of (intake_after no_intake (Accept (message 1) ∷ Accept (message 2) ∷ Take ∷ [])) ≡ laid 4 1
 words = refl
 
-words_when_closed : words_of (intake_after no_intake (Accept (message 1) ∷ Accept (message 2) ∷ Take ∷ Close ∷ [])) ≡ 5 ∷ 1 ∷ []
+words_when_closed : words_of (intake_after no_intake (Accept (message 1) ∷ Accept (message 2) ∷ Take ∷ Close ∷ [])) ≡ laid 5 1
 words_when_closed = refl
+
+-- the two words that count, among those that nothing uses
+where_they_lie : (slice_index (laid 4 1) front_word ≡ 4) × (slice_index (laid 4 1) taken_word ≡ 1) × (length (laid 4 1) ≡ 32)
+where_they_lie = (refl, refl, refl)

@@ -1,5 +1,5 @@
 -- The rule of a lane's table, and what each step tells.
--- Word 0 is twice the number of accepted messages, plus 1 where the lane is closed. Word 1 is the number of taken ones. The message of the number k + 1 lies in the slot k % slots.
+-- The front word is twice the number of accepted messages, plus 1 where the lane is closed. The other is the number of taken ones. The message of the number k + 1 lies in the slot k % slots.
 use Rattle.std.specs.Prelude.{◌≡◌, ◌≢◌, ◌⊎◌, ℕ, ◌+◌, ◌*◌, ◌/◌, ◌%◌, ◌<◌, ◌≤◌, Bool, true, false, nat_lt, List, [], ◌∷◌, ◌++◌, length, Option, Some, None, MatchBool}
 use mathlib.Core.Option.{some}
 use mathlib.Core.Option as maybe
@@ -10,7 +10,7 @@ use Rattle.nn_lane.specs.declared.view.Sender.{Sender}
 use Rattle.nn_lane.specs.declared.view.Taker.{Taker}
 use Rattle.nn_lane.specs.declared.view.View.{View}
 use Rattle.nn_lane.specs.Ends.{StartsWith}
-use Rattle.nn_lane.specs.Intake.{bit}
+use Rattle.nn_lane.specs.Intake.{bit, laid}
 
 abbrev pub new_sender : ℕ → Sender
 new_sender node = record { node = node; sent = []; seen = 0; loads = 0; out = false; told = false }
@@ -71,7 +71,7 @@ pub record Kept (node n : ℕ) (words : List ℕ) (homes : List (maybe.Option Me
   pub left : List Message
   pub as_long : length homes ≡ n
   pub some_slot : 0 < n
-  pub words_are : words ≡ (2 * length r.sent + bit e.closed) ∷ length e.got ∷ []
+  pub words_are : words ≡ laid (2 * length r.sent + bit e.closed) (length e.got)
   pub split : r.sent ≡ e.got ++ left
   pub within : length left ≤ n
   pub numbered : (k : ℕ) (m : Message) → get_elem? r.sent k ≡ some m → (m.number ≡ k + 1) × (m.dn ≡ node)
@@ -92,6 +92,13 @@ Lane node s = (n : ℕ) × (r : Sender) × (e : Taker) × Seated s.views r e × 
 
 abbrev pub Sat : Type 0
 Sat = Me Message View
+
+-- the slot of its next message is out with the reporter, or not
+abbrev pub holding : Sender → Bool → Sender
+holding r out = record { node = r.node; sent = r.sent; seen = r.seen; loads = r.loads; out = out; told = r.told }
+
+abbrev pub with_next : Taker → Option Message → Taker
+with_next e o = record { node = e.node; got = e.got; seen = e.seen; loads = e.loads; next = o; closed = e.closed }
 
 -- the reporter loads `taken`, and takes the slot of the next message where there is room
 abbrev pub looked : Sender → ℕ → Bool → Sender
@@ -116,17 +123,26 @@ saw_taken st m n m' = SawTaken (nat_lt (length m.0.sender.sent) (n + st.slots)) 
 abbrev pub gave_back : Step Message → Sat → ℕ → Sat → Type 0
 gave_back st m n m' = (m'.0 ≡ with_sender m.0 (looked m.0.sender n false)) × (m'.1 ≡ beside m.0.sender.out m.1) × (m.0.sender.seen ≤ n)
 
--- the reporter compare-exchanges `front`, and gives the slot back: the message is sent, or the lane is closed
-abbrev pub sent_more : Sender → Message → Sender
-sent_more r x = record { node = r.node; sent = r.sent ++ x ∷ []; seen = r.seen; loads = r.loads; out = false; told = r.told }
+-- the reporter compare-exchanges `front`: the message is sent, its slot goes back, and the next one is taken where the
+-- reporter remembers that there is room; or the lane is closed, and the slot stays out
+abbrev pub sent_more : Sender → Message → Bool → Sender
+sent_more r x out = record { node = r.node; sent = r.sent ++ x ∷ []; seen = r.seen; loads = r.loads; out = out; told = r.told }
 
 abbrev pub was_told : Sender → Sender
-was_told r = record { node = r.node; sent = r.sent; seen = r.seen; loads = r.loads; out = false; told = true }
+was_told r = record { node = r.node; sent = r.sent; seen = r.seen; loads = r.loads; out = r.out; told = true }
+
+abbrev pub SentMore : Bool → Step Message → Message → Sat → Sat → Type 0
+SentMore room st x m m' = (m'.0 ≡ with_sender m.0 (sent_more m.0.sender x room))
+    × MatchBool room ((y : Message) × (m'.1 ≡ ((length m.0.sender.sent + 1) % st.slots, y) ∷ rest m.1)) (m'.1 ≡ rest m.1)
 
 abbrev pub accepted : Step Message → Sat → ℕ → Sat → Type 0
-accepted st m n m' = (m'.1 ≡ rest m.1)
-    × (n ≡ st.first → (x : Message) × (st.said ≡ some x) × (m'.0 ≡ with_sender m.0 (sent_more m.0.sender x)))
-    × (n ≢ st.first → m'.0 ≡ with_sender m.0 (was_told m.0.sender))
+accepted st m n m' = (n ≡ st.first → (x : Message) × (st.said ≡ some x) × SentMore (nat_lt (length m.0.sender.sent + 1) (m.0.sender.seen + st.slots)) st x m m')
+    × (n ≢ st.first → (m'.0 ≡ with_sender m.0 (was_told m.0.sender)) × (m'.1 ≡ m.1))
+
+-- after each step of the other end the slot of its next message, the (k + 1)-th, is out with it exactly where it knows of one
+abbrev pub NextOut : Bool → ℕ → ℕ → (Option Message → Taker) → List (ℕ × Message) → Sat → Sat → Type 0
+NextOut true k slots f cs m m' = (x : Message) × (m'.0 ≡ with_taker m.0 (f (Some x))) × (m'.1 ≡ (k % slots, x) ∷ cs) × (x.number ≡ k + 1) × (x.dn ≡ m.0.taker.node)
+NextOut false k slots f cs m m' = (m'.0 ≡ with_taker m.0 (f None)) × (m'.1 ≡ cs)
 
 -- the other end loads `front`, and takes the slot of the first untaken message
 abbrev pub saw : Taker → ℕ → Option Message → Taker
@@ -134,30 +150,31 @@ saw e n x = record { node = e.node; got = e.got; seen = n; loads = e.loads + 1; 
 
 abbrev pub SawFront : Bool → ℕ → Step Message → Sat → Sat → Type 0
 SawFront some_left q st m m' = (length m.0.taker.got ≤ q) × (m.0.taker.seen ≤ q) × (m.0.taker.closed ≡ true → q ≡ m.0.taker.seen)
-    × MatchBool some_left
-    ((x : Message) × (m'.0 ≡ with_taker m.0 (saw m.0.taker q (Some x))) × (m'.1 ≡ (length m.0.taker.got % st.slots, x) ∷ m.1)
-    × (x.number ≡ length m.0.taker.got + 1) × (x.dn ≡ m.0.taker.node))
-    ((m'.0 ≡ with_taker m.0 (saw m.0.taker q None)) × (m'.1 ≡ m.1))
+    × NextOut some_left (length m.0.taker.got) st.slots (saw m.0.taker q) m.1 m m'
 
 abbrev pub saw_front : Step Message → Sat → ℕ → Sat → Type 0
 saw_front st m n m' = SawFront (nat_lt (length m.0.taker.got) (n / 2)) (n / 2) st m m'
 
--- it stores `taken`, and gives the slot back
-abbrev pub got_more : Taker → Message → Taker
-got_more e x = record { node = e.node; got = e.got ++ x ∷ []; seen = e.seen; loads = e.loads; next = None; closed = e.closed }
+-- it stores `taken`, gives the slot back, and takes the next one where it remembers a message there
+abbrev pub got_more : Taker → Message → Option Message → Taker
+got_more e x o = record { node = e.node; got = e.got ++ x ∷ []; seen = e.seen; loads = e.loads; next = o; closed = e.closed }
+
+abbrev pub Took : Bool → Step Message → Message → Sat → Sat → Type 0
+Took some_left st x m m' = NextOut some_left (length m.0.taker.got + 1) st.slots (got_more m.0.taker x) (rest m.1) m m'
 
 abbrev pub took : Step Message → Sat → ℕ → Sat → Type 0
-took st m n m' = (m'.1 ≡ rest m.1) × ((x : Message) × (m.0.taker.next ≡ Some x) × (m'.0 ≡ with_taker m.0 (got_more m.0.taker x)))
+took st m n m' = (x : Message) × (m.0.taker.next ≡ Some x) × Took (nat_lt (length m.0.taker.got + 1) m.0.taker.seen) st x m m'
 
 -- it sets the low bit of `front`: the lane is closed
-abbrev pub closed_at : Taker → ℕ → Taker
-closed_at e n = record { node = e.node; got = e.got; seen = n; loads = e.loads; next = e.next; closed = true }
+abbrev pub closed_at : Taker → ℕ → Option Message → Taker
+closed_at e n o = record { node = e.node; got = e.got; seen = n; loads = e.loads; next = o; closed = true }
 
-abbrev pub Shuts : ℕ → Sat → Sat → Type 0
-Shuts q m m' = (m'.1 ≡ m.1) × (m'.0 ≡ with_taker m.0 (closed_at m.0.taker q)) × (length m.0.taker.got ≤ q) × (m.0.taker.seen ≤ q) × (m.0.taker.closed ≡ true → q ≡ m.0.taker.seen)
+abbrev pub Shuts : Bool → ℕ → Step Message → Sat → Sat → Type 0
+Shuts some_left q st m m' = (length m.0.taker.got ≤ q) × (m.0.taker.seen ≤ q) × (m.0.taker.closed ≡ true → q ≡ m.0.taker.seen)
+    × NextOut some_left (length m.0.taker.got) st.slots (closed_at m.0.taker q) (beside (away m.0.taker.next) m.1) m m'
 
 abbrev pub shut : Step Message → Sat → ℕ → Sat → Type 0
-shut st m n m' = Shuts (n / 2) m m'
+shut st m n m' = Shuts (nat_lt (length m.0.taker.got) (n / 2)) (n / 2) st m m'
 
 -- what the joined seat learns of its own view
 abbrev pub learned : Step Message → Sat → ℕ → Sat → Type 0

@@ -8,7 +8,7 @@ use Rattle.nn_types.specs.declared.report.Message.{Message}
 use Rattle.nn_lane.specs.declared.view.Sender.{Sender}
 use Rattle.nn_lane.specs.declared.view.Taker.{Taker}
 use Rattle.nn_lane.specs.declared.view.View.{View}
-use Rattle.nn_lane.specs.Intake.{Intake, IntakeEvent, Accept, Take, Close, Look}
+use Rattle.nn_lane.specs.Intake.{Intake, IntakeEvent, Accept, Take, Close, Look, front_word, taken_word}
 use Rattle.nn_lane.specs.Lane.{Lane, Sat, taker_of, reporter_of, both_of, spent, saw_taken, gave_back, accepted, saw_front, took, shut, learned}
 
 abbrev pub LaneState : Type 0
@@ -38,39 +38,39 @@ open_front v = 2 * length v.sender.sent
 
 -- the reporter, with its slot out, tries to send x
 abbrev pub Tries : ℕ → LaneState → View → Message → LaneState → Type 0
-Tries n s v x s' = IsSender v × (v.sender.out ≡ true) × Steps s v 0 (λ f. either (f == open_front v) (open_front v + 2) f) (accepted (step n 0 (open_front v) (open_front v + 2) (some x))) s'
+Tries n s v x s' = IsSender v × (v.sender.out ≡ true) × Steps s v front_word (λ f. either (f == open_front v) (open_front v + 2) f) (accepted (step n front_word (open_front v) (open_front v + 2) (some x))) s'
 
 abbrev pub Stores : ℕ → LaneState → View → LaneState → Type 0
-Stores n s v s' = IsTaker v × Steps s v 1 (λ _. length v.taker.got + 1) (λ m _. took (step n 1 (length v.taker.got + 1) 0 none) m (length v.taker.got + 1)) s'
+Stores n s v s' = IsTaker v × Steps s v taken_word (λ _. length v.taker.got + 1) (λ m _. took (step n taken_word (length v.taker.got + 1) 0 none) m (length v.taker.got + 1)) s'
 
 abbrev pub Shuts : ℕ → LaneState → View → LaneState → Type 0
-Shuts n s v s' = IsTaker v × Steps s v 0 (λ f. bit_or f 1) (shut (step n 0 1 0 none)) s'
+Shuts n s v s' = IsTaker v × Steps s v front_word (λ f. bit_or f 1) (shut (step n front_word 1 0 none)) s'
 
 -- the reporter looks at `taken`, and takes the next slot or gives back the one that is out
 abbrev pub SeesTaken : ℕ → LaneState → View → LaneState → Type 0
-SeesTaken n s v s' = IsSender v × Steps s v 1 (λ t. t) (saw_taken (step n 1 0 0 none)) s'
+SeesTaken n s v s' = IsSender v × Steps s v taken_word (λ t. t) (saw_taken (step n taken_word 0 0 none)) s'
 
 abbrev pub GivesBack : ℕ → LaneState → View → LaneState → Type 0
-GivesBack n s v s' = IsSender v × Steps s v 1 (λ t. t) (gave_back (step n 1 0 0 none)) s'
+GivesBack n s v s' = IsSender v × Steps s v taken_word (λ t. t) (gave_back (step n taken_word 0 0 none)) s'
 
 -- the other end looks at `front`, and so does the seat of both once they met
 abbrev pub SeesFront : ℕ → LaneState → View → LaneState → Type 0
-SeesFront n s v s' = IsTaker v × Steps s v 0 (λ f. f) (saw_front (step n 0 0 0 none)) s'
+SeesFront n s v s' = IsTaker v × Steps s v front_word (λ f. f) (saw_front (step n front_word 0 0 none)) s'
 
 abbrev pub Learns : ℕ → LaneState → View → LaneState → Type 0
-Learns n s v s' = Steps s v 0 (λ f. f) (learned (step n 0 0 0 none)) s'
+Learns n s v s' = Steps s v front_word (λ f. f) (learned (step n front_word 0 0 none)) s'
 
 abbrev pub Loads : ℕ → LaneState → View → LaneState → Type 0
 Loads n s v s' = SeesTaken n s v s' ⊎ GivesBack n s v s' ⊎ SeesFront n s v s' ⊎ Learns n s v s'
 
 -- a try that finds the lane closed
 abbrev pub TriesInVain : ℕ → LaneState → View → LaneState → Type 0
-TriesInVain n s v s' = (x : Message) × Tries n s v x s' × (slice_index s.words 0 ≢ open_front v)
+TriesInVain n s v s' = (x : Message) × Tries n s v x s' × (slice_index s.words front_word ≢ open_front v)
 
 -- one step of a seat of a lane of n places: sending is the event where it finds the lane open, and a look where it does
 -- not; closing is one, and a look when the lane was closed before
 abbrev pub Moves : ℕ → LaneState → IntakeEvent → LaneState → Type 0
-Moves n s (Accept x) s' = (v : View) × Tries n s v x s' × (slice_index s.words 0 ≡ open_front v)
+Moves n s (Accept x) s' = (v : View) × Tries n s v x s' × (slice_index s.words front_word ≡ open_front v)
 Moves n s Take s' = (v : View) × Stores n s v s'
 Moves n s Close s' = (v : View) × Shuts n s v s' × (v.taker.closed ≡ false)
 Moves n s Look s' = (v : View) × (Loads n s v s' ⊎ TriesInVain n s v s' ⊎ (Shuts n s v s' × (v.taker.closed ≡ true)))

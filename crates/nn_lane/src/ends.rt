@@ -1,6 +1,8 @@
 //! The two ends of a lane.
-ghost use Rattle.std.specs.Prelude.{◌≡◌, ◌≤◌, ◌<◌, ◌^◌, ◌+◌, ◌∷◌, ◌++◌, length, true, false, [], IfOk, IfErr, Some, None};
-ghost use Rattle.nn_lane.specs.Ends.{capacity_of, message_of, HasPlace, Refuses, Publishes, Gives, StartsWith};
+ghost use Rattle.std.specs.Prelude.{◌≡◌, ◌≤◌, ◌<◌, ◌^◌, ◌+◌, ◌∷◌, ◌++◌, ◌⊎◌, length, true, false, [], IfOk, IfErr, Some, None};
+ghost use Rattle.nn_lane.specs.Ends.{capacity_of, message_of, HasPlace, Refuses, Publishes, Gives, Looked, StartsWith};
+ghost use Rattle.nn_types.specs.declared.report.Message.{Message};
+ghost use Rattle.nn_lane.specs.Parts.{KnowsRoom, KnowsNext, SenderStays, SenderLooks, SenderRemembers, TakerStays, TakerLooks, TakerRemembers};
 
 use crate::fault::Refusal;
 use crate::message::{Met, Taken};
@@ -12,11 +14,14 @@ use std::alloc::{AllocError, Global};
 use std::marker::Model;
 use std::sync::Arc;
 
-// The words of a lane's table: twice the number of accepted messages, plus 1 where the lane is closed; and the number of
-// taken ones. Message n lies in slot (n - 1) modulo the capacity.
-const FRONT: usize = 0;
+// The words of a lane's table that are used: twice the number of accepted messages, plus 1 where the lane is closed; and
+// the number of taken ones. Message n lies in slot (n - 1) modulo the capacity. The two words are 128 bytes apart, and the
+// unused ones around them keep all else off their cache lines: so who writes one does not slow down who reads the other.
+const WORDS: usize = 32;
 
-const TAKEN: usize = 1;
+const FRONT: usize = 8;
+
+const TAKEN: usize = 24;
 
 // No lane carries more messages.
 const MOST: u64 = 1 << 62;
@@ -32,6 +37,9 @@ pub struct Reporter {
     seat: LaneSeat,
     dn: u16,
     accepted: u64,
+    // So many messages have a place, as far as this end knows: those that were taken when it last looked, and the
+    // capacity more. 0 before it looked.
+    limit: u64,
     told: bool,
     prepared: Option<Message>,
 }
@@ -45,7 +53,7 @@ impl Model for Reporter {
 
     ghost view = { λ r. record { lane = record { table = r.seat.table_id; node = r.seat.me.0.sender.node }; sent = r.seat.me.0.sender.sent; prepared = r.prepared; seen = r.seat.me.0.sender.seen; loads = r.seat.me.0.sender.loads; told = r.seat.me.0.sender.told } };
 
-    ghost invariant = { λ r. ReporterOk (arc_value r.table).shared.table_id r.seat r.dn r.accepted r.told r.prepared };
+    ghost invariant = { λ r. ReporterOk (arc_value r.table).shared.table_id r.seat r.dn r.accepted r.limit r.told r.prepared };
 }
 
 /// The end that takes, and that may close the lane. The standby has it.
@@ -54,6 +62,8 @@ pub struct LaneEnd {
     table: Arc<LaneTable>,
     seat: LaneSeat,
     taken: u64,
+    // So many messages were accepted when this end last looked.
+    seen: u64,
     closed: bool,
 }
 
@@ -66,7 +76,30 @@ impl Model for LaneEnd {
 
     ghost view = { λ r. record { lane = record { table = r.seat.table_id; node = r.seat.me.0.taker.node }; got = r.seat.me.0.taker.got; seen = r.seat.me.0.taker.seen; loads = r.seat.me.0.taker.loads; closed = r.seat.me.0.taker.closed } };
 
-    ghost invariant = { λ r. LaneEndOk (arc_value r.table).shared.table_id r.seat r.taken r.closed };
+    ghost invariant = { λ r. LaneEndOk (arc_value r.table).shared.table_id r.seat r.taken r.seen r.closed };
+}
+
+// How many messages have a place, which is more than `accepted`: the reporter looks only if it knows of no place. Where
+// there is none, how many messages were taken.
+fn places(table: &LaneTable, seat: &mut LaneSeat, accepted: u64, limit: u64) -> Result<u64, u64>
+    requires table { (seat.old.table_id ≡ table.now.shared.table_id) × (table.now.shared.table_id.words ≡ 32) × (table.now.shared.table_id.slots ≤ 1024) }
+    requires seat { (seat.old.me.0.sends ≡ true) × (seat.old.me.0.takes ≡ false) × (accepted ≡ length seat.old.me.0.sender.sent) × (accepted ≤ 2 ^ 62) }
+    requires room { KnowsRoom seat.old.me.0.sender.out seat.old accepted limit }
+    ensures stays { SenderStays seat.old seat.new }
+    ensures ok { IfOk result (λ n. (seat.new.me.0.sender.out ≡ true) × KnowsRoom true seat.new accepted n) }
+    ensures known { IfOk result (λ _. SenderLooks seat.old seat.new seat.new.me.0.sender.seen ⊎ SenderRemembers seat.old seat.new) }
+    ensures full { IfErr result (λ taken. SenderLooks seat.old seat.new taken × (accepted ≡ taken + seat.old.table_id.slots)) }
+    ensures none_out { IfErr result (λ _. (seat.old.me.0.sender.out ≡ false) × (seat.new.me.0.sender.out ≡ false) × KnowsRoom false seat.new accepted limit) }
+{
+    if accepted < limit {
+        return Ok(limit);
+    }
+    let capacity = table.slot_count() as u64;
+    let taken = table.shared.load::<SeeTaken>(seat, TAKEN);
+    if accepted >= taken + capacity {
+        return Err(taken);
+    }
+    Ok(taken + capacity)
 }
 
 impl Reporter {
@@ -74,7 +107,8 @@ impl Reporter {
     /// before. O(1); it never waits.
     ///
     /// 42 where this end was told that the lane is closed, then 43 at 2^62 messages, then 41 where all places were
-    /// taken. After a refusal nothing is prepared.
+    /// taken. After a refusal nothing is prepared. It looks at the other end only if it remembers no place, so 41 comes of
+    /// a look in this call.
     pub fn prepare(
         &mut self,
         block: BlockId,
@@ -103,15 +137,13 @@ impl Reporter {
             return Err(Refusal::Exhausted { message });
         }
         let table: &LaneTable = &self.table;
-        let capacity = table.slot_count() as u64;
-        let shared = &table.shared;
-        let taken = shared.load::<SeeTaken>(&mut self.seat, TAKEN);
-        if accepted - taken >= capacity {
-            return Err(Refusal::Full { message, taken });
+        match places(table, &mut self.seat, accepted, self.limit) {
+            Ok(limit) => self.limit = limit,
+            Err(taken) => return Err(Refusal::Full { message, taken }),
         }
-        let slot = (accepted % capacity) as usize;
+        let slot = (accepted % table.slot_count() as u64) as usize;
         let copy = message;
-        shared.exchange(&mut self.seat, slot, message);
+        table.shared.exchange(&mut self.seat, slot, message);
         self.prepared = Some(copy);
         Ok(())
     }
@@ -167,7 +199,7 @@ impl Reporter {
     }
 }
 
-// What lies in a place whose message was taken.
+// What lies in a place before its first message.
 fn blank() -> Message {
     Message {
         dn: 0,
@@ -179,26 +211,43 @@ fn blank() -> Message {
     }
 }
 
+// How many messages were accepted, as far as the end knows: it looks only if it took all that it knows of.
+fn known(table: &LaneTable, seat: &mut LaneSeat, taken: u64, seen: u64) -> u64
+    requires table { (seat.old.table_id ≡ table.now.shared.table_id) × (table.now.shared.table_id.words ≡ 32) }
+    requires seat { (seat.old.me.0.sends ≡ false) × (seat.old.me.0.takes ≡ true) × (taken ≡ length seat.old.me.0.taker.got) × (seen ≡ seat.old.me.0.taker.seen) }
+    requires next { KnowsNext seat.old.me.0.taker.next seat.old taken }
+    ensures stays { TakerStays seat.old seat.new }
+    ensures seen { (result ≡ seat.new.me.0.taker.seen) × (taken ≤ result) × (seat.old.me.0.taker.closed ≡ true → result ≡ seen) }
+    ensures some { taken < result → (TakerLooks seat.old seat.new ⊎ TakerRemembers seat.old seat.new) × ((x : Message) × (seat.new.me.0.taker.next ≡ Some x) × KnowsNext (Some x) seat.new taken) }
+    ensures none { result ≤ taken → TakerLooks seat.old seat.new × (seat.new.me.0.taker.next ≡ None) × KnowsNext None seat.new taken }
+{
+    if taken < seen {
+        return seen;
+    }
+    table.shared.load::<SeeFront>(seat, FRONT) / 2
+}
+
 impl LaneEnd {
     /// Takes the oldest message: the next one that its reporter sent. O(1); it never waits.
     ///
-    /// Of an open lane `Empty` says no more than that none was seen in this call; of a closed one, that all were taken.
+    /// Of an open lane `Empty` says no more than that none was seen in this call; of a closed one, that all were taken. It
+    /// looks at the reporter's end only if it took all that it remembers.
     pub fn take(&mut self) -> Taken
         ensures lane { (self.new.lane ≡ self.old.lane) × (self.new.closed ≡ self.old.closed) }
         ensures gives { Gives self.old self.new result }
-        ensures looked { (self.new.loads ≡ self.old.loads + 1) × (self.old.seen ≤ self.new.seen) }
+        ensures looked { Looked self.old self.new result }
         ensures closed { self.old.closed ≡ true → self.new.seen ≡ self.old.seen }
     {
         let table: &LaneTable = &self.table;
-        let capacity = table.slot_count() as u64;
         let shared = &table.shared;
-        let accepted = shared.load::<SeeFront>(&mut self.seat, FRONT) / 2;
         let taken = self.taken;
+        let accepted = known(table, &mut self.seat, taken, self.seen);
+        self.seen = accepted;
         if taken >= accepted {
             return Taken::Empty { accepted };
         }
-        let slot = (taken % capacity) as usize;
-        let message = shared.exchange(&mut self.seat, slot, blank());
+        let slot = (taken % table.slot_count() as u64) as usize;
+        let message = *self.seat.slot_mut(shared, slot);
         shared.store::<Take>(&mut self.seat, TAKEN, taken + 1);
         self.taken = taken + 1;
         Taken::Message(message)
@@ -215,6 +264,7 @@ impl LaneEnd {
     {
         let front = self.table.shared.fetch_or::<Shut>(&mut self.seat, FRONT, 1);
         self.closed = true;
+        self.seen = front / 2;
         front / 2
     }
 
@@ -241,6 +291,7 @@ pub fn meet(end: LaneEnd, reporter: Reporter) -> Met
         table,
         mut seat,
         taken,
+        seen: _,
         closed: _,
     } = end;
     let Reporter {
@@ -248,6 +299,7 @@ pub fn meet(end: LaneEnd, reporter: Reporter) -> Met
         seat: mut theirs,
         dn: _,
         accepted,
+        limit: _,
         told: _,
         prepared: _,
     } = reporter;
@@ -270,7 +322,7 @@ pub fn lane(alloc: Global, dn: u16, capacity: usize) -> Result<(Reporter, LaneEn
     ensures unseen { IfOk result (λ ends. (ends.0.seen ≡ 0) × (ends.0.loads ≡ 0) × (ends.1.seen ≡ 0) × (ends.1.loads ≡ 0)) }
 {
     let slots = Vec::from_elem(alloc, blank(), capacity)?;
-    let made = Table::new(alloc, &[0, 0], slots, &dn);
+    let made = Table::new(alloc, &[0; WORDS], slots, &dn);
     let Ok((table, mut seat)) = made else {
         return Err(AllocError);
     };
@@ -282,6 +334,7 @@ pub fn lane(alloc: Global, dn: u16, capacity: usize) -> Result<(Reporter, LaneEn
         seat: theirs,
         dn,
         accepted: 0,
+        limit: 0,
         told: false,
         prepared: None,
     };
@@ -289,6 +342,7 @@ pub fn lane(alloc: Global, dn: u16, capacity: usize) -> Result<(Reporter, LaneEn
         table,
         seat,
         taken: 0,
+        seen: 0,
         closed: false,
     };
     Ok((reporter, end))

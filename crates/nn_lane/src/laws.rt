@@ -32,7 +32,7 @@ pub fn a_lane_is_an_intake()
 
 /// A new lane shows the intake core before any event, and neither the parting of its seats nor their meeting is one.
 pub fn no_event_but_a_step()
-    ensures new { (node : ℕ) (slots : List Message) (h : Lane node (opening (0 ∷ 0 ∷ []) slots (opening_view node))) → shown_by node (opening (0 ∷ 0 ∷ []) slots (opening_view node)) h ≡ no_intake }
+    ensures new { (node : ℕ) (slots : List Message) (h : Lane node (opening (words_of no_intake) slots (opening_view node))) → shown_by node (opening (words_of no_intake) slots (opening_view node)) h ≡ no_intake }
     ensures parts { (node : ℕ) (s s' : LaneState) (h : Lane node s) (h' : Lane node s') → Parts s s' → shown_by node s' h' ≡ shown_by node s h }
     ensures meets { (node : ℕ) (s s' : LaneState) (h : Lane node s) (h' : Lane node s') → Meets s s' → shown_by node s' h' ≡ shown_by node s h }
 {}

@@ -32,7 +32,8 @@ impl Play<Message, View> for GiveBack {
     ghost then = { gave_back };
 }
 
-// It compare-exchanges `front`: its message is sent, or it is told of a close.
+// It compare-exchanges `front`: its message is sent, and it takes the next slot where it remembers a place; or it is told
+// of a close.
 pub struct Accept;
 
 impl Play<Message, View> for Accept {
@@ -50,7 +51,7 @@ impl Play<Message, View> for SeeFront {
     ghost then = { saw_front };
 }
 
-// It stores `taken`, and gives the slot back.
+// It stores `taken`, gives the slot back, and takes the next one where it remembers a message there.
 pub struct Take;
 
 impl Play<Message, View> for Take {
@@ -59,7 +60,7 @@ impl Play<Message, View> for Take {
     ghost then = { took };
 }
 
-// It sets the low bit of `front`.
+// It sets the low bit of `front`, and takes the slot of the first untaken message.
 pub struct Shut;
 
 impl Play<Message, View> for Shut {

@@ -13,9 +13,9 @@ any_default [] i d e l = absurd (omega arith)
 any_default (x ∷ xs) zero d e l = refl
 any_default (x ∷ xs) (suc i) d e l = any_default xs i d e (omega arith)
 
--- a take left the lane the same, and as closed, and looked once
+-- a take left the lane the same, and as closed
 abbrev pub SameLane : Taking → Taking → Type 0
-SameLane e e' = (lane_of e' ≡ lane_of e) × (e'.closed ≡ e.closed) × (e.closed ≡ true → StaysCounted e e') × (loads_of e' ≡ loads_of e + 1)
+SameLane e e' = (lane_of e' ≡ lane_of e) × (e'.closed ≡ e.closed) × (e.closed ≡ true → StaysCounted e e')
 
 pub keeps_lane : (x : Tailer) (i : ℕ) (e : Taking) (k : Option Message) → Keeps x → i < length x.ends → node_of e ≡ 1 + i → IsKept (1 + i) e k → handed_all (set x.ends i e) (set x.kept i k) ≡ handed_all x.ends x.kept → Keeps (with_lane x i e k)
 keeps_lane x i e k h l n m q = record {
@@ -70,8 +70,8 @@ module _ (x : Tailer) (i : ℕ) (d e' : Taking) (k : Keeps x) (l : i < length x.
       let P : List (Option Message) → Type 0 = λ ks. Keeps (record { shadow = x.shadow; ends = set x.ends i e'; kept = ks; rest = x.rest; stop = x.stop; active = x.active }) in
       subst P kept_none (keeps_lane x i e' None k l node tt (same_none n g))
 
-  pub finds_none : (n : ℕ) → Gives (get_or x.ends i d) e' (taken.Empty n) → FindsNone x i n (record { shadow = x.shadow; ends = set x.ends i e'; kept = x.kept; rest = x.rest; stop = x.stop; active = x.active })
-  finds_none n g =
+  pub finds_none : (n : ℕ) → loads_of e' ≡ loads_of (get_or x.ends i d) + 1 → Gives (get_or x.ends i d) e' (taken.Empty n) → FindsNone x i n (record { shadow = x.shadow; ends = set x.ends i e'; kept = x.kept; rest = x.rest; stop = x.stop; active = x.active })
+  finds_none n once g =
       let P : List (Option Message) → Type 0 = λ ks. FindsNone x i n (record { shadow = x.shadow; ends = set x.ends i e'; kept = ks; rest = x.rest; stop = x.stop; active = x.active }) in
       subst P kept_none (record {
         end = e';
@@ -79,7 +79,7 @@ module _ (x : Tailer) (i : ℕ) (d e' : Taking) (k : Keeps x) (l : i < length x.
         lane = λ c. (lane_here c).0;
         closed = λ c. (lane_here c).1;
         all_same = λ c h. (lane_here c).2 (sym (lane_here c).1 ∙ h);
-        looked = λ c. (lane_here c).3;
+        looked = λ c. subst (λ z. loads_of e' ≡ loads_of z + 1) (any_default x.ends i d c l) once;
         same = same_none n g;
         accepted_is = g.2 ∙ ap length (sym g.0);
         all = g.1 ∙ g.2 ∙ ap length (sym g.0);

@@ -16,6 +16,8 @@ use std::thread::{Threads, join};
 #[derive(Clone, Copy)]
 enum Gets {
     All,
+    // All, and waits before each.
+    AllSlowly,
     // The first segment, once the feed is full.
     First,
     // None: it goes once the feed is full.
@@ -58,6 +60,22 @@ const GATED: Fed = Fed {
     got: (9, 0),
 };
 
+// The reader waits for the feeder, as a rule. No send fails.
+const FAST_READER: Fed = Fed {
+    name: "a fast reader",
+    times: 100,
+    log: &[TWO_MARKS; 9],
+    pace: AT_ANY_TIME,
+    ..GATED
+};
+
+// The feeder waits for the reader, as a rule. No send fails.
+const SLOW_READER: Fed = Fed {
+    name: "a slow reader",
+    gets: Gets::AllSlowly,
+    ..FAST_READER
+};
+
 // The source's fault is answered, and the other end, which waits, is told of it.
 const FAILS_AT_SECOND: Fed = Fed {
     name: "failing at the second segment",
@@ -95,7 +113,14 @@ const LEFT_WHILE_FULL: Fed = Fed {
 
 #[test]
 fn feeds(rt: HostRuntime) {
-    for fed in [GATED, FAILS_AT_SECOND, FOUR_ARE_HELD, LEFT_WHILE_FULL] {
+    for fed in [
+        GATED,
+        FAST_READER,
+        SLOW_READER,
+        FAILS_AT_SECOND,
+        FOUR_ARE_HELD,
+        LEFT_WHILE_FULL,
+    ] {
         for _ in 0..fed.times {
             ends(&rt, rt.alloc(), &fed);
         }
@@ -151,7 +176,8 @@ fn put_by(ran: Ran<Watched>) -> Result<u64, u8> {
 
 fn got_from(end: impl SegmentSource + Drop, gets: Gets, shared: &Shared) -> (u64, u64) {
     match gets {
-        Gets::All => get_all(end, &shared.asked),
+        Gets::All => get_all(end, &shared.asked, 0),
+        Gets::AllSlowly => get_all(end, &shared.asked, 300),
         Gets::First => get_first(end, shared),
         Gets::Leaves => {
             let before = put_when_full(shared);
@@ -161,10 +187,14 @@ fn got_from(end: impl SegmentSource + Drop, gets: Gets, shared: &Shared) -> (u64
     }
 }
 
-// How many segments came before End, or before a fault that came again, with the number of it.
-fn get_all(mut end: impl SegmentSource + Drop, got: &AtomicU64) -> (u64, u64) {
+// How many segments came before End, or before a fault that came again, with the number of it. Before each it gives way
+// so many times.
+fn get_all(mut end: impl SegmentSource + Drop, got: &AtomicU64, turns: u32) -> (u64, u64) {
     for count in 0..u64::MAX {
         got.store(count, Ordering::SeqCst);
+        for _ in 0..turns {
+            thread::yield_now();
+        }
         match end.next() {
             Ok(Item::Segment(_)) => {}
             Ok(Item::End) => return (count, 0),
@@ -246,7 +276,7 @@ fn put_refused(rt: &impl Wait, alloc: Global, feeder: &mut Feeder) -> Option<u8>
 fn gives_back(refusal: &Refusal) -> bool {
     match refusal {
         Refusal::Ended { answer } => is_segment(answer),
-        Refusal::Gone { answer } => is_segment(answer),
+        Refusal::Gone { answer, .. } => is_segment(answer),
     }
 }
 
@@ -302,7 +332,7 @@ fn after_a_fault(rt: HostRuntime) {
     };
     let has_failed = feeds_and_fails(&rt, rt.alloc(), &mut feeder);
     let behind = number_of(feeder.put(&rt, Item::End));
-    let got = get_all(end, &zero);
+    let got = get_all(end, &zero, 0);
     drop(feeder);
     assert_eq!(rt; (has_failed, behind), (true, 45));
     assert_eq!(rt; got, (1, 47));
@@ -345,7 +375,7 @@ fn run_for_nobody(rt: &impl Wait, alloc: Global, fails_at: u64) -> Option<bool> 
     let Ran { source, outcome } = run_thread(rt, source, feeder);
     drop(source);
     match outcome {
-        Err(Refusal::Gone { answer }) => Some(answer.is_ok()),
+        Err(Refusal::Gone { answer, .. }) => Some(answer.is_ok()),
         _ => None,
     }
 }
@@ -364,7 +394,7 @@ fn feeder_gone(rt: HostRuntime) {
     };
     let put = number_of(feeder.put(&rt, segment));
     drop(feeder);
-    let got = get_all(end, &zero);
+    let got = get_all(end, &zero, 0);
     assert_eq!(rt; put, 0);
     assert_eq!(rt; got, (1, 46));
 }

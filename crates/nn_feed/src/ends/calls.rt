@@ -6,8 +6,9 @@ ghost use Rattle.nn_feed.specs.Passes.{ended_by, as_answer};
 
 use super::{Ending, FeedEnd, Feeder};
 use crate::fault::Refusal;
-use crate::rule::{Gets, InOrder, Log, Placed, Puts, Roles, Whole};
-use crossbeam_channel::{SendError, bounded_with};
+use crate::rule::{Gets, InOrder, Log, Placed, Roles, Whole};
+use crate::send::send;
+use crossbeam_channel::bounded_with;
 use nn_segment::{Item, SegmentSource, SourceFault};
 use std::alloc::{AllocError, Global};
 use std::sync::Wait;
@@ -110,20 +111,19 @@ impl Feeder {
             answer,
             place: self.count,
         };
-        match self.sender.send_as::<Puts, R>(rt, &mut self.pass, message) {
+        match send(rt, &self.sender, &mut self.pass, message) {
             Ok(()) => {
                 self.count += 1;
                 self.ended = last;
                 Ok(())
             }
-            Err(SendError::Disconnected(back)) => {
+            Err((back, failed)) => {
                 let Placed {
                     answer,
                     place: _place,
                 } = back;
-                Err(Refusal::Gone { answer })
+                Err(Refusal::Gone { answer, failed })
             }
-            Err(SendError::OutOfMemory(_)) => unreachable!(),
         }
     }
 }

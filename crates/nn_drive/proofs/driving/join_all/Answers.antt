@@ -2,7 +2,7 @@ use Rattle.std.specs.Prelude.{◌≡◌, ◌+◌, ◌<◌, ◌∷◌, [], true, 
 use Rattle.std.specs.Vec.Iter.{into_iter_items}
 use Rattle.std.proofs.Common.{rules, arith, subst, sym, ap, ◌∙◌, length-append}
 use Rattle.nn_tailer.proofs.Fetched.{any_default}
-use Rattle.nn_drive.specs.Driven.{IsJoined, ToldOne}
+use Rattle.nn_drive.specs.Driven.{IsJoined}
 use Rattle.nn_drive.proofs.Joins.{TellsOn, joined_more, told_more}
 use Rattle.nn_drive.proofs.driving.join_all.Goals as goal
 
@@ -43,7 +43,8 @@ loop-handle-preserved g c =
       (let q = ap length c.push_reserved.ensures.items ∙ length-append (vec_items c.loop-handle.reporters) (worked.reporter ∷ []) in omega (arith, q, was.2)),
       omega (arith, was.3, c.push_reserved.ensures.capacity),
       more,
-      told_more gives first ends place c.loop-handle.told c.still_told-told.result worked says handle here c.join-source.ensures c.index-ends-place.result (omega (arith, step.1, was.0, c.into_iter-handle-iterator.result.rest.ok.0)) in_ends was.5,
+      told_more gives first ends place c.loop-handle.told c.still_told-told.result worked says handle here c.join-source.ensures
+          (vec_items c.loop-handle.reporters) (vec_items c.push_reserved.new.self) was.2 c.push_reserved.ensures.items c.index-ends-place.result in_ends was.5,
     )
 
 pub returns : goal.returns
@@ -55,5 +56,5 @@ returns g c =
       size = was.2 ∙ sym all;
       each = λ i h e r below.
           subst (λ hs. IsJoined gives c.loop-handle.told (get_or hs i h) (get_or ends i e) (get_or reporters i r)) began.0 (was.4 i h e r (omega (arith, below, all)));
-      one = λ t. subst (λ hs. ToldOne gives hs ends) began.0 (was.5 t);
+      one = was.5;
     }

@@ -12,4 +12,4 @@ invariant-loop-handle g l =
     × (length (vec_items l.reporters) ≡ l.place)
     × (into_iter_len first ≤ vec_capacity l.reporters)
     × ((k : ℕ) (h : _) (e : Taking) (r : Reporting) → k < l.place → IsJoined g.S.ReportSource.gives l.told (get_or (into_iter_items first) k h) (get_or l.fn.ends k e) (get_or (vec_items l.reporters) k r))
-    × (l.told ≡ true → ToldOne g.S.ReportSource.gives (into_iter_items first) l.fn.ends)
+    × (l.told ≡ true → ToldOne l.fn.ends (vec_items l.reporters))

@@ -7,4 +7,4 @@ meet-met-requires c = (both_last AreOneLane _ _ _ _ _ _ c.in-Some.ensures.items 
 
 pub loop-end-preserved : goal.loop-end-preserved
 loop-end-preserved c = let a = c.in-Some.ensures.items in let b = c.in-Some-pop.ensures.items in let m = c.meet-met.ensures in
-    ((both_last AreOneLane _ _ _ _ _ _ a b c.loop-end.invariant.0).0, (λ h. c.loop-end.invariant.1 (both_again Agrees _ _ _ _ _ _ a b h (m.front, m.closed))))
+    ((both_last AreOneLane _ _ _ _ _ _ a b c.loop-end.invariant.0).0, (λ h. c.loop-end.invariant.1 (both_again Agrees _ _ _ _ _ _ a b h (m.front, m.closed, m.told))))

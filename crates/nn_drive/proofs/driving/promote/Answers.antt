@@ -1,7 +1,7 @@
 use Rattle.std.proofs.Common.{◌≡◌, ◌<◌, true, false, Err, sym, ◌∙◌, subst}
 use Rattle.nn_tailer.specs.Promotion.{NotPromoted, OnPromoteLogFault}
 use Rattle.nn_tailer.specs.declared.fault.PromoteFault.{PromoteFault}
-use Rattle.nn_drive.proofs.Steps.{begun_or_not, same_meets, promotion_may_come, ends_as}
+use Rattle.nn_drive.proofs.Steps.{begun_or_not, promotion_may_come, ends_as}
 use Rattle.nn_drive.proofs.driving.promote.Goals as goal
 
 pub returns-in-Ok-clause-ok : goal.returns-in-Ok-clause-ok
@@ -30,6 +30,3 @@ unreachable-requires-in-IntakeOpen g c =
     let p = c.in-Err.ensures.promotes in
     let not_closed = (subst (NotPromoted c.args.standby.now p.0 c.promote.new.self) c.in-IntakeOpen.is p.4).0 in
     let w : true ≡ false = sym c.requires.closed ∙ not_closed in cc
-
-pub returns-in-Step-clause-meets : goal.returns-in-Step-clause-meets
-returns-in-Step-clause-meets g c = same_meets c.in-Step.fault c.fault_of.result c.fault_of.ensures

@@ -11,10 +11,9 @@ use Rattle.nn_tailer.proofs.Logs.{ends_behind}
 use Rattle.nn_tailer.proofs.Shadowing.{settings_then}
 use Rattle.nn_feed.specs.Ends.{got_by, GivesWhatIsFed}
 use Rattle.nn_feed.specs.Feeds.{has_last}
-use Rattle.nn_drive.specs.declared.driving.DriveFault.TheVariants as drive
 use Rattle.nn_drive.specs.Driven.{JoinsAll, AreOneLane, Agrees, IsPromoted}
-use Rattle.nn_drive.proofs.Drives.{fit, was_told, one_lanes, has_ended, is_promoted}
-use Rattle.nn_drive.proofs.Fed.{same_then, same_asked, nothing_begun, fails_over, closed_over, still_meets}
+use Rattle.nn_drive.proofs.Drives.{fit, lanes_now, none_closed, one_lanes, is_promoted}
+use Rattle.nn_drive.proofs.Fed.{same_then, same_asked, nothing_begun, fails_over}
 use Rattle.nn_drive.proofs.Steps.{until_then}
 use Rattle.nn_drive.proofs.driving.run.Goals as goal
 
@@ -22,22 +21,14 @@ pub returns-then-not-all_started-clause-err : goal.returns-then-not-all_started-
 returns-then-not-all_started-clause-err g c =
     nothing_begun c.args.standby c.args.end.now c.args.end.now c.give_up.new.end (has_last (got_by c.args.end.now)) c.give_up.result c.give_up.ensures.known c.give_up.ensures.more
 
-pub returns-then-not-all_started-clause-told : goal.returns-then-not-all_started-clause-told
-returns-then-not-all_started-clause-told g c =
-    still_meets g.S.ReportSource.gives c.args.standby c.args.workers.items drive.OutOfMemory c.give_up.result (has_last (got_by c.args.end.now)) c.give_up.ensures.known tt
-
 pub returns-in-Err-clause-same : goal.returns-in-Err-clause-same
 returns-in-Err-clause-same g c =
     let e = c.engine.ensures.went in same_then c.args.end.now c.engine.new.source c.give_up-in-Err.new.end (same_asked c.args.end.now c.engine.new.source e.0 e.1) c.give_up-in-Err.ensures.same
 
 pub returns-in-Err-clause-err : goal.returns-in-Err-clause-err
 returns-in-Err-clause-err g c =
-    fails_over c.args.standby c.args.end.now c.engine.new.source c.give_up-in-Err.new.end (λ e. e.failures) c.in-Err.fault c.give_up-in-Err.result c.requires.serving c.in-Err.ensures.meets c.in-Err.ensures.until
+    fails_over c.args.standby c.args.end.now c.engine.new.source c.give_up-in-Err.new.end (λ e. e.failures) c.in-Err.fault c.give_up-in-Err.result c.requires.serving c.in-Err.ensures.until
     c.give_up-in-Err.ensures.known c.give_up-in-Err.ensures.more
-
-pub returns-in-Err-clause-told : goal.returns-in-Err-clause-told
-returns-in-Err-clause-told g c =
-    still_meets g.S.ReportSource.gives c.args.standby c.args.workers.items c.in-Err.fault c.give_up-in-Err.result (has_last (got_by c.engine.new.source)) c.give_up-in-Err.ensures.known c.in-Err.ensures.meets
 
 pub join_all-reporters-requires-clause-fit : goal.join_all-reporters-requires-clause-fit
 join_all-reporters-requires-clause-fit g c =
@@ -60,52 +51,42 @@ returns-in-Err-promote-clause-err g c =
     let carries : Carries x0 e.0 x2 = subst (λ rs. Carries x0 rs x2) (append-nil e.0) (carries_then x0 c.engine.new.standby x2 e.0 [] e.2.carries c.close_intake.ensures.carries) in
     let begun : has_begun x2 ≡ false = ap has_begun c.close_intake.ensures.rest ∙ e.2.begun ∙ c.requires.serving in
     let until = until_then GivesWhatIsFed (λ e. e.failures) c.args.end.now c.engine.new.source c.promote.new.source x0 x2 e.0 c.in-Err-promote.fault e.1 carries begun e.3 c.in-Err-promote.ensures.err in
-    fails_over x0 c.args.end.now c.promote.new.source c.give_up-in-Err-promote.new.end (λ e. e.failures) c.in-Err-promote.fault c.give_up-in-Err-promote.result c.requires.serving c.in-Err-promote.ensures.meets until
+    fails_over x0 c.args.end.now c.promote.new.source c.give_up-in-Err-promote.new.end (λ e. e.failures) c.in-Err-promote.fault c.give_up-in-Err-promote.result c.requires.serving until
     c.give_up-in-Err-promote.ensures.known c.give_up-in-Err-promote.ensures.more
-
-pub returns-in-Err-promote-clause-told : goal.returns-in-Err-promote-clause-told
-returns-in-Err-promote-clause-told g c =
-    still_meets g.S.ReportSource.gives c.args.standby c.args.workers.items c.in-Err-promote.fault c.give_up-in-Err-promote.result (has_last (got_by c.promote.new.source)) c.give_up-in-Err-promote.ensures.known
-    c.in-Err-promote.ensures.meets
 
 pub meet_all-requires : goal.meet_all-requires
 meet_all-requires g c =
     let gives = g.S.ReportSource.gives in let workers = c.args.workers.items in let handles = vec_items c.start_all-handles.result in
+    let x0 = c.args.standby in let x1 = c.engine.new.standby in
+    let e = c.engine.ensures.went in let parts = c.into_parts-shadow.ensures in
+    let reporters = c.join_all-reporters.result.0.items in let told = c.join_all-reporters.result.1 in
+    let all : length c.args.workers.items ≤ length (vec_items c.start_all-handles.result) = omega (arith, c.if-not-all_started.ensures, c.len-count.ensures, c.len-started.ensures, c.args.workers.ok.0, c.start_all-handles.result.ok.0) in
+    let joins : JoinsAll gives handles x1.ends reporters told = subst (λ (es : List Taking). JoinsAll gives handles es reporters told) c.ends.ensures c.join_all-reporters.ensures in
+    subst (λ (es : List Taking). AllZip AreOneLane es reporters) (sym parts.1)
+    (lanes_now gives workers handles c.start_all-handles.ensures all x0 x1 c.requires.lanes e.0 e.2 reporters told joins)
+
+-- where they met, no reporter was told of a close
+pub unreachable-requires : goal.unreachable-requires
+unreachable-requires g c =
+    let gives = g.S.ReportSource.gives in let workers = c.args.workers.items in let handles = vec_items c.start_all-handles.result in
+    let x0 = c.args.standby in let x1 = c.engine.new.standby in
+    let e = c.engine.ensures.went in let parts = c.into_parts-shadow.ensures in
+    let reporters = c.join_all-reporters.result.0.items in let told = c.join_all-reporters.result.1 in
+    let all : length c.args.workers.items ≤ length (vec_items c.start_all-handles.result) = omega (arith, c.if-not-all_started.ensures, c.len-count.ensures, c.len-started.ensures, c.args.workers.ok.0, c.start_all-handles.result.ok.0) in
+    let joins : JoinsAll gives handles x1.ends reporters told = subst (λ (es : List Taking). JoinsAll gives handles es reporters told) c.ends.ensures c.join_all-reporters.ensures in
+    none_closed gives workers handles c.start_all-handles.ensures all x0 x1 c.requires.lanes e.0 e.2 reporters told joins
+    (subst (λ (es : List Taking). AllZip Agrees es reporters) parts.1 c.meet_all.ensures) c.if-told.true
+
+pub meet_all-requires-2 : goal.meet_all-requires-2
+meet_all-requires-2 g c =
+    let gives = g.S.ReportSource.gives in let workers = c.args.workers.items in let handles = vec_items c.start_all-handles.result in
     let x0 = c.args.standby in let x1 = c.engine.new.standby in let x2 = c.close_intake.new.self in let x3 = c.promote.new.standby in
-    let e = c.engine.ensures.went in let p = c.in-Ok.ensures.ok in let parts = c.into_parts-shadow.ensures in
+    let e = c.engine.ensures.went in let p = c.in-Ok.ensures.ok in let parts = c.into_parts-shadow-2.ensures in
     let reporters = c.join_all-reporters.result.0.items in let told = c.join_all-reporters.result.1 in
     let all : length c.args.workers.items ≤ length (vec_items c.start_all-handles.result) = omega (arith, c.if-not-all_started.ensures, c.len-count.ensures, c.len-started.ensures, c.args.workers.ok.0, c.start_all-handles.result.ok.0) in
     let joins : JoinsAll gives handles x1.ends reporters told = subst (λ (es : List Taking). JoinsAll gives handles es reporters told) c.ends.ensures c.join_all-reporters.ensures in
     subst (λ (es : List Taking). AllZip AreOneLane es reporters) (sym parts.1)
     (one_lanes gives workers handles c.start_all-handles.ensures all x0 x1 c.requires.lanes e.0 e.2 reporters told joins x2 x3 c.close_intake.ensures.ends c.close_intake.ensures.carries p.2)
-
-pub returns-then-told-clause-same : goal.returns-then-told-clause-same
-returns-then-told-clause-same g c =
-    let e = c.engine.ensures.went in let p = c.in-Ok.ensures.ok in
-    same_then c.args.end.now c.engine.new.source c.promote.new.source (same_asked c.args.end.now c.engine.new.source e.0 e.1) (same_asked c.engine.new.source c.promote.new.source p.0 p.1)
-
-pub returns-then-told-clause-err : goal.returns-then-told-clause-err
-returns-then-told-clause-err g c =
-    let gives = g.S.ReportSource.gives in let workers = c.args.workers.items in let handles = vec_items c.start_all-handles.result in
-    let x0 = c.args.standby in let x1 = c.engine.new.standby in let x2 = c.close_intake.new.self in let x3 = c.promote.new.standby in
-    let e = c.engine.ensures.went in let p = c.in-Ok.ensures.ok in let parts = c.into_parts-shadow.ensures in
-    let reporters = c.join_all-reporters.result.0.items in let told = c.join_all-reporters.result.1 in
-    let all : length c.args.workers.items ≤ length (vec_items c.start_all-handles.result) = omega (arith, c.if-not-all_started.ensures, c.len-count.ensures, c.len-started.ensures, c.args.workers.ok.0, c.start_all-handles.result.ok.0) in
-    let joins : JoinsAll gives handles x1.ends reporters told = subst (λ (es : List Taking). JoinsAll gives handles es reporters told) c.ends.ensures c.join_all-reporters.ensures in
-    closed_over x0 c.args.end.now c.promote.new.source c.promote.new.source (e.0 ++ p.0)
-    (asked_append GivesWhatIsFed c.args.end.now c.engine.new.source c.promote.new.source e.0 p.0 e.1 p.1)
-    (ends_behind e.0 p.0 p.7)
-    (has_ended gives workers handles c.start_all-handles.ensures all x0 x1 c.requires.lanes e.0 e.2 reporters told joins x2 x3 c.close_intake.ensures.ends c.close_intake.ensures.carries p.2 p.0 p.4)
-
-pub returns-then-told-clause-told : goal.returns-then-told-clause-told
-returns-then-told-clause-told g c =
-    let gives = g.S.ReportSource.gives in let workers = c.args.workers.items in let handles = vec_items c.start_all-handles.result in
-    let x0 = c.args.standby in let x1 = c.engine.new.standby in let x2 = c.close_intake.new.self in let x3 = c.promote.new.standby in
-    let e = c.engine.ensures.went in let p = c.in-Ok.ensures.ok in let parts = c.into_parts-shadow.ensures in
-    let reporters = c.join_all-reporters.result.0.items in let told = c.join_all-reporters.result.1 in
-    let all : length c.args.workers.items ≤ length (vec_items c.start_all-handles.result) = omega (arith, c.if-not-all_started.ensures, c.len-count.ensures, c.len-started.ensures, c.args.workers.ok.0, c.start_all-handles.result.ok.0) in
-    let joins : JoinsAll gives handles x1.ends reporters told = subst (λ (es : List Taking). JoinsAll gives handles es reporters told) c.ends.ensures c.join_all-reporters.ensures in
-    was_told gives workers handles c.start_all-handles.ensures all x0 x1 c.requires.lanes e.0 e.2 reporters told joins c.if-told.true
 
 pub returns-clause-same : goal.returns-clause-same
 returns-clause-same g c =
@@ -116,11 +97,11 @@ pub returns-clause-ok : goal.returns-clause-ok
 returns-clause-ok g c =
     let gives = g.S.ReportSource.gives in let workers = c.args.workers.items in let handles = vec_items c.start_all-handles.result in
     let x0 = c.args.standby in let x1 = c.engine.new.standby in let x2 = c.close_intake.new.self in let x3 = c.promote.new.standby in
-    let e = c.engine.ensures.went in let p = c.in-Ok.ensures.ok in let parts = c.into_parts-shadow.ensures in
+    let e = c.engine.ensures.went in let p = c.in-Ok.ensures.ok in let parts = c.into_parts-shadow-2.ensures in
     let reporters = c.join_all-reporters.result.0.items in let told = c.join_all-reporters.result.1 in
     let all : length c.args.workers.items ≤ length (vec_items c.start_all-handles.result) = omega (arith, c.if-not-all_started.ensures, c.len-count.ensures, c.len-started.ensures, c.args.workers.ok.0, c.start_all-handles.result.ok.0) in
     let joins : JoinsAll gives handles x1.ends reporters told = subst (λ (es : List Taking). JoinsAll gives handles es reporters told) c.ends.ensures c.join_all-reporters.ensures in
-    let agree = subst (λ (es : List Taking). AllZip Agrees es reporters) parts.1 c.meet_all.ensures in
+    let agree = subst (λ (es : List Taking). AllZip Agrees es reporters) parts.1 c.meet_all-2.ensures in
     record {
       answers = e.0 ++ p.0;
       asked = asked_append GivesWhatIsFed c.args.end.now c.engine.new.source c.promote.new.source e.0 p.0 e.1 p.1;

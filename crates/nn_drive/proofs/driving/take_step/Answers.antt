@@ -1,4 +1,4 @@
-use Rattle.nn_drive.proofs.Steps.{step_may_come, same_meets, one_step, one_fault}
+use Rattle.nn_drive.proofs.Steps.{step_may_come, one_step, one_fault}
 use Rattle.nn_drive.proofs.driving.take_step.Goals as goal
 
 pub fault_of-requires : goal.fault_of-requires
@@ -17,6 +17,3 @@ pub returns-in-Err-clause-until : goal.returns-in-Err-clause-until
 returns-in-Err-clause-until g c =
     let h = c.in-Err.ensures in
     one_fault g.T.SegmentSource.gives g.T.SegmentSource.failures c.args.source.now c.step.new.source c.args.standby.now c.step.new.self c.args.choice c.in-Err.fault c.fault_of.result h.steps h.failed h.counted c.fault_of.ensures
-
-pub returns-in-Err-clause-meets : goal.returns-in-Err-clause-meets
-returns-in-Err-clause-meets g c = same_meets c.in-Err.fault c.fault_of.result c.fault_of.ensures

@@ -1,7 +1,7 @@
 use Rattle.std.proofs.Common.{true, refl, codes}
 use Rattle.nn_engine.specs.Run.{fault_alone, running}
 use Rattle.nn_engine.specs.Shown.{shown}
-use Rattle.nn_engine.proofs.WriteLemmas.{writes, writes_unread, is_output_of_all, is_no_memory, is_closed}
+use Rattle.nn_engine.proofs.WriteLemmas.{writes, writes_unread, is_output_of_all, is_no_memory}
 use Rattle.nn_engine.proofs.threads.run_threads.Goals as goal
 
 pub returns-in-Err : goal.returns-in-Err
@@ -22,20 +22,11 @@ returns-in-Ok-output_by_threads g c =
     c.finish-in-Ok-output_by_threads.ensures.ok c.finish-in-Ok-output_by_threads.ensures.err in
     record { written = w.written; failed = w.failed }
 
-pub returns-in-Err-OutOfMemory : goal.returns-in-Err-OutOfMemory
-returns-in-Err-OutOfMemory g c =
+pub returns-in-Err-output_by_threads : goal.returns-in-Err-output_by_threads
+returns-in-Err-output_by_threads g c =
     let given = running c.args.asked.now.options true (g.I.Read.remaining c.args.input.now.reader) (g.I.Read.remaining c.read_scenario.new.input.reader)
     c.args.input.now.failed c.read_scenario.new.input.failed in
-    let w = writes given c.finish-in-Err-OutOfMemory.result (g.W.Write.contents c.args.writer.now) (g.W.Write.contents c.finish-in-Err-OutOfMemory.new.writer)
+    let w = writes given c.finish-in-Err-output_by_threads.result (g.W.Write.contents c.args.writer.now) (g.W.Write.contents c.finish-in-Err-output_by_threads.new.writer)
     (fault_alone (codes "55")) _ _ refl refl (is_no_memory given c.in-Ok.ensures.none_failed)
-    c.finish-in-Err-OutOfMemory.ensures.ok c.finish-in-Err-OutOfMemory.ensures.err in
-    record { written = w.written; failed = w.failed }
-
-pub returns-in-Err-Closed : goal.returns-in-Err-Closed
-returns-in-Err-Closed g c =
-    let given = running c.args.asked.now.options true (g.I.Read.remaining c.args.input.now.reader) (g.I.Read.remaining c.read_scenario.new.input.reader)
-    c.args.input.now.failed c.read_scenario.new.input.failed in
-    let w = writes given c.finish-in-Err-Closed.result (g.W.Write.contents c.args.writer.now) (g.W.Write.contents c.finish-in-Err-Closed.new.writer)
-    (fault_alone (codes "42")) _ _ refl refl (is_closed given refl c.in-Ok.ensures.none_failed)
-    c.finish-in-Err-Closed.ensures.ok c.finish-in-Err-Closed.ensures.err in
+    c.finish-in-Err-output_by_threads.ensures.ok c.finish-in-Err-output_by_threads.ensures.err in
     record { written = w.written; failed = w.failed }

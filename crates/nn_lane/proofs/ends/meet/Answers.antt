@@ -8,7 +8,7 @@ load-requires c = let i = c.reporter.invariant in
     let same = ap (λ r. r.lane.table) c.reporter.view_is ∙ sym (ap (λ l. l.table) c.requires) ∙ sym (ap (λ e. e.lane.table) c.end.view_is) ∙ c.end.invariant.seated ∙ sym (ap (λ t. t.shared.table_id) c.deref.ensures) in (
       same,
       search rules,
-      gives _ _ c.reporter.inside.seat c.reporter.inside.accepted (ap (λ z. z.slots) same) i.count c.reporter.inside.prepared i.ready i.sends i.takes,
+      gives _ _ c.reporter.inside.seat c.reporter.inside.accepted c.reporter.inside.limit (ap (λ z. z.slots) same) i.count i.room i.sends i.takes,
     )
 
 pub load-requires-2 : goal.load-requires-2

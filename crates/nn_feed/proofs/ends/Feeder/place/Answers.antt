@@ -2,18 +2,12 @@ use Rattle.std.proofs.Common.{arith, ap, ◌∙◌, sym}
 use Rattle.std.proofs.lemmas.Bool.Decides.{nat_tests}
 use Rattle.nn_feed.specs.Feeds.{has_last, placed}
 use Rattle.nn_feed.specs.Passes.{put_in}
-use Rattle.nn_feed.proofs.Keeps.{puts, learns_nothing}
 use Rattle.nn_feed.proofs.Feeds.{has_last_push}
 use Rattle.nn_feed.proofs.ends.Feeder.place.Goals as goal
 use Rattle.nn_feed.proofs.ends.Feeder.place.Goals.{then-not-last, else-not-last}
 
-pub send_as-requires-clause-rule : goal.send_as-requires-clause-rule
-send_as-requires-clause-rule g c =
-    let self = c.args.self.now in (
-      puts _ _ _ c.args.answer self.count self.role self.counted (sym self.told ∙ c.if-self.false)
-          (λ segment. elim c.if-not-last.branch [ then-not-last w ↦ grind (arith, nat_tests) | else-not-last w ↦ grind (arith, nat_tests) ]),
-      learns_nothing _ _,
-    )
+pub send-requires-clause-few : goal.send-requires-clause-few
+send-requires-clause-few g c segment = elim c.if-not-last.branch [ then-not-last w ↦ grind (arith, nat_tests) | else-not-last w ↦ grind (arith, nat_tests) ]
 
 pub invariant_of-self-clause-told : goal.invariant_of-self-clause-told
 invariant_of-self-clause-told g c =

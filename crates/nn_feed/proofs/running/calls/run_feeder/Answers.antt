@@ -3,7 +3,7 @@ use Rattle.nn_segment.specs.Source.{given, end}
 use Rattle.nn_segment.proofs.Asks.{asked_again, asked_more}
 use Rattle.nn_feed.specs.Ends.{put_by}
 use Rattle.nn_feed.specs.Feeds.{answers_of}
-use Rattle.nn_feed.proofs.Runs.{one_more, one_last_more, came_back}
+use Rattle.nn_feed.proofs.Runs.{one_more, one_last_more, came_back, was_refused}
 use Rattle.nn_feed.proofs.running.calls.run_feeder.Goals as goal
 
 pub returns-in-Ok-clause-fed : goal.returns-in-Ok-clause-fed
@@ -26,12 +26,12 @@ returns-in-Err-put-clause-fed g c =
     let refused = c.in-Err-put.ensures.refused in
     let back = came_back (put_by c.items.feeder) end c.in-Err-put.refusal refused.1 in
     let last = subst (λ a. gives c.items.source a c.next-in-items.new.self) (sym back) gave in
-    (segments, (asked_again gives c.args.source.now c.items.source c.next-in-items.new.self (map given segments) _ so_far.1 last, subst (λ a. OnErr a ⊥) (sym back) tt, ap answers_of refused.0 ∙ so_far.2))
+    (segments, (asked_again gives c.args.source.now c.items.source c.next-in-items.new.self (map given segments) _ so_far.1 last, subst (λ a. OnErr a ⊥) (sym back) tt, was_refused (put_by c.items.feeder) _ end c.in-Err-put.refusal refused.0 back refused.1, ap answers_of refused.0 ∙ so_far.2))
 
 pub returns-in-Err-clause-fed : goal.returns-in-Err-clause-fed
 returns-in-Err-clause-fed g c =
     let so_far = c.items.invariant.put in let segments = so_far.0 in
-    (segments, (asked_again g.S.SegmentSource.gives c.args.source.now c.items.source c.next-in-items.new.self (map given segments) (Err c.in-Err.fault) so_far.1 c.in-Err.ensures.gives, tt, so_far.2))
+    (segments, (asked_again g.S.SegmentSource.gives c.args.source.now c.items.source c.next-in-items.new.self (map given segments) (Err c.in-Err.fault) so_far.1 c.in-Err.ensures.gives, tt, tt, so_far.2))
 
 pub returns-in-Err-put-2-clause-fed : goal.returns-in-Err-put-2-clause-fed
 returns-in-Err-put-2-clause-fed g c =
@@ -41,7 +41,7 @@ returns-in-Err-put-2-clause-fed g c =
     let refused = c.in-Err-put-2.ensures.refused in
     let back = came_back (put_by c.items.feeder) (given x) c.in-Err-put-2.refusal refused.1 in
     let last = subst (λ a. gives c.items.source a c.next-in-items.new.self) (sym back) gave in
-    (segments, (asked_again gives c.args.source.now c.items.source c.next-in-items.new.self (map given segments) _ so_far.1 last, subst (λ a. OnErr a ⊥) (sym back) tt, ap answers_of refused.0 ∙ so_far.2))
+    (segments, (asked_again gives c.args.source.now c.items.source c.next-in-items.new.self (map given segments) _ so_far.1 last, subst (λ a. OnErr a ⊥) (sym back) tt, was_refused (put_by c.items.feeder) _ (given x) c.in-Err-put-2.refusal refused.0 back refused.1, ap answers_of refused.0 ∙ so_far.2))
 
 pub items-preserved : goal.items-preserved
 items-preserved g c =

@@ -1,10 +1,19 @@
-use Rattle.std.proofs.Common.{rules, sym, ap, ◌∙◌}
-use Rattle.nn_lane.proofs.Readies.{loads}
+use Rattle.std.proofs.Common.{rules}
+use Rattle.nn_lane.proofs.Readies.{still_holds}
 use Rattle.nn_lane.proofs.ends.Reporter.prepare.Goals as goal
 
-pub load-taken-requires : goal.load-taken-requires
-load-taken-requires c = let i = c.self.invariant in (
-  search rules,
-  search rules,
-  loads _ _ c.self.inside.seat c.self.inside.accepted (ap (λ z. z.slots) i.seated ∙ sym (ap (λ t. t.shared.table_id.slots) c.deref-table.ensures)) i.count c.self.inside.prepared i.ready i.sends i.takes,
-)
+pub invariant_of-self-2 : goal.invariant_of-self-2
+invariant_of-self-2 c = let i = c.self.invariant in let p = c.in-Ok.ensures in let x = c.exchange.ensures in record {
+  seated = search rules;
+  words = search rules;
+  some_slot = search rules;
+  few = search rules;
+  sends = search rules;
+  takes = search rules;
+  room = still_holds c.places.new.seat _ c.self.inside.accepted c.in-Ok.limit _ _ x.0 x.3 (search rules) (search rules) (search rules);
+  ready = search rules;
+  node = search rules;
+  count = search rules;
+  most = search rules;
+  told_is = search rules;
+}

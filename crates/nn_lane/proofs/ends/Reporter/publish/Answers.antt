@@ -8,6 +8,6 @@ pub compare_exchange_with-found-requires : goal.compare_exchange_with-found-requ
 compare_exchange_with-found-requires c = let i = c.self.invariant in (
   search rules,
   search rules,
-  publishes _ _ c.self.inside.seat c.self.inside.accepted (ap (λ z. z.slots) i.seated ∙ sym (ap (λ t. t.shared.table_id.slots) c.deref.ensures)) i.count c.in-Some.message
+  publishes _ _ c.self.inside.seat c.self.inside.accepted c.self.inside.limit (ap (λ z. z.slots) i.seated ∙ sym (ap (λ t. t.shared.table_id.slots) c.deref.ensures)) i.count c.in-Some.message
       (subst (λ (p : Option Message). Ready p c.self.inside.seat c.self.inside.accepted) c.in-Some.is i.ready) i.sends i.takes,
 )

@@ -1,5 +1,5 @@
 -- A standby that goes on, step by step.
-use Rattle.std.proofs.Common.{◌≡◌, ℕ, ◌+◌, ◌<◌, ◌≤◌, true, false, List, [], ◌∷◌, ◌++◌, length, Bool, Option, Result, Some, None, Ok, Err, refl, sym, ap, ◌∙◌, subst, arith, append_assoc}
+use Rattle.std.proofs.Common.{◌≡◌, ℕ, ◌+◌, ◌<◌, ◌≤◌, true, false, List, [], ◌∷◌, ◌++◌, length, Bool, Option, Result, Some, None, Err, refl, sym, ap, ◌∙◌, subst, arith, append_assoc}
 use Rattle.nn_segment.specs.Source.{Answer, Asked}
 use Rattle.nn_segment.proofs.Asks.{asked_append}
 use Rattle.std.specs.Prelude.{option_map}

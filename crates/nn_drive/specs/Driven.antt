@@ -12,7 +12,7 @@ use Rattle.nn_model.specs.Stands.{Stands, tables_of}
 use Rattle.nn_shadow.specs.Contents.{Contents, standby_of, KeepsSettings}
 use Rattle.nn_segment.specs.Source.{Answer, Asked}
 use Rattle.nn_segment.specs.Walk.{log_in}
-use Rattle.nn_segment.specs.LogEnd.{LogEnd, end_of_log, given_in}
+use Rattle.nn_segment.specs.LogEnd.{end_of_log, given_in}
 use Rattle.nn_tailer.specs.Promotion.{IsPromoted as Promotes}
 use Rattle.nn_tailer.specs.Reads.{EndsInFault}
 use Rattle.nn_drive.specs.declared.driving.DriveFault.{DriveFault}

@@ -11,14 +11,15 @@ use Rattle.json.specs.Text.{content, code_unit}
 use Rattle.json.specs.Word.{word, after_number}
 use Rattle.serde_json.specs.Read.{number_of}
 use Rattle.nn_types.specs.declared.edit.Edit.{Edit}
-use Rattle.nn_types.specs.declared.edit.Edit.TheVariants.{StartSegment, EndSegment, Mkdir, Add, AddBlock, UpdateBlocks, Close, Rename, Delete, SetReplication, AllocateBlockId, SetGenstamp}
+use Rattle.nn_types.specs.declared.edit.Edit.TheVariants.{StartSegment, EndSegment, Mkdir, Add, AddBlock, UpdateBlocks, Close, Append, Rename, Delete, SetReplication, AllocateBlockId, SetGenstamp}
 use Rattle.nn_types.specs.declared.report.Kind.TheVariants.{Receiving, Received, Deleted}
 use Rattle.nn_types.specs.declared.tx.Tx.{Tx}
+use Rattle.nn_types.specs.declared.profile.Profile.TheVariants.{One, Two}
 use Rattle.nn_edits.specs.declared.fault.LineFault.{LineFault}
 use Rattle.nn_edits.specs.declared.line.Line.{Line}
 use Rattle.nn_edits.specs.declared.line.Line.TheVariants as either
 use Rattle.nn_edits.specs.Fault.{number_of as fault_number}
-use Rattle.nn_edits.specs.Reading.{edit_of_line, either_of_line, object_in, value_of, either_in, tx_in, op_in, op_of, txid_in, whole_in, number_in, path_in, edit_in, block_in, items_in, blocks_in, report_in, dn_in, kind_in, kind_of}
+use Rattle.nn_edits.specs.Reading.{edit_of_line, either_of_line, object_in, value_of, either_in, tx_in, op_in, op_of, txid_in, whole_in, number_in, path_in, profile_in, edit_in, block_in, items_in, blocks_in, report_in, dn_in, kind_in, kind_of}
 
 -- the number of a line's first fault, or 0
 abbrev fault : Result Line LineFault → ℕ
@@ -38,13 +39,41 @@ marks_and_paths : map edit_of_line (
     ∷ codes "{\"op\":\"OP_MKDIR\",\"path\":\"/a/b\",\"txid\":2}"
     ∷ codes "{\"op\":\"OP_DELETE\",\"path\":\"/\",\"txid\":2}"
     ∷ codes "{\"op\":\"OP_RENAME\",\"src\":\"/a\",\"dst\":\"/f\",\"txid\":2}" ∷ [])
-    ≡ is StartSegment
+    ≡ is (StartSegment One)
     ∷ is EndSegment
     ∷ is (Mkdir (codes "a" ∷ codes "b" ∷ []))
     ∷ is (Delete [])
     ∷ is (Rename (codes "a" ∷ []) (codes "f" ∷ [])) ∷ []
-unfolding edit_of_line object_in value_of tx_in op_in op_of txid_in whole_in number_in path_in edit_in blocks_in items_in block_in is_utf8 chars encode value punctuate lex content word after_number number_of scan_numeral
+unfolding edit_of_line object_in value_of tx_in op_in op_of txid_in whole_in number_in path_in profile_in edit_in blocks_in items_in block_in is_utf8 chars encode value punctuate lex content word after_number number_of scan_numeral
 marks_and_paths = refl
+
+-- A start mark may name its profile. No other line is asked for one.
+profiles : map edit_of_line (
+    codes "{\"op\":\"OP_START_LOG_SEGMENT\",\"profile\":1,\"txid\":2}"
+    ∷ codes "{\"op\":\"OP_START_LOG_SEGMENT\",\"profile\":2,\"txid\":2}"
+    ∷ codes "{\"op\":\"OP_END_LOG_SEGMENT\",\"profile\":3,\"txid\":2}"
+    ∷ codes "{\"op\":\"OP_APPEND\",\"path\":\"/f\",\"profile\":null,\"txid\":2}" ∷ [])
+    ≡ is (StartSegment One) ∷ is (StartSegment Two) ∷ is EndSegment ∷ is (Append (codes "f" ∷ [])) ∷ []
+unfolding edit_of_line object_in value_of tx_in op_in op_of txid_in whole_in number_in path_in profile_in edit_in blocks_in items_in block_in is_utf8 chars encode value punctuate lex content word after_number number_of scan_numeral
+profiles = refl
+
+no_profiles : faults (
+    codes "{\"op\":\"OP_START_LOG_SEGMENT\",\"profile\":0,\"txid\":2}"
+    ∷ codes "{\"op\":\"OP_START_LOG_SEGMENT\",\"profile\":3,\"txid\":2}"
+    ∷ codes "{\"op\":\"OP_START_LOG_SEGMENT\",\"profile\":null,\"txid\":2}"
+    ∷ codes "{\"op\":\"OP_START_LOG_SEGMENT\",\"profile\":\"1\",\"txid\":2}" ∷ [])
+    ≡ 3 ∷ 3 ∷ 3 ∷ 3 ∷ []
+unfolding either_of_line either_in report_in dn_in kind_in kind_of object_in value_of tx_in op_in op_of txid_in whole_in number_in path_in profile_in edit_in blocks_in items_in block_in is_utf8 chars encode value punctuate lex content word after_number number_of scan_numeral
+no_profiles = refl
+
+-- The txid is checked before the profile.
+txid_before_profile : faults (
+    codes "{\"op\":\"OP_START_LOG_SEGMENT\",\"profile\":3}"
+    ∷ codes "{\"op\":\"OP_START_LOG_SEGMENT\",\"profile\":2,\"txid\":null}"
+    ∷ codes "{\"op\":\"OP_START_LOG_SEGMENT\",\"txid\":0}" ∷ [])
+    ≡ 2 ∷ 3 ∷ 3 ∷ []
+unfolding either_of_line either_in report_in dn_in kind_in kind_of object_in value_of tx_in op_in op_of txid_in whole_in number_in path_in profile_in edit_in blocks_in items_in block_in is_utf8 chars encode value punctuate lex content word after_number number_of scan_numeral
+txid_before_profile = refl
 
 files : map edit_of_line (
     codes "{\"op\":\"OP_ADD\",\"path\":\"/f\",\"replication\":3,\"txid\":2}"
@@ -57,7 +86,7 @@ files : map edit_of_line (
     ∷ is (AllocateBlockId 1073741825)
     ∷ is (SetGenstamp 1001)
     ∷ is (AddBlock (codes "f" ∷ []) 1073741825 1001) ∷ []
-unfolding edit_of_line object_in value_of tx_in op_in op_of txid_in whole_in number_in path_in edit_in blocks_in items_in block_in is_utf8 chars encode value punctuate lex content word after_number number_of scan_numeral
+unfolding edit_of_line object_in value_of tx_in op_in op_of txid_in whole_in number_in path_in profile_in edit_in blocks_in items_in block_in is_utf8 chars encode value punctuate lex content word after_number number_of scan_numeral
 files = refl
 
 lists_of_blocks : map edit_of_line (
@@ -65,14 +94,14 @@ lists_of_blocks : map edit_of_line (
     ∷ codes "{\"op\":\"OP_CLOSE\",\"path\":\"/f\",\"blocks\":[{\"id\":1073741825,\"gen\":1001,\"len\":5},{\"id\":1073741826,\"gen\":1002,\"len\":0}],\"txid\":2}" ∷ [])
     ≡ is (UpdateBlocks (codes "f" ∷ []) [])
     ∷ is (Close (codes "f" ∷ []) (record { id = 1073741825; stamp = 1001; len = 5 } ∷ record { id = 1073741826; stamp = 1002; len = 0 } ∷ [])) ∷ []
-unfolding edit_of_line object_in value_of tx_in op_in op_of txid_in whole_in number_in path_in edit_in blocks_in items_in block_in is_utf8 chars encode value punctuate lex content word after_number number_of scan_numeral
+unfolding edit_of_line object_in value_of tx_in op_in op_of txid_in whole_in number_in path_in profile_in edit_in blocks_in items_in block_in is_utf8 chars encode value punctuate lex content word after_number number_of scan_numeral
 lists_of_blocks = refl
 
 -- Keys come in any order, others may stand beside them, and the last of a repeated key is taken.
 other_members : map edit_of_line (
     codes " { \"txid\" : 2 , \"x\" : [1e3, {\"op\":null}] , \"path\":\"/b\",\"op\":\"OP_MKDIR\",\"path\":\"/a\" } " ∷ [])
     ≡ is (Mkdir (codes "a" ∷ [])) ∷ []
-unfolding edit_of_line object_in value_of tx_in op_in op_of txid_in whole_in number_in path_in edit_in blocks_in items_in block_in is_utf8 chars encode value punctuate lex content word after_number number_of scan_numeral float_is_finite round
+unfolding edit_of_line object_in value_of tx_in op_in op_of txid_in whole_in number_in path_in profile_in edit_in blocks_in items_in block_in is_utf8 chars encode value punctuate lex content word after_number number_of scan_numeral float_is_finite round
 other_members = refl
 
 -- A line without `op` is a report.
@@ -85,7 +114,7 @@ reports : map either_of_line (
     ∷ Ok (either.Report (record { dn = 1; block = 0; stamp = 0; len = 0; kind = Received }))
     ∷ Ok (either.Report (record { dn = 256; block = 5; stamp = 6; len = 8; kind = Deleted }))
     ∷ Ok (either.Edit (record { txid = 2; edit = EndSegment })) ∷ []
-unfolding either_of_line either_in report_in dn_in kind_in kind_of object_in value_of tx_in op_in op_of txid_in whole_in number_in path_in edit_in blocks_in items_in block_in is_utf8 chars encode value punctuate lex content word after_number number_of scan_numeral
+unfolding either_of_line either_in report_in dn_in kind_in kind_of object_in value_of tx_in op_in op_of txid_in whole_in number_in path_in profile_in edit_in blocks_in items_in block_in is_utf8 chars encode value punctuate lex content word after_number number_of scan_numeral
 reports = refl
 
 -- The first fault: no JSON object comes first, then the operation.
@@ -96,11 +125,11 @@ before_the_txid : faults (
     ∷ codes "{\"op\":\"OP_MKDIR\",\"zz\":1e400}"
     ∷ codes "{\"op\":\"OP_MKDIR\",\"zz\":\"\\ud800\"}"
     ∷ codes "{\"op\":\"OP_FOO\"}"
-    ∷ codes "{\"op\":\"OP_APPEND\",\"path\":\"/a\",\"txid\":2}"
+    ∷ codes "{\"op\":\"OP_TRUNCATE\",\"path\":\"/a\",\"txid\":2}"
     ∷ codes "{\"op\":\"OP_mkdir\",\"path\":\"/a\",\"txid\":2}"
     ∷ codes "{\"op\":null,\"block\":9,\"dn\":1,\"gen\":1,\"kind\":\"received\",\"len\":0}" ∷ [])
     ≡ 1 ∷ 1 ∷ 1 ∷ 1 ∷ 1 ∷ 4 ∷ 4 ∷ 4 ∷ 4 ∷ []
-unfolding either_of_line either_in report_in dn_in kind_in kind_of object_in value_of tx_in op_in op_of txid_in whole_in number_in path_in edit_in blocks_in items_in block_in is_utf8 chars encode value punctuate lex content code_unit word after_number number_of scan_numeral float_is_finite round
+unfolding either_of_line either_in report_in dn_in kind_in kind_of object_in value_of tx_in op_in op_of txid_in whole_in number_in path_in profile_in edit_in blocks_in items_in block_in is_utf8 chars encode value punctuate lex content code_unit word after_number number_of scan_numeral float_is_finite round
 before_the_txid = refl
 
 -- What no operation asks for has to be JSON all the same.
@@ -121,7 +150,7 @@ under_other_keys : faults (
     ∷ codes "{\"op\":\"OP_START_LOG_SEGMENT\",\"txid\":1,\"zz\":{\"z\"}}"
     ∷ codes "{\"op\":\"OP_START_LOG_SEGMENT\",\"txid\":1} 5" ∷ [])
     ≡ 0 ∷ 1 ∷ 1 ∷ 1 ∷ 1 ∷ 1 ∷ 1 ∷ 0 ∷ 0 ∷ 1 ∷ 1 ∷ 1 ∷ 1 ∷ 1 ∷ 1 ∷ []
-unfolding either_of_line either_in report_in dn_in kind_in kind_of object_in value_of tx_in op_in op_of txid_in whole_in number_in path_in edit_in blocks_in items_in block_in is_utf8 chars encode value punctuate lex content code_unit word after_number number_of scan_numeral float_is_finite round
+unfolding either_of_line either_in report_in dn_in kind_in kind_of object_in value_of tx_in op_in op_of txid_in whole_in number_in path_in profile_in edit_in blocks_in items_in block_in is_utf8 chars encode value punctuate lex content code_unit word after_number number_of scan_numeral float_is_finite round
 under_other_keys = refl
 
 -- Of members with the same key the last one counts.
@@ -131,7 +160,7 @@ of_the_last_member : faults (
     ∷ codes "{\"op\":\"OP_CLOSE\",\"txid\":1,\"path\":\"/a\",\"blocks\":[5],\"blocks\":[]}"
     ∷ codes "{\"op\":\"OP_CLOSE\",\"txid\":1,\"path\":\"/a\",\"blocks\":[],\"blocks\":5}" ∷ [])
     ≡ 0 ∷ 3 ∷ 0 ∷ 2 ∷ []
-unfolding either_of_line either_in report_in dn_in kind_in kind_of object_in value_of tx_in op_in op_of txid_in whole_in number_in path_in edit_in blocks_in items_in block_in is_utf8 chars encode value punctuate lex content word after_number number_of scan_numeral
+unfolding either_of_line either_in report_in dn_in kind_in kind_of object_in value_of tx_in op_in op_of txid_in whole_in number_in path_in profile_in edit_in blocks_in items_in block_in is_utf8 chars encode value punctuate lex content word after_number number_of scan_numeral
 of_the_last_member = refl
 
 -- The number of a transaction comes before the keys of its operation; it is whole, at least 1 and below 2^63.
@@ -148,13 +177,14 @@ of_the_txid : faults (
     ∷ codes "{\"op\":\"OP_MKDIR\",\"txid\":9223372036854775808,\"path\":\"/a\"}"
     ∷ codes "{\"op\":\"OP_MKDIR\",\"txid\":9223372036854775807,\"path\":\"/a\"}" ∷ [])
     ≡ 2 ∷ 2 ∷ 2 ∷ 3 ∷ 3 ∷ 3 ∷ 3 ∷ 3 ∷ 3 ∷ 3 ∷ 0 ∷ []
-unfolding either_of_line either_in report_in dn_in kind_in kind_of object_in value_of tx_in op_in op_of txid_in whole_in number_in path_in edit_in blocks_in items_in block_in is_utf8 chars encode value punctuate lex content word after_number number_of scan_numeral float_is_finite round
+unfolding either_of_line either_in report_in dn_in kind_in kind_of object_in value_of tx_in op_in op_of txid_in whole_in number_in path_in profile_in edit_in blocks_in items_in block_in is_utf8 chars encode value punctuate lex content word after_number number_of scan_numeral float_is_finite round
 of_the_txid = refl
 
 -- The keys of an operation come in their order, and a list of blocks item by item.
 behind_the_txid : faults (
     codes "{\"op\":\"OP_MKDIR\",\"txid\":1,\"path\":5}"
     ∷ codes "{\"op\":\"OP_MKDIR\",\"txid\":1,\"path\":\"/a:b\"}"
+    ∷ codes "{\"op\":\"OP_APPEND\",\"txid\":1}"
     ∷ codes "{\"op\":\"OP_ADD\",\"txid\":1,\"path\":\"a\"}"
     ∷ codes "{\"op\":\"OP_ADD\",\"txid\":1,\"path\":\"/a\"}"
     ∷ codes "{\"op\":\"OP_ADD_BLOCK\",\"txid\":1,\"path\":\"/a\",\"gen\":-1}"
@@ -165,8 +195,8 @@ behind_the_txid : faults (
     ∷ codes "{\"op\":\"OP_CLOSE\",\"txid\":1,\"path\":\"/a\",\"blocks\":[{\"id\":1,\"gen\":1},-1]}"
     ∷ codes "{\"op\":\"OP_SET_GENSTAMP_V2\",\"gen\":9223372036854775807,\"txid\":2}"
     ∷ codes "{\"op\":\"OP_SET_GENSTAMP_V2\",\"gen\":9223372036854775808,\"txid\":2}" ∷ [])
-    ≡ 5 ∷ 5 ∷ 5 ∷ 2 ∷ 2 ∷ 5 ∷ 2 ∷ 2 ∷ 3 ∷ 2 ∷ 0 ∷ 3 ∷ []
-unfolding either_of_line either_in report_in dn_in kind_in kind_of object_in value_of tx_in op_in op_of txid_in whole_in number_in path_in edit_in blocks_in items_in block_in is_utf8 chars encode value punctuate lex content word after_number number_of scan_numeral
+    ≡ 5 ∷ 5 ∷ 2 ∷ 5 ∷ 2 ∷ 2 ∷ 5 ∷ 2 ∷ 2 ∷ 3 ∷ 2 ∷ 0 ∷ 3 ∷ []
+unfolding either_of_line either_in report_in dn_in kind_in kind_of object_in value_of tx_in op_in op_of txid_in whole_in number_in path_in profile_in edit_in blocks_in items_in block_in is_utf8 chars encode value punctuate lex content word after_number number_of scan_numeral
 behind_the_txid = refl
 
 -- The keys of a report in their order.
@@ -184,10 +214,10 @@ of_a_report : faults (
     ∷ codes "{\"dn\":1,\"block\":9,\"gen\":1,\"len\":0,\"kind\":null}"
     ∷ codes "{\"dn\":1,\"block\":9,\"gen\":1,\"len\":0,\"kind\":\"deleted\"}" ∷ [])
     ≡ 2 ∷ 2 ∷ 3 ∷ 3 ∷ 2 ∷ 3 ∷ 2 ∷ 3 ∷ 2 ∷ 7 ∷ 7 ∷ 0 ∷ []
-unfolding either_of_line either_in report_in dn_in kind_in kind_of object_in value_of tx_in op_in op_of txid_in whole_in number_in path_in edit_in blocks_in items_in block_in is_utf8 chars encode value punctuate lex content word after_number number_of scan_numeral
+unfolding either_of_line either_in report_in dn_in kind_in kind_of object_in value_of tx_in op_in op_of txid_in whole_in number_in path_in profile_in edit_in blocks_in items_in block_in is_utf8 chars encode value punctuate lex content word after_number number_of scan_numeral
 of_a_report = refl
 
 -- A line is UTF-8.
 no_text : fault (either_of_line (codes "{\"op\":\"OP_MKDIR\",\"zz\":\"" ++ 255 ∷ codes "\"}")) ≡ 1
-unfolding either_of_line either_in report_in dn_in kind_in kind_of object_in value_of tx_in op_in op_of txid_in whole_in number_in path_in edit_in blocks_in items_in block_in is_utf8 chars encode value punctuate lex content word after_number number_of scan_numeral
+unfolding either_of_line either_in report_in dn_in kind_in kind_of object_in value_of tx_in op_in op_of txid_in whole_in number_in path_in profile_in edit_in blocks_in items_in block_in is_utf8 chars encode value punctuate lex content word after_number number_of scan_numeral
 no_text = refl

@@ -22,8 +22,11 @@ use Rattle.nn_edits.specs.declared.member.Member.TheVariants.{Missing, Text, Who
 use Rattle.nn_edits.specs.declared.reading.Op.{Op}
 use Rattle.nn_edits.specs.declared.reading.Op.TheVariants as op
 use Rattle.nn_types.specs.declared.edit.Edit.{Edit}
-use Rattle.nn_types.specs.declared.edit.Edit.TheVariants.{StartSegment, EndSegment, Mkdir, Add, AddBlock, UpdateBlocks, Close, Rename, Delete, SetReplication, AllocateBlockId, SetGenstamp}
+use Rattle.nn_types.specs.declared.edit.Edit.TheVariants.{StartSegment, EndSegment, Mkdir, Add, AddBlock, UpdateBlocks, Close, Append, Rename, Delete, SetReplication, AllocateBlockId, SetGenstamp}
 use Rattle.nn_types.specs.declared.tx.Tx.{Tx}
+use Rattle.nn_types.specs.Profile.{profile_of}
+use Rattle.nn_types.specs.declared.profile.Profile.{Profile}
+use Rattle.nn_types.specs.declared.profile.Profile.TheVariants.{One}
 
 -- ---- one member
 
@@ -93,6 +96,12 @@ path_from (text s) = ok_or (path_of s) BadPath
 path_from (whole n) = Err BadPath
 path_from other = Err BadPath
 
+unfoldable pub profile_from : Scalar → Result Profile LineFault
+profile_from missing = Ok One
+profile_from (text s) = Err BadNumber
+profile_from (whole n) = ok_or (profile_of n) BadNumber
+profile_from other = Err BadNumber
+
 unfoldable pub op_from : Scalar → Result Op LineFault
 op_from missing = Err MissingField
 op_from (text s) = ok_or (op_of s) UnknownOp
@@ -125,6 +134,7 @@ pub record Parts : Type 0 where
   pub dn : Scalar
   pub block : Scalar
   pub kind : Scalar
+  pub profile : Scalar
   pub blocks : Result (List Block) LineFault
 
 -- Those of a value.
@@ -142,6 +152,7 @@ parts_of d = record {
   dn = scalar_at (codes "dn") d;
   block = scalar_at (codes "block") d;
   kind = scalar_at (codes "kind") d;
+  profile = scalar_at (codes "profile") d;
   blocks = blocks_in d;
 }
 
@@ -160,6 +171,7 @@ seen_fields f = record {
   dn = seen f.dn;
   block = seen f.block;
   kind = seen f.kind;
+  profile = seen f.profile;
   blocks = f.blocks;
 }
 
@@ -179,9 +191,10 @@ slot_text slot.Replication = codes "replication"
 slot_text slot.Dn = codes "dn"
 slot_text slot.Block = codes "block"
 slot_text slot.Kind = codes "kind"
+slot_text slot.Profile = codes "profile"
 
 abbrev pub all_slots : List Slot
-all_slots = slot.Op ∷ slot.Path ∷ slot.Txid ∷ slot.Id ∷ slot.Stamp ∷ slot.Len ∷ slot.Src ∷ slot.Dst ∷ slot.Replication ∷ slot.Dn ∷ slot.Block ∷ slot.Kind ∷ []
+all_slots = slot.Op ∷ slot.Path ∷ slot.Txid ∷ slot.Id ∷ slot.Stamp ∷ slot.Len ∷ slot.Src ∷ slot.Dst ∷ slot.Replication ∷ slot.Dn ∷ slot.Block ∷ slot.Kind ∷ slot.Profile ∷ []
 
 -- The slot of a key, if a format has it.
 unfoldable pub slot_of : List ℕ → Option Slot
@@ -201,6 +214,7 @@ put_slot slot.Replication s p = record p { replication = s }
 put_slot slot.Dn s p = record p { dn = s }
 put_slot slot.Block s p = record p { block = s }
 put_slot slot.Kind s p = record p { kind = s }
+put_slot slot.Profile s p = record p { profile = s }
 
 -- A member whose key no format has is dropped.
 abbrev pub put_if_slot : Option Slot → Scalar → Parts → Parts
@@ -214,7 +228,9 @@ put_blocks bs p = record p { blocks = bs }
 
 -- The edit of an operation, its keys in the order in which they are checked.
 unfoldable pub edit_from : Op → Parts → Result Edit LineFault
-edit_from op.StartSegment p = Ok StartSegment
+edit_from op.StartSegment p = do
+  profile ← profile_from p.profile
+  Ok (StartSegment profile)
 edit_from op.EndSegment p = Ok EndSegment
 edit_from op.Mkdir p = do
   path ← path_from p.path
@@ -236,6 +252,9 @@ edit_from op.Close p = do
   path ← path_from p.path
   blocks ← p.blocks
   Ok (Close path blocks)
+edit_from op.Append p = do
+  path ← path_from p.path
+  Ok (Append path)
 edit_from op.Rename p = do
   src ← path_from p.src
   dst ← path_from p.dst

@@ -24,6 +24,7 @@ pub(crate) enum Slot {
     Dn,
     Block,
     Kind,
+    Profile,
 }
 
 /// What an object has at each key. Of members with the same key the last one counts.
@@ -41,6 +42,7 @@ pub(crate) struct Fields<'a> {
     pub(crate) dn: Member<'a>,
     pub(crate) block: Member<'a>,
     pub(crate) kind: Member<'a>,
+    pub(crate) profile: Member<'a>,
     pub(crate) blocks: Result<Blocks, LineFault>,
 }
 
@@ -63,6 +65,7 @@ impl<'a> Fields<'a> {
             dn: Member::Missing,
             block: Member::Missing,
             kind: Member::Missing,
+            profile: Member::Missing,
             blocks: Err(LineFault::MissingField),
         }
     }
@@ -95,6 +98,7 @@ impl<'a> Fields<'a> {
             Slot::Dn => self.dn = member,
             Slot::Block => self.block = member,
             Slot::Kind => self.kind = member,
+            Slot::Profile => self.profile = member,
         }
     }
 
@@ -132,6 +136,7 @@ fn slot_of(key: &str) -> Option<Slot>
         b"dn" => Some(Slot::Dn),
         b"block" => Some(Slot::Block),
         b"kind" => Some(Slot::Kind),
+        b"profile" => Some(Slot::Profile),
         _ => None,
     }
 }

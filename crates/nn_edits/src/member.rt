@@ -1,10 +1,10 @@
 //! One member of an object, and what each key makes of it.
 ghost use Rattle.std.specs.Prelude.{◌≡◌};
 ghost use Rattle.nn_edits.specs.Outcome.{Gives};
-ghost use Rattle.nn_edits.specs.Parts.{seen, is_there, whole_from, number_from, txid_from, dn_from, path_from};
+ghost use Rattle.nn_edits.specs.Parts.{seen, is_there, whole_from, number_from, txid_from, dn_from, path_from, profile_from};
 
 use crate::fault::LineFault;
-use nn_types::{BlockId, GenerationStamp, Length, Path, Replication, Txid};
+use nn_types::{BlockId, GenerationStamp, Length, Path, Profile, Replication, Txid};
 use std::alloc::Global;
 
 /// The greatest number that a DataNode has.
@@ -95,6 +95,18 @@ pub(crate) fn replication_in(member: Member<'_>) -> Result<Replication, LineFaul
 {
     let number = whole_in(member)?;
     Replication::new(number).ok_or(LineFault::BadNumber)
+}
+
+// A start mark that gives no profile has the first one.
+#[tactic(auto, unfolding(crate::specs::Parts::profile_from))]
+pub(crate) fn profile_in(member: Member<'_>) -> Result<Profile, LineFault>
+    ensures { result ≡ profile_from (seen member.entry) }
+{
+    match member {
+        Member::Missing => Ok(Profile::One),
+        Member::Whole(n) => Profile::new(n).ok_or(LineFault::BadNumber),
+        Member::Text(_) | Member::Other => Err(LineFault::BadNumber),
+    }
 }
 
 #[tactic(auto, unfolding(crate::specs::Parts::path_from))]

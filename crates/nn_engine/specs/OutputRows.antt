@@ -10,7 +10,7 @@ use Rattle.json.specs.Print.{escape_byte}
 use Rattle.json.specs.Text.{content}
 use Rattle.json.specs.Word.{word, after_number}
 use Rattle.serde_json.specs.Read.{number_of}
-use Rattle.nn_edits.specs.Reading.{edit_of_line, either_of_line, object_in, value_of, either_in, tx_in, op_in, op_of, txid_in, whole_in, number_in, path_in, edit_in, block_in, items_in, blocks_in, report_in, dn_in, kind_in, kind_of}
+use Rattle.nn_edits.specs.Reading.{edit_of_line, either_of_line, object_in, value_of, either_in, tx_in, op_in, op_of, txid_in, whole_in, number_in, path_in, profile_in, edit_in, block_in, items_in, blocks_in, report_in, dn_in, kind_in, kind_of}
 use Rattle.nn_segment.specs.Lines.{reads_of}
 use Rattle.nn_segment.specs.LogEnd.{end_of_log, end_of_txs}
 use Rattle.nn_segment.specs.Name.{txids_of, name_text, digits as name_digits}
@@ -35,7 +35,7 @@ abbrev printed : ℕ → List (List ℕ) → Printed
 printed status each = record { text = lines each; status = status }
 
 nothing : output_of usual [] ≡ printed 0 (codes "txid 0" ∷ codes "dir \"/\"" ∷ codes "blocks 0 safe 0 needed 0 mode off" ∷ [])
-unfolding output_of read_segment fault_of txids_of name_text name_digits reads_of edit_of_line end_of_txs scenario_of lines_from segments_from cut_from end_of_log digits escape_byte datanodes either_of_line either_in report_in dn_in kind_in kind_of object_in value_of tx_in op_in op_of txid_in whole_in number_in path_in edit_in blocks_in items_in block_in is_utf8 chars encode value punctuate lex content word after_number number_of scan_numeral
+unfolding output_of read_segment fault_of txids_of name_text name_digits reads_of edit_of_line end_of_txs scenario_of lines_from segments_from cut_from end_of_log digits escape_byte datanodes either_of_line either_in report_in dn_in kind_in kind_of object_in value_of tx_in op_in op_of txid_in whole_in number_in path_in profile_in edit_in blocks_in items_in block_in is_utf8 chars encode value punctuate lex content word after_number number_of scan_numeral
 nothing = refl
 
 -- A transaction that is refused, one that is missing, a segment with a fault, a line with a fault.
@@ -44,21 +44,21 @@ missing_parent : output_of usual (lines (
     ∷ codes "{\"op\":\"OP_MKDIR\",\"path\":\"/a/b\",\"txid\":2}"
     ∷ codes "{\"op\":\"OP_END_LOG_SEGMENT\",\"txid\":3}" ∷ []))
     ≡ printed 1 (codes "fault 22 txid 2" ∷ [])
-unfolding output_of read_segment fault_of txids_of name_text name_digits reads_of edit_of_line end_of_txs scenario_of lines_from segments_from cut_from end_of_log digits escape_byte datanodes either_of_line either_in report_in dn_in kind_in kind_of object_in value_of tx_in op_in op_of txid_in whole_in number_in path_in edit_in blocks_in items_in block_in is_utf8 chars encode value punctuate lex content word after_number number_of scan_numeral
+unfolding output_of read_segment fault_of txids_of name_text name_digits reads_of edit_of_line end_of_txs scenario_of lines_from segments_from cut_from end_of_log digits escape_byte datanodes either_of_line either_in report_in dn_in kind_in kind_of object_in value_of tx_in op_in op_of txid_in whole_in number_in path_in profile_in edit_in blocks_in items_in block_in is_utf8 chars encode value punctuate lex content word after_number number_of scan_numeral
 missing_parent = refl
 
 log_begins_too_high : output_of usual (lines (
     codes "{\"op\":\"OP_START_LOG_SEGMENT\",\"txid\":2}"
     ∷ codes "{\"op\":\"OP_END_LOG_SEGMENT\",\"txid\":3}" ∷ []))
     ≡ printed 1 (codes "fault 57 txid 1" ∷ [])
-unfolding output_of read_segment fault_of txids_of name_text name_digits reads_of edit_of_line end_of_txs scenario_of lines_from segments_from cut_from end_of_log digits escape_byte datanodes either_of_line either_in report_in dn_in kind_in kind_of object_in value_of tx_in op_in op_of txid_in whole_in number_in path_in edit_in blocks_in items_in block_in is_utf8 chars encode value punctuate lex content word after_number number_of scan_numeral
+unfolding output_of read_segment fault_of txids_of name_text name_digits reads_of edit_of_line end_of_txs scenario_of lines_from segments_from cut_from end_of_log digits escape_byte datanodes either_of_line either_in report_in dn_in kind_in kind_of object_in value_of tx_in op_in op_of txid_in whole_in number_in path_in profile_in edit_in blocks_in items_in block_in is_utf8 chars encode value punctuate lex content word after_number number_of scan_numeral
 log_begins_too_high = refl
 
 gap_in_segment : output_of usual (lines (
     codes "{\"op\":\"OP_START_LOG_SEGMENT\",\"txid\":1}"
     ∷ codes "{\"op\":\"OP_END_LOG_SEGMENT\",\"txid\":3}" ∷ []))
     ≡ printed 1 (codes "fault 14 segment 1" ∷ [])
-unfolding output_of read_segment fault_of txids_of name_text name_digits reads_of edit_of_line end_of_txs scenario_of lines_from segments_from cut_from end_of_log digits escape_byte datanodes either_of_line either_in report_in dn_in kind_in kind_of object_in value_of tx_in op_in op_of txid_in whole_in number_in path_in edit_in blocks_in items_in block_in is_utf8 chars encode value punctuate lex content word after_number number_of scan_numeral
+unfolding output_of read_segment fault_of txids_of name_text name_digits reads_of edit_of_line end_of_txs scenario_of lines_from segments_from cut_from end_of_log digits escape_byte datanodes either_of_line either_in report_in dn_in kind_in kind_of object_in value_of tx_in op_in op_of txid_in whole_in number_in path_in profile_in edit_in blocks_in items_in block_in is_utf8 chars encode value punctuate lex content word after_number number_of scan_numeral
 gap_in_segment = refl
 
 bad_line : output_of usual (lines (
@@ -66,7 +66,7 @@ bad_line : output_of usual (lines (
     ∷ codes ""
     ∷ codes "{\"op\":\"OP_MKDIR\",\"txid\":2}" ∷ []))
     ≡ printed 1 (codes "fault 2 line 3" ∷ [])
-unfolding output_of read_segment fault_of txids_of name_text name_digits reads_of edit_of_line end_of_txs scenario_of lines_from segments_from cut_from end_of_log digits escape_byte datanodes either_of_line either_in report_in dn_in kind_in kind_of object_in value_of tx_in op_in op_of txid_in whole_in number_in path_in edit_in blocks_in items_in block_in is_utf8 chars encode value punctuate lex content word after_number number_of scan_numeral
+unfolding output_of read_segment fault_of txids_of name_text name_digits reads_of edit_of_line end_of_txs scenario_of lines_from segments_from cut_from end_of_log digits escape_byte datanodes either_of_line either_in report_in dn_in kind_in kind_of object_in value_of tx_in op_in op_of txid_in whole_in number_in path_in profile_in edit_in blocks_in items_in block_in is_utf8 chars encode value punctuate lex content word after_number number_of scan_numeral
 bad_line = refl
 
 -- A report that comes before the log has its block.
@@ -84,7 +84,7 @@ early_report : output_of usual (lines (
     ∷ codes "file \"/f\" 3 closed 1073741825:1001:5"
     ∷ codes "replica 1073741825 1 1001 5 received live"
     ∷ codes "blocks 1 safe 1 needed 0 mode off" ∷ [])
-unfolding output_of read_segment fault_of txids_of name_text name_digits reads_of edit_of_line end_of_txs scenario_of lines_from segments_from cut_from end_of_log digits escape_byte datanodes either_of_line either_in report_in dn_in kind_in kind_of object_in value_of tx_in op_in op_of txid_in whole_in number_in path_in edit_in blocks_in items_in block_in is_utf8 chars encode value punctuate lex content word after_number number_of scan_numeral
+unfolding output_of read_segment fault_of txids_of name_text name_digits reads_of edit_of_line end_of_txs scenario_of lines_from segments_from cut_from end_of_log digits escape_byte datanodes either_of_line either_in report_in dn_in kind_in kind_of object_in value_of tx_in op_in op_of txid_in whole_in number_in path_in profile_in edit_in blocks_in items_in block_in is_utf8 chars encode value punctuate lex content word after_number number_of scan_numeral
 early_report = refl
 
 -- The same, where two live replicas make a block safe and all blocks have to be.
@@ -102,7 +102,7 @@ two_are_wanted : output_of (record usual { settings = record { permille = 1000; 
     ∷ codes "file \"/f\" 3 closed 1073741825:1001:5"
     ∷ codes "replica 1073741825 1 1001 5 received live"
     ∷ codes "blocks 1 safe 0 needed 1 mode on" ∷ [])
-unfolding output_of read_segment fault_of txids_of name_text name_digits reads_of edit_of_line end_of_txs scenario_of lines_from segments_from cut_from end_of_log digits escape_byte datanodes either_of_line either_in report_in dn_in kind_in kind_of object_in value_of tx_in op_in op_of txid_in whole_in number_in path_in edit_in blocks_in items_in block_in is_utf8 chars encode value punctuate lex content word after_number number_of scan_numeral
+unfolding output_of read_segment fault_of txids_of name_text name_digits reads_of edit_of_line end_of_txs scenario_of lines_from segments_from cut_from end_of_log digits escape_byte datanodes either_of_line either_in report_in dn_in kind_in kind_of object_in value_of tx_in op_in op_of txid_in whole_in number_in path_in profile_in edit_in blocks_in items_in block_in is_utf8 chars encode value punctuate lex content word after_number number_of scan_numeral
 two_are_wanted = refl
 
 -- With an image, of a file whose block was issued and never added.
@@ -120,5 +120,5 @@ with_an_image : output_of (record usual { image = true }) (lines (
     ∷ codes "{\"awaiting\":[1073741825],\"image\":\"hdfs-standby\",\"last_block\":1073741825,\"last_gen\":1001,\"txid\":5,\"version\":1}"
     ∷ codes "{\"blocks\":[],\"closed\":false,\"path\":\"/f\",\"replication\":3,\"type\":\"file\"}"
     ∷ codes "{\"end\":1}" ∷ [])
-unfolding output_of read_segment fault_of txids_of name_text name_digits reads_of edit_of_line end_of_txs scenario_of lines_from segments_from cut_from end_of_log digits escape_byte datanodes either_of_line either_in report_in dn_in kind_in kind_of object_in value_of tx_in op_in op_of txid_in whole_in number_in path_in edit_in blocks_in items_in block_in is_utf8 chars encode value punctuate lex content word after_number number_of scan_numeral image_text head_data form_data end_data
+unfolding output_of read_segment fault_of txids_of name_text name_digits reads_of edit_of_line end_of_txs scenario_of lines_from segments_from cut_from end_of_log digits escape_byte datanodes either_of_line either_in report_in dn_in kind_in kind_of object_in value_of tx_in op_in op_of txid_in whole_in number_in path_in profile_in edit_in blocks_in items_in block_in is_utf8 chars encode value punctuate lex content word after_number number_of scan_numeral image_text head_data form_data end_data
 with_an_image = refl

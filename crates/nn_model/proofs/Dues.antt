@@ -11,7 +11,7 @@ use Rattle.nn_types.specs.declared.block.Block.{Block}
 use Rattle.nn_types.specs.declared.status.Status.TheVariants.{Unnamed, Awaiting, Retired}
 use Rattle.nn_types.specs.Due.{is_due}
 use Rattle.nn_types.specs.declared.edit.Edit.{Edit}
-use Rattle.nn_types.specs.declared.edit.Edit.TheVariants.{StartSegment, EndSegment, Mkdir, Add, AddBlock, UpdateBlocks, Close, Rename, Delete, SetReplication}
+use Rattle.nn_types.specs.declared.edit.Edit.TheVariants.{StartSegment, EndSegment, Mkdir, Add, AddBlock, UpdateBlocks, Close, Append, Rename, Delete, SetReplication}
 use Rattle.nn_types.specs.declared.edit.Edit.TheVariants.{AllocateBlockId, SetGenstamp}
 use Rattle.nn_model.specs.declared.form.Form.{Form}
 use Rattle.nn_model.specs.declared.form.Form.TheVariants.{Dir, File}
@@ -258,7 +258,7 @@ list_goes_on n p bs closed applies =
     inl (from.0, file_has p n.rows from.0 from.1, from.2, from.3))
 
 pub edit_goes_on : (n : Namespace) (edit : Edit) → refusal n edit ≡ None → GoesOn n (effect n edit)
-edit_goes_on n StartSegment applies = record { each = stays n; last = omega arith; awaiting = same_ids n }
+edit_goes_on n (StartSegment profile) applies = record { each = stays n; last = omega arith; awaiting = same_ids n }
 edit_goes_on n EndSegment applies = record { each = stays n; last = omega arith; awaiting = same_ids n }
 edit_goes_on n (Mkdir p) applies = row_goes_on n p Dir (λ b none. absurd none)
 edit_goes_on n (Add p r) applies = row_goes_on n p (File (record { replication = r; closed = false; blocks = [] })) (λ b none. absurd none)
@@ -276,6 +276,13 @@ edit_goes_on n (AddBlock p i stamp) applies =
     record { each = put_in.each; last = omega arith; awaiting = λ id low free. filter_none (λ k. k == id) (λ k. not (k == i)) n.issued.awaiting free }
 edit_goes_on n (UpdateBlocks p bs) applies = list_goes_on n p bs false applies
 edit_goes_on n (Close p bs) applies = list_goes_on n p bs true applies
+edit_goes_on n (Append p) applies =
+    row_goes_on n p (File (record {
+      replication =
+          (file_at n p).replication;
+      closed = false;
+      blocks = (file_at n p).blocks;
+    })) (λ b here. stays n b (file_has p n.rows b here))
 edit_goes_on n (Rename s d) applies = record {
   each = λ b here. stays n b (moved_from blocks_of (moved s d) n.rows b (order_from blocks_of (map (λ row. (moved s d row.0, row.1)) n.rows) b here));
   last = omega arith;

@@ -5,7 +5,7 @@ use Rattle.std.specs.FinMap.Entries.{put, is_sorted, is_sorted-put, is_sorted-wh
 use Rattle.std.proofs.lemmas.Bool.{both_ways, eqb-true, leb-false, cases_Bool, not-false}
 use Rattle.nn_types.specs.declared.block.Block.{Block}
 use Rattle.nn_types.specs.declared.edit.Edit.{Edit}
-use Rattle.nn_types.specs.declared.edit.Edit.TheVariants.{StartSegment, EndSegment, Mkdir, Add, AddBlock, UpdateBlocks, Close, Rename, Delete, SetReplication, AllocateBlockId, SetGenstamp}
+use Rattle.nn_types.specs.declared.edit.Edit.TheVariants.{StartSegment, EndSegment, Mkdir, Add, AddBlock, UpdateBlocks, Close, Append, Rename, Delete, SetReplication, AllocateBlockId, SetGenstamp}
 use Rattle.nn_types.specs.declared.tx.Tx.{Tx}
 use Rattle.nn_model.specs.declared.form.Form.{Form}
 use Rattle.nn_model.specs.declared.form.Form.TheVariants.{Dir, File}
@@ -97,13 +97,14 @@ module _ (n : Namespace) (w : HasIds n) where
       ]))
 
   edit_ids : (edit : Edit) → refusal n edit ≡ None → HasIds (effect n edit)
-  edit_ids StartSegment applies = w
+  edit_ids (StartSegment profile) applies = w
   edit_ids EndSegment applies = w
   edit_ids (Mkdir p) applies = row_ids p Dir (edit_goes_on n (Mkdir p) applies) (λ id. omega arith)
   edit_ids (Add p r) applies = row_ids p (File (record { replication = r; closed = false; blocks = [] })) (edit_goes_on n (Add p r) applies) (λ id. omega arith)
   edit_ids (AddBlock p i stamp) applies = add_block_ids p i stamp applies
   edit_ids (UpdateBlocks p bs) applies = list_ids p bs false (edit_goes_on n (UpdateBlocks p bs) applies) applies
   edit_ids (Close p bs) applies = list_ids p bs true (edit_goes_on n (Close p bs) applies) applies
+  edit_ids (Append p) applies = row_ids p (File (record (file_at n p) { closed = false })) (edit_goes_on n (Append p) applies) (λ id. omega arith)
   edit_ids (Rename s d) applies =
       let rows = map (λ (row : Path × Form). (moved s d row.0, row.1)) n.rows in
       fewer_ids (in_path_order rows) (edit_goes_on n (Rename s d) applies) (sorted_in_order rows)

@@ -9,7 +9,7 @@ use Rattle.std.proofs.lemmas.List.{map-append}
 use Rattle.std.proofs.Math.Seq.{drop-append_seam}
 use Rattle.nn_types.specs.declared.block.Block.{Block}
 use Rattle.nn_types.specs.declared.edit.Edit.{Edit}
-use Rattle.nn_types.specs.declared.edit.Edit.TheVariants.{StartSegment, EndSegment, Mkdir, Add, AddBlock, UpdateBlocks, Close, Rename, Delete, SetReplication}
+use Rattle.nn_types.specs.declared.edit.Edit.TheVariants.{StartSegment, EndSegment, Mkdir, Add, AddBlock, UpdateBlocks, Close, Append, Rename, Delete, SetReplication}
 use Rattle.nn_types.specs.declared.edit.Edit.TheVariants.{AllocateBlockId, SetGenstamp}
 use Rattle.nn_model.specs.declared.form.Form.{Form}
 use Rattle.nn_model.specs.declared.form.Form.TheVariants.{Dir, File}
@@ -140,6 +140,23 @@ module _ (n : Namespace) (w : HasWellFormedBlocks n) where
             omega (arith, stands, left_out, times_of_list r.block.id old bs keeps, times_put r.block.id p form n.rows w.in_order, w.once r.block.id));
       }
 
+  reopened : (p : Path) → Tells n (effect n (Append p)) (touched n (Append p))
+  reopened p =
+      let bs = (file_at n p).blocks in
+      let form = File (record { replication = (file_at n p).replication; closed = false; blocks = bs }) in
+      record {
+        into = λ r here. put_has rows_of p form n.rows r here;
+        stays = λ r here _ changed. elim (put_rest p form r here) [
+          | inl still ↦ still
+          | inr file ↦
+              let stands = (row_of_file (file_at n p).closed bs r file).0 in
+              let told : has_id (ids_of bs) r.block.id ≡ false = ap (λ xs. has_id (ids_of xs) r.block.id) (sym (just_blocks false bs)) ∙ changed in
+              absurd (both_ways _ told (ids_has bs r.block r.block.id stands refl))
+        ];
+        comes = λ r here. elim (put_from rows_of p form n.rows r here) [ inl own ↦ inl own | inr there ↦ inr there ];
+        gone = λ r here. refl;
+      }
+
   deleted : (p : Path) → Tells n (effect n (Delete p)) (touched n (Delete p))
   deleted p =
       let test : Path × Form → Bool = λ row. begins_with p row.0 in
@@ -201,7 +218,7 @@ no_rows : (n : Namespace) (p : Path) → lookup n p ≡ None → [] ≡ rows_in_
 no_rows n p none = sym (sym (file_rows (lookup n p)) ∙ ap rows_at none)
 
 edit_tells : (n : Namespace) (edit : Edit) → IsWellFormed n → refusal n edit ≡ None → Tells n (effect n edit) (touched n edit)
-edit_tells n StartSegment w applies = all_stays n n refl
+edit_tells n (StartSegment profile) w applies = all_stays n n refl
 edit_tells n EndSegment w applies = all_stays n n refl
 edit_tells n (Mkdir p) w applies =
     let ok = all_none (checks n (Mkdir p)) applies in same_row n w.blocks p Dir (no_rows n p (absent (lookup n p) ok.1.1.0))
@@ -212,6 +229,7 @@ edit_tells n (AddBlock p i stamp) w applies =
     added n w.blocks p i stamp (when_none _ _ (all_none (checks n (AddBlock p i stamp)) applies).1.1.1.1.0)
 edit_tells n (UpdateBlocks p bs) w applies = relisted n w.blocks p bs false applies
 edit_tells n (Close p bs) w applies = relisted n w.blocks p bs true applies
+edit_tells n (Append p) w applies = reopened n w.blocks p
 edit_tells n (Rename s d) w applies =
     let ok = all_none (checks n (Rename s d)) applies in
     let free : (rest : Path) → lookup n (d ++ rest) ≡ None = λ rest. nothing_below (lookup n) w.parents d rest (absent (lookup n d) ok.1.1.1.1.1.1.0) in

@@ -7,7 +7,7 @@ use Rattle.std.proofs.lemmas.Bool.{both_ways, false_from_ne_true, cases_Bool, co
 use Rattle.nn_types.specs.declared.block.Block.{Block}
 use Rattle.nn_types.specs.Number.{IsNumber}
 use Rattle.nn_types.specs.declared.edit.Edit.{Edit}
-use Rattle.nn_types.specs.declared.edit.Edit.TheVariants.{StartSegment, EndSegment, Mkdir, Add, AddBlock, UpdateBlocks, Close, Rename, Delete, SetReplication}
+use Rattle.nn_types.specs.declared.edit.Edit.TheVariants.{StartSegment, EndSegment, Mkdir, Add, AddBlock, UpdateBlocks, Close, Append, Rename, Delete, SetReplication}
 use Rattle.nn_types.specs.declared.edit.Edit.TheVariants.{AllocateBlockId, SetGenstamp}
 use Rattle.nn_types.specs.LawfulEdit.{IsLawfulEdit}
 use Rattle.nn_model.specs.declared.form.Form.{Form}
@@ -192,7 +192,7 @@ module _ (n : Namespace) (t : IsTree (lookup n)) where
       }) ok.0 ok.1.0 ok.1.1.0 ok.1.1.1.0 (same_range p ok.1.1.0 ok.1.1.1.0)
 
   edit_tree : (edit : Edit) → refusal n edit ≡ None → IsTree (lookup (effect n edit))
-  edit_tree StartSegment applies = t
+  edit_tree (StartSegment profile) applies = t
   edit_tree EndSegment applies = t
   edit_tree (Mkdir p) applies = let ok = all_none (checks n (Mkdir p)) applies in free_row p Dir ok.0 ok.1.0 ok.1.1.0 tt
   edit_tree (Add p r) applies =
@@ -209,6 +209,9 @@ module _ (n : Namespace) (t : IsTree (lookup n)) where
       }) ok.0 ok.1.0 ok.1.1.0 ok.1.1.1.0 (same_range p ok.1.1.0 ok.1.1.1.0)
   edit_tree (UpdateBlocks p bs) applies = list_tree p bs false applies
   edit_tree (Close p bs) applies = list_tree p bs true applies
+  edit_tree (Append p) applies =
+      let ok = all_none (checks n (Append p)) applies in
+      file_row p (record (file_at n p) { closed = false }) ok.0 ok.1.0 ok.1.1.0 ok.1.1.1.0 (same_range p ok.1.1.0 ok.1.1.1.0)
   edit_tree (Rename s d) applies =
       let ok = all_none (checks n (Rename s d)) applies in
       let free = absent (lookup n d) ok.1.1.1.1.1.1.0 in
@@ -233,13 +236,14 @@ InLimits block stamp = IsNumber block × (no_stamp ≤ stamp) × IsNumber stamp
 
 edit_limits : (n : Namespace) (edit : Edit) → IsLawfulEdit edit → refusal n edit ≡ None → InLimits n.issued.last_block n.issued.last_stamp →
     InLimits (effect n edit).issued.last_block (effect n edit).issued.last_stamp
-edit_limits n StartSegment lawful applies l = l
+edit_limits n (StartSegment profile) lawful applies l = l
 edit_limits n EndSegment lawful applies l = l
 edit_limits n (Mkdir p) lawful applies l = l
 edit_limits n (Add p r) lawful applies l = l
 edit_limits n (AddBlock p i stamp) lawful applies l = l
 edit_limits n (UpdateBlocks p bs) lawful applies l = l
 edit_limits n (Close p bs) lawful applies l = l
+edit_limits n (Append p) lawful applies l = l
 edit_limits n (Rename s d) lawful applies l = l
 edit_limits n (Delete p) lawful applies l = l
 edit_limits n (SetReplication p r) lawful applies l = l

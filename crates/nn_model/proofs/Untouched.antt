@@ -9,7 +9,7 @@ use Rattle.nn_types.specs.declared.status.Status.{Status}
 use Rattle.nn_types.specs.declared.status.Status.TheVariants.{Unnamed, Awaiting, Retired}
 use Rattle.nn_types.specs.Due.{is_due}
 use Rattle.nn_types.specs.declared.edit.Edit.{Edit}
-use Rattle.nn_types.specs.declared.edit.Edit.TheVariants.{StartSegment, EndSegment, Mkdir, Add, AddBlock, UpdateBlocks, Close, Rename, Delete, SetReplication}
+use Rattle.nn_types.specs.declared.edit.Edit.TheVariants.{StartSegment, EndSegment, Mkdir, Add, AddBlock, UpdateBlocks, Close, Append, Rename, Delete, SetReplication}
 use Rattle.nn_types.specs.declared.edit.Edit.TheVariants.{AllocateBlockId, SetGenstamp}
 use Rattle.nn_model.specs.Namespace.{Namespace}
 use Rattle.nn_model.specs.Apply.{refusal, checks, effect, has_id}
@@ -95,7 +95,7 @@ from_blocks (Some b) after unheld new_unheld stamp same due = ap (λ o. is_due (
 
 unheld_stays : (n : Namespace) (edit : Edit) → refusal n edit ≡ None → (id stamp : ℕ) → is_touched (touched n edit) id ≡ false →
     is_due (status_unheld (effect n edit) id) stamp ≡ is_due (status_unheld n id) stamp
-unheld_stays n StartSegment applies id stamp out = refl
+unheld_stays n (StartSegment profile) applies id stamp out = refl
 unheld_stays n EndSegment applies id stamp out = refl
 unheld_stays n (Mkdir p) applies id stamp out = refl
 unheld_stays n (Add p r) applies id stamp out = refl
@@ -104,6 +104,7 @@ unheld_stays n (AddBlock p i s) applies id stamp out =
     ap (λ t. due_unheld t (nat_le id n.issued.last_block) stamp) (still_waits i id n.issued.awaiting (λ same. both_ways _ not_new (eq-eqb i id same)))
 unheld_stays n (UpdateBlocks p bs) applies id stamp out = refl
 unheld_stays n (Close p bs) applies id stamp out = refl
+unheld_stays n (Append p) applies id stamp out = refl
 unheld_stays n (Rename s d) applies id stamp out = refl
 unheld_stays n (Delete p) applies id stamp out = refl
 unheld_stays n (SetReplication p r) applies id stamp out = refl

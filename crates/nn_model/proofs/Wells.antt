@@ -16,7 +16,7 @@ use Rattle.nn_types.specs.declared.block.Block.{Block}
 use Rattle.nn_types.specs.Block.{AreBlocks}
 use Rattle.nn_types.specs.Number.{IsNumber}
 use Rattle.nn_types.specs.declared.edit.Edit.{Edit}
-use Rattle.nn_types.specs.declared.edit.Edit.TheVariants.{StartSegment, EndSegment, Mkdir, Add, AddBlock, UpdateBlocks, Close, Rename, Delete, SetReplication}
+use Rattle.nn_types.specs.declared.edit.Edit.TheVariants.{StartSegment, EndSegment, Mkdir, Add, AddBlock, UpdateBlocks, Close, Append, Rename, Delete, SetReplication}
 use Rattle.nn_types.specs.declared.edit.Edit.TheVariants.{AllocateBlockId, SetGenstamp}
 use Rattle.nn_types.specs.LawfulEdit.{IsLawfulEdit}
 use Rattle.nn_model.specs.declared.form.Form.{Form}
@@ -342,13 +342,15 @@ module _ (n : Namespace) (w : HasWellFormedBlocks n) where
       }
 
   pub edit_well : (edit : Edit) → IsLawfulEdit edit → refusal n edit ≡ None → HasWellFormedBlocks (effect n edit)
-  edit_well StartSegment lawful applies = w
+  edit_well (StartSegment profile) lawful applies = w
   edit_well EndSegment lawful applies = w
   edit_well (Mkdir p) lawful applies = row_well p Dir (λ b none. absurd none) (λ id. omega arith)
   edit_well (Add p r) lawful applies = row_well p (File (record { replication = r; closed = false; blocks = [] })) (λ b none. absurd none) (λ id. omega arith)
   edit_well (AddBlock p i stamp) lawful applies = add_block_well p i stamp applies
   edit_well (UpdateBlocks p bs) lawful applies = list_well p bs false lawful.1 applies
   edit_well (Close p bs) lawful applies = list_well p bs true lawful.1 applies
+  edit_well (Append p) lawful applies =
+      row_well p (File (record (file_at n p) { closed = false })) (λ b here. w.issued b (file_has p n.rows b here)) (λ id. omega arith)
   edit_well (Rename s d) lawful applies =
       let rows = map (λ (row : Path × Form). (moved s d row.0, row.1)) n.rows in
       fewer_well (in_path_order rows) (sorted_in_order rows) (λ id. omega (arith, times_in_order id rows, times_moved id (moved s d) n.rows))

@@ -5,13 +5,13 @@ use Rattle.std.specs.List.{list_any}
 use Rattle.std.specs.FinMap.Entries.{put}
 use Rattle.nn_types.specs.declared.block.Block.{Block}
 use Rattle.nn_types.specs.declared.edit.Edit.{Edit}
-use Rattle.nn_types.specs.declared.edit.Edit.TheVariants.{StartSegment, EndSegment, Mkdir, Add, AddBlock, UpdateBlocks, Close, Rename, Delete}
+use Rattle.nn_types.specs.declared.edit.Edit.TheVariants.{StartSegment, EndSegment, Mkdir, Add, AddBlock, UpdateBlocks, Close, Append, Rename, Delete}
 use Rattle.nn_types.specs.declared.edit.Edit.TheVariants.{SetReplication, AllocateBlockId, SetGenstamp}
 use Rattle.nn_model.specs.declared.form.Form.{Form}
 use Rattle.nn_model.specs.declared.form.Form.TheVariants.{Dir, File}
 use Rattle.nn_types.specs.declared.edit_fault.EditFault.{EditFault}
 use Rattle.nn_types.specs.declared.edit_fault.EditFault.TheVariants.{Exists, Missing, NotDirectory, NotFile, IsRoot, IntoItself, NotOpen, WrongBlocks}
-use Rattle.nn_types.specs.declared.edit_fault.EditFault.TheVariants.{BadGeneration, BadBlockId, BadReplication}
+use Rattle.nn_types.specs.declared.edit_fault.EditFault.TheVariants.{BadGeneration, BadBlockId, BadReplication, NotClosed}
 use Rattle.nn_model.specs.Namespace.{Path, path_cmp, Namespace, lookup, with_row, begins_with, file_at, file_or_none, no_stamp}
 
 -- ---- Why an edit is refused: the checks of an edit in order, of which the first that finds a fault decides. What stands at a path
@@ -60,6 +60,9 @@ not_file form = when (is_dir form) NotFile
 abbrev pub not_open : Option Form → Option EditFault
 not_open form = when (file_or_none form).closed NotOpen
 
+abbrev pub not_closed : Option Form → Option EditFault
+not_closed form = when (not (file_or_none form).closed) NotClosed
+
 -- a replication is 1 to 512
 abbrev pub replication_range : ℕ → Option EditFault
 replication_range r = when (nat_lt r 1 || nat_lt 512 r) BadReplication
@@ -91,7 +94,7 @@ list_checks n p bs =
 
 -- the checks of an edit, in order
 abbrev pub checks : Namespace → Edit → List (Option EditFault)
-checks n StartSegment = []
+checks n (StartSegment profile) = []
 checks n EndSegment = []
 checks n (Mkdir p) = is_root p ∷ walk (lookup n) p ∷ exists (lookup n p) ∷ []
 checks n (Add p r) = is_root p ∷ replication_range r ∷ walk (lookup n) p ∷ exists (lookup n p) ∷ []
@@ -102,6 +105,7 @@ checks n (AddBlock p i stamp) =
     ∷ []
 checks n (UpdateBlocks p bs) = list_checks n p bs
 checks n (Close p bs) = list_checks n p bs
+checks n (Append p) = is_root p ∷ walk (lookup n) p ∷ missing (lookup n p) ∷ not_file (lookup n p) ∷ not_closed (lookup n p) ∷ []
 checks n (Rename s d) =
     is_root s ∷ is_root d ∷ walk (lookup n) s ∷ missing (lookup n s)
     ∷ when (begins_with s d && nat_lt (length s) (length d)) IntoItself
@@ -136,7 +140,7 @@ in_path_order (row ∷ rows) = put path_cmp row.0 row.1 (in_path_order rows)
 
 -- the namespace after an edit that applies
 abbrev pub effect : Namespace → Edit → Namespace
-effect n StartSegment = n
+effect n (StartSegment profile) = n
 effect n EndSegment = n
 effect n (Mkdir p) = with_row n p Dir
 effect n (Add p r) = with_row n p (File (record { replication = r; closed = false; blocks = [] }))
@@ -146,6 +150,7 @@ effect n (AddBlock p i stamp) =
     }
 effect n (UpdateBlocks p bs) = with_blocks n p bs false
 effect n (Close p bs) = with_blocks n p bs true
+effect n (Append p) = with_blocks n p (file_at n p).blocks false
 effect n (Rename s d) = record n { rows = in_path_order (map (λ row. (moved s d row.0, row.1)) n.rows) }
 effect n (Delete p) = record n { rows = filter (λ row. not (begins_with p row.0)) n.rows }
 effect n (SetReplication p r) = with_row n p (File (record (file_at n p) { replication = r }))

@@ -1,5 +1,5 @@
 -- Classes of replicas, and safe mode, computed.
-use Rattle.std.specs.Prelude.{◌≡◌, ℕ, true, false, [], ◌∷◌, map, Option, Some, None, nat_le, refl, codes, ◌&&◌, ◌==◌, if◌then◌else◌}
+use Rattle.std.specs.Prelude.{◌≡◌, ℕ, true, false, [], ◌∷◌, map, take, Option, Some, None, nat_le, refl, codes, ◌&&◌, ◌==◌, if◌then◌else◌}
 use Rattle.nn_types.specs.declared.block.Block.{Block}
 use Rattle.nn_types.specs.declared.report.Kind.{Kind}
 use Rattle.nn_types.specs.declared.report.Kind.TheVariants.{Receiving, Received, Deleted}
@@ -7,7 +7,9 @@ use Rattle.nn_model.specs.declared.form.Form.TheVariants.{Dir, File}
 use Rattle.nn_types.specs.declared.replica.Replica.{Replica}
 use Rattle.nn_types.specs.declared.replica.Class.TheVariants.{Stale, Ahead, Building, Live, WrongLength}
 use Rattle.nn_types.specs.Settings.{needed_of}
-use Rattle.nn_model.specs.Namespace.{Namespace}
+use Rattle.nn_model.specs.Namespace.{Namespace, root_alone}
+use Rattle.nn_model.specs.Log.{namespace_after}
+use Rattle.nn_model.specs.NamespaceRows.{reopened_log}
 use Rattle.nn_model.specs.Counts.{class_of, is_live, live_count, closed_blocks, total_of, safe_of, safe_mode_from, safe_mode_of}
 use Rattle.nn_model.specs.MessageRows.{b, c, f, block, received}
 
@@ -79,6 +81,19 @@ safe_modes = refl
 
 safe_mode_whole : safe_mode_of 1000 2 two_files some_replicas ≡ record { total = 2; safe = 1; needed = 2; on = true }
 safe_mode_whole = refl
+
+-- ---- The block of a file that is open again leaves the counts, though its replica stays live.
+
+abbrev one_replica : ℕ → ℕ → Option Replica
+one_replica dn id = if (dn == 1) && (id == b) then Some (received 1001 5) else None
+
+-- closed, and open again
+append_reopens : map (λ k. safe_mode_of 1000 1 (namespace_after root_alone (take k reopened_log)) one_replica) (6 ∷ 9 ∷ [])
+    ≡ record { total = 1; safe = 1; needed = 1; on = false } ∷ record { total = 0; safe = 0; needed = 0; on = false } ∷ []
+append_reopens = refl
+
+append_leaves_it_live : live_count one_replica (block b 1001 5) ≡ 1
+append_leaves_it_live = refl
 
 -- ---- The threshold of a thousand blocks, and of one more.
 

@@ -3,7 +3,8 @@ use Rattle.std.specs.Prelude.{◌≡◌, ℕ, true, false, List, [], ◌∷◌, 
 use Rattle.std.specs.declared.cmp.Ordering.TheVariants.{Less, Equal, Greater}
 use Rattle.nn_types.specs.declared.block.Block.{Block}
 use Rattle.nn_types.specs.declared.status.Status.TheVariants.{Unnamed, Awaiting, Named, Retired}
-use Rattle.nn_types.specs.declared.edit.Edit.TheVariants.{StartSegment, EndSegment, Mkdir, Add, AddBlock, UpdateBlocks, Close, Rename, Delete}
+use Rattle.nn_types.specs.declared.profile.Profile.TheVariants.{One, Two}
+use Rattle.nn_types.specs.declared.edit.Edit.TheVariants.{StartSegment, EndSegment, Mkdir, Add, AddBlock, UpdateBlocks, Close, Append, Rename, Delete}
 use Rattle.nn_types.specs.declared.edit.Edit.TheVariants.{SetReplication, AllocateBlockId, SetGenstamp}
 use Rattle.nn_model.specs.declared.form.Form.{Form}
 use Rattle.nn_model.specs.declared.form.Form.TheVariants.{Dir}
@@ -84,7 +85,7 @@ before_the_first_edit = refl
 
 -- ---- Effects.
 
-marks : map (effect n) (StartSegment ∷ EndSegment ∷ []) ≡ n ∷ n ∷ []
+marks : map (effect n) (StartSegment One ∷ StartSegment Two ∷ EndSegment ∷ []) ≡ n ∷ n ∷ n ∷ []
 marks = refl
 
 mkdir : effect root_alone (Mkdir a) ≡ namespace ((a, Dir) ∷ []) no_block no_stamp []
@@ -106,6 +107,10 @@ update_blocks = refl
 
 close : effect with_two (Close ab_f (block d 1003 9 ∷ block e 1003 8 ∷ [])) ≡ two_files done (file 3 true (block d 1003 9 ∷ block e 1003 8 ∷ [])) []
 close = refl
+
+-- the file is open, and all else of it is as it was
+append : effect n (Append a_f) ≡ two_files (file 2 false (block c 1001 5 ∷ block b 1002 6 ∷ [])) (open_file []) (d ∷ e ∷ [])
+append = refl
 
 -- what is below goes with the directory, another path with a like name stays, and the rows are in order again
 rename : effect n (Rename a (codes "z" ∷ []))
@@ -132,7 +137,7 @@ set_genstamp = refl
 
 -- ---- What edits touch.
 
-touched_nothing : map (touched n) (StartSegment ∷ EndSegment ∷ Mkdir f ∷ Add f 1 ∷ Rename a f ∷ SetReplication a_f 1 ∷ SetGenstamp 2000 ∷ [])
+touched_nothing : map (touched n) (StartSegment Two ∷ EndSegment ∷ Mkdir f ∷ Add f 1 ∷ Rename a f ∷ SetReplication a_f 1 ∷ SetGenstamp 2000 ∷ [])
     ≡ nothing ∷ nothing ∷ nothing ∷ nothing ∷ nothing ∷ nothing ∷ nothing ∷ []
 touched_nothing = refl
 
@@ -153,6 +158,10 @@ touched_by_close = refl
 changed_by_close : let what = touched with_two (Close ab_f (block d 1003 9 ∷ block e 1003 8 ∷ [])) in
     (changed_blocks what ≡ block d 1003 9 ∷ block e 1003 8 ∷ []) × (changed_ids what ≡ d ∷ e ∷ [])
 changed_by_close = (refl, refl)
+
+-- all blocks of the file, in file order
+touched_by_append : touched n (Append a_f) ≡ record nothing { changed = block_row false (block c 1001 5) ∷ block_row false (block b 1002 6) ∷ [] }
+touched_by_append = refl
 
 -- the ids that go are in ascending order, though c stands before b in its file; another directory's stay
 touched_by_delete : touched with_two (Delete a) ≡ record nothing { retired = b ∷ c ∷ [] }
@@ -189,6 +198,10 @@ open_after_an_update : let edit = UpdateBlocks ab_f (block d 1003 9 ∷ []) in
     map (λ id. row_after (touched with_two edit) (block_row_at with_two id) id) (b ∷ d ∷ e ∷ [])
     ≡ Some (block_row true (block b 1002 6)) ∷ Some (block_row false (block d 1003 9)) ∷ None ∷ []
 open_after_an_update = refl
+
+open_after_an_append : map (λ id. row_after (touched n (Append a_f)) (block_row_at n id) id) (b ∷ c ∷ d ∷ [])
+    ≡ Some (block_row false (block b 1002 6)) ∷ Some (block_row false (block c 1001 5)) ∷ None ∷ []
+open_after_an_append = refl
 
 changed_and_retired_are_touched : map (is_touched (touched with_two (UpdateBlocks ab_f (block d 1003 9 ∷ [])))) (b ∷ d ∷ e ∷ []) ≡ false ∷ true ∷ true ∷ []
 changed_and_retired_are_touched = refl

@@ -9,6 +9,7 @@ use Rattle.nn_types.specs.declared.report.Kind.TheVariants.{Received, Deleted}
 use Rattle.nn_types.specs.declared.status.Status.TheVariants.{Named, Awaiting}
 use Rattle.nn_types.specs.declared.event.Event.TheVariants.{Applied, Processed}
 use Rattle.nn_types.specs.declared.event.Cause.TheVariants.{Due, Flush}
+use Rattle.nn_types.specs.declared.profile.Profile.TheVariants.{One}
 use Rattle.nn_types.specs.declared.edit.Edit.{Edit}
 use Rattle.nn_types.specs.declared.edit.Edit.TheVariants.{StartSegment, EndSegment, Add, AddBlock, Close, AllocateBlockId, SetGenstamp}
 use Rattle.nn_types.specs.declared.tx.Tx.{Tx}
@@ -103,7 +104,7 @@ are_lanes one two first second dn = elim (cases_Bool (dn == 1)) [
 
 abbrev pub early_log : List Tx
 early_log =
-    tx 1 StartSegment ∷ tx 2 (SetGenstamp 1001) ∷ tx 3 (AllocateBlockId b) ∷ tx 4 (Add f 3) ∷ tx 5 (AddBlock f b 1001)
+    tx 1 (StartSegment One) ∷ tx 2 (SetGenstamp 1001) ∷ tx 3 (AllocateBlockId b) ∷ tx 4 (Add f 3) ∷ tx 5 (AddBlock f b 1001)
     ∷ tx 6 (Close f (block b 1001 5 ∷ [])) ∷ tx 7 EndSegment ∷ []
 
 abbrev pub early_end : Namespace

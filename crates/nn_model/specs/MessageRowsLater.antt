@@ -7,6 +7,7 @@ use Rattle.nn_types.specs.declared.report.Kind.TheVariants.{Received, Deleted}
 use Rattle.nn_types.specs.declared.status.Status.TheVariants.{Unnamed, Awaiting, Retired}
 use Rattle.nn_types.specs.declared.event.Event.TheVariants.{Applied, Processed}
 use Rattle.nn_types.specs.declared.event.Cause.TheVariants.{Due, Flush}
+use Rattle.nn_types.specs.declared.profile.Profile.TheVariants.{One}
 use Rattle.nn_types.specs.declared.edit.Edit.TheVariants.{StartSegment, EndSegment, Add, AddBlock, UpdateBlocks, Close, Delete, AllocateBlockId, SetGenstamp}
 use Rattle.nn_types.specs.declared.tx.Tx.{Tx}
 use Rattle.nn_model.specs.declared.form.Form.TheVariants.{Dir, File}
@@ -27,7 +28,7 @@ use Rattle.nn_model.specs.MessageRows.{tx, b, c, f, block, message, received, tw
 
 abbrev pub raised_log : List Tx
 raised_log =
-    tx 1 StartSegment ∷ tx 2 (SetGenstamp 1001) ∷ tx 3 (AllocateBlockId b) ∷ tx 4 (Add f 1) ∷ tx 5 (AddBlock f b 1001)
+    tx 1 (StartSegment One) ∷ tx 2 (SetGenstamp 1001) ∷ tx 3 (AllocateBlockId b) ∷ tx 4 (Add f 1) ∷ tx 5 (AddBlock f b 1001)
     ∷ tx 6 (SetGenstamp 1002) ∷ tx 7 (UpdateBlocks f (block b 1002 5 ∷ [])) ∷ tx 8 (Close f (block b 1002 5 ∷ [])) ∷ tx 9 EndSegment ∷ []
 
 abbrev pub raised_end : Namespace
@@ -81,7 +82,7 @@ raised_generation_is_stale_picture = refl
 
 abbrev deleted_log : List Tx
 deleted_log =
-    tx 1 StartSegment ∷ tx 2 (SetGenstamp 1001) ∷ tx 3 (AllocateBlockId b) ∷ tx 4 (Add f 3) ∷ tx 5 (AddBlock f b 1001)
+    tx 1 (StartSegment One) ∷ tx 2 (SetGenstamp 1001) ∷ tx 3 (AllocateBlockId b) ∷ tx 4 (Add f 3) ∷ tx 5 (AddBlock f b 1001)
     ∷ tx 6 (Close f (block b 1001 5 ∷ [])) ∷ tx 7 (Delete f) ∷ []
 
 abbrev first_report : Message
@@ -126,7 +127,7 @@ deleted_block_is_ordered_picture = (refl, refl, refl)
 -- ---- An id that an allocation passes over is retired, and a report about it becomes an order.
 
 abbrev skipped_log : List Tx
-skipped_log = tx 1 StartSegment ∷ tx 2 (AllocateBlockId c) ∷ tx 3 EndSegment ∷ []
+skipped_log = tx 1 (StartSegment One) ∷ tx 2 (AllocateBlockId c) ∷ tx 3 EndSegment ∷ []
 
 abbrev skipped_lanes : Lanes
 skipped_lanes = two_lanes (first_report ∷ []) []
@@ -160,7 +161,7 @@ skipped_id_is_retired_order = (refl, refl, refl, refl)
 -- ---- A report about an id that the log never issues waits to the end, and the flush makes it an order.
 
 abbrev pub unnamed_log : List Tx
-unnamed_log = tx 1 StartSegment ∷ tx 2 EndSegment ∷ []
+unnamed_log = tx 1 (StartSegment One) ∷ tx 2 EndSegment ∷ []
 
 abbrev pub unnamed_report : Message
 unnamed_report = message 1 1 Received b 1001 5

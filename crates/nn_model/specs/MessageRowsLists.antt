@@ -6,6 +6,7 @@ use Rattle.nn_types.specs.declared.report.Kind.TheVariants.{Received}
 use Rattle.nn_types.specs.declared.status.Status.TheVariants.{Retired}
 use Rattle.nn_types.specs.declared.event.Event.TheVariants.{Applied, Processed}
 use Rattle.nn_types.specs.declared.event.Cause.TheVariants.{Due}
+use Rattle.nn_types.specs.declared.profile.Profile.TheVariants.{One}
 use Rattle.nn_types.specs.declared.edit.Edit.TheVariants.{StartSegment, EndSegment, Add, AddBlock, UpdateBlocks, Close, AllocateBlockId, SetGenstamp}
 use Rattle.nn_types.specs.declared.tx.Tx.{Tx}
 use Rattle.nn_model.specs.declared.form.Form.TheVariants.{Dir, File}
@@ -26,7 +27,7 @@ use Rattle.nn_model.specs.MessageRows.{tx, b, c, f, block, message, received, tw
 
 abbrev left_out_log : List Tx
 left_out_log =
-    tx 1 StartSegment ∷ tx 2 (SetGenstamp 1001) ∷ tx 3 (AllocateBlockId b) ∷ tx 4 (Add f 1) ∷ tx 5 (AddBlock f b 1001)
+    tx 1 (StartSegment One) ∷ tx 2 (SetGenstamp 1001) ∷ tx 3 (AllocateBlockId b) ∷ tx 4 (Add f 1) ∷ tx 5 (AddBlock f b 1001)
     ∷ tx 6 (SetGenstamp 1002) ∷ tx 7 (AllocateBlockId c) ∷ tx 8 (AddBlock f c 1002)
     ∷ tx 9 (UpdateBlocks f (block b 1001 5 ∷ [])) ∷ tx 10 (Close f (block b 1001 5 ∷ [])) ∷ tx 11 EndSegment ∷ []
 
@@ -79,7 +80,7 @@ left_out_block_is_retired_counts = refl
 
 abbrev released_log : List Tx
 released_log =
-    tx 1 StartSegment ∷ tx 2 (SetGenstamp 1001) ∷ tx 3 (AllocateBlockId b) ∷ tx 4 (AllocateBlockId c) ∷ tx 5 (Add f 1)
+    tx 1 (StartSegment One) ∷ tx 2 (SetGenstamp 1001) ∷ tx 3 (AllocateBlockId b) ∷ tx 4 (AllocateBlockId c) ∷ tx 5 (Add f 1)
     ∷ tx 6 (AddBlock f c 1001) ∷ tx 7 (AddBlock f b 1001) ∷ tx 8 (SetGenstamp 1002)
     ∷ tx 9 (UpdateBlocks f (block c 1002 5 ∷ block b 1002 5 ∷ [])) ∷ tx 10 (Close f (block c 1002 5 ∷ block b 1002 5 ∷ [])) ∷ tx 11 EndSegment ∷ []
 

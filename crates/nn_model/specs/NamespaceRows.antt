@@ -3,8 +3,9 @@ use Rattle.std.specs.Prelude.{◌≡◌, ℕ, Bool, true, false, List, [], ◌�
 use Rattle.nn_types.specs.declared.block.Block.{Block}
 use Rattle.nn_types.specs.declared.status.Status.{Status}
 use Rattle.nn_types.specs.declared.status.Status.TheVariants.{Unnamed, Awaiting, Named, Retired}
+use Rattle.nn_types.specs.declared.profile.Profile.TheVariants.{One, Two}
 use Rattle.nn_types.specs.declared.edit.Edit.{Edit}
-use Rattle.nn_types.specs.declared.edit.Edit.TheVariants.{StartSegment, EndSegment, Mkdir, Add, AddBlock, UpdateBlocks, Close, Rename, Delete}
+use Rattle.nn_types.specs.declared.edit.Edit.TheVariants.{StartSegment, EndSegment, Mkdir, Add, AddBlock, UpdateBlocks, Close, Append, Rename, Delete}
 use Rattle.nn_types.specs.declared.edit.Edit.TheVariants.{AllocateBlockId, SetGenstamp}
 use Rattle.nn_types.specs.declared.tx.Tx.{Tx}
 use Rattle.nn_model.specs.declared.form.Form.{Form}
@@ -62,7 +63,7 @@ statuses log id counts = map (λ k. status_of (namespace_after root_alone (take 
 -- ---- A directory below a directory: the delete of the first takes both.
 
 abbrev made : List Tx
-made = tx 1 StartSegment ∷ tx 2 (Mkdir a) ∷ tx 3 (Mkdir a_b) ∷ tx 4 (Delete a) ∷ tx 5 EndSegment ∷ []
+made = tx 1 (StartSegment One) ∷ tx 2 (Mkdir a) ∷ tx 3 (Mkdir a_b) ∷ tx 4 (Delete a) ∷ tx 5 EndSegment ∷ []
 
 make_and_delete : (run root_alone made ≡ Ok root_alone)
     × ((namespace_after root_alone (take 3 made)).rows ≡ ([], Dir) ∷ (a, Dir) ∷ (a_b, Dir) ∷ [])
@@ -70,7 +71,7 @@ make_and_delete = (refl, refl)
 
 -- ---- A directory whose parent is missing stops the run at its txid.
 
-missing_parent_stops : run root_alone (tx 1 StartSegment ∷ tx 2 (Mkdir a_b) ∷ tx 3 EndSegment ∷ []) ≡ Err (2, Missing)
+missing_parent_stops : run root_alone (tx 1 (StartSegment One) ∷ tx 2 (Mkdir a_b) ∷ tx 3 EndSegment ∷ []) ≡ Err (2, Missing)
 missing_parent_stops = refl
 
 -- ---- Renames of a directory: not below itself, not to itself, but to a path whose name begins with its own.
@@ -87,7 +88,7 @@ rename_rules = (refl, refl, refl)
 
 abbrev early_log : List Tx
 early_log =
-    tx 1 StartSegment ∷ tx 2 (SetGenstamp 1001) ∷ tx 3 (AllocateBlockId b) ∷ tx 4 (Add f 3) ∷ tx 5 (AddBlock f b 1001)
+    tx 1 (StartSegment One) ∷ tx 2 (SetGenstamp 1001) ∷ tx 3 (AllocateBlockId b) ∷ tx 4 (Add f 3) ∷ tx 5 (AddBlock f b 1001)
     ∷ tx 6 (Close f (block b 1001 5 ∷ [])) ∷ tx 7 EndSegment ∷ []
 
 abbrev early_end : Namespace
@@ -113,7 +114,7 @@ future_report_flushed_due = refl
 
 abbrev deleted_log : List Tx
 deleted_log =
-    tx 1 StartSegment ∷ tx 2 (SetGenstamp 1001) ∷ tx 3 (AllocateBlockId b) ∷ tx 4 (Add f 3) ∷ tx 5 (AddBlock f b 1001)
+    tx 1 (StartSegment One) ∷ tx 2 (SetGenstamp 1001) ∷ tx 3 (AllocateBlockId b) ∷ tx 4 (Add f 3) ∷ tx 5 (AddBlock f b 1001)
     ∷ tx 6 (Close f (block b 1001 5 ∷ [])) ∷ tx 7 (Delete f) ∷ []
 
 deleted_block_is_ordered : (run root_alone deleted_log ≡ Ok (namespace [] b 1001 [])) × (statuses deleted_log b (6 ∷ 7 ∷ []) ≡ Named 1001 ∷ Retired ∷ [])
@@ -125,7 +126,7 @@ deleted_block_is_ordered_touched = refl
 -- ---- An id that an allocation passes over is retired, and the one that it issues awaits.
 
 abbrev skipped_log : List Tx
-skipped_log = tx 1 StartSegment ∷ tx 2 (AllocateBlockId c) ∷ tx 3 EndSegment ∷ []
+skipped_log = tx 1 (StartSegment One) ∷ tx 2 (AllocateBlockId c) ∷ tx 3 EndSegment ∷ []
 
 skipped_id_is_retired : (run root_alone skipped_log ≡ Ok (namespace [] c 1000 (c ∷ [])))
     × (statuses skipped_log b (1 ∷ 2 ∷ []) ≡ Unnamed ∷ Retired ∷ []) × (statuses skipped_log c (1 ∷ 2 ∷ []) ≡ Unnamed ∷ Awaiting ∷ [])
@@ -141,7 +142,7 @@ skipped_id_is_retired_due = refl
 
 abbrev left_out_log : List Tx
 left_out_log =
-    tx 1 StartSegment ∷ tx 2 (SetGenstamp 1001) ∷ tx 3 (AllocateBlockId b) ∷ tx 4 (Add f 1) ∷ tx 5 (AddBlock f b 1001)
+    tx 1 (StartSegment One) ∷ tx 2 (SetGenstamp 1001) ∷ tx 3 (AllocateBlockId b) ∷ tx 4 (Add f 1) ∷ tx 5 (AddBlock f b 1001)
     ∷ tx 6 (SetGenstamp 1002) ∷ tx 7 (AllocateBlockId c) ∷ tx 8 (AddBlock f c 1002)
     ∷ tx 9 (UpdateBlocks f (block b 1001 5 ∷ [])) ∷ tx 10 (Close f (block b 1001 5 ∷ [])) ∷ tx 11 EndSegment ∷ []
 
@@ -160,7 +161,7 @@ left_out_block_is_retired_touched = refl
 
 abbrev released_log : List Tx
 released_log =
-    tx 1 StartSegment ∷ tx 2 (SetGenstamp 1001) ∷ tx 3 (AllocateBlockId b) ∷ tx 4 (AllocateBlockId c) ∷ tx 5 (Add f 1)
+    tx 1 (StartSegment One) ∷ tx 2 (SetGenstamp 1001) ∷ tx 3 (AllocateBlockId b) ∷ tx 4 (AllocateBlockId c) ∷ tx 5 (Add f 1)
     ∷ tx 6 (AddBlock f c 1001) ∷ tx 7 (AddBlock f b 1001) ∷ tx 8 (SetGenstamp 1002)
     ∷ tx 9 (UpdateBlocks f (block c 1002 5 ∷ block b 1002 5 ∷ [])) ∷ tx 10 (Close f (block c 1002 5 ∷ block b 1002 5 ∷ [])) ∷ tx 11 EndSegment ∷ []
 
@@ -174,3 +175,20 @@ released_by_block_status = (refl, refl)
 released_by_block_touched : touched (namespace_after root_alone (take 8 released_log)) (UpdateBlocks f (block c 1002 5 ∷ block b 1002 5 ∷ []))
     ≡ record { changed = block_row false (block c 1002 5) ∷ block_row false (block b 1002 5) ∷ []; retired = []; skipped = None }
 released_by_block_touched = refl
+
+-- ---- An append opens a closed file again. Its block keeps its stamp and stays named.
+
+abbrev pub reopened_log : List Tx
+reopened_log =
+    tx 1 (StartSegment One) ∷ tx 2 (SetGenstamp 1001) ∷ tx 3 (AllocateBlockId b) ∷ tx 4 (Add f 3) ∷ tx 5 (AddBlock f b 1001)
+    ∷ tx 6 (Close f (block b 1001 5 ∷ [])) ∷ tx 7 EndSegment ∷ tx 8 (StartSegment Two) ∷ tx 9 (Append f) ∷ tx 10 EndSegment ∷ []
+
+append_reopens : run root_alone reopened_log ≡ Ok (namespace ((f, file 3 false (block b 1001 5 ∷ [])) ∷ []) b 1001 [])
+append_reopens = refl
+
+append_reopens_status : statuses reopened_log b (5 ∷ 6 ∷ 9 ∷ []) ≡ Named 1001 ∷ Named 1001 ∷ Named 1001 ∷ []
+append_reopens_status = refl
+
+append_reopens_touched : touched (namespace_after root_alone (take 8 reopened_log)) (Append f)
+    ≡ record { changed = block_row false (block b 1001 5) ∷ []; retired = []; skipped = None }
+append_reopens_touched = refl

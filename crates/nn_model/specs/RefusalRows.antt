@@ -1,12 +1,13 @@
 -- Why edits are refused: one table for each edit. Where two causes hold, the first in the order of the checks is the answer.
 use Rattle.std.specs.Prelude.{◌≡◌, ℕ, true, false, List, [], ◌∷◌, map, Option, Some, None, Ok, Err, codes, refl}
+use Rattle.nn_types.specs.declared.profile.Profile.TheVariants.{One, Two}
 use Rattle.nn_types.specs.declared.edit.Edit.{Edit}
-use Rattle.nn_types.specs.declared.edit.Edit.TheVariants.{StartSegment, EndSegment, Mkdir, Add, AddBlock, UpdateBlocks, Close, Rename, Delete}
+use Rattle.nn_types.specs.declared.edit.Edit.TheVariants.{StartSegment, EndSegment, Mkdir, Add, AddBlock, UpdateBlocks, Close, Append, Rename, Delete}
 use Rattle.nn_types.specs.declared.edit.Edit.TheVariants.{SetReplication, AllocateBlockId, SetGenstamp}
 use Rattle.nn_model.specs.declared.form.Form.TheVariants.{Dir}
 use Rattle.nn_types.specs.declared.edit_fault.EditFault.{EditFault}
 use Rattle.nn_types.specs.declared.edit_fault.EditFault.TheVariants.{Exists, Missing, NotDirectory, NotFile, IsRoot, IntoItself}
-use Rattle.nn_types.specs.declared.edit_fault.EditFault.TheVariants.{NotOpen, WrongBlocks, BadGeneration, BadBlockId, BadReplication}
+use Rattle.nn_types.specs.declared.edit_fault.EditFault.TheVariants.{NotOpen, WrongBlocks, BadGeneration, BadBlockId, BadReplication, NotClosed}
 use Rattle.nn_model.specs.Namespace.{Path, Namespace, lookup}
 use Rattle.nn_model.specs.Apply.{walk, refusal, applied, effect, is_dir}
 use Rattle.nn_model.specs.NamespaceRows.{a, a_b, ab, b, c, f, block, file, namespace}
@@ -48,7 +49,7 @@ Answers table = map (λ row. refusal n row.0) table ≡ map (λ row. row.1) tabl
 
 -- ---- Marks, directories and files.
 
-marks : Answers ((StartSegment, None) ∷ (EndSegment, None) ∷ [])
+marks : Answers ((StartSegment One, None) ∷ (StartSegment Two, None) ∷ (EndSegment, None) ∷ [])
 marks = refl
 
 -- the walk goes from the root down: a file on the way is met before what is missing below it
@@ -194,6 +195,21 @@ close : Answers
     ∷ []
     )
 close = refl
+
+-- a closed file is opened, whatever marks came before
+append : Answers
+    (
+    (Append [], Some IsRoot)
+    ∷ (Append (below x), Some Missing)
+    ∷ (Append (below f), Some NotDirectory)
+    ∷ (Append x, Some Missing)
+    ∷ (Append a, Some NotFile)
+    ∷ (Append f, Some NotClosed)
+    ∷ (Append g, Some NotClosed)
+    ∷ (Append done, None)
+    ∷ []
+    )
+append = refl
 
 loses_its_one_block : refusal (namespace ((f, file 1 false (block b 1001 0 ∷ [])) ∷ []) b 1001 []) (Close f []) ≡ None
 loses_its_one_block = refl

@@ -7,6 +7,7 @@ use Rattle.nn_types.specs.declared.report.Message.{Message}
 use Rattle.nn_types.specs.declared.report.Kind.TheVariants.{Received}
 use Rattle.nn_types.specs.declared.event.Event.TheVariants.{Applied, Processed}
 use Rattle.nn_types.specs.declared.event.Cause.TheVariants.{Due, Flush}
+use Rattle.nn_types.specs.declared.profile.Profile.TheVariants.{One}
 use Rattle.nn_types.specs.declared.edit.Edit.TheVariants.{StartSegment}
 use Rattle.nn_types.specs.declared.tx.Tx.{Tx}
 use Rattle.nn_model.specs.declared.form.Form.TheVariants.{Dir, File}
@@ -50,7 +51,7 @@ waiting_lanes = two_lanes (report_of_c ∷ first_of_b ∷ second_of_b ∷ []) (o
 
 -- after the start of a segment, with four messages about ids that are not issued yet
 abbrev waiting_log : List Tx
-waiting_log = tx 1 StartSegment ∷ []
+waiting_log = tx 1 (StartSegment One) ∷ []
 
 abbrev waiting : StandbyState
 waiting = record {
@@ -202,7 +203,7 @@ flushed_stands = record {
 
 -- ---- Standbys that do not stand, each for one reason.
 
-the_log_skips : Stands root_alone 0 (tx 2 StartSegment ∷ []) waiting_lanes waiting → ⊥
+the_log_skips : Stands root_alone 0 (tx 2 (StartSegment One) ∷ []) waiting_lanes waiting → ⊥
 the_log_skips s = omega (arith, s.log.0)
 
 abbrev twice : Namespace

@@ -3,7 +3,7 @@ use Rattle.std.specs.Prelude.{ℕ, ◌+◌, ◌-◌, Bool, true, false, ◌&&◌
 use Rattle.std.specs.Prelude.{None, nat_lt, ◌==◌, if◌then◌else◌}
 use Rattle.nn_types.specs.declared.block.Block.{Block}
 use Rattle.nn_types.specs.declared.edit.Edit.{Edit}
-use Rattle.nn_types.specs.declared.edit.Edit.TheVariants.{StartSegment, EndSegment, Mkdir, Add, AddBlock, UpdateBlocks, Close, Rename, Delete}
+use Rattle.nn_types.specs.declared.edit.Edit.TheVariants.{StartSegment, EndSegment, Mkdir, Add, AddBlock, UpdateBlocks, Close, Append, Rename, Delete}
 use Rattle.nn_types.specs.declared.edit.Edit.TheVariants.{SetReplication, AllocateBlockId, SetGenstamp}
 use Rattle.nn_model.specs.declared.form.BlockRow.{BlockRow}
 use Rattle.nn_model.specs.Namespace.{Path, Namespace, file_at, blocks_of, begins_with}
@@ -44,9 +44,10 @@ abbrev pub touched : Namespace → Edit → Touched
 touched n (AddBlock p i stamp) = record { changed = block_row false (new_block i stamp) ∷ []; retired = []; skipped = None }
 touched n (UpdateBlocks p bs) = listed n p bs false
 touched n (Close p bs) = listed n p bs true
+touched n (Append p) = record { changed = map (λ b. block_row false b) (file_at n p).blocks; retired = []; skipped = None }
 touched n (Delete p) = record { changed = []; retired = ascending (ids_below n p); skipped = None }
 touched n (AllocateBlockId i) = record { changed = []; retired = []; skipped = if nat_lt (n.issued.last_block + 1) i then Some (n.issued.last_block + 1, i - 1) else None }
-touched n StartSegment = nothing
+touched n (StartSegment profile) = nothing
 touched n EndSegment = nothing
 touched n (Mkdir p) = nothing
 touched n (Add p r) = nothing

@@ -10,7 +10,7 @@ use nn_types::{BlockId, Edit, EditFault, Path};
 use std::alloc::Global;
 
 /// How many operations there are.
-pub const OPERATIONS: usize = 12;
+pub const OPERATIONS: usize = 13;
 
 /// The names of the operations, each at its place.
 pub const NAMES: [&str; OPERATIONS] = [
@@ -22,6 +22,7 @@ pub const NAMES: [&str; OPERATIONS] = [
     "OP_ADD_BLOCK",
     "OP_UPDATE_BLOCKS",
     "OP_CLOSE",
+    "OP_APPEND",
     "OP_SET_REPLICATION",
     "OP_RENAME",
     "OP_DELETE",
@@ -30,10 +31,10 @@ pub const NAMES: [&str; OPERATIONS] = [
 
 // The place of an edit's operation.
 fn place_of(edit: &Edit) -> usize
-    ensures { result < 12 }
+    ensures { result < 13 }
 {
     match edit {
-        Edit::StartSegment => 0,
+        Edit::StartSegment { .. } => 0,
         Edit::Mkdir { .. } => 1,
         Edit::Add { .. } => 2,
         Edit::AllocateBlockId { .. } => 3,
@@ -41,10 +42,11 @@ fn place_of(edit: &Edit) -> usize
         Edit::AddBlock { .. } => 5,
         Edit::UpdateBlocks { .. } => 6,
         Edit::Close { .. } => 7,
-        Edit::SetReplication { .. } => 8,
-        Edit::Rename { .. } => 9,
-        Edit::Delete { .. } => 10,
-        Edit::EndSegment => 11,
+        Edit::Append { .. } => 8,
+        Edit::SetReplication { .. } => 9,
+        Edit::Rename { .. } => 10,
+        Edit::Delete { .. } => 11,
+        Edit::EndSegment => 12,
     }
 }
 
@@ -139,7 +141,7 @@ fn show_the_same(namespace: &Namespace, twin: &Namespace, scenario: &Scenario) -
 
 fn show_the_same_of(namespace: &Namespace, twin: &Namespace, edit: &Edit) -> bool {
     match edit {
-        Edit::StartSegment | Edit::EndSegment | Edit::SetGenstamp { .. } => true,
+        Edit::StartSegment { .. } | Edit::EndSegment | Edit::SetGenstamp { .. } => true,
         Edit::AllocateBlockId { id } => have_the_same_status(namespace, twin, *id),
         Edit::Rename { src, dst } => {
             have_the_same_at(namespace, twin, src) && have_the_same_at(namespace, twin, dst)
@@ -149,6 +151,7 @@ fn show_the_same_of(namespace: &Namespace, twin: &Namespace, edit: &Edit) -> boo
         | Edit::AddBlock { path, .. }
         | Edit::UpdateBlocks { path, .. }
         | Edit::Close { path, .. }
+        | Edit::Append { path }
         | Edit::SetReplication { path, .. }
         | Edit::Delete { path } => have_the_same_at(namespace, twin, path),
     }

@@ -102,7 +102,7 @@ impl Making for Start<'_> {
 
     type Made = Shadow;
 
-    fn call(&self, namespace: Namespace) -> Result<Shadow, Namespace> {
+    fn call(&self, namespace: Namespace) -> Result<Shadow, (Answer, Namespace)> {
         match Shadow::from(
             self.alloc,
             namespace,
@@ -111,7 +111,7 @@ impl Making for Start<'_> {
             self.settings,
         ) {
             Ok(shadow) => Ok(shadow),
-            Err(fault) => Err(fault.namespace),
+            Err(fault) => Err((Answer::OutOfMemory, fault.namespace)),
         }
     }
 

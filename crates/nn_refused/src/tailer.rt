@@ -93,10 +93,10 @@ impl Making for New {
 
     type Made = Standby;
 
-    fn call(&self, given: NewEnds) -> Result<Standby, NewEnds> {
+    fn call(&self, given: NewEnds) -> Result<Standby, (Answer, NewEnds)> {
         match Standby::new(self.alloc, given.ends, self.settings) {
             Ok(standby) => Ok(standby),
-            Err(ends) => Err(NewEnds { ends }),
+            Err(ends) => Err((Answer::OutOfMemory, NewEnds { ends })),
         }
     }
 
@@ -118,12 +118,17 @@ impl Making for FromImage<'_> {
 
     type Made = Standby;
 
-    // After any fault but out of memory the call is refused for ever, which the line shows.
-    fn call(&self, given: NewEnds) -> Result<Standby, NewEnds> {
+    fn call(&self, given: NewEnds) -> Result<Standby, (Answer, NewEnds)> {
         let mut reader = self.image;
         match Standby::from_image(self.alloc, given.ends, self.settings, &mut reader) {
             Ok(standby) => Ok(standby),
-            Err(fault) => Err(NewEnds { ends: fault.ends }),
+            Err(fault) => {
+                let answer = match fault.cause {
+                    ImageFault::OutOfMemory => Answer::OutOfMemory,
+                    _ => Answer::Other,
+                };
+                Err((answer, NewEnds { ends: fault.ends }))
+            }
         }
     }
 

@@ -31,8 +31,8 @@ pub trait Making {
 
     type Made: Drop;
 
-    /// Makes the call.
-    fn call(&self, given: Self::Given) -> Result<Self::Made, Self::Given>;
+    /// Makes the call. What comes back comes with what it answered.
+    fn call(&self, given: Self::Given) -> Result<Self::Made, (Answer, Self::Given)>;
 
     /// Whether what came back is what was given. It takes no memory.
     fn is_unchanged(&self, given: &Self::Given) -> bool;
@@ -152,7 +152,8 @@ pub fn make<M: Making>(heap: &mut Heap, call: &M, given: M::Given) -> (Fate, Opt
     for refusals in 0..MOST_REFUSALS {
         match call.call(left) {
             Ok(made) => return (Fate::after(refusals), Some(made)),
-            Err(back) => left = back,
+            Err((Answer::OutOfMemory, back)) => left = back,
+            Err(_) => return (Fate::OtherAnswer, None),
         }
         if !call.is_unchanged(&left) {
             return (Fate::Changed, None);

@@ -12,7 +12,7 @@ use Rattle.nn_segment.proofs.JoinedLines.{reads_joined}
 use Rattle.nn_segment.specs.Segment.{Segment, last_txid}
 use Rattle.nn_segment.specs.Name.{name_text}
 use Rattle.nn_segment.specs.declared.fault.SegmentFault.{SegmentFault}
-use Rattle.nn_segment.specs.declared.fault.SegmentFault.TheVariants.{BadName, NoStart, NoEnd, Gap, TornLine, NameMismatch, TooLong, BadLine, OutOfMemory}
+use Rattle.nn_segment.specs.declared.fault.SegmentFault.TheVariants.{BadName, NoStart, NoEnd, Gap, TornLine, NameMismatch, TooLong, BadLine, WrongProfile, OutOfMemory}
 use Rattle.nn_segment.specs.Outcome.{Gives}
 use Rattle.nn_scenario.specs.Cut.{Part, no_lines, with_line, AreRead, name_of, segment_of, with_segment, segments_from}
 use Rattle.nn_scenario.specs.declared.segments.BadSegment.{BadSegment}
@@ -65,6 +65,7 @@ fault_given NoStart given is other = is
 fault_given (TornLine line) given is other = is
 fault_given (BadLine line fault) given is other = is
 fault_given (Gap expected) given is other = is
+fault_given (WrongProfile line) given is other = is
 fault_given NoEnd given is other = is
 fault_given NameMismatch given is other = is
 fault_given OutOfMemory given is other = absurd (other refl)

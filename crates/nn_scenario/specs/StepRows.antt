@@ -2,6 +2,7 @@
 use Rattle.std.specs.Prelude.{◌≡◌, ℕ, List, [], ◌∷◌, codes, refl}
 use Rattle.nn_types.specs.declared.report.Kind.TheVariants.{Received}
 use Rattle.nn_types.specs.declared.report.Report.{Report}
+use Rattle.nn_types.specs.declared.profile.Profile.TheVariants.{One}
 use Rattle.nn_types.specs.declared.edit.Edit.TheVariants.{StartSegment}
 use Rattle.nn_scenario.specs.Scenario.{ScenarioLine, edit, report, edit_lines, messages_of, steps_of}
 use Rattle.nn_scenario.specs.Steps.{message, datanode_count, lanes_of}
@@ -11,7 +12,7 @@ abbrev about : ℕ → ℕ → Report
 about dn block = record { dn = dn; block = block; stamp = 1001; len = 0; kind = Received }
 
 abbrev mark : ScenarioLine
-mark = edit (record { text = codes "start"; tx = record { txid = 1; edit = StartSegment } })
+mark = edit (record { text = codes "start"; tx = record { txid = 1; edit = StartSegment One } })
 
 abbrev three_reports : List ScenarioLine
 three_reports = report (about 2 5) ∷ mark ∷ report (about 1 6) ∷ report (about 2 7) ∷ []

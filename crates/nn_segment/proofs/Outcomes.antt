@@ -1,7 +1,7 @@
 -- What follows for a caller from what a reading call gives.
 use Rattle.std.proofs.Common.{◌≡◌, Result, Err}
 use Rattle.nn_segment.specs.declared.fault.SegmentFault.{SegmentFault}
-use Rattle.nn_segment.specs.declared.fault.SegmentFault.TheVariants.{BadName, TooLong, NoStart, TornLine, BadLine, Gap, NoEnd, NameMismatch, OutOfMemory}
+use Rattle.nn_segment.specs.declared.fault.SegmentFault.TheVariants.{BadName, TooLong, NoStart, TornLine, BadLine, Gap, WrongProfile, NoEnd, NameMismatch, OutOfMemory}
 use Rattle.nn_segment.specs.Outcome.{Gives}
 
 pub gives_fault : {X : Type 0} (e : SegmentFault) (given : Result X SegmentFault) → given ≡ Err e → Gives (Err e) given
@@ -11,6 +11,7 @@ gives_fault NoStart given is = is
 gives_fault (TornLine line) given is = is
 gives_fault (BadLine line fault) given is = is
 gives_fault (Gap expected) given is = is
+gives_fault (WrongProfile line) given is = is
 gives_fault NoEnd given is = is
 gives_fault NameMismatch given is = is
 gives_fault OutOfMemory given is = tt

@@ -5,13 +5,14 @@ use Rattle.std.proofs.lemmas.Bool.{le-ltb}
 use Rattle.nn_edits.specs.declared.fault.LineFault.{LineFault}
 use Rattle.nn_edits.specs.declared.fault.LineFault.TheVariants as line
 use Rattle.nn_types.specs.declared.tx.Tx.{Tx}
+use Rattle.nn_types.specs.declared.profile.Profile.{Profile}
 use Rattle.nn_edits.specs.Outcome.{Fails}
 use Rattle.nn_segment.specs.declared.fault.SegmentFault.{SegmentFault}
-use Rattle.nn_segment.specs.declared.fault.SegmentFault.TheVariants.{BadName, TooLong, NoStart, TornLine, BadLine, Gap, NoEnd, NameMismatch}
+use Rattle.nn_segment.specs.declared.fault.SegmentFault.TheVariants.{BadName, TooLong, NoStart, TornLine, BadLine, Gap, WrongProfile, NoEnd, NameMismatch}
 use Rattle.nn_segment.specs.Name.{txids_of}
 use Rattle.nn_segment.specs.Lines.{lines_of, is_ended, reads_of}
-use Rattle.nn_segment.specs.Segment.{is_start, ends_once, last_txid}
-use Rattle.nn_segment.specs.Reading.{when, first, later_fault, lines_fault, txs_in, is_named, bytes_checks, lines_checks, fault_of, fault_of_line, unless, read_segment}
+use Rattle.nn_segment.specs.Segment.{start_profile, allows, ends_once, last_txid}
+use Rattle.nn_segment.specs.Reading.{when, first, later_fault, after_start, lines_fault, txs_in, is_named, bytes_checks, lines_checks, fault_of, fault_of_line, unless, read_segment}
 use Rattle.nn_segment.specs.Outcome.{StopsAt}
 
 abbrev pub Reads : Type 0
@@ -89,44 +90,46 @@ bytes_torn bytes short some torn =
 
 -- ---- order, before a bad line
 
-later_first : (n expected : ℕ) (txs : List Tx) (rest : Reads) (e : SegmentFault) → later_fault n expected (map Ok txs) ≡ Some e → later_fault n expected (map Ok txs ++ rest) ≡ Some e
-later_first n expected [] rest e is = absurd (cc)
-later_first n expected (tx ∷ txs) rest e is = at (eqb tx.txid expected) (later_first (n + 1) (tx.txid + 1) txs rest e) is
+later_first : (profile : Profile) (n expected : ℕ) (txs : List Tx) (rest : Reads) (e : SegmentFault) → later_fault profile n expected (map Ok txs) ≡ Some e
+    → later_fault profile n expected (map Ok txs ++ rest) ≡ Some e
+later_first profile n expected [] rest e is = absurd (cc)
+later_first profile n expected (tx ∷ txs) rest e is = at (eqb tx.txid expected) (allows profile tx.edit) (later_first profile (n + 1) (tx.txid + 1) txs rest e) is
   where
-    at : (t : Bool) → (later_fault (n + 1) (tx.txid + 1) (map Ok txs) ≡ Some e → later_fault (n + 1) (tx.txid + 1) (map Ok txs ++ rest) ≡ Some e)
-        → cond t (later_fault (n + 1) (tx.txid + 1) (map Ok txs)) (Some (Gap expected)) ≡ Some e
-        → cond t (later_fault (n + 1) (tx.txid + 1) (map Ok txs ++ rest)) (Some (Gap expected)) ≡ Some e
-    at true more is = more is
-    at false more is = is
+    at : (t a : Bool) → (later_fault profile (n + 1) (tx.txid + 1) (map Ok txs) ≡ Some e → later_fault profile (n + 1) (tx.txid + 1) (map Ok txs ++ rest) ≡ Some e)
+        → cond t (cond a (later_fault profile (n + 1) (tx.txid + 1) (map Ok txs)) (Some (WrongProfile n))) (Some (Gap expected)) ≡ Some e
+        → cond t (cond a (later_fault profile (n + 1) (tx.txid + 1) (map Ok txs ++ rest)) (Some (WrongProfile n))) (Some (Gap expected)) ≡ Some e
+    at true true more is = more is
+    at true false more is = is
+    at false a more is = is
 
 lines_first : (txs : List Tx) (rest : Reads) (e : SegmentFault) → lines_fault (map Ok txs) ≡ Some e → lines_fault (map Ok txs ++ rest) ≡ Some e
 lines_first [] rest e is = absurd (cc)
-lines_first (tx ∷ txs) rest e is = at (is_start tx.edit) is
+lines_first (tx ∷ txs) rest e is = at (start_profile tx.edit) is
   where
-    at : (t : Bool) → cond t (later_fault 2 (tx.txid + 1) (map Ok txs)) (Some NoStart) ≡ Some e → cond t (later_fault 2 (tx.txid + 1) (map Ok txs ++ rest)) (Some NoStart) ≡ Some e
-    at true is = later_first 2 (tx.txid + 1) txs rest e is
-    at false is = is
+    at : (o : Option Profile) → after_start o (tx.txid + 1) (map Ok txs) ≡ Some e → after_start o (tx.txid + 1) (map Ok txs ++ rest) ≡ Some e
+    at None is = is
+    at (Some profile) is = later_first profile 2 (tx.txid + 1) txs rest e is
 
-later_bad : (n expected : ℕ) (txs : List Tx) (fault : LineFault) (rest : Reads) → later_fault n expected (map Ok txs) ≡ None
-    → later_fault n expected (map Ok txs ++ Err fault ∷ rest) ≡ Some (BadLine (n + length txs) fault)
-later_bad n expected [] fault rest none = ap (λ k. Some (BadLine k fault)) (let same : n ≡ n + 0 = omega arith in same)
-later_bad n expected (tx ∷ txs) fault rest none = at (eqb tx.txid expected) (later_bad (n + 1) (tx.txid + 1) txs fault rest) none
+later_bad : (profile : Profile) (n expected : ℕ) (txs : List Tx) (fault : LineFault) (rest : Reads) → later_fault profile n expected (map Ok txs) ≡ None
+    → later_fault profile n expected (map Ok txs ++ Err fault ∷ rest) ≡ Some (BadLine (n + length txs) fault)
+later_bad profile n expected [] fault rest none = ap (λ k. Some (BadLine k fault)) (let same : n ≡ n + 0 = omega arith in same)
+later_bad profile n expected (tx ∷ txs) fault rest none = at (eqb tx.txid expected) (allows profile tx.edit) (later_bad profile (n + 1) (tx.txid + 1) txs fault rest) none
   where
-    at : (t : Bool) → (later_fault (n + 1) (tx.txid + 1) (map Ok txs) ≡ None → later_fault (n + 1) (tx.txid + 1) (map Ok txs ++ Err fault ∷ rest) ≡ Some (BadLine (n + 1 + length txs) fault))
-        → cond t (later_fault (n + 1) (tx.txid + 1) (map Ok txs)) (Some (Gap expected)) ≡ None
-        → cond t (later_fault (n + 1) (tx.txid + 1) (map Ok txs ++ Err fault ∷ rest)) (Some (Gap expected)) ≡ Some (BadLine (n + suc (length txs)) fault)
-    at true more none = more none ∙ ap (λ k. Some (BadLine k fault)) (let same : n + 1 + length txs ≡ n + suc (length txs) = omega arith in same)
-    at false more none = absurd (cc)
+    at : (t a : Bool) → (later_fault profile (n + 1) (tx.txid + 1) (map Ok txs) ≡ None → later_fault profile (n + 1) (tx.txid + 1) (map Ok txs ++ Err fault ∷ rest) ≡ Some (BadLine (n + 1 + length txs) fault))
+        → cond t (cond a (later_fault profile (n + 1) (tx.txid + 1) (map Ok txs)) (Some (WrongProfile n))) (Some (Gap expected)) ≡ None
+        → cond t (cond a (later_fault profile (n + 1) (tx.txid + 1) (map Ok txs ++ Err fault ∷ rest)) (Some (WrongProfile n))) (Some (Gap expected)) ≡ Some (BadLine (n + suc (length txs)) fault)
+    at true true more none = more none ∙ ap (λ k. Some (BadLine k fault)) (let same : n + 1 + length txs ≡ n + suc (length txs) = omega arith in same)
+    at true false more none = absurd (cc)
+    at false a more none = absurd (cc)
 
 lines_bad : (txs : List Tx) (fault : LineFault) (rest : Reads) → lines_fault (map Ok txs) ≡ None
     → lines_fault (map Ok txs ++ Err fault ∷ rest) ≡ Some (BadLine (length txs + 1) fault)
 lines_bad [] fault rest none = refl
-lines_bad (tx ∷ txs) fault rest none = at (is_start tx.edit) none
+lines_bad (tx ∷ txs) fault rest none = at (start_profile tx.edit) none
   where
-    at : (t : Bool) → cond t (later_fault 2 (tx.txid + 1) (map Ok txs)) (Some NoStart) ≡ None
-        → cond t (later_fault 2 (tx.txid + 1) (map Ok txs ++ Err fault ∷ rest)) (Some NoStart) ≡ Some (BadLine (suc (length txs) + 1) fault)
-    at true none = later_bad 2 (tx.txid + 1) txs fault rest none ∙ ap (λ k. Some (BadLine k fault)) (let same : 2 + length txs ≡ suc (length txs) + 1 = omega arith in same)
-    at false none = absurd (cc)
+    at : (o : Option Profile) → after_start o (tx.txid + 1) (map Ok txs) ≡ None → after_start o (tx.txid + 1) (map Ok txs ++ Err fault ∷ rest) ≡ Some (BadLine (suc (length txs) + 1) fault)
+    at None none = absurd (cc)
+    at (Some profile) none = later_bad profile 2 (tx.txid + 1) txs fault rest none ∙ ap (λ k. Some (BadLine k fault)) (let same : 2 + length txs ≡ suc (length txs) + 1 = omega arith in same)
 
 -- ---- what a call finds of lines that were read up to a bad one
 

@@ -1,5 +1,6 @@
 -- Logs of segments, walked through.
 use Rattle.std.specs.Prelude.{◌≡◌, ℕ, List, [], ◌∷◌, Ok, Err, refl}
+use Rattle.nn_types.specs.declared.profile.Profile.TheVariants.{One}
 use Rattle.nn_types.specs.declared.edit.Edit.{Edit}
 use Rattle.nn_types.specs.declared.edit.Edit.TheVariants.{StartSegment, EndSegment, Delete}
 use Rattle.nn_types.specs.declared.tx.Tx.{Tx}
@@ -17,9 +18,9 @@ abbrev segment : List Tx → Segment
 segment txs = record { name = []; bytes = []; txs = txs }
 
 abbrev marks : ℕ → ℕ → Segment
-marks first last = segment (tx first StartSegment ∷ tx last EndSegment ∷ [])
+marks first last = segment (tx first (StartSegment One) ∷ tx last EndSegment ∷ [])
 
-overlap : end_of_log 0 root_alone (segment (tx 1 StartSegment ∷ tx 2 EndSegment ∷ []) ∷ segment (tx 2 StartSegment ∷ tx 3 EndSegment ∷ []) ∷ []) ≡ Ok (record { last = 3; namespace = root_alone })
+overlap : end_of_log 0 root_alone (segment (tx 1 (StartSegment One) ∷ tx 2 EndSegment ∷ []) ∷ segment (tx 2 (StartSegment One) ∷ tx 3 EndSegment ∷ []) ∷ []) ≡ Ok (record { last = 3; namespace = root_alone })
 unfolding end_of_log end_of_txs
 overlap = refl
 

@@ -3,11 +3,12 @@ use Rattle.std.specs.Prelude.{ℕ, ◌+◌, List, [], ◌∷◌, length, drop, B
 use Rattle.nn_edits.specs.declared.fault.LineFault.{LineFault}
 use Rattle.nn_edits.specs.declared.fault.LineFault.TheVariants as line
 use Rattle.nn_types.specs.declared.tx.Tx.{Tx}
+use Rattle.nn_types.specs.declared.profile.Profile.{Profile}
 use Rattle.nn_segment.specs.declared.fault.SegmentFault.{SegmentFault}
-use Rattle.nn_segment.specs.declared.fault.SegmentFault.TheVariants.{BadName, TooLong, NoStart, TornLine, BadLine, Gap, NoEnd, NameMismatch, OutOfMemory}
+use Rattle.nn_segment.specs.declared.fault.SegmentFault.TheVariants.{BadName, TooLong, NoStart, TornLine, BadLine, Gap, WrongProfile, NoEnd, NameMismatch, OutOfMemory}
 use Rattle.nn_segment.specs.Name.{txids_of}
 use Rattle.nn_segment.specs.Lines.{lines_of, is_ended, reads_of}
-use Rattle.nn_segment.specs.Segment.{Segment, max_bytes, is_start, ends_once, first_txid, last_txid}
+use Rattle.nn_segment.specs.Segment.{Segment, max_bytes, start_profile, allows, ends_once, first_txid, last_txid}
 
 -- a fault where the test holds
 abbrev pub when : Bool → SegmentFault → Option SegmentFault
@@ -22,17 +23,23 @@ first (None ∷ checks) = first checks
 
 -- ---- Line by line.
 
--- the first fault from line n on, which is to be the transaction with the expected txid
-abbrev pub later_fault : ℕ → ℕ → List (Result Tx LineFault) → Option SegmentFault
-later_fault n expected [] = None
-later_fault n expected (Err fault ∷ reads) = Some (BadLine n fault)
-later_fault n expected (Ok tx ∷ reads) = if tx.txid == expected then later_fault (n + 1) (tx.txid + 1) reads else Some (Gap expected)
+-- the first fault from line n on, which is to be the transaction with the expected txid, in a segment of this profile
+abbrev pub later_fault : Profile → ℕ → ℕ → List (Result Tx LineFault) → Option SegmentFault
+later_fault profile n expected [] = None
+later_fault profile n expected (Err fault ∷ reads) = Some (BadLine n fault)
+later_fault profile n expected (Ok tx ∷ reads) =
+    if tx.txid == expected then (if allows profile tx.edit then later_fault profile (n + 1) (tx.txid + 1) reads else Some (WrongProfile n)) else Some (Gap expected)
+
+-- the first fault of the lines behind the first one, which is to be a start mark
+abbrev pub after_start : Option Profile → ℕ → List (Result Tx LineFault) → Option SegmentFault
+after_start None expected reads = Some NoStart
+after_start (Some profile) expected reads = later_fault profile 2 expected reads
 
 -- the first fault of the lines: each is a transaction, the first a start mark, each later one the next after the one before
 abbrev pub lines_fault : List (Result Tx LineFault) → Option SegmentFault
 lines_fault [] = None
 lines_fault (Err fault ∷ reads) = Some (BadLine 1 fault)
-lines_fault (Ok tx ∷ reads) = if is_start tx.edit then later_fault 2 (tx.txid + 1) reads else Some NoStart
+lines_fault (Ok tx ∷ reads) = after_start (start_profile tx.edit) (tx.txid + 1) reads
 
 -- the transactions among what was read
 abbrev pub txs_in : List (Result Tx LineFault) → List Tx

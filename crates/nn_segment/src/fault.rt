@@ -24,6 +24,8 @@ pub enum SegmentFault {
     /// The number that the next transaction has to have. It may be 9223372036854775808, which no transaction has.
     #[error("transaction {expected} is missing")]
     Gap { expected: u64 },
+    #[error("line {line} is an append, in a segment of profile 1")]
+    WrongProfile { line: u64 },
     #[error("no end mark, or a mark inside")]
     NoEnd,
     #[error("named for other transactions")]
@@ -44,6 +46,7 @@ impl SegmentFault {
             SegmentFault::TornLine { .. } => fault::TORN_LINE,
             SegmentFault::BadLine { .. } => fault::BAD_LINE,
             SegmentFault::Gap { .. } => fault::GAP,
+            SegmentFault::WrongProfile { .. } => fault::WRONG_PROFILE,
             SegmentFault::NoEnd => fault::NO_END,
             SegmentFault::NameMismatch => fault::NAME_MISMATCH,
             SegmentFault::OutOfMemory => fault::MEMORY,

@@ -1,9 +1,9 @@
 //! A segment that was found whole.
-ghost use Rattle.std.specs.Prelude.{◌≡◌, ◌⊎◌, ◌≤◌, ◌<◌, ◌^◌, ◌+◌, ◌∷◌, [], ◌||◌, ℕ, None, Some, Ok, Err, map, drop, is_none, string_bytes, MatchResult};
+ghost use Rattle.std.specs.Prelude.{◌≡◌, ◌⊎◌, ◌≤◌, ◌<◌, ◌^◌, ◌+◌, ◌∷◌, [], ◌||◌, length, None, Some, Ok, Err, map, drop, is_none, string_bytes, MatchResult};
 ghost use Rattle.nn_segment.specs.declared.fault.SegmentFault.TheVariants.{BadName};
 ghost use Rattle.nn_segment.specs.Name.{txids_of};
 ghost use Rattle.nn_segment.specs.Lines.{reads_of};
-ghost use Rattle.nn_segment.specs.Segment.{is_start, is_end, ends_once, first_txid, last_txid, IsSegment};
+ghost use Rattle.nn_segment.specs.Segment.{start_profile, allows, is_start, is_end, ends_once, first_txid, last_txid, IsSegment};
 ghost use Rattle.nn_segment.specs.Reading.{first, when, bytes_checks, lines_fault, later_fault, is_named, read_segment, fault_of_line};
 ghost use Rattle.nn_segment.specs.Outcome.{Gives, StopsAt};
 
@@ -11,7 +11,7 @@ use crate::fault::SegmentFault;
 use crate::lines::{read_lines, torn_line};
 use crate::name::parse_name;
 use nn_edits::LineFault;
-use nn_types::{Edit, Tx, Txid};
+use nn_types::{Edit, Profile, Tx, Txid};
 use std::alloc::Global;
 use std::marker::Model;
 
@@ -165,28 +165,34 @@ fn bad_line(before: usize, fault: LineFault) -> SegmentFault
     }
 }
 
-// The fault of a first transaction that is no start mark, or of a later one that is not the next.
+// The first fault of the transactions: the first one is no start mark, or a later one is not the next, or the profile
+// does not allow it.
 fn order_fault(txs: &[Tx]) -> Option<SegmentFault>
     ensures { result ≡ lines_fault (map Ok txs.now) }
 {
     let Some(first) = txs.first() else {
         return None;
     };
-    if !is_start(&first.edit) {
+    let Some(profile) = start_profile(&first.edit) else {
         return Some(SegmentFault::NoStart);
-    }
-    gap_in(first.txid.get() + 1, later(txs))
+    };
+    later_fault(profile, first.txid.get() + 1, later(txs))
 }
 
-// The gap before the first transaction that is not the expected one.
-fn gap_in(expected: u64, txs: &[Tx]) -> Option<SegmentFault>
+// The first fault of the transactions behind the start mark, which has this profile. The expected txid is the next one.
+fn later_fault(profile: Profile, expected: u64, txs: &[Tx]) -> Option<SegmentFault>
     requires { expected ≤ 2 ^ 63 }
-    ensures { (n : ℕ) → result ≡ later_fault n expected (map Ok txs.now) }
+    ensures { result ≡ later_fault profile 2 expected (map Ok txs.now) }
 {
     let mut next = expected;
-    for tx in txs {
+    for (place, tx) in txs.iter().enumerate() {
         if tx.txid.get() != next {
             return Some(SegmentFault::Gap { expected: next });
+        }
+        if !allows(profile, &tx.edit) {
+            return Some(SegmentFault::WrongProfile {
+                line: place as u64 + 2,
+            });
         }
         next += 1;
     }
@@ -245,7 +251,27 @@ fn is_mark(edit: &Edit) -> bool
 fn is_start(edit: &Edit) -> bool
     ensures { result ≡ is_start edit.now }
 {
-    matches!(edit, Edit::StartSegment)
+    start_profile(edit).is_some()
+}
+
+// The profile of a start mark.
+fn start_profile(edit: &Edit) -> Option<Profile>
+    ensures { result ≡ start_profile edit.now }
+{
+    match edit {
+        Edit::StartSegment { profile } => Some(*profile),
+        _ => None,
+    }
+}
+
+// Whether a segment of the profile may have the edit.
+fn allows(profile: Profile, edit: &Edit) -> bool
+    ensures { result ≡ allows profile edit.now }
+{
+    match profile {
+        Profile::One => !matches!(edit, Edit::Append { .. }),
+        Profile::Two => true,
+    }
 }
 
 /// Whether the edit is the mark that ends a segment.

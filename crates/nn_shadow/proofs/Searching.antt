@@ -6,7 +6,7 @@ use Rattle.std.proofs.lemmas.Bool.{not-false, or_parts, or_from, ltb-false, ltb-
 use Rattle.std.proofs.lemmas.List.{get_or_read}
 use Rattle.nn_types.specs.declared.block.Block.{Block}
 use Rattle.nn_types.specs.declared.edit.Edit.{Edit}
-use Rattle.nn_types.specs.declared.edit.Edit.TheVariants.{StartSegment, EndSegment, Mkdir, Add, AddBlock, UpdateBlocks, Close, Rename, Delete}
+use Rattle.nn_types.specs.declared.edit.Edit.TheVariants.{StartSegment, EndSegment, Mkdir, Add, AddBlock, UpdateBlocks, Close, Append, Rename, Delete}
 use Rattle.nn_types.specs.declared.edit.Edit.TheVariants.{SetReplication, AllocateBlockId, SetGenstamp}
 use Rattle.nn_model.specs.Namespace.{Namespace, Path, file_at}
 use Rattle.nn_model.specs.Touched.{touched, ids_of, ids_below, with_id, ascending, changed_ids}
@@ -153,14 +153,15 @@ pub lowest_ascending : (from : ℕ) (found : Option ℕ) (ids : List ℕ) → lo
 lowest_ascending from found [] = refl
 lowest_ascending from found (i ∷ ids) = lowest_with from found i (ascending ids) ∙ lowest_ascending from (lower_from from found i) ids
 
-pub written_is : (n : Namespace) (edit : Edit) → written edit ≡ changed_ids (touched n edit)
-written_is n StartSegment = refl
+pub written_is : (n : Namespace) (edit : Edit) → written n edit ≡ changed_ids (touched n edit)
+written_is n (StartSegment profile) = refl
 written_is n EndSegment = refl
 written_is n (Mkdir p) = refl
 written_is n (Add p r) = refl
 written_is n (AddBlock p i stamp) = refl
 written_is n (UpdateBlocks p bs) = ap ids_of (sym (just_blocks false bs))
 written_is n (Close p bs) = ap ids_of (sym (just_blocks true bs))
+written_is n (Append p) = ap ids_of (sym (just_blocks false (file_at n p).blocks))
 written_is n (Rename s d) = refl
 written_is n (Delete p) = refl
 written_is n (SetReplication p r) = refl
@@ -191,13 +192,14 @@ relisted_rises n p bs applies =
     left_out_rises (file_at n p).blocks bs (not-false _ (when_none _ _ (all_none (list_checks n p bs) applies).1.1.1.1.1.0))
 
 pub retired_rises : (n : Namespace) (edit : Edit) → refusal n edit ≡ None → Rises (touched n edit).retired
-retired_rises n StartSegment applies = tt
+retired_rises n (StartSegment profile) applies = tt
 retired_rises n EndSegment applies = tt
 retired_rises n (Mkdir p) applies = tt
 retired_rises n (Add p r) applies = tt
 retired_rises n (AddBlock p i stamp) applies = tt
 retired_rises n (UpdateBlocks p bs) applies = relisted_rises n p bs applies
 retired_rises n (Close p bs) applies = relisted_rises n p bs applies
+retired_rises n (Append p) applies = tt
 retired_rises n (Rename s d) applies = tt
 retired_rises n (Delete p) applies = ascending_rises (ids_below n p)
 retired_rises n (SetReplication p r) applies = tt

@@ -11,7 +11,7 @@ use Rattle.nn_types.specs.declared.report.Message.{Message}
 use Rattle.nn_types.specs.declared.report.Kind.{Kind}
 use Rattle.nn_types.specs.declared.report.Kind.TheVariants.{Receiving, Received, Deleted}
 use Rattle.nn_types.specs.declared.edit.Edit.{Edit}
-use Rattle.nn_types.specs.declared.edit.Edit.TheVariants.{StartSegment, EndSegment, Mkdir, Add, AddBlock, UpdateBlocks, Close, Rename, Delete}
+use Rattle.nn_types.specs.declared.edit.Edit.TheVariants.{StartSegment, EndSegment, Mkdir, Add, AddBlock, UpdateBlocks, Close, Append, Rename, Delete}
 use Rattle.nn_types.specs.declared.edit.Edit.TheVariants.{SetReplication, AllocateBlockId, SetGenstamp}
 use Rattle.nn_model.specs.Namespace.{Namespace}
 use Rattle.nn_types.specs.declared.edit_fault.EditFault.{EditFault}
@@ -63,13 +63,14 @@ set_twice t b closed =
 
 -- the row of a block that was added is as the edit left it
 pub added_followed : (n : Namespace) (t : Table) (edit : Edit) → is_some (block_added edit) ≡ true → row_made t edit ≡ followed (row_made t edit) (touched n edit)
-added_followed n t StartSegment added = absurd (cc)
+added_followed n t (StartSegment profile) added = absurd (cc)
 added_followed n t EndSegment added = absurd (cc)
 added_followed n t (Mkdir p) added = absurd (cc)
 added_followed n t (Add p r) added = absurd (cc)
 added_followed n t (AddBlock p i stamp) added = sym (set_twice t (new_block i stamp) false)
 added_followed n t (UpdateBlocks p bs) added = absurd (cc)
 added_followed n t (Close p bs) added = absurd (cc)
+added_followed n t (Append p) added = absurd (cc)
 added_followed n t (Rename s d) added = absurd (cc)
 added_followed n t (Delete p) added = absurd (cc)
 added_followed n t (SetReplication p r) added = absurd (cc)

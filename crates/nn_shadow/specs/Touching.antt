@@ -3,8 +3,9 @@ use Rattle.std.specs.Prelude.{◌≡◌, ℕ, ◌≤◌, Bool, true, false, not,
 use Rattle.std.specs.List.{list_any}
 use Rattle.nn_types.specs.declared.report.Message.{Message}
 use Rattle.nn_types.specs.declared.edit.Edit.{Edit}
-use Rattle.nn_types.specs.declared.edit.Edit.TheVariants.{StartSegment, EndSegment, Mkdir, Add, AddBlock, UpdateBlocks, Close, Rename, Delete}
+use Rattle.nn_types.specs.declared.edit.Edit.TheVariants.{StartSegment, EndSegment, Mkdir, Add, AddBlock, UpdateBlocks, Close, Append, Rename, Delete}
 use Rattle.nn_types.specs.declared.edit.Edit.TheVariants.{SetReplication, AllocateBlockId, SetGenstamp}
+use Rattle.nn_model.specs.Namespace.{Namespace, file_at}
 use Rattle.nn_model.specs.Touched.{Touched, ids_of, is_within, is_touched}
 use Rattle.nn_model.specs.WellFormed.{Has}
 use Rattle.nn_postponed.specs.Release.{first_free}
@@ -31,19 +32,20 @@ pub record IsNextTouched (t : Touched) (from : ℕ) (held : List Message) (next 
 -- ---- How it is found.
 
 -- the ids of the blocks that an edit writes, in file order
-abbrev pub written : Edit → List ℕ
-written StartSegment = []
-written EndSegment = []
-written (Mkdir p) = []
-written (Add p r) = []
-written (AddBlock p i stamp) = i ∷ []
-written (UpdateBlocks p bs) = ids_of bs
-written (Close p bs) = ids_of bs
-written (Rename s d) = []
-written (Delete p) = []
-written (SetReplication p r) = []
-written (AllocateBlockId i) = []
-written (SetGenstamp stamp) = []
+abbrev pub written : Namespace → Edit → List ℕ
+written n (StartSegment profile) = []
+written n EndSegment = []
+written n (Mkdir p) = []
+written n (Add p r) = []
+written n (AddBlock p i stamp) = i ∷ []
+written n (UpdateBlocks p bs) = ids_of bs
+written n (Close p bs) = ids_of bs
+written n (Append p) = ids_of (file_at n p).blocks
+written n (Rename s d) = []
+written n (Delete p) = []
+written n (SetReplication p r) = []
+written n (AllocateBlockId i) = []
+written n (SetGenstamp stamp) = []
 
 -- the ids ascend
 abbrev pub Rises : List ℕ → Type 0

@@ -1,28 +1,30 @@
 //! Which blocks an edit touched, one after another.
 ghost use Rattle.std.specs.Prelude.{◌≡◌, ◌++◌, [], None, OnOk, IfOk, ◌⊎◌};
+ghost use Rattle.nn_model.specs.Namespace.{file_at};
 ghost use Rattle.nn_model.specs.Touched.{ids_of, ascending, changed_ids};
 ghost use Rattle.nn_tree.specs.Touched.{seen};
 ghost use Rattle.nn_shadow.specs.Touching.{written, Rises, IsNextTouched, IsNextSkipped, lower, lowest, earlier, later};
 
 use nn_postponed::Postponed;
-use nn_tree::Touched;
-use nn_types::{Block, BlockId, Edit};
+use nn_tree::{Found, Namespace, Touched};
+use nn_types::{Block, BlockId, Edit, Path};
 use std::alloc::{AllocError, Global};
 
 /// The ids of the blocks that the edit writes, ascending. They are made before the edit is, which may not fail for want
 /// of memory afterwards. Where nothing is held nobody asks for them, and there are none.
 pub(crate) fn written_ids(
     alloc: Global,
+    namespace: &Namespace,
     edit: &Edit,
     held: &Postponed,
 ) -> Result<Vec<BlockId>, AllocError>
-    ensures { IfOk result (λ ids. (held.now ≡ []) ⊎ (ids.items ≡ ascending (written edit.now))) }
+    ensures { IfOk result (λ ids. (held.now ≡ []) ⊎ (ids.items ≡ ascending (written namespace.now edit.now))) }
 {
     let mut ids = Vec::new(alloc);
     if held.is_empty() {
         return Ok(ids);
     }
-    let Ok(()) = push_written(&mut ids, edit) else {
+    let Ok(()) = push_written(&mut ids, namespace, edit) else {
         return Err(AllocError);
     };
     ids.sort_unstable();
@@ -30,8 +32,12 @@ pub(crate) fn written_ids(
 }
 
 // Adds the ids of the blocks that the edit writes, in file order.
-fn push_written(ids: &mut Vec<BlockId>, edit: &Edit) -> Result<(), AllocError>
-    ensures { OnOk result (ids.new.items ≡ ids.old.items ++ written edit.now) }
+fn push_written(
+    ids: &mut Vec<BlockId>,
+    namespace: &Namespace,
+    edit: &Edit,
+) -> Result<(), AllocError>
+    ensures { OnOk result (ids.new.items ≡ ids.old.items ++ written namespace.now edit.now) }
 {
     match edit {
         Edit::AddBlock { id, .. } => {
@@ -41,7 +47,8 @@ fn push_written(ids: &mut Vec<BlockId>, edit: &Edit) -> Result<(), AllocError>
         Edit::UpdateBlocks { blocks, .. } | Edit::Close { blocks, .. } => {
             push_ids(ids, blocks.as_slice())
         }
-        Edit::StartSegment
+        Edit::Append { path } => push_file(ids, namespace, path),
+        Edit::StartSegment { .. }
         | Edit::EndSegment
         | Edit::Mkdir { .. }
         | Edit::Add { .. }
@@ -51,6 +58,16 @@ fn push_written(ids: &mut Vec<BlockId>, edit: &Edit) -> Result<(), AllocError>
         | Edit::AllocateBlockId { .. }
         | Edit::SetGenstamp { .. } => Ok(()),
     }
+}
+
+// Adds the ids of the blocks of a file, which an append opens.
+fn push_file(ids: &mut Vec<BlockId>, namespace: &Namespace, path: &Path) -> Result<(), AllocError>
+    ensures { OnOk result (ids.new.items ≡ ids.old.items ++ ids_of (file_at namespace.now path.now).blocks) }
+{
+    let Some(Found::File(file)) = namespace.lookup(path) else {
+        return Ok(());
+    };
+    push_ids(ids, file.blocks.as_slice())
 }
 
 fn push_ids(ids: &mut Vec<BlockId>, blocks: &[Block]) -> Result<(), AllocError>

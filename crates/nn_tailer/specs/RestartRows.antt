@@ -1,5 +1,6 @@
 -- A log of three transactions, read from its start and from a checkpoint.
 use Rattle.std.specs.Prelude.{◌≡◌, [], ◌∷◌, map, Ok, Err, codes, refl}
+use Rattle.nn_types.specs.declared.profile.Profile.TheVariants.{One}
 use Rattle.nn_types.specs.declared.edit.Edit.TheVariants.{StartSegment, Mkdir, EndSegment}
 use Rattle.nn_model.specs.declared.form.Form.TheVariants.{Dir}
 use Rattle.nn_model.specs.Namespace.{Namespace, root_alone, with_row}
@@ -12,11 +13,11 @@ abbrev three : Segment
 three = record {
   name = [];
   bytes = [];
-  txs = record { txid = 1; edit = StartSegment } ∷ record { txid = 2; edit = Mkdir (codes "a" ∷ []) } ∷ record { txid = 3; edit = EndSegment } ∷ [];
+  txs = record { txid = 1; edit = StartSegment One } ∷ record { txid = 2; edit = Mkdir (codes "a" ∷ []) } ∷ record { txid = 3; edit = EndSegment } ∷ [];
 }
 
 abbrev fourth : Segment
-fourth = record { name = []; bytes = []; txs = record { txid = 5; edit = StartSegment } ∷ [] }
+fourth = record { name = []; bytes = []; txs = record { txid = 5; edit = StartSegment One } ∷ [] }
 
 -- the namespace at the second transaction
 abbrev made : Namespace

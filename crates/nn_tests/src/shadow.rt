@@ -41,7 +41,7 @@ fn missing_file_stops(rt: HostRuntime) -> Result<(), Fail> {
 
 fn nothing_comes_after_a_refused_edit(rt: &impl Abort, shadow: &mut Shadow, edit: Edit) {
     assert_eq!(rt; apply(shadow, edit), 22);
-    assert_eq!(rt; apply(shadow, Edit::StartSegment), 51);
+    assert_eq!(rt; apply(shadow, Edit::EndSegment), 51);
     assert_eq!(rt; hand(shadow, received(1, 1, B, 1001)), 51);
     assert_eq!(rt; flushed(shadow), 51);
     assert!(rt; shadow.stop().is_some() && !shadow.is_active());

@@ -2,12 +2,12 @@
 use Rattle.std.proofs.Common.{◌≡◌, ℕ, true, false, not, ◌||◌, List, [], ◌∷◌, Some, None, is_some, refl, sym, ap, ◌∙◌, nat_lt, nat_le}
 use Rattle.nn_types.specs.declared.block.Block.{Block}
 use Rattle.nn_types.specs.declared.edit.Edit.TheVariants as edit
-use Rattle.nn_types.specs.declared.edit_fault.EditFault.TheVariants.{NotOpen, BadBlockId, BadGeneration, WrongBlocks, BadReplication}
+use Rattle.nn_types.specs.declared.edit_fault.EditFault.TheVariants.{NotOpen, BadBlockId, BadGeneration, WrongBlocks, BadReplication, NotClosed}
 use Rattle.nn_model.specs.declared.form.Form.{Form}
 use Rattle.nn_model.specs.declared.form.Form.TheVariants.{File}
 use Rattle.nn_model.specs.declared.form.FileRow.{FileRow}
 use Rattle.nn_model.specs.Namespace.{Path, Namespace, lookup, file_or_none, no_stamp}
-use Rattle.nn_model.specs.Apply.{refusal, first, when, walk, is_root, missing, not_file, not_open, checks, list_checks, in_path_order, has_id, keeps_ids, keeps_stamps}
+use Rattle.nn_model.specs.Apply.{refusal, first, when, walk, is_root, missing, not_file, not_open, not_closed, checks, list_checks, in_path_order, has_id, keeps_ids, keeps_stamps}
 use Rattle.nn_model.proofs.Dues.{all_none}
 use Rattle.nn_tree.specs.At.{at, IsSubtree}
 use Rattle.nn_tree.specs.Walks.{mkdir_fault, delete_fault}
@@ -46,6 +46,11 @@ list_applies n p x bs h is_open ids stamps =
     (λ j. first (h.root j ∷ h.walked j ∷ missing (h.stands j) ∷ not_file (h.stands j) ∷ not_open (h.stands j)
     ∷ when (not (keeps_ids (file_or_none (h.stands j)).blocks bs)) WrongBlocks ∷ when (not (keeps_stamps n.issued.last_stamp (file_or_none (h.stands j)).blocks bs)) BadGeneration ∷ []))
     ∙ (λ j. first (when (is_open j) NotOpen ∷ when (ids j) WrongBlocks ∷ when (stamps j) BadGeneration ∷ []))
+
+pub append_applies : (n : Namespace) (p : Path) (x : FileRow) → HasFile n p x → x.closed ≡ true → refusal n (edit.Append p) ≡ None
+append_applies n p x h closed =
+    (λ j. first (h.root j ∷ h.walked j ∷ missing (h.stands j) ∷ not_file (h.stands j) ∷ not_closed (h.stands j) ∷ []))
+    ∙ ap (λ b. first (when (not b) NotClosed ∷ [])) closed
 
 pub set_replication_applies : (n : Namespace) (p : Path) (x : FileRow) (r : ℕ) → HasFile n p x → (nat_lt r 1 || nat_lt 512 r) ≡ false → refusal n (edit.SetReplication p r) ≡ None
 set_replication_applies n p x r h range = λ j. first (h.root j ∷ when (range j) BadReplication ∷ h.walked j ∷ missing (h.stands j) ∷ not_file (h.stands j) ∷ [])

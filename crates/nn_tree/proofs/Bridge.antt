@@ -5,12 +5,12 @@ use Rattle.std.specs.FinMap.Entries.{find as find_entry}
 use Rattle.nn_types.specs.declared.block.Block.{Block}
 use Rattle.nn_types.specs.declared.edit.Edit.TheVariants as edit
 use Rattle.nn_types.specs.declared.edit_fault.EditFault.{EditFault}
-use Rattle.nn_types.specs.declared.edit_fault.EditFault.TheVariants.{NotOpen, BadReplication, BadBlockId, BadGeneration, WrongBlocks}
+use Rattle.nn_types.specs.declared.edit_fault.EditFault.TheVariants.{NotOpen, NotClosed, BadReplication, BadBlockId, BadGeneration, WrongBlocks}
 use Rattle.nn_model.specs.declared.form.Form.{Form}
 use Rattle.nn_model.specs.declared.form.Form.TheVariants.{File}
 use Rattle.nn_model.specs.declared.form.FileRow.{FileRow}
 use Rattle.nn_model.specs.Namespace.{Path, Namespace, path_cmp, lookup, file_or_none, no_stamp}
-use Rattle.nn_model.specs.Apply.{refusal, first, when, walk, is_root, exists, missing, not_file, not_open, list_checks, in_path_order, has_id, keeps_ids, keeps_stamps}
+use Rattle.nn_model.specs.Apply.{refusal, first, when, walk, is_root, exists, missing, not_file, not_open, not_closed, list_checks, in_path_order, has_id, keeps_ids, keeps_stamps}
 use Rattle.nn_model.proofs.Lookups.{find_in_order}
 use Rattle.nn_tree.specs.At.{at}
 use Rattle.nn_tree.specs.Walks.{file_fault}
@@ -42,6 +42,11 @@ pub list_at : (es : List (Path × Form)) (n : Namespace) (p ns : Path) (x : File
 list_at es n p ns x bs h k f g =
     let more : Option Form → List (Option EditFault) = λ o. not_open o ∷ when (not (keeps_ids (file_or_none o).blocks bs)) WrongBlocks ∷ when (not (keeps_stamps n.issued.last_stamp (file_or_none o).blocks bs)) BadGeneration ∷ [] in
     ap (λ o. first (more o)) (sym g ∙ (λ j. looks es n h j (k j))) ∙ file_found es n p ns (more (lookup n p)) h k f
+
+pub append_at : (es : List (Path × Form)) (n : Namespace) (p ns : Path) (x : FileRow) → in_path_order es ≡ n.rows → ns ≡ p → file_fault (at es) ns ≡ None → at es ns ≡ Some (File x) →
+    first (when (not x.closed) NotClosed ∷ []) ≡ refusal n (edit.Append p)
+append_at es n p ns x h k f g =
+    ap (λ o. first (not_closed o ∷ [])) (sym g ∙ (λ j. looks es n h j (k j))) ∙ file_found es n p ns (not_closed (lookup n p) ∷ []) h k f
 
 -- the checks of Add and of SetReplication, past the first two
 pub add_past : (n : Namespace) (p : Path) (r : ℕ) → is_root p ≡ None → (nat_lt r 1 || nat_lt 512 r) ≡ false → refusal n (edit.Mkdir p) ≡ refusal n (edit.Add p r)

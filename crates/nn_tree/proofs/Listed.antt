@@ -1,7 +1,7 @@
 -- The index after a file's list was replaced.
 use Rattle.std.proofs.Common.{inl, inr, ◌≡◌, ℕ, Bool, true, false, cond, ◌≤◌, ◌+◌, List, map, drop, [], ◌∷◌, length, Option, Some, None, is_some, refl, sym, ap, subst, ◌∙◌, arith}
 use Rattle.std.specs.Prelude.{◌==◌, option_map}
-use Rattle.std.proofs.lemmas.Bool.{both_ways, eqb-true, eq-eqb, ne_eqb, not-false, and_parts}
+use Rattle.std.proofs.lemmas.Bool.{both_ways, eqb-true, eq-eqb, ne_eqb, not-false, and_parts, and_from}
 use Rattle.nn_types.specs.declared.block.Block.{Block}
 use Rattle.nn_types.specs.declared.edit.Edit.TheVariants as edit
 use Rattle.nn_types.specs.LawfulEdit.{IsLawfulEdit}
@@ -9,7 +9,7 @@ use Rattle.nn_model.proofs.Trees.{stays_well_formed}
 use Rattle.nn_model.specs.declared.form.Form.TheVariants.{Dir, File}
 use Rattle.nn_model.specs.declared.form.FileRow.{FileRow}
 use Rattle.nn_model.specs.Namespace.{Namespace, lookup, file_at, file_or_none}
-use Rattle.nn_model.specs.Apply.{first, list_checks, with_blocks, keeps_ids}
+use Rattle.nn_model.specs.Apply.{first, refusal, effect, list_checks, with_blocks, keeps_ids}
 use Rattle.nn_model.specs.Blocks.{block_row}
 use Rattle.nn_model.specs.Touched.{listed, ids_of}
 use Rattle.nn_model.specs.WellFormed.{Has, times, IsWellFormed}
@@ -83,16 +83,15 @@ list_stays : (n : Namespace) (p : Path) (bs : List Block) (closed : Bool) → Is
 list_stays n p bs true l lawful w = stays_well_formed n (edit.Close p bs) l lawful w
 list_stays n p bs false l lawful w = stays_well_formed n (edit.UpdateBlocks p bs) l lawful w
 
-pub list_kept : (n : Namespace) (p : Path) (bs : List Block) (closed : Bool) (x : FileRow) (look next : ℕ → Option BlockRow) → IsLawfulEdit (edit.Close p bs) → first (list_checks n p bs) ≡ None → lookup n p ≡ Some (File x) → ((q : ℕ) → next q ≡ renewed look (file_at n p).blocks bs closed q) → IsKept n look → IsKept (with_blocks n p bs closed) next
-list_kept n p bs closed x look next l lawful was goes k =
-    let found = all_none (list_checks n p bs) lawful in
-    let ids : keeps_ids (file_at n p).blocks bs ≡ true = not-false _ (when_none _ _ found.1.1.1.1.1.0) in
+-- a list with the same ids in place of a file's, in a file that is closed or open now
+written_kept : (n : Namespace) (p : Path) (bs : List Block) (closed : Bool) (x : FileRow) (look next : ℕ → Option BlockRow) → keeps_ids (file_at n p).blocks bs ≡ true → IsWellFormed (with_blocks n p bs closed) → lookup n p ≡ Some (File x) → ((q : ℕ) → next q ≡ renewed look (file_at n p).blocks bs closed q) → IsKept n look → IsKept (with_blocks n p bs closed) next
+written_kept n p bs closed x look next ids well was goes k =
     let f = file_at n p in
     let y : FileRow = record { replication = f.replication; closed = closed; blocks = bs } in
     let stood : (o : Block) → Has f.blocks o → look o.id ≡ Some (record { block = o; closed = x.closed }) = λ o h. k.index.complete (record { block = o; closed = x.closed }) (p, File x, was, (refl, subst (λ r. Has (old_blocks r) o) was h)) in
     let once : (id : ℕ) → times id f.blocks ≤ 1 = λ id. omega (arith, times_put id p Dir n.rows k.well.blocks.in_order, k.well.blocks.once id) in
     record {
-      well = list_stays n p bs closed l lawful k.well;
+      well = well;
       index = put_index n p (File y) look next (record {
         own = old_own n p (File y) k.well.blocks (λ z h. old_one f.blocks bs z ids h);
         written = λ c h.
@@ -102,6 +101,19 @@ list_kept n p bs closed x look next l lawful was goes k =
         gone = λ z old away. goes z.id ∙ renewed_gone look closed f.blocks bs z ids old away;
       }) k.index;
     }
+
+pub list_kept : (n : Namespace) (p : Path) (bs : List Block) (closed : Bool) (x : FileRow) (look next : ℕ → Option BlockRow) → IsLawfulEdit (edit.Close p bs) → first (list_checks n p bs) ≡ None → lookup n p ≡ Some (File x) → ((q : ℕ) → next q ≡ renewed look (file_at n p).blocks bs closed q) → IsKept n look → IsKept (with_blocks n p bs closed) next
+list_kept n p bs closed x look next l lawful was goes k =
+    let found = all_none (list_checks n p bs) lawful in
+    written_kept n p bs closed x look next (not-false _ (when_none _ _ found.1.1.1.1.1.0)) (list_stays n p bs closed l lawful k.well) was goes k
+
+keeps_itself : (bs : List Block) → keeps_ids bs bs ≡ true
+keeps_itself [] = refl
+keeps_itself (b ∷ bs) = and_from (b.id == b.id) (keeps_ids bs bs) (eq-eqb b.id b.id refl) (keeps_itself bs)
+
+pub append_kept : (n : Namespace) (p : Path) (x : FileRow) (look next : ℕ → Option BlockRow) → IsLawfulEdit (edit.Append p) → refusal n (edit.Append p) ≡ None → lookup n p ≡ Some (File x) → ((q : ℕ) → next q ≡ renewed look (file_at n p).blocks (file_at n p).blocks false q) → IsKept n look → IsKept (effect n (edit.Append p)) next
+append_kept n p x look next l applies was goes k =
+    written_kept n p (file_at n p).blocks false x look next (keeps_itself (file_at n p).blocks) (stays_well_formed n (edit.Append p) l applies k.well) was goes k
 
 -- what a new list touched
 pub list_touched : (n : Namespace) (p : Path) (bs : List Block) (closed : Bool) (x : FileRow) → lookup n p ≡ Some (File x) →

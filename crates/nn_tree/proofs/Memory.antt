@@ -2,11 +2,11 @@
 use Rattle.std.proofs.Common.{◌≡◌, Bool, true, false, List, [], ◌∷◌, Option, Some, None}
 use Rattle.nn_types.specs.declared.block.Block.{Block}
 use Rattle.nn_types.specs.declared.edit.Edit.{Edit}
-use Rattle.nn_types.specs.declared.edit.Edit.TheVariants.{StartSegment, EndSegment, Mkdir, Add, AddBlock, UpdateBlocks, Close, Rename, Delete, SetReplication, AllocateBlockId, SetGenstamp}
+use Rattle.nn_types.specs.declared.edit.Edit.TheVariants.{StartSegment, EndSegment, Mkdir, Add, AddBlock, UpdateBlocks, Close, Append, Rename, Delete, SetReplication, AllocateBlockId, SetGenstamp}
 use Rattle.nn_model.specs.declared.form.Form.{Form}
 use Rattle.nn_model.specs.declared.form.Form.TheVariants.{Dir, File}
 use Rattle.nn_types.specs.declared.edit_fault.EditFault.{EditFault}
-use Rattle.nn_types.specs.declared.edit_fault.EditFault.TheVariants.{Exists, Missing, NotFile, NotOpen, IntoItself, WrongBlocks, BadGeneration, BadBlockId, BadReplication, OutOfMemory}
+use Rattle.nn_types.specs.declared.edit_fault.EditFault.TheVariants.{Exists, Missing, NotFile, NotOpen, IntoItself, WrongBlocks, BadGeneration, BadBlockId, BadReplication, NotClosed, OutOfMemory}
 use Rattle.nn_model.specs.Namespace.{Path, Namespace, lookup}
 use Rattle.nn_model.specs.Apply.{first, when, is_root, in_directory, walk, checks, list_checks, refusal}
 
@@ -65,6 +65,9 @@ is_bad_generation e = absurd (cc)
 is_bad_block_id : IsOther (Some BadBlockId)
 is_bad_block_id e = absurd (cc)
 
+is_not_closed : IsOther (Some NotClosed)
+is_not_closed e = absurd (cc)
+
 is_bad_replication : IsOther (Some BadReplication)
 is_bad_replication e = absurd (cc)
 
@@ -72,13 +75,14 @@ others_of_list : (n : Namespace) (p : Path) (bs : List Block) → AreOthers (lis
 others_of_list n p bs = (other_root p, (other_walk (lookup n) p, (other_when _ Missing is_missing, (other_when _ NotFile is_not_file, (other_when _ NotOpen is_not_open, (other_when _ WrongBlocks is_wrong_blocks, (other_when _ BadGeneration is_bad_generation, tt)))))))
 
 others : (n : Namespace) (edit : Edit) → AreOthers (checks n edit)
-others n StartSegment = tt
+others n (StartSegment profile) = tt
 others n EndSegment = tt
 others n (Mkdir p) = (other_root p, (other_walk (lookup n) p, (other_when _ Exists is_exists, tt)))
 others n (Add p r) = (other_root p, (other_when _ BadReplication is_bad_replication, (other_walk (lookup n) p, (other_when _ Exists is_exists, tt))))
 others n (AddBlock p i stamp) = (other_root p, (other_walk (lookup n) p, (other_when _ Missing is_missing, (other_when _ NotFile is_not_file, (other_when _ NotOpen is_not_open, (other_when _ BadBlockId is_bad_block_id, (other_when _ BadGeneration is_bad_generation, tt)))))))
 others n (UpdateBlocks p bs) = others_of_list n p bs
 others n (Close p bs) = others_of_list n p bs
+others n (Append p) = (other_root p, (other_walk (lookup n) p, (other_when _ Missing is_missing, (other_when _ NotFile is_not_file, (other_when _ NotClosed is_not_closed, tt)))))
 others n (Rename s d) = (other_root s, (other_root d, (other_walk (lookup n) s, (other_when _ Missing is_missing, (other_when _ IntoItself is_into_itself, (other_walk (lookup n) d, (other_when _ Exists is_exists, tt)))))))
 others n (Delete p) = (other_root p, (other_walk (lookup n) p, (other_when _ Missing is_missing, tt)))
 others n (SetReplication p r) = (other_root p, (other_when _ BadReplication is_bad_replication, (other_walk (lookup n) p, (other_when _ Missing is_missing, (other_when _ NotFile is_not_file, tt)))))

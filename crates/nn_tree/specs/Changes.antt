@@ -33,6 +33,12 @@ GetsList bs closed last told x y =
     × (seen told.0 ≡ record { changed = map (λ b. block_row closed b) bs; retired = map (λ b. b.id) (drop (length bs) x.blocks); skipped = None })
     × (told.1 ≡ x.blocks)
 
+-- The closed file x was opened. Told are what that touched, and its blocks.
+abbrev pub Opens : Told × List Block → FileRow → FileRow → Type 0
+Opens told x y =
+    (x.closed ≡ true) × (y ≡ record { replication = x.replication; closed = false; blocks = x.blocks })
+    × (seen told.0 ≡ record { changed = map (λ b. block_row false b) x.blocks; retired = []; skipped = None }) × (told.1 ≡ x.blocks)
+
 -- the file x got another replication
 abbrev pub GetsReplication : ℕ → FileRow → FileRow → Type 0
 GetsReplication r x y = y ≡ record { replication = r; closed = x.closed; blocks = x.blocks }

@@ -1,5 +1,6 @@
 -- How large some listings are, and which edits ask for memory.
 use Rattle.std.specs.Prelude.{◌≡◌, true, false, List, [], ◌∷◌, map, codes, refl}
+use Rattle.nn_types.specs.declared.profile.Profile.TheVariants.{One}
 use Rattle.nn_types.specs.declared.edit.Edit.TheVariants.{StartSegment, EndSegment, Mkdir, Add, AddBlock, UpdateBlocks, Close, Rename, Delete, SetReplication, AllocateBlockId, SetGenstamp}
 use Rattle.nn_model.specs.declared.form.Form.{Form}
 use Rattle.nn_model.specs.declared.form.Form.TheVariants.{Dir, File}
@@ -37,5 +38,5 @@ asks : map takes_memory (Mkdir [] ∷ Add [] 1 ∷ AddBlock [] 1 1 ∷ UpdateBlo
     ≡ true ∷ true ∷ true ∷ true ∷ true ∷ true ∷ true ∷ true ∷ []
 asks = refl
 
-asks_not : map takes_memory (StartSegment ∷ EndSegment ∷ SetReplication [] 1 ∷ SetGenstamp 1 ∷ []) ≡ false ∷ false ∷ false ∷ false ∷ []
+asks_not : map takes_memory (StartSegment One ∷ EndSegment ∷ SetReplication [] 1 ∷ SetGenstamp 1 ∷ []) ≡ false ∷ false ∷ false ∷ false ∷ []
 asks_not = refl

@@ -112,13 +112,14 @@ impl Namespace {
         ensures { result ≡ refusal self.now edit.now }
     {
         match edit {
-            Edit::StartSegment | Edit::EndSegment => None,
+            Edit::StartSegment { .. } | Edit::EndSegment => None,
             Edit::Mkdir { path } => self.mkdir_refusal(path),
             Edit::Add { path, replication } => self.add_refusal(path, *replication),
             Edit::AddBlock { path, id, stamp } => self.add_block_refusal(path, *id, *stamp),
             Edit::UpdateBlocks { path, blocks } | Edit::Close { path, blocks } => {
                 self.list_refusal(path, blocks)
             }
+            Edit::Append { path } => self.append_refusal(path),
             Edit::Rename { src, dst } => self.rename_refusal(src, dst),
             Edit::Delete { path } => self.delete_refusal(path),
             Edit::SetReplication { path, replication } => {
@@ -237,8 +238,8 @@ fn lawful(edit: &Edit)
     ensures { IsLawfulEdit edit.now }
 {
     match edit {
-        Edit::StartSegment | Edit::EndSegment => {}
-        Edit::Mkdir { path } | Edit::Delete { path } => {
+        Edit::StartSegment { .. } | Edit::EndSegment => {}
+        Edit::Mkdir { path } | Edit::Append { path } | Edit::Delete { path } => {
             path.names();
         }
         Edit::Add { path, replication } | Edit::SetReplication { path, replication } => {

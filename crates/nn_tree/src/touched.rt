@@ -73,6 +73,19 @@ impl Touched {
         })
     }
 
+    /// The blocks of a file that is open again.
+    pub(crate) fn opened(alloc: Global, blocks: &[Block]) -> Result<Touched, AllocError>
+        ensures { IfOk result (λ t. seen t ≡ record nothing { changed = map (λ b. block_row false b) blocks.now }) }
+    {
+        let mut changed = Vec::with_capacity(alloc, blocks.len())?;
+        push_rows(&mut changed, blocks, false)?;
+        Ok(Touched {
+            changed,
+            retired: Vec::new(alloc),
+            skipped: None,
+        })
+    }
+
     /// Ids that left the namespace.
     pub(crate) fn deleted(alloc: Global, retired: Vec<BlockId>) -> Touched
         ensures { seen result ≡ record nothing { retired = retired.items } }

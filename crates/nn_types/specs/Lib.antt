@@ -4,8 +4,10 @@ pub mod Due
 pub mod Path
 pub mod Fault
 pub mod Settings
+pub mod Profile
 pub mod LawfulEdit
 pub mod EditFault
 pub mod Words
 pub mod PathRows
 pub mod FaultRows
+pub mod ProfileRows

@@ -31,6 +31,8 @@ pub enum EditFault {
     BadBlockId,
     #[error("the replication is not 1 to 512")]
     BadReplication,
+    #[error("the file is open")]
+    NotClosed,
     #[error("out of memory")]
     OutOfMemory,
 }
@@ -52,6 +54,7 @@ impl EditFault {
             EditFault::BadGeneration => fault::BAD_GENERATION,
             EditFault::BadBlockId => fault::BAD_BLOCK_ID,
             EditFault::BadReplication => fault::BAD_REPLICATION,
+            EditFault::NotClosed => fault::NOT_CLOSED,
             EditFault::OutOfMemory => fault::MEMORY,
         }
     }

@@ -33,6 +33,8 @@ pub const NAME_MISMATCH: u8 = 16;
 pub const TOO_LONG: u8 = 17;
 /// A line of a segment is no transaction.
 pub const BAD_LINE: u8 = 18;
+/// A segment of profile 1 has an append.
+pub const WRONG_PROFILE: u8 = 19;
 
 /// The path is there already.
 pub const EXISTS: u8 = 21;
@@ -56,6 +58,8 @@ pub const BAD_GENERATION: u8 = 29;
 pub const BAD_BLOCK_ID: u8 = 30;
 /// A replication is outside 1 to 512.
 pub const BAD_REPLICATION: u8 = 31;
+/// The file is open.
+pub const NOT_CLOSED: u8 = 32;
 
 /// A lane has no place left.
 pub const FULL: u8 = 41;

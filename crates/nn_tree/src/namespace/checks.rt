@@ -72,6 +72,19 @@ impl Namespace {
         None
     }
 
+    pub(super) fn append_refusal(&self, path: &Path) -> Option<EditFault>
+        ensures { result ≡ refusal self.now (edit.Append path.now) }
+    {
+        let file = match self.root.file(&path.names()) {
+            Err(fault) => return Some(fault),
+            Ok(file) => file,
+        };
+        if !file.closed {
+            return Some(EditFault::NotClosed);
+        }
+        None
+    }
+
     pub(super) fn rename_refusal(&self, src: &Path, dst: &Path) -> Option<EditFault>
         ensures { result ≡ refusal self.now (edit.Rename src.now dst.now) }
     {

@@ -26,12 +26,13 @@ impl Namespace {
         ensures spare { OnErr result (takes_memory edit.now ≡ false → refusal self.old edit.now ≢ None) }
     {
         match edit {
-            Edit::StartSegment | Edit::EndSegment => Ok(Touched::nothing(self.alloc)),
+            Edit::StartSegment { .. } | Edit::EndSegment => Ok(Touched::nothing(self.alloc)),
             Edit::Mkdir { path } => self.mkdir(path),
             Edit::Add { path, replication } => self.add(path, *replication),
             Edit::AddBlock { path, id, stamp } => self.add_block(path, *id, *stamp),
             Edit::UpdateBlocks { path, blocks } => self.update_blocks(path, blocks),
             Edit::Close { path, blocks } => self.close(path, blocks),
+            Edit::Append { path } => self.append(path),
             Edit::Rename { src, dst } => self.rename(src, dst),
             Edit::Delete { path } => self.delete(path),
             Edit::SetReplication { path, replication } => self.set_replication(path, *replication),
@@ -147,6 +148,23 @@ impl Namespace {
             return Err(Unchanged);
         };
         renew(&mut self.index, old.as_slice(), blocks.as_slice(), closed);
+        Ok(touched)
+    }
+
+    // Opens a closed file. The rows of its blocks are open then.
+    fn append(&mut self, path: &Path) -> Result<Touched, Unchanged>
+        requires lawful { IsLawfulEdit (edit.Append path.now) }
+        ensures { Does (edit.Append path.now) self.old result self.new }
+    {
+        let names = path.names();
+        if names.is_empty() {
+            return Err(Unchanged);
+        }
+        let Ok((touched, blocks)) = self.root.append(&names, self.alloc) else {
+            return Err(Unchanged);
+        };
+        let blocks = blocks.as_slice();
+        renew(&mut self.index, blocks, blocks, false);
         Ok(touched)
     }
 

@@ -3,7 +3,7 @@ ghost use Rattle.std.specs.Prelude.{◌≡◌, false, IfOk, OnOk, OnErr};
 ghost use Rattle.nn_model.specs.Apply.{keeps_ids, keeps_stamps};
 ghost use Rattle.nn_tree.specs.At.{at, IsSame};
 ghost use Rattle.nn_tree.specs.Walks.{is_file};
-ghost use Rattle.nn_tree.specs.Changes.{IsFileChanged, GetsBlock, GetsList, GetsReplication};
+ghost use Rattle.nn_tree.specs.Changes.{IsFileChanged, GetsBlock, GetsList, GetsReplication, Opens};
 
 use super::{Node, Tree, Unchanged};
 use crate::touched::Touched;
@@ -70,6 +70,36 @@ impl Tree {
             return Err(Unchanged);
         };
         child.set_blocks(&rest, alloc, blocks, closed, last_stamp)
+    }
+
+    /// Opens a closed file, and tells what that touched and its blocks.
+    pub(crate) fn append(
+        &mut self,
+        names: &Names<'_>,
+        alloc: Global,
+    ) -> Result<(Touched, Blocks), Unchanged>
+        ensures ok { IfOk result (λ done. IsFileChanged self.old names.now self.new (Opens done)) }
+        ensures err { OnErr result (IsSame self.old self.new) }
+    {
+        let Some((first, rest)) = names.split_first() else {
+            let Node::Leaf(file) = &mut self.node else {
+                return Err(Unchanged);
+            };
+            return open_closed(alloc, file);
+        };
+        if let Node::Narrow(name, child) = &mut self.node {
+            if name.as_str() != first {
+                return Err(Unchanged);
+            }
+            return child.append(&rest, alloc);
+        }
+        let Node::Folder(children) = &mut self.node else {
+            return Err(Unchanged);
+        };
+        let Some(child) = children.get_mut(first) else {
+            return Err(Unchanged);
+        };
+        child.append(&rest, alloc)
     }
 
     /// Gives a file another replication.
@@ -150,6 +180,24 @@ fn list_open(
     let before = mem::replace(&mut file.blocks, copy);
     file.closed = closed;
     Ok((touched, before))
+}
+
+// Opens a file that is closed. Growth comes before change.
+fn open_closed(alloc: Global, file: &mut FileRow) -> Result<(Touched, Blocks), Unchanged>
+    ensures ok { IfOk result (λ done. Opens done file.old file.new) }
+    ensures err { OnErr result (file.new ≡ file.old) }
+{
+    if !file.closed {
+        return Err(Unchanged);
+    }
+    let Ok(touched) = Touched::opened(alloc, file.blocks.as_slice()) else {
+        return Err(Unchanged);
+    };
+    let Ok(copy) = file.blocks.copied() else {
+        return Err(Unchanged);
+    };
+    file.closed = false;
+    Ok((touched, copy))
 }
 
 /// Whether the new list has the ids of the old one, all of them or all but the last.

@@ -9,3 +9,9 @@ unfolding slot_of
 returns-in-replication c =
     let spelled = text_from_reads c.args.key.now (codes "replication") (omega arith) (search rules) in
     rw spelled refl
+
+pub returns-in-profile : goal.returns-in-profile
+unfolding slot_of
+returns-in-profile c =
+    let spelled = text_from_reads c.args.key.now (codes "profile") (omega arith) (search rules) in
+    rw spelled refl

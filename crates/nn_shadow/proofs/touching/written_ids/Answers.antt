@@ -7,4 +7,4 @@ use Rattle.nn_shadow.proofs.touching.written_ids.Goals as goal
 pub returns : goal.returns
 returns c =
     inr (sorted_is c.push_written.new.ids.items c.sort_unstable.new.self.items c.sort_unstable.ensures.permutation c.sort_unstable.ensures.sorted
-    ∙ ap ascending (c.in-Ok.ensures ∙ ap (λ xs. xs ++ written c.args.edit.now) c.new-ids.ensures.items))
+    ∙ ap ascending (c.in-Ok.ensures ∙ ap (λ xs. xs ++ written c.args.namespace.now c.args.edit.now) c.new-ids.ensures.items))

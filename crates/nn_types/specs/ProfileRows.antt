@@ -1,0 +1,10 @@
+-- Profiles and their numbers.
+use Rattle.std.specs.Prelude.{◌≡◌, [], ◌∷◌, map, Some, None, refl}
+use Rattle.nn_types.specs.declared.profile.Profile.TheVariants.{One, Two}
+use Rattle.nn_types.specs.Profile.{number_of, profile_of}
+
+numbers : map number_of (One ∷ Two ∷ []) ≡ 1 ∷ 2 ∷ []
+numbers = refl
+
+of_numbers : map profile_of (0 ∷ 1 ∷ 2 ∷ 3 ∷ []) ≡ None ∷ Some One ∷ Some Two ∷ None ∷ []
+of_numbers = refl

@@ -1,7 +1,7 @@
 //! A namespace, and its image as a text.
 use crate::call::Call;
 use nn_edits::{Scratch, read_edit};
-use nn_image::{image_name, load, save};
+use nn_image::{image_name, load, rewrite, save};
 use nn_tree::{Found, Namespace, Touched};
 use nn_types::{Path, Status, text_of};
 
@@ -15,6 +15,8 @@ pub fn change(files: &mut Namespace, text: &mut Vec<u8>, call: &mut Call<'_>) ->
         text.clear();
         let txid = call.number(1);
         call.failed = save(call.alloc, files, txid, text).is_err() || call.failed;
+    } else if call.is("rewrite") {
+        write_again(text, call);
     } else if call.is("show") {
         show_lines(text, call);
     } else if call.is("image_name") {
@@ -68,6 +70,16 @@ fn restore(files: &mut Namespace, text: &[u8], call: &mut Call<'_>) {
     }
 }
 
+// Puts what an image is written as in its place, and answers its txid.
+fn write_again(text: &mut Vec<u8>, call: &mut Call<'_>) {
+    let mut written = Vec::new(call.alloc);
+    match rewrite(call.alloc, &mut &text[..], &mut written) {
+        Ok(txid) => call.show(&txid),
+        Err(fault) => call.fault(fault.number(), &fault),
+    }
+    *text = written;
+}
+
 // The lines of a text, with a blank between them.
 fn show_lines(text: &[u8], call: &mut Call<'_>) {
     let Ok(text) = str::from_utf8(text) else {
@@ -101,6 +113,7 @@ fn read(files: &Namespace, call: &mut Call<'_>) -> bool {
     } else if call.is("issued") {
         call.show(&files.last_block().get());
         call.show(&files.last_stamp().get());
+        call.show(&files.profile());
     } else {
         return false;
     }

@@ -117,7 +117,7 @@ with_an_image : output_of (record usual { image = true }) (lines (
     ∷ codes "file \"/f\" 3 open"
     ∷ codes "blocks 0 safe 0 needed 0 mode off"
     ∷ codes "image"
-    ∷ codes "{\"awaiting\":[1073741825],\"image\":\"hdfs-standby\",\"last_block\":1073741825,\"last_gen\":1001,\"txid\":5,\"version\":1}"
+    ∷ codes "{\"awaiting\":[1073741825],\"image\":\"hdfs-standby\",\"last_block\":1073741825,\"last_gen\":1001,\"profile\":1,\"txid\":5,\"version\":2}"
     ∷ codes "{\"blocks\":[],\"closed\":false,\"path\":\"/f\",\"replication\":3,\"type\":\"file\"}"
     ∷ codes "{\"end\":1}" ∷ [])
 unfolding output_of read_segment fault_of txids_of name_text name_digits reads_of edit_of_line end_of_txs scenario_of lines_from segments_from cut_from end_of_log digits escape_byte datanodes either_of_line either_in report_in dn_in kind_in kind_of object_in value_of tx_in op_in op_of txid_in whole_in number_in path_in profile_in edit_in blocks_in items_in block_in is_utf8 chars encode value punctuate lex content word after_number number_of scan_numeral image_text head_data form_data end_data

@@ -1,5 +1,5 @@
 -- What is read of a line keeps the limits of the types.
-use Rattle.std.proofs.Common.{◌≡◌, ℕ, ◌<◌, ◌^◌, List, [], ◌∷◌, Bool, true, false, cond, ◌&&◌, Option, Some, None, Ok, Err, refl, ap, subst, ◌∙◌, codes, leb, ltb, leb-true}
+use Rattle.std.proofs.Common.{◌≡◌, ℕ, ◌<◌, ◌^◌, List, [], ◌∷◌, Bool, true, false, cond, ◌&&◌, ◌||◌, Option, Some, None, Ok, Err, refl, ap, subst, ◌∙◌, codes, leb, ltb, leb-true}
 use Rattle.std.specs.Str.{bytes_eq}
 use Rattle.std.specs.Prelude.{option_and_then}
 use Rattle.std.specs.Option.{ok_or}
@@ -20,7 +20,7 @@ use Rattle.nn_tree.specs.Restore.{bare, awaiting_fits, replication_fits}
 use Rattle.nn_tree.proofs.Restored.{bare_is_well_formed}
 use Rattle.nn_tree.proofs.RestoredFile.{IsLawfulForm}
 use Rattle.nn_image.specs.declared.fault.ImageFault.TheVariants.{NotHeader, BadVersion}
-use Rattle.nn_image.specs.Reading.{◌>>=◌, limited, number_of, number_in, text_in, flag_in, array_in, path_in, block_of, gathered, blocks_at, numbers_at, replication_in, file_in, form_of, form_in, row_in, is_header, fields_in, of_version, of_header}
+use Rattle.nn_image.specs.Reading.{◌>>=◌, limited, number_of, number_in, text_in, flag_in, array_in, path_in, block_of, gathered, blocks_at, numbers_at, replication_in, file_in, form_of, form_in, row_in, is_header, profile_in, fields_in, of_version, of_header}
 use Rattle.nn_image.proofs.Rows.{and_true}
 
 -- what a chain of steps went through
@@ -35,6 +35,9 @@ picked false x y e = absurd (cc)
 small : (o : Option ℕ) (k : ℕ) → limited o ≡ Some k → IsNumber k
 small None k e = absurd (cc)
 small (Some n) k e = let both = picked (ltb n (2 ^ 63)) n k e in subst IsNumber both.1 (ltb-true n (2 ^ 63) both.0)
+
+pub number_small : (d : Data) (k : ℕ) → number_of d ≡ Some k → k < 2 ^ 63
+number_small d k e = small (option_and_then as_u64 (as_number d)) k e
 
 small_in : (key : List ℕ) (d : Data) (k : ℕ) → number_in key d ≡ Some k → IsNumber k
 unfolding number_in
@@ -96,47 +99,49 @@ pub record HasHeader (head : Namespace × ℕ) : Type 0 where
   pub is_bare : head.0 ≡ bare head.0.issued
   pub well : IsWellFormed head.0
 
-fields_lawful : (d : Data) (head : Namespace × ℕ) → fields_in d ≡ Some head → HasHeader head
+fields_lawful : (v : ℕ) (d : Data) (head : Namespace × ℕ) → fields_in v d ≡ Some head → HasHeader head
 unfolding fields_in
-fields_lawful d head e =
+fields_lawful v d head e =
     let mark = bound (text_in (codes "image") d) _ head e in
     let txid = bound (number_in (codes "txid") d) _ head mark.2 in
     let block = bound (number_in (codes "last_block") d) _ head txid.2 in
     let stamp = bound (number_in (codes "last_gen") d) _ head block.2 in
     let ids = bound (numbers_at (codes "awaiting") d) _ head stamp.2 in
-    let all = picked (is_header mark.0 block.0 stamp.0 ids.0) (bare (record { last_block = block.0; last_stamp = stamp.0; awaiting = ids.0 }), txid.0) head ids.2 in
+    let profile = bound (profile_in v d) _ head ids.2 in
+    let all = picked (is_header mark.0 block.0 stamp.0 ids.0) (bare (record { last_block = block.0; last_stamp = stamp.0; awaiting = ids.0; profile = profile.0 }), txid.0) head profile.2 in
     let fits = and_true (bytes_eq mark.0 (codes "hdfs-standby") && leb 1073741824 block.0 && leb 1000 stamp.0) (awaiting_fits block.0 ids.0) all.0 in
     let old = and_true (bytes_eq mark.0 (codes "hdfs-standby") && leb 1073741824 block.0) (leb 1000 stamp.0) fits.0 in
     let low = and_true (bytes_eq mark.0 (codes "hdfs-standby")) (leb 1073741824 block.0) old.0 in
     subst HasHeader all.1 (record {
       is_bare = refl;
-      well = bare_is_well_formed (record { last_block = block.0; last_stamp = stamp.0; awaiting = ids.0 }) (leb-true _ _ low.1) (small_in _ d block.0 block.1) (leb-true _ _ old.1) (small_in _ d stamp.0 stamp.1) fits.1;
+      well = bare_is_well_formed (record { last_block = block.0; last_stamp = stamp.0; awaiting = ids.0; profile = profile.0 }) (leb-true _ _ low.1) (small_in _ d block.0 block.1) (leb-true _ _ old.1) (small_in _ d stamp.0 stamp.1) fits.1;
     })
 
 -- the txid is a number below 2^63
-pub txid_limit : (d : Data) (head : Namespace × ℕ) → fields_in d ≡ Some head → head.1 < 2 ^ 63
+pub txid_limit : (v : ℕ) (d : Data) (head : Namespace × ℕ) → fields_in v d ≡ Some head → head.1 < 2 ^ 63
 unfolding fields_in
-txid_limit d head e =
+txid_limit v d head e =
     let mark = bound (text_in (codes "image") d) _ head e in
     let txid = bound (number_in (codes "txid") d) _ head mark.2 in
     let block = bound (number_in (codes "last_block") d) _ head txid.2 in
     let stamp = bound (number_in (codes "last_gen") d) _ head block.2 in
     let ids = bound (numbers_at (codes "awaiting") d) _ head stamp.2 in
-    let all = picked (is_header mark.0 block.0 stamp.0 ids.0) (bare (record { last_block = block.0; last_stamp = stamp.0; awaiting = ids.0 }), txid.0) head ids.2 in
+    let profile = bound (profile_in v d) _ head ids.2 in
+    let all = picked (is_header mark.0 block.0 stamp.0 ids.0) (bare (record { last_block = block.0; last_stamp = stamp.0; awaiting = ids.0; profile = profile.0 }), txid.0) head profile.2 in
     subst (λ (h : Namespace × ℕ). h.1 < 2 ^ 63) all.1 (small_in _ d txid.0 txid.1)
 
 pub header_lawful : (o : Option Data) (head : Namespace × ℕ) → of_header o ≡ Ok head → HasHeader head
 header_lawful None head e = absurd (cc)
 header_lawful (Some d) head e = version (number_in (codes "version") d) e
   where
-    or_not : (o : Option (Namespace × ℕ)) → fields_in d ≡ o → ok_or o NotHeader ≡ Ok head → HasHeader head
-    or_not None is h = absurd (cc)
-    or_not (Some x) is h = let same : x ≡ head = cc in fields_lawful d head (is ∙ ap Some same)
+    or_not : (v : ℕ) (o : Option (Namespace × ℕ)) → fields_in v d ≡ o → ok_or o NotHeader ≡ Ok head → HasHeader head
+    or_not v None is h = absurd (cc)
+    or_not v (Some x) is h = let same : x ≡ head = cc in fields_lawful v d head (is ∙ ap Some same)
 
-    known : (b : Bool) → cond b (ok_or (fields_in d) NotHeader) (Err BadVersion) ≡ Ok head → HasHeader head
-    known true h = or_not (fields_in d) refl h
-    known false h = absurd (cc)
+    known : (v : ℕ) (b : Bool) → cond b (ok_or (fields_in v d) NotHeader) (Err BadVersion) ≡ Ok head → HasHeader head
+    known v true h = or_not v (fields_in v d) refl h
+    known v false h = absurd (cc)
 
     version : (o : Option ℕ) → of_version d o ≡ Ok head → HasHeader head
     version None h = absurd (cc)
-    version (Some v) h = known (eqb v 1) h
+    version (Some v) h = known v (eqb v 1 || eqb v 2) h

@@ -14,3 +14,4 @@ pub mod Naming
 pub mod Pieces
 pub mod Lawful
 pub mod Images
+pub mod PathsRead

@@ -20,9 +20,13 @@ use Rattle.nn_image.proofs.Keeps.{Keeps}
 use Rattle.nn_image.proofs.Kept.{keeps}
 use Rattle.nn_image.specs.Text.{feed, line_of, header_data, form_data, row_data, end_data, row_lines, image_text}
 use Rattle.nn_image.specs.Reading.{row_in, object_of, of_header, ◌then◌, last_path, with_next, nothing_more, by_key, by_value, rows_from, pieces_of, all_from, read_image}
-use Rattle.nn_image.specs.Lawful.{HasPaths, IsCounted}
+use Rattle.nn_types.specs.declared.profile.Profile.{Profile}
+use Rattle.nn_types.specs.declared.profile.Profile.TheVariants.{One}
+use Rattle.nn_model.specs.Laws.{in_profile}
+use Rattle.nn_image.specs.OldText.{old_header_data, old_image_text}
+use Rattle.nn_image.specs.Lawful.{HasPaths, IsCounted, ReadsOldBack}
 use Rattle.nn_image.proofs.Json.{IsPlain, no_feed_compact}
-use Rattle.nn_image.proofs.Shapes.{IsShortForm, form_plain, row_read, row_object, end_plain, end_object, header_plain, header_object, header_read}
+use Rattle.nn_image.proofs.Shapes.{IsShortForm, form_plain, row_read, row_object, end_plain, end_object, header_plain, header_object, header_read, old_header_plain, old_header_object, old_header_read}
 use Rattle.nn_image.proofs.Rows.{Rows, T_of, root_first, has_mid, last_less, parent_less, short_awaiting, short_form, mid_sorted, fits_here}
 use Rattle.std.specs.Prelude.{codes}
 
@@ -104,22 +108,54 @@ module _ (n : Namespace) (w : Keeps n) (paths : HasPaths n) (counted : IsCounted
       ∙ ap (λ r. r then (λ m. rows_from m (pieces_of left))) accepted
       ∙ rows_read rest first (before ++ row ∷ []) (same ∙ sym (append_assoc (first ∷ before) (row ∷ []) rest))
 
+  -- a header that says the namespace's numbers, and then its lines
+  pub text_read : (head : Data) (txid : ℕ) → IsPlain head → of_header (object_of (compact_text head)) ≡ Ok (bare n.issued, txid)
+      → read_image (line_of head ++ (row_lines (drop 1 n.rows) ++ line_of the_end)) ≡ Ok (n, txid)
+  unfolding read_image
+  text_read head txid plain found =
+      let root = root_first n.rows (T_of (is_sorted path_cmp n.rows) w.in_order) w.root in
+      let left = row_lines (drop 1 n.rows) ++ line_of the_end in
+      let below : drop 1 n.rows ≡ root.0 = ap (drop 1) root.1 in
+      let rows : rows_from (bare n.issued) (pieces_of left) ≡ Ok n =
+      ap (λ rs. rows_from (bare n.issued) (pieces_of (row_lines rs ++ line_of the_end))) below
+      ∙ rows_read root.0 ([], Dir) [] root.1 in
+      ap all_from (piece_line head left plain) ∙ all_turn (compact_text head) (pieces_of left) (some_piece left)
+      ∙ ap (λ r. r then (λ h. rows_from h.0 (pieces_of left) then (λ m. Ok (m, h.1)))) found
+      ∙ ap (λ r. r then (λ m. Ok (m, txid))) rows
+
 pub reads_back : (n : Namespace) (txid : ℕ) → IsWellFormed n → HasPaths n → IsCounted n → txid < 2 ^ 63 → read_image (image_text n txid) ≡ Ok (n, txid)
-unfolding read_image image_text
+unfolding image_text
 reads_back n txid well paths counted small =
     let w = keeps n well in
-    let root = root_first n.rows (T_of (is_sorted path_cmp n.rows) w.in_order) w.root in
-    let head = header_data n txid in
     let awaiting = short_awaiting n w in
-    let plain : IsPlain head = header_plain n txid awaiting w.last_block_to w.last_stamp_to small in
-    let left = row_lines (drop 1 n.rows) ++ line_of (end_data (length n.rows - 1)) in
-    let is : object_of (compact_text head) ≡ Some head = header_object n txid awaiting w.last_block_to w.last_stamp_to small in
-    let found : of_header (object_of (compact_text head)) ≡ Ok (bare n.issued, txid) =
-    ap of_header is ∙ header_read n txid awaiting w.last_block_to w.last_stamp_to small w.awaiting w.last_block_from w.last_stamp_from in
-    let below : drop 1 n.rows ≡ root.0 = ap (drop 1) root.1 in
-    let rows : rows_from (bare n.issued) (pieces_of left) ≡ Ok n =
-    ap (λ rs. rows_from (bare n.issued) (pieces_of (row_lines rs ++ line_of (end_data (length n.rows - 1))))) below
-    ∙ rows_read n w paths counted root.0 ([], Dir) [] root.1 in
-    ap all_from (piece_line head left plain) ∙ all_turn (compact_text head) (pieces_of left) (some_piece left)
-    ∙ ap (λ r. r then (λ h. rows_from h.0 (pieces_of left) then (λ m. Ok (m, h.1)))) found
-    ∙ ap (λ r. r then (λ m. Ok (m, txid))) rows
+    let is : object_of (compact_text (header_data n txid)) ≡ Some (header_data n txid) = header_object n txid awaiting w.last_block_to w.last_stamp_to small in
+    text_read n w paths counted (header_data n txid) txid (header_plain n txid awaiting w.last_block_to w.last_stamp_to small)
+    (ap of_header is ∙ header_read n txid awaiting w.last_block_to w.last_stamp_to small w.awaiting w.last_block_from w.last_stamp_from)
+
+-- ---- the text of version 1
+
+-- what is used of a namespace does not speak of its profile
+keeps_in : (profile : Profile) (n : Namespace) → Keeps n → Keeps (in_profile profile n)
+keeps_in profile n w = record {
+  in_order = w.in_order;
+  root = w.root;
+  parents = w.parents;
+  replications = w.replications;
+  last_block_from = w.last_block_from;
+  last_block_to = w.last_block_to;
+  last_stamp_from = w.last_stamp_from;
+  last_stamp_to = w.last_stamp_to;
+  awaiting = w.awaiting;
+  issued = w.issued;
+  once = w.once;
+  lengths = w.lengths;
+}
+
+pub reads_old_back : ReadsOldBack
+unfolding old_image_text
+reads_old_back n txid well paths counted small =
+    let w = keeps n well in
+    let awaiting = short_awaiting n w in
+    let is : object_of (compact_text (old_header_data n txid)) ≡ Some (old_header_data n txid) = old_header_object n txid awaiting w.last_block_to w.last_stamp_to small in
+    text_read (in_profile One n) (keeps_in One n w) paths counted (old_header_data n txid) txid (old_header_plain n txid awaiting w.last_block_to w.last_stamp_to small)
+    (ap of_header is ∙ old_header_read n txid awaiting w.last_block_to w.last_stamp_to small w.awaiting w.last_block_from w.last_stamp_from)

@@ -9,6 +9,9 @@ use Rattle.serde_json.specs.Read.{max_depth, of_json, of_items}
 use Rattle.serde_json.specs.Written.{outline, items_outline, compact_text}
 use Rattle.serde_json.specs.Find.{as_object}
 use Rattle.serde_json.proofs.Numbers.{number_of-decimal}
+use Rattle.nn_types.specs.Profile.{number_of as profile_number, profile_of}
+use Rattle.nn_types.specs.declared.profile.Profile.{Profile}
+use Rattle.nn_types.specs.declared.profile.Profile.TheVariants.{One, Two}
 use Rattle.nn_types.specs.Path.{IsPath, path_text}
 use Rattle.nn_types.proofs.Paths.{path_of_path_text}
 use Rattle.nn_types.specs.declared.block.Block.{Block}
@@ -16,8 +19,10 @@ use Rattle.nn_model.specs.declared.form.Form.{Form}
 use Rattle.nn_model.specs.declared.form.Form.TheVariants.{Dir, File}
 use Rattle.nn_model.specs.Namespace.{Path, Namespace}
 use Rattle.nn_tree.specs.Restore.{bare, awaiting_fits, replication_fits}
+use Rattle.nn_model.specs.Laws.{in_profile}
 use Rattle.nn_image.specs.Text.{block_data, block_items, number_items, head_data, header_data, form_data, end_data}
-use Rattle.nn_image.specs.Reading.{◌>>=◌, number_of, number_in, text_in, flag_in, array_in, path_in, block_of, gathered, blocks_at, numbers_at, replication_in, file_in, form_of, form_in, row_in, fields_in, object_of, value_of, limited, of_version}
+use Rattle.nn_image.specs.OldText.{old_header_data}
+use Rattle.nn_image.specs.Reading.{◌>>=◌, number_of, number_in, text_in, flag_in, array_in, path_in, block_of, gathered, blocks_at, numbers_at, replication_in, file_in, form_of, form_in, row_in, profile_in, fields_in, object_of, value_of, limited, of_version}
 use Rattle.nn_image.proofs.Json.{IsPlain, ItemsArePlain, read_compact, utf8_compact}
 
 -- ---- numbers
@@ -146,10 +151,71 @@ end_object count h =
 
 -- ---- the header
 
+profile_small : (p : Profile) → profile_number p < 2 ^ 64
+profile_small One = lit< tt
+profile_small Two = lit< tt
+
+profile_read : (p : Profile) → (limited (Some (profile_number p)) >>= profile_of) ≡ Some p
+profile_read One = refl
+profile_read Two = refl
+
 module _ (n : Namespace) (txid : ℕ) (awaiting : AreShort n.issued.awaiting) (block : n.issued.last_block < 2 ^ 63) (stamp : n.issued.last_stamp < 2 ^ 63) (number : txid < 2 ^ 63) where
   pub header_plain : IsPlain (header_data n txid)
   unfolding head_data
   header_plain = (
+    IsUtf8-are_ascii _ refl,
+    numbers_plain n.issued.awaiting awaiting,
+    (
+      IsUtf8-are_ascii _ refl,
+      IsUtf8-are_ascii _ refl,
+      (
+        IsUtf8-are_ascii _ refl,
+        wider n.issued.last_block block,
+        (
+          IsUtf8-are_ascii _ refl,
+          wider n.issued.last_stamp stamp,
+          (
+            IsUtf8-are_ascii _ refl,
+            profile_small n.issued.profile,
+            (
+              IsUtf8-are_ascii _ refl,
+              wider txid number,
+              (IsUtf8-are_ascii _ refl, lit< tt, tt),
+            ),
+          ),
+        ),
+      ),
+    ),
+  )
+
+  header_deep : tree.depth (outline (header_data n txid)) ≤ max_depth
+  unfolding head_data
+  header_deep = omega (arith, numbers_deep n.issued.awaiting)
+
+  header_same : of_json (outline (header_data n txid)) ≡ Some (header_data n txid)
+  unfolding head_data
+  header_same =
+      rw (numbers_same n.issued.awaiting awaiting, number_of-decimal n.issued.last_block (wider n.issued.last_block block), number_of-decimal n.issued.last_stamp (wider n.issued.last_stamp stamp), number_of-decimal (profile_number n.issued.profile) (profile_small n.issued.profile), number_of-decimal txid (wider txid number), number_of-decimal 2 (lit< tt)) refl
+
+  header_is_object : (Some (header_data n txid) >>= λ d. cond (is_some (as_object d)) (Some d) None) ≡ Some (header_data n txid)
+  unfolding head_data
+  header_is_object = refl
+
+  pub header_object : object_of (compact_text (header_data n txid)) ≡ Some (header_data n txid)
+  unfolding object_of value_of
+  header_object =
+      rw (is_utf8-from_IsUtf8 _ (utf8_compact (header_data n txid) header_plain), read_compact (header_data n txid) header_plain header_deep header_same) header_is_object
+
+  pub header_read : awaiting_fits n.issued.last_block n.issued.awaiting ≡ true → 1073741824 ≤ n.issued.last_block → 1000 ≤ n.issued.last_stamp
+      → of_version (header_data n txid) (number_in (codes "version") (header_data n txid)) ≡ Ok (bare n.issued, txid)
+  unfolding head_data fields_in profile_in number_in text_in numbers_at array_in
+  header_read fits low old =
+      rw (limited_ok txid number, limited_ok n.issued.last_block block, limited_ok n.issued.last_stamp stamp, numbers_read n.issued.awaiting awaiting, profile_read n.issued.profile, le-leb 1073741824 n.issued.last_block low, le-leb 1000 n.issued.last_stamp old, fits) refl
+
+  -- of version 1
+  pub old_header_plain : IsPlain (old_header_data n txid)
+  unfolding old_header_data
+  old_header_plain = (
     IsUtf8-are_ascii _ refl,
     numbers_plain n.issued.awaiting awaiting,
     (
@@ -171,26 +237,26 @@ module _ (n : Namespace) (txid : ℕ) (awaiting : AreShort n.issued.awaiting) (b
     ),
   )
 
-  header_deep : tree.depth (outline (header_data n txid)) ≤ max_depth
-  unfolding head_data
-  header_deep = omega (arith, numbers_deep n.issued.awaiting)
+  old_header_deep : tree.depth (outline (old_header_data n txid)) ≤ max_depth
+  unfolding old_header_data
+  old_header_deep = omega (arith, numbers_deep n.issued.awaiting)
 
-  header_same : of_json (outline (header_data n txid)) ≡ Some (header_data n txid)
-  unfolding head_data
-  header_same =
+  old_header_same : of_json (outline (old_header_data n txid)) ≡ Some (old_header_data n txid)
+  unfolding old_header_data
+  old_header_same =
       rw (numbers_same n.issued.awaiting awaiting, number_of-decimal n.issued.last_block (wider n.issued.last_block block), number_of-decimal n.issued.last_stamp (wider n.issued.last_stamp stamp), number_of-decimal txid (wider txid number), number_of-decimal 1 (lit< tt)) refl
 
-  header_is_object : (Some (header_data n txid) >>= λ d. cond (is_some (as_object d)) (Some d) None) ≡ Some (header_data n txid)
-  unfolding head_data
-  header_is_object = refl
+  old_header_is_object : (Some (old_header_data n txid) >>= λ d. cond (is_some (as_object d)) (Some d) None) ≡ Some (old_header_data n txid)
+  unfolding old_header_data
+  old_header_is_object = refl
 
-  pub header_object : object_of (compact_text (header_data n txid)) ≡ Some (header_data n txid)
+  pub old_header_object : object_of (compact_text (old_header_data n txid)) ≡ Some (old_header_data n txid)
   unfolding object_of value_of
-  header_object =
-      rw (is_utf8-from_IsUtf8 _ (utf8_compact (header_data n txid) header_plain), read_compact (header_data n txid) header_plain header_deep header_same) header_is_object
+  old_header_object =
+      rw (is_utf8-from_IsUtf8 _ (utf8_compact (old_header_data n txid) old_header_plain), read_compact (old_header_data n txid) old_header_plain old_header_deep old_header_same) old_header_is_object
 
-  pub header_read : awaiting_fits n.issued.last_block n.issued.awaiting ≡ true → 1073741824 ≤ n.issued.last_block → 1000 ≤ n.issued.last_stamp
-      → of_version (header_data n txid) (number_in (codes "version") (header_data n txid)) ≡ Ok (bare n.issued, txid)
-  unfolding head_data fields_in number_in text_in numbers_at array_in
-  header_read fits low old =
+  pub old_header_read : awaiting_fits n.issued.last_block n.issued.awaiting ≡ true → 1073741824 ≤ n.issued.last_block → 1000 ≤ n.issued.last_stamp
+      → of_version (old_header_data n txid) (number_in (codes "version") (old_header_data n txid)) ≡ Ok (bare (in_profile One n).issued, txid)
+  unfolding old_header_data fields_in profile_in number_in text_in numbers_at array_in
+  old_header_read fits low old =
       rw (limited_ok txid number, limited_ok n.issued.last_block block, limited_ok n.issued.last_stamp stamp, numbers_read n.issued.awaiting awaiting, le-leb 1073741824 n.issued.last_block low, le-leb 1000 n.issued.last_stamp old, fits) refl

@@ -10,7 +10,7 @@ use Rattle.serde_json.specs.declared.value.Value.{Value}
 use Rattle.nn_types.specs.declared.block.Block.{Block}
 use Rattle.nn_model.specs.declared.form.Form.{Form}
 use Rattle.nn_model.specs.declared.form.Form.TheVariants.{Dir, File}
-use Rattle.nn_model.specs.Namespace.{Path, Issued, Namespace}
+use Rattle.nn_model.specs.Namespace.{Path, Namespace}
 use Rattle.nn_model.specs.Namespace.{path_cmp}
 use Rattle.nn_model.specs.WellFormed.{IsWellFormed}
 use Rattle.std.specs.Prelude.{T}
@@ -38,9 +38,9 @@ blocks_whole : (bs : List Block) → items_have_float (block_items bs) ≡ false
 blocks_whole [] = refl
 blocks_whole (b ∷ bs) = blocks_whole bs
 
-pub head_whole : (issued : Issued) (txid : ℕ) → has_float (head_data issued txid) ≡ false
+pub head_whole : (n : Namespace) (txid : ℕ) → has_float (header_data n txid) ≡ false
 unfolding head_data
-head_whole issued txid = rw (numbers_whole issued.awaiting) refl
+head_whole n txid = rw (numbers_whole n.issued.awaiting) refl
 
 pub row_whole : (p : Path) (form : Form) → has_float (form_data p form) ≡ false
 unfolding form_data

@@ -5,6 +5,8 @@ use Rattle.nn_image.specs.declared.fault.ImageFault.{ImageFault}
 use Rattle.nn_image.specs.declared.fault.ImageFault.TheVariants.{NotHeader, BadLine, WrongOrder, CountMismatch, Truncated, BadVersion, ReadFault, OutOfMemory}
 use Rattle.nn_image.specs.declared.fault.SaveFault.{SaveFault}
 use Rattle.nn_image.specs.declared.fault.SaveFault.TheVariants as save
+use Rattle.nn_image.specs.declared.fault.RewriteFault.{RewriteFault}
+use Rattle.nn_image.specs.declared.fault.RewriteFault.TheVariants.{Load, Save}
 
 abbrev pub number_of : ImageFault → ℕ
 number_of NotHeader = NOT_HEADER
@@ -19,3 +21,7 @@ number_of OutOfMemory = MEMORY
 abbrev pub save_number_of : SaveFault → ℕ
 save_number_of (save.WriteFault written) = WRITE_FAULT
 save_number_of save.OutOfMemory = MEMORY
+
+abbrev pub rewrite_number_of : RewriteFault → ℕ
+rewrite_number_of (Load fault) = number_of fault
+rewrite_number_of (Save fault) = save_number_of fault

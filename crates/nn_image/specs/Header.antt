@@ -8,7 +8,7 @@ use Rattle.nn_image.specs.declared.fields.Header.{Header}
 use Rattle.nn_image.specs.declared.fields.Object.{Object}
 
 abbrev pub header_value : Header → Namespace × ℕ
-header_value h = (bare (record { last_block = h.last_block; last_stamp = h.last_stamp; awaiting = h.awaiting.items }), h.txid)
+header_value h = (bare (record { last_block = h.last_block; last_stamp = h.last_stamp; awaiting = h.awaiting.items; profile = h.profile }), h.txid)
 
 -- a namespace may be made with these numbers
 abbrev pub IsLawful : Header → Type 0

@@ -1,11 +1,18 @@
 -- What each rule of an image makes of a namespace's next line, and the text of two images.
+use Rattle.std.specs.Fmt.{digits}
 use Rattle.std.specs.Prelude.{◌≡◌, ℕ, true, List, [], ◌∷◌, map, Some, None, Ok, Err, codes, refl}
 use Rattle.serde_json.specs.Data.{Data, number, unsigned, string, boolean, array, object, no_items, item, no_members, member, null}
+use Rattle.nn_types.specs.declared.profile.Profile.TheVariants.{One, Two}
 use Rattle.nn_model.specs.declared.form.Form.TheVariants.{Dir, File}
 use Rattle.nn_model.specs.Namespace.{Namespace, with_row}
+use Rattle.nn_model.specs.Laws.{in_profile}
 use Rattle.nn_tree.specs.Restore.{bare}
+use Rattle.json.specs.Print.{escape_byte}
+use Rattle.serde_json.specs.Written.{compact_text}
+use Rattle.nn_image.specs.Text.{header_data, head_data}
+use Rattle.nn_image.specs.OldText.{old_header_data}
 use Rattle.nn_image.specs.declared.fault.ImageFault.TheVariants.{NotHeader, BadLine, WrongOrder, CountMismatch, Truncated, BadVersion}
-use Rattle.nn_image.specs.Reading.{number_in, text_in, flag_in, array_in, path_in, block_of, gathered, blocks_at, numbers_at, replication_in, file_in, form_of, form_in, row_in, fields_in, of_header, with_next, at_end}
+use Rattle.nn_image.specs.Reading.{number_in, text_in, flag_in, array_in, path_in, block_of, gathered, blocks_at, numbers_at, replication_in, file_in, form_of, form_in, row_in, profile_in, fields_in, of_header, with_next, at_end}
 
 abbrev a : List ℕ
 a = codes "a"
@@ -14,7 +21,7 @@ abbrev b : List ℕ
 b = codes "b"
 
 abbrev start : Namespace
-start = bare (record { last_block = 1073741830; last_stamp = 1005; awaiting = 1073741826 ∷ [] })
+start = bare (record { last_block = 1073741830; last_stamp = 1005; awaiting = 1073741826 ∷ []; profile = One })
 
 abbrev one : Namespace
 one = with_row start (b ∷ []) Dir
@@ -56,19 +63,52 @@ header mark last_block last_stamp version =
     (member (codes "awaiting") (array (item (numeral 1073741826) no_items)) no_members)))))))
 
 a_header : of_header (Some (header (codes "hdfs-standby") 1073741830 1005 1)) ≡ Ok (start, 4)
-unfolding fields_in number_in text_in numbers_at array_in gathered
+unfolding fields_in profile_in number_in text_in numbers_at array_in gathered
 a_header = refl
 
 no_headers : map of_header (None ∷ Some (object no_members) ∷ Some (header (codes "hdfs") 1073741830 1005 1) ∷ Some (header (codes "hdfs-standby") 1073741825 1005 1) ∷ Some (header (codes "hdfs-standby") 1073741830 999 1) ∷ [])
     ≡ Err NotHeader ∷ Err NotHeader ∷ Err NotHeader ∷ Err NotHeader ∷ Err NotHeader ∷ []
-unfolding fields_in number_in text_in numbers_at array_in gathered
+unfolding fields_in profile_in number_in text_in numbers_at array_in gathered
 no_headers = refl
 
 -- the version is asked for first
-versions : map (λ v. of_header (Some (object (member (codes "version") v no_members)))) (numeral 2 ∷ numeral 0 ∷ numeral 1 ∷ string (codes "2") ∷ numeral 9223372036854775808 ∷ [])
+versions : map (λ v. of_header (Some (object (member (codes "version") v no_members)))) (numeral 3 ∷ numeral 0 ∷ numeral 1 ∷ string (codes "2") ∷ numeral 9223372036854775808 ∷ [])
     ≡ Err BadVersion ∷ Err BadVersion ∷ Err NotHeader ∷ Err NotHeader ∷ Err NotHeader ∷ []
-unfolding fields_in number_in text_in numbers_at array_in gathered
+unfolding fields_in profile_in number_in text_in numbers_at array_in gathered
 versions = refl
+
+-- version 1 has no profile, whatever stands there, and version 2 has one of two
+abbrev with_profile : ℕ → Data → Data
+with_profile version profile =
+    object (member (codes "image") (string (codes "hdfs-standby")) (member (codes "version") (numeral version) (member (codes "last_gen") (numeral 1005)
+    (member (codes "profile") profile (member (codes "last_block") (numeral 1073741830) (member (codes "txid") (numeral 4)
+    (member (codes "awaiting") (array (item (numeral 1073741826) no_items)) no_members)))))))
+
+profiles : map (λ p. of_header (Some (with_profile 2 p))) (numeral 1 ∷ numeral 2 ∷ numeral 0 ∷ numeral 3 ∷ string (codes "2") ∷ null ∷ [])
+    ≡ Ok (start, 4) ∷ Ok (in_profile Two start, 4) ∷ Err NotHeader ∷ Err NotHeader ∷ Err NotHeader ∷ Err NotHeader ∷ []
+unfolding fields_in profile_in number_in text_in numbers_at array_in gathered
+profiles = refl
+
+no_profile : of_header (Some (header (codes "hdfs-standby") 1073741830 1005 2)) ≡ Err NotHeader
+unfolding fields_in profile_in number_in text_in numbers_at array_in gathered
+no_profile = refl
+
+old_profiles : map (λ p. of_header (Some (with_profile 1 p))) (numeral 2 ∷ string (codes "x") ∷ []) ≡ Ok (start, 4) ∷ Ok (start, 4) ∷ []
+unfolding fields_in profile_in number_in text_in numbers_at array_in gathered
+old_profiles = refl
+
+-- ---- headers as they are written
+
+abbrev high : Namespace
+high = in_profile Two (bare (record { last_block = 1073741825; last_stamp = 1001; awaiting = 1073741825 ∷ []; profile = One }))
+
+written : compact_text (header_data high 4) ≡ codes "{\"awaiting\":[1073741825],\"image\":\"hdfs-standby\",\"last_block\":1073741825,\"last_gen\":1001,\"profile\":2,\"txid\":4,\"version\":2}"
+unfolding head_data digits escape_byte
+written = refl
+
+written_of_old : compact_text (old_header_data high 4) ≡ codes "{\"awaiting\":[1073741825],\"image\":\"hdfs-standby\",\"last_block\":1073741825,\"last_gen\":1001,\"txid\":4,\"version\":1}"
+unfolding old_header_data digits escape_byte
+written_of_old = refl
 
 -- ---- lines of paths
 

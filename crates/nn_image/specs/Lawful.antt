@@ -5,7 +5,10 @@ use Rattle.nn_types.specs.Path.{IsPath, path_text}
 use Rattle.nn_model.specs.declared.form.Form.{Form}
 use Rattle.nn_model.specs.Namespace.{Path, Namespace}
 use Rattle.nn_model.specs.WellFormed.{Has, IsWellFormed}
+use Rattle.nn_model.specs.Laws.{in_profile}
+use Rattle.nn_types.specs.declared.profile.Profile.TheVariants.{One}
 use Rattle.nn_image.specs.Text.{image_text}
+use Rattle.nn_image.specs.OldText.{old_image_text}
 use Rattle.nn_image.specs.Reading.{read_image}
 
 -- each path keeps the limits of paths, and its names are text
@@ -19,3 +22,7 @@ IsCounted n = length n.rows ≤ 2 ^ 63
 -- an image of a well formed namespace is read as that namespace, if its paths keep the limits of paths
 abbrev pub ReadsBack : Type 0
 ReadsBack = (n : Namespace) (txid : ℕ) → IsWellFormed n → HasPaths n → IsCounted n → txid < 2 ^ 63 → read_image (image_text n txid) ≡ Ok (n, txid)
+
+-- the text of version 1 is read as that namespace with profile 1
+abbrev pub ReadsOldBack : Type 0
+ReadsOldBack = (n : Namespace) (txid : ℕ) → IsWellFormed n → HasPaths n → IsCounted n → txid < 2 ^ 63 → read_image (old_image_text n txid) ≡ Ok (in_profile One n, txid)

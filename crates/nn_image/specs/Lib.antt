@@ -1,5 +1,6 @@
 pub mod Fault
 pub mod Text
+pub mod OldText
 pub mod Reading
 pub mod Outcome
 pub mod Lawful
@@ -8,4 +9,5 @@ pub mod Lines
 pub mod Image
 pub mod Loading
 pub mod Saving
+pub mod Rewriting
 pub mod ImageRows

@@ -1,5 +1,5 @@
 -- The namespace and the txid that a text stands for, or the first fault that applies.
-use Rattle.std.specs.Prelude.{ℕ, ◌+◌, ◌-◌, ◌^◌, List, [], ◌∷◌, ◌++◌, length, Bool, nat_lt, nat_le, ◌&&◌, ◌==◌, if◌then◌else◌, Option, Some, None, option_and_then, Result, Ok, Err, codes, is_some}
+use Rattle.std.specs.Prelude.{ℕ, ◌+◌, ◌-◌, ◌^◌, List, [], ◌∷◌, ◌++◌, length, Bool, nat_lt, nat_le, ◌&&◌, ◌==◌, ◌||◌, if◌then◌else◌, Option, Some, None, option_and_then, Result, Ok, Err, codes, is_some}
 use Rattle.std.specs.Option.{ok_or}
 use Rattle.std.specs.Ordering.{is_lt}
 use Rattle.std.specs.Str.{bytes_eq, is_utf8}
@@ -7,6 +7,9 @@ use Rattle.std.specs.List.{slice_split}
 use Rattle.serde_json.specs.Data.{Data, Items, no_items, item}
 use Rattle.serde_json.specs.Find.{get, as_number, as_u64, as_str, as_bool, as_array, as_object}
 use Rattle.serde_json.specs.Read.{read}
+use Rattle.nn_types.specs.Profile.{profile_of}
+use Rattle.nn_types.specs.declared.profile.Profile.{Profile}
+use Rattle.nn_types.specs.declared.profile.Profile.TheVariants.{One}
 use Rattle.nn_types.specs.Path.{path_of}
 use Rattle.nn_types.specs.declared.block.Block.{Block}
 use Rattle.nn_model.specs.declared.form.Form.{Form}
@@ -93,18 +96,24 @@ row_in d = do
 abbrev pub is_header : List ℕ → ℕ → ℕ → List ℕ → Bool
 is_header mark last_block last_stamp ids = bytes_eq mark (codes "hdfs-standby") && nat_le 1073741824 last_block && nat_le 1000 last_stamp && awaiting_fits last_block ids
 
-unfoldable pub fields_in : Data → Option (Namespace × ℕ)
-fields_in d = do
+-- the profile of a header: version 1 has none, and stands for profile 1
+unfoldable pub profile_in : ℕ → Data → Option Profile
+profile_in version d = if version == 1 then Some One else number_in (codes "profile") d >>= profile_of
+
+-- what the header of a version says
+unfoldable pub fields_in : ℕ → Data → Option (Namespace × ℕ)
+fields_in version d = do
   mark ← text_in (codes "image") d
   txid ← number_in (codes "txid") d
   last_block ← number_in (codes "last_block") d
   last_stamp ← number_in (codes "last_gen") d
   ids ← numbers_at (codes "awaiting") d
-  (if is_header mark last_block last_stamp ids then Some (bare (record { last_block = last_block; last_stamp = last_stamp; awaiting = ids }), txid) else None)
+  profile ← profile_in version d
+  (if is_header mark last_block last_stamp ids then Some (bare (record { last_block = last_block; last_stamp = last_stamp; awaiting = ids; profile = profile }), txid) else None)
 
 abbrev pub of_version : Data → Option ℕ → Result (Namespace × ℕ) ImageFault
 of_version d None = Err NotHeader
-of_version d (Some version) = if version == 1 then ok_or (fields_in d) NotHeader else Err BadVersion
+of_version d (Some version) = if (version == 1) || (version == 2) then ok_or (fields_in version d) NotHeader else Err BadVersion
 
 -- the value that a line is, if it is JSON in UTF-8
 unfoldable pub value_of : List ℕ → Option Data

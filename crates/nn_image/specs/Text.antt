@@ -3,11 +3,12 @@ use Rattle.std.specs.Prelude.{ℕ, ◌-◌, List, [], ◌∷◌, ◌++◌, drop,
 use Rattle.std.specs.List.{flat_map}
 use Rattle.serde_json.specs.Data.{Data, boolean, number, unsigned, string, array, object, Items, no_items, item, member, no_members}
 use Rattle.serde_json.specs.Written.{compact_text}
+use Rattle.nn_types.specs.Profile.{number_of as profile_number}
 use Rattle.nn_types.specs.Path.{path_text}
 use Rattle.nn_types.specs.declared.block.Block.{Block}
 use Rattle.nn_model.specs.declared.form.Form.{Form}
 use Rattle.nn_model.specs.declared.form.Form.TheVariants.{Dir, File}
-use Rattle.nn_model.specs.Namespace.{Path, Issued, Namespace}
+use Rattle.nn_model.specs.Namespace.{Path, Namespace}
 
 abbrev pub feed : ℕ
 feed = 10
@@ -23,17 +24,18 @@ abbrev pub number_items : List ℕ → Items
 number_items [] = no_items
 number_items (n ∷ ns) = item (number (unsigned n)) (number_items ns)
 
-unfoldable pub head_data : Issued → ℕ → Data
-head_data issued txid =
-    object (member (codes "awaiting") (array (number_items issued.awaiting))
+unfoldable pub head_data : ℕ → ℕ → List ℕ → ℕ → ℕ → Data
+head_data last_block last_stamp awaiting profile txid =
+    object (member (codes "awaiting") (array (number_items awaiting))
     (member (codes "image") (string (codes "hdfs-standby"))
-    (member (codes "last_block") (number (unsigned issued.last_block))
-    (member (codes "last_gen") (number (unsigned issued.last_stamp))
+    (member (codes "last_block") (number (unsigned last_block))
+    (member (codes "last_gen") (number (unsigned last_stamp))
+    (member (codes "profile") (number (unsigned profile))
     (member (codes "txid") (number (unsigned txid))
-    (member (codes "version") (number (unsigned 1)) no_members))))))
+    (member (codes "version") (number (unsigned 2)) no_members)))))))
 
 abbrev pub header_data : Namespace → ℕ → Data
-header_data n txid = head_data n.issued txid
+header_data n txid = head_data n.issued.last_block n.issued.last_stamp n.issued.awaiting (profile_number n.issued.profile) txid
 
 unfoldable pub form_data : Path → Form → Data
 form_data p Dir = object (member (codes "path") (string (path_text p)) (member (codes "type") (string (codes "dir")) no_members))

@@ -1,6 +1,6 @@
-//! Why an image is not loaded or saved.
+//! Why an image is not loaded, saved or rewritten.
 ghost use Rattle.std.specs.Prelude.{◌≡◌};
-ghost use Rattle.nn_image.specs.Fault.{number_of, save_number_of};
+ghost use Rattle.nn_image.specs.Fault.{number_of, save_number_of, rewrite_number_of};
 
 use nn_types::fault;
 use std::alloc::{AllocError, AllocFailed};
@@ -82,6 +82,29 @@ impl SaveFault {
         match self {
             SaveFault::WriteFault { .. } => fault::WRITE_FAULT,
             SaveFault::OutOfMemory => fault::MEMORY,
+        }
+    }
+}
+
+/// Why an image was not rewritten.
+#[derive(Clone, Copy, Debug, PartialEq, Eq, Error)]
+pub enum RewriteFault {
+    /// It was not loaded, and the writer got nothing.
+    #[error("{0}")]
+    Load(ImageFault),
+    /// It was loaded, and the writer got a front of what it was to get.
+    #[error("{0}")]
+    Save(SaveFault),
+}
+
+impl RewriteFault {
+    /// The fault's number.
+    pub fn number(self) -> u8
+        ensures { result ≡ rewrite_number_of self }
+    {
+        match self {
+            RewriteFault::Load(fault) => fault.number(),
+            RewriteFault::Save(fault) => fault.number(),
         }
     }
 }

@@ -2,14 +2,16 @@
 ghost use Rattle.std.specs.Prelude.{◌≡◌, ◌<◌, ◌^◌, option_map, IfOk, IfErr, IfSome, Ok, codes};
 ghost use Rattle.std.specs.List.{list_all};
 ghost use Rattle.serde_json.specs.View.{view, items_view};
-ghost use Rattle.nn_image.specs.Reading.{number_of, number_in, text_in, flag_in, array_in, path_in, block_of, gathered, blocks_at, numbers_at, replication_in, file_in, form_of, form_in, row_in, fields_in, value_of, object_of, of_version};
+ghost use Rattle.nn_image.specs.Reading.{number_of, number_in, text_in, flag_in, array_in, path_in, block_of, gathered, blocks_at, numbers_at, replication_in, file_in, form_of, form_in, row_in, profile_in, fields_in, value_of, object_of, of_version};
 ghost use Rattle.nn_image.specs.Header.{header_value, object_view, IsLawful};
 ghost use Rattle.nn_image.specs.Outcome.{Fails};
 ghost use Rattle.nn_tree.specs.Restore.{awaiting_fits, is_issued, rises};
 
 use crate::fault::ImageFault;
 use nn_model::{FileRow, Form};
-use nn_types::{Block, BlockId, Blocks, GenerationStamp, Length, Path, PathFault, Replication};
+use nn_types::{
+    Block, BlockId, Blocks, GenerationStamp, Length, Path, PathFault, Profile, Replication,
+};
 use serde_json::Value;
 use std::alloc::{AllocError, Global};
 
@@ -274,6 +276,7 @@ pub(crate) struct Header {
     pub last_block: BlockId,
     pub last_stamp: GenerationStamp,
     pub awaiting: Vec<BlockId>,
+    pub profile: Profile,
     pub txid: u64,
 }
 
@@ -305,9 +308,22 @@ fn rises(ids: &[BlockId]) -> bool
     true
 }
 
+#[tactic(auto, unfolding(crate::specs::Reading::profile_in))]
+fn profile_in(version: u64, value: &Value) -> Option<Profile>
+    ensures { result ≡ profile_in version (view value.now) }
+{
+    if version == 1 {
+        return Some(Profile::One);
+    }
+    let Some(number) = number_in("profile", value) else {
+        return None;
+    };
+    Profile::new(number)
+}
+
 #[tactic(auto, unfolding(crate::specs::Reading::fields_in))]
-fn fields_in(alloc: Global, value: &Value) -> Result<Option<Header>, AllocError>
-    ensures value { IfOk result (λ o. option_map header_value o ≡ fields_in (view value.now)) }
+fn fields_in(alloc: Global, version: u64, value: &Value) -> Result<Option<Header>, AllocError>
+    ensures value { IfOk result (λ o. option_map header_value o ≡ fields_in version (view value.now)) }
     ensures lawful { IfOk result (λ o. IfSome o IsLawful) }
 {
     let Some(mark) = text_in("image", value) else {
@@ -325,6 +341,9 @@ fn fields_in(alloc: Global, value: &Value) -> Result<Option<Header>, AllocError>
     let Some(awaiting) = numbers_at(alloc, "awaiting", value)? else {
         return Ok(None);
     };
+    let Some(profile) = profile_in(version, value) else {
+        return Ok(None);
+    };
     if mark != "hdfs-standby"
         || last_block.get() < 1_073_741_824
         || last_stamp.get() < 1000
@@ -336,6 +355,7 @@ fn fields_in(alloc: Global, value: &Value) -> Result<Option<Header>, AllocError>
         last_block,
         last_stamp,
         awaiting,
+        profile,
         txid,
     }))
 }
@@ -352,10 +372,10 @@ pub(crate) fn header_in(alloc: Global, value: &Value) -> Result<Header, ImageFau
     let Some(version) = number_in("version", value) else {
         return Err(ImageFault::NotHeader);
     };
-    if version != 1 {
+    if version != 1 && version != 2 {
         return Err(ImageFault::BadVersion);
     }
-    let Some(header) = fields_in(alloc, value)? else {
+    let Some(header) = fields_in(alloc, version, value)? else {
         return Err(ImageFault::NotHeader);
     };
     Ok(header)

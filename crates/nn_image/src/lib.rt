@@ -6,9 +6,11 @@ mod fields;
 mod law;
 mod lines;
 mod restoring;
+mod rewriting;
 mod saving;
 
-pub use fault::{ImageFault, SaveFault};
-pub use law::{reading_is_the_image, reads_back};
+pub use fault::{ImageFault, RewriteFault, SaveFault};
+pub use law::{reading_is_the_image, reads_back, reads_old_back};
 pub use restoring::load;
+pub use rewriting::rewrite;
 pub use saving::{image_name, save};

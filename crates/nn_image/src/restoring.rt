@@ -1,10 +1,14 @@
 //! From a reader to a namespace.
 ghost use Rattle.std.specs.Prelude.{◌≡◌, ◌≤◌, ◌<◌, ◌+◌, ◌^◌, [], true, false, OnOk, IfOk, IfErr, Ok, Some, Option, option_map, ◌⊎◌};
 ghost use Rattle.std.specs.Ordering.{is_lt};
+ghost use Rattle.std.specs.Str.{IsUtf8};
 ghost use Rattle.serde_json.specs.View.{view};
+ghost use Rattle.nn_types.specs.Path.{IsPath, path_text};
 ghost use Rattle.nn_model.specs.Namespace.{path_cmp, Namespace as Rows};
 ghost use Rattle.nn_image.specs.Header.{header_value, object_view, IsLawful};
 ghost use Rattle.nn_image.specs.Lines.{ahead};
+ghost use Rattle.nn_image.specs.Text.{image_text};
+ghost use Rattle.nn_image.specs.Lawful.{HasPaths, IsCounted};
 ghost use Rattle.nn_image.specs.declared.fault.ImageFault.TheVariants.{Truncated};
 ghost use Rattle.nn_image.specs.Outcome.{Fails, IsOfDevice};
 ghost use Rattle.nn_image.specs.Reading.{next_line, with_next, row_in, read_image};
@@ -20,11 +24,12 @@ use std::alloc::{AllocError, Global};
 use std::cmp::Ordering;
 use std::io::Read;
 
-/// Reads an image, and gives its namespace and its txid. It reads on to the end, and after a fault no further than
-/// that. Beside the namespace it takes a buffer of 65,536 bytes, and one line with its value.
+/// Reads an image, and gives its namespace and its txid: saved, these make an image that is read as them. It reads on to the
+/// end, and after a fault no further than that. Beside the namespace it takes a buffer of 65,536 bytes, and one line with its value.
 pub fn load<R: Read>(alloc: Global, reader: &mut R) -> Result<(Namespace, u64), ImageFault>
     ensures ok { IfOk result (λ i. Ends (R.remaining reader.old) (R.remaining reader.new) read_image i) }
     ensures limit { IfOk result (λ i. i.1 < 2 ^ 63) }
+    ensures again { IfOk result (λ i. read_image (image_text i.0 i.1) ≡ Ok i) }
     ensures fault { IfErr result (λ e. Stops (R.remaining reader.old) e read_image) }
 {
     let mut window = Window::new(alloc)?;
@@ -38,11 +43,15 @@ pub fn load<R: Read>(alloc: Global, reader: &mut R) -> Result<(Namespace, u64), 
         header.last_block,
         header.last_stamp,
         &header.awaiting,
+        header.profile,
     ) else {
         return Err(ImageFault::OutOfMemory);
     };
     match load_rows(alloc, reader, &mut window, namespace) {
-        Ok(namespace) => Ok((namespace, txid)),
+        Ok(namespace) => {
+            namespace.well_formed();
+            Ok((namespace, txid))
+        }
         Err(fault) => Err(fault),
     }
 }
@@ -97,6 +106,8 @@ fn load_rows<R: Read>(
     requires { IsLoading namespace [] 2 }
     ensures ok { IfOk result (λ n. Ends (ahead window.old (R.remaining reader.old)) (ahead window.new (R.remaining reader.new))
         (rows_of namespace) n) }
+    ensures paths { IfOk result (λ n. HasPaths namespace → HasPaths n) }
+    ensures counted { IfOk result IsCounted }
     ensures fault { IfErr result (λ e. Stops (ahead window.old (R.remaining reader.old)) e
         (rows_of namespace)) }
 {
@@ -154,6 +165,7 @@ fn load_end<R: Read>(
     ensures ok { OnOk result ((n : Rows) → next_line n ≡ number →
         Ends (ahead window.old (R.remaining reader.old)) (ahead window.new (R.remaining reader.new))
         (after_end n (view count.now)) n) }
+    ensures counted { OnOk result (number ≤ 2 ^ 63 + 1) }
     ensures fault { IfErr result (λ e. (n : Rows) → next_line n ≡ number →
         Stops (ahead window.old (R.remaining reader.old)) e (after_end n (view count.now))) }
 {
@@ -184,11 +196,13 @@ fn add_row(
     requires { IsLoading namespace.old before.old number }
     ensures ok { OnOk result (with_next namespace.old (row_in (view value.now)) ≡ Ok namespace.new) }
     ensures loading { OnOk result (IsLoading namespace.new before.new (number + 1)) }
+    ensures paths { OnOk result (HasPaths namespace.old → HasPaths namespace.new) }
     ensures fault { IfErr result (λ e. Fails e (with_next namespace.old (row_in (view value.now)))) }
 {
     let Some((path, form)) = row_in(alloc, value)? else {
         return Err(ImageFault::BadLine(number));
     };
+    is_text(&path);
     if !comes_before(&before.names(), &path.names()) {
         return Err(ImageFault::WrongOrder(number));
     }
@@ -199,6 +213,14 @@ fn add_row(
     }
     *before = path;
     Ok(())
+}
+
+// A path keeps the limits of paths, and is text.
+fn is_text(path: &Path)
+    ensures lawful { IsPath path.now }
+    ensures text { IsUtf8 (path_text path.now) }
+{
+    path.text();
 }
 
 // The path of the root.

@@ -227,6 +227,7 @@ fn header_value(alloc: Global, namespace: &Namespace, txid: u64) -> Result<Value
         namespace.last_block(),
         namespace.last_stamp(),
         &awaiting,
+        namespace.profile(),
         txid,
     )
 }
@@ -244,16 +245,17 @@ fn head_value(
     last_block: BlockId,
     last_stamp: GenerationStamp,
     awaiting: &[BlockId],
+    profile: u64,
     txid: u64,
 ) -> Result<Value, AllocError>
-    ensures { IfOk result (λ v. view v ≡ head_data (record { last_block = last_block; last_stamp = last_stamp; awaiting = awaiting.now }) txid) }
+    ensures { IfOk result (λ v. view v ≡ head_data last_block last_stamp awaiting.now profile txid) }
 {
     let ids = Value::Array(number_values(alloc, awaiting)?);
-    let version = 1u64;
+    let version = 2u64;
     let last_block = last_block.get();
     let last_stamp = last_stamp.get();
     json!(in alloc; {"awaiting": ids, "image": "hdfs-standby", "last_block": last_block,
-        "last_gen": last_stamp, "txid": txid, "version": version})
+        "last_gen": last_stamp, "profile": profile, "txid": txid, "version": version})
 }
 
 fn number_values(alloc: Global, numbers: &[BlockId]) -> Result<Vec<Value>, AllocError>

@@ -2,6 +2,7 @@
 use Rattle.std.specs.Prelude.{◌≡◌, true, false, [], ◌∷◌, ◌++◌, map, codes, refl}
 use Rattle.std.specs.Fmt.{digits}
 use Rattle.json.specs.Print.{escape_byte}
+use Rattle.nn_types.specs.declared.profile.Profile.TheVariants.{One}
 use Rattle.nn_model.specs.declared.form.Form.TheVariants.{Dir, File}
 use Rattle.nn_model.specs.Namespace.{Namespace}
 use Rattle.nn_listing.specs.Listing.{newline, path_json, line_of, listing_text}
@@ -30,7 +31,7 @@ unfolding escape_byte digits
 file_of_two_blocks = refl
 
 abbrev of_two : Namespace
-of_two = record { rows = ([], Dir) ∷ (codes "a" ∷ [], Dir) ∷ []; issued = record { last_block = 1073741824; last_stamp = 1000; awaiting = [] } }
+of_two = record { rows = ([], Dir) ∷ (codes "a" ∷ [], Dir) ∷ []; issued = record { last_block = 1073741824; last_stamp = 1000; awaiting = []; profile = One } }
 
 -- the last transaction first, then each path
 whole : listing_text 9 of_two ≡ codes "txid 9" ++ newline ∷ codes "dir \"/\"" ++ newline ∷ codes "dir \"/a\"" ++ newline ∷ []

@@ -2,6 +2,7 @@
 use Rattle.std.specs.Prelude.{◌≡◌, ℕ, true, false, List, [], ◌∷◌, ◌++◌, map, codes, refl, ◌==◌, if◌then◌else◌}
 use Rattle.std.specs.Fmt.{digits}
 use Rattle.nn_types.specs.declared.report.Kind.TheVariants.{Receiving, Received, Deleted}
+use Rattle.nn_types.specs.declared.profile.Profile.TheVariants.{One}
 use Rattle.nn_model.specs.declared.form.Form.TheVariants.{Dir, File}
 use Rattle.nn_model.specs.Lanes.{Lanes, no_messages}
 use Rattle.nn_model.specs.MessageRows.{b, c, f, block, message}
@@ -16,7 +17,7 @@ line text = text ++ newline ∷ []
 abbrev one_file : Namespace
 one_file = record {
   rows = ([], Dir) ∷ (f, File (record { replication = 1; closed = true; blocks = block b 1002 5 ∷ block c 1001 7 ∷ [] })) ∷ [];
-  issued = record { last_block = 1073741827; last_stamp = 1002; awaiting = [] };
+  issued = record { last_block = 1073741827; last_stamp = 1002; awaiting = []; profile = One };
 }
 
 -- an id that no file holds

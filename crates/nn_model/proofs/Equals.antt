@@ -64,11 +64,11 @@ same_ids (x ∷ xs) (y ∷ ys) sx sy same =
     (λ j. first j ∷ rest j)
 
 pub equal_look_ups : (n other : Namespace) → HasWellFormedBlocks n → HasWellFormedBlocks other → ((p : Path) → lookup n p ≡ lookup other p) →
-    n.issued.last_block ≡ other.issued.last_block → n.issued.last_stamp ≡ other.issued.last_stamp → ((id : ℕ) → has_id n.issued.awaiting id ≡ has_id other.issued.awaiting id) → n ≡ other
-equal_look_ups n other w v look block stamp waits =
+    n.issued.last_block ≡ other.issued.last_block → n.issued.last_stamp ≡ other.issued.last_stamp → n.issued.profile ≡ other.issued.profile → ((id : ℕ) → has_id n.issued.awaiting id ≡ has_id other.issued.awaiting id) → n ≡ other
+equal_look_ups n other w v look block stamp profile waits =
     let rows = same_rows n.rows other.rows (to_T _ w.in_order) (to_T _ v.in_order) look in
     let awaiting = same_ids n.issued.awaiting other.issued.awaiting w.awaiting_in_order v.awaiting_in_order waits in
-    (λ j. record { rows = rows j; issued = record { last_block = block j; last_stamp = stamp j; awaiting = awaiting j } })
+    (λ j. record { rows = rows j; issued = record { last_block = block j; last_stamp = stamp j; awaiting = awaiting j; profile = profile j } })
 
 -- ---- the root alone
 

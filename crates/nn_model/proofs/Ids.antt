@@ -97,7 +97,7 @@ module _ (n : Namespace) (w : HasIds n) where
       ]))
 
   edit_ids : (edit : Edit) → refusal n edit ≡ None → HasIds (effect n edit)
-  edit_ids (StartSegment profile) applies = w
+  edit_ids (StartSegment profile) applies = record { in_order = w.in_order; once = w.once; issued = w.issued; awaiting = w.awaiting }
   edit_ids EndSegment applies = w
   edit_ids (Mkdir p) applies = row_ids p Dir (edit_goes_on n (Mkdir p) applies) (λ id. omega arith)
   edit_ids (Add p r) applies = row_ids p (File (record { replication = r; closed = false; blocks = [] })) (edit_goes_on n (Add p r) applies) (λ id. omega arith)

@@ -23,3 +23,4 @@ pub mod Ids
 pub mod Whole
 pub mod Orders
 pub mod Standings
+mod Profiles

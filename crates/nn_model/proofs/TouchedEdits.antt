@@ -218,7 +218,7 @@ no_rows : (n : Namespace) (p : Path) → lookup n p ≡ None → [] ≡ rows_in_
 no_rows n p none = sym (sym (file_rows (lookup n p)) ∙ ap rows_at none)
 
 edit_tells : (n : Namespace) (edit : Edit) → IsWellFormed n → refusal n edit ≡ None → Tells n (effect n edit) (touched n edit)
-edit_tells n (StartSegment profile) w applies = all_stays n n refl
+edit_tells n (StartSegment profile) w applies = all_stays n (effect n (StartSegment profile)) refl
 edit_tells n EndSegment w applies = all_stays n n refl
 edit_tells n (Mkdir p) w applies =
     let ok = all_none (checks n (Mkdir p)) applies in same_row n w.blocks p Dir (no_rows n p (absent (lookup n p) ok.1.1.0))

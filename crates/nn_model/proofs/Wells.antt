@@ -16,6 +16,7 @@ use Rattle.nn_types.specs.declared.block.Block.{Block}
 use Rattle.nn_types.specs.Block.{AreBlocks}
 use Rattle.nn_types.specs.Number.{IsNumber}
 use Rattle.nn_types.specs.declared.edit.Edit.{Edit}
+use Rattle.nn_types.specs.declared.profile.Profile.{Profile}
 use Rattle.nn_types.specs.declared.edit.Edit.TheVariants.{StartSegment, EndSegment, Mkdir, Add, AddBlock, UpdateBlocks, Close, Append, Rename, Delete, SetReplication}
 use Rattle.nn_types.specs.declared.edit.Edit.TheVariants.{AllocateBlockId, SetGenstamp}
 use Rattle.nn_types.specs.LawfulEdit.{IsLawfulEdit}
@@ -341,8 +342,19 @@ module _ (n : Namespace) (w : HasWellFormedBlocks n) where
         issued = λ b here. let is = w.issued b here in still_issued n.issued (effect n (SetGenstamp stamp)).issued b (omega arith) (omega arith) is.not_awaiting is;
       }
 
+  -- another profile, with the same rows, ids and stamps
+  profile_well : (profile : Profile) → HasWellFormedBlocks (record n { issued = record n.issued { profile = profile } })
+  profile_well profile = record {
+    in_order = w.in_order;
+    last_block_from = w.last_block_from;
+    awaiting_in_order = w.awaiting_in_order;
+    awaiting_from = w.awaiting_from;
+    once = w.once;
+    issued = λ b here. let is = w.issued b here in still_issued n.issued (record n.issued { profile = profile }) b (omega arith) (omega arith) is.not_awaiting is;
+  }
+
   pub edit_well : (edit : Edit) → IsLawfulEdit edit → refusal n edit ≡ None → HasWellFormedBlocks (effect n edit)
-  edit_well (StartSegment profile) lawful applies = w
+  edit_well (StartSegment profile) lawful applies = profile_well profile
   edit_well EndSegment lawful applies = w
   edit_well (Mkdir p) lawful applies = row_well p Dir (λ b none. absurd none) (λ id. omega arith)
   edit_well (Add p r) lawful applies = row_well p (File (record { replication = r; closed = false; blocks = [] })) (λ b none. absurd none) (λ id. omega arith)

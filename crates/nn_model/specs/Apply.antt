@@ -11,7 +11,8 @@ use Rattle.nn_model.specs.declared.form.Form.{Form}
 use Rattle.nn_model.specs.declared.form.Form.TheVariants.{Dir, File}
 use Rattle.nn_types.specs.declared.edit_fault.EditFault.{EditFault}
 use Rattle.nn_types.specs.declared.edit_fault.EditFault.TheVariants.{Exists, Missing, NotDirectory, NotFile, IsRoot, IntoItself, NotOpen, WrongBlocks}
-use Rattle.nn_types.specs.declared.edit_fault.EditFault.TheVariants.{BadGeneration, BadBlockId, BadReplication, NotClosed}
+use Rattle.nn_types.specs.declared.edit_fault.EditFault.TheVariants.{BadGeneration, BadBlockId, BadReplication, NotClosed, LowerProfile}
+use Rattle.nn_types.specs.Profile.{is_lower}
 use Rattle.nn_model.specs.Namespace.{Path, path_cmp, Namespace, lookup, with_row, begins_with, file_at, file_or_none, no_stamp}
 
 -- ---- Why an edit is refused: the checks of an edit in order, of which the first that finds a fault decides. What stands at a path
@@ -94,7 +95,7 @@ list_checks n p bs =
 
 -- the checks of an edit, in order
 abbrev pub checks : Namespace → Edit → List (Option EditFault)
-checks n (StartSegment profile) = []
+checks n (StartSegment profile) = when (is_lower profile n.issued.profile) LowerProfile ∷ []
 checks n EndSegment = []
 checks n (Mkdir p) = is_root p ∷ walk (lookup n) p ∷ exists (lookup n p) ∷ []
 checks n (Add p r) = is_root p ∷ replication_range r ∷ walk (lookup n) p ∷ exists (lookup n p) ∷ []
@@ -140,7 +141,7 @@ in_path_order (row ∷ rows) = put path_cmp row.0 row.1 (in_path_order rows)
 
 -- the namespace after an edit that applies
 abbrev pub effect : Namespace → Edit → Namespace
-effect n (StartSegment profile) = n
+effect n (StartSegment profile) = record n { issued = record n.issued { profile = profile } }
 effect n EndSegment = n
 effect n (Mkdir p) = with_row n p Dir
 effect n (Add p r) = with_row n p (File (record { replication = r; closed = false; blocks = [] }))

@@ -1,5 +1,6 @@
 -- Classes of replicas, and safe mode, computed.
 use Rattle.std.specs.Prelude.{◌≡◌, ℕ, true, false, [], ◌∷◌, map, take, Option, Some, None, nat_le, refl, codes, ◌&&◌, ◌==◌, if◌then◌else◌}
+use Rattle.nn_types.specs.declared.profile.Profile.TheVariants.{One}
 use Rattle.nn_types.specs.declared.block.Block.{Block}
 use Rattle.nn_types.specs.declared.report.Kind.{Kind}
 use Rattle.nn_types.specs.declared.report.Kind.TheVariants.{Receiving, Received, Deleted}
@@ -56,7 +57,7 @@ two_files = record {
   rows = ([], Dir)
       ∷ (codes "e" ∷ [], File (record { replication = 1; closed = false; blocks = block 1073741827 1002 5 ∷ [] }))
       ∷ (f, File (record { replication = 1; closed = true; blocks = the_block ∷ block c 1001 7 ∷ [] })) ∷ [];
-  issued = record { last_block = 1073741827; last_stamp = 1002; awaiting = [] };
+  issued = record { last_block = 1073741827; last_stamp = 1002; awaiting = []; profile = One };
 }
 
 -- DataNodes 1 and 2 have the first block, DataNode 3 has the second one, and DataNode 4 has the open file's

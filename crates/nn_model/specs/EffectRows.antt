@@ -80,12 +80,13 @@ new_row = refl
 row_in_place : with_row n a_f (open_file []) ≡ two_files (open_file []) (open_file []) (d ∷ e ∷ [])
 row_in_place = refl
 
-before_the_first_edit : root_alone ≡ record { rows = ([], Dir) ∷ []; issued = record { last_block = 1073741824; last_stamp = 1000; awaiting = [] } }
+before_the_first_edit : root_alone ≡ record { rows = ([], Dir) ∷ []; issued = record { last_block = 1073741824; last_stamp = 1000; awaiting = []; profile = One } }
 before_the_first_edit = refl
 
 -- ---- Effects.
 
-marks : map (effect n) (StartSegment One ∷ StartSegment Two ∷ EndSegment ∷ []) ≡ n ∷ n ∷ n ∷ []
+-- a start mark sets the profile, and an end mark does nothing
+marks : map (effect n) (StartSegment One ∷ StartSegment Two ∷ EndSegment ∷ []) ≡ n ∷ record n { issued = record n.issued { profile = Two } } ∷ n ∷ []
 marks = refl
 
 mkdir : effect root_alone (Mkdir a) ≡ namespace ((a, Dir) ∷ []) no_block no_stamp []

@@ -4,6 +4,8 @@ use Rattle.std.specs.Option.{option_map}
 use Rattle.nn_types.specs.declared.edit.Edit.{Edit}
 use Rattle.nn_types.specs.declared.tx.Tx.{Tx}
 use Rattle.nn_types.specs.LawfulEdit.{IsLawfulEdit}
+use Rattle.nn_types.specs.declared.profile.Profile.{Profile}
+use Rattle.nn_types.specs.declared.profile.Profile.TheVariants.{One}
 use Rattle.nn_model.specs.Namespace.{Path, Namespace, lookup}
 use Rattle.nn_model.specs.Apply.{has_id, refusal, effect}
 use Rattle.nn_model.specs.Status.{block_at, due_in}
@@ -50,7 +52,7 @@ OnlyTouchedBecomeDue = (n : Namespace) (edit : Edit) → IsLawfulEdit edit → r
 -- namespaces that answer alike, at every path and of every id, are one
 abbrev pub EqualLookUps : Type 0
 EqualLookUps = (n other : Namespace) → HasWellFormedBlocks n → HasWellFormedBlocks other → ((p : Path) → lookup n p ≡ lookup other p) →
-    n.issued.last_block ≡ other.issued.last_block → n.issued.last_stamp ≡ other.issued.last_stamp → ((id : ℕ) → has_id n.issued.awaiting id ≡ has_id other.issued.awaiting id) → n ≡ other
+    n.issued.last_block ≡ other.issued.last_block → n.issued.last_stamp ≡ other.issued.last_stamp → n.issued.profile ≡ other.issued.profile → ((id : ℕ) → has_id n.issued.awaiting id ≡ has_id other.issued.awaiting id) → n ≡ other
 
 -- ---- Along a log.
 
@@ -102,3 +104,14 @@ GapAddsNothing = (last before : ℕ) (segment : List Tx) → last < before → C
 -- of a segment that begins no higher than the next txid, all that comes after the last one counts
 abbrev pub OverlapAddsTheRest : Type 0
 OverlapAddsTheRest = (last before : ℕ) (old new : List Tx) → CountsUp before (old ++ new) → before + length old ≡ last → counted last (old ++ new) ≡ new
+
+-- ---- Of profiles.
+
+-- the same namespace with this profile
+abbrev pub in_profile : Profile → Namespace → Namespace
+in_profile profile n = record n { issued = record n.issued { profile = profile } }
+
+-- A log that applies to a namespace applies to it with profile 1 too, and what comes of both is one namespace but for the profile.
+abbrev pub LowerProfileGoesOn : Type 0
+LowerProfileGoesOn = (n : Namespace) (last : ℕ) (txs : List Tx) → IsLog n last txs →
+    IsLog (in_profile One n) last txs × (in_profile One (namespace_after (in_profile One n) txs) ≡ in_profile One (namespace_after n txs))

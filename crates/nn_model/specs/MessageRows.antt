@@ -110,7 +110,7 @@ early_log =
 abbrev pub early_end : Namespace
 early_end = record {
   rows = ([], Dir) ∷ (f, File (record { replication = 3; closed = true; blocks = block b 1001 5 ∷ [] })) ∷ [];
-  issued = record { last_block = b; last_stamp = 1001; awaiting = [] };
+  issued = record { last_block = b; last_stamp = 1001; awaiting = []; profile = One };
 }
 
 abbrev pub early_report : Message

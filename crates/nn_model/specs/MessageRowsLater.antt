@@ -34,7 +34,7 @@ raised_log =
 abbrev pub raised_end : Namespace
 raised_end = record {
   rows = ([], Dir) ∷ (f, File (record { replication = 1; closed = true; blocks = block b 1002 5 ∷ [] })) ∷ [];
-  issued = record { last_block = b; last_stamp = 1002; awaiting = [] };
+  issued = record { last_block = b; last_stamp = 1002; awaiting = []; profile = One };
 }
 
 abbrev old_report : Message

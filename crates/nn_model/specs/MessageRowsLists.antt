@@ -34,7 +34,7 @@ left_out_log =
 abbrev left_out_end : Namespace
 left_out_end = record {
   rows = ([], Dir) ∷ (f, File (record { replication = 1; closed = true; blocks = block b 1001 5 ∷ [] })) ∷ [];
-  issued = record { last_block = c; last_stamp = 1002; awaiting = [] };
+  issued = record { last_block = c; last_stamp = 1002; awaiting = []; profile = One };
 }
 
 abbrev left_out_report : Message

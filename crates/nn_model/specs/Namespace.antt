@@ -5,6 +5,8 @@ use Rattle.std.specs.declared.cmp.Ordering.{Ordering}
 use Rattle.std.specs.Cmp.Lexicographic.{slice_cmp}
 use Rattle.std.specs.FinMap.Entries.{find, put}
 use Rattle.nn_types.specs.declared.block.Block.{Block}
+use Rattle.nn_types.specs.declared.profile.Profile.{Profile}
+use Rattle.nn_types.specs.declared.profile.Profile.TheVariants.{One}
 use Rattle.nn_model.specs.declared.form.Form.{Form}
 use Rattle.nn_model.specs.declared.form.Form.TheVariants.{Dir, File}
 use Rattle.nn_model.specs.declared.form.FileRow.{FileRow}
@@ -17,11 +19,12 @@ Path = List (List ℕ)
 abbrev pub path_cmp : Path → Path → Ordering
 path_cmp = slice_cmp (slice_cmp nat_cmp)
 
--- what the log has issued: the last block id, the last generation stamp, and the ids that no file has got yet
+-- what the log has issued: the last block id, the last generation stamp, the ids that no file has got yet, and its highest profile
 pub record Issued : Type 0 where
   pub last_block : ℕ
   pub last_stamp : ℕ
   pub awaiting : List ℕ  -- ascending
+  pub profile : Profile  -- that of the last start mark, since none is lower than the one before
 
 pub record Namespace : Type 0 where
   pub rows : List (Path × Form)  -- one for each path, in path order
@@ -72,4 +75,4 @@ no_stamp = 1000
 
 -- the namespace before the first edit: the root alone
 abbrev pub root_alone : Namespace
-root_alone = record { rows = ([], Dir) ∷ []; issued = record { last_block = no_block; last_stamp = no_stamp; awaiting = [] } }
+root_alone = record { rows = ([], Dir) ∷ []; issued = record { last_block = no_block; last_stamp = no_stamp; awaiting = []; profile = One } }

@@ -10,13 +10,14 @@ use Rattle.nn_types.specs.declared.edit.Edit.TheVariants.{AllocateBlockId, SetGe
 use Rattle.nn_types.specs.declared.tx.Tx.{Tx}
 use Rattle.nn_model.specs.declared.form.Form.{Form}
 use Rattle.nn_model.specs.declared.form.Form.TheVariants.{Dir, File}
-use Rattle.nn_types.specs.declared.edit_fault.EditFault.TheVariants.{Missing, IntoItself, Exists}
+use Rattle.nn_types.specs.declared.edit_fault.EditFault.TheVariants.{Missing, IntoItself, Exists, LowerProfile}
 use Rattle.nn_model.specs.Namespace.{Path, Namespace, root_alone}
 use Rattle.nn_model.specs.Apply.{refusal, applied}
 use Rattle.nn_model.specs.Status.{status_of, due_in}
 use Rattle.nn_model.specs.Blocks.{block_row}
 use Rattle.nn_model.specs.Touched.{touched}
 use Rattle.nn_model.specs.Log.{namespace_after, IsLog, run}
+use Rattle.nn_model.specs.Laws.{in_profile}
 
 -- ---- Words for the examples.
 
@@ -53,7 +54,7 @@ file replication closed blocks = File (record { replication = replication; close
 abbrev pub namespace : List (Path × Form) → ℕ → ℕ → List ℕ → Namespace
 namespace rows last_block last_stamp awaiting = record {
   rows = ([], Dir) ∷ rows;
-  issued = record { last_block = last_block; last_stamp = last_stamp; awaiting = awaiting };
+  issued = record { last_block = last_block; last_stamp = last_stamp; awaiting = awaiting; profile = One };
 }
 
 -- the statuses of a block after so many transactions of the log
@@ -183,7 +184,7 @@ reopened_log =
     tx 1 (StartSegment One) ∷ tx 2 (SetGenstamp 1001) ∷ tx 3 (AllocateBlockId b) ∷ tx 4 (Add f 3) ∷ tx 5 (AddBlock f b 1001)
     ∷ tx 6 (Close f (block b 1001 5 ∷ [])) ∷ tx 7 EndSegment ∷ tx 8 (StartSegment Two) ∷ tx 9 (Append f) ∷ tx 10 EndSegment ∷ []
 
-append_reopens : run root_alone reopened_log ≡ Ok (namespace ((f, file 3 false (block b 1001 5 ∷ [])) ∷ []) b 1001 [])
+append_reopens : run root_alone reopened_log ≡ Ok (in_profile Two (namespace ((f, file 3 false (block b 1001 5 ∷ [])) ∷ []) b 1001 []))
 append_reopens = refl
 
 append_reopens_status : statuses reopened_log b (5 ∷ 6 ∷ 9 ∷ []) ≡ Named 1001 ∷ Named 1001 ∷ Named 1001 ∷ []
@@ -192,3 +193,11 @@ append_reopens_status = refl
 append_reopens_touched : touched (namespace_after root_alone (take 8 reopened_log)) (Append f)
     ≡ record { changed = block_row false (block b 1001 5) ∷ []; retired = []; skipped = None }
 append_reopens_touched = refl
+
+-- ---- The profile of the log never falls.
+
+lower_profile : run root_alone (tx 1 (StartSegment Two) ∷ tx 2 EndSegment ∷ tx 3 (StartSegment One) ∷ tx 4 EndSegment ∷ []) ≡ Err (3, LowerProfile)
+lower_profile = refl
+
+higher_profile : run root_alone (tx 1 (StartSegment One) ∷ tx 2 EndSegment ∷ tx 3 (StartSegment Two) ∷ tx 4 EndSegment ∷ []) ≡ Ok (in_profile Two root_alone)
+higher_profile = refl

@@ -7,7 +7,7 @@ use Rattle.nn_types.specs.declared.edit.Edit.TheVariants.{SetReplication, Alloca
 use Rattle.nn_model.specs.declared.form.Form.TheVariants.{Dir}
 use Rattle.nn_types.specs.declared.edit_fault.EditFault.{EditFault}
 use Rattle.nn_types.specs.declared.edit_fault.EditFault.TheVariants.{Exists, Missing, NotDirectory, NotFile, IsRoot, IntoItself}
-use Rattle.nn_types.specs.declared.edit_fault.EditFault.TheVariants.{NotOpen, WrongBlocks, BadGeneration, BadBlockId, BadReplication, NotClosed}
+use Rattle.nn_types.specs.declared.edit_fault.EditFault.TheVariants.{NotOpen, WrongBlocks, BadGeneration, BadBlockId, BadReplication, NotClosed, LowerProfile}
 use Rattle.nn_model.specs.Namespace.{Path, Namespace, lookup}
 use Rattle.nn_model.specs.Apply.{walk, refusal, applied, effect, is_dir}
 use Rattle.nn_model.specs.NamespaceRows.{a, a_b, ab, b, c, f, block, file, namespace}
@@ -51,6 +51,10 @@ Answers table = map (λ row. refusal n row.0) table ≡ map (λ row. row.1) tabl
 
 marks : Answers ((StartSegment One, None) ∷ (StartSegment Two, None) ∷ (EndSegment, None) ∷ [])
 marks = refl
+
+-- once the profile is 2, it stays
+marks_of_profile_two : map (refusal (effect n (StartSegment Two))) (StartSegment One ∷ StartSegment Two ∷ EndSegment ∷ []) ≡ Some LowerProfile ∷ None ∷ None ∷ []
+marks_of_profile_two = refl
 
 -- the walk goes from the root down: a file on the way is met before what is missing below it
 mkdir : Answers

@@ -209,7 +209,7 @@ the_log_skips s = omega (arith, s.log.0)
 abbrev twice : Namespace
 twice = record {
   rows = ([], Dir) ∷ (f, File (record { replication = 1; closed = false; blocks = block b 1001 5 ∷ block b 1001 5 ∷ [] })) ∷ [];
-  issued = record { last_block = b; last_stamp = 1001; awaiting = [] };
+  issued = record { last_block = b; last_stamp = 1001; awaiting = []; profile = One };
 }
 
 the_base_has_an_id_twice : Stands twice 0 [] no_messages (fresh twice 0) → ⊥

@@ -4,7 +4,7 @@ ghost use Rattle.nn_model.specs.WellFormed.{IsWellFormed};
 ghost use Rattle.nn_model.specs.Laws.{DueStays, BlocksStayWellFormed, StaysWellFormed, EqualLookUps};
 ghost use Rattle.nn_model.specs.Laws.{TouchedTells, RowsAreTold, RowsShowBlocks, OnlyTouchedBecomeDue};
 ghost use Rattle.nn_model.specs.Laws.{LogKeepsWellFormed, LogKeepsBlocks, LogKeepsDue, NamespaceOfAppended, AppendedLog, LogRuns};
-ghost use Rattle.nn_model.specs.Laws.{LogCountsUp, OneMoreSegment, OldAddsNothing, GapAddsNothing, OverlapAddsTheRest};
+ghost use Rattle.nn_model.specs.Laws.{LogCountsUp, OneMoreSegment, OldAddsNothing, GapAddsNothing, OverlapAddsTheRest, LowerProfileGoesOn};
 
 /// A message that is due is due after every edit that applies. So a standby never has to take a message back
 /// that it processed once the log had named its block.
@@ -72,4 +72,10 @@ pub fn segments_make_a_log()
     ensures old { OldAddsNothing }
     ensures gap { GapAddsNothing }
     ensures overlap { OverlapAddsTheRest }
+{}
+
+/// A log goes on from a namespace whose profile was forgotten, as from an image that has none: what comes of it differs
+/// in the profile alone.
+pub fn a_lower_profile_goes_on()
+    ensures { LowerProfileGoesOn }
 {}

@@ -1,14 +1,14 @@
-//! `save` and `load`.
+//! `save`, `load` and `rewrite`.
 use crate::heap::Heap;
 use crate::namespace;
 use crate::scenario::{Halt, Scenario};
 use crate::trial::{Answer, Changing, Fate, change};
-use nn_image::{ImageFault, SaveFault, load, save};
+use nn_image::{ImageFault, RewriteFault, SaveFault, load, rewrite, save};
 use nn_tree::Namespace;
 use std::alloc::Global;
 
 /// What is printed for each call.
-pub const NAMES: [&str; 2] = ["save", "load"];
+pub const NAMES: [&str; 3] = ["save", "load", "rewrite"];
 
 // Room for the image.
 const ROOM: usize = 65_536;
@@ -68,6 +68,32 @@ impl Changing for Load<'_> {
     }
 }
 
+#[derive(Clone, Copy)]
+struct Rewrite<'a> {
+    alloc: Global,
+    image: &'a [u8],
+}
+
+impl Changing for Rewrite<'_> {
+    type Subject = Vec<u8>;
+
+    fn call(&self, written: &mut Vec<u8>) -> Answer {
+        written.clear();
+        let mut reader = self.image;
+        match rewrite(self.alloc, &mut reader, written) {
+            Ok(_) => Answer::Done,
+            Err(RewriteFault::Load(ImageFault::OutOfMemory)) => Answer::OutOfMemory,
+            Err(RewriteFault::Save(SaveFault::OutOfMemory)) => Answer::OutOfMemory,
+            Err(_) => Answer::Other,
+        }
+    }
+
+    // What was written is a front of the whole image.
+    fn is_unchanged(&self, written: &Vec<u8>, whole: &Vec<u8>) -> bool {
+        whole.starts_with(written)
+    }
+}
+
 /// The image of the namespace after the scenario's first segment.
 pub fn image_of(alloc: Global, scenario: &Scenario) -> Result<Vec<u8>, Halt> {
     let namespace = scenario.after_the_first(alloc)?;
@@ -78,12 +104,12 @@ pub fn image_of(alloc: Global, scenario: &Scenario) -> Result<Vec<u8>, Halt> {
     }
 }
 
-/// Saves a namespace and loads its image.
+/// Saves a namespace, and loads and rewrites its image.
 pub fn save_and_load(
     alloc: Global,
     is_ample: bool,
     scenario: &Scenario,
-) -> Result<[Fate; 2], Halt> {
+) -> Result<[Fate; 3], Halt> {
     let namespace = scenario.after_the_first(alloc)?;
     let txid = scenario.image_txid();
     let whole = image_of(alloc, scenario)?;
@@ -105,5 +131,10 @@ pub fn save_and_load(
         Some((read, last)) => { *last == txid && namespace::are_alike(read, &namespace, scenario) }
         None => false,
     };
-    Ok([saved, loaded.if_same(is_same)])
+    let rewriting = Rewrite {
+        alloc,
+        image: &whole,
+    };
+    let rewritten = change(&mut heap, &rewriting, &mut image, &whole).if_same(image == whole);
+    Ok([saved, loaded.if_same(is_same), rewritten])
 }

@@ -9,7 +9,7 @@ use Rattle.nn_segment.specs.declared.fault.SegmentFault.{SegmentFault}
 use Rattle.nn_segment.specs.declared.fault.SegmentFault.TheVariants.{BadName, TooLong, NoStart, TornLine, NoEnd, NameMismatch, Gap, WrongProfile}
 use Rattle.nn_segment.specs.Name.{txids_of, IsNameOf}
 use Rattle.nn_segment.specs.Lines.{lines_of, is_ended, reads_of}
-use Rattle.nn_segment.specs.Segment.{Segment, max_bytes, start_profile, allows, allows_all, allowed_by, keeps_profile, is_start, starts, ends_once, first_txid, last_txid, IsSegment}
+use Rattle.nn_segment.specs.Segment.{Segment, max_bytes, start_profile, allows, allows_all, allowed_by, keeps_profile, starts, ends_once, first_txid, last_txid, IsSegment}
 use Rattle.nn_segment.specs.Reading.{when, first, later_fault, after_start, lines_fault, txs_in, is_named, bytes_checks, lines_checks, fault_of, unless, read_segment}
 use Rattle.nn_segment.proofs.Names.{named, names}
 use Rattle.nn_segment.proofs.ReadingLemmas.{Reads, by_lines, accepted, bytes_good, none_refuses}

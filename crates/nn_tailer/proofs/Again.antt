@@ -11,6 +11,8 @@ use Rattle.nn_model.specs.Namespace.{Namespace}
 use Rattle.nn_model.specs.Apply.{effect, applied}
 use Rattle.nn_model.specs.Log.{counted, namespace_after, IsLog, CountsUp}
 use Rattle.nn_model.specs.Status.{status_of}
+use Rattle.nn_model.specs.Laws.{in_profile}
+use Rattle.nn_types.specs.declared.profile.Profile.TheVariants.{One}
 use Rattle.nn_model.proofs.Logs.{counted_append, namespace_of_appended, appended_log}
 use Rattle.nn_segment.specs.Segment.{Segment, IsSegment, first_txid}
 use Rattle.nn_segment.specs.Source.{Answer}
@@ -18,8 +20,8 @@ use Rattle.nn_segment.specs.Walk.{segments_in}
 use Rattle.nn_segment.specs.declared.source.Item.TheVariants as item
 use Rattle.nn_segment.specs.LogEnd.{LogStop, LogEnd, refused, disorder, go_on, end_of_txs, and_then, end_of_log, end_behind, given_in}
 use Rattle.nn_segment.proofs.Walks.{passed_over, next_taken}
-use Rattle.nn_image.proofs.Round.{reads_back}
-use Rattle.nn_tailer.specs.RestartLaws.{GoesOn, ReadsAgain, KeepsStatus}
+use Rattle.nn_image.proofs.Round.{reads_back, reads_old_back}
+use Rattle.nn_tailer.specs.RestartLaws.{GoesOn, ReadsAgain, KeepsStatus, KeepsOldStatus}
 use Rattle.nn_tailer.proofs.LogEnds.{no_more, behind_none, behind_gap, behind_segment, behind_applied}
 
 -- ---- what counts where some of it was counted before
@@ -189,4 +191,10 @@ pub keeps_status : KeepsStatus
 keeps_status n txid m well paths few small read id =
     let both : Ok (n, txid) ≡ Ok m = sym (reads_back n txid well paths few small) ∙ read in
     let same : (n, txid) ≡ m = cc in
+    sym (ap (λ (p : Namespace × ℕ). status_of p.0 id) same)
+
+pub keeps_old_status : KeepsOldStatus
+keeps_old_status n txid m well paths few small read id =
+    let both : Ok (in_profile One n, txid) ≡ Ok m = sym (reads_old_back n txid well paths few small) ∙ read in
+    let same : (in_profile One n, txid) ≡ m = cc in
     sym (ap (λ (p : Namespace × ℕ). status_of p.0 id) same)

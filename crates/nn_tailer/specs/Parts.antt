@@ -1,16 +1,13 @@
 -- What the parts of a step do.
-use Rattle.std.specs.Prelude.{◌≡◌, ◌≢◌, ℕ, ◌+◌, ◌<◌, ◌≤◌, true, false, List, [], ◌∷◌, length, Some, None, slice_index_or}
+use Rattle.std.specs.Prelude.{◌≡◌, ℕ, ◌+◌, true, false, List, ◌∷◌, length, Some, None, slice_index_or}
 use Rattle.nn_types.specs.declared.report.Message.{Message}
 use Rattle.nn_types.specs.declared.tx.Tx.{Tx}
-use Rattle.nn_types.specs.declared.fault.TheConstants.{DISORDER}
 use Rattle.nn_types.specs.declared.edit_fault.EditFault.{EditFault}
 use Rattle.nn_types.specs.EditFault.{number_of}
-use Rattle.nn_model.specs.Log.{counted as news}
 use Rattle.nn_model.specs.Apply.{refusal}
 use Rattle.nn_lane.specs.Ends.{Taking, lane_of, loads_of, counted, StaysCounted}
 use Rattle.nn_shadow.specs.declared.fault.Stop.{Stop}
 use Rattle.nn_shadow.specs.Contents.{Contents}
-use Rattle.nn_segment.specs.Segment.{Segment, first_txid}
 use Rattle.nn_tailer.specs.Shadows.{ShowsSame, IsApplied, IsHanded}
 use Rattle.nn_tailer.specs.declared.fault.StepFault.{StepFault}
 use Rattle.nn_tailer.specs.declared.fault.StepFault.TheVariants.{AlreadyActive, Stopped, BadLane, LogNotEnded, OutOfMemory}

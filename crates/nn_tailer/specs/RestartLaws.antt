@@ -10,6 +10,7 @@ use Rattle.nn_segment.specs.Segment.{Segment, IsSegment}
 use Rattle.nn_segment.specs.Source.{Answer}
 use Rattle.nn_segment.specs.LogEnd.{end_of_log, given_in}
 use Rattle.nn_image.specs.Text.{image_text}
+use Rattle.nn_image.specs.OldText.{old_image_text}
 use Rattle.nn_image.specs.Lawful.{HasPaths, IsCounted}
 use Rattle.nn_image.specs.Reading.{read_image}
 use Rattle.nn_tailer.specs.Tailing.{Tailer, StandsAt}
@@ -32,3 +33,8 @@ ReadsAgain = (start : Namespace) (base : ℕ) (given : List Answer) (x : Tailer)
 abbrev pub KeepsStatus : Type 0
 KeepsStatus = (n : Namespace) (txid : ℕ) (m : Namespace × ℕ) → IsWellFormed n → HasPaths n → IsCounted n → txid < 2 ^ 63
     → read_image (image_text n txid) ≡ Ok m → (id : ℕ) → status_of m.0 id ≡ status_of n id
+
+-- and so it is with an image of version 1, which has no profile
+abbrev pub KeepsOldStatus : Type 0
+KeepsOldStatus = (n : Namespace) (txid : ℕ) (m : Namespace × ℕ) → IsWellFormed n → HasPaths n → IsCounted n → txid < 2 ^ 63
+    → read_image (old_image_text n txid) ≡ Ok m → (id : ℕ) → status_of m.0 id ≡ status_of n id

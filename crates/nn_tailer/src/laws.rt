@@ -1,5 +1,5 @@
 //! What a restart keeps. Each law is the contract of a function that does nothing.
-ghost use Rattle.nn_tailer.specs.RestartLaws.{GoesOn, ReadsAgain, KeepsStatus};
+ghost use Rattle.nn_tailer.specs.RestartLaws.{GoesOn, ReadsAgain, KeepsStatus, KeepsOldStatus};
 
 /// The image and the rest of the log give the namespace of the whole log, whether the segments before the image are given
 /// again or not, and each block id has the status that it had.
@@ -7,4 +7,5 @@ pub fn a_restart_goes_on()
     ensures log { GoesOn }
     ensures again { ReadsAgain }
     ensures status { KeepsStatus }
+    ensures old_status { KeepsOldStatus }
 {}

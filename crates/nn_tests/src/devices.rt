@@ -1,5 +1,5 @@
 //! Readers and writers of images that fail, and readers that give little at a time.
-use nn_image::{SaveFault, load, save};
+use nn_image::{RewriteFault, SaveFault, load, rewrite, save};
 use nn_tree::Namespace;
 use std::alloc::Global;
 use std::io;
@@ -8,6 +8,13 @@ use std::process::Abort;
 
 // The image of a log up to a file that has no block yet.
 const OPEN_FILE: &str =
+    r#"{"awaiting":[1073741825],"image":"hdfs-standby","last_block":1073741825,"last_gen":1001,"profile":1,"txid":5,"version":2}
+{"blocks":[],"closed":false,"path":"/f","replication":3,"type":"file"}
+{"end":1}
+"#;
+
+// The same, as version 1 had it.
+const OLD_FILE: &str =
     r#"{"awaiting":[1073741825],"image":"hdfs-standby","last_block":1073741825,"last_gen":1001,"txid":5,"version":1}
 {"blocks":[],"closed":false,"path":"/f","replication":3,"type":"file"}
 {"end":1}
@@ -64,6 +71,34 @@ impl Write for Stopping {
     fn flush(&mut self) -> io::Result<()> {
         Ok(())
     }
+}
+
+// The same of an image that is rewritten, and then nothing is written.
+#[test]
+fn failing_readers_of_a_rewrite(rt: HostRuntime) {
+    let reads = OLD_FILE.len() as u64 + 1;
+    for fail_at in 0..reads {
+        let (number, written) = rewritten_at(rt.alloc(), fail_at);
+        assert_eq!(rt; number, 67, "at {fail_at}");
+        assert!(rt; written.is_empty());
+    }
+    let (number, written) = rewritten_at(rt.alloc(), reads);
+    assert_eq!(rt; number, 0);
+    assert!(rt; written.as_slice() == OPEN_FILE.as_bytes());
+}
+
+fn rewritten_at(alloc: Global, fail_at: u64) -> (u8, Vec<u8>) {
+    let mut reader = Slow {
+        bytes: OLD_FILE.as_bytes(),
+        reads: 0,
+        fail_at,
+    };
+    let mut written = Vec::new(alloc);
+    let number = match rewrite(alloc, &mut reader, &mut written) {
+        Ok(_) => 0,
+        Err(fault) => fault.number(),
+    };
+    (number, written)
 }
 
 // Up to the last byte of the end line a failed read is 67. After it one more read shows the end.
@@ -127,6 +162,21 @@ fn stops_at(
         Err(SaveFault::WriteFault { written }) => written,
         _ => u64::MAX,
     };
+    tells_what_it_wrote(rt, &writer, told);
+    let mut writer = Stopping {
+        got: Vec::new(alloc),
+        writes: 0,
+        stop_at,
+        fails,
+    };
+    let told = match rewrite(alloc, &mut OLD_FILE.as_bytes(), &mut writer) {
+        Err(RewriteFault::Save(SaveFault::WriteFault { written })) => written,
+        _ => u64::MAX,
+    };
+    tells_what_it_wrote(rt, &writer, told);
+}
+
+fn tells_what_it_wrote(rt: &impl Abort, writer: &Stopping, told: u64) {
     assert!(rt; OPEN_FILE.as_bytes().starts_with(&writer.got));
-    assert_eq!(rt; told, writer.got.len() as u64, "at {stop_at}");
+    assert_eq!(rt; told, writer.got.len() as u64, "at {}", writer.stop_at);
 }

@@ -159,6 +159,8 @@ fn ends_of(alloc: Global, end: LaneEnd) -> Option<Vec<LaneEnd>>
 
 struct Worked {
     name: &'static str,
+    // The image that the standby starts from, if there is one.
+    image: Option<&'static [u8]>,
     log: &'static [Text],
     // After how many calls its source fails, in one run after another.
     fails: &'static [u64],
@@ -172,6 +174,7 @@ const SENT: (Call, Answer) = (Call::Report(FIRST, 1001), ("sent", 1, 0));
 // A report that the log never names waits for the flush, and orders the block's deletion.
 const FLUSHES_UNNAMED: Worked = Worked {
     name: "flushes unnamed",
+    image: None,
     log: &[TWO_MARKS],
     fails: NEVER,
     calls: &[
@@ -189,6 +192,7 @@ const FLUSHES_UNNAMED: Worked = Worked {
 // Before its lane is closed it is not promoted, and goes on. The reporter learns of the close by its next report.
 const OPEN_INTAKE: Worked = Worked {
     name: "open intake",
+    image: None,
     log: &[TWO_MARKS],
     fails: NEVER,
     calls: &[
@@ -207,6 +211,7 @@ const OPEN_INTAKE: Worked = Worked {
 // An edit that does not apply stops the standby then and later.
 const MISSING_PARENT: Worked = Worked {
     name: "missing parent",
+    image: None,
     log: &[(
         "edits_0000000000000000001-0000000000000000003",
         "{\"op\":\"OP_START_LOG_SEGMENT\",\"txid\":1}\n{\"op\":\"OP_MKDIR\",\"path\":\"/a/b\",\"txid\":2}\n{\"op\":\"OP_END_LOG_SEGMENT\",\"txid\":3}\n",
@@ -227,6 +232,7 @@ const MISSING_PARENT: Worked = Worked {
 // So does a segment that begins above the next transaction, in a promotion and in a step.
 const BEGINS_TOO_HIGH: Worked = Worked {
     name: "begins too high",
+    image: None,
     log: &[(
         "edits_0000000000000000002-0000000000000000003",
         "{\"op\":\"OP_START_LOG_SEGMENT\",\"txid\":2}\n{\"op\":\"OP_END_LOG_SEGMENT\",\"txid\":3}\n",
@@ -257,6 +263,7 @@ const THREE_TO_FIVE: Text = (
 // Of overlapping segments each transaction is applied once, in order.
 const OVERLAPPING: Worked = Worked {
     name: "overlapping",
+    image: None,
     log: &[THREE, THREE, THREE_TO_FIVE],
     fails: NEVER,
     calls: &[
@@ -273,6 +280,7 @@ const OVERLAPPING: Worked = Worked {
 // A source that fails at each call in turn and is asked again loses nothing.
 const FAILING_SOURCE: Worked = Worked {
     name: "failing source",
+    image: None,
     log: &[THREE, THREE, THREE_TO_FIVE],
     fails: &[0, 1, 2, 3],
     calls: &[
@@ -280,6 +288,43 @@ const FAILING_SOURCE: Worked = Worked {
         (Call::Close, DONE),
         (Call::Promote, ("fault", 54, 0)),
         (Call::Promote, ("promoted", 5, 1)),
+    ],
+};
+
+// The log of a standby that starts from an image of txid 2 goes on with a start mark of profile 1.
+const REST: &[Text] = &[(
+    "edits_0000000000000000003-0000000000000000004",
+    "{\"op\":\"OP_START_LOG_SEGMENT\",\"txid\":3}\n{\"op\":\"OP_END_LOG_SEGMENT\",\"txid\":4}\n",
+)];
+
+// An image of profile 2 refuses it, also while the promotion reads the log to its end.
+const LOWER_PROFILE: Worked = Worked {
+    name: "lower profile",
+    image: Some(
+        b"{\"awaiting\":[],\"image\":\"hdfs-standby\",\"last_block\":1073741824,\"last_gen\":1000,\"profile\":2,\"txid\":2,\"version\":2}\n{\"end\":0}\n",
+    ),
+    log: REST,
+    fails: NEVER,
+    calls: &[
+        (Call::Close, DONE),
+        (Call::Promote, ("fault", 51, 0)),
+        (Call::Stop, ("stopped", 3, 33)),
+        (Call::Last, ("txid", 2, 0)),
+    ],
+};
+
+// An image of version 1 has no profile, and takes it.
+const FORGOTTEN_PROFILE: Worked = Worked {
+    name: "forgotten profile",
+    image: Some(
+        b"{\"awaiting\":[],\"image\":\"hdfs-standby\",\"last_block\":1073741824,\"last_gen\":1000,\"txid\":2,\"version\":1}\n{\"end\":0}\n",
+    ),
+    log: REST,
+    fails: NEVER,
+    calls: &[
+        (Call::Edit, ("applied", 3, 0)),
+        (Call::Close, DONE),
+        (Call::Promote, ("promoted", 4, 0)),
     ],
 };
 
@@ -292,6 +337,8 @@ fn calls(rt: HostRuntime) {
         BEGINS_TOO_HIGH,
         OVERLAPPING,
         FAILING_SOURCE,
+        LOWER_PROFILE,
+        FORGOTTEN_PROFILE,
     ] {
         for before in worked.fails {
             plays(&rt, rt.alloc(), worked, *before);
@@ -300,7 +347,7 @@ fn calls(rt: HostRuntime) {
 }
 
 fn plays(rt: &impl Abort, alloc: Global, worked: &Worked, before: u64) {
-    let Some(mut player) = new_player(alloc, worked.log, before, None) else {
+    let Some(mut player) = new_player(alloc, worked.log, before, worked.image) else {
         assert!(rt; false, "out of memory");
         return;
     };
@@ -328,25 +375,26 @@ struct Restarted {
     shown: &'static str,
 }
 
-const EARLY_REPORT: Restarted = Restarted {
+const APPENDED: Restarted = Restarted {
     log: (
-        "edits_0000000000000000001-0000000000000000007",
-        r#"{"op":"OP_START_LOG_SEGMENT","txid":1}
+        "edits_0000000000000000001-0000000000000000008",
+        r#"{"op":"OP_START_LOG_SEGMENT","profile":2,"txid":1}
 {"op":"OP_SET_GENSTAMP_V2","txid":2,"gen":1001}
 {"op":"OP_ALLOCATE_BLOCK_ID","txid":3,"id":1073741825}
 {"op":"OP_ADD","txid":4,"path":"/f","replication":3}
 {"op":"OP_ADD_BLOCK","txid":5,"path":"/f","id":1073741825,"gen":1001}
 {"op":"OP_CLOSE","txid":6,"path":"/f","blocks":[{"id":1073741825,"gen":1001,"len":5}]}
-{"op":"OP_END_LOG_SEGMENT","txid":7}
+{"op":"OP_APPEND","txid":7,"path":"/f"}
+{"op":"OP_END_LOG_SEGMENT","txid":8}
 "#,
     ),
-    last: 7,
+    last: 8,
     reports: &[(1073741825, 1001)],
-    shown: r#"txid 7
+    shown: r#"txid 8
 dir "/"
-file "/f" 3 closed 1073741825:1001:5
+file "/f" 3 open 1073741825:1001:5
 replica 1073741825 1 1001 5 received live
-blocks 1 safe 1 needed 0 mode off
+blocks 0 safe 0 needed 0 mode off
 "#,
 };
 
@@ -379,7 +427,7 @@ blocks 2 safe 2 needed 1 mode off
 
 #[test]
 fn restarts(rt: HostRuntime) {
-    for restarted in &[EARLY_REPORT, RELEASED_BY_BLOCK] {
+    for restarted in &[APPENDED, RELEASED_BY_BLOCK] {
         for count in 0..restarted.last {
             let shown = shown_after(rt.alloc(), restarted, count);
             let is_whole = shown.is_some_and(|text| text.as_str() == restarted.shown);

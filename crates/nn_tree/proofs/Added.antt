@@ -81,7 +81,7 @@ add_block_kept n p i stamp x look next l lawful was goes k =
 -- ---- what is seen
 pub add_block_seen : (es new : List (Path × Form)) (issued : Issued) (p ns : Path) (i g : ℕ) (x y : FileRow) → ns ≡ p → IsSubtree es ns (Some (([], File x) ∷ [])) → IsGrafted es ns (Some (([], File y) ∷ [])) new →
     y ≡ record { replication = x.replication; closed = false; blocks = x.blocks ++ record { id = i; stamp = g; len = 0 } ∷ [] } →
-    seen new (record { last_block = issued.last_block; last_stamp = issued.last_stamp; awaiting = filter (λ k. not (k == i)) issued.awaiting }) ≡ effect (seen es issued) (edit.AddBlock p i g)
+    seen new (record { last_block = issued.last_block; last_stamp = issued.last_stamp; awaiting = filter (λ k. not (k == i)) issued.awaiting; profile = issued.profile }) ≡ effect (seen es issued) (edit.AddBlock p i g)
 add_block_seen es new issued p ns i g x y e h k yx =
     let s = seen es issued in
     let was : x ≡ file_at s p = sym (ap file_or_none (file_was es issued p ns x e h)) in

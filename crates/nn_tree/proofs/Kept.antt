@@ -5,6 +5,7 @@ use Rattle.std.proofs.lemmas.Bool.{leb-false}
 use Rattle.nn_types.specs.declared.block.Block.{Block}
 use Rattle.nn_types.specs.declared.edit.Edit.TheVariants as edit
 use Rattle.nn_types.specs.LawfulEdit.{IsLawfulEdit}
+use Rattle.nn_types.specs.declared.profile.Profile.{Profile}
 use Rattle.nn_model.proofs.Trees.{stays_well_formed, absent}
 use Rattle.nn_model.specs.declared.form.Form.TheVariants.{Dir, File}
 use Rattle.nn_model.specs.declared.form.FileRow.{FileRow}
@@ -151,6 +152,9 @@ below_next n i w lawful k waits =
 
 pub allocate_kept : (n : Namespace) (i : ℕ) (look : ℕ → Option BlockRow) → IsLawfulEdit (edit.AllocateBlockId i) → refusal n (edit.AllocateBlockId i) ≡ None → IsKept n look → IsKept (effect n (edit.AllocateBlockId i)) look
 allocate_kept n i look l lawful k = record { well = stays_well_formed n (edit.AllocateBlockId i) l lawful k.well; index = k.index }
+
+pub start_kept : (n : Namespace) (profile : Profile) (look : ℕ → Option BlockRow) → IsLawfulEdit (edit.StartSegment profile) → refusal n (edit.StartSegment profile) ≡ None → IsKept n look → IsKept (effect n (edit.StartSegment profile)) look
+start_kept n profile look l lawful k = record { well = stays_well_formed n (edit.StartSegment profile) l lawful k.well; index = k.index }
 
 pub genstamp_kept : (n : Namespace) (stamp : ℕ) (look : ℕ → Option BlockRow) → IsLawfulEdit (edit.SetGenstamp stamp) → refusal n (edit.SetGenstamp stamp) ≡ None → IsKept n look → IsKept (effect n (edit.SetGenstamp stamp)) look
 genstamp_kept n stamp look l lawful k = record { well = stays_well_formed n (edit.SetGenstamp stamp) l lawful k.well; index = k.index }

@@ -6,7 +6,7 @@ use Rattle.nn_types.specs.declared.edit.Edit.TheVariants.{StartSegment, EndSegme
 use Rattle.nn_model.specs.declared.form.Form.{Form}
 use Rattle.nn_model.specs.declared.form.Form.TheVariants.{Dir, File}
 use Rattle.nn_types.specs.declared.edit_fault.EditFault.{EditFault}
-use Rattle.nn_types.specs.declared.edit_fault.EditFault.TheVariants.{Exists, Missing, NotFile, NotOpen, IntoItself, WrongBlocks, BadGeneration, BadBlockId, BadReplication, NotClosed, OutOfMemory}
+use Rattle.nn_types.specs.declared.edit_fault.EditFault.TheVariants.{Exists, Missing, NotFile, NotOpen, IntoItself, WrongBlocks, BadGeneration, BadBlockId, BadReplication, NotClosed, LowerProfile, OutOfMemory}
 use Rattle.nn_model.specs.Namespace.{Path, Namespace, lookup}
 use Rattle.nn_model.specs.Apply.{first, when, is_root, in_directory, walk, checks, list_checks, refusal}
 
@@ -65,6 +65,9 @@ is_bad_generation e = absurd (cc)
 is_bad_block_id : IsOther (Some BadBlockId)
 is_bad_block_id e = absurd (cc)
 
+is_lower_profile : IsOther (Some LowerProfile)
+is_lower_profile e = absurd (cc)
+
 is_not_closed : IsOther (Some NotClosed)
 is_not_closed e = absurd (cc)
 
@@ -75,7 +78,7 @@ others_of_list : (n : Namespace) (p : Path) (bs : List Block) → AreOthers (lis
 others_of_list n p bs = (other_root p, (other_walk (lookup n) p, (other_when _ Missing is_missing, (other_when _ NotFile is_not_file, (other_when _ NotOpen is_not_open, (other_when _ WrongBlocks is_wrong_blocks, (other_when _ BadGeneration is_bad_generation, tt)))))))
 
 others : (n : Namespace) (edit : Edit) → AreOthers (checks n edit)
-others n (StartSegment profile) = tt
+others n (StartSegment profile) = (other_when _ LowerProfile is_lower_profile, tt)
 others n EndSegment = tt
 others n (Mkdir p) = (other_root p, (other_walk (lookup n) p, (other_when _ Exists is_exists, tt)))
 others n (Add p r) = (other_root p, (other_when _ BadReplication is_bad_replication, (other_walk (lookup n) p, (other_when _ Exists is_exists, tt))))

@@ -3,6 +3,7 @@ use Rattle.std.specs.Prelude.{◌≡◌, ℕ, Bool, true, false, cond, [], ◌�
 use Rattle.std.specs.List.Sorted.{IsStrictlySortedBy}
 use Rattle.std.proofs.lemmas.Bool.{eqb-true, both_ways}
 use Rattle.std.proofs.Common.{ap, arith}
+use Rattle.nn_types.specs.declared.profile.Profile.TheVariants.{One}
 use Rattle.nn_types.specs.declared.block.Block.{Block}
 use Rattle.nn_model.specs.declared.form.Form.{Form}
 use Rattle.nn_model.specs.declared.form.Form.TheVariants.{File}
@@ -22,7 +23,7 @@ abbrev file : Bool → Block → Form
 file closed block = File (record { replication = 3; closed = closed; blocks = block ∷ [] })
 
 abbrev issued : Issued
-issued = record { last_block = 1073741826; last_stamp = 1002; awaiting = [] }
+issued = record { last_block = 1073741826; last_stamp = 1002; awaiting = []; profile = One }
 
 -- /a is closed and has the second block, /b is open and has the first one
 abbrev files : Namespace

@@ -3,7 +3,7 @@ use Rattle.std.specs.Prelude.{Bool, true, false}
 use Rattle.nn_types.specs.declared.edit.Edit.{Edit}
 use Rattle.nn_types.specs.declared.edit.Edit.TheVariants.{StartSegment, EndSegment, Mkdir, Add, AddBlock, UpdateBlocks, Close, Append, Rename, Delete, SetReplication, AllocateBlockId, SetGenstamp}
 
--- a mark makes no change, and the others that take none change what is there
+-- those that take none change what is there
 abbrev pub takes_memory : Edit → Bool
 takes_memory (StartSegment profile) = false
 takes_memory EndSegment = false

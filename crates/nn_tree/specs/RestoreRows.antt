@@ -1,5 +1,6 @@
 -- Paths that may be restored and others that may not, one example for each rule.
 use Rattle.std.specs.Prelude.{◌≡◌, ℕ, Bool, true, false, List, [], ◌∷◌, map, codes, refl}
+use Rattle.nn_types.specs.declared.profile.Profile.TheVariants.{One}
 use Rattle.nn_types.specs.declared.block.Block.{Block}
 use Rattle.nn_model.specs.declared.form.Form.{Form}
 use Rattle.nn_model.specs.declared.form.Form.TheVariants.{Dir, File}
@@ -14,7 +15,7 @@ b = codes "b"
 
 -- the ids up to 1073741830 were issued, of which 1073741826 awaits, and the stamps up to 1005
 abbrev start : Namespace
-start = bare (record { last_block = 1073741830; last_stamp = 1005; awaiting = 1073741826 ∷ [] })
+start = bare (record { last_block = 1073741830; last_stamp = 1005; awaiting = 1073741826 ∷ []; profile = One })
 
 abbrev block : ℕ → ℕ → Block
 block id stamp = record { id = id; stamp = stamp; len = 0 }

@@ -1,4 +1,4 @@
-//! What the log has issued: block ids, generation stamps, and the ids that no file has got yet.
+//! What the log has issued: block ids, generation stamps, the ids that no file has got yet, and its profile.
 ghost use Rattle.std.specs.Prelude.{◌≡◌, true, ◌++◌, ◌∷◌, [], ◌^◌, ◌||◌, ◌==◌, filter, not, nat_le, nat_lt, OnOk, OnErr, IfOk};
 ghost use Rattle.std.specs.List.Sorted.{IsStrictlySortedBy};
 ghost use Rattle.std.specs.Ordering.{nat_cmp};
@@ -7,7 +7,7 @@ ghost use Rattle.nn_model.specs.Apply.{has_id};
 ghost use Rattle.nn_tree.specs.Restore.{awaiting_fits, is_issued, block_fits};
 ghost use Rattle.nn_tree.specs.Issued.{AreBelow};
 
-use nn_types::{Block, BlockId, GenerationStamp};
+use nn_types::{Block, BlockId, GenerationStamp, Profile};
 use std::alloc::{AllocError, Global};
 use std::collections::BTreeSet;
 use std::marker::Model;
@@ -25,6 +25,7 @@ pub(crate) struct Issued {
     last_stamp: GenerationStamp,
     // The ids that were issued and that no file has got yet.
     awaiting: BTreeSet<u64>,
+    profile: Profile,
 }
 
 impl Model for Issued {
@@ -32,7 +33,7 @@ impl Model for Issued {
 
     ghost Value = { Seen };
 
-    ghost view = { λ a. record { last_block = a.last_block; last_stamp = a.last_stamp; awaiting = a.awaiting.keys } };
+    ghost view = { λ a. record { last_block = a.last_block; last_stamp = a.last_stamp; awaiting = a.awaiting.keys; profile = a.profile } };
 }
 
 impl Issued {
@@ -44,6 +45,7 @@ impl Issued {
             last_block: BlockId::new(NO_BLOCK).unwrap(),
             last_stamp: GenerationStamp::new(NO_STAMP).unwrap(),
             awaiting: BTreeSet::new(alloc),
+            profile: Profile::One,
         }
     }
 
@@ -53,15 +55,17 @@ impl Issued {
         last_block: BlockId,
         last_stamp: GenerationStamp,
         awaiting: &[BlockId],
+        profile: Profile,
     ) -> Result<Issued, AllocError>
         requires { awaiting_fits last_block awaiting.now ≡ true }
-        ensures { IfOk result (λ issued. issued ≡ record { last_block = last_block; last_stamp = last_stamp; awaiting = awaiting.now }) }
+        ensures { IfOk result (λ issued. issued ≡ record { last_block = last_block; last_stamp = last_stamp; awaiting = awaiting.now; profile = profile }) }
     {
         let awaiting = awaiting_set(alloc, last_block, awaiting)?;
         Ok(Issued {
             last_block,
             last_stamp,
             awaiting,
+            profile,
         })
     }
 
@@ -131,7 +135,7 @@ impl Issued {
     /// Issues a block id above all that await.
     pub(crate) fn allocate(&mut self, id: BlockId) -> Result<(), AllocError>
         requires { AreBelow id self.now.awaiting }
-        ensures ok { OnOk result (self.new ≡ record { last_block = id; last_stamp = self.old.last_stamp; awaiting = self.old.awaiting ++ id ∷ [] }) }
+        ensures ok { OnOk result (self.new ≡ record { last_block = id; last_stamp = self.old.last_stamp; awaiting = self.old.awaiting ++ id ∷ []; profile = self.old.profile }) }
         ensures err { OnErr result (self.new ≡ self.old) }
     {
         let Ok(_added) = self.awaiting.insert(id.get()) else {
@@ -144,14 +148,28 @@ impl Issued {
     /// A file has got the id.
     pub(crate) fn give(&mut self, id: BlockId)
         requires { IsStrictlySortedBy nat_cmp self.now.awaiting }
-        ensures { self.new ≡ record { last_block = self.old.last_block; last_stamp = self.old.last_stamp; awaiting = filter (λ k. not (k == id)) self.old.awaiting } }
+        ensures { self.new ≡ record { last_block = self.old.last_block; last_stamp = self.old.last_stamp; awaiting = filter (λ k. not (k == id)) self.old.awaiting; profile = self.old.profile } }
     {
         let _waited = self.awaiting.remove(&id.get());
     }
 
+    /// The profile of the last segment.
+    pub(crate) fn profile(&self) -> Profile
+        ensures { result ≡ self.now.profile }
+    {
+        self.profile
+    }
+
+    /// A segment of this profile begins.
+    pub(crate) fn set_profile(&mut self, profile: Profile)
+        ensures { self.new ≡ record { last_block = self.old.last_block; last_stamp = self.old.last_stamp; awaiting = self.old.awaiting; profile = profile } }
+    {
+        self.profile = profile;
+    }
+
     /// Issues a generation stamp.
     pub(crate) fn set_stamp(&mut self, stamp: GenerationStamp)
-        ensures { self.new ≡ record { last_block = self.old.last_block; last_stamp = stamp; awaiting = self.old.awaiting } }
+        ensures { self.new ≡ record { last_block = self.old.last_block; last_stamp = stamp; awaiting = self.old.awaiting; profile = self.old.profile } }
     {
         self.last_stamp = stamp;
     }

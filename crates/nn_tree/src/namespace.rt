@@ -2,6 +2,7 @@
 ghost use Rattle.std.specs.Prelude.{◌≡◌, OnOk, OnErr, IfOk, IfErr, IfSome, IsErrOf, None, Ok, true, option_map, length};
 ghost use Rattle.nn_types.specs.LawfulEdit.{IsLawfulEdit};
 ghost use Rattle.nn_types.specs.Block.{AreBlocks};
+ghost use Rattle.nn_types.specs.Profile.{number_of};
 ghost use Rattle.nn_model.specs.Namespace.{root_alone, lookup};
 ghost use Rattle.nn_model.specs.Apply.{applied, refusal};
 ghost use Rattle.nn_types.specs.EditFault.{IsFault};
@@ -112,7 +113,8 @@ impl Namespace {
         ensures { result ≡ refusal self.now edit.now }
     {
         match edit {
-            Edit::StartSegment { .. } | Edit::EndSegment => None,
+            Edit::StartSegment { profile } => self.start_refusal(*profile),
+            Edit::EndSegment => None,
             Edit::Mkdir { path } => self.mkdir_refusal(path),
             Edit::Add { path, replication } => self.add_refusal(path, *replication),
             Edit::AddBlock { path, id, stamp } => self.add_block_refusal(path, *id, *stamp),
@@ -223,6 +225,13 @@ impl Namespace {
         ensures { result ≡ self.now.issued.last_block }
     {
         self.issued.last_block()
+    }
+
+    /// The profile of the last start mark that was applied, 1 or 2; at first 1. It never falls.
+    pub fn profile(&self) -> u64
+        ensures { result ≡ number_of self.now.issued.profile }
+    {
+        self.issued.profile().number()
     }
 
     /// The last generation stamp that the log issued.

@@ -3,7 +3,7 @@ use Rattle.std.specs.Prelude.{◌≡◌, [], ◌∷◌, map, codes, decimal, ref
 use Rattle.std.specs.Fmt.{digits}
 use Rattle.nn_types.specs.declared.fault.TheConstants.{NOT_JSON, MISSING_FIELD, BAD_NUMBER, UNKNOWN_OP, BAD_PATH, LINE_TOO_LONG, UNKNOWN_KIND, INPUT_FAULT}
 use Rattle.nn_types.specs.declared.fault.TheConstants.{BAD_NAME, NO_START, NO_END, GAP, TORN_LINE, NAME_MISMATCH, TOO_LONG, BAD_LINE, WRONG_PROFILE}
-use Rattle.nn_types.specs.declared.fault.TheConstants.{EXISTS, MISSING, NOT_DIRECTORY, NOT_FILE, IS_ROOT, INTO_ITSELF, NOT_OPEN, WRONG_BLOCKS, BAD_GENERATION, BAD_BLOCK_ID, BAD_REPLICATION, NOT_CLOSED}
+use Rattle.nn_types.specs.declared.fault.TheConstants.{EXISTS, MISSING, NOT_DIRECTORY, NOT_FILE, IS_ROOT, INTO_ITSELF, NOT_OPEN, WRONG_BLOCKS, BAD_GENERATION, BAD_BLOCK_ID, BAD_REPLICATION, NOT_CLOSED, LOWER_PROFILE}
 use Rattle.nn_types.specs.declared.fault.TheConstants.{FULL, CLOSED, EXHAUSTED, ENDED, GONE, SOURCE_FAILED, STOPPED, INTAKE_OPEN, ALREADY_ACTIVE, LOG_NOT_ENDED, MEMORY, BAD_LANE, DISORDER, WRONG_NUMBER}
 use Rattle.nn_types.specs.declared.fault.TheConstants.{NOT_HEADER, BAD_IMAGE_LINE, WRONG_ORDER, COUNT_MISMATCH, TRUNCATED, BAD_VERSION, READ_FAULT, WRITE_FAULT}
 
@@ -17,8 +17,8 @@ of_segments : map decimal (BAD_NAME ∷ NO_START ∷ NO_END ∷ GAP ∷ TORN_LIN
 unfolding digits
 of_segments = refl
 
-of_edits : map decimal (EXISTS ∷ MISSING ∷ NOT_DIRECTORY ∷ NOT_FILE ∷ IS_ROOT ∷ INTO_ITSELF ∷ NOT_OPEN ∷ WRONG_BLOCKS ∷ BAD_GENERATION ∷ BAD_BLOCK_ID ∷ BAD_REPLICATION ∷ NOT_CLOSED ∷ [])
-    ≡ codes "21" ∷ codes "22" ∷ codes "23" ∷ codes "24" ∷ codes "25" ∷ codes "26" ∷ codes "27" ∷ codes "28" ∷ codes "29" ∷ codes "30" ∷ codes "31" ∷ codes "32" ∷ []
+of_edits : map decimal (EXISTS ∷ MISSING ∷ NOT_DIRECTORY ∷ NOT_FILE ∷ IS_ROOT ∷ INTO_ITSELF ∷ NOT_OPEN ∷ WRONG_BLOCKS ∷ BAD_GENERATION ∷ BAD_BLOCK_ID ∷ BAD_REPLICATION ∷ NOT_CLOSED ∷ LOWER_PROFILE ∷ [])
+    ≡ codes "21" ∷ codes "22" ∷ codes "23" ∷ codes "24" ∷ codes "25" ∷ codes "26" ∷ codes "27" ∷ codes "28" ∷ codes "29" ∷ codes "30" ∷ codes "31" ∷ codes "32" ∷ codes "33" ∷ []
 unfolding digits
 of_edits = refl
 

@@ -33,6 +33,8 @@ pub enum EditFault {
     BadReplication,
     #[error("the file is open")]
     NotClosed,
+    #[error("the profile is lower than that of an earlier segment")]
+    LowerProfile,
     #[error("out of memory")]
     OutOfMemory,
 }
@@ -55,6 +57,7 @@ impl EditFault {
             EditFault::BadBlockId => fault::BAD_BLOCK_ID,
             EditFault::BadReplication => fault::BAD_REPLICATION,
             EditFault::NotClosed => fault::NOT_CLOSED,
+            EditFault::LowerProfile => fault::LOWER_PROFILE,
             EditFault::OutOfMemory => fault::MEMORY,
         }
     }

@@ -60,6 +60,8 @@ pub const BAD_BLOCK_ID: u8 = 30;
 pub const BAD_REPLICATION: u8 = 31;
 /// The file is open.
 pub const NOT_CLOSED: u8 = 32;
+/// The profile of a segment is lower than that of an earlier one.
+pub const LOWER_PROFILE: u8 = 33;
 
 /// A lane has no place left.
 pub const FULL: u8 = 41;

@@ -1,6 +1,6 @@
 //! Profiles of the log.
 ghost use Rattle.std.specs.Prelude.{◌≡◌};
-ghost use Rattle.nn_types.specs.Profile.{number_of, profile_of};
+ghost use Rattle.nn_types.specs.Profile.{number_of, profile_of, is_lower};
 
 /// Which edits a segment of the log may have. Its start mark names the profile.
 #[derive(Clone, Copy, Debug, PartialEq, Eq)]
@@ -31,5 +31,12 @@ impl Profile {
             Profile::One => 1,
             Profile::Two => 2,
         }
+    }
+
+    /// Whether the other one is higher.
+    pub fn is_lower(self, other: Profile) -> bool
+        ensures { result ≡ is_lower self other }
+    {
+        matches!((self, other), (Profile::One, Profile::Two))
     }
 }

@@ -5,9 +5,18 @@ ghost use Rattle.nn_model.specs.Apply.{refusal, first, list_checks, keeps_ids, k
 
 use super::Namespace;
 use crate::tree::files::{keeps_ids, keeps_stamps};
-use nn_types::{BlockId, Blocks, EditFault, GenerationStamp, Path, Replication};
+use nn_types::{BlockId, Blocks, EditFault, GenerationStamp, Path, Profile, Replication};
 
 impl Namespace {
+    pub(super) fn start_refusal(&self, profile: Profile) -> Option<EditFault>
+        ensures { result ≡ refusal self.now (edit.StartSegment profile) }
+    {
+        if profile.is_lower(self.issued.profile()) {
+            return Some(EditFault::LowerProfile);
+        }
+        None
+    }
+
     pub(super) fn mkdir_refusal(&self, path: &Path) -> Option<EditFault>
         ensures { result ≡ refusal self.now (edit.Mkdir path.now) }
     {

@@ -15,7 +15,7 @@ use crate::index::{forget, renew};
 use crate::touched::{Touched, empty_block};
 use crate::tree::{Tree, Unchanged};
 use nn_model::{BlockRow, FileRow};
-use nn_types::{BlockId, Blocks, Edit, GenerationStamp, Path, Replication};
+use nn_types::{BlockId, Blocks, Edit, GenerationStamp, Path, Profile, Replication};
 use std::alloc::Global;
 
 impl Namespace {
@@ -26,7 +26,8 @@ impl Namespace {
         ensures spare { OnErr result (takes_memory edit.now ≡ false → refusal self.old edit.now ≢ None) }
     {
         match edit {
-            Edit::StartSegment { .. } | Edit::EndSegment => Ok(Touched::nothing(self.alloc)),
+            Edit::StartSegment { profile } => self.start_segment(*profile),
+            Edit::EndSegment => Ok(Touched::nothing(self.alloc)),
             Edit::Mkdir { path } => self.mkdir(path),
             Edit::Add { path, replication } => self.add(path, *replication),
             Edit::AddBlock { path, id, stamp } => self.add_block(path, *id, *stamp),
@@ -39,6 +40,18 @@ impl Namespace {
             Edit::AllocateBlockId { id } => self.allocate(*id),
             Edit::SetGenstamp { stamp } => self.set_genstamp(*stamp),
         }
+    }
+
+    fn start_segment(&mut self, profile: Profile) -> Result<Touched, Unchanged>
+        requires lawful { IsLawfulEdit (edit.StartSegment profile) }
+        ensures does { Does (edit.StartSegment profile) self.old result self.new }
+        ensures refused { OnErr result (refusal self.old (edit.StartSegment profile) ≢ None) }
+    {
+        if self.start_refusal(profile).is_some() {
+            return Err(Unchanged);
+        }
+        self.issued.set_profile(profile);
+        Ok(Touched::nothing(self.alloc))
     }
 
     pub(super) fn mkdir(&mut self, path: &Path) -> Result<Touched, Unchanged>

@@ -14,26 +14,27 @@ use crate::issued::Issued;
 use crate::touched::push_ids;
 use crate::tree::Tree;
 use nn_model::{FileRow, Form};
-use nn_types::{Block, BlockId, GenerationStamp, Path};
+use nn_types::{Block, BlockId, GenerationStamp, Path, Profile};
 use std::alloc::{AllocError, Global};
 use std::collections::BTreeMap;
 
 impl Namespace {
-    /// The root alone, with these numbers. The ids await.
+    /// The root alone, with these numbers and this profile. The ids await.
     pub fn bare(
         alloc: Global,
         last_block: BlockId,
         last_stamp: GenerationStamp,
         awaiting: &[BlockId],
+        profile: Profile,
     ) -> Result<Namespace, AllocError>
         requires low { no_block ≤ last_block }
         requires old { no_stamp ≤ last_stamp }
         requires awaits { awaiting_fits last_block awaiting.now ≡ true }
-        ensures { IfOk result (λ n. n ≡ bare (record { last_block = last_block; last_stamp = last_stamp; awaiting = awaiting.now })) }
+        ensures { IfOk result (λ n. n ≡ bare (record { last_block = last_block; last_stamp = last_stamp; awaiting = awaiting.now; profile = profile })) }
     {
         last_block.get();
         last_stamp.get();
-        let issued = Issued::of(alloc, last_block, last_stamp, awaiting)?;
+        let issued = Issued::of(alloc, last_block, last_stamp, awaiting, profile)?;
         Ok(Namespace {
             root: Tree::new_dir(alloc),
             index: BTreeMap::new(alloc),

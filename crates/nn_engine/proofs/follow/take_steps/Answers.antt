@@ -5,12 +5,17 @@ use Rattle.nn_scenario.specs.Steps.{lanes_of}
 use Rattle.nn_shadow.specs.Contents.{standby_of}
 use Rattle.nn_segment.specs.LogLeft.{txs_left}
 use Rattle.nn_engine.specs.Turns.{in_turn}
-use Rattle.nn_engine.proofs.FollowLemmas.{step_taken}
+use Rattle.nn_engine.proofs.FollowLemmas.{is_welcome, step_taken}
 use Rattle.nn_engine.proofs.follow.take_steps.Goals as goal
 
 pub returns-in-Err-clause-halted : goal.returns-in-Err-clause-halted
 returns-in-Err-clause-halted c =
     c.in-Err.ensures.halted (end_of_log 0 root_alone c.args.log.now.segments) c.steps.invariant.following.lanes c.steps.invariant.following.way
+
+pub take_step-requires-clause-welcome : goal.take_step-requires-clause-welcome
+take_step-requires-clause-welcome c =
+    is_welcome (end_of_log 0 root_alone c.args.log.now.segments) (length c.args.shadow.now.numbers) (lanes_of c.args.steps) c.steps.log c.in-Some.step
+    c.next.new.self c.steps.shadow (rw (← c.in-Some.ensures.some) c.steps.invariant.following)
 
 pub steps-preserved : goal.steps-preserved
 steps-preserved c =

@@ -1,6 +1,9 @@
 use Rattle.std.proofs.Common.{ap, ◌∙◌, sym, Err, true, false}
 use Rattle.nn_image.specs.Reading.{with_next}
-use Rattle.nn_image.proofs.Order.{refused, out_of_order, added, still_loading, order_is}
+use Rattle.nn_image.proofs.Order.{refused, out_of_order, pushed, added, still_loading, order_is}
+use Rattle.nn_model.specs.declared.form.Form.{Form}
+use Rattle.nn_model.specs.Namespace.{Path}
+use Rattle.nn_image.proofs.PathsRead.{one_more_path}
 use Rattle.nn_image.proofs.restoring.add_row.Goals as goal
 
 pub returns-in-Err-Refused-clause-fault : goal.returns-in-Err-Refused-clause-fault
@@ -28,3 +31,10 @@ returns-clause-loading c =
     let n = c.args.namespace.now in
     let order = order_is _ _ _ _ c.comes_before.result true c.names.ensures.names c.names-2.ensures.names c.comes_before.ensures c.if-not-comes_before.false in
     still_loading n _ c.args.number c.requires (c.in-Some.path, c.in-Some.form) order c.restore.new.self c.in-Ok.ensures.ok
+
+pub returns-clause-paths : goal.returns-clause-paths
+returns-clause-paths c =
+    let n = c.args.namespace.now in
+    let order = order_is _ _ _ _ c.comes_before.result true c.names.ensures.names c.names-2.ensures.names c.comes_before.ensures c.if-not-comes_before.false in
+    let row : Path × Form = (c.in-Some.path, c.in-Some.form) in
+    one_more_path n c.restore.new.self row (pushed n _ c.args.number c.requires row order c.restore.new.self c.in-Ok.ensures.ok) c.is_text.ensures.lawful c.is_text.ensures.text

@@ -4,6 +4,7 @@ use Rattle.nn_image.specs.Header.{object_view}
 use Rattle.nn_image.specs.Lines.{ahead}
 use Rattle.nn_image.specs.Loading.{rows_of, after_end}
 use Rattle.nn_image.proofs.Loading.{stops_before, row_turn, row_fails, end_turn, ends_turn}
+use Rattle.nn_image.proofs.PathsRead.{rows_counted}
 use Rattle.nn_image.proofs.restoring.load_rows.Goals as goal
 
 pub returns-in-Err-load_end-clause-fault : goal.returns-in-Err-load_end-clause-fault
@@ -56,5 +57,9 @@ loop-number-preserved g c =
     record {
       loading = c.in-Ok-add_row.ensures.loading;
       from = omega arith;
+      paths = λ h. c.in-Ok-add_row.ensures.paths (c.loop-number.invariant.paths h);
       same = row_turn old mid new n0 n m d c.loop-number.invariant.same (c.in-Ok.ensures.ok n at) (sym c.in_default.ensures) c.in-Ok-add_row.ensures.ok;
     }
+
+pub returns-in-Ok-load_end-clause-counted : goal.returns-in-Ok-load_end-clause-counted
+returns-in-Ok-load_end-clause-counted g c = rows_counted c.loop-number.namespace _ c.loop-number.invariant.loading.at c.in-Ok-load_end.ensures.counted

@@ -1,4 +1,4 @@
-use Rattle.nn_tailer.proofs.Again.{goes_on, reads_again, keeps_status}
+use Rattle.nn_tailer.proofs.Again.{goes_on, reads_again, keeps_status, keeps_old_status}
 use Rattle.nn_tailer.proofs.laws.a_restart_goes_on.Goals as goal
 
 pub returns-clause-log : goal.returns-clause-log
@@ -9,3 +9,6 @@ returns-clause-again c = reads_again
 
 pub returns-clause-status : goal.returns-clause-status
 returns-clause-status c = keeps_status
+
+pub returns-clause-old_status : goal.returns-clause-old_status
+returns-clause-old_status c = keeps_old_status

@@ -1,4 +1,4 @@
-use Rattle.std.proofs.Common.{◌≡◌, not, true, Some, None, [], ◌∷◌, sym, ap, subst, ◌∙◌, refl}
+use Rattle.std.proofs.Common.{◌≡◌, not, Some, None, [], ◌∷◌, sym, ap, subst, ◌∙◌, refl}
 use Rattle.nn_types.specs.declared.edit.Edit.TheVariants as edit
 use Rattle.nn_model.specs.Namespace.{Namespace, lookup}
 use Rattle.nn_model.specs.Apply.{refusal, first, when, not_closed}

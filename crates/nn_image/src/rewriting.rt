@@ -1,0 +1,38 @@
+//! From an image of any version to one of the version that is written.
+ghost use Rattle.std.specs.Prelude.{◌≡◌, ◌<◌, ◌^◌, IfOk, IfErr};
+ghost use Rattle.nn_image.specs.Reading.{read_image};
+ghost use Rattle.nn_image.specs.Loading.{Stops};
+ghost use Rattle.nn_image.specs.Rewriting.{Rewrote, StoppedWriting, IfLoad, IfSave};
+
+use crate::fault::RewriteFault;
+use crate::restoring::load;
+use crate::saving::save;
+use std::alloc::Global;
+use std::io::{Read, Write};
+
+/// Reads an image of any version that `load` knows, and writes it as `save` does; the answer is its txid. The whole image is
+/// read before the first byte is written, and takes the memory of `load`: a fault of the reading leaves the writer as it
+/// was. What is written is read as the same, so to rewrite it once more changes nothing.
+pub fn rewrite<R: Read, W: Write>(
+    alloc: Global,
+    reader: &mut R,
+    writer: &mut W,
+) -> Result<u64, RewriteFault>
+    ensures ok { IfOk result (λ txid. Rewrote (R.remaining reader.old) (R.remaining reader.new)
+        (W.contents writer.old) (W.contents writer.new) txid) }
+    ensures limit { IfOk result (λ txid. txid < 2 ^ 63) }
+    ensures unread { IfErr result (IfLoad (λ e. Stops (R.remaining reader.old) e read_image)) }
+    ensures untouched { IfErr result (IfLoad (λ e. writer.new ≡ writer.old)) }
+    ensures front { IfErr result (IfSave (StoppedWriting (R.remaining reader.old) (R.remaining reader.new)
+        (W.contents writer.old) (W.contents writer.new))) }
+{
+    let (namespace, txid) = match load(alloc, reader) {
+        Ok(image) => image,
+        Err(fault) => return Err(RewriteFault::Load(fault)),
+    };
+    namespace.well_formed();
+    match save(alloc, &namespace, txid, writer) {
+        Ok(()) => Ok(txid),
+        Err(fault) => Err(RewriteFault::Save(fault)),
+    }
+}

@@ -89,10 +89,10 @@ impl SaveFault {
 /// Why an image was not rewritten.
 #[derive(Clone, Copy, Debug, PartialEq, Eq, Error)]
 pub enum RewriteFault {
-    /// It was not loaded, and the writer got nothing.
+    /// It was not loaded. The writer got nothing.
     #[error("{0}")]
     Load(ImageFault),
-    /// It was loaded, and the writer got a front of what it was to get.
+    /// It was loaded and not saved. The writer got a front of the image.
     #[error("{0}")]
     Save(SaveFault),
 }

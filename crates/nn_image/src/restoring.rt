@@ -24,8 +24,9 @@ use std::alloc::{AllocError, Global};
 use std::cmp::Ordering;
 use std::io::Read;
 
-/// Reads an image, and gives its namespace and its txid: saved, these make an image that is read as them. It reads on to the
-/// end, and after a fault no further than that. Beside the namespace it takes a buffer of 65,536 bytes, and one line with its value.
+/// Reads an image of version 1 or 2, and gives its namespace and its txid. Version 1 has no profile, and stands for
+/// profile 1. Saved, the two make an image that is read as the same. It reads on to the end, and after a fault no further
+/// than that. Beside the namespace it takes a buffer of 65,536 bytes, and one line with its value.
 pub fn load<R: Read>(alloc: Global, reader: &mut R) -> Result<(Namespace, u64), ImageFault>
     ensures ok { IfOk result (λ i. Ends (R.remaining reader.old) (R.remaining reader.new) read_image i) }
     ensures limit { IfOk result (λ i. i.1 < 2 ^ 63) }

@@ -10,9 +10,10 @@ use crate::saving::save;
 use std::alloc::Global;
 use std::io::{Read, Write};
 
-/// Reads an image of any version that `load` knows, and writes it as `save` does; the answer is its txid. The whole image is
-/// read before the first byte is written, and takes the memory of `load`: a fault of the reading leaves the writer as it
-/// was. What is written is read as the same, so to rewrite it once more changes nothing.
+/// Reads an image of version 1 or 2 and writes it as one of version 2. The answer is its txid. The whole image is read
+/// before the first byte is written, and takes the memory of `load`. What is written is read as the same, so to rewrite it
+/// once more changes nothing. The faults are those of `load`, after which nothing was written, and those of `save`, after
+/// which a front of the image was.
 pub fn rewrite<R: Read, W: Write>(
     alloc: Global,
     reader: &mut R,

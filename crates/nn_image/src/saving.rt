@@ -24,7 +24,7 @@ pub fn image_name(alloc: Global, txid: u64) -> Result<String, AllocError>
     format!(in alloc; "fsimage_{txid:019}")
 }
 
-/// Writes the image of a namespace, line by line: beside it this takes one line and its value. The txid is that of
+/// Writes the image of a namespace, of version 2, line by line: this takes one line and its value. The txid is that of
 /// the last transaction, or 0; one of 2^63 and more is written, and refused by `load`.
 pub fn save<W: Write>(
     alloc: Global,

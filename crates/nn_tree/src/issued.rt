@@ -153,7 +153,7 @@ impl Issued {
         let _waited = self.awaiting.remove(&id.get());
     }
 
-    /// The profile of the last segment.
+    /// The profile of the last start mark.
     pub(crate) fn profile(&self) -> Profile
         ensures { result ≡ self.now.profile }
     {

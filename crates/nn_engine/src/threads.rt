@@ -164,10 +164,7 @@ fn output_of_fault(alloc: Global, fault: DriveFault) -> Result<Output, AllocErro
     ensures { IfOk result (λ o. TellsStop fault (shown o)) }
 {
     match fault {
-        DriveFault::Stopped(stop) => {
-            let output = fault_output(alloc, stop.number, " txid ", stop.txid.get())?;
-            Ok(output)
-        }
+        DriveFault::Stopped(stop) => fault_output(alloc, stop.number, " txid ", stop.txid.get()),
         DriveFault::OutOfMemory => Err(AllocError),
         DriveFault::AlreadyActive => unreachable!(),
         DriveFault::LogNotEnded(_) => unreachable!(),
@@ -196,7 +193,7 @@ fn output_of_drive<G: Gate + Send + Sync + Drop, R: Threads + Wait + Sync>(
     };
     let gate = Arc::try_clone(&asked.gate)?;
     match drive(rt, alloc, standby, Segments::new(segments, gate), workers) {
-        Ok((shadow, _active)) => Ok(tell(alloc, asked.options, shadow)?),
+        Ok((shadow, _active)) => tell(alloc, asked.options, shadow),
         Err(fault) => output_of_fault(alloc, fault),
     }
 }

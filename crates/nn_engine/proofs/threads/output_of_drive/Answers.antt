@@ -21,8 +21,8 @@ new-requires-clause-few g c =
     let n = c.in_ok-sources.ensures.size in
     omega (arith, q, n, c.requires.datanodes.1)
 
-pub returns-in_ok-tell-in-Ok-drive : goal.returns-in_ok-tell-in-Ok-drive
-returns-in_ok-tell-in-Ok-drive g c =
+pub returns-in-Ok-drive : goal.returns-in-Ok-drive
+returns-in-Ok-drive g c =
     let options = c.args.asked.now.options in
     let settings = options.settings in
     let lanes = lanes_of c.args.steps in
@@ -30,10 +30,9 @@ returns-in_ok-tell-in-Ok-drive g c =
     c.in-Ok-drive.shadow c.in-Ok-drive._active c.in-Ok-drive.ensures.ok in
     let happened : IsHistoryOf true (log_of 0 (map (λ (s : Segment). s.txs) c.new-2.result)) c.args.steps c.in-Ok-drive.shadow.history =
     record { lawful = a.lawful; whole = a.whole; one_thread = λ none. absurd (cc) } in
-    let o = c.in_ok-tell-in-Ok-drive.field-0 in
-    subst (λ s. IsToldOf true options c.args.steps (Ok s) (shown o)) c.new-2.ensures
+    IfOk-weaker c.tell.result _ _ (λ o told. subst (λ s. IsToldOf true options c.args.steps (Ok s) (shown o)) c.new-2.ensures
     (told_history true options c.args.steps (Ok c.new-2.result) c.new-2.result c.in-Ok-drive.shadow.history (shown o) refl (λ end ended. happened)
-    (tells options lanes c.new-2.result c.in-Ok-drive.shadow (shown o) a c.in_ok-tell-in-Ok-drive.ensures))
+    (tells options lanes c.new-2.result c.in-Ok-drive.shadow (shown o) a told))) c.tell.ensures
 
 pub output_of_fault-requires : goal.output_of_fault-requires
 output_of_fault-requires g c =

@@ -114,17 +114,21 @@ Tells start txs lanes before (Applied txid) = Unit {0}
 Tells start txs lanes before (Processed dn number block cause) =
     (m : Message) × IsSent lanes m × (m.dn ≡ dn) × (m.number ≡ number) × (m.block ≡ block) × MayBeProcessed start txs lanes before cause m
 
--- the message that an event names is found by the event's DataNode and number
-pub named_found : (lanes : Lanes) (m : Message) (dn number : ℕ) → IsSent lanes m → m.dn ≡ dn → m.number ≡ number → message_of lanes dn number ≡ Some m
-named_found lanes m dn number sent is_dn is_number = (λ i. message_of lanes (sym is_dn i) (sym is_number i)) ∙ sent
+-- the message that an event names is found by the event's DataNode, number and block
+pub named_found : (lanes : Lanes) (m : Message) (dn number block : ℕ) → IsSent lanes m → m.dn ≡ dn → m.number ≡ number → m.block ≡ block →
+    message_of lanes dn number block ≡ Some m
+named_found lanes m dn number block sent is_dn is_number is_block =
+    (λ i. message_of lanes (sym is_dn i) (sym is_number i) (sym is_block i)) ∙ sent
 
-pub at_found : (lanes : Lanes) (m : Message) (dn number : ℕ) (P : Message → Type 0) → IsSent lanes m → m.dn ≡ dn → m.number ≡ number →
-    IfSome (message_of lanes dn number) P → P m
-at_found lanes m dn number P sent is_dn is_number holds = subst (λ o. IfSome o P) (named_found lanes m dn number sent is_dn is_number) holds
+pub at_found : (lanes : Lanes) (m : Message) (dn number block : ℕ) (P : Message → Type 0) → IsSent lanes m → m.dn ≡ dn → m.number ≡ number →
+    m.block ≡ block → IfSome (message_of lanes dn number block) P → P m
+at_found lanes m dn number block P sent is_dn is_number is_block holds =
+    subst (λ o. IfSome o P) (named_found lanes m dn number block sent is_dn is_number is_block) holds
 
-pub from_found : (lanes : Lanes) (m : Message) (dn number : ℕ) (P : Message → Type 0) → IsSent lanes m → m.dn ≡ dn → m.number ≡ number →
-    P m → IfSome (message_of lanes dn number) P
-from_found lanes m dn number P sent is_dn is_number holds = subst (λ o. IfSome o P) (sym (named_found lanes m dn number sent is_dn is_number)) holds
+pub from_found : (lanes : Lanes) (m : Message) (dn number block : ℕ) (P : Message → Type 0) → IsSent lanes m → m.dn ≡ dn → m.number ≡ number →
+    m.block ≡ block → P m → IfSome (message_of lanes dn number block) P
+from_found lanes m dn number block P sent is_dn is_number is_block holds =
+    subst (λ o. IfSome o P) (sym (named_found lanes m dn number block sent is_dn is_number is_block)) holds
 
 tells : (start : Namespace) (txs : List Tx) (lanes : Lanes) (before : History) (event : Event) →
     NamesMessage lanes before event → WaitedItsTurn start txs lanes before event → FlushesHeld start txs lanes before event → Tells start txs lanes before event
@@ -135,11 +139,18 @@ tells start txs lanes before (Processed dn number block Due) names waited held =
   names.2,
   names.3,
   names.4,
-  at_found lanes names.0 dn number
-      (IsFree (namespace_at start txs before) lanes) names.1 names.2 names.3 waited,
+  at_found lanes names.0 dn number block
+      (IsFree (namespace_at start txs before) lanes) names.1 names.2 names.3 names.4 waited,
 )
-tells start txs lanes before (Processed dn number block Flush) names waited held =
-    (names.0, names.1, names.2, names.3, names.4, at_found lanes names.0 dn number (IsHeld (namespace_after start txs) lanes) names.1 names.2 names.3 held)
+tells start txs lanes before (Processed dn number block Flush) names waited held = (
+  names.0,
+  names.1,
+  names.2,
+  names.3,
+  names.4,
+  at_found lanes names.0 dn number block (IsHeld (namespace_after start txs) lanes) names.1 names.2 names.3 names.4
+      held,
+)
 
 each_tells : (start : Namespace) (txs : List Tx) (lanes : Lanes) (before events : History) →
     EachAfter (NamesMessage lanes) before events → EachAfter (WaitedItsTurn start txs lanes) before events →

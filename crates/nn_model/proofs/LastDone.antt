@@ -9,34 +9,35 @@ use Rattle.nn_types.specs.declared.event.Event.TheVariants.{Applied, Processed}
 use Rattle.nn_types.specs.declared.tx.Tx.{Tx}
 use Rattle.nn_model.specs.Namespace.{Namespace}
 use Rattle.nn_model.specs.WellFormed.{Has}
-use Rattle.nn_model.specs.Lanes.{Lanes, AreNumbered, AreLanes, with_number, message_of, IsSent}
+use Rattle.nn_model.specs.Lanes.{Lanes, AreInOrder, AreOrdered, message_with, message_of, IsSent}
 use Rattle.nn_model.specs.History.{History, EachAfter}
 use Rattle.nn_model.specs.Lawful.{NumberRises, reaches}
-use Rattle.nn_model.proofs.Events.{any_push, any_kept, any_last, any_weaker, reaches_less, Tells}
-use Rattle.nn_model.proofs.Sent.{found_by_number, has_sent}
+use Rattle.nn_model.proofs.Events.{any_push, any_kept, any_last, any_weaker, reaches_less, Tells, named_found}
+use Rattle.nn_model.proofs.Sent.{before_later, found_message, has_sent}
 use Rattle.nn_model.proofs.Shown.{done_by, last_done}
 
 -- ---- the last message of a lane that passes a test
 
 module _ (dn : ℕ) (q : Message → Bool) where
-  pub last_bounds : (k : ℕ) (ms : List Message) (acc : Option Message) → AreNumbered dn k ms → ((c : Message) → acc ≡ Some c → c.number < k) →
+  pub last_bounds : (ms : List Message) (acc : Option Message) → AreInOrder dn ms →
+      ((c : Message) → acc ≡ Some c → (m : Message) → Has ms m → c.number ≤ m.number) →
       ((m : Message) → acc ≡ Some m → (a : Message) × (last_or acc (filter q ms) ≡ Some a) × (m.number ≤ a.number))
       × ((m : Message) → Has ms m → q m ≡ true → (a : Message) × (last_or acc (filter q ms) ≡ Some a) × (m.number ≤ a.number))
-  last_bounds k [] acc numbered low = ((λ m is. (m, is, omega arith)), (λ m here passes. absurd here))
-  last_bounds k (x ∷ ms) acc numbered low =
+  last_bounds [] acc order low = ((λ m is. (m, is, omega arith)), (λ m here passes. absurd here))
+  last_bounds (x ∷ ms) acc order low =
       elim (q x) as (λ t. q x ≡ t →
       ((m : Message) → acc ≡ Some m → (a : Message) × (last_or acc (cond t (x ∷ filter q ms) (filter q ms)) ≡ Some a) × (m.number ≤ a.number))
       × ((m : Message) → Has (x ∷ ms) m → q m ≡ true → (a : Message) × (last_or acc (cond t (x ∷ filter q ms) (filter q ms)) ≡ Some a)
       × (m.number ≤ a.number))) [
         | true ↦ λ is.
-            let rest = last_bounds (k + 1) ms (Some x) numbered.2
-            (λ c e. let same : x ≡ c = cc in subst (λ y. y.number < k + 1) same (omega (arith, numbered.1))) in
+            let rest = last_bounds ms (Some x) order.2
+            (λ c e m here. let same : x ≡ c = cc in subst (λ y. y.number ≤ m.number) same (before_later dn x ms m order here).0) in
             let own = rest.0 x refl in (
-              (λ m e. (own.0, own.1, omega (arith, own.2, low m e, numbered.1))),
+              (λ m e. (own.0, own.1, omega (arith, own.2, low m e x (inl refl)))),
               (λ m here passes. elim here [ inl same ↦ (own.0, own.1, subst (λ y. y.number ≤ own.0.number) same own.2) | inr later ↦ rest.1 m later passes ]),
             )
         | false ↦ λ is.
-            let rest = last_bounds (k + 1) ms acc numbered.2 (λ c e. omega (arith, low c e)) in
+            let rest = last_bounds ms acc order.2 (λ c e m here. low c e m (inr here)) in
             (rest.0, (λ m here passes. elim here [ inl same ↦ absurd (both_ways _ is (ap q same ∙ passes)) | inr later ↦ rest.1 m later passes ]))
       ] refl
 
@@ -88,15 +89,14 @@ module _ (lanes : Lanes) (dn id : ℕ) where
   walk_last start txs before (Processed d k c cause ∷ events) last named rises b =
       let e : Event = Processed d k c cause in
       let m = named.0.0 in
-      let found : message_of lanes d k ≡ Some m = subst (λ x. message_of lanes x k ≡ Some m) named.0.2
-      (subst (λ j. message_of lanes m.dn j ≡ Some m) named.0.3 named.0.1) in
+      let found : message_of lanes d k c ≡ Some m = named_found lanes m d k c named.0.1 named.0.2 named.0.3 named.0.4 in
       let now : Bounds (done_by lanes dn id last e) (before ++ e ∷ []) = elim (cases_Bool ((dn == d) && (id == c))) [
         | inl hit ↦
             let parts = and_parts _ _ hit in
             let dn_is : dn ≡ d = eqb-true _ _ parts.0 in
             let id_is : id ≡ c = eqb-true _ _ parts.1 in
             let number : m.number ≡ k = named.0.3 in
-            subst (λ o. Bounds o (before ++ e ∷ [])) (sym (cond-true ((dn == d) && (id == c)) (message_of lanes d k) last hit ∙ found)) (record {
+            subst (λ o. Bounds o (before ++ e ∷ [])) (sym (cond-true ((dn == d) && (id == c)) (message_of lanes d k c) last hit ∙ found)) (record {
               sent = named.0.1;
               dn_is = named.0.2 ∙ sym dn_is;
               block_is = named.0.4 ∙ sym id_is;
@@ -109,7 +109,7 @@ module _ (lanes : Lanes) (dn id : ℕ) where
                   (and_from _ _ (and_from _ _ (eq-eqb _ _ (sym dn_is)) (eq-eqb _ _ (sym id_is)))
                   (subst (λ j. nat_le m.number j ≡ true) number (le-leb m.number m.number (omega arith))));
             })
-        | inr miss ↦ subst (λ o. Bounds o (before ++ e ∷ [])) (sym (cond-false ((dn == d) && (id == c)) (message_of lanes d k) last miss))
+        | inr miss ↦ subst (λ o. Bounds o (before ++ e ∷ [])) (sym (cond-false ((dn == d) && (id == c)) (message_of lanes d k c) last miss))
             (bounds_keep last before e (λ j. false_from_ne_true _ (λ h.
             let inner = and_parts (d == dn) (c == id) (and_parts ((d == dn) && (c == id)) (nat_le j k) h).0 in
             both_ways _ miss (and_from (dn == d) (id == c) (eq-eqb _ _ (sym (eqb-true d dn inner.0))) (eq-eqb _ _ (sym (eqb-true c id inner.1)))))) b)
@@ -120,7 +120,7 @@ module _ (lanes : Lanes) (dn id : ℕ) where
 -- ---- the two are one
 
 -- q: which messages of the lane count. All that count were reached, and what was processed last counts
-module _ (lanes : Lanes) (numbered : AreLanes lanes) (h : History) (dn id : ℕ) (q : Message → Bool)
+module _ (lanes : Lanes) (ordered : AreOrdered lanes) (h : History) (dn id : ℕ) (q : Message → Bool)
     (reached : (c : Message) → Has (lanes dn) c → q c ≡ true → c.block ≡ id → list_any (reaches dn id c.number) h ≡ true)
     (counts : (a : Message) → IsLastDone lanes dn id a h → q a ≡ true) where
   abbrev test : Message → Bool
@@ -138,7 +138,7 @@ module _ (lanes : Lanes) (numbered : AreLanes lanes) (h : History) (dn id : ℕ)
   ]
   agree (Some a) z b is =
       let here : Has (lanes dn) a = subst (λ i. Has (lanes i) a) b.dn_is (has_sent lanes a b.sent) in
-      let c = (last_bounds dn (λ m. q m && (m.block == id)) 1 (lanes dn) None (numbered dn) (λ y e. absurd (cc))).1 a here
+      let c = (last_bounds dn (λ m. q m && (m.block == id)) (lanes dn) None (ordered dn) (λ y e m h. absurd (cc))).1 a here
       (and_from (q a) (a.block == id) (counts a b) (eq-eqb _ _ b.block_is)) in
       elim (last_from dn (λ m. q m && (m.block == id)) (lanes dn) None c.0 c.1) [
         | inl none ↦ absurd (cc)
@@ -149,7 +149,8 @@ module _ (lanes : Lanes) (numbered : AreLanes lanes) (h : History) (dn id : ℕ)
             (test_reached c.0 found.0 found.1)))
             (λ (x : c.0.number ≤ a.number). x) (cases_lt a.number c.0.number) in
             let number : c.0.number ≡ a.number = omega (arith, at_most, c.2) in
-            let left : with_number a.number (lanes dn) ≡ Some a = found_by_number dn 1 (lanes dn) a (numbered dn) here in
-            let right : with_number c.0.number (lanes dn) ≡ Some c.0 = found_by_number dn 1 (lanes dn) c.0 (numbered dn) found.0 in
-            sym is ∙ c.1 ∙ sym right ∙ ap (λ k. with_number k (lanes dn)) number ∙ left
+            let block : c.0.block ≡ a.block = eqb-true _ _ (and_parts _ _ found.1).1 ∙ sym b.block_is in
+            let left : message_with a.number a.block (lanes dn) ≡ Some a = found_message dn (lanes dn) a (ordered dn) here in
+            let right : message_with c.0.number c.0.block (lanes dn) ≡ Some c.0 = found_message dn (lanes dn) c.0 (ordered dn) found.0 in
+            sym is ∙ c.1 ∙ sym right ∙ (λ i. message_with (number i) (block i) (lanes dn)) ∙ left
       ]

@@ -21,7 +21,6 @@ use Rattle.nn_model.specs.Held.{is_held}
 use Rattle.nn_model.specs.History.{processes, processed}
 use Rattle.nn_model.specs.HistoryLaws.{ProcessedOnce, InSendingOrder, EachOnce}
 use Rattle.nn_model.proofs.Events.{any_kept, any_last}
-use Rattle.nn_model.proofs.Sent.{one_sent}
 
 -- ---- sending order
 
@@ -71,7 +70,7 @@ in_sending_order start txs lanes events lawful dn block = sorted dn block [] eve
 
 -- after a message was processed it is processed no more
 none_again : (lanes : Lanes) (m : Message) (before events : History) → IsSent lanes m → list_any (reaches m.dn m.block m.number) before ≡ true →
-    EachAfter (NamesMessage lanes) before events → EachAfter NumberRises before events → times_processed m.dn m.number events ≡ 0
+    EachAfter (NamesMessage lanes) before events → EachAfter NumberRises before events → times_processed m.dn m.number m.block events ≡ 0
 none_again lanes m before [] sent reached names rises = refl
 none_again lanes m before (Applied txid ∷ events) sent reached names rises =
     omega (
@@ -82,57 +81,59 @@ none_again lanes m before (Applied txid ∷ events) sent reached names rises =
 none_again lanes m before (Processed d k b cause ∷ events) sent reached names rises =
     let event : Event = Processed d k b cause in
     let rest = none_again lanes m (before ++ event ∷ []) events sent (any_kept (reaches m.dn m.block m.number) before (event ∷ []) reached) names.1 rises.1 in
-    elim ((d == m.dn) && (k == m.number)) as (λ t. ((d == m.dn) && (k == m.number)) ≡ t → cond t 1 0 + times_processed m.dn m.number events ≡ 0) [
+    elim ((d == m.dn) && (k == m.number) && (b == m.block)) as (λ t. ((d == m.dn) && (k == m.number) && (b == m.block)) ≡ t → cond t 1 0 + times_processed m.dn m.number m.block events ≡ 0) [
       | true ↦ λ hit.
-          let is = and_parts (d == m.dn) (k == m.number) hit in
+          let outer = and_parts ((d == m.dn) && (k == m.number)) (b == m.block) hit in
+          let is = and_parts (d == m.dn) (k == m.number) outer.0 in
           let dn : d ≡ m.dn = eqb-true d m.dn is.0 in
           let number : k ≡ m.number = eqb-true k m.number is.1 in
-          let same : names.0.0 ≡ m = one_sent lanes m names.0.0 sent names.0.1 (names.0.2 ∙ dn) (names.0.3 ∙ number) in
-          let block : b ≡ m.block = sym names.0.4 ∙ ap (λ y. y.block) same in
+          let block : b ≡ m.block = eqb-true b m.block outer.1 in
           absurd (both_ways _ rises.0 ((λ i. list_any (reaches (dn i) (block i) (number i)) before) ∙ reached))
       | false ↦ λ miss. omega (arith, rest)
     ] refl
 
-at_most_once : (lanes : Lanes) (dn number : ℕ) (before events : History) → EachAfter (NamesMessage lanes) before events → EachAfter NumberRises before events →
-    times_processed dn number events ≤ 1
-at_most_once lanes dn number before [] names rises = omega arith
-at_most_once lanes dn number before (Applied txid ∷ events) names rises =
-    omega (arith, at_most_once lanes dn number (before ++ Applied txid ∷ []) events names.1 rises.1)
-at_most_once lanes dn number before (Processed d k b cause ∷ events) names rises =
+at_most_once : (lanes : Lanes) (dn number block : ℕ) (before events : History) → EachAfter (NamesMessage lanes) before events → EachAfter NumberRises before events →
+    times_processed dn number block events ≤ 1
+at_most_once lanes dn number block before [] names rises = omega arith
+at_most_once lanes dn number block before (Applied txid ∷ events) names rises =
+    omega (arith, at_most_once lanes dn number block (before ++ Applied txid ∷ []) events names.1 rises.1)
+at_most_once lanes dn number block before (Processed d k b cause ∷ events) names rises =
     let event : Event = Processed d k b cause in
-    let rest = at_most_once lanes dn number (before ++ event ∷ []) events names.1 rises.1 in
-    elim ((d == dn) && (k == number)) as (λ t. ((d == dn) && (k == number)) ≡ t → cond t 1 0 + times_processed dn number events ≤ 1) [
+    let rest = at_most_once lanes dn number block (before ++ event ∷ []) events names.1 rises.1 in
+    elim ((d == dn) && (k == number) && (b == block)) as (λ t. ((d == dn) && (k == number) && (b == block)) ≡ t → cond t 1 0 + times_processed dn number block events ≤ 1) [
       | true ↦ λ hit.
-          let is = and_parts (d == dn) (k == number) hit in
+          let outer = and_parts ((d == dn) && (k == number)) (b == block) hit in
+          let is = and_parts (d == dn) (k == number) outer.0 in
           let m = names.0.0 in
-          let none : times_processed m.dn m.number events ≡ 0 = none_again lanes m (before ++ event ∷ []) events names.0.1
+          let none : times_processed m.dn m.number m.block events ≡ 0 = none_again lanes m (before ++ event ∷ []) events names.0.1
           (any_last (reaches m.dn m.block m.number) before event
           (and_from _ _ (and_from _ _ (eq-eqb _ _ (sym names.0.2)) (eq-eqb _ _ (sym names.0.4)))
           (le-leb m.number k (omega (arith, names.0.3))))) names.1 rises.1 in
-          let same : times_processed dn number events ≡ 0 =
-          (λ i. times_processed ((sym (eqb-true d dn is.0) ∙ sym names.0.2) i) ((sym (eqb-true k number is.1) ∙ sym names.0.3) i) events) ∙ none in
+          let same : times_processed dn number block events ≡ 0 =
+          (λ i. times_processed ((sym (eqb-true d dn is.0) ∙ sym names.0.2) i) ((sym (eqb-true k number is.1) ∙ sym names.0.3) i)
+          ((sym (eqb-true b block outer.1) ∙ sym names.0.4) i) events) ∙ none in
           omega (arith, same)
       | false ↦ λ miss. omega (arith, rest)
     ] refl
 
 pub processed_once : ProcessedOnce
-processed_once start txs lanes events lawful dn number = at_most_once lanes dn number [] events lawful.sent lawful.in_sending_order
+processed_once start txs lanes events lawful dn number block = at_most_once lanes dn number block [] events lawful.sent lawful.in_sending_order
 
 -- an event of the history that processes the message is counted
-at_least_once : (m : Message) (cause : Cause) (events : History) → Has events (processed cause m) → 1 ≤ times_processed m.dn m.number events
+at_least_once : (m : Message) (cause : Cause) (events : History) → Has events (processed cause m) → 1 ≤ times_processed m.dn m.number m.block events
 at_least_once m cause [] here = absurd here
 at_least_once m cause (event ∷ events) (inl same) =
-    let hit : processes m.dn m.number event ≡ true =
-    ap (processes m.dn m.number) same ∙ and_from _ _ (eq-eqb m.dn m.dn refl) (eq-eqb m.number m.number refl) in
-    let one : times_processed m.dn m.number (event ∷ events) ≡ 1 + times_processed m.dn m.number events =
-    ap (λ t. cond t 1 0 + times_processed m.dn m.number events) hit in
+    let hit : processes m.dn m.number m.block event ≡ true =
+    ap (processes m.dn m.number m.block) same ∙ and_from _ _ (and_from _ _ (eq-eqb m.dn m.dn refl) (eq-eqb m.number m.number refl)) (eq-eqb m.block m.block refl) in
+    let one : times_processed m.dn m.number m.block (event ∷ events) ≡ 1 + times_processed m.dn m.number m.block events =
+    ap (λ t. cond t 1 0 + times_processed m.dn m.number m.block events) hit in
     omega (arith, one)
 at_least_once m cause (event ∷ events) (inr later) = let rest = at_least_once m cause events later in omega (arith, rest)
 
 pub each_once : EachOnce
 each_once start txs lanes events lawful whole m sent =
-    let most = processed_once start txs lanes events lawful m.dn m.number in
-    let least : 1 ≤ times_processed m.dn m.number events =
+    let most = processed_once start txs lanes events lawful m.dn m.number m.block in
+    let least : 1 ≤ times_processed m.dn m.number m.block events =
     elim (cases_Bool (is_held (namespace_after start txs) (lanes m.dn) m)) [
       | inl waits ↦ at_least_once m Flush events (whole m sent waits)
       | inr free ↦ at_least_once m Due events (lawful.none_forgotten m sent free)

@@ -9,7 +9,7 @@ use Rattle.nn_types.specs.declared.tx.Tx.{Tx}
 use Rattle.nn_model.specs.Namespace.{Namespace}
 use Rattle.nn_model.specs.WellFormed.{Has}
 use Rattle.nn_model.specs.Log.{namespace_after, IsLog}
-use Rattle.nn_model.specs.Lanes.{Lanes, AreLanes, IsSent}
+use Rattle.nn_model.specs.Lanes.{Lanes, AreOrdered, IsSent}
 use Rattle.nn_model.specs.Held.{is_held, without_held}
 use Rattle.nn_model.specs.History.{History, is_flush}
 use Rattle.nn_model.specs.Lawful.{IsLawful, IsWhole, reaches}
@@ -36,7 +36,7 @@ nothing_said true = (refl, refl)
 nothing_said false = (refl, refl)
 
 module _ (start : Namespace) (base : ℕ) (txs : List Tx) (lanes : Lanes) (h : History) (along : DueAlong start txs) (log : IsLog start base txs)
-    (numbered : AreLanes lanes) (lawful : IsLawful start txs lanes h) where
+    (ordered : AreOrdered lanes) (lawful : IsLawful start txs lanes h) where
   -- what stands is what the last processed message says
   shown : (dn id : ℕ) → ShowsAtEnd start base txs lanes h along log lawful.applied_in_order dn id (replay start txs lanes h) (last_done lanes dn id None h)
   shown dn id = walk start base txs lanes h along log lawful.applied_in_order dn id [] h (starting_at start) None refl
@@ -57,7 +57,7 @@ module _ (start : Namespace) (base : ℕ) (txs : List Tx) (lanes : Lanes) (h : H
   reached_in_lane : (dn id : ℕ) (c : Message) → Has (lanes dn) c → c.block ≡ id → list_any (reaches c.dn c.block c.number) h ≡ true →
       list_any (reaches dn id c.number) h ≡ true
   reached_in_lane dn id c here about reached =
-      let own : c.dn ≡ dn = dn_of dn 1 (lanes dn) c (numbered dn) here in
+      let own : c.dn ≡ dn = dn_of dn (lanes dn) c (ordered dn) here in
       (λ i. list_any (reaches (sym own i) (sym about i) c.number) h) ∙ reached
 
   -- each message was reached by a whole history
@@ -68,8 +68,8 @@ module _ (start : Namespace) (base : ℕ) (txs : List Tx) (lanes : Lanes) (h : H
   ]
 
   pub final_picture : IsWhole start txs lanes h → ShowsPicture (namespace_after start txs) lanes (replay start txs lanes h)
-  final_picture whole = picture lanes (λ dn id. agree lanes numbered h dn id (λ m. true)
-      (λ c here counts about. reached_in_lane dn id c here about (all_reached whole c (sent_from_lane lanes dn c numbered here)))
+  final_picture whole = picture lanes (λ dn id. agree lanes ordered h dn id (λ m. true)
+      (λ c here counts about. reached_in_lane dn id c here about (all_reached whole c (sent_from_lane lanes dn c ordered here)))
       (λ a done. refl) (last_done lanes dn id None h) _ (walk_last lanes dn id start txs [] h None
       (lawful_tells start txs lanes h lawful) lawful.in_sending_order refl) refl)
 
@@ -79,10 +79,10 @@ module _ (start : Namespace) (base : ℕ) (txs : List Tx) (lanes : Lanes) (h : H
       let n = namespace_after start txs in
       picture (without_held n lanes) (λ dn id.
       ap (last_or None) (filter_twice (λ m. m.block == id) (λ m. not (is_held n (lanes dn) m)) (lanes dn))
-      ∙ agree lanes numbered h dn id (λ m. not (is_held n (lanes dn) m))
+      ∙ agree lanes ordered h dn id (λ m. not (is_held n (lanes dn) m))
       (λ c here free about.
-      let own : c.dn ≡ dn = dn_of dn 1 (lanes dn) c (numbered dn) here in
-      reached_in_lane dn id c here about (reached_by Due h c (lawful.none_forgotten c (sent_from_lane lanes dn c numbered here)
+      let own : c.dn ≡ dn = dn_of dn (lanes dn) c (ordered dn) here in
+      reached_in_lane dn id c here about (reached_by Due h c (lawful.none_forgotten c (sent_from_lane lanes dn c ordered here)
       (subst (λ d. is_held n (lanes d) c ≡ false) (sym own) (not-true _ free)))))
       (λ a done. not_from_false _ (subst (λ d. is_held n (lanes d) a ≡ false) done.dn_is (false_from_ne_true _ (λ waits.
       both_ways _ (not_passed start txs lanes along h (lawful_tells start txs lanes h lawful) no_flush a waits)

@@ -29,7 +29,7 @@ use Rattle.nn_model.proofs.Places.{DueAlong, namespace_after-push, found_tx, app
 -- the DataNode's last message about the block that was processed
 abbrev pub done_by : Lanes → ℕ → ℕ → Option Message → Event → Option Message
 done_by lanes dn id last (Applied txid) = last
-done_by lanes dn id last (Processed d k b cause) = if (dn == d) && (id == b) then message_of lanes d k else last
+done_by lanes dn id last (Processed d k b cause) = if (dn == d) && (id == b) then message_of lanes d k b else last
 
 abbrev pub last_done : Lanes → ℕ → ℕ → Option Message → History → Option Message
 last_done lanes dn id last [] = last
@@ -183,7 +183,7 @@ module _ (start : Namespace) (base : ℕ) (txs : List Tx) (lanes : Lanes) (whole
   walk before (Processed d k b cause ∷ events) s last is told late at shows =
       let m = told.0.0 in
       let event : Event = Processed d k b cause in
-      let found : message_of lanes d k ≡ Some m = named_found lanes m d k told.0.1 told.0.2 told.0.3 in
+      let found : message_of lanes d k b ≡ Some m = named_found lanes m d k b told.0.1 told.0.2 told.0.3 told.0.4 in
       let not_yet : list_any is_flush (before ++ event ∷ []) ≡ false → (list_any is_flush before ≡ false)
       × (due_in s.namespace m.block m.stamp ≡ true) = λ none_yet. (
         any_left is_flush before (event ∷ []) none_yet,

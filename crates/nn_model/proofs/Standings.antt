@@ -17,16 +17,17 @@ use Rattle.nn_model.specs.Stands.{StandbyState, Stands, IsLeft}
 use Rattle.nn_model.specs.HistoryLaws.{EndsInPicture, ReplaysPicture, TablesShowPicture, ShowSame, SameWhenFlushed, SameBeforeFlush, FreshStands}
 use Rattle.nn_model.proofs.Events.{any_true_at}
 use Rattle.nn_model.proofs.Ids.{due_along}
+use Rattle.nn_model.proofs.Sent.{lanes_in_order}
 use Rattle.nn_model.proofs.Pictures.{final_picture, picture_of_free}
 
 pub ends_in_picture : EndsInPicture
 ends_in_picture start base txs lanes events well log numbered lawful whole =
-    final_picture start base txs lanes events (due_along start base txs log well) log numbered lawful whole
+    final_picture start base txs lanes events (due_along start base txs log well) log (lanes_in_order lanes numbered) lawful whole
 
 pub replays_picture : ReplaysPicture
 replays_picture start base txs lanes x s no_flush =
     subst (λ n. ShowsPicture n (without_held n lanes) (replay start txs lanes x.history)) (sym s.namespace)
-    (picture_of_free start base txs lanes x.history (due_along start base txs s.log s.well_formed) s.log s.numbered s.lawful no_flush)
+    (picture_of_free start base txs lanes x.history (due_along start base txs s.log s.well_formed) s.log (lanes_in_order lanes s.numbered) s.lawful no_flush)
 
 pub tables_show_picture : TablesShowPicture
 tables_show_picture start base txs lanes x s no_flush =
@@ -72,7 +73,7 @@ same_before_flush start base txs lanes x y s t no_flush no_flush' =
     let n = namespace_after start txs in
     let picture : (z : StandbyState) → Stands start base txs lanes z → IsBeforeFlush z.history →
     ShowsPicture n (without_held n lanes) (replay start txs lanes z.history) =
-    λ z at none. picture_of_free start base txs lanes z.history (due_along start base txs at.log at.well_formed) at.log at.numbered at.lawful none in (
+    λ z at none. picture_of_free start base txs lanes z.history (due_along start base txs at.log at.well_formed) at.log (lanes_in_order lanes at.numbered) at.lawful none in (
       same_tables start base txs lanes (without_held n lanes) x y s t (picture x s no_flush) (picture y t no_flush'),
       (λ m. (
         (λ here. (t.held m).1 (left_too start txs lanes x.history y.history m no_flush' ((s.held m).0 here))),

@@ -13,13 +13,13 @@ use Rattle.nn_model.specs.Namespace.{Namespace}
 use Rattle.nn_model.specs.Status.{due_in}
 use Rattle.nn_model.specs.WellFormed.{Has}
 use Rattle.nn_model.specs.Log.{namespace_after}
-use Rattle.nn_model.specs.Lanes.{Lanes, AreLanes, IsSent}
+use Rattle.nn_model.specs.Lanes.{Lanes, AreOrdered, IsSent}
 use Rattle.nn_model.specs.Held.{keeps_back, is_held, IsFree}
 use Rattle.nn_model.specs.History.{History, EachAfter, applied_txids, namespace_at, is_flush, processed}
 use Rattle.nn_model.specs.Lawful.{NamesMessage, NumberRises, NoFlushBefore, WaitedItsTurn, WasDueItself, reaches}
 use Rattle.nn_model.specs.HistoryLaws.{SameWhenWhole, LawfulIsLoose}
 use Rattle.nn_model.proofs.Events.{any_none, any_left, any_right, any_either, any_last, any_true_at, at_found, from_found, applied_more, same_moment}
-use Rattle.nn_model.proofs.Sent.{dn_of, sent_from_lane, one_sent, kept_by, free_is_due}
+use Rattle.nn_model.proofs.Sent.{dn_of, sent_from_lane, one_sent, lanes_in_order, kept_by, free_is_due}
 use Rattle.nn_model.proofs.Places.{DueAlong}
 use Rattle.nn_model.proofs.Ids.{due_along}
 
@@ -47,7 +47,7 @@ later j b (Processed d k c cause ∷ rest) rises told = elim (or_cases (is_about
   | inr further ↦ any_left (reaches j.dn j.block j.number) b (Processed d k c cause ∷ []) (later j (b ++ Processed d k c cause ∷ []) rest rises.1 further)
 ]
 
-module _ (start : Namespace) (txs : List Tx) (lanes : Lanes) (whole : History) (along : DueAlong start txs) (numbered : AreLanes lanes)
+module _ (start : Namespace) (txs : List Tx) (lanes : Lanes) (whole : History) (along : DueAlong start txs) (ordered : AreOrdered lanes)
     (all : (j : Message) → IsSent lanes j → list_any (is_about j) whole ≡ true) where
   -- before the flush, what was processed was due, and is
   abbrev SoFar : History → Type 0
@@ -64,10 +64,10 @@ module _ (start : Namespace) (txs : List Tx) (lanes : Lanes) (whole : History) (
       let n = namespace_at start txs before in
       any_none (keeps_back n m) (lanes m.dn) (λ j here. false_from_ne_true _ (λ kept.
       let t = kept_by n m j kept in
-      let dn : j.dn ≡ m.dn = dn_of m.dn 1 (lanes m.dn) j (numbered m.dn) here in
-      let j_sent : IsSent lanes j = sent_from_lane lanes m.dn j numbered here in
+      let dn : j.dn ≡ m.dn = dn_of m.dn (lanes m.dn) j (ordered m.dn) here in
+      let j_sent : IsSent lanes j = sent_from_lane lanes m.dn j ordered here in
       elim (cases_eq j.number m.number) [
-        | inl same ↦ both_ways _ (subst (λ y. due_in n y.block y.stamp ≡ false) (one_sent lanes m j sent j_sent dn same) t.2) due
+        | inl same ↦ both_ways _ (subst (λ y. due_in n y.block y.stamp ≡ false) (one_sent lanes m j sent j_sent dn same t.0) t.2) due
         | inr apart ↦ elim (any_either (is_about j) before (Processed d k c Due ∷ rest) (subst (λ h. list_any (is_about j) h ≡ true) (sym is) (all j j_sent))) [
           | inl earlier ↦ both_ways _ t.2 (so_far unflushed j j_sent earlier)
           | inr here_or_later ↦ elim (or_cases (is_about j (Processed d k c Due)) (list_any (is_about j) rest) here_or_later) [
@@ -95,8 +95,8 @@ module _ (start : Namespace) (txs : List Tx) (lanes : Lanes) (whole : History) (
   strong before (Processed d k c Due ∷ events) is names rises due late so_far =
       let m = names.0.0 in
       let n = namespace_at start txs before in
-      let m_due : due_in n m.block m.stamp ≡ true = at_found lanes m d k (λ y. due_in n y.block y.stamp ≡ true) names.0.1 names.0.2 names.0.3 due.0 in (
-        from_found lanes m d k (IsFree n lanes) names.0.1 names.0.2 names.0.3
+      let m_due : due_in n m.block m.stamp ≡ true = at_found lanes m d k c (λ y. due_in n y.block y.stamp ≡ true) names.0.1 names.0.2 names.0.3 names.0.4 due.0 in (
+        from_found lanes m d k c (IsFree n lanes) names.0.1 names.0.2 names.0.3 names.0.4
             (clear before d k c events m is names.0.1 names.0.2 names.0.3 names.0.4 m_due rises late.0 so_far),
         strong (before ++ Processed d k c Due ∷ []) events (append_assoc before (Processed d k c Due ∷ []) events ∙ is) names.1 rises.1 due.1 late.1
             (λ still j sent told.
@@ -106,7 +106,7 @@ module _ (start : Namespace) (txs : List Tx) (lanes : Lanes) (whole : History) (
               | inr b ↦
                   let is_j = about_one j d k c Due b in
                   subst (λ y. due_in n y.block y.stamp ≡ true) (sym (one_sent lanes m j names.0.1 sent (sym is_j.0 ∙ sym names.0.2)
-                  (sym is_j.2 ∙ sym names.0.3))) m_due
+                  (sym is_j.2 ∙ sym names.0.3) (sym is_j.1 ∙ sym names.0.4))) m_due
             ])),
       )
   strong before (Processed d k c Flush ∷ events) is names rises due late so_far = (
@@ -122,8 +122,8 @@ loose start txs lanes before (Applied txid ∷ events) names waited = (tt, loose
 loose start txs lanes before (Processed d k c Due ∷ events) names waited =
     let m = names.0.0 in
     let n = namespace_at start txs before in
-    let free : IsFree n lanes m = at_found lanes m d k (IsFree n lanes) names.0.1 names.0.2 names.0.3 waited.0 in (
-      from_found lanes m d k (λ y. due_in n y.block y.stamp ≡ true) names.0.1 names.0.2 names.0.3 (free_is_due n lanes m names.0.1 free),
+    let free : IsFree n lanes m = at_found lanes m d k c (IsFree n lanes) names.0.1 names.0.2 names.0.3 names.0.4 waited.0 in (
+      from_found lanes m d k c (λ y. due_in n y.block y.stamp ≡ true) names.0.1 names.0.2 names.0.3 names.0.4 (free_is_due n lanes m names.0.1 free),
       loose start txs lanes (before ++ Processed d k c Due ∷ []) events names.1 waited.1,
     )
 loose start txs lanes before (Processed d k c Flush ∷ events) names waited =
@@ -151,7 +151,7 @@ same_when_whole start base txs lanes events well log numbered whole = (
     applied_in_order = w.applied_in_order;
     sent = w.sent;
     in_sending_order = w.in_sending_order;
-    waited = strong start txs lanes events (due_along start base txs log well) numbered
+    waited = strong start txs lanes events (due_along start base txs log well) (lanes_in_order lanes numbered)
         (λ j sent. elim (cases_Bool (is_held (namespace_after start txs) (lanes j.dn) j)) [
           | inl waits ↦ told_by j Flush events (whole j sent waits)
           | inr free ↦ told_by j Due events (w.none_forgotten j sent free)

@@ -50,14 +50,14 @@ number_of dn block (Processed d number b cause) = if (d == dn) && (b == block) t
 abbrev pub numbers_of : ℕ → ℕ → History → List ℕ
 numbers_of dn block events = filter_map (number_of dn block) events
 
-abbrev pub processes : ℕ → ℕ → Event → Bool
-processes dn number (Applied txid) = false
-processes dn number (Processed d k block cause) = (d == dn) && (k == number)
+abbrev pub processes : ℕ → ℕ → ℕ → Event → Bool
+processes dn number block (Applied txid) = false
+processes dn number block (Processed d k b cause) = (d == dn) && (k == number) && (b == block)
 
--- how often the DataNode's message with this number was processed
-abbrev pub times_processed : ℕ → ℕ → History → ℕ
-times_processed dn number [] = 0
-times_processed dn number (event ∷ events) = (if processes dn number event then 1 else 0) + times_processed dn number events
+-- how often the DataNode's message with this number about this block was processed
+abbrev pub times_processed : ℕ → ℕ → ℕ → History → ℕ
+times_processed dn number block [] = 0
+times_processed dn number block (event ∷ events) = (if processes dn number block event then 1 else 0) + times_processed dn number block events
 
 -- ---- Facts of each event.
 

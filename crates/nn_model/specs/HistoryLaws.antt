@@ -38,13 +38,13 @@ TablesShowPicture =
 abbrev pub ProcessedOnce : Type 0
 ProcessedOnce =
     (start : Namespace) (txs : List Tx) (lanes : Lanes) (events : History) → IsLawful start txs lanes events →
-    (dn number : ℕ) → times_processed dn number events ≤ 1
+    (dn number block : ℕ) → times_processed dn number block events ≤ 1
 
 -- and where it is whole, each message that was sent exactly once
 abbrev pub EachOnce : Type 0
 EachOnce =
     (start : Namespace) (txs : List Tx) (lanes : Lanes) (events : History) → IsLawful start txs lanes events → IsWhole start txs lanes events →
-    (m : Message) → IsSent lanes m → times_processed m.dn m.number events ≡ 1
+    (m : Message) → IsSent lanes m → times_processed m.dn m.number m.block events ≡ 1
 
 -- and the messages of one DataNode about one block in the order in which they were sent
 abbrev pub InSendingOrder : Type 0

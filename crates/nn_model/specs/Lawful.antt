@@ -36,7 +36,7 @@ NumberRises before (Processed dn number block cause) = list_any (reaches dn bloc
 abbrev pub WaitedItsTurn : Namespace → List Tx → Lanes → History → Event → Type 0
 WaitedItsTurn start txs lanes before (Applied txid) = Unit {0}
 WaitedItsTurn start txs lanes before (Processed dn number block Due) =
-    IfSome (message_of lanes dn number) (IsFree (namespace_at start txs before) lanes)
+    IfSome (message_of lanes dn number block) (IsFree (namespace_at start txs before) lanes)
 WaitedItsTurn start txs lanes before (Processed dn number block Flush) = Unit {0}
 
 -- what was flushed is held at the end of the log
@@ -44,7 +44,7 @@ abbrev pub FlushesHeld : Namespace → List Tx → Lanes → History → Event �
 FlushesHeld start txs lanes before (Applied txid) = Unit {0}
 FlushesHeld start txs lanes before (Processed dn number block Due) = Unit {0}
 FlushesHeld start txs lanes before (Processed dn number block Flush) =
-    IfSome (message_of lanes dn number) (IsHeld (namespace_after start txs) lanes)
+    IfSome (message_of lanes dn number block) (IsHeld (namespace_after start txs) lanes)
 
 -- what is no flush comes before the flush
 abbrev pub NoFlushBefore : History → Event → Type 0
@@ -86,7 +86,7 @@ IsWhole start txs lanes events =
 abbrev pub WasDueItself : Namespace → List Tx → Lanes → History → Event → Type 0
 WasDueItself start txs lanes before (Applied txid) = Unit {0}
 WasDueItself start txs lanes before (Processed dn number block Due) =
-    IfSome (message_of lanes dn number) (λ m. due_in (namespace_at start txs before) m.block m.stamp ≡ true)
+    IfSome (message_of lanes dn number block) (λ m. due_in (namespace_at start txs before) m.block m.stamp ≡ true)
 WasDueItself start txs lanes before (Processed dn number block Flush) = Unit {0}
 
 -- lawful in the looser reading. It differs in the rule alone, and on whole histories it says the same

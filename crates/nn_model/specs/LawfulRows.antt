@@ -1,7 +1,7 @@
 -- Histories that are not lawful, each by one clause, and histories that are not whole.
 use Rattle.std.specs.Prelude.{◌≡◌, ℕ, Bool, true, false, [], ◌∷◌, ◌++◌, map, take, Some, None, refl}
 use Rattle.std.specs.List.{list_any}
-use Rattle.std.proofs.Common.{sym, inl, inr, ap, ◌∙◌, arith, rules}
+use Rattle.std.proofs.Common.{sym, inl, inr, ap, ◌∙◌, rules}
 use Rattle.std.proofs.lemmas.Bool.{both_ways, or_left, or_right}
 use Rattle.nn_types.specs.declared.report.Message.{Message}
 use Rattle.nn_types.specs.declared.report.Kind.TheVariants.{Received}
@@ -32,11 +32,11 @@ is_due_event (Applied txid) = false
 is_due_event (Processed dn number block Due) = true
 is_due_event (Processed dn number block Flush) = false
 
--- the message that an event names is the one with its DataNode and number, and is about its block
+-- the message that an event names is the one with its DataNode, number and block
 named : (lanes : Lanes) (before : History) (dn number block : ℕ) (cause : Cause) → NamesMessage lanes before (Processed dn number block cause) →
-    (m : Message) × (message_of lanes dn number ≡ Some m) × (m.block ≡ block)
+    (m : Message) × (message_of lanes dn number block ≡ Some m)
 named lanes before dn number block cause names =
-    (names.0, (λ i. message_of lanes (sym names.2 i) (sym names.3 i)) ∙ names.1, names.4)
+    (names.0, (λ i. message_of lanes (sym names.2 i) (sym names.3 i) (sym names.4 i)) ∙ names.1)
 
 -- the log's transactions, one by one
 abbrev first_five : History
@@ -71,11 +71,7 @@ sent_with_another_number lawful =
 
 sent_about_another_block : IsLawful root_alone early_log early_lanes (first_five ++ Processed 1 1 b Due ∷ Processed 1 1 c Due ∷ last_two) → ⊥
 sent_about_another_block lawful =
-    let m = named early_lanes (first_five ++ Processed 1 1 b Due ∷ []) 1 1 c Due lawful.sent.1.1.1.1.1.1.0 in
-    let e : Some early_report ≡ Some m.0 = m.1 in
-    let same : early_report ≡ m.0 = cc in
-    let blocks : b ≡ c = ap (λ y. y.block) same ∙ m.2 in
-    omega (arith, blocks)
+    let m = named early_lanes (first_five ++ Processed 1 1 b Due ∷ []) 1 1 c Due lawful.sent.1.1.1.1.1.1.0 in let e : None ≡ Some m.0 = m.1 in absurd (cc)
 
 -- ---- Of one DataNode about one block each is processed once, in sending order.
 

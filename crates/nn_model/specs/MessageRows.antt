@@ -1,5 +1,5 @@
 -- Worked examples with messages, computed: reports that come before and after the log names their blocks.
-use Rattle.std.specs.Prelude.{◌≡◌, ℕ, true, false, List, [], ◌∷◌, map, take, Some, None, codes, refl, ◌⊎◌, ◌==◌, if◌then◌else◌}
+use Rattle.std.specs.Prelude.{◌≡◌, ℕ, true, false, List, [], ◌∷◌, map, take, Some, None, codes, refl, ◌⊎◌, ◌==◌, if◌then◌else◌, ◌&&◌}
 use Rattle.std.proofs.Common.{subst, sym, inl, inr, cond, rules}
 use Rattle.std.proofs.lemmas.Bool.{both_ways, cases_Bool, eqb-true, cond-true, cond-false}
 use Rattle.nn_types.specs.declared.block.Block.{Block}
@@ -20,7 +20,7 @@ use Rattle.nn_model.specs.Namespace.{Path, Namespace, root_alone}
 use Rattle.nn_model.specs.Status.{status_of, due_in}
 use Rattle.nn_model.specs.WellFormed.{Has}
 use Rattle.nn_model.specs.Log.{namespace_after, IsLog}
-use Rattle.nn_model.specs.Lanes.{Lanes, AreNumbered, AreLanes, with_number, IsSent}
+use Rattle.nn_model.specs.Lanes.{Lanes, AreNumbered, AreLanes, message_with, IsSent}
 use Rattle.nn_model.specs.Held.{is_held, IsHeld, IsFree}
 use Rattle.nn_model.specs.History.{History, processed}
 use Rattle.nn_model.specs.Lawful.{IsLawful, IsWhole}
@@ -71,21 +71,21 @@ of_has P [] all m here = absurd here
 of_has P (x ∷ messages) all m (inl same) = subst P same all.0
 of_has P (x ∷ messages) all m (inr here) = of_has P messages all.1 m here
 
-found_has : (number : ℕ) (messages : List Message) (m : Message) → with_number number messages ≡ Some m → Has messages m
-found_has number [] m found = absurd (cc)
-found_has number (x ∷ messages) m found =
-    elim (x.number == number) as (λ t. cond t (Some x) (with_number number messages) ≡ Some m → (x ≡ m) ⊎ Has messages m) [
+found_has : (number block : ℕ) (messages : List Message) (m : Message) → message_with number block messages ≡ Some m → Has messages m
+found_has number block [] m found = absurd (cc)
+found_has number block (x ∷ messages) m found =
+    elim ((x.number == number) && (x.block == block)) as (λ t. cond t (Some x) (message_with number block messages) ≡ Some m → (x ≡ m) ⊎ Has messages m) [
       | true ↦ λ e. inl (cc)
-      | false ↦ λ e. inr (found_has number messages m e)
+      | false ↦ λ e. inr (found_has number block messages m e)
     ] found
 
 pub of_sent : (P : Message → Type 0) (one two : List Message) → OfEach P one → OfEach P two →
     (m : Message) → IsSent (two_lanes one two) m → P m
 of_sent P one two all_one all_two m sent =
-    elim (m.dn == 1) as (λ t. with_number m.number (cond t one (if m.dn == 2 then two else [])) ≡ Some m → P m) [
-      | true ↦ λ e. of_has P one all_one m (found_has m.number one m e)
-      | false ↦ λ e. elim (m.dn == 2) as (λ t. with_number m.number (cond t two []) ≡ Some m → P m) [
-        | true ↦ λ e. of_has P two all_two m (found_has m.number two m e)
+    elim (m.dn == 1) as (λ t. message_with m.number m.block (cond t one (if m.dn == 2 then two else [])) ≡ Some m → P m) [
+      | true ↦ λ e. of_has P one all_one m (found_has m.number m.block one m e)
+      | false ↦ λ e. elim (m.dn == 2) as (λ t. message_with m.number m.block (cond t two []) ≡ Some m → P m) [
+        | true ↦ λ e. of_has P two all_two m (found_has m.number m.block two m e)
         | false ↦ λ e. absurd (cc)
       ] e
     ] sent

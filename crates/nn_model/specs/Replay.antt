@@ -74,10 +74,10 @@ abbrev pub process_found : Sequential → Option Message → Sequential
 process_found s None = s
 process_found s (Some m) = after_message s m
 
--- an event: its transaction by its txid, its message by its DataNode and number
+-- an event: its transaction by its txid, its message by its DataNode, number and block
 abbrev pub after_event : List Tx → Lanes → Sequential → Event → Sequential
 after_event txs lanes s (Applied txid) = apply_found s (find (λ tx. tx.txid == txid) txs)
-after_event txs lanes s (Processed dn number block cause) = process_found s (message_of lanes dn number)
+after_event txs lanes s (Processed dn number block cause) = process_found s (message_of lanes dn number block)
 
 abbrev pub replay_from : List Tx → Lanes → Sequential → History → Sequential
 replay_from txs lanes s [] = s

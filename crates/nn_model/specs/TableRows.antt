@@ -9,7 +9,7 @@ use Rattle.nn_types.specs.declared.event.Cause.TheVariants.{Due, Flush}
 use Rattle.nn_types.specs.declared.edit.Edit.TheVariants.{Delete}
 use Rattle.nn_model.specs.Namespace.{root_alone}
 use Rattle.nn_model.specs.Log.{namespace_after}
-use Rattle.nn_model.specs.Lanes.{no_messages, followed_by, AreNumbered, message_of}
+use Rattle.nn_model.specs.Lanes.{no_messages, followed_by, AreNumbered, AreInOrder, message_of}
 use Rattle.nn_model.specs.Held.{keeps_back, without_held}
 use Rattle.nn_model.specs.History.{applied_txids, namespace_at, is_flush, processed, numbers_of, times_processed}
 use Rattle.nn_model.specs.Replay.{starting_at, is_named, leaves, after_message, replay}
@@ -26,9 +26,10 @@ lanes_grow : let lanes = followed_by (followed_by (followed_by no_messages early
 lanes_grow = refl
 
 messages_by_number : let lanes = two_lanes (early_report ∷ second_report ∷ []) (other_report ∷ []) in
-    (map (message_of lanes 1) (0 ∷ 1 ∷ 2 ∷ 3 ∷ []) ≡ None ∷ Some early_report ∷ Some second_report ∷ None ∷ [])
-    × (map (message_of lanes 2) (1 ∷ 2 ∷ []) ≡ Some other_report ∷ None ∷ [])
-messages_by_number = (refl, refl)
+    (map (λ k. message_of lanes 1 k b) (0 ∷ 1 ∷ 2 ∷ 3 ∷ []) ≡ None ∷ Some early_report ∷ Some second_report ∷ None ∷ [])
+    × (map (λ k. message_of lanes 2 k b) (1 ∷ 2 ∷ []) ≡ Some other_report ∷ None ∷ [])
+    × (message_of lanes 1 1 c ≡ None)
+messages_by_number = (refl, refl, refl)
 
 numbers_go_on : AreNumbered 1 1 (early_report ∷ second_report ∷ [])
 numbers_go_on = (refl, refl, (refl, refl, tt))
@@ -41,6 +42,24 @@ numbers_leave_no_gap numbered = omega (arith, numbered.2.1)
 
 one_datanode_a_lane : AreNumbered 1 1 (early_report ∷ message 2 2 Received b 1001 6 ∷ []) → ⊥
 one_datanode_a_lane numbered = omega (arith, numbered.2.0)
+
+numbers_rise_or_blocks : AreInOrder 1 (early_report ∷ message 1 1 Received c 1001 5 ∷ message 1 3 Received b 1001 6 ∷ [])
+numbers_rise_or_blocks = (refl, refl, (refl, refl, (refl, refl, tt)))
+
+no_number_falls : AreInOrder 1 (second_report ∷ message 1 1 Received c 1001 5 ∷ []) → ⊥
+no_number_falls order = both_ways _ order.1 refl
+
+blocks_of_one_number_rise : AreInOrder 1 (message 1 1 Received c 1001 5 ∷ early_report ∷ []) → ⊥
+blocks_of_one_number_rise order = both_ways _ order.1 refl
+
+no_message_twice : AreInOrder 1 (early_report ∷ early_report ∷ []) → ⊥
+no_message_twice order = both_ways _ order.1 refl
+
+later_ones_in_order : AreInOrder 1 (early_report ∷ message 1 3 Received b 1001 6 ∷ second_report ∷ []) → ⊥
+later_ones_in_order order = both_ways _ order.2.1 refl
+
+ordered_for_one_datanode : AreInOrder 1 (early_report ∷ message 2 2 Received b 1001 6 ∷ []) → ⊥
+ordered_for_one_datanode order = omega (arith, order.2.0)
 
 -- ---- What keeps a message back: a message that is not due, itself or an earlier one, about the same block.
 
@@ -84,9 +103,9 @@ flushes = refl
 numbers : (numbers_of 1 b future_history ≡ 1 ∷ 2 ∷ []) × (numbers_of 2 b future_history ≡ 1 ∷ []) × (numbers_of 1 c future_history ≡ [])
 numbers = (refl, refl, refl)
 
-times_of_each : (map (λ k. times_processed 1 k future_history) (0 ∷ 1 ∷ 2 ∷ 3 ∷ []) ≡ 0 ∷ 1 ∷ 1 ∷ 0 ∷ [])
-    × (map (λ k. times_processed 2 k future_history) (1 ∷ 2 ∷ []) ≡ 1 ∷ 0 ∷ [])
-    × (times_processed 1 1 (processed Due early_report ∷ Applied 1 ∷ processed Flush early_report ∷ []) ≡ 2)
+times_of_each : (map (λ k. times_processed 1 k b future_history) (0 ∷ 1 ∷ 2 ∷ 3 ∷ []) ≡ 0 ∷ 1 ∷ 1 ∷ 0 ∷ [])
+    × (map (λ k. times_processed 2 k b future_history) (1 ∷ 2 ∷ []) ≡ 1 ∷ 0 ∷ [])
+    × (times_processed 1 1 b (processed Due early_report ∷ Applied 1 ∷ processed Flush early_report ∷ []) ≡ 2)
 times_of_each = (refl, refl, refl)
 
 -- ---- The sequential standby.

@@ -93,16 +93,28 @@ impl<'a> Call<'a> {
         }
     }
 
-    /// A message of DataNode, number, block and stamp: a received replica of no bytes.
-    pub fn message(&mut self) -> Message {
+    /// A message of DataNode, number, block and stamp from this word on: a received replica of no bytes.
+    pub fn message(&mut self, at: usize) -> Message
+        requires { at < 2 ^ 63 }
+    {
         Message {
-            dn: self.datanode(1),
-            number: self.number(2),
-            block: self.id(3),
-            stamp: self.stamp(4),
+            dn: self.datanode(at),
+            number: self.number(at + 1),
+            block: self.id(at + 2),
+            stamp: self.stamp(at + 3),
             len: Length::new(0).unwrap(),
             kind: Kind::Received,
         }
+    }
+
+    /// The messages of the call, each of four words.
+    pub fn messages(&mut self) -> Vec<Message> {
+        let mut messages = Vec::new(self.alloc);
+        for place in 0..self.words.len() / 4 {
+            let message = self.message(4 * place + 1);
+            self.failed = messages.push(message).is_err() || self.failed;
+        }
+        messages
     }
 
     /// The status of a block: its generation stamp where it is named.

@@ -5,7 +5,15 @@ use nn_postponed::Postponed;
 /// Calls that change what is held. Whether this was one.
 pub fn change(held: &mut Postponed, call: &mut Call<'_>) -> bool {
     if call.is("hold") {
-        call.failed = held.hold(call.message()).is_err() || call.failed;
+        call.failed = held.hold(call.message(1)).is_err() || call.failed;
+    } else if call.is("hold_all") {
+        let messages = call.messages();
+        call.failed = held.hold_all(&messages).is_err() || call.failed;
+    } else if call.is("take_last") {
+        if let Some(message) = held.take_last(call.id(1)) {
+            call.show_message(&message);
+        }
+        call.none();
     } else if call.is("take_first") {
         if let Some(message) = held.take_first() {
             call.show_message(&message);

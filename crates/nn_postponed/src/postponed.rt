@@ -1,15 +1,16 @@
 //! The held messages.
-ghost use Rattle.std.specs.Prelude.{◌≡◌, ◌<◌, ◌^◌, ◌↔◌, [], ◌∷◌, length, None, IsTrue, IfSome, IfNone, OnOk, OnErr, IfErr};
+ghost use Rattle.std.specs.Prelude.{◌≡◌, ◌<◌, ◌≤◌, ◌^◌, ◌↔◌, List, [], ◌∷◌, length, take, None, IsTrue, IfSome, IfNone, OnOk, OnErr, IfErr};
 ghost use Rattle.std.specs.List.{list_any};
+ghost use Rattle.nn_types.specs.declared.report.Message.{Message};
 ghost use Rattle.nn_types.specs.declared.fault.TheConstants.{MEMORY};
 ghost use Rattle.nn_model.specs.Stands.{AreByBlock};
-ghost use Rattle.nn_postponed.specs.Queues.{queue, queued, is_from, IsNext, HaveIds};
+ghost use Rattle.nn_postponed.specs.Queues.{queue, queued, all_queued, is_from, IsNext, HaveIds};
 ghost use Rattle.nn_postponed.specs.Release.{due_at, first_free, without_free, IsFreeAt, freed, kept};
 
 use crate::freed::Freed;
 use crate::queue::Queue;
 use nn_types::{BlockId, Message, Status, fault};
-use std::alloc::Global;
+use std::alloc::{AllocError, Global};
 use std::collections::{BTreeMap, VecDeque};
 use std::marker::Model;
 use thiserror::Error;
@@ -72,33 +73,93 @@ impl Postponed {
         }
     }
 
-    /// Holds one more message, as the last one about its block. No other call takes memory.
+    /// Holds one more message, as the last one about its block. Only this call and `hold_all` take memory.
     pub fn hold(&mut self, message: Message) -> Result<(), Refused>
         ensures ok { OnOk result (self.new ≡ queued message self.old) }
         ensures err { OnErr result (self.new ≡ self.old) }
         ensures back { IfErr result (λ refused. refused.message ≡ message) }
     {
-        if self.count >= LIMIT {
+        let Ok(()) = self.push(&message) else {
             return Err(Refused { message });
+        };
+        Ok(())
+    }
+
+    /// Holds all of these messages, in this order, or none of them: out of memory, those that were held by then are taken
+    /// back. The caller keeps the messages, so none comes back.
+    ///
+    /// It costs what a call of `hold` costs for each of them, and out of memory a call of `take_last` for each as well.
+    pub fn hold_all(&mut self, messages: &[Message]) -> Result<(), AllocError>
+        ensures ok { OnOk result (self.new ≡ all_queued self.old messages.now) }
+        ensures err { OnErr result (self.new ≡ self.old) }
+    {
+        for i in 0..messages.len() {
+            let Ok(()) = self.push(&messages[i]) else {
+                self.take_back(messages, i);
+                return Err(AllocError);
+            };
+        }
+        Ok(())
+    }
+
+    // Puts the message behind the others about its block.
+    fn push(&mut self, message: &Message) -> Result<(), AllocError>
+        ensures ok { OnOk result (self.new ≡ queued message.now self.old) }
+        ensures err { OnErr result (self.new ≡ self.old) }
+    {
+        if self.count >= LIMIT {
+            return Err(AllocError);
         }
         let Some(queue) = self.queues.get_mut(&message.block) else {
             // That a block id is in its range is known once it is read.
             let _id = message.block.get();
             let mut queue = Queue::new(self.alloc);
-            let Ok(()) = queue.push(&message) else {
-                return Err(Refused { message });
+            let Ok(()) = queue.push(message) else {
+                return Err(AllocError);
             };
             let Ok(_) = self.queues.insert(message.block, queue) else {
-                return Err(Refused { message });
+                return Err(AllocError);
             };
             self.count += 1;
             return Ok(());
         };
-        let Ok(()) = queue.push(&message) else {
-            return Err(Refused { message });
+        let Ok(()) = queue.push(message) else {
+            return Err(AllocError);
         };
         self.count += 1;
         Ok(())
+    }
+
+    // Takes back the first `held` of these messages, the last one of them first. Nothing was held after them.
+    fn take_back(&mut self, messages: &[Message], held: usize)
+        requires { held ≤ length messages.now }
+        ensures { (was : List Message) → self.old ≡ all_queued was (take held messages.now) → self.new ≡ was }
+    {
+        let mut left = held;
+        while left > 0 {
+            left -= 1;
+            let _ = self.take_last(messages[left].block);
+        }
+    }
+
+    /// Takes the last message about the block, as if it had never been held.
+    pub fn take_last(&mut self, block: BlockId) -> Option<Message>
+        ensures some { IfSome result (λ m. (m.block ≡ block) × (self.old ≡ queued m self.new)) }
+        ensures none { IfNone result ((queue block self.old ≡ []) × (self.new ≡ self.old)) }
+        // So what is left is the list before that message: no other list by block makes the old one.
+        ensures order { AreByBlock self.new }
+    {
+        let Some(queue) = self.queues.get_mut(&block) else {
+            return None;
+        };
+        let Some(message) = queue.take_last() else {
+            unreachable!()
+        };
+        if queue.is_empty() {
+            let _ = self.queues.remove(&block);
+        }
+        self.count -= 1;
+        Some(message)
     }
 
     /// Whether a message of this DataNode about this block is held.

@@ -3,6 +3,7 @@ use Rattle.std.specs.Prelude.{OnErr, IfOk, IfErr, Result, Ok}
 use Rattle.std.proofs.Common.{◌≡◌, ℕ, ◌<◌, ◌≤◌, Bool, true, false, true≢false, List, [], ◌∷◌, ◌++◌, length, Option, map, Err, refl, sym, ap, ◌∙◌, subst, append_assoc, append-nil, inl, inr}
 use Rattle.std.proofs.lemmas.List.{map-append}
 use Rattle.nn_model.specs.Log.{log_of}
+use Rattle.nn_model.specs.Items.{items}
 use Rattle.nn_model.specs.Lawful.{IsWhole}
 use Rattle.nn_model.specs.Namespace.{Namespace}
 use Rattle.nn_model.specs.Stands.{Stands}
@@ -92,7 +93,7 @@ module _ (answers others : List Answer) (same : given_in others ≡ given_in ans
       → IsPromoted gives start base (before ++ answers) workers was ends x → IsPromoted gives start base (before ++ others) workers was ends x
   promoted_same gives start base before workers was ends x p = record {
     stands = subst (λ l. Stands start base l (by_node (map got_of ends)) (standby_of x)) (same_log base before) p.stands;
-    whole = subst (λ l. IsWhole start l (by_node (map got_of ends)) x.history) (same_log base before) p.whole;
+    whole = subst (λ l. IsWhole start l (items (by_node (map got_of ends))) x.history) (same_log base before) p.whole;
     picture = p.picture;
     none_held = p.none_held;
     ended = ends_behind before others ended;

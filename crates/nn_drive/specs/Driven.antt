@@ -1,5 +1,6 @@
 -- What threads of DataNodes promise, and what a drive comes to.
 use Rattle.nn_model.specs.History.{is_flush}
+use Rattle.nn_model.specs.Items.{items}
 use Rattle.nn_tailer.specs.declared.standby.Active.{Active}
 use Rattle.std.specs.Prelude.{◌≡◌, ℕ, ◌<◌, ◌≤◌, Bool, true, false, Option, Result, List, [], ◌++◌, length, map, slice_index_or, count_by, Ok, Err}
 use Rattle.std.specs.declared.thread.PromisedHandle.{PromisedHandle}
@@ -125,8 +126,8 @@ AreOneLane e r = IsLane r e
 -- all that its source gave; of one that was closed before, up to a report that was refused
 pub record IsPromoted {S : Type 0} (gives : S → Option Report → S → Type 0) (start : Namespace) (base : ℕ) (given : List Answer) (workers : List (S × Reporting)) (before ends : List Taking) (x : Contents) : Type 0 where
   pub stands : Stands start base (log_in base given) (by_node (map got_of ends)) (standby_of x)
-  pub whole : IsWhole start (log_in base given) (by_node (map got_of ends)) x.history
-  pub picture : ShowsPicture x.namespace (by_node (map got_of ends)) (tables_of (standby_of x))
+  pub whole : IsWhole start (log_in base given) (items (by_node (map got_of ends))) x.history
+  pub picture : ShowsPicture x.namespace (items (by_node (map got_of ends))) (tables_of (standby_of x))
   pub none_held : x.held ≡ []
   pub ended : EndsInEnd given
   pub log_end : end_of_log base start (given_in given) ≡ Ok (record { last = x.last; namespace = x.namespace })

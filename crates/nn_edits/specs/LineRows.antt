@@ -12,7 +12,7 @@ use Rattle.json.specs.Word.{word, after_number}
 use Rattle.serde_json.specs.Read.{number_of}
 use Rattle.nn_types.specs.declared.edit.Edit.{Edit}
 use Rattle.nn_types.specs.declared.edit.Edit.TheVariants.{StartSegment, EndSegment, Mkdir, Add, AddBlock, UpdateBlocks, Close, Append, Rename, Delete, SetReplication, AllocateBlockId, SetGenstamp}
-use Rattle.nn_types.specs.declared.report.Kind.TheVariants.{Receiving, Received, Deleted}
+use Rattle.nn_types.specs.declared.report.Kind.TheVariants.{Receiving, Received, Deleted, Begin, Listed, Finish}
 use Rattle.nn_types.specs.declared.tx.Tx.{Tx}
 use Rattle.nn_types.specs.declared.profile.Profile.TheVariants.{One, Two}
 use Rattle.nn_edits.specs.declared.fault.LineFault.{LineFault}
@@ -109,10 +109,16 @@ reports : map either_of_line (
     codes "{\"dn\":7,\"block\":5,\"gen\":6,\"len\":8,\"kind\":\"receiving\"}"
     ∷ codes "{\"dn\":1,\"block\":0,\"gen\":0,\"len\":0,\"kind\":\"received\"}"
     ∷ codes "{\"dn\":256,\"block\":5,\"gen\":6,\"len\":8,\"kind\":\"deleted\"}"
+    ∷ codes "{\"dn\":7,\"block\":5,\"gen\":6,\"len\":8,\"kind\":\"report_begin\"}"
+    ∷ codes "{\"dn\":7,\"block\":5,\"gen\":6,\"len\":8,\"kind\":\"listed\"}"
+    ∷ codes "{\"dn\":7,\"block\":0,\"gen\":0,\"len\":0,\"kind\":\"report_end\"}"
     ∷ codes "{\"dn\":7,\"block\":5,\"gen\":6,\"len\":8,\"kind\":\"deleted\",\"op\":\"OP_END_LOG_SEGMENT\",\"txid\":2}" ∷ [])
     ≡ Ok (either.Report (record { dn = 7; block = 5; stamp = 6; len = 8; kind = Receiving }))
     ∷ Ok (either.Report (record { dn = 1; block = 0; stamp = 0; len = 0; kind = Received }))
     ∷ Ok (either.Report (record { dn = 256; block = 5; stamp = 6; len = 8; kind = Deleted }))
+    ∷ Ok (either.Report (record { dn = 7; block = 5; stamp = 6; len = 8; kind = Begin }))
+    ∷ Ok (either.Report (record { dn = 7; block = 5; stamp = 6; len = 8; kind = Listed }))
+    ∷ Ok (either.Report (record { dn = 7; block = 0; stamp = 0; len = 0; kind = Finish }))
     ∷ Ok (either.Edit (record { txid = 2; edit = EndSegment })) ∷ []
 unfolding either_of_line either_in report_in dn_in kind_in kind_of object_in value_of tx_in op_in op_of txid_in whole_in number_in path_in profile_in edit_in blocks_in items_in block_in is_utf8 chars encode value punctuate lex content word after_number number_of scan_numeral
 reports = refl

@@ -7,6 +7,7 @@ use Rattle.nn_types.specs.declared.report.Message.{Message}
 use Rattle.nn_types.specs.declared.report.Report.{Report}
 use Rattle.nn_types.specs.Settings.{Threshold}
 use Rattle.nn_model.specs.Lanes.{Lanes}
+use Rattle.nn_model.specs.Items.{items}
 use Rattle.nn_model.specs.Lawful.{IsLawful, IsWhole}
 use Rattle.nn_model.specs.Log.{log_of}
 use Rattle.nn_model.specs.Namespace.{root_alone}
@@ -30,7 +31,7 @@ use Rattle.nn_drive.specs.Reports.{next_message, sent_after, TakesNoMore, Report
 use Rattle.nn_drive.specs.declared.driving.DriveFault.{DriveFault}
 use Rattle.nn_drive.specs.declared.driving.DriveFault.TheVariants as drive
 use Rattle.nn_tailer.specs.declared.standby.Active.{Active}
-use Rattle.nn_engine.specs.Listed.{GivesReport, AreListed, MayEnd, TellsStop}
+use Rattle.nn_engine.specs.InMemory.{GivesReport, AreInMemory, MayEnd, TellsStop}
 use Rattle.nn_engine.specs.declared.engine.Options.{Options}
 use Rattle.nn_engine.specs.Output.{Printed, after_log, fault_at, with_history}
 use Rattle.nn_engine.proofs.ToldLemmas.{is_fault}
@@ -134,7 +135,7 @@ got_at [] k x h n = n (omega arith)
 got_at (e ∷ es) zero x h n = h e (omega arith)
 got_at (e ∷ es) (suc k) x h n = got_at es k x (λ d l. h d (omega (arith, l))) (λ l. n (omega (arith, l)))
 
-module _ (count : ℕ) (lanes : Lanes) (sources : List (List Report)) (listed : AreListed count lanes sources) (workers : List (List Report × Reporting)) (before ends : List Taking) (have : HaveLanes 1 sources workers before)
+module _ (count : ℕ) (lanes : Lanes) (sources : List (List Report)) (in_memory : AreInMemory count lanes sources) (workers : List (List Report × Reporting)) (before ends : List Taking) (have : HaveLanes 1 sources workers before)
     (as_many : length ends ≡ length workers)
     (taken : (i : ℕ) (w : List Report × Reporting) (b e : Taking) → i < length workers → IsTaken GivesReport (get_or workers i w).0 (get_or workers i w).1 (get_or before i b) (get_or ends i e).got) where
   lane_taken : (k : ℕ) (e : Taking) → k < length ends → (get_or ends k e).got ≡ lanes (k + 1)
@@ -145,17 +146,17 @@ module _ (count : ℕ) (lanes : Lanes) (sources : List (List Report)) (listed : 
       let t = taken k w e e within in
       let untold : IsTold t.0.outcome → ⊥ = λ q. let z : false ≡ true = sym (end_at 1 sources workers before have k e within) ∙ t.3 q in cc in
       let node : (get_or workers k w).1.lane.node ≡ k + 1 = let q = at.2 in omega (arith, q) in
-      let few : length (get_or workers k w).0 ≤ 2 ^ 62 = let q = ap length at.0 in let f = listed.few k in omega (arith, q, f) in
+      let few : length (get_or workers k w).0 ≤ 2 ^ 62 = let q = ap length at.0 in let f = in_memory.few k in omega (arith, q, f) in
       t.2 ∙ all_sent (get_or workers k w).0 (get_or workers k w).1 t.0.reporter t.0.source (k + 1) t.0.outcome at.1 node few untold t.1.1
-      ∙ ap (sent_after (k + 1) []) at.0 ∙ listed.each k
+      ∙ ap (sent_after (k + 1) []) at.0 ∙ in_memory.each k
 
   lane_beyond : (k : ℕ) → length ends ≤ k → [] ≡ lanes (k + 1)
   lane_beyond k l =
       let past : length sources ≤ k = let q = workers_many 1 sources workers before have in omega (arith, l, as_many, q) in
-      ap (sent_after (k + 1) []) (sym (get_or_past sources k [] past)) ∙ listed.each k
+      ap (sent_after (k + 1) []) (sym (get_or_past sources k [] past)) ∙ in_memory.each k
 
   at_node : (dn : ℕ) → by_node (map got_of ends) dn ≡ lanes dn
-  at_node zero = sym listed.none
+  at_node zero = sym in_memory.none
   at_node (suc k) = got_at ends k (lanes (k + 1)) (lane_taken k) (lane_beyond k) ∙ ap lanes (let q : k + 1 ≡ suc k = omega arith in q)
 
   pub same_lanes : by_node (map got_of ends) ≡ lanes
@@ -165,26 +166,26 @@ module _ (count : ℕ) (lanes : Lanes) (sources : List (List Report)) (listed : 
 
 pub record Arrives (settings : Threshold) (lanes : Lanes) (segments : List Segment) (x : Contents) : Type 0 where
   pub log_end : end_of_log 0 root_alone segments ≡ Ok (record { last = x.last; namespace = x.namespace })
-  pub lawful : IsLawful root_alone (log_of 0 (map (λ (s : Segment). s.txs) segments)) lanes x.history
-  pub whole : IsWhole root_alone (log_of 0 (map (λ (s : Segment). s.txs) segments)) lanes x.history
-  pub picture : ShowsPicture x.namespace lanes (tables_of (standby_of x))
+  pub lawful : IsLawful root_alone (log_of 0 (map (λ (s : Segment). s.txs) segments)) (items lanes) x.history
+  pub whole : IsWhole root_alone (log_of 0 (map (λ (s : Segment). s.txs) segments)) (items lanes) x.history
+  pub picture : ShowsPicture x.namespace (items lanes) (tables_of (standby_of x))
   pub min : x.table.min ≡ settings.min
   pub permille : x.permille ≡ settings.permille
 
-module _ (settings : Threshold) (count : ℕ) (lanes : Lanes) (sources : List (List Report)) (listed : AreListed count lanes sources) (workers : List (List Report × Reporting)) (before : List Taking) (have : HaveLanes 1 sources workers before)
+module _ (settings : Threshold) (count : ℕ) (lanes : Lanes) (sources : List (List Report)) (in_memory : AreInMemory count lanes sources) (workers : List (List Report × Reporting)) (before : List Taking) (have : HaveLanes 1 sources workers before)
     (standby : Tailer) (new : IsNew before standby) (kept : (standby.shadow.table.min ≡ settings.min) × (standby.shadow.permille ≡ settings.permille)) (segments : List Segment) where
   pub arrives : (x : Contents) (active : Active) → IsDriven GivesNext (λ _. 0) GivesReport standby segments workers x active → Arrives settings lanes segments x
   arrives x active d =
       let p = d.8 root_alone 0 [] new.4 in
       let order = in_order segments d.1 d.0 d.3 in
-      let same = same_lanes count lanes sources listed workers before d.2 have p.lanes (λ i w b e l. subst (λ es. IsTaken GivesReport (get_or workers i w).0 (get_or workers i w).1 (get_or es i b) (get_or d.2 i e).got) new.0 (p.taken i w b e l)) in
+      let same = same_lanes count lanes sources in_memory workers before d.2 have p.lanes (λ i w b e l. subst (λ es. IsTaken GivesReport (get_or workers i w).0 (get_or workers i w).1 (get_or es i b) (get_or d.2 i e).got) new.0 (p.taken i w b e l)) in
       let log : log_in 0 d.0 ≡ log_of 0 (map (λ (s : Segment). s.txs) segments) =
       ap (log_of 0) (segments_given d.0 ∙ ap (map (λ (s : Segment). s.txs)) (ap given_in p.ended.1 ∙ all_given segments p.ended.0 (subst (AreInOrder segments) p.ended.1 order))) in
       record {
         log_end = promoted_at_end root_alone 0 segments d.0 order (record { last = x.last; namespace = x.namespace }) p.ended p.log_end;
-        lawful = subst (λ log. IsLawful root_alone log lanes x.history) log (subst (λ ls. IsLawful root_alone (log_in 0 d.0) ls x.history) same p.stands.lawful);
-        whole = subst (λ log. IsWhole root_alone log lanes x.history) log (subst (λ ls. IsWhole root_alone (log_in 0 d.0) ls x.history) same p.whole);
-        picture = subst (λ ls. ShowsPicture x.namespace ls (tables_of (standby_of x))) same p.picture;
+        lawful = subst (λ log. IsLawful root_alone log (items lanes) x.history) log (subst (λ ls. IsLawful root_alone (log_in 0 d.0) (items ls) x.history) same p.stands.lawful);
+        whole = subst (λ log. IsWhole root_alone log (items lanes) x.history) log (subst (λ ls. IsWhole root_alone (log_in 0 d.0) (items ls) x.history) same p.whole);
+        picture = subst (λ ls. ShowsPicture x.namespace (items ls) (tables_of (standby_of x))) same p.picture;
         min = d.7.min ∙ kept.0;
         permille = d.7.permille ∙ kept.1;
       }
@@ -207,7 +208,7 @@ module _ (settings : Threshold) (count : ℕ) (lanes : Lanes) (sources : List (L
 -- what is printed of a standby that was promoted
 abbrev pub TellsAll : Options → Contents → Printed → Type 0
 TellsAll options x p =
-    (lanes : Lanes) → ShowsPicture x.namespace lanes (tables_of (standby_of x))
+    (lanes : Lanes) → ShowsPicture x.namespace (items lanes) (tables_of (standby_of x))
     → p ≡ with_history options.history x.history (after_log (with_settings options x.permille x.table.min) lanes (Ok (record { last = x.last; namespace = x.namespace })))
 
 -- what is told of it is the output of the log and the lanes

@@ -4,6 +4,6 @@ pub mod TurnLemmas
 pub mod ToldLemmas
 pub mod TellLemmas
 pub mod WriteLemmas
-pub mod ListLemmas
+pub mod InMemoryLemmas
 pub mod DrivenLemmas
 pub mod InputLemmas

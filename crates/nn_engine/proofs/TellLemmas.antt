@@ -3,6 +3,7 @@ use Rattle.std.proofs.Common.{◌≡◌, ℕ, Bool, true, false, List, ◌++◌,
 use Rattle.nn_types.specs.declared.tx.Tx.{Tx}
 use Rattle.nn_model.specs.Counts.{SafeMode, safe_mode_of}
 use Rattle.nn_model.specs.History.{History}
+use Rattle.nn_model.specs.Items.{items}
 use Rattle.nn_model.specs.Lanes.{Lanes}
 use Rattle.nn_model.specs.Lawful.{IsWhole}
 use Rattle.nn_model.specs.Namespace.{Namespace, root_alone}
@@ -25,7 +26,7 @@ use Rattle.nn_listing.specs.Tables.{IsPicture, tables_text}
 -- what a flush says of every log and lanes at which the standby stood
 abbrev pub StandsFlushed : Contents → Contents → Type 0
 StandsFlushed x y = (start : Namespace) (base : ℕ) (txs : List Tx) (lanes : Lanes) → StandsBy start base txs lanes (standby_of x)
-    → Stands start base txs lanes (standby_of y) × IsWhole start txs lanes y.history × ShowsPicture y.namespace lanes (tables_of (standby_of y))
+    → Stands start base txs lanes (standby_of y) × IsWhole start txs (items lanes) y.history × ShowsPicture y.namespace (items lanes) (tables_of (standby_of y))
 
 -- a text of three parts behind a history
 behind : (asked : Bool) (events : History) (listing tables image : List ℕ)
@@ -42,19 +43,19 @@ pub tables_told : (options : Options) (y : Contents) (lanes : Lanes) (mode : Saf
     → mode ≡ safe_mode_of y.permille y.table.min y.namespace (replica_at y.table) → told ≡ history_part options.history y.history → before ≡ told ++ listing_text y.last y.namespace
     → ((permille min : ℕ) (n : Namespace) (lanes : Lanes) → IsPicture permille min n lanes y.table mode → tables ≡ before ++ tables_text permille min n lanes)
     → after ≡ tables ++ image_part options.image (record { last = y.last; namespace = y.namespace })
-    → ShowsPicture y.namespace lanes (tables_of (standby_of y))
+    → ShowsPicture y.namespace (items lanes) (tables_of (standby_of y))
     → ◌≡◌ {A = Printed} (record { text = after; status = 0 }) (with_history options.history y.history (after_log (with_settings options y.permille y.table.min) lanes (Ok (record { last = y.last; namespace = y.namespace }))))
 tables_told options y lanes mode told before tables after shows counts events listed pictured imaged picture =
     ap (λ text. record { text = text; status = 0 })
     (imaged ∙ ap (λ text. text ++ image_part options.image (record { last = y.last; namespace = y.namespace }))
-    (pictured y.permille y.table.min y.namespace lanes (record { shows = shows; replicas = picture.replicas; orders = picture.orders; counts = counts })
-    ∙ ap (λ text. text ++ tables_text y.permille y.table.min y.namespace lanes) (listed ∙ ap (λ text. text ++ listing_text y.last y.namespace) events)))
-    ∙ behind options.history y.history (listing_text y.last y.namespace) (tables_text y.permille y.table.min y.namespace lanes)
+    (pictured y.permille y.table.min y.namespace (items lanes) (record { shows = shows; replicas = picture.replicas; orders = picture.orders; counts = counts })
+    ∙ ap (λ text. text ++ tables_text y.permille y.table.min y.namespace (items lanes)) (listed ∙ ap (λ text. text ++ listing_text y.last y.namespace) events)))
+    ∙ behind options.history y.history (listing_text y.last y.namespace) (tables_text y.permille y.table.min y.namespace (items lanes))
     (image_part options.image (record { last = y.last; namespace = y.namespace }))
 
 -- after the flush it is told as before
 pub flushed_told : (options : Options) (x y : Contents) (lanes : Lanes) (whole : Result LogEnd LogStop) (p : Printed) → standby_of y ≡ flushed (standby_of x) → KeepsSettings x y → StandsFlushed x y
-    → ((lanes : Lanes) → ShowsPicture y.namespace lanes (tables_of (standby_of y)) → p ≡ with_history options.history y.history (after_log (with_settings options y.permille y.table.min) lanes (Ok (record { last = y.last; namespace = y.namespace }))))
+    → ((lanes : Lanes) → ShowsPicture y.namespace (items lanes) (tables_of (standby_of y)) → p ≡ with_history options.history y.history (after_log (with_settings options y.permille y.table.min) lanes (Ok (record { last = y.last; namespace = y.namespace }))))
     → HasArrived whole lanes x → p ≡ with_history options.history (flushed (standby_of x)).history (after_log (with_settings options x.permille x.table.min) lanes whole)
 flushed_told options x y lanes whole p done settings flush told h =
     told lanes (flush root_alone 0 h.txs lanes h.stands).2

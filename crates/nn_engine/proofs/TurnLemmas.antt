@@ -1,5 +1,5 @@
 -- A standby that follows in turn stands at the log and at what was sent; its history is lawful and whole.
-use Rattle.std.proofs.Common.{◌≡◌, Bool, ◌+◌, List, [], ◌∷◌, ◌++◌, cond, true, false, Ok, refl, sym, subst, arith, append_assoc, append-nil}
+use Rattle.std.proofs.Common.{◌≡◌, Bool, ◌+◌, List, [], ◌∷◌, ◌++◌, cond, true, false, Ok, refl, sym, subst, ◌∙◌, arith, append_assoc, append-nil}
 use Rattle.std.specs.Prelude.{map, drop}
 use Rattle.nn_types.specs.declared.report.Message.{Message}
 use Rattle.nn_types.specs.declared.event.Cause.TheVariants.{Due}
@@ -9,7 +9,7 @@ use Rattle.nn_model.specs.Log.{IsLog, log_of}
 use Rattle.nn_model.specs.Namespace.{root_alone}
 use Rattle.nn_model.specs.Stands.{StandbyState, fresh}
 use Rattle.nn_model.proofs.Equals.{root_alone_is_well_formed}
-use Rattle.nn_shadow.specs.Calls.{applied_to, processing, received, waits}
+use Rattle.nn_shadow.specs.Calls.{applied_to, processing, taken_in, all_taken_in, items_added, received, waits}
 use Rattle.nn_shadow.specs.Laws.{StandsBy}
 use Rattle.nn_shadow.proofs.Standings.{applies, receives, flushes, flushes_whole, begins_standing}
 use Rattle.nn_segment.specs.Segment.{Segment}
@@ -26,15 +26,23 @@ pub all_applied_next : (x : StandbyState) (log : List Tx) → all_applied (next_
 all_applied_next x [] = refl
 all_applied_next x (tx ∷ log) = refl
 
--- a message changes neither the namespace nor the last txid
+-- an item changes neither the namespace nor the last txid
 held_or_processed : (b : Bool) (x : StandbyState) (m : Message) (held : List Message) →
     ((cond b (record x { held = held }) (processing Due (m ∷ []) x)).namespace ≡ x.namespace)
     × ((cond b (record x { held = held }) (processing Due (m ∷ []) x)).last ≡ x.last)
 held_or_processed true x m held = (refl, refl)
 held_or_processed false x m held = (refl, refl)
 
+all_taken_stays : (x : StandbyState) (items : List Message) → ((all_taken_in x items).namespace ≡ x.namespace) × ((all_taken_in x items).last ≡ x.last)
+all_taken_stays x [] = (refl, refl)
+all_taken_stays x (i ∷ items) =
+    let one : ((taken_in x i).namespace ≡ x.namespace) × ((taken_in x i).last ≡ x.last) = held_or_processed (waits x i) x i _ in
+    let rest = all_taken_stays (taken_in x i) items in
+    (rest.0 ∙ one.0, rest.1 ∙ one.1)
+
+-- nor does a message
 stays : (x : StandbyState) (m : Message) → ((received x m).namespace ≡ x.namespace) × ((received x m).last ≡ x.last)
-stays x m = held_or_processed (waits x m) x m _
+stays x m = all_taken_stays x (items_added x m)
 
 all_applied_stands : (log done : List Tx) (lanes : Lanes) (x : StandbyState) → StandsBy root_alone 0 done lanes x → IsLog x.namespace x.last log
     → StandsBy root_alone 0 (done ++ log) lanes (all_applied x log)

@@ -6,5 +6,5 @@ pub mod Input
 pub mod Run
 pub mod RunRows
 pub mod Shown
-pub mod Listed
-pub mod ListedRows
+pub mod InMemory
+pub mod InMemoryRows

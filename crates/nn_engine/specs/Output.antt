@@ -3,6 +3,7 @@ use Rattle.std.specs.Prelude.{◌≡◌, ℕ, Bool, true, false, ◌&&◌, ◌==
 use Rattle.nn_edits.specs.Fault.{number_of as line_number_of}
 use Rattle.nn_types.specs.declared.tx.Tx.{Tx}
 use Rattle.nn_model.specs.History.{History}
+use Rattle.nn_model.specs.Items.{items}
 use Rattle.nn_model.specs.Lanes.{Lanes}
 use Rattle.nn_model.specs.Lawful.{IsLawful, IsWhole}
 use Rattle.nn_model.specs.Log.{log_of}
@@ -37,10 +38,10 @@ abbrev pub image_part : Bool → LogEnd → List ℕ
 image_part false end = []
 image_part true end = codes "image" ++ newline ∷ image_text end.namespace end.last
 
--- after the log: the namespace, the tables that it and the messages of these lanes make, and its image
+-- after the log: the namespace, the tables that it and the items of these lanes make, and its image
 abbrev pub after_log : Options → Lanes → Result LogEnd LogStop → Printed
 after_log options lanes (Ok end) = record {
-  text = (listing_text end.last end.namespace ++ tables_text options.settings.permille options.settings.min end.namespace lanes) ++ image_part options.image end;
+  text = (listing_text end.last end.namespace ++ tables_text options.settings.permille options.settings.min end.namespace (items lanes)) ++ image_part options.image end;
   status = 0;
 }
 after_log options lanes (Err stop) = fault_at (codes " txid ") (stop_number stop.cause) stop.txid
@@ -66,8 +67,8 @@ with_history asked events p = if (p.status == 0) && asked then record { text = h
 
 -- the history of a standby that followed this log and these steps, on one thread or with a thread for each DataNode
 pub record IsHistoryOf (threads : Bool) (log : List Tx) (steps : List Step) (events : History) : Type 0 where
-  pub lawful : IsLawful root_alone log (lanes_of steps) events
-  pub whole : IsWhole root_alone log (lanes_of steps) events
+  pub lawful : IsLawful root_alone log (items (lanes_of steps)) events
+  pub whole : IsWhole root_alone log (items (lanes_of steps)) events
   -- without threads it is the one that the lines make in their order
   pub one_thread : threads ≡ false → events ≡ history_in_turn log steps
 

@@ -2,6 +2,7 @@
 ghost use Rattle.std.specs.Prelude.{◌≡◌, ◌≢◌, ◌≤◌, ◌++◌, ℕ, List, false, length, take, codes, Result, Ok, IfOk, IfErr, OnOk, string_bytes};
 ghost use Rattle.std.specs.Io.KnownBytes.{Appends};
 ghost use Rattle.nn_edits.specs.Fault.{number_of as line_number_of};
+ghost use Rattle.nn_model.specs.Items.{items};
 ghost use Rattle.nn_model.specs.Lanes.{Lanes};
 ghost use Rattle.nn_model.specs.Picture.{ShowsPicture};
 ghost use Rattle.nn_model.specs.Stands.{tables_of};
@@ -208,7 +209,7 @@ fn output_of_standby(alloc: Global, options: Options, standby: Shadow) -> Result
 
 // The history, the listing, the tables and the image of a standby that has flushed.
 pub(crate) fn tell(alloc: Global, options: Options, standby: Shadow) -> Result<Output, AllocError>
-    ensures { IfOk result (λ o. (lanes : Lanes) → ShowsPicture standby.namespace lanes (tables_of (standby_of standby))
+    ensures { IfOk result (λ o. (lanes : Lanes) → ShowsPicture standby.namespace (items lanes) (tables_of (standby_of standby))
         → shown o ≡ with_history options.history standby.history (after_log (with_settings options standby.permille standby.table.min) lanes (Ok (record { last = standby.last; namespace = standby.namespace })))) }
 {
     standby.consistent();

@@ -7,7 +7,7 @@ ghost use Rattle.nn_scenario.specs.Cut.{segments_from};
 ghost use Rattle.nn_scenario.specs.Chunks.{IsReadAs};
 ghost use Rattle.nn_scenario.specs.Scenario.{seen, IsLawfulScenario};
 ghost use Rattle.nn_scenario.specs.Steps.{lanes_of, AreInTurn, IsStepOf};
-ghost use Rattle.nn_engine.specs.Listed.{report_of, with_step, AreFew, AreListed, MayEnd, TellsStop};
+ghost use Rattle.nn_engine.specs.InMemory.{report_of, with_step, AreFew, AreInMemory, MayEnd, TellsStop};
 ghost use Rattle.nn_engine.specs.Output.{output_of, IsPrinted};
 ghost use Rattle.nn_engine.specs.Run.{Wrote, WroteFront, running};
 ghost use Rattle.nn_engine.specs.Shown.{shown, IsToldOf};
@@ -46,12 +46,12 @@ const MOST: usize = 4_611_686_018_427_387_904;
 
 /// The reports of one DataNode, in memory.
 #[derive(Drop)]
-pub struct Listed<G> {
+pub struct InMemoryReports<G> {
     reports: VecDeque<Report>,
     way: Way<G>,
 }
 
-impl<G> Model for Listed<G> {
+impl<G> Model for InMemoryReports<G> {
     ghost use Rattle.std.specs.Prelude.{List};
     ghost use Rattle.nn_types.specs.declared.report.Report.{Report};
 
@@ -60,11 +60,11 @@ impl<G> Model for Listed<G> {
     ghost view = { λ s. s.reports.items };
 }
 
-impl<G> Listed<G> {
-    fn new(alloc: Global, gate: Arc<G, Global>, node: u64) -> Listed<G>
+impl<G> InMemoryReports<G> {
+    fn new(alloc: Global, gate: Arc<G, Global>, node: u64) -> InMemoryReports<G>
         ensures { result ≡ [] }
     {
-        Listed {
+        InMemoryReports {
             reports: VecDeque::new(alloc),
             way: Way::new(gate, node),
         }
@@ -85,8 +85,8 @@ impl<G> Listed<G> {
     }
 }
 
-impl<G: Gate> ReportSource for Listed<G> {
-    ghost use Rattle.nn_engine.specs.Listed.{GivesReport};
+impl<G: Gate> ReportSource for InMemoryReports<G> {
+    ghost use Rattle.nn_engine.specs.InMemory.{GivesReport};
 
     ghost gives = { GivesReport };
 
@@ -101,13 +101,13 @@ fn empty_sources<G: Drop>(
     alloc: Global,
     gate: &Arc<G, Global>,
     datanodes: u16,
-) -> Result<Vec<Listed<G>>, AllocError>
+) -> Result<Vec<InMemoryReports<G>>, AllocError>
     ensures { IfOk result (λ v. v.items ≡ replicate datanodes []) }
 {
     let mut sources = Vec::new(alloc);
     for worker in 0..datanodes {
         let own = Arc::try_clone(gate)?;
-        sources.push(Listed::new(alloc, own, u64::from(worker) + 1))?;
+        sources.push(InMemoryReports::new(alloc, own, u64::from(worker) + 1))?;
     }
     Ok(sources)
 }
@@ -125,7 +125,7 @@ fn report_of(message: &Message) -> Report
 }
 
 // Puts a message's report behind those of its DataNode.
-fn take_step<G: Drop>(sources: &mut Vec<Listed<G>>, step: Step) -> Result<(), AllocError>
+fn take_step<G: Drop>(sources: &mut Vec<InMemoryReports<G>>, step: Step) -> Result<(), AllocError>
     requires { IsStepOf (length sources.old.items) step }
     ensures ok { OnOk result (sources.new.items ≡ with_step sources.old.items step) }
     ensures few { OnOk result (AreFew sources.old.items → AreFew sources.new.items) }
@@ -145,10 +145,10 @@ fn sources_of<G: Drop>(
     gate: &Arc<G, Global>,
     datanodes: u16,
     steps: StepList,
-) -> Result<Vec<Listed<G>>, AllocError>
+) -> Result<Vec<InMemoryReports<G>>, AllocError>
     requires in_turn { AreInTurn no_messages steps }
     requires within { All (IsStepOf datanodes) steps }
-    ensures { IfOk result (λ v. AreListed datanodes (lanes_of steps) v.items) }
+    ensures { IfOk result (λ v. AreInMemory datanodes (lanes_of steps) v.items) }
 {
     let mut sources = empty_sources(alloc, gate, datanodes)?;
     let mut steps = steps.into_steps();

@@ -11,7 +11,8 @@ use Rattle.nn_model.specs.Picture.{has_now}
 use Rattle.nn_model.specs.Replay.{reported}
 use Rattle.nn_replicas.proofs.Entries.{put_sorted}
 use Rattle.nn_replicas.proofs.Lookups.{find_put}
-use Rattle.nn_listing.specs.Tables.{datanodes, with_once, each_once, said_by, said_ids}
+use Rattle.nn_model.specs.Items.{with_once, each_once}
+use Rattle.nn_listing.specs.Tables.{datanodes, said_by, said_ids}
 
 -- the ids as keys
 abbrev pub marked : List ℕ → List (ℕ × ℕ)

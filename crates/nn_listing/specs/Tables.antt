@@ -1,10 +1,10 @@
 -- What the program prints of replicas, orders and counts: told by the namespace, and by what each DataNode said last.
-use Rattle.std.specs.Prelude.{◌≡◌, ℕ, Bool, true, false, List, [], ◌∷◌, ◌++◌, map, flat_map, Option, Some, None, nat_lt, ◌==◌, codes, decimal}
-use Rattle.std.specs.Prelude.{if◌then◌else◌}
+use Rattle.std.specs.Prelude.{◌≡◌, ℕ, Bool, true, false, List, [], ◌∷◌, ◌++◌, map, flat_map, Option, Some, None, ◌==◌, codes, decimal}
 use Rattle.std.specs.List.{range_with_len}
 use Rattle.nn_types.specs.declared.block.Block.{Block}
 use Rattle.nn_types.specs.declared.replica.Replica.{Replica}
 use Rattle.nn_types.specs.Words.{kind_text, class_text}
+use Rattle.nn_model.specs.Items.{each_once}
 use Rattle.nn_model.specs.Counts.{class_of, SafeMode, safe_mode_of}
 use Rattle.nn_model.specs.Lanes.{Lanes}
 use Rattle.nn_model.specs.Namespace.{Namespace}
@@ -20,16 +20,6 @@ use Rattle.nn_listing.specs.Listing.{newline}
 -- DataNodes are 1 to 256
 unfoldable pub datanodes : List ℕ
 datanodes = range_with_len 1 256
-
--- an id in its place among ascending ids, where it is not there yet
-abbrev pub with_once : ℕ → List ℕ → List ℕ
-with_once id [] = id ∷ []
-with_once id (i ∷ ids) = if nat_lt id i then id ∷ i ∷ ids else if id == i then i ∷ ids else i ∷ with_once id ids
-
--- the same ids, ascending, each once
-abbrev pub each_once : List ℕ → List ℕ
-each_once [] = []
-each_once (id ∷ ids) = with_once id (each_once ids)
 
 -- the ids of the blocks that the DataNode speaks of, as its messages come
 abbrev pub said_by : Lanes → ℕ → List ℕ

@@ -8,7 +8,7 @@ use Rattle.nn_model.specs.Lanes.{Lanes, no_messages}
 use Rattle.nn_model.specs.MessageRows.{b, c, f, block, message}
 use Rattle.nn_model.specs.Namespace.{Namespace, root_alone}
 use Rattle.nn_listing.specs.Listing.{newline}
-use Rattle.nn_listing.specs.Tables.{datanodes, each_once, said_ids, replica_lines, order_lines, blocks_line, tables_text}
+use Rattle.nn_listing.specs.Tables.{datanodes, said_ids, replica_lines, order_lines, blocks_line, tables_text}
 
 abbrev line : List ℕ → List ℕ
 line text = text ++ newline ∷ []
@@ -33,9 +33,6 @@ some_lanes dn =
     else if dn == 256 then message 256 1 Receiving stray 1002 0 ∷ []
     else if dn == 257 then message 257 1 Received b 1002 5 ∷ message 257 2 Received stray 1001 5 ∷ message 257 3 Received 1 1 1 ∷ []
     else []
-
-ids_once : each_once (5 ∷ 3 ∷ 5 ∷ 1 ∷ 3 ∷ 9 ∷ []) ≡ 1 ∷ 3 ∷ 5 ∷ 9 ∷ []
-ids_once = refl
 
 ids_said : said_ids some_lanes ≡ b ∷ c ∷ stray ∷ []
 unfolding datanodes digits

@@ -14,6 +14,8 @@ pub mod Untouched
 pub mod Members
 pub mod Events
 pub mod Sent
+pub mod Items
+pub mod Had
 pub mod Places
 pub mod Unpassed
 pub mod Shown

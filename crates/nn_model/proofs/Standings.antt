@@ -17,17 +17,18 @@ use Rattle.nn_model.specs.Stands.{StandbyState, Stands, IsLeft}
 use Rattle.nn_model.specs.HistoryLaws.{EndsInPicture, ReplaysPicture, TablesShowPicture, ShowSame, SameWhenFlushed, SameBeforeFlush, FreshStands}
 use Rattle.nn_model.proofs.Events.{any_true_at}
 use Rattle.nn_model.proofs.Ids.{due_along}
-use Rattle.nn_model.proofs.Sent.{lanes_in_order}
+use Rattle.nn_model.proofs.Items.{items_in_order}
+use Rattle.nn_model.specs.Items.{items}
 use Rattle.nn_model.proofs.Pictures.{final_picture, picture_of_free}
 
 pub ends_in_picture : EndsInPicture
 ends_in_picture start base txs lanes events well log numbered lawful whole =
-    final_picture start base txs lanes events (due_along start base txs log well) log (lanes_in_order lanes numbered) lawful whole
+    final_picture start base txs (items lanes) events (due_along start base txs log well) log (items_in_order lanes numbered) lawful whole
 
 pub replays_picture : ReplaysPicture
 replays_picture start base txs lanes x s no_flush =
-    subst (λ n. ShowsPicture n (without_held n lanes) (replay start txs lanes x.history)) (sym s.namespace)
-    (picture_of_free start base txs lanes x.history (due_along start base txs s.log s.well_formed) s.log (lanes_in_order lanes s.numbered) s.lawful no_flush)
+    subst (λ n. ShowsPicture n (without_held n (items lanes)) (replay start txs (items lanes) x.history)) (sym s.namespace)
+    (picture_of_free start base txs (items lanes) x.history (due_along start base txs s.log s.well_formed) s.log (items_in_order lanes s.numbered) s.lawful no_flush)
 
 pub tables_show_picture : TablesShowPicture
 tables_show_picture start base txs lanes x s no_flush =
@@ -38,8 +39,8 @@ tables_show_picture start base txs lanes x s no_flush =
 
 -- tables that show one picture are the same
 same_tables : (start : Namespace) (base : ℕ) (txs : List Tx) (lanes counted : Lanes) (x y : StandbyState) → Stands start base txs lanes x → Stands start base txs lanes y →
-    ShowsPicture (namespace_after start txs) counted (replay start txs lanes x.history) →
-    ShowsPicture (namespace_after start txs) counted (replay start txs lanes y.history) → ShowSame x y
+    ShowsPicture (namespace_after start txs) counted (replay start txs (items lanes) x.history) →
+    ShowsPicture (namespace_after start txs) counted (replay start txs (items lanes) y.history) → ShowSame x y
 same_tables start base txs lanes counted x y s t p q =
     let namespaces : x.namespace ≡ y.namespace = s.namespace ∙ sym t.namespace in
     let replica : (dn id : ℕ) → x.replica dn id ≡ y.replica dn id =
@@ -54,10 +55,10 @@ same_tables start base txs lanes counted x y s t p q =
 
 pub same_when_flushed : SameWhenFlushed
 same_when_flushed start base txs lanes x y s t whole whole' =
-    let picture : (z : StandbyState) → Stands start base txs lanes z → IsWhole start txs lanes z.history →
-    ShowsPicture (namespace_after start txs) lanes (replay start txs lanes z.history) =
+    let picture : (z : StandbyState) → Stands start base txs lanes z → IsWhole start txs (items lanes) z.history →
+    ShowsPicture (namespace_after start txs) (items lanes) (replay start txs (items lanes) z.history) =
     λ z at w. ends_in_picture start base txs lanes z.history at.well_formed at.log at.numbered at.lawful w in
-    same_tables start base txs lanes lanes x y s t (picture x s whole) (picture y t whole')
+    same_tables start base txs lanes (items lanes) x y s t (picture x s whole) (picture y t whole')
 
 -- before a flush what one holds is left of the other's too
 left_too : (start : Namespace) (txs : List Tx) (lanes : Lanes) (events others : History) (m : Message) → IsBeforeFlush others →
@@ -72,18 +73,18 @@ pub same_before_flush : SameBeforeFlush
 same_before_flush start base txs lanes x y s t no_flush no_flush' =
     let n = namespace_after start txs in
     let picture : (z : StandbyState) → Stands start base txs lanes z → IsBeforeFlush z.history →
-    ShowsPicture n (without_held n lanes) (replay start txs lanes z.history) =
-    λ z at none. picture_of_free start base txs lanes z.history (due_along start base txs at.log at.well_formed) at.log (lanes_in_order lanes at.numbered) at.lawful none in (
-      same_tables start base txs lanes (without_held n lanes) x y s t (picture x s no_flush) (picture y t no_flush'),
+    ShowsPicture n (without_held n (items lanes)) (replay start txs (items lanes) z.history) =
+    λ z at none. picture_of_free start base txs (items lanes) z.history (due_along start base txs at.log at.well_formed) at.log (items_in_order lanes at.numbered) at.lawful none in (
+      same_tables start base txs lanes (without_held n (items lanes)) x y s t (picture x s no_flush) (picture y t no_flush'),
       (λ m. (
-        (λ here. (t.held m).1 (left_too start txs lanes x.history y.history m no_flush' ((s.held m).0 here))),
-        (λ here. (s.held m).1 (left_too start txs lanes y.history x.history m no_flush ((t.held m).0 here))),
+        (λ here. (t.held m).1 (left_too start txs (items lanes) x.history y.history m no_flush' ((s.held m).0 here))),
+        (λ here. (s.held m).1 (left_too start txs (items lanes) y.history x.history m no_flush ((t.held m).0 here))),
       )),
     )
 
 -- ---- The first standby.
 
-none_sent : (m : Message) → IsSent no_messages m → ⊥
+none_sent : (m : Message) → IsSent (items no_messages) m → ⊥
 none_sent m sent = let e : None ≡ Some m = sent in cc
 
 pub fresh_stands : FreshStands
@@ -108,4 +109,5 @@ fresh_stands n base well = record {
   by_block = tt;
   by_number = tt;
   last_numbers = λ dn. refl;
+  had = λ dn. refl;
 }

@@ -19,7 +19,9 @@ use Rattle.nn_model.specs.History.{History, EachAfter, applied_txids, namespace_
 use Rattle.nn_model.specs.Lawful.{NamesMessage, NumberRises, NoFlushBefore, WaitedItsTurn, WasDueItself, reaches}
 use Rattle.nn_model.specs.HistoryLaws.{SameWhenWhole, LawfulIsLoose}
 use Rattle.nn_model.proofs.Events.{any_none, any_left, any_right, any_either, any_last, any_true_at, at_found, from_found, applied_more, same_moment}
-use Rattle.nn_model.proofs.Sent.{dn_of, sent_from_lane, one_sent, lanes_in_order, kept_by, free_is_due}
+use Rattle.nn_model.proofs.Sent.{dn_of, sent_from_lane, one_sent, kept_by, free_is_due}
+use Rattle.nn_model.proofs.Items.{items_in_order}
+use Rattle.nn_model.specs.Items.{items}
 use Rattle.nn_model.proofs.Places.{DueAlong}
 use Rattle.nn_model.proofs.Ids.{due_along}
 
@@ -151,8 +153,8 @@ same_when_whole start base txs lanes events well log numbered whole = (
     applied_in_order = w.applied_in_order;
     sent = w.sent;
     in_sending_order = w.in_sending_order;
-    waited = strong start txs lanes events (due_along start base txs log well) (lanes_in_order lanes numbered)
-        (λ j sent. elim (cases_Bool (is_held (namespace_after start txs) (lanes j.dn) j)) [
+    waited = strong start txs (items lanes) events (due_along start base txs log well) (items_in_order lanes numbered)
+        (λ j sent. elim (cases_Bool (is_held (namespace_after start txs) (items lanes j.dn) j)) [
           | inl waits ↦ told_by j Flush events (whole j sent waits)
           | inr free ↦ told_by j Due events (w.none_forgotten j sent free)
         ]) [] events refl w.sent w.in_sending_order w.waited w.flush_last (λ unflushed j sent told. absurd (both_ways _ refl told));
@@ -160,5 +162,5 @@ same_when_whole start base txs lanes events well log numbered whole = (
     flush_held = w.flush_held;
     none_forgotten = w.none_forgotten;
   }),
-  lawful_is_loose start txs lanes events,
+  lawful_is_loose start txs (items lanes) events,
 )

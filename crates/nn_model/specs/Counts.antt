@@ -2,7 +2,7 @@
 use Rattle.std.specs.Prelude.{ℕ, zero, suc, ◌+◌, Bool, true, false, List, [], length, filter, flat_map, Option, Some, None, nat_lt, nat_le, ◌==◌, if◌then◌else◌}
 use Rattle.nn_types.specs.declared.block.Block.{Block}
 use Rattle.nn_types.specs.declared.report.Kind.{Kind}
-use Rattle.nn_types.specs.declared.report.Kind.TheVariants.{Receiving, Received, Deleted}
+use Rattle.nn_types.specs.declared.report.Kind.TheVariants.{Receiving, Received, Deleted, Begin, Listed, Finish}
 use Rattle.nn_model.specs.declared.form.Form.{Form}
 use Rattle.nn_model.specs.declared.form.Form.TheVariants.{Dir, File}
 use Rattle.nn_types.specs.declared.replica.Replica.{Replica}
@@ -13,12 +13,15 @@ use Rattle.nn_model.specs.Namespace.{Namespace}
 
 -- ---- One replica.
 
--- The class of a replica with the block's own generation stamp. One that was deleted is no replica, and no table keeps it; it counts
--- as one that is not complete.
+-- The class of a replica with the block's own generation stamp. Only what is received or being received is a replica, and no table
+-- keeps another; one of another kind counts as one that is not complete.
 abbrev pub class_of_kind : Kind → Replica → Block → Class
 class_of_kind Receiving r b = Building
 class_of_kind Received r b = if r.len == b.len then Live else WrongLength
 class_of_kind Deleted r b = Building
+class_of_kind Begin r b = Building
+class_of_kind Listed r b = Building
+class_of_kind Finish r b = Building
 
 -- a lower generation stamp than the block's is stale, a higher one ahead
 abbrev pub class_of : Replica → Block → Class

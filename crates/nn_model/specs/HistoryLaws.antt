@@ -8,6 +8,7 @@ use Rattle.nn_model.specs.Namespace.{Namespace}
 use Rattle.nn_model.specs.WellFormed.{Has, HasWellFormedBlocks}
 use Rattle.nn_model.specs.Log.{namespace_after, IsLog}
 use Rattle.nn_model.specs.Lanes.{Lanes, AreLanes, IsSent, no_messages}
+use Rattle.nn_model.specs.Items.{items}
 use Rattle.nn_model.specs.Held.{without_held}
 use Rattle.nn_model.specs.History.{History, IsBeforeFlush, numbers_of, times_processed}
 use Rattle.nn_model.specs.Lawful.{IsLawful, IsWhole, IsLooselyLawful}
@@ -20,19 +21,20 @@ use Rattle.nn_model.specs.Stands.{StandbyState, Stands, tables_of, fresh}
 abbrev pub EndsInPicture : Type 0
 EndsInPicture =
     (start : Namespace) (base : ℕ) (txs : List Tx) (lanes : Lanes) (events : History) → HasWellFormedBlocks start → IsLog start base txs → AreLanes lanes →
-    IsLawful start txs lanes events → IsWhole start txs lanes events → ShowsPicture (namespace_after start txs) lanes (replay start txs lanes events)
+    IsLawful start txs (items lanes) events → IsWhole start txs (items lanes) events →
+    ShowsPicture (namespace_after start txs) (items lanes) (replay start txs (items lanes) events)
 
 -- before the flush, the history of a standby that stands ends in the picture of the messages that are not held
 abbrev pub ReplaysPicture : Type 0
 ReplaysPicture =
     (start : Namespace) (base : ℕ) (txs : List Tx) (lanes : Lanes) (x : StandbyState) → Stands start base txs lanes x → IsBeforeFlush x.history →
-    ShowsPicture x.namespace (without_held x.namespace lanes) (replay start txs lanes x.history)
+    ShowsPicture x.namespace (without_held x.namespace (items lanes)) (replay start txs (items lanes) x.history)
 
 -- and so its tables show that picture
 abbrev pub TablesShowPicture : Type 0
 TablesShowPicture =
     (start : Namespace) (base : ℕ) (txs : List Tx) (lanes : Lanes) (x : StandbyState) → Stands start base txs lanes x → IsBeforeFlush x.history →
-    ShowsPicture x.namespace (without_held x.namespace lanes) (tables_of x)
+    ShowsPicture x.namespace (without_held x.namespace (items lanes)) (tables_of x)
 
 -- a lawful history processes each message at most once
 abbrev pub ProcessedOnce : Type 0
@@ -56,7 +58,7 @@ InSendingOrder =
 abbrev pub SameWhenWhole : Type 0
 SameWhenWhole =
     (start : Namespace) (base : ℕ) (txs : List Tx) (lanes : Lanes) (events : History) → HasWellFormedBlocks start → IsLog start base txs → AreLanes lanes →
-    IsWhole start txs lanes events → IsLooselyLawful start txs lanes events ↔ IsLawful start txs lanes events
+    IsWhole start txs (items lanes) events → IsLooselyLawful start txs (items lanes) events ↔ IsLawful start txs (items lanes) events
 
 -- a lawful history is lawful in the looser reading too, whole or not
 abbrev pub LawfulIsLoose : Type 0
@@ -75,7 +77,7 @@ pub record ShowSame (x y : StandbyState) : Type 0 where
 abbrev pub SameWhenFlushed : Type 0
 SameWhenFlushed =
     (start : Namespace) (base : ℕ) (txs : List Tx) (lanes : Lanes) (x y : StandbyState) → Stands start base txs lanes x → Stands start base txs lanes y →
-    IsWhole start txs lanes x.history → IsWhole start txs lanes y.history → ShowSame x y
+    IsWhole start txs (items lanes) x.history → IsWhole start txs (items lanes) y.history → ShowSame x y
 
 -- and before it too, and hold the same messages, in whatever order these came
 abbrev pub SameBeforeFlush : Type 0

@@ -1,4 +1,4 @@
--- What the DataNodes sent. Each message is one item by itself: one report about one block.
+-- What the DataNodes sent, as messages. Lanes of items have the same form (`Items`).
 use Rattle.std.specs.Prelude.{◌≡◌, ℕ, ◌+◌, Bool, false, not, ◌&&◌, ◌||◌, List, [], ◌∷◌, ◌++◌, Option, Some, find, nat_lt, ◌==◌, if◌then◌else◌}
 use Rattle.std.specs.List.{list_any}
 use Rattle.nn_types.specs.declared.report.Message.{Message}

@@ -12,6 +12,7 @@ pub mod EffectRows
 pub mod LogRows
 pub mod WellFormedRows
 pub mod Lanes
+pub mod Items
 pub mod Held
 pub mod History
 pub mod Lawful
@@ -27,3 +28,4 @@ pub mod LawfulRows
 pub mod StandsRows
 pub mod CountRows
 pub mod TableRows
+pub mod ItemRows

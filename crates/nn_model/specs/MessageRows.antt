@@ -21,6 +21,7 @@ use Rattle.nn_model.specs.Status.{status_of, due_in}
 use Rattle.nn_model.specs.WellFormed.{Has}
 use Rattle.nn_model.specs.Log.{namespace_after, IsLog}
 use Rattle.nn_model.specs.Lanes.{Lanes, AreNumbered, AreLanes, message_with, IsSent}
+use Rattle.nn_model.specs.Items.{items, items_of}
 use Rattle.nn_model.specs.Held.{is_held, IsHeld, IsFree}
 use Rattle.nn_model.specs.History.{History, processed}
 use Rattle.nn_model.specs.Lawful.{IsLawful, IsWhole}
@@ -89,6 +90,19 @@ of_sent P one two all_one all_two m sent =
         | false ↦ λ e. absurd (cc)
       ] e
     ] sent
+
+-- the items of two lanes
+pub items_of_two : (one two : List Message) → items (two_lanes one two) ≡ two_lanes (items_of one) (items_of two)
+items_of_two one two i dn = (elim (dn == 1) as (λ t. items_of (cond t one (if dn == 2 then two else []))
+    ≡ cond t (items_of one) (if dn == 2 then items_of two else [])) [
+      | true ↦ refl
+      | false ↦ elim (dn == 2) as (λ t. items_of (cond t two []) ≡ cond t (items_of two) []) [ true ↦ refl | false ↦ refl ]
+    ]) i
+
+pub of_item : (P : Message → Type 0) (one two : List Message) → OfEach P (items_of one) → OfEach P (items_of two) →
+    (m : Message) → IsSent (items (two_lanes one two)) m → P m
+of_item P one two all_one all_two m sent =
+    of_sent P (items_of one) (items_of two) all_one all_two m (subst (λ l. IsSent l m) (items_of_two one two) sent)
 
 pub are_lanes : (one two : List Message) → AreNumbered 1 1 one → AreNumbered 2 1 two → AreLanes (two_lanes one two)
 are_lanes one two first second dn = elim (cases_Bool (dn == 1)) [

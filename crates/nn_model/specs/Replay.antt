@@ -2,7 +2,7 @@
 use Rattle.std.specs.Prelude.{ℕ, Bool, false, not, ◌&&◌, ◌||◌, List, [], ◌∷◌, Option, Some, None, is_some, find, ◌==◌, if◌then◌else◌}
 use Rattle.nn_types.specs.declared.report.Message.{Message}
 use Rattle.nn_types.specs.declared.report.Kind.{Kind}
-use Rattle.nn_types.specs.declared.report.Kind.TheVariants.{Receiving, Received, Deleted}
+use Rattle.nn_types.specs.declared.report.Kind.TheVariants.{Receiving, Received, Deleted, Begin, Listed, Finish}
 use Rattle.nn_types.specs.declared.event.Event.{Event}
 use Rattle.nn_types.specs.declared.event.Event.TheVariants.{Applied, Processed}
 use Rattle.nn_types.specs.declared.tx.Tx.{Tx}
@@ -47,6 +47,9 @@ abbrev pub reported_as : Kind → Message → Option Replica
 reported_as Receiving m = Some (record { stamp = m.stamp; len = m.len; kind = m.kind })
 reported_as Received m = Some (record { stamp = m.stamp; len = m.len; kind = m.kind })
 reported_as Deleted m = None
+reported_as Begin m = None
+reported_as Listed m = None
+reported_as Finish m = None
 
 -- the replica that the DataNode has by this message: none where it deleted it
 abbrev pub reported : Message → Option Replica

@@ -9,6 +9,7 @@ use Rattle.nn_model.specs.Namespace.{Namespace}
 use Rattle.nn_model.specs.WellFormed.{Has, HasWellFormedBlocks}
 use Rattle.nn_model.specs.Log.{namespace_after, IsLog}
 use Rattle.nn_model.specs.Lanes.{Lanes, AreLanes, IsSent}
+use Rattle.nn_model.specs.Items.{items, Having, nothing_had, having, had_by}
 use Rattle.nn_model.specs.Held.{IsHeld}
 use Rattle.nn_model.specs.History.{History, processed}
 use Rattle.nn_model.specs.Lawful.{IsLawful}
@@ -23,6 +24,7 @@ pub record StandbyState : Type 0 where
   pub has_order : ℕ → ℕ → Bool
   pub held : List Message  -- by block, and then in the order of arrival
   pub last_number : ℕ → ℕ  -- of each DataNode
+  pub had : ℕ → Having  -- of each DataNode
 
 -- a standby that did nothing yet
 abbrev pub fresh : Namespace → ℕ → StandbyState
@@ -34,6 +36,7 @@ fresh n base = record {
   has_order = λ dn id. false;
   held = [];
   last_number = λ dn. 0;
+  had = λ dn. nothing_had;
 }
 
 -- its tables, as those of the sequential standby
@@ -68,12 +71,14 @@ pub record Stands (start : Namespace) (base : ℕ) (txs : List Tx) (lanes : Lane
   -- the namespace is the log's
   pub namespace : x.namespace ≡ namespace_after start txs
   pub last : x.last ≡ base + length txs
-  pub lawful : IsLawful start txs lanes x.history
+  pub lawful : IsLawful start txs (items lanes) x.history
   -- the tables are those of the sequential standby after this history
-  pub replicas : (dn id : ℕ) → x.replica dn id ≡ (replay start txs lanes x.history).replica dn id
-  pub orders : (dn id : ℕ) → x.has_order dn id ≡ (replay start txs lanes x.history).has_order dn id
-  -- what is held, each message once
-  pub held : (m : Message) → Has x.held m ↔ IsLeft start txs lanes x.history m
+  pub replicas : (dn id : ℕ) → x.replica dn id ≡ (replay start txs (items lanes) x.history).replica dn id
+  pub orders : (dn id : ℕ) → x.has_order dn id ≡ (replay start txs (items lanes) x.history).has_order dn id
+  -- what is held, each item once
+  pub held : (m : Message) → Has x.held m ↔ IsLeft start txs (items lanes) x.history m
   pub by_block : AreByBlock x.held
   pub by_number : AreByNumber x.held
   pub last_numbers : (dn : ℕ) → x.last_number dn ≡ length (lanes dn)
+  -- what each DataNode has, and the full report that it is sending
+  pub had : (dn : ℕ) → x.had dn ≡ having (had_by (lanes dn))

@@ -1,7 +1,7 @@
 -- Standbys that stand, and what is wrong with some that do not.
-use Rattle.std.specs.Prelude.{◌≡◌, Bool, true, false, List, [], ◌∷◌, ◌&&◌, length, take, Some, None, refl, ◌==◌, if◌then◌else◌}
+use Rattle.std.specs.Prelude.{◌≡◌, ℕ, is_some, Bool, true, false, List, [], ◌∷◌, ◌&&◌, length, take, Some, None, refl, ◌==◌, if◌then◌else◌}
 use Rattle.std.specs.List.Sorted.{IsStrictlySortedBy}
-use Rattle.std.proofs.Common.{subst, inl, inr, ap, arith, rules}
+use Rattle.std.proofs.Common.{subst, sym, inl, inr, ap, arith, rules}
 use Rattle.std.proofs.lemmas.Bool.{both_ways}
 use Rattle.nn_types.specs.declared.report.Message.{Message}
 use Rattle.nn_types.specs.declared.report.Kind.TheVariants.{Received}
@@ -15,10 +15,12 @@ use Rattle.nn_model.specs.Namespace.{Namespace, root_alone}
 use Rattle.nn_model.specs.Log.{namespace_after}
 use Rattle.nn_model.specs.WellFormed.{Has, HasWellFormedBlocks}
 use Rattle.nn_model.specs.Lanes.{Lanes, no_messages}
+use Rattle.nn_model.specs.Items.{items, Having, nothing_had, having, had_by}
 use Rattle.nn_model.specs.Held.{IsHeld, IsFree}
+use Rattle.nn_model.specs.Lawful.{IsLawful}
 use Rattle.nn_model.specs.History.{History, processed}
 use Rattle.nn_model.specs.Stands.{StandbyState, IsLeft, Stands, fresh}
-use Rattle.nn_model.specs.MessageRows.{tx, b, c, f, block, message, received, two_lanes, of_sent, are_lanes, early_log, early_lanes, early_report}
+use Rattle.nn_model.specs.MessageRows.{tx, b, c, f, block, message, received, two_lanes, items_of_two, of_item, are_lanes, early_log, early_lanes, early_report}
 use Rattle.nn_model.specs.MessageRowsLater.{unnamed_log, unnamed_lanes, unnamed_report, unnamed_history, promotion_flushes_unnamed_lawful}
 
 root_blocks : HasWellFormedBlocks root_alone
@@ -53,6 +55,10 @@ waiting_lanes = two_lanes (report_of_c ∷ first_of_b ∷ second_of_b ∷ []) (o
 abbrev waiting_log : List Tx
 waiting_log = tx 1 (StartSegment One) ∷ []
 
+-- and no full report is open
+abbrev had_alone : List (ℕ × ℕ) → Having
+had_alone has = record { has = has; begun = None }
+
 abbrev waiting : StandbyState
 waiting = record {
   namespace = root_alone;
@@ -62,10 +68,11 @@ waiting = record {
   has_order = λ dn id. false;
   held = first_of_b ∷ other_of_b ∷ second_of_b ∷ report_of_c ∷ [];
   last_number = λ dn. if dn == 1 then 3 else if dn == 2 then 1 else 0;
+  had = λ dn. if dn == 1 then had_alone ((b, 3) ∷ (c, 1) ∷ []) else if dn == 2 then had_alone ((b, 1) ∷ []) else nothing_had;
 }
 
 abbrev IsWaiting : Message → Type 0
-IsWaiting m = IsLeft root_alone waiting_log waiting_lanes (Applied 1 ∷ []) m
+IsWaiting m = IsLeft root_alone waiting_log (items waiting_lanes) (Applied 1 ∷ []) m
 
 is_left : (m : Message) → Has waiting.held m → IsWaiting m
 is_left m (inl same) = subst IsWaiting same (record { sent = refl; held = refl; not_flushed = λ here. search rules })
@@ -88,7 +95,7 @@ waiting_stands = record {
     waited = search rules;
     flush_last = search rules;
     flush_held = search rules;
-    none_forgotten = of_sent (λ m. IsFree root_alone waiting_lanes m → Has (Applied 1 ∷ []) (processed Due m))
+    none_forgotten = of_item (λ m. IsFree root_alone (items waiting_lanes) m → Has (Applied 1 ∷ []) (processed Due m))
         (report_of_c ∷ first_of_b ∷ second_of_b ∷ []) (other_of_b ∷ [])
         ((λ free. absurd (both_ways _ free refl)), ((λ free. absurd (both_ways _ free refl)), ((λ free. absurd (both_ways _ free refl)), tt)))
         ((λ free. absurd (both_ways _ free refl)), tt);
@@ -97,7 +104,7 @@ waiting_stands = record {
   orders = λ dn id. refl;
   held = λ m. (
     is_left m,
-    (λ left. of_sent (Has waiting.held) (report_of_c ∷ first_of_b ∷ second_of_b ∷ []) (other_of_b ∷ [])
+    (λ left. of_item (Has waiting.held) (report_of_c ∷ first_of_b ∷ second_of_b ∷ []) (other_of_b ∷ [])
         (search rules) (search rules) m left.sent),
   );
   by_block = search rules;
@@ -106,6 +113,12 @@ waiting_stands = record {
       ≡ length (if t then report_of_c ∷ first_of_b ∷ second_of_b ∷ [] else if dn == 2 then other_of_b ∷ [] else [])) [
         | true ↦ refl
         | false ↦ elim (dn == 2) as (λ t. (if t then 1 else 0) ≡ length (if t then other_of_b ∷ [] else [])) [ true ↦ refl | false ↦ refl ]
+      ];
+  had = λ dn. elim (dn == 1) as (λ t. (if t then had_alone ((b, 3) ∷ (c, 1) ∷ []) else if dn == 2 then had_alone ((b, 1) ∷ []) else nothing_had)
+      ≡ having (had_by (if t then report_of_c ∷ first_of_b ∷ second_of_b ∷ [] else if dn == 2 then other_of_b ∷ [] else []))) [
+        | true ↦ refl
+        | false ↦ elim (dn == 2) as (λ t. (if t then had_alone ((b, 1) ∷ []) else nothing_had) ≡ having (had_by (if t then other_of_b ∷ [] else [])))
+            [ true ↦ refl | false ↦ refl ]
       ];
 }
 
@@ -127,6 +140,7 @@ serving = record {
   has_order = λ dn id. false;
   held = [];
   last_number = λ dn. if dn == 1 then 1 else 0;
+  had = λ dn. if dn == 1 then had_alone ((b, 1) ∷ []) else nothing_had;
 }
 
 serving_stands : Stands root_alone 0 named_log early_lanes serving
@@ -143,14 +157,14 @@ serving_stands = record {
     waited = search rules;
     flush_last = search rules;
     flush_held = search rules;
-    none_forgotten = of_sent (λ m. IsFree (namespace_after root_alone named_log) early_lanes m → Has released (processed Due m)) (early_report ∷ []) []
+    none_forgotten = of_item (λ m. IsFree (namespace_after root_alone named_log) (items early_lanes) m → Has released (processed Due m)) (early_report ∷ []) []
         ((λ free. search rules), tt) tt;
   };
   replicas = λ dn id. refl;
   orders = λ dn id. refl;
   held = λ m. (
     (λ none. absurd none),
-    (λ left. absurd (of_sent (λ y. IsHeld (namespace_after root_alone named_log) early_lanes y → ⊥) (early_report ∷ []) []
+    (λ left. absurd (of_item (λ y. IsHeld (namespace_after root_alone named_log) (items early_lanes) y → ⊥) (early_report ∷ []) []
         ((λ held. both_ways _ refl held), tt) tt m left.sent left.held)),
   );
   by_block = tt;
@@ -159,6 +173,11 @@ serving_stands = record {
     | true ↦ refl
     | false ↦ elim (dn == 2) as (λ t. 0 ≡ length {A = Message} (if t then [] else [])) [ true ↦ refl | false ↦ refl ]
   ];
+  had = λ dn. elim (dn == 1) as (λ t. (if t then had_alone ((b, 1) ∷ []) else nothing_had)
+      ≡ having (had_by (if t then early_report ∷ [] else if dn == 2 then [] else []))) [
+        | true ↦ refl
+        | false ↦ elim (dn == 2) as (λ t. nothing_had ≡ having (had_by (if t then [] else []))) [ true ↦ refl | false ↦ refl ]
+      ];
 }
 
 -- ---- After the flush nothing is held.
@@ -172,6 +191,7 @@ flushed = record {
   has_order = λ dn id. (dn == 1) && (id == b);
   held = [];
   last_number = λ dn. if dn == 1 then 1 else 0;
+  had = λ dn. if dn == 1 then had_alone ((b, 1) ∷ []) else nothing_had;
 }
 
 order_of : (t : Bool) → t ≡ (if t then true else false)
@@ -185,12 +205,12 @@ flushed_stands = record {
   numbered = are_lanes (unnamed_report ∷ []) [] (search rules) tt;
   namespace = refl;
   last = refl;
-  lawful = promotion_flushes_unnamed_lawful;
+  lawful = subst (λ l. IsLawful root_alone unnamed_log l unnamed_history) (sym (items_of_two (unnamed_report ∷ []) [])) promotion_flushes_unnamed_lawful;
   replicas = λ dn id. refl;
   orders = λ dn id. order_of ((dn == 1) && (id == b));
   held = λ m. (
     (λ none. absurd none),
-    (λ left. of_sent (λ y. (Has unnamed_history (processed Flush y) → ⊥) → ⊥) (unnamed_report ∷ []) []
+    (λ left. of_item (λ y. (Has unnamed_history (processed Flush y) → ⊥) → ⊥) (unnamed_report ∷ []) []
         ((λ unflushed. unflushed (search rules)), tt) tt m left.sent left.not_flushed),
   );
   by_block = tt;
@@ -199,6 +219,11 @@ flushed_stands = record {
     | true ↦ refl
     | false ↦ elim (dn == 2) as (λ t. 0 ≡ length {A = Message} (if t then [] else [])) [ true ↦ refl | false ↦ refl ]
   ];
+  had = λ dn. elim (dn == 1) as (λ t. (if t then had_alone ((b, 1) ∷ []) else nothing_had)
+      ≡ having (had_by (if t then unnamed_report ∷ [] else if dn == 2 then [] else []))) [
+        | true ↦ refl
+        | false ↦ elim (dn == 2) as (λ t. nothing_had ≡ having (had_by (if t then [] else []))) [ true ↦ refl | false ↦ refl ]
+      ];
 }
 
 -- ---- Standbys that do not stand, each for one reason.
@@ -271,3 +296,10 @@ holds_one_twice s = both_ways _ s.by_number.1.1.0 refl
 
 forgot_the_numbers : Stands root_alone 0 waiting_log waiting_lanes (record waiting { last_number = λ dn. 0 }) → ⊥
 forgot_the_numbers s = omega (arith, s.last_numbers 1)
+
+forgot_what_is_had : Stands root_alone 0 waiting_log waiting_lanes (record waiting { had = λ dn. nothing_had }) → ⊥
+forgot_what_is_had s = let e : 0 ≡ 2 = ap (λ h. length h.has) (s.had 1) in omega (arith, e)
+
+keeps_a_report_open : Stands root_alone 0 waiting_log waiting_lanes
+    (record waiting { had = λ dn. record (waiting.had dn) { begun = Some 1 } }) → ⊥
+keeps_a_report_open s = let e : true ≡ false = ap (λ h. is_some h.begun) (s.had 1) in both_ways _ e refl

@@ -1,5 +1,6 @@
 //! `run`, with a history and an image.
 use crate::heap::Heap;
+use crate::lines::Lines;
 use crate::scenario::Halt;
 use crate::trial::{Answer, Changing, Fate, change};
 use nn_engine::{Input, Options, run};
@@ -23,21 +24,32 @@ const OUT_OF_MEMORY: &[u8] = b"fault 55\n";
 const ROOM: usize = 65_536;
 
 #[derive(Clone, Copy)]
-struct Run {
+struct Run<'a> {
     alloc: Global,
+    lines: &'a [u8],
     options: Options,
 }
 
-impl Changing for Run {
+impl Run<'_> {
+    // Whether all output was written.
+    fn writes(&self, output: &mut Vec<u8>) -> bool {
+        let mut input = Input::new(self.lines);
+        run(self.alloc, &self.options, &mut input, output).is_ok()
+    }
+}
+
+impl Changing for Run<'_> {
     type Subject = Vec<u8>;
 
     fn call(&self, output: &mut Vec<u8>) -> Answer {
         output.clear();
-        let mut input = Input::new(LINES);
-        match run(self.alloc, &self.options, &mut input, output) {
-            Ok(_) if output.as_slice() == OUT_OF_MEMORY => Answer::OutOfMemory,
-            Ok(_) => Answer::Done,
-            Err(_) => Answer::Other,
+        if !self.writes(output) {
+            return Answer::Other;
+        }
+        if output.as_slice() == OUT_OF_MEMORY {
+            Answer::OutOfMemory
+        } else {
+            Answer::Done
         }
     }
 
@@ -48,9 +60,15 @@ impl Changing for Run {
 }
 
 /// Runs a scenario.
-pub fn run_scenario(alloc: Global, is_ample: bool, settings: Settings) -> Result<Fate, Halt> {
+pub fn run_scenario(
+    alloc: Global,
+    is_ample: bool,
+    settings: Settings,
+    lines: &mut Lines,
+) -> Result<(), Halt> {
     let run = Run {
         alloc,
+        lines: LINES,
         options: Options {
             settings,
             history: true,
@@ -59,7 +77,8 @@ pub fn run_scenario(alloc: Global, is_ample: bool, settings: Settings) -> Result
     };
     let (output, fate) = play(alloc, is_ample, &run)?;
     let (undisturbed, other) = play(alloc, true, &run)?;
-    Ok(fate.and(other).if_same(output == undisturbed))
+    let fate = fate.and(other).if_same(output == undisturbed);
+    lines.push(&["run"], &[fate])
 }
 
 fn play(alloc: Global, is_ample: bool, run: &Run) -> Result<(Vec<u8>, Fate), Halt> {

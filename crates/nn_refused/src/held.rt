@@ -2,6 +2,7 @@
 ghost use Rattle.std.specs.Prelude.{◌<◌, ◌≤◌};
 
 use crate::heap::Heap;
+use crate::lines::Lines;
 use crate::scenario::Halt;
 use crate::trial::{Answer, Changing, Fate, both, change_both};
 use nn_postponed::Postponed;
@@ -35,41 +36,82 @@ impl Changing for Hold {
     }
 }
 
-/// What is printed for each call.
-pub const NAMES: [&str; 3] = [
+// Three messages at once.
+#[derive(Clone, Copy)]
+struct HoldAll {
+    messages: [Message; 3],
+}
+
+impl Changing for HoldAll {
+    type Subject = Postponed;
+
+    fn call(&self, held: &mut Postponed) -> Answer {
+        if held.hold_all(&self.messages).is_ok() {
+            Answer::Done
+        } else {
+            Answer::OutOfMemory
+        }
+    }
+
+    fn is_unchanged(&self, held: &Postponed, twin: &Postponed) -> bool {
+        are_alike(held, twin)
+    }
+}
+
+// What is printed for each call.
+const NAMES: [&str; 4] = [
     "Postponed::hold, a new block",
     "Postponed::hold, a new DataNode",
     "Postponed::hold, one more of the same",
+    "Postponed::hold_all",
 ];
 
-/// Holds messages: the first about a block, a DataNode's first about a block, and more of the same DataNode about it.
-pub fn hold_messages(alloc: Global, is_ample: bool) -> Result<[Fate; 3], Halt> {
+/// Holds messages: the first about a block, a DataNode's first about a block, and more of the same DataNode about it;
+/// and then three such messages at once.
+pub fn hold_messages(alloc: Global, is_ample: bool, lines: &mut Lines) -> Result<(), Halt> {
     let messages = if is_ample { FEW_MESSAGES } else { MESSAGES };
     let (held, fates) = play(alloc, is_ample, messages)?;
     let (undisturbed, others) = play(alloc, true, messages)?;
     let is_same = are_alike(&held, &undisturbed);
-    Ok(both(fates, others, is_same))
+    lines.push(&NAMES, &both(fates, others, is_same))
 }
 
-fn play(alloc: Global, is_ample: bool, messages: u64) -> Result<(Postponed, [Fate; 3]), Halt>
+fn play(alloc: Global, is_ample: bool, messages: u64) -> Result<(Postponed, [Fate; 4]), Halt>
     requires { messages ≤ 100 }
 {
+    let mut heap = Heap::new(alloc, is_ample)?;
     let mut held = Postponed::new(alloc);
     let mut twin = Postponed::new(alloc);
-    let mut heap = Heap::new(alloc, is_ample)?;
-    let mut fates = [Fate::Untried; 3];
+    let mut fates = [Fate::Untried; 4];
     for n in 0..messages {
-        let calls = [
-            message(1, n, 2 + n),
-            message(2 + n as u16, 1, 0),
-            message(1, n, 1),
-        ];
-        for (fate, message) in fates.iter_mut().zip(calls) {
-            let call = Hold { message };
-            *fate = fate.and(change_both(&mut heap, &call, &mut held, &mut twin));
-        }
+        hold_some(&mut heap, n, &mut held, &mut twin, &mut fates);
     }
     Ok((held, fates))
+}
+
+fn hold_some(
+    heap: &mut Heap,
+    n: u64,
+    held: &mut Postponed,
+    twin: &mut Postponed,
+    fates: &mut [Fate; 4],
+)
+    requires { n < 100 }
+{
+    let block = message(1, n, 2 + n);
+    let datanode = message(2 + n as u16, 1, 0);
+    let same = message(1, n, 1);
+    fates[0] = fates[0].and(change_both(heap, &Hold { message: block }, held, twin));
+    fates[1] = fates[1].and(change_both(heap, &Hold { message: datanode }, held, twin));
+    fates[2] = fates[2].and(change_both(heap, &Hold { message: same }, held, twin));
+    let three = HoldAll {
+        messages: [
+            message(2 + n as u16, 2, 0),
+            message(1, n, 1),
+            message(1, n, 2 + MESSAGES + n),
+        ],
+    };
+    fates[3] = fates[3].and(change_both(heap, &three, held, twin));
 }
 
 fn message(dn: u16, number: u64, block: u64) -> Message
@@ -88,7 +130,7 @@ fn message(dn: u16, number: u64, block: u64) -> Message
 // Whether the same messages are held, in the same order.
 fn are_alike(held: &Postponed, twin: &Postponed) -> bool {
     held.len() == twin.len()
-        && (0..2 + MESSAGES).all(|n| match BlockId::new(n) {
+        && (0..2 + 2 * MESSAGES).all(|n| match BlockId::new(n) {
             Some(block) => held.queue(block) == twin.queue(block),
             None => false,
         })

@@ -1,5 +1,6 @@
 //! `save`, `load` and `rewrite`.
 use crate::heap::Heap;
+use crate::lines::Lines;
 use crate::namespace;
 use crate::scenario::{Halt, Scenario};
 use crate::trial::{Answer, Changing, Fate, change};
@@ -7,8 +8,8 @@ use nn_image::{ImageFault, RewriteFault, SaveFault, load, rewrite, save};
 use nn_tree::Namespace;
 use std::alloc::Global;
 
-/// What is printed for each call.
-pub const NAMES: [&str; 3] = ["save", "load", "rewrite"];
+// What is printed for each call.
+const NAMES: [&str; 3] = ["save", "load", "rewrite"];
 
 // Room for the image.
 const ROOM: usize = 65_536;
@@ -44,18 +45,27 @@ struct Load<'a> {
     image: &'a [u8],
 }
 
+impl Load<'_> {
+    fn load(&self) -> Result<(Namespace, u64), Answer> {
+        let mut reader = self.image;
+        match load(self.alloc, &mut reader) {
+            Ok(loaded) => Ok(loaded),
+            Err(ImageFault::OutOfMemory) => Err(Answer::OutOfMemory),
+            Err(_) => Err(Answer::Other),
+        }
+    }
+}
+
 impl Changing for Load<'_> {
     type Subject = Option<(Namespace, u64)>;
 
     fn call(&self, loaded: &mut Option<(Namespace, u64)>) -> Answer {
-        let mut reader = self.image;
-        match load(self.alloc, &mut reader) {
+        match self.load() {
             Ok(namespace) => {
                 *loaded = Some(namespace);
                 Answer::Done
             }
-            Err(ImageFault::OutOfMemory) => Answer::OutOfMemory,
-            Err(_) => Answer::Other,
+            Err(answer) => answer,
         }
     }
 
@@ -96,11 +106,21 @@ impl Changing for Rewrite<'_> {
 
 /// The image of the namespace after the scenario's first segment.
 pub fn image_of(alloc: Global, scenario: &Scenario) -> Result<Vec<u8>, Halt> {
-    let namespace = scenario.after_the_first(alloc)?;
     let mut image = Vec::with_capacity(alloc, ROOM)?;
-    match save(alloc, &namespace, scenario.image_txid(), &mut image) {
-        Ok(()) => Ok(image),
-        Err(_) => Err(Halt::OutOfMemory),
+    write_image(alloc, scenario, &mut image)?;
+    Ok(image)
+}
+
+fn write_image(alloc: Global, scenario: &Scenario, image: &mut Vec<u8>) -> Result<(), Halt> {
+    let namespace = scenario.after_the_first(alloc)?;
+    let save = Save {
+        alloc,
+        namespace: &namespace,
+        txid: scenario.image_txid(),
+    };
+    match save.call(image) {
+        Answer::Done => Ok(()),
+        _ => Err(Halt::OutOfMemory),
     }
 }
 
@@ -109,32 +129,74 @@ pub fn save_and_load(
     alloc: Global,
     is_ample: bool,
     scenario: &Scenario,
-) -> Result<[Fate; 3], Halt> {
-    let namespace = scenario.after_the_first(alloc)?;
-    let txid = scenario.image_txid();
+    lines: &mut Lines,
+) -> Result<(), Halt> {
     let whole = image_of(alloc, scenario)?;
-    let mut image = Vec::with_capacity(alloc, ROOM)?;
-    let mut heap = Heap::new(alloc, is_ample)?;
-    let saving = Save {
+    let saved = save_again(alloc, is_ample, scenario, &whole)?;
+    let loaded = load_whole(alloc, is_ample, scenario, &whole)?;
+    let rewrite = Rewrite {
+        alloc,
+        image: &whole,
+    };
+    let rewritten = write_again(alloc, is_ample, &rewrite, &whole)?;
+    lines.push(&NAMES, &[saved, loaded, rewritten])
+}
+
+fn save_again(
+    alloc: Global,
+    is_ample: bool,
+    scenario: &Scenario,
+    whole: &Vec<u8>,
+) -> Result<Fate, Halt> {
+    let namespace = scenario.after_the_first(alloc)?;
+    let save = Save {
         alloc,
         namespace: &namespace,
-        txid,
+        txid: scenario.image_txid(),
     };
-    let saved = change(&mut heap, &saving, &mut image, &whole).if_same(image == whole);
-    let loading = Load {
+    write_again(alloc, is_ample, &save, whole)
+}
+
+// Makes a call that writes the whole image.
+fn write_again<C: Changing<Subject = Vec<u8>>>(
+    alloc: Global,
+    is_ample: bool,
+    call: &C,
+    whole: &Vec<u8>,
+) -> Result<Fate, Halt> {
+    let mut image = Vec::with_capacity(alloc, ROOM)?;
+    let mut heap = Heap::new(alloc, is_ample)?;
+    let fate = change(&mut heap, call, &mut image, whole);
+    Ok(fate.if_same(image == *whole))
+}
+
+fn load_whole(
+    alloc: Global,
+    is_ample: bool,
+    scenario: &Scenario,
+    whole: &[u8],
+) -> Result<Fate, Halt> {
+    let namespace = scenario.after_the_first(alloc)?;
+    let mut heap = Heap::new(alloc, is_ample)?;
+    let load = Load {
         alloc,
-        image: &whole,
+        image: whole,
     };
-    let mut found = None;
-    let loaded = change(&mut heap, &loading, &mut found, &None);
-    let is_same = match &found {
-        Some((read, last)) => { *last == txid && namespace::are_alike(read, &namespace, scenario) }
+    let mut loaded = None;
+    let fate = change(&mut heap, &load, &mut loaded, &None);
+    Ok(fate.if_same(is_image_of(&loaded, &namespace, scenario)))
+}
+
+// Whether what was loaded is this namespace, after the scenario's first segment.
+fn is_image_of(
+    loaded: &Option<(Namespace, u64)>,
+    namespace: &Namespace,
+    scenario: &Scenario,
+) -> bool {
+    match loaded {
+        Some((read, txid)) => {
+            *txid == scenario.image_txid() && namespace::are_alike(read, namespace, scenario)
+        }
         None => false,
-    };
-    let rewriting = Rewrite {
-        alloc,
-        image: &whole,
-    };
-    let rewritten = change(&mut heap, &rewriting, &mut image, &whole).if_same(image == whole);
-    Ok([saved, loaded.if_same(is_same), rewritten])
+    }
 }

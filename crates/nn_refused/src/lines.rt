@@ -22,9 +22,14 @@ impl Lines {
     /// Adds the line of each call.
     pub fn push(&mut self, names: &[&str], fates: &[Fate]) -> Result<(), Halt> {
         for (name, fate) in names.iter().zip(fates) {
-            let became = self.shown(*fate)?.text();
-            write!(self.text, "{name}: {became}\n")?;
+            self.push_line(name, *fate)?;
         }
+        Ok(())
+    }
+
+    fn push_line(&mut self, name: &str, fate: Fate) -> Result<(), Halt> {
+        let became = self.shown(fate)?.text();
+        write!(self.text, "{name}: {became}\n")?;
         Ok(())
     }
 

@@ -55,35 +55,29 @@ fn is_ample(rt: &HostRuntime) -> Result<bool, Halt> {
     Ok(arguments.any(|argument| argument.as_str() == "ample"))
 }
 
-// Makes all calls, those of each line on values of their own.
 fn play(alloc: Global, is_ample: bool, text: &[u8]) -> Result<Lines, Halt> {
     let Some(settings) = Settings::new(999, 1) else {
         return Err(Halt::BadScenario);
     };
     let scenario = Scenario::read(alloc, text)?;
     let mut lines = Lines::new(alloc, is_ample);
-    lines.push(
-        &namespace::NAMES,
-        &namespace::apply_log(alloc, is_ample, &scenario)?,
-    )?;
-    lines.push(
-        &table::NAMES,
-        &table::change_table(alloc, is_ample, settings)?,
-    )?;
-    lines.push(&held::NAMES, &held::hold_messages(alloc, is_ample)?)?;
-    lines.push(
-        &shadow::NAMES,
-        &shadow::follow_log(alloc, is_ample, settings, &scenario)?,
-    )?;
-    lines.push(
-        &image::NAMES,
-        &image::save_and_load(alloc, is_ample, &scenario)?,
-    )?;
-    lines.push(
-        &tailer::NAMES,
-        &tailer::follow_lanes(alloc, is_ample, settings, text)?,
-    )?;
-    let run = engine::run_scenario(alloc, is_ample, settings)?;
-    lines.push(&["run"], &[run])?;
+    make_calls(alloc, is_ample, settings, &scenario, &mut lines)?;
+    tailer::follow_lanes(alloc, is_ample, settings, text, &mut lines)?;
+    engine::run_scenario(alloc, is_ample, settings, &mut lines)?;
     Ok(lines)
+}
+
+// Makes the calls of the parts of a standby, those of each line on values of their own.
+fn make_calls(
+    alloc: Global,
+    is_ample: bool,
+    settings: Settings,
+    scenario: &Scenario,
+    lines: &mut Lines,
+) -> Result<(), Halt> {
+    namespace::apply_log(alloc, is_ample, scenario, lines)?;
+    table::change_table(alloc, is_ample, settings, lines)?;
+    held::hold_messages(alloc, is_ample, lines)?;
+    shadow::follow_log(alloc, is_ample, settings, scenario, lines)?;
+    image::save_and_load(alloc, is_ample, scenario, lines)
 }

@@ -2,18 +2,19 @@
 ghost use Rattle.std.specs.Prelude.{◌<◌};
 
 use crate::heap::Heap;
+use crate::lines::Lines;
 use crate::scenario::{Halt, Scenario};
+use crate::text::have_the_same_listing;
 use crate::trial::{Answer, Changing, Fate, both, change_both};
-use nn_listing::listing;
 use nn_tree::{Found, Namespace};
 use nn_types::{BlockId, Edit, EditFault, Path};
-use std::alloc::Global;
+use std::alloc::{AllocError, Global};
 
-/// How many operations there are.
-pub const OPERATIONS: usize = 13;
+// How many operations there are.
+const OPERATIONS: usize = 13;
 
-/// The names of the operations, each at its place.
-pub const NAMES: [&str; OPERATIONS] = [
+// The names of the operations, each at its place.
+const NAMES: [&str; OPERATIONS] = [
     "OP_START_LOG_SEGMENT",
     "OP_MKDIR",
     "OP_ADD",
@@ -78,12 +79,31 @@ pub fn apply_log(
     alloc: Global,
     is_ample: bool,
     scenario: &Scenario,
+    lines: &mut Lines,
+) -> Result<(), Halt> {
+    let fates = fates_of_log(alloc, is_ample, scenario)?;
+    lines.push(&NAMES, &fates)
+}
+
+fn fates_of_log(
+    alloc: Global,
+    is_ample: bool,
+    scenario: &Scenario,
 ) -> Result<[Fate; OPERATIONS], Halt> {
     let (namespace, fates) = play(alloc, is_ample, scenario)?;
     let (undisturbed, others) = play(alloc, true, scenario)?;
-    let is_same = listing(alloc, &namespace, 0)? == listing(alloc, &undisturbed, 0)?
-        && are_alike(&namespace, &undisturbed, scenario);
+    let is_same = are_equal(alloc, &namespace, &undisturbed, scenario)?;
     Ok(both(fates, others, is_same))
+}
+
+fn are_equal(
+    alloc: Global,
+    namespace: &Namespace,
+    other: &Namespace,
+    scenario: &Scenario,
+) -> Result<bool, AllocError> {
+    let is_listed_so = have_the_same_listing(alloc, namespace, other)?;
+    Ok(is_listed_so && are_alike(namespace, other, scenario))
 }
 
 fn play(
@@ -91,9 +111,19 @@ fn play(
     is_ample: bool,
     scenario: &Scenario,
 ) -> Result<(Namespace, [Fate; OPERATIONS]), Halt> {
+    let mut heap = Heap::new(alloc, is_ample)?;
     let mut namespace = Namespace::new(alloc);
     let mut twin = Namespace::new(alloc);
-    let mut heap = Heap::new(alloc, is_ample)?;
+    let fates = apply_all(&mut heap, scenario, &mut namespace, &mut twin);
+    Ok((namespace, fates))
+}
+
+fn apply_all(
+    heap: &mut Heap,
+    scenario: &Scenario,
+    namespace: &mut Namespace,
+    twin: &mut Namespace,
+) -> [Fate; OPERATIONS] {
     let mut fates = [Fate::Untried; OPERATIONS];
     for segment in &scenario.segments {
         for tx in segment.txs() {
@@ -102,10 +132,10 @@ fn play(
                 scenario,
             };
             let fate = &mut fates[place_of(&tx.edit)];
-            *fate = fate.and(change_both(&mut heap, &call, &mut namespace, &mut twin));
+            *fate = fate.and(change_both(heap, &call, namespace, twin));
         }
     }
-    Ok((namespace, fates))
+    fates
 }
 
 /// Whether two namespaces show the same at all paths and block ids of the log, in their blocks and in their

@@ -1,6 +1,8 @@
 //! The scenario that the trials play.
 use nn_edits::LineFault;
-use nn_scenario::{BadLine, BadSegment, MAX_INPUT, Step, read_lines, read_segments};
+use nn_scenario::{
+    BadLine, BadSegment, MAX_INPUT, Part, Step, StepList, read_lines, read_segments,
+};
 use nn_segment::{Parsed, SegmentFault};
 use nn_tree::Namespace;
 use nn_types::{BlockId, Tx};
@@ -39,19 +41,9 @@ impl Scenario {
             Ok(lines) => lines,
             Err(bad) => return Err(halt_of_line(&bad)),
         };
-        let segments = match read_segments(alloc, lines.parts) {
-            Ok(segments) => segments,
-            Err(bad) => return Err(halt_of_segment(&bad)),
-        };
-        let mut left = lines.steps.into_steps();
-        let mut steps = Vec::new(alloc);
-        let mut blocks = Vec::new(alloc);
-        for _ in 0..text.len() {
-            if let Some(step) = left.next() {
-                note_block(&mut blocks, &step)?;
-                steps.push(step).map_err(|_| Halt::OutOfMemory)?;
-            }
-        }
+        let segments = segments_of(alloc, lines.parts)?;
+        let steps = steps_of(alloc, lines.steps, text.len())?;
+        let blocks = blocks_of(alloc, &steps)?;
         Ok(Scenario {
             segments,
             steps,
@@ -87,13 +79,45 @@ impl Scenario {
     }
 }
 
+fn segments_of(alloc: Global, parts: Vec<Part>) -> Result<Vec<Parsed>, Halt> {
+    match read_segments(alloc, parts) {
+        Ok(segments) => Ok(segments),
+        Err(bad) => Err(halt_of_segment(&bad)),
+    }
+}
+
+// The steps, of which there are so many at most.
+fn steps_of(alloc: Global, list: StepList, most: usize) -> Result<Vec<Step>, Halt> {
+    let mut left = list.into_steps();
+    let mut steps = Vec::new(alloc);
+    for _ in 0..most {
+        let Some(step) = left.next() else {
+            return Ok(steps);
+        };
+        if steps.push(step).is_err() {
+            return Err(Halt::OutOfMemory);
+        }
+    }
+    Ok(steps)
+}
+
+fn blocks_of(alloc: Global, steps: &[Step]) -> Result<Vec<BlockId>, Halt> {
+    let mut blocks = Vec::new(alloc);
+    for step in steps {
+        if let Step::Message(message) = step {
+            note_block(&mut blocks, message.block)?;
+        }
+    }
+    Ok(blocks)
+}
+
 // Adds the block of a message, unless the message before is about the same.
-fn note_block(blocks: &mut Vec<BlockId>, step: &Step) -> Result<(), Halt> {
-    let Step::Message(message) = step else {
+fn note_block(blocks: &mut Vec<BlockId>, block: BlockId) -> Result<(), Halt> {
+    if blocks.last() == Some(&block) {
         return Ok(());
-    };
-    if blocks.last() != Some(&message.block) {
-        blocks.push(message.block).map_err(|_| Halt::OutOfMemory)?;
+    }
+    if blocks.push(block).is_err() {
+        return Err(Halt::OutOfMemory);
     }
     Ok(())
 }

@@ -1,20 +1,21 @@
 //! `Shadow::from`, `apply`, `hand` and `flush`.
 use crate::heap::Heap;
+use crate::lines::Lines;
 use crate::scenario::{Halt, Scenario};
-use crate::text::are_same;
-use crate::trial::{Answer, Changing, Fate, Making, both, change_both, make};
+use crate::text::text_of;
+use crate::trial::{Answer, Changing, Fate, Making, Pair, both, make_both};
 use crate::{namespace, table};
 use nn_scenario::Step;
 use nn_shadow::{ApplyFault, FlushFault, HandCause, Shadow};
 use nn_tree::Namespace;
 use nn_types::{BlockId, Message, Settings, Tx, Txid};
-use std::alloc::Global;
+use std::alloc::{AllocError, Global};
 
 // The DataNodes of the scenario.
 const DATANODES: u16 = 6;
 
-/// What is printed for each call.
-pub const NAMES: [&str; 4] = [
+// What is printed for each call.
+const NAMES: [&str; 4] = [
     "Shadow::from",
     "Shadow::apply",
     "Shadow::hand",
@@ -87,14 +88,29 @@ fn have_the_same_of(shadow: &Shadow, twin: &Shadow, block: BlockId) -> bool {
         && (1..=DATANODES).all(|dn| shadow.holds(dn, block) == twin.holds(dn, block))
 }
 
-// Makes a standby of a namespace.
-#[derive(Clone, Copy)]
+// Makes a standby of a namespace, which is compared with a third one of its kind.
+#[derive(Drop)]
 struct Start<'a> {
     alloc: Global,
     settings: Settings,
     txid: Txid,
-    twin: &'a Namespace,
+    twin: Namespace,
     scenario: &'a Scenario,
+}
+
+impl Start<'_> {
+    fn new(alloc: Global, settings: Settings, scenario: &Scenario) -> Result<Start<'_>, Halt> {
+        let Some(txid) = Txid::new(scenario.image_txid()) else {
+            return Err(Halt::BadScenario);
+        };
+        Ok(Start {
+            alloc,
+            settings,
+            txid,
+            twin: scenario.after_the_first(alloc)?,
+            scenario,
+        })
+    }
 }
 
 impl Making for Start<'_> {
@@ -116,7 +132,7 @@ impl Making for Start<'_> {
     }
 
     fn is_unchanged(&self, namespace: &Namespace) -> bool {
-        namespace::are_alike(namespace, self.twin, self.scenario)
+        namespace::are_alike(namespace, &self.twin, self.scenario)
     }
 }
 
@@ -127,14 +143,41 @@ pub fn follow_log(
     is_ample: bool,
     settings: Settings,
     scenario: &Scenario,
+    lines: &mut Lines,
+) -> Result<(), Halt> {
+    let fates = fates_of_log(alloc, is_ample, settings, scenario)?;
+    lines.push(&NAMES, &fates)
+}
+
+fn fates_of_log(
+    alloc: Global,
+    is_ample: bool,
+    settings: Settings,
+    scenario: &Scenario,
 ) -> Result<[Fate; 4], Halt> {
-    let (shadow, fates) = play(alloc, is_ample, settings, scenario)?;
-    let (undisturbed, others) = play(alloc, true, settings, scenario)?;
-    let is_same = match (&shadow, &undisturbed) {
-        (Some(shadow), Some(undisturbed)) => are_same(alloc, shadow, undisturbed)?,
-        _ => false,
-    };
+    let (text, fates) = text_of_play(alloc, is_ample, settings, scenario)?;
+    let (undisturbed, others) = text_of_play(alloc, true, settings, scenario)?;
+    let is_same = text.is_some() && text == undisturbed;
     Ok(both(fates, others, is_same))
+}
+
+// Plays the log, and shows the standby at its end as text.
+fn text_of_play(
+    alloc: Global,
+    is_ample: bool,
+    settings: Settings,
+    scenario: &Scenario,
+) -> Result<(Option<String>, [Fate; 4]), Halt> {
+    let (pair, fates) = play(alloc, is_ample, settings, scenario)?;
+    let text = text_of_pair(alloc, &pair)?;
+    Ok((text, fates))
+}
+
+fn text_of_pair(alloc: Global, pair: &Option<Pair<Shadow>>) -> Result<Option<String>, AllocError> {
+    match pair {
+        Some(pair) => Ok(Some(text_of(alloc, &pair.subject)?)),
+        None => Ok(None),
+    }
 }
 
 fn play(
@@ -142,59 +185,44 @@ fn play(
     is_ample: bool,
     settings: Settings,
     scenario: &Scenario,
-) -> Result<(Option<Shadow>, [Fate; 4]), Halt> {
-    let namespace = scenario.after_the_first(alloc)?;
-    let other = scenario.after_the_first(alloc)?;
-    let Some(txid) = Txid::new(scenario.image_txid()) else {
-        return Err(Halt::BadScenario);
-    };
-    let start = Start {
-        alloc,
-        settings,
-        txid,
-        twin: &scenario.after_the_first(alloc)?,
-        scenario,
-    };
+) -> Result<(Option<Pair<Shadow>>, [Fate; 4]), Halt> {
     let mut heap = Heap::new(alloc, is_ample)?;
-    let mut fates = [Fate::Untried; 4];
-    let (fate, shadow) = make(&mut heap, &start, namespace);
-    let (other_fate, twin) = make(&mut heap, &start, other);
-    fates[0] = fate.and(other_fate);
-    let (Some(mut shadow), Some(mut twin)) = (shadow, twin) else {
-        return Ok((None, fates));
+    let (made, pair) = begin(&mut heap, &Start::new(alloc, settings, scenario)?)?;
+    let Some(mut pair) = pair else {
+        return Ok((None, [made, Fate::Untried, Fate::Untried, Fate::Untried]));
     };
-    follow(&mut heap, scenario, &mut shadow, &mut twin, &mut fates);
-    Ok((Some(shadow), fates))
+    let (edits, messages) = take_in(&mut heap, scenario, &mut pair);
+    let asked = Asked::Flush;
+    let flushed = pair.change(&mut heap, &Ask { asked, scenario });
+    Ok((Some(pair), [made, edits, messages, flushed]))
 }
 
-// Takes in the messages and applies the last segment, in the order of the scenario's lines, and flushes.
-fn follow(
-    heap: &mut Heap,
-    scenario: &Scenario,
-    shadow: &mut Shadow,
-    twin: &mut Shadow,
-    fates: &mut [Fate; 4],
-) {
+// Two standbys are made. What they are made of is there before the heap is full.
+fn begin(heap: &mut Heap, start: &Start<'_>) -> Result<(Fate, Option<Pair<Shadow>>), Halt> {
+    let namespace = start.scenario.after_the_first(start.alloc)?;
+    let other = start.scenario.after_the_first(start.alloc)?;
+    Ok(make_both(heap, start, namespace, other))
+}
+
+// Takes in the messages and applies the last segment, in the order of the scenario's lines.
+fn take_in(heap: &mut Heap, scenario: &Scenario, pair: &mut Pair<Shadow>) -> (Fate, Fate) {
+    let mut fates = (Fate::Untried, Fate::Untried);
     let mut before = scenario.txs(0).len();
     let mut txs = scenario.txs(1).iter();
     for step in &scenario.steps {
-        let (place, asked) = match *step {
-            Step::Message(message) => (2, Asked::Hand(message)),
-            Step::Edit if before > 0 => {
-                before -= 1;
-                continue;
+        match *step {
+            Step::Message(message) => {
+                let asked = Asked::Hand(message);
+                fates.1 = fates.1.and(pair.change(heap, &Ask { asked, scenario }));
             }
-            Step::Edit => match txs.next() {
-                Some(tx) => (1, Asked::Apply(tx)),
-                None => continue,
-            },
-        };
-        let call = Ask { asked, scenario };
-        fates[place] = fates[place].and(change_both(heap, &call, shadow, twin));
+            Step::Edit if before > 0 => before -= 1,
+            Step::Edit => {
+                if let Some(tx) = txs.next() {
+                    let asked = Asked::Apply(tx);
+                    fates.0 = fates.0.and(pair.change(heap, &Ask { asked, scenario }));
+                }
+            }
+        }
     }
-    let flush = Ask {
-        asked: Asked::Flush,
-        scenario,
-    };
-    fates[3] = change_both(heap, &flush, shadow, twin);
+    fates
 }

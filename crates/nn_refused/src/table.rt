@@ -2,8 +2,9 @@
 ghost use Rattle.std.specs.Prelude.{◌<◌, ◌≤◌};
 
 use crate::heap::Heap;
+use crate::lines::Lines;
 use crate::scenario::Halt;
-use crate::trial::{Answer, Changing, Fate, both, change_both};
+use crate::trial::{Answer, Changing, Fate, Pair, both};
 use nn_replicas::Replicas;
 use nn_types::{Block, BlockId, GenerationStamp, Kind, Length, Replica, Settings};
 use std::alloc::Global;
@@ -80,29 +81,21 @@ fn answer_of(is_ok: bool) -> Answer {
     }
 }
 
-/// What is printed for each call.
-pub const NAMES: [&str; 3] = ["Replicas::set_block", "Replicas::place", "Replicas::put"];
-
-// A table, and its twin.
-#[derive(Drop)]
-struct Pair {
-    table: Replicas,
-    twin: Replicas,
-}
-
-impl Pair {
-    fn change<C: Changing<Subject = Replicas>>(&mut self, heap: &mut Heap, call: &C) -> Fate {
-        change_both(heap, call, &mut self.table, &mut self.twin)
-    }
-}
+// What is printed for each call.
+const NAMES: [&str; 3] = ["Replicas::set_block", "Replicas::place", "Replicas::put"];
 
 /// Makes the calls on a new table, and on one that has just filled its room.
-pub fn change_table(alloc: Global, is_ample: bool, settings: Settings) -> Result<[Fate; 3], Halt> {
+pub fn change_table(
+    alloc: Global,
+    is_ample: bool,
+    settings: Settings,
+    lines: &mut Lines,
+) -> Result<(), Halt> {
     let blocks = if is_ample { FEW_BLOCKS } else { BLOCKS };
     let (table, fates) = play(alloc, is_ample, blocks, settings)?;
     let (undisturbed, others) = play(alloc, true, blocks, settings)?;
     let is_same = are_alike(&table, &undisturbed);
-    Ok(both(fates, others, is_same))
+    lines.push(&NAMES, &both(fates, others, is_same))
 }
 
 fn play(
@@ -113,15 +106,14 @@ fn play(
 ) -> Result<(Replicas, [Fate; 3]), Halt>
     requires { blocks ≤ 100 }
 {
+    let mut heap = Heap::new(alloc, is_ample)?;
     let mut pair = Pair {
-        table: Replicas::new(alloc, settings),
+        subject: Replicas::new(alloc, settings),
         twin: Replicas::new(alloc, settings),
     };
-    let mut heap = Heap::new(alloc, is_ample)?;
     let mut fates = [Fate::Untried; 3];
     for n in 0..blocks {
-        let block = block_of(n);
-        fates[0] = fates[0].and(pair.change(&mut heap, &SetBlock { block }));
+        fates[0] = fates[0].and(pair.change(&mut heap, &SetBlock { block: block_of(n) }));
         for dn in 1..=DATANODES {
             let orphan = block_of(n + BLOCKS).id;
             fates[1] = fates[1].and(pair.change(&mut heap, &Place { dn, block: orphan }));
@@ -134,7 +126,7 @@ fn play(
             ));
         }
     }
-    Ok((pair.table, fates))
+    Ok((pair.subject, fates))
 }
 
 fn block_of(n: u64) -> Block

@@ -1,8 +1,9 @@
 //! `Standby::new`, `from_image`, `step` and `promote`.
-ghost use Rattle.std.specs.Prelude.{◌≤◌, length};
+ghost use Rattle.std.specs.Prelude.{◌≡◌, ◌≤◌, [], IfOk, length};
 
 use crate::heap::Heap;
 use crate::image::image_of;
+use crate::lines::Lines;
 use crate::scenario::{Halt, Scenario};
 use crate::shadow::are_alike;
 use crate::text::are_same;
@@ -13,11 +14,11 @@ use nn_scenario::Step;
 use nn_segment::MemorySource;
 use nn_tailer::{Choice, PromoteFault, Standby, StepFault};
 use nn_types::{Message, Settings};
-use std::alloc::Global;
+use std::alloc::{AllocError, Global};
 use std::marker::Model;
 
-/// What is printed for each call.
-pub const NAMES: [&str; 6] = [
+// What is printed for each call.
+const NAMES: [&str; 6] = [
     "Standby::new",
     "Standby::step, an edit",
     "Standby::step, a lane",
@@ -51,15 +52,23 @@ impl Model for NewEnds {
 
 // Lanes that hold all messages of their DataNodes.
 fn lanes(alloc: Global, scenario: &Scenario) -> Result<NewEnds, Halt> {
-    let (mut first, first_end) = lane(alloc, 1, CAPACITY)?;
-    let (mut second, second_end) = lane(alloc, 2, CAPACITY)?;
-    send_all(&mut first, 1, scenario)?;
-    send_all(&mut second, 2, scenario)?;
+    let first = filled_lane(alloc, 1, scenario)?;
+    let second = filled_lane(alloc, 2, scenario)?;
     let mut ends = Vec::new(alloc);
-    if ends.push(first_end).is_err() || ends.push(second_end).is_err() {
+    if ends.push(first).is_err() || ends.push(second).is_err() {
         return Err(Halt::OutOfMemory);
     }
     Ok(NewEnds { ends })
+}
+
+// The end of a new lane that holds all messages of its DataNode.
+fn filled_lane(alloc: Global, dn: u16, scenario: &Scenario) -> Result<LaneEnd, Halt>
+    requires { (1 ≤ dn) × (dn ≤ 256) }
+    ensures { IfOk result (λ end. (end.lane.node ≡ dn) × (end.got ≡ [])) }
+{
+    let (mut reporter, end) = lane(alloc, dn, CAPACITY)?;
+    send_all(&mut reporter, dn, scenario)?;
+    Ok(end)
 }
 
 fn send_all(reporter: &mut Reporter, dn: u16, scenario: &Scenario) -> Result<(), Halt> {
@@ -201,8 +210,21 @@ struct Pair {
 }
 
 impl Pair {
-    fn change<C: Changing<Subject = Tailing>>(&mut self, heap: &mut Heap, call: &C) -> Fate {
-        change_both(heap, call, &mut self.tailing, &mut self.twin)
+    fn of(tailing: Option<Tailing>, twin: Option<Tailing>) -> Option<Pair> {
+        let tailing = tailing?;
+        let twin = twin?;
+        Some(Pair { tailing, twin })
+    }
+
+    fn take(&mut self, heap: &mut Heap, choice: Choice, scenario: &Scenario) -> Fate {
+        let call = TakeStep { choice, scenario };
+        change_both(heap, &call, &mut self.tailing, &mut self.twin)
+    }
+
+    fn close_and_promote(&mut self, heap: &mut Heap) -> Fate {
+        self.tailing.standby.close_intake();
+        self.twin.standby.close_intake();
+        change_both(heap, &Promote, &mut self.tailing, &mut self.twin)
     }
 }
 
@@ -224,57 +246,63 @@ impl Given {
     }
 }
 
-// Two standbys are made.
+// Two standbys are made. What they are made of is there before the heap is full.
 fn begin<M: Making<Given = NewEnds, Made = Standby>>(
+    alloc: Global,
+    heap: &mut Heap,
+    call: &M,
+    text: &[u8],
+) -> Result<(Fate, Option<Pair>), Halt> {
+    let given = Given::new(alloc, text)?;
+    let other = Given::new(alloc, text)?;
+    let (fate, tailing) = begin_one(heap, call, given);
+    let (other_fate, twin) = begin_one(heap, call, other);
+    Ok((fate.and(other_fate), Pair::of(tailing, twin)))
+}
+
+fn begin_one<M: Making<Given = NewEnds, Made = Standby>>(
     heap: &mut Heap,
     call: &M,
     given: Given,
-    other: Given,
-) -> (Fate, Option<Pair>) {
-    let (fate, standby) = make(heap, call, given.ends);
-    let (other_fate, twin) = make(heap, call, other.ends);
-    let fate = fate.and(other_fate);
-    let (Some(standby), Some(twin)) = (standby, twin) else {
+) -> (Fate, Option<Tailing>) {
+    let Given { ends, source } = given;
+    let (fate, standby) = make(heap, call, ends);
+    let Some(standby) = standby else {
         return (fate, None);
     };
-    let tailing = Tailing {
-        standby,
-        source: given.source,
-    };
-    let twin = Tailing {
-        standby: twin,
-        source: other.source,
-    };
-    (fate, Some(Pair { tailing, twin }))
+    (fate, Some(Tailing { standby, source }))
 }
 
 // Each edit and each message of the lanes is taken, in the order of the scenario's lines.
 fn take_steps(heap: &mut Heap, pair: &mut Pair, scenario: &Scenario) -> (Fate, Fate) {
     let mut fates = (Fate::Untried, Fate::Untried);
     for step in &scenario.steps {
-        let choice = match step {
-            Step::Edit => Choice::Edit,
-            Step::Message(message) if message.dn <= 2 => Choice::Lane(message.dn),
-            Step::Message(_) => continue,
-        };
-        let fate = pair.change(heap, &TakeStep { choice, scenario });
-        match choice {
-            Choice::Edit => fates.0 = fates.0.and(fate),
-            Choice::Lane(_) => fates.1 = fates.1.and(fate),
+        match *step {
+            Step::Edit => fates.0 = fates.0.and(pair.take(heap, Choice::Edit, scenario)),
+            Step::Message(message) if message.dn <= 2 => {
+                let choice = Choice::Lane(message.dn);
+                fates.1 = fates.1.and(pair.take(heap, choice, scenario));
+            }
+            Step::Message(_) => {}
         }
     }
     fates
 }
 
-fn close_and_promote(heap: &mut Heap, pair: &mut Pair) -> Fate {
-    pair.tailing.standby.close_intake();
-    pair.twin.standby.close_intake();
-    pair.change(heap, &Promote)
-}
-
 /// A new standby takes all steps and is promoted. Another one starts from the image after the first segment, and is
 /// promoted at once: so it reads the rest of the log and drains its lanes.
 pub fn follow_lanes(
+    alloc: Global,
+    is_ample: bool,
+    settings: Settings,
+    text: &[u8],
+    lines: &mut Lines,
+) -> Result<(), Halt> {
+    let fates = fates_of_lanes(alloc, is_ample, settings, text)?;
+    lines.push(&NAMES, &fates)
+}
+
+fn fates_of_lanes(
     alloc: Global,
     is_ample: bool,
     settings: Settings,
@@ -291,12 +319,15 @@ pub fn follow_lanes(
     ])
 }
 
-fn are_equal(alloc: Global, pair: &Option<Pair>, other: &Option<Pair>) -> Result<bool, Halt> {
-    let (Some(pair), Some(other)) = (pair, other) else {
-        return Ok(false);
-    };
-    let shadow = pair.tailing.standby.shadow();
-    Ok(are_same(alloc, shadow, other.tailing.standby.shadow())?)
+fn are_equal(alloc: Global, pair: &Option<Pair>, other: &Option<Pair>) -> Result<bool, AllocError> {
+    match (pair, other) {
+        (Some(pair), Some(other)) => are_same(
+            alloc,
+            pair.tailing.standby.shadow(),
+            other.tailing.standby.shadow(),
+        ),
+        _ => Ok(false),
+    }
 }
 
 fn play_steps(
@@ -305,16 +336,14 @@ fn play_steps(
     settings: Settings,
     text: &[u8],
 ) -> Result<(Option<Pair>, [Fate; 4]), Halt> {
-    let scenario = Scenario::read(alloc, text)?;
-    let given = Given::new(alloc, text)?;
-    let other = Given::new(alloc, text)?;
     let mut heap = Heap::new(alloc, is_ample)?;
-    let (made, pair) = begin(&mut heap, &New { alloc, settings }, given, other);
+    let scenario = Scenario::read(alloc, text)?;
+    let (made, pair) = begin(alloc, &mut heap, &New { alloc, settings }, text)?;
     let Some(mut pair) = pair else {
         return Ok((None, [made; 4]));
     };
     let (edits, messages) = take_steps(&mut heap, &mut pair, &scenario);
-    let promoted = close_and_promote(&mut heap, &mut pair);
+    let promoted = pair.close_and_promote(&mut heap);
     Ok((Some(pair), [made, edits, messages, promoted]))
 }
 
@@ -324,19 +353,17 @@ fn play_restart(
     settings: Settings,
     text: &[u8],
 ) -> Result<(Option<Pair>, [Fate; 2]), Halt> {
-    let image = image_of(alloc, &Scenario::read(alloc, text)?)?;
-    let given = Given::new(alloc, text)?;
-    let other = Given::new(alloc, text)?;
     let mut heap = Heap::new(alloc, is_ample)?;
+    let image = image_of(alloc, &Scenario::read(alloc, text)?)?;
     let call = FromImage {
         alloc,
         settings,
         image: &image,
     };
-    let (made, pair) = begin(&mut heap, &call, given, other);
+    let (made, pair) = begin(alloc, &mut heap, &call, text)?;
     let Some(mut pair) = pair else {
         return Ok((None, [made; 2]));
     };
-    let promoted = close_and_promote(&mut heap, &mut pair);
+    let promoted = pair.close_and_promote(&mut heap);
     Ok((Some(pair), [made, promoted]))
 }

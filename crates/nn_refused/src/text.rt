@@ -1,19 +1,38 @@
-//! What a standby shows, as text.
+//! What a namespace and a standby show, as text.
 use nn_listing::{listing, push_history, push_tables};
 use nn_shadow::Shadow;
+use nn_tree::Namespace;
 use std::alloc::{AllocError, Global};
 
-/// Its namespace and last txid, its history, its replicas, orders and counts, and how many messages it holds.
-pub fn text_of(alloc: Global, shadow: &Shadow) -> Result<String, AllocError> {
-    let mut text = listing(alloc, shadow.namespace(), shadow.last_txid())?;
-    push_history(&mut text, shadow.history())?;
-    push_tables(alloc, &mut text, shadow.replicas(), shadow.safe_mode())?;
-    let held = shadow.held_count();
-    write!(text, "held {held}\n")?;
-    Ok(text)
+/// Whether two namespaces have the same listing.
+pub fn have_the_same_listing(
+    alloc: Global,
+    namespace: &Namespace,
+    other: &Namespace,
+) -> Result<bool, AllocError> {
+    Ok(listing_of(alloc, namespace, 0)? == listing_of(alloc, other, 0)?)
 }
 
 /// Whether two standbys show the same.
 pub fn are_same(alloc: Global, shadow: &Shadow, other: &Shadow) -> Result<bool, AllocError> {
     Ok(text_of(alloc, shadow)? == text_of(alloc, other)?)
+}
+
+/// A standby's namespace and last txid, its history, its replicas, orders and counts, and how many messages it holds.
+pub fn text_of(alloc: Global, shadow: &Shadow) -> Result<String, AllocError> {
+    let mut text = listing_of(alloc, shadow.namespace(), shadow.last_txid())?;
+    push_rest(alloc, &mut text, shadow)?;
+    Ok(text)
+}
+
+fn listing_of(alloc: Global, namespace: &Namespace, last: u64) -> Result<String, AllocError> {
+    listing(alloc, namespace, last)
+}
+
+// Adds all but the listing.
+fn push_rest(alloc: Global, text: &mut String, shadow: &Shadow) -> Result<(), AllocError> {
+    push_history(text, shadow.history())?;
+    push_tables(alloc, text, shadow.replicas(), shadow.safe_mode())?;
+    let held = shadow.held_count();
+    write!(text, "held {held}\n")
 }

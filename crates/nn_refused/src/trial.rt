@@ -165,6 +165,39 @@ pub fn make<M: Making>(heap: &mut Heap, call: &M, given: M::Given) -> (Fate, Opt
     (Fate::StillRefused, None)
 }
 
+/// What calls are made on, and its twin.
+#[derive(Drop)]
+pub struct Pair<T> {
+    pub subject: T,
+    pub twin: T,
+}
+
+impl<T: Drop> Pair<T> {
+    // Both, if both were made.
+    fn of(subject: Option<T>, twin: Option<T>) -> Option<Pair<T>> {
+        let subject = subject?;
+        let twin = twin?;
+        Some(Pair { subject, twin })
+    }
+
+    /// Makes a call on the subject under a full heap, and then on the twin.
+    pub fn change<C: Changing<Subject = T>>(&mut self, heap: &mut Heap, call: &C) -> Fate {
+        change_both(heap, call, &mut self.subject, &mut self.twin)
+    }
+}
+
+/// Makes two of a kind.
+pub fn make_both<M: Making>(
+    heap: &mut Heap,
+    call: &M,
+    given: M::Given,
+    other: M::Given,
+) -> (Fate, Option<Pair<M::Made>>) {
+    let (fate, subject) = make(heap, call, given);
+    let (other_fate, twin) = make(heap, call, other);
+    (fate.and(other_fate), Pair::of(subject, twin))
+}
+
 /// The worse of each two, or `Differs` where what was made is not what an undisturbed run makes.
 pub fn both<const N: usize>(fates: [Fate; N], others: [Fate; N], is_same: bool) -> [Fate; N] {
     let mut worse = fates;

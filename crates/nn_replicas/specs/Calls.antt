@@ -6,7 +6,7 @@ use Rattle.std.specs.FinMap.Entries.{find, put}
 use Rattle.std.specs.Ordering.{nat_cmp}
 use Rattle.nn_types.specs.declared.block.Block.{Block}
 use Rattle.nn_types.specs.declared.report.Kind.{Kind}
-use Rattle.nn_types.specs.declared.report.Kind.TheVariants.{Receiving, Received, Deleted}
+use Rattle.nn_types.specs.declared.report.Kind.TheVariants.{Receiving, Received, Deleted, Begin, Listed, Finish}
 use Rattle.nn_types.specs.declared.replica.Replica.{Replica}
 use Rattle.nn_model.specs.declared.form.BlockRow.{BlockRow}
 use Rattle.nn_replicas.specs.declared.entry.Cell.{Cell}
@@ -109,8 +109,11 @@ replica_erased t dn id = changed_at t id (λ e. with_erased e dn)
 abbrev pub block_retired : Table → ℕ → Table
 block_retired t id = changed_at t id retired
 
--- what a DataNode reports as deleted is no replica
+-- only what is received or being received is a replica
 abbrev pub is_kept : Kind → Bool
 is_kept Receiving = true
 is_kept Received = true
 is_kept Deleted = false
+is_kept Begin = false
+is_kept Listed = false
+is_kept Finish = false

@@ -6,10 +6,6 @@ use Rattle.std.specs.declared.cmp.Ordering.TheVariants.{Less, Equal, Greater}
 use Rattle.std.specs.FinMap.Entries.{find, put, by_order}
 use Rattle.std.proofs.lemmas.Bool.{eq-eqb, le-ltb}
 use Rattle.nn_types.specs.declared.block.Block.{Block}
-use Rattle.nn_types.specs.declared.replica.Replica.{Replica}
-use Rattle.nn_types.specs.declared.report.Message.{Message}
-use Rattle.nn_types.specs.declared.report.Kind.{Kind}
-use Rattle.nn_types.specs.declared.report.Kind.TheVariants.{Receiving, Received, Deleted}
 use Rattle.nn_types.specs.declared.edit.Edit.{Edit}
 use Rattle.nn_types.specs.declared.edit.Edit.TheVariants.{StartSegment, EndSegment, Mkdir, Add, AddBlock, UpdateBlocks, Close, Append, Rename, Delete}
 use Rattle.nn_types.specs.declared.edit.Edit.TheVariants.{SetReplication, AllocateBlockId, SetGenstamp}
@@ -18,12 +14,11 @@ use Rattle.nn_types.specs.declared.edit_fault.EditFault.{EditFault}
 use Rattle.nn_model.specs.Apply.{new_block, refusal, effect, outcome, applied}
 use Rattle.nn_model.specs.Touched.{touched}
 use Rattle.nn_model.specs.declared.form.BlockRow.{BlockRow}
-use Rattle.nn_replicas.specs.declared.entry.Cell.{Cell}
 use Rattle.nn_replicas.specs.Table.{BlockEntry, Table}
-use Rattle.nn_replicas.specs.Entry.{no_cell, no_entry, cell_put, with_row, with_cell, with_place, with_put}
-use Rattle.nn_replicas.specs.Calls.{entry_or_none, with_entry, block_set, pair_placed, replica_put}
+use Rattle.nn_replicas.specs.Entry.{no_entry, with_row}
+use Rattle.nn_replicas.specs.Calls.{entry_or_none, with_entry, block_set}
 use Rattle.nn_replicas.proofs.Lookups.{find_put}
-use Rattle.nn_shadow.specs.Steps.{taken_as, message_taken, block_added, row_made, followed}
+use Rattle.nn_shadow.specs.Steps.{block_added, row_made, followed}
 
 same_key : (k : ℕ) → nat_cmp k k ≡ Equal
 same_key k = (λ j. cond (below j) Less (cond (same j) Equal Greater))
@@ -76,40 +71,6 @@ added_followed n t (Delete p) added = absurd (cc)
 added_followed n t (SetReplication p r) added = absurd (cc)
 added_followed n t (AllocateBlockId i) added = absurd (cc)
 added_followed n t (SetGenstamp stamp) added = absurd (cc)
-
--- ---- Replicas.
-
-put_place : (e : BlockEntry) (dn : ℕ) (r : Replica) → with_put (with_place e dn) dn r ≡ with_put e dn r
-put_place e dn r = by (find nat_cmp dn e.cells) refl
-  where
-    c : Cell
-    c = cell_put (is_some e.row) r no_cell
-
-    by : (o : Option Cell) → find nat_cmp dn e.cells ≡ o → with_put (cond (is_some o) e (with_cell e dn no_cell)) dn r ≡ with_put e dn r
-    by (Some x) is = refl
-    by None is =
-        ap (λ o. with_cell (with_cell e dn no_cell) dn (cell_put (is_some e.row) r (unwrap_or o no_cell))) (found dn no_cell e.cells)
-        ∙ ap (λ cs. record e { cells = cs }) (put_put dn c no_cell e.cells)
-        ∙ sym (ap (λ o. with_cell e dn (cell_put (is_some e.row) r (unwrap_or o no_cell))) is)
-
--- a replica that is put makes its room
-pub put_placed : (t : Table) (dn id : ℕ) (r : Replica) → replica_put (pair_placed t dn id) dn id r ≡ replica_put t dn id r
-put_placed t dn id r =
-    ap (λ o. with_entry (with_entry t id p) id (with_put (unwrap_or o no_entry) dn r)) (found id p t.entries)
-    ∙ ap (λ es. record t { entries = es }) (put_put id (with_put p dn r) p t.entries)
-    ∙ ap (with_entry t id) (put_place (entry_or_none t id) dn r)
-  where
-    p : BlockEntry
-    p = with_place (entry_or_none t id) dn
-
-pub kept_taken : (t : Table) (m : Message) → (m.kind ≡ Deleted → ⊥) →
-    replica_put t m.dn m.block (record { stamp = m.stamp; len = m.len; kind = m.kind }) ≡ message_taken (pair_placed t m.dn m.block) m
-kept_taken t m kept = by m.kind kept
-  where
-    by : (k : Kind) → (k ≡ Deleted → ⊥) → replica_put t m.dn m.block (record { stamp = m.stamp; len = m.len; kind = m.kind }) ≡ taken_as k (pair_placed t m.dn m.block) m
-    by Receiving is = sym (put_placed t m.dn m.block (record { stamp = m.stamp; len = m.len; kind = m.kind }))
-    by Received is = sym (put_placed t m.dn m.block (record { stamp = m.stamp; len = m.len; kind = m.kind }))
-    by Deleted is = absurd (is refl)
 
 -- an edit that was made applies
 pub made_applies : (n new : Namespace) (edit : Edit) → applied n edit ≡ Ok new → refusal n edit ≡ None

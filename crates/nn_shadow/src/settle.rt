@@ -1,4 +1,4 @@
-//! Held messages are taken up. None of these takes memory: the history has room, and each message has its room
+//! Held items are taken up. None of these takes memory: the history has room, and each item has its room
 //! in the table.
 ghost use Rattle.std.specs.Prelude.{◌≡◌, ◌+◌, ◌≤◌, ◌++◌, ◌⊎◌, [], Bool, false, length, map, None, vec_len, vec_capacity};
 ghost use Rattle.std.specs.List.{list_any};
@@ -13,7 +13,7 @@ ghost use Rattle.nn_shadow.specs.Calls.{is_due_in};
 ghost use Rattle.nn_shadow.specs.Rounds.{TakesBlock, FillsBlock, LeavesOthers};
 ghost use Rattle.nn_shadow.specs.Touching.{IsQuiet, Rises};
 ghost use Rattle.nn_tree.specs.Touched.{seen};
-ghost use Rattle.nn_shadow.specs.Steps.{messages_taken, HavePlaces};
+ghost use Rattle.nn_shadow.specs.Steps.{messages_taken, not_held, HavePlaces};
 
 use crate::table::process;
 use crate::touching::next_touched;
@@ -165,6 +165,29 @@ pub(crate) fn empty(history: &mut Vec<Event>, held: &mut Postponed, table: &mut 
             return;
         };
         process(table, &m);
+    }
+}
+
+/// Processes those of the items that are not held, in their order.
+pub(crate) fn process_due(
+    history: &mut Vec<Event>,
+    table: &mut Replicas,
+    held: &Postponed,
+    items: &[Message],
+)
+    requires room { vec_len history.old + length (not_held held.now items.now) ≤ vec_capacity history.old }
+    requires placed { HavePlaces table.old items.now }
+    ensures told { history.new.items ≡ history.old.items ++ map (processed Due) (not_held held.now items.now) }
+    ensures table { table.new ≡ messages_taken table.old (not_held held.now items.now) }
+{
+    for item in items {
+        if held.holds(item.dn, item.block) {
+            continue;
+        }
+        let Ok(()) = history.push(processed(item, Cause::Due)) else {
+            return;
+        };
+        process(table, item);
     }
 }
 

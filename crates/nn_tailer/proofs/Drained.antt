@@ -5,6 +5,7 @@ use Rattle.std.proofs.lemmas.List.{set-get_or, get_or-set_same}
 use Rattle.std.proofs.Math.Nat.{eq-or-lt_of_le}
 use Rattle.nn_types.specs.declared.report.Message.{Message}
 use Rattle.nn_lane.specs.Ends.{Taking, counted, got_of}
+use Rattle.nn_shadow.specs.declared.fault.Handed.{Handed}
 use Rattle.nn_tailer.specs.declared.standby.Stepped.{Stepped}
 use Rattle.nn_tailer.specs.declared.standby.Stepped.TheVariants as stepped
 use Rattle.nn_tailer.specs.declared.fault.StepFault.{StepFault}
@@ -58,9 +59,8 @@ pub lane_live : (x y : Tailer) (i : ℕ) → IsLive x → LaneFrame x i y → Is
 lane_live x y i l f = (f.begun ∙ l.0, f.stop ∙ l.1, f.active ∙ l.2)
 
 -- an answer other than Empty handed a message on
-hands : (x y : Tailer) (i : ℕ) (a : Stepped) → ((n : ℕ) → a ≡ stepped.Empty n → ⊥) → LaneMoves x i y (Ok a) → (b : Bool) × HandsNext x i b y
-hands x y i stepped.Processed n h = (false, h)
-hands x y i stepped.Held n h = (true, h)
+hands : (x y : Tailer) (i : ℕ) (a : Stepped) → ((n : ℕ) → a ≡ stepped.Empty n → ⊥) → LaneMoves x i y (Ok a) → (counts : Handed) × HandsNext x i counts y
+hands x y i (stepped.Handed processed held) n h = (record { processed = processed; held = held }, h)
 hands x y i (stepped.Empty k) n h = absurd (n k refl)
 hands x y i (stepped.Applied txid) n h = absurd h
 hands x y i stepped.Passed n h = absurd h

@@ -3,6 +3,7 @@ use Rattle.std.proofs.Common.{◌≡◌, ℕ, true, false, List, [], ◌++◌, m
 use Rattle.std.proofs.lemmas.List.{append-nil}
 use Rattle.nn_types.specs.declared.tx.Tx.{Tx}
 use Rattle.nn_model.specs.Namespace.{Namespace}
+use Rattle.nn_model.specs.Items.{items}
 use Rattle.nn_model.specs.Lanes.{Lanes}
 use Rattle.nn_model.specs.Lawful.{IsWhole}
 use Rattle.nn_model.specs.Picture.{ShowsPicture}
@@ -47,8 +48,8 @@ promotes x s a n f start base given h r e t =
     let way : x.stop ≡ None → (later : List Segment) → end_of_log base start (given_in given ++ later) ≡ way_on (activated x s) later =
     λ q later. h.goes_on q later ∙ same_way x (activated x s) later (ap (λ (z : StandbyState). z.last) f.standby) (ap (λ (z : StandbyState). z.namespace) f.standby) refl in
     let S : List Tx → Lanes → Type 0 = λ txs ls. Stands start base txs ls (standby_of s) in
-    let W : List Tx → Lanes → Type 0 = λ txs ls. IsWhole start txs ls s.history in
-    let P : Lanes → Type 0 = λ ls. ShowsPicture s.namespace ls (tables_of (standby_of s)) in (
+    let W : List Tx → Lanes → Type 0 = λ txs ls. IsWhole start txs (items ls) s.history in
+    let P : Lanes → Type 0 = λ ls. ShowsPicture s.namespace (items ls) (tables_of (standby_of s)) in (
       record {
         stands = subst (λ ls. S (log_in base given) ls) lanes (subst (λ txs. S txs (lanes_of x)) log by.0);
         whole = subst (λ ls. W (log_in base given) ls) lanes (subst (λ txs. W txs (lanes_of x)) log by.1);

@@ -1,6 +1,5 @@
 -- What a step of a lane comes to.
-use Rattle.std.proofs.Common.{◌≡◌, ◌≢◌, ℕ, zero, suc, ◌+◌, ◌<◌, ◌≤◌, Bool, true, false, List, [], ◌∷◌, ◌++◌, length, map, get_or, set, Option, Some, None, Ok, Err, refl, sym, ap, ◌∙◌, subst, arith, length-append}
-use Rattle.std.specs.Prelude.{if◌then◌else◌}
+use Rattle.std.proofs.Common.{◌≡◌, ◌≢◌, ℕ, zero, suc, ◌+◌, ◌<◌, ◌≤◌, List, [], ◌∷◌, ◌++◌, length, map, get_or, set, Option, Some, None, Ok, Err, refl, sym, ap, ◌∙◌, subst, arith, length-append}
 use Rattle.std.proofs.lemmas.List.{map-set, set-get_or, get_or-set_same, get_or-set_other, length-set}
 use Rattle.nn_types.specs.declared.report.Message.{Message}
 use Rattle.nn_lane.specs.Ends.{Taking, counted}
@@ -8,11 +7,9 @@ use Rattle.nn_tailer.specs.declared.standby.Stepped.TheVariants as stepped
 use Rattle.nn_tailer.specs.declared.fault.StepFault.{StepFault}
 use Rattle.nn_tailer.specs.declared.fault.StepFault.TheVariants as fault
 use Rattle.nn_tailer.specs.Tailing.{has_begun, Tailer, Keeps, Carries, lanes_of, handed, handed_all, kept_at, with_lane}
-use Rattle.nn_model.specs.Stands.{StandbyState}
 use Rattle.nn_shadow.specs.Contents.{Contents, standby_of, KeepsSettings}
-use Rattle.nn_shadow.specs.Calls.{waits}
 use Rattle.nn_shadow.specs.Refusals.{handed_as}
-use Rattle.nn_shadow.specs.declared.fault.Handed.TheVariants as handed_shadow
+use Rattle.nn_shadow.specs.declared.fault.Handed.{Handed}
 use Rattle.nn_tailer.specs.Shadows.{ShowsSame, IsHanded}
 use Rattle.nn_tailer.specs.Parts.{IsLive, Fetches, FindsNone, HandsKept, Unchanged, NotHanded}
 use Rattle.nn_tailer.proofs.Shadowing.{settings_same, settings_then, same_last, handed_last}
@@ -142,21 +139,6 @@ moves_on x y i m k l e h =
 moves_then : (old mid new : Tailer) (i : ℕ) (m : Message) → handed_in mid ≡ handed_in old → MovesOn mid i m new → MovesOn old i m new
 moves_then old mid new i m q h = subst (λ H. (m.dn ≡ i + 1) × (handed_in new ≡ set H i (get_or H i [] ++ m ∷ [])) × (length (get_or H i []) + 1 ≤ all_count new i)) q h
 
--- the answer tells whether it waits
-pub was_held : (x : StandbyState) (m : Message) → handed_as x m ≡ handed_shadow.Held → waits x m ≡ true
-was_held x m = by_answer (waits x m)
-  where
-    by_answer : (b : Bool) → (if b then handed_shadow.Held else handed_shadow.Processed) ≡ handed_shadow.Held → b ≡ true
-    by_answer true e = refl
-    by_answer false e = absurd (cc)
-
-pub was_processed : (x : StandbyState) (m : Message) → handed_as x m ≡ handed_shadow.Processed → waits x m ≡ false
-was_processed x m = by_answer (waits x m)
-  where
-    by_answer : (b : Bool) → (if b then handed_shadow.Held else handed_shadow.Processed) ≡ handed_shadow.Processed → b ≡ false
-    by_answer true e = absurd (cc)
-    by_answer false e = refl
-
 pub drained : (old new : Tailer) (i n : ℕ) (d : Taking) → Keeps old → i < length old.ends → FindsNone old i n new → IsDrained new i × (n ≡ handed_count new i)
 drained old new i n d k l f =
     let P : Tailer → Type 0 = λ z. IsDrained z i × (n ≡ handed_count z i) in
@@ -182,21 +164,20 @@ step_frame old mid new i m v k k' l f h =
     let r = fetched_is old mid i m v k l f in
     frame_then old mid new i (frame_new old mid i v k l m f) (frame_handed mid new i m r.2 k' r.1 r.0 h)
 
-pub step_hands : (old mid new : Tailer) (i : ℕ) (m : Message) (b : Bool) → IsLive old → Keeps old → Keeps mid → (l : i < length old.ends) → Fetches old i m mid → HandsKept mid i m new → waits (standby_of mid.shadow) m ≡ b → HandsNext old i b new
-step_hands old mid new i m b v k k' l f h w =
+pub step_hands : (old mid new : Tailer) (i : ℕ) (m : Message) (counts : Handed) → IsLive old → Keeps old → Keeps mid → (l : i < length old.ends) → Fetches old i m mid → HandsKept mid i m new → handed_as (standby_of mid.shadow) m ≡ counts → HandsNext old i counts new
+step_hands old mid new i m counts v k k' l f h w =
     let r = fetched_is old mid i m v k l f in
     let on = moves_then old mid new i m f.same (moves_on mid new i m k' r.1 r.0 h) in
     let same : mid.shadow ≡ old.shadow = ap (λ z. z.shadow) f.now in
     let by : IsHanded old.shadow m h.shown = subst (λ z. IsHanded z m h.shown) same h.handed in
-    let answer : waits (standby_of old.shadow) m ≡ b = subst (λ (z : Contents). waits (standby_of z) m ≡ b) same w in
     record {
       message = m;
       node = on.0;
       lanes = on.1;
       few = on.2;
       standby = ap (λ z. standby_of z.shadow) h.now ∙ by.standby;
-      answer = answer;
-      held = λ start base given s. sym (by.held start base s.txs (lanes_of old) (stands_live start base given old v s)) ∙ answer;
+      answer = subst (λ (z : Contents). handed_as (standby_of z) m ≡ counts) same w;
+      held = λ start base given s. by.held start base s.txs (lanes_of old) (stands_live start base given old v s);
     }
 
 frame_unchanged : (x y : Tailer) (i : ℕ) → IsLive x → i < length x.ends → Unchanged x y → LaneFrame x i y

@@ -1,5 +1,5 @@
 -- What a step of a lane does.
-use Rattle.std.specs.Prelude.{◌≡◌, ◌≢◌, ℕ, ◌+◌, ◌<◌, ◌≤◌, true, false, Bool, List, [], ◌∷◌, ◌++◌, length, map, Option, None, Result, Ok, Err, slice_index_or, slice_set}
+use Rattle.std.specs.Prelude.{◌≡◌, ◌≢◌, ℕ, ◌+◌, ◌<◌, ◌≤◌, true, Bool, List, [], ◌∷◌, ◌++◌, length, map, Option, None, Result, Ok, Err, slice_index_or, slice_set}
 use Rattle.std.specs.List.{list_all}
 use Rattle.nn_types.specs.declared.report.Message.{Message}
 use Rattle.nn_lane.specs.Ends.{Taking, lane_of, got_of, loads_of, counted, StaysCounted}
@@ -11,9 +11,13 @@ use Rattle.nn_tailer.specs.Shadows.{ShowsSame}
 use Rattle.nn_model.specs.Namespace.{Namespace}
 use Rattle.nn_model.specs.Lanes.{followed_by}
 use Rattle.nn_model.specs.Held.{is_held}
+use Rattle.nn_model.specs.Items.{items}
+use Rattle.nn_model.specs.WellFormed.{Has}
 use Rattle.nn_segment.specs.Source.{Answer}
 use Rattle.nn_shadow.specs.Contents.{standby_of, KeepsSettings}
-use Rattle.nn_shadow.specs.Calls.{waits, received}
+use Rattle.nn_shadow.specs.Calls.{waits, items_added, received}
+use Rattle.nn_shadow.specs.Refusals.{handed_as}
+use Rattle.nn_shadow.specs.declared.fault.Handed.{Handed}
 use Rattle.nn_tailer.specs.Tailing.{has_begun, Tailer, StandsAt, Carries, lanes_of, handed_all, kept_at}
 
 -- an end of the same lane, as closed as before; once closed its count stays
@@ -63,25 +67,24 @@ pub record LaneFrame (old : Tailer) (i : ℕ) (new : Tailer) : Type 0 where
   pub active : new.active ≡ old.active
   pub settings : KeepsSettings old.shadow new.shadow
 
--- The next message of the lane was handed on, and the Shadow received it. Whether it was held is what the definition says of
--- the log and the lanes at which the standby stood
-pub record HandsNext (old : Tailer) (i : ℕ) (was_held : Bool) (new : Tailer) : Type 0 where
+-- The next message of the lane was handed on, and the Shadow received it: so many of its items were processed, and so many held.
+-- Which of them were held is what the definition says of the log and the lanes at which the standby stood
+pub record HandsNext (old : Tailer) (i : ℕ) (handed : Handed) (new : Tailer) : Type 0 where
   pub message : Message
   pub node : message.dn ≡ i + 1
   pub lanes : handed_in new ≡ slice_set (handed_in old) i (slice_index_or (handed_in old) i [] ++ message ∷ [])
   pub few : handed_count old i + 1 ≤ all_count new i
   pub standby : standby_of new.shadow ≡ received (standby_of old.shadow) message
-  pub answer : waits (standby_of old.shadow) message ≡ was_held
-  pub held : (start : Namespace) (base : ℕ) (given : List Answer) → StandsAt start base given old
-      → is_held old.shadow.namespace (followed_by (lanes_of old) message message.dn) message ≡ was_held
+  pub answer : handed_as (standby_of old.shadow) message ≡ handed
+  pub held : (start : Namespace) (base : ℕ) (given : List Answer) → StandsAt start base given old → (item : Message) → Has (items_added (standby_of old.shadow) message) item
+      → waits (standby_of old.shadow) item ≡ is_held old.shadow.namespace (items (followed_by (lanes_of old) message) message.dn) item
 
 -- it was tried to take from the lane once
 abbrev pub LookedOnce : Tailer → ℕ → Tailer → Type 0
 LookedOnce old i new = (d : Taking) → loads_of (slice_index_or new.ends i d) ≡ loads_of (slice_index_or old.ends i d) + 1
 
 abbrev pub LaneMoves : Tailer → ℕ → Tailer → Result Stepped StepFault → Type 0
-LaneMoves old i new (Ok stepped.Processed) = HandsNext old i false new
-LaneMoves old i new (Ok stepped.Held) = HandsNext old i true new
+LaneMoves old i new (Ok (stepped.Handed processed held)) = HandsNext old i (record { processed = processed; held = held }) new
 LaneMoves old i new (Ok (stepped.Empty n)) = (new.shadow ≡ old.shadow) × (handed_in new ≡ handed_in old) × IsDrained new i × (n ≡ handed_count new i) × LookedOnce old i new
 LaneMoves old i new (Ok (stepped.Applied txid)) = ⊥
 LaneMoves old i new (Ok stepped.Passed) = ⊥

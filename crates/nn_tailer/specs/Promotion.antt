@@ -3,6 +3,7 @@ use Rattle.std.specs.Prelude.{◌≡◌, ℕ, true, false, List, [], ◌++◌, m
 use Rattle.std.specs.List.{list_all}
 use Rattle.nn_model.specs.Namespace.{Namespace}
 use Rattle.nn_model.specs.History.{is_flush}
+use Rattle.nn_model.specs.Items.{items}
 use Rattle.nn_model.specs.Lawful.{IsWhole}
 use Rattle.nn_model.specs.Picture.{ShowsPicture}
 use Rattle.nn_model.specs.Stands.{Stands, tables_of}
@@ -25,8 +26,8 @@ use Rattle.nn_tailer.specs.Steps.{OnLogFault}
 -- all that was taken of its lanes. Its history is whole, each lane is closed and drained, and the last answer of a source was End
 pub record Promoted (start : Namespace) (base : ℕ) (given : List Answer) (x : Tailer) : Type 0 where
   pub stands : Stands start base (log_in base given) (by_node (map got_of x.ends)) (standby_of x.shadow)
-  pub whole : IsWhole start (log_in base given) (by_node (map got_of x.ends)) x.shadow.history
-  pub picture : ShowsPicture x.shadow.namespace (by_node (map got_of x.ends)) (tables_of (standby_of x.shadow))
+  pub whole : IsWhole start (log_in base given) (items (by_node (map got_of x.ends))) x.shadow.history
+  pub picture : ShowsPicture x.shadow.namespace (items (by_node (map got_of x.ends))) (tables_of (standby_of x.shadow))
   pub none_held : x.shadow.held ≡ []
   pub ended : EndsInEnd given
   pub log_end : end_of_log base start (given_in given) ≡ Ok (record { last = x.shadow.last; namespace = x.shadow.namespace })

@@ -4,12 +4,14 @@ use Rattle.nn_types.specs.declared.report.Message.{Message}
 use Rattle.nn_types.specs.declared.tx.Tx.{Tx}
 use Rattle.nn_model.specs.Namespace.{Namespace}
 use Rattle.nn_model.specs.Held.{is_held}
+use Rattle.nn_model.specs.Items.{items}
 use Rattle.nn_model.specs.Lanes.{Lanes, followed_by}
 use Rattle.nn_model.specs.Lawful.{IsWhole}
 use Rattle.nn_model.specs.Picture.{ShowsPicture}
 use Rattle.nn_model.specs.Stands.{Stands, tables_of}
+use Rattle.nn_model.specs.WellFormed.{Has}
 use Rattle.nn_shadow.specs.Contents.{Contents, standby_of, KeepsSettings}
-use Rattle.nn_shadow.specs.Calls.{applied_to, waits, received, flushed}
+use Rattle.nn_shadow.specs.Calls.{applied_to, waits, items_added, received, flushed}
 use Rattle.nn_shadow.specs.Laws.{StandsBy}
 
 -- it shows what it showed: room may have come
@@ -32,14 +34,14 @@ pub record IsHanded (old : Contents) (m : Message) (new : Contents) : Type 0 whe
   pub stands : (start : Namespace) (base : ℕ) (txs : List Tx) (lanes : Lanes) → StandsBy start base txs lanes (standby_of old)
       → StandsBy start base txs (followed_by lanes m) (standby_of new)
   pub held : (start : Namespace) (base : ℕ) (txs : List Tx) (lanes : Lanes) → StandsBy start base txs lanes (standby_of old)
-      → waits (standby_of old) m ≡ is_held old.namespace (followed_by lanes m m.dn) m
+      → (item : Message) → Has (items_added (standby_of old) m) item → waits (standby_of old) item ≡ is_held old.namespace (items (followed_by lanes m) m.dn) item
 
 pub record IsFlushed (old new : Contents) : Type 0 where
   pub standby : standby_of new ≡ flushed (standby_of old)
   pub phase : new.phase ≡ record old.phase { active = true }
   pub settings : KeepsSettings old new
   pub stands : (start : Namespace) (base : ℕ) (txs : List Tx) (lanes : Lanes) → StandsBy start base txs lanes (standby_of old)
-      → Stands start base txs lanes (standby_of new) × IsWhole start txs lanes new.history × ShowsPicture new.namespace lanes (tables_of (standby_of new))
+      → Stands start base txs lanes (standby_of new) × IsWhole start txs (items lanes) new.history × ShowsPicture new.namespace (items lanes) (tables_of (standby_of new))
 
 -- want of memory kept the flush from being done: it is asked for now
 pub record IsNotFlushed (old new : Contents) : Type 0 where

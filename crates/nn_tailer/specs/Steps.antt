@@ -57,8 +57,7 @@ IsEdited old answers new (stepped.Applied txid) =
     × (standby_of new.shadow ≡ applied_to (standby_of old.shadow) tx)
 IsEdited old answers new stepped.Passed = (p : Segment) × (answers ≡ Ok (segment p) ∷ []) × (first_txid p.txs ≤ old.shadow.last + 1) × (news old.shadow.last p.txs ≡ []) × (new ≡ old)
 IsEdited old answers new stepped.LogEnded = (answers ≡ Ok End ∷ []) × (old.rest ≡ []) × (new ≡ old)
-IsEdited old answers new stepped.Processed = ⊥
-IsEdited old answers new stepped.Held = ⊥
+IsEdited old answers new (stepped.Handed processed held) = ⊥
 IsEdited old answers new (stepped.Empty accepted) = ⊥
 
 -- why the standby stops: the next edit is refused, or the segment begins too high

@@ -1,5 +1,5 @@
 -- What a standby with lanes shows, on small examples, computed.
-use Rattle.std.specs.Prelude.{◌≡◌, ℕ, ◌≤◌, Bool, true, false, List, [], ◌∷◌, length, Some, None, Ok, Err, refl, map}
+use Rattle.std.specs.Prelude.{◌≡◌, ℕ, ◌≤◌, Bool, true, false, List, [], ◌∷◌, length, Some, None, Ok, Err, refl, map, slice_index_or}
 use Rattle.std.proofs.Common.{arith, ap}
 use Rattle.std.proofs.lemmas.Bool.{both_ways}
 use Rattle.nn_types.specs.declared.report.Message.{Message}
@@ -8,7 +8,7 @@ use Rattle.nn_segment.specs.Source.{end}
 use Rattle.nn_segment.specs.declared.fault.SourceFault.TheVariants.{Gone}
 use Rattle.nn_lane.specs.Ends.{LaneId, Taking}
 use Rattle.nn_tailer.specs.declared.standby.Choice.TheVariants.{Edit, Lane}
-use Rattle.nn_tailer.specs.declared.standby.Stepped.TheVariants.{Empty}
+use Rattle.nn_tailer.specs.declared.standby.Stepped.TheVariants.{Handed, Empty}
 use Rattle.nn_tailer.specs.LaneSteps.{ClosesEnd, CloseEnds, LookedOnce, LaneMoves}
 use Rattle.nn_tailer.specs.Refusals.{step_refusal, promote_refusal}
 use Rattle.nn_tailer.specs.Tailing.{Tailer, handed, handed_all, by_node, EndsInEnd, AllTaken}
@@ -134,3 +134,7 @@ looked x l d = refl
 
 not_without_a_look : (x : Tailer) (l : LaneId) → let y = serving x (taking l [] 0 false ∷ []) in LaneMoves y 0 y (Ok (Empty 0)) → ⊥
 not_without_a_look x l h = let e : 0 ≡ 1 = h.4 (taking l [] 0 false) in omega (arith, e)
+
+-- Handed comes of a message
+not_without_a_message : (x : Tailer) (l : LaneId) → let y = record (serving x (taking l [] 0 false ∷ [])) { kept = None ∷ [] } in LaneMoves y 0 y (Ok (Handed 1 0)) → ⊥
+not_without_a_message x l h = let e : 0 ≡ 1 = ap (λ ts. length (slice_index_or ts 0 [])) h.lanes in omega (arith, e)

@@ -33,16 +33,14 @@ pub enum Choice {
 /// What a step did.
 #[derive(Clone, Copy, Debug, PartialEq, Eq)]
 pub enum Stepped {
-    /// A transaction was applied, and the held messages that it sets free were processed.
+    /// A transaction was applied, and the held items that it sets free were processed.
     Applied { txid: Txid },
     /// A segment was passed over: all of its transactions were applied before.
     Passed,
     /// The source gave its end.
     LogEnded,
-    /// A message was processed.
-    Processed,
-    /// A message was taken in and has to wait.
-    Held,
+    /// A message was taken in: so many of its items were processed, and so many have to wait.
+    Handed { processed: usize, held: usize },
     /// The lane has nothing to take now. So many of its messages were taken before.
     Empty { accepted: u64 },
 }
@@ -52,7 +50,7 @@ pub enum Stepped {
 pub struct Active {
     /// The last txid, 0 where the log has no transaction.
     pub last: u64,
-    /// How many messages the flush processed: those that the log named too low or not at all.
+    /// How many items the flush processed: those that the log named too low or not at all.
     pub flushed: u64,
 }
 

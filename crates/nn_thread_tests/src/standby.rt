@@ -69,8 +69,7 @@ fn done_by(stepped: Stepped) -> Answer {
         Stepped::Applied { txid } => ("applied", txid.get(), 0),
         Stepped::Passed => ("passed", 0, 0),
         Stepped::LogEnded => ("log ended", 0, 0),
-        Stepped::Processed => ("processed", 0, 0),
-        Stepped::Held => ("held", 0, 0),
+        Stepped::Handed { processed, held } => ("handed", processed as u64, held as u64),
         Stepped::Empty { accepted } => ("empty", accepted, 0),
     }
 }
@@ -200,7 +199,7 @@ const OPEN_INTAKE: Worked = Worked {
         (Call::Promote, ("fault", 52, 0)),
         (Call::Lane(0), ("fault", 56, 0)),
         (Call::Lane(2), ("fault", 56, 0)),
-        (Call::Lane(1), ("held", 0, 0)),
+        (Call::Lane(1), ("handed", 0, 1)),
         (Call::Lane(1), ("empty", 1, 0)),
         (Call::Close, DONE),
         (Call::Report(FIRST, 1001), ("closed", 2, 1)),

@@ -4,7 +4,7 @@ ghost use Rattle.nn_types.specs.Words.{kind_text};
 
 use crate::number::{BlockId, GenerationStamp, Length};
 
-/// What happened to a replica at its DataNode.
+/// What happened to a replica at its DataNode, or where a full report of all that it has begins and ends.
 #[derive(Clone, Copy, Debug, PartialEq, Eq)]
 pub enum Kind {
     /// The replica is being written.
@@ -13,6 +13,12 @@ pub enum Kind {
     Received,
     /// The replica is gone.
     Deleted,
+    /// A full report begins. No block is meant.
+    Begin,
+    /// The replica is complete, and a full report lists it.
+    Listed,
+    /// The full report ends: what the DataNode told before it and left out of it is gone. No block is meant.
+    Finish,
 }
 
 impl Kind {
@@ -24,6 +30,9 @@ impl Kind {
             Kind::Receiving => "receiving",
             Kind::Received => "received",
             Kind::Deleted => "deleted",
+            Kind::Begin => "report_begin",
+            Kind::Listed => "listed",
+            Kind::Finish => "report_end",
         }
     }
 }

@@ -1,5 +1,6 @@
 //! How a standby starts.
-ghost use Rattle.std.specs.Prelude.{◌≡◌, ◌≤◌, ◌<◌, ◌^◌, [], length, false, None, IfOk, IfErr};
+ghost use Rattle.std.specs.Prelude.{◌≡◌, ◌≤◌, ◌<◌, ◌^◌, [], length, replicate, false, None, IfOk, IfErr};
+ghost use Rattle.nn_model.specs.Items.{nothing_had};
 ghost use Rattle.nn_model.specs.Lanes.{no_messages};
 ghost use Rattle.nn_model.specs.Stands.{fresh};
 ghost use Rattle.nn_replicas.specs.Agreement.{Shows, HasCounts};
@@ -8,11 +9,12 @@ ghost use Rattle.nn_shadow.specs.Laws.{StandsBy};
 
 use super::Shadow;
 use crate::fault::FromFault;
+use crate::had::Had;
 use crate::starting::blank_table;
 use nn_postponed::Postponed;
 use nn_tree::Namespace;
 use nn_types::Settings;
-use std::alloc::Global;
+use std::alloc::{AllocError, Global};
 
 impl Shadow {
     /// A standby over a namespace, of which this was the last transaction (0 where none was), before the next one, for so
@@ -37,6 +39,9 @@ impl Shadow {
         let Ok(numbers) = Vec::from_elem(alloc, 0u64, usize::from(datanodes)) else {
             return Err(FromFault { namespace });
         };
+        let Ok(had) = nothing_had(alloc, datanodes) else {
+            return Err(FromFault { namespace });
+        };
         let Ok(table) = blank_table(alloc, &namespace, settings) else {
             return Err(FromFault { namespace });
         };
@@ -48,9 +53,23 @@ impl Shadow {
             table,
             held: Postponed::new(alloc),
             numbers,
+            had,
             stopped: None,
             active: false,
             settings,
         })
     }
+}
+
+// So many DataNodes have nothing.
+fn nothing_had(alloc: Global, datanodes: u16) -> Result<Vec<Had>, AllocError>
+    ensures { IfOk result (λ had. had.items ≡ replicate datanodes nothing_had) }
+{
+    let mut had = Vec::new(alloc);
+    for _ in 0..datanodes {
+        let Ok(()) = had.push(Had::new(alloc)) else {
+            return Err(AllocError);
+        };
+    }
+    Ok(had)
 }

@@ -80,10 +80,8 @@ impl Standby {
         match self.fetch(i) {
             Ok(m) => {
                 let _ = &self.stop;
-                match self.hand_kept(i, m)? {
-                    Handed::Processed => Ok(Stepped::Processed),
-                    Handed::Held => Ok(Stepped::Held),
-                }
+                let Handed { processed, held } = self.hand_kept(i, m)?;
+                Ok(Stepped::Handed { processed, held })
             }
             Err(accepted) => Ok(Stepped::Empty { accepted }),
         }

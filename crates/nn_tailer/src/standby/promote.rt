@@ -81,7 +81,7 @@ impl Standby {
     }
 }
 
-// Whether the flush processed a message.
+// Whether the flush processed an item.
 fn is_flush(event: &Event) -> bool
     ensures { result ≡ is_flush event.now }
 {
@@ -94,7 +94,7 @@ fn is_flush(event: &Event) -> bool
     )
 }
 
-// How many messages the flush processed.
+// How many items the flush processed.
 fn flushes(history: &[Event]) -> u64
     ensures { result ≡ count_by is_flush history.now }
 {

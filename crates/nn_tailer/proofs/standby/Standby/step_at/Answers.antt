@@ -1,35 +1,25 @@
-use Rattle.std.proofs.Common.{true, false, subst, sym, ◌∙◌}
-use Rattle.nn_shadow.specs.Contents.{standby_of}
+use Rattle.std.proofs.Common.{subst, sym}
 use Rattle.std.proofs.lemmas.Result.{err_from_is_err_and}
 use Rattle.nn_tailer.specs.Tailing.{Keeps}
-use Rattle.nn_tailer.proofs.LaneSteps.{fetched_is, step_frame, step_hands, was_held, was_processed, step_fault, step_empty, frame_none}
+use Rattle.nn_tailer.proofs.LaneSteps.{fetched_is, step_frame, step_hands, step_fault, step_empty, frame_none}
 use Rattle.nn_tailer.proofs.standby.Standby.step_at.Goals as goal
 
 pub hand_kept-requires-clause-kept : goal.hand_kept-requires-clause-kept
 hand_kept-requires-clause-kept c =
     (fetched_is c.args.self.now c.fetch.new.self c.args.i c.in-Ok.m c.requires.live (subst Keeps c.self.view_is c.self.invariant) c.requires.place c.in-Ok.ensures.ok).0
 
-pub returns-in_err-hand_kept-in-Ok-clause-frame : goal.returns-in_err-hand_kept-in-Ok-clause-frame
-returns-in_err-hand_kept-in-Ok-clause-frame c =
-    (step_fault c.args.self.now c.fetch.new.self c.hand_kept.new.self c.args.i c.in-Ok.m c.in_err-hand_kept-in-Ok.field-0.0 c.requires.live (subst Keeps c.self.view_is c.self.invariant) c.requires.place c.in-Ok.ensures.ok c.in_err-hand_kept-in-Ok.ensures.err).0
+pub returns-in_err-processed-in-Ok-clause-frame : goal.returns-in_err-processed-in-Ok-clause-frame
+returns-in_err-processed-in-Ok-clause-frame c =
+    (step_fault c.args.self.now c.fetch.new.self c.hand_kept.new.self c.args.i c.in-Ok.m c.in_err-processed-in-Ok.field-0.0 c.requires.live (subst Keeps c.self.view_is c.self.invariant) c.requires.place c.in-Ok.ensures.ok c.in_err-processed-in-Ok.ensures.err).0
 
-pub returns-in-Processed-clause-frame : goal.returns-in-Processed-clause-frame
-returns-in-Processed-clause-frame c =
-    step_frame c.args.self.now c.fetch.new.self c.hand_kept.new.self c.args.i c.in-Ok.m c.requires.live (subst Keeps c.self.view_is c.self.invariant) (subst Keeps c.self-in-Ok.view_is c.self-in-Ok.invariant) c.requires.place c.in-Ok.ensures.ok c.in_ok-hand_kept-in-Ok.ensures.ok
+pub returns-in_ok-processed-in-Ok-clause-frame : goal.returns-in_ok-processed-in-Ok-clause-frame
+returns-in_ok-processed-in-Ok-clause-frame c =
+    step_frame c.args.self.now c.fetch.new.self c.hand_kept.new.self c.args.i c.in-Ok.m c.requires.live (subst Keeps c.self.view_is c.self.invariant) (subst Keeps c.self-in-Ok.view_is c.self-in-Ok.invariant) c.requires.place c.in-Ok.ensures.ok c.in_ok-processed-in-Ok.ensures.ok
 
-pub returns-in-Processed-clause-moves : goal.returns-in-Processed-clause-moves
-returns-in-Processed-clause-moves c =
-    step_hands c.args.self.now c.fetch.new.self c.hand_kept.new.self c.args.i c.in-Ok.m false c.requires.live (subst Keeps c.self.view_is c.self.invariant) (subst Keeps c.self-in-Ok.view_is c.self-in-Ok.invariant) c.requires.place c.in-Ok.ensures.ok c.in_ok-hand_kept-in-Ok.ensures.ok
-    (was_processed (standby_of c.fetch.new.self.shadow) c.in-Ok.m (sym c.in_ok-hand_kept-in-Ok.ensures.answer ∙ c.in-Processed.is))
-
-pub returns-in-Held-clause-frame : goal.returns-in-Held-clause-frame
-returns-in-Held-clause-frame c =
-    step_frame c.args.self.now c.fetch.new.self c.hand_kept.new.self c.args.i c.in-Ok.m c.requires.live (subst Keeps c.self.view_is c.self.invariant) (subst Keeps c.self-in-Ok.view_is c.self-in-Ok.invariant) c.requires.place c.in-Ok.ensures.ok c.in_ok-hand_kept-in-Ok.ensures.ok
-
-pub returns-in-Held-clause-moves : goal.returns-in-Held-clause-moves
-returns-in-Held-clause-moves c =
-    step_hands c.args.self.now c.fetch.new.self c.hand_kept.new.self c.args.i c.in-Ok.m true c.requires.live (subst Keeps c.self.view_is c.self.invariant) (subst Keeps c.self-in-Ok.view_is c.self-in-Ok.invariant) c.requires.place c.in-Ok.ensures.ok c.in_ok-hand_kept-in-Ok.ensures.ok
-    (was_held (standby_of c.fetch.new.self.shadow) c.in-Ok.m (sym c.in_ok-hand_kept-in-Ok.ensures.answer ∙ c.in-Held.is))
+pub returns-in_ok-processed-in-Ok-clause-moves : goal.returns-in_ok-processed-in-Ok-clause-moves
+returns-in_ok-processed-in-Ok-clause-moves c =
+    step_hands c.args.self.now c.fetch.new.self c.hand_kept.new.self c.args.i c.in-Ok.m c.in_ok-processed-in-Ok.field-0 c.requires.live (subst Keeps c.self.view_is c.self.invariant) (subst Keeps c.self-in-Ok.view_is c.self-in-Ok.invariant) c.requires.place c.in-Ok.ensures.ok c.in_ok-processed-in-Ok.ensures.ok
+    (sym c.in_ok-processed-in-Ok.ensures.answer)
 
 pub returns-in-Err-clause-frame : goal.returns-in-Err-clause-frame
 returns-in-Err-clause-frame c =
@@ -39,7 +29,7 @@ pub returns-in-Err-clause-moves : goal.returns-in-Err-clause-moves
 returns-in-Err-clause-moves c =
     step_empty c.args.self.now c.fetch.new.self c.args.i c.in-Err.accepted (subst Keeps c.self.view_is c.self.invariant) c.requires.place c.in-Err.ensures.err
 
-pub returns-in_err-hand_kept-in-Ok-clause-moves : goal.returns-in_err-hand_kept-in-Ok-clause-moves
-returns-in_err-hand_kept-in-Ok-clause-moves c =
-    let k = (step_fault c.args.self.now c.fetch.new.self c.hand_kept.new.self c.args.i c.in-Ok.m c.in_err-hand_kept-in-Ok.field-0.0 c.requires.live (subst Keeps c.self.view_is c.self.invariant) c.requires.place c.in-Ok.ensures.ok c.in_err-hand_kept-in-Ok.ensures.err).1 in
+pub returns-in_err-processed-in-Ok-clause-moves : goal.returns-in_err-processed-in-Ok-clause-moves
+returns-in_err-processed-in-Ok-clause-moves c =
+    let k = (step_fault c.args.self.now c.fetch.new.self c.hand_kept.new.self c.args.i c.in-Ok.m c.in_err-processed-in-Ok.field-0.0 c.requires.live (subst Keeps c.self.view_is c.self.invariant) c.requires.place c.in-Ok.ensures.ok c.in_err-processed-in-Ok.ensures.err).1 in
     let p = err_from_is_err_and c.from_residual.result c.from_residual.ensures.1 in rw (p.1, p.2) k

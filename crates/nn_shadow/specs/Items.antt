@@ -1,0 +1,48 @@
+-- Several items of one DataNode, taken in at once.
+use Rattle.std.specs.Prelude.{◌≡◌, ℕ, not, List, ◌++◌, map, filter, take, length, ◌==◌, if◌then◌else◌}
+use Rattle.nn_types.specs.declared.report.Message.{Message}
+use Rattle.nn_types.specs.declared.event.Cause.TheVariants.{Due}
+use Rattle.nn_model.specs.Namespace.{Namespace}
+use Rattle.nn_model.specs.History.{History, processed}
+use Rattle.nn_model.specs.Stands.{StandbyState}
+use Rattle.nn_model.specs.Items.{with_items}
+use Rattle.nn_postponed.specs.Queues.{all_queued}
+use Rattle.nn_postponed.specs.Release.{must_wait}
+use Rattle.nn_replicas.specs.Table.{Table}
+use Rattle.nn_shadow.specs.declared.fault.Handed.{Handed}
+use Rattle.nn_shadow.specs.Calls.{is_due_in, processing, waiting, due_now}
+use Rattle.nn_shadow.specs.Steps.{messages_taken, all_placed}
+
+-- those that have to wait were held, and then the others were processed
+abbrev pub taken_at_once : StandbyState → List Message → StandbyState
+taken_at_once x items = processing Due (due_now x items) (record x { held = all_queued x.held (waiting x items) })
+
+-- and the DataNode has what they say. The message that they are of is not noted yet
+abbrev pub items_taken : StandbyState → ℕ → List Message → StandbyState
+items_taken x dn items =
+    record (taken_at_once x items) { had = λ d. if d == dn then record (x.had d) { has = with_items (x.had d).has items } else x.had d }
+
+-- ---- The same of the parts of the code.
+
+-- those of the items that need not wait, and those that have to
+abbrev pub free_of : Namespace → List Message → List Message → List Message
+free_of n held items = filter (λ i. not (must_wait (is_due_in n) held i)) items
+
+abbrev pub stuck_of : Namespace → List Message → List Message → List Message
+stuck_of n held items = filter (must_wait (is_due_in n) held) items
+
+abbrev pub counts_of : Namespace → List Message → List Message → Handed
+counts_of n held items = record { processed = length (free_of n held items); held = length (stuck_of n held items) }
+
+-- history, held items and table after these items were taken in
+pub record TakesItems (n : Namespace) (items : List Message) (h : History) (was : List Message) (t : Table) (h_now : History) (now : List Message) (t_now : Table) : Type 0 where
+  pub history : h_now ≡ h ++ map (processed Due) (free_of n was items)
+  pub held : now ≡ all_queued was (stuck_of n was items)
+  pub table : t_now ≡ messages_taken (all_placed t items) (free_of n was items)
+
+-- none was taken in: the first ones may have their room
+pub record LeavesItems (items : List Message) (h : History) (was : List Message) (t : Table) (h_now : History) (now : List Message) (t_now : Table) : Type 0 where
+  pub history : h_now ≡ h
+  pub held : now ≡ was
+  pub count : ℕ
+  pub table : t_now ≡ all_placed t (take count items)

@@ -249,6 +249,6 @@ pub having_followed : (lanes : Lanes) (m : Message) (dn : ℕ) →
     having (had_by (followed_by lanes m dn)) ≡ (if dn == m.dn then having_after (having (had_by (lanes dn))) m else having (had_by (lanes dn)))
 having_followed lanes m dn = elim (dn == m.dn) as (λ t. having (had_by (cond t (lanes dn ++ m ∷ []) (lanes dn)))
     ≡ cond t (having_after (having (had_by (lanes dn))) m) (having (had_by (lanes dn)))) [
-  | true ↦ ap having (had_push (had_by []) (lanes dn) m) ∙ having_push (had_by (lanes dn)) m
-  | false ↦ refl
-]
+      | true ↦ ap having (had_push (had_by []) (lanes dn) m) ∙ having_push (had_by (lanes dn)) m
+      | false ↦ refl
+    ]

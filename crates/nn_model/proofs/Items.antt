@@ -72,27 +72,27 @@ from_kept : (begin : ℕ) (f : ℕ → Option ℕ) (ids : List ℕ) (j : ℕ) �
 from_kept begin f [] j here = here
 from_kept begin f (i ∷ ids) j here = elim (f i) as (λ o. Has (map (λ (had : ℕ × ℕ). had.0) (filter (λ (had : ℕ × ℕ). nat_lt had.1 begin)
     (cons_option (option_map (λ number. (i, number)) o) (filter_map (λ id. option_map (λ number. (id, number)) (f id)) ids)))) j → Has (i ∷ ids) j) [
-  | None ↦ λ h. inr (from_kept begin f ids j h)
-  | Some k ↦ elim (nat_lt k begin) as (λ t. Has (map (λ (had : ℕ × ℕ). had.0) (cond t ((i, k) ∷ filter (λ (had : ℕ × ℕ). nat_lt had.1 begin)
-      (filter_map (λ id. option_map (λ number. (id, number)) (f id)) ids)) (filter (λ (had : ℕ × ℕ). nat_lt had.1 begin)
-      (filter_map (λ id. option_map (λ number. (id, number)) (f id)) ids)))) j → Has (i ∷ ids) j) [
-    | true ↦ λ h. elim h [ inl same ↦ inl same | inr later ↦ inr (from_kept begin f ids j later) ]
-    | false ↦ λ h. inr (from_kept begin f ids j h)
-  ]
-] here
+      | None ↦ λ h. inr (from_kept begin f ids j h)
+      | Some k ↦ elim (nat_lt k begin) as (λ t. Has (map (λ (had : ℕ × ℕ). had.0) (cond t ((i, k) ∷ filter (λ (had : ℕ × ℕ). nat_lt had.1 begin)
+          (filter_map (λ id. option_map (λ number. (id, number)) (f id)) ids)) (filter (λ (had : ℕ × ℕ). nat_lt had.1 begin)
+          (filter_map (λ id. option_map (λ number. (id, number)) (f id)) ids)))) j → Has (i ∷ ids) j) [
+            | true ↦ λ h. elim h [ inl same ↦ inl same | inr later ↦ inr (from_kept begin f ids j later) ]
+            | false ↦ λ h. inr (from_kept begin f ids j h)
+          ]
+    ] here
 
 rising_kept : (begin : ℕ) (f : ℕ → Option ℕ) (ids : List ℕ) → AreRising ids → AreRising (kept_ids begin f ids)
 rising_kept begin f [] rising = tt
 rising_kept begin f (i ∷ ids) rising = elim (f i) as (λ o. AreRising (map (λ (had : ℕ × ℕ). had.0) (filter (λ (had : ℕ × ℕ). nat_lt had.1 begin)
     (cons_option (option_map (λ number. (i, number)) o) (filter_map (λ id. option_map (λ number. (id, number)) (f id)) ids))))) [
-  | None ↦ rising_kept begin f ids rising.1
-  | Some k ↦ elim (nat_lt k begin) as (λ t. AreRising (map (λ (had : ℕ × ℕ). had.0) (cond t ((i, k) ∷ filter (λ (had : ℕ × ℕ). nat_lt had.1 begin)
-      (filter_map (λ id. option_map (λ number. (id, number)) (f id)) ids)) (filter (λ (had : ℕ × ℕ). nat_lt had.1 begin)
-      (filter_map (λ id. option_map (λ number. (id, number)) (f id)) ids))))) [
-    | true ↦ ((λ j here. rising.0 j (from_kept begin f ids j here)), rising_kept begin f ids rising.1)
-    | false ↦ rising_kept begin f ids rising.1
-  ]
-]
+      | None ↦ rising_kept begin f ids rising.1
+      | Some k ↦ elim (nat_lt k begin) as (λ t. AreRising (map (λ (had : ℕ × ℕ). had.0) (cond t ((i, k) ∷ filter (λ (had : ℕ × ℕ). nat_lt had.1 begin)
+          (filter_map (λ id. option_map (λ number. (id, number)) (f id)) ids)) (filter (λ (had : ℕ × ℕ). nat_lt had.1 begin)
+          (filter_map (λ id. option_map (λ number. (id, number)) (f id)) ids))))) [
+            | true ↦ ((λ j here. rising.0 j (from_kept begin f ids j here)), rising_kept begin f ids rising.1)
+            | false ↦ rising_kept begin f ids rising.1
+          ]
+    ]
 
 -- ---- items in order
 
@@ -180,6 +180,6 @@ pub items_followed : (lanes : Lanes) (m : Message) (dn : ℕ) →
     items (followed_by lanes m) dn ≡ (if dn == m.dn then items lanes dn ++ added (having (had_by (lanes dn))) m else items lanes dn)
 items_followed lanes m dn = elim (dn == m.dn) as (λ t. items_of (cond t (lanes dn ++ m ∷ []) (lanes dn))
     ≡ cond t (items_of (lanes dn) ++ added (having (had_by (lanes dn))) m) (items_of (lanes dn))) [
-  | true ↦ items_push (lanes dn) m
-  | false ↦ refl
-]
+      | true ↦ items_push (lanes dn) m
+      | false ↦ refl
+    ]

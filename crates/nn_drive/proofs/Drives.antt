@@ -34,6 +34,10 @@ closes_at (e ∷ es) (e' ∷ es') (suc i) d l s = closes_at es es' i d (omega (a
 pub still_lanes : {S : Type 0} (workers : List (S × Reporting)) (es es' : List Taking) → AreLanes workers es → CloseEnds es es' → AreLanes workers es'
 still_lanes workers es es' l c = (many_closed es es' c ∙ l.0, λ i w e below. (closes_at es es' i e (omega (arith, below, l.0)) c).0 ∙ l.1 i w e below)
 
+-- and so are lanes that were taken from
+pub same_lanes : {S : Type 0} (workers : List (S × Reporting)) (es es' : List Taking) → AreLanes workers es → SameEnds es es' → AreLanes workers es'
+same_lanes workers es es' l s = (omega (arith, l.0, same_length es es' s), λ i w e below. (same_at es es' i e (omega (arith, below, l.0)) s).0 ∙ l.1 i w e below)
+
 -- a lane that is closed, of which all that was counted was taken
 abbrev IsAll : Taking → Type 0
 IsAll e = (e.closed ≡ true) × (length e.got ≡ counted e)

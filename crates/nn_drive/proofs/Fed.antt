@@ -113,6 +113,9 @@ module _ {T : Type 0} (gives : T → Answer → T → Type 0) (failures : T → 
       record {
         more = answers_of m.0 ++ k.more;
         asked = subst (λ l. Asked gives s l t) answers k.asked;
+        segments = k.segments;
+        last = k.last;
+        are = sym answers ∙ k.are;
         whole = λ last.
             let none : m.0 ≡ [] = m.2 last in
             let same : all ≡ got = m.1 ∙ ap (λ z. got ++ z) none ∙ append-nil got in
@@ -129,6 +132,9 @@ module _ {T : Type 0} (gives : T → Answer → T → Type 0) (failures : T → 
       record {
         more = answers_of met.0;
         asked = subst (λ l. Asked gives s l t) (sym answers) gave;
+        segments = segments;
+        last = last;
+        are = answers;
         whole = λ l. ap answers_of (met.2 l);
         failed = λ f e.
             let is : last ≡ Err f = one_last (then_last segments last) last (Err f) (map given segments, refl) (e.0, sym answers ∙ e.1) in
@@ -185,6 +191,9 @@ module _ {T : Type 0} (gives : T → Answer → T → Type 0) (failures : T → 
     λ start base before at.
         promoted_same d.answers (answers_of (got_by e2) ++ k.more) (given_alike e0 e2 new d.answers d.asked k d.ended) (ends_alike e0 e2 new d.answers d.asked k d.ended) reports start base before workers x.ends d.ends y
         (d.promoted start base before at),
+    (let ended = ends_alike e0 e2 new d.answers d.asked k d.ended in
+        let is : k.last ≡ end = one_last (then_last k.segments k.last) k.last end (map given k.segments, refl) (ended.0, sym k.are ∙ ended.1) in
+        (k.segments, k.are ∙ ap (then_last k.segments) is)),
   )
 
 -- ---- What a run over the end of a feed comes to.

@@ -1,9 +1,9 @@
 -- New lanes, one more at a time, and place by place.
 use Rattle.std.proofs.Common.{◌≡◌, ℕ, zero, suc, ◌+◌, ◌<◌, ◌≤◌, List, [], ◌∷◌, ◌++◌, length, get_or, refl, sym, ap, ◌∙◌, subst, arith, length-append, append_assoc, append-nil}
-use Rattle.nn_lane.specs.Ends.{Reporting, Taking}
+use Rattle.nn_lane.specs.Ends.{Reporting, Taking, capacity_of}
 use Rattle.nn_tailer.specs.Public.{AreNew}
 use Rattle.nn_drive.specs.Driven.{IsLane, AreLanes}
-use Rattle.nn_drive.specs.NewLanes.{HasLane, HaveLanes}
+use Rattle.nn_drive.specs.NewLanes.{HasLane, HaveLanes, HavePlaces}
 
 pub lanes_more : {S : Type 0} (dn : ℕ) (ss : List S) (ws : List (S × Reporting)) (es : List Taking) (s : S) (w : S × Reporting) (e : Taking)
     → HaveLanes dn ss ws es → HasLane (dn + length ss) s w e → HaveLanes dn (ss ++ s ∷ []) (ws ++ w ∷ []) (es ++ e ∷ [])
@@ -43,6 +43,10 @@ are_new dn [] (v ∷ ws) es h = absurd h
 are_new dn (r ∷ ss) [] es h = absurd h
 are_new dn (r ∷ ss) (v ∷ ws) [] h = absurd h
 are_new dn (r ∷ ss) (v ∷ ws) (d ∷ es) h = (ap (λ z. z.node) h.0.lane ∙ h.0.node, h.0.none_taken, are_new (dn + 1) ss ws es h.1)
+
+pub places_more : (capacity : ℕ) (es : List Taking) (e : Taking) → HavePlaces capacity es → capacity_of e.lane ≡ capacity → HavePlaces capacity (es ++ e ∷ [])
+places_more capacity [] e h k = (k, tt)
+places_more capacity (d ∷ es) e h k = (h.0, places_more capacity es e h.1 k)
 
 -- the sources so far, and those that are left
 pub record Laning {S : Type 0} (all left : List S) (ws : List (S × Reporting)) (es : List Taking) : Type 0 where

@@ -2,7 +2,7 @@
 use Rattle.nn_model.specs.History.{is_flush}
 use Rattle.nn_model.specs.Items.{items}
 use Rattle.nn_tailer.specs.declared.standby.Active.{Active}
-use Rattle.std.specs.Prelude.{◌≡◌, ℕ, ◌<◌, ◌≤◌, Bool, true, false, Option, Result, List, [], ◌++◌, length, map, slice_index_or, count_by, Ok, Err}
+use Rattle.std.specs.Prelude.{◌≡◌, ℕ, ◌<◌, ◌≤◌, Bool, true, false, Option, Result, List, [], ◌∷◌, ◌++◌, length, map, slice_index_or, count_by, Ok, Err}
 use Rattle.std.specs.declared.thread.PromisedHandle.{PromisedHandle}
 use Rattle.nn_types.specs.declared.report.Report.{Report}
 use Rattle.nn_types.specs.declared.report.Message.{Message}
@@ -11,7 +11,8 @@ use Rattle.nn_model.specs.Lawful.{IsWhole}
 use Rattle.nn_model.specs.Picture.{ShowsPicture}
 use Rattle.nn_model.specs.Stands.{Stands, tables_of}
 use Rattle.nn_shadow.specs.Contents.{Contents, standby_of, KeepsSettings}
-use Rattle.nn_segment.specs.Source.{Answer, Asked}
+use Rattle.nn_segment.specs.Segment.{Segment}
+use Rattle.nn_segment.specs.Source.{Answer, Asked, given, end}
 use Rattle.nn_segment.specs.Walk.{log_in}
 use Rattle.nn_segment.specs.LogEnd.{end_of_log, given_in}
 use Rattle.nn_tailer.specs.Promotion.{IsPromoted as Promotes}
@@ -140,8 +141,10 @@ abbrev pub NotDriven : {T : Type 0} → (T → Answer → T → Type 0) → (T �
 NotDriven {T} asks failures old source fault = (after : T) × WentUntil asks failures source old after fault
 
 module _ {T S : Type 0} (asks : T → Answer → T → Type 0) (failures : T → ℕ) (gives : S → Option Report → S → Type 0) where
+  -- The source gave segments and then End, and was not asked again. The standby is promoted there
   abbrev pub IsDriven : Tailer → T → List (S × Reporting) → Contents → Active → Type 0
   IsDriven old source workers x active =
       (answers : List Answer) × (after : T) × (ends : List Taking) × Asked asks source answers after × (failures source ≤ failures after)
       × (active.last ≡ x.last) × (active.flushed ≡ count_by is_flush x.history) × KeepsSettings old.shadow x
       × ((start : Namespace) (base : ℕ) (given : List Answer) → StandsAt start base given old → IsPromoted gives start base (given ++ answers) workers old.ends ends x)
+      × ((segments : List Segment) × (answers ≡ map given segments ++ end ∷ []))

@@ -5,6 +5,7 @@ use Rattle.nn_tailer.specs.declared.standby.Active.{Active}
 use Rattle.std.specs.Prelude.{◌≡◌, ℕ, ◌<◌, ◌≤◌, ◌⊎◌, Bool, true, Option, List, [], ◌++◌, count_by}
 use Rattle.nn_types.specs.declared.report.Report.{Report}
 use Rattle.nn_lane.specs.Ends.{Reporting, Taking}
+use Rattle.nn_segment.specs.Segment.{Segment}
 use Rattle.nn_segment.specs.Source.{Answer, Asked}
 use Rattle.nn_segment.specs.declared.fault.SourceFault.{SourceFault}
 use Rattle.nn_shadow.specs.Contents.{Contents, KeepsSettings}
@@ -14,6 +15,7 @@ use Rattle.nn_feed.specs.declared.ends.FeedEnd.{FeedEnd}
 use Rattle.nn_feed.specs.declared.rule.Placed.{Placed}
 use Rattle.nn_feed.specs.Ends.{got_by, GivesWhatIsFed}
 use Rattle.nn_feed.specs.Feeds.{has_last, answers_of}
+use Rattle.nn_feed.specs.Running.{then_last}
 use Rattle.nn_drive.specs.Driven.{IsPromoted}
 use Rattle.nn_drive.specs.declared.driving.DriveFault.{DriveFault}
 use Rattle.nn_drive.specs.declared.driving.DriveFault.TheVariants as drive
@@ -23,11 +25,14 @@ abbrev pub GotMore : List Placed → List Placed → Type 0
 GotMore old new = (more : List Placed) × (new ≡ old ++ more) × (has_last old ≡ true → more ≡ [])
 
 module _ {T : Type 0} (gives : T → Answer → T → Type 0) (failures : T → ℕ) where
-  -- The source went from s to t. It answered all that was got, in order, and then more; but nothing behind a last answer.
+  -- The source went from s to t. It answered all that was got, in order, and then more: segments, and a last answer with nothing behind it.
   -- Where its last answer is a fault it has failed more often than before
   pub record Sourced (s : T) (got : List Placed) (t : T) : Type 0 where
     pub more : List Answer
     pub asked : Asked gives s (answers_of got ++ more) t
+    pub segments : List Segment
+    pub last : Answer
+    pub are : answers_of got ++ more ≡ then_last segments last
     pub whole : has_last got ≡ true → more ≡ []
     pub failed : (f : SourceFault) → EndsInFault (answers_of got ++ more) f → failures s < failures t
 

@@ -7,3 +7,5 @@ pub mod ReportRows
 pub mod NewLanes
 pub mod LaneRows
 pub mod DriveRows
+pub mod DriveLaws
+pub mod LawRows

@@ -1,6 +1,6 @@
 -- Workers and ends of new lanes.
 use Rattle.std.specs.Prelude.{◌≡◌, ℕ, ◌+◌, false, List, [], ◌∷◌}
-use Rattle.nn_lane.specs.Ends.{Reporting, Taking}
+use Rattle.nn_lane.specs.Ends.{Reporting, Taking, capacity_of}
 
 -- the source has a new lane of this DataNode, of which these are the ends
 pub record HasLane {S : Type 0} (dn : ℕ) (source : S) (worker : S × Reporting) (end : Taking) : Type 0 where
@@ -19,3 +19,8 @@ HaveLanes dn [] (w ∷ ws) es = ⊥
 HaveLanes dn (s ∷ ss) [] es = ⊥
 HaveLanes dn (s ∷ ss) (w ∷ ws) [] = ⊥
 HaveLanes dn (s ∷ ss) (w ∷ ws) (e ∷ es) = HasLane dn s w e × HaveLanes (dn + 1) ss ws es
+
+-- each lane holds so many messages at a time
+abbrev pub HavePlaces : ℕ → List Taking → Type 0
+HavePlaces capacity [] = Unit {0}
+HavePlaces capacity (e ∷ es) = (capacity_of e.lane ≡ capacity) × HavePlaces capacity es

@@ -2,14 +2,14 @@
 ghost use Rattle.std.specs.Prelude.{◌≤◌, length, IfOk};
 ghost use Rattle.nn_tailer.specs.Public.{AreNew};
 ghost use Rattle.nn_drive.specs.Driven.{AreLanes};
-ghost use Rattle.nn_drive.specs.NewLanes.{HaveLanes};
+ghost use Rattle.nn_drive.specs.NewLanes.{HaveLanes, HavePlaces};
 
 use crate::reporting::ReportSource;
 use nn_lane::{LaneEnd, Reporter, lane};
 use std::alloc::{AllocError, Global};
 
 /// New lanes for the DataNodes that these sources are of, DataNode 1 first: the workers, each with the reporter of its
-/// lane, and the other ends. Each lane holds at most `capacity` messages at a time.
+/// lane, and the other ends. `capacity` is how many messages a lane holds at a time, 1 to 1024.
 pub fn with_lanes<S: ReportSource + Drop>(
     alloc: Global,
     sources: Vec<S>,
@@ -18,6 +18,7 @@ pub fn with_lanes<S: ReportSource + Drop>(
     requires few { length sources.items ≤ 256 }
     requires capacity { (1 ≤ capacity) × (capacity ≤ 1024) }
     ensures own { IfOk result (λ r. HaveLanes 1 sources.items r.0.items r.1.items) }
+    ensures places { IfOk result (λ r. HavePlaces capacity r.1.items) }
     ensures lanes { IfOk result (λ r. AreLanes r.0.items r.1.items) }
     ensures fresh { IfOk result (λ r. AreNew 1 r.1.items) }
 {

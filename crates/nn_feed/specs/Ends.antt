@@ -36,10 +36,18 @@ IsSameEnd old new = receives_on new.receiver ≡ receives_on old.receiver
 abbrev pub MayNotFollow : List Placed → Answer → Type 0
 MayNotFollow put answer = (has_last put ≡ true) ⊎ ((is_last answer ≡ false) × (2 ^ 60 ≤ length put))
 
+-- neither End nor a fault was put, and the answer is no segment too many
+abbrev pub MayFollow : List Placed → Answer → Type 0
+MayFollow put answer = (has_last put ≡ false) × (is_last answer ≡ false → length put < 2 ^ 60)
+
+-- one answer more was put, at its place, where it may follow
+abbrev pub Puts : List Placed → Answer → List Placed → Type 0
+Puts put answer new = MayFollow put answer × (new ≡ put ++ placed answer (length put) ∷ [])
+
 -- an answer was refused so: it comes back, 45 comes where it may not follow; 46 where it may, and its send failed, of which only the place is seen
 abbrev pub Refuses : List Placed → Answer → Refusal → Type 0
 Refuses put answer (Ended back) = (back ≡ answer) × MayNotFollow put answer
-Refuses put answer (Gone back place) = (back ≡ answer) × (has_last put ≡ false) × (is_last answer ≡ false → length put < 2 ^ 60) × (place ≡ length put)
+Refuses put answer (Gone back place) = (back ≡ answer) × MayFollow put answer × (place ≡ length put)
 
 -- the last answer was got before, and comes again
 abbrev pub GetsAgain : List Placed → Answer → List Placed → Type 0

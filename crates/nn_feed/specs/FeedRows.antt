@@ -1,6 +1,6 @@
 -- Feeds on small examples, computed.
-use Rattle.std.specs.Prelude.{◌≡◌, ℕ, ◌^◌, ◌<◌, ◌≤◌, true, false, List, [], ◌∷◌, length, map, Some, None, Ok, Err, refl}
-use Rattle.std.proofs.Common.{arith, sym, ◌∙◌, true≢false, ⊎_elim, inl, inr}
+use Rattle.std.specs.Prelude.{◌≡◌, ℕ, ◌^◌, ◌<◌, ◌≤◌, true, false, List, [], ◌∷◌, ◌++◌, length, map, Some, None, Ok, Err, refl}
+use Rattle.std.proofs.Common.{arith, ap, sym, ◌∙◌, true≢false, ⊎_elim, inl, inr}
 use Rattle.nn_segment.specs.Segment.{Segment as Whole}
 use Rattle.nn_segment.specs.Source.{Answer, GivesNext, end, given}
 use Rattle.nn_segment.specs.declared.fault.SourceFault.TheVariants.{SourceFailed}
@@ -9,10 +9,10 @@ use Rattle.nn_feed.specs.declared.ends.Ending.TheVariants as ending
 use Rattle.nn_feed.specs.declared.fault.FeedFault.TheVariants.{Source, Refused}
 use Rattle.nn_feed.specs.declared.fault.Refusal.TheVariants.{Ended, Gone}
 use Rattle.nn_feed.specs.declared.rule.Placed.{Placed}
-use Rattle.nn_feed.specs.Feeds.{placed, is_last, has_last, EndsIn, MayStand, IsFeed}
+use Rattle.nn_feed.specs.Feeds.{placed, answers_of, is_last, has_last, EndsIn, MayStand, IsFeed}
 use Rattle.nn_feed.specs.Rule.{log, Fits}
 use Rattle.nn_feed.specs.Passes.{ended_by, as_answer, ending_in}
-use Rattle.nn_feed.specs.Ends.{MayNotFollow, Refuses, GetsAgain, GetsNext, GetsNothing, Gets, IsMet}
+use Rattle.nn_feed.specs.Ends.{MayNotFollow, MayFollow, Puts, Refuses, GetsAgain, GetsNext, GetsNothing, Gets, IsMet}
 use Rattle.nn_feed.specs.Fault.{number_of, number_of_fault}
 use Rattle.nn_feed.specs.Running.{last_answer, RefusedAnItem, ending_of, last_in, then_last, Fed}
 
@@ -135,15 +135,28 @@ fault_is_never_too_many before unended h =
 another_does_not_come_back : Refuses put segment (Ended end) → ⊥
 another_does_not_come_back h = let e : end ≡ segment = h.0 in cc
 
+-- one more is put, at its place
+end_is_put : Puts got end put
+end_is_put = ((refl, λ e. absurd (true≢false e)), refl)
+
+nothing_is_put_behind_end : MayFollow put segment → ⊥
+nothing_is_put_behind_end h = true≢false h.0
+
+no_segment_is_put_too_many : (before : List Placed) → 2 ^ 60 ≤ length before → MayFollow before segment → ⊥
+no_segment_is_put_too_many before many h = let few = h.1 refl in omega (arith, many, few)
+
+another_is_not_put : Puts got end (got ++ placed failed 1 ∷ []) → ⊥
+another_is_not_put h = let e : segment ∷ failed ∷ [] ≡ segment ∷ end ∷ [] = ap answers_of h.1 in cc
+
 gone : Refuses got segment (Gone segment 1)
-gone = (refl, refl, (λ _. omega arith), refl)
+gone = (refl, (refl, λ _. omega arith), refl)
 
 ended_comes_before_gone : Refuses put segment (Gone segment 2) → ⊥
-ended_comes_before_gone h = true≢false h.1
+ended_comes_before_gone h = true≢false h.1.0
 
 -- the send that failed is its own
 not_gone_by_another_send : Refuses got segment (Gone segment 0) → ⊥
-not_gone_by_another_send h = let e : 0 ≡ 1 = h.3 in omega (arith, e)
+not_gone_by_another_send h = let e : 0 ≡ 1 = h.2 in omega (arith, e)
 
 next_is_got : Gets got end put
 next_is_got = inr (inl (refl, refl, (refl, omega arith, (refl, refl, tt))))

@@ -1,6 +1,7 @@
 -- Each step of a seat is an event of the intake core, and each lane is reached by events.
-use Rattle.std.proofs.Common.{◌≡◌, ◌⊎◌, ℕ, ◌+◌, ◌*◌, ◌<◌, ◌≤◌, List, [], ◌∷◌, ◌++◌, length, Option, Some, None, Bool, true, false, refl, sym, ap, ◌∙◌, subst, ⊎_elim, arith, length-set, length-append, append_assoc, append-nil}
-use Rattle.std.specs.Prelude.{◌/◌, slice_index, slice_set, nat_lt}
+use Rattle.std.proofs.Common.{◌≡◌, ◌⊎◌, ℕ, ◌+◌, ◌*◌, ◌<◌, ◌≤◌, List, [], ◌∷◌, ◌++◌, length, Option, Some, None, Bool, true, false, refl, sym, ap, ◌∙◌, subst, ⊎_elim, inl, inr, arith, length-set, length-append, append_assoc, append-nil}
+use Rattle.std.proofs.lemmas.Bool.{eqb-true, eqb-false}
+use Rattle.std.specs.Prelude.{◌/◌, ◌==◌, if◌then◌else◌, slice_index, slice_set, nat_lt}
 use mathlib.Core.Option.{some, none, some-injective}
 use mathlib.Core.Option as maybe
 use lib.ListN.{get_elem?}
@@ -13,6 +14,7 @@ use Rattle.nn_lane.specs.declared.view.View.{View}
 use Rattle.nn_lane.specs.Intake.{Intake, IntakeEvent, Accept, Take, Close, Look, no_intake, after_event, intake_after, May, MayAll, words_of, front_word, taken_word}
 use Rattle.nn_lane.specs.Lane.{Sat, Seated, opening_view, Kept, Lane, NextOut, with_sender, with_taker, looked, sent_more, was_told, saw, got_more, closed_at}
 use Rattle.nn_lane.specs.Moves.{LaneState, shown, shown_by, IsSender, IsTaker, Steps, open_front, Tries, TriesInVain, Stores, Shuts, SeesTaken, GivesBack, SeesFront, Learns, Loads, Moves, Runs, Parts, Meets}
+use Rattle.nn_lane.specs.Moves.{SeatStep, SeeTaken, Send, GiveBack, SeeFront, TakeFirst, Shut, Learn, IsMadeBy, word_of, becomes, tells, event_of, EachStepIsAnEvent}
 use Rattle.nn_lane.proofs.Seats.{reporter_moves, taker_moves, cuts, joins}
 use Rattle.nn_lane.proofs.Sides.{one_pair}
 use Rattle.nn_lane.proofs.Steps.{is_open}
@@ -113,6 +115,37 @@ pub moves : (node n id i : ℕ) (f : ℕ → ℕ) (told : Sat → ℕ → Sat �
     → (s' : LaneState) × Lane node s' × (length s'.homes ≡ n) × Steps s v i f told s'
 moves node n id i f told v cs allows s h long at fits = let a = allows s h long at fits in
     (stepped s i (f (slice_index s.words i)) id cs a.0 a.1, a.3, homes_length a.1 s.homes cs ∙ long, (id, cs, (a.0, carried_after cs a.1), at, refl, refl, a.4))
+
+-- ---- The steps of the calls.
+
+-- a try to send, by the word that it finds
+tried : (n : ℕ) (x : Message) (v : View) (s s' : LaneState) → Tries n s v x s' → Moves n s (event_of v (Send x) (slice_index s.words front_word)) s'
+tried n x v s s' t = by (slice_index s.words front_word == open_front v) refl
+  where
+    by : (b : Bool) → (slice_index s.words front_word == open_front v) ≡ b → Moves n s (if b then Accept x else Look) s'
+    by true e = (v, t, eqb-true (slice_index s.words front_word) (open_front v) e)
+    by false e = (v, inr (inl (x, t, eqb-false (slice_index s.words front_word) (open_front v) e)))
+
+-- a close, the first time and again
+shut_so : (n : ℕ) (v : View) (s s' : LaneState) → Shuts n s v s' → Moves n s (event_of v Shut (slice_index s.words front_word)) s'
+shut_so n v s s' t = by v.taker.closed refl
+  where
+    by : (b : Bool) → v.taker.closed ≡ b → Moves n s (if b then Look else Close) s'
+    by true e = (v, inr (inr (t, e)))
+    by false e = (v, t, e)
+
+of_step : (n : ℕ) (c : SeatStep) (v : View) (s s' : LaneState) → IsMadeBy v c → Steps s v (word_of c) (becomes v c) (tells n v c) s' → Moves n s (event_of v c (slice_index s.words (word_of c))) s'
+of_step n SeeTaken v s s' is t = (v, inl (inl (is, t)))
+of_step n (Send x) v s s' is t = tried n x v s s' (is.0, is.1, t)
+of_step n GiveBack v s s' is t = (v, inl (inr (inl (is, t))))
+of_step n SeeFront v s s' is t = (v, inl (inr (inr (inl (is, t)))))
+of_step n TakeFirst v s s' is t = (v, (is, t))
+of_step n Shut v s s' is t = shut_so n v s s' (is, t)
+of_step n Learn v s s' is t = (v, inl (inr (inr (inr t))))
+
+pub each_step : EachStepIsAnEvent
+each_step node n id c v cs is allows s h long at fits =
+    let m = moves node n id (word_of c) (becomes v c) (tells n v c) v cs allows s h long at fits in (m.0, m.1, m.2, of_step n c v s m.0 is m.3)
 
 -- ---- What is no event.
 

@@ -5,7 +5,7 @@ use Rattle.nn_types.specs.declared.report.Message.{Message}
 use Rattle.nn_types.specs.declared.report.Kind.TheVariants.{Received}
 use Rattle.nn_lane.specs.Intake.{IntakeEvent, Accept, Take, Close, Look, no_intake, intake_after, MayAll, words_of, laid, front_word, taken_word}
 
-abbrev message : ℕ → Message
+abbrev pub message : ℕ → Message
 message number = record { dn = 3; number = number; block = 1073741825; stamp = 1001; len = 5; kind = Received }
 
 -- one place: the second message is accepted once the first was taken

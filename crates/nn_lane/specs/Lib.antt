@@ -5,4 +5,5 @@ pub mod Intake
 pub mod IntakeRows
 pub mod Lane
 pub mod Moves
+pub mod MoveRows
 pub mod Parts

@@ -1,9 +1,9 @@
 -- The steps of a lane's seats, each as the event of the intake core that it is.
-use Rattle.std.specs.Prelude.{◌≡◌, ◌≢◌, ◌⊎◌, ◌==◌, ℕ, ◌+◌, ◌*◌, true, false, List, [], ◌∷◌, ◌++◌, length, slice_index, slice_set, bit_or}
+use Rattle.std.specs.Prelude.{◌≡◌, ◌≢◌, ◌⊎◌, ◌==◌, ℕ, ◌+◌, ◌*◌, ◌<◌, ◌^◌, true, false, if◌then◌else◌, List, [], ◌∷◌, ◌++◌, length, slice_index, slice_set, bit_or}
 use mathlib.Core.Option.{some, none}
 use lib.ListN.{get_elem?}
 use prog.Atomic.{either}
-use Rattle.atomic_table.specs.Table.{State, step}
+use Rattle.atomic_table.specs.Table.{State, Allows, step}
 use Rattle.nn_types.specs.declared.report.Message.{Message}
 use Rattle.nn_lane.specs.declared.view.Sender.{Sender}
 use Rattle.nn_lane.specs.declared.view.Taker.{Taker}
@@ -21,10 +21,10 @@ shown r e = record { accepted = r.sent; taken = length e.got; closed = e.closed 
 abbrev pub shown_by : (node : ℕ) (s : LaneState) → Lane node s → Intake
 shown_by node s h = shown h.1 h.2
 
--- a seat with the view v makes one step: the word i becomes f of what it was, the seat has a new view, and the step told `then`
+-- a seat with the view v makes one step: the word i becomes f of what it was, the seat has a new view, and the step told this
 abbrev pub Steps : LaneState → View → ℕ → (ℕ → ℕ) → (Sat → ℕ → Sat → Type 0) → LaneState → Type 0
-Steps s v i f then s' = (id : ℕ) × (cs : List (ℕ × Message)) × (m : Sat) × (get_elem? s.views id ≡ some v)
-    × (s'.words ≡ slice_set s.words i (f (slice_index s.words i))) × (s'.views ≡ slice_set s.views id m.0) × then (v, cs) (slice_index s.words i) m
+Steps s v i f told s' = (id : ℕ) × (cs : List (ℕ × Message)) × (m : Sat) × (get_elem? s.views id ≡ some v)
+    × (s'.words ≡ slice_set s.words i (f (slice_index s.words i))) × (s'.views ≡ slice_set s.views id m.0) × told (v, cs) (slice_index s.words i) m
 
 abbrev pub IsSender : View → Type 0
 IsSender v = (v.sends ≡ true) × (v.takes ≡ false)
@@ -79,6 +79,72 @@ Moves n s Look s' = (v : View) × (Loads n s v s' ⊎ TriesInVain n s v s' ⊎ (
 abbrev pub Runs : ℕ → ℕ → LaneState → List IntakeEvent → LaneState → Type 0
 Runs node n s [] s' = s' ≡ s
 Runs node n s (e ∷ es) s' = (m : LaneState) × Lane node m × (length m.homes ≡ n) × Moves n s e m × Runs node n m es s'
+
+-- ---- The steps of the calls.
+
+-- which step of its seat a call makes: each is one atomic operation on a word of the table
+pub data SeatStep : Type 0 where
+  SeeTaken : SeatStep  -- `prepare` loads `taken`, where it remembers no place
+  Send : Message → SeatStep  -- `publish` compare-exchanges `front`
+  GiveBack : SeatStep  -- `meet` loads `taken` with the reporter's seat
+  SeeFront : SeatStep  -- `take` loads `front`, where it remembers no message
+  TakeFirst : SeatStep  -- `take` stores `taken`
+  Shut : SeatStep  -- `close` sets the low bit of `front`
+  Learn : SeatStep  -- `meet` loads `front` with the seat of both
+
+-- the seat that makes it
+abbrev pub IsMadeBy : View → SeatStep → Type 0
+IsMadeBy v SeeTaken = IsSender v
+IsMadeBy v (Send x) = IsSender v × (v.sender.out ≡ true)
+IsMadeBy v GiveBack = IsSender v
+IsMadeBy v SeeFront = IsTaker v
+IsMadeBy v TakeFirst = IsTaker v
+IsMadeBy v Shut = IsTaker v
+IsMadeBy v Learn = Unit {0}
+
+-- the word, what becomes of it, and what the step tells
+abbrev pub word_of : SeatStep → ℕ
+word_of SeeTaken = taken_word
+word_of (Send x) = front_word
+word_of GiveBack = taken_word
+word_of SeeFront = front_word
+word_of TakeFirst = taken_word
+word_of Shut = front_word
+word_of Learn = front_word
+
+abbrev pub becomes : View → SeatStep → ℕ → ℕ
+becomes v SeeTaken t = t
+becomes v (Send x) f = either (f == open_front v) (open_front v + 2) f
+becomes v GiveBack t = t
+becomes v SeeFront f = f
+becomes v TakeFirst t = length v.taker.got + 1
+becomes v Shut f = bit_or f 1
+becomes v Learn f = f
+
+abbrev pub tells : ℕ → View → SeatStep → Sat → ℕ → Sat → Type 0
+tells n v SeeTaken m t = saw_taken (step n taken_word 0 0 none) m t
+tells n v (Send x) m f = accepted (step n front_word (open_front v) (open_front v + 2) (some x)) m f
+tells n v GiveBack m t = gave_back (step n taken_word 0 0 none) m t
+tells n v SeeFront m f = saw_front (step n front_word 0 0 none) m f
+tells n v TakeFirst m t = took (step n taken_word (length v.taker.got + 1) 0 none) m (length v.taker.got + 1)
+tells n v Shut m f = shut (step n front_word 1 0 none) m f
+tells n v Learn m f = learned (step n front_word 0 0 none) m f
+
+-- the event that it is, where the word was found so: sending is one only at an open lane, and closing only the first time
+abbrev pub event_of : View → SeatStep → ℕ → IntakeEvent
+event_of v SeeTaken t = Look
+event_of v (Send x) f = if f == open_front v then Accept x else Look
+event_of v GiveBack t = Look
+event_of v SeeFront f = Look
+event_of v TakeFirst t = Take
+event_of v Shut f = if v.taker.closed then Look else Close
+event_of v Learn f = Look
+
+-- Wherever a seat is allowed the step, which is what each of the atomic operations asks for, it is that event.
+abbrev pub EachStepIsAnEvent : Type 0
+EachStepIsAnEvent = (node n id : ℕ) (c : SeatStep) (v : View) (cs : List (ℕ × Message)) → IsMadeBy v c → Allows (Lane node) n id (v, cs) (word_of c) (becomes v c) (tells n v c (v, cs))
+    → (s : LaneState) → Lane node s → length s.homes ≡ n → get_elem? s.views id ≡ some v → slice_index s.words (word_of c) < 2 ^ 64
+    → (s' : LaneState) × Lane node s' × (length s'.homes ≡ n) × Moves n s (event_of v c (slice_index s.words (word_of c))) s'
 
 -- ---- What is no event.
 

@@ -7,7 +7,7 @@ ghost use Rattle.nn_types.specs.declared.report.Message.{Message};
 ghost use Rattle.nn_lane.specs.declared.view.View.{View};
 ghost use Rattle.nn_lane.specs.Intake.{IntakeEvent, no_intake, intake_after, MayAll, words_of};
 ghost use Rattle.nn_lane.specs.Lane.{Lane, opening_view};
-ghost use Rattle.nn_lane.specs.Moves.{LaneState, Steps, shown_by, Runs, Parts, Meets};
+ghost use Rattle.nn_lane.specs.Moves.{LaneState, Steps, shown_by, Runs, Parts, Meets, EachStepIsAnEvent};
 
 use crate::view::View;
 use atomic_table::Play;
@@ -19,10 +19,14 @@ pub fn a_run_is_a_list_of_events()
     ensures { (node n : ℕ) (s s' : LaneState) (events : List IntakeEvent) (h : Lane node s) (h' : Lane node s') → length s.homes ≡ n → Runs node n s events s' → MayAll n (shown_by node s h) events × (shown_by node s' h' ≡ intake_after (shown_by node s h) events) }
 {}
 
-/// What a seat of a lane's table is allowed to do is a step of such a run, and keeps the rule: so the steps of every call are
-/// events.
+/// What a seat of a lane's table is allowed to do is a step of its seat, and keeps the rule.
 pub fn an_allowed_step_is_a_move<M: Play<Message, View>>()
     ensures { (node n id i : ℕ) (f : ℕ → ℕ) (st : Step Message) (v : View) (cs : List (ℕ × Message)) → Allows (Lane node) n id (v, cs) i f (M.then st (v, cs)) → (s : LaneState) → Lane node s → length s.homes ≡ n → get_elem? s.views id ≡ some v → slice_index s.words i < 18446744073709551616 → (s' : LaneState) × Lane node s' × (length s'.homes ≡ n) × Steps s v i f (M.then st) s' }
+{}
+
+/// Each step that a call of a lane makes is the event of the intake core that its kind and the word that it found say.
+pub fn each_step_is_an_event()
+    ensures { EachStepIsAnEvent }
 {}
 
 /// Whenever no step is under way, the lane's words and what its ends show are those of the intake core after some events.

@@ -1,5 +1,5 @@
 -- Segments that are read again from further on end where they ended.
-use Rattle.std.proofs.Common.{inl, inr, ◌≡◌, ℕ, zero, suc, ◌+◌, ◌-◌, ◌≤◌, List, [], ◌∷◌, ◌++◌, length, drop, Ok, Err, refl, sym, ap, subst, ◌∙◌, arith, append-nil, length-append}
+use Rattle.std.proofs.Common.{inl, inr, ◌≡◌, ℕ, zero, suc, ◌+◌, ◌-◌, ◌≤◌, ◌<◌, List, [], ◌∷◌, ◌++◌, length, drop, Ok, Err, refl, sym, ap, subst, ◌∙◌, arith, append-nil, length-append}
 use Rattle.std.specs.Prelude.{◌⊎◌, flat_map}
 use Rattle.std.specs.List.{AllByRecursion}
 use Rattle.std.proofs.Math.Seq.{drop-append_seam}
@@ -7,6 +7,7 @@ use Rattle.std.proofs.lemmas.Bool.{cases_lt}
 use Rattle.std.proofs.lemmas.List.{drop_all}
 use Rattle.nn_types.specs.declared.tx.Tx.{Tx}
 use Rattle.nn_types.specs.declared.edit_fault.EditFault.{EditFault}
+use Rattle.nn_shadow.specs.declared.fault.Stop.{Stop}
 use Rattle.nn_model.specs.Namespace.{Namespace}
 use Rattle.nn_model.specs.Apply.{effect, applied}
 use Rattle.nn_model.specs.Log.{counted, namespace_after, IsLog, CountsUp}
@@ -21,7 +22,7 @@ use Rattle.nn_segment.specs.declared.source.Item.TheVariants as item
 use Rattle.nn_segment.specs.LogEnd.{LogStop, LogEnd, refused, disorder, go_on, end_of_txs, and_then, end_of_log, end_behind, given_in}
 use Rattle.nn_segment.proofs.Walks.{passed_over, next_taken}
 use Rattle.nn_image.proofs.Round.{reads_back, reads_old_back}
-use Rattle.nn_tailer.specs.RestartLaws.{GoesOn, ReadsAgain, KeepsStatus, KeepsOldStatus}
+use Rattle.nn_tailer.specs.RestartLaws.{GoesOn, ReadsAgain, StopsAgain, KeepsStatus, KeepsOldStatus}
 use Rattle.nn_tailer.proofs.LogEnds.{no_more, behind_none, behind_gap, behind_segment, behind_applied}
 
 -- ---- what counts where some of it was counted before
@@ -114,13 +115,17 @@ txs_given (Ok (item.Segment s) ∷ answers) = ap (λ txs. s.txs ++ txs) (txs_giv
 txs_given (Ok item.End ∷ answers) = txs_given answers
 txs_given (Err fault ∷ answers) = txs_given answers
 
--- the log of these segments was read as `txs` and the rest, and the log goes on as the rest does behind them
+-- the log of these segments was read as `txs` and the rest, and where it has a gap, that comes behind `txs`
 pub record Read (segments : List Segment) (last : ℕ) (n : Namespace) (txs rest : List Tx) (now : ℕ) (after : Namespace) : Type 0 where
   pub read : counted last (all_txs segments) ≡ txs ++ rest
   pub log : IsLog n last txs
   pub at : now ≡ last + length txs
   pub in_it : after ≡ namespace_after n txs
-  pub way : (later : List Segment) → end_of_log last n (segments ++ later) ≡ end_behind now after rest later
+  pub gap : (s : LogStop) → end_of_log last n (segments ++ []) ≡ Err s → s.cause ≡ disorder → last + length txs < s.txid
+
+none_of : (txs : List Tx) → length txs ≤ 0 → txs ≡ []
+none_of [] few = refl
+none_of (tx ∷ txs) few = absurd (omega (arith, few))
 
 again : (segments : List Segment) (last : ℕ) (n : Namespace) (txs rest : List Tx) (now : ℕ) (after : Namespace) → AllByRecursion IsSegment segments
     → Read segments last n txs rest now after → (later : List Segment) → end_of_log now after (segments ++ later) ≡ end_of_log last n (segments ++ later)
@@ -128,7 +133,11 @@ again [] last n [] rest now after are r later = let same : now ≡ last = omega 
 again [] last n (tx ∷ txs) rest now after are r later = let e = r.read in absurd (cc)
 again (s ∷ segments) last n txs rest now after are r later =
     elim (cases_lt (last + 1) (first_txid s.txs)) [
-      | inl high ↦ absurd (no_gap now after rest (record { cause = disorder; txid = last + 1 }) refl (sym (r.way []) ∙ behind_gap last n s (segments ++ []) high))
+      | inl high ↦
+          let gap = r.gap (record { cause = disorder; txid = last + 1 }) (behind_gap last n s (segments ++ []) high) refl in
+          let none : txs ≡ [] = none_of txs (omega (arith, gap)) in
+          let same : now ≡ last = omega (arith, r.at, ap length none) in
+          let is : after ≡ n = r.in_it ∙ ap (namespace_after n) none in (λ j. end_of_log (same j) (is j) (s ∷ (segments ++ later)))
       | inr low ↦
           let front = counted last s.txs in
           let back = counted (last + length front) (all_txs segments) in
@@ -152,7 +161,8 @@ again (s ∷ segments) last n txs rest now after are r later =
                   log = log_back n last front h.0 log;
                   at = omega (arith, r.at, ap length h.1, length-append front h.0);
                   in_it = r.in_it ∙ ap (namespace_after n) h.1 ∙ namespace_of_appended n front h.0;
-                  way = λ later. sym (over later) ∙ r.way later;
+                  gap = λ z stops is.
+                      let low = r.gap z (over [] ∙ stops) is in omega (arith, low, ap length h.1, length-append front h.0);
                 }) later
                 ∙ sym (over later)
             | inr h ↦
@@ -172,14 +182,32 @@ reads_again start base given x s going are later =
       log = s.shadow.log;
       at = s.shadow.last;
       in_it = s.shadow.namespace;
-      way = s.goes_on going;
+      gap = λ z stops is. absurd (no_gap x.shadow.last x.shadow.namespace x.rest z is (sym (s.goes_on going []) ∙ stops));
     }) later
+
+pub stops_again : StopsAgain
+stops_again start base given x stop s stopped next are =
+    let stops = s.stops stop stopped in (
+      stops.0,
+      stops.1,
+      λ later.
+          again (given_in given) base start s.txs x.rest x.shadow.last x.shadow.namespace are (record {
+            read = ap (counted base) (txs_given given) ∙ s.log;
+            log = s.shadow.log;
+            at = s.shadow.last;
+            in_it = s.shadow.namespace;
+            gap = λ z here is.
+                let both : Err z ≡ Err (record { cause = stops.0; txid = stop.txid }) = sym here ∙ stops.2 [] in
+                let same : z ≡ record { cause = stops.0; txid = stop.txid } = cc in
+                let txid = ap (λ (q : LogStop). q.txid) same in omega (arith, txid, next, s.shadow.last);
+          }) later
+          ∙ stops.2 later,
+    )
 
 pub goes_on : GoesOn
 goes_on start base given more x y s t =
     let log : IsLog (namespace_after start s.txs) (base + length s.txs) t.txs =
     subst (λ k. IsLog (namespace_after start s.txs) k t.txs) s.shadow.last (subst (λ (n : Namespace). IsLog n x.shadow.last t.txs) s.shadow.namespace t.shadow.log) in (
-      s.txs ++ t.txs,
       appended_log start base s.txs t.txs s.shadow.log log,
       t.shadow.namespace ∙ ap (λ (n : Namespace). namespace_after n t.txs) s.shadow.namespace ∙ sym (namespace_of_appended start s.txs t.txs),
       omega (arith, t.shadow.last, s.shadow.last, length-append s.txs t.txs),

@@ -175,6 +175,8 @@ step_hands old mid new i m counts v k k' l f h w =
       node = on.0;
       lanes = on.1;
       few = on.2;
+      none_kept = let in_mid : i < length mid.kept = omega (arith, same_many 1 mid.ends mid.kept k'.lanes, r.1) in
+          let P : Tailer → Type 0 = λ z. kept_at z i ≡ None in subst P (sym h.now) (get_or-set_same mid.kept i None None in_mid);
       standby = ap (λ z. standby_of z.shadow) h.now ∙ by.standby;
       answer = subst (λ (z : Contents). handed_as (standby_of z) m ≡ counts) same w;
       held = λ start base given s. by.held start base s.txs (lanes_of old) (stands_live start base given old v s);

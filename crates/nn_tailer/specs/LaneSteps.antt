@@ -74,6 +74,7 @@ pub record HandsNext (old : Tailer) (i : ℕ) (handed : Handed) (new : Tailer) :
   pub node : message.dn ≡ i + 1
   pub lanes : handed_in new ≡ slice_set (handed_in old) i (slice_index_or (handed_in old) i [] ++ message ∷ [])
   pub few : handed_count old i + 1 ≤ all_count new i
+  pub none_kept : kept_at new i ≡ None
   pub standby : standby_of new.shadow ≡ received (standby_of old.shadow) message
   pub answer : handed_as (standby_of old.shadow) message ≡ handed
   pub held : (start : Namespace) (base : ℕ) (given : List Answer) → StandsAt start base given old → (item : Message) → Has (items_added (standby_of old.shadow) message) item

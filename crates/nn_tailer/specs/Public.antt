@@ -1,5 +1,5 @@
 -- What a public step does.
-use Rattle.std.specs.Prelude.{◌≡◌, ℕ, ◌+◌, ◌<◌, true, false, List, [], ◌∷◌, length, Some, None, Result, Ok, Err, MatchResult, ◌⊎◌}
+use Rattle.std.specs.Prelude.{◌≡◌, ◌≢◌, ℕ, ◌+◌, ◌<◌, true, false, List, [], ◌∷◌, length, Some, None, Result, Ok, Err, MatchResult, ◌⊎◌}
 use Rattle.nn_lane.specs.Ends.{Taking, node_of}
 use Rattle.nn_model.specs.Namespace.{root_alone}
 use Rattle.nn_segment.specs.Source.{Answer, Asked}
@@ -9,7 +9,7 @@ use Rattle.nn_tailer.specs.declared.standby.Choice.TheVariants.{Edit, Lane}
 use Rattle.nn_tailer.specs.declared.standby.Stepped.{Stepped}
 use Rattle.nn_tailer.specs.declared.fault.StepFault.{StepFault}
 use Rattle.nn_tailer.specs.declared.fault.StepFault.TheVariants as fault
-use Rattle.nn_tailer.specs.Tailing.{has_begun, Tailer, Carries, StandsAt}
+use Rattle.nn_tailer.specs.Tailing.{has_begun, Tailer, Carries, StandsAt, lane_at, kept_at}
 use Rattle.nn_tailer.specs.Reads.{StopsWith, StopsFor}
 use Rattle.nn_tailer.specs.Steps.{IsEdited, NotEdited}
 use Rattle.nn_tailer.specs.LaneSteps.{SameEnds, LaneMoves}
@@ -34,12 +34,21 @@ NotStepped old choice answers new (fault.LogNotEnded f) = (choice ≡ Edit) × N
 NotStepped old choice answers new fault.OutOfMemory =
     ((choice ≡ Edit) × NotEdited old answers new fault.OutOfMemory) ⊎ ((dn : ℕ) × (i : ℕ) × (choice ≡ Lane dn) × (answers ≡ []) × IsPlace old dn i × LaneMoves old i new (Err fault.OutOfMemory))
 
+-- the lane at this place is as it was: its end, and the message of it that is kept
+abbrev pub SameLane : Tailer → ℕ → Tailer → Type 0
+SameLane old k new = ((e : Taking) → lane_at new k e ≡ lane_at old k e) × (kept_at new k ≡ kept_at old k)
+
+-- what a step leaves: one of the log leaves all lanes, and one of a lane the other lanes, the segment in hand and the stop
+abbrev pub Leaves : Tailer → Choice → Tailer → Type 0
+Leaves old Edit new = (new.ends ≡ old.ends) × (new.kept ≡ old.kept)
+Leaves old (Lane dn) new = (new.rest ≡ old.rest) × (new.stop ≡ old.stop) × ((k : ℕ) → dn ≢ k + 1 → SameLane old k new)
+
 module _ {S : Type 0} (gives : S → Answer → S → Type 0) where
   abbrev pub Steps : S → Tailer → Choice → S → Tailer → Result Stepped StepFault → Type 0
   Steps s old choice t new result =
       (answers : List Answer) × Asked gives s answers t × Carries old answers new × SameEnds old.ends new.ends × (has_begun new ≡ has_begun old)
       × MatchResult result (IsStepped old choice answers new) (λ f. NotStepped old choice answers new f × StopsWith new f × StopsFor old answers f)
-      × KeepsSettings old.shadow new.shadow
+      × KeepsSettings old.shadow new.shadow × (new.active ≡ old.active) × Leaves old choice new
 
 -- the ends are those of the first DataNodes, in order, and nothing was taken
 abbrev pub AreNew : ℕ → List Taking → Type 0

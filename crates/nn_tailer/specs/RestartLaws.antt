@@ -1,11 +1,12 @@
 -- What a restart keeps, as statements; the functions of the crate prove them.
-use Rattle.std.specs.Prelude.{◌≡◌, ℕ, ◌+◌, ◌<◌, ◌^◌, List, ◌++◌, length, None, Ok}
+use Rattle.std.specs.Prelude.{◌≡◌, ℕ, ◌+◌, ◌<◌, ◌^◌, List, ◌++◌, length, None, Some, Ok}
 use Rattle.std.specs.List.{AllByRecursion}
 use Rattle.nn_types.specs.declared.tx.Tx.{Tx}
 use Rattle.nn_model.specs.Namespace.{Namespace}
 use Rattle.nn_model.specs.Log.{namespace_after, IsLog}
 use Rattle.nn_model.specs.Status.{status_of}
 use Rattle.nn_model.specs.WellFormed.{IsWellFormed}
+use Rattle.nn_shadow.specs.declared.fault.Stop.{Stop}
 use Rattle.nn_segment.specs.Segment.{Segment, IsSegment}
 use Rattle.nn_segment.specs.Source.{Answer}
 use Rattle.nn_segment.specs.LogEnd.{end_of_log, given_in}
@@ -13,14 +14,17 @@ use Rattle.nn_image.specs.Text.{image_text}
 use Rattle.nn_image.specs.OldText.{old_image_text}
 use Rattle.nn_image.specs.Lawful.{HasPaths, IsCounted}
 use Rattle.nn_image.specs.Reading.{read_image}
-use Rattle.nn_tailer.specs.Tailing.{Tailer, StandsAt}
+use Rattle.nn_tailer.specs.Tailing.{Tailer, StandsAt, StopsLog}
+
+-- the standby has the namespace and the last txid of just this log
+abbrev pub IsAtLog : Namespace → ℕ → List Tx → Tailer → Type 0
+IsAtLog start base txs x = IsLog start base txs × (x.shadow.namespace ≡ namespace_after start txs) × (x.shadow.last ≡ base + length txs)
 
 -- A standby that goes on from the namespace and the last txid of another stands at a log of that one's start: what that one
 -- had applied, and then what it applied itself.
 abbrev pub GoesOn : Type 0
-GoesOn = (start : Namespace) (base : ℕ) (given more : List Answer) (x y : Tailer) → StandsAt start base given x
-    → StandsAt x.shadow.namespace x.shadow.last more y
-    → (txs : List Tx) × IsLog start base txs × (y.shadow.namespace ≡ namespace_after start txs) × (y.shadow.last ≡ base + length txs)
+GoesOn = (start : Namespace) (base : ℕ) (given more : List Answer) (x y : Tailer) (first : StandsAt start base given x)
+    (second : StandsAt x.shadow.namespace x.shadow.last more y) → IsAtLog start base (first.txs ++ second.txs) y
 
 -- It may be given all segments again: it passes over the transactions that are in its namespace, applies the others, and
 -- ends, or stops, where one does that begins at the start.
@@ -28,6 +32,12 @@ abbrev pub ReadsAgain : Type 0
 ReadsAgain = (start : Namespace) (base : ℕ) (given : List Answer) (x : Tailer) → StandsAt start base given x → x.stop ≡ None
     → AllByRecursion IsSegment (given_in given) → (later : List Segment)
     → end_of_log x.shadow.last x.shadow.namespace (given_in given ++ later) ≡ end_of_log base start (given_in given ++ later)
+
+-- One that goes on from a standby which its log had stopped stops there too, with the same fault, once it is given all segments
+-- again.
+abbrev pub StopsAgain : Type 0
+StopsAgain = (start : Namespace) (base : ℕ) (given : List Answer) (x : Tailer) (s : Stop) → StandsAt start base given x → x.stop ≡ Some s
+    → s.txid ≡ x.shadow.last + 1 → AllByRecursion IsSegment (given_in given) → StopsLog x.shadow.namespace x.shadow.last given s
 
 -- what is said of each block id by the namespace that an image was written of, the namespace that it is read as says too
 abbrev pub KeepsStatus : Type 0

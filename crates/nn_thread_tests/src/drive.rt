@@ -1,8 +1,8 @@
 //! Drives over logs of marks alone: all reports are of a block that they do not name, and wait for the flush.
 ghost use Rattle.nn_drive.specs.Driven.{AreLanes};
 
-use crate::sources::{AT_ANY_TIME, Pace, Waiting, new_watched};
-use crate::values::{FIRST, Shared, TWO_MARKS, Text, report_of};
+use crate::sources::{AT_ANY_TIME, FailsOnce, Pace, Waiting, new_watched};
+use crate::values::{FIRST, Shared, TWO_MARKS, Text, log_of, report_of};
 use nn_drive::{drive, with_lanes};
 use nn_lane::Reporter;
 use nn_tailer::Standby;
@@ -262,5 +262,64 @@ fn begun(workers: &Vec<(Waiting, Reporter)>, standby: Standby, closed: bool) -> 
         return standby;
     }
     standby.close_intake();
+    standby
+}
+
+// A standby that was promoted before is refused with 53, and one that its log stopped with 51: no source is asked.
+#[test]
+fn refused_before_a_thread(rt: HostRuntime) {
+    refuses(&rt, rt.alloc(), &[TWO_MARKS], 53);
+    refuses(&rt, rt.alloc(), &[TWO_MORE], 51);
+}
+
+fn refuses<R: Abort + Threads + Wait + Sync>(rt: &R, alloc: Global, log: &[Text], number: u8) {
+    let Some(shared) = Shared::new(alloc) else {
+        assert!(rt; false, "out of memory");
+        return;
+    };
+    let answer = refused_by(rt, alloc, log, &shared);
+    assert_eq!(rt; answer, Some(number));
+    assert_eq!(rt; shared.calls.load(Ordering::SeqCst), 0);
+    assert_eq!(rt; shared.asked.load(Ordering::SeqCst), 0);
+}
+
+// What a drive answers where its standby was promoted over this log, or stopped by it.
+fn refused_by<R: Threads + Wait + Sync>(
+    rt: &R,
+    alloc: Global,
+    log: &[Text],
+    shared: &Arc<Shared, Global>,
+) -> Option<u8> {
+    let sources = sources_of(alloc, &PLAIN, shared)?;
+    if sources.len() > 256 {
+        return None;
+    }
+    let (workers, ends) = with_lanes(alloc, sources, 2).ok()?;
+    if ends.is_empty() || ends.len() > 256 {
+        return None;
+    }
+    let settings = Settings::new(999, 1)?;
+    let Ok(standby) = Standby::new(alloc, ends, settings) else {
+        return None;
+    };
+    let before = FailsOnce::new(log_of(alloc, log)?, u64::MAX);
+    let standby = promoted(&workers, standby, before);
+    let log = new_watched(alloc, shared, &[TWO_MARKS], u64::MAX, AT_ANY_TIME)?;
+    match drive(rt, alloc, standby, log, workers) {
+        Ok(_promoted) => None,
+        Err(fault) => Some(fault.number()),
+    }
+}
+
+// Closes the lanes of these workers, and promotes their standby, unless the log stops it.
+fn promoted(workers: &Vec<(Waiting, Reporter)>, standby: Standby, log: FailsOnce) -> Standby
+    requires { AreLanes workers.now.items standby.ends }
+    ensures { AreLanes workers.now.items result.ends }
+{
+    let _ = workers;
+    let mut standby = standby;
+    let mut log = log;
+    standby.close_intake();
+    let _ = standby.promote(&mut log);
     standby
 }

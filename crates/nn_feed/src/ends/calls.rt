@@ -1,6 +1,6 @@
 // The calls of the two ends.
 ghost use Rattle.std.specs.Prelude.{◌≡◌, ◌+◌, ◌<◌, [], ◌∷◌, ◌++◌, length, Ok, Err, IfOk, IfErr, OnOk};
-ghost use Rattle.nn_feed.specs.Ends.{put_by, got_by, IsSameFeeder, AreOfOneFeed, Refuses, GivesWhatIsFed, IsMet};
+ghost use Rattle.nn_feed.specs.Ends.{put_by, got_by, IsSameFeeder, AreOfOneFeed, Puts, Refuses, GivesWhatIsFed, IsMet};
 ghost use Rattle.nn_feed.specs.Feeds.{placed, has_last, is_last};
 ghost use Rattle.nn_feed.specs.Passes.{ended_by, as_answer};
 
@@ -81,7 +81,7 @@ impl Feeder {
     /// refusal what was put is as it was, and the item comes back. An item that was put may still never be got.
     pub fn put<R: Wait>(&mut self, rt: &R, item: Item) -> Result<(), Refusal>
         ensures same { IsSameFeeder self.old self.new }
-        ensures ok { OnOk result (put_by self.new ≡ put_by self.old ++ placed (Ok item) (length (put_by self.old)) ∷ []) }
+        ensures ok { OnOk result (Puts (put_by self.old) (Ok item) (put_by self.new)) }
         ensures refused { IfErr result (λ e. (put_by self.new ≡ put_by self.old) × Refuses (put_by self.old) (Ok item) e) }
     {
         self.place(rt, Ok(item))
@@ -91,7 +91,7 @@ impl Feeder {
     /// is, but for the number of segments.
     pub fn fail<R: Wait>(&mut self, rt: &R, fault: SourceFault) -> Result<(), Refusal>
         ensures same { IsSameFeeder self.old self.new }
-        ensures ok { OnOk result (put_by self.new ≡ put_by self.old ++ placed (Err fault) (length (put_by self.old)) ∷ []) }
+        ensures ok { OnOk result (Puts (put_by self.old) (Err fault) (put_by self.new)) }
         ensures refused { IfErr result (λ e. (put_by self.new ≡ put_by self.old) × Refuses (put_by self.old) (Err fault) e) }
     {
         self.place(rt, Err(fault))
@@ -100,7 +100,7 @@ impl Feeder {
     // Puts one answer.
     fn place<R: Wait>(&mut self, rt: &R, answer: Result<Item, SourceFault>) -> Result<(), Refusal>
         ensures same { IsSameFeeder self.old self.new }
-        ensures ok { OnOk result (put_by self.new ≡ put_by self.old ++ placed answer (length (put_by self.old)) ∷ []) }
+        ensures ok { OnOk result (Puts (put_by self.old) answer (put_by self.new)) }
         ensures refused { IfErr result (λ e. (put_by self.new ≡ put_by self.old) × Refuses (put_by self.old) answer e) }
     {
         let last = is_last(&answer);

@@ -14,7 +14,7 @@ returns-in-Ok-clause-fed g c =
       (
         asked_again g.S.SegmentSource.gives c.args.source.now c.items.source c.next-in-items.new.self (map given segments) end so_far.1 gave,
         so_far.3,
-        one_last_more (put_by c.items.feeder) (put_by c.put.new.self) (answers_of (put_by c.args.feeder.now)) segments end (length (put_by c.items.feeder)) so_far.2 c.in-Ok.ensures.ok,
+        one_last_more (put_by c.items.feeder) (put_by c.put.new.self) (answers_of (put_by c.args.feeder.now)) segments end (length (put_by c.items.feeder)) so_far.2 c.in-Ok.ensures.ok.1,
       ),
     )
 
@@ -53,7 +53,7 @@ items-preserved g c =
       put = (
         segments ++ x ∷ [],
         asked_more g.S.SegmentSource.gives c.args.source.now c.items.source c.next-in-items.new.self segments x so_far.1 gave,
-        one_more (put_by c.items.feeder) (put_by c.put-in-items.new.self) (answers_of (put_by c.args.feeder.now)) segments x (length (put_by c.items.feeder)) so_far.2 c.in-Ok-put.ensures.ok,
+        one_more (put_by c.items.feeder) (put_by c.put-in-items.new.self) (answers_of (put_by c.args.feeder.now)) segments x (length (put_by c.items.feeder)) so_far.2 c.in-Ok-put.ensures.ok.1,
         omega (arith, so_far.3, length-append segments (x ∷ [])),
       );
     }

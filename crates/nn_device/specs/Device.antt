@@ -1,0 +1,40 @@
+-- What reads and writes leave of a device that notes the ones that failed.
+use Rattle.std.specs.Prelude.{◌≡◌, ℕ, ◌+◌, ◌<◌, ◌^◌, Bool, true, false, List, length, take, Option}
+use Rattle.std.specs.Io.KnownBytes.{Appends}
+
+-- A reader: the bytes that it has left, where they are known; how many its reads gave; whether a read failed.
+pub record Reading : Type 0 where
+  pub left : Option (List ℕ)
+  pub given : ℕ
+  pub failed : Bool
+
+-- A writer: the bytes that it holds, where they are known; how many its writes took; whether a write failed.
+pub record Writing : Type 0 where
+  pub contents : Option (List ℕ)
+  pub taken : ℕ
+  pub failed : Bool
+
+-- A read of a reader that had not failed gave n bytes, and did not fail.
+pub record Gave (old new : Reading) (n : ℕ) : Type 0 where
+  pub open_before : old.failed ≡ false
+  pub open_after : new.failed ≡ false
+  pub counted : new.given ≡ old.given + n
+  pub bounded : old.given < 2 ^ 62
+
+-- A read failed, and gave nothing.
+pub record FailedToRead (old new : Reading) : Type 0 where
+  pub noted : new.failed ≡ true
+  pub counted : new.given ≡ old.given
+
+-- The writer took all of the text, and no write failed.
+pub record Took (old new : Writing) (text : List ℕ) : Type 0 where
+  pub bytes : Appends old.contents new.contents text
+  pub counted : new.taken ≡ old.taken + length text
+  pub unfailed : new.failed ≡ old.failed
+
+-- A write failed after the first bytes of the text, which are not all.
+pub record FailedToWrite (old new : Writing) (text : List ℕ) (written : ℕ) : Type 0 where
+  pub short : written < length text
+  pub bytes : Appends old.contents new.contents (take written text)
+  pub counted : new.taken ≡ old.taken + written
+  pub noted : new.failed ≡ true

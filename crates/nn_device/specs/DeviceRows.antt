@@ -1,0 +1,66 @@
+-- Reads and writes of devices whose bytes are known.
+use Rattle.std.specs.Prelude.{◌≡◌, ◌<◌, true, false, Some, codes, refl}
+use Rattle.std.proofs.Common.{sym, true≢false, arith}
+use Rattle.nn_device.specs.Device.{Reading, Writing, Gave, FailedToRead, Took, FailedToWrite}
+
+abbrev unread : Reading
+unread = record { left = Some (codes "abc"); given = 0; failed = false }
+
+abbrev half_read : Reading
+half_read = record { left = Some (codes "c"); given = 2; failed = false }
+
+abbrev failed_reader : Reading
+failed_reader = record { left = Some (codes "c"); given = 2; failed = true }
+
+abbrev unwritten : Writing
+unwritten = record { contents = Some (codes "x"); taken = 7; failed = false }
+
+abbrev written : Writing
+written = record { contents = Some (codes "xabc"); taken = 10; failed = false }
+
+abbrev torn : Writing
+torn = record { contents = Some (codes "xab"); taken = 9; failed = true }
+
+-- two bytes were given
+gave_two : Gave unread half_read 2
+gave_two = record { open_before = refl; open_after = refl; counted = refl; bounded = omega arith }
+
+-- no read that gave bytes notes a failure
+no_failure_noted : Gave unread failed_reader 2 → ⊥
+no_failure_noted h = true≢false h.open_after
+
+-- a reader that failed gives nothing more
+fails_for_good : Gave failed_reader failed_reader 0 → ⊥
+fails_for_good h = true≢false h.open_before
+
+-- all bytes that were given are counted
+one_too_few : Gave unread half_read 1 → ⊥
+one_too_few h = let e : 2 ≡ 1 = h.counted in omega (arith, e)
+
+-- a failed read is counted as nothing
+failed_read : FailedToRead half_read failed_reader
+failed_read = record { noted = refl; counted = refl }
+
+-- an end is no failed read
+end_is_no_failure : FailedToRead half_read half_read → ⊥
+end_is_no_failure h = true≢false (sym h.noted)
+
+-- the whole text was taken
+took_all : Took unwritten written (codes "abc")
+took_all = record { bytes = refl; counted = refl; unfailed = refl }
+
+-- two bytes of three were taken
+took_two : FailedToWrite unwritten torn (codes "abc") 2
+took_two = record { short = omega arith; bytes = refl; counted = refl; noted = refl }
+
+-- where all was taken, no write failed
+all_is_no_failure : FailedToWrite unwritten torn (codes "ab") 2 → ⊥
+all_is_no_failure h = let less : 2 < 2 = h.short in omega (arith, less)
+
+-- a failed write is noted
+not_noted : FailedToWrite unwritten (record torn { failed = false }) (codes "abc") 2 → ⊥
+not_noted h = true≢false (sym h.noted)
+
+-- an output that failed before still says so
+stays_failed : Took (record unwritten { failed = true }) written (codes "abc") → ⊥
+stays_failed h = true≢false (sym h.unfailed)

@@ -1,0 +1,91 @@
+//! A reader that notes a failed read.
+ghost use Rattle.std.specs.Prelude.{◌≡◌, ◌+◌, ◌<◌, ◌^◌, false, IfOk, OnErr};
+ghost use Rattle.std.specs.Io.{ReadsAtMost};
+ghost use Rattle.std.specs.Io.KnownBytes.{ReadConsumes};
+ghost use Rattle.nn_device.specs.Device.{Gave, FailedToRead};
+
+use std::io::Read;
+use std::marker::Model;
+use thiserror::Error;
+
+/// The bytes after which an input is given up: 2^62. No device comes to that.
+const LIMIT: u64 = 4_611_686_018_427_387_904;
+
+/// A reader, how many bytes it gave, and whether one of its reads failed.
+#[derive(Drop)]
+pub struct Input<R: Read> {
+    reader: R,
+    given: u64,
+    failed: bool,
+}
+
+impl<R: Read> Model for Input<R> {
+    ghost use Rattle.std.specs.Prelude.{◌<◌, ◌+◌, ◌^◌};
+    ghost use Rattle.nn_device.specs.Device.{Reading};
+
+    ghost Value = { Reading };
+
+    ghost view = { λ i. record { left = R.remaining i.reader; given = i.given; failed = i.failed } };
+
+    ghost invariant = { λ i. i.given < 2 ^ 62 + 2 ^ 63 };
+}
+
+/// A read failed.
+#[derive(Clone, Copy, Debug, PartialEq, Eq, Error)]
+#[error("a read failed")]
+pub struct ReadFailed;
+
+impl<R: Read> Input<R> {
+    /// This reader, of which nothing was read.
+    pub fn new(reader: R) -> Input<R>
+        ensures { result ≡ record { left = R.remaining reader; given = 0; failed = false } }
+    {
+        Input {
+            reader,
+            given: 0,
+            failed: false,
+        }
+    }
+
+    /// One read. A reader that failed once is not read again: it fails for good. So that the bytes can be counted, it also
+    /// fails once it gave 2^62 bytes, to which no device comes. A read that a signal interrupts counts as failed.
+    pub fn read(&mut self, buffer: &mut [u8]) -> Result<usize, ReadFailed>
+        ensures bound { ReadsAtMost result buffer.new }
+        ensures bytes { ReadConsumes self.old.left self.new.left result buffer.new }
+        ensures ok { IfOk result (Gave self.old self.new) }
+        ensures err { OnErr result (FailedToRead self.old self.new) }
+    {
+        if self.failed || self.given >= LIMIT {
+            self.failed = true;
+            return Err(ReadFailed);
+        }
+        let Ok(n) = self.reader.read(buffer) else {
+            self.failed = true;
+            return Err(ReadFailed);
+        };
+        self.given += n as u64;
+        Ok(n)
+    }
+
+    /// How many bytes its reads gave.
+    pub fn given(&self) -> u64
+        ensures given { result ≡ self.now.given }
+        ensures bounded { result < 2 ^ 62 + 2 ^ 63 }
+    {
+        self.given
+    }
+
+    /// Whether a read failed.
+    pub fn failed(&self) -> bool
+        ensures { result ≡ self.now.failed }
+    {
+        self.failed
+    }
+
+    /// The reader, where its reads left it.
+    pub fn into_inner(self) -> R
+        ensures { R.remaining result ≡ self.left }
+    {
+        self.reader
+    }
+}

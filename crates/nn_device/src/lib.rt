@@ -1,0 +1,9 @@
+//! A reader and a writer that count their bytes and note a failed call. Only a call of the device itself is noted, so
+//! whoever lends one of them can tell a failed read or write from every other end.
+#![tactic(auto)]
+
+mod input;
+mod output;
+
+pub use input::{Input, ReadFailed};
+pub use output::{Output, WriteFailed};

@@ -1,0 +1,95 @@
+//! A writer that notes a failed write.
+ghost use Rattle.std.specs.Prelude.{◌≡◌, ◌<◌, false, length, IfErr, OnOk};
+ghost use Rattle.nn_device.specs.Device.{Took, FailedToWrite};
+
+use std::io::Write;
+use std::marker::Model;
+use thiserror::Error;
+
+/// The bytes after which an output is given up: 2^62. No device comes to that.
+const LIMIT: u64 = 4_611_686_018_427_387_904;
+
+/// A writer, how many bytes it took, and whether one of its writes failed.
+#[derive(Drop)]
+pub struct Output<W: Write> {
+    writer: W,
+    taken: u64,
+    failed: bool,
+}
+
+impl<W: Write> Model for Output<W> {
+    ghost use Rattle.nn_device.specs.Device.{Writing};
+
+    ghost Value = { Writing };
+
+    ghost view = { λ o. record { contents = W.contents o.writer; taken = o.taken; failed = o.failed } };
+}
+
+/// A write failed, or took nothing. The writer has the first `written` bytes of the text, and these are not all.
+#[derive(Clone, Copy, Debug, PartialEq, Eq, Error)]
+#[error("a write failed after {written} bytes")]
+pub struct WriteFailed {
+    pub written: usize,
+}
+
+impl<W: Write> Output<W> {
+    /// This writer, into which nothing was written.
+    pub fn new(writer: W) -> Output<W>
+        ensures { result ≡ record { contents = W.contents writer; taken = 0; failed = false } }
+    {
+        Output {
+            writer,
+            taken: 0,
+            failed: false,
+        }
+    }
+
+    /// Writes a whole text. A write that fails or takes nothing is not tried again, and a writer that failed once takes
+    /// nothing more: it fails for good. So that the bytes can be counted, it also fails once it took 2^62 bytes, to which no
+    /// device comes. A write that a signal interrupts counts as failed.
+    pub fn write_all(&mut self, text: &[u8]) -> Result<(), WriteFailed>
+        ensures ok { OnOk result (Took self.old self.new text.now) }
+        ensures open { OnOk result (0 < length text.now → self.old.failed ≡ false) }
+        ensures err { IfErr result (λ e. FailedToWrite self.old self.new text.now e.written) }
+    {
+        let mut written = 0;
+        'writes: while written < text.len() {
+            if self.failed || self.taken >= LIMIT {
+                self.failed = true;
+                return Err(WriteFailed { written });
+            }
+            match self.writer.write(&text[written..]) {
+                Ok(0) | Err(_) => {
+                    self.failed = true;
+                    return Err(WriteFailed { written });
+                }
+                Ok(n) => {
+                    written += n;
+                    self.taken += n as u64;
+                }
+            }
+        }
+        Ok(())
+    }
+
+    /// How many bytes its writes took.
+    pub fn taken(&self) -> u64
+        ensures { result ≡ self.now.taken }
+    {
+        self.taken
+    }
+
+    /// Whether a write failed.
+    pub fn failed(&self) -> bool
+        ensures { result ≡ self.now.failed }
+    {
+        self.failed
+    }
+
+    /// The writer, where its writes left it.
+    pub fn into_inner(self) -> W
+        ensures { W.contents result ≡ self.contents }
+    {
+        self.writer
+    }
+}

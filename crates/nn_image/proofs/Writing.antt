@@ -1,11 +1,10 @@
 -- Values that are written, and fronts of texts.
-use Rattle.std.proofs.Common.{◌≡◌, ℕ, ◌+◌, ◌<◌, ◌≤◌, List, [], ◌∷◌, ◌++◌, length, take, drop, get_or, false, Option, refl, sym, ap, ◌∙◌, arith, append_assoc, drop-cons, add-one, subst, length-append, ◌-◌}
+use Rattle.std.proofs.Common.{◌≡◌, ℕ, ◌+◌, ◌<◌, ◌≤◌, ◌^◌, List, [], ◌∷◌, ◌++◌, length, take, drop, get_or, false, Bool, refl, sym, ap, ◌∙◌, arith, append_assoc, drop-cons, add-one, subst, length-append, length-drop, ◌-◌}
 use Rattle.std.specs.List.{flat_map}
-use Rattle.std.specs.Io.KnownBytes.{Appends}
 use Rattle.std.proofs.KnownBytes.{Appends-trans, Appends-nil}
 use Rattle.serde_json.specs.Data.{Data, Items, no_items, item, number, unsigned}
 use Rattle.serde_json.specs.View.{view, items_view}
-use Rattle.serde_json.specs.Written.{has_float, items_have_float}
+use Rattle.serde_json.specs.Written.{compact_text, has_float, items_have_float}
 use Rattle.serde_json.specs.declared.value.Value.{Value}
 use Rattle.nn_types.specs.declared.block.Block.{Block}
 use Rattle.nn_model.specs.declared.form.Form.{Form}
@@ -15,16 +14,19 @@ use Rattle.nn_model.specs.Namespace.{path_cmp}
 use Rattle.nn_model.specs.WellFormed.{IsWellFormed}
 use Rattle.std.specs.Prelude.{T}
 use Rattle.std.specs.FinMap.Entries.{is_sorted, below_all}
-use Rattle.nn_tree.specs.Listing.{Took, FailsAt, StopsIn}
+use Rattle.nn_device.specs.Device.{Writing, Took, FailedToWrite}
+use Rattle.nn_tree.specs.Listing.{FailsAt, StopsIn}
+use Rattle.nn_tree.specs.Listing.{Took as TookRows}
 use Rattle.nn_tree.specs.declared.listing.ListFault.{ListFault}
 use Rattle.nn_tree.specs.declared.listing.ListFault.TheVariants.{Sink}
 use Rattle.nn_tree.specs.declared.listing.ListFault.TheVariants as list
 use Rattle.nn_image.specs.declared.saving.Lines.{Lines}
 use Rattle.nn_image.proofs.Rows.{root_first, T_of, and_T}
-use Rattle.nn_image.specs.Text.{block_data, block_items, number_items, head_data, header_data, form_data, row_data, row_lines, line_of, end_data, image_text}
-use Rattle.nn_image.specs.declared.fault.SaveFault.{SaveFault}
-use Rattle.nn_image.specs.declared.fault.SaveFault.TheVariants.{OutOfMemory}
-use Rattle.nn_image.specs.Saving.{Wrote, WroteFront, WroteTake, Tells, row_text, row_count, TakesRow, FailsOnRow, fault_of}
+use Rattle.nn_image.specs.Text.{feed, block_data, block_items, number_items, head_data, header_data, form_data, row_data, row_lines, line_of, end_data, image_text}
+use Rattle.nn_image.specs.declared.fault.SaveFault.TheVariants as save
+use Rattle.nn_image.specs.declared.saving.Stop.{Stop}
+use Rattle.nn_image.specs.declared.saving.Stop.TheVariants.{WriteFailed, OutOfMemory}
+use Rattle.nn_image.specs.Saving.{WroteFront, Caused, Stopped, row_text, row_count, TakesRow, FailsOnRow, stop_of}
 use Rattle.std.proofs.lemmas.List.{take-append-drop, length-take}
 use Rattle.std.proofs.Common.{drop_of_length-le}
 
@@ -67,34 +69,73 @@ pub row_lines_push : (front back : List (Path × Form)) → row_lines (front ++ 
 row_lines_push [] back = refl
 row_lines_push (row ∷ front) back = ap (λ t. line_of (row_data row) ++ t) (row_lines_push front back) ∙ sym (append_assoc (line_of (row_data row)) (row_lines front) (row_lines back))
 
-tells_same : (e : SaveFault) (a b : ℕ) → a ≡ b → Tells e a → Tells e b
-tells_same e a b same h = subst (Tells e) same h
+caused_in : (e : Stop) (rest more : List ℕ) (b c : Bool) → Caused e rest b c → Caused e (rest ++ more) b c
+caused_in WriteFailed rest more b c h = (omega (arith, h.0, length-append rest more), h.1)
+caused_in OutOfMemory rest more b c h = h
 
-module _ (w0 w1 w2 : Option (List ℕ)) (a b : List ℕ) (n k : ℕ) where
-  pub front_of : (e : SaveFault) → WroteFront w0 w1 a n e → WroteFront w0 w1 (a ++ b) n e
-  front_of e h = (h.0, h.1 ++ b, ap (λ t. t ++ b) h.2 ∙ append_assoc h.0 h.1 b, h.3, h.4)
+caused_after : (e : Stop) (rest : List ℕ) (a b c : Bool) → b ≡ a → Caused e rest b c → Caused e rest a c
+caused_after e rest a b c same h = subst (λ a. Caused e rest a c) same h
 
-  pub front_after : (e : SaveFault) → Wrote w0 w1 a n k → WroteFront w1 w2 b k e → WroteFront w0 w2 (a ++ b) n e
-  front_after e first h = (
-    a ++ h.0,
-    h.1,
-    ap (λ t. a ++ t) h.2 ∙ sym (append_assoc a h.0 h.1),
-    Appends-trans w0 w1 w2 a h.0 first.0 h.3,
-    tells_same e (k + length h.0) (n + length (a ++ h.0)) (omega (arith, first.1, length-append a h.0)) h.4,
-  )
+module _ (w0 w1 w2 : Writing) (a b : List ℕ) where
+  pub front_of : (e : Stop) → Stopped w0 w1 a e → Stopped w0 w1 (a ++ b) e
+  front_of e h = record {
+    front = h.front;
+    rest = h.rest ++ b;
+    whole = ap (λ t. t ++ b) h.whole ∙ append_assoc h.front h.rest b;
+    bytes = h.bytes;
+    counted = h.counted;
+    cause = caused_in e h.rest b w0.failed w1.failed h.cause;
+  }
 
-  pub wrote_both : (m : ℕ) → Wrote w0 w1 a n k → Wrote w1 w2 b k m → Wrote w0 w2 (a ++ b) n m
-  wrote_both m first later = (Appends-trans w0 w1 w2 a b first.0 later.0, omega (arith, first.1, later.1, length-append a b))
+  pub front_after : (e : Stop) → Took w0 w1 a → Stopped w1 w2 b e → Stopped w0 w2 (a ++ b) e
+  front_after e first h = record {
+    front = a ++ h.front;
+    rest = h.rest;
+    whole = ap (λ t. a ++ t) h.whole ∙ sym (append_assoc a h.front h.rest);
+    bytes = Appends-trans w0.contents w1.contents w2.contents a h.front first.bytes h.bytes;
+    counted = omega (arith, first.counted, h.counted, length-append a h.front);
+    cause = caused_after e h.rest w0.failed w1.failed w2.failed first.unfailed h.cause;
+  }
 
-  pub no_memory : Wrote w0 w1 a n k → WroteFront w0 w1 (a ++ b) n OutOfMemory
-  no_memory first = (a, b, refl, first.0, tt)
+  pub took_both : Took w0 w1 a → Took w1 w2 b → Took w0 w2 (a ++ b)
+  took_both first later = record {
+    bytes = Appends-trans w0.contents w1.contents w2.contents a b first.bytes later.bytes;
+    counted = omega (arith, first.counted, later.counted, length-append a b);
+    unfailed = later.unfailed ∙ first.unfailed;
+  }
 
-pub nothing_yet : (w : Option (List ℕ)) (text : List ℕ) (n : ℕ) → WroteFront w w text n OutOfMemory
-nothing_yet w text n = ([], text, refl, Appends-nil w, tt)
+  pub no_memory : Took w0 w1 a → Stopped w0 w1 (a ++ b) OutOfMemory
+  no_memory first = record { front = a; rest = b; whole = refl; bytes = first.bytes; counted = first.counted; cause = first.unfailed }
 
-pub front_taken : (old new : Option (List ℕ)) (text : List ℕ) (before : ℕ) (e : SaveFault) → WroteTake old new text before e → WroteFront old new text before e
-front_taken old new text before e h =
-    (take h.0 text, drop h.0 text, sym (take-append-drop h.0 text), h.2, tells_same e (before + h.0) (before + length (take h.0 text)) (omega (arith, length-take h.0 text, h.1)) h.3)
+pub took_nothing : (w : Writing) → Took w w []
+took_nothing w = record { bytes = Appends-nil w.contents; counted = omega arith; unfailed = refl }
+
+pub nothing_yet : (w : Writing) (text : List ℕ) → Stopped w w text OutOfMemory
+nothing_yet w text = no_memory w w w [] text (took_nothing w)
+
+pub front_taken : (old new : Writing) (text : List ℕ) (written : ℕ) → FailedToWrite old new text written → Stopped old new text WriteFailed
+front_taken old new text written h = record {
+  front = take written text;
+  rest = drop written text;
+  whole = sym (take-append-drop written text);
+  bytes = h.bytes;
+  counted = omega (arith, h.short, h.counted, length-take written text);
+  cause = (omega (arith, h.short, length-drop written text), h.noted);
+}
+
+-- what a failed write tells
+pub told_written : (old new : Writing) (text : List ℕ) (before written : ℕ) → before ≡ old.taken → written + before ≡ new.taken → Stopped old new text WriteFailed → WroteFront old new text (save.WriteFault written)
+told_written old new text before written is left h = record {
+  front = h.front;
+  rest = h.rest;
+  whole = h.whole;
+  bytes = h.bytes;
+  counted = h.counted;
+  told = (omega (arith, is, left, h.counted), h.cause.0, h.cause.1);
+}
+
+pub told_memory : (old new : Writing) (text : List ℕ) → Stopped old new text OutOfMemory → WroteFront old new text save.OutOfMemory
+told_memory old new text h = record { front = h.front; rest = h.rest; whole = h.whole; bytes = h.bytes; counted = h.counted; told = h.cause }
 
 pub number_turn : (vs : List Value) (v : Value) (ns : List ℕ) (k n d : ℕ) → k < length ns → n ≡ get_or ns k d → view v ≡ number (unsigned n)
     → items_then (vs ++ v ∷ []) (number_items (drop (k + 1) ns)) ≡ items_then vs (number_items (drop k ns))
@@ -127,53 +168,65 @@ abbrev pub listed_count : List (Path × Form) → ℕ
 listed_count [] = 0
 listed_count (row ∷ rows) = row_count row + listed_count rows
 
-module _ {W : Type 0} (contents : W → Option (List ℕ)) where
+-- a line has a byte at least
+row_bytes : (row : Path × Form) → row_count row ≤ length (row_text row)
+row_bytes ([], form) = omega arith
+row_bytes (name ∷ p, form) = omega (arith, length-append (compact_text (row_data (name ∷ p, form))) (feed ∷ []))
+
+listed_bytes : (rows : List (Path × Form)) → listed_count rows ≤ length (listed_text rows)
+listed_bytes [] = omega arith
+listed_bytes (row ∷ rows) = omega (arith, row_bytes row, listed_bytes rows, length-append (row_text row) (listed_text rows))
+
+listed_append : (xs ys : List (Path × Form)) → listed_text (xs ++ ys) ≡ listed_text xs ++ listed_text ys
+listed_append [] ys = refl
+listed_append (row ∷ xs) ys = ap (λ t. row_text row ++ t) (listed_append xs ys) ∙ sym (append_assoc (row_text row) (listed_text xs) (listed_text ys))
+
+module _ {W : Type 0} where
   pub record HasTaken (old new : Lines W) (rows : List (Path × Form)) : Type 0 where
     pub same_writer : new.writer.ghost_name ≡ old.writer.ghost_name
-    pub wrote : Wrote (contents old.writer.now) (contents new.writer.now) (listed_text rows) old.written new.written
-    pub counted : new.count ≡ old.count + listed_count rows
+    pub wrote : Took old.writer.now new.writer.now (listed_text rows)
+    pub counted : old.count + listed_count rows < 2 ^ 64 → new.count ≡ old.count + listed_count rows
 
-  pub has_taken : (old : Lines W) (rows : List (Path × Form)) (new : Lines W) → Took (TakesRow contents) old rows new → HasTaken old new rows
+  pub has_taken : (old : Lines W) (rows : List (Path × Form)) (new : Lines W) → TookRows TakesRow old rows new → HasTaken old new rows
   has_taken old [] new h = record {
     same_writer = ap (λ l. l.writer.ghost_name) h;
-    wrote = subst (λ l. Wrote (contents old.writer.now) (contents l.writer.now) [] old.written l.written) (sym h) (Appends-nil _, omega arith);
-    counted = ap (λ l. l.count) h ∙ omega arith;
+    wrote = subst (λ l. Took old.writer.now l.writer.now []) (sym h) (took_nothing old.writer.now);
+    counted = λ _. ap (λ l. l.count) h ∙ omega arith;
   }
   has_taken old (row ∷ rows) new h =
       let more = has_taken h.0 rows new h.2 in
       record {
         same_writer = more.same_writer ∙ h.1.same_writer;
-        wrote = wrote_both _ _ _ (row_text row) (listed_text rows) old.written h.0.written new.written h.1.wrote more.wrote;
-        counted = omega (arith, h.1.counted, more.counted);
+        wrote = took_both old.writer.now h.0.writer.now new.writer.now (row_text row) (listed_text rows) h.1.wrote more.wrote;
+        counted = λ fits.
+            let first = h.1.counted (omega (arith, fits)) in
+            let later = more.counted (omega (arith, fits, first)) in
+            omega (arith, first, later);
       }
 
-  pub record HasStopped (old : Lines W) (rows : List (Path × Form)) (e : SaveFault) (new : Lines W) : Type 0 where
+  pub record HasStopped (old : Lines W) (rows : List (Path × Form)) (e : Stop) (new : Lines W) : Type 0 where
     pub same_writer : new.writer.ghost_name ≡ old.writer.ghost_name
-    pub front : WroteFront (contents old.writer.now) (contents new.writer.now) (listed_text rows) old.written e
+    pub front : Stopped old.writer.now new.writer.now (listed_text rows) e
 
-  listed_append : (xs ys : List (Path × Form)) → listed_text (xs ++ ys) ≡ listed_text xs ++ listed_text ys
-  listed_append [] ys = refl
-  listed_append (row ∷ xs) ys = ap (λ t. row_text row ++ t) (listed_append xs ys) ∙ sym (append_assoc (row_text row) (listed_text xs) (listed_text ys))
-
-  stopped_at : (old between new : Lines W) (taken left : List (Path × Form)) (fault : ListFault SaveFault) → HasTaken old between taken → FailsAt (FailsOnRow contents) between left fault new
-      → HasStopped old (taken ++ left) (fault_of fault) new
+  stopped_at : (old between new : Lines W) (taken left : List (Path × Form)) (fault : ListFault Stop) → HasTaken old between taken → FailsAt FailsOnRow between left fault new
+      → HasStopped old (taken ++ left) (stop_of fault) new
   stopped_at old between new taken left list.OutOfMemory t failed = record {
     same_writer = ap (λ l. l.writer.ghost_name) failed ∙ t.same_writer;
-    front = subst (λ l. WroteFront (contents old.writer.now) (contents l.writer.now) (listed_text (taken ++ left)) old.written OutOfMemory) (sym failed)
-        (subst (λ text. WroteFront (contents old.writer.now) (contents between.writer.now) text old.written OutOfMemory) (sym (listed_append taken left))
-        (no_memory (contents old.writer.now) (contents between.writer.now) (contents between.writer.now) (listed_text taken) (listed_text left) old.written between.written t.wrote));
+    front = subst (λ l. Stopped old.writer.now l.writer.now (listed_text (taken ++ left)) OutOfMemory) (sym failed)
+        (subst (λ text. Stopped old.writer.now between.writer.now text OutOfMemory) (sym (listed_append taken left))
+        (no_memory old.writer.now between.writer.now between.writer.now (listed_text taken) (listed_text left) t.wrote));
   }
   stopped_at old between new taken [] (Sink e) t failed = absurd failed
   stopped_at old between new taken (row ∷ left) (Sink e) t failed = record {
     same_writer = failed.same_writer ∙ t.same_writer;
-    front = subst (λ text. WroteFront (contents old.writer.now) (contents new.writer.now) text old.written e) (sym (listed_append taken (row ∷ left)))
-        (front_after (contents old.writer.now) (contents between.writer.now) (contents new.writer.now) (listed_text taken) (row_text row ++ listed_text left) old.written between.written e t.wrote
-        (front_of (contents between.writer.now) (contents new.writer.now) (contents new.writer.now) (row_text row) (listed_text left) between.written between.written e failed.front));
+    front = subst (λ text. Stopped old.writer.now new.writer.now text e) (sym (listed_append taken (row ∷ left)))
+        (front_after old.writer.now between.writer.now new.writer.now (listed_text taken) (row_text row ++ listed_text left) e t.wrote
+        (front_of between.writer.now new.writer.now new.writer.now (row_text row) (listed_text left) e failed.front));
   }
 
-  pub has_stopped : (old : Lines W) (rows : List (Path × Form)) (fault : ListFault SaveFault) (new : Lines W) → StopsIn (TakesRow contents) (FailsOnRow contents) old rows fault new → HasStopped old rows (fault_of fault) new
+  pub has_stopped : (old : Lines W) (rows : List (Path × Form)) (fault : ListFault Stop) (new : Lines W) → StopsIn TakesRow FailsOnRow old rows fault new → HasStopped old rows (stop_of fault) new
   has_stopped old rows fault new h =
-      subst (λ rs. HasStopped old rs (fault_of fault) new) (sym h.all) (stopped_at old h.between new h.taken h.left fault (has_taken old h.taken h.between h.took) h.failed)
+      subst (λ rs. HasStopped old rs (stop_of fault) new) (sym h.all) (stopped_at old h.between new h.taken h.left fault (has_taken old h.taken h.between h.took) h.failed)
 
 -- ---- the rows of a well formed namespace: the root, and paths that are not the root
 
@@ -191,24 +244,28 @@ all_lines n w =
     subst (λ rows. (listed_text rows ≡ row_lines (drop 1 rows)) × (listed_count rows ≡ length rows - 1)) (sym first.1) (below.0, omega (arith, below.1))
 
 -- what a writer got at the end, where x is what was lent
-module _ {W : Type 0} (contents : W → Option (List ℕ)) (s t : Lines W) (x : W) (n : Namespace) (w : IsWellFormed n) where
-  pub rows_written : Took (TakesRow contents) s n.rows t → (s.writer.ghost_name ≡ t.writer.ghost_name → x ≡ t.writer.now)
-      → Wrote (contents s.writer.now) (contents x) (row_lines (drop 1 n.rows)) s.written t.written
+module _ {W : Type 0} (s t : Lines W) (x : Writing) (n : Namespace) (w : IsWellFormed n) where
+  pub rows_written : TookRows TakesRow s n.rows t → (s.writer.ghost_name ≡ t.writer.ghost_name → x ≡ t.writer.now)
+      → Took s.writer.now x (row_lines (drop 1 n.rows))
   rows_written took ends =
-      let all = has_taken contents s n.rows t took in
-      subst (λ text. Wrote (contents s.writer.now) (contents x) text s.written t.written) (all_lines n w).0
-      (subst (λ y. Wrote (contents s.writer.now) (contents y) (listed_text n.rows) s.written t.written) (sym (ends (sym all.same_writer))) all.wrote)
+      let all = has_taken s n.rows t took in
+      subst (λ text. Took s.writer.now x text) (all_lines n w).0
+      (subst (λ y. Took s.writer.now y (listed_text n.rows)) (sym (ends (sym all.same_writer))) all.wrote)
 
-  pub rows_stopped : (fault : ListFault SaveFault) (e : SaveFault) → e ≡ fault_of fault → StopsIn (TakesRow contents) (FailsOnRow contents) s n.rows fault t → (s.writer.ghost_name ≡ t.writer.ghost_name → x ≡ t.writer.now)
-      → WroteFront (contents s.writer.now) (contents x) (row_lines (drop 1 n.rows)) s.written e
+  pub rows_stopped : (fault : ListFault Stop) (e : Stop) → e ≡ stop_of fault → StopsIn TakesRow FailsOnRow s n.rows fault t → (s.writer.ghost_name ≡ t.writer.ghost_name → x ≡ t.writer.now)
+      → Stopped s.writer.now x (row_lines (drop 1 n.rows)) e
   rows_stopped fault e is stops ends =
-      let all = has_stopped contents s n.rows fault t stops in
-      subst (λ f. WroteFront (contents s.writer.now) (contents x) (row_lines (drop 1 n.rows)) s.written f) (sym is)
-      (subst (λ text. WroteFront (contents s.writer.now) (contents x) text s.written (fault_of fault)) (all_lines n w).0
-      (subst (λ y. WroteFront (contents s.writer.now) (contents y) (listed_text n.rows) s.written (fault_of fault)) (sym (ends (sym all.same_writer))) all.front))
+      let all = has_stopped s n.rows fault t stops in
+      subst (λ f. Stopped s.writer.now x (row_lines (drop 1 n.rows)) f) (sym is)
+      (subst (λ text. Stopped s.writer.now x text (stop_of fault)) (all_lines n w).0
+      (subst (λ y. Stopped s.writer.now y (listed_text n.rows) (stop_of fault)) (sym (ends (sym all.same_writer))) all.front))
 
-pub rows_counted : {W : Type 0} (contents : W → Option (List ℕ)) (s t : Lines W) (n : Namespace) → IsWellFormed n → Took (TakesRow contents) s n.rows t → s.count ≡ 0 → t.count ≡ length n.rows - 1
-rows_counted contents s t n w took none = omega (arith, (has_taken contents s n.rows t took).counted, none, (all_lines n w).1)
+-- the lines are fewer than the bytes, and so the count did not stay
+pub rows_counted : {W : Type 0} (s t : Lines W) (n : Namespace) → IsWellFormed n → TookRows TakesRow s n.rows t → s.count ≡ 0 → t.writer.now.taken < 2 ^ 64 → t.count ≡ length n.rows - 1
+rows_counted s t n w took none fits =
+    let all = has_taken s n.rows t took in
+    let counted = all.counted (omega (arith, none, fits, all.wrote.counted, listed_bytes n.rows)) in
+    omega (arith, counted, none, (all_lines n w).1)
 
 pub end_whole : (count : ℕ) → has_float (end_data count) ≡ false
 unfolding end_data
@@ -216,7 +273,7 @@ end_whole count = refl
 
 -- ---- the whole text
 
-module _ (w0 w1 w2 w3 : Option (List ℕ)) (n : Namespace) (txid k m : ℕ) where
+module _ (w0 w1 w2 w3 : Writing) (n : Namespace) (txid : ℕ) where
   abbrev head : List ℕ
   head = line_of (header_data n txid)
 
@@ -226,23 +283,23 @@ module _ (w0 w1 w2 w3 : Option (List ℕ)) (n : Namespace) (txid k m : ℕ) wher
   abbrev end : List ℕ
   end = line_of (end_data (length n.rows - 1))
 
-  pub head_fails : (e : SaveFault) → WroteFront w0 w1 head 0 e → WroteFront w0 w1 (image_text n txid) 0 e
+  pub head_fails : (e : Stop) → Stopped w0 w1 head e → Stopped w0 w1 (image_text n txid) e
   unfolding image_text
-  head_fails e h = front_of w0 w1 w1 head (rows ++ end) 0 0 e h
+  head_fails e h = front_of w0 w1 w1 head (rows ++ end) e h
 
-  pub rows_fail : (e : SaveFault) → Wrote w0 w1 head 0 k → WroteFront w1 w2 rows k e → WroteFront w0 w2 (image_text n txid) 0 e
+  pub rows_fail : (e : Stop) → Took w0 w1 head → Stopped w1 w2 rows e → Stopped w0 w2 (image_text n txid) e
   unfolding image_text
-  rows_fail e h j = front_after w0 w1 w2 head (rows ++ end) 0 k e h (front_of w1 w2 w2 rows end k k e j)
+  rows_fail e h j = front_after w0 w1 w2 head (rows ++ end) e h (front_of w1 w2 w2 rows end e j)
 
-  both_in : Wrote w0 w1 head 0 k → Wrote w1 w2 rows k m → Wrote w0 w2 (head ++ rows) 0 m
-  both_in h j = wrote_both w0 w1 w2 head rows 0 k m h j
+  both_in : Took w0 w1 head → Took w1 w2 rows → Took w0 w2 (head ++ rows)
+  both_in h j = took_both w0 w1 w2 head rows h j
 
-  pub end_fails : (e : SaveFault) → Wrote w0 w1 head 0 k → Wrote w1 w2 rows k m → WroteFront w2 w3 end m e → WroteFront w0 w3 (image_text n txid) 0 e
+  pub end_fails : (e : Stop) → Took w0 w1 head → Took w1 w2 rows → Stopped w2 w3 end e → Stopped w0 w3 (image_text n txid) e
   unfolding image_text
   end_fails e h j i =
-      subst (λ t. WroteFront w0 w3 t 0 e) (append_assoc head rows end) (front_after w0 w2 w3 (head ++ rows) end 0 m e (both_in h j) i)
+      subst (λ t. Stopped w0 w3 t e) (append_assoc head rows end) (front_after w0 w2 w3 (head ++ rows) end e (both_in h j) i)
 
-  pub all_written : (l : ℕ) → Wrote w0 w1 head 0 k → Wrote w1 w2 rows k m → Wrote w2 w3 end m l → Appends w0 w3 (image_text n txid)
+  pub all_written : Took w0 w1 head → Took w1 w2 rows → Took w2 w3 end → Took w0 w3 (image_text n txid)
   unfolding image_text
-  all_written l h j i =
-      subst (Appends w0 w3) (append_assoc head rows end) (wrote_both w0 w2 w3 (head ++ rows) end 0 m l (both_in h j) i).0
+  all_written h j i =
+      subst (Took w0 w3) (append_assoc head rows end) (took_both w0 w2 w3 (head ++ rows) end (both_in h j) i)

@@ -1,6 +1,6 @@
 -- What a call that loads an image and then saves it leaves.
-use Rattle.std.specs.Prelude.{◌≡◌, ℕ, List, Option, Ok}
-use Rattle.std.specs.Io.KnownBytes.{Appends}
+use Rattle.std.specs.Prelude.{◌≡◌, ℕ, Ok}
+use Rattle.nn_device.specs.Device.{Reading, Writing, Took}
 use Rattle.nn_model.specs.Namespace.{Namespace}
 use Rattle.nn_model.specs.WellFormed.{IsWellFormed}
 use Rattle.nn_image.specs.declared.fault.ImageFault.{ImageFault}
@@ -14,20 +14,22 @@ use Rattle.nn_image.specs.Saving.{WroteFront}
 
 -- The reader's whole text was read as some namespace at this txid, and the writer got the image of these, which is read as
 -- them again.
-pub record Rewrote (text left old new : Option (List ℕ)) (txid : ℕ) : Type 0 where
+pub record Rewrote (start end : Reading) (old new : Writing) (txid : ℕ) : Type 0 where
   pub namespace : Namespace
   pub well_formed : IsWellFormed namespace
-  pub read : Ends text left read_image (namespace, txid)
-  pub wrote : Appends old new (image_text namespace txid)
+  pub read : Ends start.left end.left read_image (namespace, txid)
+  pub unfailed : end.failed ≡ start.failed
+  pub wrote : Took old new (image_text namespace txid)
   pub again : read_image (image_text namespace txid) ≡ Ok (namespace, txid)
 
 -- The reader's whole text was read, and the writer got a front of the image.
-pub record StoppedWriting (text left old new : Option (List ℕ)) (e : SaveFault) : Type 0 where
+pub record StoppedWriting (start end : Reading) (old new : Writing) (e : SaveFault) : Type 0 where
   pub namespace : Namespace
   pub txid : ℕ
   pub well_formed : IsWellFormed namespace
-  pub read : Ends text left read_image (namespace, txid)
-  pub front : WroteFront old new (image_text namespace txid) 0 e
+  pub read : Ends start.left end.left read_image (namespace, txid)
+  pub unfailed : end.failed ≡ start.failed
+  pub front : WroteFront old new (image_text namespace txid) e
 
 -- this holds of a fault of the loading
 abbrev pub IfLoad : (ImageFault → Type 0) → RewriteFault → Type 0

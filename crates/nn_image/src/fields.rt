@@ -4,7 +4,7 @@ ghost use Rattle.std.specs.List.{list_all};
 ghost use Rattle.serde_json.specs.View.{view, items_view};
 ghost use Rattle.nn_image.specs.Reading.{number_of, number_in, text_in, flag_in, array_in, path_in, block_of, gathered, blocks_at, numbers_at, replication_in, file_in, form_of, form_in, row_in, profile_in, fields_in, value_of, object_of, of_version};
 ghost use Rattle.nn_image.specs.Header.{header_value, object_view, IsLawful};
-ghost use Rattle.nn_image.specs.Outcome.{Fails};
+ghost use Rattle.nn_image.specs.Outcome.{Fails, IsNoRead};
 ghost use Rattle.nn_tree.specs.Restore.{awaiting_fits, is_issued, rises};
 
 use crate::fault::ImageFault;
@@ -368,6 +368,7 @@ pub(crate) fn header_in(alloc: Global, value: &Value) -> Result<Header, ImageFau
     ensures limit { IfOk result (λ h. h.txid < 2 ^ 63) }
     ensures fault { IfErr result (λ e. Fails e
         (of_version (view value.now) (number_in (codes "version") (view value.now)))) }
+    ensures own { IfErr result IsNoRead }
 {
     let Some(version) = number_in("version", value) else {
         return Err(ImageFault::NotHeader);

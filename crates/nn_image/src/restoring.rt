@@ -1,22 +1,23 @@
 //! From a reader to a namespace.
-ghost use Rattle.std.specs.Prelude.{◌≡◌, ◌≤◌, ◌<◌, ◌+◌, ◌^◌, [], true, false, OnOk, IfOk, IfErr, Ok, Some, Option, option_map, ◌⊎◌};
+ghost use Rattle.std.specs.Prelude.{◌≡◌, ◌≤◌, ◌<◌, ◌+◌, ◌^◌, [], true, false, length, OnOk, IfOk, IfErr, Ok, Some, Option, option_map, ◌⊎◌};
 ghost use Rattle.std.specs.Ordering.{is_lt};
 ghost use Rattle.std.specs.Str.{IsUtf8};
 ghost use Rattle.serde_json.specs.View.{view};
 ghost use Rattle.nn_types.specs.Path.{IsPath, path_text};
 ghost use Rattle.nn_model.specs.Namespace.{path_cmp, Namespace as Rows};
 ghost use Rattle.nn_image.specs.Header.{header_value, object_view, IsLawful};
-ghost use Rattle.nn_image.specs.Lines.{ahead};
+ghost use Rattle.nn_image.specs.Lines.{ahead, Takes};
 ghost use Rattle.nn_image.specs.Text.{image_text};
 ghost use Rattle.nn_image.specs.Lawful.{HasPaths, IsCounted};
 ghost use Rattle.nn_image.specs.declared.fault.ImageFault.TheVariants.{Truncated};
-ghost use Rattle.nn_image.specs.Outcome.{Fails, IsOfDevice};
+ghost use Rattle.nn_image.specs.Outcome.{Fails, IsOfDevice, Noted, IsNoRead};
 ghost use Rattle.nn_image.specs.Reading.{next_line, with_next, row_in, read_image};
 ghost use Rattle.nn_image.specs.Loading.{GivesObject, IsTorn, Stops, GoesOn, Ends, rows_of, rows_by, after_end, all_of, with_txid, IsLoading};
 
 use crate::fault::ImageFault;
 use crate::fields::{Header, Object, header_in, number_of, object_of, row_in};
 use crate::lines::{Window, next_line};
+use nn_device::Input;
 use nn_tree::{Namespace, RestoreFault};
 use nn_types::{Names, Path};
 use serde_json::Value;
@@ -27,11 +28,13 @@ use std::io::Read;
 /// Reads an image of version 1 or 2, and gives its namespace and its txid. Version 1 has no profile, and stands for
 /// profile 1. Saved, the two make an image that is read as the same. It reads on to the end, and after a fault no further
 /// than that. Beside the namespace it takes a buffer of 65,536 bytes, and one line with its value.
-pub fn load<R: Read>(alloc: Global, reader: &mut R) -> Result<(Namespace, u64), ImageFault>
-    ensures ok { IfOk result (λ i. Ends (R.remaining reader.old) (R.remaining reader.new) read_image i) }
+pub fn load<R: Read>(alloc: Global, reader: &mut Input<R>) -> Result<(Namespace, u64), ImageFault>
+    ensures ok { IfOk result (λ i. Ends reader.old.left reader.new.left read_image i) }
     ensures limit { IfOk result (λ i. i.1 < 2 ^ 63) }
     ensures again { IfOk result (λ i. read_image (image_text i.0 i.1) ≡ Ok i) }
-    ensures fault { IfErr result (λ e. Stops (R.remaining reader.old) e read_image) }
+    ensures unfailed { OnOk result (reader.new.failed ≡ reader.old.failed) }
+    ensures fault { IfErr result (λ e. Stops reader.old.left e read_image) }
+    ensures noted { IfErr result (λ e. Noted e reader.old.failed reader.new.failed) }
 {
     let mut window = Window::new(alloc)?;
     let header = match load_header(alloc, reader, &mut window) {
@@ -60,12 +63,15 @@ pub fn load<R: Read>(alloc: Global, reader: &mut R) -> Result<(Namespace, u64), 
 // The object of the next line, if it is one.
 fn next_object<R: Read>(
     alloc: Global,
-    reader: &mut R,
+    reader: &mut Input<R>,
     window: &mut Window,
 ) -> Result<Option<Object>, ImageFault>
-    ensures ok { IfOk result (λ o. GivesObject (ahead window.old (R.remaining reader.old)) (ahead window.new (R.remaining reader.new))
+    ensures ok { IfOk result (λ o. GivesObject (ahead window.old reader.old.left) (ahead window.new reader.new.left)
         (option_map object_view o)) }
-    ensures fault { IfErr result (λ e. IsOfDevice e ⊎ ((e ≡ Truncated) × IsTorn (ahead window.old (R.remaining reader.old)))) }
+    ensures fault { IfErr result (λ e. IsOfDevice e ⊎ ((e ≡ Truncated) × IsTorn (ahead window.old reader.old.left))) }
+    ensures taken { OnOk result (Takes 1 window.old reader.old.given window.new reader.new.given) }
+    ensures unfailed { OnOk result (reader.new.failed ≡ reader.old.failed) }
+    ensures noted { IfErr result (λ e. Noted e reader.old.failed reader.new.failed) }
 {
     let line = next_line(alloc, reader, window)?;
     if !line.whole {
@@ -77,14 +83,17 @@ fn next_object<R: Read>(
 
 fn load_header<R: Read>(
     alloc: Global,
-    reader: &mut R,
+    reader: &mut Input<R>,
     window: &mut Window,
 ) -> Result<Header, ImageFault>
-    ensures ok { IfOk result (λ h. GoesOn (ahead window.old (R.remaining reader.old)) (ahead window.new (R.remaining reader.new))
+    ensures ok { IfOk result (λ h. GoesOn (ahead window.old reader.old.left) (ahead window.new reader.new.left)
         all_of (λ left. with_txid h.txid (rows_of (header_value h).0 left))) }
     ensures lawful { IfOk result IsLawful }
     ensures limit { IfOk result (λ h. h.txid < 2 ^ 63) }
-    ensures fault { IfErr result (λ e. Stops (ahead window.old (R.remaining reader.old)) e all_of) }
+    ensures fault { IfErr result (λ e. Stops (ahead window.old reader.old.left) e all_of) }
+    ensures taken { OnOk result (Takes 1 window.old reader.old.given window.new reader.new.given) }
+    ensures unfailed { OnOk result (reader.new.failed ≡ reader.old.failed) }
+    ensures noted { IfErr result (λ e. Noted e reader.old.failed reader.new.failed) }
 {
     let object = match next_object(alloc, reader, window) {
         Ok(Some(object)) => object,
@@ -100,17 +109,20 @@ fn load_header<R: Read>(
 
 fn load_rows<R: Read>(
     alloc: Global,
-    reader: &mut R,
+    reader: &mut Input<R>,
     window: &mut Window,
     namespace: Namespace,
 ) -> Result<Namespace, ImageFault>
-    requires { IsLoading namespace [] 2 }
-    ensures ok { IfOk result (λ n. Ends (ahead window.old (R.remaining reader.old)) (ahead window.new (R.remaining reader.new))
+    requires loading { IsLoading namespace [] 2 }
+    requires counted { length window.old ≤ reader.old.given }
+    ensures ok { IfOk result (λ n. Ends (ahead window.old reader.old.left) (ahead window.new reader.new.left)
         (rows_of namespace) n) }
     ensures paths { IfOk result (λ n. HasPaths namespace → HasPaths n) }
     ensures counted { IfOk result IsCounted }
-    ensures fault { IfErr result (λ e. Stops (ahead window.old (R.remaining reader.old)) e
+    ensures fault { IfErr result (λ e. Stops (ahead window.old reader.old.left) e
         (rows_of namespace)) }
+    ensures unfailed { OnOk result (reader.new.failed ≡ reader.old.failed) }
+    ensures noted { IfErr result (λ e. Noted e reader.old.failed reader.new.failed) }
 {
     let mut namespace = namespace;
     let mut before = root(alloc)?;
@@ -130,21 +142,26 @@ fn load_rows<R: Read>(
             Err(fault) => return Err(fault),
         }
     }
-    Err(ImageFault::ReadFault)
+    // Each line took a byte at least, and bytes are counted.
+    reader.given();
+    unreachable!()
 }
 
 // The object of the next line.
 fn next_value<R: Read>(
     alloc: Global,
-    reader: &mut R,
+    reader: &mut Input<R>,
     window: &mut Window,
     number: u64,
 ) -> Result<Object, ImageFault>
     ensures ok { IfOk result (λ v. (n : Rows) → next_line n ≡ number →
-        GoesOn (ahead window.old (R.remaining reader.old)) (ahead window.new (R.remaining reader.new))
+        GoesOn (ahead window.old reader.old.left) (ahead window.new reader.new.left)
         (rows_of n) (rows_by n (object_view v))) }
     ensures fault { IfErr result (λ e. (n : Rows) → next_line n ≡ number →
-        Stops (ahead window.old (R.remaining reader.old)) e (rows_of n)) }
+        Stops (ahead window.old reader.old.left) e (rows_of n)) }
+    ensures taken { OnOk result (Takes 1 window.old reader.old.given window.new reader.new.given) }
+    ensures unfailed { OnOk result (reader.new.failed ≡ reader.old.failed) }
+    ensures noted { IfErr result (λ e. Noted e reader.old.failed reader.new.failed) }
 {
     match next_object(alloc, reader, window) {
         Ok(Some(object)) => Ok(object),
@@ -156,7 +173,7 @@ fn next_value<R: Read>(
 // The end line's number, and that nothing follows.
 fn load_end<R: Read>(
     alloc: Global,
-    reader: &mut R,
+    reader: &mut Input<R>,
     window: &mut Window,
     number: u64,
     count: &Value,
@@ -164,11 +181,13 @@ fn load_end<R: Read>(
     requires from { 2 ≤ number }
     requires below { number < 18446744073709551615 }
     ensures ok { OnOk result ((n : Rows) → next_line n ≡ number →
-        Ends (ahead window.old (R.remaining reader.old)) (ahead window.new (R.remaining reader.new))
+        Ends (ahead window.old reader.old.left) (ahead window.new reader.new.left)
         (after_end n (view count.now)) n) }
     ensures counted { OnOk result (number ≤ 2 ^ 63 + 1) }
     ensures fault { IfErr result (λ e. (n : Rows) → next_line n ≡ number →
-        Stops (ahead window.old (R.remaining reader.old)) e (after_end n (view count.now))) }
+        Stops (ahead window.old reader.old.left) e (after_end n (view count.now))) }
+    ensures unfailed { OnOk result (reader.new.failed ≡ reader.old.failed) }
+    ensures noted { IfErr result (λ e. Noted e reader.old.failed reader.new.failed) }
 {
     let Some(count) = number_of(count) else {
         return Err(ImageFault::BadLine(number));
@@ -199,6 +218,7 @@ fn add_row(
     ensures loading { OnOk result (IsLoading namespace.new before.new (number + 1)) }
     ensures paths { OnOk result (HasPaths namespace.old → HasPaths namespace.new) }
     ensures fault { IfErr result (λ e. Fails e (with_next namespace.old (row_in (view value.now)))) }
+    ensures own { IfErr result IsNoRead }
 {
     let Some((path, form)) = row_in(alloc, value)? else {
         return Err(ImageFault::BadLine(number));

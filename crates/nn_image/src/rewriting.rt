@@ -1,12 +1,14 @@
 //! From an image of any version to one of the version that is written.
 ghost use Rattle.std.specs.Prelude.{◌≡◌, ◌<◌, ◌^◌, IfOk, IfErr};
 ghost use Rattle.nn_image.specs.Reading.{read_image};
+ghost use Rattle.nn_image.specs.Outcome.{Noted};
 ghost use Rattle.nn_image.specs.Loading.{Stops};
 ghost use Rattle.nn_image.specs.Rewriting.{Rewrote, StoppedWriting, IfLoad, IfSave};
 
 use crate::fault::RewriteFault;
 use crate::restoring::load;
 use crate::saving::save;
+use nn_device::{Input, Output};
 use std::alloc::Global;
 use std::io::{Read, Write};
 
@@ -16,16 +18,15 @@ use std::io::{Read, Write};
 /// which a front of the image was.
 pub fn rewrite<R: Read, W: Write>(
     alloc: Global,
-    reader: &mut R,
-    writer: &mut W,
+    reader: &mut Input<R>,
+    writer: &mut Output<W>,
 ) -> Result<u64, RewriteFault>
-    ensures ok { IfOk result (λ txid. Rewrote (R.remaining reader.old) (R.remaining reader.new)
-        (W.contents writer.old) (W.contents writer.new) txid) }
+    ensures ok { IfOk result (λ txid. Rewrote reader.old reader.new writer.old writer.new txid) }
     ensures limit { IfOk result (λ txid. txid < 2 ^ 63) }
-    ensures unread { IfErr result (IfLoad (λ e. Stops (R.remaining reader.old) e read_image)) }
+    ensures unread { IfErr result (IfLoad (λ e. Stops reader.old.left e read_image)) }
+    ensures noted { IfErr result (IfLoad (λ e. Noted e reader.old.failed reader.new.failed)) }
     ensures untouched { IfErr result (IfLoad (λ e. writer.new ≡ writer.old)) }
-    ensures front { IfErr result (IfSave (StoppedWriting (R.remaining reader.old) (R.remaining reader.new)
-        (W.contents writer.old) (W.contents writer.new))) }
+    ensures front { IfErr result (IfSave (StoppedWriting reader.old reader.new writer.old writer.new)) }
 {
     let (namespace, txid) = match load(alloc, reader) {
         Ok(image) => image,

@@ -1,15 +1,16 @@
 //! From a namespace to a writer.
 ghost use Rattle.std.specs.Prelude.{◌≡◌, ◌-◌, false, string_bytes, length, drop, OnOk, IfOk, IfErr, codes};
-ghost use Rattle.std.specs.Io.KnownBytes.{Appends};
 ghost use Rattle.serde_json.specs.View.{view, items_view};
 ghost use Rattle.serde_json.specs.Written.{has_float};
 ghost use Rattle.serde_json.specs.Data.{number, unsigned, boolean, array, string, object, member, no_members};
+ghost use Rattle.nn_device.specs.Device.{Took};
 ghost use Rattle.nn_tree.specs.Found.{form_of};
 ghost use Rattle.nn_tree.specs.Listing.{lent_names};
 ghost use Rattle.nn_image.specs.Text.{line_of, block_data, block_items, number_items, header_data, head_data, row_data, row_lines, end_data, image_text, name_text};
-ghost use Rattle.nn_image.specs.Saving.{WroteFront, WroteTake, Wrote, fault_of};
+ghost use Rattle.nn_image.specs.Saving.{WroteFront, Stopped, stop_of};
 
 use crate::fault::SaveFault;
+use nn_device::Output;
 use nn_model::FileRow;
 use nn_tree::{Found, ListFault, Namespace, RowSink, push_text};
 use nn_types::{Block, BlockId, GenerationStamp};
@@ -30,23 +31,48 @@ pub fn save<W: Write>(
     alloc: Global,
     namespace: &Namespace,
     txid: u64,
-    writer: &mut W,
+    writer: &mut Output<W>,
 ) -> Result<(), SaveFault>
-    ensures ok { OnOk result (Appends (W.contents writer.old) (W.contents writer.new) (image_text namespace.now txid)) }
-    ensures front { IfErr result (WroteFront (W.contents writer.old) (W.contents writer.new)
-        (image_text namespace.now txid) 0) }
+    ensures ok { OnOk result (Took writer.old writer.new (image_text namespace.now txid)) }
+    ensures front { IfErr result (WroteFront writer.old writer.new (image_text namespace.now txid)) }
 {
-    let mut written = 0u64;
-    if let Err(fault) = put_head(alloc, namespace, txid, writer, &mut written) {
-        return Err(fault);
-    }
-    let count = match put_rows(alloc, namespace, writer, &mut written) {
-        Ok(count) => count,
-        Err(fault) => return Err(fault),
-    };
-    match put_end(alloc, count, writer, &mut written) {
+    let before = writer.taken();
+    match put_image(alloc, namespace, txid, writer) {
         Ok(()) => Ok(()),
-        Err(fault) => Err(fault),
+        Err(Stop::WriteFailed) => {
+            let written = writer.taken() - before;
+            Err(SaveFault::WriteFault { written })
+        }
+        Err(Stop::OutOfMemory) => Err(SaveFault::OutOfMemory),
+    }
+}
+
+// Why not all of a text was written.
+#[derive(Clone, Copy)]
+enum Stop {
+    WriteFailed,
+    OutOfMemory,
+}
+
+fn put_image<W: Write>(
+    alloc: Global,
+    namespace: &Namespace,
+    txid: u64,
+    writer: &mut Output<W>,
+) -> Result<(), Stop>
+    ensures ok { OnOk result (Took writer.old writer.new (image_text namespace.now txid)) }
+    ensures front { IfErr result (Stopped writer.old writer.new (image_text namespace.now txid)) }
+{
+    if let Err(stop) = put_head(alloc, namespace, txid, writer) {
+        return Err(stop);
+    }
+    let count = match put_rows(alloc, namespace, writer) {
+        Ok(count) => count,
+        Err(stop) => return Err(stop),
+    };
+    match put_end(alloc, count, writer) {
+        Ok(()) => Ok(()),
+        Err(stop) => Err(stop),
     }
 }
 
@@ -54,80 +80,65 @@ fn put_head<W: Write>(
     alloc: Global,
     namespace: &Namespace,
     txid: u64,
-    writer: &mut W,
-    written: &mut u64,
-) -> Result<(), SaveFault>
-    ensures ok { OnOk result (Wrote (W.contents writer.old) (W.contents writer.new)
-        (line_of (header_data namespace.now txid)) written.old written.new) }
-    ensures front { IfErr result (WroteFront (W.contents writer.old) (W.contents writer.new)
-        (line_of (header_data namespace.now txid)) written.old) }
+    writer: &mut Output<W>,
+) -> Result<(), Stop>
+    ensures ok { OnOk result (Took writer.old writer.new (line_of (header_data namespace.now txid))) }
+    ensures front { IfErr result (Stopped writer.old writer.new (line_of (header_data namespace.now txid))) }
 {
     let Ok(value) = header_value(alloc, namespace, txid) else {
-        return Err(SaveFault::OutOfMemory);
+        return Err(Stop::OutOfMemory);
     };
-    put_line(alloc, &value, writer, written)
+    put_line(alloc, &value, writer)
 }
 
 // The line of each path but the root, and their number.
 fn put_rows<W: Write>(
     alloc: Global,
     namespace: &Namespace,
-    writer: &mut W,
-    written: &mut u64,
-) -> Result<u64, SaveFault>
-    ensures ok { OnOk result (Wrote (W.contents writer.old) (W.contents writer.new)
-        (row_lines (drop 1 namespace.now.rows)) written.old written.new) }
+    writer: &mut Output<W>,
+) -> Result<u64, Stop>
+    ensures ok { OnOk result (Took writer.old writer.new (row_lines (drop 1 namespace.now.rows))) }
     ensures count { IfOk result (λ count. count ≡ length namespace.now.rows - 1) }
-    ensures front { IfErr result (WroteFront (W.contents writer.old) (W.contents writer.new)
-        (row_lines (drop 1 namespace.now.rows)) written.old) }
+    ensures front { IfErr result (Stopped writer.old writer.new (row_lines (drop 1 namespace.now.rows))) }
 {
     namespace.well_formed();
     let mut lines = Lines {
         writer,
-        written: *written,
         count: 0,
         alloc,
     };
     if let Err(fault) = namespace.list_to(&mut lines) {
-        return Err(fault_of(fault));
+        return Err(stop_of(fault));
     }
-    *written = lines.written;
+    // There are no more lines than bytes, and these were counted.
+    lines.writer.taken();
     Ok(lines.count)
 }
 
-fn fault_of(fault: ListFault<SaveFault>) -> SaveFault
-    ensures { result ≡ fault_of fault }
+fn stop_of(fault: ListFault<Stop>) -> Stop
+    ensures { result ≡ stop_of fault }
 {
     match fault {
-        ListFault::Sink(fault) => fault,
-        ListFault::OutOfMemory => SaveFault::OutOfMemory,
+        ListFault::Sink(stop) => stop,
+        ListFault::OutOfMemory => Stop::OutOfMemory,
     }
 }
 
-fn put_end<W: Write>(
-    alloc: Global,
-    count: u64,
-    writer: &mut W,
-    written: &mut u64,
-) -> Result<(), SaveFault>
-    ensures ok { OnOk result (Wrote (W.contents writer.old) (W.contents writer.new)
-        (line_of (end_data count)) written.old written.new) }
-    ensures front { IfErr result (WroteFront (W.contents writer.old) (W.contents writer.new)
-        (line_of (end_data count)) written.old) }
+fn put_end<W: Write>(alloc: Global, count: u64, writer: &mut Output<W>) -> Result<(), Stop>
+    ensures ok { OnOk result (Took writer.old writer.new (line_of (end_data count))) }
+    ensures front { IfErr result (Stopped writer.old writer.new (line_of (end_data count))) }
 {
     let Ok(value) = end_value(alloc, count) else {
-        return Err(SaveFault::OutOfMemory);
+        return Err(Stop::OutOfMemory);
     };
-    put_line(alloc, &value, writer, written)
+    put_line(alloc, &value, writer)
 }
 
 // Writes the lines of paths as they come.
 #[derive(Drop)]
-struct Lines<'w, W> {
-    writer: &'w mut W,
-    // The bytes that the writer got of this image.
-    written: u64,
-    // The lines so far.
+struct Lines<'w, W: Write> {
+    writer: &'w mut Output<W>,
+    // The lines so far. A count that would pass `u64::MAX` stays there.
     count: u64,
     alloc: Global,
 }
@@ -135,77 +146,43 @@ struct Lines<'w, W> {
 impl<'w, W: Write> RowSink for Lines<'w, W> {
     ghost use Rattle.nn_image.specs.Saving.{TakesRow, FailsOnRow};
 
-    type Error = SaveFault;
+    type Error = Stop;
 
-    ghost takes = { TakesRow W.contents };
+    ghost takes = { TakesRow };
 
-    ghost fails = { FailsOnRow W.contents };
+    ghost fails = { FailsOnRow };
 
     // What it takes of the stack is taken once, and not at each level that a listing is in.
     #[inline(never)]
-    fn row(&mut self, names: &[&str], found: Found<'_>) -> Result<(), SaveFault> {
+    fn row(&mut self, names: &[&str], found: Found<'_>) -> Result<(), Stop> {
         // The root has no line.
         if names.is_empty() {
             return Ok(());
         }
-        if self.count == u64::MAX {
-            return Err(SaveFault::WriteFault {
-                written: self.written,
-            });
-        }
         let Ok(value) = row_value(self.alloc, names, found) else {
-            return Err(SaveFault::OutOfMemory);
+            return Err(Stop::OutOfMemory);
         };
-        if let Err(fault) = put_line(self.alloc, &value, self.writer, &mut self.written) {
-            return Err(fault);
+        if let Err(stop) = put_line(self.alloc, &value, self.writer) {
+            return Err(stop);
         }
-        self.count += 1;
+        self.count = self.count.saturating_add(1);
         Ok(())
     }
 }
 
 // Writes the line of a value.
-fn put_line<W: Write>(
-    alloc: Global,
-    value: &Value,
-    writer: &mut W,
-    written: &mut u64,
-) -> Result<(), SaveFault>
+fn put_line<W: Write>(alloc: Global, value: &Value, writer: &mut Output<W>) -> Result<(), Stop>
     requires { has_float (view value.now) ≡ false }
-    ensures ok { OnOk result (Wrote (W.contents writer.old) (W.contents writer.new)
-        (line_of (view value.now)) written.old written.new) }
-    ensures front { IfErr result (WroteFront (W.contents writer.old) (W.contents writer.new)
-        (line_of (view value.now)) written.old) }
+    ensures ok { OnOk result (Took writer.old writer.new (line_of (view value.now))) }
+    ensures front { IfErr result (Stopped writer.old writer.new (line_of (view value.now))) }
 {
     let Ok(line) = line(alloc, value) else {
-        return Err(SaveFault::OutOfMemory);
+        return Err(Stop::OutOfMemory);
     };
-    match put(writer, written, line.as_bytes()) {
+    match writer.write_all(line.as_bytes()) {
         Ok(()) => Ok(()),
-        Err(fault) => Err(fault),
+        Err(_) => Err(Stop::WriteFailed),
     }
-}
-
-// Writes bytes, and counts them.
-fn put<W: Write>(writer: &mut W, written: &mut u64, bytes: &[u8]) -> Result<(), SaveFault>
-    ensures ok { OnOk result (Wrote (W.contents writer.old) (W.contents writer.new) bytes.now written.old written.new) }
-    ensures front { IfErr result (WroteTake (W.contents writer.old) (W.contents writer.new) bytes.now written.old) }
-{
-    if bytes.len() as u64 > u64::MAX - *written {
-        return Err(SaveFault::WriteFault { written: *written });
-    }
-    let mut at = 0;
-    'writes: while at < bytes.len() {
-        match writer.write(&bytes[at..]) {
-            Ok(0) | Err(_) => {
-                let written = *written + at as u64;
-                return Err(SaveFault::WriteFault { written });
-            }
-            Ok(n) => at += n,
-        }
-    }
-    *written += bytes.len() as u64;
-    Ok(())
 }
 
 // The line of a value.

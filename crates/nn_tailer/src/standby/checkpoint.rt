@@ -1,15 +1,17 @@
 //! A standby writes an image, and starts from one.
 ghost use Rattle.std.specs.Prelude.{◌≡◌, ◌≤◌, length, OnOk, IfOk, IfErr};
-ghost use Rattle.std.specs.Io.KnownBytes.{Appends};
+ghost use Rattle.nn_device.specs.Device.{Took};
 ghost use Rattle.nn_image.specs.Text.{image_text};
 ghost use Rattle.nn_image.specs.Reading.{read_image};
 ghost use Rattle.nn_image.specs.Saving.{WroteFront};
+ghost use Rattle.nn_image.specs.Outcome.{Noted};
 ghost use Rattle.nn_image.specs.Loading.{Ends, Stops};
 ghost use Rattle.nn_tailer.specs.Public.{AreNew};
 ghost use Rattle.nn_tailer.specs.Restart.{IsNewAt, point_of};
 
 use super::{Standby, nothing_kept};
 use crate::restart::RestartFault;
+use nn_device::{Input, Output};
 use nn_image::{ImageFault, SaveFault, load, save};
 use nn_lane::LaneEnd;
 use nn_segment::Cursor;
@@ -21,11 +23,9 @@ use std::io::{Read, Write};
 impl Standby {
     /// Writes the image of its namespace, with its last txid: whatever it holds, has in hand or was stopped by is no part
     /// of it.
-    pub fn checkpoint<W: Write>(&self, alloc: Global, writer: &mut W) -> Result<(), SaveFault>
-        ensures ok { OnOk result (Appends (W.contents writer.old) (W.contents writer.new)
-            (image_text self.now.shadow.namespace self.now.shadow.last)) }
-        ensures front { IfErr result (WroteFront (W.contents writer.old) (W.contents writer.new)
-            (image_text self.now.shadow.namespace self.now.shadow.last) 0) }
+    pub fn checkpoint<W: Write>(&self, alloc: Global, writer: &mut Output<W>) -> Result<(), SaveFault>
+        ensures ok { OnOk result (Took writer.old writer.new (image_text self.now.shadow.namespace self.now.shadow.last)) }
+        ensures front { IfErr result (WroteFront writer.old writer.new (image_text self.now.shadow.namespace self.now.shadow.last)) }
     {
         save(
             alloc,
@@ -41,15 +41,17 @@ impl Standby {
         alloc: Global,
         ends: Vec<LaneEnd>,
         settings: Settings,
-        reader: &mut R,
+        reader: &mut Input<R>,
     ) -> Result<Standby, RestartFault>
         requires some { 1 ≤ length ends.items }
         requires few { length ends.items ≤ 256 }
         requires fresh { AreNew 1 ends.items }
-        ensures image { IfOk result (λ x. Ends (R.remaining reader.old) (R.remaining reader.new) read_image (point_of x)) }
+        ensures image { IfOk result (λ x. Ends reader.old.left reader.new.left read_image (point_of x)) }
         ensures new { IfOk result (λ x. IsNewAt x.shadow.namespace x.shadow.last ends.items x) }
         ensures settings { IfOk result (λ x. (x.shadow.table.min ≡ settings.min) × (x.shadow.permille ≡ settings.permille)) }
-        ensures fault { IfErr result (λ e. (e.ends ≡ ends) × Stops (R.remaining reader.old) e.cause read_image) }
+        ensures unfailed { OnOk result (reader.new.failed ≡ reader.old.failed) }
+        ensures fault { IfErr result (λ e. (e.ends ≡ ends) × Stops reader.old.left e.cause read_image) }
+        ensures noted { IfErr result (λ e. Noted e.cause reader.old.failed reader.new.failed) }
     {
         let (namespace, txid) = match load(alloc, reader) {
             Ok(loaded) => loaded,

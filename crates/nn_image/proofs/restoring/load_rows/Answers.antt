@@ -1,4 +1,4 @@
-use Rattle.std.proofs.Common.{sym, arith}
+use Rattle.std.proofs.Common.{◌∙◌, sym, arith}
 use Rattle.serde_json.specs.View.{view}
 use Rattle.nn_image.specs.Header.{object_view}
 use Rattle.nn_image.specs.Lines.{ahead}
@@ -9,9 +9,9 @@ use Rattle.nn_image.proofs.restoring.load_rows.Goals as goal
 
 pub returns-in-Err-load_end-clause-fault : goal.returns-in-Err-load_end-clause-fault
 returns-in-Err-load_end-clause-fault g c =
-    let old = ahead c.args.window.now (g.R.Read.remaining c.args.reader.now) in
-    let mid = ahead c.loop-number.window (g.R.Read.remaining c.loop-number.reader) in
-    let new = ahead c.next_value.new.window (g.R.Read.remaining c.next_value.new.reader) in
+    let old = ahead c.args.window.now c.args.reader.now.left in
+    let mid = ahead c.loop-number.window c.loop-number.reader.left in
+    let new = ahead c.next_value.new.window c.next_value.new.reader.left in
     let n0 = c.args.namespace in
     let n = c.loop-number.namespace in
     let d = object_view c.in-Ok.object in
@@ -22,22 +22,22 @@ returns-in-Err-load_end-clause-fault g c =
 
 pub returns-in-Ok-load_end-clause-ok : goal.returns-in-Ok-load_end-clause-ok
 returns-in-Ok-load_end-clause-ok g c =
-    let old = ahead c.args.window.now (g.R.Read.remaining c.args.reader.now) in
-    let mid = ahead c.loop-number.window (g.R.Read.remaining c.loop-number.reader) in
-    let new = ahead c.next_value.new.window (g.R.Read.remaining c.next_value.new.reader) in
+    let old = ahead c.args.window.now c.args.reader.now.left in
+    let mid = ahead c.loop-number.window c.loop-number.reader.left in
+    let new = ahead c.next_value.new.window c.next_value.new.reader.left in
     let n0 = c.args.namespace in
     let n = c.loop-number.namespace in
     let d = object_view c.in-Ok.object in
     let at = c.loop-number.invariant.loading.at in
-    ends_turn old new (ahead c.load_end.new.window (g.R.Read.remaining c.load_end.new.reader)) (rows_of n0) (after_end n (view c.in-Some.count.now)) n
+    ends_turn old new (ahead c.load_end.new.window c.load_end.new.reader.left) (rows_of n0) (after_end n (view c.in-Some.count.now)) n
     (end_turn old mid new n0 n n d c.loop-number.invariant.same (c.in-Ok.ensures.ok n at) (view c.in-Some.count.now) (sym c.in-Some.ensures))
     (c.in-Ok-load_end.ensures.ok n at)
 
 pub returns-in-Err-add_row-clause-fault : goal.returns-in-Err-add_row-clause-fault
 returns-in-Err-add_row-clause-fault g c =
-    let old = ahead c.args.window.now (g.R.Read.remaining c.args.reader.now) in
-    let mid = ahead c.loop-number.window (g.R.Read.remaining c.loop-number.reader) in
-    let new = ahead c.next_value.new.window (g.R.Read.remaining c.next_value.new.reader) in
+    let old = ahead c.args.window.now c.args.reader.now.left in
+    let mid = ahead c.loop-number.window c.loop-number.reader.left in
+    let new = ahead c.next_value.new.window c.next_value.new.reader.left in
     let n0 = c.args.namespace in
     let n = c.loop-number.namespace in
     let d = object_view c.in-Ok.object in
@@ -46,9 +46,9 @@ returns-in-Err-add_row-clause-fault g c =
 
 pub loop-number-preserved : goal.loop-number-preserved
 loop-number-preserved g c =
-    let old = ahead c.args.window.now (g.R.Read.remaining c.args.reader.now) in
-    let mid = ahead c.loop-number.window (g.R.Read.remaining c.loop-number.reader) in
-    let new = ahead c.next_value.new.window (g.R.Read.remaining c.next_value.new.reader) in
+    let old = ahead c.args.window.now c.args.reader.now.left in
+    let mid = ahead c.loop-number.window c.loop-number.reader.left in
+    let new = ahead c.next_value.new.window c.next_value.new.reader.left in
     let n0 = c.args.namespace in
     let n = c.loop-number.namespace in
     let m = c.add_row.new.namespace in
@@ -57,6 +57,8 @@ loop-number-preserved g c =
     record {
       loading = c.in-Ok-add_row.ensures.loading;
       from = omega arith;
+      counted = omega (arith, c.loop-number.invariant.counted, c.in-Ok.ensures.taken);
+      unfailed = c.in-Ok.ensures.unfailed ∙ c.loop-number.invariant.unfailed;
       paths = λ h. c.in-Ok-add_row.ensures.paths (c.loop-number.invariant.paths h);
       same = row_turn old mid new n0 n m d c.loop-number.invariant.same (c.in-Ok.ensures.ok n at) (sym c.in_default.ensures) c.in-Ok-add_row.ensures.ok;
     }

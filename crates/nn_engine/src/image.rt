@@ -2,10 +2,12 @@
 ghost use Rattle.std.specs.Prelude.{◌≡◌, ◌++◌, OnOk};
 ghost use Rattle.nn_engine.specs.Output.{image_part};
 
+use nn_device::Output;
 use nn_image::save;
 use nn_listing::text_bytes;
 use nn_tree::Namespace;
 use std::alloc::{AllocError, Global};
+use std::mem::replace;
 
 /// About what a line has beside its path.
 const LINE: usize = 70;
@@ -29,7 +31,10 @@ pub(crate) fn push_image(
     }
     text.reserve_exact(text_bytes(namespace.extent(), LINE, BLOCK))?;
     text.extend_from_slice(b"image\n")?;
-    match save(alloc, namespace, last, text) {
+    let mut image = Output::new(replace(text, Vec::new(alloc)));
+    let saved = save(alloc, namespace, last, &mut image);
+    *text = image.into_inner();
+    match saved {
         Ok(()) => Ok(()),
         // A write into memory fails where memory is refused.
         Err(_) => Err(AllocError),

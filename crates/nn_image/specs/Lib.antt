@@ -11,3 +11,4 @@ pub mod Loading
 pub mod Saving
 pub mod Rewriting
 pub mod ImageRows
+pub mod DeviceRows

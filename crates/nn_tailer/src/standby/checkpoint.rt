@@ -23,7 +23,11 @@ use std::io::{Read, Write};
 impl Standby {
     /// Writes the image of its namespace, with its last txid: whatever it holds, has in hand or was stopped by is no part
     /// of it.
-    pub fn checkpoint<W: Write>(&self, alloc: Global, writer: &mut Output<W>) -> Result<(), SaveFault>
+    pub fn checkpoint<W: Write>(
+        &self,
+        alloc: Global,
+        writer: &mut Output<W>,
+    ) -> Result<(), SaveFault>
         ensures ok { OnOk result (Took writer.old writer.new (image_text self.now.shadow.namespace self.now.shadow.last)) }
         ensures front { IfErr result (WroteFront writer.old writer.new (image_text self.now.shadow.namespace self.now.shadow.last)) }
     {

@@ -1,0 +1,83 @@
+-- What is told of a text of which a front was written, and of reads that failed.
+use Rattle.std.specs.Prelude.{true, false, [], ◌∷◌, length, Some, codes, refl}
+use Rattle.std.proofs.Common.{sym, ap, true≢false, arith, length-append}
+use Rattle.nn_device.specs.Device.{Writing}
+use Rattle.nn_image.specs.declared.fault.ImageFault.TheVariants.{Truncated, ReadFault, OutOfMemory}
+use Rattle.nn_image.specs.declared.fault.SaveFault.TheVariants as save
+use Rattle.nn_image.specs.declared.saving.Stop.TheVariants as stop
+use Rattle.nn_image.specs.Lines.{Takes}
+use Rattle.nn_image.specs.Outcome.{Noted, IsNoRead}
+use Rattle.nn_image.specs.Saving.{WroteFront, Stopped}
+
+-- ---- writes
+
+abbrev unwritten : Writing
+unwritten = record { contents = Some []; taken = 5; failed = false }
+
+-- two bytes were written, and then a write failed
+abbrev failed_after_two : Writing
+failed_after_two = record { contents = Some (codes "ab"); taken = 7; failed = true }
+
+-- two bytes were written, and then memory ran out
+abbrev ended_after_two : Writing
+ended_after_two = record { contents = Some (codes "ab"); taken = 7; failed = false }
+
+two_told : WroteFront unwritten failed_after_two (codes "abc") (save.WriteFault 2)
+two_told = record { front = codes "ab"; rest = codes "c"; whole = refl; bytes = refl; counted = refl; told = (refl, omega arith, refl) }
+
+-- the bytes of this text are told, and not all that the writer took
+all_told : WroteFront unwritten failed_after_two (codes "abc") (save.WriteFault 7) → ⊥
+all_told h = omega (arith, h.told.0, h.counted)
+
+-- a failed write was noted
+not_noted : WroteFront unwritten ended_after_two (codes "abc") (save.WriteFault 2) → ⊥
+not_noted h = true≢false (sym h.told.2)
+
+-- where all was written, no write failed
+none_left : WroteFront unwritten failed_after_two (codes "ab") (save.WriteFault 2) → ⊥
+none_left h = omega (arith, h.told.0, h.told.1, ap length h.whole, length-append h.front h.rest)
+
+no_memory : WroteFront unwritten ended_after_two (codes "abc") save.OutOfMemory
+no_memory = record { front = codes "ab"; rest = codes "c"; whole = refl; bytes = refl; counted = refl; told = refl }
+
+-- where memory ran out, no write failed
+no_failure : WroteFront unwritten failed_after_two (codes "abc") save.OutOfMemory → ⊥
+no_failure h = true≢false h.told
+
+part_failed : Stopped unwritten failed_after_two (codes "abc") stop.WriteFailed
+part_failed = record { front = codes "ab"; rest = codes "c"; whole = refl; bytes = refl; counted = refl; cause = (omega arith, refl) }
+
+part_ended : Stopped unwritten failed_after_two (codes "abc") stop.OutOfMemory → ⊥
+part_ended h = true≢false h.cause
+
+-- ---- reads
+
+read_failed : Noted ReadFault false true
+read_failed = refl
+
+-- no failed read is made up
+made_up : Noted ReadFault false false → ⊥
+made_up h = true≢false (sym h)
+
+-- a failed read is told
+torn_by_a_read : Noted Truncated false true → ⊥
+torn_by_a_read h = true≢false h
+
+no_memory_by_a_read : Noted OutOfMemory false true → ⊥
+no_memory_by_a_read h = true≢false h
+
+of_the_text : IsNoRead Truncated
+of_the_text = tt
+
+of_a_read : IsNoRead ReadFault → ⊥
+of_a_read h = h
+
+-- a line of one byte was taken: it stood in the window, or came of a read
+from_the_window : Takes 1 (10 ∷ []) 5 [] 5
+from_the_window = omega arith
+
+from_a_read : Takes 1 [] 5 (97 ∷ []) 7
+from_a_read = omega arith
+
+none_taken : Takes 1 [] 5 (97 ∷ []) 6 → ⊥
+none_taken h = omega (arith, h)

@@ -1,5 +1,6 @@
 //! A namespace, and its image as a text.
 use crate::call::Call;
+use nn_device::{Reader, Writer};
 use nn_edits::{Scratch, read_edit};
 use nn_image::{image_name, load, rewrite, save};
 use nn_tree::{Found, Namespace, Touched};
@@ -12,9 +13,7 @@ pub fn change(files: &mut Namespace, text: &mut Vec<u8>, call: &mut Call<'_>) ->
     } else if call.is("load") {
         restore(files, text, call);
     } else if call.is("save") {
-        text.clear();
-        let txid = call.number(1);
-        call.failed = save(call.alloc, files, txid, text).is_err() || call.failed;
+        write_image(files, text, call);
     } else if call.is("rewrite") {
         write_again(text, call);
     } else if call.is("show") {
@@ -59,9 +58,17 @@ fn show_touched(touched: &Touched, call: &mut Call<'_>) {
     }
 }
 
+// Puts the image of the namespace in the place of the text.
+fn write_image(files: &Namespace, text: &mut Vec<u8>, call: &mut Call<'_>) {
+    let txid = call.number(1);
+    let mut image = Writer::new(Vec::new(call.alloc));
+    call.failed = save(call.alloc, files, txid, &mut image).is_err() || call.failed;
+    *text = image.into_inner();
+}
+
 // Takes the namespace of an image, and answers its txid.
 fn restore(files: &mut Namespace, text: &[u8], call: &mut Call<'_>) {
-    match load(call.alloc, &mut &text[..]) {
+    match load(call.alloc, &mut Reader::new(text)) {
         Ok((namespace, txid)) => {
             *files = namespace;
             call.show(&txid);
@@ -72,12 +79,12 @@ fn restore(files: &mut Namespace, text: &[u8], call: &mut Call<'_>) {
 
 // Puts what an image is written as in its place, and answers its txid.
 fn write_again(text: &mut Vec<u8>, call: &mut Call<'_>) {
-    let mut written = Vec::new(call.alloc);
-    match rewrite(call.alloc, &mut &text[..], &mut written) {
+    let mut written = Writer::new(Vec::new(call.alloc));
+    match rewrite(call.alloc, &mut Reader::new(text.as_slice()), &mut written) {
         Ok(txid) => call.show(&txid),
         Err(fault) => call.fault(fault.number(), &fault),
     }
-    *text = written;
+    *text = written.into_inner();
 }
 
 // The lines of a text, with a blank between them.

@@ -1,11 +1,11 @@
 -- What is told of an error is what the words ask for.
-use Rattle.std.proofs.Common.{◌≡◌, ◌≢◌, ℕ, Bool, false, List, None, Option, sym, subst, ◌∙◌, inl, inr}
-use Rattle.std.specs.Io.KnownBytes.{Keeps}
+use Rattle.std.proofs.Common.{◌≡◌, ◌≢◌, ℕ, List, sym, subst, ◌∙◌, inl, inr}
+use Rattle.nn_device.specs.Device.{Reading, Writing}
 use Rattle.clap.specs.Words.{Text, IsAmong, fault_of}
 use Rattle.clap.specs.declared.error.kind.ErrorKind.{ErrorKind}
 use Rattle.clap.specs.declared.error.kind.ErrorKind.TheVariants.{DisplayHelp, OutOfMemory}
 use Rattle.nn_command.specs.Options.{command_line}
-use Rattle.nn_command.specs.Program.{Serves, Tells, WhyNot, AskForHelp, AskForNothing, streams}
+use Rattle.nn_command.specs.Program.{Serves, Tells, WhyNot, AskForHelp, AskForNothing, no_reader, streams}
 
 memory_is_no_help : OutOfMemory ≡ DisplayHelp → ⊥
 memory_is_no_help e = absurd (cc)
@@ -20,11 +20,11 @@ asks_for_nothing words kind no_help no_memory (inl memory) = absurd (no_memory m
 asks_for_nothing words kind no_help no_memory (inr (inl among)) = inl (kind, among, no_help)
 asks_for_nothing words kind no_help no_memory (inr (inr other)) = inr other.1
 
-pub told_serves : (words : List Text) (kind : ErrorKind) (before after output output' errors errors' : Option (List ℕ)) (had has : Bool) (ended : ℕ) →
-    WhyNot words kind → Keeps before after → Tells kind (streams None None false false output output' errors errors') ended →
-    Serves words (streams before after had has output output' errors errors') ended
-told_serves words kind before after output output' errors errors' had has ended why kept (inl memory) = inr (inr (inr (memory.0, memory.1, kept)))
-told_serves words kind before after output output' errors errors' had has ended why kept (inr (inl help)) =
+pub told_serves : (words : List Text) (kind : ErrorKind) (before after : Reading) (output output' errors errors' : Writing) (ended : ℕ) →
+    WhyNot words kind → after ≡ before → Tells kind (streams no_reader no_reader output output' errors errors') ended →
+    Serves words (streams before after output output' errors errors') ended
+told_serves words kind before after output output' errors errors' ended why kept (inl memory) = inr (inr (inr (memory.0, memory.1, kept)))
+told_serves words kind before after output output' errors errors' ended why kept (inr (inl help)) =
     inr (inl (asks_for_help words kind help.0 why, (help.1.0, help.1.1, kept)))
-told_serves words kind before after output output' errors errors' had has ended why kept (inr (inr other)) =
+told_serves words kind before after output output' errors errors' ended why kept (inr (inr other)) =
     inr (inr (inl (asks_for_nothing words kind other.0 other.1 why, (other.2.0, other.2.1, other.2.2, kept))))

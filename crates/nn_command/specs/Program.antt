@@ -1,6 +1,6 @@
 -- What the program does for the words that it is started with, and the status that it ends with.
-use Rattle.std.specs.Prelude.{◌≡◌, ◌≢◌, ◌⊎◌, ◌≤◌, ◌∷◌, [], ◌++◌, ℕ, Bool, List, length, take, codes, Option}
-use Rattle.std.specs.Io.KnownBytes.{Appends, Keeps}
+use Rattle.std.specs.Prelude.{◌≡◌, ◌≢◌, ◌⊎◌, ◌∷◌, [], ◌++◌, ℕ, Bool, false, List, codes, None}
+use Rattle.nn_device.specs.Device.{Reading, Writing, Took, FailedToWrite}
 use Rattle.clap.specs.Words.{Text, IsAmong, fault_of}
 use Rattle.clap.specs.declared.error.kind.ErrorKind.{ErrorKind}
 use Rattle.clap.specs.declared.error.kind.ErrorKind.TheVariants.{DisplayHelp}
@@ -31,57 +31,57 @@ AskForNothing words =
 
 -- ---- What the program did.
 
--- the bytes that its reader had left and its two writers had got, before and after, and whether a read has failed
+-- its reader and its two writers, before and after
 pub record Streams : Type 0 where
-  pub before : Option (List ℕ)
-  pub after : Option (List ℕ)
-  pub had_failed : Bool
-  pub has_failed : Bool
-  pub output : Option (List ℕ)
-  pub output' : Option (List ℕ)
-  pub errors : Option (List ℕ)
-  pub errors' : Option (List ℕ)
+  pub before : Reading
+  pub after : Reading
+  pub output : Writing
+  pub output' : Writing
+  pub errors : Writing
+  pub errors' : Writing
 
-abbrev pub streams : Option (List ℕ) → Option (List ℕ) → Bool → Bool → Option (List ℕ) → Option (List ℕ) → Option (List ℕ) → Option (List ℕ) → Streams
-streams before after had_failed has_failed output output' errors errors' = record {
+abbrev pub streams : Reading → Reading → Writing → Writing → Writing → Writing → Streams
+streams before after output output' errors errors' = record {
   before = before;
   after = after;
-  had_failed = had_failed;
-  has_failed = has_failed;
   output = output;
   output' = output';
   errors = errors;
   errors' = errors';
 }
 
--- the writer got the text, and the status is this one; or it got a front of the text, since a write failed, and the status is 1
-abbrev pub Writes : Option (List ℕ) → Option (List ℕ) → List ℕ → ℕ → ℕ → Type 0
-Writes old new text status ended =
-    (Appends old new text × (ended ≡ status)) ⊎ ((n : ℕ) × (n ≤ length text) × Appends old new (take n text) × (ended ≡ 1))
+-- a reader of which nothing is known, for what is done without one
+abbrev pub no_reader : Reading
+no_reader = record { left = None; given = 0; failed = false }
+
+-- the writer got the text, and the status is this one; or a write failed before it got all, and the status is 1
+abbrev pub Writes : Writing → Writing → List ℕ → ℕ → ℕ → Type 0
+Writes old new text status ended = (Took old new text × (ended ≡ status)) ⊎ ((n : ℕ) × FailedToWrite old new text n × (ended ≡ 1))
 
 -- the line that memory ran out
 abbrev pub memory_line : List ℕ
 memory_line = codes "fault 55" ++ newline ∷ []
 
 -- the output, and the status that goes with it, or 1 where a write failed
-abbrev pub EndsWith : Given → Option (List ℕ) → Option (List ℕ) → ℕ → Type 0
+abbrev pub EndsWith : Given → Writing → Writing → ℕ → Type 0
 EndsWith given output output' ended = Wrote given output output' ended ⊎ ((n : ℕ) × WroteFront given output output' n × (ended ≡ 1))
 
 -- a run with these options, and with threads or without
 abbrev pub Runs : RunOptions → Bool → Streams → ℕ → Type 0
-Runs options threads s ended = EndsWith (running options threads s.before s.after s.had_failed s.has_failed) s.output s.output' ended × Keeps s.errors s.errors'
+Runs options threads s ended = EndsWith (running options threads s.before s.after) s.output s.output' ended × (s.errors' ≡ s.errors)
 
 -- the help text on the output, and nothing was read
 abbrev pub Helps : Streams → ℕ → Type 0
-Helps s ended = ((text : List ℕ) × Writes s.output s.output' text 0 ended) × Keeps s.errors s.errors' × Keeps s.before s.after
+Helps s ended = ((text : List ℕ) × Writes s.output s.output' text 0 ended) × (s.errors' ≡ s.errors) × (s.after ≡ s.before)
 
--- a message beside the output, and nothing was read
+-- a message beside the output, all of it or a front, and nothing was read
 abbrev pub Refuses : Streams → ℕ → Type 0
-Refuses s ended = ((text : List ℕ) × Appends s.errors s.errors' text) × (ended ≡ 2) × Keeps s.output s.output' × Keeps s.before s.after
+Refuses s ended =
+    ((text : List ℕ) × (Took s.errors s.errors' text ⊎ ((n : ℕ) × FailedToWrite s.errors s.errors' text n))) × (ended ≡ 2) × (s.output' ≡ s.output) × (s.after ≡ s.before)
 
 -- the line that memory ran out, and nothing was read
 abbrev pub LacksMemory : Streams → ℕ → Type 0
-LacksMemory s ended = Writes s.output s.output' memory_line 1 ended × Keeps s.errors s.errors' × Keeps s.before s.after
+LacksMemory s ended = Writes s.output s.output' memory_line 1 ended × (s.errors' ≡ s.errors) × (s.after ≡ s.before)
 
 -- what it does for words, of which the first is the program's name
 abbrev pub Serves : List Text → Streams → ℕ → Type 0

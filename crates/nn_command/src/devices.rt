@@ -1,7 +1,8 @@
 //! The program on the devices of its process, and on a thread with stack enough for a run.
 use crate::program;
 use crate::program::{NoWords, serve};
-use nn_engine::{Input, Open};
+use nn_device::{Reader, Writer};
+use nn_engine::Open;
 use nn_scenario::MAX_INPUT;
 use std::process::ExitCode;
 use std::sync::{Arc, Wait};
@@ -50,9 +51,9 @@ fn on_devices<T: Threads + Wait + Sync>(rt: &HostRuntime, threads: &T) -> u8 {
         Ok(words) => Ok(words.as_slice()),
         Err(why) => Err(*why),
     };
-    let mut input = Input::new(rt.reader());
-    let mut output = io::writer(rt);
-    let mut errors = rt.stderr();
+    let mut input = Reader::new(rt.reader());
+    let mut output = Writer::new(io::writer(rt));
+    let mut errors = Writer::new(rt.stderr());
     let Ok(gate) = Arc::new(rt.alloc(), Open) else {
         return program::out_of_memory(&mut output);
     };
@@ -82,6 +83,6 @@ fn words(rt: &HostRuntime) -> Result<Vec<String>, NoWords> {
 
 /// The line that memory ran out, on standard output, and its status.
 pub fn out_of_memory(rt: &HostRuntime) -> ExitCode {
-    let mut writer = io::writer(rt);
+    let mut writer = Writer::new(io::writer(rt));
     ExitCode::from(program::out_of_memory(&mut writer))
 }

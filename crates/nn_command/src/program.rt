@@ -1,14 +1,15 @@
 //! What the program does for the words that it is started with, over any reader and writers.
-ghost use Rattle.std.specs.Prelude.{◌≡◌, ◌≤◌, ℕ, List, None, false, IfOk, IfErr, map, string_bytes};
-ghost use Rattle.std.specs.Io.KnownBytes.{Appends};
+ghost use Rattle.std.specs.Prelude.{◌≡◌, ◌≤◌, ◌⊎◌, ℕ, List, false, IfOk, IfErr, map, string_bytes};
+ghost use Rattle.nn_device.specs.Device.{Took, FailedToWrite};
 ghost use Rattle.clap.specs.Words.{kind_of};
 ghost use Rattle.nn_engine.specs.Run.{running};
-ghost use Rattle.nn_command.specs.Program.{EndsWith, Serves, ServesNone, Tells, Writes, memory_line, streams};
+ghost use Rattle.nn_command.specs.Program.{EndsWith, Serves, ServesNone, Tells, Writes, memory_line, no_reader, streams};
 
 use crate::options;
 use crate::options::Request;
 use clap::error::ErrorKind;
-use nn_engine::{Gate, Input, Options, Threaded, run, run_threads, write_output};
+use nn_device::{Reader, Writer};
+use nn_engine::{Gate, Options, Threaded, run, run_threads};
 use std::alloc::Global;
 use std::io::{Read, Write};
 use std::sync::{Arc, Wait};
@@ -40,17 +41,15 @@ pub fn serve<R: Read, W: Write, E: Write, G: Gate + Send + Sync + Drop, T: Threa
     rt: &T,
     alloc: Global,
     words: Result<&[String], NoWords>,
-    input: &mut Input<R>,
-    output: &mut W,
-    errors: &mut E,
+    input: &mut Reader<R>,
+    output: &mut Writer<W>,
+    errors: &mut Writer<E>,
     gate: Arc<G, Global>,
 ) -> u8
     ensures some { IfOk words.entry (λ words. Serves (map string_bytes words.now)
-        (streams (R.remaining input.old.reader) (R.remaining input.new.reader) input.old.failed input.new.failed
-        (W.contents output.old) (W.contents output.new) (E.contents errors.old) (E.contents errors.new)) result) }
+        (streams input.old input.new output.old output.new errors.old errors.new) result) }
     ensures none { IfErr words.entry (λ why. ServesNone why
-        (streams (R.remaining input.old.reader) (R.remaining input.new.reader) input.old.failed input.new.failed
-        (W.contents output.old) (W.contents output.new) (E.contents errors.old) (E.contents errors.new)) result) }
+        (streams input.old input.new output.old output.new errors.old errors.new) result) }
 {
     let words = match words {
         Ok(words) => words,
@@ -69,13 +68,12 @@ fn run_as_asked<R: Read, W: Write, G: Gate + Send + Sync + Drop, T: Threads + Wa
     rt: &T,
     alloc: Global,
     request: &Request,
-    input: &mut Input<R>,
-    output: &mut W,
+    input: &mut Reader<R>,
+    output: &mut Writer<W>,
     gate: Arc<G, Global>,
 ) -> u8
     requires { (1 ≤ request.now.capacity) × (request.now.capacity ≤ 1024) }
-    ensures { EndsWith (running request.now.options request.now.threads (R.remaining input.old.reader) (R.remaining input.new.reader) input.old.failed input.new.failed)
-        (W.contents output.old) (W.contents output.new) result }
+    ensures { EndsWith (running request.now.options request.now.threads input.old input.new) output.old output.new result }
 {
     if !request.threads {
         return run_plain(alloc, &request.options, input, output);
@@ -94,11 +92,10 @@ fn run_as_asked<R: Read, W: Write, G: Gate + Send + Sync + Drop, T: Threads + Wa
 fn run_plain<R: Read, W: Write>(
     alloc: Global,
     options: &Options,
-    input: &mut Input<R>,
-    output: &mut W,
+    input: &mut Reader<R>,
+    output: &mut Writer<W>,
 ) -> u8
-    ensures { EndsWith (running options.now false (R.remaining input.old.reader) (R.remaining input.new.reader) input.old.failed input.new.failed)
-        (W.contents output.old) (W.contents output.new) result }
+    ensures { EndsWith (running options.now false input.old input.new) output.old output.new result }
 {
     match run(alloc, options, input, output) {
         Ok(run_end) => run_end.status,
@@ -110,11 +107,10 @@ fn run_plain<R: Read, W: Write>(
 fn tell<W: Write, E: Write>(
     alloc: Global,
     error: &clap::Error,
-    output: &mut W,
-    errors: &mut E,
+    output: &mut Writer<W>,
+    errors: &mut Writer<E>,
 ) -> u8
-    ensures { Tells (kind_of error.now) (streams None None false false
-        (W.contents output.old) (W.contents output.new) (E.contents errors.old) (E.contents errors.new)) result }
+    ensures { Tells (kind_of error.now) (streams no_reader no_reader output.old output.new errors.old errors.new) result }
 {
     let kind = error.kind();
     if kind == ErrorKind::OutOfMemory {
@@ -129,27 +125,27 @@ fn tell<W: Write, E: Write>(
     refuse(errors, text.as_bytes())
 }
 
-fn refuse<E: Write>(errors: &mut E, text: &[u8]) -> u8
-    ensures told { (part : List ℕ) × Appends (E.contents errors.old) (E.contents errors.new) part }
+fn refuse<E: Write>(errors: &mut Writer<E>, text: &[u8]) -> u8
+    ensures told { (told : List ℕ) × (Took errors.old errors.new told ⊎ ((n : ℕ) × FailedToWrite errors.old errors.new told n)) }
     ensures status { result ≡ 2 }
 {
-    // What is told of the words is no output, so that a write that fails changes nothing.
-    let _ = write_output(errors, text);
+    // What is told of the arguments is no output, so that a write that fails changes nothing.
+    let _ = errors.write_all(text);
     MISUSED
 }
 
 // The line that memory ran out.
-pub(crate) fn out_of_memory<W: Write>(output: &mut W) -> u8
-    ensures { Writes (W.contents output.old) (W.contents output.new) memory_line 1 result }
+pub(crate) fn out_of_memory<W: Write>(output: &mut Writer<W>) -> u8
+    ensures { Writes output.old output.new memory_line 1 result }
 {
     write_or_fail(output, b"fault 55\n", FAILED)
 }
 
 // Writes a text that goes with a status.
-fn write_or_fail<W: Write>(output: &mut W, text: &[u8], status: u8) -> u8
-    ensures { Writes (W.contents output.old) (W.contents output.new) text.now status result }
+fn write_or_fail<W: Write>(output: &mut Writer<W>, text: &[u8], status: u8) -> u8
+    ensures { Writes output.old output.new text.now status result }
 {
-    match write_output(output, text) {
+    match output.write_all(text) {
         Ok(()) => status,
         Err(_) => FAILED,
     }

@@ -2,8 +2,8 @@
 //! whoever lends one of them can tell a failed read or write from every other end.
 #![tactic(auto)]
 
-mod input;
-mod output;
+mod reader;
+mod writer;
 
-pub use input::{Input, ReadFailed};
-pub use output::{Output, WriteFailed};
+pub use reader::{ReadFailed, Reader};
+pub use writer::{WriteFailed, Writer};

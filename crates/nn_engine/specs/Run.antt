@@ -1,11 +1,12 @@
 -- What a run wrote, beside what its reader had.
-use Rattle.std.specs.Prelude.{◌≡◌, ◌⊎◌, ◌≤◌, ◌∷◌, [], ◌++◌, ℕ, Bool, true, List, length, take, codes, Option}
-use Rattle.std.specs.Io.KnownBytes.{Appends, Consumes, IsAtEnd}
+use Rattle.std.specs.Prelude.{◌≡◌, ◌⊎◌, ◌≤◌, ◌+◌, ◌∷◌, [], ◌++◌, ℕ, Bool, true, List, length, codes}
+use Rattle.std.specs.Io.KnownBytes.{Consumes, IsAtEnd}
+use Rattle.nn_device.specs.Device.{Reading, Writing, Took, FailedToWrite}
 use Rattle.nn_listing.specs.Listing.{newline}
 use Rattle.nn_scenario.specs.Scenario.{max_input}
-use Rattle.nn_engine.specs.Input.{Gave}
+use Rattle.nn_engine.specs.Input.{GaveTooMuch}
 use Rattle.nn_engine.specs.declared.device.InputFault.{InputFault}
-use Rattle.nn_engine.specs.declared.device.InputFault.TheVariants.{ReadFailed, TooLong, TooManyReads, OutOfMemory}
+use Rattle.nn_engine.specs.declared.device.InputFault.TheVariants.{ReadFailed, TooLong, OutOfMemory}
 use Rattle.nn_engine.specs.declared.engine.Options.{Options}
 use Rattle.nn_engine.specs.Output.{Printed, IsPrinted}
 
@@ -17,33 +18,31 @@ fault_alone number = record { text = codes "fault " ++ number ++ newline ∷ [];
 abbrev pub unread_line : InputFault → List ℕ
 unread_line ReadFailed = (fault_alone (codes "8")).text
 unread_line TooLong = (fault_alone (codes "8")).text
-unread_line TooManyReads = (fault_alone (codes "8")).text
 unread_line OutOfMemory = (fault_alone (codes "55")).text
 
--- What a run is asked for, and what happened to its reader: the bytes that it had left before and after, and whether a read has failed.
+-- What a run is asked for, and its reader before and after.
 pub record Given : Type 0 where
   pub options : Options
   pub threads : Bool  -- whether each DataNode reports from a thread of its own
-  pub before : Option (List ℕ)
-  pub after : Option (List ℕ)
-  pub had_failed : Bool
-  pub has_failed : Bool
+  pub before : Reading
+  pub after : Reading
 
 -- all that the reader gave, up to its end, is the input that the output is of
 pub record IsOutputOfAll (given : Given) (p : Printed) : Type 0 where
   pub input : List ℕ
-  pub taken : Consumes given.before given.after input
-  pub whole : IsAtEnd given.after
+  pub taken : Consumes given.before.left given.after.left input
+  pub counted : given.after.given ≡ given.before.given + length input
+  pub whole : IsAtEnd given.after.left
   pub fits : length input ≤ max_input
   pub is : IsPrinted given.threads given.options input p
 
--- the input cannot be read: a read failed, or the reader gave as much as an input may have, and then more or no end
+-- the input cannot be read: a read failed, or the reader gave more than an input may have
 abbrev pub IsUnreadable : Given → Type 0
-IsUnreadable given = (given.has_failed ≡ true) ⊎ Gave max_input given.before given.after
+IsUnreadable given = (given.after.failed ≡ true) ⊎ GaveTooMuch given.before given.after
 
 -- no read failed
 abbrev pub NoneFailed : Given → Type 0
-NoneFailed given = given.has_failed ≡ given.had_failed
+NoneFailed given = given.after.failed ≡ given.before.failed
 
 -- the output of the whole input; or the line that it cannot be read, where that is so; or the line that memory ran out
 abbrev pub IsOutput : Given → Printed → Type 0
@@ -52,26 +51,18 @@ IsOutput given p =
     ⊎ (((p ≡ fault_alone (codes "8")) × IsUnreadable given) ⊎ ((p ≡ fault_alone (codes "55")) × NoneFailed given))
 
 -- a whole output was written, and this is its status
-pub record Wrote (given : Given) (writer writer' : Option (List ℕ)) (status : ℕ) : Type 0 where
+pub record Wrote (given : Given) (writer writer' : Writing) (status : ℕ) : Type 0 where
   pub output : Printed
   pub right : IsOutput given output
-  pub appended : Appends writer writer' output.text
+  pub took : Took writer writer' output.text
   pub ends : status ≡ output.status
 
--- the first n bytes of an output were written
-pub record WroteFront (given : Given) (writer writer' : Option (List ℕ)) (n : ℕ) : Type 0 where
+-- a write failed behind the first n bytes of an output, which are not all
+pub record WroteFront (given : Given) (writer writer' : Writing) (n : ℕ) : Type 0 where
   pub output : Printed
   pub right : IsOutput given output
-  pub within : n ≤ length output.text
-  pub appended : Appends writer writer' (take n output.text)
+  pub failed : FailedToWrite writer writer' output.text n
 
 -- a run, its reader as it was before and after
-abbrev pub running : Options → Bool → Option (List ℕ) → Option (List ℕ) → Bool → Bool → Given
-running options threads before after had_failed has_failed = record {
-  options = options;
-  threads = threads;
-  before = before;
-  after = after;
-  had_failed = had_failed;
-  has_failed = has_failed;
-}
+abbrev pub running : Options → Bool → Reading → Reading → Given
+running options threads before after = record { options = options; threads = threads; before = before; after = after }

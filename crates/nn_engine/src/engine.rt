@@ -1,6 +1,6 @@
 //! A run: from a reader's bytes to a writer's.
-ghost use Rattle.std.specs.Prelude.{◌≡◌, ◌≢◌, ◌≤◌, ◌++◌, ℕ, List, false, length, take, codes, Result, Ok, IfOk, IfErr, OnOk, string_bytes};
-ghost use Rattle.std.specs.Io.KnownBytes.{Appends};
+ghost use Rattle.std.specs.Prelude.{◌≡◌, ◌≢◌, ◌≤◌, ◌++◌, ℕ, List, false, length, codes, Result, Ok, IfOk, IfErr, OnOk, string_bytes};
+ghost use Rattle.nn_device.specs.Device.{Took, FailedToWrite};
 ghost use Rattle.nn_edits.specs.Fault.{number_of as line_number_of};
 ghost use Rattle.nn_model.specs.Items.{items};
 ghost use Rattle.nn_model.specs.Lanes.{Lanes};
@@ -19,9 +19,10 @@ ghost use Rattle.nn_scenario.specs.Chunks.{IsReadAs};
 ghost use Rattle.nn_scenario.specs.Scenario.{max_input, seen, IsLawfulScenario};
 ghost use Rattle.nn_engine.specs.Shown.{history_part, shown, with_settings, IsFaultOf, IsToldOf};
 
-use crate::device::{Input, InputFault, RunFault, read_scenario, write_output};
+use crate::device::{InputFault, read_scenario};
 use crate::follow::{Halt, follow};
 use crate::image::push_image;
+use nn_device::{Reader, WriteFailed, Writer};
 use nn_edits::LineFault;
 use nn_listing::{push_history, push_tables, with_listing};
 use nn_scenario::{BadLine, BadSegment, Scenario, read_lines, read_segments};
@@ -65,21 +66,21 @@ pub struct RunEnd {
 /// Reads a scenario to its end and writes its listing, or one fault line and nothing else. All of the
 /// output is made before its first byte is written.
 ///
-/// `fault 8` says that a read failed, that the input has more than 16,777,216 bytes, or that the reader had
-/// not ended after 16,777,216 reads; `fault 55`, that memory was refused. Neither line takes memory.
+/// `fault 8` says that a read failed, or that the input has more than 16,777,216 bytes. A reader that has not ended after
+/// 16,777,216 reads counts as failed. `fault 55` says that memory was refused. Neither line takes memory. After a failed
+/// write the writer has a front of the output.
 pub fn run<R: Read, W: Write>(
     alloc: Global,
     options: &Options,
-    input: &mut Input<R>,
-    writer: &mut W,
-) -> Result<RunEnd, RunFault>
+    input: &mut Reader<R>,
+    writer: &mut Writer<W>,
+) -> Result<RunEnd, WriteFailed>
     ensures written { IfOk result (λ end. Wrote
-        (running options.now false (R.remaining input.old.reader) (R.remaining input.new.reader) input.old.failed input.new.failed)
-        (W.contents writer.old) (W.contents writer.new) end.status) }
-    // After a failed write the writer has a front of the output.
+        (running options.now false input.old input.new)
+        writer.old writer.new end.status) }
     ensures failed { IfErr result (λ e. WroteFront
-        (running options.now false (R.remaining input.old.reader) (R.remaining input.new.reader) input.old.failed input.new.failed)
-        (W.contents writer.old) (W.contents writer.new) e.written) }
+        (running options.now false input.old input.new)
+        writer.old writer.new e.written) }
 {
     let lines = match read_scenario(alloc, input) {
         Ok(lines) => lines,
@@ -96,18 +97,20 @@ pub(crate) fn unread_line(fault: InputFault) -> &'static [u8]
     ensures { result.now ≡ unread_line fault }
 {
     match fault {
-        InputFault::ReadFailed | InputFault::TooLong | InputFault::TooManyReads => UNREADABLE,
+        InputFault::ReadFailed | InputFault::TooLong => UNREADABLE,
         InputFault::OutOfMemory => OUT_OF_MEMORY,
     }
 }
 
-pub(crate) fn finish<W: Write>(writer: &mut W, text: &[u8], status: u8) -> Result<RunEnd, RunFault>
-    ensures ok { IfOk result (λ end. Appends (W.contents writer.old) (W.contents writer.new) text.now
-        × (end.status ≡ status)) }
-    ensures err { IfErr result (λ e. (e.written ≤ length text.now)
-        × Appends (W.contents writer.old) (W.contents writer.new) (take e.written text.now)) }
+pub(crate) fn finish<W: Write>(
+    writer: &mut Writer<W>,
+    text: &[u8],
+    status: u8,
+) -> Result<RunEnd, WriteFailed>
+    ensures ok { IfOk result (λ end. Took writer.old writer.new text.now × (end.status ≡ status)) }
+    ensures err { IfErr result (λ e. FailedToWrite writer.old writer.new text.now e.written) }
 {
-    write_output(writer, text)?;
+    writer.write_all(text)?;
     Ok(RunEnd { status })
 }
 

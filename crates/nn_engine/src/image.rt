@@ -2,7 +2,7 @@
 ghost use Rattle.std.specs.Prelude.{◌≡◌, ◌++◌, OnOk};
 ghost use Rattle.nn_engine.specs.Output.{image_part};
 
-use nn_device::Output;
+use nn_device::Writer;
 use nn_image::save;
 use nn_listing::text_bytes;
 use nn_tree::Namespace;
@@ -31,7 +31,7 @@ pub(crate) fn push_image(
     }
     text.reserve_exact(text_bytes(namespace.extent(), LINE, BLOCK))?;
     text.extend_from_slice(b"image\n")?;
-    let mut image = Output::new(replace(text, Vec::new(alloc)));
+    let mut image = Writer::new(replace(text, Vec::new(alloc)));
     let saved = save(alloc, namespace, last, &mut image);
     *text = image.into_inner();
     match saved {

@@ -11,7 +11,7 @@ mod log;
 mod segments;
 mod threads;
 
-pub use device::{Input, InputFault, ReadFailed, RunFault, read_scenario, write_output};
+pub use device::{InputFault, read_scenario};
 pub use engine::{Options, Output, RunEnd, output_of, run};
 pub use gate::{Gate, Open};
 pub use threads::{Threaded, run_threads};

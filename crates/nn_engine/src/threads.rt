@@ -12,13 +12,14 @@ ghost use Rattle.nn_engine.specs.Output.{output_of, IsPrinted};
 ghost use Rattle.nn_engine.specs.Run.{Wrote, WroteFront, running};
 ghost use Rattle.nn_engine.specs.Shown.{shown, IsToldOf};
 
-use crate::device::{Input, RunFault, read_scenario};
+use crate::device::read_scenario;
 use crate::engine::{
     OUT_OF_MEMORY, Options, Output, RunEnd, fault_output, finish, output_of_bad,
     output_of_bad_segment, tell, unread_line,
 };
 use crate::gate::{Gate, Way};
 use crate::segments::Segments;
+use nn_device::{Reader, WriteFailed, Writer};
 use nn_drive::{DriveFault, ReportSource, drive, with_lanes};
 use nn_scenario::{BadLine, Scenario, Step, StepList, read_segments};
 use nn_segment::Parsed;
@@ -246,17 +247,16 @@ pub fn run_threads<I: Read, W: Write, G: Gate + Send + Sync + Drop, R: Threads +
     rt: &R,
     alloc: Global,
     asked: &Threaded<G>,
-    input: &mut Input<I>,
-    writer: &mut W,
-) -> Result<RunEnd, RunFault>
+    input: &mut Reader<I>,
+    writer: &mut Writer<W>,
+) -> Result<RunEnd, WriteFailed>
     requires { (1 ≤ asked.now.capacity) × (asked.now.capacity ≤ 1024) }
     ensures written { IfOk result (λ end. Wrote
-        (running asked.now.options true (I.remaining input.old.reader) (I.remaining input.new.reader) input.old.failed input.new.failed)
-        (W.contents writer.old) (W.contents writer.new) end.status) }
-    // After a failed write the writer has a front of the output.
+        (running asked.now.options true input.old input.new)
+        writer.old writer.new end.status) }
     ensures failed { IfErr result (λ e. WroteFront
-        (running asked.now.options true (I.remaining input.old.reader) (I.remaining input.new.reader) input.old.failed input.new.failed)
-        (W.contents writer.old) (W.contents writer.new) e.written) }
+        (running asked.now.options true input.old input.new)
+        writer.old writer.new e.written) }
 {
     let lines = match read_scenario(alloc, input) {
         Ok(lines) => lines,

@@ -2,6 +2,7 @@
 //! image of the standby that they promote.
 ghost use Rattle.std.specs.Prelude.{⊤, ◌≤◌, length, IfSome};
 
+use nn_device::Writer;
 use nn_drive::{ReportSource, drive, with_lanes};
 use nn_image::save;
 use nn_segment::{MemorySource, Parsed};
@@ -61,11 +62,11 @@ pub fn promoted_image<R: Threads + Wait + Sync>(
 }
 
 fn image_of(alloc: Global, shadow: &Shadow) -> Option<String> {
-    let mut image = Vec::new(alloc);
+    let mut image = Writer::new(Vec::new(alloc));
     let Ok(()) = save(alloc, shadow.namespace(), shadow.last_txid(), &mut image) else {
         return None;
     };
-    String::from_utf8(image).ok()
+    String::from_utf8(image.into_inner()).ok()
 }
 
 // Two DataNodes that received the block.

@@ -17,7 +17,7 @@ ghost use Rattle.nn_image.specs.Loading.{GivesObject, IsTorn, Stops, GoesOn, End
 use crate::fault::ImageFault;
 use crate::fields::{Header, Object, header_in, number_of, object_of, row_in};
 use crate::lines::{Window, next_line};
-use nn_device::Input;
+use nn_device::Reader;
 use nn_tree::{Namespace, RestoreFault};
 use nn_types::{Names, Path};
 use serde_json::Value;
@@ -28,7 +28,7 @@ use std::io::Read;
 /// Reads an image of version 1 or 2, and gives its namespace and its txid. Version 1 has no profile, and stands for
 /// profile 1. Saved, the two make an image that is read as the same. It reads on to the end, and after a fault no further
 /// than that. Beside the namespace it takes a buffer of 65,536 bytes, and one line with its value.
-pub fn load<R: Read>(alloc: Global, reader: &mut Input<R>) -> Result<(Namespace, u64), ImageFault>
+pub fn load<R: Read>(alloc: Global, reader: &mut Reader<R>) -> Result<(Namespace, u64), ImageFault>
     ensures ok { IfOk result (λ i. Ends reader.old.left reader.new.left read_image i) }
     ensures limit { IfOk result (λ i. i.1 < 2 ^ 63) }
     ensures again { IfOk result (λ i. read_image (image_text i.0 i.1) ≡ Ok i) }
@@ -63,7 +63,7 @@ pub fn load<R: Read>(alloc: Global, reader: &mut Input<R>) -> Result<(Namespace,
 // The object of the next line, if it is one.
 fn next_object<R: Read>(
     alloc: Global,
-    reader: &mut Input<R>,
+    reader: &mut Reader<R>,
     window: &mut Window,
 ) -> Result<Option<Object>, ImageFault>
     ensures ok { IfOk result (λ o. GivesObject (ahead window.old reader.old.left) (ahead window.new reader.new.left)
@@ -83,7 +83,7 @@ fn next_object<R: Read>(
 
 fn load_header<R: Read>(
     alloc: Global,
-    reader: &mut Input<R>,
+    reader: &mut Reader<R>,
     window: &mut Window,
 ) -> Result<Header, ImageFault>
     ensures ok { IfOk result (λ h. GoesOn (ahead window.old reader.old.left) (ahead window.new reader.new.left)
@@ -109,7 +109,7 @@ fn load_header<R: Read>(
 
 fn load_rows<R: Read>(
     alloc: Global,
-    reader: &mut Input<R>,
+    reader: &mut Reader<R>,
     window: &mut Window,
     namespace: Namespace,
 ) -> Result<Namespace, ImageFault>
@@ -150,7 +150,7 @@ fn load_rows<R: Read>(
 // The object of the next line.
 fn next_value<R: Read>(
     alloc: Global,
-    reader: &mut Input<R>,
+    reader: &mut Reader<R>,
     window: &mut Window,
     number: u64,
 ) -> Result<Object, ImageFault>
@@ -173,7 +173,7 @@ fn next_value<R: Read>(
 // The end line's number, and that nothing follows.
 fn load_end<R: Read>(
     alloc: Global,
-    reader: &mut Input<R>,
+    reader: &mut Reader<R>,
     window: &mut Window,
     number: u64,
     count: &Value,

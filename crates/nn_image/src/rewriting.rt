@@ -8,7 +8,7 @@ ghost use Rattle.nn_image.specs.Rewriting.{Rewrote, StoppedWriting, IfLoad, IfSa
 use crate::fault::RewriteFault;
 use crate::restoring::load;
 use crate::saving::save;
-use nn_device::{Input, Output};
+use nn_device::{Reader, Writer};
 use std::alloc::Global;
 use std::io::{Read, Write};
 
@@ -18,8 +18,8 @@ use std::io::{Read, Write};
 /// which a front of the image was.
 pub fn rewrite<R: Read, W: Write>(
     alloc: Global,
-    reader: &mut Input<R>,
-    writer: &mut Output<W>,
+    reader: &mut Reader<R>,
+    writer: &mut Writer<W>,
 ) -> Result<u64, RewriteFault>
     ensures ok { IfOk result (λ txid. Rewrote reader.old reader.new writer.old writer.new txid) }
     ensures limit { IfOk result (λ txid. txid < 2 ^ 63) }

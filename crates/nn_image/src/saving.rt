@@ -10,7 +10,7 @@ ghost use Rattle.nn_image.specs.Text.{line_of, block_data, block_items, number_i
 ghost use Rattle.nn_image.specs.Saving.{WroteFront, Stopped, stop_of};
 
 use crate::fault::SaveFault;
-use nn_device::Output;
+use nn_device::Writer;
 use nn_model::FileRow;
 use nn_tree::{Found, ListFault, Namespace, RowSink, push_text};
 use nn_types::{Block, BlockId, GenerationStamp};
@@ -31,7 +31,7 @@ pub fn save<W: Write>(
     alloc: Global,
     namespace: &Namespace,
     txid: u64,
-    writer: &mut Output<W>,
+    writer: &mut Writer<W>,
 ) -> Result<(), SaveFault>
     ensures ok { OnOk result (Took writer.old writer.new (image_text namespace.now txid)) }
     ensures front { IfErr result (WroteFront writer.old writer.new (image_text namespace.now txid)) }
@@ -58,7 +58,7 @@ fn put_image<W: Write>(
     alloc: Global,
     namespace: &Namespace,
     txid: u64,
-    writer: &mut Output<W>,
+    writer: &mut Writer<W>,
 ) -> Result<(), Stop>
     ensures ok { OnOk result (Took writer.old writer.new (image_text namespace.now txid)) }
     ensures front { IfErr result (Stopped writer.old writer.new (image_text namespace.now txid)) }
@@ -80,7 +80,7 @@ fn put_head<W: Write>(
     alloc: Global,
     namespace: &Namespace,
     txid: u64,
-    writer: &mut Output<W>,
+    writer: &mut Writer<W>,
 ) -> Result<(), Stop>
     ensures ok { OnOk result (Took writer.old writer.new (line_of (header_data namespace.now txid))) }
     ensures front { IfErr result (Stopped writer.old writer.new (line_of (header_data namespace.now txid))) }
@@ -95,7 +95,7 @@ fn put_head<W: Write>(
 fn put_rows<W: Write>(
     alloc: Global,
     namespace: &Namespace,
-    writer: &mut Output<W>,
+    writer: &mut Writer<W>,
 ) -> Result<u64, Stop>
     ensures ok { OnOk result (Took writer.old writer.new (row_lines (drop 1 namespace.now.rows))) }
     ensures count { IfOk result (λ count. count ≡ length namespace.now.rows - 1) }
@@ -124,7 +124,7 @@ fn stop_of(fault: ListFault<Stop>) -> Stop
     }
 }
 
-fn put_end<W: Write>(alloc: Global, count: u64, writer: &mut Output<W>) -> Result<(), Stop>
+fn put_end<W: Write>(alloc: Global, count: u64, writer: &mut Writer<W>) -> Result<(), Stop>
     ensures ok { OnOk result (Took writer.old writer.new (line_of (end_data count))) }
     ensures front { IfErr result (Stopped writer.old writer.new (line_of (end_data count))) }
 {
@@ -137,7 +137,7 @@ fn put_end<W: Write>(alloc: Global, count: u64, writer: &mut Output<W>) -> Resul
 // Writes the lines of paths as they come.
 #[derive(Drop)]
 struct Lines<'w, W: Write> {
-    writer: &'w mut Output<W>,
+    writer: &'w mut Writer<W>,
     // The lines so far. A count that would pass `u64::MAX` stays there.
     count: u64,
     alloc: Global,
@@ -171,7 +171,7 @@ impl<'w, W: Write> RowSink for Lines<'w, W> {
 }
 
 // Writes the line of a value.
-fn put_line<W: Write>(alloc: Global, value: &Value, writer: &mut Output<W>) -> Result<(), Stop>
+fn put_line<W: Write>(alloc: Global, value: &Value, writer: &mut Writer<W>) -> Result<(), Stop>
     requires { has_float (view value.now) ≡ false }
     ensures ok { OnOk result (Took writer.old writer.new (line_of (view value.now))) }
     ensures front { IfErr result (Stopped writer.old writer.new (line_of (view value.now))) }

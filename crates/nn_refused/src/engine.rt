@@ -3,9 +3,11 @@ use crate::heap::Heap;
 use crate::lines::Lines;
 use crate::scenario::Halt;
 use crate::trial::{Answer, Changing, Fate, change};
-use nn_engine::{Input, Options, run};
+use nn_device::{Reader, Writer};
+use nn_engine::{Options, run};
 use nn_types::Settings;
 use std::alloc::Global;
+use std::mem;
 
 // A report that comes before its block is named.
 const LINES: &[u8] = br#"{"op":"OP_START_LOG_SEGMENT","txid":1}
@@ -33,8 +35,11 @@ struct Run<'a> {
 impl Run<'_> {
     // Whether all output was written.
     fn writes(&self, output: &mut Vec<u8>) -> bool {
-        let mut input = Input::new(self.lines);
-        run(self.alloc, &self.options, &mut input, output).is_ok()
+        let mut input = Reader::new(self.lines);
+        let mut writer = Writer::new(mem::replace(output, Vec::new(self.alloc)));
+        let end = run(self.alloc, &self.options, &mut input, &mut writer);
+        *output = writer.into_inner();
+        end.is_ok()
     }
 }
 

@@ -4,9 +4,11 @@ use crate::lines::Lines;
 use crate::namespace;
 use crate::scenario::{Halt, Scenario};
 use crate::trial::{Answer, Changing, Fate, change};
+use nn_device::{Reader, Writer};
 use nn_image::{ImageFault, RewriteFault, SaveFault, load, rewrite, save};
 use nn_tree::Namespace;
 use std::alloc::Global;
+use std::mem;
 
 // What is printed for each call.
 const NAMES: [&str; 3] = ["save", "load", "rewrite"];
@@ -26,7 +28,10 @@ impl Changing for Save<'_> {
 
     fn call(&self, image: &mut Vec<u8>) -> Answer {
         image.clear();
-        match save(self.alloc, self.namespace, self.txid, image) {
+        let mut writer = Writer::new(mem::replace(image, Vec::new(self.alloc)));
+        let saved = save(self.alloc, self.namespace, self.txid, &mut writer);
+        *image = writer.into_inner();
+        match saved {
             Ok(()) => Answer::Done,
             Err(SaveFault::OutOfMemory) => Answer::OutOfMemory,
             Err(_) => Answer::Other,
@@ -47,8 +52,7 @@ struct Load<'a> {
 
 impl Load<'_> {
     fn load(&self) -> Result<(Namespace, u64), Answer> {
-        let mut reader = self.image;
-        match load(self.alloc, &mut reader) {
+        match load(self.alloc, &mut Reader::new(self.image)) {
             Ok(loaded) => Ok(loaded),
             Err(ImageFault::OutOfMemory) => Err(Answer::OutOfMemory),
             Err(_) => Err(Answer::Other),
@@ -89,8 +93,10 @@ impl Changing for Rewrite<'_> {
 
     fn call(&self, written: &mut Vec<u8>) -> Answer {
         written.clear();
-        let mut reader = self.image;
-        match rewrite(self.alloc, &mut reader, written) {
+        let mut writer = Writer::new(mem::replace(written, Vec::new(self.alloc)));
+        let rewritten = rewrite(self.alloc, &mut Reader::new(self.image), &mut writer);
+        *written = writer.into_inner();
+        match rewritten {
             Ok(_) => Answer::Done,
             Err(RewriteFault::Load(ImageFault::OutOfMemory)) => Answer::OutOfMemory,
             Err(RewriteFault::Save(SaveFault::OutOfMemory)) => Answer::OutOfMemory,

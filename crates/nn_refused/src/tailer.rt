@@ -8,6 +8,7 @@ use crate::scenario::{Halt, Scenario};
 use crate::shadow::are_alike;
 use crate::text::are_same;
 use crate::trial::{Answer, Changing, Fate, Making, both, change_both, make};
+use nn_device::Reader;
 use nn_image::ImageFault;
 use nn_lane::{LaneEnd, Reporter, lane};
 use nn_scenario::Step;
@@ -128,7 +129,7 @@ impl Making for FromImage<'_> {
     type Made = Standby;
 
     fn call(&self, given: NewEnds) -> Result<Standby, (Answer, NewEnds)> {
-        let mut reader = self.image;
+        let mut reader = Reader::new(self.image);
         match Standby::from_image(self.alloc, given.ends, self.settings, &mut reader) {
             Ok(standby) => Ok(standby),
             Err(fault) => {

@@ -1,4 +1,5 @@
 //! Readers and writers of images that fail, and readers that give little at a time.
+use nn_device::{Reader, Writer};
 use nn_image::{RewriteFault, SaveFault, load, rewrite, save};
 use nn_tree::Namespace;
 use std::alloc::Global;
@@ -88,17 +89,17 @@ fn failing_readers_of_a_rewrite(rt: HostRuntime) {
 }
 
 fn rewritten_at(alloc: Global, fail_at: u64) -> (u8, Vec<u8>) {
-    let mut reader = Slow {
+    let mut reader = Reader::new(Slow {
         bytes: OLD_FILE.as_bytes(),
         reads: 0,
         fail_at,
-    };
-    let mut written = Vec::new(alloc);
+    });
+    let mut written = Writer::new(Vec::new(alloc));
     let number = match rewrite(alloc, &mut reader, &mut written) {
         Ok(_) => 0,
         Err(fault) => fault.number(),
     };
-    (number, written)
+    (number, written.into_inner())
 }
 
 // Up to the last byte of the end line a failed read is 67. After it one more read shows the end.
@@ -112,11 +113,11 @@ fn failing_readers(rt: HostRuntime) {
 }
 
 fn number_at(alloc: Global, fail_at: u64) -> u8 {
-    let mut reader = Slow {
+    let mut reader = Reader::new(Slow {
         bytes: OPEN_FILE.as_bytes(),
         reads: 0,
         fail_at,
-    };
+    });
     match load(alloc, &mut reader) {
         Ok(_) => 0,
         Err(fault) => fault.number(),
@@ -125,7 +126,7 @@ fn number_at(alloc: Global, fail_at: u64) -> u8 {
 
 #[test]
 fn failing_writers(rt: HostRuntime) {
-    match load(rt.alloc(), &mut OPEN_FILE.as_bytes()) {
+    match load(rt.alloc(), &mut Reader::new(OPEN_FILE.as_bytes())) {
         Ok((namespace, txid)) => stops(&rt, rt.alloc(), &namespace, txid),
         Err(fault) => assert_eq!(rt; fault.number(), 0),
     }
@@ -152,28 +153,29 @@ fn stops_at(
     stop_at: u64,
     fails: bool,
 ) {
-    let mut writer = Stopping {
+    let mut writer = Writer::new(Stopping {
         got: Vec::new(alloc),
         writes: 0,
         stop_at,
         fails,
-    };
+    });
     let told = match save(alloc, namespace, txid, &mut writer) {
         Err(SaveFault::WriteFault { written }) => written,
         _ => u64::MAX,
     };
-    tells_what_it_wrote(rt, &writer, told);
-    let mut writer = Stopping {
+    tells_what_it_wrote(rt, &writer.into_inner(), told);
+    let mut writer = Writer::new(Stopping {
         got: Vec::new(alloc),
         writes: 0,
         stop_at,
         fails,
-    };
-    let told = match rewrite(alloc, &mut OLD_FILE.as_bytes(), &mut writer) {
+    });
+    let mut reader = Reader::new(OLD_FILE.as_bytes());
+    let told = match rewrite(alloc, &mut reader, &mut writer) {
         Err(RewriteFault::Save(SaveFault::WriteFault { written })) => written,
         _ => u64::MAX,
     };
-    tells_what_it_wrote(rt, &writer, told);
+    tells_what_it_wrote(rt, &writer.into_inner(), told);
 }
 
 fn tells_what_it_wrote(rt: &impl Abort, writer: &Stopping, told: u64) {

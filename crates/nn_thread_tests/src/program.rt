@@ -1,7 +1,8 @@
 //! The program on readers and writers that fail, without words, on large inputs, and with threads that wait for one another.
 use crate::values::Shared;
 use nn_command::{NoWords, serve};
-use nn_engine::{Gate, Input, Open, Options, output_of, run};
+use nn_device::{Reader, Writer};
+use nn_engine::{Gate, Open, Options, output_of, run};
 use nn_scenario::MAX_INPUT;
 use nn_types::Settings;
 use std::alloc::Global;
@@ -26,13 +27,13 @@ fn usual_options() -> Options {
 
 // What a run prints, and its status. No write fails here, so a failed write shows as status 9.
 fn printed(alloc: Global, reader: impl Read + Drop) -> (Vec<u8>, u8) {
-    let mut writer = Vec::new(alloc);
-    let mut input = Input::new(reader);
+    let mut writer = Writer::new(Vec::new(alloc));
+    let mut input = Reader::new(reader);
     let status = match run(alloc, &usual_options(), &mut input, &mut writer) {
         Ok(end) => end.status,
         Err(_) => 9,
     };
-    (writer, status)
+    (writer.into_inner(), status)
 }
 
 // ---- Readers and writers that fail.
@@ -133,18 +134,19 @@ fn failing_writers(rt: HostRuntime) {
 
 // The status of a run whose writer stops there, or none where it stops before the end.
 fn stops_at(rt: &impl Abort, alloc: Global, stop_at: u64, fails: bool) -> Option<u8> {
-    let mut input = Input::new(LINES);
-    let mut writer = Stopping {
+    let mut input = Reader::new(LINES);
+    let mut writer = Writer::new(Stopping {
         got: Vec::new(alloc),
         writes: 0,
         stop_at,
         fails,
-    };
+    });
     let end = run(alloc, &usual_options(), &mut input, &mut writer);
     let (written, status) = match end {
         Ok(end) => (LISTING.len(), Some(end.status)),
         Err(fault) => (fault.written, None),
     };
+    let writer = writer.into_inner();
     assert!(rt; LISTING.starts_with(&writer.got));
     assert_eq!(rt; writer.got.len(), written);
     status
@@ -315,14 +317,14 @@ fn served<W: Write, G: Gate + Send + Sync + Drop, R: Threads + Wait + Sync>(
     alloc: Global,
     arguments: Result<&[String], NoWords>,
     bytes: &[u8],
-    output: &mut W,
-    errors: &mut Vec<u8>,
+    output: &mut Writer<W>,
+    errors: &mut Writer<Vec<u8>>,
     gate: G,
 ) -> Option<u8> {
     let Ok(gate) = Arc::new(alloc, gate) else {
         return None;
     };
-    let mut input = Input::new(bytes);
+    let mut input = Reader::new(bytes);
     Some(serve(rt, alloc, arguments, &mut input, output, errors, gate))
 }
 
@@ -337,8 +339,8 @@ fn no_arguments_to_be_had(rt: HostRuntime) {
         ),
         (NoWords::OutOfMemory, "fault 55\n", "", 1),
     ] {
-        let mut output = Vec::new(rt.alloc());
-        let mut errors = Vec::new(rt.alloc());
+        let mut output = Writer::new(Vec::new(rt.alloc()));
+        let mut errors = Writer::new(Vec::new(rt.alloc()));
         let ended = served(
             &rt,
             rt.alloc(),
@@ -348,8 +350,8 @@ fn no_arguments_to_be_had(rt: HostRuntime) {
             &mut errors,
             Open,
         );
-        assert_eq!(rt; output.as_slice(), want.as_bytes());
-        assert_eq!(rt; errors.as_slice(), told.as_bytes());
+        assert_eq!(rt; output.into_inner().as_slice(), want.as_bytes());
+        assert_eq!(rt; errors.into_inner().as_slice(), told.as_bytes());
         assert_eq!(rt; ended, Some(status));
     }
 }
@@ -372,16 +374,16 @@ fn failed_write<R: Threads + Wait + Sync>(
     line: &str,
 ) -> Option<(u8, usize)> {
     let arguments = arguments(alloc, line)?;
-    let mut errors = Vec::new(alloc);
-    let mut output = Stopping {
+    let mut errors = Writer::new(Vec::new(alloc));
+    let mut output = Writer::new(Stopping {
         got: Vec::new(alloc),
         writes: 0,
         stop_at: 3,
         fails: true,
-    };
+    });
     let given = Ok(arguments.as_slice());
     let status = served(rt, alloc, given, LINES, &mut output, &mut errors, Open)?;
-    Some((status, output.got.len()))
+    Some((status, output.into_inner().got.len()))
 }
 
 // ---- Threads that wait for one another at the gate: the source of segments and the workers.
@@ -415,11 +417,11 @@ fn at_once(rt: HostRuntime) {
         assert!(rt; false, "out of memory");
         return;
     };
-    let mut output = Vec::new(rt.alloc());
+    let mut output = Writer::new(Vec::new(rt.alloc()));
     let status = met_at_gate(&rt, rt.alloc(), &shared, &mut output);
     let want =
         b"txid 2\ndir \"/\"\norder 5 1\norder 6 2\norder 7 1\nblocks 0 safe 0 needed 0 mode off\n";
-    assert_eq!(rt; output.as_slice(), want.as_slice());
+    assert_eq!(rt; output.into_inner().as_slice(), want.as_slice());
     assert_eq!(rt; status, Some(0));
     assert_eq!(rt; shared.came.load(Ordering::SeqCst), 3);
     // One of each of the places 0, 1 and 2.
@@ -431,14 +433,14 @@ fn met_at_gate<R: Threads + Wait + Sync>(
     rt: &R,
     alloc: Global,
     shared: &Arc<Shared, Global>,
-    output: &mut Vec<u8>,
+    output: &mut Writer<Vec<u8>>,
 ) -> Option<u8> {
     let Ok(shared) = Arc::try_clone(shared) else {
         return None;
     };
     let arguments = arguments(alloc, "nn_standby --threads --capacity 1")?;
     let given = Ok(arguments.as_slice());
-    let mut errors = Vec::new(alloc);
+    let mut errors = Writer::new(Vec::new(alloc));
     let gate = Meeting { shared };
     served(rt, alloc, given, TWO_DATANODES, output, &mut errors, gate)
 }

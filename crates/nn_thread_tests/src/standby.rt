@@ -3,6 +3,7 @@ ghost use Rattle.std.specs.Prelude.{◌≡◌, [], ◌∷◌, IfSome};
 
 use crate::sources::FailsOnce;
 use crate::values::{FIRST, TWO_MARKS, Text, log_of, report_of};
+use nn_device::{Reader, Writer};
 use nn_lane::{LaneEnd, Refusal, Reporter, lane};
 use nn_listing::{listing, push_tables};
 use nn_tailer::{Active, Choice, PromoteFault, Standby, StepFault, Stepped};
@@ -140,7 +141,7 @@ fn begin(alloc: Global, end: LaneEnd, image: Option<&[u8]>) -> Option<Standby>
     let Some(image) = image else {
         return Standby::new(alloc, ends, settings).ok();
     };
-    let mut reader = image;
+    let mut reader = Reader::new(image);
     Standby::from_image(alloc, ends, settings, &mut reader).ok()
 }
 
@@ -454,9 +455,9 @@ fn image_after(alloc: Global, restarted: &Restarted, count: u64) -> Option<Vec<u
     if !all_applied(&mut player, 0, count) {
         return None;
     }
-    let mut image = Vec::new(alloc);
+    let mut image = Writer::new(Vec::new(alloc));
     player.standby.checkpoint(alloc, &mut image).ok()?;
-    Some(image)
+    Some(image.into_inner())
 }
 
 // Whether the transactions behind so many are applied in order, up to this one.

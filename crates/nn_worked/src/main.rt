@@ -8,7 +8,8 @@
 #![tactic(auto)]
 
 use nn_command::serve;
-use nn_engine::{Input, Open};
+use nn_device::{Reader, Writer};
+use nn_engine::Open;
 use std::alloc::{AllocError, Global};
 use std::sync::{Arc, Wait};
 use std::thread::Threads;
@@ -70,9 +71,9 @@ fn plays<T: Threads + Wait + Sync>(
     words: &str,
 ) -> io::Result<bool> {
     let words = words_of(alloc, words)?;
-    let mut output = Vec::new(alloc);
-    let mut errors = Vec::new(alloc);
-    let mut input = Input::new(worked.input.as_bytes());
+    let mut output = Writer::new(Vec::new(alloc));
+    let mut errors = Writer::new(Vec::new(alloc));
+    let mut input = Reader::new(worked.input.as_bytes());
     let gate = Arc::new(alloc, Open)?;
     let status = serve(
         threads,
@@ -84,6 +85,8 @@ fn plays<T: Threads + Wait + Sync>(
         gate,
     );
     let status = format!(in alloc; "{status}")?;
+    let output = output.into_inner();
+    let errors = errors.into_inner();
     Ok(
         output.as_slice() == worked.output.as_bytes()
             && errors.starts_with(worked.errors.as_bytes())

@@ -11,7 +11,7 @@ ghost use Rattle.nn_tailer.specs.Restart.{IsNewAt, point_of};
 
 use super::{Standby, nothing_kept};
 use crate::restart::RestartFault;
-use nn_device::{Input, Output};
+use nn_device::{Reader, Writer};
 use nn_image::{ImageFault, SaveFault, load, save};
 use nn_lane::LaneEnd;
 use nn_segment::Cursor;
@@ -26,7 +26,7 @@ impl Standby {
     pub fn checkpoint<W: Write>(
         &self,
         alloc: Global,
-        writer: &mut Output<W>,
+        writer: &mut Writer<W>,
     ) -> Result<(), SaveFault>
         ensures ok { OnOk result (Took writer.old writer.new (image_text self.now.shadow.namespace self.now.shadow.last)) }
         ensures front { IfErr result (WroteFront writer.old writer.new (image_text self.now.shadow.namespace self.now.shadow.last)) }
@@ -45,7 +45,7 @@ impl Standby {
         alloc: Global,
         ends: Vec<LaneEnd>,
         settings: Settings,
-        reader: &mut Input<R>,
+        reader: &mut Reader<R>,
     ) -> Result<Standby, RestartFault>
         requires some { 1 ≤ length ends.items }
         requires few { length ends.items ≤ 256 }

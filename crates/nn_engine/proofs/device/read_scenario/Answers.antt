@@ -8,15 +8,17 @@ use Rattle.nn_engine.proofs.device.read_scenario.Goals as goal
 pub returns-then-n-eq0-clause-whole : goal.returns-then-n-eq0-clause-whole
 returns-then-n-eq0-clause-whole g c =
     scenario_of_all _ _ _ c.reads.taken c.in-Ok.n c.reads.lines c.read.new.buffer c.end.result c.if-n-eq0.true c.reads.invariant.fits
-    c.reads.invariant.took c.in-Ok.ensures.bytes.0 c.end.ensures
+    c.reads.invariant.took c.in-Ok.ensures.bytes.0 c.in-Ok.ensures.ok c.end.ensures
 
 pub returns-then-n-eq0-clause-lawful : goal.returns-then-n-eq0-clause-lawful
 returns-then-n-eq0-clause-lawful g c = lawful_of_all _ _ c.reads.taken c.reads.lines c.end.result c.reads.invariant.took c.end.ensures
 
 pub returns-then-n-taken-clause-why : goal.returns-then-n-taken-clause-why
 returns-then-n-taken-clause-why g c =
-    let gave = too_much _ _ _ c.reads.taken c.in-Ok.n c.reads.lines c.read.new.buffer c.in-Ok.ensures.bound.0 c.reads.invariant.took c.in-Ok.ensures.bytes.0 in
-    ((gave.0, (let k = gave.1 in omega (arith, k, c.if-n-taken.true)), gave.2), c.in-Ok.ensures.ok ∙ c.reads.invariant.none_failed)
+    let gave = c.in-Ok.ensures.ok in (
+      too_much _ _ _ c.reads.taken c.in-Ok.n c.reads.lines c.read.new.buffer c.in-Ok.ensures.bound.0 (omega (arith, c.if-n-taken.true)) c.reads.invariant.took c.in-Ok.ensures.bytes.0 gave,
+      gave.open_after ∙ sym gave.open_before ∙ c.reads.invariant.none_failed,
+    )
 
 pub reads-preserved : goal.reads-preserved
 reads-preserved g c =
@@ -27,11 +29,10 @@ reads-preserved g c =
     let given : c.deref.result.now ≡ new = c.deref.ensures.value ∙ back in
     let some : 0 < length new = subst (λ k. 0 < k) (ap length (sym c.deref_mut.ensures.value) ∙ sym c.read.auto.buffer) c.reads.invariant.room in
     record {
-      took = more_taken _ _ _ c.reads.taken c.in-Ok.n c.reads.lines c.push.new.self new c.in-Ok.ensures.bound.0 c.reads.invariant.took c.in-Ok.ensures.bytes.0
+      took = more_taken _ _ _ c.reads.taken c.in-Ok.n c.reads.lines c.push.new.self new c.in-Ok.ensures.bound.0 c.reads.invariant.took c.in-Ok.ensures.bytes.0 c.in-Ok.ensures.ok
           (λ text h. subst (λ b. HasCome (text ++ take c.in-Ok.n b) c.push.new.self) given (c.push.ensures.come text h));
       ended = omega (arith, c.push.ensures.ended, length-take c.in-Ok.n c.deref.result.now, c.reads.invariant.ended);
       fits = omega (arith, c.if-n-taken.false, c.reads.invariant.fits);
       room = subst (λ b. 0 < length b) (sym back) some;
-      each = omega (arith, c.reads.invariant.each, c.if-n-eq0.false);
-      none_failed = c.in-Ok.ensures.ok ∙ c.reads.invariant.none_failed;
+      none_failed = c.in-Ok.ensures.ok.open_after ∙ sym c.in-Ok.ensures.ok.open_before ∙ c.reads.invariant.none_failed;
     }

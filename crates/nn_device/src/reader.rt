@@ -8,18 +8,22 @@ use std::io::Read;
 use std::marker::Model;
 use thiserror::Error;
 
-/// The bytes after which an input is given up: 2^62. No device comes to that.
-const LIMIT: u64 = 4_611_686_018_427_387_904;
+/// The bytes after which a reader is given up: 2^62. No device comes to that.
+const MOST_BYTES: u64 = 4_611_686_018_427_387_904;
+
+/// The reads after which a reader is given up that has not ended: 2^24.
+const MOST_READS: u32 = 16_777_216;
 
 /// A reader, how many bytes it gave, and whether one of its reads failed.
 #[derive(Drop)]
-pub struct Input<R: Read> {
+pub struct Reader<R: Read> {
     reader: R,
+    reads: u32,
     given: u64,
     failed: bool,
 }
 
-impl<R: Read> Model for Input<R> {
+impl<R: Read> Model for Reader<R> {
     ghost use Rattle.std.specs.Prelude.{◌<◌, ◌+◌, ◌^◌};
     ghost use Rattle.nn_device.specs.Device.{Reading};
 
@@ -35,30 +39,33 @@ impl<R: Read> Model for Input<R> {
 #[error("a read failed")]
 pub struct ReadFailed;
 
-impl<R: Read> Input<R> {
+impl<R: Read> Reader<R> {
     /// This reader, of which nothing was read.
-    pub fn new(reader: R) -> Input<R>
+    pub fn new(reader: R) -> Reader<R>
         ensures { result ≡ record { left = R.remaining reader; given = 0; failed = false } }
     {
-        Input {
+        Reader {
             reader,
+            reads: 0,
             given: 0,
             failed: false,
         }
     }
 
-    /// One read. A reader that failed once is not read again: it fails for good. So that the bytes can be counted, it also
-    /// fails once it gave 2^62 bytes, to which no device comes. A read that a signal interrupts counts as failed.
+    /// One read. A reader that failed once is not read again: it fails for good. A read that a signal interrupts counts as
+    /// failed. A reader that has not ended after 16,777,216 reads is given up and fails too, so that one which never ends
+    /// holds nobody up for ever; and so does one that gave 2^62 bytes, to which no device comes, so that they can be counted.
     pub fn read(&mut self, buffer: &mut [u8]) -> Result<usize, ReadFailed>
         ensures bound { ReadsAtMost result buffer.new }
         ensures bytes { ReadConsumes self.old.left self.new.left result buffer.new }
         ensures ok { IfOk result (Gave self.old self.new) }
         ensures err { OnErr result (FailedToRead self.old self.new) }
     {
-        if self.failed || self.given >= LIMIT {
+        if self.failed || self.reads >= MOST_READS || self.given >= MOST_BYTES {
             self.failed = true;
             return Err(ReadFailed);
         }
+        self.reads += 1;
         let Ok(n) = self.reader.read(buffer) else {
             self.failed = true;
             return Err(ReadFailed);

@@ -3,7 +3,7 @@ use Rattle.std.proofs.Math.Seq.{take-add}
 use Rattle.std.proofs.lemmas.List.{take_rest}
 use Rattle.std.proofs.KnownBytes.{Appends-trans}
 use Rattle.std.specs.Io.KnownBytes.{Appends}
-use Rattle.nn_device.proofs.output.Output.write_all.Goals as goal
+use Rattle.nn_device.proofs.writer.Writer.write_all.Goals as goal
 
 pub writes-preserved : goal.writes-preserved
 writes-preserved g c =

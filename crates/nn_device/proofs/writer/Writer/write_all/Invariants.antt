@@ -1,6 +1,6 @@
 use Rattle.std.proofs.Common.{◌≡◌, ◌+◌, ◌-◌, ◌<◌, ◌≤◌, false, length, take}
 use Rattle.std.specs.Io.KnownBytes.{Appends}
-use Rattle.nn_device.proofs.output.Output.write_all.Given as goal
+use Rattle.nn_device.proofs.writer.Writer.write_all.Given as goal
 
 -- the writer took the first `written` bytes, and none of its writes failed
 abbrev pub invariant-writes : goal.invariant-writes

@@ -6,18 +6,18 @@ use std::io::Write;
 use std::marker::Model;
 use thiserror::Error;
 
-/// The bytes after which an output is given up: 2^62. No device comes to that.
-const LIMIT: u64 = 4_611_686_018_427_387_904;
+/// The bytes after which a writer is given up: 2^62. No device comes to that.
+const MOST_BYTES: u64 = 4_611_686_018_427_387_904;
 
 /// A writer, how many bytes it took, and whether one of its writes failed.
 #[derive(Drop)]
-pub struct Output<W: Write> {
+pub struct Writer<W: Write> {
     writer: W,
     taken: u64,
     failed: bool,
 }
 
-impl<W: Write> Model for Output<W> {
+impl<W: Write> Model for Writer<W> {
     ghost use Rattle.nn_device.specs.Device.{Writing};
 
     ghost Value = { Writing };
@@ -32,12 +32,12 @@ pub struct WriteFailed {
     pub written: usize,
 }
 
-impl<W: Write> Output<W> {
+impl<W: Write> Writer<W> {
     /// This writer, into which nothing was written.
-    pub fn new(writer: W) -> Output<W>
+    pub fn new(writer: W) -> Writer<W>
         ensures { result ≡ record { contents = W.contents writer; taken = 0; failed = false } }
     {
-        Output {
+        Writer {
             writer,
             taken: 0,
             failed: false,
@@ -54,7 +54,7 @@ impl<W: Write> Output<W> {
     {
         let mut written = 0;
         'writes: while written < text.len() {
-            if self.failed || self.taken >= LIMIT {
+            if self.failed || self.taken >= MOST_BYTES {
                 self.failed = true;
                 return Err(WriteFailed { written });
             }

@@ -1,5 +1,5 @@
-//! A reader and a writer that count their bytes and note a failed call. Only a call of the device itself is noted, so
-//! whoever lends one of them can tell a failed read or write from every other end.
+//! A reader and a writer that count their bytes and note a failed call. Nobody else can note one, so whoever lends one of
+//! them can tell a failed read or write from every other end.
 #![tactic(auto)]
 
 mod reader;

@@ -1,11 +1,11 @@
 -- Two drives of one standby, with the same sources, end alike.
-use Rattle.std.proofs.Common.{◌≡◌, ℕ, zero, suc, ◌+◌, ◌<◌, ◌≤◌, ◌^◌, Bool, true, false, List, [], ◌∷◌, ◌++◌, length, map, get_or, Option, Some, None, Result, Ok, Err, refl, sym, ap, ◌∙◌, subst, arith, length-append, inl, inr}
+use Rattle.std.proofs.Common.{◌≡◌, ℕ, zero, suc, ◌+◌, ◌<◌, ◌^◌, true, false, List, [], ◌∷◌, ◌++◌, length, map, get_or, Option, Some, None, Result, Ok, Err, refl, sym, ap, ◌∙◌, subst, arith, length-append, inl, inr}
 use Rattle.std.specs.Prelude.{◌⊎◌, MatchOption, MatchResult}
 use Rattle.std.specs.Iterator.{Yields, YieldsThen}
 use Rattle.nn_types.specs.declared.report.Report.{Report}
 use Rattle.nn_types.specs.declared.report.Message.{Message}
 use Rattle.nn_model.specs.Namespace.{Namespace}
-use Rattle.nn_model.specs.Counts.{safe_mode_of, SafeMode}
+use Rattle.nn_model.specs.Counts.{safe_mode_of}
 use Rattle.nn_model.specs.Items.{items}
 use Rattle.nn_model.specs.Lanes.{Lanes}
 use Rattle.nn_model.specs.Picture.{picture_replica, picture_order}
@@ -16,14 +16,12 @@ use Rattle.nn_lane.specs.declared.fault.Refusal.{Refusal}
 use Rattle.nn_lane.specs.declared.fault.Refusal.TheVariants.{Closed, Exhausted, Full}
 use Rattle.nn_segment.specs.Segment.{Segment}
 use Rattle.nn_segment.specs.Source.{Answer, Asked, given, end}
-use Rattle.nn_segment.specs.Walk.{log_in}
 use Rattle.nn_shadow.specs.Contents.{Contents, standby_of}
-use Rattle.nn_tailer.specs.declared.standby.Active.{Active}
-use Rattle.nn_tailer.specs.Tailing.{Tailer, StandsAt, by_node}
+use Rattle.nn_tailer.specs.Tailing.{by_node}
 use Rattle.nn_drive.specs.declared.driving.Worked.{Worked}
 use Rattle.nn_drive.specs.Reports.{next_message, sent_after, TakesNoMore, Reported}
-use Rattle.nn_drive.specs.Driven.{AreLanes, IsTold, IsToldOnly, IsTaken, IsPromoted, IsDriven}
-use Rattle.nn_drive.specs.DriveLaws.{AnswersByFunction, AreOpen, EndsAlike, DrivesEndAlike}
+use Rattle.nn_drive.specs.Driven.{AreLanes, IsTold, IsTaken, IsPromoted}
+use Rattle.nn_drive.specs.DriveLaws.{AnswersByFunction, AreOpen, DrivesEndAlike}
 
 -- ---- The source of segments.
 

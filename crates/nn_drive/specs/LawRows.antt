@@ -1,13 +1,12 @@
 -- Which sources answer by functions, which lanes are open, and which standbys show the same, computed.
-use Rattle.std.specs.Prelude.{◌≡◌, ℕ, ◌+◌, Bool, true, false, List, [], ◌∷◌, Some, None, Ok, Err, codes, refl}
+use Rattle.std.specs.Prelude.{◌≡◌, ℕ, ◌+◌, true, false, [], ◌∷◌, Some, None, Err, codes, refl}
 use Rattle.std.proofs.Common.{arith, sym, ap, ◌∙◌, true≢false}
 use Rattle.nn_types.specs.declared.event.Event.TheVariants.{Applied}
 use Rattle.nn_types.specs.declared.report.Kind.TheVariants.{Received}
 use Rattle.nn_types.specs.declared.replica.Replica.{Replica}
 use Rattle.nn_model.specs.Namespace.{Namespace, root_alone}
 use Rattle.nn_model.specs.declared.form.Form.TheVariants.{Dir, File}
-use Rattle.nn_lane.specs.Ends.{LaneId, Taking}
-use Rattle.nn_segment.specs.Segment.{Segment}
+use Rattle.nn_lane.specs.Ends.{LaneId}
 use Rattle.nn_segment.specs.Source.{Answer, GivesNext, end}
 use Rattle.nn_segment.specs.declared.fault.SourceFault.TheVariants.{Gone}
 use Rattle.nn_shadow.specs.Contents.{Contents}

@@ -1,12 +1,12 @@
 -- What is printed for an input that is not read, and what a run says of its devices, computed.
-use Rattle.std.specs.Prelude.{◌≡◌, ◌<◌, ℕ, Bool, true, false, [], ◌∷◌, ◌++◌, map, length, Some, None, codes, refl}
+use Rattle.std.specs.Prelude.{◌≡◌, ℕ, Bool, true, false, [], ◌∷◌, ◌++◌, map, Some, None, codes, refl}
 use Rattle.std.proofs.Common.{arith, sym, true≢false}
 use Rattle.nn_device.specs.Device.{Reading, Writing}
 use Rattle.nn_listing.specs.Listing.{newline}
 use Rattle.nn_engine.specs.declared.device.InputFault.TheVariants.{ReadFailed, TooLong, OutOfMemory}
 use Rattle.nn_engine.specs.declared.engine.Options.{Options}
 use Rattle.nn_engine.specs.Input.{IsUnread}
-use Rattle.nn_engine.specs.Run.{fault_alone, unread_line, IsUnreadable, NoneFailed, WroteFront, running}
+use Rattle.nn_engine.specs.Run.{fault_alone, unread_line, NoneFailed, WroteFront, running}
 
 unread : map unread_line (ReadFailed ∷ TooLong ∷ OutOfMemory ∷ [])
     ≡ (codes "fault 8" ++ newline ∷ []) ∷ (codes "fault 8" ++ newline ∷ []) ∷ (codes "fault 55" ++ newline ∷ []) ∷ []

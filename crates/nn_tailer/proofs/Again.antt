@@ -7,7 +7,6 @@ use Rattle.std.proofs.lemmas.Bool.{cases_lt}
 use Rattle.std.proofs.lemmas.List.{drop_all}
 use Rattle.nn_types.specs.declared.tx.Tx.{Tx}
 use Rattle.nn_types.specs.declared.edit_fault.EditFault.{EditFault}
-use Rattle.nn_shadow.specs.declared.fault.Stop.{Stop}
 use Rattle.nn_model.specs.Namespace.{Namespace}
 use Rattle.nn_model.specs.Apply.{effect, applied}
 use Rattle.nn_model.specs.Log.{counted, namespace_after, IsLog, CountsUp}

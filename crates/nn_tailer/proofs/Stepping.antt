@@ -1,5 +1,5 @@
 -- A public step.
-use Rattle.std.proofs.Common.{◌≡◌, ◌≢◌, ℕ, ◌+◌, List, [], Option, None, get_or, Result, Ok, Err, inl, inr, refl, sym, ap, ◌∙◌, subst}
+use Rattle.std.proofs.Common.{◌≡◌, ◌≢◌, ℕ, ◌+◌, List, [], None, get_or, Result, Ok, Err, inl, inr, refl, sym, ap, ◌∙◌, subst}
 use Rattle.std.proofs.lemmas.List.{get_or-set_other}
 use Rattle.nn_segment.specs.Source.{Answer}
 use Rattle.nn_tailer.specs.declared.standby.Choice.{Choice}
@@ -11,7 +11,7 @@ use Rattle.nn_tailer.specs.Tailing.{Tailer, Carries}
 use Rattle.nn_tailer.specs.Reads.{StopsWith, StopsFor}
 use Rattle.nn_tailer.specs.Steps.{Edits, OnLogFault}
 use Rattle.nn_tailer.specs.LaneSteps.{LaneFrame, LaneMoves}
-use Rattle.nn_tailer.specs.Public.{IsPlace, IsStepped, NotStepped, SameLane, Leaves, Steps}
+use Rattle.nn_tailer.specs.Public.{IsPlace, IsStepped, NotStepped, Leaves, Steps}
 use Rattle.nn_tailer.proofs.Carried.{carries_same}
 use Rattle.nn_tailer.proofs.LaneSteps.{ends_same}
 use Rattle.nn_tailer.proofs.Prepared.{ends_by}

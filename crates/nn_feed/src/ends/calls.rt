@@ -1,7 +1,7 @@
 // The calls of the two ends.
-ghost use Rattle.std.specs.Prelude.{◌≡◌, ◌+◌, ◌<◌, [], ◌∷◌, ◌++◌, length, Ok, Err, IfOk, IfErr, OnOk};
+ghost use Rattle.std.specs.Prelude.{◌≡◌, ◌+◌, [], length, Ok, Err, IfOk, IfErr, OnOk};
 ghost use Rattle.nn_feed.specs.Ends.{put_by, got_by, IsSameFeeder, AreOfOneFeed, Puts, Refuses, GivesWhatIsFed, IsMet};
-ghost use Rattle.nn_feed.specs.Feeds.{placed, has_last, is_last};
+ghost use Rattle.nn_feed.specs.Feeds.{has_last, is_last};
 ghost use Rattle.nn_feed.specs.Passes.{ended_by, as_answer};
 
 use super::{Ending, FeedEnd, Feeder};

@@ -46,25 +46,45 @@ impl Read for Slow<'_> {
     }
 }
 
-// A writer that takes at most two bytes a time, and fails or takes nothing at its write `stop_at`, counted from 0.
+// A writer that takes at most `width` bytes a time, and fails or takes nothing at its write `stop_at`, counted from 0.
+// Behind that one it counts its writes: a write that was refused is not to be tried again.
 #[derive(Drop)]
 struct Stopping {
     got: Vec<u8>,
+    width: usize,
     writes: u64,
     stop_at: u64,
     fails: bool,
+    later: u64,
+}
+
+impl Stopping {
+    fn new(alloc: Global, width: usize, stop_at: u64, fails: bool) -> Stopping {
+        Stopping {
+            got: Vec::new(alloc),
+            width,
+            writes: 0,
+            stop_at,
+            fails,
+            later: 0,
+        }
+    }
 }
 
 impl Write for Stopping {
     fn write(&mut self, buf: &[u8]) -> io::Result<usize> {
-        if self.writes == self.stop_at {
+        let at = self.writes;
+        self.writes = at.saturating_add(1);
+        if at > self.stop_at {
+            self.later = self.later.saturating_add(1);
+        }
+        if at >= self.stop_at {
             if self.fails {
                 return Err(io::Error::from(io::ErrorKind::Other));
             }
             return Ok(0);
         }
-        self.writes = self.writes.saturating_add(1);
-        let n = buf.len().min(2);
+        let n = buf.len().min(self.width);
         self.got.extend_from_slice(&buf[..n])?;
         Ok(n)
     }
@@ -127,49 +147,59 @@ fn number_at(alloc: Global, fail_at: u64) -> u8 {
 #[test]
 fn failing_writers(rt: HostRuntime) {
     match load(rt.alloc(), &mut Reader::new(OPEN_FILE.as_bytes())) {
-        Ok((namespace, txid)) => stops(&rt, rt.alloc(), &namespace, txid),
+        Ok((namespace, txid)) => {
+            for width in [1, 2, 7, 4096] {
+                stops(&rt, rt.alloc(), &namespace, txid, width);
+            }
+        }
         Err(fault) => assert_eq!(rt; fault.number(), 0),
     }
 }
 
-// Each line is written on its own, two bytes a time.
-fn stops(rt: &impl Abort, alloc: Global, namespace: &Namespace, txid: u64) {
+// Each line is written on its own, so many bytes a time.
+fn stops(rt: &impl Abort, alloc: Global, namespace: &Namespace, txid: u64, width: usize) {
     let mut writes = 0u64;
     for line in OPEN_FILE.split_inclusive('\n') {
-        writes = writes.saturating_add((line.len() as u64).div_ceil(2));
+        writes = writes.saturating_add(writes_of(line.len(), width));
     }
     for fails in [false, true] {
         for stop_at in 0..writes {
-            stops_at(rt, alloc, namespace, txid, stop_at, fails);
+            save_stops(
+                rt,
+                alloc,
+                namespace,
+                txid,
+                Stopping::new(alloc, width, stop_at, fails),
+            );
+            rewrite_stops(rt, alloc, Stopping::new(alloc, width, stop_at, fails));
         }
     }
 }
 
-fn stops_at(
-    rt: &impl Abort,
-    alloc: Global,
-    namespace: &Namespace,
-    txid: u64,
-    stop_at: u64,
-    fails: bool,
-) {
-    let mut writer = Writer::new(Stopping {
-        got: Vec::new(alloc),
-        writes: 0,
-        stop_at,
-        fails,
-    });
+// How many writes a text of so many bytes takes.
+fn writes_of(len: usize, width: usize) -> u64 {
+    let mut left = len;
+    let mut writes = 0u64;
+    for _ in 0..len {
+        if left > 0 {
+            left = left.saturating_sub(width);
+            writes = writes.saturating_add(1);
+        }
+    }
+    writes
+}
+
+fn save_stops(rt: &impl Abort, alloc: Global, namespace: &Namespace, txid: u64, writer: Stopping) {
+    let mut writer = Writer::new(writer);
     let told = match save(alloc, namespace, txid, &mut writer) {
         Err(SaveFault::WriteFault { written }) => written,
         _ => u64::MAX,
     };
     tells_what_it_wrote(rt, &writer.into_inner(), told);
-    let mut writer = Writer::new(Stopping {
-        got: Vec::new(alloc),
-        writes: 0,
-        stop_at,
-        fails,
-    });
+}
+
+fn rewrite_stops(rt: &impl Abort, alloc: Global, writer: Stopping) {
+    let mut writer = Writer::new(writer);
     let mut reader = Reader::new(OLD_FILE.as_bytes());
     let told = match rewrite(alloc, &mut reader, &mut writer) {
         Err(RewriteFault::Save(SaveFault::WriteFault { written })) => written,
@@ -181,4 +211,79 @@ fn stops_at(
 fn tells_what_it_wrote(rt: &impl Abort, writer: &Stopping, told: u64) {
     assert!(rt; OPEN_FILE.as_bytes().starts_with(&writer.got));
     assert_eq!(rt; told, writer.got.len() as u64, "at {}", writer.stop_at);
+    assert_eq!(rt; writer.later, 0, "at {}", writer.stop_at);
+}
+
+// ---- Readers that never end.
+
+// A reader that gives a text and then one byte for ever, up to `chunk` bytes a time.
+#[derive(Drop)]
+struct Endless<'a> {
+    text: &'a [u8],
+    then: u8,
+    chunk: usize,
+    given: u64,
+}
+
+impl Read for Endless<'_> {
+    fn read(&mut self, buf: &mut [u8]) -> io::Result<usize> {
+        let n = buf.len().min(self.chunk);
+        for place in buf[..n].iter_mut() {
+            match self.text {
+                [first, rest @ ..] => {
+                    *place = *first;
+                    self.text = rest;
+                }
+                [] => *place = self.then,
+            }
+        }
+        self.given = self.given.saturating_add(n as u64);
+        Ok(n)
+    }
+}
+
+const HEADER: &str =
+    r#"{"awaiting":[],"image":"hdfs-standby","last_block":1073741824,"last_gen":1000,"profile":1,"txid":5,"version":2}
+"#;
+
+// An image that was whole: what follows it is too much.
+const ROOT_ALONE: &str =
+    r#"{"awaiting":[],"image":"hdfs-standby","last_block":1073741824,"last_gen":1000,"profile":1,"txid":5,"version":2}
+{"end":0}
+"#;
+
+// One buffer of `load`.
+const BUFFER: u64 = 65_536;
+
+// An empty line is no header, no path and nothing behind the last line. `load` stops there, and has read no further than
+// the buffer in which the line ends.
+#[test]
+fn endless_readers(rt: HostRuntime) {
+    for chunk in [1, 65_536, 1_000_000] {
+        for (text, number) in [("", 61), (HEADER, 62), (ROOT_ALONE, 62)] {
+            let (told, given) = load_of(rt.alloc(), text, b'\n', chunk);
+            assert_eq!(rt; told, number, "by {chunk}");
+            assert!(rt;
+                given <= (text.len() as u64).saturating_add(BUFFER),
+                "by {chunk}"
+            );
+        }
+    }
+    // A line that never ends, byte by byte: the reader is given up.
+    let (told, given) = load_of(rt.alloc(), HEADER, b' ', 1);
+    assert_eq!(rt; (told, given), (67, 16_777_216));
+}
+
+fn load_of(alloc: Global, text: &str, then: u8, chunk: usize) -> (u8, u64) {
+    let mut reader = Reader::new(Endless {
+        text: text.as_bytes(),
+        then,
+        chunk,
+        given: 0,
+    });
+    let number = match load(alloc, &mut reader) {
+        Ok(_) => 0,
+        Err(fault) => fault.number(),
+    };
+    (number, reader.into_inner().given)
 }

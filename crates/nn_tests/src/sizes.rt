@@ -1,9 +1,11 @@
-//! A file of more blocks than any small case has. No clause can say that memory suffices, so a body that gave up at the fifth
-//! item would be proved; here it would be seen. It runs on a test's own stack, which is no larger than usual.
+//! A file of more blocks, and an image of more paths, than any small case has. No clause can say that memory suffices, so a
+//! body that gave up at the fifth item would be proved; here it would be seen. A test runs on a stack of the usual size.
 ghost use Rattle.std.specs.Prelude.{◌+◌, ◌<◌};
 
 use crate::values;
 use crate::values::{replication, stamp};
+use nn_device::{Reader, Writer};
+use nn_image::{load, save};
 use nn_tree::{Found, Namespace};
 use nn_types::{Block, Blocks, Edit, Path};
 use std::alloc::Global;
@@ -119,4 +121,47 @@ fn has_blocks(
     };
     assert_eq!(rt; file.blocks.as_slice().len(), count);
     Ok(())
+}
+
+// ---- An image.
+
+const PATHS: u64 = 10_000;
+
+#[test]
+fn an_image_of_10_000_paths(rt: HostRuntime) -> Result<(), Fail> {
+    let mut namespace = Namespace::new(rt.alloc());
+    for n in 0..PATHS {
+        make_directory(rt.alloc(), &mut namespace, n)?;
+    }
+    comes_back(&rt, rt.alloc(), &namespace)
+}
+
+fn make_directory(alloc: Global, namespace: &mut Namespace, n: u64) -> Result<(), Fail> {
+    let text = format!(in alloc; "/d{n}")?;
+    let path = Path::parse(alloc, text.as_str())?;
+    apply(namespace, Edit::Mkdir { path })
+}
+
+// What is saved is loaded, and is saved as the same once more.
+fn comes_back(rt: &impl Abort, alloc: Global, namespace: &Namespace) -> Result<(), Fail> {
+    let saved = image_of(alloc, namespace)?;
+    let Ok((loaded, txid)) = load(alloc, &mut Reader::new(saved.as_slice())) else {
+        return Err(Fail::new("not loaded"));
+    };
+    assert_eq!(rt; txid, PATHS);
+    let again = image_of(alloc, &loaded)?;
+    assert!(rt; again == saved);
+    // The header, a line for each path, and the last line.
+    let lines = saved.iter().filter(|byte| **byte == b'\n').count();
+    assert_eq!(rt; lines, 10_002);
+    Ok(())
+}
+
+// The image, with as many transactions as there are paths.
+fn image_of(alloc: Global, namespace: &Namespace) -> Result<Vec<u8>, Fail> {
+    let mut image = Writer::new(Vec::new(alloc));
+    let Ok(()) = save(alloc, namespace, PATHS, &mut image) else {
+        return Err(Fail::new("not saved"));
+    };
+    Ok(image.into_inner())
 }

@@ -18,13 +18,13 @@ use Rattle.nn_drive.specs.declared.driving.Reports.{Reports}
 use Rattle.nn_drive.specs.Driven.{AreLanes, IsPromised, ArePromised, HasReported, IsToldOnly, IsTaken, JoinsAll, AreOneLane, Agrees, Goes, IsPromoted}
 use Rattle.nn_drive.proofs.Meets.{zip_of, zip_at}
 
-same_at : (es es' : List Taking) (i : ℕ) (d : Taking) → i < length es → SameEnds es es' → SameEnd (get_or es i d) (get_or es' i d)
+pub same_at : (es es' : List Taking) (i : ℕ) (d : Taking) → i < length es → SameEnds es es' → SameEnd (get_or es i d) (get_or es' i d)
 same_at [] es' i d l s = absurd (omega (arith, l))
 same_at (e ∷ es) [] i d l s = absurd s
 same_at (e ∷ es) (e' ∷ es') zero d l s = s.0
 same_at (e ∷ es) (e' ∷ es') (suc i) d l s = same_at es es' i d (omega (arith, l)) s.1
 
-closes_at : (es es' : List Taking) (i : ℕ) (d : Taking) → i < length es → CloseEnds es es' → ClosesEnd (get_or es i d) (get_or es' i d)
+pub closes_at : (es es' : List Taking) (i : ℕ) (d : Taking) → i < length es → CloseEnds es es' → ClosesEnd (get_or es i d) (get_or es' i d)
 closes_at [] es' i d l s = absurd (omega (arith, l))
 closes_at (e ∷ es) [] i d l s = absurd s
 closes_at (e ∷ es) (e' ∷ es') zero d l s = s.0
@@ -39,10 +39,10 @@ pub same_lanes : {S : Type 0} (workers : List (S × Reporting)) (es es' : List T
 same_lanes workers es es' l s = (omega (arith, l.0, same_length es es' s), λ i w e below. (same_at es es' i e (omega (arith, below, l.0)) s).0 ∙ l.1 i w e below)
 
 -- a lane that is closed, of which all that was counted was taken
-abbrev IsAll : Taking → Type 0
+abbrev pub IsAll : Taking → Type 0
 IsAll e = (e.closed ≡ true) × (length e.got ≡ counted e)
 
-taken_at : (es : List Taking) (ks : List (Option Message)) (i : ℕ) (d : Taking) → i < length es → AllTaken es ks → IsAll (get_or es i d)
+pub taken_at : (es : List Taking) (ks : List (Option Message)) (i : ℕ) (d : Taking) → i < length es → AllTaken es ks → IsAll (get_or es i d)
 taken_at [] ks i d l t = absurd (omega (arith, l))
 taken_at (e ∷ es) [] i d l t = absurd t
 taken_at (e ∷ es) (k ∷ ks) zero d l t = (t.0, t.2)
@@ -52,17 +52,17 @@ none_more : (more : List Message) → length more ≡ 0 → more ≡ []
 none_more [] h = refl
 none_more (m ∷ more) h = absurd (omega (arith, h))
 
-whole_front : (all got : List Message) → StartsWith all got → length got ≡ length all → got ≡ all
+pub whole_front : (all got : List Message) → StartsWith all got → length got ≡ length all → got ≡ all
 whole_front all got f h =
     let none : f.0 ≡ [] = none_more f.0 (omega (arith, h, ap length f.1, length-append got f.0)) in
     sym (append-nil got) ∙ ap (λ m. got ++ m) (sym none) ∙ sym f.1
 
 -- what the meeting says, of a lane of which all was taken
-all_got : (e : Taking) (r : Reporting) → Agrees e r → IsAll e → e.got ≡ r.sent
+pub all_got : (e : Taking) (r : Reporting) → Agrees e r → IsAll e → e.got ≡ r.sent
 all_got e r a t = whole_front r.sent e.got a.0 (t.1 ∙ a.1 t.0)
 
 -- an element of a list that has one
-some_of : {A : Type 0} (xs : List A) (i : ℕ) → i < length xs → A
+pub some_of : {A : Type 0} (xs : List A) (i : ℕ) → i < length xs → A
 some_of [] i l = absurd (omega (arith, l))
 some_of (x ∷ xs) i l = x
 

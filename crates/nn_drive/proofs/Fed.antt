@@ -82,10 +82,10 @@ stops_more x answers more others m e h start base before at =
     )
 
 module _ (answers others : List Answer) (same : given_in others ≡ given_in answers) (ended : EndsInEnd others) where
-  same_behind : (before : List Answer) → given_in (before ++ others) ≡ given_in (before ++ answers)
+  pub same_behind : (before : List Answer) → given_in (before ++ others) ≡ given_in (before ++ answers)
   same_behind before = given_behind before answers [] others (same ∙ sym (append-nil (given_in answers))) ∙ append-nil (given_in (before ++ answers))
 
-  same_log : (base : ℕ) (before : List Answer) → log_in base (before ++ answers) ≡ log_in base (before ++ others)
+  pub same_log : (base : ℕ) (before : List Answer) → log_in base (before ++ answers) ≡ log_in base (before ++ others)
   same_log base before = ap (log_of base)
       (segments_given (before ++ answers) ∙ ap (λ l. map (λ (s : Segment). s.txs) l) (sym (same_behind before)) ∙ sym (segments_given (before ++ others)))
 
@@ -158,10 +158,10 @@ module _ {T : Type 0} (gives : T → Answer → T → Type 0) (failures : T → 
     got_end : EndsInEnd answers → has_last (got_by e1) ≡ true
     got_end e = let g = ends_in_end [] (got_by e1) answers gets e in last_among (got_by e1) g.0 end g.1 refl
 
-    ends_alike : EndsInEnd answers → EndsInEnd of_source
+    pub ends_alike : EndsInEnd answers → EndsInEnd of_source
     ends_alike e = let g = ends_in_end [] (got_by e1) answers gets e in (g.0, all_got (got_end e) ∙ g.1)
 
-    given_alike : EndsInEnd answers → given_in of_source ≡ given_in answers
+    pub given_alike : EndsInEnd answers → given_in of_source ≡ given_in answers
     given_alike e = given_more ∙ ap (λ l. given_in answers ++ given_in l) (k.whole (got_end e)) ∙ append-nil (given_in answers)
 
     why_failed : (x : Tailer) (f : DriveFault) → WhyFailed x answers f → ((e : _) → f ≡ drive.LogNotEnded e → has_last (got_by e1) ≡ true) → EndsEarly failures s x of_source t f

@@ -4,7 +4,7 @@ use Rattle.nn_segment.specs.Source.{Answer, Asked}
 use Rattle.nn_segment.proofs.Asks.{asked_append}
 use Rattle.std.specs.Prelude.{option_map}
 use Rattle.nn_shadow.specs.declared.fault.Stop.{Stop}
-use Rattle.nn_shadow.specs.Refusals.{fault_if, first_fault}
+use Rattle.nn_shadow.specs.Refusals.{fault_if, first_fault, is_lane}
 use Rattle.nn_tailer.specs.declared.standby.Choice.{Choice}
 use Rattle.nn_tailer.specs.declared.standby.Choice.TheVariants.{Lane}
 use Rattle.nn_tailer.specs.declared.standby.Stepped.{Stepped}
@@ -50,6 +50,10 @@ promotion_may_come rs y step.OutOfMemory h = tt
 pub has_lane : (x y : Tailer) (lanes i : ℕ) → lanes ≡ length x.ends → i < lanes → SameEnds x.ends y.ends → has_place y (Lane (i + 1)) ≡ true
 has_lane x y lanes i n l s = has_one y (i + 1) i (refl, omega (arith, l, n, same_length x.ends y.ends s))
 
+-- and the place of a lane that is there
+pub still_place : (x y : Tailer) (dn : ℕ) → has_place x (Lane dn) ≡ true → SameEnds x.ends y.ends → has_place y (Lane dn) ≡ true
+still_place x y dn p s = (λ j. is_lane (same_length x.ends y.ends s j) dn) ∙ p
+
 -- ---- The first cause of refusal.
 
 abbrev refusal_by : Bool → Option Stop → Option DriveFault
@@ -60,6 +64,12 @@ refusal_is x begun stop b s = λ i. refusal_by (b i) (s i)
 
 first_is : (o : Option DriveFault) (f g : DriveFault) → o ≡ Some f → o ≡ Some g → f ≡ g
 first_is o f g a b = let e : Some f ≡ Some g = sym a ∙ b in cc
+
+pub active_first : (x : Tailer) (f : DriveFault) → has_begun x ≡ true → drive_refusal x ≡ Some f → drive.AlreadyActive ≡ f
+active_first x f b e = first_is (drive_refusal x) drive.AlreadyActive f (refusal_is x true x.stop b refl) e
+
+pub stop_first : (x : Tailer) (f : DriveFault) (m : Stop) → has_begun x ≡ false → x.stop ≡ Some m → drive_refusal x ≡ Some f → drive.Stopped m ≡ f
+stop_first x f m b s e = first_is (drive_refusal x) (drive.Stopped m) f (refusal_is x false (Some m) b s) e
 
 pub active_refused : {A : Type 0} (x : Tailer) (f : DriveFault) → has_begun x ≡ true → drive_refusal x ≡ Some f → ◌≡◌ {A = Result A DriveFault} (Err drive.AlreadyActive) (Err f)
 active_refused x f b e = ap (λ z. Err z) (first_is (drive_refusal x) drive.AlreadyActive f (refusal_is x true x.stop b refl) e)
@@ -107,7 +117,7 @@ module _ {T : Type 0} (gives : T → Answer → T → Type 0) (failures : T → 
   -- ---- How it went.
 
   pub went_nowhere : (s : T) (x : Tailer) → Went gives failures s x s x
-  went_nowhere s x = ([], refl, record { carries = carries_same x; same_ends = ends_same x.ends; begun = refl; settings = settings_same x.shadow }, omega arith)
+  went_nowhere s x = ([], refl, record { carries = carries_same x; same_ends = ends_same x.ends; begun = refl; active = refl; settings = settings_same x.shadow }, omega arith)
 
   pub went_on : (s t u : T) (x y z : Tailer) → Went gives failures s x t y → Went gives failures t y u z → Went gives failures s x u z
   went_on s t u x y z f g = (
@@ -117,6 +127,7 @@ module _ {T : Type 0} (gives : T → Answer → T → Type 0) (failures : T → 
       carries = carries_then x y z f.0 g.0 f.2.carries g.2.carries;
       same_ends = ends_then x.ends y.ends z.ends f.2.same_ends g.2.same_ends;
       begun = g.2.begun ∙ f.2.begun;
+      active = g.2.active ∙ f.2.active;
       settings = settings_then x.shadow y.shadow z.shadow f.2.settings g.2.settings;
     },
     omega (arith, f.3, g.3),
@@ -126,7 +137,7 @@ module _ {T : Type 0} (gives : T → Answer → T → Type 0) (failures : T → 
   went_until s t u x y f b g h = until_then s t u x y g.0 f g.1 g.2.carries (g.2.begun ∙ b) g.3 h
 
   pub one_step : (s t : T) (x y : Tailer) (c : Choice) (r : Result Stepped StepFault) → Steps gives s x c t y r → failures s ≤ failures t → Went gives failures s x t y
-  one_step s t x y c r h l = (h.0, h.1, record { carries = h.2; same_ends = h.3; begun = h.4; settings = h.6 }, l)
+  one_step s t x y c r h l = (h.0, h.1, record { carries = h.2; same_ends = h.3; begun = h.4; active = h.7; settings = h.6 }, l)
 
   pub one_fault : (s t : T) (x y : Tailer) (c : Choice) (f : StepFault) (g : DriveFault) → Steps gives s x c t y (Err f) → OnLogFault {A = Stepped} (Err f) (failures s < failures t) → failures s ≤ failures t
       → IsSameFault f g → WentUntil gives failures s x t g

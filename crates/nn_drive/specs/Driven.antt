@@ -71,6 +71,7 @@ pub record Goes (old : Tailer) (answers : List Answer) (new : Tailer) : Type 0 w
   pub carries : Carries old answers new
   pub same_ends : SameEnds old.ends new.ends
   pub begun : has_begun new ≡ has_begun old
+  pub active : new.active ≡ old.active
   pub settings : KeepsSettings old.shadow new.shadow
 
 abbrev pub Went : {T : Type 0} → (T → Answer → T → Type 0) → (T → ℕ) → T → Tailer → T → Tailer → Type 0
@@ -88,6 +89,16 @@ EndsEarly failures s old answers t drive.OutOfMemory = Unit {0}
 -- the standby went on up to a fault
 abbrev pub WentUntil : {T : Type 0} → (T → Answer → T → Type 0) → (T → ℕ) → T → Tailer → T → DriveFault → Type 0
 WentUntil gives failures s old t fault = (answers : List Answer) × Asked gives s answers t × EndsEarly failures s old answers t fault × (failures s ≤ failures t)
+
+-- a promotion that failed left its lanes as they were, and the standby not promoted; its flush may have begun
+pub record Stays (old : Tailer) (answers : List Answer) (new : Tailer) : Type 0 where
+  pub carries : Carries old answers new
+  pub same_ends : SameEnds old.ends new.ends
+  pub active : new.active ≡ old.active
+  pub settings : KeepsSettings old.shadow new.shadow
+
+abbrev pub Stayed : {T : Type 0} → (T → Answer → T → Type 0) → T → Tailer → T → Tailer → Type 0
+Stayed gives s old t new = (answers : List Answer) × Asked gives s answers t × Stays old answers new
 
 -- the standby was promoted with these answers more, the last of which is End
 abbrev pub Ends : {T : Type 0} → (T → Answer → T → Type 0) → (T → ℕ) → T → Tailer → T → Active → Tailer → Type 0

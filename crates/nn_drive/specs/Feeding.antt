@@ -20,6 +20,10 @@ use Rattle.nn_drive.specs.Driven.{IsPromoted}
 use Rattle.nn_drive.specs.declared.driving.DriveFault.{DriveFault}
 use Rattle.nn_drive.specs.declared.driving.DriveFault.TheVariants as drive
 
+-- how often the end of a feed failed
+abbrev pub failures_of : {R : Type 0} → FeedEnd R → ℕ
+failures_of e = e.failures
+
 -- more was got, and nothing behind a last answer
 abbrev pub GotMore : List Placed → List Placed → Type 0
 GotMore old new = (more : List Placed) × (new ≡ old ++ more) × (has_last old ≡ true → more ≡ [])

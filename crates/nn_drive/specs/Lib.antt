@@ -9,3 +9,5 @@ pub mod LaneRows
 pub mod DriveRows
 pub mod DriveLaws
 pub mod LawRows
+pub mod Serving
+pub mod ServingRows

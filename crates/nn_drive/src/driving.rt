@@ -2,23 +2,25 @@
 ghost use Rattle.std.specs.Prelude.{◌≡◌, ◌<◌, ◌≤◌, [], true, false, length, vec_capacity, Some, Err, MatchBool, IfOk, IfErr, IfSome, ◌⊎◌};
 ghost use Rattle.std.specs.List.{AllZip};
 ghost use Rattle.nn_tailer.specs.LaneSteps.{AllClosed};
-ghost use Rattle.nn_tailer.specs.Refusals.{has_place};
 ghost use Rattle.nn_tailer.specs.Tailing.{has_begun};
 ghost use Rattle.nn_drive.specs.Fault.{number_of};
-ghost use Rattle.nn_drive.specs.Refusals.{drive_refusal, MayCome, IsSameFault};
-ghost use Rattle.nn_drive.specs.Driven.{HasReported, ArePromised, Went, WentUntil, Ends, IsTold, JoinsAll, AreOneLane, Agrees, AreLanes, IsDriven, NotDriven};
+ghost use Rattle.nn_drive.specs.Refusals.{drive_refusal};
+ghost use Rattle.nn_drive.specs.Driven.{HasReported, ArePromised, WentUntil, Stayed, Ends, IsTold, JoinsAll, AreOneLane, Agrees, AreLanes, IsDriven, NotDriven};
 ghost use Rattle.nn_feed.specs.Ends.{got_by, IsSameEnd};
 ghost use Rattle.nn_feed.specs.Feeds.{has_last};
 ghost use Rattle.nn_drive.specs.Feeding.{FailsOver, GotMore, IsDrivenOver, IsKnown};
 ghost use Rattle.nn_drive.specs.declared.driving.DriveFault.{DriveFault as Why};
 
-use crate::feeding::{end_feed, known_fault, receive, start_feeder};
+use crate::feeding::{end_feed, receive_ready, start_feeder, told_fault};
+use crate::operator::Unattended;
 use crate::reporting::{ReportSource, report_all};
+use crate::rotation::{fault_of, rotate};
+use crate::waiting::Waiting;
 use nn_feed::{FeedEnd, feed};
 use nn_lane::{LaneEnd, Refusal, Reporter, meet};
 use nn_segment::{SegmentSource, SourceFault};
 use nn_shadow::{Shadow, Stop};
-use nn_tailer::{Active, Choice, PromoteFault, Standby, StepFault};
+use nn_tailer::{Active, PromoteFault, Standby};
 use nn_types::fault;
 use std::alloc::Global;
 use std::snapshot::Snapshot;
@@ -75,22 +77,8 @@ impl DriveFault {
     }
 }
 
-// The fault of a standby that serves, at a lane that it has.
-fn fault_of(fault: StepFault) -> DriveFault
-    requires { MayCome fault }
-    ensures { IsSameFault fault result }
-{
-    match fault {
-        StepFault::Stopped(stop) => DriveFault::Stopped(stop),
-        StepFault::LogNotEnded(fault) => DriveFault::LogNotEnded(fault),
-        StepFault::OutOfMemory => DriveFault::OutOfMemory,
-        StepFault::AlreadyActive => unreachable!(),
-        StepFault::BadLane => unreachable!(),
-    }
-}
-
 // What a worker's thread runs.
-fn work<S: ReportSource, R: Wait>(
+pub(crate) fn work<S: ReportSource, R: Wait>(
     rt: &R,
     source: S,
     reporter: Reporter,
@@ -149,69 +137,10 @@ fn start_all<'s, E, S: ReportSource + Send + Drop + 's, R: Wait + Sync>(
 }
 
 // Whether as many threads were started as there are workers.
-fn all_started(started: usize, workers: usize) -> bool
+pub(crate) fn all_started(started: usize, workers: usize) -> bool
     ensures { MatchBool result (workers ≤ started) (started < workers) }
 {
     started >= workers
-}
-
-// A step.
-fn take_step<T: SegmentSource>(
-    standby: &mut Standby,
-    source: &mut T,
-    choice: Choice,
-) -> Result<(), DriveFault>
-    requires serving { has_begun standby.old ≡ false }
-    requires place { has_place standby.old choice ≡ true }
-    ensures went { Went T.gives T.failures source.old standby.old source.new standby.new }
-    ensures until { IfErr result (λ fault. WentUntil T.gives T.failures source.old standby.old source.new fault) }
-{
-    match standby.step(source, choice) {
-        Ok(_stepped) => Ok(()),
-        Err(fault) => Err(fault_of(fault)),
-    }
-}
-
-// A step of each lane.
-fn take_round<T: SegmentSource>(standby: &mut Standby, source: &mut T) -> Result<(), DriveFault>
-    requires { has_begun standby.old ≡ false }
-    ensures went { Went T.gives T.failures source.old standby.old source.new standby.new }
-    ensures until { IfErr result (λ fault. WentUntil T.gives T.failures source.old standby.old source.new fault) }
-{
-    let lanes = standby.lanes();
-    for i in 0..lanes {
-        if let Err(fault) = take_step(standby, source, Choice::Lane((i + 1) as u16)) {
-            return Err(fault);
-        }
-    }
-    Ok(())
-}
-
-// Steps of the log and of all lanes in rotation, until so many workers have ended.
-fn engine<T: SegmentSource, R: Wait>(
-    rt: &R,
-    standby: &mut Standby,
-    source: &mut T,
-    ended: &AtomicU64,
-    workers: usize,
-) -> Result<(), DriveFault>
-    requires { has_begun standby.old ≡ false }
-    ensures went { Went T.gives T.failures source.old standby.old source.new standby.new }
-    ensures until { IfErr result (λ fault. WentUntil T.gives T.failures source.old standby.old source.new fault) }
-{
-    for _ in rt.forever() {
-        if ended.load(Ordering::SeqCst) >= workers as u64 {
-            return Ok(());
-        }
-        if let Err(fault) = take_step(standby, source, Choice::Edit) {
-            return Err(fault);
-        }
-        if let Err(fault) = take_round(standby, source) {
-            return Err(fault);
-        }
-        thread::yield_now();
-    }
-    unreachable!()
 }
 
 // Whether a worker was told before of a close of an open lane, or was so with this outcome.
@@ -270,13 +199,15 @@ fn drop_rest<'a, R: Wait>(
     ensures same { IsSameEnd end.old end.new }
     ensures more { GotMore (got_by end.old) (got_by end.new) }
 {
+    let mut waiting = Waiting::new();
     for _ in rt.forever() {
         take_each(ends);
-        let is_over = !receive(end);
+        let received = receive_ready(end);
+        let is_over = matches!(received, Some(false));
         if is_over && ended.load(Ordering::SeqCst) >= started {
             return;
         }
-        thread::yield_now();
+        waiting.wait_unless(rt, matches!(received, Some(true)));
     }
     unreachable!()
 }
@@ -295,7 +226,7 @@ fn give_up<'a, S: ReportSource + Drop, R: Threads + Wait>(
     ensures more { GotMore (got_by end.old) (got_by end.new) }
     ensures known { IsKnown fault (has_last (got_by end.old)) result }
 {
-    let known = known_fault(fault, end.is_at_end());
+    let known = told_fault(end, fault);
     let mut standby = standby;
     standby.close_intake();
     let (shadow, mut ends) = standby.into_parts();
@@ -323,11 +254,15 @@ fn meet_all(ends: Vec<LaneEnd>, reporters: Vec<Reporter>)
 }
 
 // Promotes a standby whose lanes are closed.
-fn promote<T: SegmentSource>(standby: &mut Standby, source: &mut T) -> Result<Active, DriveFault>
+pub(crate) fn promote<T: SegmentSource>(
+    standby: &mut Standby,
+    source: &mut T,
+) -> Result<Active, DriveFault>
     requires serving { has_begun standby.old ≡ false }
     requires closed { AllClosed standby.old.ends }
     ensures ok { IfOk result (λ active. Ends T.gives T.failures source.old standby.old source.new active standby.new) }
     ensures err { IfErr result (λ fault. WentUntil T.gives T.failures source.old standby.old source.new fault) }
+    ensures stayed { IfErr result (λ _. Stayed T.gives source.old standby.old source.new standby.new) }
 {
     match standby.promote(source) {
         Ok(active) => Ok(active),
@@ -366,7 +301,8 @@ fn run<'s, 'a, E, S: ReportSource + Send + Drop + 's, R: Threads + Wait + Sync>(
         let fault = DriveFault::OutOfMemory;
         return Err(give_up(rt, standby, end, handles, ended, fault));
     }
-    if let Err(fault) = engine(rt, &mut standby, end, ended, started) {
+    let mut operator = Unattended;
+    if let Err(fault) = rotate(rt, &mut standby, end, &mut operator, ended, started) {
         return Err(give_up(rt, standby, end, handles, ended, fault));
     }
     let (reporters, told) = join_all(rt, standby.ends(), handles, reporters);

@@ -1,6 +1,7 @@
 //! The source of segments on a thread of its own, and the end of its feed.
 ghost use Rattle.std.specs.Prelude.{◌≡◌, [], IfSome};
 ghost use Rattle.nn_feed.specs.Ends.{put_by, got_by, AreOfOneFeed, IsSameEnd};
+ghost use Rattle.nn_feed.specs.Feeds.{has_last};
 ghost use Rattle.nn_feed.specs.Running.{HasRun};
 ghost use Rattle.nn_drive.specs.Feeding.{GotMore, HasAnswered, IsKnown};
 
@@ -35,6 +36,17 @@ pub(crate) fn receive<'a, R: Wait>(end: &mut FeedEnd<'a, R>) -> bool
     matches!(end.next(), Ok(Item::Segment(_)))
 }
 
+// The same, but only if an answer lies in the feed, or none will come: else None.
+pub(crate) fn receive_ready<'a, R: Wait>(end: &mut FeedEnd<'a, R>) -> Option<bool>
+    ensures same { IsSameEnd end.old end.new }
+    ensures more { GotMore (got_by end.old) (got_by end.new) }
+{
+    if !end.is_ready() {
+        return None;
+    }
+    Some(receive(end))
+}
+
 // Joins the feeder's thread, and ends the feed. False says that an answer of the source was not put, though the end of
 // the feed was there: no channel does so, and no contract says so.
 pub(crate) fn end_feed<'a, T: SegmentSource + Drop, R: Threads + Wait>(
@@ -57,7 +69,7 @@ pub(crate) fn end_feed<'a, T: SegmentSource + Drop, R: Threads + Wait>(
 
 // What a drive answers for a fault that it met at the end of a feed: 54 only where the feed told it as its source's. No
 // channel fails while both its ends are there, but no contract says so.
-pub(crate) fn known_fault(fault: DriveFault, is_told: bool) -> DriveFault
+fn known_fault(fault: DriveFault, is_told: bool) -> DriveFault
     ensures { IsKnown fault is_told result }
 {
     if is_told {
@@ -67,4 +79,11 @@ pub(crate) fn known_fault(fault: DriveFault, is_told: bool) -> DriveFault
         DriveFault::LogNotEnded(_) => DriveFault::OutOfMemory,
         DriveFault::AlreadyActive | DriveFault::Stopped(_) | DriveFault::OutOfMemory => fault,
     }
+}
+
+// What a drive answers for a fault that it met at this end of a feed.
+pub(crate) fn told_fault<'a, R: Wait>(end: &FeedEnd<'a, R>, fault: DriveFault) -> DriveFault
+    ensures { IsKnown fault (has_last (got_by end.now)) result }
+{
+    known_fault(fault, end.is_at_end())
 }

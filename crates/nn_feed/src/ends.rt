@@ -9,7 +9,9 @@ ghost use Rattle.nn_feed.specs.Passes.{put_in, got_in, MayPut, MayGet, ending_in
 use crate::rule::{InOrder, Log, Placed};
 use crossbeam_channel::{Pass, RuledReceiver, RuledSender};
 use nn_segment::SourceFault;
-use std::sync::Wait;
+use std::alloc::Global;
+use std::sync::atomic::AtomicU64;
+use std::sync::{Arc, Wait};
 
 /// The end that puts. The thread of a source has it; while it lives, the other end waits for its next answer.
 #[derive(Drop)]
@@ -18,6 +20,8 @@ pub struct Feeder {
     pub(crate) pass: Pass<Placed, Log>,
     pub(crate) count: u64,
     pub(crate) ended: bool,
+    // How many answers were put, for the other end to look at. It is the last field: once it is gone, so is the sender.
+    pub(crate) shown: Arc<AtomicU64, Global>,
     ghost seat: { IsSeatAt (sends_on sender) pass },
     ghost role: { MayPut pass },
     ghost counted: { count ≡ length (put_in pass) },
@@ -44,6 +48,9 @@ pub struct FeedEnd<'a, R: Wait> {
     pub(crate) pass: Pass<Placed, Log>,
     pub(crate) ending: Option<Ending>,
     pub(crate) failures: u64,
+    // How many answers were got, and how many the other end shows as put.
+    pub(crate) count: u64,
+    pub(crate) shown: Arc<AtomicU64, Global>,
     ghost seat: { IsSeatAt (receives_on receiver) pass },
     ghost role: { MayGet pass },
     ghost told: { is_some ending ≡ has_last (got_in pass) },

@@ -268,6 +268,14 @@ impl LaneEnd {
         front / 2
     }
 
+    /// How many messages the lane holds at most: 1 to 1024.
+    pub fn capacity(&self) -> usize
+        ensures { result ≡ capacity_of self.now.lane }
+    {
+        let table: &LaneTable = &self.table;
+        table.slot_count()
+    }
+
     /// Whether this end closed the lane.
     pub fn closed(&self) -> bool
         ensures closed { result ≡ self.now.closed }

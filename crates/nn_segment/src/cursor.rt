@@ -1,5 +1,5 @@
 //! Where a log is read: what is left of the segment in hand, and the next transaction.
-ghost use Rattle.std.specs.Prelude.{◌≡◌, ◌≢◌, ◌≤◌, ◌<◌, ◌^◌, ◌+◌, ◌∷◌, [], List, Ok, drop, MatchOption, IfOk, IfSome, IfNone, OnErr};
+ghost use Rattle.std.specs.Prelude.{◌≡◌, ◌≢◌, ◌≤◌, ◌<◌, ◌^◌, ◌+◌, ◌∷◌, [], List, Ok, drop, length, MatchOption, IfOk, IfSome, IfNone, OnErr};
 ghost use Rattle.nn_types.specs.declared.tx.Tx.{Tx as Transaction};
 ghost use Rattle.nn_model.specs.Log.{counted};
 ghost use Rattle.nn_segment.specs.Segment.{first_txid};
@@ -67,6 +67,13 @@ impl Cursor {
         ensures { MatchOption result (self.now ≡ []) (λ tx. (rest : List Transaction) × (self.now ≡ tx.now ∷ rest)) }
     {
         self.txs.front()
+    }
+
+    /// How many transactions are in hand.
+    pub fn count(&self) -> usize
+        ensures { result ≡ length self.now }
+    {
+        self.txs.len()
     }
 
     /// Lets go of the first transaction in hand.

@@ -176,6 +176,14 @@ impl Standby {
         self.shadow.is_active()
     }
 
+    /// How many transactions are in hand: those of the segment that was begun and is not yet applied whole. A step of the
+    /// log asks its source only where none is.
+    pub fn in_hand(&self) -> usize
+        ensures { result ≡ length self.now.rest }
+    {
+        self.cursor.count()
+    }
+
     /// The ends of its lanes, DataNode 1 first.
     pub fn ends(&self) -> &[LaneEnd]
         ensures { result.now ≡ self.now.ends }

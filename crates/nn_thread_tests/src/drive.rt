@@ -70,21 +70,18 @@ const AT_ONCE: Driven = Driven {
     ..PLAIN
 };
 
-// The second segment is held back until the last transaction of the first one was applied: until a DataNode was asked for
-// its fifth report. Its lane holds two, so two of four were taken then, one a round, and each round has a step of the log
-// before it. The first segment waits until two reports lie there, so that none of these rounds finds the lane empty.
-const GATED_FEED: Driven = Driven {
-    name: "gated feed",
-    sources: 1,
-    reports: 6,
+// The second segment is held back until each of two DataNodes was asked for what comes behind its 1,003 reports. Its lane
+// holds two, so at least 1,001 of each were taken by then: a log that is slow keeps back no report.
+const SLOW_LOG: Driven = Driven {
+    name: "slow log",
+    reports: 1003,
     log: &[TWO_MARKS, TWO_MORE],
     pace: Pace {
         gates: 2,
-        asked: 3,
-        more: 2,
+        more: 2008,
         ..AT_ANY_TIME
     },
-    end: Ok((4, 6)),
+    end: Ok((4, 2006)),
     ..PLAIN
 };
 
@@ -100,19 +97,6 @@ const GATED_REPORTS: Driven = Driven {
     },
     end: Ok((2, 10)),
     came: 1,
-    ..PLAIN
-};
-
-// While the log holds the standby up, nothing is taken: so of each source no more is asked for than two reports that lie
-// in its lane and one in hand, and not all before the first is sent.
-const HELD_UP: Driven = Driven {
-    name: "held up",
-    reports: 5,
-    pace: Pace {
-        holds: 100_000,
-        ..AT_ANY_TIME
-    },
-    end: Ok((2, 10)),
     ..PLAIN
 };
 
@@ -171,9 +155,8 @@ const CLOSED_BEFORE: Driven = Driven {
 fn drives(rt: HostRuntime) {
     for driven in [
         AT_ONCE,
-        GATED_FEED,
+        SLOW_LOG,
         GATED_REPORTS,
-        HELD_UP,
         WORKERS_256,
         FAILS_AT_ONCE,
         FAILS_AT_ITS_END,
@@ -197,7 +180,6 @@ fn ends<R: Abort + Threads + Wait + Sync>(rt: &R, alloc: Global, driven: &Driven
     assert_eq!(rt; end, Some(driven.end), "{name}");
     assert_eq!(rt; shared.came.load(Ordering::SeqCst), driven.came, "{name}");
     assert_eq!(rt; shared.vain.load(Ordering::SeqCst), 0, "{name}");
-    assert!(rt; shared.asked_by_then.load(Ordering::SeqCst) <= 6, "{name}");
     assert_eq!(rt; Arc::strong_count(&shared), 1, "{name}");
 }
 

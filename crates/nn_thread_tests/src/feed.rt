@@ -380,6 +380,43 @@ fn run_for_nobody(rt: &impl Wait, alloc: Global, fails_at: u64) -> Option<bool> 
     }
 }
 
+// A look sees an answer that lies in the feed, that the last one was got, and that the feeder is gone. Else it sees nothing.
+#[test]
+fn looks_without_taking(rt: HostRuntime) {
+    assert_eq!(rt; looks(&rt, rt.alloc()), Some((false, true, false, true)));
+    assert_eq!(rt; looks_for_nobody(&rt, rt.alloc()), Some(true));
+}
+
+// Before a segment was put, behind that, once it was got, and once End was got.
+fn looks(rt: &impl Wait, alloc: Global) -> Option<(bool, bool, bool, bool)> {
+    let segment = a_segment(alloc)?;
+    let Ok((mut feeder, mut end)) = feed(rt, alloc) else {
+        return None;
+    };
+    let before = end.is_ready();
+    let put = number_of(feeder.put(rt, segment));
+    let behind = end.is_ready();
+    let got = is_end(&mut end);
+    let none_left = end.is_ready();
+    let put_end = number_of(feeder.put(rt, Item::End));
+    let got_end = is_end(&mut end);
+    let over = end.is_ready();
+    drop(feeder);
+    drop(end);
+    if put != 0 || put_end != 0 || got || !got_end {
+        return None;
+    }
+    Some((before, behind, none_left, over))
+}
+
+fn looks_for_nobody(rt: &impl Wait, alloc: Global) -> Option<bool> {
+    let Ok((feeder, end)) = feed(rt, alloc) else {
+        return None;
+    };
+    drop(feeder);
+    Some(end.is_ready())
+}
+
 // The other end of a feeder that is gone, and told nothing, gets what was put, and then no more.
 #[test]
 fn feeder_gone(rt: HostRuntime) {

@@ -9,7 +9,6 @@ use nn_types::Report;
 use std::alloc::Global;
 use std::sync::Arc;
 use std::sync::atomic::Ordering;
-use std::thread;
 use std::vec::IntoIter;
 
 /// Gives its segments in order and then its end, but fails once, after so many calls.
@@ -64,8 +63,6 @@ impl SegmentSource for FailsOnce {
 pub struct Pace {
     /// 1, or 0 for a log that is not counted among those that came.
     pub counts: u64,
-    /// The turns for which its first call holds up whoever asks.
-    pub holds: u64,
     /// How many its first call waits for.
     pub wanted: u64,
     /// So many of its calls wait until a thread was asked so often: the first for `asked`, and each for `more` more than
@@ -78,7 +75,6 @@ pub struct Pace {
 /// A log that waits for nothing.
 pub const AT_ANY_TIME: Pace = Pace {
     counts: 0,
-    holds: 0,
     wanted: 0,
     gates: 0,
     asked: 0,
@@ -127,30 +123,17 @@ impl SegmentSource for Watched {
 fn keep_pace(shared: &Shared, pace: Pace) -> Pace {
     shared.calls.fetch_add(1, Ordering::SeqCst);
     shared.came.fetch_add(pace.counts, Ordering::SeqCst);
-    if pace.holds > 0 {
-        hold_up(shared, pace.holds);
-    }
     shared.wait_for_all(pace.wanted);
     if pace.gates > 0 {
         shared.wait_until_asked(pace.asked);
     }
     Pace {
         counts: 0,
-        holds: 0,
         wanted: 0,
         gates: pace.gates.saturating_sub(1),
         asked: pace.asked.saturating_add(pace.more),
         more: pace.more,
     }
-}
-
-// Holds up whoever calls, and notes how often a thread was asked by then.
-fn hold_up(shared: &Shared, turns: u64) {
-    for _ in 0..turns {
-        thread::yield_now();
-    }
-    let asked = shared.asked.load(Ordering::SeqCst);
-    shared.asked_by_then.store(asked, Ordering::SeqCst);
 }
 
 /// Comes, waits until so many came, and then gives one report again and again.

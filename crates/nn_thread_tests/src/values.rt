@@ -68,8 +68,6 @@ pub struct Shared {
     pub asked: AtomicU64,
     /// A byte for each of the threads that came, in order of their numbers.
     pub places: AtomicU64,
-    /// And how often when a log that held its standby up let it go on.
-    pub asked_by_then: AtomicU64,
 }
 
 impl Shared {
@@ -82,7 +80,6 @@ impl Shared {
                 calls: AtomicU64::new(0),
                 asked: AtomicU64::new(0),
                 places: AtomicU64::new(0),
-                asked_by_then: AtomicU64::new(0),
             },
         );
         shared.ok()

@@ -11,7 +11,8 @@ use crate::send::send;
 use crossbeam_channel::bounded_with;
 use nn_segment::{Item, SegmentSource, SourceFault};
 use std::alloc::{AllocError, Global};
-use std::sync::Wait;
+use std::sync::atomic::{AtomicU64, Ordering};
+use std::sync::{Arc, Wait};
 use std::thread;
 
 // So many answers lie in a feed at most.
@@ -29,11 +30,14 @@ pub fn feed<'a, R: Wait>(rt: &'a R, alloc: Global) -> Result<(Feeder, FeedEnd<'a
         alloc, CAPACITY,
     )?;
     let other = sender.another::<Roles>(&mut pass);
+    let shown = Arc::new(alloc, AtomicU64::new(0))?;
+    let theirs = Arc::try_clone(&shown)?;
     let feeder = Feeder {
         sender,
         pass,
         count: 0,
         ended: false,
+        shown: theirs,
     };
     let end = FeedEnd {
         rt,
@@ -41,6 +45,8 @@ pub fn feed<'a, R: Wait>(rt: &'a R, alloc: Global) -> Result<(Feeder, FeedEnd<'a
         pass: other,
         ending: None,
         failures: 0,
+        count: 0,
+        shown,
     };
     Ok((feeder, end))
 }
@@ -115,6 +121,7 @@ impl Feeder {
             Ok(()) => {
                 self.count += 1;
                 self.ended = last;
+                self.shown.store(self.count, Ordering::SeqCst);
                 Ok(())
             }
             Err((back, failed)) => {
@@ -149,6 +156,16 @@ impl<'a, R: Wait> FeedEnd<'a, R> {
         self.ending.is_some()
     }
 
+    /// Whether `next` would answer at once, as far as this end sees: an answer lies in the feed, the source's last answer
+    /// was got, or the other end is gone. O(1); it takes nothing, and never waits.
+    ///
+    /// False says only that none was seen in this look: another one may see an answer that lay there before.
+    pub fn is_ready(&self) -> bool {
+        self.is_at_end()
+            || self.shown.load(Ordering::SeqCst) > self.count
+            || Arc::strong_count(&self.shown) < 2
+    }
+
     // The next answer, not counted where it is a fault.
     fn ask(&mut self) -> Result<Item, SourceFault>
         ensures gives { GivesWhatIsFed self.old result self.new }
@@ -165,6 +182,8 @@ impl<'a, R: Wait> FeedEnd<'a, R> {
             place: _place,
         } = message;
         self.ending = ended_by(&answer);
+        // A feed carries at most 2^60 segments and one answer more, so it never wraps. Nothing is proved of it.
+        self.count = self.count.wrapping_add(1);
         answer
     }
 }
@@ -205,6 +224,7 @@ pub fn meet<'a, R: Wait>(feeder: Feeder, end: FeedEnd<'a, R>)
         mut pass,
         count: _,
         ended: _,
+        shown: _,
     } = feeder;
     let FeedEnd {
         rt: _,
@@ -212,6 +232,8 @@ pub fn meet<'a, R: Wait>(feeder: Feeder, end: FeedEnd<'a, R>)
         pass: other,
         ending: _,
         failures: _,
+        count: _,
+        shown: _,
     } = end;
     sender.absorb::<Roles>(&mut pass, other);
     sender.learn_as::<Whole>(&mut pass);

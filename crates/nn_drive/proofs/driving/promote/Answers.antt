@@ -20,6 +20,13 @@ returns-in-Step-clause-err g c =
     let failed = subst (λ (f : PromoteFault). OnPromoteLogFault (Err f) (failures c.args.source.now < failures c.promote.new.source)) c.in-Step.is c.in-Err.ensures.failed in
     (p.0, p.1, ends_as g.T.SegmentSource.gives failures (Unit {0}) c.args.source.now c.promote.new.source c.args.standby.now p.0 c.in-Step.fault c.fault_of.result why.2 failed c.fault_of.ensures, c.in-Err.ensures.counted)
 
+-- a promotion that fails leaves the lanes, and the standby not promoted
+pub returns-in-Step-clause-stayed : goal.returns-in-Step-clause-stayed
+returns-in-Step-clause-stayed g c =
+    let p = c.in-Err.ensures.promotes in
+    let why = subst (NotPromoted c.args.standby.now p.0 c.promote.new.self) c.in-Step.is p.4 in
+    (p.0, p.1, record { carries = p.2; same_ends = p.3; active = why.0; settings = p.5 })
+
 pub unreachable-requires : goal.unreachable-requires
 unreachable-requires g c =
     let p = c.in-Err.ensures.promotes in

@@ -23,42 +23,42 @@ returns-then-not-all_started-clause-err g c =
 
 pub returns-in-Err-clause-same : goal.returns-in-Err-clause-same
 returns-in-Err-clause-same g c =
-    let e = c.engine.ensures.went in same_then c.args.end.now c.engine.new.source c.give_up-in-Err.new.end (same_asked c.args.end.now c.engine.new.source e.0 e.1) c.give_up-in-Err.ensures.same
+    let e = c.rotate.ensures.went in same_then c.args.end.now c.rotate.new.end c.give_up-in-Err.new.end (same_asked c.args.end.now c.rotate.new.end e.0 e.1) c.give_up-in-Err.ensures.same
 
 pub returns-in-Err-clause-err : goal.returns-in-Err-clause-err
 returns-in-Err-clause-err g c =
-    fails_over c.args.standby c.args.end.now c.engine.new.source c.give_up-in-Err.new.end (λ e. e.failures) c.in-Err.fault c.give_up-in-Err.result c.requires.serving c.in-Err.ensures.until
+    fails_over c.args.standby c.args.end.now c.rotate.new.end c.give_up-in-Err.new.end (λ e. e.failures) c.in-Err.fault c.give_up-in-Err.result c.requires.serving c.in-Err.ensures.until
     c.give_up-in-Err.ensures.known c.give_up-in-Err.ensures.more
 
 pub join_all-reporters-requires-clause-fit : goal.join_all-reporters-requires-clause-fit
 join_all-reporters-requires-clause-fit g c =
     let all : length c.args.workers.items ≤ length (vec_items c.start_all-handles.result) = omega (arith, c.if-not-all_started.ensures, c.len-count.ensures, c.len-started.ensures, c.args.workers.ok.0, c.start_all-handles.result.ok.0) in
-    let f = fit g.S.ReportSource.gives c.args.workers.items (vec_items c.start_all-handles.result) c.start_all-handles.ensures all c.args.standby c.engine.new.standby c.requires.lanes c.engine.ensures.went.0 c.engine.ensures.went.2 in
+    let f = fit g.S.ReportSource.gives c.args.workers.items (vec_items c.start_all-handles.result) c.start_all-handles.ensures all c.args.standby c.rotate.new.standby c.requires.lanes c.rotate.ensures.went.0 c.rotate.ensures.went.2 in
     subst (λ (es : List Taking). length (vec_items c.start_all-handles.result) ≤ length es) (sym c.ends.ensures) f
 
 pub returns-in-Err-promote-clause-same : goal.returns-in-Err-promote-clause-same
 returns-in-Err-promote-clause-same g c =
-    let e = c.engine.ensures.went in let p = c.in-Err-promote.ensures.err in
+    let e = c.rotate.ensures.went in let p = c.in-Err-promote.ensures.err in
     same_then c.args.end.now c.promote.new.source c.give_up-in-Err-promote.new.end
-    (same_then c.args.end.now c.engine.new.source c.promote.new.source (same_asked c.args.end.now c.engine.new.source e.0 e.1) (same_asked c.engine.new.source c.promote.new.source p.0 p.1))
+    (same_then c.args.end.now c.rotate.new.end c.promote.new.source (same_asked c.args.end.now c.rotate.new.end e.0 e.1) (same_asked c.rotate.new.end c.promote.new.source p.0 p.1))
     c.give_up-in-Err-promote.ensures.same
 
 pub returns-in-Err-promote-clause-err : goal.returns-in-Err-promote-clause-err
 returns-in-Err-promote-clause-err g c =
-    let e = c.engine.ensures.went in
+    let e = c.rotate.ensures.went in
     let x0 = c.args.standby in
     let x2 = c.close_intake.new.self in
-    let carries : Carries x0 e.0 x2 = subst (λ rs. Carries x0 rs x2) (append-nil e.0) (carries_then x0 c.engine.new.standby x2 e.0 [] e.2.carries c.close_intake.ensures.carries) in
+    let carries : Carries x0 e.0 x2 = subst (λ rs. Carries x0 rs x2) (append-nil e.0) (carries_then x0 c.rotate.new.standby x2 e.0 [] e.2.carries c.close_intake.ensures.carries) in
     let begun : has_begun x2 ≡ false = ap has_begun c.close_intake.ensures.rest ∙ e.2.begun ∙ c.requires.serving in
-    let until = until_then GivesWhatIsFed (λ e. e.failures) c.args.end.now c.engine.new.source c.promote.new.source x0 x2 e.0 c.in-Err-promote.fault e.1 carries begun e.3 c.in-Err-promote.ensures.err in
+    let until = until_then GivesWhatIsFed (λ e. e.failures) c.args.end.now c.rotate.new.end c.promote.new.source x0 x2 e.0 c.in-Err-promote.fault e.1 carries begun e.3 c.in-Err-promote.ensures.err in
     fails_over x0 c.args.end.now c.promote.new.source c.give_up-in-Err-promote.new.end (λ e. e.failures) c.in-Err-promote.fault c.give_up-in-Err-promote.result c.requires.serving until
     c.give_up-in-Err-promote.ensures.known c.give_up-in-Err-promote.ensures.more
 
 pub meet_all-requires : goal.meet_all-requires
 meet_all-requires g c =
     let gives = g.S.ReportSource.gives in let workers = c.args.workers.items in let handles = vec_items c.start_all-handles.result in
-    let x0 = c.args.standby in let x1 = c.engine.new.standby in
-    let e = c.engine.ensures.went in let parts = c.into_parts-shadow.ensures in
+    let x0 = c.args.standby in let x1 = c.rotate.new.standby in
+    let e = c.rotate.ensures.went in let parts = c.into_parts-shadow.ensures in
     let reporters = c.join_all-reporters.result.0.items in let told = c.join_all-reporters.result.1 in
     let all : length c.args.workers.items ≤ length (vec_items c.start_all-handles.result) = omega (arith, c.if-not-all_started.ensures, c.len-count.ensures, c.len-started.ensures, c.args.workers.ok.0, c.start_all-handles.result.ok.0) in
     let joins : JoinsAll gives handles x1.ends reporters told = subst (λ (es : List Taking). JoinsAll gives handles es reporters told) c.ends.ensures c.join_all-reporters.ensures in
@@ -69,8 +69,8 @@ meet_all-requires g c =
 pub unreachable-requires : goal.unreachable-requires
 unreachable-requires g c =
     let gives = g.S.ReportSource.gives in let workers = c.args.workers.items in let handles = vec_items c.start_all-handles.result in
-    let x0 = c.args.standby in let x1 = c.engine.new.standby in
-    let e = c.engine.ensures.went in let parts = c.into_parts-shadow.ensures in
+    let x0 = c.args.standby in let x1 = c.rotate.new.standby in
+    let e = c.rotate.ensures.went in let parts = c.into_parts-shadow.ensures in
     let reporters = c.join_all-reporters.result.0.items in let told = c.join_all-reporters.result.1 in
     let all : length c.args.workers.items ≤ length (vec_items c.start_all-handles.result) = omega (arith, c.if-not-all_started.ensures, c.len-count.ensures, c.len-started.ensures, c.args.workers.ok.0, c.start_all-handles.result.ok.0) in
     let joins : JoinsAll gives handles x1.ends reporters told = subst (λ (es : List Taking). JoinsAll gives handles es reporters told) c.ends.ensures c.join_all-reporters.ensures in
@@ -80,8 +80,8 @@ unreachable-requires g c =
 pub meet_all-requires-2 : goal.meet_all-requires-2
 meet_all-requires-2 g c =
     let gives = g.S.ReportSource.gives in let workers = c.args.workers.items in let handles = vec_items c.start_all-handles.result in
-    let x0 = c.args.standby in let x1 = c.engine.new.standby in let x2 = c.close_intake.new.self in let x3 = c.promote.new.standby in
-    let e = c.engine.ensures.went in let p = c.in-Ok.ensures.ok in let parts = c.into_parts-shadow-2.ensures in
+    let x0 = c.args.standby in let x1 = c.rotate.new.standby in let x2 = c.close_intake.new.self in let x3 = c.promote.new.standby in
+    let e = c.rotate.ensures.went in let p = c.in-Ok.ensures.ok in let parts = c.into_parts-shadow-2.ensures in
     let reporters = c.join_all-reporters.result.0.items in let told = c.join_all-reporters.result.1 in
     let all : length c.args.workers.items ≤ length (vec_items c.start_all-handles.result) = omega (arith, c.if-not-all_started.ensures, c.len-count.ensures, c.len-started.ensures, c.args.workers.ok.0, c.start_all-handles.result.ok.0) in
     let joins : JoinsAll gives handles x1.ends reporters told = subst (λ (es : List Taking). JoinsAll gives handles es reporters told) c.ends.ensures c.join_all-reporters.ensures in
@@ -90,21 +90,21 @@ meet_all-requires-2 g c =
 
 pub returns-clause-same : goal.returns-clause-same
 returns-clause-same g c =
-    let e = c.engine.ensures.went in let p = c.in-Ok.ensures.ok in
-    same_then c.args.end.now c.engine.new.source c.promote.new.source (same_asked c.args.end.now c.engine.new.source e.0 e.1) (same_asked c.engine.new.source c.promote.new.source p.0 p.1)
+    let e = c.rotate.ensures.went in let p = c.in-Ok.ensures.ok in
+    same_then c.args.end.now c.rotate.new.end c.promote.new.source (same_asked c.args.end.now c.rotate.new.end e.0 e.1) (same_asked c.rotate.new.end c.promote.new.source p.0 p.1)
 
 pub returns-clause-ok : goal.returns-clause-ok
 returns-clause-ok g c =
     let gives = g.S.ReportSource.gives in let workers = c.args.workers.items in let handles = vec_items c.start_all-handles.result in
-    let x0 = c.args.standby in let x1 = c.engine.new.standby in let x2 = c.close_intake.new.self in let x3 = c.promote.new.standby in
-    let e = c.engine.ensures.went in let p = c.in-Ok.ensures.ok in let parts = c.into_parts-shadow-2.ensures in
+    let x0 = c.args.standby in let x1 = c.rotate.new.standby in let x2 = c.close_intake.new.self in let x3 = c.promote.new.standby in
+    let e = c.rotate.ensures.went in let p = c.in-Ok.ensures.ok in let parts = c.into_parts-shadow-2.ensures in
     let reporters = c.join_all-reporters.result.0.items in let told = c.join_all-reporters.result.1 in
     let all : length c.args.workers.items ≤ length (vec_items c.start_all-handles.result) = omega (arith, c.if-not-all_started.ensures, c.len-count.ensures, c.len-started.ensures, c.args.workers.ok.0, c.start_all-handles.result.ok.0) in
     let joins : JoinsAll gives handles x1.ends reporters told = subst (λ (es : List Taking). JoinsAll gives handles es reporters told) c.ends.ensures c.join_all-reporters.ensures in
     let agree = subst (λ (es : List Taking). AllZip Agrees es reporters) parts.1 c.meet_all-2.ensures in
     record {
       answers = e.0 ++ p.0;
-      asked = asked_append GivesWhatIsFed c.args.end.now c.engine.new.source c.promote.new.source e.0 p.0 e.1 p.1;
+      asked = asked_append GivesWhatIsFed c.args.end.now c.rotate.new.end c.promote.new.source e.0 p.0 e.1 p.1;
       ended = ends_behind e.0 p.0 p.7;
       last = p.3.0 ∙ ap (λ (z : Contents). z.last) (sym parts.0);
       flushed = p.3.1 ∙ ap (λ (z : Contents). count_by is_flush z.history) (sym parts.0);

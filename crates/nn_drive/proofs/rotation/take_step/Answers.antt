@@ -1,5 +1,5 @@
 use Rattle.nn_drive.proofs.Steps.{step_may_come, one_step, one_fault}
-use Rattle.nn_drive.proofs.driving.take_step.Goals as goal
+use Rattle.nn_drive.proofs.rotation.take_step.Goals as goal
 
 pub fault_of-requires : goal.fault_of-requires
 fault_of-requires g c =

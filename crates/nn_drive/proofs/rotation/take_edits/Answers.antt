@@ -1,0 +1,24 @@
+use Rattle.std.proofs.Common.{◌∙◌}
+use Rattle.nn_feed.specs.Ends.{GivesWhatIsFed}
+use Rattle.nn_drive.specs.Feeding.{failures_of}
+use Rattle.nn_drive.proofs.Steps.{went_nowhere, went_on, went_until}
+use Rattle.nn_drive.proofs.rotation.take_edits.Goals as goal
+
+pub loop-taken-init : goal.loop-taken-init
+loop-taken-init g c = went_nowhere GivesWhatIsFed failures_of c.args.end.now c.args.standby.now
+
+pub take_step-requires-clause-serving : goal.take_step-requires-clause-serving
+take_step-requires-clause-serving g c = c.loop-taken.invariant.2.begun ∙ c.requires
+
+pub returns-in-Err-clause-went : goal.returns-in-Err-clause-went
+returns-in-Err-clause-went g c = went_on GivesWhatIsFed failures_of c.args.end.now c.loop-taken.end c.take_step.new.source c.args.standby.now c.loop-taken.standby c.take_step.new.standby c.loop-taken.invariant c.take_step.ensures.went
+
+pub returns-in-Err-clause-until : goal.returns-in-Err-clause-until
+returns-in-Err-clause-until g c =
+    went_until GivesWhatIsFed failures_of c.args.end.now c.loop-taken.end c.take_step.new.source c.args.standby.now c.loop-taken.standby c.in-Err.fault c.requires c.loop-taken.invariant c.in-Err.ensures.until
+
+pub returns-then-not-has_come-clause-went : goal.returns-then-not-has_come-clause-went
+returns-then-not-has_come-clause-went g c = went_on GivesWhatIsFed failures_of c.args.end.now c.loop-taken.end c.take_step.new.source c.args.standby.now c.loop-taken.standby c.take_step.new.standby c.loop-taken.invariant c.take_step.ensures.went
+
+pub loop-taken-preserved : goal.loop-taken-preserved
+loop-taken-preserved g c = went_on GivesWhatIsFed failures_of c.args.end.now c.loop-taken.end c.take_step.new.source c.args.standby.now c.loop-taken.standby c.take_step.new.standby c.loop-taken.invariant c.take_step.ensures.went

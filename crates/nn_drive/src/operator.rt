@@ -1,0 +1,45 @@
+//! Who is asked at each rotation whether the standby goes on, or is promoted.
+ghost use Rattle.std.specs.Prelude.{ℕ};
+ghost use Rattle.nn_tailer.specs.Tailing.{Tailer};
+ghost use Rattle.nn_drive.specs.declared.operator.Wish.{Wish as Wished};
+
+use nn_tailer::Standby;
+
+/// What an operator wishes.
+#[derive(Clone, Copy, Debug, PartialEq, Eq)]
+pub enum Wish {
+    /// That the standby goes on.
+    GoOn,
+    /// That it is promoted now.
+    Promote,
+}
+
+/// Is asked once each rotation, and lent the standby: it may look at all that this shows, and write a checkpoint with a
+/// writer of its own. The standby does nothing while it is asked.
+pub trait Operator {
+    /// `asks o x n w p`: an `ask` of an operator in the state o about the standby x, while n workers were counted as
+    /// running, may answer w and leave it in the state p.
+    ghost asks: { Self → Tailer → ℕ → Wished → Self → Type 0 };
+
+    /// What it wishes now. `running` is how many workers were not yet seen to have ended.
+    fn ask(&mut self, standby: &Standby, running: usize) -> Wish
+        ensures { asks self.old standby.now running result self.new };
+}
+
+/// Wishes a promotion once no worker runs any more.
+#[derive(Clone, Copy)]
+pub struct Unattended;
+
+impl Operator for Unattended {
+    ghost use Rattle.std.specs.Prelude.{◌≡◌};
+    ghost use Rattle.nn_drive.specs.declared.operator.Wish.TheVariants.{Promote};
+
+    ghost asks = { λ o x n w p. w ≡ Promote → n ≡ 0 };
+
+    fn ask(&mut self, _standby: &Standby, running: usize) -> Wish {
+        if running == 0 {
+            return Wish::Promote;
+        }
+        Wish::GoOn
+    }
+}

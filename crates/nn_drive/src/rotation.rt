@@ -1,0 +1,201 @@
+//! The rotation of a standby: its log and its lanes in turn, until its operator wishes a promotion.
+ghost use Rattle.std.specs.Prelude.{◌≡◌, true, false, IfOk, IfErr};
+ghost use Rattle.nn_feed.specs.Ends.{GivesWhatIsFed};
+ghost use Rattle.nn_tailer.specs.Refusals.{has_place};
+ghost use Rattle.nn_tailer.specs.Tailing.{has_begun};
+ghost use Rattle.nn_tailer.specs.declared.standby.Choice.TheVariants.{Lane};
+ghost use Rattle.nn_drive.specs.Driven.{Went, WentUntil};
+ghost use Rattle.nn_drive.specs.Feeding.{failures_of};
+ghost use Rattle.nn_drive.specs.Refusals.{MayCome, IsSameFault};
+ghost use Rattle.nn_drive.specs.Serving.{WishesAt};
+
+use crate::driving::DriveFault;
+use crate::operator::{Operator, Wish};
+use crate::waiting::Waiting;
+use nn_feed::FeedEnd;
+use nn_segment::SegmentSource;
+use nn_tailer::{Choice, Standby, StepFault, Stepped};
+use std::sync::Wait;
+use std::sync::atomic::{AtomicU64, Ordering};
+
+// The fault of a standby that serves, at a lane that it has.
+pub(crate) fn fault_of(fault: StepFault) -> DriveFault
+    requires { MayCome fault }
+    ensures { IsSameFault fault result }
+{
+    match fault {
+        StepFault::Stopped(stop) => DriveFault::Stopped(stop),
+        StepFault::LogNotEnded(fault) => DriveFault::LogNotEnded(fault),
+        StepFault::OutOfMemory => DriveFault::OutOfMemory,
+        StepFault::AlreadyActive => unreachable!(),
+        StepFault::BadLane => unreachable!(),
+    }
+}
+
+// Whether a step brought something: a transaction, a segment that was passed over, or a message.
+fn brings(stepped: Stepped) -> bool {
+    match stepped {
+        Stepped::Applied { .. } | Stepped::Passed | Stepped::Handed { .. } => true,
+        Stepped::LogEnded | Stepped::Empty { .. } => false,
+    }
+}
+
+// A step, and whether it brought something.
+fn take_step<T: SegmentSource>(
+    standby: &mut Standby,
+    source: &mut T,
+    choice: Choice,
+) -> Result<bool, DriveFault>
+    requires serving { has_begun standby.old ≡ false }
+    requires place { has_place standby.old choice ≡ true }
+    ensures went { Went T.gives T.failures source.old standby.old source.new standby.new }
+    ensures until { IfErr result (λ fault. WentUntil T.gives T.failures source.old standby.old source.new fault) }
+{
+    match standby.step(source, choice) {
+        Ok(stepped) => Ok(brings(stepped)),
+        Err(fault) => Err(fault_of(fault)),
+    }
+}
+
+// Takes from the lane of this DataNode until it is empty, or until so many messages came. Answers how many came.
+fn take_messages<T: SegmentSource>(
+    standby: &mut Standby,
+    source: &mut T,
+    dn: u16,
+    most: usize,
+) -> Result<usize, DriveFault>
+    requires serving { has_begun standby.old ≡ false }
+    requires place { has_place standby.old (Lane dn) ≡ true }
+    ensures went { Went T.gives T.failures source.old standby.old source.new standby.new }
+    ensures until { IfErr result (λ fault. WentUntil T.gives T.failures source.old standby.old source.new fault) }
+{
+    for taken in 0..most {
+        let has_come = match take_step(standby, source, Choice::Lane(dn)) {
+            Ok(has_come) => has_come,
+            Err(fault) => return Err(fault),
+        };
+        if !has_come {
+            return Ok(taken);
+        }
+    }
+    Ok(most)
+}
+
+// Whether a step of the log would not wait for its source.
+fn is_at_hand<'a, R: Wait>(standby: &Standby, end: &FeedEnd<'a, R>) -> bool {
+    standby.in_hand() > 0 || end.is_ready()
+}
+
+// Makes so many steps of the log at most, while they need not wait for its source. Answers how many brought something.
+fn take_edits<'a, R: Wait>(
+    standby: &mut Standby,
+    end: &mut FeedEnd<'a, R>,
+    most: usize,
+) -> Result<usize, DriveFault>
+    requires { has_begun standby.old ≡ false }
+    ensures went { Went GivesWhatIsFed failures_of end.old standby.old end.new standby.new }
+    ensures until { IfErr result (λ fault. WentUntil GivesWhatIsFed failures_of end.old standby.old end.new fault) }
+{
+    for taken in 0..most {
+        if !is_at_hand(standby, end) {
+            return Ok(taken);
+        }
+        let has_come = match take_step(standby, end, Choice::Edit) {
+            Ok(has_come) => has_come,
+            Err(fault) => return Err(fault),
+        };
+        if !has_come {
+            return Ok(taken);
+        }
+    }
+    Ok(most)
+}
+
+// Each lane in turn, and behind it as many steps of the log, at most, as the lane gave messages. Answers how many messages
+// came.
+fn take_lanes<'a, R: Wait>(
+    standby: &mut Standby,
+    end: &mut FeedEnd<'a, R>,
+) -> Result<usize, DriveFault>
+    requires { has_begun standby.old ≡ false }
+    ensures went { Went GivesWhatIsFed failures_of end.old standby.old end.new standby.new }
+    ensures until { IfErr result (λ fault. WentUntil GivesWhatIsFed failures_of end.old standby.old end.new fault) }
+{
+    let lanes = standby.lanes();
+    let mut came = 0usize;
+    for i in 0..lanes {
+        let most = standby.ends()[i].capacity();
+        let taken = match take_messages(standby, end, (i + 1) as u16, most) {
+            Ok(taken) => taken,
+            Err(fault) => return Err(fault),
+        };
+        if let Err(fault) = take_edits(standby, end, taken) {
+            return Err(fault);
+        }
+        came = came.saturating_add(taken);
+    }
+    Ok(came)
+}
+
+// One rotation: a step of the log for each lane, at most, and then the lanes. Answers whether anything came.
+fn take_round<'a, R: Wait>(
+    standby: &mut Standby,
+    end: &mut FeedEnd<'a, R>,
+) -> Result<bool, DriveFault>
+    requires { has_begun standby.old ≡ false }
+    ensures went { Went GivesWhatIsFed failures_of end.old standby.old end.new standby.new }
+    ensures until { IfErr result (λ fault. WentUntil GivesWhatIsFed failures_of end.old standby.old end.new fault) }
+{
+    let lanes = standby.lanes();
+    let edits = match take_edits(standby, end, lanes) {
+        Ok(edits) => edits,
+        Err(fault) => return Err(fault),
+    };
+    let messages = match take_lanes(standby, end) {
+        Ok(messages) => messages,
+        Err(fault) => return Err(fault),
+    };
+    Ok(edits.max(messages) > 0)
+}
+
+// How many workers were not yet seen to have ended.
+fn still_running(started: usize, ended: &AtomicU64) -> usize {
+    let ended = ended.load(Ordering::SeqCst) as usize;
+    started.saturating_sub(ended)
+}
+
+/// Rotations, until the operator wishes a promotion. It is asked before each one.
+///
+/// A rotation begins with at most as many steps of the log as there are lanes. Then it visits each lane, and takes from it
+/// until it is empty or gave as many messages as it holds; and after each lane it makes at most as many steps of the log as
+/// the lane gave messages. So a lane that is never empty keeps back neither the log nor another lane, and a log that is
+/// always ready keeps back no lane. The log is left alone while no transaction is in hand and nothing lies in its feed: a
+/// slow source keeps back no message. Where a whole rotation brought nothing, it waits, and longer each time.
+pub(crate) fn rotate<'a, O: Operator, R: Wait>(
+    rt: &R,
+    standby: &mut Standby,
+    end: &mut FeedEnd<'a, R>,
+    operator: &mut O,
+    ended: &AtomicU64,
+    started: usize,
+) -> Result<(), DriveFault>
+    requires { has_begun standby.old ≡ false }
+    ensures went { Went GivesWhatIsFed failures_of end.old standby.old end.new standby.new }
+    ensures wished { IfOk result (λ _. WishesAt O.asks operator.old standby.new operator.new) }
+    ensures until { IfErr result (λ fault. WentUntil GivesWhatIsFed failures_of end.old standby.old end.new fault) }
+{
+    let mut waiting = Waiting::new();
+    for _ in rt.forever() {
+        let running = still_running(started, ended);
+        match operator.ask(standby, running) {
+            Wish::Promote => return Ok(()),
+            Wish::GoOn => {}
+        }
+        let has_come = match take_round(standby, end) {
+            Ok(has_come) => has_come,
+            Err(fault) => return Err(fault),
+        };
+        waiting.wait_unless(rt, has_come);
+    }
+    unreachable!()
+}

@@ -10,4 +10,6 @@ pub mod DriveRows
 pub mod DriveLaws
 pub mod LawRows
 pub mod Serving
+pub mod Served
+pub mod ServeLaws
 pub mod ServingRows

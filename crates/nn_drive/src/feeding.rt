@@ -10,6 +10,7 @@ use nn_feed::{Began, FeedEnd, Feeder, Ran, Told, meet, run_thread};
 use nn_segment::{Item, SegmentSource};
 use std::snapshot::Snapshot;
 use std::sync::Wait;
+use std::thread;
 use std::thread::{PromisedHandle, Scope, Threads};
 
 // The feeder on a thread of the scope.
@@ -26,6 +27,21 @@ pub(crate) fn start_feeder<'s, E, T: SegmentSource + Send + Drop + 's, R: Wait +
         ensures { HasRun T.gives T.failures source feeder result }
     { run_thread(rt, source, feeder) };
     scope.spawn_with(promise, run).ok()
+}
+
+// The feeder on a thread of its own, which no scope waits for.
+pub(crate) fn start_feeder_alone<
+    T: SegmentSource + Send + Drop + 'static,
+    R: Threads + Wait + Copy + Send + Drop + 'static,
+>(rt: &R, source: T, feeder: Feeder) -> Option<PromisedHandle<Ran<T>, Began<T>>>
+    ensures { IfSome result (λ h. (h.promise.0.value ≡ source) × (h.promise.1.value ≡ feeder)) }
+{
+    let promise = Began(Snapshot::of(&source), Snapshot::of(&feeder));
+    let own = *rt;
+    let run = move || -> Ran<T>
+        ensures { HasRun T.gives T.failures source feeder result }
+    { run_thread(&own, source, feeder) };
+    thread::spawn_with(rt, promise, run).ok()
 }
 
 // Receives one answer more, or the last one again. False says that none will come.

@@ -1,4 +1,4 @@
-use Rattle.std.proofs.Common.{◌≡◌, ◌<◌, List, length, arith, subst, sym, ◌∙◌}
+use Rattle.std.proofs.Common.{◌<◌, List, length, arith, subst, sym, ◌∙◌}
 use Rattle.nn_lane.specs.Ends.{Taking}
 use Rattle.nn_tailer.proofs.Drained.{same_length}
 use Rattle.nn_feed.specs.Ends.{GivesWhatIsFed}

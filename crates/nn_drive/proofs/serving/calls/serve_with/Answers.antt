@@ -1,0 +1,49 @@
+use Rattle.std.specs.Prelude.{vec_items, length}
+use Rattle.std.specs.List.{AllZip}
+use Rattle.std.proofs.Common.{◌≤◌, List, arith, inr, refl, sym, ◌∙◌, subst}
+use Rattle.nn_feed.specs.Ends.{got_by}
+use Rattle.nn_lane.specs.Ends.{Taking}
+use Rattle.nn_drive.specs.Serving.{IsOf}
+use Rattle.nn_drive.proofs.Fed.{not_met}
+use Rattle.nn_drive.proofs.Serves.{are_of, served}
+use Rattle.nn_drive.proofs.serving.calls.serve_with.Goals as goal
+
+pub end_feed-requires-clause-one_feed : goal.end_feed-requires-clause-one_feed
+end_feed-requires-clause-one_feed g c = c.serve_over.ensures.same ∙ c.args.feeding.one_feed
+
+pub end_feed-requires-clause-new : goal.end_feed-requires-clause-new
+end_feed-requires-clause-new g c = c.args.feeding.new
+
+pub returns-in-Err-clause-err : goal.returns-in-Err-clause-err
+returns-in-Err-clause-err g c = record {
+  started = c.start_all_alone-handles.ensures;
+  why = (refl, (c.args.feeding.end, c.requires.new, c.in-Err.ensures.err));
+  back = (c.args.feeding.end, c.requires.new, c.in-Err.ensures.back);
+}
+
+pub returns-then-not-end_feed-clause-err : goal.returns-then-not-end_feed-clause-err
+returns-then-not-end_feed-clause-err g c =
+    let d = c.in-Ok.ensures.ok in record {
+      started = c.start_all_alone-handles.ensures;
+      why = not_met g.T.SegmentSource.gives g.T.SegmentSource.failures c.args.feeding.handle.promise.0.value c.args.standby (got_by c.serve_over.new.end) c.end_feed.result c.end_feed.ensures;
+      back = inr (refl, (d.answers, d.ended, d.promoted, d.lanes, d.closed));
+    }
+
+pub pair-workers-requires-clause-own : goal.pair-workers-requires-clause-own
+pair-workers-requires-clause-own g c =
+    let workers = c.args.workers.items in let handles = vec_items c.start_all_alone-handles.result in
+    let d = c.in-Ok.ensures.ok in
+    let all : length workers ≤ length handles = omega (arith, c.in-Ok.ensures.started, c.len-count.ensures, c.len-started.ensures, c.args.workers.ok.0, c.start_all_alone-handles.result.ok.0) in
+    subst (λ (es : List Taking). AllZip IsOf es handles) (sym c.into_parts-shadow.ensures.1)
+    (are_of workers handles c.start_all_alone-handles.ensures all c.args.standby.ends c.serve_over.new.standby.ends c.requires.lanes d.lanes d.closed)
+
+pub pair-workers-requires-clause-room : goal.pair-workers-requires-clause-room
+pair-workers-requires-clause-room g c = omega (arith, c.start_all_alone-handles.ensures.0, c.requires.room)
+
+pub returns-clause-ok : goal.returns-clause-ok
+returns-clause-ok g c =
+    let workers = c.args.workers.items in let handles = vec_items c.start_all_alone-handles.result in
+    let all : length workers ≤ length handles = omega (arith, c.in-Ok.ensures.started, c.len-count.ensures, c.len-started.ensures, c.args.workers.ok.0, c.start_all_alone-handles.result.ok.0) in
+    served g.O.Operator.asks g.T.SegmentSource.gives g.T.SegmentSource.failures c.args.standby c.args.feeding.handle.promise.0.value workers c.args.operator.now c.serve_over.new.operator c.args.feeding.end c.serve_over.new.end c.requires.new
+    c.end_feed.result c.if-not-end_feed.false c.end_feed.ensures c.in-Ok.active c.serve_over.new.standby c.in-Ok.ensures.ok handles c.start_all_alone-handles.ensures all
+    _ refl c.into_parts-shadow.ensures.0 _ c.into_parts-shadow.ensures.1 c.pair-workers.ensures

@@ -1,0 +1,134 @@
+-- What a standby in service hands back: promoted, or for a fault.
+use Rattle.std.specs.Prelude.{◌≡◌, ◌≤◌, ◌⊎◌, ℕ, Option, None, Result, MatchOption, MatchResult, List, [], ◌∷◌, ◌++◌, length, map, count_by}
+use Rattle.std.specs.declared.thread.PromisedHandle.{PromisedHandle}
+use Rattle.nn_types.specs.declared.report.Report.{Report}
+use Rattle.nn_feed.specs.Ends.{GivesWhatIsFed, got_by}
+use Rattle.nn_feed.specs.declared.ends.FeedEnd.{FeedEnd}
+use Rattle.nn_lane.specs.Ends.{Reporting, Taking, lane_of, counted, StartsWith}
+use Rattle.nn_model.specs.History.{is_flush}
+use Rattle.nn_model.specs.Namespace.{Namespace}
+use Rattle.nn_segment.specs.Segment.{Segment}
+use Rattle.nn_segment.specs.Source.{Answer, Asked, given, end}
+use Rattle.nn_shadow.specs.Contents.{KeepsSettings}
+use Rattle.nn_tailer.specs.LaneSteps.{SameEnds, AllClosed}
+use Rattle.nn_tailer.specs.Promotion.{IsPromoted}
+use Rattle.nn_tailer.specs.Tailing.{has_begun, Tailer, StandsAt, Carries, EndsInEnd}
+use Rattle.nn_tailer.specs.declared.standby.Active.{Active}
+use Rattle.nn_drive.specs.Driven.{HasReported, ArePromised, NotDriven}
+use Rattle.nn_drive.specs.Feeding.{FailsOver}
+use Rattle.nn_drive.specs.Serving.{WasWished, IsDry, IsPromotedAt}
+use Rattle.nn_drive.specs.declared.driving.DriveFault.{DriveFault}
+use Rattle.nn_drive.specs.declared.driving.DriveFault.TheVariants as drive
+use Rattle.nn_drive.specs.declared.driving.Reports.{Reports}
+use Rattle.nn_drive.specs.declared.driving.Worked.{Worked}
+use Rattle.nn_drive.specs.declared.operator.Wish.{Wish}
+use Rattle.nn_drive.specs.declared.serving.Feeding.{Feeding}
+use Rattle.nn_drive.specs.declared.serving.Left.{Left}
+use Rattle.nn_drive.specs.declared.serving.Running.{Running}
+use Rattle.nn_drive.specs.declared.serving.Served.{Served}
+use Rattle.nn_drive.specs.declared.serving.Unserved.{Unserved}
+
+-- ---- Workers that may still run.
+
+-- the end of the lane of a worker that may still run, and the handle of its thread
+abbrev pub end_of : {S : Type 0} → Running S → Taking
+end_of r = r.end
+
+abbrev pub handle_of : {S : Type 0} → Running S → PromisedHandle (Worked S) (Reports S)
+handle_of r = r.handle
+
+-- each end with its handle, in order
+abbrev pub ArePaired : {S : Type 0} → List Taking → List (PromisedHandle (Worked S) (Reports S)) → List (Running S) → Type 0
+ArePaired ends handles paired = (map end_of paired ≡ ends) × (map handle_of paired ≡ handles)
+
+-- worker i runs on the thread at handle i, also after the promotion
+abbrev pub StillRun : {S : Type 0} → List (S × Reporting) → List (Running S) → Type 0
+StillRun workers running = (length running ≡ length workers) × ArePromised workers (map handle_of running)
+
+-- The worker's thread has ended. Its reporter was answered Ok to what its source gave, in order, up to None or a report that was refused. The close
+-- counted all of that; what was taken comes first of it, and is all of it where the lane is dry
+pub record HasLeft {S : Type 0} (gives : S → Option Report → S → Type 0) (r : Running S) (l : Left S) : Type 0 where
+  pub worked : Worked S
+  pub reported : HasReported gives r.handle.promise.0.value r.handle.promise.1.value worked
+  pub front : StartsWith worked.reporter.sent r.end.got
+  pub counts : counted r.end ≡ length worked.reporter.sent
+  pub all : IsDry r.end → r.end.got ≡ worked.reporter.sent
+  pub source : l.source ≡ worked.source
+  pub outcome : l.outcome ≡ worked.outcome
+  pub accepted : l.met.accepted ≡ length worked.reporter.sent
+  pub taken : l.met.taken ≡ length r.end.got
+
+-- ---- A promotion.
+
+-- A run over the end of a feed promoted its standby, at a wish of its operator. Each lane is closed
+pub record PromotesOver {O R : Type 0} (asks : O → Tailer → ℕ → Wish → O → Type 0) (old : Tailer) (begin : FeedEnd R) (o : O) (active : Active) (new : Tailer) (after : FeedEnd R) (p : O) : Type 0 where
+  pub answers : List Answer
+  pub asked : Asked GivesWhatIsFed begin answers after
+  pub ended : EndsInEnd answers
+  pub last : active.last ≡ new.shadow.last
+  pub flushed : active.flushed ≡ count_by is_flush new.shadow.history
+  pub settings : KeepsSettings old.shadow new.shadow
+  pub wished : WasWished asks old o p
+  pub lanes : map lane_of new.ends ≡ map lane_of old.ends
+  pub closed : AllClosed new.ends
+  pub promoted : IsPromoted old answers new
+
+-- The standby was promoted, at a wish of its operator: it is at the whole log of its source, which gave segments and then End, and was
+-- not asked again. Each lane is closed, and all that it accepted was processed. Its workers may still run
+pub record IsServed {O T S : Type 0} (asks : O → Tailer → ℕ → Wish → O → Type 0) (gives : T → Answer → T → Type 0) (failures : T → ℕ) (old : Tailer) (source : T) (workers : List (S × Reporting)) (o p : O) (r : Served S) : Type 0 where
+  pub answers : List Answer
+  pub after : T
+  pub asked : Asked gives source answers after
+  pub not_fewer : failures source ≤ failures after
+  pub segments : List Segment
+  pub are : answers ≡ map given segments ++ end ∷ []
+  pub last : r.active.last ≡ r.shadow.last
+  pub flushed : r.active.flushed ≡ count_by is_flush r.shadow.history
+  pub settings : KeepsSettings old.shadow r.shadow
+  pub wished : WasWished asks old o p
+  pub run : StillRun workers r.workers.items
+  pub promoted : (start : Namespace) (base : ℕ) (given : List Answer) → StandsAt start base given old → IsPromotedAt start base (given ++ answers) (map end_of r.workers.items) r.shadow
+
+-- ---- A fault.
+
+-- a standby that went on with these answers, over the same lanes
+pub record GoesWith (old : Tailer) (answers : List Answer) (new : Tailer) : Type 0 where
+  pub carries : Carries old answers new
+  pub lanes : map lane_of new.ends ≡ map lane_of old.ends
+  pub settings : KeepsSettings old.shadow new.shadow
+
+-- Its lanes are as open as they were, and its flush has begun only if it had before. Or its operator wished a promotion, and they are closed
+abbrev pub OpenOrWished : {O : Type 0} → (O → Tailer → ℕ → Wish → O → Type 0) → Tailer → O → O → Tailer → Type 0
+OpenOrWished asks old o p new = (SameEnds old.ends new.ends × (has_begun new ≡ has_begun old)) ⊎ (AllClosed new.ends × WasWished asks old o p)
+
+-- The standby comes back with all that was got of the feed. It was not promoted
+pub record ComesBack {O R : Type 0} (asks : O → Tailer → ℕ → Wish → O → Type 0) (old : Tailer) (begin : FeedEnd R) (o : O) (new : Tailer) (after : FeedEnd R) (p : O) : Type 0 where
+  pub answers : List Answer
+  pub asked : Asked GivesWhatIsFed begin answers after
+  pub goes : GoesWith old answers new
+  pub intake : OpenOrWished asks old o p new
+  pub not_promoted : new.active ≡ old.active
+
+-- no thread was started: the standby is as it was
+abbrev pub IsUntouched : {T S R : Type 0} → Tailer → Unserved T S R → Type 0
+IsUntouched old u = (u.standby ≡ old) × (u.workers.items ≡ [])
+
+-- The standby was promoted, and then its feed did not meet, although both its ends were there: no channel does so, and no contract excludes it
+abbrev pub IsUnmet : {T S R : Type 0} → Tailer → Unserved T S R → Type 0
+IsUnmet {T} {S} {R} old u = (u.fault ≡ drive.OutOfMemory) × ((answers : List Answer) × EndsInEnd answers × IsPromoted old answers u.standby × (map lane_of u.standby.ends ≡ map lane_of old.ends) × AllClosed u.standby.ends)
+
+module _ {T S R : Type 0} (gives : T → Answer → T → Type 0) (failures : T → ℕ) (old : Tailer) (source : T) where
+  -- why it was not promoted; where the source's thread was not joined, its end of the feed tells what was got of it by then
+  abbrev pub IsStopped : Unserved T S R → Type 0
+  IsStopped u = MatchOption u.feeding (NotDriven gives failures old source u.fault)
+      (λ (f : Feeding T R). (f.handle.promise.0.value ≡ source) × ((begin : FeedEnd R) × (got_by begin ≡ []) × FailsOver old begin f.end u.fault))
+
+-- why it was not promoted, and what comes back
+pub record IsUnserved {O T S R : Type 0} (asks : O → Tailer → ℕ → Wish → O → Type 0) (gives : T → Answer → T → Type 0) (failures : T → ℕ) (old : Tailer) (source : T) (workers : List (S × Reporting)) (o p : O) (u : Unserved T S R) : Type 0 where
+  pub started : ArePromised workers u.workers.items
+  pub why : IsStopped gives failures old source u
+  pub back : MatchOption u.feeding (IsUntouched old u ⊎ IsUnmet old u) (λ (f : Feeding T R). (begin : FeedEnd R) × (got_by begin ≡ []) × ComesBack asks old begin o u.standby f.end p)
+
+-- it was refused before any thread was started
+abbrev pub IsRefused : {A T S R : Type 0} → Tailer → DriveFault → Result A (Unserved T S R) → Type 0
+IsRefused {A} {T} {S} {R} old fault result = MatchResult result (λ _. ⊥) (λ u. (u.fault ≡ fault) × (u.feeding ≡ None) × IsUntouched old u)

@@ -1,0 +1,81 @@
+//! A standby in service: an operator is asked each rotation, and a promotion waits for no DataNode.
+ghost use Rattle.std.specs.Prelude.{◌≡◌, []};
+ghost use Rattle.nn_drive.specs.Serving.{IsOf};
+ghost use Rattle.nn_feed.specs.Ends.{AreOfOneFeed, put_by};
+
+use crate::driving::{DriveFault, Reports, Worked};
+use crate::reporting::ReportSource;
+use nn_feed::{Began, FeedEnd, Ran};
+use nn_lane::{LaneEnd, Met, Refusal};
+use nn_segment::SegmentSource;
+use nn_shadow::Shadow;
+use nn_tailer::{Active, Standby};
+use std::sync::Wait;
+use std::thread::PromisedHandle;
+
+/// A worker of a promoted standby, whose thread may still run. Its lane is closed, and all that the lane accepted was
+/// taken. Dropped, it lets the thread end by itself.
+#[derive(Drop)]
+pub struct Running<S: ReportSource> {
+    /// It shows how many messages its lane had accepted.
+    pub end: LaneEnd,
+    pub handle: PromisedHandle<Worked<S>, Reports<S>>,
+    ghost own: { IsOf end handle },
+}
+
+/// What a worker left.
+#[derive(Drop)]
+pub struct Left<S> {
+    pub source: S,
+    /// How many reports were sent before the source gave none; or why the last one was refused. 42 is no fault: the
+    /// standby was promoted meanwhile.
+    pub outcome: Result<u64, Refusal>,
+    /// What the two ends of its lane counted.
+    pub met: Met,
+}
+
+/// A standby that was promoted.
+#[derive(Drop)]
+pub struct Served<S: ReportSource> {
+    pub shadow: Shadow,
+    pub active: Active,
+    /// The workers, in the order in which they were handed in. Any of them may still run.
+    pub workers: Vec<Running<S>>,
+}
+
+/// The thread of a source whose standby was not promoted, and the end of its feed.
+#[derive(Drop)]
+pub struct Feeding<'a, T: SegmentSource, R: Wait> {
+    pub end: FeedEnd<'a, R>,
+    pub handle: PromisedHandle<Ran<T>, Began<T>>,
+    ghost one_feed: { AreOfOneFeed handle.promise.1.value end },
+    ghost new: { put_by handle.promise.1.value ≡ [] },
+}
+
+/// A standby that was not promoted, and why.
+#[derive(Drop)]
+pub struct Unserved<'a, T: SegmentSource, S: ReportSource, R: Wait> {
+    pub fault: DriveFault,
+    /// The standby, as a step leaves it that fails. After 55 it can go on once there is memory, after 54 over a new source:
+    /// by `step`, or by `promote` once its intake is closed.
+    ///
+    /// Its workers still report into its lanes. One that finds its lane full learns of a close only once the lane was
+    /// emptied. So who wants the standby no more hands it to `let_go`.
+    pub standby: Standby,
+    /// The threads of the workers that were started, in their order.
+    pub workers: Vec<PromisedHandle<Worked<S>, Reports<S>>>,
+    /// The source's thread, if it was started and not joined.
+    pub feeding: Option<Feeding<'a, T, R>>,
+}
+
+/// What is left of a standby that was not promoted, once its source's thread was joined.
+#[derive(Drop)]
+pub struct Unfed<S: ReportSource> {
+    pub fault: DriveFault,
+    pub standby: Standby,
+    pub workers: Vec<PromisedHandle<Worked<S>, Reports<S>>>,
+}
+
+mod calls;
+
+pub use calls::{let_go, serve};

@@ -1,0 +1,350 @@
+// The calls of a standby in service.
+ghost use Rattle.std.specs.Prelude.{◌≡◌, ◌≤◌, [], false, length, vec_capacity, Some, None, IfOk, IfErr, IfSome};
+ghost use Rattle.std.specs.List.{AllZip};
+ghost use Rattle.nn_feed.specs.Ends.{got_by, IsSameEnd};
+ghost use Rattle.nn_tailer.specs.Tailing.{has_begun, Tailer};
+ghost use Rattle.nn_drive.specs.Driven.{HasReported, ArePromised, AreLanes, NotDriven};
+ghost use Rattle.nn_drive.specs.Feeding.{GotMore, FailsOver};
+ghost use Rattle.nn_drive.specs.Refusals.{drive_refusal};
+ghost use Rattle.nn_drive.specs.Served.{HasLeft, ArePaired, PromotesOver, IsServed, ComesBack, IsUntouched, IsStopped, IsUnserved, IsRefused};
+ghost use Rattle.nn_drive.specs.Serving.{IsOf};
+ghost use Rattle.nn_drive.specs.declared.driving.DriveFault.{DriveFault as Why};
+
+use super::{Feeding, Left, Running, Served, Unfed, Unserved};
+use crate::driving::{DriveFault, Reports, Worked, all_started, promote, work};
+use crate::feeding::{end_feed, receive, start_feeder_alone, told_fault};
+use crate::operator::Operator;
+use crate::reporting::ReportSource;
+use crate::rotation::rotate;
+use nn_feed::{FeedEnd, feed};
+use nn_lane::{LaneEnd, Reporter, meet};
+use nn_segment::SegmentSource;
+use nn_shadow::Shadow;
+use nn_tailer::{Active, Standby};
+use std::alloc::Global;
+use std::snapshot::Snapshot;
+use std::sync::atomic::AtomicU64;
+use std::sync::{Arc, Wait};
+use std::thread;
+use std::thread::{PromisedHandle, Threads};
+
+impl<S: ReportSource + Drop> Running<S> {
+    /// Joins the worker's thread. It waits for as long as its source does; a source is not asked again once a report was
+    /// refused, and its lane is closed.
+    pub fn join<R: Threads>(self, rt: &R) -> Left<S>
+        ensures { HasLeft S.gives self result }
+    {
+        let Running { end, handle } = self;
+        let Worked {
+            source,
+            reporter,
+            outcome,
+        } = handle.join(rt);
+        let met = meet(end, reporter);
+        Left {
+            source,
+            outcome,
+            met,
+        }
+    }
+}
+
+// One worker on a thread of its own, which no scope waits for.
+fn start_alone<
+    S: ReportSource + Send + Drop + 'static,
+    R: Threads + Wait + Copy + Send + Drop + 'static,
+>(
+    rt: &R,
+    source: S,
+    reporter: Reporter,
+    ended: Arc<AtomicU64, Global>,
+) -> Option<PromisedHandle<Worked<S>, Reports<S>>>
+    ensures { IfSome result (λ h. (h.promise.0.value ≡ source) × (h.promise.1.value ≡ reporter)) }
+{
+    let promise = Reports(Snapshot::of(&source), Snapshot::of(&reporter));
+    let own = *rt;
+    let run = move || -> Worked<S>
+        ensures { HasReported S.gives source reporter result }
+    { work(&own, source, reporter, &ended) };
+    thread::spawn_with(rt, promise, run).ok()
+}
+
+// A thread for each worker, in order; fewer where memory or threads run out, and the other workers are dropped.
+fn start_all_alone<
+    S: ReportSource + Send + Drop + 'static,
+    R: Threads + Wait + Copy + Send + Drop + 'static,
+>(
+    rt: &R,
+    alloc: Global,
+    workers: Vec<(S, Reporter)>,
+    ended: &Arc<AtomicU64, Global>,
+) -> Vec<PromisedHandle<Worked<S>, Reports<S>>>
+    ensures { ArePromised workers.items result.items }
+{
+    let Ok(mut handles) = Vec::with_capacity(alloc, workers.len()) else {
+        return Vec::new(alloc);
+    };
+    for (source, reporter) in workers {
+        let Ok(counter) = Arc::try_clone(ended) else {
+            return handles;
+        };
+        let Some(handle) = start_alone(rt, source, reporter, counter) else {
+            return handles;
+        };
+        handles.push_reserved(handle);
+    }
+    handles
+}
+
+// Each end with the handle of its reporter's thread.
+fn pair<S: ReportSource + Drop>(
+    ends: Vec<LaneEnd>,
+    handles: Vec<PromisedHandle<Worked<S>, Reports<S>>>,
+    paired: Vec<Running<S>>,
+) -> Vec<Running<S>>
+    requires own { AllZip IsOf ends.items handles.items }
+    requires none { paired.items ≡ [] }
+    requires room { length handles.items ≤ vec_capacity paired }
+    ensures { ArePaired ends.items handles.items result.items }
+{
+    let mut paired = paired;
+    let mut rest = ends.into_iter();
+    for handle in handles {
+        let Some(end) = rest.next() else {
+            unreachable!();
+        };
+        paired.push_reserved(Running { end, handle });
+    }
+    paired
+}
+
+// Steps of the standby over the end of a feed, up to its operator's wish, and then its promotion. So many of the workers
+// run.
+fn serve_over<'a, O: Operator, R: Wait>(
+    rt: &R,
+    standby: &mut Standby,
+    end: &mut FeedEnd<'a, R>,
+    operator: &mut O,
+    ended: &AtomicU64,
+    started: usize,
+    workers: usize,
+) -> Result<Active, DriveFault>
+    requires serving { has_begun standby.old ≡ false }
+    ensures same { IsSameEnd end.old end.new }
+    ensures ok { IfOk result (λ active. PromotesOver O.asks standby.old end.old operator.old active standby.new end.new operator.new) }
+    ensures started { IfOk result (λ _. workers ≤ started) }
+    ensures err { IfErr result (λ fault. FailsOver standby.old end.old end.new fault) }
+    ensures back { IfErr result (λ _. ComesBack O.asks standby.old end.old operator.old standby.new end.new operator.new) }
+{
+    if !all_started(started, workers) {
+        return Err(DriveFault::OutOfMemory);
+    }
+    if let Err(fault) = rotate(rt, standby, end, operator, ended, started) {
+        return Err(told_fault(end, fault));
+    }
+    standby.close_intake();
+    match promote(standby, end) {
+        Ok(active) => Ok(active),
+        Err(fault) => Err(told_fault(end, fault)),
+    }
+}
+
+// The rest of `serve`, once the source's thread runs. There is room for what comes back.
+fn serve_with<
+    'a,
+    O: Operator,
+    T: SegmentSource + Drop,
+    S: ReportSource + Send + Drop + 'static,
+    R: Threads + Wait + Copy + Send + Drop + 'static,
+>(
+    rt: &'a R,
+    alloc: Global,
+    standby: Standby,
+    feeding: Feeding<'a, T, R>,
+    workers: Vec<(S, Reporter)>,
+    room: Vec<Running<S>>,
+    ended: &Arc<AtomicU64, Global>,
+    operator: &mut O,
+) -> Result<Served<S>, Unserved<'a, T, S, R>>
+    requires serving { has_begun standby ≡ false }
+    requires lanes { AreLanes workers.items standby.ends }
+    requires new { got_by feeding.end ≡ [] }
+    requires none { room.items ≡ [] }
+    requires room { length workers.items ≤ vec_capacity room }
+    ensures ok { IfOk result (λ r. IsServed O.asks T.gives T.failures standby feeding.entry.handle.promise.0.value workers.items operator.old operator.new r) }
+    ensures err { IfErr result (λ u. IsUnserved O.asks T.gives T.failures standby feeding.entry.handle.promise.0.value workers.items operator.old operator.new u) }
+{
+    let mut standby = standby;
+    let Feeding { mut end, handle } = feeding;
+    let count = workers.len();
+    let handles = start_all_alone(rt, alloc, workers, ended);
+    let started = handles.len();
+    let active = match serve_over(rt, &mut standby, &mut end, operator, ended, started, count) {
+        Ok(active) => active,
+        Err(fault) => {
+            return Err(Unserved {
+                fault,
+                standby,
+                workers: handles,
+                feeding: Some(Feeding { end, handle }),
+            });
+        }
+    };
+    if !end_feed(rt, end, handle) {
+        return Err(Unserved {
+            fault: DriveFault::OutOfMemory,
+            standby,
+            workers: handles,
+            feeding: None,
+        });
+    }
+    let (shadow, ends) = standby.into_parts();
+    let workers = pair(ends, handles, room);
+    Ok(Served {
+        shadow,
+        active,
+        workers,
+    })
+}
+
+// Drops what a feed still brings, until its source has ended.
+fn drop_feed<'a, R: Wait>(rt: &R, end: &mut FeedEnd<'a, R>)
+    ensures same { IsSameEnd end.old end.new }
+    ensures more { GotMore (got_by end.old) (got_by end.new) }
+{
+    for _ in rt.forever() {
+        if !receive(end) {
+            return;
+        }
+    }
+    unreachable!()
+}
+
+impl<'a, T: SegmentSource + Drop, S: ReportSource, R: Threads + Wait> Unserved<'a, T, S, R> {
+    /// Drops what the feed still brings, and joins the source's thread: for as long as the source gives segments or waits.
+    /// The standby and the workers come back as they are. The fault is then known as `drive` knows one: with what its
+    /// source gave; or it is 55, where the feed failed while both its ends were there.
+    pub fn join(self, rt: &R) -> Unfed<S>
+        ensures rest { (result.standby ≡ self.entry.standby) × (result.workers ≡ self.entry.workers) }
+        ensures fault { (old : Tailer) (source : T) → IsStopped T.gives T.failures old source self.entry → NotDriven T.gives T.failures old source result.fault }
+    {
+        let Unserved {
+            fault,
+            standby,
+            workers,
+            feeding,
+        } = self;
+        let Some(feeding) = feeding else {
+            return Unfed {
+                fault,
+                standby,
+                workers,
+            };
+        };
+        let Feeding { mut end, handle } = feeding;
+        drop_feed(rt, &mut end);
+        if !end_feed(rt, end, handle) {
+            return Unfed {
+                fault: DriveFault::OutOfMemory,
+                standby,
+                workers,
+            };
+        }
+        Unfed {
+            fault,
+            standby,
+            workers,
+        }
+    }
+}
+
+// Takes all that lies in closed lanes, and drops it.
+fn empty_all(ends: &mut [LaneEnd]) {
+    for i in 0..ends.len() {
+        let end = &mut ends[i];
+        let most = end.capacity();
+        for _ in 0..most {
+            let _taken = end.take();
+        }
+    }
+}
+
+/// Lets go of a standby whose workers may still run. Its lanes are closed, and what lies in them is dropped: so each
+/// worker learns of the close by its next report, and ends. It waits for none of them.
+pub fn let_go(standby: Standby) -> Shadow
+    ensures { result ≡ standby.shadow }
+{
+    let mut closed = standby;
+    closed.close_intake();
+    let (shadow, mut ends) = closed.into_parts();
+    empty_all(&mut ends);
+    shadow
+}
+
+// A standby that was refused before any thread was started.
+fn refused<'a, T: SegmentSource, S: ReportSource, R: Wait>(
+    alloc: Global,
+    standby: Standby,
+    fault: DriveFault,
+) -> Unserved<'a, T, S, R>
+    ensures { (result.fault ≡ fault) × (result.feeding ≡ None) × IsUntouched standby result }
+{
+    Unserved {
+        fault,
+        standby,
+        workers: Vec::new(alloc),
+        feeding: None,
+    }
+}
+
+/// Runs the source of segments and each worker on a thread of its own, and the standby on this one, until the operator
+/// wishes a promotion. Then it closes its lanes, reads the log to its end, and promotes itself. It waits for no worker:
+/// those that still run are told by their next report, and come back to be joined. It waits for the source to give its
+/// End, so an operator that wishes a promotion has its own source end.
+///
+/// The source is asked up to its End or its first fault, at most five segments ahead of the one that the standby has in
+/// hand. While it is slow, messages are taken and the operator is asked; once the promotion has begun, it is waited for.
+/// The first cause of refusal is answered: 53 where the flush had begun before and 51 where the standby was stopped, both
+/// before any thread is started; then 55 where memory or a thread is refused, and while it works 51, 54, 55. A fault is
+/// answered at once, and the standby comes back. 55 would also come if the feed failed while both its ends were there,
+/// which no channel does and no contract excludes.
+pub fn serve<
+    'a,
+    O: Operator,
+    T: SegmentSource + Send + Drop + 'static,
+    S: ReportSource + Send + Drop + 'static,
+    R: Threads + Wait + Copy + Send + Drop + 'static,
+>(
+    rt: &'a R,
+    alloc: Global,
+    standby: Standby,
+    source: T,
+    workers: Vec<(S, Reporter)>,
+    operator: &mut O,
+) -> Result<Served<S>, Unserved<'a, T, S, R>>
+    requires { AreLanes workers.items standby.ends }
+    ensures refused { (fault : Why) → drive_refusal standby ≡ Some fault → IsRefused standby fault result }
+    ensures ok { IfOk result (λ r. IsServed O.asks T.gives T.failures standby source workers.items operator.old operator.new r) }
+    ensures err { IfErr result (λ u. IsUnserved O.asks T.gives T.failures standby source workers.items operator.old operator.new u) }
+{
+    if standby.is_active() {
+        return Err(refused(alloc, standby, DriveFault::AlreadyActive));
+    }
+    if let Some(stop) = standby.stop() {
+        return Err(refused(alloc, standby, DriveFault::Stopped(stop)));
+    }
+    let Ok(room) = Vec::with_capacity(alloc, workers.len()) else {
+        return Err(refused(alloc, standby, DriveFault::OutOfMemory));
+    };
+    let Ok(ended) = Arc::new(alloc, AtomicU64::new(0)) else {
+        return Err(refused(alloc, standby, DriveFault::OutOfMemory));
+    };
+    let Ok((feeder, end)) = feed(rt, alloc) else {
+        return Err(refused(alloc, standby, DriveFault::OutOfMemory));
+    };
+    let Some(handle) = start_feeder_alone(rt, source, feeder) else {
+        return Err(refused(alloc, standby, DriveFault::OutOfMemory));
+    };
+    let feeding = Feeding { end, handle };
+    serve_with(rt, alloc, standby, feeding, workers, room, &ended, operator)
+}

@@ -74,13 +74,13 @@ Advances old x steps new y = (whole : Result LogEnd LogStop) (lanes : Lanes) →
 abbrev pub Arrives : LogLeft → Contents → Contents → Type 0
 Arrives old x y = (whole : Result LogEnd LogStop) (lanes : Lanes) → IsOnItsWay whole old lanes x → HasArrived whole lanes y
 
--- an edit is refused for this; want of memory says nothing
+-- an edit is refused for this; out of memory says nothing
 abbrev pub IsRefusal : Halt → ℕ → Result Namespace EditFault → Type 0
 IsRefusal (halt.Refused fault txid) id outcome = (outcome ≡ Err fault) × (txid ≡ id)
 IsRefusal (halt.Disorder txid) id outcome = ⊥
 IsRefusal halt.OutOfMemory id outcome = Unit {0}
 
--- the whole log stops for this; want of memory says nothing
+-- the whole log stops for this; out of memory says nothing
 abbrev pub StopsAs : Halt → Result LogEnd LogStop → Type 0
 StopsAs (halt.Refused fault txid) whole = whole ≡ Err (record { cause = refused fault; txid = txid })
 StopsAs (halt.Disorder txid) whole = whole ≡ Err (record { cause = disorder; txid = txid })

@@ -180,7 +180,7 @@ fn apply(shadow: &mut Shadow, tx: Tx) -> Result<(), Halt>
     }
 }
 
-// Hands over a message that only want of memory can refuse.
+// Hands over a message that is refused only if memory runs out.
 fn hand(shadow: &mut Shadow, message: Message) -> Result<(), Halt>
     requires { hand_refusal (length shadow.old.numbers) shadow.old.phase (standby_of shadow.old) message ≡ None }
     ensures stands { OnOk result ((start : Namespace) (base : ℕ) (txs : List Transaction) (lanes : Lanes)

@@ -94,7 +94,7 @@ impl RowSink for Lines {
 
     ghost takes = { λ text row more. more ≡ text ++ row_line row };
 
-    // Want of memory may leave a part of the line.
+    // If memory runs out, a part of the line may be there.
     ghost fails = { λ text row e left. Unit {0} };
 
     // What it takes of the stack is taken once, and not at each level that a listing is in.

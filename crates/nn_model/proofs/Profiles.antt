@@ -47,7 +47,7 @@ meets n (SetReplication p r) = lower refl
 meets n (AllocateBlockId i) = lower refl
 meets n (SetGenstamp stamp) = lower refl
 
--- it has the log, and ends in the same namespace but for the profile
+-- it has the log, and ends in the same namespace except for the profile
 abbrev Ends : Namespace → Namespace → ℕ → List Tx → Type 0
 Ends n m last txs = IsLog m last txs × (in_profile One (namespace_after m txs) ≡ in_profile One (namespace_after n txs))
 

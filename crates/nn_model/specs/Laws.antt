@@ -111,7 +111,7 @@ OverlapAddsTheRest = (last before : ℕ) (old new : List Tx) → CountsUp before
 abbrev pub in_profile : Profile → Namespace → Namespace
 in_profile profile n = record n { issued = record n.issued { profile = profile } }
 
--- A log that applies to a namespace applies to it with profile 1 too, and what comes of both is one namespace but for the profile.
+-- A log that applies to a namespace applies to it with profile 1 too, and the two namespaces after it differ in the profile alone.
 abbrev pub LowerProfileGoesOn : Type 0
 LowerProfileGoesOn = (n : Namespace) (last : ℕ) (txs : List Tx) → IsLog n last txs →
     IsLog (in_profile One n) last txs × (in_profile One (namespace_after (in_profile One n) txs) ≡ in_profile One (namespace_after n txs))

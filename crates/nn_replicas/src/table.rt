@@ -59,7 +59,7 @@ impl Replicas {
 
     /// Names a block of a file, or changes its row. It takes no memory where the block has a row.
     ///
-    /// After want of memory the table is as it was. O(log blocks + replicas of the block).
+    /// If memory runs out, the table is as it was. O(log blocks + replicas of the block).
     pub fn set_block(&mut self, block: Block, closed: bool) -> Result<(), AllocError>
         ensures ok { OnOk result (self.new ≡ block_set self.old block closed) }
         ensures err { OnErr result (self.new ≡ self.old) }
@@ -87,7 +87,7 @@ impl Replicas {
 
     /// Makes room for what a DataNode says of a block. The room stays, and a `put` on it takes no memory.
     ///
-    /// After want of memory the table is as it was. O(log blocks + replicas of the block).
+    /// If memory runs out, the table is as it was. O(log blocks + replicas of the block).
     pub fn place(&mut self, dn: u16, block: BlockId) -> Result<(), AllocError>
         ensures ok { OnOk result (self.new ≡ pair_placed self.old dn block) }
         ensures err { OnErr result (self.new ≡ self.old) }
@@ -105,7 +105,7 @@ impl Replicas {
     /// Sets what a DataNode has of a block: a replica where the block has a row, an order where it has none.
     /// It takes no memory where the DataNode was placed at the block.
     ///
-    /// After want of memory the table is as it was. O(log blocks + replicas of the block).
+    /// If memory runs out, the table is as it was. O(log blocks + replicas of the block).
     pub fn put(&mut self, dn: u16, block: BlockId, replica: Replica) -> Result<(), AllocError>
         requires { IsTrue (is_kept replica.kind) }
         ensures ok { OnOk result (self.new ≡ replica_put self.old dn block replica) }

@@ -57,7 +57,7 @@ all_parts parts = same (segments_from 1 parts)
     same (Ok segments) = refl
     same (Err e) = refl
 
--- a fault that is no want of memory is the definition's
+-- a fault other than out of memory is the definition's
 pub fault_given : {X : Type 0} (fault : SegmentFault) (given : Result X SegmentFault) → Gives (Err fault) given → (fault ≡ OutOfMemory → ⊥) → given ≡ Err fault
 fault_given BadName given is other = is
 fault_given TooLong given is other = is

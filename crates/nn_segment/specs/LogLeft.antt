@@ -35,6 +35,6 @@ IsMissing last left = (n : Namespace) → end_of_left last n left ≡ Err (recor
 abbrev pub IsOver : ℕ → LogLeft → Type 0
 IsOver last left = ((n : Namespace) → end_of_left last n left ≡ Ok (record { last = last; namespace = n })) × (txs_left last left ≡ [])
 
--- the same is left, but for what is passed over
+-- the same is left, except what is passed over
 abbrev pub LeavesSame : ℕ → LogLeft → LogLeft → Type 0
 LeavesSame last old new = ((n : Namespace) → end_of_left last n old ≡ end_of_left last n new) × (txs_left last old ≡ txs_left last new)

@@ -6,7 +6,7 @@ use Rattle.nn_edits.specs.Outcome as line
 use Rattle.nn_segment.specs.declared.fault.SegmentFault.{SegmentFault}
 use Rattle.nn_segment.specs.declared.fault.SegmentFault.TheVariants.{OutOfMemory}
 
--- The call answered what is given; want of memory alone is left open.
+-- The call answered what is given. Out of memory alone is left open.
 abbrev pub Gives : {X : Type 0} → Result X SegmentFault → Result X SegmentFault → Type 0
 Gives (Ok x) given = given ≡ Ok x
 Gives (Err OutOfMemory) given = Unit {0}

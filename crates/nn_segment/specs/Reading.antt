@@ -52,7 +52,7 @@ abbrev pub is_named : Option (ℕ × ℕ) → List Tx → Bool
 is_named (Some txids) txs = (txids.0 == first_txid txs) && (txids.1 == last_txid txs)
 is_named None txs = false
 
--- the fault of a bad line; want of memory is no line's own
+-- the fault of a bad line; no line says that memory runs out
 abbrev pub fault_of_line : ℕ → LineFault → SegmentFault
 fault_of_line n line.OutOfMemory = OutOfMemory
 fault_of_line n fault = BadLine n fault

@@ -28,7 +28,7 @@ refused_before x tx fault is =
       settings = record { datanodes = refl; min = refl; permille = refl };
     }
 
--- a fault other than want of memory is the edit's
+-- a fault other than out of memory is the edit's
 not_made : (x : Contents) (tx : Tx) (fault : ApplyFault) → turn_refusal x.phase (standby_of x) tx ≡ None → IsApplyFault x.phase (standby_of x) tx fault →
     (fault ≡ OutOfMemory → ⊥) → refusal x.namespace tx.edit ≡ None → ⊥
 not_made x tx fault turn why other applies = elim why [

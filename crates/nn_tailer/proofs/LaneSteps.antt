@@ -53,7 +53,7 @@ module _ (old new : Tailer) (i : ℕ) (live : IsLive old) (k : Keeps old) (l : i
   abbrev d : Taking
   d = some_end old.ends i l
 
-  -- once fetched, all is as before but for the lane
+  -- once fetched, all is as before except the lane
   pub frame_fetched : (e : Taking) (o : Option Message) → new ≡ with_lane old i e o → SameEnd (get_or old.ends i d) e → handed_in new ≡ handed_in old → LaneFrame old i new
   frame_fetched e o q s h = record {
     carries = subst (Carries old []) (sym q) (carries_fetch old i e o live (subst (λ (z : Tailer). handed_in z ≡ handed_in old) q h));

@@ -18,7 +18,7 @@ use Rattle.nn_segment.specs.LogEnd.{StopCause, stop_number, LogStop, LogEnd, end
 pub record Tailer : Type 0 where
   pub shadow : Contents
   pub ends : List Taking
-  pub kept : List (Option Message)  -- for each lane the message that was taken and refused for want of memory
+  pub kept : List (Option Message)  -- for each lane the message that was taken and not handed on, because memory ran out
   pub rest : List Tx  -- what is left of the segment in hand
   pub stop : Option Stop
   pub active : Bool  -- whether it was promoted

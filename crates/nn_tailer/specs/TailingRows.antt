@@ -103,7 +103,7 @@ stop_before_open_lane x l = refl
 promoted_before_stop : (x : Tailer) → promote_refusal (record (stopped x) { active = true }) ≡ Some promotion.AlreadyActive
 promoted_before_stop x = refl
 
--- want of memory kept the flush from being done: it may be asked for again
+-- the flush ran out of memory: it may be asked for again
 flush_again : (x : Tailer) (l : LaneId) → promote_refusal (flushing (serving x (taking l [] 0 false ∷ []))) ≡ None
 flush_again x l = refl
 

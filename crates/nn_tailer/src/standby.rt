@@ -63,7 +63,7 @@ pub struct Standby {
     shadow: Shadow,
     // The lane of DataNode 1 first.
     ends: Vec<LaneEnd>,
-    // Of each lane the message that was taken, and that want of memory kept from being handed on.
+    // Of each lane the message that was taken and not handed on, because memory ran out.
     kept: Vec<Option<Message>>,
     cursor: Cursor,
     // An edit that does not apply stops the shadow too; a segment that begins too high stops the standby alone.

@@ -92,6 +92,6 @@ others n (SetReplication p r) = (other_root p, (other_when _ BadReplication is_b
 others n (AllocateBlockId i) = (other_when _ BadBlockId is_bad_block_id, tt)
 others n (SetGenstamp stamp) = (other_when _ BadGeneration is_bad_generation, tt)
 
--- the definition never refuses an edit for want of memory
+-- the definition never refuses an edit with out of memory
 pub never_memory : (n : Namespace) (edit : Edit) → refusal n edit ≡ Some OutOfMemory → ⊥
 never_memory n edit = other_first (checks n edit) (others n edit)

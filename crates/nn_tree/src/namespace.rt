@@ -69,7 +69,7 @@ impl Namespace {
         }
     }
 
-    /// Applies the edit, and tells what it touched. After a fault nothing has changed, after want of memory too. A mark,
+    /// Applies the edit, and tells what it touched. After a fault nothing has changed, also if memory ran out. A mark,
     /// OP_SET_REPLICATION and OP_SET_GENSTAMP_V2 never want memory.
     pub fn apply(&mut self, edit: &Edit) -> Result<Touched, EditFault>
         ensures ok { OnOk result (applied self.old edit.now ≡ Ok self.new) }

@@ -358,7 +358,7 @@ impl Tree {
         self.mkdir_refusal(dst)
     }
 
-    /// Moves what stands at `src` to `dst`. The place is made first, so that a want of memory changes nothing.
+    /// Moves what stands at `src` to `dst`. The place is made first, so that nothing has changed if memory runs out.
     pub(crate) fn rename(
         &mut self,
         alloc: Global,

@@ -45,7 +45,7 @@ impl Blocks {
         &self.items
     }
 
-    /// Adds a block at the end. After want of memory the list is as it was.
+    /// Adds a block at the end. If memory runs out, the list is as it was.
     pub fn push(&mut self, block: Block) -> Result<(), AllocError>
         ensures ok { OnOk result (self.new ≡ self.old ++ block ∷ []) }
         ensures err { OnErr result (self.new ≡ self.old) }

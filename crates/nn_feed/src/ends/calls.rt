@@ -94,7 +94,7 @@ impl Feeder {
     }
 
     /// Tells the other end that the source failed: puts its fault as the last answer. It waits and is refused as an item
-    /// is, but for the number of segments.
+    /// is, except for the number of segments.
     pub fn fail<R: Wait>(&mut self, rt: &R, fault: SourceFault) -> Result<(), Refusal>
         ensures same { IsSameFeeder self.old self.new }
         ensures ok { OnOk result (Puts (put_by self.old) (Err fault) (put_by self.new)) }

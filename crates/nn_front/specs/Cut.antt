@@ -1,0 +1,73 @@
+-- An input that begins with an image: what is passed over before it, the image, and what follows it.
+use Rattle.std.specs.Prelude.{ℕ, ◌==◌, ◌&&◌, not, List, [], ◌∷◌, ◌++◌, Bool, true, false, Option, Some, None, is_some, option_map, if◌then◌else◌, codes}
+use Rattle.std.specs.Str.{bytes_eq}
+use Rattle.serde_json.specs.Data.{Data}
+use Rattle.serde_json.specs.Find.{get}
+use Rattle.nn_image.specs.Text.{feed}
+use Rattle.nn_image.specs.Reading.{object_of}
+
+-- ---- Where an image begins.
+
+-- the line behind which it does
+abbrev pub mark : List ℕ
+mark = codes "image"
+
+-- what follows the first line that is the mark, where the line in hand begins with these bytes
+abbrev pub behind_mark : List ℕ → List ℕ → Option (List ℕ)
+behind_mark line [] = None
+behind_mark line (b ∷ bytes) =
+    elim (b == feed) [
+      | true ↦ elim (bytes_eq line mark) [
+        | true ↦ Some bytes
+        | false ↦ behind_mark [] bytes
+      ]
+      | false ↦ behind_mark (line ++ b ∷ []) bytes
+    ]
+
+-- an object begins here
+abbrev pub begins_object : List ℕ → Bool
+begins_object [] = false
+begins_object (b ∷ bytes) = b == 123
+
+-- an input from its image on: all of it, where its first byte is `{`
+abbrev pub from_header : List ℕ → Option (List ℕ)
+from_header input = if begins_object input then Some input else behind_mark [] input
+
+-- ---- Where it ends.
+
+abbrev pub has_end : Option Data → Bool
+has_end None = false
+has_end (Some value) = is_some (get (codes "end") value)
+
+-- an object with a member `end`
+unfoldable pub is_end_line : List ℕ → Bool
+is_end_line line = has_end (object_of line)
+
+pub record Cut : Type 0 where
+  pub image : List ℕ
+  pub rest : List ℕ
+
+-- the image with these bytes before it
+abbrev pub onto : List ℕ → Cut → Cut
+onto front cut = record { image = front ++ cut.image; rest = cut.rest }
+
+-- What is left of an image, and what follows it. The image ends with the first line behind its header that is an end line, or
+-- with the bytes. The line in hand begins with these bytes, and may be the header.
+abbrev pub cut_from : Bool → List ℕ → List ℕ → Cut
+cut_from is_header line [] = record { image = []; rest = [] }
+cut_from is_header line (b ∷ bytes) =
+    elim (b == feed) [
+      | true ↦ elim (not is_header && is_end_line line) [
+        | true ↦ record { image = feed ∷ []; rest = bytes }
+        | false ↦ onto (feed ∷ []) (cut_from false [] bytes)
+      ]
+      | false ↦ onto (b ∷ []) (cut_from is_header (line ++ b ∷ []) bytes)
+    ]
+
+abbrev pub rest_of : Option Cut → List ℕ
+rest_of None = []
+rest_of (Some cut) = cut.rest
+
+-- the image that an input begins with, and what follows it; none where no image begins
+unfoldable pub divided : List ℕ → Option Cut
+divided input = option_map (cut_from true []) (from_header input)

@@ -1,0 +1,44 @@
+-- Inputs with an image in front, divided.
+use Rattle.std.specs.Prelude.{◌≡◌, ℕ, List, [], ◌∷◌, ◌++◌, true, false, map, flat_map, Option, Some, None, codes, refl}
+use Rattle.std.specs.Str.{is_utf8, chars}
+use Rattle.std.specs.Float.Numeral.{scan_numeral}
+use lib.Utf8.{encode}
+use Rattle.json.specs.Json.{value}
+use Rattle.json.specs.Lex.{punctuate, lex}
+use Rattle.json.specs.Text.{content}
+use Rattle.json.specs.Word.{word, after_number}
+use Rattle.serde_json.specs.Read.{number_of}
+use Rattle.nn_image.specs.Text.{feed}
+use Rattle.nn_image.specs.Reading.{object_of, value_of}
+use Rattle.nn_front.specs.Cut.{Cut, divided, is_end_line}
+
+-- lines, each with its line feed
+abbrev lines : List (List ℕ) → List ℕ
+lines each = flat_map (λ l. l ++ feed ∷ []) each
+
+end_lines : map is_end_line (codes "{\"end\":1}" ∷ codes "{\"x\":0,\"end\":\"y\"}" ∷ codes "{\"path\":\"/end\"}" ∷ codes "[\"end\"]" ∷ codes "\"end\"" ∷ codes "{\"end\":1} 2" ∷ [] ∷ [])
+    ≡ true ∷ true ∷ false ∷ false ∷ false ∷ false ∷ false ∷ []
+unfolding is_end_line object_of value_of is_utf8 chars encode value punctuate lex content word after_number number_of scan_numeral
+end_lines = refl
+
+-- the image is at once there
+at_once : divided (lines (codes "{}" ∷ codes "{\"end\":1}" ∷ codes "a" ∷ [])) ≡ Some (record { image = lines (codes "{}" ∷ codes "{\"end\":1}" ∷ []); rest = codes "a" ++ feed ∷ [] })
+unfolding divided is_end_line object_of value_of is_utf8 chars encode value punctuate lex content word after_number number_of scan_numeral
+at_once = refl
+
+-- or behind the line `image`, and not behind one that only begins so
+behind_the_line : divided (lines (codes "images" ∷ codes " image" ∷ codes "image" ∷ codes "x" ∷ codes "{\"end\":1}" ∷ codes "image" ∷ []))
+    ≡ Some (record { image = lines (codes "x" ∷ codes "{\"end\":1}" ∷ []); rest = codes "image" ++ feed ∷ [] })
+unfolding divided is_end_line object_of value_of is_utf8 chars encode value punctuate lex content word after_number number_of scan_numeral
+behind_the_line = refl
+
+-- a header ends no image, and an end line without its line feed ends none
+no_end : divided (lines (codes "{\"end\":1}" ∷ codes "{" ∷ []) ++ codes "{\"end\":1}")
+    ≡ Some (record { image = lines (codes "{\"end\":1}" ∷ codes "{" ∷ []) ++ codes "{\"end\":1}"; rest = [] })
+unfolding divided is_end_line object_of value_of is_utf8 chars encode value punctuate lex content word after_number number_of scan_numeral
+no_end = refl
+
+-- no image begins
+none_begins : map divided ([] ∷ codes "image" ∷ (codes "a" ++ feed ∷ codes "{}") ∷ (codes " {}" ++ feed ∷ []) ∷ []) ≡ None ∷ None ∷ None ∷ None ∷ []
+unfolding divided is_end_line object_of value_of is_utf8 chars encode value punctuate lex content word after_number number_of scan_numeral
+none_begins = refl

@@ -1,0 +1,3 @@
+pub mod Cut
+pub mod Front
+pub mod CutRows

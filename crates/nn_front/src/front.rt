@@ -1,0 +1,203 @@
+//! The bytes of an input up to the end of its image.
+ghost use Rattle.std.specs.Prelude.{◌≡◌, ◌≢◌, ◌≤◌, ◌<◌, ◌++◌, [], List, ℕ, true, drop, length, option_map, slice_index, IfOk, OnOk};
+ghost use Rattle.std.specs.Str.{bytes_eq};
+ghost use Rattle.nn_segment.specs.Lines.{is_unbroken};
+ghost use Rattle.nn_front.specs.Cut.{divided, mark};
+ghost use Rattle.nn_front.specs.Front.{IsFront, begun, ends_image, kept, line_ended, room};
+
+use crate::end_line::is_end_line;
+use nn_segment::line_end;
+use std::alloc::{AllocError, Global};
+use std::marker::Model;
+
+/// The line behind which an image begins.
+const MARK: &[u8] = b"image";
+
+/// The bytes that are kept of a line that is passed over: one more than the mark has.
+const MOST: usize = 6;
+
+/// Where in its front an input is.
+#[derive(Clone, Copy, Debug, PartialEq, Eq)]
+enum Place {
+    /// No byte has come.
+    Start,
+    /// On a line that is passed over.
+    Passing,
+    /// On the first line of the image.
+    Header,
+    /// On a later line of the image.
+    Rows,
+    /// Behind the image.
+    Behind,
+}
+
+/// The front of an input, whose bytes come in chunks. It keeps the image, and of a line that is passed over six bytes.
+#[derive(Drop)]
+pub struct Front {
+    place: Place,
+    // the bytes of the line that has not ended
+    line: Vec<u8>,
+    // the lines of the image that have ended
+    image: Vec<u8>,
+}
+
+impl Model for Front {
+    ghost use Rattle.nn_front.specs.Front.{FrontState};
+
+    ghost Value = { FrontState };
+
+    ghost view = { λ f. record { place = f.place; line = f.line.items; image = f.image.items } };
+}
+
+impl Front {
+    /// No bytes. Takes no memory.
+    pub fn new(alloc: Global) -> Front
+        ensures { IsFront [] result [] }
+    {
+        Front {
+            place: Place::Start,
+            line: Vec::new(alloc),
+            image: Vec::new(alloc),
+        }
+    }
+
+    /// The next bytes of the input, however they are cut. The answer is how many of them are of the front; those behind are
+    /// of the scenario. A line of the image is parsed once, to see whether it is the last. Once memory was refused, no more
+    /// can be pushed.
+    pub fn push(&mut self, alloc: Global, bytes: &[u8]) -> Result<usize, AllocError>
+        ensures within { IfOk result (λ n. n ≤ length bytes.now) }
+        ensures front { IfOk result (λ n. (text rest : List ℕ) → IsFront text self.old rest
+            → IsFront (text ++ bytes.now) self.new (rest ++ drop n bytes.now)) }
+    {
+        if bytes.is_empty() {
+            return Ok(0);
+        }
+        let begun = self.begin(bytes[0])?;
+        let taken = self.push_lines(alloc, &bytes[begun..])?;
+        Ok(begun + taken)
+    }
+
+    /// The image of all bytes that came; none where none begins. What follows it did not come through here.
+    pub fn end(self) -> Result<Option<Vec<u8>>, AllocError>
+        ensures { IfOk result (λ image. (text rest : List ℕ) → IsFront text self rest
+            → divided text ≡ option_map (λ v. record { image = v.items; rest = rest }) image) }
+    {
+        let Front { place, line, image } = self;
+        match place {
+            Place::Start => Ok(None),
+            Place::Passing => Ok(None),
+            Place::Header => Ok(Some(joined(image, &line)?)),
+            Place::Rows => Ok(Some(joined(image, &line)?)),
+            Place::Behind => Ok(Some(image)),
+        }
+    }
+
+    // Takes the first byte of the input, which says where the image begins. How many bytes it took.
+    fn begin(&mut self, first: u8) -> Result<usize, AllocError>
+        ensures first { IfOk result (λ n. self.old.place ≡ Place.Start → (n ≡ 1) × (self.new ≡ begun first self.old)) }
+        ensures later { IfOk result (λ n. self.old.place ≢ Place.Start → (n ≡ 0) × (self.new ≡ self.old)) }
+    {
+        if self.place != Place::Start {
+            return Ok(0);
+        }
+        if first == b'{' {
+            self.place = Place::Header;
+            self.line.push(first)?;
+            return Ok(1);
+        }
+        self.place = Place::Passing;
+        if first != b'\n' {
+            self.line.push(first)?;
+        }
+        Ok(1)
+    }
+
+    // Takes the lines of these bytes, of which the first is not the input's first.
+    fn push_lines(&mut self, alloc: Global, bytes: &[u8]) -> Result<usize, AllocError>
+        requires { self.old.place ≢ Place.Start }
+        ensures within { IfOk result (λ n. n ≤ length bytes.now) }
+        ensures front { IfOk result (λ n. (text rest : List ℕ) → IsFront text self.old rest
+            → IsFront (text ++ bytes.now) self.new (rest ++ drop n bytes.now)) }
+    {
+        let mut at = 0;
+        'lines: loop {
+            if self.place == Place::Behind {
+                return Ok(at);
+            }
+            let left = &bytes[at..];
+            let end = line_end(left);
+            self.keep(&left[..end])?;
+            if end == left.len() {
+                return Ok(bytes.len());
+            }
+            self.end_line(alloc)?;
+            at += end + 1;
+        }
+    }
+
+    // Takes bytes of the line.
+    fn keep(&mut self, text: &[u8]) -> Result<(), AllocError>
+        ensures { OnOk result (self.new ≡ kept text.now self.old) }
+    {
+        if self.place == Place::Passing {
+            let more = room(self.line.len(), text.len());
+            return self.line.extend_from_slice(&text[..more]);
+        }
+        self.line.extend_from_slice(text)
+    }
+
+    // The line ends here.
+    fn end_line(&mut self, alloc: Global) -> Result<(), AllocError>
+        ensures { OnOk result (self.new ≡ line_ended self.old) }
+    {
+        if self.place == Place::Passing {
+            if is_mark(&self.line) {
+                self.place = Place::Header;
+            }
+            self.line.clear();
+            return Ok(());
+        }
+        let ended = self.ends_image(alloc)?;
+        self.image.extend_from_slice(&self.line)?;
+        self.image.push(b'\n')?;
+        self.line.clear();
+        self.place = if ended { Place::Behind } else { Place::Rows };
+        Ok(())
+    }
+
+    // Whether the image ends with the line.
+    fn ends_image(&self, alloc: Global) -> Result<bool, AllocError>
+        ensures { IfOk result (λ b. b ≡ ends_image self.now.place self.now.line) }
+    {
+        if self.place != Place::Rows {
+            return Ok(false);
+        }
+        is_end_line(alloc, &self.line)
+    }
+}
+
+fn joined(image: Vec<u8>, line: &[u8]) -> Result<Vec<u8>, AllocError>
+    ensures { IfOk result (λ v. v.items ≡ image.items ++ line.now) }
+{
+    let mut image = image;
+    image.extend_from_slice(line)?;
+    Ok(image)
+}
+
+// How many bytes more are kept of a line that is passed over.
+fn room(kept: usize, more: usize) -> usize
+    ensures value { result ≡ room kept more }
+    ensures within { result ≤ more }
+{
+    if kept >= MOST {
+        return 0;
+    }
+    let free = MOST - kept;
+    if more < free { more } else { free }
+}
+
+fn is_mark(line: &[u8]) -> bool
+    ensures { result ≡ bytes_eq line.now mark }
+{
+    line == MARK
+}

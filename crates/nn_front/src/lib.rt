@@ -1,0 +1,7 @@
+//! The front of an input that goes on from an image: what is passed over, and the image itself.
+#![tactic(auto)]
+
+mod end_line;
+mod front;
+
+pub use front::Front;

@@ -10,7 +10,6 @@ use Rattle.nn_model.specs.Lanes.{Lanes}
 use Rattle.nn_model.specs.Items.{items}
 use Rattle.nn_model.specs.Lawful.{IsLawful, IsWhole}
 use Rattle.nn_model.specs.Log.{log_of}
-use Rattle.nn_model.specs.Namespace.{root_alone}
 use Rattle.nn_model.specs.Picture.{ShowsPicture}
 use Rattle.nn_model.specs.Stands.{tables_of}
 use Rattle.nn_lane.specs.Ends.{Reporting, Taking, got_of}
@@ -22,8 +21,7 @@ use Rattle.nn_segment.specs.Source.{AreInOrder, GivesNext}
 use Rattle.nn_segment.specs.Walk.{log_in}
 use Rattle.nn_segment.proofs.Asks.{in_order, segments_given}
 use Rattle.nn_shadow.specs.Contents.{Contents, standby_of}
-use Rattle.nn_tailer.specs.Public.{IsNew}
-use Rattle.nn_tailer.specs.Tailing.{Tailer, by_node}
+use Rattle.nn_tailer.specs.Tailing.{Tailer, by_node, has_begun}
 use Rattle.nn_tailer.proofs.InOrder.{all_given, promoted_at_end, stopped_at}
 use Rattle.nn_drive.specs.Driven.{NotDriven, IsDriven, IsTaken, IsTold}
 use Rattle.nn_drive.specs.NewLanes.{HaveLanes}
@@ -31,7 +29,8 @@ use Rattle.nn_drive.specs.Reports.{next_message, sent_after, TakesNoMore, Report
 use Rattle.nn_drive.specs.declared.driving.DriveFault.{DriveFault}
 use Rattle.nn_drive.specs.declared.driving.DriveFault.TheVariants as drive
 use Rattle.nn_tailer.specs.declared.standby.Active.{Active}
-use Rattle.nn_engine.specs.InMemory.{GivesReport, AreInMemory, MayEnd, TellsStop}
+use Rattle.nn_engine.specs.InMemory.{GivesReport, AreInMemory, IsBegun, MayEnd, TellsStop}
+use Rattle.nn_engine.specs.Start.{Start}
 use Rattle.nn_engine.specs.declared.engine.Options.{Options}
 use Rattle.nn_engine.specs.Output.{Printed, after_log, fault_at, with_history}
 use Rattle.nn_engine.proofs.ToldLemmas.{is_fault}
@@ -162,46 +161,48 @@ module _ (count : ℕ) (lanes : Lanes) (sources : List (List Report)) (in_memory
   pub same_lanes : by_node (map got_of ends) ≡ lanes
   same_lanes j dn = at_node dn j
 
+-- ---- A drive that ended with a fault.
+
+pub may_end : (standby : Tailer) (segments : List Segment) → has_begun standby ≡ false → (f : DriveFault) → NotDriven GivesNext (λ _. 0) standby segments f → MayEnd f
+may_end standby segments new drive.AlreadyActive h = let b : false ≡ true = sym new ∙ h.1.2.0 in cc
+may_end standby segments new (drive.Stopped s) h = tt
+may_end standby segments new (drive.LogNotEnded f) h = let q = h.1.2.1 in omega (arith, q)
+may_end standby segments new drive.OutOfMemory h = tt
+
 -- ---- The promoted standby.
 
-pub record Arrives (settings : Threshold) (lanes : Lanes) (segments : List Segment) (x : Contents) : Type 0 where
-  pub log_end : end_of_log 0 root_alone segments ≡ Ok (record { last = x.last; namespace = x.namespace })
-  pub lawful : IsLawful root_alone (log_of 0 (map (λ (s : Segment). s.txs) segments)) (items lanes) x.history
-  pub whole : IsWhole root_alone (log_of 0 (map (λ (s : Segment). s.txs) segments)) (items lanes) x.history
+pub record Arrives (start : Start) (settings : Threshold) (lanes : Lanes) (segments : List Segment) (x : Contents) : Type 0 where
+  pub log_end : end_of_log start.txid start.namespace segments ≡ Ok (record { last = x.last; namespace = x.namespace })
+  pub lawful : IsLawful start.namespace (log_of start.txid (map (λ (s : Segment). s.txs) segments)) (items lanes) x.history
+  pub whole : IsWhole start.namespace (log_of start.txid (map (λ (s : Segment). s.txs) segments)) (items lanes) x.history
   pub picture : ShowsPicture x.namespace (items lanes) (tables_of (standby_of x))
   pub min : x.table.min ≡ settings.min
   pub permille : x.permille ≡ settings.permille
 
 module _ (settings : Threshold) (count : ℕ) (lanes : Lanes) (sources : List (List Report)) (in_memory : AreInMemory count lanes sources) (workers : List (List Report × Reporting)) (before : List Taking) (have : HaveLanes 1 sources workers before)
-    (standby : Tailer) (new : IsNew before standby) (kept : (standby.shadow.table.min ≡ settings.min) × (standby.shadow.permille ≡ settings.permille)) (segments : List Segment) where
-  pub arrives : (x : Contents) (active : Active) → IsDriven GivesNext (λ _. 0) GivesReport standby segments workers x active → Arrives settings lanes segments x
+    (start : Start) (standby : Tailer) (new : IsBegun start before standby) (kept : (standby.shadow.table.min ≡ settings.min) × (standby.shadow.permille ≡ settings.permille)) (segments : List Segment) where
+  pub arrives : (x : Contents) (active : Active) → IsDriven GivesNext (λ _. 0) GivesReport standby segments workers x active → Arrives start settings lanes segments x
   arrives x active d =
-      let p = d.8 root_alone 0 [] new.4 in
+      let p = d.8 start.namespace start.txid [] new.stands in
       let order = in_order segments d.1 d.0 d.3 in
-      let same = same_lanes count lanes sources in_memory workers before d.2 have p.lanes (λ i w b e l. subst (λ es. IsTaken GivesReport (get_or workers i w).0 (get_or workers i w).1 (get_or es i b) (get_or d.2 i e).got) new.0 (p.taken i w b e l)) in
-      let log : log_in 0 d.0 ≡ log_of 0 (map (λ (s : Segment). s.txs) segments) =
-      ap (log_of 0) (segments_given d.0 ∙ ap (map (λ (s : Segment). s.txs)) (ap given_in p.ended.1 ∙ all_given segments p.ended.0 (subst (AreInOrder segments) p.ended.1 order))) in
+      let same = same_lanes count lanes sources in_memory workers before d.2 have p.lanes (λ i w b e l. subst (λ es. IsTaken GivesReport (get_or workers i w).0 (get_or workers i w).1 (get_or es i b) (get_or d.2 i e).got) new.ends (p.taken i w b e l)) in
+      let log : log_in start.txid d.0 ≡ log_of start.txid (map (λ (s : Segment). s.txs) segments) =
+      ap (log_of start.txid) (segments_given d.0 ∙ ap (map (λ (s : Segment). s.txs)) (ap given_in p.ended.1 ∙ all_given segments p.ended.0 (subst (AreInOrder segments) p.ended.1 order))) in
       record {
-        log_end = promoted_at_end root_alone 0 segments d.0 order (record { last = x.last; namespace = x.namespace }) p.ended p.log_end;
-        lawful = subst (λ log. IsLawful root_alone log (items lanes) x.history) log (subst (λ ls. IsLawful root_alone (log_in 0 d.0) (items ls) x.history) same p.stands.lawful);
-        whole = subst (λ log. IsWhole root_alone log (items lanes) x.history) log (subst (λ ls. IsWhole root_alone (log_in 0 d.0) (items ls) x.history) same p.whole);
+        log_end = promoted_at_end start.namespace start.txid segments d.0 order (record { last = x.last; namespace = x.namespace }) p.ended p.log_end;
+        lawful = subst (λ log. IsLawful start.namespace log (items lanes) x.history) log (subst (λ ls. IsLawful start.namespace (log_in start.txid d.0) (items ls) x.history) same p.stands.lawful);
+        whole = subst (λ log. IsWhole start.namespace log (items lanes) x.history) log (subst (λ ls. IsWhole start.namespace (log_in start.txid d.0) (items ls) x.history) same p.whole);
         picture = subst (λ ls. ShowsPicture x.namespace (items ls) (tables_of (standby_of x))) same p.picture;
         min = d.7.min ∙ kept.0;
         permille = d.7.permille ∙ kept.1;
       }
 
-  pub may_end : (f : DriveFault) → NotDriven GivesNext (λ _. 0) standby segments f → MayEnd f
-  may_end drive.AlreadyActive h = let b : false ≡ true = sym new.1 ∙ h.1.2.0 in cc
-  may_end (drive.Stopped s) h = tt
-  may_end (drive.LogNotEnded f) h = let q = h.1.2.1 in omega (arith, q)
-  may_end drive.OutOfMemory h = tt
-
-  pub stop_told : (options : Options) (f : DriveFault) (p : Printed) → NotDriven GivesNext (λ _. 0) standby segments f → TellsStop f p → IsFaultOf options lanes (end_of_log 0 root_alone segments) p
+  pub stop_told : (options : Options) (f : DriveFault) (p : Printed) → NotDriven GivesNext (λ _. 0) standby segments f → TellsStop f p → IsFaultOf options lanes (end_of_log start.txid start.namespace segments) p
   stop_told options drive.AlreadyActive p h t = absurd t
   stop_told options (drive.Stopped s) p h t =
       let order = in_order segments h.0 h.1.0 h.1.1 in
-      let w = stopped_at root_alone 0 segments h.1.0 order s (h.1.2 root_alone 0 [] new.4) in
-      is_fault options lanes (end_of_log 0 root_alone segments) (record { cause = w.0; txid = s.txid }) p w.2 (t ∙ ap (λ n. fault_at (codes " txid ") n s.txid) (sym w.1))
+      let w = stopped_at start.namespace start.txid segments h.1.0 order s (h.1.2 start.namespace start.txid [] new.stands) in
+      is_fault options lanes (end_of_log start.txid start.namespace segments) (record { cause = w.0; txid = s.txid }) p w.2 (t ∙ ap (λ n. fault_at (codes " txid ") n s.txid) (sym w.1))
   stop_told options (drive.LogNotEnded f) p h t = absurd t
   stop_told options drive.OutOfMemory p h t = absurd t
 
@@ -212,10 +213,10 @@ TellsAll options x p =
     → p ≡ with_history options.history x.history (after_log (with_settings options x.permille x.table.min) lanes (Ok (record { last = x.last; namespace = x.namespace })))
 
 -- what is told of it is the output of the log and the lanes
-pub tells : (options : Options) (lanes : Lanes) (segments : List Segment) (x : Contents) (p : Printed) → Arrives options.settings lanes segments x
+pub tells : (start : Start) (options : Options) (lanes : Lanes) (segments : List Segment) (x : Contents) (p : Printed) → Arrives start options.settings lanes segments x
     → TellsAll options x p
-    → p ≡ with_history options.history x.history (after_log options lanes (end_of_log 0 root_alone segments))
-tells options lanes segments x p a told =
+    → p ≡ with_history options.history x.history (after_log options lanes (end_of_log start.txid start.namespace segments))
+tells start options lanes segments x p a told =
     told lanes a.picture
     ∙ (λ j. with_history options.history x.history (after_log (with_settings options (a.permille j) (a.min j)) lanes (Ok (record { last = x.last; namespace = x.namespace }))))
     ∙ ap (λ w. with_history options.history x.history (after_log options lanes w)) (sym a.log_end)

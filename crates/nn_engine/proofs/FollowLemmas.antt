@@ -8,16 +8,14 @@ use Rattle.nn_types.specs.declared.report.Message.{Message}
 use Rattle.nn_types.specs.declared.tx.Tx.{Tx}
 use Rattle.nn_model.specs.Apply.{applied}
 use Rattle.nn_model.specs.Lanes.{Lanes, no_messages, followed_by}
-use Rattle.nn_model.specs.Namespace.{Namespace, root_alone}
+use Rattle.nn_model.specs.Namespace.{Namespace}
 use Rattle.nn_model.specs.Stands.{StandbyState, fresh}
 use Rattle.nn_model.specs.Log.{counted, log_of}
 use Rattle.nn_shadow.specs.Calls.{applied_to, received}
 use Rattle.nn_segment.specs.Segment.{Segment}
-use Rattle.nn_model.proofs.Equals.{root_alone_is_well_formed}
 use Rattle.nn_shadow.specs.Contents.{Contents, standby_of, KeepsSettings}
 use Rattle.nn_shadow.specs.Laws.{StandsBy}
 use Rattle.nn_shadow.specs.Refusals.{is_lane, hand_refusal}
-use Rattle.nn_shadow.proofs.Standings.{begins_standing}
 use Rattle.nn_segment.specs.LogEnd.{LogStop, LogEnd, go_on, end_of_txs, end_of_log}
 use Rattle.nn_segment.specs.LogLeft.{LogLeft, end_of_left, txs_left}
 use Rattle.nn_engine.specs.Turns.{next_applied, all_applied, in_turn}
@@ -38,8 +36,10 @@ AppliesOne tx x y = (start : Namespace) (base : ℕ) (txs : List Tx) (lanes : La
 pub one_further : (whole : Result LogEnd LogStop) (lanes : Lanes) (x y : Contents) (old new : LogLeft) (tx : Tx) → ComesFirst x.last old tx new
     → applied x.namespace tx.edit ≡ Ok y.namespace → y.last ≡ tx.txid → AppliesOne tx x y → IsOnItsWay whole old lanes x → IsOnItsWay whole new lanes y
 one_further whole lanes x y old new tx first does last stands h = record {
+  start = h.start;
+  base = h.base;
   txs = h.txs ++ tx ∷ [];
-  stands = stands root_alone 0 h.txs lanes h.stands;
+  stands = stands h.start h.base h.txs lanes h.stands;
   ends = ap (λ t. end_of_left t y.namespace new) last
       ∙ ap (λ r. go_on tx.txid r (λ after. end_of_left tx.txid after new)) (sym does)
       ∙ sym (first x.namespace)
@@ -50,14 +50,16 @@ one_further whole lanes x y old new tx first does last stands h = record {
 pub nothing_further : (whole : Result LogEnd LogStop) (lanes : Lanes) (x : Contents) (old new : LogLeft)
     → end_of_left x.last x.namespace old ≡ Ok (record { last = x.last; namespace = x.namespace })
     → end_of_left x.last x.namespace new ≡ Ok (record { last = x.last; namespace = x.namespace }) → IsOnItsWay whole old lanes x → IsOnItsWay whole new lanes x
-nothing_further whole lanes x old new before after h = record { txs = h.txs; stands = h.stands; ends = after ∙ sym before ∙ h.ends }
+nothing_further whole lanes x old new before after h = record { start = h.start; base = h.base; txs = h.txs; stands = h.stands; ends = after ∙ sym before ∙ h.ends }
 
 pub a_message_further : (whole : Result LogEnd LogStop) (lanes : Lanes) (x y : Contents) (left : LogLeft) (m : Message) → (y.namespace ≡ x.namespace) × (y.last ≡ x.last)
     → ((start : Namespace) (base : ℕ) (txs : List Tx) (lanes : Lanes) → StandsBy start base txs lanes (standby_of x) → StandsBy start base txs (followed_by lanes m) (standby_of y))
     → IsOnItsWay whole left lanes x → IsOnItsWay whole left (followed_by lanes m) y
 a_message_further whole lanes x y left m same stands h = record {
+  start = h.start;
+  base = h.base;
   txs = h.txs;
-  stands = stands root_alone 0 h.txs lanes h.stands;
+  stands = stands h.start h.base h.txs lanes h.stands;
   ends = (λ j. end_of_left (same.1 j) (same.0 j) left) ∙ h.ends;
 }
 
@@ -102,18 +104,20 @@ step_taken whole count all old new (step.Message m) steps x y on phase rest h = 
   count_is = rest.datanodes ∙ h.count_is;
 }
 
-pub all_is_left : (left : LogLeft) → left.txs ≡ [] → end_of_left 0 root_alone left ≡ end_of_log 0 root_alone left.segments
+pub all_is_left : (last : ℕ) (n : Namespace) (left : LogLeft) → left.txs ≡ [] → end_of_left last n left ≡ end_of_log last n left.segments
 unfolding end_of_txs
-all_is_left left none = rw none refl
+all_is_left last n left none = rw none refl
 
-pub sets_out : (count : ℕ) (left : LogLeft) (steps : List Step) (x : Contents) → standby_of x ≡ fresh root_alone 0 → x.phase ≡ serving → length x.numbers ≡ count
-    → left.txs ≡ [] → AreInTurn no_messages steps → All (IsStepOf count) steps → IsFollowing (end_of_log 0 root_alone left.segments) count (lanes_of steps) left steps x
-sets_out count left steps x new phase size none in_turn within = record {
+pub sets_out : (start : Namespace) (base : ℕ) (count : ℕ) (left : LogLeft) (steps : List Step) (x : Contents) → StandsBy start base [] no_messages (standby_of x) → x.phase ≡ serving
+    → length x.numbers ≡ count → left.txs ≡ [] → AreInTurn no_messages steps → All (IsStepOf count) steps → IsFollowing (end_of_log x.last x.namespace left.segments) count (lanes_of steps) left steps x
+sets_out start base count left steps x new phase size none in_turn within = record {
   lanes = no_messages;
   way = record {
+    start = start;
+    base = base;
     txs = [];
-    stands = rw new (begins_standing root_alone 0 root_alone_is_well_formed.blocks);
-    ends = (λ j. end_of_left (new j).last (new j).namespace left) ∙ all_is_left left none;
+    stands = new;
+    ends = all_is_left x.last x.namespace left none;
   };
   in_turn = in_turn;
   within = within;
@@ -151,12 +155,17 @@ pub rest_ends : (x y : Contents) (old new : LogLeft) (all : StandbyState) → Ta
     → all_applied (standby_of x) (txs_left x.last old) ≡ all → standby_of y ≡ all
 rest_ends x y old new all h none is = h.0 ∙ ap (next_applied (standby_of x)) none ∙ ap (all_applied (standby_of x)) (sym none) ∙ is
 
+-- the end of a log from where a standby started
+pub end_from : (start : Namespace) (base : ℕ) (x : Contents) (left : LogLeft) (segments : List Segment) → standby_of x ≡ fresh start base → left.segments ≡ segments
+    → end_of_log x.last x.namespace left.segments ≡ end_of_log base start segments
+end_from start base x left segments new all = (λ j. end_of_log (new j).last (new j).namespace (all j))
+
 -- from the first step to the end of the log
-pub all_turns : (w x y : Contents) (set_out left : LogLeft) (steps : List Step) → standby_of w ≡ fresh root_alone 0 → set_out.txs ≡ []
+pub all_turns : (start : Namespace) (base : ℕ) (w x y : Contents) (set_out left : LogLeft) (steps : List Step) → standby_of w ≡ fresh start base → set_out.txs ≡ []
     → in_turn (standby_of x) (txs_left x.last left) [] ≡ in_turn (standby_of w) (txs_left w.last set_out) steps
     → standby_of y ≡ all_applied (standby_of x) (txs_left x.last left)
-    → standby_of y ≡ in_turn (fresh root_alone 0) (log_of 0 (map (λ (s : Segment). s.txs) set_out.segments)) steps
-all_turns w x y set_out left steps new none turns rest =
-    let begun : txs_left w.last set_out ≡ log_of 0 (map (λ (s : Segment). s.txs) set_out.segments) =
+    → standby_of y ≡ in_turn (fresh start base) (log_of base (map (λ (s : Segment). s.txs) set_out.segments)) steps
+all_turns start base w x y set_out left steps new none turns rest =
+    let begun : txs_left w.last set_out ≡ log_of base (map (λ (s : Segment). s.txs) set_out.segments) =
     (λ j. counted (new j).last (none j ++ flat_map (λ segment. segment) (map (λ (s : Segment). s.txs) set_out.segments))) in
     rest ∙ turns ∙ (λ j. in_turn (new j) (begun j) steps)

@@ -1,6 +1,6 @@
 -- What a reader gave so far, and what was read of it.
-use Rattle.std.proofs.Common.{◌≡◌, ◌≤◌, ◌+◌, ◌<◌, ℕ, List, [], ◌++◌, length, take, Result, refl, subst, arith, append-nil, length-append}
-use Rattle.std.specs.Prelude.{IfOk}
+use Rattle.std.proofs.Common.{◌≡◌, ◌≤◌, ◌+◌, ◌-◌, ◌<◌, ℕ, true, false, List, [], ◌++◌, length, take, drop, Option, Some, None, Result, refl, sym, ap, ◌∙◌, subst, arith, append-nil, length-append, length-drop}
+use Rattle.std.specs.Prelude.{IfOk, option_map}
 use Rattle.std.specs.Io.KnownBytes.{Consumes}
 use Rattle.std.proofs.KnownBytes.{Consumes-nil, Consumes-trans}
 use Rattle.std.proofs.lemmas.List.{length-take}
@@ -9,7 +9,12 @@ use Rattle.nn_scenario.specs.Chunks.{Chunks, HasCome, IsReadAs}
 use Rattle.nn_scenario.specs.Scenario.{max_input, seen, IsLawfulScenario}
 use Rattle.nn_scenario.specs.declared.scenario.BadLine.{BadLine}
 use Rattle.nn_scenario.specs.declared.scenario.Scenario.{Scenario}
-use Rattle.nn_engine.specs.Input.{GaveTooMuch, IsScenarioOfAll}
+use Rattle.nn_front.specs.Cut.{Cut, divided, rest_of}
+use Rattle.nn_front.specs.Front.{FrontState, IsFront}
+use Rattle.nn_front.proofs.Fronts.{rest_is}
+use Rattle.nn_engine.specs.Start.{scenario_in}
+use Rattle.nn_engine.specs.declared.device.InputParts.{InputParts}
+use Rattle.nn_engine.specs.Input.{GaveTooMuch, IsRead, IsReadOfAll, IsScenarioOfAll}
 
 -- so many bytes were taken, and the lines have come of them
 pub record HasTaken (old new : Reading) (taken : ℕ) (lines : Chunks) : Type 0 where
@@ -32,7 +37,7 @@ more_taken a b c taken n lines lines' buffer bound h got gave come = record {
   come = come h.text h.come;
 }
 
-pub too_much : (a b c : Reading) (taken n : ℕ) (lines : Chunks) (buffer : List ℕ) → n ≤ length buffer → max_input < taken + n → HasTaken a b taken lines → Consumes b.left c.left (take n buffer) → Gave b c n → GaveTooMuch a c
+pub too_much : (a b c : Reading) (taken n : ℕ) (lines : Chunks) (buffer : List ℕ) → n ≤ length buffer → max_input < taken + n → HasTaken a b taken lines → Consumes b.left c.left (take n buffer) → Gave b c n → GaveTooMuch false a c
 too_much a b c taken n lines buffer bound more h got gave = (
   h.text ++ take n buffer,
   omega (arith, length-append h.text (take n buffer), length-take n buffer, h.much, bound, more),
@@ -54,3 +59,74 @@ scenario_of_all a b c taken n lines buffer r none fits h got gave read = record 
 pub lawful_of_all : (a b : Reading) (taken : ℕ) (lines : Chunks) (r : Result Scenario BadLine) → HasTaken a b taken lines
     → ((text : List ℕ) → HasCome text lines → IsReadAs text r) → IfOk r (λ s. IsLawfulScenario (seen s))
 lawful_of_all a b taken lines r h read = (read h.text h.come).lawful
+
+-- ---- with an image in front
+
+-- so many bytes of the scenario were taken behind the front, and the lines have come of them
+pub record HasDivided (old new : Reading) (taken : ℕ) (front : FrontState) (lines : Chunks) : Type 0 where
+  pub text : List ℕ
+  pub rest : List ℕ
+  pub got : Consumes old.left new.left text
+  pub counted : new.given ≡ old.given + length text
+  pub is : IsFront text front rest
+  pub much : length rest ≡ taken
+  pub come : HasCome rest lines
+
+pub none_divided : (a : Reading) (front : FrontState) (lines : Chunks) → IsFront [] front [] → HasCome [] lines → HasDivided a a 0 front lines
+none_divided a front lines is come = record { text = []; rest = []; got = Consumes-nil a.left; counted = omega arith; is = is; much = refl; come = come }
+
+-- what a chunk does to a front, and what is behind it to the lines
+abbrev pub PushesFront : FrontState → List ℕ → ℕ → FrontState → Type 0
+PushesFront old bytes at new = (text rest : List ℕ) → IsFront text old rest → IsFront (text ++ bytes) new (rest ++ drop at bytes)
+
+pub more_divided : (a b c : Reading) (taken n at : ℕ) (front front' : FrontState) (lines lines' : Chunks) (bytes : List ℕ) → length bytes ≡ n → at ≤ n → HasDivided a b taken front lines
+    → Consumes b.left c.left bytes → Gave b c n → PushesFront front bytes at front' → ((text : List ℕ) → HasCome text lines → HasCome (text ++ drop at bytes) lines')
+    → HasDivided a c (taken + (n - at)) front' lines'
+more_divided a b c taken n at front front' lines lines' bytes long within h got gave pushed come = record {
+  text = h.text ++ bytes;
+  rest = h.rest ++ drop at bytes;
+  got = Consumes-trans a.left b.left c.left h.text bytes h.got got;
+  counted = omega (arith, length-append h.text bytes, long, h.counted, gave.counted);
+  is = pushed h.text h.rest h.is;
+  much = omega (arith, length-append h.rest (drop at bytes), length-drop at bytes, long, h.much, within);
+  come = come h.rest h.come;
+}
+
+pub too_much_divided : (a b c : Reading) (taken n at : ℕ) (front front' : FrontState) (lines : Chunks) (bytes : List ℕ) → length bytes ≡ n → at ≤ n → max_input < taken + (n - at)
+    → HasDivided a b taken front lines → Consumes b.left c.left bytes → Gave b c n → PushesFront front bytes at front' → GaveTooMuch true a c
+too_much_divided a b c taken n at front front' lines bytes long within more h got gave pushed =
+    let is : rest_of (divided (h.text ++ bytes)) ≡ h.rest ++ drop at bytes = rest_is front' (h.text ++ bytes) (h.rest ++ drop at bytes) (pushed h.text h.rest h.is) in (
+      h.text ++ bytes,
+      (let much = ap length is in omega (arith, much, length-append h.rest (drop at bytes), length-drop at bytes, long, h.much, within, more)),
+      Consumes-trans a.left b.left c.left h.text bytes h.got got,
+      omega (arith, length-append h.text bytes, long, h.counted, gave.counted),
+    )
+
+-- what the end of a front says
+abbrev pub EndsFront : FrontState → InputParts → Type 0
+EndsFront front parts = (text rest : List ℕ) → IsFront text front rest → divided text ≡ option_map (λ v. record { image = v.items; rest = rest }) parts.image
+
+image_of : {V : Type 0} (items : V → List ℕ) (image : Option V) (rest : List ℕ) → option_map (λ (c : Cut). c.image) (option_map (λ v. record { image = items v; rest = rest }) image) ≡ option_map items image
+image_of items None rest = refl
+image_of items (Some v) rest = refl
+
+pub is_read_behind : (front : FrontState) (text rest : List ℕ) (parts : InputParts) → IsFront text front rest → EndsFront front parts
+    → IsReadAs rest parts.lines → IsRead true text parts
+is_read_behind front text rest parts is ends read = record {
+  image = ap (option_map (λ (c : Cut). c.image)) (ends text rest is) ∙ image_of (λ v. v.items) parts.image rest;
+  read = subst (λ t. IsReadAs t parts.lines) (sym (rest_is front text rest is)) read;
+}
+
+-- the last read gave nothing
+pub read_of_all : (a b c : Reading) (taken n : ℕ) (front : FrontState) (lines : Chunks) (buffer : List ℕ) (parts : InputParts) → n ≡ 0 → taken ≤ max_input
+    → HasDivided a b taken front lines → Consumes b.left c.left (take n buffer) → Gave b c n → EndsFront front parts
+    → ((text : List ℕ) → HasCome text lines → IsReadAs text parts.lines) → IsReadOfAll true a c parts
+read_of_all a b c taken n front lines buffer parts none fits h got gave ends read =
+    let rest : rest_of (divided h.text) ≡ h.rest = rest_is front h.text h.rest h.is in
+    record {
+      input = h.text;
+      taken = subst (Consumes a.left c.left) (append-nil h.text) (Consumes-trans a.left b.left c.left h.text [] h.got (subst (λ k. Consumes b.left c.left (take k buffer)) none got));
+      counted = omega (arith, h.counted, gave.counted, none);
+      fits = (let long = ap length rest in omega (arith, long, h.much, fits));
+      is = is_read_behind front h.text h.rest parts h.is ends (read h.rest h.come);
+    }

@@ -7,3 +7,5 @@ pub mod WriteLemmas
 pub mod InMemoryLemmas
 pub mod DrivenLemmas
 pub mod InputLemmas
+pub mod CheckpointLemmas
+pub mod StartLemmas

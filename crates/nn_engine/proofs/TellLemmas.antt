@@ -6,7 +6,7 @@ use Rattle.nn_model.specs.History.{History}
 use Rattle.nn_model.specs.Items.{items}
 use Rattle.nn_model.specs.Lanes.{Lanes}
 use Rattle.nn_model.specs.Lawful.{IsWhole}
-use Rattle.nn_model.specs.Namespace.{Namespace, root_alone}
+use Rattle.nn_model.specs.Namespace.{Namespace}
 use Rattle.nn_model.specs.Picture.{ShowsPicture}
 use Rattle.nn_model.specs.Stands.{Stands, tables_of}
 use Rattle.nn_replicas.specs.Agreement.{Shows}
@@ -58,6 +58,6 @@ pub flushed_told : (options : Options) (x y : Contents) (lanes : Lanes) (whole :
     → ((lanes : Lanes) → ShowsPicture y.namespace (items lanes) (tables_of (standby_of y)) → p ≡ with_history options.history y.history (after_log (with_settings options y.permille y.table.min) lanes (Ok (record { last = y.last; namespace = y.namespace }))))
     → HasArrived whole lanes x → p ≡ with_history options.history (flushed (standby_of x)).history (after_log (with_settings options x.permille x.table.min) lanes whole)
 flushed_told options x y lanes whole p done settings flush told h =
-    told lanes (flush root_alone 0 h.txs lanes h.stands).2
+    told lanes (flush h.start h.base h.txs lanes h.stands).2
     ∙ (λ j. with_history options.history (done j).history (after_log (with_settings options (settings.permille j) (settings.min j)) lanes (Ok (record { last = (done j).last; namespace = (done j).namespace }))))
     ∙ ap (λ w. with_history options.history (flushed (standby_of x)).history (after_log (with_settings options x.permille x.table.min) lanes w)) (sym h.ends)

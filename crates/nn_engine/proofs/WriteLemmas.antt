@@ -9,10 +9,9 @@ use Rattle.nn_engine.specs.declared.device.InputFault.{InputFault}
 use Rattle.nn_engine.specs.declared.device.InputFault.TheVariants.{ReadFailed, TooLong, OutOfMemory}
 use Rattle.nn_engine.specs.declared.engine.RunEnd.{RunEnd}
 use Rattle.nn_engine.specs.declared.engine.Options.{Options}
-use Rattle.nn_engine.specs.Input.{IsUnread, IsScenarioOfAll}
+use Rattle.nn_engine.specs.Input.{IsUnread, IsReadOfAll}
+use Rattle.nn_engine.specs.declared.device.InputParts.{InputParts}
 use Rattle.nn_engine.specs.Output.{Printed, IsPrinted}
-use Rattle.nn_scenario.specs.declared.scenario.BadLine.{BadLine}
-use Rattle.nn_scenario.specs.declared.scenario.Scenario.{Scenario}
 use Rattle.nn_engine.specs.Run.{Given, IsOutput, NoneFailed, Wrote, WroteFront, fault_alone, running, unread_line}
 
 -- what a whole output, and what a front of one, is where this text was written with this status
@@ -29,9 +28,9 @@ writes given r writer writer' p text status same ends right ok err = record {
   failed = IfErr-weaker r _ _ (λ e w. record { output = p; right = right; failed = subst (λ t. FailedToWrite writer writer' t e.written) same w }) err;
 }
 
-pub is_output_of_all : (given : Given) (p : Printed) (lines : Result Scenario BadLine) (all : IsScenarioOfAll given.before given.after lines) → IsAtEnd given.after.left →
+pub is_output_of_all : (given : Given) (p : Printed) (parts : InputParts) (all : IsReadOfAll given.options.from_image given.before given.after parts) → IsAtEnd given.after.left →
     NoneFailed given → IsPrinted given.threads given.options all.input p → IsOutput given p
-is_output_of_all given p lines all whole none is = inl (record { input = all.input; taken = all.taken; counted = all.counted; whole = whole; fits = all.fits; is = is }, none)
+is_output_of_all given p parts all whole none is = inl (record { input = all.input; taken = all.taken; counted = all.counted; whole = whole; fits = all.fits; is = is }, none)
 
 pub is_no_memory : (given : Given) → NoneFailed given → IsOutput given (fault_alone (codes "55"))
 is_no_memory given none = inr (inr (refl, none))
@@ -52,14 +51,14 @@ unread_status ReadFailed = refl
 unread_status TooLong = refl
 unread_status OutOfMemory = refl
 
-is_unread : (options : Options) (threads : Bool) (before after : Reading) (fault : InputFault) → IsUnread before after fault →
+is_unread : (options : Options) (threads : Bool) (before after : Reading) (fault : InputFault) → IsUnread options.from_image before after fault →
     IsOutput (running options threads before after) (unread fault)
 is_unread options threads before after ReadFailed why = inr (inl (refl, inl why))
 is_unread options threads before after TooLong why = inr (inl (refl, inr why.0))
 is_unread options threads before after OutOfMemory why = inr (inr (refl, why))
 
 pub writes_unread : (options : Options) (threads : Bool) (before after : Reading) (r : Result RunEnd WriteFailed) (writer writer' : Writing)
-    (fault : InputFault) (text : List ℕ) → IsUnread before after fault → text ≡ unread_line fault →
+    (fault : InputFault) (text : List ℕ) → IsUnread options.from_image before after fault → text ≡ unread_line fault →
     IfOk r (λ end. Took writer writer' text × (end.status ≡ 1)) →
     IfErr r (λ e. FailedToWrite writer writer' text e.written) → Writes (running options threads before after) r writer writer'
 writes_unread options threads before after r writer writer' fault text why same ok err =

@@ -4,7 +4,7 @@ use Rattle.std.specs.List.{All}
 use Rattle.nn_types.specs.declared.tx.Tx.{Tx}
 use Rattle.nn_types.specs.declared.edit_fault.EditFault.{EditFault}
 use Rattle.nn_model.specs.Lanes.{Lanes}
-use Rattle.nn_model.specs.Namespace.{Namespace, root_alone}
+use Rattle.nn_model.specs.Namespace.{Namespace}
 use Rattle.nn_shadow.specs.Contents.{Contents, standby_of}
 use Rattle.nn_shadow.specs.Laws.{StandsBy}
 use Rattle.nn_shadow.specs.Refusals.{Phase, hand_refusal}
@@ -34,17 +34,21 @@ abbrev pub IsWelcome : Contents → Step → Type 0
 IsWelcome x step.Edit = Unit {0}
 IsWelcome x (step.Message m) = hand_refusal (length x.numbers) x.phase (standby_of x) m ≡ None
 
--- The standby stands where it has received these lanes and some of a log, of which this much is left. What is left ends
+-- The standby stands where, from some start, it has received these lanes and some of a log, of which this much is left. What is left ends
 -- as the whole log does.
 pub record IsOnItsWay (whole : Result LogEnd LogStop) (left : LogLeft) (lanes : Lanes) (x : Contents) : Type 0 where
+  pub start : Namespace
+  pub base : ℕ
   pub txs : List Tx
-  pub stands : StandsBy root_alone 0 txs lanes (standby_of x)
+  pub stands : StandsBy start base txs lanes (standby_of x)
   pub ends : end_of_left x.last x.namespace left ≡ whole
 
 -- the standby stands at these lanes, and at the end of the whole log
 pub record HasArrived (whole : Result LogEnd LogStop) (lanes : Lanes) (x : Contents) : Type 0 where
+  pub start : Namespace
+  pub base : ℕ
   pub txs : List Tx
-  pub stands : StandsBy root_alone 0 txs lanes (standby_of x)
+  pub stands : StandsBy start base txs lanes (standby_of x)
   pub ends : whole ≡ Ok (record { last = x.last; namespace = x.namespace })
 
 -- The standby is on its way, so many DataNodes being there and these steps ahead; after them it will have received these lanes.

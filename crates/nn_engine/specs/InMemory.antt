@@ -8,7 +8,10 @@ use Rattle.nn_drive.specs.declared.driving.DriveFault.TheVariants as drive
 use Rattle.nn_model.specs.Lanes.{Lanes}
 use Rattle.nn_scenario.specs.declared.steps.Step.{Step}
 use Rattle.nn_scenario.specs.declared.steps.Step.TheVariants as step
+use Rattle.nn_lane.specs.Ends.{Taking}
+use Rattle.nn_tailer.specs.Tailing.{Tailer, StandsAt}
 use Rattle.nn_engine.specs.Output.{Printed, fault_at}
+use Rattle.nn_engine.specs.Start.{Start}
 
 -- a source in memory gives its reports in order, and then none
 abbrev pub GivesReport : List Report → Option Report → List Report → Type 0
@@ -36,6 +39,11 @@ pub record AreInMemory (count : ℕ) (lanes : Lanes) (sources : List (List Repor
   pub few : AreFew sources
 
 -- ---- For private clauses.
+
+-- a standby with no messages over a start, before its first step
+pub record IsBegun (start : Start) (own : List Taking) (x : Tailer) : Type 0 where
+  pub ends : x.ends ≡ own
+  pub stands : StandsAt start.namespace start.txid [] x
 
 -- a standby that is new and a source that never fails meet no other fault
 abbrev pub MayEnd : DriveFault → Type 0

@@ -1,11 +1,17 @@
 -- What was read of an input, and why one was not.
-use Rattle.std.specs.Prelude.{◌≡◌, ◌≤◌, ◌<◌, ◌+◌, ℕ, true, List, length, Result}
+use Rattle.std.specs.Prelude.{◌≡◌, ◌≤◌, ◌<◌, ◌+◌, ℕ, Bool, true, false, List, length, Option, Some, None, option_map, Result, Ok, Err}
 use Rattle.std.specs.Io.KnownBytes.{Consumes}
 use Rattle.nn_device.specs.Device.{Reading}
 use Rattle.nn_scenario.specs.Chunks.{IsReadAs}
 use Rattle.nn_scenario.specs.Scenario.{max_input}
 use Rattle.nn_scenario.specs.declared.scenario.BadLine.{BadLine}
 use Rattle.nn_scenario.specs.declared.scenario.Scenario.{Scenario}
+use Rattle.nn_image.specs.Reading.{read_image}
+use Rattle.nn_image.specs.declared.fault.ImageFault.{ImageFault}
+use Rattle.nn_front.specs.Cut.{divided}
+use Rattle.nn_engine.specs.Start.{Start, from_root, scenario_in}
+use Rattle.nn_engine.specs.declared.start.Begin.{Begin}
+use Rattle.nn_engine.specs.declared.device.InputParts.{InputParts}
 use Rattle.nn_engine.specs.declared.device.InputFault.{InputFault}
 use Rattle.nn_engine.specs.declared.device.InputFault.TheVariants.{ReadFailed, TooLong, OutOfMemory}
 
@@ -17,12 +23,45 @@ pub record IsScenarioOfAll (old new : Reading) (lines : Result Scenario BadLine)
   pub fits : length input ≤ max_input
   pub read : IsReadAs input lines
 
--- the reader gave more bytes than an input may have
-abbrev pub GaveTooMuch : Reading → Reading → Type 0
-GaveTooMuch old new = (bytes : List ℕ) × (max_input < length bytes) × Consumes old.left new.left bytes × (new.given ≡ old.given + length bytes)
+-- the reader gave more bytes of a scenario than an input may have, behind its image where that is asked for
+abbrev pub GaveTooMuch : Bool → Reading → Reading → Type 0
+GaveTooMuch from_image old new =
+    (bytes : List ℕ) × (max_input < length (scenario_in from_image bytes)) × Consumes old.left new.left bytes × (new.given ≡ old.given + length bytes)
 
 -- what each fault says of the reader: a read failed, or it gave too much, or neither
-abbrev pub IsUnread : Reading → Reading → InputFault → Type 0
-IsUnread old new ReadFailed = new.failed ≡ true
-IsUnread old new TooLong = GaveTooMuch old new × (new.failed ≡ old.failed)
-IsUnread old new OutOfMemory = new.failed ≡ old.failed
+abbrev pub IsUnread : Bool → Reading → Reading → InputFault → Type 0
+IsUnread from_image old new ReadFailed = new.failed ≡ true
+IsUnread from_image old new TooLong = GaveTooMuch from_image old new × (new.failed ≡ old.failed)
+IsUnread from_image old new OutOfMemory = new.failed ≡ old.failed
+
+-- ---- For private clauses.
+
+-- the image of an input, where it is asked for and there
+abbrev pub image_in : Bool → List ℕ → Option (List ℕ)
+image_in false input = None
+image_in true input = option_map (λ cut. cut.image) (divided input)
+
+-- the image of an input and its scenario, as they were read
+pub record IsRead (from_image : Bool) (input : List ℕ) (r : InputParts) : Type 0 where
+  pub image : image_in from_image input ≡ option_map (λ v. v.items) r.image
+  pub read : IsReadAs (scenario_in from_image input) r.lines
+
+-- all that the reader gave is an input, and this was read of it
+pub record IsReadOfAll (from_image : Bool) (old new : Reading) (r : InputParts) : Type 0 where
+  pub input : List ℕ
+  pub taken : Consumes old.left new.left input
+  pub counted : new.given ≡ old.given + length input
+  pub fits : length (scenario_in from_image input) ≤ max_input
+  pub is : IsRead from_image input r
+
+-- an image of these bytes stands for this start, and none for the root alone
+abbrev pub IsStartOf : Option (List ℕ) → Start → Type 0
+IsStartOf None start = start ≡ from_root
+IsStartOf (Some image) start = read_image image ≡ Ok (start.namespace, start.txid)
+
+abbrev pub start_of : Begin → Start
+start_of b = record { namespace = b.namespace; txid = b.txid }
+
+abbrev pub begun : Result Begin ImageFault → Result Start ImageFault
+begun (Ok b) = Ok (start_of b)
+begun (Err fault) = Err fault

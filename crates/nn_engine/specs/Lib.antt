@@ -1,8 +1,10 @@
+pub mod Start
 pub mod Follow
 pub mod Turns
 pub mod Output
 pub mod OutputRows
 pub mod Input
+pub mod Checkpoint
 pub mod Run
 pub mod RunRows
 pub mod Shown

@@ -1,5 +1,5 @@
 -- What the program prints for a scenario.
-use Rattle.std.specs.Prelude.{◌≡◌, ℕ, Bool, true, false, ◌&&◌, ◌==◌, if◌then◌else◌, List, [], ◌∷◌, ◌++◌, map, Result, Ok, Err, codes, decimal}
+use Rattle.std.specs.Prelude.{◌≡◌, ℕ, Bool, true, false, ◌&&◌, ◌==◌, if◌then◌else◌, List, [], ◌∷◌, ◌++◌, map, Result, Ok, Err, MatchResult, codes, decimal}
 use Rattle.nn_edits.specs.Fault.{number_of as line_number_of}
 use Rattle.nn_types.specs.declared.tx.Tx.{Tx}
 use Rattle.nn_model.specs.History.{History}
@@ -7,8 +7,10 @@ use Rattle.nn_model.specs.Items.{items}
 use Rattle.nn_model.specs.Lanes.{Lanes}
 use Rattle.nn_model.specs.Lawful.{IsLawful, IsWhole}
 use Rattle.nn_model.specs.Log.{log_of}
-use Rattle.nn_model.specs.Namespace.{root_alone}
 use Rattle.nn_image.specs.Text.{image_text}
+use Rattle.nn_image.specs.Fault.{number_of as image_number_of}
+use Rattle.nn_image.specs.declared.fault.ImageFault.{ImageFault}
+use Rattle.nn_image.specs.declared.fault.ImageFault.TheVariants as image
 use Rattle.nn_segment.specs.Fault.{number_of as segment_number_of}
 use Rattle.nn_segment.specs.Segment.{Segment}
 use Rattle.nn_scenario.specs.Cut.{segments_from}
@@ -22,6 +24,7 @@ use Rattle.nn_scenario.specs.declared.steps.Step.{Step}
 use Rattle.nn_scenario.specs.declared.scenario.BadLine.{BadLine}
 use Rattle.nn_scenario.specs.declared.segments.BadSegment.{BadSegment}
 use Rattle.nn_engine.specs.declared.engine.Options.{Options}
+use Rattle.nn_engine.specs.Start.{Start, start_in, scenario_in}
 use Rattle.nn_engine.specs.Turns.{history_in_turn}
 
 -- a text and the program's exit status
@@ -46,18 +49,18 @@ after_log options lanes (Ok end) = record {
 }
 after_log options lanes (Err stop) = fault_at (codes " txid ") (stop_number stop.cause) stop.txid
 
-abbrev pub after_segments : Options → Lanes → Result (List Segment) BadSegment → Printed
-after_segments options lanes (Ok segments) = after_log options lanes (end_of_log 0 root_alone segments)
-after_segments options lanes (Err bad) = fault_at (codes " segment ") (segment_number_of bad.fault) bad.segment
+abbrev pub after_segments : Start → Options → Lanes → Result (List Segment) BadSegment → Printed
+after_segments start options lanes (Ok segments) = after_log options lanes (end_of_log start.txid start.namespace segments)
+after_segments start options lanes (Err bad) = fault_at (codes " segment ") (segment_number_of bad.fault) bad.segment
 
-abbrev pub after_lines : Options → Result Scenario BadLine → Printed
-after_lines options (Ok scenario) = after_segments options (lanes_of scenario.steps) (segments_from 1 scenario.parts)
-after_lines options (Err bad) = fault_at (codes " line ") (line_number_of bad.fault) bad.line
+abbrev pub after_lines : Start → Options → Result Scenario BadLine → Printed
+after_lines start options (Ok scenario) = after_segments start options (lanes_of scenario.steps) (segments_from 1 scenario.parts)
+after_lines start options (Err bad) = fault_at (codes " line ") (line_number_of bad.fault) bad.line
 
--- what is printed for an input: the first bad line, or the first bad segment, or the first transaction that is missing or
+-- what is printed for a scenario from a start: the first bad line, or the first bad segment, or the first transaction that is missing or
 -- refused, or the namespace, the tables and the image. It tells of no standby: neither of what it held, nor in which order it did things.
-unfoldable pub output_of : Options → List ℕ → Printed
-output_of options text = after_lines options (scenario_of text)
+unfoldable pub output_of : Start → Options → List ℕ → Printed
+output_of start options text = after_lines start options (scenario_of text)
 
 -- ---- The history before it.
 
@@ -65,21 +68,45 @@ output_of options text = after_lines options (scenario_of text)
 abbrev pub with_history : Bool → History → Printed → Printed
 with_history asked events p = if (p.status == 0) && asked then record { text = history_text events ++ p.text; status = 0 } else p
 
--- the history of a standby that followed this log and these steps, on one thread or with a thread for each DataNode
-pub record IsHistoryOf (threads : Bool) (log : List Tx) (steps : List Step) (events : History) : Type 0 where
-  pub lawful : IsLawful root_alone log (items (lanes_of steps)) events
-  pub whole : IsWhole root_alone log (items (lanes_of steps)) events
+-- the history of a standby that followed this log from a start, and these steps, on one thread or with a thread for each DataNode
+pub record IsHistoryOf (start : Start) (threads : Bool) (log : List Tx) (steps : List Step) (events : History) : Type 0 where
+  pub lawful : IsLawful start.namespace log (items (lanes_of steps)) events
+  pub whole : IsWhole start.namespace log (items (lanes_of steps)) events
   -- without threads it is the one that the lines make in their order
-  pub one_thread : threads ≡ false → events ≡ history_in_turn log steps
+  pub one_thread : threads ≡ false → events ≡ history_in_turn start log steps
 
 -- where the log of these segments ends, the events are the history of a standby that followed it and these steps
-abbrev pub AreEventsOf : Bool → List Step → Result (List Segment) BadSegment → History → Type 0
-AreEventsOf threads steps whole events =
-    (segments : List Segment) (end : LogEnd) → whole ≡ Ok segments → end_of_log 0 root_alone segments ≡ Ok end
-    → IsHistoryOf threads (log_of 0 (map (λ s. s.txs) segments)) steps events
+abbrev pub AreEventsOf : Start → Bool → List Step → Result (List Segment) BadSegment → History → Type 0
+AreEventsOf start threads steps whole events =
+    (segments : List Segment) (end : LogEnd) → whole ≡ Ok segments → end_of_log start.txid start.namespace segments ≡ Ok end
+    → IsHistoryOf start threads (log_of start.txid (map (λ s. s.txs) segments)) steps events
 
--- What is printed for an input: its output, and before it the history, where that is asked for.
-pub record IsPrinted (threads : Bool) (options : Options) (input : List ℕ) (p : Printed) : Type 0 where
+-- What is printed for a scenario from a start: its output, and before it the history, where that is asked for.
+pub record IsPrintedFrom (start : Start) (threads : Bool) (options : Options) (text : List ℕ) (p : Printed) : Type 0 where
   pub events : History
-  pub happened : (scenario : Scenario) → scenario_of input ≡ Ok scenario → AreEventsOf threads scenario.steps (segments_from 1 scenario.parts) events
-  pub is : p ≡ with_history options.history events (output_of options input)
+  pub happened : (scenario : Scenario) → scenario_of text ≡ Ok scenario → AreEventsOf start threads scenario.steps (segments_from 1 scenario.parts) events
+  pub is : p ≡ with_history options.history events (output_of start options text)
+
+-- ---- An image before the scenario.
+
+-- `fault N image`
+abbrev pub fault_of_image : ℕ → Printed
+fault_of_image number = record { text = codes "fault " ++ decimal number ++ codes " image" ++ newline ∷ []; status = 1 }
+
+-- and where one of its lines has the fault, `fault N image line K`
+abbrev pub image_fault : ImageFault → Printed
+image_fault image.NotHeader = fault_of_image (image_number_of image.NotHeader)
+image_fault (image.BadLine line) = fault_at (codes " image line ") (image_number_of (image.BadLine line)) line
+image_fault (image.WrongOrder line) = fault_at (codes " image line ") (image_number_of (image.WrongOrder line)) line
+image_fault image.CountMismatch = fault_of_image (image_number_of image.CountMismatch)
+image_fault image.Truncated = fault_of_image (image_number_of image.Truncated)
+image_fault image.BadVersion = fault_of_image (image_number_of image.BadVersion)
+image_fault image.ReadFault = fault_of_image (image_number_of image.ReadFault)
+image_fault image.OutOfMemory = fault_of_image (image_number_of image.OutOfMemory)
+
+-- what is printed for an input: for its scenario from its start, or the fault of its image
+abbrev pub IsPrinted : Bool → Options → List ℕ → Printed → Type 0
+IsPrinted threads options input p =
+    MatchResult (start_in options.from_image input)
+    (λ start. IsPrintedFrom start threads options (scenario_in options.from_image input) p)
+    (λ fault. p ≡ image_fault fault)

@@ -22,10 +22,11 @@ use Rattle.nn_listing.specs.Tables.{datanodes}
 use Rattle.nn_image.specs.Text.{image_text, head_data, form_data, end_data}
 use Rattle.nn_engine.specs.declared.engine.Options.{Options}
 use Rattle.nn_engine.specs.Output.{Printed, output_of}
+use Rattle.nn_engine.specs.Start.{from_root}
 
 -- what is asked for where the command line has no words
 abbrev usual : Options
-usual = record { settings = record { permille = 999; min = 1 }; history = false; image = false }
+usual = record { settings = record { permille = 999; min = 1 }; history = false; image = false; from_image = false }
 
 -- lines, each with its line feed
 abbrev lines : List (List ℕ) → List ℕ
@@ -34,12 +35,12 @@ lines each = flat_map (λ l. l ++ newline ∷ []) each
 abbrev printed : ℕ → List (List ℕ) → Printed
 printed status each = record { text = lines each; status = status }
 
-nothing : output_of usual [] ≡ printed 0 (codes "txid 0" ∷ codes "dir \"/\"" ∷ codes "blocks 0 safe 0 needed 0 mode off" ∷ [])
+nothing : output_of from_root usual [] ≡ printed 0 (codes "txid 0" ∷ codes "dir \"/\"" ∷ codes "blocks 0 safe 0 needed 0 mode off" ∷ [])
 unfolding output_of read_segment fault_of txids_of name_text name_digits reads_of edit_of_line end_of_txs scenario_of lines_from segments_from cut_from end_of_log digits escape_byte datanodes either_of_line either_in report_in dn_in kind_in kind_of object_in value_of tx_in op_in op_of txid_in whole_in number_in path_in profile_in edit_in blocks_in items_in block_in is_utf8 chars encode value punctuate lex content word after_number number_of scan_numeral
 nothing = refl
 
 -- A transaction that is refused, one that is missing, a segment with a fault, a line with a fault.
-missing_parent : output_of usual (lines (
+missing_parent : output_of from_root usual (lines (
     codes "{\"op\":\"OP_START_LOG_SEGMENT\",\"txid\":1}"
     ∷ codes "{\"op\":\"OP_MKDIR\",\"path\":\"/a/b\",\"txid\":2}"
     ∷ codes "{\"op\":\"OP_END_LOG_SEGMENT\",\"txid\":3}" ∷ []))
@@ -47,21 +48,21 @@ missing_parent : output_of usual (lines (
 unfolding output_of read_segment fault_of txids_of name_text name_digits reads_of edit_of_line end_of_txs scenario_of lines_from segments_from cut_from end_of_log digits escape_byte datanodes either_of_line either_in report_in dn_in kind_in kind_of object_in value_of tx_in op_in op_of txid_in whole_in number_in path_in profile_in edit_in blocks_in items_in block_in is_utf8 chars encode value punctuate lex content word after_number number_of scan_numeral
 missing_parent = refl
 
-log_begins_too_high : output_of usual (lines (
+log_begins_too_high : output_of from_root usual (lines (
     codes "{\"op\":\"OP_START_LOG_SEGMENT\",\"txid\":2}"
     ∷ codes "{\"op\":\"OP_END_LOG_SEGMENT\",\"txid\":3}" ∷ []))
     ≡ printed 1 (codes "fault 57 txid 1" ∷ [])
 unfolding output_of read_segment fault_of txids_of name_text name_digits reads_of edit_of_line end_of_txs scenario_of lines_from segments_from cut_from end_of_log digits escape_byte datanodes either_of_line either_in report_in dn_in kind_in kind_of object_in value_of tx_in op_in op_of txid_in whole_in number_in path_in profile_in edit_in blocks_in items_in block_in is_utf8 chars encode value punctuate lex content word after_number number_of scan_numeral
 log_begins_too_high = refl
 
-gap_in_segment : output_of usual (lines (
+gap_in_segment : output_of from_root usual (lines (
     codes "{\"op\":\"OP_START_LOG_SEGMENT\",\"txid\":1}"
     ∷ codes "{\"op\":\"OP_END_LOG_SEGMENT\",\"txid\":3}" ∷ []))
     ≡ printed 1 (codes "fault 14 segment 1" ∷ [])
 unfolding output_of read_segment fault_of txids_of name_text name_digits reads_of edit_of_line end_of_txs scenario_of lines_from segments_from cut_from end_of_log digits escape_byte datanodes either_of_line either_in report_in dn_in kind_in kind_of object_in value_of tx_in op_in op_of txid_in whole_in number_in path_in profile_in edit_in blocks_in items_in block_in is_utf8 chars encode value punctuate lex content word after_number number_of scan_numeral
 gap_in_segment = refl
 
-bad_line : output_of usual (lines (
+bad_line : output_of from_root usual (lines (
     codes "{\"op\":\"OP_START_LOG_SEGMENT\",\"txid\":1}"
     ∷ codes ""
     ∷ codes "{\"op\":\"OP_MKDIR\",\"txid\":2}" ∷ []))
@@ -70,7 +71,7 @@ unfolding output_of read_segment fault_of txids_of name_text name_digits reads_o
 bad_line = refl
 
 -- A report that comes before the log has its block.
-early_report : output_of usual (lines (
+early_report : output_of from_root usual (lines (
     codes "{\"op\":\"OP_START_LOG_SEGMENT\",\"txid\":1}"
     ∷ codes "{\"op\":\"OP_SET_GENSTAMP_V2\",\"gen\":1001,\"txid\":2}"
     ∷ codes "{\"op\":\"OP_ALLOCATE_BLOCK_ID\",\"id\":1073741825,\"txid\":3}"
@@ -88,7 +89,7 @@ unfolding output_of read_segment fault_of txids_of name_text name_digits reads_o
 early_report = refl
 
 -- The same, where two live replicas make a block safe and all blocks have to be.
-two_are_wanted : output_of (record usual { settings = record { permille = 1000; min = 2 } }) (lines (
+two_are_wanted : output_of from_root (record usual { settings = record { permille = 1000; min = 2 } }) (lines (
     codes "{\"op\":\"OP_START_LOG_SEGMENT\",\"txid\":1}"
     ∷ codes "{\"op\":\"OP_SET_GENSTAMP_V2\",\"gen\":1001,\"txid\":2}"
     ∷ codes "{\"op\":\"OP_ALLOCATE_BLOCK_ID\",\"id\":1073741825,\"txid\":3}"
@@ -106,7 +107,7 @@ unfolding output_of read_segment fault_of txids_of name_text name_digits reads_o
 two_are_wanted = refl
 
 -- With an image, of a file whose block was issued and never added.
-with_an_image : output_of (record usual { image = true }) (lines (
+with_an_image : output_of from_root (record usual { image = true }) (lines (
     codes "{\"op\":\"OP_START_LOG_SEGMENT\",\"txid\":1}"
     ∷ codes "{\"op\":\"OP_SET_GENSTAMP_V2\",\"gen\":1001,\"txid\":2}"
     ∷ codes "{\"op\":\"OP_ALLOCATE_BLOCK_ID\",\"id\":1073741825,\"txid\":3}"

@@ -9,6 +9,7 @@ use Rattle.nn_engine.specs.declared.device.InputFault.{InputFault}
 use Rattle.nn_engine.specs.declared.device.InputFault.TheVariants.{ReadFailed, TooLong, OutOfMemory}
 use Rattle.nn_engine.specs.declared.engine.Options.{Options}
 use Rattle.nn_engine.specs.Output.{Printed, IsPrinted}
+use Rattle.nn_engine.specs.Start.{scenario_in}
 
 -- one line with a fault's number alone
 abbrev pub fault_alone : List ℕ → Printed
@@ -33,12 +34,12 @@ pub record IsOutputOfAll (given : Given) (p : Printed) : Type 0 where
   pub taken : Consumes given.before.left given.after.left input
   pub counted : given.after.given ≡ given.before.given + length input
   pub whole : IsAtEnd given.after.left
-  pub fits : length input ≤ max_input
+  pub fits : length (scenario_in given.options.from_image input) ≤ max_input
   pub is : IsPrinted given.threads given.options input p
 
 -- the input cannot be read: a read failed, or the reader gave more than an input may have
 abbrev pub IsUnreadable : Given → Type 0
-IsUnreadable given = (given.after.failed ≡ true) ⊎ GaveTooMuch given.before given.after
+IsUnreadable given = (given.after.failed ≡ true) ⊎ GaveTooMuch given.options.from_image given.before given.after
 
 -- no read failed
 abbrev pub NoneFailed : Given → Type 0

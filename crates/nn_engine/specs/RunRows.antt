@@ -20,19 +20,19 @@ status = refl
 abbrev reader : Bool → Reading
 reader failed = record { left = Some (codes "abc"); given = 0; failed = failed }
 
-read_failed : IsUnread (reader false) (reader true) ReadFailed
+read_failed : IsUnread false (reader false) (reader true) ReadFailed
 read_failed = refl
 
 -- none is told that did not fail
-not_made_up : IsUnread (reader false) (reader false) ReadFailed → ⊥
+not_made_up : IsUnread false (reader false) (reader false) ReadFailed → ⊥
 not_made_up h = true≢false (sym h)
 
 -- three bytes are not too many
-not_too_long : IsUnread (reader false) (record { left = Some []; given = 3; failed = false }) TooLong → ⊥
+not_too_long : IsUnread false (reader false) (record { left = Some []; given = 3; failed = false }) TooLong → ⊥
 not_too_long h = let more = h.0.1 in let many = h.0.3 in omega (arith, more, many)
 
 -- where memory ran out, no read failed
-not_of_a_read : IsUnread (reader false) (reader true) OutOfMemory → ⊥
+not_of_a_read : IsUnread false (reader false) (reader true) OutOfMemory → ⊥
 not_of_a_read h = true≢false h
 
 readable : (options : Options) → NoneFailed (running options false (reader false) (reader true)) → ⊥

@@ -10,6 +10,7 @@ use Rattle.nn_scenario.specs.declared.segments.BadSegment.{BadSegment}
 use Rattle.nn_scenario.specs.declared.steps.Step.{Step}
 use Rattle.nn_engine.specs.Output.{Printed, AreEventsOf, after_log, after_segments, with_history}
 use Rattle.nn_engine.specs.declared.engine.Options.{Options}
+use Rattle.nn_engine.specs.Start.{Start}
 use Rattle.nn_engine.specs.declared.engine.Output.{Output}
 
 abbrev pub shown : Output → Printed
@@ -19,11 +20,11 @@ shown o = record { text = o.text.items; status = o.status }
 abbrev pub with_settings : Options → ℕ → ℕ → Options
 with_settings options permille min = record options { settings = record { permille = permille; min = min } }
 
--- what is printed of a scenario's steps and segments
-pub record IsToldOf (threads : Bool) (options : Options) (steps : List Step) (whole : Result (List Segment) BadSegment) (p : Printed) : Type 0 where
+-- what is printed of a scenario's steps and segments, from a start
+pub record IsToldOf (start : Start) (threads : Bool) (options : Options) (steps : List Step) (whole : Result (List Segment) BadSegment) (p : Printed) : Type 0 where
   pub events : History
-  pub happened : AreEventsOf threads steps whole events
-  pub is : p ≡ with_history options.history events (after_segments options (lanes_of steps) whole)
+  pub happened : AreEventsOf start threads steps whole events
+  pub is : p ≡ with_history options.history events (after_segments start options (lanes_of steps) whole)
 
 -- the history, where it is asked for
 abbrev pub history_part : Bool → History → List ℕ

@@ -2,11 +2,11 @@
 use Rattle.std.specs.Prelude.{List, [], ◌∷◌, drop}
 use Rattle.nn_types.specs.declared.tx.Tx.{Tx}
 use Rattle.nn_model.specs.History.{History}
-use Rattle.nn_model.specs.Namespace.{root_alone}
 use Rattle.nn_model.specs.Stands.{StandbyState, fresh}
 use Rattle.nn_shadow.specs.Calls.{applied_to, received, flushed}
 use Rattle.nn_scenario.specs.declared.steps.Step.{Step}
 use Rattle.nn_scenario.specs.declared.steps.Step.TheVariants as step
+use Rattle.nn_engine.specs.Start.{Start}
 
 -- the next transaction was applied, where one is left
 abbrev pub next_applied : StandbyState → List Tx → StandbyState
@@ -26,5 +26,5 @@ in_turn x log (step.Edit ∷ steps) = in_turn (next_applied x log) (drop 1 log) 
 in_turn x log (step.Message m ∷ steps) = in_turn (received x m) log steps
 
 -- and then the flush
-abbrev pub history_in_turn : List Tx → List Step → History
-history_in_turn log steps = (flushed (in_turn (fresh root_alone 0) log steps)).history
+abbrev pub history_in_turn : Start → List Tx → List Step → History
+history_in_turn start log steps = (flushed (in_turn (fresh start.namespace start.txid) log steps)).history

@@ -1,12 +1,13 @@
-//! The scenario that a reader gives.
-ghost use Rattle.std.specs.Prelude.{◌≡◌, length, IfOk, IfErr, OnOk};
+//! The image and the scenario that a reader gives.
+ghost use Rattle.std.specs.Prelude.{◌≡◌, ◌≤◌, false, true, length, IfOk, IfErr, OnOk};
 ghost use Rattle.std.specs.Io.KnownBytes.{IsAtEnd};
-ghost use Rattle.nn_scenario.specs.Scenario.{seen, IsLawfulScenario};
-ghost use Rattle.nn_engine.specs.Input.{IsScenarioOfAll, IsUnread};
+ghost use Rattle.nn_scenario.specs.Scenario.{max_input, seen, IsLawfulScenario};
+ghost use Rattle.nn_engine.specs.Input.{IsRead, IsReadOfAll, IsScenarioOfAll, IsUnread};
 
 use nn_device::Reader;
 use nn_edits::Scratch;
-use nn_scenario::{BadLine, Lines, MAX_INPUT, Scenario};
+use nn_front::Front;
+use nn_scenario::{BadLine, Lines, MAX_INPUT, Scenario, read_lines};
 use std::alloc::{AllocError, Global};
 use std::io::Read;
 use thiserror::Error;
@@ -47,7 +48,7 @@ pub fn read_scenario<R: Read>(
     ensures end { OnOk result (IsAtEnd input.new.left) }
     ensures lawful { IfOk result (λ lines. IfOk lines (λ s. IsLawfulScenario (seen s))) }
     ensures none_failed { OnOk result (input.new.failed ≡ input.old.failed) }
-    ensures why { IfErr result (IsUnread input.old input.new) }
+    ensures why { IfErr result (IsUnread false input.old input.new) }
 {
     let mut lines = Lines::new(alloc)?;
     let mut scratch = Scratch::new(alloc);
@@ -66,6 +67,93 @@ pub fn read_scenario<R: Read>(
         lines.push(alloc, &mut scratch, &buffer[..n]);
         taken += n;
     }
+}
+
+/// The image of an input, where it is asked for and there, and the scenario or its first line that is refused.
+#[derive(Drop)]
+pub(crate) struct InputParts {
+    pub image: Option<Vec<u8>>,
+    pub lines: Result<Scenario, BadLine>,
+}
+
+/// Reads an input to the reader's end, with an image in front or without one. The image is kept as it stands, and what is
+/// passed over before it is not. Of what follows the image, `MAX_INPUT` bytes are read at most.
+pub(crate) fn read_parts<R: Read>(
+    alloc: Global,
+    from_image: bool,
+    input: &mut Reader<R>,
+) -> Result<InputParts, InputFault>
+    ensures whole { IfOk result (IsReadOfAll from_image input.old input.new) }
+    ensures end { OnOk result (IsAtEnd input.new.left) }
+    ensures lawful { IfOk result (λ r. IfOk r.lines (λ s. IsLawfulScenario (seen s))) }
+    ensures none_failed { OnOk result (input.new.failed ≡ input.old.failed) }
+    ensures why { IfErr result (IsUnread from_image input.old input.new) }
+{
+    if from_image {
+        return read_behind_image(alloc, input);
+    }
+    match read_scenario(alloc, input) {
+        Ok(lines) => Ok(InputParts { image: None, lines }),
+        Err(fault) => Err(fault),
+    }
+}
+
+fn read_behind_image<R: Read>(
+    alloc: Global,
+    input: &mut Reader<R>,
+) -> Result<InputParts, InputFault>
+    ensures whole { IfOk result (IsReadOfAll true input.old input.new) }
+    ensures end { OnOk result (IsAtEnd input.new.left) }
+    ensures lawful { IfOk result (λ r. IfOk r.lines (λ s. IsLawfulScenario (seen s))) }
+    ensures none_failed { OnOk result (input.new.failed ≡ input.old.failed) }
+    ensures why { IfErr result (IsUnread true input.old input.new) }
+{
+    let mut front = Front::new(alloc);
+    let mut lines = Lines::new(alloc)?;
+    let mut scratch = Scratch::new(alloc);
+    let mut buffer = new_buffer(alloc, BUFFER)?;
+    let mut taken = 0;
+    'reads: loop {
+        let Ok(n) = input.read(&mut buffer) else {
+            return Err(InputFault::ReadFailed);
+        };
+        if n == 0 {
+            let Ok(image) = front.end() else {
+                return Err(InputFault::OutOfMemory);
+            };
+            let lines = lines.end(alloc, &mut scratch);
+            return Ok(InputParts { image, lines });
+        }
+        let Ok(at) = front.push(alloc, &buffer[..n]) else {
+            return Err(InputFault::OutOfMemory);
+        };
+        if n - at > MAX_INPUT - taken {
+            return Err(InputFault::TooLong);
+        }
+        lines.push(alloc, &mut scratch, &buffer[at..n]);
+        taken += n - at;
+    }
+}
+
+/// The same of an input in memory.
+pub(crate) fn parts_of(
+    alloc: Global,
+    from_image: bool,
+    input: &[u8],
+) -> Result<InputParts, AllocError>
+    requires { length input.now ≤ max_input }
+    ensures is { IfOk result (IsRead from_image input.now) }
+    ensures lawful { IfOk result (λ r. IfOk r.lines (λ s. IsLawfulScenario (seen s))) }
+{
+    if !from_image {
+        let lines = read_lines(alloc, input);
+        return Ok(InputParts { image: None, lines });
+    }
+    let mut front = Front::new(alloc);
+    let at = front.push(alloc, input)?;
+    let image = front.end()?;
+    let lines = read_lines(alloc, &input[at..]);
+    Ok(InputParts { image, lines })
 }
 
 // The size is a parameter so that no proof has to look at the buffer's cells one by one.

@@ -1,5 +1,5 @@
 //! A run: from a reader's bytes to a writer's.
-ghost use Rattle.std.specs.Prelude.{◌≡◌, ◌≢◌, ◌≤◌, ◌++◌, ℕ, List, false, length, codes, Result, Ok, IfOk, IfErr, OnOk, string_bytes};
+ghost use Rattle.std.specs.Prelude.{◌≡◌, ◌≢◌, ◌≤◌, ◌<◌, ◌^◌, ◌++◌, ℕ, List, false, length, codes, Result, Ok, IfOk, IfErr, OnOk, string_bytes};
 ghost use Rattle.nn_device.specs.Device.{Took, FailedToWrite};
 ghost use Rattle.nn_edits.specs.Fault.{number_of as line_number_of};
 ghost use Rattle.nn_model.specs.Items.{items};
@@ -12,20 +12,23 @@ ghost use Rattle.nn_scenario.specs.Cut.{segments_from};
 ghost use Rattle.nn_engine.specs.Follow.{serving, HasArrived, StopsAs};
 ghost use Rattle.nn_segment.specs.LogEnd.{LogEnd, LogStop};
 ghost use Rattle.nn_engine.specs.declared.engine.Options.{Options as RunOptions};
-ghost use Rattle.nn_engine.specs.Output.{output_of, after_log, fault_at, with_history, IsPrinted};
+ghost use Rattle.nn_engine.specs.Output.{output_of, after_log, fault_at, fault_of_image, image_fault, with_history, IsPrinted, IsPrintedFrom};
+ghost use Rattle.nn_engine.specs.Input.{start_of, IsRead};
 ghost use Rattle.nn_shadow.specs.Calls.{flushed};
 ghost use Rattle.nn_engine.specs.Run.{Wrote, WroteFront, running, unread_line};
 ghost use Rattle.nn_scenario.specs.Chunks.{IsReadAs};
 ghost use Rattle.nn_scenario.specs.Scenario.{max_input, seen, IsLawfulScenario};
 ghost use Rattle.nn_engine.specs.Shown.{history_part, shown, with_settings, IsFaultOf, IsToldOf};
 
-use crate::device::{InputFault, read_scenario};
+use crate::device::{InputFault, InputParts, parts_of, read_parts};
 use crate::follow::{Halt, follow};
 use crate::image::push_image;
+use crate::start::{Begin, start_from};
 use nn_device::{Reader, WriteFailed, Writer};
 use nn_edits::LineFault;
+use nn_image::ImageFault;
 use nn_listing::{push_history, push_tables, with_listing};
-use nn_scenario::{BadLine, BadSegment, Scenario, read_lines, read_segments};
+use nn_scenario::{BadLine, BadSegment, Scenario, read_segments};
 use nn_segment::SegmentFault;
 use nn_shadow::{FlushFault, Shadow};
 use nn_types::{Event, Settings, fault};
@@ -42,6 +45,8 @@ pub struct Options {
     pub history: bool,
     /// Whether the image of the namespace is printed after the tables.
     pub image: bool,
+    /// Whether the input begins with an image, from which the run goes on.
+    pub from_image: bool,
 }
 
 /// The line of an input that a reader did not give whole.
@@ -63,12 +68,13 @@ pub struct RunEnd {
     pub status: u8,
 }
 
-/// Reads a scenario to its end and writes its listing, or one fault line and nothing else. All of the
-/// output is made before its first byte is written.
+/// Reads an input to its end and writes the listing of its scenario, or one fault line and nothing else. All of the
+/// output is made before its first byte is written. Where the input begins with an image, that is read first: the standby
+/// starts from it, passes over the transactions up to the image's, and applies those above.
 ///
-/// `fault 8` says that a read failed, or that the input has more than 16,777,216 bytes. A reader that has not ended after
+/// `fault 8` says that a read failed, or that the scenario has more than 16,777,216 bytes. A reader that has not ended after
 /// 16,777,216 reads counts as failed. `fault 55` says that memory was refused. Neither line takes memory. After a failed
-/// write the writer has a front of the output.
+/// write the writer has a front of the output. An image is kept whole until it is loaded.
 pub fn run<R: Read, W: Write>(
     alloc: Global,
     options: &Options,
@@ -82,11 +88,11 @@ pub fn run<R: Read, W: Write>(
         (running options.now false input.old input.new)
         writer.old writer.new e.written) }
 {
-    let lines = match read_scenario(alloc, input) {
-        Ok(lines) => lines,
+    let parts = match read_parts(alloc, options.from_image, input) {
+        Ok(parts) => parts,
         Err(fault) => return finish(writer, unread_line(fault), 1),
     };
-    match output_of_lines(alloc, *options, lines) {
+    match output_of_parts(alloc, *options, parts) {
         Ok(output) => finish(writer, &output.text, output.status),
         Err(AllocError) => finish(writer, OUT_OF_MEMORY, 1),
     }
@@ -121,23 +127,62 @@ pub fn output_of(alloc: Global, options: Options, input: Vec<u8>) -> Result<Outp
     requires { length input.items ≤ max_input }
     ensures { IfOk result (λ o. IsPrinted false options input.items (shown o)) }
 {
-    let lines = read_lines(alloc, &input);
+    let parts = parts_of(alloc, options.from_image, &input)?;
     drop(input);
-    output_of_lines(alloc, options, lines)
+    output_of_parts(alloc, options, parts)
 }
 
 // The output of an input whose lines were read.
+fn output_of_parts(alloc: Global, options: Options, parts: InputParts) -> Result<Output, AllocError>
+    requires { IfOk parts.lines (λ s. IsLawfulScenario (seen s)) }
+    ensures { (input : List ℕ) → IsRead options.from_image input parts → IfOk result (λ o. IsPrinted false options input (shown o)) }
+{
+    let InputParts { image, lines } = parts;
+    let begun = start_from(alloc, options.from_image, &image)?;
+    drop(image);
+    match begun {
+        Ok(begin) => output_of_lines(alloc, options, begin, lines),
+        Err(fault) => output_of_image_fault(alloc, fault),
+    }
+}
+
+pub(crate) fn output_of_image_fault(alloc: Global, fault: ImageFault) -> Result<Output, AllocError>
+    ensures { IfOk result (λ o. shown o ≡ image_fault fault) }
+{
+    let number = fault.number();
+    match fault {
+        ImageFault::BadLine(line) => fault_output(alloc, number, " image line ", line),
+        ImageFault::WrongOrder(line) => fault_output(alloc, number, " image line ", line),
+        ImageFault::NotHeader => image_output(alloc, number),
+        ImageFault::CountMismatch => image_output(alloc, number),
+        ImageFault::Truncated => image_output(alloc, number),
+        ImageFault::BadVersion => image_output(alloc, number),
+        ImageFault::ReadFault => image_output(alloc, number),
+        ImageFault::OutOfMemory => image_output(alloc, number),
+    }
+}
+
+fn image_output(alloc: Global, number: u8) -> Result<Output, AllocError>
+    ensures { IfOk result (λ o. shown o ≡ fault_of_image number) }
+{
+    let text = format!(in alloc; "fault {number} image\n")?.into_bytes();
+    Ok(Output { text, status: 1 })
+}
+
+// The output of a scenario whose lines were read, from a start.
 #[tactic(auto, unfolding(crate::specs::Output::output_of))]
 fn output_of_lines(
     alloc: Global,
     options: Options,
+    begin: Begin,
     lines: Result<Scenario, BadLine>,
 ) -> Result<Output, AllocError>
-    requires { IfOk lines (λ s. IsLawfulScenario (seen s)) }
-    ensures { (input : List ℕ) → IsReadAs input lines → IfOk result (λ o. IsPrinted false options input (shown o)) }
+    requires limit { begin.txid < 2 ^ 63 }
+    requires lawful { IfOk lines (λ s. IsLawfulScenario (seen s)) }
+    ensures { (text : List ℕ) → IsReadAs text lines → IfOk result (λ o. IsPrintedFrom (start_of begin) false options text (shown o)) }
 {
     match lines {
-        Ok(scenario) => output_of_scenario(alloc, options, scenario),
+        Ok(scenario) => output_of_scenario(alloc, options, begin, scenario),
         Err(bad) => output_of_bad(alloc, bad),
     }
 }
@@ -155,18 +200,21 @@ pub(crate) fn output_of_bad(alloc: Global, bad: BadLine) -> Result<Output, Alloc
 fn output_of_scenario(
     alloc: Global,
     options: Options,
+    begin: Begin,
     scenario: Scenario,
 ) -> Result<Output, AllocError>
-    requires { IsLawfulScenario (seen scenario) }
-    ensures { IfOk result (λ o. IsToldOf false options scenario.steps (segments_from 1 scenario.parts.items) (shown o)) }
+    requires limit { begin.txid < 2 ^ 63 }
+    requires lawful { IsLawfulScenario (seen scenario) }
+    ensures { IfOk result (λ o. IsToldOf (start_of begin) false options scenario.steps (segments_from 1 scenario.parts.items) (shown o)) }
 {
     let Scenario {
         parts,
         steps,
         datanodes,
     } = scenario;
+    begin.namespace.well_formed();
     match read_segments(alloc, parts) {
-        Ok(segments) => match follow(alloc, options.settings, datanodes, steps, segments) {
+        Ok(segments) => match follow(alloc, begin, options.settings, datanodes, steps, segments) {
             Ok(standby) => output_of_standby(alloc, options, standby),
             Err(halt) => output_of_halt(alloc, halt),
         },

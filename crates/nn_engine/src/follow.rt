@@ -8,7 +8,7 @@ ghost use Rattle.nn_model.specs.Log.{log_of};
 ghost use Rattle.nn_model.specs.Stands.{fresh};
 ghost use Rattle.nn_shadow.specs.Calls.{applied_to, received};
 ghost use Rattle.nn_segment.specs.Segment.{Segment};
-ghost use Rattle.nn_model.specs.Namespace.{Namespace, root_alone};
+ghost use Rattle.nn_model.specs.Namespace.{Namespace};
 ghost use Rattle.nn_shadow.specs.Contents.{KeepsSettings, standby_of};
 ghost use Rattle.nn_shadow.specs.Laws.{StandsBy};
 ghost use Rattle.nn_shadow.specs.Refusals.{hand_refusal};
@@ -19,6 +19,7 @@ ghost use Rattle.nn_segment.specs.LogEnd.{end_of_log};
 ghost use Rattle.nn_scenario.specs.Steps.{lanes_of, AreInTurn, IsStepOf};
 
 use crate::log::Log;
+use crate::start::Begin;
 use nn_scenario::{Step, StepList};
 use nn_segment::{Next, Parsed};
 use nn_shadow::{ApplyFault, HandCause, Shadow};
@@ -35,25 +36,28 @@ pub enum Halt {
     OutOfMemory,
 }
 
-/// A standby that has followed the log of these segments to its end, and has taken in each message where it stands
+/// A standby that, from this start, has followed the log of these segments to its end, and has taken in each message where it stands
 /// among the edits. It has not flushed what it holds.
 pub fn follow(
     alloc: Global,
+    begin: Begin,
     settings: Settings,
     datanodes: u16,
     steps: StepList,
     segments: Vec<Parsed>,
 ) -> Result<Shadow, Halt>
+    requires limit { begin.txid < 2 ^ 63 }
     requires datanodes { (1 ≤ datanodes) × (datanodes ≤ 256) }
     requires in_turn { AreInTurn no_messages steps }
     requires within { All (IsStepOf datanodes) steps }
-    ensures arrived { IfOk result (λ shadow. HasArrived (end_of_log 0 root_alone segments.items) (lanes_of steps) shadow) }
-    ensures turns { IfOk result (λ shadow. standby_of shadow ≡ in_turn (fresh root_alone 0) (log_of 0 (map (λ (s : Segment). s.txs) segments.items)) steps) }
+    ensures arrived { IfOk result (λ shadow. HasArrived (end_of_log begin.txid begin.namespace segments.items) (lanes_of steps) shadow) }
+    ensures turns { IfOk result (λ shadow. standby_of shadow ≡ in_turn (fresh begin.namespace begin.txid) (log_of begin.txid (map (λ (s : Segment). s.txs) segments.items)) steps) }
     ensures serving { IfOk result (λ shadow. shadow.phase ≡ serving) }
     ensures settings { IfOk result (λ shadow. (shadow.table.min ≡ settings.min) × (shadow.permille ≡ settings.permille)) }
-    ensures halted { IfErr result (λ halt. StopsAs halt (end_of_log 0 root_alone segments.items)) }
+    ensures halted { IfErr result (λ halt. StopsAs halt (end_of_log begin.txid begin.namespace segments.items)) }
 {
-    let Ok(mut shadow) = Shadow::new(alloc, datanodes, settings) else {
+    let Begin { namespace, txid } = begin;
+    let Ok(mut shadow) = Shadow::from(alloc, namespace, txid, datanodes, settings) else {
         return Err(Halt::OutOfMemory);
     };
     let mut log = Log::new(alloc, segments);
@@ -67,11 +71,11 @@ pub fn follow(
 }
 
 fn take_steps(shadow: &mut Shadow, log: &mut Log, steps: StepList) -> Result<(), Halt>
-    requires { IsFollowing (end_of_log 0 root_alone log.old.segments) (length shadow.old.numbers) (lanes_of steps) log.old steps shadow.old }
-    ensures following { OnOk result (IsFollowing (end_of_log 0 root_alone log.old.segments) (length shadow.old.numbers) (lanes_of steps) log.new [] shadow.new) }
+    requires { IsFollowing (end_of_log shadow.old.last shadow.old.namespace log.old.segments) (length shadow.old.numbers) (lanes_of steps) log.old steps shadow.old }
+    ensures following { OnOk result (IsFollowing (end_of_log shadow.old.last shadow.old.namespace log.old.segments) (length shadow.old.numbers) (lanes_of steps) log.new [] shadow.new) }
     ensures turns { OnOk result (in_turn (standby_of shadow.new) (txs_left shadow.new.last log.new) [] ≡ in_turn (standby_of shadow.old) (txs_left shadow.old.last log.old) steps) }
     ensures rest { OnOk result (KeepsSettings shadow.old shadow.new) }
-    ensures halted { IfErr result (λ halt. StopsAs halt (end_of_log 0 root_alone log.old.segments)) }
+    ensures halted { IfErr result (λ halt. StopsAs halt (end_of_log shadow.old.last shadow.old.namespace log.old.segments)) }
 {
     let mut steps = steps.into_steps();
     'steps: while let Some(step) = steps.next() {

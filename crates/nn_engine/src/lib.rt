@@ -7,11 +7,14 @@ mod engine;
 mod follow;
 mod gate;
 mod image;
+mod law;
 mod log;
 mod segments;
+mod start;
 mod threads;
 
 pub use device::{InputFault, read_scenario};
 pub use engine::{Options, Output, RunEnd, output_of, run};
 pub use gate::{Gate, Open};
+pub use law::a_checkpoint_prints_the_same;
 pub use threads::{Threaded, run_threads};

@@ -1,30 +1,36 @@
 //! A run with threads: each DataNode reports from a thread of its own and the log comes from another, while a standby
 //! tails it.
-ghost use Rattle.std.specs.Prelude.{◌≡◌, ◌≤◌, ◌^◌, ◌++◌, ◌∷◌, [], ℕ, List, length, replicate, true, Ok, IfOk, IfErr, OnOk};
+ghost use Rattle.std.specs.Prelude.{◌≡◌, ◌≤◌, ◌^◌, ◌++◌, ◌∷◌, [], ℕ, List, length, replicate, true, false, option_map, Ok, IfOk, IfErr, OnOk};
 ghost use Rattle.std.specs.List.{All};
 ghost use Rattle.nn_model.specs.Lanes.{no_messages};
 ghost use Rattle.nn_scenario.specs.Cut.{segments_from};
 ghost use Rattle.nn_scenario.specs.Chunks.{IsReadAs};
 ghost use Rattle.nn_scenario.specs.Scenario.{seen, IsLawfulScenario};
 ghost use Rattle.nn_scenario.specs.Steps.{lanes_of, AreInTurn, IsStepOf};
-ghost use Rattle.nn_engine.specs.InMemory.{report_of, with_step, AreFew, AreInMemory, MayEnd, TellsStop};
-ghost use Rattle.nn_engine.specs.Output.{output_of, IsPrinted};
+ghost use Rattle.nn_engine.specs.InMemory.{report_of, with_step, AreFew, AreInMemory, IsBegun, MayEnd, TellsStop};
+ghost use Rattle.nn_engine.specs.Input.{IsRead, IsStartOf};
+ghost use Rattle.nn_engine.specs.Start.{Start};
+ghost use Rattle.nn_tailer.specs.Public.{AreNew};
+ghost use Rattle.nn_tailer.specs.Tailing.{has_begun};
+ghost use Rattle.nn_engine.specs.Output.{output_of, IsPrinted, IsPrintedFrom};
 ghost use Rattle.nn_engine.specs.Run.{Wrote, WroteFront, running};
 ghost use Rattle.nn_engine.specs.Shown.{shown, IsToldOf};
 
-use crate::device::read_scenario;
+use crate::device::{InputParts, read_parts};
 use crate::engine::{
     OUT_OF_MEMORY, Options, Output, RunEnd, fault_output, finish, output_of_bad,
-    output_of_bad_segment, tell, unread_line,
+    output_of_bad_segment, output_of_image_fault, tell, unread_line,
 };
 use crate::gate::{Gate, Way};
 use crate::segments::Segments;
+use crate::start::start_from;
 use nn_device::{Reader, WriteFailed, Writer};
 use nn_drive::{DriveFault, ReportSource, drive, with_lanes};
+use nn_lane::LaneEnd;
 use nn_scenario::{BadLine, Scenario, Step, StepList, read_segments};
 use nn_segment::Parsed;
 use nn_tailer::Standby;
-use nn_types::{Message, Report};
+use nn_types::{Message, Report, Settings};
 use std::alloc::{AllocError, Global};
 use std::collections::VecDeque;
 use std::io::{Read, Write};
@@ -172,11 +178,41 @@ fn output_of_fault(alloc: Global, fault: DriveFault) -> Result<Output, AllocErro
     }
 }
 
+// A standby over these lanes that starts from an image, which was loaded before, or from the root alone.
+fn standby_over(
+    alloc: Global,
+    ends: Vec<LaneEnd>,
+    settings: Settings,
+    image: &Option<Vec<u8>>,
+) -> Result<Standby, AllocError>
+    requires some { 1 ≤ length ends.items }
+    requires few { length ends.items ≤ 256 }
+    requires fresh { AreNew 1 ends.items }
+    ensures ends { IfOk result (λ x. x.ends ≡ ends.items) }
+    ensures serves { IfOk result (λ x. has_begun x ≡ false) }
+    ensures begun { IfOk result (λ x. (start : Start) → IsStartOf (option_map (λ v. v.items) image.now) start → IsBegun start ends.items x) }
+    ensures settings { IfOk result (λ x. (x.shadow.table.min ≡ settings.min) × (x.shadow.permille ≡ settings.permille)) }
+{
+    let Some(image) = image else {
+        let Ok(standby) = Standby::new(alloc, ends, settings) else {
+            return Err(AllocError);
+        };
+        return Ok(standby);
+    };
+    let mut reader = Reader::new(image.as_slice());
+    match Standby::from_image(alloc, ends, settings, &mut reader) {
+        Ok(standby) => Ok(standby),
+        // It was loaded before, so that only memory can be short.
+        Err(_) => Err(AllocError),
+    }
+}
+
 // Drives a standby over these segments and steps, and tells what comes of it.
 fn output_of_drive<G: Gate + Send + Sync + Drop, R: Threads + Wait + Sync>(
     rt: &R,
     alloc: Global,
     asked: &Threaded<G>,
+    image: &Option<Vec<u8>>,
     datanodes: u16,
     steps: StepList,
     segments: Vec<Parsed>,
@@ -185,13 +221,12 @@ fn output_of_drive<G: Gate + Send + Sync + Drop, R: Threads + Wait + Sync>(
     requires datanodes { (1 ≤ datanodes) × (datanodes ≤ 256) }
     requires in_turn { AreInTurn no_messages steps }
     requires within { All (IsStepOf datanodes) steps }
-    ensures { IfOk result (λ o. IsToldOf true asked.now.options steps (Ok segments.items) (shown o)) }
+    ensures { IfOk result (λ o. (start : Start) → IsStartOf (option_map (λ v. v.items) image.now) start
+        → IsToldOf start true asked.now.options steps (Ok segments.items) (shown o)) }
 {
     let sources = sources_of(alloc, &asked.gate, datanodes, steps)?;
     let (workers, ends) = with_lanes(alloc, sources, asked.capacity)?;
-    let Ok(standby) = Standby::new(alloc, ends, asked.options.settings) else {
-        return Err(AllocError);
-    };
+    let standby = standby_over(alloc, ends, asked.options.settings, image)?;
     let gate = Arc::try_clone(&asked.gate)?;
     match drive(rt, alloc, standby, Segments::new(segments, gate), workers) {
         Ok((shadow, _active)) => tell(alloc, asked.options, shadow),
@@ -203,11 +238,13 @@ fn output_of_threads<G: Gate + Send + Sync + Drop, R: Threads + Wait + Sync>(
     rt: &R,
     alloc: Global,
     asked: &Threaded<G>,
+    image: &Option<Vec<u8>>,
     scenario: Scenario,
 ) -> Result<Output, AllocError>
     requires capacity { (1 ≤ asked.now.capacity) × (asked.now.capacity ≤ 1024) }
     requires lawful { IsLawfulScenario (seen scenario) }
-    ensures { IfOk result (λ o. IsToldOf true asked.now.options scenario.steps (segments_from 1 scenario.parts.items) (shown o)) }
+    ensures { IfOk result (λ o. (start : Start) → IsStartOf (option_map (λ v. v.items) image.now) start
+        → IsToldOf start true asked.now.options scenario.steps (segments_from 1 scenario.parts.items) (shown o)) }
 {
     let Scenario {
         parts,
@@ -215,7 +252,7 @@ fn output_of_threads<G: Gate + Send + Sync + Drop, R: Threads + Wait + Sync>(
         datanodes,
     } = scenario;
     match read_segments(alloc, parts) {
-        Ok(segments) => output_of_drive(rt, alloc, asked, datanodes, steps, segments),
+        Ok(segments) => output_of_drive(rt, alloc, asked, image, datanodes, steps, segments),
         Err(bad) => Ok(output_of_bad_segment(alloc, bad)?),
     }
 }
@@ -226,21 +263,45 @@ fn output_by_threads<G: Gate + Send + Sync + Drop, R: Threads + Wait + Sync>(
     rt: &R,
     alloc: Global,
     asked: &Threaded<G>,
+    image: &Option<Vec<u8>>,
     lines: Result<Scenario, BadLine>,
 ) -> Result<Output, AllocError>
     requires capacity { (1 ≤ asked.now.capacity) × (asked.now.capacity ≤ 1024) }
     requires lawful { IfOk lines (λ s. IsLawfulScenario (seen s)) }
-    ensures { (input : List ℕ) → IsReadAs input lines → IfOk result (λ o. IsPrinted true asked.now.options input (shown o)) }
+    ensures { (text : List ℕ) → IsReadAs text lines → IfOk result (λ o. (start : Start) → IsStartOf (option_map (λ v. v.items) image.now) start
+        → IsPrintedFrom start true asked.now.options text (shown o)) }
 {
     match lines {
-        Ok(scenario) => output_of_threads(rt, alloc, asked, scenario),
+        Ok(scenario) => output_of_threads(rt, alloc, asked, image, scenario),
         Err(bad) => Ok(output_of_bad(alloc, bad)?),
+    }
+}
+
+// The output of an input whose parts were read, by threads. The image is loaded once to see whether it has a fault, and once
+// for the standby, whose lanes are not known before the scenario is.
+fn parts_by_threads<G: Gate + Send + Sync + Drop, R: Threads + Wait + Sync>(
+    rt: &R,
+    alloc: Global,
+    asked: &Threaded<G>,
+    parts: InputParts,
+) -> Result<Output, AllocError>
+    requires capacity { (1 ≤ asked.now.capacity) × (asked.now.capacity ≤ 1024) }
+    requires lawful { IfOk parts.lines (λ s. IsLawfulScenario (seen s)) }
+    ensures { (input : List ℕ) → IsRead asked.now.options.from_image input parts → IfOk result (λ o. IsPrinted true asked.now.options input (shown o)) }
+{
+    let InputParts { image, lines } = parts;
+    match start_from(alloc, asked.options.from_image, &image)? {
+        Ok(begin) => {
+            drop(begin);
+            output_by_threads(rt, alloc, asked, &image, lines)
+        }
+        Err(fault) => Ok(output_of_image_fault(alloc, fault)?),
     }
 }
 
 /// Reads a scenario to its end and writes its listing, or one fault line and nothing else, as `run` does; but each
 /// DataNode reports from a thread of its own and the log's segments come from another, while the standby tails the log on
-/// this one. Whatever the schedule, it writes the same.
+/// this one. Whatever the schedule, it writes the same. An image in front is loaded twice.
 ///
 /// `fault 55` says that memory was refused, or a thread. It waits for as long as the gate does.
 pub fn run_threads<I: Read, W: Write, G: Gate + Send + Sync + Drop, R: Threads + Wait + Sync>(
@@ -258,11 +319,11 @@ pub fn run_threads<I: Read, W: Write, G: Gate + Send + Sync + Drop, R: Threads +
         (running asked.now.options true input.old input.new)
         writer.old writer.new e.written) }
 {
-    let lines = match read_scenario(alloc, input) {
-        Ok(lines) => lines,
+    let parts = match read_parts(alloc, asked.options.from_image, input) {
+        Ok(parts) => parts,
         Err(fault) => return finish(writer, unread_line(fault), 1),
     };
-    match output_by_threads(rt, alloc, asked, lines) {
+    match parts_by_threads(rt, alloc, asked, parts) {
         Ok(output) => finish(writer, &output.text, output.status),
         Err(AllocError) => finish(writer, OUT_OF_MEMORY, 1),
     }

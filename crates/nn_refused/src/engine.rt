@@ -1,4 +1,4 @@
-//! `run`, with a history and an image.
+//! `run`, with a history and an image, and from an image.
 use crate::heap::Heap;
 use crate::lines::Lines;
 use crate::scenario::Halt;
@@ -11,6 +11,21 @@ use std::mem;
 
 // A report that comes before its block is named.
 const LINES: &[u8] = br#"{"op":"OP_START_LOG_SEGMENT","txid":1}
+{"op":"OP_SET_GENSTAMP_V2","gen":1001,"txid":2}
+{"op":"OP_ALLOCATE_BLOCK_ID","id":1073741825,"txid":3}
+{"op":"OP_ADD","path":"/f","replication":3,"txid":4}
+{"dn":1,"block":1073741825,"gen":1001,"len":5,"kind":"received"}
+{"op":"OP_ADD_BLOCK","gen":1001,"id":1073741825,"path":"/f","txid":5}
+{"op":"OP_CLOSE","blocks":[{"gen":1001,"id":1073741825,"len":5}],"path":"/f","txid":6}
+{"op":"OP_END_LOG_SEGMENT","txid":7}
+"#;
+
+// The image after transaction 4, and the same lines behind it.
+const BEHIND_IMAGE: &[u8] =
+    br#"{"awaiting":[1073741825],"image":"hdfs-standby","last_block":1073741825,"last_gen":1001,"profile":1,"txid":4,"version":2}
+{"blocks":[],"closed":false,"path":"/f","replication":3,"type":"file"}
+{"end":1}
+{"op":"OP_START_LOG_SEGMENT","txid":1}
 {"op":"OP_SET_GENSTAMP_V2","gen":1001,"txid":2}
 {"op":"OP_ALLOCATE_BLOCK_ID","id":1073741825,"txid":3}
 {"op":"OP_ADD","path":"/f","replication":3,"txid":4}
@@ -64,26 +79,35 @@ impl Changing for Run<'_> {
     }
 }
 
-/// Runs a scenario.
+/// Runs a scenario, from the root alone and from an image.
 pub fn run_scenario(
     alloc: Global,
     is_ample: bool,
     settings: Settings,
     lines: &mut Lines,
 ) -> Result<(), Halt> {
-    let run = Run {
+    let mut run = Run {
         alloc,
         lines: LINES,
         options: Options {
             settings,
             history: true,
             image: true,
+            from_image: false,
         },
     };
-    let (output, fate) = play(alloc, is_ample, &run)?;
-    let (undisturbed, other) = play(alloc, true, &run)?;
-    let fate = fate.and(other).if_same(output == undisturbed);
-    lines.push(&["run"], &[fate])
+    let fate = fate_of(alloc, is_ample, &run)?;
+    lines.push(&["run"], &[fate])?;
+    run.lines = BEHIND_IMAGE;
+    run.options.from_image = true;
+    let fate = fate_of(alloc, is_ample, &run)?;
+    lines.push(&["run, from an image"], &[fate])
+}
+
+fn fate_of(alloc: Global, is_ample: bool, run: &Run) -> Result<Fate, Halt> {
+    let (output, fate) = play(alloc, is_ample, run)?;
+    let (undisturbed, other) = play(alloc, true, run)?;
+    Ok(fate.and(other).if_same(output == undisturbed))
 }
 
 fn play(alloc: Global, is_ample: bool, run: &Run) -> Result<(Vec<u8>, Fate), Halt> {

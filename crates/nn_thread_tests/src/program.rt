@@ -20,6 +20,7 @@ fn usual_options() -> Options {
             settings,
             history: false,
             image: false,
+            from_image: false,
         },
         None => unreachable!(),
     }

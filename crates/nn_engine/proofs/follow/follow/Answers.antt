@@ -1,26 +1,40 @@
-use Rattle.std.proofs.Common.{length, map, refl, ap, ◌∙◌}
+use Rattle.std.proofs.Common.{◌≡◌, length, map, refl, ap, subst, ◌∙◌}
 use Rattle.nn_model.specs.Log.{log_of}
 use Rattle.nn_model.specs.Stands.{fresh}
 use Rattle.nn_segment.specs.Segment.{Segment}
+use Rattle.nn_scenario.specs.Steps.{lanes_of}
 use Rattle.nn_engine.specs.Turns.{in_turn}
-use Rattle.nn_model.specs.Namespace.{root_alone}
 use Rattle.nn_segment.specs.LogEnd.{end_of_log}
-use Rattle.nn_engine.proofs.FollowLemmas.{sets_out, all_turns}
+use Rattle.nn_engine.specs.Follow.{HasArrived, StopsAs}
+use Rattle.nn_engine.proofs.FollowLemmas.{sets_out, all_turns, end_from}
 use Rattle.nn_engine.proofs.follow.follow.Goals as goal
 
 pub take_steps-requires : goal.take_steps-requires
 take_steps-requires c =
-    sets_out (length c.in-Ok.shadow.numbers) c.new-log.result c.args.steps c.in-Ok.shadow c.in-Ok.ensures.fresh c.in-Ok.ensures.phase refl
+    sets_out c.args.begin.namespace c.args.begin.txid (length c.in-Ok.shadow.numbers) c.new-log.result c.args.steps c.in-Ok.shadow c.in-Ok.ensures.stands c.in-Ok.ensures.phase refl
     (ap (λ left. left.txs) c.new-log.ensures) c.requires.in_turn (rw c.in-Ok.ensures.settings.0 c.requires.within)
+
+pub returns-in-Err-clause-halted : goal.returns-in-Err-clause-halted
+returns-in-Err-clause-halted c =
+    subst (StopsAs c.in-Err.halt) (end_from c.args.begin.namespace c.args.begin.txid c.in-Ok.shadow c.new-log.result c.args.segments.items c.in-Ok.ensures.fresh (ap (λ left. left.segments) c.new-log.ensures))
+    c.in-Err.ensures.halted
 
 pub returns-in-Err-follow_to_end-clause-halted : goal.returns-in-Err-follow_to_end-clause-halted
 returns-in-Err-follow_to_end-clause-halted c =
     let following = c.in_default-take_steps.ensures.following in
-    rw (← ap (λ left. left.segments) c.new-log.ensures)
-    (c.in-Err-follow_to_end.ensures.halted (end_of_log 0 root_alone c.new-log.result.segments) following.lanes following.way)
+    subst (StopsAs c.in-Err-follow_to_end.halt) (end_from c.args.begin.namespace c.args.begin.txid c.in-Ok.shadow c.new-log.result c.args.segments.items c.in-Ok.ensures.fresh (ap (λ left. left.segments) c.new-log.ensures))
+    (c.in-Err-follow_to_end.ensures.halted (end_of_log c.in-Ok.shadow.last c.in-Ok.shadow.namespace c.new-log.result.segments) following.lanes following.way)
+
+pub returns-clause-arrived : goal.returns-clause-arrived
+returns-clause-arrived c =
+    let following = c.in_default-take_steps.ensures.following in
+    subst (λ whole. HasArrived whole (lanes_of c.args.steps) c.follow_to_end.new.shadow)
+    (end_from c.args.begin.namespace c.args.begin.txid c.in-Ok.shadow c.new-log.result c.args.segments.items c.in-Ok.ensures.fresh (ap (λ left. left.segments) c.new-log.ensures))
+    (subst (λ lanes. HasArrived (end_of_log c.in-Ok.shadow.last c.in-Ok.shadow.namespace c.new-log.result.segments) lanes c.follow_to_end.new.shadow) following.ahead
+    (c.in_default-follow_to_end.ensures.arrived (end_of_log c.in-Ok.shadow.last c.in-Ok.shadow.namespace c.new-log.result.segments) following.lanes following.way))
 
 pub returns-clause-turns : goal.returns-clause-turns
 returns-clause-turns c =
-    all_turns c.in-Ok.shadow c.take_steps.new.shadow c.follow_to_end.new.shadow c.new-log.result c.take_steps.new.log c.args.steps
+    all_turns c.args.begin.namespace c.args.begin.txid c.in-Ok.shadow c.take_steps.new.shadow c.follow_to_end.new.shadow c.new-log.result c.take_steps.new.log c.args.steps
     c.in-Ok.ensures.fresh (ap (λ left. left.txs) c.new-log.ensures) c.in_default-take_steps.ensures.turns c.in_default-follow_to_end.ensures.turns
-    ∙ ap (λ left. in_turn (fresh root_alone 0) (log_of 0 (map (λ (s : Segment). s.txs) left.segments)) c.args.steps) c.new-log.ensures
+    ∙ ap (λ left. in_turn (fresh c.args.begin.namespace c.args.begin.txid) (log_of c.args.begin.txid (map (λ (s : Segment). s.txs) left.segments)) c.args.steps) c.new-log.ensures

@@ -1,5 +1,4 @@
 use Rattle.std.proofs.Common.{length, ap, sym, ◌∙◌}
-use Rattle.nn_model.specs.Namespace.{root_alone}
 use Rattle.nn_segment.specs.LogEnd.{end_of_log}
 use Rattle.nn_scenario.specs.Steps.{lanes_of}
 use Rattle.nn_shadow.specs.Contents.{standby_of}
@@ -10,16 +9,16 @@ use Rattle.nn_engine.proofs.follow.take_steps.Goals as goal
 
 pub returns-in-Err-clause-halted : goal.returns-in-Err-clause-halted
 returns-in-Err-clause-halted c =
-    c.in-Err.ensures.halted (end_of_log 0 root_alone c.args.log.now.segments) c.steps.invariant.following.lanes c.steps.invariant.following.way
+    c.in-Err.ensures.halted (end_of_log c.args.shadow.now.last c.args.shadow.now.namespace c.args.log.now.segments) c.steps.invariant.following.lanes c.steps.invariant.following.way
 
 pub take_step-requires-clause-welcome : goal.take_step-requires-clause-welcome
 take_step-requires-clause-welcome c =
-    is_welcome (end_of_log 0 root_alone c.args.log.now.segments) (length c.args.shadow.now.numbers) (lanes_of c.args.steps) c.steps.log c.in-Some.step
+    is_welcome (end_of_log c.args.shadow.now.last c.args.shadow.now.namespace c.args.log.now.segments) (length c.args.shadow.now.numbers) (lanes_of c.args.steps) c.steps.log c.in-Some.step
     c.next.new.self c.steps.shadow (rw (← c.in-Some.ensures.some) c.steps.invariant.following)
 
 pub steps-preserved : goal.steps-preserved
 steps-preserved c =
-    let whole = end_of_log 0 root_alone c.args.log.now.segments in
+    let whole = end_of_log c.args.shadow.now.last c.args.shadow.now.namespace c.args.log.now.segments in
     let inv = c.steps.invariant in
     let done = c.in_default-take_step.ensures in
     record {

@@ -9,42 +9,41 @@ use Rattle.nn_engine.proofs.ToldLemmas.{told_history, told_fault}
 use Rattle.nn_engine.proofs.DrivenLemmas.{ends_many, arrives, may_end, stop_told, tells}
 use Rattle.nn_engine.proofs.threads.output_of_drive.Goals as goal
 
-pub new-requires-clause-some : goal.new-requires-clause-some
-new-requires-clause-some g c =
+pub standby_over-requires-clause-some : goal.standby_over-requires-clause-some
+standby_over-requires-clause-some g c =
     let q = ends_many 1 c.in_ok-sources.sources.items c.in_ok-workers.workers.items c.in_ok-workers.ends.items c.in_ok-workers.ensures.own in
     let n = c.in_ok-sources.ensures.size in
     omega (arith, q, n, c.requires.datanodes.0)
 
-pub new-requires-clause-few : goal.new-requires-clause-few
-new-requires-clause-few g c =
+pub standby_over-requires-clause-few : goal.standby_over-requires-clause-few
+standby_over-requires-clause-few g c =
     let q = ends_many 1 c.in_ok-sources.sources.items c.in_ok-workers.workers.items c.in_ok-workers.ends.items c.in_ok-workers.ensures.own in
     let n = c.in_ok-sources.ensures.size in
     omega (arith, q, n, c.requires.datanodes.1)
 
-pub returns-in-Ok-drive : goal.returns-in-Ok-drive
-returns-in-Ok-drive g c =
+pub returns-in-Ok : goal.returns-in-Ok
+returns-in-Ok g c =
     let options = c.args.asked.now.options in
     let settings = options.settings in
     let lanes = lanes_of c.args.steps in
-    let a = arrives settings c.args.datanodes lanes c.in_ok-sources.sources.items c.in_ok-sources.ensures c.in_ok-workers.workers.items c.in_ok-workers.ends.items c.in_ok-workers.ensures.own c.in-Ok.standby c.in-Ok.ensures.ok c.in-Ok.ensures.settings c.new-2.result
-    c.in-Ok-drive.shadow c.in-Ok-drive._active c.in-Ok-drive.ensures.ok in
-    let happened : IsHistoryOf true (log_of 0 (map (λ (s : Segment). s.txs) c.new-2.result)) c.args.steps c.in-Ok-drive.shadow.history =
+    IfOk-weaker c.tell.result _ _ (λ o told start is. subst (λ s. IsToldOf start true options c.args.steps (Ok s) (shown o)) c.new.ensures (
+    let a = arrives settings c.args.datanodes lanes c.in_ok-sources.sources.items c.in_ok-sources.ensures c.in_ok-workers.workers.items c.in_ok-workers.ends.items c.in_ok-workers.ensures.own start c.in_ok-standby.standby (c.in_ok-standby.ensures.begun start is) c.in_ok-standby.ensures.settings c.new.result
+    c.in-Ok.shadow c.in-Ok._active c.in-Ok.ensures.ok in
+    let happened : IsHistoryOf start true (log_of start.txid (map (λ (s : Segment). s.txs) c.new.result)) c.args.steps c.in-Ok.shadow.history =
     record { lawful = a.lawful; whole = a.whole; one_thread = λ none. absurd (cc) } in
-    IfOk-weaker c.tell.result _ _ (λ o told. subst (λ s. IsToldOf true options c.args.steps (Ok s) (shown o)) c.new-2.ensures
-    (told_history true options c.args.steps (Ok c.new-2.result) c.new-2.result c.in-Ok-drive.shadow.history (shown o) refl (λ end ended. happened)
-    (tells options lanes c.new-2.result c.in-Ok-drive.shadow (shown o) a told))) c.tell.ensures
+    told_history start true options c.args.steps (Ok c.new.result) c.new.result c.in-Ok.shadow.history (shown o) refl (λ end ended. happened)
+    (tells start options lanes c.new.result c.in-Ok.shadow (shown o) a told)
+    )) c.tell.ensures
 
 pub output_of_fault-requires : goal.output_of_fault-requires
-output_of_fault-requires g c =
-    may_end c.args.asked.now.options.settings c.args.datanodes (lanes_of c.args.steps) c.in_ok-sources.sources.items c.in_ok-sources.ensures c.in_ok-workers.workers.items c.in_ok-workers.ends.items c.in_ok-workers.ensures.own c.in-Ok.standby c.in-Ok.ensures.ok c.in-Ok.ensures.settings c.new-2.result
-    c.in-Err.fault c.in-Err.ensures.err
+output_of_fault-requires g c = may_end c.in_ok-standby.standby c.new.result c.in_ok-standby.ensures.serves c.in-Err.fault c.in-Err.ensures.err
 
 pub returns-in-Err : goal.returns-in-Err
 returns-in-Err g c =
     let options = c.args.asked.now.options in
     let settings = options.settings in
     let lanes = lanes_of c.args.steps in
-    IfOk-weaker c.output_of_fault.result _ _ (λ o told. subst (λ s. IsToldOf true options c.args.steps (Ok s) (shown o)) c.new-2.ensures
-    (told_fault true options c.args.steps (Ok c.new-2.result) c.new-2.result (shown o) refl
-    (stop_told settings c.args.datanodes lanes c.in_ok-sources.sources.items c.in_ok-sources.ensures c.in_ok-workers.workers.items c.in_ok-workers.ends.items c.in_ok-workers.ensures.own c.in-Ok.standby c.in-Ok.ensures.ok c.in-Ok.ensures.settings c.new-2.result
+    IfOk-weaker c.output_of_fault.result _ _ (λ o told start is. subst (λ s. IsToldOf start true options c.args.steps (Ok s) (shown o)) c.new.ensures
+    (told_fault start true options c.args.steps (Ok c.new.result) c.new.result (shown o) refl
+    (stop_told settings c.args.datanodes lanes c.in_ok-sources.sources.items c.in_ok-sources.ensures c.in_ok-workers.workers.items c.in_ok-workers.ends.items c.in_ok-workers.ensures.own start c.in_ok-standby.standby (c.in_ok-standby.ensures.begun start is) c.in_ok-standby.ensures.settings c.new.result
     options c.in-Err.fault (shown o) c.in-Err.ensures.err told))) c.output_of_fault.ensures

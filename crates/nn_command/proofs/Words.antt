@@ -8,16 +8,16 @@ use Rattle.clap.specs.declared.parser.matches.Found.{Found}
 use Rattle.clap.proofs.OnLiterals.{clap_on_literals}
 use Rattle.clap.proofs.WalkLemmas.{one_text-rows}
 use Rattle.nn_types.specs.Settings.{Threshold}
-use Rattle.nn_command.specs.Options.{settings_line, command_line, AreReadAs, AskAs, AskFor, IsCapacity, IsFlag, IsRequest}
+use Rattle.nn_command.specs.Options.{settings_line, lanes_line, command_line, AreReadAs, AskAs, AskFor, IsCapacity, IsFlag, IsRequest}
 use Rattle.nn_command.specs.Program.{WhyNot}
 use Rattle.nn_command.specs.declared.options.Request.{Request}
 
 pub line_is_simple : is_simple command_line ≡ true
-unfolding clap_on_literals settings_line command_line
+unfolding clap_on_literals settings_line lanes_line command_line
 line_is_simple = refl
 
 pub line_is_free : is_simple_and_free command_line ≡ true
-unfolding clap_on_literals settings_line command_line
+unfolding clap_on_literals settings_line lanes_line command_line
 line_is_free = refl
 
 -- the texts that were found under the names are those that the words have there
@@ -36,6 +36,7 @@ asked_so words found r rows read =
       by_threads = subst (λ (o : Option Text). IsFlag o r.threads) (at (codes "threads")) read.by_threads;
       with_history = subst (λ (o : Option Text). IsFlag o r.options.history) (at (codes "history")) read.with_history;
       with_image = subst (λ (o : Option Text). IsFlag o r.options.image) (at (codes "image")) read.with_image;
+      on_from_image = subst (λ (o : Option Text). IsFlag o r.options.from_image) (at (codes "from-image")) read.on_from_image;
     }
 
 pub found_as_asked : (words : List Text) (found : Found) (settings : Threshold) → rows_of found ≡ matches_of command_line words →

@@ -22,11 +22,13 @@ settings_line =
     with_rule (with_rule (new_app (codes "nn_standby")) (value_rule (codes "permille") (Signed (pos 0) (pos 1000)) (codes "999")))
     (value_rule (codes "min") (Signed (pos 1) (pos 512)) (codes "1"))
 
--- and `--capacity` with a number from 1 to 1024, `--threads`, `--history` and `--image`
+-- and `--capacity` with a number from 1 to 1024, and `--threads`
+unfoldable pub lanes_line : App
+lanes_line = with_rule (with_rule settings_line (value_rule (codes "capacity") (Signed (pos 1) (pos 1024)) (codes "64"))) (flag_rule (codes "threads"))
+
+-- and `--history`, `--image` and `--from-image`
 unfoldable pub command_line : App
-command_line =
-    with_rule (with_rule (with_rule (with_rule settings_line (value_rule (codes "capacity") (Signed (pos 1) (pos 1024)) (codes "64"))) (flag_rule (codes "threads")))
-    (flag_rule (codes "history"))) (flag_rule (codes "image"))
+command_line = with_rule (with_rule (with_rule lanes_line (flag_rule (codes "history"))) (flag_rule (codes "image"))) (flag_rule (codes "from-image"))
 
 -- the text is there, and reads as this number
 abbrev pub ReadsAs : Option Text → ℕ → Type 0
@@ -64,6 +66,7 @@ pub record IsRequest (text_of : Text → Option Text) (r : Request) : Type 0 whe
   pub by_threads : IsFlag (text_of (codes "threads")) r.threads
   pub with_history : IsFlag (text_of (codes "history")) r.options.history
   pub with_image : IsFlag (text_of (codes "image")) r.options.image
+  pub on_from_image : IsFlag (text_of (codes "from-image")) r.options.from_image
 
 -- the words ask for it so
 abbrev pub AskAs : List Text → Request → Type 0

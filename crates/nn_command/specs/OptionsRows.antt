@@ -2,42 +2,46 @@
 use Rattle.std.specs.Prelude.{◌≡◌, true, false, List, [], ◌∷◌, map, Option, Some, codes, refl}
 use Rattle.clap.proofs.OnLiterals.{clap_on_literals}
 use Rattle.clap.specs.Words.{Text, matches_of, one_of, takes}
-use Rattle.nn_command.specs.Options.{settings_line, command_line}
+use Rattle.nn_command.specs.Options.{settings_line, lanes_line, command_line}
 
 abbrev line : List Text → List Text
 line words = codes "nn_standby" ∷ words
 
 abbrev matched : List Text → List (Option Text)
-matched words = map (λ name. one_of name (matches_of command_line (line words))) (codes "permille" ∷ codes "min" ∷ codes "capacity" ∷ codes "threads" ∷ codes "history" ∷ codes "image" ∷ [])
+matched words = map (λ name. one_of name (matches_of command_line (line words))) (codes "permille" ∷ codes "min" ∷ codes "capacity" ∷ codes "threads" ∷ codes "history" ∷ codes "image" ∷ codes "from-image" ∷ [])
 
-some_numbers : matched (codes "--min" ∷ codes "2" ∷ codes "--permille=1000" ∷ codes "--threads" ∷ codes "--image" ∷ codes "--capacity" ∷ codes "7" ∷ []) ≡ Some (codes "1000") ∷ Some (codes "2") ∷ Some (codes "7") ∷ Some (codes "true") ∷ Some (codes "false") ∷ Some (codes "true") ∷ []
-unfolding clap_on_literals settings_line command_line
+some_numbers : matched (codes "--min" ∷ codes "2" ∷ codes "--permille=1000" ∷ codes "--threads" ∷ codes "--image" ∷ codes "--capacity" ∷ codes "7" ∷ []) ≡ Some (codes "1000") ∷ Some (codes "2") ∷ Some (codes "7") ∷ Some (codes "true") ∷ Some (codes "false") ∷ Some (codes "true") ∷ Some (codes "false") ∷ []
+unfolding clap_on_literals settings_line lanes_line command_line
 some_numbers = refl
 
-defaults : matched [] ≡ Some (codes "999") ∷ Some (codes "1") ∷ Some (codes "64") ∷ Some (codes "false") ∷ Some (codes "false") ∷ Some (codes "false") ∷ []
-unfolding clap_on_literals settings_line command_line
+defaults : matched [] ≡ Some (codes "999") ∷ Some (codes "1") ∷ Some (codes "64") ∷ Some (codes "false") ∷ Some (codes "false") ∷ Some (codes "false") ∷ Some (codes "false") ∷ []
+unfolding clap_on_literals settings_line lanes_line command_line
 defaults = refl
 
-a_history : matched (codes "--history" ∷ []) ≡ Some (codes "999") ∷ Some (codes "1") ∷ Some (codes "64") ∷ Some (codes "false") ∷ Some (codes "true") ∷ Some (codes "false") ∷ []
-unfolding clap_on_literals settings_line command_line
+a_history : matched (codes "--history" ∷ []) ≡ Some (codes "999") ∷ Some (codes "1") ∷ Some (codes "64") ∷ Some (codes "false") ∷ Some (codes "true") ∷ Some (codes "false") ∷ Some (codes "false") ∷ []
+unfolding clap_on_literals settings_line lanes_line command_line
 a_history = refl
+
+from_an_image : matched (codes "--from-image" ∷ codes "--image" ∷ []) ≡ Some (codes "999") ∷ Some (codes "1") ∷ Some (codes "64") ∷ Some (codes "false") ∷ Some (codes "false") ∷ Some (codes "true") ∷ Some (codes "true") ∷ []
+unfolding clap_on_literals settings_line lanes_line command_line
+from_an_image = refl
 
 permilles_taken : map (λ n. takes command_line (line (codes "--permille" ∷ n ∷ []))) (codes "0" ∷ codes "1000" ∷ codes "1001" ∷ codes "x" ∷ [])
     ≡ true ∷ true ∷ false ∷ false ∷ []
-unfolding clap_on_literals settings_line command_line
+unfolding clap_on_literals settings_line lanes_line command_line
 permilles_taken = refl
 
 mins_taken : map (λ n. takes command_line (line (codes "--min" ∷ n ∷ []))) (codes "0" ∷ codes "1" ∷ codes "512" ∷ codes "513" ∷ [])
     ≡ false ∷ true ∷ true ∷ false ∷ []
-unfolding clap_on_literals settings_line command_line
+unfolding clap_on_literals settings_line lanes_line command_line
 mins_taken = refl
 
 capacities_taken : map (λ n. takes command_line (line (codes "--capacity" ∷ n ∷ []))) (codes "0" ∷ codes "1" ∷ codes "1024" ∷ codes "1025" ∷ [])
     ≡ false ∷ true ∷ true ∷ false ∷ []
-unfolding clap_on_literals settings_line command_line
+unfolding clap_on_literals settings_line lanes_line command_line
 capacities_taken = refl
 
 nothing_else : map (λ words. takes command_line (line words)) ([] ∷ (codes "word" ∷ []) ∷ (codes "--most" ∷ codes "1" ∷ []) ∷ (codes "--min" ∷ []) ∷ [])
     ≡ true ∷ false ∷ false ∷ false ∷ []
-unfolding clap_on_literals settings_line command_line
+unfolding clap_on_literals settings_line lanes_line command_line
 nothing_else = refl

@@ -2,7 +2,7 @@
 ghost use Rattle.std.specs.Prelude.{◌≡◌, ◌≤◌, ◌⊎◌, ℕ, false, IfOk, IfErr, IfSome, IfNone, codes, map, string_bytes};
 ghost use Rattle.clap.specs.Words.{app_of, found_of, kind_of, one_text, rule_of};
 ghost use Rattle.nn_types.specs.Settings.{Threshold};
-ghost use Rattle.nn_command.specs.Options.{value_rule, flag_rule, settings_line, command_line, IsNumberOf, IsCapacity, AreReadAs, IsRequest, AskAs};
+ghost use Rattle.nn_command.specs.Options.{value_rule, flag_rule, settings_line, lanes_line, command_line, IsNumberOf, IsCapacity, AreReadAs, IsRequest, AskAs};
 ghost use Rattle.nn_command.specs.Program.{AskToRun, WhyNot};
 
 use clap::builder::ValueParser;
@@ -28,6 +28,9 @@ const HISTORY: &str =
     "Prints the history of the standby first: each transaction and each message, as it was taken.";
 
 const IMAGE: &str = "Prints the image of the namespace too, after the tables.";
+
+const FROM_IMAGE: &str =
+    "Goes on from the image that standard input begins with, or that stands there behind a line image.";
 
 const CAPACITY: &str = "How many reports of a DataNode wait at a time with --threads, 1 to 1024.";
 
@@ -74,16 +77,25 @@ fn out_of_range(alloc: Global) -> Error
     error
 }
 
-// `--permille N`, `--min N`, `--capacity N`, `--threads`, `--history` and `--image`.
+// All options.
 fn command<'a>(alloc: Global) -> Result<Command<'a>, Error>
     ensures { IfOk result (λ command. app_of command ≡ command_line) }
+{
+    let command = lanes_command(alloc)?
+        .arg(flag(alloc, "history", HISTORY))?
+        .arg(flag(alloc, "image", IMAGE))?
+        .arg(flag(alloc, "from-image", FROM_IMAGE))?;
+    Ok(command)
+}
+
+// `--permille N`, `--min N`, `--capacity N` and `--threads`.
+fn lanes_command<'a>(alloc: Global) -> Result<Command<'a>, Error>
+    ensures { IfOk result (λ command. app_of command ≡ lanes_line) }
 {
     let capacity = value_parser!(u16).range(1..=1024);
     let command = settings_command(alloc)?
         .arg(valued(alloc, "capacity", capacity, "64", CAPACITY))?
-        .arg(flag(alloc, "threads", THREADS))?
-        .arg(flag(alloc, "history", HISTORY))?
-        .arg(flag(alloc, "image", IMAGE))?;
+        .arg(flag(alloc, "threads", THREADS))?;
     Ok(command)
 }
 
@@ -146,6 +158,7 @@ fn matched(matches: &ArgMatches<'_>) -> Option<Request>
             settings,
             history: matches.get_flag("history"),
             image: matches.get_flag("image"),
+            from_image: matches.get_flag("from-image"),
         },
         threads: matches.get_flag("threads"),
         capacity,

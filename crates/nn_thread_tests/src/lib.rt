@@ -1,4 +1,4 @@
-//! Tests of what no clause says: lanes, feeds and drives between threads, a standby call by call, and the program on devices
+//! Tests of what no clause says: lanes, feeds, drives and services between threads, a standby call by call, and the program on devices
 //! that fail and on large inputs.
 #![tactic(auto)]
 
@@ -10,6 +10,8 @@ mod feed;
 mod lane;
 #[cfg(test)]
 mod program;
+#[cfg(test)]
+mod serve;
 #[cfg(test)]
 mod sources;
 #[cfg(test)]

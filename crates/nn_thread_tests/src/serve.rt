@@ -1,0 +1,490 @@
+//! Standbys in service: operators that promote them while DataNodes report, and faults that are gone on from. All reports
+//! are of one block, which only the log of the last test names.
+ghost use Rattle.std.specs.Prelude.{◌≡◌, ◌≤◌, length, IfSome};
+ghost use Rattle.nn_tailer.specs.Public.{AreNew};
+
+use crate::sources::{AT_ANY_TIME, FailsOnce, Pace, Watched, new_watched};
+use crate::values::{FIRST, Shared, TWO_MARKS, Text, log_of, report_of};
+use nn_device::{Reader, Writer};
+use nn_drive::{
+    Left, Operator, ReportSource, Served, Unattended, Unfed, Unserved, Wish, let_go, serve,
+    with_lanes,
+};
+use nn_lane::{LaneEnd, Refusal};
+use nn_listing::{listing, push_tables};
+use nn_tailer::Standby;
+use nn_types::{Report, Settings};
+use std::alloc::Global;
+use std::process::Abort;
+use std::sync::atomic::Ordering;
+use std::sync::{Arc, Wait};
+use std::thread::Threads;
+
+const TWO_MORE: Text = (
+    "edits_0000000000000000003-0000000000000000004",
+    "{\"op\":\"OP_START_LOG_SEGMENT\",\"txid\":3}\n{\"op\":\"OP_END_LOG_SEGMENT\",\"txid\":4}\n",
+);
+
+const MAKES_A_FILE: Text = (
+    "edits_0000000000000000001-0000000000000000005",
+    r#"{"op":"OP_START_LOG_SEGMENT","txid":1}
+{"op":"OP_SET_GENSTAMP_V2","gen":1001,"txid":2}
+{"op":"OP_ALLOCATE_BLOCK_ID","id":1073741825,"txid":3}
+{"op":"OP_ADD","path":"/f","replication":2,"txid":4}
+{"op":"OP_END_LOG_SEGMENT","txid":5}
+"#,
+);
+
+const CLOSES_IT: Text = (
+    "edits_0000000000000000006-0000000000000000009",
+    r#"{"op":"OP_START_LOG_SEGMENT","txid":6}
+{"op":"OP_ADD_BLOCK","gen":1001,"id":1073741825,"path":"/f","txid":7}
+{"op":"OP_CLOSE","blocks":[{"gen":1001,"id":1073741825,"len":5}],"path":"/f","txid":8}
+{"op":"OP_END_LOG_SEGMENT","txid":9}
+"#,
+);
+
+// A DataNode that gives one report again and again, so often, and then none.
+#[derive(Drop)]
+struct DataNode {
+    shared: Arc<Shared, Global>,
+    report: Report,
+    left: u64,
+    // Whether it waits before it gives none, until the test lets it go.
+    stays: bool,
+}
+
+impl ReportSource for DataNode {
+    ghost use Rattle.std.specs.Prelude.{⊤};
+
+    ghost gives = { λ s r t. ⊤ };
+
+    fn next(&mut self) -> Option<Report> {
+        if self.left == 0 {
+            if self.stays {
+                self.shared.wait_for_all(1);
+            }
+            return None;
+        }
+        self.left -= 1;
+        let report = self.report;
+        Some(report)
+    }
+}
+
+// Wishes a promotion once each of so many DataNodes has sent so many messages, and the log has come so far. It shows the
+// log's source how far it has come.
+#[derive(Drop)]
+struct Until {
+    shared: Arc<Shared, Global>,
+    nodes: u16,
+    messages: u64,
+    txid: u64,
+}
+
+impl Operator for Until {
+    ghost use Rattle.std.specs.Prelude.{⊤};
+
+    ghost asks = { λ o x n w p. ⊤ };
+
+    fn ask(&mut self, standby: &Standby, _running: usize) -> Wish {
+        let last = standby.shadow().last_txid();
+        self.shared.asked.store(last, Ordering::SeqCst);
+        if last < self.txid || !have_sent(standby, self.nodes, self.messages) {
+            return Wish::GoOn;
+        }
+        Wish::Promote
+    }
+}
+
+// Writes a checkpoint each time it is asked, and wishes what another operator does.
+#[derive(Drop)]
+struct Saving {
+    alloc: Global,
+    until: Until,
+    image: Vec<u8>,
+}
+
+impl Operator for Saving {
+    ghost use Rattle.std.specs.Prelude.{⊤};
+
+    ghost asks = { λ o x n w p. ⊤ };
+
+    fn ask(&mut self, standby: &Standby, running: usize) -> Wish {
+        let mut image = Writer::new(Vec::new(self.alloc));
+        if standby.checkpoint(self.alloc, &mut image).is_ok() {
+            self.image = image.into_inner();
+        }
+        self.until.ask(standby, running)
+    }
+}
+
+// Whether each of the first DataNodes has sent so many messages.
+fn have_sent(standby: &Standby, nodes: u16, messages: u64) -> bool {
+    for i in 0..nodes {
+        if standby.shadow().last_number(i.saturating_add(1)) < messages {
+            return false;
+        }
+    }
+    true
+}
+
+// A standby in service, and what comes of it.
+#[derive(Clone, Copy)]
+struct Service {
+    name: &'static str,
+    nodes: u16,
+    // How many reports each DataNode has, and whether it stays in its last call until the promotion is answered.
+    reports: u64,
+    stays: bool,
+    // How many messages a lane holds.
+    capacity: usize,
+    log: &'static [Text],
+    pace: Pace,
+    // The log's call that fails, from 0.
+    fails_at: u64,
+    // When the operator wishes a promotion.
+    messages: u64,
+    txid: u64,
+    // The last txid, or the fault's number; and the last txid once it was gone on from.
+    end: Result<u64, u8>,
+    later: Option<u64>,
+}
+
+// Two DataNodes that never end. Each segment is held back until the one before it was applied: so a lane that is never
+// empty keeps back no log.
+const ENDLESS: Service = Service {
+    name: "endless",
+    nodes: 2,
+    reports: u64::MAX,
+    stays: false,
+    capacity: 64,
+    log: &[TWO_MARKS, TWO_MORE],
+    pace: Pace {
+        gates: 2,
+        more: 2,
+        ..AT_ANY_TIME
+    },
+    fails_at: u64::MAX,
+    messages: 100,
+    txid: 4,
+    end: Ok(4),
+    later: None,
+};
+
+// A log that is always ready keeps back no lane: its segments are passed over again and again.
+const ALWAYS_READY: Service = Service {
+    name: "a log that is always ready",
+    log: &[TWO_MARKS; 1000],
+    pace: AT_ANY_TIME,
+    messages: 300,
+    txid: 2,
+    end: Ok(2),
+    ..ENDLESS
+};
+
+// As many DataNodes as there can be, with one place each, are promoted in the middle.
+const NODES_256: Service = Service {
+    name: "256 DataNodes",
+    nodes: 256,
+    capacity: 1,
+    messages: 3,
+    ..ENDLESS
+};
+
+// The DataNodes stay in `next` until the test holds the answer: the promotion waits for none of them.
+const STAYS: Service = Service {
+    name: "staying",
+    reports: 5,
+    stays: true,
+    messages: 5,
+    ..ENDLESS
+};
+
+// The log's source fails while the operator waits for more.
+const FAILS: Service = Service {
+    name: "failing",
+    capacity: 1,
+    fails_at: 1,
+    end: Err(54),
+    later: Some(4),
+    ..ENDLESS
+};
+
+// The log stops: its first transaction is missing.
+const STOPS: Service = Service {
+    name: "stopping",
+    capacity: 1,
+    log: &[TWO_MORE],
+    pace: AT_ANY_TIME,
+    end: Err(51),
+    ..ENDLESS
+};
+
+// A file whose block the DataNodes report. The second segment is held back until the first one was applied.
+const WITH_A_FILE: Service = Service {
+    name: "with a file",
+    reports: 5,
+    log: &[MAKES_A_FILE, CLOSES_IT],
+    pace: Pace {
+        gates: 2,
+        more: 5,
+        ..AT_ANY_TIME
+    },
+    messages: 5,
+    txid: 5,
+    ..ENDLESS
+};
+
+#[test]
+fn services(rt: HostRuntime) {
+    for service in [ENDLESS, ALWAYS_READY, NODES_256, STAYS, FAILS, STOPS] {
+        ends(&rt, rt.alloc(), &service);
+    }
+}
+
+// The service ends as it should, nothing waits in vain, and no thread is left.
+fn ends<R: Abort + Threads + Wait + Copy + Send + Drop + 'static>(
+    rt: &R,
+    alloc: Global,
+    service: &Service,
+) {
+    let name = service.name;
+    let Some(shared) = Shared::new(alloc) else {
+        assert!(rt; false, "out of memory");
+        return;
+    };
+    let end = end_of(rt, alloc, service, &shared);
+    assert_eq!(rt; end, Some((service.end, service.later)), "{name}");
+    assert_eq!(rt; shared.vain.load(Ordering::SeqCst), 0, "{name}");
+    assert_eq!(rt; Arc::strong_count(&shared), 1, "{name}");
+}
+
+// What a service comes to, and what comes of it once its fault was gone on from.
+fn end_of<R: Threads + Wait + Copy + Send + Drop + 'static>(
+    rt: &R,
+    alloc: Global,
+    service: &Service,
+    shared: &Arc<Shared, Global>,
+) -> Option<(Result<u64, u8>, Option<u64>)> {
+    let mut operator = operator_of(service, shared)?;
+    match served(rt, alloc, service, shared, &[], &mut operator)? {
+        Ok(promoted) => {
+            let last = all_joined(rt, shared, service, promoted)?;
+            Some((Ok(last), None))
+        }
+        Err(unserved) => {
+            let number = unserved.fault.number();
+            Some((Err(number), gone_on(rt, alloc, service, unserved)))
+        }
+    }
+}
+
+fn operator_of(service: &Service, shared: &Arc<Shared, Global>) -> Option<Until> {
+    Some(Until {
+        shared: Arc::try_clone(shared).ok()?,
+        nodes: service.nodes,
+        messages: service.messages,
+        txid: service.txid,
+    })
+}
+
+// The answer of `serve`, over a new standby or one that starts from this image.
+fn served<'a, O: Operator, R: Threads + Wait + Copy + Send + Drop + 'static>(
+    rt: &'a R,
+    alloc: Global,
+    service: &Service,
+    shared: &Arc<Shared, Global>,
+    image: &[u8],
+    operator: &mut O,
+) -> Option<Result<Served<DataNode>, Unserved<'a, Watched, DataNode, R>>> {
+    let log = new_watched(alloc, shared, service.log, service.fails_at, service.pace)?;
+    let nodes = data_nodes(alloc, service, shared)?;
+    if nodes.len() > 256 || service.capacity == 0 || service.capacity > 1024 {
+        return None;
+    }
+    let (workers, ends) = with_lanes(alloc, nodes, service.capacity).ok()?;
+    if ends.is_empty() || ends.len() > 256 {
+        return None;
+    }
+    let standby = standby_over(alloc, ends, image)?;
+    Some(serve(rt, alloc, standby, log, workers, operator))
+}
+
+fn standby_over(alloc: Global, ends: Vec<LaneEnd>, image: &[u8]) -> Option<Standby>
+    requires some { 1 ≤ length ends.items }
+    requires few { length ends.items ≤ 256 }
+    requires fresh { AreNew 1 ends.items }
+    ensures { IfSome result (λ s. s.ends ≡ ends.items) }
+{
+    let settings = Settings::new(999, 1)?;
+    if image.is_empty() {
+        return Standby::new(alloc, ends, settings).ok();
+    }
+    Standby::from_image(alloc, ends, settings, &mut Reader::new(image)).ok()
+}
+
+fn data_nodes(
+    alloc: Global,
+    service: &Service,
+    shared: &Arc<Shared, Global>,
+) -> Option<Vec<DataNode>> {
+    let report = report_of(FIRST, 1001)?;
+    let mut nodes = Vec::new(alloc);
+    for _ in 0..service.nodes {
+        let node = DataNode {
+            shared: Arc::try_clone(shared).ok()?,
+            report,
+            left: service.reports,
+            stays: service.stays,
+        };
+        let Ok(()) = nodes.push(node) else {
+            return None;
+        };
+    }
+    Some(nodes)
+}
+
+// The last txid, if each worker that is joined had sent just what was processed of its lane. Those that stay are let go.
+fn all_joined<R: Threads>(
+    rt: &R,
+    shared: &Shared,
+    service: &Service,
+    served: Served<DataNode>,
+) -> Option<u64> {
+    let Served {
+        shadow,
+        active,
+        workers,
+    } = served;
+    shared.came.store(1, Ordering::SeqCst);
+    let mut dn = 0u16;
+    for worker in workers {
+        dn = dn.saturating_add(1);
+        let left = worker.join(rt);
+        if !has_left_all(&left, service.reports, shadow.last_number(dn)) {
+            return None;
+        }
+    }
+    Some(active.last)
+}
+
+// Whether all that a worker sent was processed, so many messages; and it was told of the close, or had no more.
+fn has_left_all(left: &Left<DataNode>, reports: u64, processed: u64) -> bool {
+    let ended = match left.outcome {
+        Ok(count) => count == reports,
+        Err(Refusal::Closed { .. }) => reports == u64::MAX,
+        Err(_) => false,
+    };
+    ended && left.met.accepted == processed && left.met.taken == processed
+}
+
+// The standby that came back is promoted over a new source, and its workers end. None for one that the log stopped: there
+// it is let go, and its workers end too.
+fn gone_on<R: Threads + Wait>(
+    rt: &R,
+    alloc: Global,
+    service: &Service,
+    unserved: Unserved<'_, Watched, DataNode, R>,
+) -> Option<u64> {
+    let Unfed {
+        fault: _,
+        standby,
+        workers,
+    } = unserved.join(rt);
+    let last = promoted_over(alloc, service, standby);
+    for worker in workers {
+        drop(worker.join(rt));
+    }
+    last
+}
+
+fn promoted_over(alloc: Global, service: &Service, standby: Standby) -> Option<u64> {
+    let mut standby = standby;
+    if standby.stop().is_some() {
+        drop(let_go(standby));
+        return None;
+    }
+    let mut log = FailsOnce::new(log_of(alloc, service.log)?, u64::MAX);
+    standby.close_intake();
+    match standby.promote(&mut log) {
+        Ok(active) => Some(active.last),
+        Err(_) => None,
+    }
+}
+
+// With no operator a service ends when its DataNodes have, as a drive does: all that they sent was flushed.
+#[test]
+fn unattended(rt: HostRuntime) {
+    let service = Service {
+        reports: 5,
+        pace: AT_ANY_TIME,
+        ..ENDLESS
+    };
+    let Some(shared) = Shared::new(rt.alloc()) else {
+        assert!(rt; false, "out of memory");
+        return;
+    };
+    let flushed = flushed_by(&rt, rt.alloc(), &service, &shared);
+    assert_eq!(rt; flushed, Some(10));
+}
+
+fn flushed_by<R: Threads + Wait + Copy + Send + Drop + 'static>(
+    rt: &R,
+    alloc: Global,
+    service: &Service,
+    shared: &Arc<Shared, Global>,
+) -> Option<u64> {
+    let mut operator = Unattended;
+    match served(rt, alloc, service, shared, &[], &mut operator)? {
+        Ok(served) => Some(served.active.flushed),
+        Err(_) => None,
+    }
+}
+
+// A standby writes a checkpoint each rotation. One that starts from the last of them, and gets the whole log and all reports
+// again, ends with the same tables.
+#[test]
+fn from_a_checkpoint(rt: HostRuntime) {
+    let Some(shared) = Shared::new(rt.alloc()) else {
+        assert!(rt; false, "out of memory");
+        return;
+    };
+    let both = both_tables(&rt, rt.alloc(), &shared);
+    assert!(rt; matches!(&both, Some((first, second)) if first == second));
+}
+
+// The tables of the first standby, and of the one that starts from its last checkpoint.
+fn both_tables<R: Threads + Wait + Copy + Send + Drop + 'static>(
+    rt: &R,
+    alloc: Global,
+    shared: &Arc<Shared, Global>,
+) -> Option<(String, String)> {
+    let mut operator = Saving {
+        alloc,
+        until: operator_of(&WITH_A_FILE, shared)?,
+        image: Vec::new(alloc),
+    };
+    let first = tables_of(rt, alloc, shared, &[], &mut operator)?;
+    let mut again = Unattended;
+    let second = tables_of(rt, alloc, shared, operator.image.as_slice(), &mut again)?;
+    Some((first, second))
+}
+
+fn tables_of<O: Operator, R: Threads + Wait + Copy + Send + Drop + 'static>(
+    rt: &R,
+    alloc: Global,
+    shared: &Arc<Shared, Global>,
+    image: &[u8],
+    operator: &mut O,
+) -> Option<String> {
+    match served(rt, alloc, &WITH_A_FILE, shared, image, operator)? {
+        Ok(served) => {
+            let shadow = &served.shadow;
+            let mut text = listing(alloc, shadow.namespace(), shadow.last_txid()).ok()?;
+            push_tables(alloc, &mut text, shadow.replicas(), shadow.safe_mode()).ok()?;
+            Some(text)
+        }
+        Err(_) => None,
+    }
+}

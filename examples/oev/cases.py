@@ -1,0 +1,406 @@
+"""What `check` tries: small dumps, each with what the converter has to make of it."""
+
+FIRST_ID = 1_073_741_825
+
+
+def member(name, value):
+    return f"<{name}>{value}</{name}>"
+
+
+def record(opcode, txid, *members):
+    data = "".join((member("TXID", txid), *members))
+    return f"<RECORD>{member('OPCODE', opcode)}{member('DATA', data)}</RECORD>"
+
+
+def document(*records):
+    return f"<?xml version='1.0' encoding='UTF-8'?><EDITS><EDITS_VERSION>-66</EDITS_VERSION>{''.join(records)}</EDITS>"
+
+
+def path(text):
+    return member("PATH", text)
+
+
+def block(block_id, stamp=1001, length=0):
+    return member("BLOCK", member("BLOCK_ID", block_id) + member("NUM_BYTES", length) + member("GENSTAMP", stamp))
+
+
+def add(txid, text, overwrite="true", *members):
+    return record("OP_ADD", txid, path(text), member("REPLICATION", 3), member("OVERWRITE", overwrite), *members)
+
+
+def close(txid, text, *blocks):
+    return record("OP_CLOSE", txid, path(text), *blocks)
+
+
+def rename(txid, source, target, options=None):
+    names = [member("SRC", source), member("DST", target)]
+    if options is None:
+        return record("OP_RENAME_OLD", txid, *names)
+    return record("OP_RENAME", txid, *names, member("OPTIONS", options))
+
+
+def mkdir(txid, text):
+    return record("OP_MKDIR", txid, path(text))
+
+
+def start(txid):
+    return record("OP_START_LOG_SEGMENT", txid)
+
+
+def end(txid):
+    return record("OP_END_LOG_SEGMENT", txid)
+
+
+def line(op, txid, **members):
+    """A line, whose other members are given as JSON texts."""
+    members |= {"op": f'"{op}"', "txid": txid}
+    return "{" + ",".join(f'"{name}":{members[name]}' for name in sorted(members)) + "}\n"
+
+
+def made(op, txid, text):
+    return line(op, txid, path=f'"{text}"')
+
+
+START = line("OP_START_LOG_SEGMENT", 1, profile=2)
+
+
+def ended(*lines):
+    """The lines of a log that begins with a start mark and is given an end mark."""
+    return START + "".join(lines) + line("OP_END_LOG_SEGMENT", len(lines) + 2)
+
+
+# A path of 7,936 bytes, each of which takes six in a line.
+LONG = ("/" + "\\0001;" * 247) * 32
+ADDED = line("OP_ADD", 2, path='"/f"', replication=3)
+BLOCK_ADDED = line("OP_ADD_BLOCK", 3, gen=1001, id=FIRST_ID, path='"/f"')
+ADD_BLOCK = record("OP_ADD_BLOCK", 3, path("/f"), block(FIRST_ID))
+
+# A name, the records behind a start mark with TXID 1, and the lines.
+CONVERTED = [
+    ("an overwrite of nothing", [add(2, "/f")], ended(ADDED)),
+    ("an OP_ADD without OVERWRITE", [record("OP_ADD", 2, path("/f"), member("REPLICATION", 3))], ended(ADDED)),
+    (
+        "an overwrite of a directory is for the program to refuse",
+        [mkdir(2, "/f"), add(3, "/f")],
+        ended(made("OP_MKDIR", 2, "/f"), line("OP_ADD", 3, path='"/f"', replication=3)),
+    ),
+    (
+        "an overwrite of a file that is open",
+        [add(2, "/f"), add(3, "/f")],
+        ended(ADDED, made("OP_DELETE", 3, "/f"), line("OP_ADD", 4, path='"/f"', replication=3)),
+    ),
+    (
+        "a block before the new one, with the length that the file has",
+        [add(2, "/f"), ADD_BLOCK, record("OP_ADD_BLOCK", 4, path("/f"), block(FIRST_ID), block(FIRST_ID + 1))],
+        ended(ADDED, BLOCK_ADDED, line("OP_ADD_BLOCK", 4, gen=1001, id=FIRST_ID + 1, path='"/f"')),
+    ),
+    (
+        "another block before the new one is for the program to refuse",
+        [add(2, "/f"), ADD_BLOCK, record("OP_ADD_BLOCK", 4, path("/f"), block(7), block(FIRST_ID + 1))],
+        ended(
+            ADDED,
+            BLOCK_ADDED,
+            line("OP_UPDATE_BLOCKS", 4, blocks='[{"gen":1001,"id":7,"len":0}]', path='"/f"'),
+            line("OP_ADD_BLOCK", 5, gen=1001, id=FIRST_ID + 1, path='"/f"'),
+        ),
+    ),
+    (
+        "a block that no OP_ALLOCATE_BLOCK_ID issued is for the program to refuse",
+        [add(2, "/f"), close(3, "/f", block(FIRST_ID))],
+        ended(ADDED, line("OP_CLOSE", 3, blocks=f'[{{"gen":1001,"id":{FIRST_ID},"len":0}}]', path='"/f"')),
+    ),
+    (
+        "a file that is not there is for the program to refuse",
+        [record("OP_APPEND", 2, path("/f")), rename(3, "/g", "/h"), record("OP_DELETE", 4, path("/i"))],
+        ended(made("OP_APPEND", 2, "/f"), line("OP_RENAME", 3, dst='"/h"', src='"/g"'), made("OP_DELETE", 4, "/i")),
+    ),
+    ("an append of a file that is open", [add(2, "/f"), record("OP_APPEND", 3, path("/f"))], ended(ADDED)),
+    (
+        "an append of a file that was closed",
+        [add(2, "/f"), close(3, "/f"), record("OP_APPEND", 4, path("/f")), record("OP_APPEND", 5, path("/f"))],
+        ended(ADDED, line("OP_CLOSE", 3, blocks="[]", path='"/f"'), made("OP_APPEND", 4, "/f")),
+    ),
+    (
+        "a rename into a directory",
+        [mkdir(2, "/d"), mkdir(3, "/e"), rename(4, "/d", "/e"), rename(5, "/e/d", "/")],
+        ended(
+            made("OP_MKDIR", 2, "/d"),
+            made("OP_MKDIR", 3, "/e"),
+            line("OP_RENAME", 4, dst='"/e/d"', src='"/d"'),
+            line("OP_RENAME", 5, dst='"/d"', src='"/e/d"'),
+        ),
+    ),
+    (
+        "a rename of a directory below itself is for the program to refuse, and changes no name",
+        [mkdir(2, "/d"), add(3, "/d/f"), rename(4, "/d", "/d/e"), add(5, "/d/f")],
+        ended(
+            made("OP_MKDIR", 2, "/d"),
+            line("OP_ADD", 3, path='"/d/f"', replication=3),
+            line("OP_RENAME", 4, dst='"/d/e"', src='"/d"'),
+            made("OP_DELETE", 5, "/d/f"),
+            line("OP_ADD", 6, path='"/d/f"', replication=3),
+        ),
+    ),
+    ("a rename to itself", [mkdir(2, "/d"), rename(3, "/d", "/d")], ended(made("OP_MKDIR", 2, "/d"))),
+    (
+        "a rename with options that change nothing",
+        [
+            mkdir(2, "/d"),
+            rename(3, "/d", "/e", "NONE|TO_TRASH"),
+            rename(4, "/e", "/d", ""),
+            rename(5, "/d", "/e", "OVERWRITE"),
+        ],
+        ended(
+            made("OP_MKDIR", 2, "/d"),
+            line("OP_RENAME", 3, dst='"/e"', src='"/d"'),
+            line("OP_RENAME", 4, dst='"/d"', src='"/e"'),
+            line("OP_RENAME", 5, dst='"/e"', src='"/d"'),
+        ),
+    ),
+    (
+        "a rename over an empty directory, and one over a directory that is not empty",
+        [
+            mkdir(2, "/d"),
+            mkdir(3, "/e"),
+            rename(4, "/d", "/e", "OVERWRITE"),
+            mkdir(5, "/e/f"),
+            rename(6, "/g", "/e", "OVERWRITE"),
+        ],
+        ended(
+            made("OP_MKDIR", 2, "/d"),
+            made("OP_MKDIR", 3, "/e"),
+            made("OP_DELETE", 4, "/e"),
+            line("OP_RENAME", 5, dst='"/e"', src='"/d"'),
+            made("OP_MKDIR", 6, "/e/f"),
+            line("OP_RENAME", 7, dst='"/e"', src='"/g"'),
+        ),
+    ),
+    (
+        "a directory of files that is renamed and then written to",
+        [mkdir(2, "/d"), add(3, "/d/f"), rename(4, "/d", "/e"), add(5, "/e/f"), add(6, "/d/f")],
+        ended(
+            made("OP_MKDIR", 2, "/d"),
+            line("OP_ADD", 3, path='"/d/f"', replication=3),
+            line("OP_RENAME", 4, dst='"/e"', src='"/d"'),
+            made("OP_DELETE", 5, "/e/f"),
+            line("OP_ADD", 6, path='"/e/f"', replication=3),
+            line("OP_ADD", 7, path='"/d/f"', replication=3),
+        ),
+    ),
+    ("blanks around a name", [mkdir(2, "/ a \t")], ended(made("OP_MKDIR", 2, "/ a \\t"))),
+    ("entities that XML itself has", [mkdir(2, "/&lt;&amp;&quot;&#10;")], ended(made("OP_MKDIR", 2, '/<&\\"\\n'))),
+    ("a backslash", [mkdir(2, "/a\\005c;b")], ended(made("OP_MKDIR", 2, "/a\\\\b"))),
+    (
+        "characters that XML can't hold",
+        [mkdir(2, "/\\0000;\\001F;\\ffff;")],
+        ended(made("OP_MKDIR", 2, "/\\u0000\\u001f\uffff")),
+    ),
+    ("characters that JSON does not escape", [mkdir(2, "/\x7f\u2028é")], ended(made("OP_MKDIR", 2, "/\x7f\u2028é"))),
+    ("two halves of a character", [mkdir(2, "/\\d83d;\\de00;")], ended(made("OP_MKDIR", 2, "/\U0001f600"))),
+    ("a name in a section of CDATA", [mkdir(2, "/<![CDATA[<x>]]>")], ended(made("OP_MKDIR", 2, "/<x>"))),
+    ("a name of 255 bytes", [mkdir(2, "/" + "n" * 255)], ended(made("OP_MKDIR", 2, "/" + "n" * 255))),
+    (
+        "the greatest number",
+        [record("OP_SET_GENSTAMP_V2", 2, member("GENSTAMPV2", 2**63 - 1))],
+        ended(line("OP_SET_GENSTAMP_V2", 2, gen=2**63 - 1)),
+    ),
+    ("comments and instructions", ["<!-- c --><?p i?>", mkdir(2, "/d")], ended(made("OP_MKDIR", 2, "/d"))),
+]
+
+# A name, the records behind a start mark with TXID 1, and what the reason has in it. The start mark's line is written.
+REFUSED = [
+    ("an append of old layouts", [add(2, "/f"), add(3, "/f", "false")], "OP_ADD, TXID 3: the file /f exists"),
+    (
+        "a file that begins with blocks",
+        [add(2, "/f", "true", block(FIRST_ID))],
+        "OP_ADD, TXID 2: the file /f begins with blocks",
+    ),
+    (
+        "a striped file",
+        [add(2, "/f", "true", member("ERASURE_CODING_POLICY_ID", 1))],
+        "OP_ADD, TXID 2: the file /f is striped",
+    ),
+    ("an overwrite that is neither true nor false", [add(2, "/f"), add(3, "/f", "yes")], "OVERWRITE is 'yes'"),
+    (
+        "an option of a rename",
+        [rename(2, "/a", "/b", "OVERWRITE|LATER")],
+        "OP_RENAME, TXID 2: the option 'LATER' is not known",
+    ),
+    (
+        "a rename without OPTIONS",
+        [record("OP_RENAME", 2, member("SRC", "/a"), member("DST", "/b"))],
+        "OPTIONS is missing",
+    ),
+    ("no block to add", [record("OP_ADD_BLOCK", 2, path("/f"))], "0 blocks"),
+    ("three blocks to add", [record("OP_ADD_BLOCK", 2, path("/f"), *[block(FIRST_ID)] * 3)], "3 blocks"),
+    (
+        "a block group of a striped file",
+        [record("OP_ALLOCATE_BLOCK_ID", 2, member("BLOCK_ID", -(2**63)))],
+        "negative block id",
+    ),
+    ("a block with a negative id", [close(2, "/f", block(-7))], "OP_CLOSE, TXID 2: the negative block id -7"),
+    (
+        "a block without a length",
+        [close(2, "/f", member("BLOCK", member("BLOCK_ID", 7) + member("GENSTAMP", 7)))],
+        "NUM_BYTES is missing",
+    ),
+    ("a negative length", [close(2, "/f", block(FIRST_ID, 1001, -1))], "NUM_BYTES: '-1' is not a number"),
+    (
+        "a number above the greatest",
+        [record("OP_SET_GENSTAMP_V2", 2, member("GENSTAMPV2", 2**63))],
+        "GENSTAMPV2: '9223372036854775808'",
+    ),
+    (
+        "a number with blanks",
+        [record("OP_SET_GENSTAMP_V2", 2, member("GENSTAMPV2", " 7"))],
+        "GENSTAMPV2: ' 7' is not a number",
+    ),
+    ("a number of other digits", [record("OP_SET_GENSTAMP_V2", 2, member("GENSTAMPV2", "١"))], "is not a number"),
+    ("no number", [record("OP_SET_GENSTAMP_V2", 2, "<GENSTAMPV2/>")], "GENSTAMPV2: '' is not a number"),
+    ("no path", [record("OP_MKDIR", 2)], "OP_MKDIR, TXID 2: PATH is missing"),
+    ("two paths", [record("OP_MKDIR", 2, path("/a"), path("/b"))], "PATH comes 2 times"),
+    ("an empty path", [mkdir(2, "")], "does not begin with a slash"),
+    ("a path without a slash", [mkdir(2, "a")], "does not begin with a slash"),
+    ("a path with a slash at its end", [mkdir(2, "/a/")], "a name of 0 bytes"),
+    ("a name with a colon", [mkdir(2, "/a:b")], 'the name "a:b"'),
+    ("a name of two dots", [mkdir(2, "/..")], 'the name ".."'),
+    ("a name of 256 bytes", [mkdir(2, "/" + "n" * 256)], "a name of 256 bytes"),
+    ("a name of 256 bytes in fewer characters", [mkdir(2, "/" + "é" * 128)], "a name of 256 bytes"),
+    ("a path of 1,001 names", [mkdir(2, "/n" * 1001)], "more than 1000 names or 8000 bytes"),
+    ("a path of 8,001 bytes", [mkdir(2, "/" + "/".join(["n" * 199] * 40) + "n")], "more than 1000 names or 8000 bytes"),
+    ("half of a character", [mkdir(2, "/\\d800;")], "half of a surrogate pair"),
+    ("the halves of a character in the wrong order", [mkdir(2, "/\\de00;\\d83d;")], "half of a surrogate pair"),
+    ("an escape of three digits", [mkdir(2, "/\\05c;")], "a backslash that begins no escape"),
+    ("an escape with another letter", [mkdir(2, "/\\00g0;")], "a backslash that begins no escape"),
+    ("an escape without its end", [mkdir(2, "/\\005c")], "a backslash that begins no escape"),
+    ("a target that no path can be", [rename(2, "/a", "/b:c")], 'OP_RENAME_OLD, TXID 2: the name "b:c"'),
+    ("a file of 1,500 blocks", [close(2, "/f", *[block(FIRST_ID, 1001, 134217728)] * 1500)], '"/f" has 1,500 blocks'),
+    ("two paths of characters that JSON escapes", [rename(2, LONG, f"{LONG}a")], "its line would have 9"),
+    ("a gap", [mkdir(2, "/a"), mkdir(4, "/b")], "OP_MKDIR, TXID 4: a gap, since TXID 3 is next"),
+    (
+        "a record without TXID",
+        ["<RECORD><OPCODE>OP_MKDIR</OPCODE><DATA><PATH>/a</PATH></DATA></RECORD>"],
+        "OP_MKDIR without a TXID: TXID is missing",
+    ),
+    ("a TXID above the greatest", [mkdir(2**63, "/a")], "TXID: '9223372036854775808' is not a number"),
+    ("a record without DATA", ["<RECORD><OPCODE>OP_MKDIR</OPCODE></RECORD>"], "DATA is missing"),
+    ("a record without OPCODE", ["<RECORD><DATA><TXID>2</TXID></DATA></RECORD>"], "OPCODE is missing"),
+    (
+        "an opcode that is not known",
+        [record("OP_FROM_THE_FUTURE", 2)],
+        "OP_FROM_THE_FUTURE, TXID 2: no such opcode is known",
+    ),
+    ("an entity that nobody declared", [mkdir(2, "/&a;")], "undefined entity"),
+    ("tags that do not match", ["<RECORD></DATA>"], "mismatched tag"),
+    ("bytes that are no UTF-8", [mkdir(2, "/\udcff")], "not well-formed"),
+    ("a deep nest of tags", ["<A>" * 1_000_000], "nest deeper than 32"),
+    ("a tag without an end", ["<" + "A" * 6_000_000], "more than 4,194,304 bytes"),
+    ("a comment without an end", ["<!--" + "A" * 6_000_000], "more than 4,194,304 bytes"),
+    ("a text without an end", ["<RECORD>" + "A" * 6_000_000], "more than 4,194,304 bytes"),
+    ("members without an end", ["<RECORD>" + "<A/>" * 1_500_000], "more than 4,194,304 bytes"),
+]
+
+ENTITIES = "".join(f'<!ENTITY a{n} "{f"&a{n - 1};" * 10}">' for n in range(1, 10))
+
+# A name, a whole document, and what the reason has in it.
+NO_DUMPS = [
+    ("nothing", "", "ends in the middle"),
+    ("no XML", '{"op":"OP_MKDIR"}', "this is no XML"),
+    ("another document", "<fsimage></fsimage>", "the document's element is 'fsimage', and not 'EDITS'"),
+    ("entities of entities", f'<!DOCTYPE EDITS [<!ENTITY a0 "a">{ENTITIES}]><EDITS>&a9;</EDITS>', "a document type"),
+    (
+        "an external entity",
+        '<!DOCTYPE EDITS [<!ENTITY a SYSTEM "file:///etc/hostname">]><EDITS>&a;</EDITS>',
+        "a document type",
+    ),
+    ("an entity of parameters", '<!DOCTYPE EDITS [<!ENTITY % a SYSTEM "a.dtd">%a;]><EDITS/>', "a document type"),
+    ("an external document type", '<!DOCTYPE EDITS SYSTEM "a.dtd"><EDITS/>', "a document type"),
+]
+
+
+def inode(inode_id, kind, name, *members):
+    return member("inode", member("id", inode_id) + member("type", kind) + member("name", name) + "".join(members))
+
+
+def directory(parent, *children, reference="child"):
+    return member("directory", member("parent", parent) + "".join(member(reference, child) for child in children))
+
+
+def image(inodes, directories, *sections, last_block=FIRST_ID):
+    numbers = member("genstampV2", 1001) + member("lastAllocatedBlockId", last_block) + member("txid", 7)
+    return member(
+        "fsimage",
+        member("NameSection", numbers)
+        + member("INodeSection", "".join(inodes))
+        + "".join(sections)
+        + member("INodeDirectorySection", "".join(directories)),
+    )
+
+
+def image_block(block_id):
+    return member("blocks", member("block", member("id", block_id) + member("genstamp", 1001) + member("numBytes", 5)))
+
+
+ROOT = inode(16385, "DIRECTORY", "")
+FILE = member("replication", 3)
+
+# A name, a dump of an image, and what the reason has in it.
+REFUSED_IMAGES = [
+    ("a symbolic link", image([ROOT, inode(16386, "SYMLINK", "l")], []), "inode 16386: its type is 'SYMLINK'"),
+    (
+        "a striped file",
+        image([ROOT, inode(16386, "FILE", "f", member("erasureCodingPolicyId", 1))], []),
+        "inode 16386: the file is striped",
+    ),
+    (
+        "a file of block groups",
+        image([ROOT, inode(16386, "FILE", "f", FILE, member("blockType", "STRIPED"))], []),
+        "the file is striped",
+    ),
+    ("a child of a snapshot", image([ROOT], [directory(16385, 0, reference="refChild")]), "refChild"),
+    ("a snapshot", image([ROOT], [], member("SnapshotSection", member("numSnapshots", 1))), "no snapshots"),
+    (
+        "a negative block id",
+        image([ROOT, inode(16386, "FILE", "f", FILE, image_block(-5))], []),
+        "the negative block id -5",
+    ),
+    (
+        "a block id of old layouts",
+        image([ROOT, inode(16386, "FILE", "f", FILE, image_block(77))], [directory(16385, 16386)]),
+        "block id 77",
+    ),
+    (
+        "a block id that was not issued",
+        image([ROOT, inode(16386, "FILE", "f", FILE, image_block(FIRST_ID + 1))], [directory(16385, 16386)]),
+        "block id",
+    ),
+    ("a name with a colon", image([ROOT, inode(16386, "DIRECTORY", "a:b")], []), "inode 16386: the name"),
+    ("a name that is empty", image([ROOT, inode(16386, "DIRECTORY", "")], []), "inode 16386: a name of 0 bytes"),
+    ("an inode in no directory", image([ROOT, inode(16386, "DIRECTORY", "d")], []), "inode 16386 is in no directory"),
+    ("a directory without its inode", image([ROOT], [directory(16386, 16387)]), "inode 16386 is in no directory"),
+    (
+        "an inode in two directories",
+        image([ROOT, inode(16386, "DIRECTORY", "d")], [directory(16385, 16386, 16386)]),
+        "in two directories",
+    ),
+    (
+        "a directory in itself",
+        image([ROOT], [directory(16385, 16385)]),
+        "inode 16385 is missing, or in two directories",
+    ),
+    ("a child that is missing", image([ROOT], [directory(16385, 16386)]), "inode 16386 is missing"),
+    (
+        "a child of a file",
+        image(
+            [ROOT, inode(16386, "FILE", "f", FILE), inode(16387, "FILE", "g", FILE)],
+            [directory(16385, 16386), directory(16386, 16387)],
+        ),
+        "a file with children",
+    ),
+    ("an inode twice", image([ROOT, ROOT], []), "inode 16385 comes twice"),
+    ("no root", image([], []), "inode 16385 is missing"),
+    ("no NameSection", "<fsimage></fsimage>", "no NameSection"),
+    ("a dump of edits", document(), "the document's element is 'EDITS'"),
+    ("an image that ends in the middle", image([ROOT], [])[:-9], "ends in the middle"),
+    ("an entity", f"<!DOCTYPE fsimage [<!ENTITY a 'a'>]>{image([ROOT], [])}", "a document type"),
+]

@@ -1,0 +1,175 @@
+"""What becomes of each record of a log: the edits of this project that it stands for, none, or a refusal.
+
+docs/FORMATS.md has the same as a table. What a record means depends on what exists, so each function here is given the
+tree beside the record. It answers edits as dictionaries of a line's members, and changes nothing.
+"""
+from formats import Refused, check_path
+from tree import is_directory
+
+# A standby holds nothing of these here.
+LEFT_OUT = frozenset(
+    """
+    OP_TIMES OP_SET_OWNER OP_SET_PERMISSIONS OP_SET_ACL OP_SET_XATTR OP_REMOVE_XATTR
+    OP_GET_DELEGATION_TOKEN OP_RENEW_DELEGATION_TOKEN OP_CANCEL_DELEGATION_TOKEN OP_UPDATE_MASTER_KEY
+    OP_REASSIGN_LEASE OP_SET_GENSTAMP_V1
+    OP_SET_NS_QUOTA OP_CLEAR_NS_QUOTA OP_SET_QUOTA OP_SET_QUOTA_BY_STORAGETYPE
+    OP_ADD_CACHE_DIRECTIVE OP_MODIFY_CACHE_DIRECTIVE OP_REMOVE_CACHE_DIRECTIVE
+    OP_ADD_CACHE_POOL OP_MODIFY_CACHE_POOL OP_REMOVE_CACHE_POOL
+    OP_SET_STORAGE_POLICY OP_ROLLING_UPGRADE_START OP_ROLLING_UPGRADE_FINALIZE
+    OP_ALLOW_SNAPSHOT OP_DISALLOW_SNAPSHOT
+    OP_ADD_ERASURE_CODING_POLICY OP_ENABLE_ERASURE_CODING_POLICY
+    OP_DISABLE_ERASURE_CODING_POLICY OP_REMOVE_ERASURE_CODING_POLICY
+    """.split()
+)
+
+# A standby would have to hold something that this project has no edit for.
+REFUSED = {
+    "OP_CONCAT_DELETE": "blocks would move from one file to another",
+    "OP_TRUNCATE": "a file would lose bytes from its end",
+    "OP_SYMLINK": "there are no symbolic links here",
+    "OP_CREATE_SNAPSHOT": "there are no snapshots here",
+    "OP_DELETE_SNAPSHOT": "there are no snapshots here",
+    "OP_RENAME_SNAPSHOT": "there are no snapshots here",
+}
+
+
+def edits_of(record, tree):
+    """The edits that a record stands for, in order. There are none where it is left out."""
+    if record.opcode in LEFT_OUT:
+        return []
+    if record.opcode in REFUSED:
+        raise Refused(REFUSED[record.opcode])
+    if record.opcode not in KEPT:
+        raise Refused("no such opcode is known")
+    return KEPT[record.opcode](record.data, tree)
+
+
+def start_mark(_data=None, _tree=None):
+    return [{"op": "OP_START_LOG_SEGMENT"}]
+
+
+def end_mark(_data=None, _tree=None):
+    return [{"op": "OP_END_LOG_SEGMENT"}]
+
+
+def make_directory(data, _tree):
+    return [{"op": "OP_MKDIR", "path": path_in(data, "PATH")}]
+
+
+def delete(data, _tree):
+    return [{"op": "OP_DELETE", "path": path_in(data, "PATH")}]
+
+
+def allocate_block_id(data, _tree):
+    return [{"op": "OP_ALLOCATE_BLOCK_ID", "id": data.block_id("BLOCK_ID")}]
+
+
+def set_genstamp(data, _tree):
+    return [{"op": "OP_SET_GENSTAMP_V2", "gen": data.number("GENSTAMPV2")}]
+
+
+def set_replication(data, _tree):
+    return [{"op": "OP_SET_REPLICATION", "path": path_in(data, "PATH"), "replication": data.number("REPLICATION")}]
+
+
+def update_blocks(data, _tree):
+    return [{"op": "OP_UPDATE_BLOCKS", "path": path_in(data, "PATH"), "blocks": blocks_in(data)}]
+
+
+def close(data, _tree):
+    return [{"op": "OP_CLOSE", "path": path_in(data, "PATH"), "blocks": blocks_in(data)}]
+
+
+def add(data, tree):
+    """A new file. It may take the place of one that exists."""
+    path = path_in(data, "PATH")
+    if data.find("ERASURE_CODING_POLICY_ID") and data.number("ERASURE_CODING_POLICY_ID") != 0:
+        raise Refused(f"the file {path} is striped")
+    if data.all("BLOCK"):
+        raise Refused(f"the file {path} begins with blocks, as old layouts have it")
+    edits = [{"op": "OP_ADD", "path": path, "replication": data.number("REPLICATION")}]
+    if not tree.find_file(path):
+        return edits
+    if not data.boolean("OVERWRITE"):
+        raise Refused(f"the file {path} exists and is not overwritten: an append of old layouts")
+    return [{"op": "OP_DELETE", "path": path}, *edits]
+
+
+def add_block(data, tree):
+    """A new block. Where there are two, the first is the block before it, with the length that it has got."""
+    path = path_in(data, "PATH")
+    blocks = blocks_in(data)
+    if len(blocks) not in (1, 2):
+        raise Refused(f"{len(blocks)} blocks, where 1 or 2 are allowed")
+    *before, new = blocks
+    edits = [{"op": "OP_ADD_BLOCK", "path": path, "id": new.id, "gen": new.gen}]
+    file = tree.find_file(path)
+    if file and before and file.blocks[-1:] != before:
+        edits.insert(0, {"op": "OP_UPDATE_BLOCKS", "path": path, "blocks": file.blocks[:-1] + before})
+    return edits
+
+
+def append(data, tree):
+    """A closed file is opened again. Nothing is done to a file that is open, as in Hadoop's loader."""
+    path = path_in(data, "PATH")
+    file = tree.find_file(path)
+    return [] if file and not file.closed else [{"op": "OP_APPEND", "path": path}]
+
+
+def rename_old(data, tree):
+    """A rename without options. It may move into a directory, as in Hadoop's loader."""
+    source, target = path_in(data, "SRC"), path_in(data, "DST")
+    if source == target:
+        # The NameNode logs this for a file, and its loader does nothing.
+        return []
+    if is_directory(tree.find(target)):
+        target = target.rstrip("/") + source[source.rindex("/") :]
+        check_path(target)
+    return [rename_edit(source, target)]
+
+
+def rename(data, tree):
+    """A rename with options. It may take the place of a file or of an empty directory."""
+    source, target = path_in(data, "SRC"), path_in(data, "DST")
+    options = data.string("OPTIONS").split("|")
+    unknown = set(options) - {"", "NONE", "TO_TRASH", "OVERWRITE"}
+    if unknown:
+        raise Refused(f"the option {min(unknown)!r} is not known")
+    edits = [rename_edit(source, target)]
+    existing = tree.find(target)
+    # An empty directory is an empty dictionary.
+    if "OVERWRITE" in options and existing is not None and not (is_directory(existing) and existing):
+        edits.insert(0, {"op": "OP_DELETE", "path": target})
+    return edits
+
+
+def rename_edit(source, target):
+    return {"op": "OP_RENAME", "src": source, "dst": target}
+
+
+def path_in(data, name):
+    path = data.string(name)
+    check_path(path)
+    return path
+
+
+def blocks_in(data):
+    return [block.block("BLOCK_ID", "GENSTAMP", "NUM_BYTES") for block in data.all("BLOCK")]
+
+
+KEPT = {
+    "OP_START_LOG_SEGMENT": start_mark,
+    "OP_END_LOG_SEGMENT": end_mark,
+    "OP_MKDIR": make_directory,
+    "OP_DELETE": delete,
+    "OP_ALLOCATE_BLOCK_ID": allocate_block_id,
+    "OP_SET_GENSTAMP_V2": set_genstamp,
+    "OP_SET_REPLICATION": set_replication,
+    "OP_ADD": add,
+    "OP_ADD_BLOCK": add_block,
+    "OP_UPDATE_BLOCKS": update_blocks,
+    "OP_CLOSE": close,
+    "OP_APPEND": append,
+    "OP_RENAME": rename,
+    "OP_RENAME_OLD": rename_old,
+}

@@ -1,0 +1,124 @@
+"""Writes edits as the lines of a log: numbers them anew, gives marks where they lack, and cuts the log into parts."""
+import os
+from collections import Counter
+
+from edits import end_mark, start_mark
+from formats import Refused, line_of
+
+# The program takes 16,777,216 bytes behind an image.
+PART_BYTES = 16_000_000
+MARK_BYTES = 100
+
+
+class Log:
+    """The lines of a log, numbered one after another."""
+
+    def __init__(self, output, number, profile, numbers):
+        self.output = output
+        self.number = number
+        self.profile = profile
+        self.numbers = numbers
+        # Whether a segment was begun and not ended, and its bytes.
+        self.inside = False
+        self.segment_bytes = 0
+        self.given = Counter()
+
+    def write(self, edits, txid):
+        """Writes the edits that a record stands for, all or none. The record's own number is `txid`."""
+        if edits == start_mark() and self.inside:
+            self.give(end_mark())
+        lines = self.lines_of(edits)
+        size = sum(map(len, lines))
+        if self.output.is_cut and self.segment_bytes + size + MARK_BYTES > PART_BYTES:
+            self.give(end_mark() + start_mark())
+            lines = self.lines_of(edits)
+        for edit, line in zip(edits, lines):
+            self.put(edit, line, txid)
+
+    def leave_out(self, txid):
+        self.numbers.write(f"{txid} -\n")
+
+    def give(self, marks):
+        """Writes marks that no record stands for."""
+        for mark, line in zip(marks, self.lines_of(marks)):
+            self.put(mark, line, "-")
+            self.given[mark["op"]] += 1
+
+    def finish(self):
+        """Gives the last segment its end mark where it lacks one, and answers whether it did."""
+        lacking = self.inside
+        if lacking:
+            self.give(end_mark())
+        return lacking
+
+    def lines_of(self, edits):
+        return [line_of(self.of_profile(edit), number) for number, edit in enumerate(edits, self.number + 1)]
+
+    def of_profile(self, edit):
+        """The edit as the log's profile has it."""
+        if self.profile == 1 and edit["op"] == "OP_APPEND":
+            raise Refused("an append, and the log is to have profile 1")
+        if self.profile == 2 and [edit] == start_mark():
+            return {**edit, "profile": 2}
+        return edit
+
+    def put(self, edit, line, txid):
+        self.number += 1
+        self.numbers.write(f"{txid} {self.number}\n")
+        self.output.write(line)
+        self.segment_bytes += len(line)
+        self.inside = [edit] != end_mark()
+        if not self.inside:
+            self.segment_bytes = 0
+            self.output.end_segment()
+
+
+class Whole:
+    """Lines that go to one file."""
+
+    is_cut = False
+
+    def __init__(self, file):
+        self.write = file.write
+        self.close = file.close
+
+    def end_segment(self):
+        pass
+
+
+class Parts:
+    """Lines that go to files of at most PART_BYTES in a directory. Each of them has whole segments."""
+
+    is_cut = True
+
+    def __init__(self, directory):
+        self.directory = directory
+        self.count = 0
+        self.file = None
+        self.bytes = 0
+        self.segment = bytearray()
+
+    def write(self, line):
+        self.segment += line
+
+    def end_segment(self):
+        if self.file is None or self.bytes + len(self.segment) > PART_BYTES:
+            self.begin()
+        self.file.write(self.segment)
+        self.bytes += len(self.segment)
+        self.segment.clear()
+
+    def begin(self):
+        """Begins the next part."""
+        if self.file is not None:
+            self.file.close()
+        self.count += 1
+        self.bytes = 0
+        self.file = open(os.path.join(self.directory, f"part-{self.count:05}"), "wb")
+
+    def close(self):
+        """Writes what is left of a segment that was broken off, and closes the last part."""
+        if self.segment:
+            self.end_segment()
+        if self.file is not None:
+            self.file.close()

@@ -1,0 +1,95 @@
+"""The names that exist: what an image has, and what the log made of it since."""
+from formats import Block
+
+
+class File:
+    """Whether a file is closed, and the list of its blocks."""
+
+    __slots__ = ("closed", "blocks")
+
+    def __init__(self, closed, blocks):
+        self.closed = closed
+        self.blocks = blocks
+
+
+class Tree:
+    """A directory is a dictionary from names to what they name, and anything else is a file.
+
+    The tree follows edits and judges none: one that does not apply leaves it as it is, and the program refuses it.
+    """
+
+    def __init__(self):
+        self.root = {}
+
+    def find(self, path):
+        """The directory or file at a path, or None."""
+        node = self.root
+        for name in path[1:].split("/") if path != "/" else ():
+            node = node.get(name) if is_directory(node) else None
+        return node
+
+    def find_file(self, path):
+        """The file at a path, or None."""
+        node = self.find(path)
+        return node if isinstance(node, File) else None
+
+    def place(self, path):
+        """The directory that a path lies in, and the path's last name. The directory is None where there is none."""
+        parent, _, name = path.rpartition("/")
+        directory = self.find(parent or "/")
+        return directory if name and is_directory(directory) else None, name
+
+    def put(self, path, node):
+        """Puts a directory or file where nothing is. Answers whether it could."""
+        directory, name = self.place(path)
+        if directory is None or name in directory:
+            return False
+        directory[name] = node
+        return True
+
+    def remove(self, path):
+        directory, name = self.place(path)
+        if directory is not None:
+            directory.pop(name, None)
+
+    def rename(self, source, target):
+        node = self.find(source)
+        if node is not None and not target.startswith(f"{source}/") and self.put(target, node):
+            self.remove(source)
+
+    def apply(self, edit):
+        """Follows an edit, which is a dictionary of a line's members."""
+        match edit["op"]:
+            case "OP_MKDIR":
+                self.put(edit["path"], {})
+            case "OP_ADD":
+                self.put(edit["path"], File(False, []))
+            case "OP_DELETE":
+                self.remove(edit["path"])
+            case "OP_RENAME":
+                self.rename(edit["src"], edit["dst"])
+            case "OP_ADD_BLOCK" | "OP_UPDATE_BLOCKS" | "OP_CLOSE" | "OP_APPEND":
+                file = self.find_file(edit["path"])
+                if file is not None:
+                    apply_to_file(file, edit)
+
+
+def apply_to_file(file, edit):
+    if edit["op"] == "OP_ADD_BLOCK":
+        file.blocks.append(Block(edit["gen"], edit["id"], 0))
+    if "blocks" in edit:
+        file.blocks = edit["blocks"]
+    if edit["op"] in ("OP_CLOSE", "OP_APPEND"):
+        file.closed = edit["op"] == "OP_CLOSE"
+
+
+def is_directory(node):
+    return isinstance(node, dict)
+
+
+def tree_of(image):
+    """The tree of the names in an image."""
+    tree = Tree()
+    for path, file in image.rows():
+        tree.put(path, {} if file is None else File(*file))
+    return tree

@@ -1,0 +1,232 @@
+//! The scenario: its lines, its segments, and the run in a single pass.
+//!
+//! The fault of a line comes before that of a segment, and that before a stop. Nothing is printed before the end, so one
+//! pass is enough: it applies as it reads, keeps the first fault of each kind, and reads on for those that come before it.
+
+use std::io::{ErrorKind, Read};
+
+use crate::engine::{Engine, Settings};
+use crate::fault::{Fault, Refusal};
+use crate::fields::Fields;
+use crate::line::{Edit, Line, Tx};
+
+const MAX_LINE: usize = 65_536;
+const MAX_INPUT: usize = 16_777_216;
+const MAX_READS: u64 = 16_777_216;
+
+/// Cuts a reader into lines, within the bounds on bytes and on reads.
+pub struct Lines<R> {
+    reader: R,
+    buf: Vec<u8>,
+    /// What is read and not yet given out: `buf[start..end]`.
+    start: usize,
+    end: usize,
+    number: u64,
+    bytes: usize,
+    reads: u64,
+    ended: bool,
+}
+
+impl<R: Read> Lines<R> {
+    pub fn new(reader: R) -> Self {
+        let buf = vec![0; 1 << 18];
+        Lines {
+            reader,
+            buf,
+            start: 0,
+            end: 0,
+            number: 0,
+            bytes: 0,
+            reads: 0,
+            ended: false,
+        }
+    }
+
+    /// The next line that isn't blank, with its number.
+    fn next(&mut self) -> Result<Option<(u64, &[u8])>, Refusal> {
+        let line = loop {
+            let rest = &self.buf[self.start..self.end];
+            let line = match memchr::memchr(b'\n', rest) {
+                Some(len) => {
+                    let line = self.start..self.start + len;
+                    self.start += len + 1;
+                    line
+                }
+                None if !self.ended => {
+                    self.fill()?;
+                    continue;
+                }
+                None if rest.is_empty() => return Ok(None),
+                None => std::mem::replace(&mut self.start, self.end)..self.end,
+            };
+            self.number += 1;
+            if !self.buf[line.clone()]
+                .iter()
+                .all(|byte| matches!(byte, b' ' | b'\t' | b'\r'))
+            {
+                break line;
+            }
+        };
+        Ok(Some((self.number, &self.buf[line])))
+    }
+
+    /// Reads once, behind what was not yet given out.
+    fn fill(&mut self) -> Result<(), Refusal> {
+        if self.reads == MAX_READS {
+            return Err(Refusal::Input);
+        }
+        self.buf.copy_within(self.start..self.end, 0);
+        self.end -= self.start;
+        self.start = 0;
+        if self.end == self.buf.len() {
+            self.buf.resize(2 * self.end, 0);
+        }
+        self.reads += 1;
+        match self.reader.read(&mut self.buf[self.end..]) {
+            Ok(0) => self.ended = true,
+            Ok(count) => {
+                self.end += count;
+                self.bytes += count;
+            }
+            Err(error) if error.kind() == ErrorKind::Interrupted => {}
+            Err(_) => return Err(Refusal::Input),
+        }
+        if self.bytes > MAX_INPUT {
+            Err(Refusal::Input)
+        } else {
+            Ok(())
+        }
+    }
+
+    /// The refusal of a line: that of the input, where it has one, comes before it.
+    fn refusal(mut self, fault: Fault, line: u64) -> Refusal {
+        while !self.ended {
+            self.start = self.end;
+            if let Err(refusal) = self.fill() {
+                return refusal;
+            }
+        }
+        Refusal::Line { fault, line }
+    }
+}
+
+/// Cuts the edit lines into segments, and judges each of them.
+#[derive(Default)]
+struct Cutter {
+    /// Segments begun.
+    count: u64,
+    open: Option<Cut>,
+    /// The first refused segment.
+    refused: Option<Refusal>,
+}
+
+struct Cut {
+    bytes: usize,
+    profile: u8,
+    last: u64,
+    mark_inside: bool,
+    fault: Option<Fault>,
+}
+
+impl Cutter {
+    /// Takes the next edit line. False where a segment was refused, at this line or before.
+    fn push(&mut self, tx: &Tx, line_len: usize) -> bool {
+        let cut = match &mut self.open {
+            None => {
+                self.count += 1;
+                let (profile, fault) = match tx.edit {
+                    Edit::StartSegment { profile } => (profile, None),
+                    _ => (1, Some(Fault::NoStart)),
+                };
+                self.open.insert(Cut {
+                    bytes: 0,
+                    profile,
+                    last: tx.txid,
+                    mark_inside: false,
+                    fault,
+                })
+            }
+            Some(cut) => {
+                if cut.fault.is_none() {
+                    cut.fault = match tx.edit {
+                        _ if tx.txid != cut.last + 1 => Some(Fault::Gap),
+                        Edit::Append { .. } if cut.profile == 1 => Some(Fault::WrongProfile),
+                        _ => None,
+                    };
+                }
+                cut.last = tx.txid;
+                cut.mark_inside |= matches!(tx.edit, Edit::StartSegment { .. });
+                cut
+            }
+        };
+        cut.bytes += line_len + 1;
+        let good = cut.fault.is_none();
+        if matches!(tx.edit, Edit::EndSegment) {
+            self.close(true);
+        }
+        good && self.refused.is_none()
+    }
+
+    fn close(&mut self, ended: bool) {
+        let Some(cut) = self.open.take() else { return };
+        let fault = if cut.bytes > MAX_INPUT {
+            Some(Fault::TooLong)
+        } else if cut.fault.is_some() {
+            cut.fault
+        } else {
+            (!ended || cut.mark_inside).then_some(Fault::NoEnd)
+        };
+        if let (Some(fault), None) = (fault, self.refused) {
+            self.refused = Some(Refusal::Segment {
+                fault,
+                segment: self.count,
+            });
+        }
+    }
+
+    fn finish(mut self) -> Result<(), Refusal> {
+        self.close(false);
+        self.refused.map_or(Ok(()), Err)
+    }
+}
+
+/// Reads and runs a scenario in one pass, in the order of its lines.
+pub fn run_scenario(
+    mut lines: Lines<impl Read>,
+    read: impl Fn(&str) -> serde_json::Result<Fields<'_>>,
+    settings: Settings,
+) -> Result<Engine, Refusal> {
+    let mut cutter = Cutter::default();
+    let mut engine = Engine::new(settings);
+    let mut running = true;
+    let mut stopped = Ok(());
+    while let Some((number, text)) = lines.next()? {
+        match read_line(text, &read) {
+            Ok(Line::Edit(tx)) => {
+                running &= cutter.push(&tx, text.len());
+                if running {
+                    stopped = engine.step(&tx);
+                    running = stopped.is_ok();
+                }
+            }
+            Ok(Line::Report(report)) if running => engine.hand(report),
+            Ok(Line::Report(_)) => {}
+            Err(fault) => return Err(lines.refusal(fault, number)),
+        }
+    }
+    cutter.finish()?;
+    stopped?;
+    engine.flush();
+    Ok(engine)
+}
+
+fn read_line<'a>(
+    line: &'a [u8],
+    read: impl Fn(&'a str) -> serde_json::Result<Fields<'a>>,
+) -> Result<Line<'a>, Fault> {
+    if line.len() > MAX_LINE {
+        return Err(Fault::LineTooLong);
+    }
+    let text = std::str::from_utf8(line).map_err(|_| Fault::NotJson)?;
+    read(text).map_err(|_| Fault::NotJson)?.line()
+}

@@ -1,28 +1,30 @@
-//! A standby in a program of one's own: it follows the edits and reports of standard input, and prints its namespace and
-//! how many reports still wait for the log. Then it prints the image of one with threads.
+//! Standbys in a program of one's own. One follows the edits and reports of standard input on one thread, and its namespace
+//! is printed, with how many reports still wait for the log. The other is in service with threads up to its failover; its
+//! checkpoints and its tables are printed, and how its DataNodes ended.
 #![tactic(auto)]
 
-mod threads;
+mod service;
 
 use anyhow::{Result, bail};
+use nn_drive::Served;
 use nn_edits::{Line, Scratch, read_line};
-use nn_listing::listing;
+use nn_listing::{listing, push_tables};
 use nn_shadow::Shadow;
 use nn_types::{Message, Report, Settings};
+use service::{DataNode, Failover, promoted};
+use std::alloc::Global;
+use std::sync::Wait;
+use std::thread::Threads;
 
 fn main(rt: HostRuntime) -> Result<()> {
+    line_by_line(&rt)?;
+    serve_to_failover(&rt, rt.alloc())
+}
+
+fn line_by_line(rt: &HostRuntime) -> Result<()> {
     let Some(settings) = Settings::new(999, 1) else {
         bail!("no settings");
     };
-    line_by_line(&rt, settings)?;
-    let Some(image) = threads::promoted_image(&rt, rt.alloc(), settings) else {
-        bail!("the standby was not promoted");
-    };
-    print!(rt; "{image}")?;
-    Ok(())
-}
-
-fn line_by_line(rt: &HostRuntime, settings: Settings) -> Result<()> {
     let mut standby = Shadow::new(rt.alloc(), 256, settings)?;
     follow(rt, &mut standby)?;
     show(rt, &standby)
@@ -67,6 +69,46 @@ fn hand(standby: &mut Shadow, report: Report) -> Result<()> {
     };
     if standby.hand(message).is_err() {
         bail!("a report of DataNode {dn} is refused");
+    }
+    Ok(())
+}
+
+// All blocks have to be safe, each with two live replicas.
+fn serve_to_failover<R: Print + Threads + Wait + Copy + Send + Drop + 'static>(
+    rt: &R,
+    alloc: Global,
+) -> Result<()> {
+    let Some(settings) = Settings::new(1000, 2) else {
+        bail!("no settings");
+    };
+    let Some(mut operator) = Failover::new(alloc) else {
+        bail!("out of memory");
+    };
+    let Some(served) = promoted(rt, alloc, settings, &mut operator) else {
+        bail!("the standby was not promoted");
+    };
+    for (last, image) in &operator.checkpoints {
+        let bytes = image.len();
+        println!(rt; "checkpoint {last}, {bytes} bytes")?;
+    }
+    show_tables(rt, alloc, &served.shadow)?;
+    show_ends(rt, served)
+}
+
+fn show_tables(rt: &impl Print, alloc: Global, shadow: &Shadow) -> Result<()> {
+    let mut text = listing(alloc, shadow.namespace(), shadow.last_txid())?;
+    push_tables(alloc, &mut text, shadow.replicas(), shadow.safe_mode())?;
+    print!(rt; "{text}")?;
+    Ok(())
+}
+
+// Joins each DataNode's thread, which its lane tells of the promotion.
+fn show_ends(rt: &(impl Print + Threads), served: Served<DataNode>) -> Result<()> {
+    for worker in served.workers {
+        let left = worker.join(rt);
+        if let Err(refusal) = left.outcome {
+            println!(rt; "a DataNode hears: {refusal}")?;
+        }
     }
     Ok(())
 }

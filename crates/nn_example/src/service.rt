@@ -1,0 +1,230 @@
+//! A standby in service. Two DataNodes report from threads of their own, for as long as they run, and the log of the active
+//! NameNode comes from one more. An operator writes a checkpoint after each segment, and takes over at transaction 11.
+ghost use Rattle.std.specs.Prelude.{◌≤◌, length, IfSome};
+
+use nn_device::Writer;
+use nn_drive::{Operator, ReportSource, Served, Wish, serve, with_lanes};
+use nn_segment::{Item, MemorySource, Parsed, SegmentSource, SourceFault};
+use nn_tailer::Standby;
+use nn_types::{BlockId, GenerationStamp, Kind, Length, Report, Settings};
+use std::alloc::Global;
+use std::sync::atomic::{AtomicBool, AtomicU64, Ordering};
+use std::sync::{Arc, Wait};
+use std::thread;
+use std::thread::Threads;
+
+/// The transaction at which the standby takes over.
+const TAKEOVER: u64 = 11;
+
+// The segments of the log: the name of each, and its text.
+const LOG: &[(&str, &str)] = &[
+    (
+        "edits_0000000000000000001-0000000000000000005",
+        r#"{"op":"OP_START_LOG_SEGMENT","txid":1}
+{"op":"OP_SET_GENSTAMP_V2","gen":1001,"txid":2}
+{"op":"OP_ALLOCATE_BLOCK_ID","id":1073741825,"txid":3}
+{"op":"OP_ADD","path":"/f","replication":2,"txid":4}
+{"op":"OP_END_LOG_SEGMENT","txid":5}
+"#,
+    ),
+    (
+        "edits_0000000000000000006-0000000000000000009",
+        r#"{"op":"OP_START_LOG_SEGMENT","txid":6}
+{"op":"OP_ADD_BLOCK","gen":1001,"id":1073741825,"path":"/f","txid":7}
+{"op":"OP_CLOSE","blocks":[{"gen":1001,"id":1073741825,"len":5}],"path":"/f","txid":8}
+{"op":"OP_END_LOG_SEGMENT","txid":9}
+"#,
+    ),
+    (
+        "edits_0000000000000000010-0000000000000000012",
+        r#"{"op":"OP_START_LOG_SEGMENT","txid":10}
+{"op":"OP_MKDIR","path":"/d","txid":11}
+{"op":"OP_END_LOG_SEGMENT","txid":12}
+"#,
+    ),
+];
+
+/// What the operator tells the source of the log.
+#[derive(Drop)]
+pub struct Told {
+    /// How many checkpoints were written.
+    checkpoints: AtomicU64,
+    /// Whether the active NameNode is fenced, so that it writes no more.
+    fenced: AtomicBool,
+}
+
+/// The log of the active NameNode. It comes to its next segment once the one before is in a checkpoint, and ends once the
+/// NameNode is fenced.
+#[derive(Drop)]
+pub struct ActiveLog {
+    told: Arc<Told, Global>,
+    segments: MemorySource,
+    asked: u64,
+}
+
+impl ActiveLog {
+    fn wait(&self) {
+        for _ in 0..u64::MAX {
+            let is_fenced = self.told.fenced.load(Ordering::SeqCst);
+            if is_fenced || self.told.checkpoints.load(Ordering::SeqCst) >= self.asked {
+                return;
+            }
+            thread::yield_now();
+        }
+    }
+}
+
+impl SegmentSource for ActiveLog {
+    ghost use Rattle.std.specs.Prelude.{◌≡◌, [], length};
+    ghost use Rattle.nn_segment.specs.Source.{GivesNext};
+
+    ghost gives = { λ s answer t. GivesNext s.segments answer t.segments };
+
+    ghost left = { λ s. length s.segments };
+
+    ghost failures = { λ _. 0 };
+
+    ghost ended = { λ s. s.segments ≡ [] };
+
+    fn next(&mut self) -> Result<Item, SourceFault> {
+        self.wait();
+        self.asked = self.asked.saturating_add(1);
+        self.segments.next()
+    }
+}
+
+/// A DataNode with one replica, which it reports again and again.
+#[derive(Drop)]
+pub struct DataNode {
+    replica: Report,
+}
+
+impl ReportSource for DataNode {
+    ghost use Rattle.std.specs.Prelude.{◌≡◌, Some};
+
+    ghost gives = { λ s report t. report ≡ Some s.replica };
+
+    fn next(&mut self) -> Option<Report> {
+        let report = self.replica;
+        Some(report)
+    }
+}
+
+/// Writes a checkpoint after each segment. Takes over at the transaction, once enough blocks are safe: it fences the active
+/// NameNode, which ends the log, and wishes the promotion.
+#[derive(Drop)]
+pub struct Failover {
+    alloc: Global,
+    told: Arc<Told, Global>,
+    saved: u64,
+    /// The last txid and the image of each checkpoint.
+    pub checkpoints: Vec<(u64, Vec<u8>)>,
+}
+
+impl Operator for Failover {
+    ghost use Rattle.std.specs.Prelude.{◌≡◌, ◌≤◌};
+    ghost use Rattle.nn_drive.specs.declared.operator.Wish.TheVariants.{Promote};
+
+    ghost asks = { λ o x n w p. w ≡ Promote → 11 ≤ x.shadow.last };
+
+    fn ask(&mut self, standby: &Standby, _running: usize) -> Wish {
+        let last = standby.shadow().last_txid();
+        if last >= TAKEOVER && !standby.shadow().safe_mode().on {
+            self.told.fenced.store(true, Ordering::SeqCst);
+            return Wish::Promote;
+        }
+        if last > self.saved && last < TAKEOVER && standby.in_hand() == 0 {
+            self.save(standby, last);
+        }
+        Wish::GoOn
+    }
+}
+
+impl Failover {
+    pub fn new(alloc: Global) -> Option<Failover> {
+        let told = Told {
+            checkpoints: AtomicU64::new(0),
+            fenced: AtomicBool::new(false),
+        };
+        Some(Failover {
+            alloc,
+            told: Arc::new(alloc, told).ok()?,
+            saved: 0,
+            checkpoints: Vec::new(alloc),
+        })
+    }
+
+    // Where memory is refused, the next rotation tries again.
+    fn save(&mut self, standby: &Standby, last: u64) {
+        let mut image = Writer::new(Vec::new(self.alloc));
+        let Ok(()) = standby.checkpoint(self.alloc, &mut image) else {
+            return;
+        };
+        let Ok(()) = self.checkpoints.push((last, image.into_inner())) else {
+            return;
+        };
+        self.saved = last;
+        self.told.checkpoints.fetch_add(1, Ordering::SeqCst);
+    }
+}
+
+/// A standby in service, up to its promotion.
+pub fn promoted<R: Threads + Wait + Copy + Send + Drop + 'static>(
+    rt: &R,
+    alloc: Global,
+    settings: Settings,
+    operator: &mut Failover,
+) -> Option<Served<DataNode>> {
+    let log = active_log(alloc, &operator.told)?;
+    let (workers, ends) = with_lanes(alloc, data_nodes(alloc)?, 64).ok()?;
+    if ends.is_empty() || ends.len() > 256 {
+        return None;
+    }
+    let Ok(standby) = Standby::new(alloc, ends, settings) else {
+        return None;
+    };
+    match serve(rt, alloc, standby, log, workers, operator) {
+        Ok(served) => Some(served),
+        Err(_) => None,
+    }
+}
+
+fn active_log(alloc: Global, told: &Arc<Told, Global>) -> Option<ActiveLog> {
+    let mut segments = Vec::new(alloc);
+    for (name, text) in LOG {
+        let name = String::from_str(alloc, name).ok()?;
+        let bytes = text.as_bytes().to_vec(alloc).ok()?;
+        let segment = Parsed::of(alloc, name, bytes).ok()?;
+        let Ok(()) = segments.push(segment) else {
+            return None;
+        };
+    }
+    Some(ActiveLog {
+        told: Arc::try_clone(told).ok()?,
+        segments: MemorySource::new(segments),
+        asked: 0,
+    })
+}
+
+// Two DataNodes that received the block.
+fn data_nodes(alloc: Global) -> Option<Vec<DataNode>>
+    ensures { IfSome result (λ nodes. length nodes.items ≤ 256) }
+{
+    let first = DataNode {
+        replica: replica()?,
+    };
+    let second = DataNode {
+        replica: replica()?,
+    };
+    Vec::from_array(alloc, [first, second]).ok()
+}
+
+fn replica() -> Option<Report> {
+    Some(Report {
+        dn: 1,
+        block: BlockId::new(1073741825)?,
+        stamp: GenerationStamp::new(1001)?,
+        len: Length::new(5)?,
+        kind: Kind::Received,
+    })
+}

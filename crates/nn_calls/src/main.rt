@@ -4,18 +4,20 @@
 //! after ` -> `, its answer, which is `done` where none is given. Words are split at blanks. A line that starts with `#`
 //! is a comment, and an empty line is passed over. `?` is the answer of a line that is no call, and of one for which
 //! memory does not suffice. Each script begins with nothing held, an empty table, no lane,
-//! the root alone and an empty text.
+//! no standby, the root alone and an empty text.
 #![tactic(auto)]
 
 mod call;
 mod files;
 mod held;
 mod lane;
+mod standby;
 mod table;
 mod text;
 
 use crate::call::Call;
 use crate::lane::Lane;
+use crate::standby::Tailing;
 use nn_postponed::Postponed;
 use nn_replicas::Replicas;
 use nn_tree::Namespace;
@@ -65,6 +67,7 @@ struct Subjects {
     lane: Lane,
     files: Namespace,
     text: Vec<u8>,
+    tailing: Option<Tailing>,
 }
 
 impl Subjects {
@@ -79,6 +82,7 @@ impl Subjects {
             },
             files: Namespace::new(alloc),
             text: Vec::new(alloc),
+            tailing: None,
         }
     }
 }
@@ -89,7 +93,8 @@ fn answers(subjects: &mut Subjects, call: &mut Call<'_>, want: &str) -> bool {
         || table::change(&mut subjects.table, call)
         || lane::play(&mut subjects.lane, call)
         || text::play(&mut subjects.text, call)
-        || files::change(&mut subjects.files, &mut subjects.text, call);
+        || files::change(&mut subjects.files, &mut subjects.text, call)
+        || standby::play(&mut subjects.tailing, &mut subjects.text, call);
     if call.failed || !known {
         call.say("?");
     } else if call.answer.is_empty() {

@@ -3,12 +3,12 @@ use Rattle.std.proofs.Common.{◌≡◌, List, ap, true, refl, sym, subst, ◌�
 use Rattle.std.specs.Prelude.{◌⊎◌, codes, Option}
 use Rattle.clap.specs.Words.{App, Text, HasKind, IsAmong, fault_of, is_simple, is_simple_and_free, kind_of, matches_of, one_of, one_text, rows_of}
 use Rattle.clap.specs.declared.error.Error.{Error}
-use Rattle.clap.specs.declared.error.kind.ErrorKind.TheVariants.{DisplayHelp, InvalidValue, OutOfMemory}
+use Rattle.clap.specs.declared.error.kind.ErrorKind.TheVariants.{DisplayHelp, DisplayVersion, InvalidValue, OutOfMemory}
 use Rattle.clap.specs.declared.parser.matches.Found.{Found}
 use Rattle.clap.proofs.OnLiterals.{clap_on_literals}
 use Rattle.clap.proofs.WalkLemmas.{one_text-rows}
 use Rattle.nn_types.specs.Settings.{Threshold}
-use Rattle.nn_command.specs.Options.{settings_line, lanes_line, command_line, AreReadAs, AskAs, AskFor, IsCapacity, IsFlag, IsRequest}
+use Rattle.nn_command.specs.Options.{settings_line, lanes_line, command_line, AreReadAs, AskAs, AskFor, IsCapacity, IsFlag, IsNumberOf, IsRequest}
 use Rattle.nn_command.specs.Program.{WhyNot}
 use Rattle.nn_command.specs.declared.options.Request.{Request}
 
@@ -37,6 +37,7 @@ asked_so words found r rows read =
       with_history = subst (λ (o : Option Text). IsFlag o r.options.history) (at (codes "history")) read.with_history;
       with_image = subst (λ (o : Option Text). IsFlag o r.options.image) (at (codes "image")) read.with_image;
       on_from_image = subst (λ (o : Option Text). IsFlag o r.options.from_image) (at (codes "from-image")) read.on_from_image;
+      explains = subst (λ (o : Option Text). IsNumberOf 8 o r.explain) (at (codes "explain")) read.explains;
     }
 
 pub found_as_asked : (words : List Text) (found : Found) (settings : Threshold) → rows_of found ≡ matches_of command_line words →
@@ -51,12 +52,15 @@ pub why_not : (words : List Text) (a : App) (e : Error) → a ≡ command_line �
 why_not words a e line (inl memory) = inl memory
 why_not words a e line (inr among) = inr (inl (subst (λ (x : App). IsAmong (kind_of e) (fault_of x words)) line among))
 
-other_kind : InvalidValue ≡ DisplayHelp → ⊥
-other_kind e = absurd (cc)
+no_help : InvalidValue ≡ DisplayHelp → ⊥
+no_help e = absurd (cc)
+
+no_version : InvalidValue ≡ DisplayVersion → ⊥
+no_version e = absurd (cc)
 
 pub out_of_range : (words : List Text) (found : Found) (e : Error) → rows_of found ≡ matches_of command_line words →
     ((settings : Threshold) → AreReadAs (one_text found (codes "permille")) (one_text found (codes "min")) (one_text found (codes "capacity")) settings → ⊥) →
     (kind_of e ≡ InvalidValue) ⊎ (kind_of e ≡ OutOfMemory) → WhyNot words (kind_of e)
 out_of_range words found e rows none (inl invalid) =
-    inr (inr ((λ help. other_kind (sym invalid ∙ help)), (λ settings asked. none settings (found_as_asked words found settings rows asked))))
+    inr (inr ((λ help. no_help (sym invalid ∙ help)), (λ version. no_version (sym invalid ∙ version)), (λ settings asked. none settings (found_as_asked words found settings rows asked))))
 out_of_range words found e rows none (inr memory) = inl memory

@@ -1,3 +1,4 @@
 pub mod Options
 pub mod OptionsRows
 pub mod Program
+pub mod ProgramRows

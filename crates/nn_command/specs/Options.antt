@@ -1,6 +1,7 @@
 -- The command line, and what its words ask for.
 use Rattle.std.specs.Prelude.{◌≡◌, ◌<◌, ◌≤◌, ◌^◌, ℕ, Bool, true, false, pos, List, [], ◌∷◌, Option, Some, None, codes}
 use Rattle.std.specs.Str.Parse.{IsNumeral, digits_value, without_leading_plus}
+use Rattle.clap.specs.Simple.{on_top}
 use Rattle.clap.specs.Words.{App, Rule, Text, matches_of, new_app, new_rule, one_of, with_rule}
 use Rattle.clap.specs.declared.builder.action.ArgAction.TheVariants.{Set, SetTrue}
 use Rattle.clap.specs.declared.builder.value_parser.ValueParser.{ValueParser}
@@ -16,29 +17,37 @@ value_rule name parser default = record (new_rule name) { long = Some name; acti
 abbrev pub flag_rule : Text → Rule
 flag_rule name = record (new_rule name) { long = Some name; action = Some SetTrue }
 
+-- `--explain` with a number from 0 to 255, which may be left out
+abbrev pub explain_rule : Rule
+explain_rule = record (new_rule (codes "explain")) { long = Some (codes "explain"); action = Some Set; parser = Some (Signed (pos 0) (pos 255)) }
+
+-- the program, which has a version
+abbrev pub the_program : App
+the_program = on_top (λ s. record s { has_version = true }) (new_app (codes "nn_standby"))
+
 -- `--permille` with a number from 0 to 1000, and `--min` with one from 1 to 512
 unfoldable pub settings_line : App
 settings_line =
-    with_rule (with_rule (new_app (codes "nn_standby")) (value_rule (codes "permille") (Signed (pos 0) (pos 1000)) (codes "999")))
+    with_rule (with_rule the_program (value_rule (codes "permille") (Signed (pos 0) (pos 1000)) (codes "999")))
     (value_rule (codes "min") (Signed (pos 1) (pos 512)) (codes "1"))
 
 -- and `--capacity` with a number from 1 to 1024, and `--threads`
 unfoldable pub lanes_line : App
 lanes_line = with_rule (with_rule settings_line (value_rule (codes "capacity") (Signed (pos 1) (pos 1024)) (codes "64"))) (flag_rule (codes "threads"))
 
--- and `--history`, `--image` and `--from-image`
+-- and `--history`, `--image`, `--from-image` and `--explain`
 unfoldable pub command_line : App
-command_line = with_rule (with_rule (with_rule lanes_line (flag_rule (codes "history"))) (flag_rule (codes "image"))) (flag_rule (codes "from-image"))
+command_line = with_rule (with_rule (with_rule (with_rule lanes_line (flag_rule (codes "history"))) (flag_rule (codes "image"))) (flag_rule (codes "from-image"))) explain_rule
 
 -- the text is there, and reads as this number
 abbrev pub ReadsAs : Option Text → ℕ → Type 0
 ReadsAs None n = ⊥
 ReadsAs (Some text) n = IsNumeral 10 (without_leading_plus text) × (digits_value 10 (without_leading_plus text) ≡ n)
 
--- the number of 16 bits that the text is, where it is there and is one
-abbrev pub IsNumberOf : Option Text → Option ℕ → Type 0
-IsNumberOf text (Some n) = ReadsAs text n
-IsNumberOf text None = (n : ℕ) → n < 2 ^ 16 → ReadsAs text n → ⊥
+-- the number of so many bits that the text is, where it is there and is one
+abbrev pub IsNumberOf : ℕ → Option Text → Option ℕ → Type 0
+IsNumberOf bits text (Some n) = ReadsAs text n
+IsNumberOf bits text None = (n : ℕ) → n < 2 ^ bits → ReadsAs text n → ⊥
 
 -- the text is this number of reports
 abbrev pub IsCapacity : Option Text → ℕ → Type 0
@@ -67,6 +76,7 @@ pub record IsRequest (text_of : Text → Option Text) (r : Request) : Type 0 whe
   pub with_history : IsFlag (text_of (codes "history")) r.options.history
   pub with_image : IsFlag (text_of (codes "image")) r.options.image
   pub on_from_image : IsFlag (text_of (codes "from-image")) r.options.from_image
+  pub explains : IsNumberOf 8 (text_of (codes "explain")) r.explain
 
 -- the words ask for it so
 abbrev pub AskAs : List Text → Request → Type 0

@@ -1,30 +1,47 @@
 -- Command lines, computed.
-use Rattle.std.specs.Prelude.{◌≡◌, true, false, List, [], ◌∷◌, map, Option, Some, codes, refl}
+use Rattle.std.specs.Prelude.{◌≡◌, true, false, List, [], ◌∷◌, map, Option, Some, None, codes, refl}
 use Rattle.clap.proofs.OnLiterals.{clap_on_literals}
-use Rattle.clap.specs.Words.{Text, matches_of, one_of, takes}
+use Rattle.clap.specs.Words.{Text, fault_of, matches_of, one_of, takes}
+use Rattle.clap.specs.declared.error.kind.ErrorKind.TheVariants.{DisplayHelp, DisplayVersion, UnknownArgument}
 use Rattle.nn_command.specs.Options.{settings_line, lanes_line, command_line}
 
 abbrev line : List Text → List Text
 line words = codes "nn_standby" ∷ words
 
 abbrev matched : List Text → List (Option Text)
-matched words = map (λ name. one_of name (matches_of command_line (line words))) (codes "permille" ∷ codes "min" ∷ codes "capacity" ∷ codes "threads" ∷ codes "history" ∷ codes "image" ∷ codes "from-image" ∷ [])
+matched words = map (λ name. one_of name (matches_of command_line (line words))) (codes "permille" ∷ codes "min" ∷ codes "capacity" ∷ codes "threads" ∷ codes "history" ∷ codes "image" ∷ codes "from-image" ∷ codes "explain" ∷ [])
 
-some_numbers : matched (codes "--min" ∷ codes "2" ∷ codes "--permille=1000" ∷ codes "--threads" ∷ codes "--image" ∷ codes "--capacity" ∷ codes "7" ∷ []) ≡ Some (codes "1000") ∷ Some (codes "2") ∷ Some (codes "7") ∷ Some (codes "true") ∷ Some (codes "false") ∷ Some (codes "true") ∷ Some (codes "false") ∷ []
+some_numbers : matched (codes "--min" ∷ codes "2" ∷ codes "--permille=1000" ∷ codes "--threads" ∷ codes "--image" ∷ codes "--capacity" ∷ codes "7" ∷ []) ≡ Some (codes "1000") ∷ Some (codes "2") ∷ Some (codes "7") ∷ Some (codes "true") ∷ Some (codes "false") ∷ Some (codes "true") ∷ Some (codes "false") ∷ None ∷ []
 unfolding clap_on_literals settings_line lanes_line command_line
 some_numbers = refl
 
-defaults : matched [] ≡ Some (codes "999") ∷ Some (codes "1") ∷ Some (codes "64") ∷ Some (codes "false") ∷ Some (codes "false") ∷ Some (codes "false") ∷ Some (codes "false") ∷ []
+defaults : matched [] ≡ Some (codes "999") ∷ Some (codes "1") ∷ Some (codes "64") ∷ Some (codes "false") ∷ Some (codes "false") ∷ Some (codes "false") ∷ Some (codes "false") ∷ None ∷ []
 unfolding clap_on_literals settings_line lanes_line command_line
 defaults = refl
 
-a_history : matched (codes "--history" ∷ []) ≡ Some (codes "999") ∷ Some (codes "1") ∷ Some (codes "64") ∷ Some (codes "false") ∷ Some (codes "true") ∷ Some (codes "false") ∷ Some (codes "false") ∷ []
+a_history : matched (codes "--history" ∷ []) ≡ Some (codes "999") ∷ Some (codes "1") ∷ Some (codes "64") ∷ Some (codes "false") ∷ Some (codes "true") ∷ Some (codes "false") ∷ Some (codes "false") ∷ None ∷ []
 unfolding clap_on_literals settings_line lanes_line command_line
 a_history = refl
 
-from_an_image : matched (codes "--from-image" ∷ codes "--image" ∷ []) ≡ Some (codes "999") ∷ Some (codes "1") ∷ Some (codes "64") ∷ Some (codes "false") ∷ Some (codes "false") ∷ Some (codes "true") ∷ Some (codes "true") ∷ []
+from_an_image : matched (codes "--from-image" ∷ codes "--image" ∷ []) ≡ Some (codes "999") ∷ Some (codes "1") ∷ Some (codes "64") ∷ Some (codes "false") ∷ Some (codes "false") ∷ Some (codes "true") ∷ Some (codes "true") ∷ None ∷ []
 unfolding clap_on_literals settings_line lanes_line command_line
 from_an_image = refl
+
+an_explanation : matched (codes "--explain" ∷ codes "29" ∷ codes "--history" ∷ []) ≡ Some (codes "999") ∷ Some (codes "1") ∷ Some (codes "64") ∷ Some (codes "false") ∷ Some (codes "true") ∷ Some (codes "false") ∷ Some (codes "false") ∷ Some (codes "29") ∷ []
+unfolding clap_on_literals settings_line lanes_line command_line
+an_explanation = refl
+
+-- `--help` and `--version` win over what stands before them, and of the two the first
+wins : map (λ words. fault_of command_line (line words))
+    ((codes "--image" ∷ codes "--help" ∷ []) ∷ (codes "--min=2" ∷ codes "--version" ∷ []) ∷ (codes "--version" ∷ codes "--help" ∷ []) ∷ (codes "--help" ∷ codes "--version" ∷ []) ∷ (codes "--explain" ∷ codes "29" ∷ codes "-V" ∷ []) ∷ (codes "--explain" ∷ codes "29" ∷ codes "-h" ∷ []) ∷ (codes "--version" ∷ codes "--most" ∷ []) ∷ (codes "--most" ∷ codes "--version" ∷ []) ∷ [])
+    ≡ (DisplayHelp ∷ []) ∷ (DisplayVersion ∷ []) ∷ (DisplayVersion ∷ []) ∷ (DisplayHelp ∷ []) ∷ (DisplayVersion ∷ []) ∷ (DisplayHelp ∷ []) ∷ (DisplayVersion ∷ []) ∷ (UnknownArgument ∷ []) ∷ []
+unfolding clap_on_literals settings_line lanes_line command_line
+wins = refl
+
+explanations_taken : map (λ n. takes command_line (line (codes "--explain" ∷ n ∷ []))) (codes "0" ∷ codes "255" ∷ codes "256" ∷ codes "x" ∷ [])
+    ≡ true ∷ true ∷ false ∷ false ∷ []
+unfolding clap_on_literals settings_line lanes_line command_line
+explanations_taken = refl
 
 permilles_taken : map (λ n. takes command_line (line (codes "--permille" ∷ n ∷ []))) (codes "0" ∷ codes "1000" ∷ codes "1001" ∷ codes "x" ∷ [])
     ≡ true ∷ true ∷ false ∷ false ∷ []

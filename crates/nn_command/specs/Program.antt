@@ -1,10 +1,11 @@
 -- What the program does for the words that it is started with, and the status that it ends with.
-use Rattle.std.specs.Prelude.{◌≡◌, ◌≢◌, ◌⊎◌, ◌∷◌, [], ◌++◌, ℕ, Bool, false, List, codes, None}
+use Rattle.std.specs.Prelude.{◌≡◌, ◌≢◌, ◌⊎◌, ◌∷◌, [], ◌++◌, ℕ, Bool, false, List, codes, decimal, Some, None, MatchOption}
 use Rattle.nn_device.specs.Device.{Reading, Writing, Took, FailedToWrite}
 use Rattle.clap.specs.Words.{Text, IsAmong, fault_of}
 use Rattle.clap.specs.declared.error.kind.ErrorKind.{ErrorKind}
-use Rattle.clap.specs.declared.error.kind.ErrorKind.TheVariants.{DisplayHelp}
+use Rattle.clap.specs.declared.error.kind.ErrorKind.TheVariants.{DisplayHelp, DisplayVersion}
 use Rattle.clap.specs.declared.error.kind.ErrorKind.TheVariants as why
+use Rattle.nn_types.specs.Fault.{name_in, name_of}
 use Rattle.nn_types.specs.Settings.{Threshold}
 use Rattle.nn_engine.specs.declared.engine.Options.{Options as RunOptions}
 use Rattle.nn_listing.specs.Listing.{newline}
@@ -12,22 +13,27 @@ use Rattle.nn_engine.specs.Run.{Given, Wrote, WroteFront, running}
 use Rattle.nn_command.specs.declared.program.NoWords.{NoWords}
 use Rattle.nn_command.specs.declared.program.NoWords.TheVariants.{NotText, OutOfMemory}
 use Rattle.nn_command.specs.declared.options.Request.{Request}
+use Rattle.nn_command.specs.declared.options.TheConstants.{VERSION}
 use Rattle.nn_command.specs.Options.{command_line, AskAs, AskFor}
 
 -- ---- What words ask for.
 
--- a run with these settings: the parser has no fault to find
-abbrev pub AskToRun : List Text → Threshold → Type 0
-AskToRun words settings = (fault_of command_line words ≡ []) × AskFor words settings
+-- the parser has no fault to find, and these are the settings
+abbrev pub AreTaken : List Text → Threshold → Type 0
+AreTaken words settings = (fault_of command_line words ≡ []) × AskFor words settings
 
 -- the help text
 abbrev pub AskForHelp : List Text → Type 0
 AskForHelp words = IsAmong DisplayHelp (fault_of command_line words)
 
+-- the version
+abbrev pub AskForVersion : List Text → Type 0
+AskForVersion words = IsAmong DisplayVersion (fault_of command_line words)
+
 -- nothing that there is: the parser finds a fault, or the words are no settings
 abbrev pub AskForNothing : List Text → Type 0
 AskForNothing words =
-    ((kind : ErrorKind) × IsAmong kind (fault_of command_line words) × (kind ≢ DisplayHelp)) ⊎ ((settings : Threshold) → AskFor words settings → ⊥)
+    ((kind : ErrorKind) × IsAmong kind (fault_of command_line words) × (kind ≢ DisplayHelp) × (kind ≢ DisplayVersion)) ⊎ ((settings : Threshold) → AskFor words settings → ⊥)
 
 -- ---- What the program did.
 
@@ -70,9 +76,17 @@ EndsWith given output output' ended = Wrote given output output' ended ⊎ ((n :
 abbrev pub Runs : RunOptions → Bool → Streams → ℕ → Type 0
 Runs options threads s ended = EndsWith (running options threads s.before s.after) s.output s.output' ended × (s.errors' ≡ s.errors)
 
--- the help text on the output, and nothing was read
+-- a text on the output, and nothing was read
+abbrev pub Tells : List ℕ → Streams → ℕ → Type 0
+Tells text s ended = Writes s.output s.output' text 0 ended × (s.errors' ≡ s.errors) × (s.after ≡ s.before)
+
+-- the help text
 abbrev pub Helps : Streams → ℕ → Type 0
-Helps s ended = ((text : List ℕ) × Writes s.output s.output' text 0 ended) × (s.errors' ≡ s.errors) × (s.after ≡ s.before)
+Helps s ended = (text : List ℕ) × Tells text s ended
+
+-- the program's name and its version
+abbrev pub version_line : List ℕ
+version_line = codes "nn_standby " ++ VERSION.now ++ newline ∷ []
 
 -- a message beside the output, all of it or a front, and nothing was read
 abbrev pub Refuses : Streams → ℕ → Type 0
@@ -83,11 +97,24 @@ Refuses s ended =
 abbrev pub LacksMemory : Streams → ℕ → Type 0
 LacksMemory s ended = Writes s.output s.output' memory_line 1 ended × (s.errors' ≡ s.errors) × (s.after ≡ s.before)
 
+-- the number of a fault, and the text about it
+abbrev pub explanation_line : ℕ → List ℕ → List ℕ
+explanation_line number text = decimal number ++ codes " " ++ text ++ newline ∷ []
+
+-- a text that begins with the name of the fault with this number; and a message where no fault has it
+abbrev pub Explains : ℕ → Streams → ℕ → Type 0
+Explains number s ended =
+    ((text : List ℕ) × (name_of number ≡ Some (name_in text)) × Tells (explanation_line number text) s ended) ⊎ ((name_of number ≡ None) × Refuses s ended)
+
+-- what is asked for: a run, or in its place what a fault means
+abbrev pub Answers : Request → Streams → ℕ → Type 0
+Answers r s ended = MatchOption r.explain (Runs r.options r.threads s ended) (λ number. Explains number s ended)
+
 -- what it does for words, of which the first is the program's name
 abbrev pub Serves : List Text → Streams → ℕ → Type 0
 Serves words s ended =
-    ((r : Request) × AskToRun words r.options.settings × AskAs words r × Runs r.options r.threads s ended)
-    ⊎ ((AskForHelp words × Helps s ended) ⊎ ((AskForNothing words × Refuses s ended) ⊎ LacksMemory s ended))
+    ((r : Request) × AreTaken words r.options.settings × AskAs words r × Answers r s ended)
+    ⊎ ((AskForHelp words × Helps s ended) ⊎ ((AskForVersion words × Tells version_line s ended) ⊎ ((AskForNothing words × Refuses s ended) ⊎ LacksMemory s ended)))
 
 -- and where there are none
 abbrev pub ServesNone : NoWords → Streams → ℕ → Type 0
@@ -96,11 +123,14 @@ ServesNone OutOfMemory s ended = LacksMemory s ended
 
 -- ---- Why the words' parser gave no settings.
 
--- memory ran out, or the words ask for help or for nothing, as the kind says
+-- memory ran out, or the words ask for help, the version or nothing, as the kind says
 abbrev pub WhyNot : List Text → ErrorKind → Type 0
 WhyNot words kind =
-    (kind ≡ why.OutOfMemory) ⊎ (IsAmong kind (fault_of command_line words) ⊎ ((kind ≢ DisplayHelp) × ((settings : Threshold) → AskFor words settings → ⊥)))
+    (kind ≡ why.OutOfMemory) ⊎ (IsAmong kind (fault_of command_line words) ⊎ ((kind ≢ DisplayHelp) × (kind ≢ DisplayVersion) × ((settings : Threshold) → AskFor words settings → ⊥)))
 
 -- what is told of an error of this kind
-abbrev pub Tells : ErrorKind → Streams → ℕ → Type 0
-Tells kind s ended = LacksMemory s ended ⊎ (((kind ≡ DisplayHelp) × Helps s ended) ⊎ ((kind ≢ DisplayHelp) × (kind ≢ why.OutOfMemory) × Refuses s ended))
+abbrev pub TellsOf : ErrorKind → Streams → ℕ → Type 0
+TellsOf kind s ended =
+    LacksMemory s ended
+    ⊎ (((kind ≡ DisplayHelp) × Helps s ended) ⊎ (((kind ≡ DisplayVersion) × Tells version_line s ended)
+    ⊎ ((kind ≢ DisplayHelp) × (kind ≢ DisplayVersion) × (kind ≢ why.OutOfMemory) × Refuses s ended)))

@@ -4,7 +4,10 @@ use crate::program::{NoWords, serve};
 use nn_device::{Reader, Writer};
 use nn_engine::Open;
 use nn_scenario::MAX_INPUT;
+use std::alloc::Global;
+use std::env::FillError;
 use std::process::ExitCode;
+use std::rt::Env;
 use std::sync::{Arc, Wait};
 use std::thread::{Builder, Threads};
 use std::{env, io};
@@ -70,7 +73,7 @@ fn on_devices<T: Threads + Wait + Sync>(rt: &HostRuntime, threads: &T) -> u8 {
 
 // The words that the program was started with, its name first.
 fn words(rt: &HostRuntime) -> Result<Vec<String>, NoWords> {
-    let words = match env::args(rt) {
+    let words = match env::args(&LooselyNamed { rt }) {
         Ok(words) => words,
         Err(error) if error.kind() == io::ErrorKind::InvalidData => return Err(NoWords::NotText),
         Err(_) => return Err(NoWords::OutOfMemory),
@@ -79,6 +82,50 @@ fn words(rt: &HostRuntime) -> Result<Vec<String>, NoWords> {
         return Err(NoWords::OutOfMemory);
     };
     Ok(words)
+}
+
+// The process's arguments, of which the program's own name is read loosely: a program may lie where a path is no UTF-8.
+#[derive(Drop)]
+struct LooselyNamed<'a> {
+    rt: &'a HostRuntime,
+}
+
+impl Alloc for LooselyNamed<'_> {
+    type A = Global;
+
+    fn alloc(&self) -> Global {
+        self.rt.alloc()
+    }
+}
+
+impl Env for LooselyNamed<'_> {
+    fn arg(&self, i: usize, buf: &mut [u8]) -> Result<usize, FillError> {
+        let len = self.rt.arg(i, buf)?;
+        if i == 0 {
+            make_text(&mut buf[..len]);
+        }
+        Ok(len)
+    }
+
+    fn var(&self, name: &str, buf: &mut [u8]) -> Result<usize, FillError> {
+        self.rt.var(name, buf)
+    }
+
+    fn var_at(&self, i: usize, buf: &mut [u8]) -> Result<usize, FillError> {
+        self.rt.var_at(i, buf)
+    }
+}
+
+// Puts a question mark in the place of each byte that is no ASCII, where the bytes are no UTF-8.
+fn make_text(bytes: &mut [u8]) {
+    if str::from_utf8(bytes).is_ok() {
+        return;
+    }
+    for byte in bytes.iter_mut() {
+        if *byte > 127 {
+            *byte = b'?';
+        }
+    }
 }
 
 /// The line that memory ran out, on standard output, and its status.

@@ -2,8 +2,8 @@
 ghost use Rattle.std.specs.Prelude.{◌≡◌, ◌≤◌, ◌⊎◌, ℕ, false, IfOk, IfErr, IfSome, IfNone, codes, map, string_bytes};
 ghost use Rattle.clap.specs.Words.{app_of, found_of, kind_of, one_text, rule_of};
 ghost use Rattle.nn_types.specs.Settings.{Threshold};
-ghost use Rattle.nn_command.specs.Options.{value_rule, flag_rule, settings_line, lanes_line, command_line, IsNumberOf, IsCapacity, AreReadAs, IsRequest, AskAs};
-ghost use Rattle.nn_command.specs.Program.{AskToRun, WhyNot};
+ghost use Rattle.nn_command.specs.Options.{value_rule, flag_rule, explain_rule, settings_line, lanes_line, command_line, IsNumberOf, IsCapacity, AreReadAs, IsRequest, AskAs};
+ghost use Rattle.nn_command.specs.Program.{AreTaken, WhyNot};
 
 use clap::builder::ValueParser;
 use clap::error::ErrorKind;
@@ -11,6 +11,9 @@ use clap::{Arg, ArgAction, ArgMatches, Command, Error, value_parser};
 use nn_engine::Options;
 use nn_types::Settings;
 use std::alloc::{AllocError, Global};
+
+/// The version of the program, which README.md names too.
+pub const VERSION: &str = "0.3.0";
 
 const ABOUT: &str =
     "Reads a scenario of edit lines and messages, one JSON object a line, from standard input, and \
@@ -22,7 +25,7 @@ const PERMILLE: &str =
 const MIN: &str = "How many live replicas make a block safe, 1 to 512.";
 
 const THREADS: &str =
-    "Lets each DataNode report from a thread of its own. What is printed is the same, but for a history.";
+    "Lets each DataNode report from a thread of its own. What is printed is the same, except for a history.";
 
 const HISTORY: &str =
     "Prints the history of the standby first: each transaction and each message, as it was taken.";
@@ -34,6 +37,9 @@ const FROM_IMAGE: &str =
 
 const CAPACITY: &str = "How many reports of a DataNode wait at a time with --threads, 1 to 1024.";
 
+const EXPLAIN: &str =
+    "Prints what the fault with this number means and what can be done, and reads no input.";
+
 /// What the command line asks for.
 #[derive(Clone, Copy, Debug, PartialEq, Eq)]
 pub struct Request {
@@ -42,11 +48,13 @@ pub struct Request {
     pub threads: bool,
     /// How many reports a lane holds at a time, 1 to 1024.
     pub capacity: u16,
+    /// The number of the fault that is to be explained, in place of a run.
+    pub explain: Option<u8>,
 }
 
 /// What words ask for, of which the first is the program's name.
 pub fn parse<'a>(alloc: Global, words: &'a [String]) -> Result<Request, Error>
-    ensures ok { IfOk result (λ request. AskToRun (map string_bytes words.entry.now) request.options.settings) }
+    ensures ok { IfOk result (λ request. AreTaken (map string_bytes words.entry.now) request.options.settings) }
     ensures asked { IfOk result (λ request. AskAs (map string_bytes words.entry.now) request) }
     ensures capacity { IfOk result (λ request. (1 ≤ request.capacity) × (request.capacity ≤ 1024)) }
     ensures err { IfErr result (λ error. WhyNot (map string_bytes words.entry.now) (kind_of error)) }
@@ -84,7 +92,8 @@ fn command<'a>(alloc: Global) -> Result<Command<'a>, Error>
     let command = lanes_command(alloc)?
         .arg(flag(alloc, "history", HISTORY))?
         .arg(flag(alloc, "image", IMAGE))?
-        .arg(flag(alloc, "from-image", FROM_IMAGE))?;
+        .arg(flag(alloc, "from-image", FROM_IMAGE))?
+        .arg(explain(alloc))?;
     Ok(command)
 }
 
@@ -99,13 +108,14 @@ fn lanes_command<'a>(alloc: Global) -> Result<Command<'a>, Error>
     Ok(command)
 }
 
-// `--permille N` and `--min N`.
+// The program with its version, `--permille N` and `--min N`.
 fn settings_command<'a>(alloc: Global) -> Result<Command<'a>, Error>
     ensures { IfOk result (λ command. app_of command ≡ settings_line) }
 {
     let permille = value_parser!(u16).range(0..=1000);
     let min = value_parser!(u16).range(1..=512);
     let command = Command::new(alloc, "nn_standby")
+        .version(VERSION)
         .about(ABOUT)
         .arg(valued(alloc, "permille", permille, "999", PERMILLE))?
         .arg(valued(alloc, "min", min, "1", MIN))?;
@@ -142,6 +152,18 @@ fn valued<'a>(
         .help(help)
 }
 
+// `--explain N`.
+fn explain<'a>(alloc: Global) -> Arg<'a>
+    ensures rule { rule_of result ≡ explain_rule }
+    ensures own { result.global ≡ false }
+{
+    Arg::new(alloc, "explain")
+        .long("explain")
+        .action(ArgAction::Set)
+        .value_parser(value_parser!(u8))
+        .help(EXPLAIN)
+}
+
 // What was matched, where the numbers are in range.
 fn matched(matches: &ArgMatches<'_>) -> Option<Request>
     ensures some { IfSome result (λ request. AreReadAs (one_text (found_of matches.now) (codes "permille")) (one_text (found_of matches.now) (codes "min")) (one_text (found_of matches.now) (codes "capacity")) request.options.settings) }
@@ -162,6 +184,7 @@ fn matched(matches: &ArgMatches<'_>) -> Option<Request>
         },
         threads: matches.get_flag("threads"),
         capacity,
+        explain: fault_number(matches),
     })
 }
 
@@ -177,9 +200,16 @@ fn capacity(matches: &ArgMatches<'_>) -> Option<u16>
     Some(n)
 }
 
+// The number under `--explain`, if it is there.
+fn fault_number(matches: &ArgMatches<'_>) -> Option<u8>
+    ensures { IsNumberOf 8 (one_text (found_of matches.now) (codes "explain")) result }
+{
+    matches.get_one::<u8>("explain")
+}
+
 // The number that was matched under the name.
 fn number(matches: &ArgMatches<'_>, name: &str) -> Option<u16>
-    ensures { IsNumberOf (one_text (found_of matches.now) name.now) result }
+    ensures { IsNumberOf 16 (one_text (found_of matches.now) name.now) result }
 {
     matches.get_one::<u16>(name)
 }

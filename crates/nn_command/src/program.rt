@@ -3,14 +3,15 @@ ghost use Rattle.std.specs.Prelude.{◌≡◌, ◌≤◌, ◌⊎◌, ℕ, List, 
 ghost use Rattle.nn_device.specs.Device.{Took, FailedToWrite};
 ghost use Rattle.clap.specs.Words.{kind_of};
 ghost use Rattle.nn_engine.specs.Run.{running};
-ghost use Rattle.nn_command.specs.Program.{EndsWith, Serves, ServesNone, Tells, Writes, memory_line, no_reader, streams};
+ghost use Rattle.nn_command.specs.Program.{EndsWith, Explains, LacksMemory, Serves, ServesNone, TellsOf, Writes, explanation_line, memory_line, no_reader, streams, version_line};
 
 use crate::options;
-use crate::options::Request;
+use crate::options::{Request, VERSION};
 use clap::error::ErrorKind;
 use nn_device::{Reader, Writer};
-use nn_engine::{Gate, Options, Threaded, run, run_threads};
-use std::alloc::Global;
+use nn_engine::{Gate, Options, ThreadOptions, run, run_threads};
+use nn_types::fault::explanation;
+use std::alloc::{AllocError, Global};
 use std::io::{Read, Write};
 use std::sync::{Arc, Wait};
 use std::thread::Threads;
@@ -23,6 +24,8 @@ const MISUSED: u8 = 2;
 
 const NOT_TEXT: &[u8] = b"error: a word of the command line is no UTF-8\n";
 
+const NO_FAULT: &[u8] = b"error: no fault has the number behind --explain\n";
+
 /// Why there are no words.
 #[derive(Clone, Copy, Debug, PartialEq, Eq)]
 pub enum NoWords {
@@ -32,11 +35,11 @@ pub enum NoWords {
 }
 
 /// Does what the words ask for, of which the first is the program's name, and answers the status that the process is
-/// to end with: 0 after a listing or the help, 1 after a fault line or a write that failed, 2 after words that are
-/// refused, which is told on `errors`.
+/// to end with: 0 after a listing, the help, the version or what a fault means, 1 after a fault line or a write that
+/// failed, 2 after words that are refused, which is told on `errors`.
 ///
 /// With `--threads` each DataNode reports from a thread of its own, which passes the gate first: it waits for as long as
-/// the gate does. What is printed is the same, but that a history has the order of its own run.
+/// the gate does. What is printed is the same, except that a history has the order of its own run.
 pub fn serve<R: Read, W: Write, E: Write, G: Gate + Send + Sync + Drop, T: Threads + Wait + Sync>(
     rt: &T,
     alloc: Global,
@@ -60,7 +63,35 @@ pub fn serve<R: Read, W: Write, E: Write, G: Gate + Send + Sync + Drop, T: Threa
         Ok(request) => request,
         Err(error) => return tell(alloc, &error, output, errors),
     };
+    if let Some(number) = request.explain {
+        return explain(alloc, number, output, errors);
+    }
     run_as_asked(rt, alloc, &request, input, output, gate)
+}
+
+// What the fault with this number means, or that there is none.
+fn explain<W: Write, E: Write>(
+    alloc: Global,
+    number: u8,
+    output: &mut Writer<W>,
+    errors: &mut Writer<E>,
+) -> u8
+    ensures { let s = streams no_reader no_reader output.old output.new errors.old errors.new in
+        Explains number s result ⊎ LacksMemory s result }
+{
+    let Some(text) = explanation(number) else {
+        return refuse(errors, NO_FAULT);
+    };
+    let Ok(line) = explained(alloc, number, text) else {
+        return out_of_memory(output);
+    };
+    write_or_fail(output, line.as_bytes(), 0)
+}
+
+fn explained(alloc: Global, number: u8, text: &str) -> Result<String, AllocError>
+    ensures { IfOk result (λ line. string_bytes line ≡ explanation_line number text.now) }
+{
+    format!(in alloc; "{number} {text}\n")
 }
 
 // A run, with threads or without.
@@ -78,7 +109,7 @@ fn run_as_asked<R: Read, W: Write, G: Gate + Send + Sync + Drop, T: Threads + Wa
     if !request.threads {
         return run_plain(alloc, &request.options, input, output);
     }
-    let asked = Threaded {
+    let asked = ThreadOptions {
         options: request.options,
         capacity: usize::from(request.capacity),
         gate,
@@ -103,18 +134,21 @@ fn run_plain<R: Read, W: Write>(
     }
 }
 
-// Tells why the command line gave no settings: the help text on the output, any other text on `errors`.
+// Tells why the command line gave no settings: the help text and the version on the output, any other text on `errors`.
 fn tell<W: Write, E: Write>(
     alloc: Global,
     error: &clap::Error,
     output: &mut Writer<W>,
     errors: &mut Writer<E>,
 ) -> u8
-    ensures { Tells (kind_of error.now) (streams no_reader no_reader output.old output.new errors.old errors.new) result }
+    ensures { TellsOf (kind_of error.now) (streams no_reader no_reader output.old output.new errors.old errors.new) result }
 {
     let kind = error.kind();
     if kind == ErrorKind::OutOfMemory {
         return out_of_memory(output);
+    }
+    if kind == ErrorKind::DisplayVersion {
+        return show_version(alloc, output);
     }
     let Ok(text) = error.to_string(alloc) else {
         return out_of_memory(output);
@@ -123,6 +157,22 @@ fn tell<W: Write, E: Write>(
         return write_or_fail(output, text.as_bytes(), 0);
     }
     refuse(errors, text.as_bytes())
+}
+
+// The program's name and its version.
+fn show_version<W: Write>(alloc: Global, output: &mut Writer<W>) -> u8
+    ensures { Writes output.old output.new version_line 0 result ⊎ Writes output.old output.new memory_line 1 result }
+{
+    let Ok(line) = version(alloc) else {
+        return out_of_memory(output);
+    };
+    write_or_fail(output, line.as_bytes(), 0)
+}
+
+fn version(alloc: Global) -> Result<String, AllocError>
+    ensures { IfOk result (λ line. string_bytes line ≡ version_line) }
+{
+    format!(in alloc; "nn_standby {VERSION}\n")
 }
 
 fn refuse<E: Write>(errors: &mut Writer<E>, text: &[u8]) -> u8

@@ -18,7 +18,7 @@ use Rattle.nn_segment.specs.Segment.{Segment}
 use Rattle.nn_segment.specs.Source.{Answer, Asked, given, end}
 use Rattle.nn_shadow.specs.Contents.{Contents, standby_of}
 use Rattle.nn_tailer.specs.Tailing.{by_node}
-use Rattle.nn_drive.specs.declared.driving.Worked.{Worked}
+use Rattle.nn_drive.specs.declared.driving.WorkerExit.{WorkerExit}
 use Rattle.nn_drive.specs.Reports.{next_message, sent_after, TakesNoMore, Reported}
 use Rattle.nn_drive.specs.Driven.{AreLanes, IsTold, IsTaken, IsPromoted}
 use Rattle.nn_drive.specs.DriveLaws.{AnswersByFunction, AreOpen, DrivesEndAlike}
@@ -80,7 +80,7 @@ full_of P u f last z (Err (Closed m n)) none some open_ h = absurd (open_ tt)
 full_of P u f last z (Err (Exhausted m)) none some open_ h = (subst (λ (o : Option Report). MatchOption o ⊥ (λ x. TakesNoMore u (f x) (Exhausted m))) some h).1
 full_of P u f last z (Err (Full m n)) none some open_ h = absurd (subst (λ (o : Option Report). MatchOption o ⊥ (λ x. TakesNoMore u (f x) (Full m n))) some h)
 
-module _ {S : Type 0} (gives : S → Option Report → S → Type 0) (fixed : AnswersByFunction gives) (s : S) (r : Reporting) (v w : Worked S)
+module _ {S : Type 0} (gives : S → Option Report → S → Type 0) (fixed : AnswersByFunction gives) (s : S) (r : Reporting) (v w : WorkerExit S)
     (p : Reported gives s r v.source v.reporter v.outcome) (q : Reported gives s r w.source w.reporter w.outcome) (not_told : IsTold v.outcome → ⊥) (not_told' : IsTold w.outcome → ⊥) where
   same_sent : v.reporter.sent ≡ w.reporter.sent
   same_sent = elim (alike gives fixed s v.source w.source p.0 q.0 p.1 q.1 p.2 q.2) [

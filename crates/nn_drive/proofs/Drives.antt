@@ -13,8 +13,8 @@ use Rattle.nn_tailer.specs.Promotion.{Promoted, IsPromoted as Promotes}
 use Rattle.nn_tailer.proofs.Carried.{carries_then}
 use Rattle.nn_tailer.proofs.Closed.{many_closed}
 use Rattle.nn_tailer.proofs.Drained.{same_length}
-use Rattle.nn_drive.specs.declared.driving.Worked.{Worked}
-use Rattle.nn_drive.specs.declared.driving.Reports.{Reports}
+use Rattle.nn_drive.specs.declared.driving.WorkerExit.{WorkerExit}
+use Rattle.nn_drive.specs.declared.driving.WorkerPromise.{WorkerPromise}
 use Rattle.nn_drive.specs.Driven.{AreLanes, IsPromised, ArePromised, HasReported, IsToldOnly, IsTaken, JoinsAll, AreOneLane, Agrees, Goes, IsPromoted}
 use Rattle.nn_drive.proofs.Meets.{zip_of, zip_at}
 
@@ -68,10 +68,10 @@ some_of (x ∷ xs) i l = x
 
 module _ {S : Type 0} (gives : S → Option Report → S → Type 0) where
   -- what the thread of a worker's handle reported is reported by the worker
-  reported_by : (w : S × Reporting) (h : PromisedHandle (Worked S) (Reports S)) (v : Worked S) → IsPromised w h → HasReported gives h.promise.0.value h.promise.1.value v → HasReported gives w.0 w.1 v
+  reported_by : (w : S × Reporting) (h : PromisedHandle (WorkerExit S) (WorkerPromise S)) (v : WorkerExit S) → IsPromised w h → HasReported gives h.promise.0.value h.promise.1.value v → HasReported gives w.0 w.1 v
   reported_by w h v p r = subst (λ x. HasReported gives w.0 x v) p.1 (subst (λ s. HasReported gives s h.promise.1.value v) p.0 r)
 
-module _ {S : Type 0} (gives : S → Option Report → S → Type 0) (workers : List (S × Reporting)) (handles : List (PromisedHandle (Worked S) (Reports S))) (promised : ArePromised workers handles) (all : length workers ≤ length handles)
+module _ {S : Type 0} (gives : S → Option Report → S → Type 0) (workers : List (S × Reporting)) (handles : List (PromisedHandle (WorkerExit S) (WorkerPromise S))) (promised : ArePromised workers handles) (all : length workers ≤ length handles)
     (x0 x1 : Tailer) (lanes : AreLanes workers x0.ends) (a1 : List Answer) (goes : Goes x0 a1 x1) where
   -- there is a lane for each handle
   pub fit : length handles ≤ length x1.ends
@@ -80,7 +80,7 @@ module _ {S : Type 0} (gives : S → Option Report → S → Type 0) (workers : 
   module _ (reporters : List Reporting) (told : Bool) (joins : JoinsAll gives handles x1.ends reporters told) where
     -- the handle of a worker, and what its thread gave back
     joined_at : (i : ℕ) (w : S × Reporting) (e : Taking) (r : Reporting) → i < length workers
-        → (v : Worked S) × HasReported gives (get_or workers i w).0 (get_or workers i w).1 v × (get_or reporters i r ≡ v.reporter) × (told ≡ false → IsToldOnly v (get_or x1.ends i e))
+        → (v : WorkerExit S) × HasReported gives (get_or workers i w).0 (get_or workers i w).1 v × (get_or reporters i r ≡ v.reporter) × (told ≡ false → IsToldOnly v (get_or x1.ends i e))
     joined_at i w e r below =
         let within : i < length handles = omega (arith, below, all) in
         let h = some_of handles i within in
@@ -130,12 +130,12 @@ module _ {S : Type 0} (gives : S → Option Report → S → Type 0) (workers : 
         promoted start base given h = subst (λ g. Promoted start base g x3) (append_assoc given a1 a2) (promotes start base (given ++ a1) (carried start base given h))
 
         module _ (agree : AllZip Agrees x3.ends reporters) (none_told : told ≡ false) where
-          is_taken : AllTaken x3.ends x3.kept → (i : ℕ) (w : S × Reporting) (b e : Taking) → i < length workers → IsTaken gives (get_or workers i w).0 (get_or workers i w).1 (get_or x0.ends i b) (get_or x3.ends i e).got
+          is_taken : AllTaken x3.ends x3.undelivered → (i : ℕ) (w : S × Reporting) (b e : Taking) → i < length workers → IsTaken gives (get_or workers i w).0 (get_or workers i w).1 (get_or x0.ends i b) (get_or x3.ends i e).got
           is_taken taken i w b e below =
               let r = (get_or workers i w).1 in
               let j = joined_at i w b r below in
               let in3 : i < length x3.ends = omega (arith, below, size) in
-              let whole = all_got (get_or x3.ends i e) (get_or reporters i r) (zip_at Agrees x3.ends reporters agree i e r in3) (taken_at x3.ends x3.kept i e in3 taken) in
+              let whole = all_got (get_or x3.ends i e) (get_or reporters i r) (zip_at Agrees x3.ends reporters agree i e r in3) (taken_at x3.ends x3.undelivered i e in3 taken) in
               let was = (same_at x0.ends x1.ends i b (omega (arith, below, lanes.0)) goes.same_ends).1 in
               (j.0, j.1, whole ∙ ap (λ z. z.sent) j.2, λ t. sym was ∙ j.3 none_told t)
 

@@ -26,8 +26,8 @@ use Rattle.nn_feed.specs.declared.rule.Placed.{Placed}
 use Rattle.nn_feed.specs.Ends.{put_by, got_by, IsSameFeeder, Gets, GivesWhatIsFed, IsMet, IsSameEnd}
 use Rattle.nn_feed.specs.Feeds.{has_last, answer_of, answers_of, placed}
 use Rattle.nn_feed.specs.declared.ends.Feeder.{Feeder}
-use Rattle.nn_feed.specs.declared.running.Ran.{Ran}
-use Rattle.nn_feed.specs.declared.running.Told.{Told}
+use Rattle.nn_feed.specs.declared.running.FeederExit.{FeederExit}
+use Rattle.nn_feed.specs.declared.running.Delivered.{Delivered}
 use Rattle.nn_feed.specs.Running.{HasRun, GaveThen, then_last, last_in, ending_of}
 use Rattle.nn_feed.proofs.Feeds.{last_among, one_last}
 use Rattle.nn_feed.proofs.Wholes.{asked_gets, given_is_got, ends_in_end, ends_in_last}
@@ -238,12 +238,12 @@ pub not_met : {T : Type 0} (gives : T → Answer → T → Type 0) (failures : T
 not_met gives failures s x got met h = (h.0, (h.1.0, h.1.1, tt, h.2))
 
 -- a feeder that told how its source ended is still that of the same feed
-pub told_same : {T : Type 0} (gives : T → Answer → T → Type 0) (failures : T → ℕ) (s : T) (feeder : Feeder) (ran : Ran T) (told : Told) → ran.outcome ≡ Ok told → HasRun gives failures s feeder ran → IsSameFeeder feeder told.feeder
+pub told_same : {T : Type 0} (gives : T → Answer → T → Type 0) (failures : T → ℕ) (s : T) (feeder : Feeder) (ran : FeederExit T) (told : Delivered) → ran.outcome ≡ Ok told → HasRun gives failures s feeder ran → IsSameFeeder feeder told.feeder
 told_same gives failures s feeder ran told is h =
     (subst (λ o. IfOk o (λ t. IsSameFeeder feeder t.feeder × (answers_of (put_by t.feeder) ≡ answers_of (put_by feeder) ++ then_last h.segments (ending_of t.end)))) is h.put).0
 
 -- a source whose feed met
-pub met_source : {T : Type 0} (gives : T → Answer → T → Type 0) (failures : T → ℕ) (s : T) (feeder : Feeder) (ran : Ran T) (told : Told) (got : List Placed) → ran.outcome ≡ Ok told → HasRun gives failures s feeder ran
+pub met_source : {T : Type 0} (gives : T → Answer → T → Type 0) (failures : T → ℕ) (s : T) (feeder : Feeder) (ran : FeederExit T) (told : Delivered) (got : List Placed) → ran.outcome ≡ Ok told → HasRun gives failures s feeder ran
     → put_by feeder ≡ [] → IsMet (put_by told.feeder) got → HasAnswered gives failures s got true
 met_source gives failures s feeder ran told got is h new met =
     let put = (subst (λ o. IfOk o (λ t. IsSameFeeder feeder t.feeder × (answers_of (put_by t.feeder) ≡ answers_of (put_by feeder) ++ then_last h.segments (ending_of t.end)))) is h.put).1 in

@@ -9,20 +9,20 @@ use Rattle.nn_lane.specs.Ends.{Reporting, Taking}
 use Rattle.nn_lane.specs.declared.fault.Refusal.{Refusal}
 use Rattle.nn_lane.specs.declared.fault.Refusal.TheVariants.{Closed, Exhausted, Full}
 use Rattle.nn_tailer.proofs.Fetched.{any_default}
-use Rattle.nn_drive.specs.declared.driving.Worked.{Worked}
-use Rattle.nn_drive.specs.declared.driving.Reports.{Reports}
+use Rattle.nn_drive.specs.declared.driving.WorkerExit.{WorkerExit}
+use Rattle.nn_drive.specs.declared.driving.WorkerPromise.{WorkerPromise}
 use Rattle.nn_drive.specs.Driven.{HasReported, IsTold, IsToldOnly, IsJoined, ToldOne}
 use Rattle.nn_drive.specs.Reports.{next_message, TakesNoMore}
 
 -- what the flag says of the threads so far, and of this one
-abbrev pub TellsOn : {S : Type 0} → Bool → Bool → Worked S → Taking → Type 0
+abbrev pub TellsOn : {S : Type 0} → Bool → Bool → WorkerExit S → Taking → Type 0
 TellsOn was told w e = MatchBool told ((was ≡ true) ⊎ (IsTold w.outcome × (e.closed ≡ false))) ((was ≡ false) × IsToldOnly w e)
 
-none_told : {S : Type 0} (was told : Bool) (w : Worked S) (e : Taking) → TellsOn was told w e → told ≡ false → (was ≡ false) × IsToldOnly w e
+none_told : {S : Type 0} (was told : Bool) (w : WorkerExit S) (e : Taking) → TellsOn was told w e → told ≡ false → (was ≡ false) × IsToldOnly w e
 none_told was true w e h q = absurd (let z : true ≡ false = q in cc)
 none_told was false w e h q = h
 
-one_told : {S : Type 0} (was told : Bool) (w : Worked S) (e : Taking) → TellsOn was told w e → told ≡ true → (was ≡ true) ⊎ (IsTold w.outcome × (e.closed ≡ false))
+one_told : {S : Type 0} (was told : Bool) (w : WorkerExit S) (e : Taking) → TellsOn was told w e → told ≡ true → (was ≡ true) ⊎ (IsTold w.outcome × (e.closed ≡ false))
 one_told was true w e h q = h
 one_told was false w e h q = absurd (let z : false ≡ true = q in cc)
 
@@ -37,12 +37,12 @@ told_last P u f last (Err (Closed m n)) t h = by_last last h
     by_last None g = absurd g
     by_last (Some x) g = g.2
 
-module _ {S : Type 0} (gives : S → Option Report → S → Type 0) (handles : List (PromisedHandle (Worked S) (Reports S))) (ends : List Taking) (n : ℕ) (was told : Bool) (w : Worked S)
-    (says : (e : Taking) → TellsOn was told w (get_or ends n e)) (h : PromisedHandle (Worked S) (Reports S)) (here : (d : PromisedHandle (Worked S) (Reports S)) → get_or handles n d ≡ h)
+module _ {S : Type 0} (gives : S → Option Report → S → Type 0) (handles : List (PromisedHandle (WorkerExit S) (WorkerPromise S))) (ends : List Taking) (n : ℕ) (was told : Bool) (w : WorkerExit S)
+    (says : (e : Taking) → TellsOn was told w (get_or ends n e)) (h : PromisedHandle (WorkerExit S) (WorkerPromise S)) (here : (d : PromisedHandle (WorkerExit S) (WorkerPromise S)) → get_or handles n d ≡ h)
     (reported : HasReported gives h.promise.0.value h.promise.1.value w) where
   pub joined_more : (rs rs' : List Reporting) → length rs ≡ n → rs' ≡ rs ++ w.reporter ∷ []
-      → ((k : ℕ) (d : PromisedHandle (Worked S) (Reports S)) (e : Taking) (r : Reporting) → k < n → IsJoined gives was (get_or handles k d) (get_or ends k e) (get_or rs k r))
-      → (k : ℕ) (d : PromisedHandle (Worked S) (Reports S)) (e : Taking) (r : Reporting) → k < n + 1 → IsJoined gives told (get_or handles k d) (get_or ends k e) (get_or rs' k r)
+      → ((k : ℕ) (d : PromisedHandle (WorkerExit S) (WorkerPromise S)) (e : Taking) (r : Reporting) → k < n → IsJoined gives was (get_or handles k d) (get_or ends k e) (get_or rs k r))
+      → (k : ℕ) (d : PromisedHandle (WorkerExit S) (WorkerPromise S)) (e : Taking) (r : Reporting) → k < n + 1 → IsJoined gives told (get_or handles k d) (get_or ends k e) (get_or rs' k r)
   joined_more rs rs' len q before k d e r below =
       subst (λ z. IsJoined gives told (get_or handles k d) (get_or ends k e) (get_or z k r)) (sym q)
       (below_more (λ i. IsJoined gives told (get_or handles i d) (get_or ends i e) (get_or (rs ++ w.reporter ∷ []) i r)) n

@@ -34,8 +34,8 @@ use Rattle.nn_drive.specs.Feeding.{failures_of, HasAnswered, FailsOver, IsKnown}
 use Rattle.nn_drive.specs.Served.{end_of, handle_of, ArePaired, PromotesOver, IsServed, ComesBack}
 use Rattle.nn_drive.specs.Serving.{WasWished, WishesAt, IsDry, IsOf, IsPromotedAt}
 use Rattle.nn_drive.specs.declared.driving.DriveFault.{DriveFault}
-use Rattle.nn_drive.specs.declared.driving.Reports.{Reports}
-use Rattle.nn_drive.specs.declared.driving.Worked.{Worked}
+use Rattle.nn_drive.specs.declared.driving.WorkerPromise.{WorkerPromise}
+use Rattle.nn_drive.specs.declared.driving.WorkerExit.{WorkerExit}
 use Rattle.nn_drive.specs.declared.operator.Wish.{Wish}
 use Rattle.nn_drive.specs.declared.serving.Served.{Served}
 use Rattle.nn_drive.proofs.Drives.{some_of, taken_at}
@@ -76,10 +76,10 @@ all_dry : (es : List Taking) (ks : List (Option Message)) → AllTaken es ks →
 all_dry es ks t = λ k d l. taken_at es ks k d l t
 
 -- as many as the workers are promised
-as_many : {S : Type 0} (workers : List (S × Reporting)) (handles : List (PromisedHandle (Worked S) (Reports S))) → ArePromised workers handles → length workers ≤ length handles → length handles ≡ length workers
+as_many : {S : Type 0} (workers : List (S × Reporting)) (handles : List (PromisedHandle (WorkerExit S) (WorkerPromise S))) → ArePromised workers handles → length workers ≤ length handles → length handles ≡ length workers
 as_many workers handles p all = omega (arith, p.0, all)
 
-module _ {S : Type 0} (workers : List (S × Reporting)) (handles : List (PromisedHandle (Worked S) (Reports S))) (promised : ArePromised workers handles) (all : length workers ≤ length handles)
+module _ {S : Type 0} (workers : List (S × Reporting)) (handles : List (PromisedHandle (WorkerExit S) (WorkerPromise S))) (promised : ArePromised workers handles) (all : length workers ≤ length handles)
     (old new : List Taking) (lanes : AreLanes workers old) (same : map lane_of new ≡ map lane_of old) (closed : AllClosed new) where
   -- each end is closed, and of the lane of its worker's thread
   pub are_of : AllZip IsOf new handles
@@ -182,11 +182,11 @@ promoted_at : (start : Namespace) (base : ℕ) (given : List Answer) (y : Tailer
 promoted_at start base given y ends x e s p =
     subst (λ (es : List Taking). IsPromotedAt start base given es x) (sym e)
     (subst (λ (z : Contents). IsPromotedAt start base given y.ends z) (sym s)
-    (record { stands = p.stands; whole = p.whole; picture = p.picture; none_held = p.none_held; ended = p.ended; log_end = p.log_end; dry = all_dry y.ends y.kept p.taken }))
+    (record { stands = p.stands; whole = p.whole; picture = p.picture; none_held = p.none_held; ended = p.ended; log_end = p.log_end; dry = all_dry y.ends y.undelivered p.taken }))
 
 module _ {T R S O : Type 0} (asks : O → Tailer → ℕ → Wish → O → Type 0) (gives : T → Answer → T → Type 0) (failures : T → ℕ) (x : Tailer) (s : T) (workers : List (S × Reporting)) (o p : O) (e0 e2 : FeedEnd R) (new : got_by e0 ≡ [])
     (met : Bool) (is_met : met ≡ true) (h : HasAnswered gives failures s (got_by e2) met) (active : Active) (y : Tailer) (d : PromotesOver asks x e0 o active y e2 p) where
-  pub served : (handles : List (PromisedHandle (Worked S) (Reports S))) → ArePromised workers handles → length workers ≤ length handles
+  pub served : (handles : List (PromisedHandle (WorkerExit S) (WorkerPromise S))) → ArePromised workers handles → length workers ≤ length handles
       → (r : Served S) → r.active ≡ active → r.shadow ≡ y.shadow → (ends : List Taking) → ends ≡ y.ends → ArePaired ends handles r.workers.items → IsServed asks gives failures x s workers o p r
   served handles promised all r a q ends e paired =
       let k = h.3 is_met in

@@ -77,6 +77,14 @@ active_refused x f b e = ap (λ z. Err z) (first_is (drive_refusal x) drive.Alre
 pub stop_refused : {A : Type 0} (x : Tailer) (f : DriveFault) (m : Stop) → has_begun x ≡ false → x.stop ≡ Some m → drive_refusal x ≡ Some f → ◌≡◌ {A = Result A DriveFault} (Err (drive.Stopped m)) (Err f)
 stop_refused x f m b s e = ap (λ z. Err z) (first_is (drive_refusal x) (drive.Stopped m) f (refusal_is x false (Some m) b s) e)
 
+serves_by : (x : Tailer) (begun : Bool) → has_begun x ≡ begun → drive_refusal x ≡ None → has_begun x ≡ false
+serves_by x true b is = absurd (let w : Some drive.AlreadyActive ≡ None = sym (refusal_is x true x.stop b refl) ∙ is in cc)
+serves_by x false b is = b
+
+-- a standby that is not refused serves
+pub serves : (x : Tailer) → drive_refusal x ≡ None → has_begun x ≡ false
+serves x is = serves_by x (has_begun x) refl is
+
 pub goes : {P : Type 0} (x : Tailer) (f : DriveFault) → has_begun x ≡ false → x.stop ≡ None → drive_refusal x ≡ Some f → P
 goes x f b s e = absurd (let w : None ≡ Some f = sym (refusal_is x false None b s) ∙ e in cc)
 
@@ -113,6 +121,15 @@ module _ {T : Type 0} (gives : T → Answer → T → Type 0) (failures : T → 
 
   pub active_before : (s : T) (x : Tailer) → has_begun x ≡ true → WentUntil gives failures s x s drive.AlreadyActive
   active_before s x b = ([], refl, (b, refl), omega arith)
+
+  refused_by : (s : T) (x : Tailer) (f : DriveFault) (begun : Bool) (stop : Option Stop) → has_begun x ≡ begun → x.stop ≡ stop → drive_refusal x ≡ Some f → WentUntil gives failures s x s f
+  refused_by s x f true stop b e is = subst (WentUntil gives failures s x s) (active_first x f b is) (active_before s x b)
+  refused_by s x f false (Some m) b e is = subst (WentUntil gives failures s x s) (stop_first x f m b e is) (stopped_before s x m e)
+  refused_by s x f false None b e is = goes x f b e is
+
+  -- it was refused before it began
+  pub refused_before : (s : T) (x : Tailer) (f : DriveFault) → drive_refusal x ≡ Some f → WentUntil gives failures s x s f
+  refused_before s x f is = refused_by s x f (has_begun x) x.stop refl refl is
 
   -- ---- How it went.
 

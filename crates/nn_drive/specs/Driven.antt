@@ -24,8 +24,8 @@ use Rattle.nn_lane.specs.declared.fault.Refusal.{Refusal}
 use Rattle.nn_lane.specs.declared.fault.Refusal.TheVariants.{Closed, Exhausted, Full}
 use Rattle.nn_tailer.specs.Tailing.{has_begun, Tailer, StandsAt, Carries, LogStops, EndsInEnd, by_node}
 use Rattle.nn_tailer.specs.LaneSteps.{SameEnds}
-use Rattle.nn_drive.specs.declared.driving.Worked.{Worked}
-use Rattle.nn_drive.specs.declared.driving.Reports.{Reports}
+use Rattle.nn_drive.specs.declared.driving.WorkerExit.{WorkerExit}
+use Rattle.nn_drive.specs.declared.driving.WorkerPromise.{WorkerPromise}
 use Rattle.nn_drive.specs.Reports.{Reported}
 
 -- the two ends of one lane
@@ -45,26 +45,26 @@ IsTold (Err (Exhausted m)) = ⊥
 IsTold (Err (Full m n)) = ⊥
 
 -- it was told so only where its lane was closed before
-abbrev pub IsToldOnly : {S : Type 0} → Worked S → Taking → Type 0
+abbrev pub IsToldOnly : {S : Type 0} → WorkerExit S → Taking → Type 0
 IsToldOnly w before = IsTold w.outcome → before.closed ≡ true
 
 module _ {S : Type 0} (gives : S → Option Report → S → Type 0) where
-  abbrev pub HasReported : S → Reporting → Worked S → Type 0
+  abbrev pub HasReported : S → Reporting → WorkerExit S → Type 0
   HasReported s r w = (w.reporter.lane ≡ r.lane) × Reported gives s r w.source w.reporter w.outcome
 
   -- all that its DataNode had sent and that its source gave was taken; of a lane that was closed before, up to a report that was refused
   abbrev pub IsTaken : S → Reporting → Taking → List Message → Type 0
-  IsTaken s r before got = (w : Worked S) × HasReported s r w × (got ≡ w.reporter.sent) × IsToldOnly w before
+  IsTaken s r before got = (w : WorkerExit S) × HasReported s r w × (got ≡ w.reporter.sent) × IsToldOnly w before
 
 -- the handle of the thread that has this worker
-abbrev pub IsPromised : {S : Type 0} → S × Reporting → PromisedHandle (Worked S) (Reports S) → Type 0
+abbrev pub IsPromised : {S : Type 0} → S × Reporting → PromisedHandle (WorkerExit S) (WorkerPromise S) → Type 0
 IsPromised w h = (h.promise.0.value ≡ w.0) × (h.promise.1.value ≡ w.1)
 
 -- the handles are of the first workers' threads, in order
-abbrev pub ArePromised : {S : Type 0} → List (S × Reporting) → List (PromisedHandle (Worked S) (Reports S)) → Type 0
+abbrev pub ArePromised : {S : Type 0} → List (S × Reporting) → List (PromisedHandle (WorkerExit S) (WorkerPromise S)) → Type 0
 ArePromised {S} workers handles =
     (length handles ≤ length workers)
-    × ((i : ℕ) (w : S × Reporting) (h : PromisedHandle (Worked S) (Reports S)) → i < length handles → IsPromised (slice_index_or workers i w) (slice_index_or handles i h))
+    × ((i : ℕ) (w : S × Reporting) (h : PromisedHandle (WorkerExit S) (WorkerPromise S)) → i < length handles → IsPromised (slice_index_or workers i w) (slice_index_or handles i h))
 
 -- the standby went on, and its lanes are the same
 pub record Goes (old : Tailer) (answers : List Answer) (new : Tailer) : Type 0 where
@@ -108,8 +108,8 @@ Ends gives failures s old t active new =
     × Promotes old answers new × (failures s ≤ failures t) × KeepsSettings old.shadow new.shadow × EndsInEnd answers
 
 -- what the thread at this handle gave back
-abbrev pub IsJoined : {S : Type 0} → (S → Option Report → S → Type 0) → Bool → PromisedHandle (Worked S) (Reports S) → Taking → Reporting → Type 0
-IsJoined {S} gives told h e r = (w : Worked S) × HasReported gives h.promise.0.value h.promise.1.value w × (r ≡ w.reporter) × (told ≡ false → IsToldOnly w e)
+abbrev pub IsJoined : {S : Type 0} → (S → Option Report → S → Type 0) → Bool → PromisedHandle (WorkerExit S) (WorkerPromise S) → Taking → Reporting → Type 0
+IsJoined {S} gives told h e r = (w : WorkerExit S) × HasReported gives h.promise.0.value h.promise.1.value w × (r ≡ w.reporter) × (told ≡ false → IsToldOnly w e)
 
 -- a reporter was told of a close of an open lane
 pub record ToldOne (ends : List Taking) (reporters : List Reporting) : Type 0 where
@@ -119,9 +119,9 @@ pub record ToldOne (ends : List Taking) (reporters : List Reporting) : Type 0 wh
   pub is_open : (e : Taking) → (slice_index_or ends place e).closed ≡ false
 
 -- the reporter of each handle's thread, in order, and whether one was told of a close of an open lane
-pub record JoinsAll {S : Type 0} (gives : S → Option Report → S → Type 0) (handles : List (PromisedHandle (Worked S) (Reports S))) (ends : List Taking) (reporters : List Reporting) (told : Bool) : Type 0 where
+pub record JoinsAll {S : Type 0} (gives : S → Option Report → S → Type 0) (handles : List (PromisedHandle (WorkerExit S) (WorkerPromise S))) (ends : List Taking) (reporters : List Reporting) (told : Bool) : Type 0 where
   pub size : length reporters ≡ length handles
-  pub each : (i : ℕ) (h : PromisedHandle (Worked S) (Reports S)) (e : Taking) (r : Reporting) → i < length handles
+  pub each : (i : ℕ) (h : PromisedHandle (WorkerExit S) (WorkerPromise S)) (e : Taking) (r : Reporting) → i < length handles
       → IsJoined gives told (slice_index_or handles i h) (slice_index_or ends i e) (slice_index_or reporters i r)
   pub one : told ≡ true → ToldOne ends reporters
 

@@ -12,8 +12,8 @@ lane l dn = record l { node = dn }
 abbrev of_places : LaneId → ℕ → LaneId
 of_places l n = record l { table = record l.table { slots = n } }
 
-abbrev reporting : LaneId → ℕ → Reporting
-reporting l dn = record { lane = lane l dn; sent = []; prepared = None; seen = 0; loads = 0; told = false }
+abbrev pub reporting : LaneId → ℕ → Reporting
+reporting l dn = record { lane = lane l dn; sent = []; prepared = None; seen = 0; loads = 0; checks = 0; told = false }
 
 abbrev pub taking : LaneId → ℕ → Taking
 taking l dn = record { lane = lane l dn; got = []; seen = 0; loads = 0; closed = false }

@@ -7,6 +7,7 @@ pub mod ReportRows
 pub mod NewLanes
 pub mod LaneRows
 pub mod DriveRows
+pub mod DrivenRows
 pub mod DriveLaws
 pub mod LawRows
 pub mod Serving

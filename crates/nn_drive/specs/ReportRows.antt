@@ -6,10 +6,10 @@ use Rattle.nn_types.specs.declared.report.Kind.TheVariants.{Received}
 use Rattle.nn_drive.specs.Reports.{sent_after}
 
 -- reports of one block, whatever DataNode they name
-abbrev report : ℕ → Report
+abbrev pub report : ℕ → Report
 report dn = record { dn = dn; block = 1073741825; stamp = 1001; len = 5; kind = Received }
 
-abbrev message : ℕ → ℕ → Message
+abbrev pub message : ℕ → ℕ → Message
 message dn number = record { dn = dn; number = number; block = 1073741825; stamp = 1001; len = 5; kind = Received }
 
 -- they go into the lane of DataNode 2, behind what it had sent

@@ -7,7 +7,7 @@ use Rattle.nn_segment.specs.Source.{Answer}
 use Rattle.nn_tailer.specs.Tailing.{Tailer, StandsAt}
 use Rattle.nn_drive.specs.Driven.{HasReported}
 use Rattle.nn_drive.specs.Served.{HasLeft, IsServed}
-use Rattle.nn_drive.specs.declared.driving.Worked.{Worked}
+use Rattle.nn_drive.specs.declared.driving.WorkerExit.{WorkerExit}
 use Rattle.nn_drive.specs.declared.operator.Wish.{Wish}
 use Rattle.nn_drive.specs.declared.serving.Left.{Left}
 use Rattle.nn_drive.specs.declared.serving.Running.{Running}
@@ -15,7 +15,7 @@ use Rattle.nn_drive.specs.declared.serving.Served.{Served}
 
 -- What was taken of the lane is just what the worker's reporter was answered Ok to: what its source gave, in order, up to None or to a report that was refused
 pub record WasAllTaken {S : Type 0} (gives : S → Option Report → S → Type 0) (worker : S × Reporting) (r : Running S) (l : Left S) : Type 0 where
-  pub worked : Worked S
+  pub worked : WorkerExit S
   pub reported : HasReported gives worker.0 worker.1 worked
   pub taken : r.end.got ≡ worked.reporter.sent
   pub source : l.source ≡ worked.source

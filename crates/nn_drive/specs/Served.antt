@@ -19,8 +19,8 @@ use Rattle.nn_drive.specs.Feeding.{FailsOver}
 use Rattle.nn_drive.specs.Serving.{WasWished, IsDry, IsPromotedAt}
 use Rattle.nn_drive.specs.declared.driving.DriveFault.{DriveFault}
 use Rattle.nn_drive.specs.declared.driving.DriveFault.TheVariants as drive
-use Rattle.nn_drive.specs.declared.driving.Reports.{Reports}
-use Rattle.nn_drive.specs.declared.driving.Worked.{Worked}
+use Rattle.nn_drive.specs.declared.driving.WorkerPromise.{WorkerPromise}
+use Rattle.nn_drive.specs.declared.driving.WorkerExit.{WorkerExit}
 use Rattle.nn_drive.specs.declared.operator.Wish.{Wish}
 use Rattle.nn_drive.specs.declared.serving.Feeding.{Feeding}
 use Rattle.nn_drive.specs.declared.serving.Left.{Left}
@@ -34,11 +34,11 @@ use Rattle.nn_drive.specs.declared.serving.Unserved.{Unserved}
 abbrev pub end_of : {S : Type 0} → Running S → Taking
 end_of r = r.end
 
-abbrev pub handle_of : {S : Type 0} → Running S → PromisedHandle (Worked S) (Reports S)
+abbrev pub handle_of : {S : Type 0} → Running S → PromisedHandle (WorkerExit S) (WorkerPromise S)
 handle_of r = r.handle
 
 -- each end with its handle, in order
-abbrev pub ArePaired : {S : Type 0} → List Taking → List (PromisedHandle (Worked S) (Reports S)) → List (Running S) → Type 0
+abbrev pub ArePaired : {S : Type 0} → List Taking → List (PromisedHandle (WorkerExit S) (WorkerPromise S)) → List (Running S) → Type 0
 ArePaired ends handles paired = (map end_of paired ≡ ends) × (map handle_of paired ≡ handles)
 
 -- worker i runs on the thread at handle i, also after the promotion
@@ -48,7 +48,7 @@ StillRun workers running = (length running ≡ length workers) × ArePromised wo
 -- The worker's thread has ended. Its reporter was answered Ok to what its source gave, in order, up to None or a report that was refused. The close
 -- counted all of that; what was taken comes first of it, and is all of it where the lane is dry
 pub record HasLeft {S : Type 0} (gives : S → Option Report → S → Type 0) (r : Running S) (l : Left S) : Type 0 where
-  pub worked : Worked S
+  pub worked : WorkerExit S
   pub reported : HasReported gives r.handle.promise.0.value r.handle.promise.1.value worked
   pub front : StartsWith worked.reporter.sent r.end.got
   pub counts : counted r.end ≡ length worked.reporter.sent

@@ -14,8 +14,8 @@ use Rattle.nn_segment.specs.Walk.{log_in}
 use Rattle.nn_shadow.specs.Contents.{Contents, standby_of}
 use Rattle.nn_tailer.specs.LaneSteps.{SameEnds}
 use Rattle.nn_tailer.specs.Tailing.{has_begun, Tailer, EndsInEnd, by_node}
-use Rattle.nn_drive.specs.declared.driving.Reports.{Reports}
-use Rattle.nn_drive.specs.declared.driving.Worked.{Worked}
+use Rattle.nn_drive.specs.declared.driving.WorkerPromise.{WorkerPromise}
+use Rattle.nn_drive.specs.declared.driving.WorkerExit.{WorkerExit}
 use Rattle.nn_drive.specs.declared.operator.Wish.{Wish}
 use Rattle.nn_drive.specs.declared.operator.Wish.TheVariants.{GoOn, Promote}
 
@@ -39,7 +39,7 @@ abbrev pub IsDry : Taking → Type 0
 IsDry e = (e.closed ≡ true) × (length e.got ≡ counted e)
 
 -- this end is closed, and of the lane that the thread at this handle reports into
-abbrev pub IsOf : {S : Type 0} → Taking → PromisedHandle (Worked S) (Reports S) → Type 0
+abbrev pub IsOf : {S : Type 0} → Taking → PromisedHandle (WorkerExit S) (WorkerPromise S) → Type 0
 IsOf e h = (e.lane ≡ h.promise.1.value.lane) × (e.closed ≡ true)
 
 -- The standby is promoted: it stands at the log with all that the source gave, up to End, and at its lanes. That log ended there and

@@ -11,12 +11,12 @@ ghost use Rattle.nn_feed.specs.Feeds.{has_last};
 ghost use Rattle.nn_drive.specs.Feeding.{FailsOver, GotMore, IsDrivenOver, IsKnown};
 ghost use Rattle.nn_drive.specs.declared.driving.DriveFault.{DriveFault as Why};
 
-use crate::feeding::{end_feed, receive_ready, start_feeder, told_fault};
+use crate::feeding::{drop_feed, end_feed, start_feed, told_fault};
 use crate::operator::Unattended;
 use crate::reporting::{ReportSource, report_all};
 use crate::rotation::{fault_of, rotate};
-use crate::waiting::Waiting;
-use nn_feed::{FeedEnd, feed};
+use crate::serving::Feeding;
+use nn_feed::FeedEnd;
 use nn_lane::{LaneEnd, Refusal, Reporter, meet};
 use nn_segment::{SegmentSource, SourceFault};
 use nn_shadow::{Shadow, Stop};
@@ -32,7 +32,7 @@ use thiserror::Error;
 
 /// What a worker's thread gives back.
 #[derive(Drop)]
-pub struct Worked<S> {
+pub struct WorkerExit<S> {
     pub source: S,
     pub reporter: Reporter,
     pub outcome: Result<u64, Refusal>,
@@ -40,9 +40,9 @@ pub struct Worked<S> {
 
 /// The promise of a worker's thread: the source and the reporter that it began with.
 #[derive(Drop)]
-pub struct Reports<S>(pub Snapshot<S>, pub Snapshot<Reporter>);
+pub struct WorkerPromise<S>(pub Snapshot<S>, pub Snapshot<Reporter>);
 
-impl<S: ReportSource> Promise<Worked<S>> for Reports<S> {
+impl<S: ReportSource> Promise<WorkerExit<S>> for WorkerPromise<S> {
     ghost kept_by = { λ p w. HasReported S.gives p.0.value p.1.value w };
 }
 
@@ -83,14 +83,14 @@ pub(crate) fn work<S: ReportSource, R: Wait>(
     source: S,
     reporter: Reporter,
     ended: &AtomicU64,
-) -> Worked<S>
+) -> WorkerExit<S>
     ensures { HasReported S.gives source reporter result }
 {
     let mut source = source;
     let mut reporter = reporter;
     let outcome = report_all(rt, &mut source, &mut reporter);
     ended.fetch_add(1, Ordering::SeqCst);
-    Worked {
+    WorkerExit {
         source,
         reporter,
         outcome,
@@ -104,11 +104,11 @@ fn start<'s, E, S: ReportSource + Send + Drop + 's, R: Wait + Sync>(
     source: S,
     reporter: Reporter,
     ended: &'s AtomicU64,
-) -> Option<PromisedHandle<Worked<S>, Reports<S>>>
+) -> Option<PromisedHandle<WorkerExit<S>, WorkerPromise<S>>>
     ensures { IfSome result (λ h. (h.promise.0.value ≡ source) × (h.promise.1.value ≡ reporter)) }
 {
-    let promise = Reports(Snapshot::of(&source), Snapshot::of(&reporter));
-    let run = move || -> Worked<S>
+    let promise = WorkerPromise(Snapshot::of(&source), Snapshot::of(&reporter));
+    let run = move || -> WorkerExit<S>
         ensures { HasReported S.gives source reporter result }
     { work(rt, source, reporter, ended) };
     scope.spawn_with(promise, run).ok()
@@ -121,7 +121,7 @@ fn start_all<'s, E, S: ReportSource + Send + Drop + 's, R: Wait + Sync>(
     alloc: Global,
     workers: Vec<(S, Reporter)>,
     ended: &'s AtomicU64,
-) -> Vec<PromisedHandle<Worked<S>, Reports<S>>>
+) -> Vec<PromisedHandle<WorkerExit<S>, WorkerPromise<S>>>
     ensures { ArePromised workers.items result.items }
 {
     let Ok(mut handles) = Vec::with_capacity(alloc, workers.len()) else {
@@ -155,7 +155,7 @@ fn still_told(told: bool, outcome: &Result<u64, Refusal>, end: &LaneEnd) -> bool
 fn join_all<S: ReportSource + Drop, R: Threads>(
     rt: &R,
     ends: &[LaneEnd],
-    handles: Vec<PromisedHandle<Worked<S>, Reports<S>>>,
+    handles: Vec<PromisedHandle<WorkerExit<S>, WorkerPromise<S>>>,
     reporters: Vec<Reporter>,
 ) -> (Vec<Reporter>, bool)
     requires fit { length handles.items ≤ length ends.now }
@@ -167,7 +167,7 @@ fn join_all<S: ReportSource + Drop, R: Threads>(
     let mut told = false;
     let mut place = 0usize;
     for handle in handles {
-        let Worked {
+        let WorkerExit {
             source,
             reporter,
             outcome,
@@ -180,46 +180,13 @@ fn join_all<S: ReportSource + Drop, R: Threads>(
     (reporters, told)
 }
 
-// Takes one message from each lane, and drops it.
-fn take_each(ends: &mut [LaneEnd]) {
-    for i in 0..ends.len() {
-        let end = &mut ends[i];
-        let _taken = end.take();
-    }
-}
-
-// Drops what lanes and the feed still bring, until so many workers and the feed have ended.
-fn drop_rest<'a, R: Wait>(
-    rt: &R,
-    ends: &mut [LaneEnd],
-    end: &mut FeedEnd<'a, R>,
-    ended: &AtomicU64,
-    started: u64,
-)
-    ensures same { IsSameEnd end.old end.new }
-    ensures more { GotMore (got_by end.old) (got_by end.new) }
-{
-    let mut waiting = Waiting::new();
-    for _ in rt.forever() {
-        take_each(ends);
-        let received = receive_ready(end);
-        let is_over = matches!(received, Some(false));
-        if is_over && ended.load(Ordering::SeqCst) >= started {
-            return;
-        }
-        waiting.wait_unless(rt, matches!(received, Some(true)));
-    }
-    unreachable!()
-}
-
-// Gives a standby up for a fault: its lanes are closed, what they and the feed still bring is dropped, and the workers
-// are joined. Answers what a drive answers for the fault.
+// Gives a standby up for a fault: its lanes are closed, of which each worker learns by its next report; what the feed still
+// brings is dropped, and the workers are joined. Answers what a drive answers for the fault.
 fn give_up<'a, S: ReportSource + Drop, R: Threads + Wait>(
     rt: &R,
     standby: Standby,
     end: &mut FeedEnd<'a, R>,
-    handles: Vec<PromisedHandle<Worked<S>, Reports<S>>>,
-    ended: &AtomicU64,
+    handles: Vec<PromisedHandle<WorkerExit<S>, WorkerPromise<S>>>,
     fault: DriveFault,
 ) -> DriveFault
     ensures same { IsSameEnd end.old end.new }
@@ -229,9 +196,8 @@ fn give_up<'a, S: ReportSource + Drop, R: Threads + Wait>(
     let known = told_fault(end, fault);
     let mut standby = standby;
     standby.close_intake();
-    let (shadow, mut ends) = standby.into_parts();
-    drop(shadow);
-    drop_rest(rt, &mut ends, end, ended, handles.len() as u64);
+    drop(standby);
+    drop_feed(rt, end);
     for handle in handles {
         drop(handle.join(rt));
     }
@@ -299,11 +265,11 @@ fn run<'s, 'a, E, S: ReportSource + Send + Drop + 's, R: Threads + Wait + Sync>(
     let started = handles.len();
     if !all_started(started, count) {
         let fault = DriveFault::OutOfMemory;
-        return Err(give_up(rt, standby, end, handles, ended, fault));
+        return Err(give_up(rt, standby, end, handles, fault));
     }
     let mut operator = Unattended;
     if let Err(fault) = rotate(rt, &mut standby, end, &mut operator, ended, started) {
-        return Err(give_up(rt, standby, end, handles, ended, fault));
+        return Err(give_up(rt, standby, end, handles, fault));
     }
     let (reporters, told) = join_all(rt, standby.ends(), handles, reporters);
     if told {
@@ -317,12 +283,23 @@ fn run<'s, 'a, E, S: ReportSource + Send + Drop + 's, R: Threads + Wait + Sync>(
         Ok(active) => active,
         Err(fault) => {
             let joined = Vec::new(alloc);
-            return Err(give_up::<S, R>(rt, standby, end, joined, ended, fault));
+            return Err(give_up::<S, R>(rt, standby, end, joined, fault));
         }
     };
     let (shadow, ends) = standby.into_parts();
     meet_all(ends, reporters);
     Ok((shadow, active))
+}
+
+// Why a drive or a service of this standby is refused before it begins.
+pub(crate) fn refusal(standby: &Standby) -> Option<DriveFault>
+    ensures { result ≡ drive_refusal standby.now }
+{
+    if standby.is_active() {
+        return Some(DriveFault::AlreadyActive);
+    }
+    let stop = standby.stop()?;
+    Some(DriveFault::Stopped(stop))
 }
 
 // The whole of `drive`, inside its scope.
@@ -346,25 +323,20 @@ fn drive_in<
     ensures ok { IfOk result (λ r. IsDriven T.gives T.failures S.gives standby source workers.items r.0 r.1) }
     ensures err { IfErr result (λ fault. NotDriven T.gives T.failures standby source fault) }
 {
-    if standby.is_active() {
-        return Err(DriveFault::AlreadyActive);
-    }
-    if let Some(stop) = standby.stop() {
-        return Err(DriveFault::Stopped(stop));
+    if let Some(fault) = refusal(&standby) {
+        return Err(fault);
     }
     let Ok(reporters) = Vec::with_capacity(alloc, workers.len()) else {
         return Err(DriveFault::OutOfMemory);
     };
-    let Ok((feeder, mut end)) = feed(rt, alloc) else {
+    let Some(feeding) = start_feed(scope, rt, alloc, source) else {
         return Err(DriveFault::OutOfMemory);
     };
-    let Some(feeding) = start_feeder(scope, rt, source, feeder) else {
-        return Err(DriveFault::OutOfMemory);
-    };
+    let Feeding { mut end, handle } = feeding;
     let outcome = run(
         scope, rt, alloc, standby, &mut end, workers, reporters, ended,
     );
-    if !end_feed(rt, end, feeding) {
+    if !end_feed(rt, end, handle) {
         return Err(DriveFault::OutOfMemory);
     }
     outcome
@@ -382,9 +354,8 @@ fn drive_in<
 /// close the lanes. So 52 never comes, and no report is refused by 42 in a lane that was open when the drive began. 55
 /// would also come if the feed failed while both its ends were there, which no channel does and no contract excludes.
 ///
-/// After a fault nothing is handed back: the lanes are closed, and what they and the feed still bring is dropped, until the
-/// source and all workers that were started have ended; and each thread is joined before this returns. It waits for as long
-/// as a source of segments or of reports does.
+/// After a fault nothing is handed back: the lanes are closed, what the feed still brings is dropped until its source has
+/// ended, and each thread is joined before this returns. It waits for as long as a source of segments or of reports does.
 pub fn drive<
     T: SegmentSource + Send + Drop,
     S: ReportSource + Send + Drop,

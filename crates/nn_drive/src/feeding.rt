@@ -6,39 +6,70 @@ ghost use Rattle.nn_feed.specs.Running.{HasRun};
 ghost use Rattle.nn_drive.specs.Feeding.{GotMore, HasAnswered, IsKnown};
 
 use crate::driving::DriveFault;
-use nn_feed::{Began, FeedEnd, Feeder, Ran, Told, meet, run_thread};
+use crate::serving::Feeding;
+use nn_feed::{Delivered, FeedEnd, Feeder, FeederExit, FeederPromise, feed, meet, run_thread};
 use nn_segment::{Item, SegmentSource};
+use std::alloc::Global;
 use std::snapshot::Snapshot;
 use std::sync::Wait;
 use std::thread;
 use std::thread::{PromisedHandle, Scope, Threads};
 
+// A feed of this source, and its feeder on a thread of the scope.
+pub(crate) fn start_feed<'s, E, T: SegmentSource + Send + Drop + 's, R: Wait + Sync>(
+    scope: &Scope<'s, E>,
+    rt: &'s R,
+    alloc: Global,
+    source: T,
+) -> Option<Feeding<'s, T, R>>
+    ensures source { IfSome result (λ f. f.handle.promise.0.value ≡ source) }
+    ensures empty { IfSome result (λ f. got_by f.end ≡ []) }
+{
+    let (feeder, end) = feed(rt, alloc).ok()?;
+    let handle = start_feeder(scope, rt, source, feeder)?;
+    Some(Feeding { end, handle })
+}
+
+// The same, on a thread that no scope waits for.
+pub(crate) fn start_feed_alone<
+    'a,
+    T: SegmentSource + Send + Drop + 'static,
+    R: Threads + Wait + Copy + Send + Drop + 'static,
+>(rt: &'a R, alloc: Global, source: T) -> Option<Feeding<'a, T, R>>
+    ensures source { IfSome result (λ f. f.handle.promise.0.value ≡ source) }
+    ensures empty { IfSome result (λ f. got_by f.end ≡ []) }
+{
+    let (feeder, end) = feed(rt, alloc).ok()?;
+    let handle = start_feeder_alone(rt, source, feeder)?;
+    Some(Feeding { end, handle })
+}
+
 // The feeder on a thread of the scope.
-pub(crate) fn start_feeder<'s, E, T: SegmentSource + Send + Drop + 's, R: Wait + Sync>(
+fn start_feeder<'s, E, T: SegmentSource + Send + Drop + 's, R: Wait + Sync>(
     scope: &Scope<'s, E>,
     rt: &'s R,
     source: T,
     feeder: Feeder,
-) -> Option<PromisedHandle<Ran<T>, Began<T>>>
+) -> Option<PromisedHandle<FeederExit<T>, FeederPromise<T>>>
     ensures { IfSome result (λ h. (h.promise.0.value ≡ source) × (h.promise.1.value ≡ feeder)) }
 {
-    let promise = Began(Snapshot::of(&source), Snapshot::of(&feeder));
-    let run = move || -> Ran<T>
+    let promise = FeederPromise(Snapshot::of(&source), Snapshot::of(&feeder));
+    let run = move || -> FeederExit<T>
         ensures { HasRun T.gives T.failures source feeder result }
     { run_thread(rt, source, feeder) };
     scope.spawn_with(promise, run).ok()
 }
 
 // The feeder on a thread of its own, which no scope waits for.
-pub(crate) fn start_feeder_alone<
+fn start_feeder_alone<
     T: SegmentSource + Send + Drop + 'static,
     R: Threads + Wait + Copy + Send + Drop + 'static,
->(rt: &R, source: T, feeder: Feeder) -> Option<PromisedHandle<Ran<T>, Began<T>>>
+>(rt: &R, source: T, feeder: Feeder) -> Option<PromisedHandle<FeederExit<T>, FeederPromise<T>>>
     ensures { IfSome result (λ h. (h.promise.0.value ≡ source) × (h.promise.1.value ≡ feeder)) }
 {
-    let promise = Began(Snapshot::of(&source), Snapshot::of(&feeder));
+    let promise = FeederPromise(Snapshot::of(&source), Snapshot::of(&feeder));
     let own = *rt;
-    let run = move || -> Ran<T>
+    let run = move || -> FeederExit<T>
         ensures { HasRun T.gives T.failures source feeder result }
     { run_thread(&own, source, feeder) };
     thread::spawn_with(rt, promise, run).ok()
@@ -52,15 +83,17 @@ pub(crate) fn receive<'a, R: Wait>(end: &mut FeedEnd<'a, R>) -> bool
     matches!(end.next(), Ok(Item::Segment(_)))
 }
 
-// The same, but only if an answer lies in the feed, or none will come: else None.
-pub(crate) fn receive_ready<'a, R: Wait>(end: &mut FeedEnd<'a, R>) -> Option<bool>
+// Drops what a feed still brings, until its source has ended.
+pub(crate) fn drop_feed<'a, R: Wait>(rt: &R, end: &mut FeedEnd<'a, R>)
     ensures same { IsSameEnd end.old end.new }
     ensures more { GotMore (got_by end.old) (got_by end.new) }
 {
-    if !end.is_ready() {
-        return None;
+    for _ in rt.forever() {
+        if !receive(end) {
+            return;
+        }
     }
-    Some(receive(end))
+    unreachable!()
 }
 
 // Joins the feeder's thread, and ends the feed. False says that an answer of the source was not put, though the end of
@@ -68,15 +101,15 @@ pub(crate) fn receive_ready<'a, R: Wait>(end: &mut FeedEnd<'a, R>) -> Option<boo
 pub(crate) fn end_feed<'a, T: SegmentSource + Drop, R: Threads + Wait>(
     rt: &R,
     end: FeedEnd<'a, R>,
-    feeding: PromisedHandle<Ran<T>, Began<T>>,
+    feeding: PromisedHandle<FeederExit<T>, FeederPromise<T>>,
 ) -> bool
     requires one_feed { AreOfOneFeed feeding.promise.1.value end }
     requires new { put_by feeding.promise.1.value ≡ [] }
     ensures { HasAnswered T.gives T.failures feeding.promise.0.value (got_by end.entry) result }
 {
-    let Ran { source, outcome } = feeding.join(rt);
+    let FeederExit { source, outcome } = feeding.join(rt);
     drop(source);
-    let Ok(Told { feeder, end: _ }) = outcome else {
+    let Ok(Delivered { feeder, end: _ }) = outcome else {
         return false;
     };
     meet(feeder, end);

@@ -3,9 +3,9 @@ ghost use Rattle.std.specs.Prelude.{◌≡◌, []};
 ghost use Rattle.nn_drive.specs.Serving.{IsOf};
 ghost use Rattle.nn_feed.specs.Ends.{AreOfOneFeed, put_by};
 
-use crate::driving::{DriveFault, Reports, Worked};
+use crate::driving::{DriveFault, WorkerExit, WorkerPromise};
 use crate::reporting::ReportSource;
-use nn_feed::{Began, FeedEnd, Ran};
+use nn_feed::{FeedEnd, FeederExit, FeederPromise};
 use nn_lane::{LaneEnd, Met, Refusal};
 use nn_segment::SegmentSource;
 use nn_shadow::Shadow;
@@ -19,7 +19,7 @@ use std::thread::PromisedHandle;
 pub struct Running<S: ReportSource> {
     /// It shows how many messages its lane had accepted.
     pub end: LaneEnd,
-    pub handle: PromisedHandle<Worked<S>, Reports<S>>,
+    pub handle: PromisedHandle<WorkerExit<S>, WorkerPromise<S>>,
     ghost own: { IsOf end handle },
 }
 
@@ -47,7 +47,7 @@ pub struct Served<S: ReportSource> {
 #[derive(Drop)]
 pub struct Feeding<'a, T: SegmentSource, R: Wait> {
     pub end: FeedEnd<'a, R>,
-    pub handle: PromisedHandle<Ran<T>, Began<T>>,
+    pub handle: PromisedHandle<FeederExit<T>, FeederPromise<T>>,
     ghost one_feed: { AreOfOneFeed handle.promise.1.value end },
     ghost new: { put_by handle.promise.1.value ≡ [] },
 }
@@ -59,11 +59,11 @@ pub struct Unserved<'a, T: SegmentSource, S: ReportSource, R: Wait> {
     /// The standby, as a step leaves it that fails. After 55 it can go on once there is memory, after 54 over a new source:
     /// by `step`, or by `promote` once its intake is closed.
     ///
-    /// Its workers still report into its lanes. One that finds its lane full learns of a close only once the lane was
-    /// emptied. So who wants the standby no more hands it to `let_go`.
+    /// Its workers still report into its lanes. So who wants the standby no more closes its intake (`close_intake`) before
+    /// dropping it: each worker learns of the close by its next report, and ends.
     pub standby: Standby,
     /// The threads of the workers that were started, in their order.
-    pub workers: Vec<PromisedHandle<Worked<S>, Reports<S>>>,
+    pub workers: Vec<PromisedHandle<WorkerExit<S>, WorkerPromise<S>>>,
     /// The source's thread, if it was started and not joined.
     pub feeding: Option<Feeding<'a, T, R>>,
 }
@@ -73,9 +73,9 @@ pub struct Unserved<'a, T: SegmentSource, S: ReportSource, R: Wait> {
 pub struct Unfed<S: ReportSource> {
     pub fault: DriveFault,
     pub standby: Standby,
-    pub workers: Vec<PromisedHandle<Worked<S>, Reports<S>>>,
+    pub workers: Vec<PromisedHandle<WorkerExit<S>, WorkerPromise<S>>>,
 }
 
 mod calls;
 
-pub use calls::{let_go, serve};
+pub use calls::serve;

@@ -13,12 +13,17 @@ const LONGEST: u64 = 1000;
 ///
 /// At first it spins, which costs least where the other thread works. Then it yields, and then it sleeps, each time for
 /// twice as long: 20 microseconds at first, and a millisecond at most. Nothing wakes it, not even a report. So it is late by
-/// a millisecond at most, and a long wait costs next to nothing.
+/// about a millisecond, and a long wait costs next to nothing.
+///
+/// Once something came it begins anew: with the shortest sleep, and with spins only where something came twice in a row. So
+/// a report now and then is not followed by many looks in vain.
 #[derive(Drop)]
 pub(crate) struct Waiting {
     backoff: Backoff,
     // How long the next sleep is, in microseconds.
     micros: u64,
+    // Whether something came the last time.
+    has_come: bool,
     // It sleeps while this is 0, which it stays: only time ends a sleep.
     word: AtomicU64,
 }
@@ -28,6 +33,7 @@ impl Waiting {
         Waiting {
             backoff: Backoff::new(),
             micros: SHORTEST,
+            has_come: false,
             word: AtomicU64::new(0),
         }
     }
@@ -46,10 +52,13 @@ impl Waiting {
     /// Waits a little where nothing came; else the next wait begins anew.
     pub(crate) fn wait_unless<R: Wait>(&mut self, rt: &R, has_come: bool) {
         if has_come {
-            self.backoff.reset();
+            if self.has_come {
+                self.backoff.reset();
+            }
             self.micros = SHORTEST;
-            return;
+        } else {
+            self.wait(rt);
         }
-        self.wait(rt);
+        self.has_come = has_come;
     }
 }

@@ -14,8 +14,8 @@ use Rattle.nn_segment.specs.declared.cursor.Next.{Next}
 use Rattle.nn_segment.specs.declared.cursor.Next.TheVariants as next
 use Rattle.nn_engine.specs.Turns.{next_applied, in_turn}
 use Rattle.nn_scenario.specs.Steps.{lanes_after, AreInTurn, IsStepOf}
-use Rattle.nn_engine.specs.declared.follow.Halt.{Halt}
-use Rattle.nn_engine.specs.declared.follow.Halt.TheVariants as halt
+use Rattle.nn_engine.specs.declared.follow.FollowFault.{FollowFault}
+use Rattle.nn_engine.specs.declared.follow.FollowFault.TheVariants as follow_fault
 use Rattle.nn_scenario.specs.declared.steps.Step.{Step}
 use Rattle.nn_scenario.specs.declared.steps.Step.TheVariants as step
 
@@ -79,17 +79,17 @@ abbrev pub Arrives : LogLeft → Contents → Contents → Type 0
 Arrives old x y = (whole : Result LogEnd LogStop) (lanes : Lanes) → IsOnItsWay whole old lanes x → HasArrived whole lanes y
 
 -- an edit is refused for this; out of memory says nothing
-abbrev pub IsRefusal : Halt → ℕ → Result Namespace EditFault → Type 0
-IsRefusal (halt.Refused fault txid) id outcome = (outcome ≡ Err fault) × (txid ≡ id)
-IsRefusal (halt.Disorder txid) id outcome = ⊥
-IsRefusal halt.OutOfMemory id outcome = Unit {0}
+abbrev pub IsRefusal : FollowFault → ℕ → Result Namespace EditFault → Type 0
+IsRefusal (follow_fault.Refused fault txid) id outcome = (outcome ≡ Err fault) × (txid ≡ id)
+IsRefusal (follow_fault.Disorder txid) id outcome = ⊥
+IsRefusal follow_fault.OutOfMemory id outcome = Unit {0}
 
 -- the whole log stops for this; out of memory says nothing
-abbrev pub StopsAs : Halt → Result LogEnd LogStop → Type 0
-StopsAs (halt.Refused fault txid) whole = whole ≡ Err (record { cause = refused fault; txid = txid })
-StopsAs (halt.Disorder txid) whole = whole ≡ Err (record { cause = disorder; txid = txid })
-StopsAs halt.OutOfMemory whole = Unit {0}
+abbrev pub StopsAs : FollowFault → Result LogEnd LogStop → Type 0
+StopsAs (follow_fault.Refused fault txid) whole = whole ≡ Err (record { cause = refused fault; txid = txid })
+StopsAs (follow_fault.Disorder txid) whole = whole ≡ Err (record { cause = disorder; txid = txid })
+StopsAs follow_fault.OutOfMemory whole = Unit {0}
 
 -- wherever it was on its way, the whole log stops for this
-abbrev pub HaltsFor : LogLeft → Contents → Halt → Type 0
-HaltsFor old x halt = (whole : Result LogEnd LogStop) (lanes : Lanes) → IsOnItsWay whole old lanes x → StopsAs halt whole
+abbrev pub StopsFor : LogLeft → Contents → FollowFault → Type 0
+StopsFor old x fault = (whole : Result LogEnd LogStop) (lanes : Lanes) → IsOnItsWay whole old lanes x → StopsAs fault whole

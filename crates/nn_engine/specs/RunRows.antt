@@ -1,12 +1,13 @@
 -- What is printed for an input that is not read, and what a run says of its devices, computed.
-use Rattle.std.specs.Prelude.{◌≡◌, ℕ, Bool, true, false, [], ◌∷◌, ◌++◌, map, Some, None, codes, refl}
-use Rattle.std.proofs.Common.{arith, sym, true≢false}
-use Rattle.nn_device.specs.Device.{Reading, Writing}
+use Rattle.std.specs.Prelude.{◌≡◌, ℕ, ◌+◌, Bool, true, false, List, [], ◌∷◌, ◌++◌, length, map, Some, None, codes, refl}
+use Rattle.std.proofs.Common.{arith, sym, ap, inl, inr, ⊎_elim, true≢false}
+use Rattle.nn_device.specs.Device.{Reading, Writing, FailedToWrite}
 use Rattle.nn_listing.specs.Listing.{newline}
 use Rattle.nn_engine.specs.declared.device.InputFault.TheVariants.{ReadFailed, TooLong, OutOfMemory}
 use Rattle.nn_engine.specs.declared.engine.Options.{Options}
 use Rattle.nn_engine.specs.Input.{IsUnread}
-use Rattle.nn_engine.specs.Run.{fault_alone, unread_line, NoneFailed, WroteFront, running}
+use Rattle.nn_engine.specs.Output.{Printed}
+use Rattle.nn_engine.specs.Run.{Given, IsOutputOfAll, IsUnreadable, fault_alone, unread_line, NoneFailed, Wrote, WroteFront, running}
 
 unread : map unread_line (ReadFailed ∷ TooLong ∷ OutOfMemory ∷ [])
     ≡ (codes "fault 8" ++ newline ∷ []) ∷ (codes "fault 8" ++ newline ∷ []) ∷ (codes "fault 55" ++ newline ∷ []) ∷ []
@@ -45,3 +46,51 @@ writer taken failed = record { contents = None; taken = taken; failed = failed }
 -- a failed write is one that was noted
 no_write_failed : (options : Options) → WroteFront (running options false (reader false) (reader false)) (writer 0 false) (writer 2 false) 2 → ⊥
 no_write_failed options h = true≢false (sym h.failed.noted)
+
+-- ---- What a run wrote.
+
+abbrev memory_line : Bool → Writing
+memory_line failed = record { contents = Some (codes "fault 55" ++ newline ∷ []); taken = 9; failed = failed }
+
+abbrev unwritten : Writing
+unwritten = record { contents = Some []; taken = 0; failed = false }
+
+-- memory ran out, and no read failed
+wrote_55 : (options : Options) → Wrote (running options false (reader false) (reader false)) unwritten (memory_line false) 1
+wrote_55 options = record { output = fault_alone (codes "55"); right = inr (inr (refl, refl)); took = record { bytes = refl; counted = refl; unfailed = refl }; ends = refl }
+
+wrote_8 : (options : Options) → Wrote (running options false (reader false) (reader true)) unwritten (record { contents = Some (codes "fault 8" ++ newline ∷ []); taken = 8; failed = false }) 1
+wrote_8 options = record { output = fault_alone (codes "8"); right = inr (inl (refl, inl refl)); took = record { bytes = refl; counted = refl; unfailed = refl }; ends = refl }
+
+-- a whole output was written: no write failed
+not_with_a_failed_write : (given : Given) (ended : ℕ) → Wrote given unwritten (memory_line true) ended → ⊥
+not_with_a_failed_write given ended h = true≢false h.took.unfailed
+
+-- and all of it is what the writer got
+not_with_more_counted : (given : Given) (ended : ℕ) (text : List ℕ) → length text ≡ 3 → Wrote given unwritten (record { contents = Some text; taken = 4; failed = false }) ended → ⊥
+not_with_more_counted given ended text three h = let n = h.took.counted in let m : length text ≡ length h.output.text = ap length h.took.bytes in omega (arith, n, m, three)
+
+-- a front is not all
+not_a_front_of_all : (n : ℕ) → FailedToWrite unwritten (memory_line true) (fault_alone (codes "55")).text n → n ≡ 9 → ⊥
+not_a_front_of_all n h all = omega (arith, h.short, all)
+
+wrote_a_front_of_55 : (options : Options) → WroteFront (running options false (reader false) (reader false)) unwritten (record { contents = Some (codes "fault"); taken = 5; failed = true }) 5
+wrote_a_front_of_55 options = record { output = fault_alone (codes "55"); right = inr (inr (refl, refl)); failed = record { short = omega arith; bytes = refl; counted = refl; noted = refl } }
+
+not_told_of_another_count : (given : Given) → WroteFront given unwritten (record { contents = None; taken = 5; failed = true }) 4 → ⊥
+not_told_of_another_count given h = let e : 5 ≡ 4 = h.failed.counted in omega (arith, e)
+
+-- an input is unreadable where a read failed
+unreadable : (options : Options) → IsUnreadable (running options false (reader false) (reader true))
+unreadable options = inl refl
+
+-- three bytes that were read are not too many
+not_unreadable : (options : Options) → IsUnreadable (running (record options { from_image = false }) false (reader false) (record { left = Some []; given = 3; failed = false })) → ⊥
+not_unreadable options h = ⊎_elim (λ (e : false ≡ true). true≢false (sym e)) (λ k. let more = k.1 in let many = k.3 in omega (arith, more, many)) h
+
+-- the output of all is of what was given, up to the end, and of no more than an input may have
+not_of_a_part : (given : Given) (p : Printed) → IsOutputOfAll (record given { after = record { left = Some (codes "c"); given = 2; failed = false } }) p → ⊥
+not_of_a_part given p h = let e : codes "c" ≡ [] = h.whole in cc
+
+not_of_other_bytes : (options : Options) (p : Printed) (o : IsOutputOfAll (running options false (reader false) (record { left = Some []; given = 3; failed = false })) p) → length o.input ≡ 2 → ⊥
+not_of_other_bytes options p o two = let e : 3 ≡ 0 + length o.input = o.counted in omega (arith, e, two)

@@ -21,7 +21,7 @@ ghost use Rattle.nn_scenario.specs.Scenario.{max_input, seen, IsLawfulScenario};
 ghost use Rattle.nn_engine.specs.Shown.{history_part, shown, with_settings, IsFaultOf, IsToldOf};
 
 use crate::device::{InputFault, InputParts, parts_of, read_parts};
-use crate::follow::{Halt, follow};
+use crate::follow::{FollowFault, follow};
 use crate::image::push_image;
 use crate::start::{Begin, start_from};
 use nn_device::{Reader, WriteFailed, Writer};
@@ -216,7 +216,7 @@ fn output_of_scenario(
     match read_segments(alloc, parts) {
         Ok(segments) => match follow(alloc, begin, options.settings, datanodes, steps, segments) {
             Ok(standby) => output_of_standby(alloc, options, standby),
-            Err(halt) => output_of_halt(alloc, halt),
+            Err(fault) => output_of_follow_fault(alloc, fault),
         },
         Err(bad) => output_of_bad_segment(alloc, bad),
     }
@@ -232,13 +232,13 @@ pub(crate) fn output_of_bad_segment(alloc: Global, bad: BadSegment) -> Result<Ou
     fault_output(alloc, bad.fault.number(), " segment ", bad.segment)
 }
 
-fn output_of_halt(alloc: Global, halt: Halt) -> Result<Output, AllocError>
-    ensures { IfOk result (λ o. (options : RunOptions) (lanes : Lanes) (whole : Result LogEnd LogStop) → StopsAs halt whole → IsFaultOf options lanes whole (shown o)) }
+fn output_of_follow_fault(alloc: Global, fault: FollowFault) -> Result<Output, AllocError>
+    ensures { IfOk result (λ o. (options : RunOptions) (lanes : Lanes) (whole : Result LogEnd LogStop) → StopsAs fault whole → IsFaultOf options lanes whole (shown o)) }
 {
-    match halt {
-        Halt::Refused { fault, txid } => fault_output(alloc, fault.number(), " txid ", txid),
-        Halt::Disorder { txid } => fault_output(alloc, fault::DISORDER, " txid ", txid),
-        Halt::OutOfMemory => Err(AllocError),
+    match fault {
+        FollowFault::Refused { fault, txid } => fault_output(alloc, fault.number(), " txid ", txid),
+        FollowFault::Disorder { txid } => fault_output(alloc, fault::DISORDER, " txid ", txid),
+        FollowFault::OutOfMemory => Err(AllocError),
     }
 }
 
@@ -255,17 +255,24 @@ fn output_of_standby(alloc: Global, options: Options, standby: Shadow) -> Result
             FlushFault::Stopped(_) => unreachable!(),
         }
     }
-    tell(alloc, options, standby)
+    let output = output_of_flushed(alloc, options, &standby);
+    // Taking it apart would be work for nothing: the process ends.
+    mem::forget(standby);
+    output
 }
 
 // The history, the listing, the tables and the image of a standby that has flushed.
-pub(crate) fn tell(alloc: Global, options: Options, standby: Shadow) -> Result<Output, AllocError>
-    ensures { IfOk result (λ o. (lanes : Lanes) → ShowsPicture standby.namespace (items lanes) (tables_of (standby_of standby))
-        → shown o ≡ with_history options.history standby.history (after_log (with_settings options standby.permille standby.table.min) lanes (Ok (record { last = standby.last; namespace = standby.namespace })))) }
+pub(crate) fn output_of_flushed(
+    alloc: Global,
+    options: Options,
+    standby: &Shadow,
+) -> Result<Output, AllocError>
+    ensures { IfOk result (λ o. (lanes : Lanes) → ShowsPicture standby.now.namespace (items lanes) (tables_of (standby_of standby.now))
+        → shown o ≡ with_history options.history standby.now.history (after_log (with_settings options standby.now.permille standby.now.table.min) lanes (Ok (record { last = standby.now.last; namespace = standby.now.namespace })))) }
 {
     standby.consistent();
     let mut text = String::new(alloc);
-    tell_history(options.history, &mut text, standby.history())?;
+    push_asked_history(options.history, &mut text, standby.history())?;
     let mut text = with_listing(alloc, text, standby.namespace(), standby.last_txid())?;
     push_tables(alloc, &mut text, standby.replicas(), standby.safe_mode())?;
     let mut text = text.into_bytes();
@@ -276,13 +283,11 @@ pub(crate) fn tell(alloc: Global, options: Options, standby: Shadow) -> Result<O
         standby.namespace(),
         standby.last_txid(),
     )?;
-    // Taking it apart would be work for nothing: the process ends.
-    mem::forget(standby);
     Ok(Output { text, status: 0 })
 }
 
 // The history, where it is asked for.
-fn tell_history(asked: bool, text: &mut String, events: &[Event]) -> Result<(), AllocError>
+fn push_asked_history(asked: bool, text: &mut String, events: &[Event]) -> Result<(), AllocError>
     ensures { OnOk result (string_bytes text.new ≡ string_bytes text.old ++ history_part asked events.now) }
 {
     if !asked {

@@ -14,7 +14,7 @@ ghost use Rattle.nn_shadow.specs.Laws.{StandsBy};
 ghost use Rattle.nn_shadow.specs.Refusals.{hand_refusal};
 ghost use Rattle.nn_segment.specs.LogLeft.{txs_left};
 ghost use Rattle.nn_engine.specs.Turns.{all_applied, in_turn};
-ghost use Rattle.nn_engine.specs.Follow.{serving, Advances, Arrives, HaltsFor, TakesNext, TakesStep, IsWelcome, HasArrived, IsRefusal, StopsAs, IsFollowing};
+ghost use Rattle.nn_engine.specs.Follow.{serving, Advances, Arrives, StopsFor, TakesNext, TakesStep, IsWelcome, HasArrived, IsRefusal, StopsAs, IsFollowing};
 ghost use Rattle.nn_segment.specs.LogEnd.{end_of_log};
 ghost use Rattle.nn_scenario.specs.Steps.{lanes_of, AreInTurn, IsStepOf};
 
@@ -28,7 +28,7 @@ use std::alloc::Global;
 
 /// Why a run halts.
 #[derive(Clone, Copy, Debug, PartialEq, Eq)]
-pub enum Halt {
+pub enum FollowFault {
     /// The edit of this transaction doesn't apply.
     Refused { fault: EditFault, txid: u64 },
     /// The transaction with this txid should have come.
@@ -45,7 +45,7 @@ pub fn follow(
     datanodes: u16,
     steps: StepList,
     segments: Vec<Parsed>,
-) -> Result<Shadow, Halt>
+) -> Result<Shadow, FollowFault>
     requires limit { begin.txid < 2 ^ 63 }
     requires datanodes { (1 ≤ datanodes) × (datanodes ≤ 256) }
     requires in_turn { AreInTurn no_messages steps }
@@ -54,82 +54,67 @@ pub fn follow(
     ensures turns { IfOk result (λ shadow. standby_of shadow ≡ in_turn (fresh begin.namespace begin.txid) (log_of begin.txid (map (λ (s : Segment). s.txs) segments.items)) steps) }
     ensures serving { IfOk result (λ shadow. shadow.phase ≡ serving) }
     ensures settings { IfOk result (λ shadow. (shadow.table.min ≡ settings.min) × (shadow.permille ≡ settings.permille)) }
-    ensures halted { IfErr result (λ halt. StopsAs halt (end_of_log begin.txid begin.namespace segments.items)) }
+    ensures stopped { IfErr result (λ fault. StopsAs fault (end_of_log begin.txid begin.namespace segments.items)) }
 {
     let Begin { namespace, txid } = begin;
     let Ok(mut shadow) = Shadow::from(alloc, namespace, txid, datanodes, settings) else {
-        return Err(Halt::OutOfMemory);
+        return Err(FollowFault::OutOfMemory);
     };
     let mut log = Log::new(alloc, segments);
-    if let Err(halt) = take_steps(&mut shadow, &mut log, steps) {
-        return Err(halt);
-    }
-    if let Err(halt) = follow_to_end(&mut shadow, &mut log) {
-        return Err(halt);
-    }
+    follow_steps(&mut shadow, &mut log, steps)?;
+    follow_to_end(&mut shadow, &mut log)?;
     Ok(shadow)
 }
 
-fn take_steps(shadow: &mut Shadow, log: &mut Log, steps: StepList) -> Result<(), Halt>
+fn follow_steps(shadow: &mut Shadow, log: &mut Log, steps: StepList) -> Result<(), FollowFault>
     requires { IsFollowing (end_of_log shadow.old.last shadow.old.namespace log.old.segments) (length shadow.old.numbers) (lanes_of steps) log.old steps shadow.old }
     ensures following { OnOk result (IsFollowing (end_of_log shadow.old.last shadow.old.namespace log.old.segments) (length shadow.old.numbers) (lanes_of steps) log.new [] shadow.new) }
     ensures turns { OnOk result (in_turn (standby_of shadow.new) (txs_left shadow.new.last log.new) [] ≡ in_turn (standby_of shadow.old) (txs_left shadow.old.last log.old) steps) }
     ensures rest { OnOk result (KeepsSettings shadow.old shadow.new) }
-    ensures halted { IfErr result (λ halt. StopsAs halt (end_of_log shadow.old.last shadow.old.namespace log.old.segments)) }
+    ensures stopped { IfErr result (λ fault. StopsAs fault (end_of_log shadow.old.last shadow.old.namespace log.old.segments)) }
 {
     let mut steps = steps.into_steps();
     'steps: while let Some(step) = steps.next() {
-        if let Err(halt) = take_step(shadow, log, step) {
-            return Err(halt);
-        }
+        follow_step(shadow, log, step)?;
     }
     Ok(())
 }
 
 // Each edit line was a step, so at the end of a scenario nothing of its log is left to follow.
-fn follow_to_end(shadow: &mut Shadow, log: &mut Log) -> Result<(), Halt>
+fn follow_to_end(shadow: &mut Shadow, log: &mut Log) -> Result<(), FollowFault>
     requires { shadow.old.phase ≡ serving }
     ensures arrived { OnOk result (Arrives log.old shadow.old shadow.new) }
     ensures turns { OnOk result (standby_of shadow.new ≡ all_applied (standby_of shadow.old) (txs_left shadow.old.last log.old)) }
     ensures serving { OnOk result (shadow.new.phase ≡ serving) }
     ensures rest { OnOk result (KeepsSettings shadow.old shadow.new) }
-    ensures halted { IfErr result (HaltsFor log.old shadow.old) }
+    ensures stopped { IfErr result (StopsFor log.old shadow.old) }
 {
-    'rest: loop {
-        match follow_log(shadow, log) {
-            Ok(true) => {}
-            Ok(false) => return Ok(()),
-            Err(halt) => return Err(halt),
-        }
-    }
+    'rest: while follow_log(shadow, log)? {}
+    Ok(())
 }
 
-fn take_step(shadow: &mut Shadow, log: &mut Log, step: Step) -> Result<(), Halt>
+fn follow_step(shadow: &mut Shadow, log: &mut Log, step: Step) -> Result<(), FollowFault>
     requires serving { shadow.old.phase ≡ serving }
     requires welcome { IsWelcome shadow.old step }
     ensures goes_on { OnOk result (Advances log.old shadow.old (step ∷ []) log.new shadow.new) }
     ensures turn { OnOk result (TakesStep log.old shadow.old step log.new shadow.new) }
     ensures serving { OnOk result (shadow.new.phase ≡ serving) }
     ensures rest { OnOk result (KeepsSettings shadow.old shadow.new) }
-    ensures halted { IfErr result (HaltsFor log.old shadow.old) }
+    ensures stopped { IfErr result (StopsFor log.old shadow.old) }
 {
     match step {
         Step::Edit => {
-            if let Err(halt) = follow_log(shadow, log) {
-                return Err(halt);
-            }
+            follow_log(shadow, log)?;
         }
         Step::Message(message) => {
-            if let Err(halt) = hand(shadow, message) {
-                return Err(halt);
-            }
+            hand(shadow, message)?;
         }
     }
     Ok(())
 }
 
 // Applies the next transaction of the log. False says that the log is over.
-fn follow_log(shadow: &mut Shadow, log: &mut Log) -> Result<bool, Halt>
+fn follow_log(shadow: &mut Shadow, log: &mut Log) -> Result<bool, FollowFault>
     requires { shadow.old.phase ≡ serving }
     ensures goes_on { OnOk result (Advances log.old shadow.old [] log.new shadow.new) }
     ensures turn { OnOk result (TakesNext log.old shadow.old log.new shadow.new) }
@@ -139,45 +124,43 @@ fn follow_log(shadow: &mut Shadow, log: &mut Log) -> Result<bool, Halt>
     ensures over { IfOk result (λ more. more ≡ false → Arrives log.old shadow.old shadow.new) }
     ensures serving { OnOk result (shadow.new.phase ≡ serving) }
     ensures rest { OnOk result (KeepsSettings shadow.old shadow.new) }
-    ensures halted { IfErr result (HaltsFor log.old shadow.old) }
+    ensures stopped { IfErr result (StopsFor log.old shadow.old) }
 {
     shadow.consistent();
     let last = shadow.last_txid();
     match log.next(last) {
         Next::Transaction(tx) => {
-            if let Err(halt) = apply(shadow, tx) {
-                return Err(halt);
-            }
+            apply(shadow, &tx)?;
             shadow.consistent();
             Ok(true)
         }
-        Next::Disorder => Err(Halt::Disorder { txid: last + 1 }),
+        Next::Disorder => Err(FollowFault::Disorder { txid: last + 1 }),
         Next::Over => Ok(false),
     }
 }
 
 // Applies a transaction, the one after the last.
-fn apply(shadow: &mut Shadow, tx: Tx) -> Result<(), Halt>
+fn apply(shadow: &mut Shadow, tx: &Tx) -> Result<(), FollowFault>
     requires serving { shadow.old.phase ≡ serving }
-    requires next { tx.txid ≡ shadow.old.last + 1 }
-    ensures turn { OnOk result (standby_of shadow.new ≡ applied_to (standby_of shadow.old) tx) }
-    ensures applied { OnOk result (applied shadow.old.namespace tx.edit ≡ Ok shadow.new.namespace) }
-    ensures last { OnOk result (shadow.new.last ≡ tx.txid) }
+    requires next { tx.now.txid ≡ shadow.old.last + 1 }
+    ensures turn { OnOk result (standby_of shadow.new ≡ applied_to (standby_of shadow.old) tx.now) }
+    ensures applied { OnOk result (applied shadow.old.namespace tx.now.edit ≡ Ok shadow.new.namespace) }
+    ensures last { OnOk result (shadow.new.last ≡ tx.now.txid) }
     ensures stands { OnOk result ((start : Namespace) (base : ℕ) (txs : List Transaction) (lanes : Lanes)
-        → StandsBy start base txs lanes (standby_of shadow.old) → StandsBy start base (txs ++ tx ∷ []) lanes (standby_of shadow.new)) }
+        → StandsBy start base txs lanes (standby_of shadow.old) → StandsBy start base (txs ++ tx.now ∷ []) lanes (standby_of shadow.new)) }
     ensures serving { OnOk result (shadow.new.phase ≡ serving) }
     ensures rest { OnOk result (KeepsSettings shadow.old shadow.new) }
-    ensures refused { IfErr result (λ halt. IsRefusal halt tx.txid (applied shadow.old.namespace tx.edit)) }
+    ensures refused { IfErr result (λ fault. IsRefusal fault tx.now.txid (applied shadow.old.namespace tx.now.edit)) }
 {
-    let Err(fault) = shadow.apply(&tx) else {
+    let Err(fault) = shadow.apply(tx) else {
         return Ok(());
     };
     match fault {
-        ApplyFault::Refused(fault) => Err(Halt::Refused {
+        ApplyFault::Refused(fault) => Err(FollowFault::Refused {
             fault,
             txid: tx.txid.get(),
         }),
-        ApplyFault::OutOfMemory => Err(Halt::OutOfMemory),
+        ApplyFault::OutOfMemory => Err(FollowFault::OutOfMemory),
         ApplyFault::Stopped(_) | ApplyFault::AlreadyActive | ApplyFault::Disorder { .. } => {
             unreachable!()
         }
@@ -185,7 +168,7 @@ fn apply(shadow: &mut Shadow, tx: Tx) -> Result<(), Halt>
 }
 
 // Hands over a message that is refused only if memory runs out.
-fn hand(shadow: &mut Shadow, message: Message) -> Result<(), Halt>
+fn hand(shadow: &mut Shadow, message: Message) -> Result<(), FollowFault>
     requires { hand_refusal (length shadow.old.numbers) shadow.old.phase (standby_of shadow.old) message ≡ None }
     ensures stands { OnOk result ((start : Namespace) (base : ℕ) (txs : List Transaction) (lanes : Lanes)
         → StandsBy start base txs lanes (standby_of shadow.old) → StandsBy start base txs (followed_by lanes message) (standby_of shadow.new)) }
@@ -193,13 +176,13 @@ fn hand(shadow: &mut Shadow, message: Message) -> Result<(), Halt>
     ensures same { OnOk result ((shadow.new.namespace ≡ shadow.old.namespace) × (shadow.new.last ≡ shadow.old.last)) }
     ensures phase { shadow.new.phase ≡ shadow.old.phase }
     ensures rest { KeepsSettings shadow.old shadow.new }
-    ensures memory { IfErr result (λ halt. halt ≡ Halt.OutOfMemory) }
+    ensures memory { IfErr result (λ fault. fault ≡ FollowFault.OutOfMemory) }
 {
     let Err(fault) = shadow.hand(message) else {
         return Ok(());
     };
     match fault.cause {
-        HandCause::OutOfMemory => Err(Halt::OutOfMemory),
+        HandCause::OutOfMemory => Err(FollowFault::OutOfMemory),
         HandCause::Stopped(_)
         | HandCause::AlreadyActive
         | HandCause::BadLane

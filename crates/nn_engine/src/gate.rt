@@ -23,34 +23,34 @@ pub const SOURCE: u64 = 0;
 
 /// The way of one thread through the gate.
 #[derive(Drop)]
-pub struct Way<G> {
+pub struct GatePass<G> {
     gate: Arc<G, Global>,
     thread: u64,
-    has_come: bool,
+    has_passed: bool,
 }
 
-impl<G> Way<G> {
+impl<G> GatePass<G> {
     /// The way of a thread that has not come yet.
-    pub fn new(gate: Arc<G, Global>, thread: u64) -> Way<G>
-        ensures { result ≡ record { gate = gate; thread = thread; has_come = false } }
+    pub fn new(gate: Arc<G, Global>, thread: u64) -> GatePass<G>
+        ensures { result ≡ record { gate = gate; thread = thread; has_passed = false } }
     {
-        Way {
+        GatePass {
             gate,
             thread,
-            has_come: false,
+            has_passed: false,
         }
     }
 }
 
-impl<G: Gate> Way<G> {
+impl<G: Gate> GatePass<G> {
     /// Passes the gate, at the first call. What a gate does no clause can say, and so not that it was passed.
-    pub fn come(&mut self)
-        ensures { self.new ≡ record { gate = self.old.gate; thread = self.old.thread; has_come = true } }
+    pub fn pass_once(&mut self)
+        ensures { self.new ≡ record { gate = self.old.gate; thread = self.old.thread; has_passed = true } }
     {
-        if self.has_come {
+        if self.has_passed {
             return;
         }
-        self.has_come = true;
+        self.has_passed = true;
         self.gate.pass(self.thread);
     }
 }

@@ -17,4 +17,4 @@ pub use device::{InputFault, read_scenario};
 pub use engine::{Options, Output, RunEnd, output_of, run};
 pub use gate::{Gate, Open};
 pub use law::a_checkpoint_prints_the_same;
-pub use threads::{Threaded, run_threads};
+pub use threads::{ThreadOptions, run_threads};

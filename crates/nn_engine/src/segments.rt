@@ -1,7 +1,7 @@
 //! The segments of a run with threads, in memory: the source comes to the gate before it gives its first.
 ghost use Rattle.std.specs.Prelude.{◌≡◌};
 
-use crate::gate::{Gate, SOURCE, Way};
+use crate::gate::{Gate, GatePass, SOURCE};
 use nn_segment::{Item, MemorySource, Parsed, SegmentSource, SourceFault};
 use std::alloc::Global;
 use std::marker::Model;
@@ -11,7 +11,7 @@ use std::sync::Arc;
 #[derive(Drop)]
 pub struct Segments<G> {
     source: MemorySource,
-    way: Way<G>,
+    gate: GatePass<G>,
 }
 
 impl<G> Model for Segments<G> {
@@ -29,7 +29,7 @@ impl<G> Segments<G> {
     {
         Segments {
             source: MemorySource::new(segments),
-            way: Way::new(gate, SOURCE),
+            gate: GatePass::new(gate, SOURCE),
         }
     }
 }
@@ -47,7 +47,7 @@ impl<G: Gate> SegmentSource for Segments<G> {
     ghost ended = { λ s. s ≡ [] };
 
     fn next(&mut self) -> Result<Item, SourceFault> {
-        self.way.come();
+        self.gate.pass_once();
         self.source.next()
     }
 }

@@ -19,9 +19,9 @@ ghost use Rattle.nn_engine.specs.Shown.{shown, IsToldOf};
 use crate::device::{InputParts, read_parts};
 use crate::engine::{
     OUT_OF_MEMORY, Options, Output, RunEnd, fault_output, finish, output_of_bad,
-    output_of_bad_segment, output_of_image_fault, tell, unread_line,
+    output_of_bad_segment, output_of_flushed, output_of_image_fault, unread_line,
 };
-use crate::gate::{Gate, Way};
+use crate::gate::{Gate, GatePass};
 use crate::segments::Segments;
 use crate::start::start_from;
 use nn_device::{Reader, WriteFailed, Writer};
@@ -35,12 +35,13 @@ use std::alloc::{AllocError, Global};
 use std::collections::VecDeque;
 use std::io::{Read, Write};
 use std::marker::Model;
+use std::mem;
 use std::sync::{Arc, Wait};
 use std::thread::Threads;
 
 /// What a run with threads is asked for.
 #[derive(Drop)]
-pub struct Threaded<G> {
+pub struct ThreadOptions<G> {
     /// What a run without threads is asked for too.
     pub options: Options,
     /// How many reports a lane holds at a time, 1 to 1024.
@@ -49,13 +50,13 @@ pub struct Threaded<G> {
 }
 
 /// The reports that one lane carries at most, and a list in memory has.
-const MOST: usize = 4_611_686_018_427_387_904;
+const MAX_REPORTS: usize = 4_611_686_018_427_387_904;
 
 /// The reports of one DataNode, in memory.
 #[derive(Drop)]
 pub struct InMemoryReports<G> {
     reports: VecDeque<Report>,
-    way: Way<G>,
+    gate: GatePass<G>,
 }
 
 impl<G> Model for InMemoryReports<G> {
@@ -73,7 +74,7 @@ impl<G> InMemoryReports<G> {
     {
         InMemoryReports {
             reports: VecDeque::new(alloc),
-            way: Way::new(gate, node),
+            gate: GatePass::new(gate, node),
         }
     }
 
@@ -82,7 +83,7 @@ impl<G> InMemoryReports<G> {
         ensures ok { OnOk result (self.new ≡ self.old ++ report ∷ []) }
         ensures few { OnOk result (length self.new ≤ 2 ^ 62) }
     {
-        if self.reports.len() >= MOST {
+        if self.reports.len() >= MAX_REPORTS {
             return Err(AllocError);
         }
         if let Err(_) = self.reports.push_back(report) {
@@ -98,7 +99,7 @@ impl<G: Gate> ReportSource for InMemoryReports<G> {
     ghost gives = { GivesReport };
 
     fn next(&mut self) -> Option<Report> {
-        self.way.come();
+        self.gate.pass_once();
         self.reports.pop_front()
     }
 }
@@ -132,7 +133,7 @@ fn report_of(message: &Message) -> Report
 }
 
 // Puts a message's report behind those of its DataNode.
-fn take_step<G: Drop>(sources: &mut Vec<InMemoryReports<G>>, step: Step) -> Result<(), AllocError>
+fn push_step<G: Drop>(sources: &mut Vec<InMemoryReports<G>>, step: Step) -> Result<(), AllocError>
     requires { IsStepOf (length sources.old.items) step }
     ensures ok { OnOk result (sources.new.items ≡ with_step sources.old.items step) }
     ensures few { OnOk result (AreFew sources.old.items → AreFew sources.new.items) }
@@ -160,7 +161,7 @@ fn sources_of<G: Drop>(
     let mut sources = empty_sources(alloc, gate, datanodes)?;
     let mut steps = steps.into_steps();
     'steps: while let Some(step) = steps.next() {
-        take_step(&mut sources, step)?;
+        push_step(&mut sources, step)?;
     }
     Ok(sources)
 }
@@ -211,7 +212,7 @@ fn standby_over(
 fn output_of_drive<G: Gate + Send + Sync + Drop, R: Threads + Wait + Sync>(
     rt: &R,
     alloc: Global,
-    asked: &Threaded<G>,
+    asked: &ThreadOptions<G>,
     image: &Option<Vec<u8>>,
     datanodes: u16,
     steps: StepList,
@@ -229,7 +230,12 @@ fn output_of_drive<G: Gate + Send + Sync + Drop, R: Threads + Wait + Sync>(
     let standby = standby_over(alloc, ends, asked.options.settings, image)?;
     let gate = Arc::try_clone(&asked.gate)?;
     match drive(rt, alloc, standby, Segments::new(segments, gate), workers) {
-        Ok((shadow, _active)) => tell(alloc, asked.options, shadow),
+        Ok((shadow, _active)) => {
+            let output = output_of_flushed(alloc, asked.options, &shadow);
+            // Taking it apart would be work for nothing: the process ends.
+            mem::forget(shadow);
+            output
+        }
         Err(fault) => output_of_fault(alloc, fault),
     }
 }
@@ -237,7 +243,7 @@ fn output_of_drive<G: Gate + Send + Sync + Drop, R: Threads + Wait + Sync>(
 fn output_of_threads<G: Gate + Send + Sync + Drop, R: Threads + Wait + Sync>(
     rt: &R,
     alloc: Global,
-    asked: &Threaded<G>,
+    asked: &ThreadOptions<G>,
     image: &Option<Vec<u8>>,
     scenario: Scenario,
 ) -> Result<Output, AllocError>
@@ -262,7 +268,7 @@ fn output_of_threads<G: Gate + Send + Sync + Drop, R: Threads + Wait + Sync>(
 fn output_by_threads<G: Gate + Send + Sync + Drop, R: Threads + Wait + Sync>(
     rt: &R,
     alloc: Global,
-    asked: &Threaded<G>,
+    asked: &ThreadOptions<G>,
     image: &Option<Vec<u8>>,
     lines: Result<Scenario, BadLine>,
 ) -> Result<Output, AllocError>
@@ -282,7 +288,7 @@ fn output_by_threads<G: Gate + Send + Sync + Drop, R: Threads + Wait + Sync>(
 fn parts_by_threads<G: Gate + Send + Sync + Drop, R: Threads + Wait + Sync>(
     rt: &R,
     alloc: Global,
-    asked: &Threaded<G>,
+    asked: &ThreadOptions<G>,
     parts: InputParts,
 ) -> Result<Output, AllocError>
     requires capacity { (1 ≤ asked.now.capacity) × (asked.now.capacity ≤ 1024) }
@@ -307,7 +313,7 @@ fn parts_by_threads<G: Gate + Send + Sync + Drop, R: Threads + Wait + Sync>(
 pub fn run_threads<I: Read, W: Write, G: Gate + Send + Sync + Drop, R: Threads + Wait + Sync>(
     rt: &R,
     alloc: Global,
-    asked: &Threaded<G>,
+    asked: &ThreadOptions<G>,
     input: &mut Reader<I>,
     writer: &mut Writer<W>,
 ) -> Result<RunEnd, WriteFailed>

@@ -16,10 +16,10 @@ use Rattle.nn_feed.specs.Ends.{MayNotFollow, MayFollow, Puts, Refuses, GetsAgain
 use Rattle.nn_feed.specs.Fault.{number_of, number_of_fault}
 use Rattle.nn_feed.specs.Running.{last_answer, RefusedAnItem, ending_of, last_in, then_last, Fed}
 
-abbrev one : Whole
+abbrev pub one : Whole
 one = record { name = []; bytes = []; txs = [] }
 
-abbrev segment : Answer
+abbrev pub segment : Answer
 segment = given one
 
 abbrev failed : Answer
@@ -72,10 +72,10 @@ ends_in_a_fault = (segment ∷ [], refl)
 
 -- ---- What a pass knows: pass 0 may put, pass 1 may get.
 
-abbrev put : List Placed
+abbrev pub put : List Placed
 put = placed segment 0 ∷ placed end 1 ∷ []
 
-abbrev got : List Placed
+abbrev pub got : List Placed
 got = placed segment 0 ∷ []
 
 -- what a source that fails at its second segment comes to

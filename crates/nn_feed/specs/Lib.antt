@@ -6,3 +6,4 @@ pub mod Ends
 pub mod Running
 pub mod FeedLaws
 pub mod FeedRows
+pub mod RunRows

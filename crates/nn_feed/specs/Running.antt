@@ -9,8 +9,8 @@ use Rattle.nn_feed.specs.declared.fault.FeedFault.TheVariants.{Source, Refused}
 use Rattle.nn_feed.specs.declared.fault.Refusal.{Refusal}
 use Rattle.nn_feed.specs.declared.fault.Refusal.TheVariants.{Ended, Gone}
 use Rattle.nn_feed.specs.declared.rule.Placed.{Placed}
-use Rattle.nn_feed.specs.declared.running.Ran.{Ran}
-use Rattle.nn_feed.specs.declared.running.Told.{Told}
+use Rattle.nn_feed.specs.declared.running.FeederExit.{FeederExit}
+use Rattle.nn_feed.specs.declared.running.Delivered.{Delivered}
 use Rattle.nn_feed.specs.Ends.{put_by, IsSameFeeder, Refuses}
 use Rattle.nn_feed.specs.Feeds.{answers_of}
 
@@ -40,7 +40,7 @@ ending_of (Ok n) = end
 ending_of (Err fault) = Err fault
 
 -- and in a thread: the other end was told of it, or it was not put
-abbrev pub last_in : Result Told Refusal → Answer
+abbrev pub last_in : Result Delivered Refusal → Answer
 last_in (Ok told) = ending_of told.end
 last_in (Err refusal) = refused_answer refusal
 
@@ -70,7 +70,7 @@ module _ {S : Type 0} (gives : S → Answer → S → Type 0) where
 
   -- The source gave these segments in this call, and then End or a fault. Where the feeder comes back, all of that was put, in order:
   -- so the other end is told how it ended. Else the last answer was not put: it was refused as the feeder refuses it, with the segments put
-  pub record HasRun (failures : S → ℕ) (source : S) (feeder : Feeder) (ran : Ran S) : Type 0 where
+  pub record HasRun (failures : S → ℕ) (source : S) (feeder : Feeder) (ran : FeederExit S) : Type 0 where
     pub segments : List Segment
     pub gave : GaveThen source segments (last_in ran.outcome) ran.source
     pub put : IfOk ran.outcome

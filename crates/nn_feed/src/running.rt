@@ -8,21 +8,21 @@ use std::snapshot::Snapshot;
 /// answer; or why that answer was not put. Then the feeder is gone: one that was kept up to the join would leave the other
 /// end waiting for ever.
 #[derive(Drop)]
-pub struct Ran<S> {
+pub struct FeederExit<S> {
     pub source: S,
-    pub outcome: Result<Told, Refusal>,
+    pub outcome: Result<Delivered, Refusal>,
 }
 
 /// A feeder that put its source's last answer: behind so many segments its End, or its fault.
 #[derive(Drop)]
-pub struct Told {
+pub struct Delivered {
     pub feeder: Feeder,
     pub end: Result<u64, SourceFault>,
 }
 
 /// The promise of a feeder's thread: the source and the feeder that it began with.
 #[derive(Drop)]
-pub struct Began<S>(pub Snapshot<S>, pub Snapshot<Feeder>);
+pub struct FeederPromise<S>(pub Snapshot<S>, pub Snapshot<Feeder>);
 
 mod calls;
 

@@ -14,7 +14,7 @@ use std::marker::Model;
 const MARK: &[u8] = b"image";
 
 /// The bytes that are kept of a line that is passed over: one more than the mark has.
-const MOST: usize = 6;
+const MAX_KEPT: usize = 6;
 
 /// Where in its front an input is.
 #[derive(Clone, Copy, Debug, PartialEq, Eq)]
@@ -189,10 +189,10 @@ fn room(kept: usize, more: usize) -> usize
     ensures value { result ≡ room kept more }
     ensures within { result ≤ more }
 {
-    if kept >= MOST {
+    if kept >= MAX_KEPT {
         return 0;
     }
-    let free = MOST - kept;
+    let free = MAX_KEPT - kept;
     if more < free { more } else { free }
 }
 

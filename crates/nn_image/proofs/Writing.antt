@@ -20,7 +20,7 @@ use Rattle.nn_tree.specs.Listing.{Took as TookRows}
 use Rattle.nn_tree.specs.declared.listing.ListFault.{ListFault}
 use Rattle.nn_tree.specs.declared.listing.ListFault.TheVariants.{Sink}
 use Rattle.nn_tree.specs.declared.listing.ListFault.TheVariants as list
-use Rattle.nn_image.specs.declared.saving.Lines.{Lines}
+use Rattle.nn_image.specs.declared.saving.RowWriter.{RowWriter}
 use Rattle.nn_image.proofs.Rows.{root_first, T_of, and_T}
 use Rattle.nn_image.specs.Text.{feed, block_data, block_items, number_items, head_data, header_data, form_data, row_data, row_lines, line_of, end_data, image_text}
 use Rattle.nn_image.specs.declared.fault.SaveFault.TheVariants as save
@@ -182,12 +182,12 @@ listed_append [] ys = refl
 listed_append (row ∷ xs) ys = ap (λ t. row_text row ++ t) (listed_append xs ys) ∙ sym (append_assoc (row_text row) (listed_text xs) (listed_text ys))
 
 module _ {W : Type 0} where
-  pub record HasTaken (old new : Lines W) (rows : List (Path × Form)) : Type 0 where
+  pub record HasTaken (old new : RowWriter W) (rows : List (Path × Form)) : Type 0 where
     pub same_writer : new.writer.ghost_name ≡ old.writer.ghost_name
     pub wrote : Took old.writer.now new.writer.now (listed_text rows)
     pub counted : old.count + listed_count rows < 2 ^ 64 → new.count ≡ old.count + listed_count rows
 
-  pub has_taken : (old : Lines W) (rows : List (Path × Form)) (new : Lines W) → TookRows TakesRow old rows new → HasTaken old new rows
+  pub has_taken : (old : RowWriter W) (rows : List (Path × Form)) (new : RowWriter W) → TookRows TakesRow old rows new → HasTaken old new rows
   has_taken old [] new h = record {
     same_writer = ap (λ l. l.writer.ghost_name) h;
     wrote = subst (λ l. Took old.writer.now l.writer.now []) (sym h) (took_nothing old.writer.now);
@@ -204,11 +204,11 @@ module _ {W : Type 0} where
             omega (arith, first, later);
       }
 
-  pub record HasStopped (old : Lines W) (rows : List (Path × Form)) (e : Stop) (new : Lines W) : Type 0 where
+  pub record HasStopped (old : RowWriter W) (rows : List (Path × Form)) (e : Stop) (new : RowWriter W) : Type 0 where
     pub same_writer : new.writer.ghost_name ≡ old.writer.ghost_name
     pub front : Stopped old.writer.now new.writer.now (listed_text rows) e
 
-  stopped_at : (old between new : Lines W) (taken left : List (Path × Form)) (fault : ListFault Stop) → HasTaken old between taken → FailsAt FailsOnRow between left fault new
+  stopped_at : (old between new : RowWriter W) (taken left : List (Path × Form)) (fault : ListFault Stop) → HasTaken old between taken → FailsAt FailsOnRow between left fault new
       → HasStopped old (taken ++ left) (stop_of fault) new
   stopped_at old between new taken left list.OutOfMemory t failed = record {
     same_writer = ap (λ l. l.writer.ghost_name) failed ∙ t.same_writer;
@@ -224,7 +224,7 @@ module _ {W : Type 0} where
         (front_of between.writer.now new.writer.now new.writer.now (row_text row) (listed_text left) e failed.front));
   }
 
-  pub has_stopped : (old : Lines W) (rows : List (Path × Form)) (fault : ListFault Stop) (new : Lines W) → StopsIn TakesRow FailsOnRow old rows fault new → HasStopped old rows (stop_of fault) new
+  pub has_stopped : (old : RowWriter W) (rows : List (Path × Form)) (fault : ListFault Stop) (new : RowWriter W) → StopsIn TakesRow FailsOnRow old rows fault new → HasStopped old rows (stop_of fault) new
   has_stopped old rows fault new h =
       subst (λ rs. HasStopped old rs (stop_of fault) new) (sym h.all) (stopped_at old h.between new h.taken h.left fault (has_taken old h.taken h.between h.took) h.failed)
 
@@ -244,7 +244,7 @@ all_lines n w =
     subst (λ rows. (listed_text rows ≡ row_lines (drop 1 rows)) × (listed_count rows ≡ length rows - 1)) (sym first.1) (below.0, omega (arith, below.1))
 
 -- what a writer got at the end, where x is what was lent
-module _ {W : Type 0} (s t : Lines W) (x : Writing) (n : Namespace) (w : IsWellFormed n) where
+module _ {W : Type 0} (s t : RowWriter W) (x : Writing) (n : Namespace) (w : IsWellFormed n) where
   pub rows_written : TookRows TakesRow s n.rows t → (s.writer.ghost_name ≡ t.writer.ghost_name → x ≡ t.writer.now)
       → Took s.writer.now x (row_lines (drop 1 n.rows))
   rows_written took ends =
@@ -261,7 +261,7 @@ module _ {W : Type 0} (s t : Lines W) (x : Writing) (n : Namespace) (w : IsWellF
       (subst (λ y. Stopped s.writer.now y (listed_text n.rows) (stop_of fault)) (sym (ends (sym all.same_writer))) all.front))
 
 -- the lines are fewer than the bytes, and so the count did not stay
-pub rows_counted : {W : Type 0} (s t : Lines W) (n : Namespace) → IsWellFormed n → TookRows TakesRow s n.rows t → s.count ≡ 0 → t.writer.now.taken < 2 ^ 64 → t.count ≡ length n.rows - 1
+pub rows_counted : {W : Type 0} (s t : RowWriter W) (n : Namespace) → IsWellFormed n → TookRows TakesRow s n.rows t → s.count ≡ 0 → t.writer.now.taken < 2 ^ 64 → t.count ≡ length n.rows - 1
 rows_counted s t n w took none fits =
     let all = has_taken s n.rows t took in
     let counted = all.counted (omega (arith, none, fits, all.wrote.counted, listed_bytes n.rows)) in

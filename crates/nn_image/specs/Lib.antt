@@ -11,4 +11,5 @@ pub mod Loading
 pub mod Saving
 pub mod Rewriting
 pub mod ImageRows
+pub mod TextRows
 pub mod DeviceRows

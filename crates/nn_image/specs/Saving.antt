@@ -8,7 +8,7 @@ use Rattle.nn_image.specs.Text.{line_of, row_data}
 use Rattle.nn_tree.specs.declared.listing.ListFault.{ListFault}
 use Rattle.nn_tree.specs.declared.listing.ListFault.TheVariants.{Sink}
 use Rattle.nn_tree.specs.declared.listing.ListFault.TheVariants as list
-use Rattle.nn_image.specs.declared.saving.Lines.{Lines}
+use Rattle.nn_image.specs.declared.saving.RowWriter.{RowWriter}
 use Rattle.nn_image.specs.declared.saving.Stop.{Stop}
 use Rattle.nn_image.specs.declared.saving.Stop.TheVariants as stop
 use Rattle.nn_image.specs.declared.fault.SaveFault.{SaveFault}
@@ -59,12 +59,12 @@ row_count ([], form) = 0
 row_count (name ∷ p, form) = 1
 
 -- the row's line was written, and counted if the count can go on
-pub record TakesRow {W : Type 0} (old : Lines W) (row : Path × Form) (new : Lines W) : Type 0 where
+pub record TakesRow {W : Type 0} (old : RowWriter W) (row : Path × Form) (new : RowWriter W) : Type 0 where
   pub same_writer : new.writer.ghost_name ≡ old.writer.ghost_name
   pub wrote : Took old.writer.now new.writer.now (row_text row)
   pub counted : old.count + row_count row < 2 ^ 64 → new.count ≡ old.count + row_count row
 
 -- a front of the row's line was written
-pub record FailsOnRow {W : Type 0} (old : Lines W) (row : Path × Form) (e : Stop) (new : Lines W) : Type 0 where
+pub record FailsOnRow {W : Type 0} (old : RowWriter W) (row : Path × Form) (e : Stop) (new : RowWriter W) : Type 0 where
   pub same_writer : new.writer.ghost_name ≡ old.writer.ghost_name
   pub front : Stopped old.writer.now new.writer.now (row_text row) e

@@ -102,7 +102,7 @@ fn put_rows<W: Write>(
     ensures front { IfErr result (Stopped writer.old writer.new (row_lines (drop 1 namespace.now.rows))) }
 {
     namespace.well_formed();
-    let mut lines = Lines {
+    let mut lines = RowWriter {
         writer,
         count: 0,
         alloc,
@@ -136,14 +136,14 @@ fn put_end<W: Write>(alloc: Global, count: u64, writer: &mut Writer<W>) -> Resul
 
 // Writes the lines of paths as they come.
 #[derive(Drop)]
-struct Lines<'w, W: Write> {
+struct RowWriter<'w, W: Write> {
     writer: &'w mut Writer<W>,
     // The lines so far. A count that would pass `u64::MAX` stays there.
     count: u64,
     alloc: Global,
 }
 
-impl<'w, W: Write> RowSink for Lines<'w, W> {
+impl<'w, W: Write> RowSink for RowWriter<'w, W> {
     ghost use Rattle.nn_image.specs.Saving.{TakesRow, FailsOnRow};
 
     type Error = Stop;

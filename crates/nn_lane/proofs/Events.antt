@@ -4,6 +4,7 @@ use Rattle.std.proofs.lemmas.Bool.{eqb-true, eqb-false}
 use Rattle.std.specs.Prelude.{◌/◌, ◌==◌, if◌then◌else◌, slice_index, slice_set, nat_lt}
 use mathlib.Core.Option.{some, none, some-injective}
 use mathlib.Core.Option as maybe
+use native.Mathlib.Decide.{ℕ_discrete}
 use lib.ListN.{get_elem?}
 use Rattle.atomic_table.specs.Table.{opening, Act, keeps, takes, gives, chain, Allows, stepped, homes_after, carried_after}
 use Rattle.atomic_table.proofs.Lists.{set_again}
@@ -12,9 +13,9 @@ use Rattle.nn_lane.specs.declared.view.Sender.{Sender}
 use Rattle.nn_lane.specs.declared.view.Taker.{Taker}
 use Rattle.nn_lane.specs.declared.view.View.{View}
 use Rattle.nn_lane.specs.Intake.{Intake, IntakeEvent, Accept, Take, Close, Look, no_intake, after_event, intake_after, May, MayAll, words_of, front_word, taken_word}
-use Rattle.nn_lane.specs.Lane.{Sat, Seated, opening_view, Kept, Lane, NextOut, with_sender, with_taker, looked, sent_more, was_told, saw, got_more, closed_at}
-use Rattle.nn_lane.specs.Moves.{LaneState, shown, shown_by, IsSender, IsTaker, Steps, open_front, Tries, TriesInVain, Stores, Shuts, SeesTaken, GivesBack, SeesFront, Learns, Loads, Moves, Runs, Parts, Meets}
-use Rattle.nn_lane.specs.Moves.{SeatStep, SeeTaken, Send, GiveBack, SeeFront, TakeFirst, Shut, Learn, IsMadeBy, word_of, becomes, tells, event_of, EachStepIsAnEvent}
+use Rattle.nn_lane.specs.Lane.{Sat, Seated, opening_view, Kept, Lane, NextOut, with_sender, with_taker, looked, checked, sent_more, was_told, saw, got_more, closed_at}
+use Rattle.nn_lane.specs.Moves.{LaneState, shown, shown_by, IsSender, IsTaker, Steps, open_front, Tries, TriesInVain, Stores, Shuts, SeesTaken, SeesClosed, GivesBack, SeesFront, Learns, Loads, Moves, Runs, Parts, Meets}
+use Rattle.nn_lane.specs.Moves.{SeatStep, SeeTaken, SeeClosed, Send, GiveBack, SeeFront, TakeFirst, Shut, Learn, IsMadeBy, word_of, becomes, tells, event_of, EachStepIsAnEvent}
 use Rattle.nn_lane.proofs.Seats.{reporter_moves, taker_moves, cuts, joins}
 use Rattle.nn_lane.proofs.Sides.{one_pair}
 use Rattle.nn_lane.proofs.Steps.{is_open}
@@ -72,6 +73,17 @@ module _ (node n : ℕ) (s s' : LaneState) (h : Lane node s) (h' : Lane node s')
   sees_taken v t = let st = t.1 in let r = looked v.sender (slice_index s.words taken_word) (nat_lt (length v.sender.sent) (slice_index s.words taken_word + n)) in let a = sender_after v st.2.0 st.0 r t.0 st.3 st.5 st.6.4 in
       (tt, shows r h.2 a.1 a.2 ∙ ap (λ (r : Sender). shown r h.2) a.0)
 
+  sees_closed : (v : View) → SeesClosed n s v s' → Event Look
+  sees_closed v t = by (ℕ_discrete (slice_index s.words front_word) (2 * length v.sender.sent))
+    where
+      looks : (b : Bool) → t.1.2.0 ≡ with_sender v (checked v.sender b) → Event Look
+      looks b is = let st = t.1 in let a = sender_after v st.2.0 st.0 (checked v.sender b) t.0 st.3 st.5 is in
+          (tt, shows (checked v.sender b) h.2 a.1 a.2 ∙ ap (λ (r : Sender). shown r h.2) a.0)
+
+      by : Dec (slice_index s.words front_word ≡ 2 * length v.sender.sent) → Event Look
+      by (yes e) = looks v.sender.told (t.1.6.1 e)
+      by (no ne) = looks true (t.1.6.2 ne)
+
   gives_back : (v : View) → GivesBack n s v s' → Event Look
   gives_back v t = let st = t.1 in let r = looked v.sender (slice_index s.words taken_word) false in let a = sender_after v st.2.0 st.0 r t.0 st.3 st.5 st.6.0 in
       (tt, shows r h.2 a.1 a.2 ∙ ap (λ (r : Sender). shown r h.2) a.0)
@@ -91,7 +103,8 @@ module _ (node n : ℕ) (s s' : LaneState) (h : Lane node s) (h' : Lane node s')
   event Look t = ⊎_elim (λ (l : Loads n s t.0 s'). loads t.0 l) (λ (l : TriesInVain n s t.0 s' ⊎ (Shuts n s t.0 s' × (t.0.taker.closed ≡ true))). ⊎_elim (fails t.0) (λ (u : Shuts n s t.0 s' × (t.0.taker.closed ≡ true)). again t.0 u.0 u.1) l) t.1
     where
       loads : (v : View) → Loads n s v s' → Event Look
-      loads v l = ⊎_elim (sees_taken v) (λ (l : GivesBack n s v s' ⊎ SeesFront n s v s' ⊎ Learns n s v s'). ⊎_elim (gives_back v) (λ (l : SeesFront n s v s' ⊎ Learns n s v s'). ⊎_elim (sees_front v) (learns v) l) l) l
+      loads v l = ⊎_elim (sees_taken v) (λ (l : GivesBack n s v s' ⊎ SeesClosed n s v s' ⊎ SeesFront n s v s' ⊎ Learns n s v s'). ⊎_elim (gives_back v)
+          (λ (l : SeesClosed n s v s' ⊎ SeesFront n s v s' ⊎ Learns n s v s'). ⊎_elim (sees_closed v) (λ (l : SeesFront n s v s' ⊎ Learns n s v s'). ⊎_elim (sees_front v) (learns v) l) l) l) l
 
       again : (v : View) → Shuts n s v s' → v.taker.closed ≡ true → Event Look
       again v u was = let done = shuts v u in (tt, done.1 ∙ ap (λ b. record { accepted = h.1.sent; taken = length h.2.got; closed = b }) (sym was ∙ ap (λ e. e.closed) done.0))
@@ -138,10 +151,11 @@ of_step : (n : ℕ) (c : SeatStep) (v : View) (s s' : LaneState) → IsMadeBy v 
 of_step n SeeTaken v s s' is t = (v, inl (inl (is, t)))
 of_step n (Send x) v s s' is t = tried n x v s s' (is.0, is.1, t)
 of_step n GiveBack v s s' is t = (v, inl (inr (inl (is, t))))
-of_step n SeeFront v s s' is t = (v, inl (inr (inr (inl (is, t)))))
+of_step n SeeClosed v s s' is t = (v, inl (inr (inr (inl (is, t)))))
+of_step n SeeFront v s s' is t = (v, inl (inr (inr (inr (inl (is, t))))))
 of_step n TakeFirst v s s' is t = (v, (is, t))
 of_step n Shut v s s' is t = shut_so n v s s' (is, t)
-of_step n Learn v s s' is t = (v, inl (inr (inr (inr t))))
+of_step n Learn v s s' is t = (v, inl (inr (inr (inr (inr t)))))
 
 pub each_step : EachStepIsAnEvent
 each_step node n id c v cs is allows s h long at fits =

@@ -1,5 +1,5 @@
 -- What each kind of step does to the facts of a lane.
-use Rattle.std.proofs.Common.{◌≡◌, ◌≢◌, ℕ, suc, ◌+◌, ◌*◌, ◌%◌, ◌<◌, ◌≤◌, List, [], ◌∷◌, ◌++◌, length, set, Option, Some, None, true, false, true≢false, refl, sym, ap, ◌∙◌, subst, ⊎_elim, arith, length-set, length-append, append_assoc}
+use Rattle.std.proofs.Common.{◌≡◌, ◌≢◌, ℕ, suc, ◌+◌, ◌*◌, ◌%◌, ◌<◌, ◌≤◌, List, [], ◌∷◌, ◌++◌, length, set, Option, Some, None, Bool, true, false, true≢false, refl, sym, ap, ◌∙◌, subst, ⊎_elim, arith, length-set, length-append, append_assoc}
 use mathlib.Core.Option.{none, some, some-ne-none, some-injective}
 use mathlib.Core.Option as maybe
 use native.Mathlib.Nat.{mod-lt}
@@ -10,7 +10,7 @@ use Rattle.nn_types.specs.declared.report.Message.{Message}
 use Rattle.nn_lane.specs.declared.view.Sender.{Sender}
 use Rattle.nn_lane.specs.declared.view.Taker.{Taker}
 use Rattle.nn_lane.specs.Intake.{bit, laid}
-use Rattle.nn_lane.specs.Lane.{away, Kept, new_sender, new_taker, holding, with_next, looked, sent_more, was_told, saw, got_more, closed_at}
+use Rattle.nn_lane.specs.Lane.{away, Kept, new_sender, new_taker, holding, with_next, looked, checked, sent_more, was_told, saw, got_more, closed_at}
 use Rattle.nn_lane.proofs.Rows.{at_within, at_end, at_after, head_of, apart}
 
 abbrev Homes : Type 0
@@ -196,6 +196,29 @@ module _ {node n : ℕ} {words : List ℕ} {homes : Homes} {r : Sender} {e : Tak
     seen_high = K.seen_high;
     closed = K.closed;
     told = λ _. shut_;
+    next = K.next;
+    ahead = K.ahead;
+    lies = K.lies;
+    vacant = K.vacant;
+  }
+
+  -- a load of `front` by the reporter, who is told only of a close
+  pub checks : (b : Bool) → (b ≡ true → e.closed ≡ true) → Kept node n words homes (checked r b) e
+  checks b told_so = record {
+    left = K.left;
+    as_long = K.as_long;
+    some_slot = K.some_slot;
+    words_are = K.words_are;
+    split = K.split;
+    within = K.within;
+    numbered = K.numbered;
+    nodes = K.nodes;
+    seen_taken = K.seen_taken;
+    fits = K.fits;
+    seen_low = K.seen_low;
+    seen_high = K.seen_high;
+    closed = K.closed;
+    told = told_so;
     next = K.next;
     ahead = K.ahead;
     lies = K.lies;

@@ -7,10 +7,10 @@ use Rattle.atomic_table.specs.Table.{step, Allows, rest}
 use Rattle.atomic_table.specs.declared.shared.Seat.{Seat}
 use Rattle.nn_types.specs.declared.report.Message.{Message}
 use Rattle.nn_lane.specs.declared.view.View.{View}
-use Rattle.nn_lane.specs.Lane.{Lane, saw_taken, gave_back, accepted, shut, saw_front}
+use Rattle.nn_lane.specs.Lane.{Lane, saw_taken, saw_closed, gave_back, accepted, shut, saw_front}
 use Rattle.nn_lane.specs.Intake.{front_word, taken_word}
 use Rattle.nn_lane.specs.Parts.{Ready, KnowsRoom, KnowsNext}
-use Rattle.nn_lane.proofs.Steps.{HoldsNext, HoldsFirst, loads_taken, gives_taken, exchanges, shuts_front, loads_front}
+use Rattle.nn_lane.proofs.Steps.{HoldsNext, HoldsFirst, loads_taken, loads_closed, gives_taken, exchanges, shuts_front, loads_front}
 
 module _ (node slots : ℕ) (seat : Seat Message View) (count limit : ℕ) (same : seat.table_id.slots ≡ slots) (long : count ≡ length seat.me.0.sender.sent) where
   pub holds_next : (o : Bool) → KnowsRoom o seat count limit → HoldsNext node slots seat.id seat.me.0 o seat.me.1
@@ -43,6 +43,10 @@ module _ (node slots : ℕ) (seat : Seat Message View) (count : ℕ) (same : sea
       none_out : (o : Option Message) → KnowsNext o seat count → o ≡ None
       none_out None h = refl
       none_out (Some x) h = absurd (let lt = h.0 in omega arith)
+
+-- the reporter looks for a close, whatever it holds
+pub checks : (node slots : ℕ) (seat : Seat Message View) → seat.me.0.sends ≡ true → seat.me.0.takes ≡ false → Allows (Lane node) slots seat.id seat.me front_word (λ n. n) (saw_closed (step slots front_word 0 0 none) seat.me)
+checks node slots seat on off = loads_closed node slots seat.id seat.me.0 seat.me.1 on off
 
 -- a reporter that wrote the next message into its slot still holds the slot
 pub still_holds : (s s' : Seat Message View) (count limit slot : ℕ) (x : Message) → s'.table_id ≡ s.table_id → s'.me ≡ (s.me.0, (slot, x) ∷ rest s.me.1) → slot ≡ count % s.table_id.slots → s.me.0.sender.out ≡ true → KnowsRoom true s count limit

@@ -4,6 +4,7 @@ use Rattle.std.proofs.lemmas.List.{length-map}
 use Rattle.std.specs.Prelude.{MatchBool, nat_lt, slice_index, bit_or, ◌==◌}
 use mathlib.Core.Option.{some, none, some-ne-none, some-injective}
 use mathlib.Core.Option as maybe
+use native.Mathlib.Decide.{ℕ_discrete}
 use lib.ListN.{get_elem?}
 use prog.Atomic.{either}
 use Rattle.std.proofs.lemmas.Bool.{ltb-true, lt-ltb}
@@ -15,7 +16,7 @@ use lib.Seq.{set-get_or}
 use Rattle.nn_types.specs.declared.report.Message.{Message}
 use Rattle.nn_lane.specs.declared.view.View.{View}
 use Rattle.nn_lane.specs.Intake.{bit, laid, front_word, taken_word}
-use Rattle.nn_lane.specs.Lane.{Seated, Kept, Lane, Sat, new_sender, new_taker, opening_view, taker_of, reporter_of, both_of, spent, with_sender, with_taker, looked, beside, saw_taken, gave_back, sent_more, was_told, SentMore, accepted, away, NextOut, saw, SawFront, saw_front, got_more, Took, took, closed_at, Shuts, shut, learned}
+use Rattle.nn_lane.specs.Lane.{Seated, Kept, Lane, Sat, new_sender, new_taker, opening_view, taker_of, reporter_of, both_of, spent, with_sender, with_taker, looked, beside, saw_taken, checked, saw_closed, gave_back, sent_more, was_told, SentMore, accepted, away, NextOut, saw, SawFront, saw_front, got_more, Took, took, closed_at, Shuts, shut, learned}
 use Rattle.nn_lane.proofs.Rows.{half}
 use Rattle.nn_lane.proofs.Seats.{reporter_moves, taker_moves, cuts, joins, shows_both}
 use Rattle.nn_lane.proofs.Keeps as kept
@@ -229,6 +230,36 @@ module _ (node slots id : ℕ) (v : View) where
         ),
         ((λ e. absurd (ne e)), (λ _. (refl, refl))),
       )
+
+  -- a load of `front` by the reporter
+  pub loads_closed : (cs : Cs) → v.sends ≡ true → v.takes ≡ false → Allows (Lane node) slots id (v, cs) front_word (λ n. n) (saw_closed (step slots front_word 0 0 none) (v, cs))
+  loads_closed cs on off s h long at _ = by (ℕ_discrete f (2 * length v.sender.sent))
+    where
+      K : Kept node slots s.words s.homes v.sender h.2
+      K = reporter_kept s h long at on off
+
+      f : ℕ
+      f = slice_index s.words front_word
+
+      f_is : f ≡ 2 * length v.sender.sent + bit h.2.closed
+      f_is = ap (λ ws. slice_index ws front_word) K.words_are
+
+      ws : s.words ≡ set s.words front_word f
+      ws = K.words_are ∙ (λ i. laid (sym f_is i) (length h.2.got)) ∙ ap (λ us. set us front_word f) (sym K.words_are)
+
+      Goal : Type 0
+      Goal = (w : View) × (a : Act Message) × Valid s.homes cs a × Lane node (stepped s front_word f id cs w a) × saw_closed (step slots front_word 0 0 none) (v, cs) f (w, carried_after cs a)
+
+      seated : (b : Bool) → Seated (set s.views id (with_sender v (checked v.sender b))) (checked v.sender b) h.2
+      seated b = (reporter_moves s.views id v (with_sender v (checked v.sender b)) h.1 (checked v.sender b) h.2 h.3 at on off (on, off, refl)).1
+
+      lane_of : (b : Bool) → (b ≡ true → h.2.closed ≡ true) → Lane node (stepped s front_word f id cs (with_sender v (checked v.sender b)) keeps)
+      lane_of b told_so = (slots, checked v.sender b, h.2, seated b, subst (λ us. Kept node slots us s.homes (checked v.sender b) h.2) ws (kept.checks K b told_so))
+
+      by : Dec (f ≡ 2 * length v.sender.sent) → Goal
+      by (yes e) = (with_sender v (checked v.sender v.sender.told), keeps, tt, lane_of v.sender.told K.told, (refl, (λ _. refl), (λ ne. absurd (ne e))))
+      by (no ne) = let closed = is_shut h.2.closed (length v.sender.sent) (λ e. ne (f_is ∙ e)) in
+          (with_sender v (checked v.sender true), keeps, tt, lane_of true (λ _. closed), (refl, (λ e. absurd (ne e)), (λ _. refl)))
 
   -- a load of `front`
   pub loads_front : (cs : Cs) → v.sends ≡ false → v.takes ≡ true → v.taker.next ≡ None → Allows (Lane node) slots id (v, cs) front_word (λ n. n) (saw_front (step slots front_word 0 0 none) (v, cs))

@@ -28,7 +28,11 @@ has_one_place l = refl
 
 -- a reporter that sent these, and looked so often, when so many were taken
 abbrev reporting : LaneId → List Message → ℕ → ℕ → Reporting
-reporting l sent loads seen = record { lane = lane_of_three l; sent = sent; prepared = None; seen = seen; loads = loads; told = false }
+reporting l sent loads seen = record { lane = lane_of_three l; sent = sent; prepared = None; seen = seen; loads = loads; checks = 0; told = false }
+
+-- it looked once more whether the lane is closed
+abbrev checked : Reporting → Reporting
+checked r = record r { checks = r.checks + 1 }
 
 abbrev told : Reporting → Reporting
 told r = record r { told = true }
@@ -69,9 +73,9 @@ second_has_one_then l = (inl (refl, refl, omega arith, omega arith), (refl, refl
 none_once_told : (l : LaneId) (r : Reporting) → HasPlace (told (reporting l [] 0 0)) r → ⊥
 none_once_told l r h = true≢false h.1.0
 
--- full: the message has the number that stays free, and its one place was seen taken in this call
-full : (l : LaneId) → Refuses (reporting l (first ∷ []) 1 0) (reporting l (first ∷ []) 2 0) second (Full second 0)
-full l = (refl, omega arith, (refl, refl), (refl, refl, omega arith, omega arith), refl)
+-- full: the message has the number that stays free, and in this call its one place was seen taken, and the lane open
+full : (l : LaneId) → Refuses (reporting l (first ∷ []) 1 0) (checked (reporting l (first ∷ []) 2 0)) second (Full second 0)
+full l = (refl, omega arith, (refl, refl), (refl, refl, omega arith, omega arith), refl, refl)
 
 not_with_another_number : (l : LaneId) (r : Reporting) → Refuses (reporting l (first ∷ []) 1 0) r second (Full (message 3 3 1073741825 Received) 0) → ⊥
 not_with_another_number l r same = let e : 3 ≡ 2 = ap (λ m. m.number) same.0 in omega (arith, e)
@@ -81,6 +85,9 @@ not_full_with_one_taken l r why = let e : 1 ≡ 1 + 1 = why.4 in omega (arith, e
 
 not_full_unless_seen_so : (l : LaneId) → Refuses (reporting l (first ∷ []) 1 0) (reporting l (first ∷ []) 1 0) second (Full second 0) → ⊥
 not_full_unless_seen_so l why = let e : 1 ≡ 1 + 1 = why.3.0 in omega (arith, e)
+
+not_full_unless_seen_open : (l : LaneId) → Refuses (reporting l (first ∷ []) 1 0) (reporting l (first ∷ []) 2 0) second (Full second 0) → ⊥
+not_full_unless_seen_open l why = let e : 0 ≡ 0 + 1 = why.5 in omega (arith, e)
 
 not_exhausted : (l : LaneId) (r : Reporting) → Refuses (reporting l (first ∷ []) 1 0) r second (Exhausted second) → ⊥
 not_exhausted l r why = let e : 1 ≡ 4611686018427387904 = why.1 in omega (arith, e)

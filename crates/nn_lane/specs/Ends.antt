@@ -18,13 +18,15 @@ abbrev pub capacity_of : LaneId → ℕ
 capacity_of l = l.table.slots
 
 -- the end that sends: all that it sent, oldest first, and the message that it prepared; how often it looked at the
--- other end, and how many messages were taken when it last did; whether it was told that the lane is closed
+-- other end for a place, and how many messages were taken when it last did; how often it looked whether the lane is
+-- closed, and whether it was told so
 pub record Reporting : Type 0 where
   pub lane : LaneId
   pub sent : List Message
   pub prepared : Option Message
   pub seen : ℕ
   pub loads : ℕ
+  pub checks : ℕ
   pub told : Bool
 
 -- the end that takes: what was taken, oldest first; how often it looked at the other end to take, and how many messages
@@ -83,12 +85,16 @@ Knows r r' = Looks r r' r'.seen ⊎ ((r'.loads ≡ r.loads) × (r'.seen ≡ r.se
 abbrev pub HasPlace : Reporting → Reporting → Type 0
 HasPlace r r' = Knows r r' × StaysUntold r r' × (length r.sent < r'.seen + capacity_of r.lane) × (length r.sent < 2 ^ 62)
 
+-- it looked once whether the lane is closed
+abbrev pub Checks : Reporting → Reporting → Type 0
+Checks r r' = r'.checks ≡ r.checks + 1
+
 -- the message x was refused so: it comes back, 43 comes exactly where the lane has carried all that it can, and 41 where
--- all its places were taken when the reporter looked
+-- all its places were taken when the reporter looked, and it saw no close when it looked for one
 abbrev pub Refuses : Reporting → Reporting → Message → Refusal → Type 0
 Refuses r r' x (Closed m n) = (m ≡ x) × (n ≡ length r.sent) × (r'.told ≡ true)
 Refuses r r' x (Exhausted m) = (m ≡ x) × (length r.sent ≡ 2 ^ 62) × StaysUntold r r'
-Refuses r r' x (Full m n) = (m ≡ x) × (length r.sent < 2 ^ 62) × StaysUntold r r' × Looks r r' n × (length r.sent ≡ n + capacity_of r.lane)
+Refuses r r' x (Full m n) = (m ≡ x) × (length r.sent < 2 ^ 62) × StaysUntold r r' × Looks r r' n × (length r.sent ≡ n + capacity_of r.lane) × Checks r r'
 
 -- the prepared message was sent, or the lane was closed before
 abbrev pub Publishes : Reporting → Reporting → Option (Result ℕ Refusal) → Type 0

@@ -13,7 +13,7 @@ use Rattle.nn_lane.specs.Ends.{StartsWith}
 use Rattle.nn_lane.specs.Intake.{bit, laid}
 
 abbrev pub new_sender : ℕ → Sender
-new_sender node = record { node = node; sent = []; seen = 0; loads = 0; out = false; told = false }
+new_sender node = record { node = node; sent = []; seen = 0; loads = 0; checks = 0; out = false; told = false }
 
 abbrev pub new_taker : ℕ → Taker
 new_taker node = record { node = node; got = []; seen = 0; loads = 0; next = None; closed = false }
@@ -95,14 +95,14 @@ Sat = Me Message View
 
 -- the slot of its next message is out with the reporter, or not
 abbrev pub holding : Sender → Bool → Sender
-holding r out = record { node = r.node; sent = r.sent; seen = r.seen; loads = r.loads; out = out; told = r.told }
+holding r out = record { node = r.node; sent = r.sent; seen = r.seen; loads = r.loads; checks = r.checks; out = out; told = r.told }
 
 abbrev pub with_next : Taker → Option Message → Taker
 with_next e o = record { node = e.node; got = e.got; seen = e.seen; loads = e.loads; next = o; closed = e.closed }
 
 -- the reporter loads `taken`, and takes the slot of the next message where there is room
 abbrev pub looked : Sender → ℕ → Bool → Sender
-looked r n out = record { node = r.node; sent = r.sent; seen = n; loads = r.loads + 1; out = out; told = r.told }
+looked r n out = record { node = r.node; sent = r.sent; seen = n; loads = r.loads + 1; checks = r.checks; out = out; told = r.told }
 
 -- what the seat holds beside the slot of the next message
 abbrev pub beside : Bool → List (ℕ × Message) → List (ℕ × Message)
@@ -119,17 +119,26 @@ SawTaken room st m n m' = (length m.0.sender.sent ≤ n + st.slots)
 abbrev pub saw_taken : Step Message → Sat → ℕ → Sat → Type 0
 saw_taken st m n m' = SawTaken (nat_lt (length m.0.sender.sent) (n + st.slots)) st m n m'
 
--- the same, where a slot that is out goes home instead
+-- the reporter loads `front`: where the lane is closed it is told, and else all is as it was
+abbrev pub checked : Sender → Bool → Sender
+checked r told = record { node = r.node; sent = r.sent; seen = r.seen; loads = r.loads; checks = r.checks + 1; out = r.out; told = told }
+
+abbrev pub saw_closed : Step Message → Sat → ℕ → Sat → Type 0
+saw_closed st m n m' = (m'.1 ≡ m.1)
+    × (n ≡ 2 * length m.0.sender.sent → m'.0 ≡ with_sender m.0 (checked m.0.sender m.0.sender.told))
+    × (n ≢ 2 * length m.0.sender.sent → m'.0 ≡ with_sender m.0 (checked m.0.sender true))
+
+-- it loads `taken`, and a slot that is out goes home
 abbrev pub gave_back : Step Message → Sat → ℕ → Sat → Type 0
 gave_back st m n m' = (m'.0 ≡ with_sender m.0 (looked m.0.sender n false)) × (m'.1 ≡ beside m.0.sender.out m.1) × (m.0.sender.seen ≤ n)
 
 -- the reporter compare-exchanges `front`: the message is sent, its slot goes back, and the next one is taken where the
 -- reporter remembers that there is room; or the lane is closed, and the slot stays out
 abbrev pub sent_more : Sender → Message → Bool → Sender
-sent_more r x out = record { node = r.node; sent = r.sent ++ x ∷ []; seen = r.seen; loads = r.loads; out = out; told = r.told }
+sent_more r x out = record { node = r.node; sent = r.sent ++ x ∷ []; seen = r.seen; loads = r.loads; checks = r.checks; out = out; told = r.told }
 
 abbrev pub was_told : Sender → Sender
-was_told r = record { node = r.node; sent = r.sent; seen = r.seen; loads = r.loads; out = r.out; told = true }
+was_told r = record { node = r.node; sent = r.sent; seen = r.seen; loads = r.loads; checks = r.checks; out = r.out; told = true }
 
 abbrev pub SentMore : Bool → Step Message → Message → Sat → Sat → Type 0
 SentMore room st x m m' = (m'.0 ≡ with_sender m.0 (sent_more m.0.sender x room))

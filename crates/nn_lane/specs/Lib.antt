@@ -4,6 +4,7 @@ pub mod Fault
 pub mod Intake
 pub mod IntakeRows
 pub mod Lane
+pub mod KeptRows
 pub mod Moves
 pub mod MoveRows
 pub mod Parts

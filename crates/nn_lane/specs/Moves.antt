@@ -9,7 +9,7 @@ use Rattle.nn_lane.specs.declared.view.Sender.{Sender}
 use Rattle.nn_lane.specs.declared.view.Taker.{Taker}
 use Rattle.nn_lane.specs.declared.view.View.{View}
 use Rattle.nn_lane.specs.Intake.{Intake, IntakeEvent, Accept, Take, Close, Look, front_word, taken_word}
-use Rattle.nn_lane.specs.Lane.{Lane, Sat, taker_of, reporter_of, both_of, spent, saw_taken, gave_back, accepted, saw_front, took, shut, learned}
+use Rattle.nn_lane.specs.Lane.{Lane, Sat, taker_of, reporter_of, both_of, spent, saw_taken, saw_closed, gave_back, accepted, saw_front, took, shut, learned}
 
 abbrev pub LaneState : Type 0
 LaneState = State Message View
@@ -50,6 +50,10 @@ Shuts n s v s' = IsTaker v × Steps s v front_word (λ f. bit_or f 1) (shut (ste
 abbrev pub SeesTaken : ℕ → LaneState → View → LaneState → Type 0
 SeesTaken n s v s' = IsSender v × Steps s v taken_word (λ t. t) (saw_taken (step n taken_word 0 0 none)) s'
 
+-- the reporter looks at `front`
+abbrev pub SeesClosed : ℕ → LaneState → View → LaneState → Type 0
+SeesClosed n s v s' = IsSender v × Steps s v front_word (λ f. f) (saw_closed (step n front_word 0 0 none)) s'
+
 abbrev pub GivesBack : ℕ → LaneState → View → LaneState → Type 0
 GivesBack n s v s' = IsSender v × Steps s v taken_word (λ t. t) (gave_back (step n taken_word 0 0 none)) s'
 
@@ -61,7 +65,7 @@ abbrev pub Learns : ℕ → LaneState → View → LaneState → Type 0
 Learns n s v s' = Steps s v front_word (λ f. f) (learned (step n front_word 0 0 none)) s'
 
 abbrev pub Loads : ℕ → LaneState → View → LaneState → Type 0
-Loads n s v s' = SeesTaken n s v s' ⊎ GivesBack n s v s' ⊎ SeesFront n s v s' ⊎ Learns n s v s'
+Loads n s v s' = SeesTaken n s v s' ⊎ GivesBack n s v s' ⊎ SeesClosed n s v s' ⊎ SeesFront n s v s' ⊎ Learns n s v s'
 
 -- a try that finds the lane closed
 abbrev pub TriesInVain : ℕ → LaneState → View → LaneState → Type 0
@@ -85,6 +89,7 @@ Runs node n s (e ∷ es) s' = (m : LaneState) × Lane node m × (length m.homes 
 -- which step of its seat a call makes: each is one atomic operation on a word of the table
 pub data SeatStep : Type 0 where
   SeeTaken : SeatStep  -- `prepare` loads `taken`, where it remembers no place
+  SeeClosed : SeatStep  -- and loads `front`, where it found none
   Send : Message → SeatStep  -- `publish` compare-exchanges `front`
   GiveBack : SeatStep  -- `meet` loads `taken` with the reporter's seat
   SeeFront : SeatStep  -- `take` loads `front`, where it remembers no message
@@ -95,6 +100,7 @@ pub data SeatStep : Type 0 where
 -- the seat that makes it
 abbrev pub IsMadeBy : View → SeatStep → Type 0
 IsMadeBy v SeeTaken = IsSender v
+IsMadeBy v SeeClosed = IsSender v
 IsMadeBy v (Send x) = IsSender v × (v.sender.out ≡ true)
 IsMadeBy v GiveBack = IsSender v
 IsMadeBy v SeeFront = IsTaker v
@@ -105,6 +111,7 @@ IsMadeBy v Learn = Unit {0}
 -- the word, what becomes of it, and what the step tells
 abbrev pub word_of : SeatStep → ℕ
 word_of SeeTaken = taken_word
+word_of SeeClosed = front_word
 word_of (Send x) = front_word
 word_of GiveBack = taken_word
 word_of SeeFront = front_word
@@ -114,6 +121,7 @@ word_of Learn = front_word
 
 abbrev pub becomes : View → SeatStep → ℕ → ℕ
 becomes v SeeTaken t = t
+becomes v SeeClosed f = f
 becomes v (Send x) f = either (f == open_front v) (open_front v + 2) f
 becomes v GiveBack t = t
 becomes v SeeFront f = f
@@ -123,6 +131,7 @@ becomes v Learn f = f
 
 abbrev pub tells : ℕ → View → SeatStep → Sat → ℕ → Sat → Type 0
 tells n v SeeTaken m t = saw_taken (step n taken_word 0 0 none) m t
+tells n v SeeClosed m f = saw_closed (step n front_word 0 0 none) m f
 tells n v (Send x) m f = accepted (step n front_word (open_front v) (open_front v + 2) (some x)) m f
 tells n v GiveBack m t = gave_back (step n taken_word 0 0 none) m t
 tells n v SeeFront m f = saw_front (step n front_word 0 0 none) m f
@@ -133,6 +142,7 @@ tells n v Learn m f = learned (step n front_word 0 0 none) m f
 -- the event that it is, where the word was found so: sending is one only at an open lane, and closing only the first time
 abbrev pub event_of : View → SeatStep → ℕ → IntakeEvent
 event_of v SeeTaken t = Look
+event_of v SeeClosed f = Look
 event_of v (Send x) f = if f == open_front v then Accept x else Look
 event_of v GiveBack t = Look
 event_of v SeeFront f = Look

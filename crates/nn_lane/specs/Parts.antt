@@ -17,9 +17,12 @@ KnowsNext None seat taken = (seat.me.0.taker.seen ≤ taken) × (seat.me.1 ≡ [
 KnowsNext (Some x) seat taken = (taken < seat.me.0.taker.seen) × (seat.me.1 ≡ (taken % seat.table_id.slots, x) ∷ []) × (x.number ≡ taken + 1) × (x.dn ≡ seat.me.0.taker.node)
 
 -- what a look of an end leaves as it was, and what it changes
+abbrev pub SenderKeeps : Seat Message View → Seat Message View → Type 0
+SenderKeeps s s' = (s'.table_id ≡ s.table_id) × (s'.me.0.sends ≡ s.me.0.sends) × (s'.me.0.takes ≡ s.me.0.takes)
+    × (s'.me.0.sender.node ≡ s.me.0.sender.node) × (s'.me.0.sender.sent ≡ s.me.0.sender.sent)
+
 abbrev pub SenderStays : Seat Message View → Seat Message View → Type 0
-SenderStays s s' = (s'.table_id ≡ s.table_id) × (s'.me.0.sends ≡ s.me.0.sends) × (s'.me.0.takes ≡ s.me.0.takes)
-    × (s'.me.0.sender.node ≡ s.me.0.sender.node) × (s'.me.0.sender.sent ≡ s.me.0.sender.sent) × (s'.me.0.sender.told ≡ s.me.0.sender.told)
+SenderStays s s' = SenderKeeps s s' × (s'.me.0.sender.checks ≡ s.me.0.sender.checks) × (s'.me.0.sender.told ≡ s.me.0.sender.told)
 
 abbrev pub SenderLooks : Seat Message View → Seat Message View → ℕ → Type 0
 SenderLooks s s' n = (s'.me.0.sender.loads ≡ s.me.0.sender.loads + 1) × (s'.me.0.sender.seen ≡ n) × (s.me.0.sender.seen ≤ n) × (n ≤ length s.me.0.sender.sent)

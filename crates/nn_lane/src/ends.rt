@@ -2,11 +2,13 @@
 ghost use Rattle.std.specs.Prelude.{◌≡◌, ◌≤◌, ◌<◌, ◌^◌, ◌+◌, ◌∷◌, ◌++◌, ◌⊎◌, length, true, false, [], IfOk, IfErr, Some, None};
 ghost use Rattle.nn_lane.specs.Ends.{capacity_of, message_of, HasPlace, Refuses, Publishes, Gives, Looked, StartsWith};
 ghost use Rattle.nn_types.specs.declared.report.Message.{Message};
-ghost use Rattle.nn_lane.specs.Parts.{KnowsRoom, KnowsNext, SenderStays, SenderLooks, SenderRemembers, TakerStays, TakerLooks, TakerRemembers};
+ghost use Rattle.nn_lane.specs.Parts.{KnowsRoom, KnowsNext, SenderKeeps, SenderStays, SenderLooks, SenderRemembers, TakerStays, TakerLooks, TakerRemembers};
 
 use crate::fault::Refusal;
 use crate::message::{Met, Taken};
-use crate::plays::{Accept, Cut, GiveBack, LaneRule, Learn, SeeFront, SeeTaken, Shut, Take};
+use crate::plays::{
+    Accept, Cut, GiveBack, LaneRule, Learn, SeeClosed, SeeFront, SeeTaken, Shut, Take,
+};
 use crate::view::View;
 use atomic_table::{Seat, Table};
 use nn_types::{BlockId, GenerationStamp, Kind, Length, Message};
@@ -24,7 +26,7 @@ const FRONT: usize = 8;
 const TAKEN: usize = 24;
 
 // No lane carries more messages.
-const MOST: u64 = 1 << 62;
+const MAX_MESSAGES: u64 = 1 << 62;
 
 type LaneTable = Table<Message, View, u16, LaneRule, Global>;
 
@@ -51,7 +53,7 @@ impl Model for Reporter {
 
     ghost Value = { Reporting };
 
-    ghost view = { λ r. record { lane = record { table = r.seat.table_id; node = r.seat.me.0.sender.node }; sent = r.seat.me.0.sender.sent; prepared = r.prepared; seen = r.seat.me.0.sender.seen; loads = r.seat.me.0.sender.loads; told = r.seat.me.0.sender.told } };
+    ghost view = { λ r. record { lane = record { table = r.seat.table_id; node = r.seat.me.0.sender.node }; sent = r.seat.me.0.sender.sent; prepared = r.prepared; seen = r.seat.me.0.sender.seen; loads = r.seat.me.0.sender.loads; checks = r.seat.me.0.sender.checks; told = r.seat.me.0.sender.told } };
 
     ghost invariant = { λ r. ReporterOk (arc_value r.table).shared.table_id r.seat r.dn r.accepted r.limit r.told r.prepared };
 }
@@ -102,13 +104,32 @@ fn places(table: &LaneTable, seat: &mut LaneSeat, accepted: u64, limit: u64) -> 
     Ok(taken + capacity)
 }
 
+// Whether the lane is closed: a look of a reporter that found no place, and was told of no close.
+fn is_closed(table: &LaneTable, seat: &mut LaneSeat, accepted: u64) -> bool
+    requires table { (seat.old.table_id ≡ table.now.shared.table_id) × (table.now.shared.table_id.words ≡ 32) }
+    requires seat { (seat.old.me.0.sends ≡ true) × (seat.old.me.0.takes ≡ false) × (accepted ≡ length seat.old.me.0.sender.sent) × (accepted ≤ 2 ^ 62) }
+    requires untold { seat.old.me.0.sender.told ≡ false }
+    requires none_out { (seat.old.me.0.sender.out ≡ false) × (seat.old.me.1 ≡ []) }
+    ensures keeps { SenderKeeps seat.old seat.new }
+    ensures remembers { SenderRemembers seat.old seat.new }
+    ensures none_out { (seat.new.me.0.sender.out ≡ false) × (seat.new.me.1 ≡ []) }
+    ensures looked { seat.new.me.0.sender.checks ≡ seat.old.me.0.sender.checks + 1 }
+    ensures told { seat.new.me.0.sender.told ≡ result }
+{
+    let front = table.shared.load::<SeeClosed>(seat, FRONT);
+    if front == 2 * accepted {
+        return false;
+    }
+    true
+}
+
 impl Reporter {
     /// Writes a message into its place in the lane, from where `publish` sends it. It replaces one that was prepared
     /// before. O(1); it never waits.
     ///
-    /// 42 where this end was told that the lane is closed, then 43 at 2^62 messages, then 41 where all places were
-    /// taken. After a refusal nothing is prepared. It looks at the other end only if it remembers no place, so 41 comes of
-    /// a look in this call.
+    /// 42 where this end was told that the lane is closed, then 43 at 2^62 messages. Where all places were taken it looks
+    /// whether the lane is closed: then 42, and else 41. After a refusal nothing is prepared. It looks at the other end only
+    /// if it remembers no place, so 41 comes of two looks in this call.
     pub fn prepare(
         &mut self,
         block: BlockId,
@@ -117,7 +138,7 @@ impl Reporter {
         kind: Kind,
     ) -> Result<(), Refusal>
         ensures lane { self.new.lane ≡ self.old.lane }
-        ensures same { (self.new.sent ≡ self.old.sent) × (self.new.told ≡ self.old.told) }
+        ensures same { self.new.sent ≡ self.old.sent }
         ensures ok { IfOk result (λ _. (self.new.prepared ≡ Some (message_of self.old block stamp len kind)) × HasPlace self.old self.new) }
         ensures refused { IfErr result (λ e. (self.new.prepared ≡ None) × Refuses self.old self.new (message_of self.old block stamp len kind) e) }
     {
@@ -133,13 +154,19 @@ impl Reporter {
         if self.told {
             return Err(Refusal::Closed { message, accepted });
         }
-        if accepted >= MOST {
+        if accepted >= MAX_MESSAGES {
             return Err(Refusal::Exhausted { message });
         }
         let table: &LaneTable = &self.table;
         match places(table, &mut self.seat, accepted, self.limit) {
             Ok(limit) => self.limit = limit,
-            Err(taken) => return Err(Refusal::Full { message, taken }),
+            Err(taken) => {
+                if is_closed(table, &mut self.seat, accepted) {
+                    self.told = true;
+                    return Err(Refusal::Closed { message, accepted });
+                }
+                return Err(Refusal::Full { message, taken });
+            }
         }
         let slot = (accepted % table.slot_count() as u64) as usize;
         let copy = message;

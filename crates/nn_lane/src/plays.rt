@@ -23,6 +23,15 @@ impl Play<Message, View> for SeeTaken {
     ghost then = { saw_taken };
 }
 
+// It found no place, and loads `front`: it is told where the lane is closed.
+pub struct SeeClosed;
+
+impl Play<Message, View> for SeeClosed {
+    ghost use Rattle.nn_lane.specs.Lane.{saw_closed};
+
+    ghost then = { saw_closed };
+}
+
 // It loads `taken` once more, and gives a slot back that is out.
 pub struct GiveBack;
 

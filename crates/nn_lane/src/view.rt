@@ -3,12 +3,14 @@ use nn_types::Message;
 use std::collections::LinkedList;
 
 /// What the reporter's seat shows: the lane's DataNode, all that was sent, how many messages were taken when it last
-/// looked, how often it looked, whether the slot of the next message is out with it, and whether it was told of a close.
+/// looked, how often it looked, how often it looked whether the lane is closed, whether the slot of the next message is out
+/// with it, and whether it was told of a close.
 pub struct Sender {
     pub node: u16,
     pub sent: LinkedList<Message>,
     pub seen: u64,
     pub loads: u64,
+    pub checks: u64,
     pub out: bool,
     pub told: bool,
 }

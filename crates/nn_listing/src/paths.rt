@@ -50,11 +50,11 @@ pub fn with_listing(
     let mut text = text;
     write!(text, "txid {last}\n")?;
     text.reserve_exact(text_bytes(namespace.extent(), LINE, BLOCK))?;
-    let mut lines = Lines { text, alloc };
+    let mut lines = RowText { text, alloc };
     let Ok(()) = namespace.list_to(&mut lines) else {
         return Err(AllocError);
     };
-    let Lines { text, alloc: _ } = lines;
+    let RowText { text, alloc: _ } = lines;
     Ok(text)
 }
 
@@ -73,12 +73,12 @@ pub fn text_bytes(extent: Extent, line: usize, block: usize) -> usize
 
 // The lines of a listing so far.
 #[derive(Drop)]
-struct Lines {
+struct RowText {
     text: String,
     alloc: Global,
 }
 
-impl Model for Lines {
+impl Model for RowText {
     ghost use Rattle.std.specs.Prelude.{List, ℕ, string_bytes};
 
     ghost Value = { List ℕ };
@@ -86,7 +86,7 @@ impl Model for Lines {
     ghost view = { λ lines. string_bytes lines.text };
 }
 
-impl RowSink for Lines {
+impl RowSink for RowText {
     ghost use Rattle.std.specs.Prelude.{◌≡◌, ◌++◌};
     ghost use Rattle.nn_listing.specs.Listing.{row_line};
 

@@ -12,4 +12,5 @@ pub mod Cursor
 pub mod LogLaws
 pub mod NameRows
 pub mod ReadingRows
+pub mod SegmentRows
 pub mod LogRows

@@ -24,8 +24,8 @@ use Rattle.nn_segment.specs.LogEnd.{refused, disorder, end_of_log, end_behind, g
 use Rattle.nn_segment.proofs.Asks.{end_gives_none, fault_gives_none, one_given}
 use Rattle.nn_tailer.proofs.LogEnds.{behind_none, behind_gap, behind_segment, behind_applied, behind_refused, same_given, same_way, not_refused}
 use Rattle.nn_tailer.proofs.Shadowing.{same_last, same_namespace, applied_last, applied_namespace, handed_last, handed_namespace}
-use Rattle.nn_tailer.specs.Tailing.{has_begun, Tailer, StopsLog, Keeps, StandsAt, Carries, lanes_of, handed_all, by_node, kept_at, with_kept, with_lane, with_shadow, stopping}
-use Rattle.nn_tailer.specs.Parts.{IsLive, AppliesNext, StopsAt, HandsKept, Unchanged}
+use Rattle.nn_tailer.specs.Tailing.{has_begun, Tailer, StopsLog, Keeps, StandsAt, Carries, lanes_of, handed_all, by_node, undelivered_at, with_undelivered, with_lane, with_shadow, stopping}
+use Rattle.nn_tailer.specs.Parts.{IsLive, AppliesNext, StopsAt, HandsUndelivered, IsAsBefore}
 use Rattle.nn_tailer.proofs.Moves.{lanes_grow}
 
 append_none : {A : Type 0} (xs : List A) → xs ++ [] ≡ xs
@@ -81,7 +81,7 @@ pub record TakesIn (old : Tailer) (p : Segment) (new : Tailer) : Type 0 where
   pub was : old.rest ≡ []
   pub shadow : new.shadow ≡ old.shadow
   pub ends : new.ends ≡ old.ends
-  pub kept : new.kept ≡ old.kept
+  pub undelivered : new.undelivered ≡ old.undelivered
   pub begun : has_begun new ≡ has_begun old
   pub stop : new.stop ≡ None
   pub low : first_txid p.txs ≤ old.shadow.last + 1
@@ -103,8 +103,8 @@ more base given p txs last e l =
     let at : base + length txs + length none ≡ last = omega (arith, l) in
     behind_the_rest base given txs [] p (e ∙ sym (append_none txs)) ∙ ap (λ n. txs ++ news n p.txs) at
 
-lanes_by : (x y : Tailer) → y.ends ≡ x.ends → y.kept ≡ x.kept → lanes_of y ≡ lanes_of x
-lanes_by x y e k = ap (λ es. by_node (handed_all es y.kept)) e ∙ ap (λ ks. by_node (handed_all x.ends ks)) k
+lanes_by : (x y : Tailer) → y.ends ≡ x.ends → y.undelivered ≡ x.undelivered → lanes_of y ≡ lanes_of x
+lanes_by x y e k = ap (λ es. by_node (handed_all es y.undelivered)) e ∙ ap (λ ks. by_node (handed_all x.ends ks)) k
 
 moved : (start : Namespace) (base : ℕ) (txs : List Tx) (lanes lanes' : Lanes) (s s' : StandbyState) → s' ≡ s → lanes' ≡ lanes → Stands start base txs lanes s → Stands start base txs lanes' s'
 moved start base txs lanes lanes' s s' e l h = subst (λ z. Stands start base txs z s') (sym l) (subst (λ z. Stands start base txs lanes z) (sym e) h)
@@ -119,7 +119,7 @@ from_segment start base given old p later s l was =
 pub carries_segment : (old new : Tailer) (p : Segment) → TakesIn old p new → Carries old (Ok (segment p) ∷ []) new
 carries_segment old new p t start base given s = record {
   txs = s.txs;
-  shadow = moved start base s.txs (lanes_of old) (lanes_of new) (standby_of old.shadow) (standby_of new.shadow) (ap standby_of t.shadow) (lanes_by old new t.ends t.kept) s.shadow;
+  shadow = moved start base s.txs (lanes_of old) (lanes_of new) (standby_of old.shadow) (standby_of new.shadow) (ap standby_of t.shadow) (lanes_by old new t.ends t.undelivered) s.shadow;
   before_flush = λ _. subst (λ (z : Contents). IsBeforeFlush z.history) (sym t.shadow) (s.before_flush t.live.2);
   log = more base given p s.txs old.shadow.last (s.log ∙ ap (λ z. s.txs ++ z) t.was ∙ append_none s.txs) s.shadow.last ∙ ap (λ z. s.txs ++ z) (sym t.now);
   goes_on = (λ _ later. from_segment start base given old p later s t.live t.was
@@ -186,7 +186,7 @@ carries_stop old new m l a = subst (λ z. Carries old [] z) (sym a.now) (λ star
   ended = λ q. not_begun old l (sym a.active ∙ q);
 })
 
-pub carries_unchanged : (old new : Tailer) → IsLive old → Unchanged old new → Carries old [] new
+pub carries_unchanged : (old new : Tailer) → IsLive old → IsAsBefore old new → Carries old [] new
 carries_unchanged old new l a = subst (λ z. Carries old [] z) (sym a.now) (λ start base given s. record {
   txs = s.txs;
   shadow = still_stands start base s.txs (lanes_of old) old.shadow a.shown a.same s.shadow;
@@ -197,7 +197,7 @@ carries_unchanged old new l a = subst (λ z. Carries old [] z) (sym a.now) (λ s
   ended = λ q. not_begun old l (sym (ap (λ z. z.active) a.phase) ∙ q);
 })
 
-pub carries_fetch : (old : Tailer) (i : ℕ) (e : Taking) (k : Option Message) → IsLive old → handed_all (with_lane old i e k).ends (with_lane old i e k).kept ≡ handed_all old.ends old.kept → Carries old [] (with_lane old i e k)
+pub carries_fetch : (old : Tailer) (i : ℕ) (e : Taking) (k : Option Message) → IsLive old → handed_all (with_lane old i e k).ends (with_lane old i e k).undelivered ≡ handed_all old.ends old.undelivered → Carries old [] (with_lane old i e k)
 carries_fetch old i e k l same start base given s = record {
   txs = s.txs;
   shadow = subst (λ z. Stands start base s.txs z (standby_of old.shadow)) (sym (ap by_node same)) s.shadow;
@@ -208,14 +208,14 @@ carries_fetch old i e k l same start base given s = record {
   ended = not_begun old l;
 }
 
-pub carries_handed : (old new : Tailer) (i : ℕ) (m : Message) (d : Taking) → IsLive old → Keeps old → i < length old.ends → kept_at old i ≡ Some m → HandsKept old i m new → Carries old [] new
+pub carries_handed : (old new : Tailer) (i : ℕ) (m : Message) (d : Taking) → IsLive old → Keeps old → i < length old.ends → undelivered_at old i ≡ Some m → HandsUndelivered old i m new → Carries old [] new
 carries_handed old new i m d l k within e h = subst (λ z. Carries old [] z) (sym h.now) (λ start base given s.
     let by = h.handed.stands start base s.txs (lanes_of old) (stands_live start base given old l s) in record {
       txs = s.txs;
       shadow = subst (λ z. Stands start base s.txs z (standby_of h.shown)) (sym (lanes_grow old i m d h.shown k within e)) by.stands;
       before_flush = λ _. by.before_flush;
       log = same_log base given (s.txs ++ old.rest) s.log;
-      goes_on = (λ _ later. same_given start base given later ∙ s.goes_on l.1 later ∙ same_way old (with_shadow (with_kept old i None) h.shown) later (handed_last old.shadow h.shown m h.handed) (handed_namespace old.shadow h.shown m h.handed) refl);
+      goes_on = (λ _ later. same_given start base given later ∙ s.goes_on l.1 later ∙ same_way old (with_shadow (with_undelivered old i None) h.shown) later (handed_last old.shadow h.shown m h.handed) (handed_namespace old.shadow h.shown m h.handed) refl);
       stops = (λ z q. not_stopped old.stop z l.1 q);
       ended = λ q. not_begun old l (sym (ap (λ z. z.active) h.handed.phase) ∙ q);
     })

@@ -7,7 +7,7 @@ use Rattle.nn_types.specs.declared.report.Message.{Message}
 use Rattle.nn_model.specs.Stands.{Stands}
 use Rattle.nn_lane.specs.Ends.{Taking}
 use Rattle.nn_shadow.specs.Contents.{standby_of}
-use Rattle.nn_tailer.specs.Tailing.{Tailer, Keeps, Carries, AllTaken, AreKept, IsKept, handed, handed_all, by_node, with_ends}
+use Rattle.nn_tailer.specs.Tailing.{Tailer, Keeps, Carries, AllTaken, AreUndelivered, IsUndelivered, handed, handed_all, by_node, with_ends}
 use Rattle.nn_tailer.specs.LaneSteps.{ClosesEnd, CloseEnds, closed_of, AllClosed}
 use Rattle.nn_tailer.proofs.Carried.{same_log}
 use Rattle.nn_tailer.proofs.LogEnds.{same_given, stops_same}
@@ -25,16 +25,16 @@ handed_closed (e ∷ es) [] ks h = absurd h
 handed_closed (e ∷ es) (e' ∷ es') [] h = ap (λ l. l ∷ handed_all es' []) h.0.1 ∙ ap (λ l. e.got ∷ l) (handed_closed es es' [] h.1)
 handed_closed (e ∷ es) (e' ∷ es') (k ∷ ks) h = ap (λ l. handed l k ∷ handed_all es' ks) h.0.1 ∙ ap (λ l. handed e.got k ∷ l) (handed_closed es es' ks h.1)
 
-kept_one : (dn : ℕ) (e e' : Taking) (k : Option Message) → ClosesEnd e e' → IsKept dn e k → IsKept dn e' k
-kept_one dn e e' None c h = tt
-kept_one dn e e' (Some m) c h = (h.0, c.1 ∙ h.1, h.2 ∙ ap length (sym c.1), h.3, c.3)
+undelivered_one : (dn : ℕ) (e e' : Taking) (k : Option Message) → ClosesEnd e e' → IsUndelivered dn e k → IsUndelivered dn e' k
+undelivered_one dn e e' None c h = tt
+undelivered_one dn e e' (Some m) c h = (h.0, c.1 ∙ h.1, h.2 ∙ ap length (sym c.1), h.3, c.3)
 
-kept_closed : (dn : ℕ) (es es' : List Taking) (ks : List (Option Message)) → CloseEnds es es' → AreKept dn es ks → AreKept dn es' ks
-kept_closed dn [] [] ks c h = h
-kept_closed dn [] (e ∷ es) ks c h = absurd c
-kept_closed dn (e ∷ es) [] ks c h = absurd c
-kept_closed dn (e ∷ es) (e' ∷ es') [] c h = absurd h
-kept_closed dn (e ∷ es) (e' ∷ es') (k ∷ ks) c h = (ap (λ z. z.node) c.0.0 ∙ h.0, kept_one dn e e' k c.0 h.1, kept_closed (dn + 1) es es' ks c.1 h.2)
+undelivered_closed : (dn : ℕ) (es es' : List Taking) (ks : List (Option Message)) → CloseEnds es es' → AreUndelivered dn es ks → AreUndelivered dn es' ks
+undelivered_closed dn [] [] ks c h = h
+undelivered_closed dn [] (e ∷ es) ks c h = absurd c
+undelivered_closed dn (e ∷ es) [] ks c h = absurd c
+undelivered_closed dn (e ∷ es) (e' ∷ es') [] c h = absurd h
+undelivered_closed dn (e ∷ es) (e' ∷ es') (k ∷ ks) c h = (ap (λ z. z.node) c.0.0 ∙ h.0, undelivered_one dn e e' k c.0 h.1, undelivered_closed (dn + 1) es es' ks c.1 h.2)
 
 pub many_closed : (es es' : List Taking) → CloseEnds es es' → length es' ≡ length es
 many_closed [] [] h = refl
@@ -51,10 +51,10 @@ taken_closed (e ∷ es) (e' ∷ es') (k ∷ ks) c h = (c.0.2, h.1, ap length c.0
 
 pub keeps_closed : (x : Tailer) (es : List Taking) → Keeps x → CloseEnds x.ends es → Keeps (with_ends x es)
 keeps_closed x es k c = record {
-  lanes = kept_closed 1 x.ends es x.kept c k.lanes;
+  lanes = undelivered_closed 1 x.ends es x.undelivered c k.lanes;
   few = (let z : length es ≤ 256 = omega (arith, k.few, many_closed x.ends es c) in z);
   count = k.count ∙ sym (many_closed x.ends es c);
-  numbers = λ dn. k.numbers dn ∙ ap (λ H. length (by_node H dn)) (sym (handed_closed x.ends es x.kept c));
+  numbers = λ dn. k.numbers dn ∙ ap (λ H. length (by_node H dn)) (sym (handed_closed x.ends es x.undelivered c));
   next = k.next;
   live = k.live;
   stops = k.stops;
@@ -65,12 +65,12 @@ keeps_closed x es k c = record {
 pub carries_closed : (x : Tailer) (es : List Taking) → CloseEnds x.ends es → Carries x [] (with_ends x es)
 carries_closed x es c start base given s = record {
   txs = s.txs;
-  shadow = subst (λ z. Stands start base s.txs z (standby_of x.shadow)) (sym (ap by_node (handed_closed x.ends es x.kept c))) s.shadow;
+  shadow = subst (λ z. Stands start base s.txs z (standby_of x.shadow)) (sym (ap by_node (handed_closed x.ends es x.undelivered c))) s.shadow;
   before_flush = s.before_flush;
   log = same_log base given (s.txs ++ x.rest) s.log;
   goes_on = (λ q later. same_given start base given later ∙ s.goes_on q later);
   stops = (λ m q. stops_same start base given m (s.stops m q));
-  ended = λ q. let e = s.ended q in (e.0, (e.1.0, append-nil given ∙ e.1.1), taken_closed x.ends es x.kept c e.2);
+  ended = λ q. let e = s.ended q in (e.0, (e.1.0, append-nil given ∙ e.1.1), taken_closed x.ends es x.undelivered c e.2);
 }
 
 -- what was written through the slice

@@ -43,9 +43,9 @@ lane_same x i l = let d = some_end x.ends i l in record {
   carries = carries_same x;
   same_ends = ends_same x.ends;
   end = get_or x.ends i d;
-  message = get_or x.kept i None;
+  message = get_or x.undelivered i None;
   ends = sym (set-get_or x.ends i d);
-  kept = sym (set-get_or x.kept i None);
+  undelivered = sym (set-get_or x.undelivered i None);
   others = λ k n h. h;
   last = refl;
   rest = refl;
@@ -72,7 +72,7 @@ fewer_left x y i a l c n f m =
     let h = (hands x y i a n m).1 in
     let same : all_count y i ≡ all_count x i = ap (λ z. get_or z i 0) (still_closed x.ends y.ends f.same_ends c).1 in
     let grown : handed_count y i ≡ handed_count x i + 1 =
-    ap (λ z. length (get_or z i [])) h.lanes ∙ ap length (get_or-set_same (handed_in x) i (get_or (handed_in x) i [] ++ h.message ∷ []) [] (omega (arith, l, length_handed x.ends x.kept)))
+    ap (λ z. length (get_or z i [])) h.lanes ∙ ap length (get_or-set_same (handed_in x) i (get_or (handed_in x) i [] ++ h.message ∷ []) [] (omega (arith, l, length_handed x.ends x.undelivered)))
     ∙ length-append (get_or (handed_in x) i []) (h.message ∷ []) in
     omega (arith, same, grown, h.few)
 

@@ -20,7 +20,7 @@ use Rattle.nn_tailer.proofs.Shadowing.{settings_same, settings_then, applied_las
 use Rattle.nn_tailer.specs.Shadows.{ShowsSame}
 
 same_lanes : (x : Tailer) → SameLanes x x
-same_lanes x = record { ends = refl; kept = refl; begun = refl; active = refl; settings = settings_same x.shadow }
+same_lanes x = record { ends = refl; undelivered = refl; begun = refl; active = refl; settings = settings_same x.shadow }
 
 -- The standby `mid` has in hand what these answers put there
 pub record Ready (old : Tailer) (answers : List Answer) (mid : Tailer) : Type 0 where
@@ -34,12 +34,12 @@ pub ready_now : (old : Tailer) → IsLive old → Ready old [] old
 ready_now old l = record { carries = carries_same old; lanes = same_lanes old; shadow = refl; stop = l.1; rest = refl }
 
 takes_in : (old : Tailer) (p : Segment) (mid : Tailer) → IsLive old → old.rest ≡ [] → first_txid p.txs ≤ old.shadow.last + 1 → mid ≡ with_rest old (news old.shadow.last p.txs) → TakesIn old p mid
-takes_in old p mid l e w q = subst (TakesIn old p) (sym q) (record { live = l; was = e; shadow = refl; ends = refl; kept = refl; begun = refl; stop = l.1; low = w; now = refl })
+takes_in old p mid l e w q = subst (TakesIn old p) (sym q) (record { live = l; was = e; shadow = refl; ends = refl; undelivered = refl; begun = refl; stop = l.1; low = w; now = refl })
 
 pub ready_new : (old mid : Tailer) (p : Segment) → IsLive old → old.rest ≡ [] → first_txid p.txs ≤ old.shadow.last + 1 → mid ≡ with_rest old (news old.shadow.last p.txs) → Ready old (Ok (segment p) ∷ []) mid
 ready_new old mid p l e low now = record {
   carries = carries_segment old mid p (takes_in old p mid l e low now);
-  lanes = subst (SameLanes old) (sym now) (record { ends = refl; kept = refl; begun = refl; active = refl; settings = settings_same old.shadow });
+  lanes = subst (SameLanes old) (sym now) (record { ends = refl; undelivered = refl; begun = refl; active = refl; settings = settings_same old.shadow });
   shadow = ap (λ z. z.shadow) now;
   stop = ap (λ z. z.stop) now ∙ l.1;
   rest = sym (ap (λ z. z.rest) now);
@@ -50,7 +50,7 @@ pub ready_live : (old mid : Tailer) (answers : List Answer) → IsLive old → R
 ready_live old mid answers l r = (r.lanes.begun ∙ l.0, r.stop, r.lanes.active ∙ l.2)
 
 lanes_then : (x y z : Tailer) → SameLanes x y → SameLanes y z → SameLanes x z
-lanes_then x y z a b = record { ends = b.ends ∙ a.ends; kept = b.kept ∙ a.kept; begun = b.begun ∙ a.begun; active = b.active ∙ a.active; settings = settings_then x.shadow y.shadow z.shadow a.settings b.settings }
+lanes_then x y z a b = record { ends = b.ends ∙ a.ends; undelivered = b.undelivered ∙ a.undelivered; begun = b.begun ∙ a.begun; active = b.active ∙ a.active; settings = settings_then x.shadow y.shadow z.shadow a.settings b.settings }
 
 add_none : (answers : List Answer) → answers ++ [] ≡ answers
 add_none [] = refl
@@ -65,7 +65,7 @@ module _ {S : Type 0} (gives : S → Answer → S → Type 0) where
     answers,
     asked,
     carries_on old mid new answers r.carries (carries_applied mid new txid (ready_live old mid answers l r) a),
-    lanes_then old mid new r.lanes (subst (SameLanes mid) (sym a.now) (record { ends = refl; kept = refl; begun = ap (λ z. z.active) a.applied.phase; active = refl; settings = a.applied.settings })),
+    lanes_then old mid new r.lanes (subst (SameLanes mid) (sym a.now) (record { ends = refl; undelivered = refl; begun = ap (λ z. z.active) a.applied.phase; active = refl; settings = a.applied.settings })),
     (a.tx, r.rest ∙ a.was ∙ ap (λ z. a.tx ∷ z) (sym (ap (λ z. z.rest) a.now)), a.is_txid, a.is_txid ∙ a.applied.next ∙ ap (λ z. z.last + 1) r.shadow, ap (λ z. z.shadow.last) a.now ∙ applied_last mid.shadow a.shown a.tx a.applied ∙ sym a.is_txid, ap (λ z. z.stop) a.now ∙ r.stop, ap (λ z. standby_of z.shadow) a.now ∙ a.applied.standby ∙ ap (λ z. applied_to (standby_of z) a.tx) r.shadow),
   )
 
@@ -77,7 +77,7 @@ module _ {S : Type 0} (gives : S → Answer → S → Type 0) where
     answers,
     asked,
     carries_on old mid new answers r.carries (carries_stop mid new m (ready_live old mid answers l r) h),
-    lanes_then old mid new r.lanes (subst (SameLanes mid) (sym h.now) (record { ends = refl; kept = refl; begun = h.active; active = refl; settings = h.same.settings })),
+    lanes_then old mid new r.lanes (subst (SameLanes mid) (sym h.now) (record { ends = refl; undelivered = refl; begun = h.active; active = refl; settings = h.same.settings })),
     (
       ap (λ z. z.stop) h.now,
       h.next ∙ ap (λ z. z.last + 1) r.shadow,
@@ -90,7 +90,7 @@ module _ {S : Type 0} (gives : S → Answer → S → Type 0) where
     answers,
     asked,
     carries_on old mid new answers r.carries (carries_unchanged mid new (ready_live old mid answers l r) h),
-    lanes_then old mid new r.lanes (subst (SameLanes mid) (sym h.now) (record { ends = refl; kept = refl; begun = ap (λ z. z.active) h.phase; active = refl; settings = h.same.settings })),
+    lanes_then old mid new r.lanes (subst (SameLanes mid) (sym h.now) (record { ends = refl; undelivered = refl; begun = ap (λ z. z.active) h.phase; active = refl; settings = h.same.settings })),
     (subst (λ z. ShowsSame z new.shadow) r.shadow (subst (λ z. ShowsSame mid.shadow z) (sym (ap (λ z. z.shadow) h.now)) h.same), ap (λ z. z.rest) h.now ∙ sym r.rest, ap (λ z. z.stop) h.now ∙ r.stop),
   )
 
@@ -111,7 +111,7 @@ module _ {S : Type 0} (gives : S → Answer → S → Type 0) where
         r ∷ [],
         asked_one gives s t r g,
         subst (λ rs. Carries old rs new) q (carries_gap old new h.0 m (record { live = l; was = e; high = h.2; none = h.3; txid = h.4; number = h.5; now = h.6 })),
-        subst (SameLanes old) (sym h.6) (record { ends = refl; kept = refl; begun = refl; active = refl; settings = settings_same old.shadow }),
+        subst (SameLanes old) (sym h.6) (record { ends = refl; undelivered = refl; begun = refl; active = refl; settings = settings_same old.shadow }),
         (ap (λ z. z.stop) h.6, h.4, subst (λ z. ShowsSame old.shadow z) (sym (ap (λ z. z.shadow) h.6)) (nothing_new old.shadow), ap (λ z. z.rest) h.6 ∙ e ∙ sym h.3 ∙ ap (in_hand old) q, inr (h.0, sym q, h.2, h.5)),
       )
 
@@ -129,7 +129,7 @@ module _ {S : Type 0} (gives : S → Answer → S → Type 0) where
       let q : Ok (segment h.0) ∷ [] ≡ r ∷ [] = ap (λ q. q ∷ []) (sym h.1) in (
         r ∷ [],
         asked_one gives s t r g,
-        subst (λ rs. Carries old rs new) q (carries_segment old new h.0 (subst (TakesIn old h.0) (sym h.4) (record { live = l; was = e; shadow = refl; ends = refl; kept = refl; begun = refl; stop = l.1; low = h.2; now = e ∙ sym h.3 }))),
+        subst (λ rs. Carries old rs new) q (carries_segment old new h.0 (subst (TakesIn old h.0) (sym h.4) (record { live = l; was = e; shadow = refl; ends = refl; undelivered = refl; begun = refl; stop = l.1; low = h.2; now = e ∙ sym h.3 }))),
         subst (SameLanes old) (sym h.4) (same_lanes old),
         (h.0, sym q, h.2, h.3, h.4),
       )

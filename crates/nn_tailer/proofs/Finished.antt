@@ -24,12 +24,12 @@ use Rattle.nn_tailer.proofs.Drained.{handed_got}
 
 -- the same standby with its flush begun
 abbrev pub flushing : Tailer → Contents → Tailer
-flushing x s = record { shadow = s; ends = x.ends; kept = x.kept; rest = x.rest; stop = x.stop; active = x.active }
+flushing x s = record { shadow = s; ends = x.ends; undelivered = x.undelivered; rest = x.rest; stop = x.stop; active = x.active }
 
 abbrev pub activated : Tailer → Contents → Tailer
-activated x s = record { shadow = s; ends = x.ends; kept = x.kept; rest = x.rest; stop = x.stop; active = true }
+activated x s = record { shadow = s; ends = x.ends; undelivered = x.undelivered; rest = x.rest; stop = x.stop; active = true }
 
-pub stands_flushing : (x : Tailer) (s : Contents) → ShowsSame x.shadow s → (start : Namespace) (base : ℕ) (given : List Answer) → StandsAt start base given x → x.rest ≡ [] → EndsInEnd given → AllTaken x.ends x.kept → StandsAt start base given (flushing x s)
+pub stands_flushing : (x : Tailer) (s : Contents) → ShowsSame x.shadow s → (start : Namespace) (base : ℕ) (given : List Answer) → StandsAt start base given x → x.rest ≡ [] → EndsInEnd given → AllTaken x.ends x.undelivered → StandsAt start base given (flushing x s)
 stands_flushing x s f start base given h r e t = record {
   txs = h.txs;
   shadow = still_stands start base h.txs (lanes_of x) x.shadow s f h.shadow;
@@ -40,10 +40,10 @@ stands_flushing x s f start base given h r e t = record {
   ended = λ _. (r, e, t);
 }
 
-pub promotes : (x : Tailer) (s : Contents) → x.active ≡ false → x.stop ≡ None → IsFlushed x.shadow s → (start : Namespace) (base : ℕ) (given : List Answer) → StandsAt start base given x → x.rest ≡ [] → EndsInEnd given → AllTaken x.ends x.kept → Promoted start base given (activated x s) × StandsAt start base given (activated x s)
+pub promotes : (x : Tailer) (s : Contents) → x.active ≡ false → x.stop ≡ None → IsFlushed x.shadow s → (start : Namespace) (base : ℕ) (given : List Answer) → StandsAt start base given x → x.rest ≡ [] → EndsInEnd given → AllTaken x.ends x.undelivered → Promoted start base given (activated x s) × StandsAt start base given (activated x s)
 promotes x s a n f start base given h r e t =
     let log : h.txs ≡ log_in base given = sym (h.log ∙ ap (λ z. h.txs ++ z) r ∙ append-nil h.txs) in
-    let lanes : lanes_of x ≡ by_node (map got_of x.ends) = ap by_node (handed_got x.ends x.kept t) in
+    let lanes : lanes_of x ≡ by_node (map got_of x.ends) = ap by_node (handed_got x.ends x.undelivered t) in
     let by = f.stands start base h.txs (lanes_of x) (record { stands = h.shadow; before_flush = h.before_flush a }) in
     let way : x.stop ≡ None → (later : List Segment) → end_of_log base start (given_in given ++ later) ≡ way_on (activated x s) later =
     λ q later. h.goes_on q later ∙ same_way x (activated x s) later (ap (λ (z : StandbyState). z.last) f.standby) (ap (λ (z : StandbyState). z.namespace) f.standby) refl in

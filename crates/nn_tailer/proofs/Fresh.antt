@@ -10,13 +10,13 @@ use Rattle.nn_shadow.specs.Laws.{StandsBy}
 use Rattle.nn_segment.specs.LogEnd.{end_behind}
 use Rattle.nn_tailer.proofs.LogEnds.{behind_none}
 use Rattle.nn_tailer.proofs.Shadowing.{serving}
-use Rattle.nn_tailer.specs.Tailing.{Tailer, Keeps, AreKept, handed_all, by_node}
+use Rattle.nn_tailer.specs.Tailing.{Tailer, Keeps, AreUndelivered, handed_all, by_node}
 use Rattle.nn_tailer.specs.Public.{AreNew, IsNew}
 use Rattle.nn_tailer.specs.Restart.{IsNewAt}
 
-kept_new : (dn : ℕ) (es : List Taking) → AreNew dn es → AreKept dn es (replicate (length es) None)
-kept_new dn [] h = tt
-kept_new dn (e ∷ es) h = (h.0, tt, kept_new (dn + 1) es h.2)
+undelivered_new : (dn : ℕ) (es : List Taking) → AreNew dn es → AreUndelivered dn es (replicate (length es) None)
+undelivered_new dn [] h = tt
+undelivered_new dn (e ∷ es) h = (h.0, tt, undelivered_new (dn + 1) es h.2)
 
 none_at : (dn : ℕ) (es : List Taking) (k : ℕ) → AreNew dn es → get_or (handed_all es (replicate (length es) None)) k [] ≡ []
 none_at dn [] k h = refl
@@ -35,11 +35,11 @@ pub record IsFresh (start : Namespace) (base lanes : ℕ) (s : Contents) : Type 
   pub count : length s.numbers ≡ lanes
 
 abbrev pub fresh : Contents → List Taking → List (Option Message) → Tailer
-fresh s es ks = record { shadow = s; ends = es; kept = ks; rest = []; stop = None; active = false }
+fresh s es ks = record { shadow = s; ends = es; undelivered = ks; rest = []; stop = None; active = false }
 
 pub keeps_fresh : (start : Namespace) (base : ℕ) (s : Contents) (es : List Taking) (ks : List (Option Message)) → length es ≤ 256 → AreNew 1 es → ks ≡ replicate (length es) None → IsFresh start base (length es) s → Keeps (fresh s es ks)
 keeps_fresh start base s es ks l n e f = subst (λ z. Keeps (fresh s es z)) (sym e) (record {
-  lanes = kept_new 1 es n;
+  lanes = undelivered_new 1 es n;
   few = l;
   count = f.count;
   numbers = λ dn. ap (λ (z : StandbyState). z.last_number dn) f.begun ∙ ap length (sym (lanes_at es n dn));

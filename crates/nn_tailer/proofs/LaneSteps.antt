@@ -6,12 +6,12 @@ use Rattle.nn_lane.specs.Ends.{Taking, counted}
 use Rattle.nn_tailer.specs.declared.standby.Stepped.TheVariants as stepped
 use Rattle.nn_tailer.specs.declared.fault.StepFault.{StepFault}
 use Rattle.nn_tailer.specs.declared.fault.StepFault.TheVariants as fault
-use Rattle.nn_tailer.specs.Tailing.{has_begun, Tailer, Keeps, Carries, lanes_of, handed, handed_all, kept_at, with_lane}
+use Rattle.nn_tailer.specs.Tailing.{has_begun, Tailer, Keeps, Carries, lanes_of, handed, handed_all, undelivered_at, with_lane}
 use Rattle.nn_shadow.specs.Contents.{Contents, standby_of, KeepsSettings}
 use Rattle.nn_shadow.specs.Refusals.{handed_as}
 use Rattle.nn_shadow.specs.declared.fault.Handed.{Handed}
 use Rattle.nn_tailer.specs.Shadows.{ShowsSame, IsHanded}
-use Rattle.nn_tailer.specs.Parts.{IsLive, Fetches, FindsNone, HandsKept, Unchanged, NotHanded}
+use Rattle.nn_tailer.specs.Parts.{IsLive, Fetches, FindsNone, HandsUndelivered, IsAsBefore, NotHanded}
 use Rattle.nn_tailer.proofs.Shadowing.{settings_same, settings_then, same_last, handed_last}
 use Rattle.nn_tailer.specs.LaneSteps.{SameEnd, SameEnds, handed_in, handed_count, all_count, IsDrained, LaneFrame, HandsNext, LaneMoves}
 use Rattle.nn_tailer.proofs.Lanes.{same_many, handed_at}
@@ -42,9 +42,9 @@ count_at (e ∷ es) (suc i) d l = count_at es i d (omega arith)
 
 -- a message is fetched: nothing is handed on yet
 -- one lane changes, and another stays drained
-other_drained : (x : Tailer) (i k : ℕ) (e : Taking) (o : Option Message) (H : List (List Message)) (v : List Message) → k ≢ i → H ≡ set (handed_in x) i v → IsDrained x k → (get_or (set x.kept i o) k None ≡ None) × (length (get_or H k []) ≡ get_or (map counted (set x.ends i e)) k 0)
+other_drained : (x : Tailer) (i k : ℕ) (e : Taking) (o : Option Message) (H : List (List Message)) (v : List Message) → k ≢ i → H ≡ set (handed_in x) i v → IsDrained x k → (get_or (set x.undelivered i o) k None ≡ None) × (length (get_or H k []) ≡ get_or (map counted (set x.ends i e)) k 0)
 other_drained x i k e o H v n q h = (
-  get_or-set_other x.kept i k o None n ∙ h.0,
+  get_or-set_other x.undelivered i k o None n ∙ h.0,
   ap (λ z. length (get_or z k [])) q ∙ ap length (get_or-set_other (handed_in x) i k v [] n) ∙ h.1
       ∙ sym (ap (λ z. get_or z k 0) (map-set counted x.ends i e) ∙ get_or-set_other (map counted x.ends) i k (counted e) 0 n),
 )
@@ -61,7 +61,7 @@ module _ (old new : Tailer) (i : ℕ) (live : IsLive old) (k : Keeps old) (l : i
     end = e;
     message = o;
     ends = ap (λ z. z.ends) q;
-    kept = ap (λ z. z.kept) q;
+    undelivered = ap (λ z. z.undelivered) q;
     others = (λ j n g. let P : Tailer → Type 0 = λ z. IsDrained z j in subst P (sym q) (other_drained old i j e o (handed_in (with_lane old i e o)) (get_or (handed_in old) i []) n (subst (λ (z : Tailer). handed_in z ≡ handed_in old) q h ∙ sym (set-get_or (handed_in old) i [])) g));
     last = ap (λ z. z.shadow.last) q;
     rest = ap (λ z. z.rest) q;
@@ -89,7 +89,7 @@ frame_then x y z i f g = record {
   end = g.end;
   message = g.message;
   ends = g.ends ∙ ap (λ es. set es i g.end) f.ends ∙ set_twice x.ends i f.end g.end;
-  kept = g.kept ∙ ap (λ ks. set ks i g.message) f.kept ∙ set_twice x.kept i f.message g.message;
+  undelivered = g.undelivered ∙ ap (λ ks. set ks i g.message) f.undelivered ∙ set_twice x.undelivered i f.message g.message;
   others = (λ j n h. g.others j n (f.others j n h));
   last = g.last ∙ f.last;
   rest = g.rest ∙ f.rest;
@@ -99,7 +99,7 @@ frame_then x y z i f g = record {
   settings = settings_then x.shadow y.shadow z.shadow f.settings g.settings;
 }
 
-pub frame_handed : (x y : Tailer) (i : ℕ) (m : Message) → IsLive x → Keeps x → (l : i < length x.ends) → kept_at x i ≡ Some m → HandsKept x i m y → LaneFrame x i y
+pub frame_handed : (x y : Tailer) (i : ℕ) (m : Message) → IsLive x → Keeps x → (l : i < length x.ends) → undelivered_at x i ≡ Some m → HandsUndelivered x i m y → LaneFrame x i y
 frame_handed x y i m live k l e h =
     let d = some_end x.ends i l in let q = h.now in
     record {
@@ -108,10 +108,10 @@ frame_handed x y i m live k l e h =
       end = get_or x.ends i d;
       message = None;
       ends = ap (λ z. z.ends) q ∙ sym (set-get_or x.ends i d);
-      kept = ap (λ z. z.kept) q;
+      undelivered = ap (λ z. z.undelivered) q;
       others = (λ j n g. let P : Tailer → Type 0 = λ z. IsDrained z j in
-          let w : IsDrained (with_lane x i (get_or x.ends i d) None) j = other_drained x i j (get_or x.ends i d) None (handed_all (set x.ends i (get_or x.ends i d)) (set x.kept i None)) (get_or (handed_in x) i [] ++ m ∷ []) n (ap (λ es. handed_all es (set x.kept i None)) (set-get_or x.ends i d) ∙ (is_next x i m d k l e).after) g in
-          let D : List Taking → Type 0 = λ es. (get_or (set x.kept i None) j None ≡ None) × (length (get_or (handed_all es (set x.kept i None)) j []) ≡ get_or (map counted es) j 0) in
+          let w : IsDrained (with_lane x i (get_or x.ends i d) None) j = other_drained x i j (get_or x.ends i d) None (handed_all (set x.ends i (get_or x.ends i d)) (set x.undelivered i None)) (get_or (handed_in x) i [] ++ m ∷ []) n (ap (λ es. handed_all es (set x.undelivered i None)) (set-get_or x.ends i d) ∙ (is_next x i m d k l e).after) g in
+          let D : List Taking → Type 0 = λ es. (get_or (set x.undelivered i None) j None ≡ None) × (length (get_or (handed_all es (set x.undelivered i None)) j []) ≡ get_or (map counted es) j 0) in
           subst P (sym q) (subst D (set-get_or x.ends i d) w));
       last = ap (λ z. z.shadow.last) q ∙ handed_last x.shadow h.shown m h.handed;
       rest = ap (λ z. z.rest) q;
@@ -125,14 +125,14 @@ frame_handed x y i m live k l e h =
 abbrev MovesOn : Tailer → ℕ → Message → Tailer → Type 0
 MovesOn old i m new = (m.dn ≡ i + 1) × (handed_in new ≡ set (handed_in old) i (get_or (handed_in old) i [] ++ m ∷ [])) × (handed_count old i + 1 ≤ all_count new i)
 
-moves_on : (x y : Tailer) (i : ℕ) (m : Message) → Keeps x → (l : i < length x.ends) → kept_at x i ≡ Some m → HandsKept x i m y → MovesOn x i m y
+moves_on : (x y : Tailer) (i : ℕ) (m : Message) → Keeps x → (l : i < length x.ends) → undelivered_at x i ≡ Some m → HandsUndelivered x i m y → MovesOn x i m y
 moves_on x y i m k l e h =
     let d = some_end x.ends i l in let n = is_next x i m d k l e in (
       n.dn,
       subst (λ (z : Tailer). handed_in z ≡ set (handed_in x) i (get_or (handed_in x) i [] ++ m ∷ [])) (sym h.now) n.after,
       subst (λ (z : Tailer). handed_count x i + 1 ≤ all_count z i) (sym h.now)
           (let c = count_at x.ends i d l in let f = n.few in let s = ap length n.so_far in let t = ap length n.split ∙ length-append n.before (m ∷ []) in
-          let r : length (get_or (handed_all x.ends x.kept) i []) + 1 ≤ get_or (map counted x.ends) i 0 = omega (arith, c, f, s, t) in r),
+          let r : length (get_or (handed_all x.ends x.undelivered) i []) + 1 ≤ get_or (map counted x.ends) i 0 = omega (arith, c, f, s, t) in r),
     )
 
 -- the same from where the message was fetched
@@ -143,28 +143,28 @@ pub drained : (old new : Tailer) (i n : ℕ) (d : Taking) → Keeps old → i < 
 drained old new i n d k l f =
     let P : Tailer → Type 0 = λ z. IsDrained z i × (n ≡ handed_count z i) in
     let x = with_lane old i f.end None in
-    let in_kept : i < length old.kept = omega (arith, same_many 1 old.ends old.kept k.lanes, l) in
+    let in_undelivered : i < length old.undelivered = omega (arith, same_many 1 old.ends old.undelivered k.lanes, l) in
     let in_ends : i < length x.ends = omega (arith, length-set old.ends i f.end, l) in
-    let many : length x.kept ≡ length x.ends = omega (arith, length-set old.ends i f.end, length-set old.kept i None, same_many 1 old.ends old.kept k.lanes) in
-    let none : kept_at x i ≡ None = get_or-set_same old.kept i None None in_kept in
+    let many : length x.undelivered ≡ length x.ends = omega (arith, length-set old.ends i f.end, length-set old.undelivered i None, same_many 1 old.ends old.undelivered k.lanes) in
+    let none : undelivered_at x i ≡ None = get_or-set_same old.undelivered i None None in_undelivered in
     let here : get_or x.ends i d ≡ f.end = get_or-set_same old.ends i f.end d l in
-    let at : handed_count x i ≡ length f.end.got = ap length (handed_at x.ends x.kept i d in_ends many ∙ ap (λ o. handed (get_or x.ends i d).got o) none ∙ ap (λ z. z.got) here) in
+    let at : handed_count x i ≡ length f.end.got = ap length (handed_at x.ends x.undelivered i d in_ends many ∙ ap (λ o. handed (get_or x.ends i d).got o) none ∙ ap (λ z. z.got) here) in
     let count : all_count x i ≡ counted f.end = count_at x.ends i d in_ends ∙ ap counted here in
     subst P (sym f.now) ((none, at ∙ sym f.all ∙ sym count), f.accepted_is ∙ sym at)
 
--- once fetched, the message is kept
-pub fetched_is : (old mid : Tailer) (i : ℕ) (m : Message) → IsLive old → Keeps old → i < length old.ends → Fetches old i m mid → (kept_at mid i ≡ Some m) × (i < length mid.ends) × IsLive mid
+-- once fetched, the message is undelivered
+pub fetched_is : (old mid : Tailer) (i : ℕ) (m : Message) → IsLive old → Keeps old → i < length old.ends → Fetches old i m mid → (undelivered_at mid i ≡ Some m) × (i < length mid.ends) × IsLive mid
 fetched_is old mid i m v k l f =
-    let P : Tailer → Type 0 = λ z. (kept_at z i ≡ Some m) × (i < length z.ends) × IsLive z in
-    subst P (sym f.now) (get_or-set_same old.kept i (Some m) None (omega (arith, same_many 1 old.ends old.kept k.lanes, l)), omega (arith, length-set old.ends i f.end, l), v)
+    let P : Tailer → Type 0 = λ z. (undelivered_at z i ≡ Some m) × (i < length z.ends) × IsLive z in
+    subst P (sym f.now) (get_or-set_same old.undelivered i (Some m) None (omega (arith, same_many 1 old.ends old.undelivered k.lanes, l)), omega (arith, length-set old.ends i f.end, l), v)
 
 -- the whole step, where the message is handed on
-pub step_frame : (old mid new : Tailer) (i : ℕ) (m : Message) → IsLive old → Keeps old → Keeps mid → (l : i < length old.ends) → Fetches old i m mid → HandsKept mid i m new → LaneFrame old i new
+pub step_frame : (old mid new : Tailer) (i : ℕ) (m : Message) → IsLive old → Keeps old → Keeps mid → (l : i < length old.ends) → Fetches old i m mid → HandsUndelivered mid i m new → LaneFrame old i new
 step_frame old mid new i m v k k' l f h =
     let r = fetched_is old mid i m v k l f in
     frame_then old mid new i (frame_new old mid i v k l m f) (frame_handed mid new i m r.2 k' r.1 r.0 h)
 
-pub step_hands : (old mid new : Tailer) (i : ℕ) (m : Message) (counts : Handed) → IsLive old → Keeps old → Keeps mid → (l : i < length old.ends) → Fetches old i m mid → HandsKept mid i m new → handed_as (standby_of mid.shadow) m ≡ counts → HandsNext old i counts new
+pub step_hands : (old mid new : Tailer) (i : ℕ) (m : Message) (counts : Handed) → IsLive old → Keeps old → Keeps mid → (l : i < length old.ends) → Fetches old i m mid → HandsUndelivered mid i m new → handed_as (standby_of mid.shadow) m ≡ counts → HandsNext old i counts new
 step_hands old mid new i m counts v k k' l f h w =
     let r = fetched_is old mid i m v k l f in
     let on = moves_then old mid new i m f.same (moves_on mid new i m k' r.1 r.0 h) in
@@ -175,23 +175,23 @@ step_hands old mid new i m counts v k k' l f h w =
       node = on.0;
       lanes = on.1;
       few = on.2;
-      none_kept = let in_mid : i < length mid.kept = omega (arith, same_many 1 mid.ends mid.kept k'.lanes, r.1) in
-          let P : Tailer → Type 0 = λ z. kept_at z i ≡ None in subst P (sym h.now) (get_or-set_same mid.kept i None None in_mid);
+      none_undelivered = let in_mid : i < length mid.undelivered = omega (arith, same_many 1 mid.ends mid.undelivered k'.lanes, r.1) in
+          let P : Tailer → Type 0 = λ z. undelivered_at z i ≡ None in subst P (sym h.now) (get_or-set_same mid.undelivered i None None in_mid);
       standby = ap (λ z. standby_of z.shadow) h.now ∙ by.standby;
       answer = subst (λ (z : Contents). handed_as (standby_of z) m ≡ counts) same w;
       held = λ start base given s. by.held start base s.txs (lanes_of old) (stands_live start base given old v s);
     }
 
-frame_unchanged : (x y : Tailer) (i : ℕ) → IsLive x → i < length x.ends → Unchanged x y → LaneFrame x i y
+frame_unchanged : (x y : Tailer) (i : ℕ) → IsLive x → i < length x.ends → IsAsBefore x y → LaneFrame x i y
 frame_unchanged x y i live l h =
     let d = some_end x.ends i l in let q = h.now in
     record {
       carries = carries_unchanged x y live h;
       same_ends = subst (λ (z : Tailer). SameEnds x.ends z.ends) (sym q) (ends_same x.ends);
       end = get_or x.ends i d;
-      message = get_or x.kept i None;
+      message = get_or x.undelivered i None;
       ends = ap (λ z. z.ends) q ∙ sym (set-get_or x.ends i d);
-      kept = ap (λ z. z.kept) q ∙ sym (set-get_or x.kept i None);
+      undelivered = ap (λ z. z.undelivered) q ∙ sym (set-get_or x.undelivered i None);
       others = (λ j n g. let P : Tailer → Type 0 = λ z. IsDrained z j in subst P (sym q) g);
       last = ap (λ z. z.shadow.last) q ∙ same_last x.shadow h.shown h.same;
       rest = ap (λ z. z.rest) q;

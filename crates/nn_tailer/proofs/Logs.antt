@@ -21,10 +21,10 @@ pub record Going (old : Tailer) (answers : List Answer) (new : Tailer) : Type 0 
   pub stop : new.stop ≡ None
 
 pub lanes_same : (x : Tailer) → SameLanes x x
-lanes_same x = record { ends = refl; kept = refl; begun = refl; active = refl; settings = settings_same x.shadow }
+lanes_same x = record { ends = refl; undelivered = refl; begun = refl; active = refl; settings = settings_same x.shadow }
 
 pub lanes_then : (x y z : Tailer) → SameLanes x y → SameLanes y z → SameLanes x z
-lanes_then x y z a b = record { ends = b.ends ∙ a.ends; kept = b.kept ∙ a.kept; begun = b.begun ∙ a.begun; active = b.active ∙ a.active; settings = settings_then x.shadow y.shadow z.shadow a.settings b.settings }
+lanes_then x y z a b = record { ends = b.ends ∙ a.ends; undelivered = b.undelivered ∙ a.undelivered; begun = b.begun ∙ a.begun; active = b.active ∙ a.active; settings = settings_then x.shadow y.shadow z.shadow a.settings b.settings }
 
 pub going_start : (x : Tailer) → IsLive x → Going x [] x
 going_start x l = record { carries = carries_same x; lanes = lanes_same x; stop = l.1 }
@@ -41,7 +41,7 @@ going_on x y z rs f g = subst (λ q. Going x q z) (append-nil rs) (going_then x 
 pub going_applied : (x y : Tailer) (txid : ℕ) → IsLive x → AppliesNext x txid y → Going x [] y
 going_applied x y txid l a = record {
   carries = carries_applied x y txid l a;
-  lanes = subst (SameLanes x) (sym a.now) (record { ends = refl; kept = refl; begun = ap (λ z. z.active) a.applied.phase; active = refl; settings = a.applied.settings });
+  lanes = subst (SameLanes x) (sym a.now) (record { ends = refl; undelivered = refl; begun = ap (λ z. z.active) a.applied.phase; active = refl; settings = a.applied.settings });
   stop = ap (λ z. z.stop) a.now ∙ l.1;
 }
 
@@ -71,11 +71,11 @@ over_refused x y fault.BadLane l h = absurd h
 over_refused x y (fault.LogNotEnded f) l h = absurd h
 over_refused x y (fault.Stopped m) l h = (
   carries_stop x y m l h,
-  subst (SameLanes x) (sym h.now) (record { ends = refl; kept = refl; begun = h.active; active = refl; settings = h.same.settings }),
+  subst (SameLanes x) (sym h.now) (record { ends = refl; undelivered = refl; begun = h.active; active = refl; settings = h.same.settings }),
   (ap (λ z. z.stop) h.now, h.next ∙ ap (λ n. n + 1) (sym (ap (λ z. z.shadow.last) h.now ∙ same_last x.shadow h.shown h.same))),
 )
 over_refused x y fault.OutOfMemory l h =
-    (carries_unchanged x y l h, subst (SameLanes x) (sym h.now) (record { ends = refl; kept = refl; begun = ap (λ z. z.active) h.phase; active = refl; settings = h.same.settings }), ap (λ z. z.stop) h.now ∙ l.1)
+    (carries_unchanged x y l h, subst (SameLanes x) (sym h.now) (record { ends = refl; undelivered = refl; begun = ap (λ z. z.active) h.phase; active = refl; settings = h.same.settings }), ap (λ z. z.stop) h.now ∙ l.1)
 
 -- the answer of a source that has no segment
 carries_bare : (x y : Tailer) (r q : Answer) → IsLive x → r ≡ q → AddsNone q → y ≡ x → Carries x (r ∷ []) y
@@ -88,7 +88,7 @@ over_asked x y r fault.OutOfMemory l n h = absurd h
 over_asked x y r (fault.LogNotEnded f) l n h = (carries_bare x y r (Err f) l h.0 (fault_adds_none f) h.1, subst (SameLanes x) (sym h.1) (lanes_same x), (ap (λ z. z.stop) h.1 ∙ l.1, ([], ap (λ q. q ∷ []) h.0)))
 over_asked x y r (fault.Stopped m) l n h = (
   subst (λ rs. Carries x rs y) (ap (λ q. q ∷ []) (sym h.1)) (carries_gap x y h.0 m (record { live = l; was = n; high = h.2; none = h.3; txid = h.4; number = h.5; now = h.6 })),
-  subst (SameLanes x) (sym h.6) (record { ends = refl; kept = refl; begun = refl; active = refl; settings = settings_same x.shadow }),
+  subst (SameLanes x) (sym h.6) (record { ends = refl; undelivered = refl; begun = refl; active = refl; settings = settings_same x.shadow }),
   (ap (λ z. z.stop) h.6, h.4 ∙ ap (λ n. n + 1) (sym (ap (λ z. z.shadow.last) h.6))),
 )
 
@@ -97,14 +97,14 @@ going_asked x y r taken_up.End l n h = record { carries = carries_bare x y r end
 going_asked x y r taken_up.Disorder l n h = absurd h
 going_asked x y r taken_up.Old l n h =
     record {
-      carries = subst (λ rs. Carries x rs y) (ap (λ q. q ∷ []) (sym h.1)) (carries_segment x y h.0 (subst (TakesIn x h.0) (sym h.4) (record { live = l; was = n; shadow = refl; ends = refl; kept = refl; begun = refl; stop = l.1; low = h.2; now = n ∙ sym h.3 })));
+      carries = subst (λ rs. Carries x rs y) (ap (λ q. q ∷ []) (sym h.1)) (carries_segment x y h.0 (subst (TakesIn x h.0) (sym h.4) (record { live = l; was = n; shadow = refl; ends = refl; undelivered = refl; begun = refl; stop = l.1; low = h.2; now = n ∙ sym h.3 })));
       lanes = subst (SameLanes x) (sym h.4) (lanes_same x);
       stop = ap (λ z. z.stop) h.4 ∙ l.1;
     }
 going_asked x y r taken_up.New l n h =
     record {
-      carries = subst (λ rs. Carries x rs y) (ap (λ q. q ∷ []) (sym h.1)) (carries_segment x y h.0 (subst (TakesIn x h.0) (sym h.4) (record { live = l; was = n; shadow = refl; ends = refl; kept = refl; begun = refl; stop = l.1; low = h.2; now = refl })));
-      lanes = subst (SameLanes x) (sym h.4) (record { ends = refl; kept = refl; begun = refl; active = refl; settings = settings_same x.shadow });
+      carries = subst (λ rs. Carries x rs y) (ap (λ q. q ∷ []) (sym h.1)) (carries_segment x y h.0 (subst (TakesIn x h.0) (sym h.4) (record { live = l; was = n; shadow = refl; ends = refl; undelivered = refl; begun = refl; stop = l.1; low = h.2; now = refl })));
+      lanes = subst (SameLanes x) (sym h.4) (record { ends = refl; undelivered = refl; begun = refl; active = refl; settings = settings_same x.shadow });
       stop = ap (λ z. z.stop) h.4 ∙ l.1;
     }
 

@@ -12,8 +12,8 @@ use Rattle.nn_shadow.specs.Refusals.{hand_refusal}
 use Rattle.nn_tailer.specs.Shadows.{IsHanded}
 use Rattle.nn_tailer.specs.Parts.{IsLive}
 use Rattle.nn_tailer.proofs.Shadowing.{serving, is_welcome, handed_last, handed_numbers}
-use Rattle.nn_tailer.specs.Tailing.{Tailer, Keeps, handed, handed_all, by_node, lanes_of, IsKept, AreKept, kept_at, with_kept, with_shadow}
-use Rattle.nn_tailer.proofs.Lanes.{lane_known, same_many, handed_set, length_handed, handed_at, handed_kept, grows}
+use Rattle.nn_tailer.specs.Tailing.{Tailer, Keeps, handed, handed_all, by_node, lanes_of, IsUndelivered, AreUndelivered, undelivered_at, with_undelivered, with_shadow}
+use Rattle.nn_tailer.proofs.Lanes.{lane_known, same_many, handed_set, length_handed, handed_at, handed_undelivered, grows}
 
 pub some_end : (es : List Taking) (i : ℕ) → i < length es → Taking
 some_end [] i l = absurd (omega arith)
@@ -28,22 +28,22 @@ map_at [] i = refl
 map_at (t ∷ ts) zero = refl
 map_at (t ∷ ts) (suc i) = map_at ts i
 
--- what a kept message is
+-- what a undelivered message is
 pub record IsNext (x : Tailer) (i : ℕ) (m : Message) (d : Taking) : Type 0 where
   pub dn : m.dn ≡ i + 1
   pub before : List Message
   pub split : (get_or x.ends i d).got ≡ before ++ m ∷ []
   pub number : m.number ≡ length before + 1
   pub few : length (get_or x.ends i d).got ≤ counted (get_or x.ends i d)
-  pub so_far : get_or (handed_all x.ends x.kept) i [] ≡ before
-  pub after : handed_all x.ends (set x.kept i None) ≡ set (handed_all x.ends x.kept) i (get_or (handed_all x.ends x.kept) i [] ++ m ∷ [])
+  pub so_far : get_or (handed_all x.ends x.undelivered) i [] ≡ before
+  pub after : handed_all x.ends (set x.undelivered i None) ≡ set (handed_all x.ends x.undelivered) i (get_or (handed_all x.ends x.undelivered) i [] ++ m ∷ [])
 
-pub is_next : (x : Tailer) (i : ℕ) (m : Message) (d : Taking) → Keeps x → i < length x.ends → kept_at x i ≡ Some m → IsNext x i m d
+pub is_next : (x : Tailer) (i : ℕ) (m : Message) (d : Taking) → Keeps x → i < length x.ends → undelivered_at x i ≡ Some m → IsNext x i m d
 is_next x i m d k l e =
-    let P : Option Message → Type 0 = λ o. IsKept (1 + i) (get_or x.ends i d) o in
-    let f : IsKept (1 + i) (get_or x.ends i d) (Some m) = subst P e (lane_known 1 x.ends x.kept i d k.lanes l).1 in
-    let many = same_many 1 x.ends x.kept k.lanes in
-    let at = handed_at x.ends x.kept i d l many ∙ ap (λ o. handed (get_or x.ends i d).got o) e ∙ handed_kept (get_or x.ends i d).got f.0 m f.1 in
+    let P : Option Message → Type 0 = λ o. IsUndelivered (1 + i) (get_or x.ends i d) o in
+    let f : IsUndelivered (1 + i) (get_or x.ends i d) (Some m) = subst P e (lane_known 1 x.ends x.undelivered i d k.lanes l).1 in
+    let many = same_many 1 x.ends x.undelivered k.lanes in
+    let at = handed_at x.ends x.undelivered i d l many ∙ ap (λ o. handed (get_or x.ends i d).got o) e ∙ handed_undelivered (get_or x.ends i d).got f.0 m f.1 in
     record {
       dn = (let q : m.dn ≡ i + 1 = omega (arith, f.3) in q);
       before = f.0;
@@ -51,11 +51,11 @@ is_next x i m d k l e =
       number = (let q : m.number ≡ length f.0 + 1 = omega (arith, f.2, ap length f.1, length-append f.0 (m ∷ [])) in q);
       few = f.4;
       so_far = at;
-      after = ap (λ z. handed_all z (set x.kept i None)) (sym (set-get_or x.ends i d)) ∙ handed_set x.ends x.kept i (get_or x.ends i d) None many ∙ ap (λ v. set (handed_all x.ends x.kept) i v) (f.1 ∙ ap (λ v. v ++ m ∷ []) (sym at));
+      after = ap (λ z. handed_all z (set x.undelivered i None)) (sym (set-get_or x.ends i d)) ∙ handed_set x.ends x.undelivered i (get_or x.ends i d) None many ∙ ap (λ v. set (handed_all x.ends x.undelivered) i v) (f.1 ∙ ap (λ v. v ++ m ∷ []) (sym at));
     }
 
 -- it comes after all that the Shadow was handed of its lane
-pub next_number : (x : Tailer) (i : ℕ) (m : Message) (d : Taking) → Keeps x → i < length x.ends → kept_at x i ≡ Some m → m.number ≡ length (lanes_of x m.dn) + 1
+pub next_number : (x : Tailer) (i : ℕ) (m : Message) (d : Taking) → Keeps x → i < length x.ends → undelivered_at x i ≡ Some m → m.number ≡ length (lanes_of x m.dn) + 1
 next_number x i m d k l e =
     let n = is_next x i m d k l e in
     let q : lanes_of x m.dn ≡ n.before = ap (lanes_of x) (let z : m.dn ≡ suc i = omega (arith, n.dn) in z) ∙ n.so_far in
@@ -65,13 +65,13 @@ pub is_serving : (x : Tailer) → Keeps x → IsLive x → x.shadow.phase ≡ se
 is_serving x k l = (λ j. record { stopped = k.live l.1 j; active = l.0 j })
 
 -- the Shadow has no cause to refuse it
-pub welcome : (x : Tailer) (i : ℕ) (m : Message) (d : Taking) → Keeps x → IsLive x → i < length x.ends → kept_at x i ≡ Some m
+pub welcome : (x : Tailer) (i : ℕ) (m : Message) (d : Taking) → Keeps x → IsLive x → i < length x.ends → undelivered_at x i ≡ Some m
     → hand_refusal (length x.shadow.numbers) x.shadow.phase (standby_of x.shadow) m ≡ None
 welcome x i m d k v l e =
     let n = is_next x i m d k l e in
     is_welcome x.shadow m (is_serving x k v) (omega (arith, n.dn)) (omega (arith, n.dn, l, k.count)) (next_number x i m d k l e ∙ ap (λ z. z + 1) (sym (k.numbers m.dn)))
 
-lanes_after : (dn : ℕ) (es : List Taking) (ks : List (Option Message)) (i : ℕ) → AreKept dn es ks → AreKept dn es (set ks i None)
+lanes_after : (dn : ℕ) (es : List Taking) (ks : List (Option Message)) (i : ℕ) → AreUndelivered dn es ks → AreUndelivered dn es (set ks i None)
 lanes_after dn [] [] i h = tt
 lanes_after dn [] (k ∷ ks) i h = absurd h
 lanes_after dn (e ∷ es) [] i h = absurd h
@@ -79,10 +79,10 @@ lanes_after dn (e ∷ es) (k ∷ ks) zero h = (h.0, tt, h.2)
 lanes_after dn (e ∷ es) (k ∷ ks) (suc i) h = (h.0, h.1, lanes_after (dn + 1) es ks i h.2)
 
 -- the lanes as the Shadow saw them grow
-pub lanes_grow : (x : Tailer) (i : ℕ) (m : Message) (d : Taking) (s : Contents) → Keeps x → i < length x.ends → kept_at x i ≡ Some m → lanes_of (with_shadow (with_kept x i None) s) ≡ followed_by (lanes_of x) m
+pub lanes_grow : (x : Tailer) (i : ℕ) (m : Message) (d : Taking) (s : Contents) → Keeps x → i < length x.ends → undelivered_at x i ≡ Some m → lanes_of (with_shadow (with_undelivered x i None) s) ≡ followed_by (lanes_of x) m
 lanes_grow x i m d s k l e =
     let n = is_next x i m d k l e in
-    ap by_node n.after ∙ grows (handed_all x.ends x.kept) i m (omega (arith, l, length_handed x.ends x.kept)) n.dn
+    ap by_node n.after ∙ grows (handed_all x.ends x.undelivered) i m (omega (arith, l, length_handed x.ends x.undelivered)) n.dn
 
 -- the numbers grow with them
 grown_numbers : (last : ℕ → ℕ) (lanes : Lanes) (m : Message) (dn : ℕ) → last dn ≡ length (lanes dn) → m.number ≡ length (lanes m.dn) + 1 → (if dn == m.dn then m.number else last dn) ≡ length (followed_by lanes m dn)
@@ -94,11 +94,11 @@ grown_numbers last lanes m dn same next =
     ] in
     all (dn == m.dn) refl
 
-pub keeps_handed : (x : Tailer) (i : ℕ) (m : Message) (d : Taking) (s : Contents) → Keeps x → i < length x.ends → kept_at x i ≡ Some m → IsHanded x.shadow m s → Keeps (with_shadow (with_kept x i None) s)
+pub keeps_handed : (x : Tailer) (i : ℕ) (m : Message) (d : Taking) (s : Contents) → Keeps x → i < length x.ends → undelivered_at x i ≡ Some m → IsHanded x.shadow m s → Keeps (with_shadow (with_undelivered x i None) s)
 keeps_handed x i m d s k l e h =
     let last : s.last ≡ x.shadow.last = handed_last x.shadow s m h in
     record {
-      lanes = lanes_after 1 x.ends x.kept i k.lanes;
+      lanes = lanes_after 1 x.ends x.undelivered i k.lanes;
       few = k.few;
       count = h.settings.datanodes ∙ k.count;
       numbers = λ dn. handed_numbers x.shadow s m h dn ∙ grown_numbers (number_in x.shadow.numbers) (lanes_of x) m dn (k.numbers dn) (next_number x i m d k l e) ∙ ap (λ ls. length (ls dn)) (sym (lanes_grow x i m d s k l e));

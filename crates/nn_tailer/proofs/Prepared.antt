@@ -47,7 +47,7 @@ prepare_done x y z rs c k g d f drained =
       same,
       f.begun ∙ g.lanes.begun,
       f.active ∙ g.lanes.active,
-      (f.stop ∙ g.stop, f.rest ∙ d.1, d.0, all_taken z.ends z.kept (same_many 1 z.ends z.kept k.lanes) (still_closed x.ends z.ends same c).0 drained),
+      (f.stop ∙ g.stop, f.rest ∙ d.1, d.0, all_taken z.ends z.undelivered (same_many 1 z.ends z.undelivered k.lanes) (still_closed x.ends z.ends same c).0 drained),
       settings_then x.shadow y.shadow z.shadow g.lanes.settings f.settings,
     )
 

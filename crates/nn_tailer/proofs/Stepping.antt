@@ -39,7 +39,7 @@ leaves_others x y dn i at f = (
   λ k other.
       let n : k ≢ i = λ e. other (at ∙ ap (λ j. j + 1) (sym e)) in (
         (λ e. ap (λ es. get_or es k e) f.ends ∙ get_or-set_other x.ends i k f.end e n),
-        ap (λ ks. get_or ks k None) f.kept ∙ get_or-set_other x.kept i k f.message None n,
+        ap (λ ks. get_or ks k None) f.undelivered ∙ get_or-set_other x.undelivered i k f.message None n,
       ),
 )
 
@@ -48,12 +48,12 @@ module _ {S : Type 0} (gives : S → Answer → S → Type 0) where
   step_refused s x choice f h = let w = stops_by x x choice [] f (carries_same x) h in ([], refl, carries_same x, ends_same x.ends, refl, (h, w.0, w.1), settings_same x.shadow, refl, leaves_same x choice)
 
   pub edit_steps : (s t : S) (x y : Tailer) (c : Choice) (r : Result Stepped StepFault) → c ≡ Edit → Edits gives s x t y r → Steps gives s x c t y r
-  edit_steps s t x y c (Ok a) q h = (h.0, h.1, h.2, ends_by x y h.3, h.3.begun, subst (λ z. IsStepped x z h.0 y a) (sym q) h.4, h.3.settings, h.3.active, subst (λ z. Leaves x z y) (sym q) (h.3.ends, h.3.kept))
+  edit_steps s t x y c (Ok a) q h = (h.0, h.1, h.2, ends_by x y h.3, h.3.begun, subst (λ z. IsStepped x z h.0 y a) (sym q) h.4, h.3.settings, h.3.active, subst (λ z. Leaves x z y) (sym q) (h.3.ends, h.3.undelivered))
   edit_steps s t x y c (Err fault.AlreadyActive) q h = absurd h.4
-  edit_steps s t x y c (Err (fault.Stopped m)) q h = (h.0, h.1, h.2, ends_by x y h.3, h.3.begun, (inr (q, h.4), h.4.0, λ start base given g. (h.2 start base given g).stops m h.4.0), h.3.settings, h.3.active, subst (λ z. Leaves x z y) (sym q) (h.3.ends, h.3.kept))
+  edit_steps s t x y c (Err (fault.Stopped m)) q h = (h.0, h.1, h.2, ends_by x y h.3, h.3.begun, (inr (q, h.4), h.4.0, λ start base given g. (h.2 start base given g).stops m h.4.0), h.3.settings, h.3.active, subst (λ z. Leaves x z y) (sym q) (h.3.ends, h.3.undelivered))
   edit_steps s t x y c (Err fault.BadLane) q h = absurd h.4
-  edit_steps s t x y c (Err (fault.LogNotEnded f)) q h = (h.0, h.1, h.2, ends_by x y h.3, h.3.begun, ((q, h.4), tt, ([], h.4.0)), h.3.settings, h.3.active, subst (λ z. Leaves x z y) (sym q) (h.3.ends, h.3.kept))
-  edit_steps s t x y c (Err fault.OutOfMemory) q h = (h.0, h.1, h.2, ends_by x y h.3, h.3.begun, (inl (q, h.4), tt, tt), h.3.settings, h.3.active, subst (λ z. Leaves x z y) (sym q) (h.3.ends, h.3.kept))
+  edit_steps s t x y c (Err (fault.LogNotEnded f)) q h = (h.0, h.1, h.2, ends_by x y h.3, h.3.begun, ((q, h.4), tt, ([], h.4.0)), h.3.settings, h.3.active, subst (λ z. Leaves x z y) (sym q) (h.3.ends, h.3.undelivered))
+  edit_steps s t x y c (Err fault.OutOfMemory) q h = (h.0, h.1, h.2, ends_by x y h.3, h.3.begun, (inl (q, h.4), tt, tt), h.3.settings, h.3.active, subst (λ z. Leaves x z y) (sym q) (h.3.ends, h.3.undelivered))
 
   pub lane_steps : (s : S) (x y : Tailer) (c : Choice) (dn i : ℕ) (r : Result Stepped StepFault) → c ≡ Lane dn → IsPlace x dn i → LaneFrame x i y → LaneMoves x i y r → Steps gives s x c s y r
   lane_steps s x y c dn i (Ok a) q p f h = ([], refl, f.carries, f.same_ends, f.begun, subst (λ z. IsStepped x z [] y a) (sym q) (refl, (i, p, h)), f.settings, f.active, subst (λ z. Leaves x z y) (sym q) (leaves_others x y dn i p.0 f))

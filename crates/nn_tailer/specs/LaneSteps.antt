@@ -18,7 +18,7 @@ use Rattle.nn_shadow.specs.Contents.{standby_of, KeepsSettings}
 use Rattle.nn_shadow.specs.Calls.{waits, items_added, received}
 use Rattle.nn_shadow.specs.Refusals.{handed_as}
 use Rattle.nn_shadow.specs.declared.fault.Handed.{Handed}
-use Rattle.nn_tailer.specs.Tailing.{has_begun, Tailer, StandsAt, Carries, lanes_of, handed_all, kept_at}
+use Rattle.nn_tailer.specs.Tailing.{has_begun, Tailer, StandsAt, Carries, lanes_of, handed_all, undelivered_at}
 
 -- an end of the same lane, as closed as before; once closed its count stays
 abbrev pub SameEnd : Taking → Taking → Type 0
@@ -31,7 +31,7 @@ SameEnds (e ∷ es) [] = ⊥
 SameEnds (e ∷ es) (e' ∷ es') = SameEnd e e' × SameEnds es es'
 
 abbrev pub handed_in : Tailer → List (List Message)
-handed_in x = handed_all x.ends x.kept
+handed_in x = handed_all x.ends x.undelivered
 
 -- how many messages of a lane were handed on, and how many there are
 abbrev pub handed_count : Tailer → ℕ → ℕ
@@ -42,7 +42,7 @@ all_count x i = slice_index_or (map counted x.ends) i 0
 
 -- all that the lane has was handed on
 abbrev pub IsDrained : Tailer → ℕ → Type 0
-IsDrained x i = (kept_at x i ≡ None) × (handed_count x i ≡ all_count x i)
+IsDrained x i = (undelivered_at x i ≡ None) × (handed_count x i ≡ all_count x i)
 
 -- all lanes are closed, and all that they had was handed on
 abbrev pub closed_of : Taking → Bool
@@ -58,7 +58,7 @@ pub record LaneFrame (old : Tailer) (i : ℕ) (new : Tailer) : Type 0 where
   pub end : Taking
   pub message : Option Message
   pub ends : new.ends ≡ slice_set old.ends i end
-  pub kept : new.kept ≡ slice_set old.kept i message
+  pub undelivered : new.undelivered ≡ slice_set old.undelivered i message
   pub others : (k : ℕ) → k ≢ i → IsDrained old k → IsDrained new k
   pub last : new.shadow.last ≡ old.shadow.last
   pub rest : new.rest ≡ old.rest
@@ -74,7 +74,7 @@ pub record HandsNext (old : Tailer) (i : ℕ) (handed : Handed) (new : Tailer) :
   pub node : message.dn ≡ i + 1
   pub lanes : handed_in new ≡ slice_set (handed_in old) i (slice_index_or (handed_in old) i [] ++ message ∷ [])
   pub few : handed_count old i + 1 ≤ all_count new i
-  pub none_kept : kept_at new i ≡ None
+  pub none_undelivered : undelivered_at new i ≡ None
   pub standby : standby_of new.shadow ≡ received (standby_of old.shadow) message
   pub answer : handed_as (standby_of old.shadow) message ≡ handed
   pub held : (start : Namespace) (base : ℕ) (given : List Answer) → StandsAt start base given old → (item : Message) → Has (items_added (standby_of old.shadow) message) item

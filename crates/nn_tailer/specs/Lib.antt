@@ -12,3 +12,4 @@ pub mod Refusals
 pub mod Shadows
 pub mod Fault
 pub mod TailingRows
+pub mod StandbyRows

@@ -11,7 +11,7 @@ use Rattle.nn_shadow.specs.Contents.{Contents}
 use Rattle.nn_tailer.specs.Shadows.{ShowsSame, IsApplied, IsHanded}
 use Rattle.nn_tailer.specs.declared.fault.StepFault.{StepFault}
 use Rattle.nn_tailer.specs.declared.fault.StepFault.TheVariants.{AlreadyActive, Stopped, BadLane, LogNotEnded, OutOfMemory}
-use Rattle.nn_tailer.specs.Tailing.{has_begun, Tailer, handed_all, with_lane, with_kept, with_shadow, with_rest, stopping}
+use Rattle.nn_tailer.specs.Tailing.{has_begun, Tailer, handed_all, with_lane, with_undelivered, with_shadow, with_rest, stopping}
 
 abbrev pub IsLive : Tailer → Type 0
 IsLive x = (has_begun x ≡ false) × (x.stop ≡ None) × (x.active ≡ false)
@@ -41,7 +41,7 @@ pub record StopsAt (old : Tailer) (s : Stop) (new : Tailer) : Type 0 where
   pub now : new ≡ stopping (with_shadow old shown) s
 
 -- nothing is new but room
-pub record Unchanged (old new : Tailer) : Type 0 where
+pub record IsAsBefore (old new : Tailer) : Type 0 where
   pub shown : Contents
   pub same : ShowsSame old.shadow shown
   pub phase : shown.phase ≡ old.shadow.phase
@@ -52,16 +52,16 @@ NotApplied old new AlreadyActive = ⊥
 NotApplied old new (Stopped s) = StopsAt old s new
 NotApplied old new BadLane = ⊥
 NotApplied old new (LogNotEnded fault) = ⊥
-NotApplied old new OutOfMemory = Unchanged old new
+NotApplied old new OutOfMemory = IsAsBefore old new
 
--- a message is kept now, and nothing more was handed on
+-- a message is undelivered now, and nothing more was handed on
 pub record Fetches (old : Tailer) (i : ℕ) (m : Message) (new : Tailer) : Type 0 where
   pub end : Taking
   pub now : new ≡ with_lane old i end (Some m)
   pub lane : (d : Taking) → lane_of end ≡ lane_of (slice_index_or old.ends i d)
   pub closed : (d : Taking) → end.closed ≡ (slice_index_or old.ends i d).closed
   pub all_same : (d : Taking) → end.closed ≡ true → StaysCounted (slice_index_or old.ends i d) end
-  pub same : handed_all new.ends new.kept ≡ handed_all old.ends old.kept
+  pub same : handed_all new.ends new.undelivered ≡ handed_all old.ends old.undelivered
 
 -- the lane has no more
 pub record FindsNone (old : Tailer) (i accepted : ℕ) (new : Tailer) : Type 0 where
@@ -71,18 +71,18 @@ pub record FindsNone (old : Tailer) (i accepted : ℕ) (new : Tailer) : Type 0 w
   pub closed : (d : Taking) → end.closed ≡ (slice_index_or old.ends i d).closed
   pub all_same : (d : Taking) → end.closed ≡ true → StaysCounted (slice_index_or old.ends i d) end
   pub looked : (d : Taking) → loads_of end ≡ loads_of (slice_index_or old.ends i d) + 1
-  pub same : handed_all new.ends new.kept ≡ handed_all old.ends old.kept
+  pub same : handed_all new.ends new.undelivered ≡ handed_all old.ends old.undelivered
   pub accepted_is : accepted ≡ length end.got
   pub all : counted end ≡ length end.got
 
-pub record HandsKept (old : Tailer) (i : ℕ) (m : Message) (new : Tailer) : Type 0 where
+pub record HandsUndelivered (old : Tailer) (i : ℕ) (m : Message) (new : Tailer) : Type 0 where
   pub shown : Contents
   pub handed : IsHanded old.shadow m shown
-  pub now : new ≡ with_shadow (with_kept old i None) shown
+  pub now : new ≡ with_shadow (with_undelivered old i None) shown
 
 abbrev pub NotHanded : Tailer → Tailer → StepFault → Type 0
 NotHanded old new AlreadyActive = ⊥
 NotHanded old new (Stopped s) = ⊥
 NotHanded old new BadLane = ⊥
 NotHanded old new (LogNotEnded fault) = ⊥
-NotHanded old new OutOfMemory = Unchanged old new
+NotHanded old new OutOfMemory = IsAsBefore old new

@@ -31,17 +31,17 @@ pub record Promoted (start : Namespace) (base : ℕ) (given : List Answer) (x : 
   pub none_held : x.shadow.held ≡ []
   pub ended : EndsInEnd given
   pub log_end : end_of_log base start (given_in given) ≡ Ok (record { last = x.shadow.last; namespace = x.shadow.namespace })
-  pub taken : AllTaken x.ends x.kept
+  pub taken : AllTaken x.ends x.undelivered
 
 -- the final flush, from a standby that has read the log and drained its lanes
 abbrev pub Finishes : Tailer → Tailer → Result Active PromoteFault → Type 0
 Finishes old new (Ok a) =
     (new.active ≡ true) × (a.last ≡ new.shadow.last) × (a.flushed ≡ count_by is_flush new.shadow.history) × (new.ends ≡ old.ends)
-    × ((start : Namespace) (base : ℕ) (given : List Answer) → StandsAt start base given old → old.rest ≡ [] → EndsInEnd given → AllTaken old.ends old.kept → Promoted start base given new × StandsAt start base given new)
+    × ((start : Namespace) (base : ℕ) (given : List Answer) → StandsAt start base given old → old.rest ≡ [] → EndsInEnd given → AllTaken old.ends old.undelivered → Promoted start base given new × StandsAt start base given new)
     × KeepsSettings old.shadow new.shadow
 Finishes old new (Err (promote_fault.Step fault.OutOfMemory)) =
     (new.active ≡ old.active) × (new.stop ≡ None) × (new.ends ≡ old.ends)
-    × ((start : Namespace) (base : ℕ) (given : List Answer) → StandsAt start base given old → old.rest ≡ [] → EndsInEnd given → AllTaken old.ends old.kept → StandsAt start base given new)
+    × ((start : Namespace) (base : ℕ) (given : List Answer) → StandsAt start base given old → old.rest ≡ [] → EndsInEnd given → AllTaken old.ends old.undelivered → StandsAt start base given new)
     × KeepsSettings old.shadow new.shadow
 Finishes old new (Err (promote_fault.Step fault.AlreadyActive)) = ⊥
 Finishes old new (Err (promote_fault.Step (fault.Stopped s))) = ⊥
@@ -54,7 +54,7 @@ Finishes old new (Err promote_fault.IntakeOpen) = ⊥
 abbrev pub Prepares : Tailer → List Answer → Tailer → Result (Unit {0}) StepFault → Type 0
 Prepares old answers new result =
     Carries old answers new × SameEnds old.ends new.ends × (has_begun new ≡ has_begun old) × (new.active ≡ old.active)
-    × MatchResult result (λ _. (new.stop ≡ None) × (new.rest ≡ []) × EndsInEnd answers × AllTaken new.ends new.kept) (WhyEnded answers new)
+    × MatchResult result (λ _. (new.stop ≡ None) × (new.rest ≡ []) × EndsInEnd answers × AllTaken new.ends new.undelivered) (WhyEnded answers new)
     × KeepsSettings old.shadow new.shadow
 
 -- where the answer is the fault of the source

@@ -9,7 +9,7 @@ use Rattle.nn_tailer.specs.declared.standby.Choice.TheVariants.{Edit, Lane}
 use Rattle.nn_tailer.specs.declared.standby.Stepped.{Stepped}
 use Rattle.nn_tailer.specs.declared.fault.StepFault.{StepFault}
 use Rattle.nn_tailer.specs.declared.fault.StepFault.TheVariants as fault
-use Rattle.nn_tailer.specs.Tailing.{has_begun, Tailer, Carries, StandsAt, lane_at, kept_at}
+use Rattle.nn_tailer.specs.Tailing.{has_begun, Tailer, Carries, StandsAt, lane_at, undelivered_at}
 use Rattle.nn_tailer.specs.Reads.{StopsWith, StopsFor}
 use Rattle.nn_tailer.specs.Steps.{IsEdited, NotEdited}
 use Rattle.nn_tailer.specs.LaneSteps.{SameEnds, LaneMoves}
@@ -34,13 +34,13 @@ NotStepped old choice answers new (fault.LogNotEnded f) = (choice ≡ Edit) × N
 NotStepped old choice answers new fault.OutOfMemory =
     ((choice ≡ Edit) × NotEdited old answers new fault.OutOfMemory) ⊎ ((dn : ℕ) × (i : ℕ) × (choice ≡ Lane dn) × (answers ≡ []) × IsPlace old dn i × LaneMoves old i new (Err fault.OutOfMemory))
 
--- the lane at this place is as it was: its end, and the message of it that is kept
+-- the lane at this place is as it was: its end, and the message of it that is undelivered
 abbrev pub SameLane : Tailer → ℕ → Tailer → Type 0
-SameLane old k new = ((e : Taking) → lane_at new k e ≡ lane_at old k e) × (kept_at new k ≡ kept_at old k)
+SameLane old k new = ((e : Taking) → lane_at new k e ≡ lane_at old k e) × (undelivered_at new k ≡ undelivered_at old k)
 
 -- what a step leaves: one of the log leaves all lanes, and one of a lane the other lanes, the segment in hand and the stop
 abbrev pub Leaves : Tailer → Choice → Tailer → Type 0
-Leaves old Edit new = (new.ends ≡ old.ends) × (new.kept ≡ old.kept)
+Leaves old Edit new = (new.ends ≡ old.ends) × (new.undelivered ≡ old.undelivered)
 Leaves old (Lane dn) new = (new.rest ≡ old.rest) × (new.stop ≡ old.stop) × ((k : ℕ) → dn ≢ k + 1 → SameLane old k new)
 
 module _ {S : Type 0} (gives : S → Answer → S → Type 0) where

@@ -38,7 +38,7 @@ OnceAsked old r new (Err fault.OutOfMemory) = ⊥
 -- the lanes and marks are as they were
 pub record SameLanes (old new : Tailer) : Type 0 where
   pub ends : new.ends ≡ old.ends
-  pub kept : new.kept ≡ old.kept
+  pub undelivered : new.undelivered ≡ old.undelivered
   pub begun : has_begun new ≡ has_begun old
   pub active : new.active ≡ old.active
   pub settings : KeepsSettings old.shadow new.shadow

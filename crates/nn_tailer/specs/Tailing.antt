@@ -18,7 +18,7 @@ use Rattle.nn_segment.specs.LogEnd.{StopCause, stop_number, LogStop, LogEnd, end
 pub record Tailer : Type 0 where
   pub shadow : Contents
   pub ends : List Taking
-  pub kept : List (Option Message)  -- for each lane the message that was taken and not handed on, because memory ran out
+  pub undelivered : List (Option Message)  -- for each lane the message that was taken and not handed on, because memory ran out
   pub rest : List Tx  -- what is left of the segment in hand
   pub stop : Option Stop
   pub active : Bool  -- whether it was promoted
@@ -27,7 +27,7 @@ pub record Tailer : Type 0 where
 abbrev pub has_begun : Tailer → Bool
 has_begun x = x.shadow.phase.active
 
--- the messages that were handed on: all that were taken, without one that is kept
+-- the messages that were handed on: all that were taken, without one that is undelivered
 abbrev pub handed : List Message → Option Message → List Message
 handed got None = got
 handed got (Some m) = take (length got - 1) got
@@ -43,23 +43,23 @@ by_node ts zero = []
 by_node ts (suc k) = slice_index_or ts k []
 
 abbrev pub lanes_of : Tailer → Lanes
-lanes_of x = by_node (handed_all x.ends x.kept)
+lanes_of x = by_node (handed_all x.ends x.undelivered)
 
--- a kept message is the last that was taken of its lane
-abbrev pub IsKept : ℕ → Taking → Option Message → Type 0
-IsKept dn e None = Unit {0}
-IsKept dn e (Some m) = (before : List Message) × (e.got ≡ before ++ m ∷ []) × (m.number ≡ length e.got) × (m.dn ≡ dn) × (length e.got ≤ counted e)
+-- a undelivered message is the last that was taken of its lane
+abbrev pub IsUndelivered : ℕ → Taking → Option Message → Type 0
+IsUndelivered dn e None = Unit {0}
+IsUndelivered dn e (Some m) = (before : List Message) × (e.got ≡ before ++ m ∷ []) × (m.number ≡ length e.got) × (m.dn ≡ dn) × (length e.got ≤ counted e)
 
 -- the lanes are those of the DataNodes from this one on
-abbrev pub AreKept : ℕ → List Taking → List (Option Message) → Type 0
-AreKept dn [] [] = Unit {0}
-AreKept dn [] (k ∷ ks) = ⊥
-AreKept dn (e ∷ es) [] = ⊥
-AreKept dn (e ∷ es) (k ∷ ks) = (node_of e ≡ dn) × IsKept dn e k × AreKept (dn + 1) es ks
+abbrev pub AreUndelivered : ℕ → List Taking → List (Option Message) → Type 0
+AreUndelivered dn [] [] = Unit {0}
+AreUndelivered dn [] (k ∷ ks) = ⊥
+AreUndelivered dn (e ∷ es) [] = ⊥
+AreUndelivered dn (e ∷ es) (k ∷ ks) = (node_of e ≡ dn) × IsUndelivered dn e k × AreUndelivered (dn + 1) es ks
 
 -- what is true of every standby
 pub record Keeps (x : Tailer) : Type 0 where
-  pub lanes : AreKept 1 x.ends x.kept
+  pub lanes : AreUndelivered 1 x.ends x.undelivered
   pub few : length x.ends ≤ 256
   pub count : length x.shadow.numbers ≡ length x.ends
   pub numbers : (dn : ℕ) → number_in x.shadow.numbers dn ≡ length (lanes_of x dn)
@@ -98,7 +98,7 @@ pub record StandsAt (start : Namespace) (base : ℕ) (given : List Answer) (x : 
   pub log : log_in base given ≡ txs ++ x.rest
   pub goes_on : x.stop ≡ None → (later : List Segment) → end_of_log base start (given_in given ++ later) ≡ way_on x later
   pub stops : (s : Stop) → x.stop ≡ Some s → StopsLog start base given s
-  pub ended : has_begun x ≡ true → (x.rest ≡ []) × EndsInEnd given × AllTaken x.ends x.kept
+  pub ended : has_begun x ≡ true → (x.rest ≡ []) × EndsInEnd given × AllTaken x.ends x.undelivered
 
 -- wherever it stood, it stands there with these answers more
 abbrev pub Carries : Tailer → List Answer → Tailer → Type 0
@@ -111,22 +111,22 @@ LogStops old answers s = (start : Namespace) (base : ℕ) (given : List Answer) 
 -- ---- changed standbys
 
 abbrev pub with_lane : Tailer → ℕ → Taking → Option Message → Tailer
-with_lane x i e k = record { shadow = x.shadow; ends = slice_set x.ends i e; kept = slice_set x.kept i k; rest = x.rest; stop = x.stop; active = x.active }
+with_lane x i e k = record { shadow = x.shadow; ends = slice_set x.ends i e; undelivered = slice_set x.undelivered i k; rest = x.rest; stop = x.stop; active = x.active }
 
 abbrev pub with_ends : Tailer → List Taking → Tailer
-with_ends x es = record { shadow = x.shadow; ends = es; kept = x.kept; rest = x.rest; stop = x.stop; active = x.active }
+with_ends x es = record { shadow = x.shadow; ends = es; undelivered = x.undelivered; rest = x.rest; stop = x.stop; active = x.active }
 
-abbrev pub with_kept : Tailer → ℕ → Option Message → Tailer
-with_kept x i k = record { shadow = x.shadow; ends = x.ends; kept = slice_set x.kept i k; rest = x.rest; stop = x.stop; active = x.active }
+abbrev pub with_undelivered : Tailer → ℕ → Option Message → Tailer
+with_undelivered x i k = record { shadow = x.shadow; ends = x.ends; undelivered = slice_set x.undelivered i k; rest = x.rest; stop = x.stop; active = x.active }
 
 abbrev pub with_shadow : Tailer → Contents → Tailer
-with_shadow x s = record { shadow = s; ends = x.ends; kept = x.kept; rest = x.rest; stop = x.stop; active = x.active }
+with_shadow x s = record { shadow = s; ends = x.ends; undelivered = x.undelivered; rest = x.rest; stop = x.stop; active = x.active }
 
 abbrev pub with_rest : Tailer → List Tx → Tailer
-with_rest x rest = record { shadow = x.shadow; ends = x.ends; kept = x.kept; rest = rest; stop = x.stop; active = x.active }
+with_rest x rest = record { shadow = x.shadow; ends = x.ends; undelivered = x.undelivered; rest = rest; stop = x.stop; active = x.active }
 
 abbrev pub stopping : Tailer → Stop → Tailer
-stopping x s = record { shadow = x.shadow; ends = x.ends; kept = x.kept; rest = x.rest; stop = Some s; active = x.active }
+stopping x s = record { shadow = x.shadow; ends = x.ends; undelivered = x.undelivered; rest = x.rest; stop = Some s; active = x.active }
 
 -- the lanes are the same ones, and as closed as before
 abbrev pub lanes_named : Tailer → List LaneId
@@ -135,5 +135,5 @@ lanes_named x = map lane_of x.ends
 abbrev pub lane_at : Tailer → ℕ → Taking → Taking
 lane_at x i d = slice_index_or x.ends i d
 
-abbrev pub kept_at : Tailer → ℕ → Option Message
-kept_at x i = slice_index_or x.kept i None
+abbrev pub undelivered_at : Tailer → ℕ → Option Message
+undelivered_at x i = slice_index_or x.undelivered i None

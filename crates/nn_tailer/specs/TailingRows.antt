@@ -30,9 +30,9 @@ second = message 1 2
 abbrev other : Message
 other = message 2 1
 
--- a message that was taken and is kept is not handed on yet
-kept_back : (handed (first ∷ second ∷ []) (Some second) ≡ first ∷ []) × (handed (first ∷ second ∷ []) None ≡ first ∷ second ∷ [])
-kept_back = (refl, refl)
+-- a message that was taken and is undelivered is not handed on yet
+undelivered_back : (handed (first ∷ second ∷ []) (Some second) ≡ first ∷ []) × (handed (first ∷ second ∷ []) None ≡ first ∷ second ∷ [])
+undelivered_back = (refl, refl)
 
 -- an end that saw so many messages accepted when it last looked
 abbrev taking : LaneId → List Message → ℕ → Bool → Taking
@@ -62,8 +62,8 @@ not_closed l taken = both_ways _ refl taken.0
 not_taken : (l : LaneId) → AllTaken (taking l (first ∷ []) 2 true ∷ []) (None ∷ []) → ⊥
 not_taken l taken = let e : 1 ≡ 2 = taken.2 in omega (arith, e)
 
-kept_still : (l : LaneId) → AllTaken (taking l (first ∷ []) 1 true ∷ []) (Some first ∷ []) → ⊥
-kept_still l taken = let e : Some first ≡ None = taken.1 in absurd (cc)
+undelivered_still : (l : LaneId) → AllTaken (taking l (first ∷ []) 1 true ∷ []) (Some first ∷ []) → ⊥
+undelivered_still l taken = let e : Some first ≡ None = taken.1 in absurd (cc)
 
 numbers_of_steps : map number_of_step (AlreadyActive ∷ Stopped (record { txid = 3; number = 57 }) ∷ BadLane ∷ LogNotEnded Gone ∷ OutOfMemory ∷ []) ≡ 53 ∷ 51 ∷ 56 ∷ 54 ∷ 55 ∷ []
 numbers_of_steps = refl
@@ -136,5 +136,5 @@ not_without_a_look : (x : Tailer) (l : LaneId) → let y = serving x (taking l [
 not_without_a_look x l h = let e : 0 ≡ 1 = h.4 (taking l [] 0 false) in omega (arith, e)
 
 -- Handed comes of a message
-not_without_a_message : (x : Tailer) (l : LaneId) → let y = record (serving x (taking l [] 0 false ∷ [])) { kept = None ∷ [] } in LaneMoves y 0 y (Ok (Handed 1 0)) → ⊥
+not_without_a_message : (x : Tailer) (l : LaneId) → let y = record (serving x (taking l [] 0 false ∷ [])) { undelivered = None ∷ [] } in LaneMoves y 0 y (Ok (Handed 1 0)) → ⊥
 not_without_a_message x l h = let e : 0 ≡ 1 = ap (λ ts. length (slice_index_or ts 0 [])) h.lanes in omega (arith, e)

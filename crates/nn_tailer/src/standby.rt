@@ -64,7 +64,7 @@ pub struct Standby {
     // The lane of DataNode 1 first.
     ends: Vec<LaneEnd>,
     // Of each lane the message that was taken and not handed on, because memory ran out.
-    kept: Vec<Option<Message>>,
+    undelivered: Vec<Option<Message>>,
     cursor: Cursor,
     // An edit that does not apply stops the shadow too; a segment that begins too high stops the standby alone.
     stop: Option<Stop>,
@@ -77,9 +77,9 @@ impl Model for Standby {
 
     ghost Value = { Tailer };
 
-    ghost view = { λ s. record { shadow = s.shadow; ends = s.ends.items; kept = s.kept.items; rest = s.cursor; stop = s.stop; active = s.active } };
+    ghost view = { λ s. record { shadow = s.shadow; ends = s.ends.items; undelivered = s.undelivered.items; rest = s.cursor; stop = s.stop; active = s.active } };
 
-    ghost invariant = { λ s. Keeps (record { shadow = s.shadow; ends = s.ends.items; kept = s.kept.items; rest = s.cursor; stop = s.stop; active = s.active }) };
+    ghost invariant = { λ s. Keeps (record { shadow = s.shadow; ends = s.ends.items; undelivered = s.undelivered.items; rest = s.cursor; stop = s.stop; active = s.active }) };
 }
 
 impl Standby {
@@ -98,7 +98,7 @@ impl Standby {
         ensures err { IfErr result (λ back. back ≡ ends) }
     {
         let lanes = ends.len();
-        let Ok(kept) = nothing_kept(alloc, lanes) else {
+        let Ok(undelivered) = all_delivered(alloc, lanes) else {
             return Err(ends);
         };
         let Ok(shadow) = Shadow::new(alloc, lanes as u16, settings) else {
@@ -107,7 +107,7 @@ impl Standby {
         Ok(Standby {
             shadow,
             ends,
-            kept,
+            undelivered,
             cursor: Cursor::new(alloc),
             stop: None,
             active: false,
@@ -118,7 +118,7 @@ impl Standby {
     ///
     /// A transaction comes from the segment in hand, or else from the source's next item, of which those applied before
     /// are passed over. The first cause of refusal is answered: 53, 51, 56, 54, 55. After 54 and 55 nothing is lost: a
-    /// segment stays in hand, a message stays kept, and the step may be made again. After 51 no step is made any more.
+    /// segment stays in hand, a message stays undelivered, and the step may be made again. After 51 no step is made any more.
     pub fn step<S: SegmentSource>(
         &mut self,
         source: &mut S,
@@ -207,7 +207,7 @@ impl Standby {
         let Standby {
             shadow,
             ends,
-            kept: _,
+            undelivered: _,
             cursor: _,
             stop: _,
             active: _,
@@ -216,9 +216,9 @@ impl Standby {
     }
 }
 
-// No message is kept, for each of so many lanes.
-fn nothing_kept(alloc: Global, lanes: usize) -> Result<Vec<Option<Message>>, AllocError>
-    ensures { IfOk result (λ kept. kept.items ≡ replicate lanes None) }
+// No message is undelivered, for each of so many lanes.
+fn all_delivered(alloc: Global, lanes: usize) -> Result<Vec<Option<Message>>, AllocError>
+    ensures { IfOk result (λ undelivered. undelivered.items ≡ replicate lanes None) }
 {
     Vec::from_elem(alloc, None, lanes)
 }

@@ -3,7 +3,7 @@ ghost use Rattle.nn_drive.specs.Driven.{AreLanes};
 
 use crate::sources::{AT_ANY_TIME, FailsOnce, Pace, Waiting, new_watched};
 use crate::values::{FIRST, Shared, TWO_MARKS, Text, log_of, report_of};
-use nn_drive::{drive, with_lanes};
+use nn_drive::{ReportSource, drive, with_lanes};
 use nn_lane::Reporter;
 use nn_tailer::Standby;
 use nn_types::Settings;
@@ -294,7 +294,11 @@ fn refused_by<R: Threads + Wait + Sync>(
 }
 
 // Closes the lanes of these workers, and promotes their standby, unless the log stops it.
-fn promoted(workers: &Vec<(Waiting, Reporter)>, standby: Standby, log: FailsOnce) -> Standby
+pub fn promoted<S: ReportSource>(
+    workers: &Vec<(S, Reporter)>,
+    standby: Standby,
+    log: FailsOnce,
+) -> Standby
     requires { AreLanes workers.now.items standby.ends }
     ensures { AreLanes workers.now.items result.ends }
 {

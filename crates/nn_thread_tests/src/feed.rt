@@ -1,7 +1,9 @@
 //! What no clause of a feed says: it goes on, it is full at four, and a feeder that is gone tells the other end.
 use crate::sources::{AT_ANY_TIME, FailsOnce, Pace, Watched, new_watched};
 use crate::values::{Shared, TWO_MARKS, Text, log_of, reaches};
-use nn_feed::{FeedFault, Feeder, Ran, Refusal, Told, feed, meet, run_feeder, run_thread};
+use nn_feed::{
+    Delivered, FeedFault, Feeder, FeederExit, Refusal, feed, meet, run_feeder, run_thread,
+};
 use nn_segment::{Item, SegmentSource, SourceFault};
 use std::alloc::Global;
 use std::process::Abort;
@@ -158,12 +160,12 @@ fn put_and_got<R: Threads + Wait + Sync>(
     ))
 }
 
-fn put_by(ran: Ran<Watched>) -> Result<u64, u8> {
-    let Ran { source, outcome } = ran;
+fn put_by(ran: FeederExit<Watched>) -> Result<u64, u8> {
+    let FeederExit { source, outcome } = ran;
     drop(source);
     match outcome {
         Ok(told) => {
-            let Told { feeder, end } = told;
+            let Delivered { feeder, end } = told;
             drop(feeder);
             match end {
                 Ok(count) => Ok(count),
@@ -372,7 +374,7 @@ fn run_for_nobody(rt: &impl Wait, alloc: Global, fails_at: u64) -> Option<bool> 
         return None;
     };
     drop(end);
-    let Ran { source, outcome } = run_thread(rt, source, feeder);
+    let FeederExit { source, outcome } = run_thread(rt, source, feeder);
     drop(source);
     match outcome {
         Err(Refusal::Gone { answer, .. }) => Some(answer.is_ok()),

@@ -27,10 +27,10 @@ fn usual_options() -> Options {
 }
 
 // What a run prints, and its status. No write fails here, so a failed write shows as status 9.
-fn printed(alloc: Global, reader: impl Read + Drop) -> (Vec<u8>, u8) {
+fn printed(alloc: Global, options: &Options, reader: impl Read + Drop) -> (Vec<u8>, u8) {
     let mut writer = Writer::new(Vec::new(alloc));
     let mut input = Reader::new(reader);
-    let status = match run(alloc, &usual_options(), &mut input, &mut writer) {
+    let status = match run(alloc, options, &mut input, &mut writer) {
         Ok(end) => end.status,
         Err(_) => 9,
     };
@@ -97,25 +97,68 @@ const LINES: &[u8] =
 
 const LISTING: &[u8] = b"txid 3\ndir \"/\"\ndir \"/a\"\nblocks 0 safe 0 needed 0 mode off\n";
 
-#[test]
-fn failing_readers(rt: HostRuntime) {
-    // The reads are one for each byte and one for the end.
-    let calls = LINES.len() as u64 + 1;
-    for fail_at in 0..calls {
-        fails_at(&rt, rt.alloc(), fail_at, b"fault 8\n", 1);
-    }
-    fails_at(&rt, rt.alloc(), calls, LISTING, 0);
+// An image of the root alone, and behind it the same lines.
+const BEHIND_AN_IMAGE: &[u8] =
+    b"{\"awaiting\":[],\"image\":\"hdfs-standby\",\"last_block\":1073741824,\"last_gen\":1000,\"profile\":1,\"txid\":0,\"version\":2}\n{\"end\":0}\n{\"op\":\"OP_START_LOG_SEGMENT\",\"txid\":1}\n{\"op\":\"OP_MKDIR\",\"path\":\"/a\",\"txid\":2}\n{\"op\":\"OP_END_LOG_SEGMENT\",\"txid\":3}\n";
+
+// An image that counts a path too many, and lines behind it.
+const BEHIND_A_BAD_IMAGE: &[u8] =
+    b"{\"awaiting\":[],\"image\":\"hdfs-standby\",\"last_block\":1073741824,\"last_gen\":1000,\"profile\":1,\"txid\":0,\"version\":2}\n{\"end\":1}\n{\"op\":\"OP_START_LOG_SEGMENT\",\"txid\":1}\n";
+
+// An input, whether it begins with an image, and what is printed for it.
+#[derive(Clone, Copy)]
+struct Given {
+    bytes: &'static [u8],
+    from_image: bool,
+    want: &'static [u8],
+    status: u8,
 }
 
-fn fails_at(rt: &impl Abort, alloc: Global, fail_at: u64, want: &[u8], status: u8) {
-    let reader = Slow {
+#[test]
+fn failing_readers(rt: HostRuntime) {
+    let log = Given {
         bytes: LINES,
+        from_image: false,
+        want: LISTING,
+        status: 0,
+    };
+    let behind_an_image = Given {
+        bytes: BEHIND_AN_IMAGE,
+        from_image: true,
+        ..log
+    };
+    let behind_a_bad_image = Given {
+        bytes: BEHIND_A_BAD_IMAGE,
+        want: b"fault 64 image\n",
+        status: 1,
+        ..behind_an_image
+    };
+    for given in [log, behind_an_image, behind_a_bad_image] {
+        let failed = Given {
+            want: b"fault 8\n",
+            status: 1,
+            ..given
+        };
+        // The reads are one for each byte and one for the end.
+        let calls = given.bytes.len() as u64 + 1;
+        for fail_at in 0..calls {
+            fails_at(&rt, rt.alloc(), fail_at, &failed);
+        }
+        fails_at(&rt, rt.alloc(), calls, &given);
+    }
+}
+
+fn fails_at(rt: &impl Abort, alloc: Global, fail_at: u64, given: &Given) {
+    let mut options = usual_options();
+    options.from_image = given.from_image;
+    let reader = Slow {
+        bytes: given.bytes,
         reads: 0,
         fail_at,
     };
-    let (text, ended) = printed(alloc, reader);
-    assert_eq!(rt; text.as_slice(), want, "at {fail_at}");
-    assert_eq!(rt; ended, status, "at {fail_at}");
+    let (text, ended) = printed(alloc, &options, reader);
+    assert_eq!(rt; text.as_slice(), given.want, "at {fail_at}");
+    assert_eq!(rt; ended, given.status, "at {fail_at}");
 }
 
 #[test]
@@ -186,7 +229,7 @@ fn longest_input(rt: HostRuntime) {
         (MAX_INPUT - 1, 1, NOTHING),
         (MAX_INPUT, 1, "fault 8\n"),
     ] {
-        let (text, _) = printed(rt.alloc(), Feeds { left, chunk });
+        let (text, _) = printed(rt.alloc(), &usual_options(), Feeds { left, chunk });
         assert_eq!(rt; text.as_slice(), want.as_bytes(), "at {left} by {chunk}");
     }
 }
@@ -255,7 +298,7 @@ fn long_segments(rt: HostRuntime) {
 fn prints(rt: &impl Abort, alloc: Global, long: &Long) {
     let input = text_of(alloc, long).unwrap_or(Vec::new(alloc));
     assert_eq!(rt; input.len(), long.bytes);
-    let (text, status) = printed(alloc, input.as_slice());
+    let (text, status) = printed(alloc, &usual_options(), input.as_slice());
     assert!(rt; text.starts_with(long.want.as_bytes()), "at {}", long.bytes);
     assert_eq!(rt; status, long.status);
     let (same, status) = printed_without_devices(alloc, input);
@@ -359,7 +402,13 @@ fn no_arguments_to_be_had(rt: HostRuntime) {
 
 #[test]
 fn failed_writes_are_status_1(rt: HostRuntime) {
-    for line in ["nn_standby", "nn_standby --threads", "nn_standby --help"] {
+    for line in [
+        "nn_standby",
+        "nn_standby --threads",
+        "nn_standby --help",
+        "nn_standby --version",
+        "nn_standby --explain 29",
+    ] {
         assert_eq!(rt;
             failed_write(&rt, rt.alloc(), line),
             Some((1, 6)),

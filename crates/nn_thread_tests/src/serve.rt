@@ -2,15 +2,16 @@
 //! are of one block, which only the log of the last test names.
 ghost use Rattle.std.specs.Prelude.{◌≡◌, ◌≤◌, length, IfSome};
 ghost use Rattle.nn_tailer.specs.Public.{AreNew};
+ghost use Rattle.nn_drive.specs.Driven.{AreLanes};
 
+use crate::drive::promoted;
 use crate::sources::{AT_ANY_TIME, FailsOnce, Pace, Watched, new_watched};
 use crate::values::{FIRST, Shared, TWO_MARKS, Text, log_of, report_of};
 use nn_device::{Reader, Writer};
 use nn_drive::{
-    Left, Operator, ReportSource, Served, Unattended, Unfed, Unserved, Wish, let_go, serve,
-    with_lanes,
+    Left, Operator, ReportSource, Served, Unattended, Unfed, Unserved, Wish, serve, with_lanes,
 };
-use nn_lane::{LaneEnd, Refusal};
+use nn_lane::{LaneEnd, Refusal, Reporter};
 use nn_listing::{listing, push_tables};
 use nn_tailer::Standby;
 use nn_types::{Report, Settings};
@@ -44,6 +45,14 @@ const CLOSES_IT: Text = (
 "#,
 );
 
+// The first block of memory that is asked for, half of what a process can address; and the first one of later times.
+const LARGEST_BLOCK: usize = 70_368_744_177_664;
+
+const LATER_BLOCK: usize = 1_048_576;
+
+// More blocks than a process has room for between its other memory.
+const MOST_BLOCKS: usize = 1_000_000;
+
 // A DataNode that gives one report again and again, so often, and then none.
 #[derive(Drop)]
 struct DataNode {
@@ -73,13 +82,14 @@ impl ReportSource for DataNode {
 }
 
 // Wishes a promotion once each of so many DataNodes has sent so many messages, and the log has come so far. It shows the
-// log's source how far it has come.
+// log's source how far the log has come, or how many messages each DataNode has sent, and in the end that it wished.
 #[derive(Drop)]
 struct Until {
     shared: Arc<Shared, Global>,
     nodes: u16,
     messages: u64,
     txid: u64,
+    shows_messages: bool,
 }
 
 impl Operator for Until {
@@ -89,11 +99,14 @@ impl Operator for Until {
 
     fn ask(&mut self, standby: &Standby, _running: usize) -> Wish {
         let last = standby.shadow().last_txid();
-        self.shared.asked.store(last, Ordering::SeqCst);
-        if last < self.txid || !have_sent(standby, self.nodes, self.messages) {
-            return Wish::GoOn;
+        let sent = least_sent(standby, self.nodes);
+        if last >= self.txid && sent >= self.messages {
+            self.shared.asked.store(u64::MAX, Ordering::SeqCst);
+            return Wish::Promote;
         }
-        Wish::Promote
+        let shown = if self.shows_messages { sent } else { last };
+        self.shared.asked.store(shown, Ordering::SeqCst);
+        Wish::GoOn
     }
 }
 
@@ -119,14 +132,52 @@ impl Operator for Saving {
     }
 }
 
-// Whether each of the first DataNodes has sent so many messages.
-fn have_sent(standby: &Standby, nodes: u16, messages: u64) -> bool {
+// How many messages each of the first DataNodes has sent at least.
+fn least_sent(standby: &Standby, nodes: u16) -> u64 {
+    let mut least = u64::MAX;
     for i in 0..nodes {
-        if standby.shadow().last_number(i.saturating_add(1)) < messages {
-            return false;
-        }
+        least = least.min(standby.shadow().last_number(i.saturating_add(1)));
     }
-    true
+    least
+}
+
+// Takes all memory that is left whenever it is asked.
+#[derive(Drop)]
+struct Hoarding {
+    alloc: Global,
+    // There is room for as many as `MOST_BLOCKS`.
+    blocks: Vec<Vec<u8>>,
+}
+
+impl Operator for Hoarding {
+    ghost use Rattle.std.specs.Prelude.{⊤};
+
+    ghost asks = { λ o x n w p. ⊤ };
+
+    fn ask(&mut self, _standby: &Standby, _running: usize) -> Wish {
+        let mut size = if self.blocks.is_empty() {
+            LARGEST_BLOCK
+        } else {
+            LATER_BLOCK
+        };
+        for _ in 0..MOST_BLOCKS {
+            if size == 0 || self.blocks.len() >= MOST_BLOCKS {
+                return Wish::GoOn;
+            }
+            match Vec::with_capacity(self.alloc, size) {
+                Ok(block) => self.keep(block),
+                Err(_) => size /= 2,
+            }
+        }
+        Wish::GoOn
+    }
+}
+
+impl Hoarding {
+    // There is room for it.
+    fn keep(&mut self, block: Vec<u8>) {
+        let _ = self.blocks.push(block);
+    }
 }
 
 // A standby in service, and what comes of it.
@@ -143,9 +194,12 @@ struct Service {
     pace: Pace,
     // The log's call that fails, from 0.
     fails_at: u64,
-    // When the operator wishes a promotion.
+    // When the operator wishes a promotion, and whether it shows the log how many messages came.
     messages: u64,
     txid: u64,
+    shows_messages: bool,
+    // The log that the standby was promoted over before, or stopped by.
+    before: &'static [Text],
     // The last txid, or the fault's number; and the last txid once it was gone on from.
     end: Result<u64, u8>,
     later: Option<u64>,
@@ -168,6 +222,8 @@ const ENDLESS: Service = Service {
     fails_at: u64::MAX,
     messages: 100,
     txid: 4,
+    shows_messages: false,
+    before: &[],
     end: Ok(4),
     later: None,
 };
@@ -178,6 +234,33 @@ const ALWAYS_READY: Service = Service {
     log: &[TWO_MARKS; 1000],
     pace: AT_ANY_TIME,
     messages: 300,
+    txid: 2,
+    end: Ok(2),
+    ..ENDLESS
+};
+
+// The second segment is held back until each DataNode sent 1,000 messages: a log that is slow keeps back no report.
+const SLOW_LOG: Service = Service {
+    name: "slow log",
+    pace: Pace {
+        gates: 2,
+        more: 1000,
+        ..AT_ANY_TIME
+    },
+    messages: 1000,
+    shows_messages: true,
+    ..ENDLESS
+};
+
+// The log has no end before its operator wishes the promotion.
+const FENCED: Service = Service {
+    name: "fenced",
+    log: &[TWO_MARKS],
+    pace: Pace {
+        gates: 2,
+        more: 3,
+        ..AT_ANY_TIME
+    },
     txid: 2,
     end: Ok(2),
     ..ENDLESS
@@ -221,6 +304,30 @@ const STOPS: Service = Service {
     ..ENDLESS
 };
 
+// A standby that was promoted before, and one that was stopped: no thread is started.
+const ACTIVE: Service = Service {
+    name: "active",
+    before: &[TWO_MARKS],
+    end: Err(53),
+    ..ENDLESS
+};
+
+const STOPPED: Service = Service {
+    name: "stopped",
+    before: &[TWO_MORE],
+    end: Err(51),
+    ..ENDLESS
+};
+
+// Its standby goes on once there is memory again.
+const WITHOUT_MEMORY: Service = Service {
+    name: "without memory",
+    pace: AT_ANY_TIME,
+    end: Err(55),
+    later: Some(4),
+    ..ENDLESS
+};
+
 // A file whose block the DataNodes report. The second segment is held back until the first one was applied.
 const WITH_A_FILE: Service = Service {
     name: "with a file",
@@ -238,7 +345,18 @@ const WITH_A_FILE: Service = Service {
 
 #[test]
 fn services(rt: HostRuntime) {
-    for service in [ENDLESS, ALWAYS_READY, NODES_256, STAYS, FAILS, STOPS] {
+    for service in [
+        ENDLESS,
+        ALWAYS_READY,
+        SLOW_LOG,
+        FENCED,
+        NODES_256,
+        STAYS,
+        FAILS,
+        STOPS,
+        ACTIVE,
+        STOPPED,
+    ] {
         ends(&rt, rt.alloc(), &service);
     }
 }
@@ -286,6 +404,7 @@ fn operator_of(service: &Service, shared: &Arc<Shared, Global>) -> Option<Until>
         nodes: service.nodes,
         messages: service.messages,
         txid: service.txid,
+        shows_messages: service.shows_messages,
     })
 }
 
@@ -308,7 +427,25 @@ fn served<'a, O: Operator, R: Threads + Wait + Copy + Send + Drop + 'static>(
         return None;
     }
     let standby = standby_over(alloc, ends, image)?;
+    let standby = begun(alloc, service.before, &workers, standby)?;
     Some(serve(rt, alloc, standby, log, workers, operator))
+}
+
+// A standby that was promoted over this log, or stopped by it; none for a log of no segment.
+fn begun(
+    alloc: Global,
+    log: &[Text],
+    workers: &Vec<(DataNode, Reporter)>,
+    standby: Standby,
+) -> Option<Standby>
+    requires { AreLanes workers.now.items standby.ends }
+    ensures { IfSome result (λ s. AreLanes workers.now.items s.ends) }
+{
+    if log.is_empty() {
+        return Some(standby);
+    }
+    let log = FailsOnce::new(log_of(alloc, log)?, u64::MAX);
+    Some(promoted(workers, standby, log))
 }
 
 fn standby_over(alloc: Global, ends: Vec<LaneEnd>, image: &[u8]) -> Option<Standby>
@@ -380,7 +517,7 @@ fn has_left_all(left: &Left<DataNode>, reports: u64, processed: u64) -> bool {
 }
 
 // The standby that came back is promoted over a new source, and its workers end. None for one that the log stopped: there
-// it is let go, and its workers end too.
+// it is closed and dropped, and its workers end too, though their lanes are full.
 fn gone_on<R: Threads + Wait>(
     rt: &R,
     alloc: Global,
@@ -402,7 +539,7 @@ fn gone_on<R: Threads + Wait>(
 fn promoted_over(alloc: Global, service: &Service, standby: Standby) -> Option<u64> {
     let mut standby = standby;
     if standby.stop().is_some() {
-        drop(let_go(standby));
+        standby.close_intake();
         return None;
     }
     let mut log = FailsOnce::new(log_of(alloc, service.log)?, u64::MAX);
@@ -410,6 +547,39 @@ fn promoted_over(alloc: Global, service: &Service, standby: Standby) -> Option<u
     match standby.promote(&mut log) {
         Ok(active) => Some(active.last),
         Err(_) => None,
+    }
+}
+
+// An operator takes all memory, so a step is refused it. Once it is given back, the standby goes on.
+#[test]
+fn without_memory(rt: HostRuntime) {
+    let Some(shared) = Shared::new(rt.alloc()) else {
+        assert!(rt; false, "out of memory");
+        return;
+    };
+    let end = end_without_memory(&rt, rt.alloc(), &shared);
+    assert_eq!(rt; end, Some((WITHOUT_MEMORY.end, WITHOUT_MEMORY.later)));
+    assert_eq!(rt; Arc::strong_count(&shared), 1);
+}
+
+fn end_without_memory<R: Threads + Wait + Copy + Send + Drop + 'static>(
+    rt: &R,
+    alloc: Global,
+    shared: &Arc<Shared, Global>,
+) -> Option<(Result<u64, u8>, Option<u64>)> {
+    let service = &WITHOUT_MEMORY;
+    let Ok(blocks) = Vec::with_capacity(alloc, MOST_BLOCKS) else {
+        return None;
+    };
+    let mut operator = Hoarding { alloc, blocks };
+    let answer = served(rt, alloc, service, shared, &[], &mut operator)?;
+    drop(operator);
+    match answer {
+        Ok(_) => None,
+        Err(unserved) => {
+            let number = unserved.fault.number();
+            Some((Err(number), gone_on(rt, alloc, service, unserved)))
+        }
     }
 }
 

@@ -4,22 +4,21 @@ ghost use Rattle.std.specs.List.{AllZip};
 ghost use Rattle.nn_feed.specs.Ends.{got_by, IsSameEnd};
 ghost use Rattle.nn_tailer.specs.Tailing.{has_begun, Tailer};
 ghost use Rattle.nn_drive.specs.Driven.{HasReported, ArePromised, AreLanes, NotDriven};
-ghost use Rattle.nn_drive.specs.Feeding.{GotMore, FailsOver};
+ghost use Rattle.nn_drive.specs.Feeding.{FailsOver};
 ghost use Rattle.nn_drive.specs.Refusals.{drive_refusal};
 ghost use Rattle.nn_drive.specs.Served.{HasLeft, ArePaired, PromotesOver, IsServed, ComesBack, IsUntouched, IsStopped, IsUnserved, IsRefused};
 ghost use Rattle.nn_drive.specs.Serving.{IsOf};
 ghost use Rattle.nn_drive.specs.declared.driving.DriveFault.{DriveFault as Why};
 
 use super::{Feeding, Left, Running, Served, Unfed, Unserved};
-use crate::driving::{DriveFault, Reports, Worked, all_started, promote, work};
-use crate::feeding::{end_feed, receive, start_feeder_alone, told_fault};
+use crate::driving::{DriveFault, WorkerExit, WorkerPromise, all_started, promote, refusal, work};
+use crate::feeding::{drop_feed, end_feed, start_feed_alone, told_fault};
 use crate::operator::Operator;
 use crate::reporting::ReportSource;
 use crate::rotation::rotate;
-use nn_feed::{FeedEnd, feed};
+use nn_feed::FeedEnd;
 use nn_lane::{LaneEnd, Reporter, meet};
 use nn_segment::SegmentSource;
-use nn_shadow::Shadow;
 use nn_tailer::{Active, Standby};
 use std::alloc::Global;
 use std::snapshot::Snapshot;
@@ -35,7 +34,7 @@ impl<S: ReportSource + Drop> Running<S> {
         ensures { HasLeft S.gives self result }
     {
         let Running { end, handle } = self;
-        let Worked {
+        let WorkerExit {
             source,
             reporter,
             outcome,
@@ -58,12 +57,12 @@ fn start_alone<
     source: S,
     reporter: Reporter,
     ended: Arc<AtomicU64, Global>,
-) -> Option<PromisedHandle<Worked<S>, Reports<S>>>
+) -> Option<PromisedHandle<WorkerExit<S>, WorkerPromise<S>>>
     ensures { IfSome result (λ h. (h.promise.0.value ≡ source) × (h.promise.1.value ≡ reporter)) }
 {
-    let promise = Reports(Snapshot::of(&source), Snapshot::of(&reporter));
+    let promise = WorkerPromise(Snapshot::of(&source), Snapshot::of(&reporter));
     let own = *rt;
-    let run = move || -> Worked<S>
+    let run = move || -> WorkerExit<S>
         ensures { HasReported S.gives source reporter result }
     { work(&own, source, reporter, &ended) };
     thread::spawn_with(rt, promise, run).ok()
@@ -78,7 +77,7 @@ fn start_all_alone<
     alloc: Global,
     workers: Vec<(S, Reporter)>,
     ended: &Arc<AtomicU64, Global>,
-) -> Vec<PromisedHandle<Worked<S>, Reports<S>>>
+) -> Vec<PromisedHandle<WorkerExit<S>, WorkerPromise<S>>>
     ensures { ArePromised workers.items result.items }
 {
     let Ok(mut handles) = Vec::with_capacity(alloc, workers.len()) else {
@@ -99,7 +98,7 @@ fn start_all_alone<
 // Each end with the handle of its reporter's thread.
 fn pair<S: ReportSource + Drop>(
     ends: Vec<LaneEnd>,
-    handles: Vec<PromisedHandle<Worked<S>, Reports<S>>>,
+    handles: Vec<PromisedHandle<WorkerExit<S>, WorkerPromise<S>>>,
     paired: Vec<Running<S>>,
 ) -> Vec<Running<S>>
     requires own { AllZip IsOf ends.items handles.items }
@@ -207,19 +206,6 @@ fn serve_with<
     })
 }
 
-// Drops what a feed still brings, until its source has ended.
-fn drop_feed<'a, R: Wait>(rt: &R, end: &mut FeedEnd<'a, R>)
-    ensures same { IsSameEnd end.old end.new }
-    ensures more { GotMore (got_by end.old) (got_by end.new) }
-{
-    for _ in rt.forever() {
-        if !receive(end) {
-            return;
-        }
-    }
-    unreachable!()
-}
-
 impl<'a, T: SegmentSource + Drop, S: ReportSource, R: Threads + Wait> Unserved<'a, T, S, R> {
     /// Drops what the feed still brings, and joins the source's thread: for as long as the source gives segments or waits.
     /// The standby and the workers come back as they are. The fault is then known as `drive` knows one: with what its
@@ -256,29 +242,6 @@ impl<'a, T: SegmentSource + Drop, S: ReportSource, R: Threads + Wait> Unserved<'
             workers,
         }
     }
-}
-
-// Takes all that lies in closed lanes, and drops it.
-fn empty_all(ends: &mut [LaneEnd]) {
-    for i in 0..ends.len() {
-        let end = &mut ends[i];
-        let most = end.capacity();
-        for _ in 0..most {
-            let _taken = end.take();
-        }
-    }
-}
-
-/// Lets go of a standby whose workers may still run. Its lanes are closed, and what lies in them is dropped: so each
-/// worker learns of the close by its next report, and ends. It waits for none of them.
-pub fn let_go(standby: Standby) -> Shadow
-    ensures { result ≡ standby.shadow }
-{
-    let mut closed = standby;
-    closed.close_intake();
-    let (shadow, mut ends) = closed.into_parts();
-    empty_all(&mut ends);
-    shadow
 }
 
 // A standby that was refused before any thread was started.
@@ -327,11 +290,8 @@ pub fn serve<
     ensures ok { IfOk result (λ r. IsServed O.asks T.gives T.failures standby source workers.items operator.old operator.new r) }
     ensures err { IfErr result (λ u. IsUnserved O.asks T.gives T.failures standby source workers.items operator.old operator.new u) }
 {
-    if standby.is_active() {
-        return Err(refused(alloc, standby, DriveFault::AlreadyActive));
-    }
-    if let Some(stop) = standby.stop() {
-        return Err(refused(alloc, standby, DriveFault::Stopped(stop)));
+    if let Some(fault) = refusal(&standby) {
+        return Err(refused(alloc, standby, fault));
     }
     let Ok(room) = Vec::with_capacity(alloc, workers.len()) else {
         return Err(refused(alloc, standby, DriveFault::OutOfMemory));
@@ -339,12 +299,8 @@ pub fn serve<
     let Ok(ended) = Arc::new(alloc, AtomicU64::new(0)) else {
         return Err(refused(alloc, standby, DriveFault::OutOfMemory));
     };
-    let Ok((feeder, end)) = feed(rt, alloc) else {
+    let Some(feeding) = start_feed_alone(rt, alloc, source) else {
         return Err(refused(alloc, standby, DriveFault::OutOfMemory));
     };
-    let Some(handle) = start_feeder_alone(rt, source, feeder) else {
-        return Err(refused(alloc, standby, DriveFault::OutOfMemory));
-    };
-    let feeding = Feeding { end, handle };
     serve_with(rt, alloc, standby, feeding, workers, room, &ended, operator)
 }

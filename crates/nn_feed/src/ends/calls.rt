@@ -19,7 +19,7 @@ use std::thread;
 const CAPACITY: usize = 4;
 
 // No feed carries more segments.
-const MOST: u64 = 1 << 60;
+const MAX_SEGMENTS: u64 = 1 << 60;
 
 /// The two ends of a new feed, which holds at most four answers at a time. No other call takes memory.
 pub fn feed<'a, R: Wait>(rt: &'a R, alloc: Global) -> Result<(Feeder, FeedEnd<'a, R>), AllocError>
@@ -110,7 +110,7 @@ impl Feeder {
         ensures refused { IfErr result (λ e. (put_by self.new ≡ put_by self.old) × Refuses (put_by self.old) answer e) }
     {
         let last = is_last(&answer);
-        if self.ended || (!last && self.count >= MOST) {
+        if self.ended || (!last && self.count >= MAX_SEGMENTS) {
             return Err(Refusal::Ended { answer });
         }
         let message = Placed {
@@ -136,7 +136,7 @@ impl Feeder {
 }
 
 // One more. No run comes to 2^64: there it would wait for ever.
-fn raised<R: Wait>(rt: &R, count: u64) -> u64
+fn next_count<R: Wait>(rt: &R, count: u64) -> u64
     ensures { result ≡ count + 1 }
 {
     if count < u64::MAX {
@@ -206,7 +206,7 @@ impl<'a, R: Wait> SegmentSource for FeedEnd<'a, R> {
         match self.ask() {
             Ok(item) => Ok(item),
             Err(fault) => {
-                self.failures = raised(self.rt, self.failures);
+                self.failures = next_count(self.rt, self.failures);
                 Err(fault)
             }
         }

@@ -3,14 +3,14 @@ ghost use Rattle.std.specs.Prelude.{◌<◌, ◌≤◌};
 ghost use Rattle.nn_feed.specs.Ends.{put_by, IsSameFeeder};
 ghost use Rattle.nn_feed.specs.Running.{Fed, HasRun, OnSourceFault};
 
-use super::{Began, Ran, Told};
+use super::{Delivered, FeederExit, FeederPromise};
 use crate::ends::Feeder;
 use crate::fault::FeedFault;
 use nn_segment::{Item, SegmentSource};
 use std::sync::Wait;
 use std::thread::Promise;
 
-impl<S: SegmentSource> Promise<Ran<S>> for Began<S> {
+impl<S: SegmentSource> Promise<FeederExit<S>> for FeederPromise<S> {
     ghost kept_by = { λ p w. HasRun S.gives S.failures p.0.value p.1.value w };
 }
 
@@ -50,7 +50,7 @@ pub fn run_feeder<S: SegmentSource, R: Wait>(
 
 /// What the thread of a feeder runs: it puts all that its source gives, and then its End or its fault. Where one of these
 /// is refused, it drops the feeder before it returns.
-pub fn run_thread<S: SegmentSource, R: Wait>(rt: &R, source: S, feeder: Feeder) -> Ran<S>
+pub fn run_thread<S: SegmentSource, R: Wait>(rt: &R, source: S, feeder: Feeder) -> FeederExit<S>
     ensures { HasRun S.gives S.failures source feeder result }
 {
     let mut source = source;
@@ -60,7 +60,7 @@ pub fn run_thread<S: SegmentSource, R: Wait>(rt: &R, source: S, feeder: Feeder) 
         Err(FeedFault::Source(fault)) => {
             if let Err(refusal) = feeder.fail(rt, fault) {
                 drop(feeder);
-                return Ran {
+                return FeederExit {
                     source,
                     outcome: Err(refusal),
                 };
@@ -69,14 +69,14 @@ pub fn run_thread<S: SegmentSource, R: Wait>(rt: &R, source: S, feeder: Feeder) 
         }
         Err(FeedFault::Refused(refusal)) => {
             drop(feeder);
-            return Ran {
+            return FeederExit {
                 source,
                 outcome: Err(refusal),
             };
         }
     };
-    Ran {
+    FeederExit {
         source,
-        outcome: Ok(Told { feeder, end }),
+        outcome: Ok(Delivered { feeder, end }),
     }
 }

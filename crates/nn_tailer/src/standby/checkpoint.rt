@@ -9,7 +9,7 @@ ghost use Rattle.nn_image.specs.Loading.{Ends, Stops};
 ghost use Rattle.nn_tailer.specs.Public.{AreNew};
 ghost use Rattle.nn_tailer.specs.Restart.{IsNewAt, point_of};
 
-use super::{Standby, nothing_kept};
+use super::{Standby, all_delivered};
 use crate::restart::RestartFault;
 use nn_device::{Reader, Writer};
 use nn_image::{ImageFault, SaveFault, load, save};
@@ -62,7 +62,7 @@ impl Standby {
             Err(cause) => return Err(RestartFault { ends, cause }),
         };
         let lanes = ends.len();
-        let Ok(kept) = nothing_kept(alloc, lanes) else {
+        let Ok(undelivered) = all_delivered(alloc, lanes) else {
             return Err(out_of_memory(ends));
         };
         let Ok(shadow) = Shadow::from(alloc, namespace, txid, lanes as u16, settings) else {
@@ -71,7 +71,7 @@ impl Standby {
         Ok(Standby {
             shadow,
             ends,
-            kept,
+            undelivered,
             cursor: Cursor::new(alloc),
             stop: None,
             active: false,

@@ -3,10 +3,10 @@ ghost use Rattle.std.specs.Prelude.{◌≡◌, ◌<◌, length, Some, IfOk, IfEr
 ghost use Rattle.std.specs.List.{list_all};
 ghost use Rattle.nn_shadow.specs.Contents.{standby_of};
 ghost use Rattle.nn_shadow.specs.Refusals.{handed_as};
-ghost use Rattle.nn_tailer.specs.Tailing.{kept_at};
+ghost use Rattle.nn_tailer.specs.Tailing.{undelivered_at};
 ghost use Rattle.nn_tailer.specs.Public.{HasNoPlace, IsPlace};
 ghost use Rattle.nn_tailer.specs.LaneSteps.{LaneFrame, LaneMoves, LanesFrame, AllClosed, CloseEnds, IsDrained, AreDrained, closed_of};
-ghost use Rattle.nn_tailer.specs.Parts.{IsLive, Fetches, FindsNone, HandsKept, NotHanded};
+ghost use Rattle.nn_tailer.specs.Parts.{IsLive, Fetches, FindsNone, HandsUndelivered, NotHanded};
 
 use super::{Standby, Stepped};
 use crate::fault::StepFault;
@@ -26,37 +26,37 @@ impl Standby {
         if i < self.ends.len() { Some(i) } else { None }
     }
 
-    // Takes the next message of a lane, or the one that is kept, and keeps it.
+    // Takes the next message of a lane, unless one of it is undelivered, and notes it as undelivered.
     fn fetch(&mut self, i: usize) -> Result<Message, u64>
         requires { i < length self.old.ends }
         ensures ok { IfOk result (λ m. Fetches self.old i m self.new) }
         ensures err { IfErr result (λ accepted. FindsNone self.old i accepted self.new) }
     {
-        if let Some(m) = self.kept[i] {
+        if let Some(m) = self.undelivered[i] {
             return Ok(m);
         }
         match self.ends[i].take() {
             Taken::Message(m) => {
                 let taken = m;
-                self.kept[i] = Some(taken);
+                self.undelivered[i] = Some(taken);
                 Ok(m)
             }
             Taken::Empty { accepted } => Err(accepted),
         }
     }
 
-    // Hands the kept message on.
-    fn hand_kept(&mut self, i: usize, m: Message) -> Result<Handed, StepFault>
+    // Hands the undelivered message on.
+    fn hand_undelivered(&mut self, i: usize, m: Message) -> Result<Handed, StepFault>
         requires live { IsLive self.old }
         requires place { i < length self.old.ends }
-        requires kept { kept_at self.old i ≡ Some m }
-        ensures ok { IfOk result (λ _. HandsKept self.old i m self.new) }
+        requires undelivered { undelivered_at self.old i ≡ Some m }
+        ensures ok { IfOk result (λ _. HandsUndelivered self.old i m self.new) }
         ensures answer { IfOk result (λ handed. handed ≡ handed_as (standby_of self.old.shadow) m) }
         ensures err { IfErr result (λ fault. NotHanded self.old self.new fault) }
     {
         match self.shadow.hand(m) {
             Ok(handed) => {
-                self.kept[i] = None;
+                self.undelivered[i] = None;
                 Ok(handed)
             }
             Err(refused) => match refused.cause {
@@ -76,11 +76,12 @@ impl Standby {
         ensures frame { LaneFrame self.old i self.new }
         ensures moves { LaneMoves self.old i self.new result }
     {
+        // To name a field makes no code. The proof learns by it what holds of every standby.
         let _ = &self.stop;
         match self.fetch(i) {
             Ok(m) => {
                 let _ = &self.stop;
-                let Handed { processed, held } = self.hand_kept(i, m)?;
+                let Handed { processed, held } = self.hand_undelivered(i, m)?;
                 Ok(Stepped::Handed { processed, held })
             }
             Err(accepted) => Ok(Stepped::Empty { accepted }),
@@ -96,6 +97,7 @@ impl Standby {
         ensures ok { IfOk result (λ _. IsDrained self.new i) }
         ensures err { IfErr result (λ fault. fault ≡ StepFault.OutOfMemory) }
     {
+        // As in `step_at`.
         let _ = &self.stop;
         loop {
             if let Stepped::Empty { .. } = self.step_at(i)? {

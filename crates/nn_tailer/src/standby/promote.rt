@@ -55,6 +55,7 @@ impl Standby {
         ensures counted { S.failures source.old ≤ S.failures source.new }
     {
         self.read_log(source)?;
+        // To name a field makes no code. The proof learns by it what holds of every standby.
         let _ = &self.stop;
         self.drain_all()?;
         let _ = &self.stop;

@@ -19,6 +19,6 @@ returns-in-Ok-follow c =
 pub returns-in-Err-follow : goal.returns-in-Err-follow
 returns-in-Err-follow c =
     let whole = segments_from 1 c.args.scenario.parts.items in
-    IfOk-weaker c.output_of_halt.result _ _ (λ o told.
+    IfOk-weaker c.output_of_follow_fault.result _ _ (λ o told.
     told_fault (start_of c.args.begin) false c.args.options c.args.scenario.steps whole c.in-Ok.segments.items (shown o) c.in-Ok.ensures.ok
-    (told c.args.options (lanes_of c.args.scenario.steps) (end_of_log c.args.begin.txid c.args.begin.namespace c.in-Ok.segments.items) c.in-Err-follow.ensures.halted)) c.output_of_halt.ensures
+    (told c.args.options (lanes_of c.args.scenario.steps) (end_of_log c.args.begin.txid c.args.begin.namespace c.in-Ok.segments.items) c.in-Err-follow.ensures.stopped)) c.output_of_follow_fault.ensures

@@ -5,13 +5,13 @@ use Rattle.nn_engine.proofs.follow.apply.Goals as goal
 
 pub returns-in-Refused-clause-refused : goal.returns-in-Refused-clause-refused
 returns-in-Refused-clause-refused c =
-    let x = c.args.shadow.now in let tx = c.args.tx in
+    let x = c.args.shadow.now in let tx = c.args.tx.now in
     let why = subst (WhyNot x tx) c.in-Refused.is (why_not x tx c.in-Err.fault c.requires.serving c.requires.next c.in-Err.ensures.fault) in
     (ap (λ o. outcome o (effect x.namespace tx.edit)) why, c.get.ensures.value)
 
 pub unreachable-requires : goal.unreachable-requires
 unreachable-requires c =
-    let x = c.args.shadow.now in let tx = c.args.tx in
+    let x = c.args.shadow.now in let tx = c.args.tx.now in
     let why = why_not x tx c.in-Err.fault c.requires.serving c.requires.next c.in-Err.ensures.fault in
     elim c.in-Stopped.is [
       | inl stopped ↦ subst (WhyNot x tx) stopped.1 why

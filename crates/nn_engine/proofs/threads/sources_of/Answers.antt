@@ -6,12 +6,12 @@ use Rattle.nn_engine.proofs.threads.sources_of.Goals as goal
 pub steps-init : goal.steps-init
 steps-init g c = subst (λ l. Filling c.args.datanodes (lanes_of c.args.steps) l c.in_ok-sources.sources.items) (sym c.into_steps-steps.ensures) (nothing_in_memory c.args.datanodes c.args.steps c.in_ok-sources.sources.items c.in_ok-sources.ensures c.requires.in_turn c.requires.within)
 
-pub take_step-requires : goal.take_step-requires
-take_step-requires g c =
+pub push_step-requires : goal.push_step-requires
+push_step-requires g c =
     first_within c.args.datanodes (lanes_of c.args.steps) c.in-Some.step c.next.new.self c.steps.sources.items
     (subst (λ l. Filling c.args.datanodes (lanes_of c.args.steps) l c.steps.sources.items) c.in-Some.ensures.some c.steps.invariant)
 
 pub steps-preserved : goal.steps-preserved
 steps-preserved g c =
-    step_in_memory c.args.datanodes (lanes_of c.args.steps) c.in-Some.step c.next.new.self c.steps.sources.items c.take_step.new.sources.items c.in_ok-take_step.ensures.ok c.in_ok-take_step.ensures.few
+    step_in_memory c.args.datanodes (lanes_of c.args.steps) c.in-Some.step c.next.new.self c.steps.sources.items c.push_step.new.sources.items c.in_ok-push_step.ensures.ok c.in_ok-push_step.ensures.few
     (subst (λ l. Filling c.args.datanodes (lanes_of c.args.steps) l c.steps.sources.items) c.in-Some.ensures.some c.steps.invariant)

@@ -7,8 +7,8 @@ invariant_of-result g c =
     let q : c.len-lanes.result ≡ length c.args.ends.items = omega (arith, c.len-lanes.ensures, c.args.ends.ok.0) in
     let f = c.in-Ok-from.ensures in
     let s : IsFresh c.in-Ok.loaded.0 c.in-Ok.loaded.1 c.len-lanes.result c.in-Ok-from.shadow = record { begun = f.fresh; stands = f.stands; phase = f.phase; count = f.settings.0 } in
-    rw c.new.ensures (keeps_fresh c.in-Ok.loaded.0 c.in-Ok.loaded.1 c.in-Ok-from.shadow c.args.ends.items c.in-Ok-nothing_kept.kept.items c.requires.few c.requires.fresh
-    (c.in-Ok-nothing_kept.ensures ∙ ap (λ n. replicate n None) q) (subst (λ n. IsFresh c.in-Ok.loaded.0 c.in-Ok.loaded.1 n c.in-Ok-from.shadow) q s))
+    rw c.new.ensures (keeps_fresh c.in-Ok.loaded.0 c.in-Ok.loaded.1 c.in-Ok-from.shadow c.args.ends.items c.in-Ok-all_delivered.undelivered.items c.requires.few c.requires.fresh
+    (c.in-Ok-all_delivered.ensures ∙ ap (λ n. replicate n None) q) (subst (λ n. IsFresh c.in-Ok.loaded.0 c.in-Ok.loaded.1 n c.in-Ok-from.shadow) q s))
 
 pub returns-clause-image : goal.returns-clause-image
 returns-clause-image g c text known =
@@ -21,5 +21,5 @@ returns-clause-new g c =
     let f = c.in-Ok-from.ensures in
     let s : IsFresh c.in-Ok.loaded.0 c.in-Ok.loaded.1 c.len-lanes.result c.in-Ok-from.shadow = record { begun = f.fresh; stands = f.stands; phase = f.phase; count = f.settings.0 } in
     let own = at_own c.in-Ok.loaded.0 c.in-Ok.loaded.1 (length c.args.ends.items) c.in-Ok-from.shadow (subst (λ n. IsFresh c.in-Ok.loaded.0 c.in-Ok.loaded.1 n c.in-Ok-from.shadow) q s) in
-    rw c.new.ensures (is_new_at c.in-Ok-from.shadow.namespace c.in-Ok-from.shadow.last c.in-Ok-from.shadow c.args.ends.items c.in-Ok-nothing_kept.kept.items c.requires.fresh
-    (c.in-Ok-nothing_kept.ensures ∙ ap (λ n. replicate n None) q) own)
+    rw c.new.ensures (is_new_at c.in-Ok-from.shadow.namespace c.in-Ok-from.shadow.last c.in-Ok-from.shadow c.args.ends.items c.in-Ok-all_delivered.undelivered.items c.requires.fresh
+    (c.in-Ok-all_delivered.ensures ∙ ap (λ n. replicate n None) q) own)

@@ -1,0 +1,214 @@
+-- What texts are read as, and what the program did to its streams, on small examples.
+use Rattle.std.specs.Prelude.{◌≡◌, ◌<◌, ◌≤◌, ◌∷◌, [], ◌++◌, ℕ, Bool, true, false, List, length, Option, Some, None, codes, refl}
+use Rattle.std.proofs.Common.{arith, sym, ap, inl, inr, lit<, ⊎_elim, true≢false}
+use Rattle.nn_device.specs.Device.{Reading, Writing}
+use Rattle.clap.specs.Words.{Text}
+use Rattle.clap.specs.declared.error.kind.ErrorKind.TheVariants.{DisplayHelp, DisplayVersion, InvalidValue}
+use Rattle.nn_types.specs.Fault.{name_of}
+use Rattle.nn_types.specs.Settings.{Threshold}
+use Rattle.nn_engine.specs.declared.engine.Options.{Options as RunOptions}
+use Rattle.nn_listing.specs.Listing.{newline}
+use Rattle.nn_command.specs.declared.program.NoWords.TheVariants.{NotText, OutOfMemory}
+use Rattle.nn_command.specs.declared.options.Request.{Request}
+use Rattle.nn_command.specs.Options.{ReadsAs, IsNumberOf, IsCapacity, AreReadAs, IsFlag, IsRequest}
+use Rattle.nn_command.specs.Program.{Streams, Writes, Runs, Helps, Refuses, Explains, LacksMemory, ServesNone, TellsOf, explanation_line, memory_line, version_line}
+
+-- ---- Texts as numbers and flags.
+
+sixty_four : ReadsAs (Some (codes "64")) 64
+sixty_four = ((omega arith, (lit< tt, (lit< tt, tt))), refl)
+
+-- zeros in front and a plus count nothing
+with_a_plus : ReadsAs (Some (codes "+064")) 64
+with_a_plus = ((omega arith, (lit< tt, (lit< tt, (lit< tt, tt)))), refl)
+
+not_another_number : ReadsAs (Some (codes "64")) 65 → ⊥
+not_another_number h = let e : 64 ≡ 65 = h.1 in omega (arith, e)
+
+not_none : ReadsAs None 64 → ⊥
+not_none h = h
+
+-- an empty text has the digits of 0, and is no number
+not_an_empty_text : ReadsAs (Some []) 0 → ⊥
+not_an_empty_text h = let e : 0 < 0 = h.0.0 in omega (arith, e)
+
+none_where_nothing_stands : IsNumberOf 16 None None
+none_where_nothing_stands n few h = h
+
+not_none_where_one_stands : IsNumberOf 16 (Some (codes "64")) None → ⊥
+not_none_where_one_stands h = h 64 (lit< tt) sixty_four
+
+most_reports : IsCapacity (Some (codes "64")) 64
+most_reports = (sixty_four, omega arith, omega arith)
+
+not_no_reports : (text : Option Text) → IsCapacity text 0 → ⊥
+not_no_reports text h = let e : 1 ≤ 0 = h.1 in omega (arith, e)
+
+not_more_reports : (text : Option Text) → IsCapacity text 1025 → ⊥
+not_more_reports text h = let e : 1025 ≤ 1024 = h.2 in omega (arith, e)
+
+abbrev usual : Threshold
+usual = record { permille = 999; min = 1 }
+
+as_settings : AreReadAs (Some (codes "999")) (Some (codes "1")) (Some (codes "64")) usual
+as_settings = record {
+  permille = ((omega arith, (lit< tt, (lit< tt, (lit< tt, tt)))), refl);
+  min = ((omega arith, (lit< tt, tt)), refl);
+  lawful = record { most = omega arith; from_one = omega arith; to_limit = omega arith };
+  capacity = (64, most_reports);
+}
+
+not_the_other_way_round : AreReadAs (Some (codes "1")) (Some (codes "999")) (Some (codes "64")) usual → ⊥
+not_the_other_way_round h = let e : 1 ≡ 999 = h.permille.1 in omega (arith, e)
+
+not_another_min : AreReadAs (Some (codes "999")) (Some (codes "2")) (Some (codes "64")) usual → ⊥
+not_another_min h = let e : 2 ≡ 1 = h.min.1 in omega (arith, e)
+
+not_without_a_capacity : AreReadAs (Some (codes "999")) (Some (codes "1")) None usual → ⊥
+not_without_a_capacity h = h.capacity.1.0
+
+set_and_unset : IsFlag (Some (codes "true")) true
+set_and_unset = ((λ e. refl), (λ e. absurd (cc)))
+
+not_set_where_nothing_stands : IsFlag None true → ⊥
+not_set_where_nothing_stands h = true≢false h
+
+not_unset_where_it_stands : IsFlag (Some (codes "true")) false → ⊥
+not_unset_where_it_stands h = true≢false (sym (h.0 refl))
+
+not_set_where_it_is_false : IsFlag (Some (codes "false")) true → ⊥
+not_set_where_it_is_false h = true≢false (h.1 refl)
+
+-- each flag has its own name
+abbrev nothing_stands : Text → Option Text
+nothing_stands name = None
+
+not_by_threads : (r : Request) → IsRequest nothing_stands (record r { threads = true }) → ⊥
+not_by_threads r h = true≢false h.by_threads
+
+not_with_a_history : (r : Request) → IsRequest nothing_stands (record r { options = record r.options { history = true } }) → ⊥
+not_with_a_history r h = true≢false h.with_history
+
+not_with_an_image : (r : Request) → IsRequest nothing_stands (record r { options = record r.options { image = true } }) → ⊥
+not_with_an_image r h = true≢false h.with_image
+
+not_from_an_image : (r : Request) → IsRequest nothing_stands (record r { options = record r.options { from_image = true } }) → ⊥
+not_from_an_image r h = true≢false h.on_from_image
+
+not_without_places : (r : Request) → IsRequest nothing_stands r → ⊥
+not_without_places r h = h.places.0
+
+-- ---- Streams.
+
+-- a reader with so many bytes given, of three
+abbrev reader : ℕ → Reading
+reader given = record { left = None; given = given; failed = false }
+
+abbrev writer : List ℕ → Bool → Writing
+writer got failed = record { contents = Some got; taken = length got; failed = failed }
+
+abbrev nothing : Writing
+nothing = writer [] false
+
+abbrev text : List ℕ
+text = codes "abc"
+
+wrote_all : Writes nothing (writer text false) text 0 0
+wrote_all = inl (record { bytes = refl; counted = refl; unfailed = refl }, refl)
+
+-- a write that failed makes the status 1
+wrote_a_front : Writes nothing (writer (codes "ab") true) text 0 1
+wrote_a_front = inr (2, record { short = omega arith; bytes = refl; counted = refl; noted = refl }, refl)
+
+not_another_status : (old new : Writing) → Writes old new text 0 2 → ⊥
+not_another_status old new h = ⊎_elim (λ k. let e : 2 ≡ 0 = k.1 in omega (arith, e)) (λ k. let e : 2 ≡ 1 = k.2 in omega (arith, e)) h
+
+-- a front with status 0 is a failed write that nobody hears of
+not_a_front_alone : Writes nothing (writer (codes "ab") false) text 0 0 → ⊥
+not_a_front_alone h = ⊎_elim (λ k. let e : 2 ≡ 3 = k.0.counted in omega (arith, e)) (λ k. let e : 0 ≡ 1 = k.2 in omega (arith, e)) h
+
+abbrev all : ℕ → Writing → Writing → Streams
+all given output errors = record {
+  before = reader 0;
+  after = reader given;
+  output = nothing;
+  output' = output;
+  errors = nothing;
+  errors' = errors;
+}
+
+helps : Helps (all 0 (writer text false) nothing) 0
+helps = ((text, wrote_all), refl, refl)
+
+not_helped_on_errors : Helps (all 0 nothing (writer text false)) 0 → ⊥
+not_helped_on_errors h = let e : 3 ≡ 0 = ap (λ (w : Writing). w.taken) h.1.1 in omega (arith, e)
+
+not_helped_after_a_read : (output : Writing) → Helps (all 3 output nothing) 0 → ⊥
+not_helped_after_a_read output h = let e : 3 ≡ 0 = ap (λ (r : Reading). r.given) h.1.2 in omega (arith, e)
+
+refuses : Refuses (all 0 nothing (writer text false)) 2
+refuses = ((text, inl (record { bytes = refl; counted = refl; unfailed = refl })), refl, refl, refl)
+
+not_refused_as_a_fault : (s : Streams) → Refuses s 1 → ⊥
+not_refused_as_a_fault s h = let e : 1 ≡ 2 = h.1 in omega (arith, e)
+
+not_refused_on_the_output : (errors : Writing) → Refuses (all 0 (writer text false) errors) 2 → ⊥
+not_refused_on_the_output errors h = let e : 3 ≡ 0 = ap (λ (w : Writing). w.taken) h.2 in omega (arith, e)
+
+not_refused_after_a_read : (errors : Writing) → Refuses (all 3 nothing errors) 2 → ⊥
+not_refused_after_a_read errors h = let e : 3 ≡ 0 = ap (λ (r : Reading). r.given) h.3 in omega (arith, e)
+
+told_of_memory : memory_line ≡ codes "fault 55" ++ newline ∷ []
+told_of_memory = refl
+
+lacks_memory : LacksMemory (all 0 (writer (codes "fault 55" ++ newline ∷ []) false) nothing) 1
+lacks_memory = (inl (record { bytes = refl; counted = refl; unfailed = refl }, refl), refl, refl)
+
+not_a_success : (s : Streams) → LacksMemory s 0 → ⊥
+not_a_success s h = ⊎_elim (λ k. let e : 0 ≡ 1 = k.1 in omega (arith, e)) (λ k. let e : 0 ≡ 1 = k.2 in omega (arith, e)) h.0
+
+not_told_on_errors : (output : Writing) → LacksMemory (all 0 output (writer text false)) 1 → ⊥
+not_told_on_errors output h = let e : 3 ≡ 0 = ap (λ (w : Writing). w.taken) h.1 in omega (arith, e)
+
+not_told_after_a_read : (output : Writing) → LacksMemory (all 3 output nothing) 1 → ⊥
+not_told_after_a_read output h = let e : 3 ≡ 0 = ap (λ (r : Reading). r.given) h.2 in omega (arith, e)
+
+-- a run tells nothing on errors
+not_run_with_errors : (options : RunOptions) (threads : Bool) (output : Writing) (ended : ℕ) → Runs options threads (all 0 output (writer text false)) ended → ⊥
+not_run_with_errors options threads output ended h = let e : 3 ≡ 0 = ap (λ (w : Writing). w.taken) h.1 in omega (arith, e)
+
+-- ---- Where there are no arguments, and where they ask for none.
+
+no_arguments_refused : ServesNone NotText (all 0 nothing (writer text false)) 2
+no_arguments_refused = refuses
+
+no_memory_for_arguments : ServesNone OutOfMemory (all 0 (writer (codes "fault 55" ++ newline ∷ []) false) nothing) 1
+no_memory_for_arguments = lacks_memory
+
+help_told : TellsOf DisplayHelp (all 0 (writer text false) nothing) 0
+help_told = inr (inl (refl, helps))
+
+version_told : TellsOf DisplayVersion (all 0 (writer version_line false) nothing) 0
+version_told = inr (inr (inl (refl, (inl (record { bytes = refl; counted = refl; unfailed = refl }, refl), refl, refl))))
+
+misuse_told : TellsOf InvalidValue (all 0 nothing (writer text false)) 2
+misuse_told = inr (inr (inr ((λ e. absurd (cc)), (λ e. absurd (cc)), (λ e. absurd (cc)), refuses)))
+
+-- the help is no misuse
+not_told_as_misuse : TellsOf DisplayHelp (all 0 nothing (writer text false)) 2 → ⊥
+not_told_as_misuse h =
+    ⊎_elim (λ k. let e : 3 ≡ 0 = ap (λ (w : Writing). w.taken) k.1 in omega (arith, e))
+    (λ k. ⊎_elim (λ m. not_helped_on_errors_with_2 m.1) (λ m. ⊎_elim (λ v. absurd (let e = v.0 in cc)) (λ v. v.0 refl) m) k) h
+  where
+    not_helped_on_errors_with_2 : Helps (all 0 nothing (writer text false)) 2 → ⊥
+    not_helped_on_errors_with_2 k = let e : 3 ≡ 0 = ap (λ (w : Writing). w.taken) k.1.1 in omega (arith, e)
+
+-- ---- What a fault means.
+
+explained : Explains 29 (all 0 (writer (explanation_line 29 (codes "BadGeneration: a stamp is wrong.")) false) nothing) 0
+unfolding name_of
+explained = inl (codes "BadGeneration: a stamp is wrong.", refl, (inl (record { bytes = refl; counted = refl; unfailed = refl }, refl), refl, refl))
+
+no_fault_refused : Explains 34 (all 0 nothing (writer text false)) 2
+unfolding name_of
+no_fault_refused = inr (refl, refuses)

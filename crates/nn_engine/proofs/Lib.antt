@@ -9,3 +9,4 @@ pub mod DrivenLemmas
 pub mod InputLemmas
 pub mod CheckpointLemmas
 pub mod StartLemmas
+pub mod RestLemmas

@@ -12,7 +12,7 @@ use Rattle.nn_engine.specs.Output.{Printed, IsPrinted, IsPrintedFrom, image_faul
 use Rattle.nn_engine.specs.Shown.{shown}
 use Rattle.nn_engine.specs.Start.{Start, from_cut, from_image, from_root, scenario_in, start_in}
 use Rattle.nn_engine.specs.declared.engine.Options.{Options}
-use Rattle.nn_engine.specs.declared.engine.Output.{Output}
+use Rattle.nn_engine.specs.declared.output.Output.{Output}
 use Rattle.nn_engine.specs.declared.start.Begin.{Begin}
 
 cut_image : (cut : Option Cut) (bytes : List ℕ) → option_map (λ (c : Cut). c.image) cut ≡ Some bytes → from_cut cut ≡ from_image (read_image bytes)

@@ -3,29 +3,29 @@ use Rattle.std.proofs.Common.{◌≡◌, ℕ, Bool, List, Result, codes, refl, �
 use Rattle.std.specs.Prelude.{IfOk, IfErr}
 use Rattle.std.specs.Io.KnownBytes.{IsAtEnd}
 use Rattle.std.proofs.lemmas.Result.{IfOk-weaker, IfErr-weaker}
-use Rattle.nn_device.specs.Device.{Reading, Writing, Took, FailedToWrite}
-use Rattle.nn_device.specs.declared.writer.WriteFailed.{WriteFailed}
+use Rattle.nn_device.specs.Device.{Reading, Writing, Took}
 use Rattle.nn_engine.specs.declared.device.InputFault.{InputFault}
 use Rattle.nn_engine.specs.declared.device.InputFault.TheVariants.{ReadFailed, TooLong, OutOfMemory}
-use Rattle.nn_engine.specs.declared.engine.RunEnd.{RunEnd}
+use Rattle.nn_engine.specs.declared.output.RunEnd.{RunEnd}
+use Rattle.nn_engine.specs.declared.output.RunFault.{RunFault}
 use Rattle.nn_engine.specs.declared.engine.Options.{Options}
 use Rattle.nn_engine.specs.Input.{IsUnread, IsReadOfAll}
 use Rattle.nn_engine.specs.declared.device.InputParts.{InputParts}
 use Rattle.nn_engine.specs.Output.{Printed, IsPrinted}
-use Rattle.nn_engine.specs.Run.{Given, IsOutput, NoneFailed, Wrote, WroteFront, fault_alone, running, unread_line}
+use Rattle.nn_engine.specs.Run.{Given, IsOutput, NoneFailed, Wrote, WroteFront, TookFront, fault_alone, running, unread_line}
 
 -- what a whole output, and what a front of one, is where this text was written with this status
-pub record Writes (given : Given) (r : Result RunEnd WriteFailed) (writer writer' : Writing) : Type 0 where
+pub record Writes (given : Given) (r : Result RunEnd RunFault) (writer writer' : Writing) : Type 0 where
   pub written : IfOk r (λ end. Wrote given writer writer' end.status)
-  pub failed : IfErr r (λ e. WroteFront given writer writer' e.written)
+  pub front : IfErr r (WroteFront given writer writer')
 
-pub writes : (given : Given) (r : Result RunEnd WriteFailed) (writer writer' : Writing) (p : Printed) (text : List ℕ) (status : ℕ) →
+pub writes : (given : Given) (r : Result RunEnd RunFault) (writer writer' : Writing) (p : Printed) (text : List ℕ) (status : ℕ) →
     text ≡ p.text → status ≡ p.status → IsOutput given p →
     IfOk r (λ end. Took writer writer' text × (end.status ≡ status)) →
-    IfErr r (λ e. FailedToWrite writer writer' text e.written) → Writes given r writer writer'
+    IfErr r (TookFront writer writer' text) → Writes given r writer writer'
 writes given r writer writer' p text status same ends right ok err = record {
   written = IfOk-weaker r _ _ (λ end e. record { output = p; right = right; took = subst (Took writer writer') same e.0; ends = e.1 ∙ ends }) ok;
-  failed = IfErr-weaker r _ _ (λ e w. record { output = p; right = right; failed = subst (λ t. FailedToWrite writer writer' t e.written) same w }) err;
+  front = IfErr-weaker r _ _ (λ e w. record { output = p; right = right; front = subst (λ t. TookFront writer writer' t e) same w }) err;
 }
 
 pub is_output_of_all : (given : Given) (p : Printed) (parts : InputParts) (all : IsReadOfAll given.options.from_image given.before given.after parts) → IsAtEnd given.after.left →
@@ -57,10 +57,10 @@ is_unread options threads before after ReadFailed why = inr (inl (refl, inl why)
 is_unread options threads before after TooLong why = inr (inl (refl, inr why.0))
 is_unread options threads before after OutOfMemory why = inr (inr (refl, why))
 
-pub writes_unread : (options : Options) (threads : Bool) (before after : Reading) (r : Result RunEnd WriteFailed) (writer writer' : Writing)
+pub writes_unread : (options : Options) (threads : Bool) (before after : Reading) (r : Result RunEnd RunFault) (writer writer' : Writing)
     (fault : InputFault) (text : List ℕ) → IsUnread options.from_image before after fault → text ≡ unread_line fault →
     IfOk r (λ end. Took writer writer' text × (end.status ≡ 1)) →
-    IfErr r (λ e. FailedToWrite writer writer' text e.written) → Writes (running options threads before after) r writer writer'
+    IfErr r (TookFront writer writer' text) → Writes (running options threads before after) r writer writer'
 writes_unread options threads before after r writer writer' fault text why same ok err =
     writes (running options threads before after) r writer writer' (unread fault) text 1 (same ∙ unread_text fault) (unread_status fault)
     (is_unread options threads before after fault why) ok err

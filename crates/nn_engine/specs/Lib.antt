@@ -5,6 +5,7 @@ pub mod Output
 pub mod OutputRows
 pub mod Input
 pub mod Checkpoint
+pub mod Rest
 pub mod Run
 pub mod RunRows
 pub mod Shown

@@ -1,13 +1,16 @@
 -- What a run wrote, beside what its reader had.
-use Rattle.std.specs.Prelude.{◌≡◌, ◌⊎◌, ◌≤◌, ◌+◌, ◌∷◌, [], ◌++◌, ℕ, Bool, true, List, length, codes}
-use Rattle.std.specs.Io.KnownBytes.{Consumes, IsAtEnd}
-use Rattle.nn_device.specs.Device.{Reading, Writing, Took, FailedToWrite}
+use Rattle.std.specs.Prelude.{◌≡◌, ◌⊎◌, ◌≤◌, ◌<◌, ◌+◌, ◌∷◌, [], ◌++◌, ℕ, Bool, true, List, length, codes}
+use Rattle.std.specs.Io.KnownBytes.{Appends, Consumes, IsAtEnd}
+use Rattle.nn_device.specs.Device.{Reading, Writing, Took}
 use Rattle.nn_listing.specs.Listing.{newline}
 use Rattle.nn_scenario.specs.Scenario.{max_input}
 use Rattle.nn_engine.specs.Input.{GaveTooMuch}
 use Rattle.nn_engine.specs.declared.device.InputFault.{InputFault}
 use Rattle.nn_engine.specs.declared.device.InputFault.TheVariants.{ReadFailed, TooLong, OutOfMemory}
 use Rattle.nn_engine.specs.declared.engine.Options.{Options}
+use Rattle.nn_engine.specs.declared.output.RunFault.{RunFault}
+use Rattle.nn_engine.specs.declared.output.RunFault.TheVariants.{WriteFailed}
+use Rattle.nn_engine.specs.declared.output.RunFault.TheVariants as run
 use Rattle.nn_engine.specs.Output.{Printed, IsPrinted}
 use Rattle.nn_engine.specs.Start.{scenario_in}
 
@@ -58,11 +61,26 @@ pub record Wrote (given : Given) (writer writer' : Writing) (status : ℕ) : Typ
   pub took : Took writer writer' output.text
   pub ends : status ≡ output.status
 
--- a write failed behind the first n bytes of an output, which are not all
-pub record WroteFront (given : Given) (writer writer' : Writing) (n : ℕ) : Type 0 where
+-- The fault tells how many bytes were written. A failed write was noted, and left some bytes out. Where memory ran out, some bytes were
+-- written before, and no write failed.
+abbrev pub Tells : RunFault → List ℕ → List ℕ → Bool → Bool → Type 0
+Tells (WriteFailed written) front rest before after = (written ≡ length front) × (0 < length rest) × (after ≡ true)
+Tells (run.OutOfMemory written) front rest before after = (written ≡ length front) × (0 < written) × (after ≡ before)
+
+-- a front of the text was written, and nothing behind it
+pub record TookFront (writer writer' : Writing) (text : List ℕ) (fault : RunFault) : Type 0 where
+  pub front : List ℕ
+  pub rest : List ℕ
+  pub whole : text ≡ front ++ rest
+  pub bytes : Appends writer.contents writer'.contents front
+  pub counted : writer'.taken ≡ writer.taken + length front
+  pub told : Tells fault front rest writer.failed writer'.failed
+
+-- a front of an output was written
+pub record WroteFront (given : Given) (writer writer' : Writing) (fault : RunFault) : Type 0 where
   pub output : Printed
   pub right : IsOutput given output
-  pub failed : FailedToWrite writer writer' output.text n
+  pub front : TookFront writer writer' output.text fault
 
 -- a run, its reader as it was before and after
 abbrev pub running : Options → Bool → Reading → Reading → Given

@@ -1,13 +1,15 @@
 -- What is printed for an input that is not read, and what a run says of its devices, computed.
 use Rattle.std.specs.Prelude.{◌≡◌, ℕ, ◌+◌, Bool, true, false, List, [], ◌∷◌, ◌++◌, length, map, Some, None, codes, refl}
-use Rattle.std.proofs.Common.{arith, sym, ap, inl, inr, ⊎_elim, true≢false}
-use Rattle.nn_device.specs.Device.{Reading, Writing, FailedToWrite}
+use Rattle.std.proofs.Common.{arith, sym, ap, inl, inr, ⊎_elim, true≢false, length-append, ◌∙◌}
+use Rattle.nn_device.specs.Device.{Reading, Writing}
 use Rattle.nn_listing.specs.Listing.{newline}
 use Rattle.nn_engine.specs.declared.device.InputFault.TheVariants.{ReadFailed, TooLong, OutOfMemory}
 use Rattle.nn_engine.specs.declared.engine.Options.{Options}
+use Rattle.nn_engine.specs.declared.output.RunFault.TheVariants.{WriteFailed}
+use Rattle.nn_engine.specs.declared.output.RunFault.TheVariants as run
 use Rattle.nn_engine.specs.Input.{IsUnread}
 use Rattle.nn_engine.specs.Output.{Printed}
-use Rattle.nn_engine.specs.Run.{Given, IsOutputOfAll, IsUnreadable, fault_alone, unread_line, NoneFailed, Wrote, WroteFront, running}
+use Rattle.nn_engine.specs.Run.{Given, IsOutputOfAll, IsUnreadable, fault_alone, unread_line, NoneFailed, TookFront, Wrote, WroteFront, running}
 
 unread : map unread_line (ReadFailed ∷ TooLong ∷ OutOfMemory ∷ [])
     ≡ (codes "fault 8" ++ newline ∷ []) ∷ (codes "fault 8" ++ newline ∷ []) ∷ (codes "fault 55" ++ newline ∷ []) ∷ []
@@ -44,8 +46,8 @@ abbrev writer : ℕ → Bool → Writing
 writer taken failed = record { contents = None; taken = taken; failed = failed }
 
 -- a failed write is one that was noted
-no_write_failed : (options : Options) → WroteFront (running options false (reader false) (reader false)) (writer 0 false) (writer 2 false) 2 → ⊥
-no_write_failed options h = true≢false (sym h.failed.noted)
+no_write_failed : (options : Options) → WroteFront (running options false (reader false) (reader false)) (writer 0 false) (writer 2 false) (WriteFailed 2) → ⊥
+no_write_failed options h = true≢false (sym h.front.told.2)
 
 -- ---- What a run wrote.
 
@@ -70,15 +72,35 @@ not_with_a_failed_write given ended h = true≢false h.took.unfailed
 not_with_more_counted : (given : Given) (ended : ℕ) (text : List ℕ) → length text ≡ 3 → Wrote given unwritten (record { contents = Some text; taken = 4; failed = false }) ended → ⊥
 not_with_more_counted given ended text three h = let n = h.took.counted in let m : length text ≡ length h.output.text = ap length h.took.bytes in omega (arith, n, m, three)
 
+-- a writer that got the first word of a line
+abbrev word : Bool → Writing
+word failed = record { contents = Some (codes "fault"); taken = 5; failed = failed }
+
 -- a front is not all
-not_a_front_of_all : (n : ℕ) → FailedToWrite unwritten (memory_line true) (fault_alone (codes "55")).text n → n ≡ 9 → ⊥
-not_a_front_of_all n h all = omega (arith, h.short, all)
+not_a_front_of_all : TookFront unwritten (memory_line true) (fault_alone (codes "55")).text (WriteFailed 9) → ⊥
+not_a_front_of_all h = let e : 9 ≡ length h.front + length h.rest = ap length h.whole ∙ length-append h.front h.rest in omega (arith, e, h.told.0, h.told.1)
 
-wrote_a_front_of_55 : (options : Options) → WroteFront (running options false (reader false) (reader false)) unwritten (record { contents = Some (codes "fault"); taken = 5; failed = true }) 5
-wrote_a_front_of_55 options = record { output = fault_alone (codes "55"); right = inr (inr (refl, refl)); failed = record { short = omega arith; bytes = refl; counted = refl; noted = refl } }
+wrote_a_front_of_55 : (options : Options) → WroteFront (running options false (reader false) (reader false)) unwritten (word true) (WriteFailed 5)
+wrote_a_front_of_55 options = record {
+  output = fault_alone (codes "55");
+  right = inr (inr (refl, refl));
+  front = record { front = codes "fault"; rest = codes " 55" ++ newline ∷ []; whole = refl; bytes = refl; counted = refl; told = (refl, omega arith, refl) };
+}
 
-not_told_of_another_count : (given : Given) → WroteFront given unwritten (record { contents = None; taken = 5; failed = true }) 4 → ⊥
-not_told_of_another_count given h = let e : 5 ≡ 4 = h.failed.counted in omega (arith, e)
+not_told_of_another_count : (given : Given) → WroteFront given unwritten (word true) (WriteFailed 4) → ⊥
+not_told_of_another_count given h = let e : 5 ≡ 0 + length h.front.front = h.front.counted in omega (arith, e, h.front.told.0)
+
+-- memory ran out behind the first bytes
+ran_out : TookFront unwritten (word false) (codes "faults") (run.OutOfMemory 5)
+ran_out = record { front = codes "fault"; rest = codes "s"; whole = refl; bytes = refl; counted = refl; told = (refl, omega arith, refl) }
+
+-- and not before them: then the line that memory ran out is written
+not_ran_out_before : (text : List ℕ) → TookFront unwritten unwritten text (run.OutOfMemory 0) → ⊥
+not_ran_out_before text h = omega (arith, h.told.1)
+
+-- nor where a write failed
+not_ran_out_at_a_write : (text : List ℕ) → TookFront unwritten (word true) text (run.OutOfMemory 5) → ⊥
+not_ran_out_at_a_write text h = true≢false h.told.2
 
 -- an input is unreadable where a read failed
 unreadable : (options : Options) → IsUnreadable (running options false (reader false) (reader true))

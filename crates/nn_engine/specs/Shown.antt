@@ -1,5 +1,5 @@
 -- An output of the code as what it prints; and options. For private clauses.
-use Rattle.std.specs.Prelude.{◌≡◌, ℕ, Bool, true, false, List, [], Result, Ok}
+use Rattle.std.specs.Prelude.{◌≡◌, ℕ, Bool, true, false, List, [], ◌++◌, Result, Ok}
 use Rattle.nn_model.specs.History.{History}
 use Rattle.nn_model.specs.Lanes.{Lanes}
 use Rattle.nn_segment.specs.LogEnd.{LogEnd, LogStop}
@@ -11,10 +11,10 @@ use Rattle.nn_scenario.specs.declared.steps.Step.{Step}
 use Rattle.nn_engine.specs.Output.{Printed, AreEventsOf, after_log, after_segments, with_history}
 use Rattle.nn_engine.specs.declared.engine.Options.{Options}
 use Rattle.nn_engine.specs.Start.{Start}
-use Rattle.nn_engine.specs.declared.engine.Output.{Output}
+use Rattle.nn_engine.specs.declared.output.Output.{Output}
 
 abbrev pub shown : Output → Printed
-shown o = record { text = o.text.items; status = o.status }
+shown o = record { text = o.text.items ++ o.rest; status = o.status }
 
 -- the options, with these settings
 abbrev pub with_settings : Options → ℕ → ℕ → Options

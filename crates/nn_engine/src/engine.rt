@@ -1,6 +1,5 @@
 //! A run: from a reader's bytes to a writer's.
 ghost use Rattle.std.specs.Prelude.{◌≡◌, ◌≢◌, ◌≤◌, ◌<◌, ◌^◌, ◌++◌, ℕ, List, false, length, codes, Result, Ok, IfOk, IfErr, OnOk, string_bytes};
-ghost use Rattle.nn_device.specs.Device.{Took, FailedToWrite};
 ghost use Rattle.nn_edits.specs.Fault.{number_of as line_number_of};
 ghost use Rattle.nn_model.specs.Items.{items};
 ghost use Rattle.nn_model.specs.Lanes.{Lanes};
@@ -15,7 +14,9 @@ ghost use Rattle.nn_engine.specs.declared.engine.Options.{Options as RunOptions}
 ghost use Rattle.nn_engine.specs.Output.{output_of, after_log, fault_at, fault_of_image, image_fault, with_history, IsPrinted, IsPrintedFrom};
 ghost use Rattle.nn_engine.specs.Input.{start_of, IsRead};
 ghost use Rattle.nn_shadow.specs.Calls.{flushed};
+ghost use Rattle.nn_engine.specs.Rest.{first_line};
 ghost use Rattle.nn_engine.specs.Run.{Wrote, WroteFront, running, unread_line};
+ghost use Rattle.nn_listing.specs.Tables.{tables_text};
 ghost use Rattle.nn_scenario.specs.Chunks.{IsReadAs};
 ghost use Rattle.nn_scenario.specs.Scenario.{max_input, seen, IsLawfulScenario};
 ghost use Rattle.nn_engine.specs.Shown.{history_part, shown, with_settings, IsFaultOf, IsToldOf};
@@ -23,16 +24,20 @@ ghost use Rattle.nn_engine.specs.Shown.{history_part, shown, with_settings, IsFa
 use crate::device::{InputFault, InputParts, parts_of, read_parts};
 use crate::follow::{FollowFault, follow};
 use crate::image::push_image;
+use crate::output::{Output, RunEnd, RunFault, finish, finish_output};
+use crate::rest::{Rest, Texts};
 use crate::start::{Begin, start_from};
-use nn_device::{Reader, WriteFailed, Writer};
+use nn_device::{Reader, Writer};
 use nn_edits::LineFault;
 use nn_image::ImageFault;
-use nn_listing::{push_history, push_tables, with_listing};
+use nn_listing::{listing_bytes, push_history, push_tables, with_listing};
 use nn_scenario::{BadLine, BadSegment, Scenario, read_segments};
 use nn_segment::SegmentFault;
 use nn_shadow::{FlushFault, Shadow};
+use nn_tree::Extent;
 use nn_types::{Event, Settings, fault};
 use std::alloc::{AllocError, Global};
+use std::fmt::Write as _;
 use std::io::{Read, Write};
 use std::mem;
 
@@ -55,45 +60,37 @@ const UNREADABLE: &[u8] = b"fault 8\n";
 /// The line of a run for which memory was refused.
 pub(crate) const OUT_OF_MEMORY: &[u8] = b"fault 55\n";
 
-/// A run's text, and its status.
-#[derive(Drop)]
-pub struct Output {
-    pub text: Vec<u8>,
-    pub status: u8,
-}
+/// The bytes of a listing, as `listing_bytes` counts them, above which it is made as it is written: 256 MiB.
+pub const MAX_IN_MEMORY: usize = 268_435_456;
 
-/// How a run ended: with status 0 after a listing, with status 1 after a fault line.
-#[derive(Clone, Copy, Debug, PartialEq, Eq)]
-pub struct RunEnd {
-    pub status: u8,
-}
-
-/// Reads an input to its end and writes the listing of its scenario, or one fault line and nothing else. All of the
-/// output is made before its first byte is written. Where the input begins with an image, that is read first: the standby
+/// Reads an input to its end and writes the listing of its scenario, or one fault line and nothing else. Nothing is written
+/// before the log has ended. An output is made before its first byte is written; but where the listing has more than
+/// `MAX_IN_MEMORY` bytes, its paths and the image are written as they are made. Where the input begins with an image, that is read first: the standby
 /// starts from it, passes over the transactions up to the image's, and applies those above.
 ///
 /// `fault 8` says that a read failed, or that the scenario has more than 16,777,216 bytes. A reader that has not ended after
 /// 16,777,216 reads counts as failed. `fault 55` says that memory was refused. Neither line takes memory. After a failed
-/// write the writer has a front of the output. An image is kept whole until it is loaded.
+/// write the writer has a front of the output, and so it has where memory is refused after the first byte was written. An
+/// image is kept whole until it is loaded.
 pub fn run<R: Read, W: Write>(
     alloc: Global,
     options: &Options,
     input: &mut Reader<R>,
     writer: &mut Writer<W>,
-) -> Result<RunEnd, WriteFailed>
+) -> Result<RunEnd, RunFault>
     ensures written { IfOk result (λ end. Wrote
         (running options.now false input.old input.new)
         writer.old writer.new end.status) }
-    ensures failed { IfErr result (λ e. WroteFront
+    ensures front { IfErr result (WroteFront
         (running options.now false input.old input.new)
-        writer.old writer.new e.written) }
+        writer.old writer.new) }
 {
     let parts = match read_parts(alloc, options.from_image, input) {
         Ok(parts) => parts,
         Err(fault) => return finish(writer, unread_line(fault), 1),
     };
     match output_of_parts(alloc, *options, parts) {
-        Ok(output) => finish(writer, &output.text, output.status),
+        Ok(output) => finish_output(alloc, output, writer),
         Err(AllocError) => finish(writer, OUT_OF_MEMORY, 1),
     }
 }
@@ -106,18 +103,6 @@ pub(crate) fn unread_line(fault: InputFault) -> &'static [u8]
         InputFault::ReadFailed | InputFault::TooLong => UNREADABLE,
         InputFault::OutOfMemory => OUT_OF_MEMORY,
     }
-}
-
-pub(crate) fn finish<W: Write>(
-    writer: &mut Writer<W>,
-    text: &[u8],
-    status: u8,
-) -> Result<RunEnd, WriteFailed>
-    ensures ok { IfOk result (λ end. Took writer.old writer.new text.now × (end.status ≡ status)) }
-    ensures err { IfErr result (λ e. FailedToWrite writer.old writer.new text.now e.written) }
-{
-    writer.write_all(text)?;
-    Ok(RunEnd { status })
 }
 
 /// The output of an input: the same for the same bytes, and no other. It knows of no reader, so that neither `fault 8`
@@ -166,7 +151,7 @@ fn image_output(alloc: Global, number: u8) -> Result<Output, AllocError>
     ensures { IfOk result (λ o. shown o ≡ fault_of_image number) }
 {
     let text = format!(in alloc; "fault {number} image\n")?.into_bytes();
-    Ok(Output { text, status: 1 })
+    Ok(Output::of_text(text, 1))
 }
 
 // The output of a scenario whose lines were read, from a start.
@@ -255,16 +240,64 @@ fn output_of_standby(alloc: Global, options: Options, standby: Shadow) -> Result
             FlushFault::Stopped(_) => unreachable!(),
         }
     }
-    let output = output_of_flushed(alloc, options, &standby);
-    // Taking it apart would be work for nothing: the process ends.
-    mem::forget(standby);
-    output
+    output_of_flushed(alloc, options, standby)
 }
 
 // The history, the listing, the tables and the image of a standby that has flushed.
 pub(crate) fn output_of_flushed(
     alloc: Global,
     options: Options,
+    standby: Shadow,
+) -> Result<Output, AllocError>
+    ensures { IfOk result (λ o. (lanes : Lanes) → ShowsPicture standby.namespace (items lanes) (tables_of (standby_of standby))
+        → shown o ≡ with_history options.history standby.history (after_log (with_settings options standby.permille standby.table.min) lanes (Ok (record { last = standby.last; namespace = standby.namespace })))) }
+{
+    let extent = standby.namespace().extent();
+    if listing_bytes(extent) > MAX_IN_MEMORY {
+        return large_output(alloc, options, standby);
+    }
+    let output = output_in_memory(alloc, options, extent, &standby);
+    // Taking it apart would be work for nothing: the process ends.
+    mem::forget(standby);
+    output
+}
+
+// The same, where the listing is made as it is written.
+fn large_output(alloc: Global, options: Options, standby: Shadow) -> Result<Output, AllocError>
+    ensures { IfOk result (λ o. (lanes : Lanes) → ShowsPicture standby.namespace (items lanes) (tables_of (standby_of standby))
+        → shown o ≡ with_history options.history standby.history (after_log (with_settings options standby.permille standby.table.min) lanes (Ok (record { last = standby.last; namespace = standby.namespace })))) }
+{
+    match texts_beside_paths(alloc, options.history, &standby) {
+        Ok(texts) => Ok(Output::of_rest(alloc, Rest::of(texts, standby, options.image))),
+        Err(error) => {
+            // Taking it apart would be work for nothing: the process ends.
+            mem::forget(standby);
+            Err(error)
+        }
+    }
+}
+
+// The history, where it is asked for, with the first line, and the tables.
+fn texts_beside_paths(alloc: Global, asked: bool, standby: &Shadow) -> Result<Texts, AllocError>
+    ensures head { IfOk result (λ texts. string_bytes texts.head ≡ history_part asked standby.now.history ++ first_line standby.now.last) }
+    ensures tables { IfOk result (λ texts. (lanes : Lanes) → ShowsPicture standby.now.namespace (items lanes) (tables_of (standby_of standby.now))
+        → string_bytes texts.tables ≡ tables_text standby.now.permille standby.now.table.min standby.now.namespace (items lanes)) }
+{
+    standby.consistent();
+    let mut head = String::new(alloc);
+    push_asked_history(asked, &mut head, standby.history())?;
+    let last = standby.last_txid();
+    write!(head, "txid {last}\n")?;
+    let mut tables = String::new(alloc);
+    push_tables(alloc, &mut tables, standby.replicas(), standby.safe_mode())?;
+    Ok(Texts { head, tables })
+}
+
+// The same, all of it in memory.
+fn output_in_memory(
+    alloc: Global,
+    options: Options,
+    extent: Extent,
     standby: &Shadow,
 ) -> Result<Output, AllocError>
     ensures { IfOk result (λ o. (lanes : Lanes) → ShowsPicture standby.now.namespace (items lanes) (tables_of (standby_of standby.now))
@@ -273,17 +306,19 @@ pub(crate) fn output_of_flushed(
     standby.consistent();
     let mut text = String::new(alloc);
     push_asked_history(options.history, &mut text, standby.history())?;
-    let mut text = with_listing(alloc, text, standby.namespace(), standby.last_txid())?;
+    let room = listing_bytes(extent);
+    let mut text = with_listing(alloc, text, room, standby.namespace(), standby.last_txid())?;
     push_tables(alloc, &mut text, standby.replicas(), standby.safe_mode())?;
     let mut text = text.into_bytes();
     push_image(
         alloc,
         options.image,
         &mut text,
+        extent,
         standby.namespace(),
         standby.last_txid(),
     )?;
-    Ok(Output { text, status: 0 })
+    Ok(Output::of_text(text, 0))
 }
 
 // The history, where it is asked for.
@@ -305,5 +340,5 @@ pub(crate) fn fault_output(
     ensures { IfOk result (λ o. shown o ≡ fault_at place.now number n) }
 {
     let text = format!(in alloc; "fault {number}{place}{n}\n")?.into_bytes();
-    Ok(Output { text, status: 1 })
+    Ok(Output::of_text(text, 1))
 }

@@ -1,12 +1,15 @@
 //! The image of a namespace, behind the tables of a run.
-ghost use Rattle.std.specs.Prelude.{◌≡◌, ◌++◌, OnOk};
+ghost use Rattle.std.specs.Prelude.{◌≡◌, ◌++◌, OnOk, IfErr};
+ghost use Rattle.nn_device.specs.Device.{Took};
+ghost use Rattle.nn_listing.specs.Writing.{Stopped};
 ghost use Rattle.nn_engine.specs.Output.{image_part};
 
 use nn_device::Writer;
-use nn_image::save;
-use nn_listing::text_bytes;
-use nn_tree::Namespace;
+use nn_image::{SaveFault, save};
+use nn_listing::{Unwritten, text_bytes, write_text};
+use nn_tree::{Extent, Namespace};
 use std::alloc::{AllocError, Global};
+use std::io::Write;
 use std::mem::replace;
 
 /// About what a line has beside its path.
@@ -16,11 +19,13 @@ const LINE: usize = 70;
 const BLOCK: usize = 40;
 
 /// Where it is asked for, adds the line `image` and the image of the namespace after this transaction. Memory for about
-/// all of it is asked for at once, so that an image that is larger than the memory is refused before it is begun.
+/// all of it, by the namespace's extent, is asked for at once, so that an image that is larger than the memory is refused
+/// before it is begun.
 pub(crate) fn push_image(
     alloc: Global,
     asked: bool,
     text: &mut Vec<u8>,
+    extent: Extent,
     namespace: &Namespace,
     last: u64,
 ) -> Result<(), AllocError>
@@ -29,7 +34,7 @@ pub(crate) fn push_image(
     if !asked {
         return Ok(());
     }
-    text.reserve_exact(text_bytes(namespace.extent(), LINE, BLOCK))?;
+    text.reserve_exact(text_bytes(extent, LINE, BLOCK))?;
     text.extend_from_slice(b"image\n")?;
     let mut image = Writer::new(replace(text, Vec::new(alloc)));
     let saved = save(alloc, namespace, last, &mut image);
@@ -38,5 +43,27 @@ pub(crate) fn push_image(
         Ok(()) => Ok(()),
         // A write into memory fails where memory is refused.
         Err(_) => Err(AllocError),
+    }
+}
+
+/// Where it is asked for, writes the line `image` and the image of the namespace after this transaction, line by line.
+pub(crate) fn write_image<W: Write>(
+    alloc: Global,
+    asked: bool,
+    namespace: &Namespace,
+    last: u64,
+    writer: &mut Writer<W>,
+) -> Result<(), Unwritten>
+    ensures ok { OnOk result (Took writer.old writer.new (image_part asked (record { last = last; namespace = namespace.now }))) }
+    ensures front { IfErr result (Stopped writer.old writer.new (image_part asked (record { last = last; namespace = namespace.now }))) }
+{
+    if !asked {
+        return Ok(());
+    }
+    write_text(writer, b"image\n")?;
+    match save(alloc, namespace, last, writer) {
+        Ok(()) => Ok(()),
+        Err(SaveFault::WriteFault { .. }) => Err(Unwritten::WriteFailed),
+        Err(SaveFault::OutOfMemory) => Err(Unwritten::OutOfMemory),
     }
 }

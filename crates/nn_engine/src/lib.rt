@@ -9,12 +9,16 @@ mod gate;
 mod image;
 mod law;
 mod log;
+mod output;
+mod rest;
 mod segments;
 mod start;
 mod threads;
 
 pub use device::{InputFault, read_scenario};
-pub use engine::{Options, Output, RunEnd, output_of, run};
+pub use engine::{MAX_IN_MEMORY, Options, output_of, run};
 pub use gate::{Gate, Open};
 pub use law::a_checkpoint_prints_the_same;
+pub use output::{Output, RunEnd, RunFault};
+pub use rest::Rest;
 pub use threads::{ThreadOptions, run_threads};

@@ -18,13 +18,14 @@ ghost use Rattle.nn_engine.specs.Shown.{shown, IsToldOf};
 
 use crate::device::{InputParts, read_parts};
 use crate::engine::{
-    OUT_OF_MEMORY, Options, Output, RunEnd, fault_output, finish, output_of_bad,
-    output_of_bad_segment, output_of_flushed, output_of_image_fault, unread_line,
+    OUT_OF_MEMORY, Options, fault_output, output_of_bad, output_of_bad_segment, output_of_flushed,
+    output_of_image_fault, unread_line,
 };
 use crate::gate::{Gate, GatePass};
+use crate::output::{Output, RunEnd, RunFault, finish, finish_output};
 use crate::segments::Segments;
 use crate::start::start_from;
-use nn_device::{Reader, WriteFailed, Writer};
+use nn_device::{Reader, Writer};
 use nn_drive::{DriveFault, ReportSource, drive, with_lanes};
 use nn_lane::LaneEnd;
 use nn_scenario::{BadLine, Scenario, Step, StepList, read_segments};
@@ -230,12 +231,7 @@ fn output_of_drive<G: Gate + Send + Sync + Drop, R: Threads + Wait + Sync>(
     let standby = standby_over(alloc, ends, asked.options.settings, image)?;
     let gate = Arc::try_clone(&asked.gate)?;
     match drive(rt, alloc, standby, Segments::new(segments, gate), workers) {
-        Ok((shadow, _active)) => {
-            let output = output_of_flushed(alloc, asked.options, &shadow);
-            // Taking it apart would be work for nothing: the process ends.
-            mem::forget(shadow);
-            output
-        }
+        Ok((shadow, _active)) => output_of_flushed(alloc, asked.options, shadow),
         Err(fault) => output_of_fault(alloc, fault),
     }
 }
@@ -316,21 +312,21 @@ pub fn run_threads<I: Read, W: Write, G: Gate + Send + Sync + Drop, R: Threads +
     asked: &ThreadOptions<G>,
     input: &mut Reader<I>,
     writer: &mut Writer<W>,
-) -> Result<RunEnd, WriteFailed>
+) -> Result<RunEnd, RunFault>
     requires { (1 ≤ asked.now.capacity) × (asked.now.capacity ≤ 1024) }
     ensures written { IfOk result (λ end. Wrote
         (running asked.now.options true input.old input.new)
         writer.old writer.new end.status) }
-    ensures failed { IfErr result (λ e. WroteFront
+    ensures front { IfErr result (WroteFront
         (running asked.now.options true input.old input.new)
-        writer.old writer.new e.written) }
+        writer.old writer.new) }
 {
     let parts = match read_parts(alloc, asked.options.from_image, input) {
         Ok(parts) => parts,
         Err(fault) => return finish(writer, unread_line(fault), 1),
     };
     match parts_by_threads(rt, alloc, asked, parts) {
-        Ok(output) => finish(writer, &output.text, output.status),
+        Ok(output) => finish_output(alloc, output, writer),
         Err(AllocError) => finish(writer, OUT_OF_MEMORY, 1),
     }
 }

@@ -5,3 +5,4 @@ pub mod TablesRows
 pub mod Trail
 pub mod TrailRows
 pub mod Plain
+pub mod Writing

@@ -7,7 +7,9 @@
 mod history;
 mod paths;
 mod tables;
+mod writing;
 
 pub use history::push_history;
-pub use paths::{listing, text_bytes, with_listing};
+pub use paths::{listing, listing_bytes, text_bytes, with_listing};
 pub use tables::push_tables;
+pub use writing::{Unwritten, write_lines, write_text};

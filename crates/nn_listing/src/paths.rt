@@ -35,13 +35,15 @@ const BLOCK: usize = 30;
 pub fn listing(alloc: Global, namespace: &Namespace, last: u64) -> Result<String, AllocError>
     ensures { IfOk result (λ text. string_bytes text ≡ listing_text last namespace.now) }
 {
-    with_listing(alloc, String::new(alloc), namespace, last)
+    let room = listing_bytes(namespace.extent());
+    with_listing(alloc, String::new(alloc), room, namespace, last)
 }
 
-/// A text, and the listing behind it.
+/// A text, and the listing behind it. Room for so many bytes is asked for at once, mostly `listing_bytes`.
 pub fn with_listing(
     alloc: Global,
     text: String,
+    room: usize,
     namespace: &Namespace,
     last: u64,
 ) -> Result<String, AllocError>
@@ -49,13 +51,20 @@ pub fn with_listing(
 {
     let mut text = text;
     write!(text, "txid {last}\n")?;
-    text.reserve_exact(text_bytes(namespace.extent(), LINE, BLOCK))?;
+    text.reserve_exact(room)?;
     let mut lines = RowText { text, alloc };
     let Ok(()) = namespace.list_to(&mut lines) else {
         return Err(AllocError);
     };
     let RowText { text, alloc: _ } = lines;
     Ok(text)
+}
+
+/// About how many bytes the listing of a namespace has, by its extent.
+pub fn listing_bytes(extent: Extent) -> usize
+    ensures { result ≡ capped (extent.path_bytes + 20 * extent.paths + 30 * extent.blocks) }
+{
+    text_bytes(extent, LINE, BLOCK)
 }
 
 /// The bytes of a text with a line for each path, where a line has so many bytes beside its path, and so many for each
@@ -105,8 +114,8 @@ impl RowSink for RowText {
     }
 }
 
-// Adds the line of what stands at the path with these names.
-fn push_line(
+// Adds the line of what is at the path with these names.
+pub(crate) fn push_line(
     alloc: Global,
     text: &mut String,
     names: &[&str],

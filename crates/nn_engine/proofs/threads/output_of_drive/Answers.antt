@@ -26,14 +26,14 @@ returns-in-Ok g c =
     let options = c.args.asked.now.options in
     let settings = options.settings in
     let lanes = lanes_of c.args.steps in
-    IfOk-weaker c.output_of_flushed-output.result _ _ (λ o told start is. subst (λ s. IsToldOf start true options c.args.steps (Ok s) (shown o)) c.new.ensures (
+    IfOk-weaker c.output_of_flushed.result _ _ (λ o told start is. subst (λ s. IsToldOf start true options c.args.steps (Ok s) (shown o)) c.new.ensures (
     let a = arrives settings c.args.datanodes lanes c.in_ok-sources.sources.items c.in_ok-sources.ensures c.in_ok-workers.workers.items c.in_ok-workers.ends.items c.in_ok-workers.ensures.own start c.in_ok-standby.standby (c.in_ok-standby.ensures.begun start is) c.in_ok-standby.ensures.settings c.new.result
     c.in-Ok.shadow c.in-Ok._active c.in-Ok.ensures.ok in
     let happened : IsHistoryOf start true (log_of start.txid (map (λ (s : Segment). s.txs) c.new.result)) c.args.steps c.in-Ok.shadow.history =
     record { lawful = a.lawful; whole = a.whole; one_thread = λ none. absurd (cc) } in
     told_history start true options c.args.steps (Ok c.new.result) c.new.result c.in-Ok.shadow.history (shown o) refl (λ end ended. happened)
     (tells start options lanes c.new.result c.in-Ok.shadow (shown o) a told)
-    )) c.output_of_flushed-output.ensures
+    )) c.output_of_flushed.ensures
 
 pub output_of_fault-requires : goal.output_of_fault-requires
 output_of_fault-requires g c = may_end c.in_ok-standby.standby c.new.result c.in_ok-standby.ensures.serves c.in-Err.fault c.in-Err.ensures.err

@@ -1,4 +1,4 @@
--- The command line, and what its words ask for.
+-- The command line, and what its arguments ask for.
 use Rattle.std.specs.Prelude.{◌≡◌, ◌<◌, ◌≤◌, ◌^◌, ℕ, Bool, true, false, pos, List, [], ◌∷◌, Option, Some, None, codes}
 use Rattle.std.specs.Str.Parse.{IsNumeral, digits_value, without_leading_plus}
 use Rattle.clap.specs.Simple.{on_top}
@@ -60,9 +60,9 @@ pub record AreReadAs (first second third : Option Text) (settings : Threshold) :
   pub lawful : AreSettings settings.permille settings.min
   pub capacity : (n : ℕ) × IsCapacity third n
 
--- the words ask for these settings, by what stands behind the names, or by their defaults
+-- the arguments ask for these settings, by the texts behind the names or by their defaults
 abbrev pub AskFor : List Text → Threshold → Type 0
-AskFor words = AreReadAs (one_of (codes "permille") (matches_of command_line words)) (one_of (codes "min") (matches_of command_line words)) (one_of (codes "capacity") (matches_of command_line words))
+AskFor arguments = AreReadAs (one_of (codes "permille") (matches_of command_line arguments)) (one_of (codes "min") (matches_of command_line arguments)) (one_of (codes "capacity") (matches_of command_line arguments))
 
 -- whether a flag is set: its text is `true`, or it is `false` or not there
 abbrev pub IsFlag : Option Text → Bool → Type 0
@@ -78,6 +78,6 @@ pub record IsRequest (text_of : Text → Option Text) (r : Request) : Type 0 whe
   pub on_from_image : IsFlag (text_of (codes "from-image")) r.options.from_image
   pub explains : IsNumberOf 8 (text_of (codes "explain")) r.explain
 
--- the words ask for it so
+-- the arguments ask for this request
 abbrev pub AskAs : List Text → Request → Type 0
-AskAs words = IsRequest (λ name. one_of name (matches_of command_line words))
+AskAs arguments = IsRequest (λ name. one_of name (matches_of command_line arguments))

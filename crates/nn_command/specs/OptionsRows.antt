@@ -6,10 +6,10 @@ use Rattle.clap.specs.declared.error.kind.ErrorKind.TheVariants.{DisplayHelp, Di
 use Rattle.nn_command.specs.Options.{settings_line, lanes_line, command_line}
 
 abbrev line : List Text → List Text
-line words = codes "nn_standby" ∷ words
+line arguments = codes "nn_standby" ∷ arguments
 
 abbrev matched : List Text → List (Option Text)
-matched words = map (λ name. one_of name (matches_of command_line (line words))) (codes "permille" ∷ codes "min" ∷ codes "capacity" ∷ codes "threads" ∷ codes "history" ∷ codes "image" ∷ codes "from-image" ∷ codes "explain" ∷ [])
+matched arguments = map (λ name. one_of name (matches_of command_line (line arguments))) (codes "permille" ∷ codes "min" ∷ codes "capacity" ∷ codes "threads" ∷ codes "history" ∷ codes "image" ∷ codes "from-image" ∷ codes "explain" ∷ [])
 
 some_numbers : matched (codes "--min" ∷ codes "2" ∷ codes "--permille=1000" ∷ codes "--threads" ∷ codes "--image" ∷ codes "--capacity" ∷ codes "7" ∷ []) ≡ Some (codes "1000") ∷ Some (codes "2") ∷ Some (codes "7") ∷ Some (codes "true") ∷ Some (codes "false") ∷ Some (codes "true") ∷ Some (codes "false") ∷ None ∷ []
 unfolding clap_on_literals settings_line lanes_line command_line
@@ -32,7 +32,7 @@ unfolding clap_on_literals settings_line lanes_line command_line
 an_explanation = refl
 
 -- `--help` and `--version` win over what stands before them, and of the two the first
-wins : map (λ words. fault_of command_line (line words))
+wins : map (λ arguments. fault_of command_line (line arguments))
     ((codes "--image" ∷ codes "--help" ∷ []) ∷ (codes "--min=2" ∷ codes "--version" ∷ []) ∷ (codes "--version" ∷ codes "--help" ∷ []) ∷ (codes "--help" ∷ codes "--version" ∷ []) ∷ (codes "--explain" ∷ codes "29" ∷ codes "-V" ∷ []) ∷ (codes "--explain" ∷ codes "29" ∷ codes "-h" ∷ []) ∷ (codes "--version" ∷ codes "--most" ∷ []) ∷ (codes "--most" ∷ codes "--version" ∷ []) ∷ [])
     ≡ (DisplayHelp ∷ []) ∷ (DisplayVersion ∷ []) ∷ (DisplayVersion ∷ []) ∷ (DisplayHelp ∷ []) ∷ (DisplayVersion ∷ []) ∷ (DisplayHelp ∷ []) ∷ (DisplayVersion ∷ []) ∷ (UnknownArgument ∷ []) ∷ []
 unfolding clap_on_literals settings_line lanes_line command_line
@@ -58,7 +58,7 @@ capacities_taken : map (λ n. takes command_line (line (codes "--capacity" ∷ n
 unfolding clap_on_literals settings_line lanes_line command_line
 capacities_taken = refl
 
-nothing_else : map (λ words. takes command_line (line words)) ([] ∷ (codes "word" ∷ []) ∷ (codes "--most" ∷ codes "1" ∷ []) ∷ (codes "--min" ∷ []) ∷ [])
+nothing_else : map (λ arguments. takes command_line (line arguments)) ([] ∷ (codes "word" ∷ []) ∷ (codes "--most" ∷ codes "1" ∷ []) ∷ (codes "--min" ∷ []) ∷ [])
     ≡ true ∷ false ∷ false ∷ false ∷ []
 unfolding clap_on_literals settings_line lanes_line command_line
 nothing_else = refl

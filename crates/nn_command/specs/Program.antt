@@ -1,4 +1,4 @@
--- What the program does for the words that it is started with, and the status that it ends with.
+-- What the program does for its arguments, and the status that it ends with.
 use Rattle.std.specs.Prelude.{◌≡◌, ◌≢◌, ◌⊎◌, ◌∷◌, [], ◌++◌, ℕ, Bool, false, List, codes, decimal, Some, None, MatchOption}
 use Rattle.nn_device.specs.Device.{Reading, Writing, Took, FailedToWrite}
 use Rattle.clap.specs.Words.{Text, IsAmong, fault_of}
@@ -8,32 +8,33 @@ use Rattle.clap.specs.declared.error.kind.ErrorKind.TheVariants as why
 use Rattle.nn_types.specs.Fault.{name_in, name_of}
 use Rattle.nn_types.specs.Settings.{Threshold}
 use Rattle.nn_engine.specs.declared.engine.Options.{Options as RunOptions}
+use Rattle.nn_engine.specs.declared.output.RunFault.{RunFault}
 use Rattle.nn_listing.specs.Listing.{newline}
 use Rattle.nn_engine.specs.Run.{Given, Wrote, WroteFront, running}
-use Rattle.nn_command.specs.declared.program.NoWords.{NoWords}
-use Rattle.nn_command.specs.declared.program.NoWords.TheVariants.{NotText, OutOfMemory}
+use Rattle.nn_command.specs.declared.program.NoArguments.{NoArguments}
+use Rattle.nn_command.specs.declared.program.NoArguments.TheVariants.{NotText, OutOfMemory}
 use Rattle.nn_command.specs.declared.options.Request.{Request}
 use Rattle.nn_command.specs.declared.options.TheConstants.{VERSION}
 use Rattle.nn_command.specs.Options.{command_line, AskAs, AskFor}
 
--- ---- What words ask for.
+-- ---- What the arguments ask for.
 
 -- the parser has no fault to find, and these are the settings
 abbrev pub AreTaken : List Text → Threshold → Type 0
-AreTaken words settings = (fault_of command_line words ≡ []) × AskFor words settings
+AreTaken arguments settings = (fault_of command_line arguments ≡ []) × AskFor arguments settings
 
 -- the help text
 abbrev pub AskForHelp : List Text → Type 0
-AskForHelp words = IsAmong DisplayHelp (fault_of command_line words)
+AskForHelp arguments = IsAmong DisplayHelp (fault_of command_line arguments)
 
 -- the version
 abbrev pub AskForVersion : List Text → Type 0
-AskForVersion words = IsAmong DisplayVersion (fault_of command_line words)
+AskForVersion arguments = IsAmong DisplayVersion (fault_of command_line arguments)
 
--- nothing that there is: the parser finds a fault, or the words are no settings
+-- they are refused: the parser finds a fault, or they give no settings
 abbrev pub AskForNothing : List Text → Type 0
-AskForNothing words =
-    ((kind : ErrorKind) × IsAmong kind (fault_of command_line words) × (kind ≢ DisplayHelp) × (kind ≢ DisplayVersion)) ⊎ ((settings : Threshold) → AskFor words settings → ⊥)
+AskForNothing arguments =
+    ((kind : ErrorKind) × IsAmong kind (fault_of command_line arguments) × (kind ≢ DisplayHelp) × (kind ≢ DisplayVersion)) ⊎ ((settings : Threshold) → AskFor arguments settings → ⊥)
 
 -- ---- What the program did.
 
@@ -68,9 +69,9 @@ Writes old new text status ended = (Took old new text × (ended ≡ status)) ⊎
 abbrev pub memory_line : List ℕ
 memory_line = codes "fault 55" ++ newline ∷ []
 
--- the output, and the status that goes with it, or 1 where a write failed
+-- the output, and the status that goes with it; or a front of it, and the status 1
 abbrev pub EndsWith : Given → Writing → Writing → ℕ → Type 0
-EndsWith given output output' ended = Wrote given output output' ended ⊎ ((n : ℕ) × WroteFront given output output' n × (ended ≡ 1))
+EndsWith given output output' ended = Wrote given output output' ended ⊎ ((fault : RunFault) × WroteFront given output output' fault × (ended ≡ 1))
 
 -- a run with these options, and with threads or without
 abbrev pub Runs : RunOptions → Bool → Streams → ℕ → Type 0
@@ -110,23 +111,23 @@ Explains number s ended =
 abbrev pub Answers : Request → Streams → ℕ → Type 0
 Answers r s ended = MatchOption r.explain (Runs r.options r.threads s ended) (λ number. Explains number s ended)
 
--- what it does for words, of which the first is the program's name
+-- what it does for its arguments, of which the first is its name
 abbrev pub Serves : List Text → Streams → ℕ → Type 0
-Serves words s ended =
-    ((r : Request) × AreTaken words r.options.settings × AskAs words r × Answers r s ended)
-    ⊎ ((AskForHelp words × Helps s ended) ⊎ ((AskForVersion words × Tells version_line s ended) ⊎ ((AskForNothing words × Refuses s ended) ⊎ LacksMemory s ended)))
+Serves arguments s ended =
+    ((r : Request) × AreTaken arguments r.options.settings × AskAs arguments r × Answers r s ended)
+    ⊎ ((AskForHelp arguments × Helps s ended) ⊎ ((AskForVersion arguments × Tells version_line s ended) ⊎ ((AskForNothing arguments × Refuses s ended) ⊎ LacksMemory s ended)))
 
 -- and where there are none
-abbrev pub ServesNone : NoWords → Streams → ℕ → Type 0
+abbrev pub ServesNone : NoArguments → Streams → ℕ → Type 0
 ServesNone NotText s ended = Refuses s ended
 ServesNone OutOfMemory s ended = LacksMemory s ended
 
--- ---- Why the words' parser gave no settings.
+-- ---- Why the parser of the arguments gave no settings.
 
--- memory ran out, or the words ask for help, the version or nothing, as the kind says
+-- memory ran out, or the arguments ask for help or the version or are refused, as the kind says
 abbrev pub WhyNot : List Text → ErrorKind → Type 0
-WhyNot words kind =
-    (kind ≡ why.OutOfMemory) ⊎ (IsAmong kind (fault_of command_line words) ⊎ ((kind ≢ DisplayHelp) × (kind ≢ DisplayVersion) × ((settings : Threshold) → AskFor words settings → ⊥)))
+WhyNot arguments kind =
+    (kind ≡ why.OutOfMemory) ⊎ (IsAmong kind (fault_of command_line arguments) ⊎ ((kind ≢ DisplayHelp) × (kind ≢ DisplayVersion) × ((settings : Threshold) → AskFor arguments settings → ⊥)))
 
 -- what is told of an error of this kind
 abbrev pub TellsOf : ErrorKind → Streams → ℕ → Type 0

@@ -8,7 +8,7 @@ use Rattle.nn_types.specs.Fault.{name_of}
 use Rattle.nn_types.specs.Settings.{Threshold}
 use Rattle.nn_engine.specs.declared.engine.Options.{Options as RunOptions}
 use Rattle.nn_listing.specs.Listing.{newline}
-use Rattle.nn_command.specs.declared.program.NoWords.TheVariants.{NotText, OutOfMemory}
+use Rattle.nn_command.specs.declared.program.NoArguments.TheVariants.{NotText, OutOfMemory}
 use Rattle.nn_command.specs.declared.options.Request.{Request}
 use Rattle.nn_command.specs.Options.{ReadsAs, IsNumberOf, IsCapacity, AreReadAs, IsFlag, IsRequest}
 use Rattle.nn_command.specs.Program.{Streams, Writes, Runs, Helps, Refuses, Explains, LacksMemory, ServesNone, TellsOf, explanation_line, memory_line, version_line}
@@ -138,7 +138,7 @@ all given output errors = record {
 }
 
 helps : Helps (all 0 (writer text false) nothing) 0
-helps = ((text, wrote_all), refl, refl)
+helps = (text, (wrote_all, refl, refl))
 
 not_helped_on_errors : Helps (all 0 nothing (writer text false)) 0 → ⊥
 not_helped_on_errors h = let e : 3 ≡ 0 = ap (λ (w : Writing). w.taken) h.1.1 in omega (arith, e)
@@ -207,7 +207,7 @@ not_told_as_misuse h =
 
 explained : Explains 29 (all 0 (writer (explanation_line 29 (codes "BadGeneration: a stamp is wrong.")) false) nothing) 0
 unfolding name_of
-explained = inl (codes "BadGeneration: a stamp is wrong.", refl, (inl (record { bytes = refl; counted = refl; unfailed = refl }, refl), refl, refl))
+explained = inl (codes "BadGeneration: a stamp is wrong.", refl, (inl (record { bytes = refl; counted = omega arith; unfailed = refl }, refl), refl, refl))
 
 no_fault_refused : Explains 34 (all 0 nothing (writer text false)) 2
 unfolding name_of

@@ -1,6 +1,6 @@
 //! The program on the devices of its process, and on a thread with stack enough for a run.
 use crate::program;
-use crate::program::{NoWords, serve};
+use crate::program::{NoArguments, serve};
 use nn_device::{Reader, Writer};
 use nn_engine::Open;
 use nn_scenario::MAX_INPUT;
@@ -27,7 +27,7 @@ const LINE: usize = 43;
 // Twice what the deepest namespace can ask for that an input makes.
 const _: () = prove!(STACK / LEVEL >= 2 * (MAX_INPUT / LINE));
 
-/// Does what the words ask for that the program was started with, and answers the status that it is to end with.
+/// Does what the arguments of the process ask for, and answers the status that it is to end with.
 ///
 /// It waits for the thread that it starts, so that it returns only if that thread ends. A runtime lends its threads only
 /// where a program begins, so `main` hands it over twice, and once more for the threads of a run.
@@ -49,9 +49,9 @@ pub fn start<T: Threads + Wait + Sync + Send + Drop + 'static>(
 }
 
 fn on_devices<T: Threads + Wait + Sync>(rt: &HostRuntime, threads: &T) -> u8 {
-    let words = words(rt);
-    let words = match &words {
-        Ok(words) => Ok(words.as_slice()),
+    let arguments = arguments(rt);
+    let arguments = match &arguments {
+        Ok(arguments) => Ok(arguments.as_slice()),
         Err(why) => Err(*why),
     };
     let mut input = Reader::new(rt.reader());
@@ -63,7 +63,7 @@ fn on_devices<T: Threads + Wait + Sync>(rt: &HostRuntime, threads: &T) -> u8 {
     serve(
         threads,
         rt.alloc(),
-        words,
+        arguments,
         &mut input,
         &mut output,
         &mut errors,
@@ -71,17 +71,19 @@ fn on_devices<T: Threads + Wait + Sync>(rt: &HostRuntime, threads: &T) -> u8 {
     )
 }
 
-// The words that the program was started with, its name first.
-fn words(rt: &HostRuntime) -> Result<Vec<String>, NoWords> {
-    let words = match env::args(&LooselyNamed { rt }) {
-        Ok(words) => words,
-        Err(error) if error.kind() == io::ErrorKind::InvalidData => return Err(NoWords::NotText),
-        Err(_) => return Err(NoWords::OutOfMemory),
+// The arguments of the process, its name first.
+fn arguments(rt: &HostRuntime) -> Result<Vec<String>, NoArguments> {
+    let arguments = match env::args(&LooselyNamed { rt }) {
+        Ok(arguments) => arguments,
+        Err(error) if error.kind() == io::ErrorKind::InvalidData => return Err(
+            NoArguments::NotText,
+        ),
+        Err(_) => return Err(NoArguments::OutOfMemory),
     };
-    let Ok(words) = words.collect(rt.alloc()) else {
-        return Err(NoWords::OutOfMemory);
+    let Ok(arguments) = arguments.collect(rt.alloc()) else {
+        return Err(NoArguments::OutOfMemory);
     };
-    Ok(words)
+    Ok(arguments)
 }
 
 // The process's arguments, of which the program's own name is read loosely: a program may lie where a path is no UTF-8.

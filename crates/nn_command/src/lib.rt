@@ -1,4 +1,4 @@
-//! The program's command line, and what it does: the words are read, and a scenario is run as they ask.
+//! The program's command line: its arguments are read, and what they ask for is done.
 #![tactic(auto)]
 
 mod devices;
@@ -7,4 +7,4 @@ mod program;
 
 pub use devices::{out_of_memory, start};
 pub use options::{Request, parse};
-pub use program::{NoWords, serve};
+pub use program::{NoArguments, serve};

@@ -52,17 +52,17 @@ pub struct Request {
     pub explain: Option<u8>,
 }
 
-/// What words ask for, of which the first is the program's name.
-pub fn parse<'a>(alloc: Global, words: &'a [String]) -> Result<Request, Error>
-    ensures ok { IfOk result (λ request. AreTaken (map string_bytes words.entry.now) request.options.settings) }
-    ensures asked { IfOk result (λ request. AskAs (map string_bytes words.entry.now) request) }
+/// What the arguments ask for. The first one is the program's name.
+pub fn parse<'a>(alloc: Global, arguments: &'a [String]) -> Result<Request, Error>
+    ensures ok { IfOk result (λ request. AreTaken (map string_bytes arguments.entry.now) request.options.settings) }
+    ensures asked { IfOk result (λ request. AskAs (map string_bytes arguments.entry.now) request) }
     ensures capacity { IfOk result (λ request. (1 ≤ request.capacity) × (request.capacity ≤ 1024)) }
-    ensures err { IfErr result (λ error. WhyNot (map string_bytes words.entry.now) (kind_of error)) }
+    ensures err { IfErr result (λ error. WhyNot (map string_bytes arguments.entry.now) (kind_of error)) }
 {
     let Ok(line) = command(alloc) else {
         return Err(Error::from(AllocError));
     };
-    let matches = match line.try_get_matches_from(words) {
+    let matches = match line.try_get_matches_from(arguments) {
         Ok(matches) => matches,
         Err(error) => return Err(error),
     };
@@ -72,7 +72,7 @@ pub fn parse<'a>(alloc: Global, words: &'a [String]) -> Result<Request, Error>
     Ok(request)
 }
 
-// A number is out of its range. The parsers of the two arguments refuse such words before.
+// A number is out of its range. The parsers of the two options refuse such arguments before.
 fn out_of_range(alloc: Global) -> Error
     ensures { (kind_of result ≡ ErrorKind.InvalidValue) ⊎ (kind_of result ≡ ErrorKind.OutOfMemory) }
 {

@@ -1,4 +1,4 @@
-//! What the program does for the words that it is started with, over any reader and writers.
+//! What the program does for its arguments, over any reader and writers.
 ghost use Rattle.std.specs.Prelude.{◌≡◌, ◌≤◌, ◌⊎◌, ℕ, List, false, IfOk, IfErr, map, string_bytes};
 ghost use Rattle.nn_device.specs.Device.{Took, FailedToWrite};
 ghost use Rattle.clap.specs.Words.{kind_of};
@@ -19,47 +19,48 @@ use std::thread::Threads;
 /// The status after a fault line, and after a write that failed.
 const FAILED: u8 = 1;
 
-/// The status after words that ask for nothing that there is.
+/// The status after arguments that are refused.
 const MISUSED: u8 = 2;
 
-const NOT_TEXT: &[u8] = b"error: a word of the command line is no UTF-8\n";
+const NOT_TEXT: &[u8] = b"error: an argument is not UTF-8\n";
 
 const NO_FAULT: &[u8] = b"error: no fault has the number behind --explain\n";
 
-/// Why there are no words.
+/// Why the arguments could not be had.
 #[derive(Clone, Copy, Debug, PartialEq, Eq)]
-pub enum NoWords {
-    /// A word is no UTF-8.
+pub enum NoArguments {
+    /// An argument is not UTF-8.
     NotText,
     OutOfMemory,
 }
 
-/// Does what the words ask for, of which the first is the program's name, and answers the status that the process is
-/// to end with: 0 after a listing, the help, the version or what a fault means, 1 after a fault line or a write that
-/// failed, 2 after words that are refused, which is told on `errors`.
+/// Does what the arguments ask for. The first one is the program's name, and counts for nothing.
+///
+/// Answers the status that the process is to end with: 0 after a listing, the help, the version or the meaning of a
+/// fault; 1 after a fault line or a failed write; 2 where the arguments are refused, with a message on `errors`.
 ///
 /// With `--threads` each DataNode reports from a thread of its own, which passes the gate first: it waits for as long as
 /// the gate does. What is printed is the same, except that a history has the order of its own run.
 pub fn serve<R: Read, W: Write, E: Write, G: Gate + Send + Sync + Drop, T: Threads + Wait + Sync>(
     rt: &T,
     alloc: Global,
-    words: Result<&[String], NoWords>,
+    arguments: Result<&[String], NoArguments>,
     input: &mut Reader<R>,
     output: &mut Writer<W>,
     errors: &mut Writer<E>,
     gate: Arc<G, Global>,
 ) -> u8
-    ensures some { IfOk words.entry (λ words. Serves (map string_bytes words.now)
+    ensures some { IfOk arguments.entry (λ arguments. Serves (map string_bytes arguments.now)
         (streams input.old input.new output.old output.new errors.old errors.new) result) }
-    ensures none { IfErr words.entry (λ why. ServesNone why
+    ensures none { IfErr arguments.entry (λ why. ServesNone why
         (streams input.old input.new output.old output.new errors.old errors.new) result) }
 {
-    let words = match words {
-        Ok(words) => words,
-        Err(NoWords::NotText) => return refuse(errors, NOT_TEXT),
-        Err(NoWords::OutOfMemory) => return out_of_memory(output),
+    let arguments = match arguments {
+        Ok(arguments) => arguments,
+        Err(NoArguments::NotText) => return refuse(errors, NOT_TEXT),
+        Err(NoArguments::OutOfMemory) => return out_of_memory(output),
     };
-    let request = match options::parse(alloc, words) {
+    let request = match options::parse(alloc, arguments) {
         Ok(request) => request,
         Err(error) => return tell(alloc, &error, output, errors),
     };

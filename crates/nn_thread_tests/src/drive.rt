@@ -138,6 +138,15 @@ const FAILS_AT_SECOND: Driven = Driven {
     ..PLAIN
 };
 
+// DataNodes that report without end, behind a log that stops at a gap: the drive ends all the same.
+const ENDLESS_REPORTS: Driven = Driven {
+    name: "endless reports",
+    reports: u64::MAX,
+    log: &[TWO_MORE],
+    end: Err(51),
+    ..PLAIN
+};
+
 // Of a lane that is closed when the drive begins the first report is refused, and that is no fault.
 const CLOSED_BEFORE: Driven = Driven {
     name: "closed before",
@@ -161,6 +170,7 @@ fn drives(rt: HostRuntime) {
         FAILS_AT_ONCE,
         FAILS_AT_ITS_END,
         FAILS_AT_SECOND,
+        ENDLESS_REPORTS,
         CLOSED_BEFORE,
     ] {
         for _ in 0..driven.times {

@@ -1,8 +1,8 @@
-//! The program on readers and writers that fail, without words, on large inputs, and with threads that wait for one another.
+//! The program on readers and writers that fail, without arguments, on large inputs, and with threads that wait for one another.
 use crate::values::Shared;
-use nn_command::{NoWords, serve};
+use nn_command::{NoArguments, serve};
 use nn_device::{Reader, Writer};
-use nn_engine::{Gate, Open, Options, output_of, run};
+use nn_engine::{Gate, Open, Options, RunFault, ThreadOptions, output_of, run, run_threads};
 use nn_scenario::MAX_INPUT;
 use nn_types::Settings;
 use std::alloc::Global;
@@ -13,7 +13,7 @@ use std::sync::atomic::Ordering;
 use std::sync::{Arc, Wait};
 use std::thread::Threads;
 
-// What the program asks for where the command line has no words.
+// What the program asks for where the command line has no arguments.
 fn usual_options() -> Options {
     match Settings::new(999, 1) {
         Some(settings) => Options {
@@ -37,12 +37,46 @@ fn printed(alloc: Global, options: &Options, reader: impl Read + Drop) -> (Vec<u
     (writer.into_inner(), status)
 }
 
+// The same with threads, where each lane has room for one report.
+fn printed_by_threads<R: Threads + Wait + Sync>(
+    rt: &R,
+    alloc: Global,
+    options: &Options,
+    reader: impl Read + Drop,
+) -> (Vec<u8>, u8) {
+    let mut writer = Writer::new(Vec::new(alloc));
+    let mut input = Reader::new(reader);
+    let status = run_by_threads(rt, alloc, options, &mut input, &mut writer).unwrap_or(9);
+    (writer.into_inner(), status)
+}
+
+// The status of a run with threads, or none where a write failed.
+fn run_by_threads<R: Threads + Wait + Sync>(
+    rt: &R,
+    alloc: Global,
+    options: &Options,
+    input: &mut Reader<impl Read>,
+    output: &mut Writer<impl Write>,
+) -> Option<u8> {
+    let Ok(gate) = Arc::new(alloc, Open) else {
+        return None;
+    };
+    let asked = ThreadOptions {
+        options: *options,
+        capacity: 1,
+        gate,
+    };
+    let end = run_threads(rt, alloc, &asked, input, output).ok()?;
+    Some(end.status)
+}
+
 // ---- Readers and writers that fail.
 
-// A reader that gives one byte a time and fails at its read `fail_at`, counted from 0.
+// A reader that gives at most `width` bytes a time and fails at its read `fail_at`, counted from 0.
 #[derive(Drop)]
 struct Slow<'a> {
     bytes: &'a [u8],
+    width: usize,
     reads: u64,
     fail_at: u64,
 }
@@ -53,14 +87,11 @@ impl Read for Slow<'_> {
             return Err(io::Error::from(io::ErrorKind::Other));
         }
         self.reads = self.reads.saturating_add(1);
-        match (self.bytes, buf) {
-            ([first, rest @ ..], [place, ..]) => {
-                *place = *first;
-                self.bytes = rest;
-                Ok(1)
-            }
-            _ => Ok(0),
-        }
+        let n = self.bytes.len().min(self.width).min(buf.len());
+        let (given, rest) = self.bytes.split_at(n);
+        buf[..n].copy_from_slice(given);
+        self.bytes = rest;
+        Ok(n)
     }
 }
 
@@ -134,29 +165,61 @@ fn failing_readers(rt: HostRuntime) {
         ..behind_an_image
     };
     for given in [log, behind_an_image, behind_a_bad_image] {
-        let failed = Given {
-            want: b"fault 8\n",
-            status: 1,
-            ..given
-        };
-        // The reads are one for each byte and one for the end.
-        let calls = given.bytes.len() as u64 + 1;
-        for fail_at in 0..calls {
-            fails_at(&rt, rt.alloc(), fail_at, &failed);
+        for (width, threads) in [
+            (1, false),
+            (7, false),
+            (4096, false),
+            (1, true),
+            (7, true),
+            (4096, true),
+        ] {
+            fails_at_each_read(&rt, rt.alloc(), &given, width, threads);
         }
-        fails_at(&rt, rt.alloc(), calls, &given);
     }
 }
 
-fn fails_at(rt: &impl Abort, alloc: Global, fail_at: u64, given: &Given) {
+// The run prints `fault 8` wherever a read fails, and its output where none does.
+fn fails_at_each_read<R: Abort + Threads + Wait + Sync>(
+    rt: &R,
+    alloc: Global,
+    given: &Given,
+    width: usize,
+    threads: bool,
+) {
+    let failed = Given {
+        want: b"fault 8\n",
+        status: 1,
+        ..*given
+    };
+    // The last read shows the end.
+    let calls = given.bytes.len().div_ceil(width) as u64 + 1;
+    for fail_at in 0..calls {
+        fails_at(rt, alloc, fail_at, &failed, width, threads);
+    }
+    fails_at(rt, alloc, calls, given, width, threads);
+}
+
+fn fails_at<R: Abort + Threads + Wait + Sync>(
+    rt: &R,
+    alloc: Global,
+    fail_at: u64,
+    given: &Given,
+    width: usize,
+    threads: bool,
+) {
     let mut options = usual_options();
     options.from_image = given.from_image;
     let reader = Slow {
         bytes: given.bytes,
+        width,
         reads: 0,
         fail_at,
     };
-    let (text, ended) = printed(alloc, &options, reader);
+    let (text, ended) = if threads {
+        printed_by_threads(rt, alloc, &options, reader)
+    } else {
+        printed(alloc, &options, reader)
+    };
     assert_eq!(rt; text.as_slice(), given.want, "at {fail_at}");
     assert_eq!(rt; ended, given.status, "at {fail_at}");
 }
@@ -164,11 +227,11 @@ fn fails_at(rt: &impl Abort, alloc: Global, fail_at: u64, given: &Given) {
 #[test]
 fn failing_writers(rt: HostRuntime) {
     let calls = (LISTING.len() as u64).div_ceil(2);
-    for fails in [false, true] {
+    for (fails, threads) in [(false, false), (true, false), (false, true), (true, true)] {
         for stop_at in 0..=calls {
             let want = if stop_at < calls { None } else { Some(0) };
             assert_eq!(rt;
-                stops_at(&rt, rt.alloc(), stop_at, fails),
+                stops_at(&rt, rt.alloc(), stop_at, fails, threads),
                 want,
                 "at {stop_at}"
             );
@@ -177,7 +240,13 @@ fn failing_writers(rt: HostRuntime) {
 }
 
 // The status of a run whose writer stops there, or none where it stops before the end.
-fn stops_at(rt: &impl Abort, alloc: Global, stop_at: u64, fails: bool) -> Option<u8> {
+fn stops_at<R: Abort + Threads + Wait + Sync>(
+    rt: &R,
+    alloc: Global,
+    stop_at: u64,
+    fails: bool,
+    threads: bool,
+) -> Option<u8> {
     let mut input = Reader::new(LINES);
     let mut writer = Writer::new(Stopping {
         got: Vec::new(alloc),
@@ -185,14 +254,21 @@ fn stops_at(rt: &impl Abort, alloc: Global, stop_at: u64, fails: bool) -> Option
         stop_at,
         fails,
     });
-    let end = run(alloc, &usual_options(), &mut input, &mut writer);
-    let (written, status) = match end {
-        Ok(end) => (LISTING.len(), Some(end.status)),
-        Err(fault) => (fault.written, None),
+    let (status, written) = if threads {
+        let status = run_by_threads(rt, alloc, &usual_options(), &mut input, &mut writer);
+        (status, None)
+    } else {
+        match run(alloc, &usual_options(), &mut input, &mut writer) {
+            Ok(end) => (Some(end.status), Some(LISTING.len() as u64)),
+            Err(RunFault::WriteFailed { written }) => (None, Some(written)),
+            Err(RunFault::OutOfMemory { .. }) => (None, None),
+        }
     };
     let writer = writer.into_inner();
     assert!(rt; LISTING.starts_with(&writer.got));
-    assert_eq!(rt; writer.got.len(), written);
+    if let Some(written) = written {
+        assert_eq!(rt; writer.got.len() as u64, written);
+    }
     status
 }
 
@@ -341,6 +417,100 @@ fn push_padded(bytes: &mut Vec<u8>, line: &str, width: usize) -> Option<()> {
     Some(())
 }
 
+// ---- A listing that is too large to be made in memory.
+
+// A writer that counts, and fails at its write `fail_at`, counted from 0.
+#[derive(Drop)]
+struct Counting {
+    writes: u64,
+    bytes: u64,
+    fail_at: u64,
+}
+
+impl Write for Counting {
+    fn write(&mut self, buf: &[u8]) -> io::Result<usize> {
+        if self.writes == self.fail_at {
+            return Err(io::Error::from(io::ErrorKind::Other));
+        }
+        self.writes = self.writes.saturating_add(1);
+        self.bytes = self.bytes.saturating_add(buf.len() as u64);
+        Ok(buf.len())
+    }
+
+    fn flush(&mut self) -> io::Result<()> {
+        Ok(())
+    }
+}
+
+// A run over 16,500 directories, each in the one before. Their lines have 272,382,000 bytes, and the lines before and behind
+// them 53.
+#[test]
+fn a_listing_above_256_mib(rt: HostRuntime) {
+    let input = nested(rt.alloc(), 2357).unwrap_or(Vec::new(rt.alloc()));
+    let written = Ok((16_503, 272_382_053));
+    assert_eq!(rt; counted(rt.alloc(), &input, u64::MAX), written);
+    // The first line, the root's, and 98 of directories.
+    let front = Err((100, 10_407));
+    assert_eq!(rt; counted(rt.alloc(), &input, 100), front);
+}
+
+// How many writes a run took and how many bytes it wrote, to its end or to a write that failed.
+fn counted(alloc: Global, input: &[u8], fail_at: u64) -> Result<(u64, u64), (u64, u64)> {
+    let mut input = Reader::new(input);
+    let mut writer = Writer::new(Counting {
+        writes: 0,
+        bytes: 0,
+        fail_at,
+    });
+    let end = run(alloc, &usual_options(), &mut input, &mut writer);
+    let counting = writer.into_inner();
+    match end {
+        Ok(_) => Ok((counting.writes, counting.bytes)),
+        Err(RunFault::WriteFailed { written }) => Err((counting.writes, written)),
+        Err(RunFault::OutOfMemory { .. }) => Err((0, 0)),
+    }
+}
+
+// A scenario that nests directories: seven make a short chain, to whose end a rename moves the long one, so many times.
+fn nested(alloc: Global, moves: u64) -> Option<Vec<u8>> {
+    let mut text = Vec::new(alloc);
+    push_edit(alloc, &mut text, 1, "OP_START_LOG_SEGMENT", "")?;
+    push_edit(alloc, &mut text, 2, "OP_MKDIR", "\"path\":\"/a\",")?;
+    let mut txid = 2u64;
+    let mut top = "a";
+    let mut other = "b";
+    for _ in 0..moves {
+        txid = push_move(alloc, &mut text, txid, top, other)?;
+        (top, other) = (other, top);
+    }
+    let last = txid.saturating_add(1);
+    push_edit(alloc, &mut text, last, "OP_END_LOG_SEGMENT", "")?;
+    Some(text)
+}
+
+// Adds one move of the directory `top` behind seven directories of the other name, and answers its txid.
+fn push_move(alloc: Global, text: &mut Vec<u8>, txid: u64, top: &str, other: &str) -> Option<u64> {
+    let mut txid = txid;
+    let mut path = String::new(alloc);
+    for _ in 0..7 {
+        txid = txid.saturating_add(1);
+        path.push('/').ok()?;
+        path.push_str(other).ok()?;
+        let members = format!(in alloc; "\"path\":\"{path}\",").ok()?;
+        push_edit(alloc, text, txid, "OP_MKDIR", members.as_str())?;
+    }
+    txid = txid.saturating_add(1);
+    let members = format!(in alloc; "\"src\":\"/{top}\",\"dst\":\"{path}/{top}\",").ok()?;
+    push_edit(alloc, text, txid, "OP_RENAME", members.as_str())?;
+    Some(txid)
+}
+
+fn push_edit(alloc: Global, text: &mut Vec<u8>, txid: u64, op: &str, members: &str) -> Option<()> {
+    let line = format!(in alloc; "{{\"op\":\"{op}\",{members}\"txid\":{txid}}}\n").ok()?;
+    text.extend_from_slice(line.as_bytes()).ok()?;
+    Some(())
+}
+
 // ---- The command line.
 
 // The arguments of a command line, the program's name first.
@@ -359,7 +529,7 @@ fn arguments(alloc: Global, line: &str) -> Option<Vec<String>> {
 fn served<W: Write, G: Gate + Send + Sync + Drop, R: Threads + Wait + Sync>(
     rt: &R,
     alloc: Global,
-    arguments: Result<&[String], NoWords>,
+    arguments: Result<&[String], NoArguments>,
     bytes: &[u8],
     output: &mut Writer<W>,
     errors: &mut Writer<Vec<u8>>,
@@ -376,12 +546,12 @@ fn served<W: Write, G: Gate + Send + Sync + Drop, R: Threads + Wait + Sync>(
 fn no_arguments_to_be_had(rt: HostRuntime) {
     for (why, want, told, status) in [
         (
-            NoWords::NotText,
+            NoArguments::NotText,
             "",
-            "error: a word of the command line is no UTF-8\n",
+            "error: an argument is not UTF-8\n",
             2,
         ),
-        (NoWords::OutOfMemory, "fault 55\n", "", 1),
+        (NoArguments::OutOfMemory, "fault 55\n", "", 1),
     ] {
         let mut output = Writer::new(Vec::new(rt.alloc()));
         let mut errors = Writer::new(Vec::new(rt.alloc()));
@@ -461,34 +631,54 @@ const TWO_DATANODES: &[u8] = br#"{"op":"OP_START_LOG_SEGMENT","txid":1}
 {"op":"OP_END_LOG_SEGMENT","txid":2}
 "#;
 
+const TWO_DATANODES_LISTED: &[u8] =
+    b"txid 2\ndir \"/\"\norder 5 1\norder 6 2\norder 7 1\nblocks 0 safe 0 needed 0 mode off\n";
+
 #[test]
 fn at_once(rt: HostRuntime) {
-    let Some(shared) = Shared::new(rt.alloc()) else {
+    meets(&rt, rt.alloc(), "nn_standby --threads --capacity 1", 0);
+}
+
+// A history has five lines, in the order of its own run.
+#[test]
+fn at_once_with_a_history(rt: HostRuntime) {
+    meets(&rt, rt.alloc(), "nn_standby --threads --history", 5);
+}
+
+// The source of segments and both workers meet at the gate, and the listing follows so many lines of a history.
+fn meets<R: Abort + Threads + Wait + Sync>(rt: &R, alloc: Global, line: &str, events: usize) {
+    let Some(shared) = Shared::new(alloc) else {
         assert!(rt; false, "out of memory");
         return;
     };
-    let mut output = Writer::new(Vec::new(rt.alloc()));
-    let status = met_at_gate(&rt, rt.alloc(), &shared, &mut output);
-    let want =
-        b"txid 2\ndir \"/\"\norder 5 1\norder 6 2\norder 7 1\nblocks 0 safe 0 needed 0 mode off\n";
-    assert_eq!(rt; output.into_inner().as_slice(), want.as_slice());
-    assert_eq!(rt; status, Some(0));
-    assert_eq!(rt; shared.came.load(Ordering::SeqCst), 3);
+    let mut output = Writer::new(Vec::new(alloc));
+    let status = met_at_gate(rt, alloc, line, &shared, &mut output);
+    let text = output.into_inner();
+    assert!(rt; text.ends_with(TWO_DATANODES_LISTED), "{line}");
+    let history = text.len() - TWO_DATANODES_LISTED.len();
+    assert_eq!(rt; line_feeds(&text[..history]), events, "{line}");
+    assert_eq!(rt; status, Some(0), "{line}");
+    assert_eq!(rt; shared.came.load(Ordering::SeqCst), 3, "{line}");
     // One of each of the places 0, 1 and 2.
-    assert_eq!(rt; shared.places.load(Ordering::SeqCst), 0x01_01_01);
-    assert_eq!(rt; shared.vain.load(Ordering::SeqCst), 0);
+    assert_eq!(rt; shared.places.load(Ordering::SeqCst), 0x01_01_01, "{line}");
+    assert_eq!(rt; shared.vain.load(Ordering::SeqCst), 0, "{line}");
+}
+
+fn line_feeds(text: &[u8]) -> usize {
+    text.iter().filter(|byte| **byte == b'\n').count()
 }
 
 fn met_at_gate<R: Threads + Wait + Sync>(
     rt: &R,
     alloc: Global,
+    line: &str,
     shared: &Arc<Shared, Global>,
     output: &mut Writer<Vec<u8>>,
 ) -> Option<u8> {
     let Ok(shared) = Arc::try_clone(shared) else {
         return None;
     };
-    let arguments = arguments(alloc, "nn_standby --threads --capacity 1")?;
+    let arguments = arguments(alloc, line)?;
     let given = Ok(arguments.as_slice());
     let mut errors = Writer::new(Vec::new(alloc));
     let gate = Meeting { shared };

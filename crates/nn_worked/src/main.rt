@@ -1,9 +1,9 @@
 //! Plays worked scenarios, and tells of each whether the program does with it what it should.
 //!
-//! Standard input names the scenarios, one a line, and their files lie where this runs. With the words of NAME.args on
+//! Standard input names the scenarios, one a line, and their files lie where this runs. With the arguments of NAME.args on
 //! NAME.in the program has to print NAME.out and to end with NAME.status; and once more with a thread for each
 //! DataNode, and room for one report in its lane, unless a history is printed, whose order then is the schedule's. Where
-//! NAME.args is missing there are no words, and where NAME.status is, it is 0. Standard error has to begin with
+//! NAME.args is missing there are no arguments, and where NAME.status is, it is 0. Standard error has to begin with
 //! NAME.err; where that is missing, nothing may be written there.
 #![tactic(auto)]
 
@@ -32,25 +32,25 @@ fn main(rt: HostRuntime) -> io::Result<()> {
 
 // A runtime lends its threads only where a program begins, so it is handed over twice.
 fn agrees<T: Threads + Wait + Sync>(rt: &HostRuntime, threads: &T, name: &str) -> io::Result<bool> {
-    let words = file(rt, name, "args", "")?;
+    let arguments = file(rt, name, "args", "")?;
     let worked = Worked {
         input: file(rt, name, "in", "")?,
         output: file(rt, name, "out", "")?,
         errors: file(rt, name, "err", "")?,
         status: file(rt, name, "status", "0")?,
     };
-    if !plays(threads, rt.alloc(), &worked, &words)? {
+    if !plays(threads, rt.alloc(), &worked, &arguments)? {
         return Ok(false);
     }
     // With threads a history has the order of its run.
-    if words.contains("--threads") || words.contains("--history") {
+    if arguments.contains("--threads") || arguments.contains("--history") {
         return Ok(true);
     }
     // The capacity is given once.
-    if words.contains("--capacity") {
+    if arguments.contains("--capacity") {
         return Ok(true);
     }
-    let with_threads = format!(in rt.alloc(); "{words} --threads --capacity 1")?;
+    let with_threads = format!(in rt.alloc(); "{arguments} --threads --capacity 1")?;
     plays(threads, rt.alloc(), &worked, &with_threads)
 }
 
@@ -63,14 +63,14 @@ struct Worked {
     status: String,
 }
 
-// Whether the program does for these words what it should.
+// Whether the program does for these arguments what it should.
 fn plays<T: Threads + Wait + Sync>(
     threads: &T,
     alloc: Global,
     worked: &Worked,
-    words: &str,
+    arguments: &str,
 ) -> io::Result<bool> {
-    let words = words_of(alloc, words)?;
+    let arguments = arguments_of(alloc, arguments)?;
     let mut output = Writer::new(Vec::new(alloc));
     let mut errors = Writer::new(Vec::new(alloc));
     let mut input = Reader::new(worked.input.as_bytes());
@@ -78,7 +78,7 @@ fn plays<T: Threads + Wait + Sync>(
     let status = serve(
         threads,
         alloc,
-        Ok(words.as_slice()),
+        Ok(arguments.as_slice()),
         &mut input,
         &mut output,
         &mut errors,
@@ -95,14 +95,14 @@ fn plays<T: Threads + Wait + Sync>(
     )
 }
 
-// The program's name, and the words of a text with a word a line.
-fn words_of(alloc: Global, text: &str) -> Result<Vec<String>, AllocError> {
-    let mut words = Vec::new(alloc);
-    words.push(String::from_str(alloc, "nn_standby")?)?;
-    for word in text.split_whitespace() {
-        words.push(String::from_str(alloc, word)?)?;
+// The program's name, and the arguments of a text, which are split at blanks.
+fn arguments_of(alloc: Global, text: &str) -> Result<Vec<String>, AllocError> {
+    let mut arguments = Vec::new(alloc);
+    arguments.push(String::from_str(alloc, "nn_standby")?)?;
+    for argument in text.split_whitespace() {
+        arguments.push(String::from_str(alloc, argument)?)?;
     }
-    Ok(words)
+    Ok(arguments)
 }
 
 // The text of a file, or another text where there is no such file.

@@ -44,7 +44,7 @@ IsTold (Err (Closed m n)) = Unit {0}
 IsTold (Err (Exhausted m)) = ⊥
 IsTold (Err (Full m n)) = ⊥
 
--- it was told so only where its lane was closed before
+-- if it was told that the lane is closed, the lane was closed before
 abbrev pub IsToldOnly : {S : Type 0} → WorkerExit S → Taking → Type 0
 IsToldOnly w before = IsTold w.outcome → before.closed ≡ true
 
@@ -125,8 +125,8 @@ pub record JoinsAll {S : Type 0} (gives : S → Option Report → S → Type 0) 
       → IsJoined gives told (slice_index_or handles i h) (slice_index_or ends i e) (slice_index_or reporters i r)
   pub one : told ≡ true → ToldOne ends reporters
 
--- what the meeting of the two ends of a lane says: what was taken comes first of what was sent, a close counted all of it, and none is
--- told of a close but that of a closed lane
+-- what the meeting of the two ends of a lane says: what was taken is the front of what was sent, a close counted all of that, and only
+-- the reporter of a closed lane was told of a close
 abbrev pub Agrees : Taking → Reporting → Type 0
 Agrees e r = StartsWith r.sent (got_of e) × (e.closed ≡ true → counted e ≡ length r.sent) × (r.told ≡ true → e.closed ≡ true)
 

@@ -46,7 +46,7 @@ abbrev pub StillRun : {S : Type 0} → List (S × Reporting) → List (Running S
 StillRun workers running = (length running ≡ length workers) × ArePromised workers (map handle_of running)
 
 -- The worker's thread has ended. Its reporter was answered Ok to what its source gave, in order, up to None or a report that was refused. The close
--- counted all of that; what was taken comes first of it, and is all of it where the lane is dry
+-- counted all of that; what was taken is its front, and all of it where the lane is dry
 pub record HasLeft {S : Type 0} (gives : S → Option Report → S → Type 0) (r : Running S) (l : Left S) : Type 0 where
   pub worked : WorkerExit S
   pub reported : HasReported gives r.handle.promise.0.value r.handle.promise.1.value worked

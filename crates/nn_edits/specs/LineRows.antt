@@ -97,7 +97,7 @@ lists_of_blocks : map edit_of_line (
 unfolding edit_of_line object_in value_of tx_in op_in op_of txid_in whole_in number_in path_in profile_in edit_in blocks_in items_in block_in is_utf8 chars encode value punctuate lex content word after_number number_of scan_numeral
 lists_of_blocks = refl
 
--- Keys come in any order, others may stand beside them, and the last of a repeated key is taken.
+-- Keys come in any order, there may be others, and the last of a repeated key is taken.
 other_members : map edit_of_line (
     codes " { \"txid\" : 2 , \"x\" : [1e3, {\"op\":null}] , \"path\":\"/b\",\"op\":\"OP_MKDIR\",\"path\":\"/a\" } " ∷ [])
     ≡ is (Mkdir (codes "a" ∷ [])) ∷ []

@@ -1,5 +1,5 @@
--- What the reader keeps of a line's object, and what it makes of that. No public contract cites these:
--- they say `Reading` once more, over the members that were kept instead of the whole object.
+-- What the reader keeps of a line's object, and what it makes of that: the definitions of `Reading`, over the members that
+-- were kept and not over the whole object. No public contract cites these.
 use Rattle.std.specs.Prelude.{ℕ, ◌^◌, List, [], ◌∷◌, Bool, true, false, nat_lt, nat_le, ◌&&◌, if◌then◌else◌, Option, Some, None, Result, Ok, Err, codes}
 use Rattle.std.specs.Option.{ok_or}
 use Rattle.serde_json.specs.Data.{Num, unsigned, negative, float, Data, null, boolean, number, string, array, object}
@@ -59,6 +59,7 @@ scalar_of (string s) = text s
 scalar_of (array ds) = other
 scalar_of (object ms) = other
 
+-- A value that may be missing.
 abbrev pub scalar_or : Option Data → Scalar
 scalar_or None = missing
 scalar_or (Some d) = scalar_of d
@@ -74,7 +75,7 @@ is_there (text s) = true
 is_there (whole n) = true
 is_there other = true
 
--- What each key makes of its member, and the fault where it is another one.
+-- What each sort of key makes of its member, or the fault.
 unfoldable pub whole_from : Scalar → Result ℕ LineFault
 whole_from missing = Err MissingField
 whole_from (text s) = Err BadNumber
@@ -120,7 +121,7 @@ kind_from other = Err UnknownKind
 abbrev pub blocks_of : Data → Result (List Block) LineFault
 blocks_of d = ok_or (as_array d) MissingField >>= items_in
 
--- The member at each key of the formats. The blocks of `blocks` are read as they stand there.
+-- The member at each key of the formats. The blocks at the key `blocks` are read already.
 pub record Parts : Type 0 where
   pub op : Scalar
   pub path : Scalar
@@ -137,7 +138,7 @@ pub record Parts : Type 0 where
   pub profile : Scalar
   pub blocks : Result (List Block) LineFault
 
--- Those of a value.
+-- The members of a value.
 abbrev pub parts_of : Data → Parts
 parts_of d = record {
   op = scalar_at (codes "op") d;
@@ -156,7 +157,7 @@ parts_of d = record {
   blocks = blocks_in d;
 }
 
--- Those that the code keeps.
+-- What the code keeps of them.
 abbrev pub seen_fields : Fields → Parts
 seen_fields f = record {
   op = seen f.op;
@@ -200,7 +201,7 @@ all_slots = slot.Op ∷ slot.Path ∷ slot.Txid ∷ slot.Id ∷ slot.Stamp ∷ s
 unfoldable pub slot_of : List ℕ → Option Slot
 slot_of key = first_named slot_text key all_slots
 
--- One member more: the last one with a key counts.
+-- Puts a member: of members with the same key the last one counts.
 abbrev pub put_slot : Slot → Scalar → Parts → Parts
 put_slot slot.Op s p = record p { op = s }
 put_slot slot.Path s p = record p { path = s }

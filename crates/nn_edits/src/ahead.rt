@@ -1,5 +1,5 @@
 //! The next value of a line's JSON, read a token at a time and not kept: a text or a whole number is handed out, an
-//! array or object is passed over. What stands under keys that no format has goes this way, and still has to be JSON.
+//! array or object is passed over. The value of a key that no format has goes this way, and still has to be JSON.
 ghost use Rattle.std.specs.Prelude.{◌≡◌, ◌<◌, ◌≤◌, ◌==◌, ◌∷◌, true, false, length, slice_index, IsTrue, IfOk, OnOk, OnErr, IfSome, Some, None, option_map};
 ghost use Rattle.json.specs.Reads.{token_of};
 ghost use Rattle.serde_json.specs.Data.{Data, Members, no_members, unsigned};

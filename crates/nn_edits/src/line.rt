@@ -27,7 +27,7 @@ pub(crate) const MAX_LINE_LEN: usize = 65_536;
 /// How deep the members of a line's object may nest. A line may nest 127 deep, and its object is one level of that.
 const MAX_DEPTH: usize = 126;
 
-/// A line of an input in which transactions and reports stand together.
+/// A line of an input that has both transactions and reports.
 #[derive(Drop)]
 pub enum Line {
     Edit(Tx),
@@ -36,7 +36,7 @@ pub enum Line {
 
 /// The transaction of a line, such as `{"op":"OP_MKDIR","path":"/a","txid":2}`.
 ///
-/// The keys may come in any order, and others may stand beside them. Time and memory are of the order of
+/// The keys may come in any order, and there may be others. Time and memory are of the order of
 /// the line's length. `scratch` is the reader's room, which a caller keeps over its lines; what a line left in it has
 /// no part in the next.
 pub fn read_edit(alloc: Global, scratch: &mut Scratch, line: &[u8]) -> Result<Tx, LineFault>
@@ -53,7 +53,7 @@ pub fn read_edit(alloc: Global, scratch: &mut Scratch, line: &[u8]) -> Result<Tx
 
 /// The report of a line, such as `{"block":1073741825,"dn":1,"gen":1001,"kind":"received","len":5}`.
 ///
-/// The keys may come in any order, and others may stand beside them. Time and memory are of the order of
+/// The keys may come in any order, and there may be others. Time and memory are of the order of
 /// the line's length.
 pub fn read_report(alloc: Global, scratch: &mut Scratch, line: &[u8]) -> Result<Report, LineFault>
     // What is read is what the line spells.

@@ -64,7 +64,7 @@ output_of start options text = after_lines start options (scenario_of text)
 
 -- ---- The history before it.
 
--- where it is asked for, the history stands before the tables; a fault line stands alone
+-- where it is asked for, the history comes before the tables; a fault line is alone
 abbrev pub with_history : Bool → History → Printed → Printed
 with_history asked events p = if (p.status == 0) && asked then record { text = history_text events ++ p.text; status = 0 } else p
 

@@ -31,7 +31,7 @@ abbrev pub history_part : Bool → History → List ℕ
 history_part false events = []
 history_part true events = history_text events
 
--- the fault line of a log that did not end, which no history stands before
+-- the fault line of a log that did not end, which no history comes before
 pub record IsFaultOf (options : Options) (lanes : Lanes) (whole : Result LogEnd LogStop) (p : Printed) : Type 0 where
   pub stopped : (end : LogEnd) → whole ≡ Ok end → ⊥
   pub is : p ≡ with_history options.history [] (after_log options lanes whole)

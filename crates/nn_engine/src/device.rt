@@ -76,7 +76,7 @@ pub(crate) struct InputParts {
     pub lines: Result<Scenario, BadLine>,
 }
 
-/// Reads an input to the reader's end, with an image in front or without one. The image is kept as it stands, and what is
+/// Reads an input to the reader's end, with an image in front or without one. The image is kept as it is, and what is
 /// passed over before it is not. Of what follows the image, `MAX_INPUT` bytes are read at most.
 pub(crate) fn read_parts<R: Read>(
     alloc: Global,

@@ -36,7 +36,7 @@ pub enum FollowFault {
     OutOfMemory,
 }
 
-/// A standby that, from this start, has followed the log of these segments to its end, and has taken in each message where it stands
+/// A standby that, from this start, has followed the log of these segments to its end, and has taken in each message in its place
 /// among the edits. It has not flushed what it holds.
 pub fn follow(
     alloc: Global,

@@ -10,7 +10,7 @@ pub trait Gate {
     fn pass(&self, thread: u64);
 }
 
-/// A gate that stands open.
+/// A gate that is open.
 #[derive(Drop)]
 pub struct Open;
 
@@ -21,7 +21,7 @@ impl Gate for Open {
 /// The thread of the source of segments.
 pub const SOURCE: u64 = 0;
 
-/// The way of one thread through the gate.
+/// The gate as one thread comes to it: once.
 #[derive(Drop)]
 pub struct GatePass<G> {
     gate: Arc<G, Global>,
@@ -30,7 +30,7 @@ pub struct GatePass<G> {
 }
 
 impl<G> GatePass<G> {
-    /// The way of a thread that has not come yet.
+    /// For a thread that has not passed yet.
     pub fn new(gate: Arc<G, Global>, thread: u64) -> GatePass<G>
         ensures { result ≡ record { gate = gate; thread = thread; has_passed = false } }
     {

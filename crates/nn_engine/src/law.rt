@@ -3,7 +3,7 @@ ghost use Rattle.nn_engine.specs.Checkpoint.{PrintsTheSame, StartsThere};
 
 /// A log that applies whole is cut at any transaction. A run from the image of its first part over the rest, with all messages
 /// handed over again, prints the listing, tables, counts and safe mode of the whole log. The rest may have the transactions
-/// before the cut too: they are passed over. Nothing is said of the history, in which messages may stand elsewhere, nor of a log
+/// before the cut too: they are passed over. Nothing is said of the history, in which messages may have other places, nor of a log
 /// that does not apply whole.
 pub fn a_checkpoint_prints_the_same()
     ensures tables { PrintsTheSame }

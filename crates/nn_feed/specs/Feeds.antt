@@ -28,13 +28,13 @@ has_last (p ∷ ps) = is_last p.answer || has_last ps
 abbrev pub EndsIn : List Answer → Answer → Type 0
 EndsIn answers last = (before : List Answer) × (answers ≡ before ++ last ∷ [])
 
--- what may stand at a place, and before these: a segment, with less than 2^60 before it; End or a fault, with nothing behind it
+-- what may be at a place, and before these: a segment, with less than 2^60 before it; End or a fault, with nothing behind it
 abbrev pub MayStand : Answer → ℕ → List Placed → Type 0
 MayStand (Ok (Segment s)) place behind = place < 2 ^ 60
 MayStand (Ok End) place behind = behind ≡ []
 MayStand (Err fault) place behind = behind ≡ []
 
--- from this place on, each answer carries its place, and may stand there
+-- from this place on, each answer carries its place, and may be there
 abbrev pub IsFeed : ℕ → List Placed → Type 0
 IsFeed place [] = Unit {0}
 IsFeed place (p ∷ ps) = (p.place ≡ place) × MayStand p.answer place ps × IsFeed (place + 1) ps

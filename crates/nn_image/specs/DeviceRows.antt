@@ -72,7 +72,7 @@ of_the_text = tt
 of_a_read : IsNoRead ReadFault → ⊥
 of_a_read h = h
 
--- a line of one byte was taken: it stood in the window, or came of a read
+-- a line of one byte was taken: it was in the window, or came of a read
 from_the_window : Takes 1 (10 ∷ []) 5 [] 5
 from_the_window = omega arith
 

@@ -77,7 +77,7 @@ versions : map (λ v. of_header (Some (object (member (codes "version") v no_mem
 unfolding fields_in profile_in number_in text_in numbers_at array_in gathered
 versions = refl
 
--- version 1 has no profile, whatever stands there, and version 2 has one of two
+-- version 1 has no profile, whatever is there, and version 2 has one of two
 abbrev with_profile : ℕ → Data → Data
 with_profile version profile =
     object (member (codes "image") (string (codes "hdfs-standby")) (member (codes "version") (numeral version) (member (codes "last_gen") (numeral 1005)

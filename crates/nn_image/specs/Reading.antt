@@ -27,6 +27,7 @@ None >>= f = None
 
 -- ---- members of an object
 
+-- the number, if it is below 2^63
 abbrev pub limited : Option ℕ → Option ℕ
 limited None = None
 limited (Some n) = if nat_lt n (2 ^ 63) then Some n else None
@@ -57,7 +58,7 @@ block_of d = do
   len ← number_in (codes "len") d
   Some (record { id = id; stamp = stamp; len = len })
 
--- what each value stands for
+-- what f makes of each item, if it makes something of all of them
 unfoldable pub gathered : {B : Type 0} → (Data → Option B) → Items → Option (List B)
 gathered f no_items = Some []
 gathered f (item d ds) = f d >>= λ b. gathered f ds >>= λ bs. Some (b ∷ bs)
@@ -111,6 +112,7 @@ fields_in version d = do
   profile ← profile_in version d
   (if is_header mark last_block last_stamp ids then Some (bare (record { last_block = last_block; last_stamp = last_stamp; awaiting = ids; profile = profile }), txid) else None)
 
+-- what the header says, by its version: 1 or 2
 abbrev pub of_version : Data → Option ℕ → Result (Namespace × ℕ) ImageFault
 of_version d None = Err NotHeader
 of_version d (Some version) = if (version == 1) || (version == 2) then ok_or (fields_in version d) NotHeader else Err BadVersion
@@ -127,12 +129,14 @@ object_only d = if is_some (as_object d) then Some d else None
 unfoldable pub object_of : List ℕ → Option Data
 object_of line = value_of line >>= object_only
 
+-- what the first line says, if it is an object
 abbrev pub of_header : Option Data → Result (Namespace × ℕ) ImageFault
 of_header None = Err NotHeader
 of_header (Some d) = of_version d (number_in (codes "version") d)
 
 -- ---- the lines, each judged by the namespace of the lines before it
 
+-- f of the value, or the fault
 infixl 10 ◌then◌
 abbrev pub ◌then◌ : {A B : Type 0} → Result A ImageFault → (A → Result B ImageFault) → Result B ImageFault
 (Ok x) then f = f x
@@ -152,6 +156,7 @@ last_path (row ∷ next ∷ rows) = last_path (next ∷ rows)
 abbrev pub next_line : Namespace → ℕ
 next_line n = length n.rows + 1
 
+-- the namespace with the row of the next line, if that is one, in order, and fits
 abbrev pub with_next : Namespace → Option (Path × Form) → Result Namespace ImageFault
 with_next n None = Err (BadLine (next_line n))
 with_next n (Some row) =
@@ -159,18 +164,19 @@ with_next n (Some row) =
     then (if row_fits n row.0 row.1 then Ok (with_rows n (n.rows ++ row ∷ [])) else Err (BadLine (next_line n)))
     else Err (WrongOrder (next_line n))
 
--- what stands after the end line: nothing, or a fault
+-- what follows the end line: nothing, or a fault
 abbrev pub nothing_more : Namespace → List (List ℕ) → Result Namespace ImageFault
 nothing_more n [] = Ok n
 nothing_more n ([] ∷ []) = Ok n
 nothing_more n ((b ∷ bs) ∷ []) = Err Truncated
 nothing_more n (line ∷ next ∷ pieces) = Err (BadLine (next_line n + 1))
 
+-- the end line, with its count of paths, and what follows it
 abbrev pub at_end : Namespace → Option ℕ → List (List ℕ) → Result Namespace ImageFault
 at_end n None pieces = Err (BadLine (next_line n))
 at_end n (Some count) pieces = if count == (length n.rows - 1) then nothing_more n pieces else Err CountMismatch
 
--- what the value of the next line and then the pieces make of the namespace
+-- what the next line's value and then the pieces make of the namespace: with a key `end` it is the end line
 abbrev pub by_key : Namespace → Data → List (List ℕ) → (Namespace → Result Namespace ImageFault) → Option Data → Result Namespace ImageFault
 by_key n d pieces more None = with_next n (row_in d) then more
 by_key n d pieces more (Some count) = at_end n (number_of count) pieces
@@ -179,7 +185,7 @@ abbrev pub by_value : Namespace → List (List ℕ) → (Namespace → Result Na
 by_value n pieces more None = Err (BadLine (next_line n))
 by_value n pieces more (Some d) = by_key n d pieces more (get (codes "end") d)
 
--- the pieces between line feeds: each but the last is a line
+-- the pieces between line feeds: each except the last is a line
 unfoldable pub rows_from : Namespace → List (List ℕ) → Result Namespace ImageFault
 rows_from n [] = Err Truncated
 rows_from n (torn ∷ []) = Err Truncated

@@ -59,7 +59,7 @@ line_of d = compact_text d ++ feed ∷ []
 abbrev pub row_lines : List (Path × Form) → List ℕ
 row_lines rows = flat_map (λ row. line_of (row_data row)) rows
 
--- the header, each path but the root, which is the first, and the number of those paths
+-- the header, each path except the root, which is the first, and the number of those paths
 unfoldable pub image_text : Namespace → ℕ → List ℕ
 image_text n txid = line_of (header_data n txid) ++ (row_lines (drop 1 n.rows) ++ line_of (end_data (length n.rows - 1)))
 

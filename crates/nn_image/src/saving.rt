@@ -91,7 +91,7 @@ fn put_head<W: Write>(
     put_line(alloc, &value, writer)
 }
 
-// The line of each path but the root, and their number.
+// The line of each path except the root, and their number.
 fn put_rows<W: Write>(
     alloc: Global,
     namespace: &Namespace,

@@ -1,7 +1,7 @@
 //! A lane: the messages of one DataNode on their way to the standby.
 //!
 //! A `Reporter` sends, a `LaneEnd` takes and may close, each on a thread of its own; neither waits for the other, and no
-//! call but `lane` takes memory. Contracts see each end as a plain record: which lane it is of, what was sent or taken,
+//! call except `lane` takes memory. Contracts see each end as a plain record: which lane it is of, what was sent or taken,
 //! and what was last seen of the other end.
 #![tactic(auto)]
 

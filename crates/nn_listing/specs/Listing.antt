@@ -11,7 +11,7 @@ use Rattle.nn_model.specs.Namespace.{Path, Namespace}
 abbrev pub newline : ℕ
 newline = 10
 
--- a path stands as the JSON text of its spelling
+-- a path is written as the JSON text of its spelling
 abbrev pub path_json : Path → List ℕ
 path_json p = compact_text (string (path_text p))
 

@@ -7,7 +7,7 @@ use Rattle.nn_model.specs.declared.form.Form.TheVariants.{Dir, File}
 use Rattle.nn_model.specs.Namespace.{Namespace}
 use Rattle.nn_listing.specs.Listing.{newline, path_json, line_of, listing_text}
 
--- quotes, backslashes and what lies below a blank are escaped; all else stands as it is, U+007F and U+00E9 too
+-- quotes, backslashes and what lies below a blank are escaped; all else is left as it is, U+007F and U+00E9 too
 paths : map path_json ([] ∷ (codes "a" ∷ codes "b c" ∷ []) ∷ (codes "\"\\" ∷ []) ∷ ((8 ∷ 9 ∷ 10 ∷ 12 ∷ 13 ∷ 1 ∷ 31 ∷ []) ∷ []) ∷ ((127 ∷ 195 ∷ 169 ∷ []) ∷ []) ∷ [])
     ≡ codes "\"/\"" ∷ codes "\"/a/b c\"" ∷ codes "\"/\\\"\\\\\"" ∷ codes "\"/\\b\\t\\n\\f\\r\\u0001\\u001f\"" ∷ (codes "\"/" ++ 127 ∷ 195 ∷ 169 ∷ codes "\"") ∷ []
 unfolding escape_byte

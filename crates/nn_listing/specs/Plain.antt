@@ -1,4 +1,4 @@
--- Names that JSON writes as they stand, between its quotes. For private clauses.
+-- Names that JSON writes as they are, between its quotes. For private clauses.
 use Rattle.std.specs.Prelude.{ℕ, List, Bool, not, ◌&&◌, ◌==◌, nat_le}
 use Rattle.std.specs.List.{list_all}
 

@@ -165,7 +165,7 @@ fn push_path(alloc: Global, text: &mut String, names: &[&str]) -> Result<(), All
     }
 }
 
-// Whether JSON writes each of the names as it stands.
+// Whether JSON writes each of the names as it is.
 fn are_plain(names: &[&str]) -> bool
     ensures { result ≡ true → are_plain (lent_names names.now) ≡ true }
 {

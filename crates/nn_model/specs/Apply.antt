@@ -15,7 +15,7 @@ use Rattle.nn_types.specs.declared.edit_fault.EditFault.TheVariants.{BadGenerati
 use Rattle.nn_types.specs.Profile.{is_lower}
 use Rattle.nn_model.specs.Namespace.{Path, path_cmp, Namespace, lookup, with_row, begins_with, file_at, file_or_none, no_stamp}
 
--- ---- Why an edit is refused: the checks of an edit in order, of which the first that finds a fault decides. What stands at a path
+-- ---- Why an edit is refused: the checks of an edit in order, of which the first that finds a fault decides. What is at a path
 -- is asked by look-ups.
 
 -- a fault where the test holds

@@ -10,7 +10,7 @@ use Rattle.nn_model.specs.Namespace.{Namespace}
 abbrev pub block_row : Bool → Block → BlockRow
 block_row closed b = record { block = b; closed = closed }
 
--- the blocks of what stands at a path
+-- the blocks of what is at a path
 abbrev pub rows_of : Form → List BlockRow
 rows_of Dir = []
 rows_of (File file) = map (λ b. block_row file.closed b) file.blocks

@@ -51,7 +51,7 @@ n = two_files done (open_file []) (d ∷ e ∷ [])
 
 -- ---- Paths and look-ups.
 
--- a path stands before what is below it, and that before a longer name
+-- a path comes before what is below it, and that before a longer name
 path_order : (path_cmp a a_b ≡ Less) × (path_cmp a_b a-b ≡ Less) × (path_cmp a a ≡ Equal) × (path_cmp ab a_b ≡ Greater)
 path_order = (refl, refl, refl, refl)
 
@@ -164,7 +164,7 @@ changed_by_close = (refl, refl)
 touched_by_append : touched n (Append a_f) ≡ record nothing { changed = block_row false (block c 1001 5) ∷ block_row false (block b 1002 6) ∷ [] }
 touched_by_append = refl
 
--- the ids that go are in ascending order, though c stands before b in its file; another directory's stay
+-- the ids that go are in ascending order, though c comes before b in its file; another directory's stay
 touched_by_delete : touched with_two (Delete a) ≡ record nothing { retired = b ∷ c ∷ [] }
 touched_by_delete = refl
 

@@ -58,7 +58,7 @@ nothing_had = record { has = []; begun = None }
 
 -- ---- The items of one more message.
 
--- the blocks that the report with this begin left out: all that was told of them came before it. Ascending
+-- the blocks that the report with this begin left out, ascending: the last item about them came before it
 abbrev pub left_out : ℕ → List (ℕ × ℕ) → List ℕ
 left_out begin has = map (λ (had : ℕ × ℕ). had.0) (filter (λ (had : ℕ × ℕ). nat_lt had.1 begin) has)
 
@@ -121,9 +121,9 @@ items_of messages = (had_by messages).items
 abbrev pub items : Lanes → Lanes
 items lanes dn = items_of (lanes dn)
 
--- ---- The same, without the items: what is known after one more.
+-- ---- What is known after one more, from what was known before.
 
--- an item about a block: it is had with this number, or not any more
+-- what the DataNode has after one more item: the item's block under its number, or without that block
 abbrev pub with_item : List (ℕ × ℕ) → Message → List (ℕ × ℕ)
 with_item has i = if is_deleted i.kind then remove_entry (is_at (nat_cmp i.block)) has else insert_entry nat_cmp has i.block i.number
 
@@ -131,6 +131,6 @@ abbrev pub with_items : List (ℕ × ℕ) → List Message → List (ℕ × ℕ)
 with_items has [] = has
 with_items has (i ∷ items) = with_items (with_item has i) items
 
--- a message
+-- what is known after a message
 abbrev pub having_after : Having → Message → Having
 having_after had m = record { has = with_items had.has (added had m); begun = begun_after m.kind had.begun m.number }

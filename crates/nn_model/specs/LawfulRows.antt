@@ -21,7 +21,7 @@ use Rattle.nn_model.specs.MessageRows.{b, c, message, received, two_lanes, of_se
 
 -- ---- Words for the examples.
 
--- an event that stands in a history passes where it passes by itself
+-- an event that is in a history passes where it passes by itself
 has_any : (p : Event → Bool) (events : History) (e : Event) → p e ≡ true → Has events e → list_any p events ≡ true
 has_any p [] e holds here = absurd here
 has_any p (x ∷ events) e holds (inl same) = or_left _ _ (ap p same ∙ holds)

@@ -30,7 +30,7 @@ pub record Namespace : Type 0 where
   pub rows : List (Path × Form)  -- one for each path, in path order
   pub issued : Issued
 
--- what stands at a path
+-- what is at a path
 abbrev pub lookup : Namespace → Path → Option Form
 lookup n p = find path_cmp p n.rows
 

@@ -158,7 +158,7 @@ left_out_block_is_retired_touched : touched (namespace_after root_alone (take 8 
     ≡ record { changed = block_row false (block b 1001 5) ∷ []; retired = c ∷ []; skipped = None }
 left_out_block_is_retired_touched = refl
 
--- ---- One list raises the stamps of two blocks, which stand in the file in the order in which they were added.
+-- ---- One list raises the stamps of two blocks, which are in the file in the order in which they were added.
 
 abbrev released_log : List Tx
 released_log =

@@ -14,7 +14,7 @@ use Rattle.nn_model.specs.NamespaceRows.{a, a_b, ab, b, c, f, block, file, names
 
 -- ---- The namespace that the tables speak of.
 
--- a closed file, an open file with no blocks, and a path of which nothing stands
+-- a closed file, an open file with no blocks, and a path where nothing is
 abbrev done : Path
 done = codes "done" ∷ []
 
@@ -104,7 +104,7 @@ set_replication = refl
 
 -- ---- Renames and deletes.
 
--- A source that is missing is found before the rename into itself; that, before the walk of the target and before what stands there,
+-- A source that is missing is found before the rename into itself; that, before the walk of the target and before what is there,
 -- for a file too. A rename to itself finds that the target exists.
 rename : Answers
     (
@@ -236,7 +236,7 @@ walks : map (walk (lookup n)) ([] ∷ x ∷ f ∷ below f ∷ below x ∷ below 
     ≡ None ∷ None ∷ None ∷ Some NotDirectory ∷ Some Missing ∷ Some NotDirectory ∷ None ∷ []
 walks = refl
 
--- where nothing stands, not even the root, each path but the root misses a parent
+-- where nothing is, not even the root, each path except the root misses a parent
 walks_of_nothing : map (walk (λ q. None)) ([] ∷ x ∷ a_b ∷ []) ≡ None ∷ Some Missing ∷ Some Missing ∷ []
 walks_of_nothing = refl
 

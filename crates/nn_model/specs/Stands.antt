@@ -52,7 +52,7 @@ AreByBlock (m ∷ messages) = (list_any (λ later. nat_lt later.block m.block) m
 abbrev pub is_no_later : Message → Message → Bool
 is_no_later m other = (other.dn == m.dn) && (other.block == m.block) && nat_le other.number m.number
 
--- the numbers of one DataNode's messages about one block ascend, so no message stands twice
+-- the numbers of one DataNode's messages about one block ascend, so no message is there twice
 abbrev pub AreByNumber : List Message → Type 0
 AreByNumber [] = Unit {0}
 AreByNumber (m ∷ messages) = (list_any (is_no_later m) messages ≡ false) × AreByNumber messages

@@ -10,12 +10,12 @@ use Rattle.nn_model.specs.declared.form.FileRow.{FileRow}
 use Rattle.nn_model.specs.Namespace.{Path, path_cmp, Issued, Namespace, lookup, all_blocks, no_block, no_stamp}
 use Rattle.nn_model.specs.Apply.{has_id}
 
--- the element stands in the list
+-- the element is in the list
 abbrev pub Has : {A : Type 0} → List A → A → Type 0
 Has [] x = ⊥
 Has (y ∷ ys) x = (y ≡ x) ⊎ Has ys x
 
--- how often a block id stands in the list
+-- how often a block id is in the list
 abbrev pub times : ℕ → List Block → ℕ
 times id [] = 0
 times id (b ∷ bs) = (if b.id == id then 1 else 0) + times id bs
@@ -30,7 +30,7 @@ pub record IsIssued (issued : Issued) (b : Block) : Type 0 where
   pub length : IsNumber b.len
 
 -- what a well formed namespace says of ids and blocks: rows and awaiting ids are in order, awaiting ids were issued,
--- each block was issued, and no id stands twice
+-- each block was issued, and no id is there twice
 pub record HasWellFormedBlocks (n : Namespace) : Type 0 where
   pub in_order : IsTrue (is_sorted path_cmp n.rows)
   pub last_block_from : no_block ≤ n.issued.last_block

@@ -1,4 +1,4 @@
-//! What stands at a path.
+//! What is at a path.
 use nn_types::{Block, Blocks, Replication};
 
 /// A file of the namespace.
@@ -10,7 +10,7 @@ pub struct FileRow {
     pub blocks: Blocks,
 }
 
-/// What stands at a path.
+/// What is at a path.
 #[derive(Drop)]
 pub enum Form {
     Dir,

@@ -12,7 +12,7 @@ pub fn due_stays()
     ensures { DueStays }
 {}
 
-/// After an edit that applies the rows are in path order, each block id was issued and stands in one file alone,
+/// After an edit that applies the rows are in path order, each block id was issued and is in one file alone,
 /// and no block of a file awaits.
 pub fn blocks_stay_well_formed()
     ensures { BlocksStayWellFormed }

@@ -1,7 +1,7 @@
 //! What the standby's calls mean, as definitions: the namespace, what an edit does to it, the log, and what a
 //! standby does with the log and the messages of DataNodes.
 //!
-//! The definitions stand in `specs/` and compute. The types that they name stand here, and so do the laws over
+//! The definitions are in `specs/` and compute. The types that they name are here, and so do the laws over
 //! the definitions, as contracts of functions that do nothing.
 #![tactic(auto)]
 

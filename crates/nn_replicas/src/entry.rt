@@ -190,7 +190,7 @@ impl Entry {
     }
 }
 
-// Where the DataNode's cell stands, or would stand.
+// Where the DataNode's cell is, or would be.
 fn place_of(slots: &[Slot], dn: u16) -> usize
     ensures { result ≡ place dn slots.now }
 {
@@ -202,7 +202,7 @@ fn place_of(slots: &[Slot], dn: u16) -> usize
     slots.len()
 }
 
-// Whether the cell where the DataNode's would stand is its own, in cells that are in order.
+// Whether the cell where the DataNode's would be is its own, in cells that are in order.
 fn has_cell(slots: &[Slot], at: usize, dn: u16) -> bool
     requires { at ≡ place dn slots.now }
     ensures { result ≡ is_here dn slots.now }

@@ -10,7 +10,7 @@ use Rattle.nn_segment.specs.Segment.{Segment, is_end, last_txid}
 use Rattle.nn_segment.specs.declared.fault.SegmentFault.{SegmentFault}
 use Rattle.nn_scenario.specs.declared.segments.BadSegment.{BadSegment}
 
--- a line as it stands, and the transaction that it is read as
+-- a line as it is, and the transaction that it is read as
 pub record EditLine : Type 0 where
   pub text : List ℕ
   pub tx : Tx

@@ -35,7 +35,7 @@ pub struct BadLine {
 pub struct Scenario {
     /// The edit lines, cut after each end mark.
     pub parts: Vec<Part>,
-    /// Edits and messages in the order of their lines. The transactions stand in the parts, in the same order.
+    /// Edits and messages in the order of their lines. The transactions are in the parts, in the same order.
     pub steps: StepList,
     /// The greatest DataNode of any message, and at least 1.
     pub datanodes: u16,

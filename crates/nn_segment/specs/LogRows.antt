@@ -32,7 +32,7 @@ too_high : end_of_log 2 root_alone (marks 4 5 ∷ []) ≡ Err (record { cause = 
 unfolding end_of_log end_of_txs
 too_high = refl
 
--- what stands before a gap is applied first
+-- what comes before a gap is applied first
 refused_before_the_gap : end_of_log 2 root_alone (segment (tx 3 (Delete []) ∷ []) ∷ marks 9 10 ∷ []) ≡ Err (record { cause = refused IsRoot; txid = 3 })
 unfolding end_of_log end_of_txs
 refused_before_the_gap = refl

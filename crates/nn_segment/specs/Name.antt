@@ -28,6 +28,6 @@ number_of text = fold (λ n digit. 10 * n + (digit - 48)) 0 text
 abbrev pub if_named : List ℕ → ℕ → ℕ → Option (ℕ × ℕ)
 if_named text first last = if nat_le 1 first && nat_le first last && nat_lt last (2 ^ 63) && bytes_eq text (name_text first last) then Some (first, last) else None
 
--- the first and the last txid of a name: those that stand in it, if it is their name
+-- the first and the last txid of a name: those that it spells, if it is their name
 unfoldable pub txids_of : List ℕ → Option (ℕ × ℕ)
 txids_of text = if_named text (number_of (take 19 (drop 6 text))) (number_of (take 19 (drop 26 text)))

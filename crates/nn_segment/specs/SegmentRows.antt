@@ -26,7 +26,7 @@ one_to_two = codes "edits_0000000000000000001-0000000000000000002"
 abbrev segment : List ℕ → List ℕ → List Tx → Segment
 segment name bytes txs = record { name = name; bytes = bytes; txs = txs }
 
--- whatever else stands on their lines
+-- whatever else is on their lines
 two_marks : (bytes : List ℕ) → length bytes ≤ max_bytes → is_ended bytes ≡ true → reads_of bytes ≡ map Ok marks → IsSegment (segment one_to_two bytes marks)
 unfolding name_text digits
 two_marks bytes short ended lines = record {

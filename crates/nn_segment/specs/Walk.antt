@@ -38,7 +38,7 @@ OldSegmentAddsNothing = (last : ℕ) (s : Segment) → IsSegment s → last_txid
 abbrev pub HighSegmentAddsNothing : Type 0
 HighSegmentAddsNothing = (last : ℕ) (s : Segment) → IsSegment s → last + 1 < first_txid s.txs → counted last s.txs ≡ []
 
--- of any other all but the old transactions count, and the next one comes first
+-- of any other all except the old transactions count, and the next one comes first
 abbrev pub SegmentAddsTheRest : Type 0
 SegmentAddsTheRest = (last : ℕ) (s : Segment) → IsSegment s → first_txid s.txs ≤ last + 1
     → (counted last s.txs ≡ drop (last + 1 - first_txid s.txs) s.txs) × CountsUp last (drop (last + 1 - first_txid s.txs) s.txs)

@@ -199,7 +199,7 @@ fn later_fault(profile: Profile, expected: u64, txs: &[Tx]) -> Option<SegmentFau
     None
 }
 
-// All transactions but the first.
+// All transactions except the first.
 fn later(txs: &[Tx]) -> &[Tx]
     ensures { result.now ≡ drop 1 txs.now }
 {

@@ -10,8 +10,8 @@ use nn_tree::{Found, Namespace, Touched};
 use nn_types::{Block, BlockId, Edit, Path};
 use std::alloc::{AllocError, Global};
 
-/// The ids of the blocks that the edit writes, ascending. They are made before the edit is, which may not fail for want
-/// of memory afterwards. Where nothing is held nobody asks for them, and there are none.
+/// The ids of the blocks that the edit writes, ascending. They are made before the edit is, so that
+/// memory cannot run out after it. Where nothing is held nobody asks for them, and there are none.
 pub(crate) fn written_ids(
     alloc: Global,
     namespace: &Namespace,

@@ -51,7 +51,7 @@ closed_of e = e.closed
 abbrev pub AllClosed : List Taking → Type 0
 AllClosed es = list_all closed_of es ≡ true
 
--- nothing but one lane and the Shadow changes
+-- nothing changes except one lane and the Shadow
 pub record LaneFrame (old : Tailer) (i : ℕ) (new : Tailer) : Type 0 where
   pub carries : Carries old [] new
   pub same_ends : SameEnds old.ends new.ends
@@ -96,7 +96,7 @@ LaneMoves old i new (Err (fault.Stopped s)) = ⊥
 LaneMoves old i new (Err fault.BadLane) = ⊥
 LaneMoves old i new (Err (fault.LogNotEnded f)) = ⊥
 
--- nothing but the lanes and the Shadow changes
+-- nothing changes except the lanes and the Shadow
 pub record LanesFrame (old new : Tailer) : Type 0 where
   pub carries : Carries old [] new
   pub same_ends : SameEnds old.ends new.ends

@@ -21,7 +21,7 @@ abbrev pub step_refusal : Tailer → Choice → Option StepFault
 step_refusal x choice =
     first_fault (fault_if (has_begun x) step.AlreadyActive ∷ option_map (λ stop. step.Stopped stop) x.stop ∷ fault_if (not (has_place x choice)) step.BadLane ∷ [])
 
--- a promotion: it was promoted, it was stopped, a lane is open; once the flush has begun nothing but memory keeps it back
+-- a promotion: it was promoted, it was stopped, a lane is open; once the flush has begun only memory keeps it back
 abbrev pub promote_refusal : Tailer → Option PromoteFault
 promote_refusal x =
     first_fault (fault_if x.active promotion.AlreadyActive ∷ option_map (λ stop. promotion.Step (step.Stopped stop)) x.stop

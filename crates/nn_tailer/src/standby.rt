@@ -1,4 +1,4 @@
-//! The standby over its lanes: what it keeps, and its calls but the promotion.
+//! The standby over its lanes: what it keeps, and its calls except the promotion.
 ghost use Rattle.std.specs.Prelude.{◌≡◌, ◌<◌, ◌≤◌, [], length, IfOk, IfErr, Err, Some, None, replicate};
 ghost use Rattle.nn_tailer.specs.LaneSteps.{AllClosed, CloseEnds};
 ghost use Rattle.nn_tailer.specs.Public.{Steps, AreNew, IsNew};

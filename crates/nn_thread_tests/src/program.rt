@@ -315,7 +315,7 @@ fn longest_input(rt: HostRuntime) {
 struct Long {
     // The first line marks the start; each line from the second on makes a directory, the nth line /dN.
     lines: u64,
-    // The bytes to which each line but the last one is padded with spaces.
+    // The bytes to which each line except the last one is padded with spaces.
     width: usize,
     // The operation of the last line, and its width. It has no line feed.
     last: &'static str,

@@ -73,6 +73,6 @@ name_of number =
 abbrev pub is_colon : ℕ → Bool
 is_colon c = c == 58
 
--- the name that an explanation begins with: what stands before its first colon, and nothing where it has none
+-- the name that an explanation begins with: what comes before its first colon, and nothing where it has none
 abbrev pub name_in : List ℕ → List ℕ
 name_in text = if list_any is_colon text then before_first is_colon text else []

@@ -1,4 +1,4 @@
--- Paths at their limits, and what stands just past them.
+-- Paths at their limits, and what is just past them.
 use Rattle.std.specs.Prelude.{◌≡◌, ℕ, zero, suc, true, false, List, [], ◌∷◌, map, codes, refl}
 use Rattle.std.proofs.Common.{lit≤, arith}
 use Rattle.nn_types.specs.Path.{is_name, path_text, IsPath}

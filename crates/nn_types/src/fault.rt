@@ -24,7 +24,7 @@ pub const INPUT_FAULT: u8 = 8;
 pub const BAD_NAME: u8 = 11;
 /// A segment has no bytes, or its first line is no start mark.
 pub const NO_START: u8 = 12;
-/// A segment's last line is no end mark, or a mark stands between its first line and its last.
+/// A segment's last line is no end mark, or there is a mark between its first line and its last.
 pub const NO_END: u8 = 13;
 /// A transaction of a segment is not the one after the transaction before it.
 pub const GAP: u8 = 14;
@@ -99,7 +99,7 @@ pub const WRONG_NUMBER: u8 = 58;
 
 /// The first line of an image is no header.
 pub const NOT_HEADER: u8 = 61;
-/// A line of an image is none, or its path may not stand there.
+/// A line of an image is none, or its path may not be there.
 pub const BAD_IMAGE_LINE: u8 = 62;
 /// A path of an image is not greater than the path before it.
 pub const WRONG_ORDER: u8 = 63;

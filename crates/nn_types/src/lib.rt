@@ -1,4 +1,4 @@
-//! The words that every crate of the standby speaks: numbers, paths, blocks, edits, reports and events.
+//! What every crate of the standby speaks of: numbers, paths, blocks, edits, reports and events.
 //!
 //! Each type is seen by contracts as plain data: a number as a natural number below 2^63, a path as its
 //! list of names, a list of blocks as a list.

@@ -19,7 +19,7 @@ const MAX_NAMES: usize = 1000;
 /// The bytes that a path's text may have.
 const MAX_PATH_LEN: usize = 8000;
 
-/// An absolute path, kept as its text. Its names stand from the root down; the root has none.
+/// An absolute path, kept as its text. Its names go from the root down; the root has none.
 #[derive(Drop)]
 pub struct Path {
     text: String,

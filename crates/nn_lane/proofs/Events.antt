@@ -1,7 +1,7 @@
 -- Each step of a seat is an event of the intake core, and each lane is reached by events.
-use Rattle.std.proofs.Common.{◌≡◌, ◌⊎◌, ℕ, ◌+◌, ◌*◌, ◌<◌, ◌≤◌, List, [], ◌∷◌, ◌++◌, length, Option, Some, None, Bool, true, false, refl, sym, ap, ◌∙◌, subst, ⊎_elim, inl, inr, arith, length-set, length-append, append_assoc, append-nil}
+use Rattle.std.proofs.Common.{◌≡◌, ℕ, ◌+◌, ◌*◌, ◌<◌, ◌≤◌, List, [], ◌∷◌, ◌++◌, length, Option, Some, None, Bool, true, false, refl, sym, ap, ◌∙◌, subst, arith, length-set, length-append, append_assoc, append-nil}
 use Rattle.std.proofs.lemmas.Bool.{eqb-true, eqb-false}
-use Rattle.std.specs.Prelude.{◌/◌, ◌==◌, if◌then◌else◌, slice_index, slice_set, nat_lt}
+use Rattle.std.specs.Prelude.{◌≢◌, ◌/◌, ◌==◌, if◌then◌else◌, slice_index, slice_set, nat_lt}
 use mathlib.Core.Option.{some, none, some-injective}
 use mathlib.Core.Option as maybe
 use native.Mathlib.Decide.{ℕ_discrete}
@@ -14,8 +14,8 @@ use Rattle.nn_lane.specs.declared.view.Taker.{Taker}
 use Rattle.nn_lane.specs.declared.view.View.{View}
 use Rattle.nn_lane.specs.Intake.{Intake, IntakeEvent, Accept, Take, Close, Look, no_intake, after_event, intake_after, May, MayAll, words_of, front_word, taken_word}
 use Rattle.nn_lane.specs.Lane.{Sat, Seated, opening_view, Kept, Lane, NextOut, with_sender, with_taker, looked, checked, sent_more, was_told, saw, got_more, closed_at}
-use Rattle.nn_lane.specs.Moves.{LaneState, shown, shown_by, IsSender, IsTaker, Steps, open_front, Tries, TriesInVain, Stores, Shuts, SeesTaken, SeesClosed, GivesBack, SeesFront, Learns, Loads, Moves, Runs, Parts, Meets}
-use Rattle.nn_lane.specs.Moves.{SeatStep, SeeTaken, SeeClosed, Send, GiveBack, SeeFront, TakeFirst, Shut, Learn, IsMadeBy, word_of, becomes, tells, event_of, EachStepIsAnEvent}
+use Rattle.nn_lane.specs.Moves.{LaneState, shown, shown_by, IsSender, IsTaker, Steps, open_front, MakesStep, Moves, Runs, Parts, Meets}
+use Rattle.nn_lane.specs.Moves.{SeatStep, SeeTaken, SeeClosed, Send, GiveBack, SeeFront, TakeFirst, Shut, Learn, word_of, becomes, tells, event_of, EachStepIsAnEvent}
 use Rattle.nn_lane.proofs.Seats.{reporter_moves, taker_moves, cuts, joins}
 use Rattle.nn_lane.proofs.Sides.{one_pair}
 use Rattle.nn_lane.proofs.Steps.{is_open}
@@ -44,20 +44,20 @@ module _ (node n : ℕ) (s s' : LaneState) (h : Lane node s) (h' : Lane node s')
   abbrev Event : IntakeEvent → Type 0
   Event e = May n (shown_by node s h) e × (shown_by node s' h' ≡ after_event (shown_by node s h) e)
 
-  accepts : (x : Message) (v : View) → Tries n s v x s' → slice_index s.words front_word ≡ open_front v → Event (Accept x)
-  accepts x v t found = let st = t.2 in let new = st.6.0 found in
+  accepts : (x : Message) (v : View) → MakesStep n s v (Send x) s' → slice_index s.words front_word ≡ open_front v → Event (Accept x)
+  accepts x v t found = let st = t.1 in let new = st.6.0 found in
       let room = nat_lt (length v.sender.sent + 1) (v.sender.seen + n) in
       let same : new.0 ≡ x = sym (some-injective x new.0 new.1) in
-      let a = sender_after v st.2.0 st.0 (sent_more v.sender x room) t.0 st.3 st.5 (new.2.0 ∙ ap (λ z. with_sender v (sent_more v.sender z room)) same) in
+      let a = sender_after v st.2.0 st.0 (sent_more v.sender x room) t.0.0 st.3 st.5 (new.2.0 ∙ ap (λ z. with_sender v (sent_more v.sender z room)) same) in
       let open_ : h.2.closed ≡ false = is_open node n st.0 v h.2.closed (length h.1.sent) (sym (ap (λ ws. slice_index ws front_word) K.words_are) ∙ found ∙ ap (λ (r : Sender). 2 * length r.sent) a.0) in
-      let fits = K.fits (sym (ap (λ r. r.out) a.0) ∙ t.1) in let seen = K.seen_taken in
+      let fits = K.fits (sym (ap (λ r. r.out) a.0) ∙ t.0.1) in let seen = K.seen_taken in
       ((open_, omega arith), shows (sent_more v.sender x room) h.2 a.1 a.2 ∙ ap (λ r. shown (sent_more r x room) h.2) a.0)
 
-  fails : (v : View) → TriesInVain n s v s' → Event Look
-  fails v u = let t = u.1 in let st = t.2 in let a = sender_after v st.2.0 st.0 (was_told v.sender) t.0 st.3 st.5 (st.6.1 u.2).0 in
+  fails : (x : Message) (v : View) → MakesStep n s v (Send x) s' → slice_index s.words front_word ≢ open_front v → Event Look
+  fails x v t lost = let st = t.1 in let a = sender_after v st.2.0 st.0 (was_told v.sender) t.0.0 st.3 st.5 (st.6.1 lost).0 in
       (tt, shows (was_told v.sender) h.2 a.1 a.2 ∙ ap (λ r. shown (was_told r) h.2) a.0)
 
-  takes_one : (v : View) → Stores n s v s' → Event Take
+  takes_one : (v : View) → MakesStep n s v TakeFirst s' → Event Take
   takes_one v t = let st = t.1 in let next = st.6 in let o = next_of _ _ _ (got_more v.taker next.0) _ (v, st.1) st.2 next.2 in let a = taker_after v st.2.0 st.0 (got_more v.taker next.0 o.0) t.0 st.3 st.5 o.1 in
       let ahead = K.ahead next.0 (sym (ap (λ e. e.next) a.0) ∙ next.1) in let high = K.seen_high in (
         omega arith,
@@ -65,15 +65,15 @@ module _ (node n : ℕ) (s s' : LaneState) (h : Lane node s) (h' : Lane node s')
             ∙ ap (λ k. record { accepted = h.1.sent; taken = k; closed = h.2.closed }) (length-append h.2.got (next.0 ∷ [])),
       )
 
-  shuts : (v : View) → Shuts n s v s' → (v.taker ≡ h.2) × (shown h'.1 h'.2 ≡ record { accepted = h.1.sent; taken = length h.2.got; closed = true })
+  shuts : (v : View) → MakesStep n s v Shut s' → (v.taker ≡ h.2) × (shown h'.1 h'.2 ≡ record { accepted = h.1.sent; taken = length h.2.got; closed = true })
   shuts v t = let st = t.1 in let q = slice_index s.words front_word / 2 in let o = next_of _ _ _ (closed_at v.taker q) _ (v, st.1) st.2 st.6.3 in let a = taker_after v st.2.0 st.0 (closed_at v.taker q o.0) t.0 st.3 st.5 o.1 in
       (a.0, shows h.1 (closed_at v.taker q o.0) a.1 a.2 ∙ ap (λ e. shown h.1 (closed_at e q o.0)) a.0)
 
-  sees_taken : (v : View) → SeesTaken n s v s' → Event Look
+  sees_taken : (v : View) → MakesStep n s v SeeTaken s' → Event Look
   sees_taken v t = let st = t.1 in let r = looked v.sender (slice_index s.words taken_word) (nat_lt (length v.sender.sent) (slice_index s.words taken_word + n)) in let a = sender_after v st.2.0 st.0 r t.0 st.3 st.5 st.6.4 in
       (tt, shows r h.2 a.1 a.2 ∙ ap (λ (r : Sender). shown r h.2) a.0)
 
-  sees_closed : (v : View) → SeesClosed n s v s' → Event Look
+  sees_closed : (v : View) → MakesStep n s v SeeClosed s' → Event Look
   sees_closed v t = by (ℕ_discrete (slice_index s.words front_word) (2 * length v.sender.sent))
     where
       looks : (b : Bool) → t.1.2.0 ≡ with_sender v (checked v.sender b) → Event Look
@@ -84,30 +84,46 @@ module _ (node n : ℕ) (s s' : LaneState) (h : Lane node s) (h' : Lane node s')
       by (yes e) = looks v.sender.told (t.1.6.1 e)
       by (no ne) = looks true (t.1.6.2 ne)
 
-  gives_back : (v : View) → GivesBack n s v s' → Event Look
+  gives_back : (v : View) → MakesStep n s v GiveBack s' → Event Look
   gives_back v t = let st = t.1 in let r = looked v.sender (slice_index s.words taken_word) false in let a = sender_after v st.2.0 st.0 r t.0 st.3 st.5 st.6.0 in
       (tt, shows r h.2 a.1 a.2 ∙ ap (λ (r : Sender). shown r h.2) a.0)
 
-  sees_front : (v : View) → SeesFront n s v s' → Event Look
+  sees_front : (v : View) → MakesStep n s v SeeFront s' → Event Look
   sees_front v t = let st = t.1 in let f = next_of _ _ _ (saw v.taker (slice_index s.words front_word / 2)) _ (v, st.1) st.2 st.6.3 in let e = saw v.taker (slice_index s.words front_word / 2) f.0 in let a = taker_after v st.2.0 st.0 e t.0 st.3 st.5 f.1 in
       (tt, shows h.1 e a.1 a.2 ∙ ap (λ (e : Taker). shown h.1 e) a.0)
 
-  learns : (v : View) → Learns n s v s' → Event Look
-  learns v st = let views : s'.views ≡ s.views = st.5 ∙ ap (λ (m : Sat). slice_set s.views st.0 m.0) st.6.0 ∙ set_again s.views st.0 v st.3 in
+  learns : (v : View) → MakesStep n s v Learn s' → Event Look
+  learns v t = let st = t.1 in let views : s'.views ≡ s.views = st.5 ∙ ap (λ (m : Sat). slice_set s.views st.0 m.0) st.6.0 ∙ set_again s.views st.0 v st.3 in
       let pair = one_pair s'.views h'.1 h.1 h'.2 h.2 h'.3 (subst (λ vs. Seated vs h.1 h.2) (sym views) h.3) in (tt, shows h.1 h.2 pair.0 pair.1)
 
-  event : (e : IntakeEvent) → Moves n s e s' → Event e
-  event (Accept x) t = accepts x t.0 t.1 t.2
-  event Take t = takes_one t.0 t.1
-  event Close t = let done = shuts t.0 t.1 in (sym (ap (λ e. e.closed) done.0) ∙ t.2, done.1)
-  event Look t = ⊎_elim (λ (l : Loads n s t.0 s'). loads t.0 l) (λ (l : TriesInVain n s t.0 s' ⊎ (Shuts n s t.0 s' × (t.0.taker.closed ≡ true))). ⊎_elim (fails t.0) (λ (u : Shuts n s t.0 s' × (t.0.taker.closed ≡ true)). again t.0 u.0 u.1) l) t.1
+  -- a try to send, by the word that it finds
+  tried : (x : Message) (v : View) → MakesStep n s v (Send x) s' → Event (event_of v (Send x) (slice_index s.words front_word))
+  tried x v t = by (slice_index s.words front_word == open_front v) refl
     where
-      loads : (v : View) → Loads n s v s' → Event Look
-      loads v l = ⊎_elim (sees_taken v) (λ (l : GivesBack n s v s' ⊎ SeesClosed n s v s' ⊎ SeesFront n s v s' ⊎ Learns n s v s'). ⊎_elim (gives_back v)
-          (λ (l : SeesClosed n s v s' ⊎ SeesFront n s v s' ⊎ Learns n s v s'). ⊎_elim (sees_closed v) (λ (l : SeesFront n s v s' ⊎ Learns n s v s'). ⊎_elim (sees_front v) (learns v) l) l) l) l
+      by : (b : Bool) → (slice_index s.words front_word == open_front v) ≡ b → Event (if b then Accept x else Look)
+      by true e = accepts x v t (eqb-true (slice_index s.words front_word) (open_front v) e)
+      by false e = fails x v t (eqb-false (slice_index s.words front_word) (open_front v) e)
 
-      again : (v : View) → Shuts n s v s' → v.taker.closed ≡ true → Event Look
-      again v u was = let done = shuts v u in (tt, done.1 ∙ ap (λ b. record { accepted = h.1.sent; taken = length h.2.got; closed = b }) (sym was ∙ ap (λ e. e.closed) done.0))
+  -- a close, the first time and again
+  shut_so : (v : View) → MakesStep n s v Shut s' → Event (event_of v Shut (slice_index s.words front_word))
+  shut_so v t = by v.taker.closed refl
+    where
+      by : (b : Bool) → v.taker.closed ≡ b → Event (if b then Look else Close)
+      by true was = let done = shuts v t in (tt, done.1 ∙ ap (λ b. record { accepted = h.1.sent; taken = length h.2.got; closed = b }) (sym was ∙ ap (λ e. e.closed) done.0))
+      by false was = let done = shuts v t in (sym (ap (λ e. e.closed) done.0) ∙ was, done.1)
+
+  of_step : (c : SeatStep) (v : View) → MakesStep n s v c s' → Event (event_of v c (slice_index s.words (word_of c)))
+  of_step SeeTaken v t = sees_taken v t
+  of_step SeeClosed v t = sees_closed v t
+  of_step (Send x) v t = tried x v t
+  of_step GiveBack v t = gives_back v t
+  of_step SeeFront v t = sees_front v t
+  of_step TakeFirst v t = takes_one v t
+  of_step Shut v t = shut_so v t
+  of_step Learn v t = learns v t
+
+  event : (e : IntakeEvent) → Moves n s e s' → Event e
+  event e m = subst Event m.3 (of_step m.1 m.0 m.2)
 
 -- one after another
 pub run : (node n : ℕ) (events : List IntakeEvent) (s s' : LaneState) (h : Lane node s) (h' : Lane node s') → length s.homes ≡ n → Runs node n s events s' → MayAll n (shown_by node s h) events × (shown_by node s' h' ≡ intake_after (shown_by node s h) events)
@@ -131,35 +147,9 @@ moves node n id i f told v cs allows s h long at fits = let a = allows s h long 
 
 -- ---- The steps of the calls.
 
--- a try to send, by the word that it finds
-tried : (n : ℕ) (x : Message) (v : View) (s s' : LaneState) → Tries n s v x s' → Moves n s (event_of v (Send x) (slice_index s.words front_word)) s'
-tried n x v s s' t = by (slice_index s.words front_word == open_front v) refl
-  where
-    by : (b : Bool) → (slice_index s.words front_word == open_front v) ≡ b → Moves n s (if b then Accept x else Look) s'
-    by true e = (v, t, eqb-true (slice_index s.words front_word) (open_front v) e)
-    by false e = (v, inr (inl (x, t, eqb-false (slice_index s.words front_word) (open_front v) e)))
-
--- a close, the first time and again
-shut_so : (n : ℕ) (v : View) (s s' : LaneState) → Shuts n s v s' → Moves n s (event_of v Shut (slice_index s.words front_word)) s'
-shut_so n v s s' t = by v.taker.closed refl
-  where
-    by : (b : Bool) → v.taker.closed ≡ b → Moves n s (if b then Look else Close) s'
-    by true e = (v, inr (inr (t, e)))
-    by false e = (v, t, e)
-
-of_step : (n : ℕ) (c : SeatStep) (v : View) (s s' : LaneState) → IsMadeBy v c → Steps s v (word_of c) (becomes v c) (tells n v c) s' → Moves n s (event_of v c (slice_index s.words (word_of c))) s'
-of_step n SeeTaken v s s' is t = (v, inl (inl (is, t)))
-of_step n (Send x) v s s' is t = tried n x v s s' (is.0, is.1, t)
-of_step n GiveBack v s s' is t = (v, inl (inr (inl (is, t))))
-of_step n SeeClosed v s s' is t = (v, inl (inr (inr (inl (is, t)))))
-of_step n SeeFront v s s' is t = (v, inl (inr (inr (inr (inl (is, t))))))
-of_step n TakeFirst v s s' is t = (v, (is, t))
-of_step n Shut v s s' is t = shut_so n v s s' (is, t)
-of_step n Learn v s s' is t = (v, inl (inr (inr (inr (inr t)))))
-
 pub each_step : EachStepIsAnEvent
 each_step node n id c v cs is allows s h long at fits =
-    let m = moves node n id (word_of c) (becomes v c) (tells n v c) v cs allows s h long at fits in (m.0, m.1, m.2, of_step n c v s m.0 is m.3)
+    let m = moves node n id (word_of c) (becomes v c) (tells n v c) v cs allows s h long at fits in (m.0, m.1, m.2, (v, c, (is, m.3), refl))
 
 -- ---- What is no event.
 

@@ -1,5 +1,5 @@
 -- The rule of a lane's table, and what each step tells.
--- The front word is twice the number of accepted messages, plus 1 where the lane is closed. The other is the number of taken ones. The message of the number k + 1 lies in the slot k % slots.
+-- The front word is twice the number of accepted messages, plus 1 where the lane is closed. The other is the number of taken ones. Message k + 1 lies in slot k % slots.
 use Rattle.std.specs.Prelude.{◌≡◌, ◌≢◌, ◌⊎◌, ℕ, ◌+◌, ◌*◌, ◌/◌, ◌%◌, ◌<◌, ◌≤◌, Bool, true, false, nat_lt, List, [], ◌∷◌, ◌++◌, length, Option, Some, None, MatchBool}
 use mathlib.Core.Option.{some}
 use mathlib.Core.Option as maybe
@@ -22,12 +22,14 @@ new_taker node = record { node = node; got = []; seen = 0; loads = 0; next = Non
 abbrev pub opening_view : ℕ → View
 opening_view node = record { sends = true; takes = true; met = false; sender = new_sender node; taker = new_taker node }
 
+-- the one seat is parted in two: the taker's and the reporter's
 abbrev pub taker_of : View → View
-taker_of v = record { sends = false; takes = true; met = false; sender = v.sender; taker = v.taker }
+taker_of v = record v { sends = false; takes = true; met = false }
 
 abbrev pub reporter_of : View → View
-reporter_of v = record { sends = true; takes = false; met = false; sender = v.sender; taker = v.taker }
+reporter_of v = record v { sends = true; takes = false; met = false }
 
+-- they meet again: the taker's seat shows both sides, and the reporter's is spent
 abbrev pub both_of : View → View → View
 both_of v w = record { sends = true; takes = true; met = true; sender = w.sender; taker = v.taker }
 
@@ -35,10 +37,10 @@ abbrev pub spent : View
 spent = record { sends = false; takes = false; met = true; sender = new_sender 0; taker = new_taker 0 }
 
 abbrev pub with_sender : View → Sender → View
-with_sender v r = record { sends = v.sends; takes = v.takes; met = v.met; sender = r; taker = v.taker }
+with_sender v r = record v { sender = r }
 
 abbrev pub with_taker : View → Taker → View
-with_taker v e = record { sends = v.sends; takes = v.takes; met = v.met; sender = v.sender; taker = e }
+with_taker v e = record v { taker = e }
 
 abbrev pub IsBoth : Bool → View → Sender → Taker → Type 0
 IsBoth met v r e = (v.sends ≡ true) × (v.takes ≡ true) × (v.met ≡ met) × (v.sender ≡ r) × (v.taker ≡ e)
@@ -64,8 +66,8 @@ away None = false
 away (Some m) = true
 
 -- the facts between any two steps, of a table with n slots: what was sent is what was taken and then what is left, which
--- fits the slots; message k + 1 lies in slot k % n, but the first one that is left may be out with the taker; every other
--- slot is at home, but the one that is out with the sender, whose message then has room; a count that an end saw is one that
+-- fits the slots; message k + 1 lies in slot k % n, except that the first one that is left may be out with the taker; every other
+-- slot is at home, except the one that is out with the sender, whose message then has room; a count that an end saw is one that
 -- was true; of a closed lane the taker saw all that was sent, and the sender was told only of a close
 pub record Kept (node n : ℕ) (words : List ℕ) (homes : List (maybe.Option Message)) (r : Sender) (e : Taker) : Type 0 where
   pub left : List Message
@@ -87,22 +89,24 @@ pub record Kept (node n : ℕ) (words : List ℕ) (homes : List (maybe.Option Me
   pub lies : (k : ℕ) (m : Message) → get_elem? left k ≡ some m → (away e.next ≡ true → 0 < k) → get_elem? homes ((length e.got + k) % n) ≡ some (some m)
   pub vacant : (i : ℕ) → i < n → (r.out ≡ true → i ≢ length r.sent % n) → (away e.next ≡ true → i ≢ length e.got % n) → (y : Message) × (get_elem? homes i ≡ some (some y))
 
+-- the rule: a table of this DataNode's lane shows two sides, of which the facts hold
 abbrev pub Lane : ℕ → State Message View → Type 0
 Lane node s = (n : ℕ) × (r : Sender) × (e : Taker) × Seated s.views r e × Kept node n s.words s.homes r e
 
+-- a seat: its view, and the slots that it has out
 abbrev pub Sat : Type 0
 Sat = Me Message View
 
 -- the slot of its next message is out with the reporter, or not
 abbrev pub holding : Sender → Bool → Sender
-holding r out = record { node = r.node; sent = r.sent; seen = r.seen; loads = r.loads; checks = r.checks; out = out; told = r.told }
+holding r out = record r { out = out }
 
 abbrev pub with_next : Taker → Option Message → Taker
-with_next e o = record { node = e.node; got = e.got; seen = e.seen; loads = e.loads; next = o; closed = e.closed }
+with_next e o = record e { next = o }
 
 -- the reporter loads `taken`, and takes the slot of the next message where there is room
 abbrev pub looked : Sender → ℕ → Bool → Sender
-looked r n out = record { node = r.node; sent = r.sent; seen = n; loads = r.loads + 1; checks = r.checks; out = out; told = r.told }
+looked r n out = record r { seen = n; loads = r.loads + 1; out = out }
 
 -- what the seat holds beside the slot of the next message
 abbrev pub beside : Bool → List (ℕ × Message) → List (ℕ × Message)
@@ -121,24 +125,24 @@ saw_taken st m n m' = SawTaken (nat_lt (length m.0.sender.sent) (n + st.slots)) 
 
 -- the reporter loads `front`: where the lane is closed it is told, and else all is as it was
 abbrev pub checked : Sender → Bool → Sender
-checked r told = record { node = r.node; sent = r.sent; seen = r.seen; loads = r.loads; checks = r.checks + 1; out = r.out; told = told }
+checked r told = record r { checks = r.checks + 1; told = told }
 
 abbrev pub saw_closed : Step Message → Sat → ℕ → Sat → Type 0
 saw_closed st m n m' = (m'.1 ≡ m.1)
     × (n ≡ 2 * length m.0.sender.sent → m'.0 ≡ with_sender m.0 (checked m.0.sender m.0.sender.told))
     × (n ≢ 2 * length m.0.sender.sent → m'.0 ≡ with_sender m.0 (checked m.0.sender true))
 
--- it loads `taken`, and a slot that is out goes home
+-- the reporter loads `taken` at the end, and a slot that is out goes home
 abbrev pub gave_back : Step Message → Sat → ℕ → Sat → Type 0
 gave_back st m n m' = (m'.0 ≡ with_sender m.0 (looked m.0.sender n false)) × (m'.1 ≡ beside m.0.sender.out m.1) × (m.0.sender.seen ≤ n)
 
 -- the reporter compare-exchanges `front`: the message is sent, its slot goes back, and the next one is taken where the
 -- reporter remembers that there is room; or the lane is closed, and the slot stays out
 abbrev pub sent_more : Sender → Message → Bool → Sender
-sent_more r x out = record { node = r.node; sent = r.sent ++ x ∷ []; seen = r.seen; loads = r.loads; checks = r.checks; out = out; told = r.told }
+sent_more r x out = record r { sent = r.sent ++ x ∷ []; out = out }
 
 abbrev pub was_told : Sender → Sender
-was_told r = record { node = r.node; sent = r.sent; seen = r.seen; loads = r.loads; checks = r.checks; out = r.out; told = true }
+was_told r = record r { told = true }
 
 abbrev pub SentMore : Bool → Step Message → Message → Sat → Sat → Type 0
 SentMore room st x m m' = (m'.0 ≡ with_sender m.0 (sent_more m.0.sender x room))
@@ -155,7 +159,7 @@ NextOut false k slots f cs m m' = (m'.0 ≡ with_taker m.0 (f None)) × (m'.1 �
 
 -- the other end loads `front`, and takes the slot of the first untaken message
 abbrev pub saw : Taker → ℕ → Option Message → Taker
-saw e n x = record { node = e.node; got = e.got; seen = n; loads = e.loads + 1; next = x; closed = e.closed }
+saw e n x = record e { seen = n; loads = e.loads + 1; next = x }
 
 abbrev pub SawFront : Bool → ℕ → Step Message → Sat → Sat → Type 0
 SawFront some_left q st m m' = (length m.0.taker.got ≤ q) × (m.0.taker.seen ≤ q) × (m.0.taker.closed ≡ true → q ≡ m.0.taker.seen)
@@ -166,7 +170,7 @@ saw_front st m n m' = SawFront (nat_lt (length m.0.taker.got) (n / 2)) (n / 2) s
 
 -- it stores `taken`, gives the slot back, and takes the next one where it remembers a message there
 abbrev pub got_more : Taker → Message → Option Message → Taker
-got_more e x o = record { node = e.node; got = e.got ++ x ∷ []; seen = e.seen; loads = e.loads; next = o; closed = e.closed }
+got_more e x o = record e { got = e.got ++ x ∷ []; next = o }
 
 abbrev pub Took : Bool → Step Message → Message → Sat → Sat → Type 0
 Took some_left st x m m' = NextOut some_left (length m.0.taker.got + 1) st.slots (got_more m.0.taker x) (rest m.1) m m'
@@ -176,7 +180,7 @@ took st m n m' = (x : Message) × (m.0.taker.next ≡ Some x) × Took (nat_lt (l
 
 -- it sets the low bit of `front`: the lane is closed
 abbrev pub closed_at : Taker → ℕ → Option Message → Taker
-closed_at e n o = record { node = e.node; got = e.got; seen = n; loads = e.loads; next = o; closed = true }
+closed_at e n o = record e { seen = n; next = o; closed = true }
 
 abbrev pub Shuts : Bool → ℕ → Step Message → Sat → Sat → Type 0
 Shuts some_left q st m m' = (length m.0.taker.got ≤ q) × (m.0.taker.seen ≤ q) × (m.0.taker.closed ≡ true → q ≡ m.0.taker.seen)

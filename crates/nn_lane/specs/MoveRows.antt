@@ -1,15 +1,15 @@
 -- The steps of calls, as events, computed.
-use Rattle.std.specs.Prelude.{◌≡◌, ◌⊎◌, ℕ, zero, suc, ◌+◌, Bool, true, false, List, [], ◌∷◌, length, map, None, refl}
-use Rattle.std.proofs.Common.{arith, sym, ap, ◌∙◌, inl, inr, ⊎_elim, get_or, true≢false}
+use Rattle.std.specs.Prelude.{◌≡◌, ◌==◌, ℕ, ◌+◌, ◌*◌, Bool, true, false, if◌then◌else◌, List, [], ◌∷◌, length, map, None, slice_index, refl}
+use Rattle.std.proofs.Common.{arith, sym, ap, ◌∙◌, subst, get_or, true≢false}
+use Rattle.std.proofs.lemmas.Bool.{eqb-true}
 use mathlib.Core.Option.{some}
-use lib.ListN.{get_elem?}
 use Rattle.nn_lane.specs.declared.view.Sender.{Sender}
 use Rattle.nn_lane.specs.declared.view.Taker.{Taker}
 use Rattle.nn_lane.specs.declared.view.View.{View}
-use Rattle.nn_lane.specs.Intake.{Accept, Take, Close, Look, laid}
+use Rattle.nn_lane.specs.Intake.{IntakeEvent, Accept, Take, Close, Look, laid}
 use Rattle.nn_lane.specs.IntakeRows.{message}
 use Rattle.nn_lane.specs.Lane.{taker_of, reporter_of}
-use Rattle.nn_lane.specs.Moves.{LaneState, Moves, Runs, IsMadeBy, SeeTaken, SeeClosed, Send, GiveBack, SeeFront, TakeFirst, Shut, Learn, becomes, event_of, open_front, word_of}
+use Rattle.nn_lane.specs.Moves.{LaneState, MakesStep, Moves, Runs, IsMadeBy, SeatStep, SeeTaken, SeeClosed, Send, GiveBack, SeeFront, TakeFirst, Shut, Learn, becomes, event_of, open_front, word_of}
 
 -- the reporter sent one message, and the other end took none
 abbrev sender : Sender
@@ -59,34 +59,71 @@ not_sent_with_no_slot_out h = true≢false (sym h.1)
 abbrev lane : ℕ → Bool → LaneState
 lane front closed = record { words = laid front 0; homes = some (message 1) ∷ []; views = taker_of (view closed) ∷ reporter_of (view closed) ∷ [] }
 
-one_of : (a b : View) (id : ℕ) (v : View) → get_elem? (a ∷ b ∷ []) id ≡ some v → (a ≡ v) ⊎ (b ≡ v)
-one_of a b zero v e = inl (cc)
-one_of a b (suc zero) v e = inr (cc)
-one_of a b (suc (suc id)) v e = absurd (cc)
+abbrev is_accept : IntakeEvent → Bool
+is_accept (Accept x) = true
+is_accept Take = false
+is_accept Close = false
+is_accept Look = false
 
--- a lane is closed once
-not_closed_again : (after : LaneState) → Moves 1 (lane 3 true) Close after → ⊥
-not_closed_again after h = let steps = h.1.1 in
-    ⊎_elim (λ (e : taker_of (view true) ≡ h.0). true≢false (ap (λ (v : View). v.taker.closed) e ∙ h.2))
-    (λ (e : reporter_of (view true) ≡ h.0). true≢false (ap (λ (v : View). v.taker.closed) e ∙ h.2))
-    (one_of (taker_of (view true)) (reporter_of (view true)) steps.0 h.0 steps.3)
+abbrev is_take : IntakeEvent → Bool
+is_take (Accept x) = false
+is_take Take = true
+is_take Close = false
+is_take Look = false
 
--- nothing is accepted by a closed one
-not_accepted_when_closed : (after : LaneState) → Moves 1 (lane 3 true) (Accept (message 2)) after → ⊥
-not_accepted_when_closed after h = let steps = h.1.2 in
-    ⊎_elim (λ (e : taker_of (view true) ≡ h.0). let front = ap open_front e in omega (arith, front, word h.2))
-    (λ (e : reporter_of (view true) ≡ h.0). let front = ap open_front e in omega (arith, front, word h.2))
-    (one_of (taker_of (view true)) (reporter_of (view true)) steps.0 h.0 steps.3)
+abbrev is_close : IntakeEvent → Bool
+is_close (Accept x) = false
+is_close Take = false
+is_close Close = true
+is_close Look = false
+
+-- an event of one of two kinds is of no third
+neither : (kind : IntakeEvent → Bool) (b : Bool) (x y e : IntakeEvent) → kind x ≡ false → kind y ≡ false → kind e ≡ true → (if b then x else y) ≡ e → ⊥
+neither kind true x y e first second is same = true≢false (sym is ∙ sym (ap kind same) ∙ first)
+neither kind false x y e first second is same = true≢false (sym is ∙ sym (ap kind same) ∙ second)
+
+-- whoever closed the lane closes it no more
+not_closed_again : (v : View) (c : SeatStep) (f : ℕ) → v.taker.closed ≡ true → event_of v c f ≡ Close → ⊥
+not_closed_again v SeeTaken f was e = true≢false (sym (ap is_close e))
+not_closed_again v SeeClosed f was e = true≢false (sym (ap is_close e))
+not_closed_again v (Send x) f was e = neither is_close (f == open_front v) (Accept x) Look Close refl refl refl e
+not_closed_again v GiveBack f was e = true≢false (sym (ap is_close e))
+not_closed_again v SeeFront f was e = true≢false (sym (ap is_close e))
+not_closed_again v TakeFirst f was e = true≢false (sym (ap is_close e))
+not_closed_again v Shut f was e = true≢false (sym (ap is_close (subst (λ b. (if b then Look else Close) ≡ Close) was e)))
+not_closed_again v Learn f was e = true≢false (sym (ap is_close e))
+
+-- nothing is accepted by a closed one, whose word is odd
+not_accepted_when_closed : (v : View) (c : SeatStep) → event_of v c 3 ≡ Accept (message 2) → ⊥
+not_accepted_when_closed v SeeTaken e = true≢false (sym (ap is_accept e))
+not_accepted_when_closed v SeeClosed e = true≢false (sym (ap is_accept e))
+not_accepted_when_closed v (Send x) e = by (3 == open_front v) refl e
   where
-    word : {n : ℕ} → 3 ≡ n → 3 ≡ n
-    word e = e
+    by : (b : Bool) → (3 == open_front v) ≡ b → (if b then Accept x else Look) ≡ Accept (message 2) → ⊥
+    by true same e = let front : 3 ≡ 2 * length v.sender.sent = eqb-true 3 (open_front v) same in omega (arith, front)
+    by false same e = true≢false (sym (ap is_accept e))
+not_accepted_when_closed v GiveBack e = true≢false (sym (ap is_accept e))
+not_accepted_when_closed v SeeFront e = true≢false (sym (ap is_accept e))
+not_accepted_when_closed v TakeFirst e = true≢false (sym (ap is_accept e))
+not_accepted_when_closed v Shut e = neither is_accept v.taker.closed Look Close (Accept (message 2)) refl refl refl e
+not_accepted_when_closed v Learn e = true≢false (sym (ap is_accept e))
 
 -- what is taken is counted
 not_taken_uncounted : Moves 1 (lane 2 false) Take (lane 2 false) → ⊥
-not_taken_uncounted h = let steps = h.1.1 in let word : 0 ≡ length h.0.taker.got + 1 = ap back steps.4 in omega (arith, word)
+not_taken_uncounted h = by h.1 h.2 h.3
   where
     back : List ℕ → ℕ
     back words = get_or words 24 0
+
+    by : (c : SeatStep) → MakesStep 1 (lane 2 false) h.0 c (lane 2 false) → event_of h.0 c (slice_index (lane 2 false).words (word_of c)) ≡ Take → ⊥
+    by SeeTaken m e = true≢false (sym (ap is_take e))
+    by SeeClosed m e = true≢false (sym (ap is_take e))
+    by (Send x) m e = neither is_take (2 == open_front h.0) (Accept x) Look Take refl refl refl e
+    by GiveBack m e = true≢false (sym (ap is_take e))
+    by SeeFront m e = true≢false (sym (ap is_take e))
+    by TakeFirst m e = let word : 0 ≡ length h.0.taker.got + 1 = ap back m.1.4 in omega (arith, word)
+    by Shut m e = neither is_take h.0.taker.closed Look Close Take refl refl refl e
+    by Learn m e = true≢false (sym (ap is_take e))
 
 no_step : (s : LaneState) → Runs 3 1 s [] s
 no_step s = refl

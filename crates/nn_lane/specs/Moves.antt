@@ -1,5 +1,5 @@
 -- The steps of a lane's seats, each as the event of the intake core that it is.
-use Rattle.std.specs.Prelude.{◌≡◌, ◌≢◌, ◌⊎◌, ◌==◌, ℕ, ◌+◌, ◌*◌, ◌<◌, ◌^◌, true, false, if◌then◌else◌, List, [], ◌∷◌, ◌++◌, length, slice_index, slice_set, bit_or}
+use Rattle.std.specs.Prelude.{◌≡◌, ◌≢◌, ◌==◌, ℕ, ◌+◌, ◌*◌, ◌<◌, ◌^◌, true, false, if◌then◌else◌, List, [], ◌∷◌, ◌++◌, length, slice_index, slice_set, bit_or}
 use mathlib.Core.Option.{some, none}
 use lib.ListN.{get_elem?}
 use prog.Atomic.{either}
@@ -36,56 +36,6 @@ IsTaker v = (v.sends ≡ false) × (v.takes ≡ true)
 abbrev pub open_front : View → ℕ
 open_front v = 2 * length v.sender.sent
 
--- the reporter, with its slot out, tries to send x
-abbrev pub Tries : ℕ → LaneState → View → Message → LaneState → Type 0
-Tries n s v x s' = IsSender v × (v.sender.out ≡ true) × Steps s v front_word (λ f. either (f == open_front v) (open_front v + 2) f) (accepted (step n front_word (open_front v) (open_front v + 2) (some x))) s'
-
-abbrev pub Stores : ℕ → LaneState → View → LaneState → Type 0
-Stores n s v s' = IsTaker v × Steps s v taken_word (λ _. length v.taker.got + 1) (λ m _. took (step n taken_word (length v.taker.got + 1) 0 none) m (length v.taker.got + 1)) s'
-
-abbrev pub Shuts : ℕ → LaneState → View → LaneState → Type 0
-Shuts n s v s' = IsTaker v × Steps s v front_word (λ f. bit_or f 1) (shut (step n front_word 1 0 none)) s'
-
--- the reporter looks at `taken`, and takes the next slot or gives back the one that is out
-abbrev pub SeesTaken : ℕ → LaneState → View → LaneState → Type 0
-SeesTaken n s v s' = IsSender v × Steps s v taken_word (λ t. t) (saw_taken (step n taken_word 0 0 none)) s'
-
--- the reporter looks at `front`
-abbrev pub SeesClosed : ℕ → LaneState → View → LaneState → Type 0
-SeesClosed n s v s' = IsSender v × Steps s v front_word (λ f. f) (saw_closed (step n front_word 0 0 none)) s'
-
-abbrev pub GivesBack : ℕ → LaneState → View → LaneState → Type 0
-GivesBack n s v s' = IsSender v × Steps s v taken_word (λ t. t) (gave_back (step n taken_word 0 0 none)) s'
-
--- the other end looks at `front`, and so does the seat of both once they met
-abbrev pub SeesFront : ℕ → LaneState → View → LaneState → Type 0
-SeesFront n s v s' = IsTaker v × Steps s v front_word (λ f. f) (saw_front (step n front_word 0 0 none)) s'
-
-abbrev pub Learns : ℕ → LaneState → View → LaneState → Type 0
-Learns n s v s' = Steps s v front_word (λ f. f) (learned (step n front_word 0 0 none)) s'
-
-abbrev pub Loads : ℕ → LaneState → View → LaneState → Type 0
-Loads n s v s' = SeesTaken n s v s' ⊎ GivesBack n s v s' ⊎ SeesClosed n s v s' ⊎ SeesFront n s v s' ⊎ Learns n s v s'
-
--- a try that finds the lane closed
-abbrev pub TriesInVain : ℕ → LaneState → View → LaneState → Type 0
-TriesInVain n s v s' = (x : Message) × Tries n s v x s' × (slice_index s.words front_word ≢ open_front v)
-
--- one step of a seat of a lane of n places: sending is the event where it finds the lane open, and a look where it does
--- not; closing is one, and a look when the lane was closed before
-abbrev pub Moves : ℕ → LaneState → IntakeEvent → LaneState → Type 0
-Moves n s (Accept x) s' = (v : View) × Tries n s v x s' × (slice_index s.words front_word ≡ open_front v)
-Moves n s Take s' = (v : View) × Stores n s v s'
-Moves n s Close s' = (v : View) × Shuts n s v s' × (v.taker.closed ≡ false)
-Moves n s Look s' = (v : View) × (Loads n s v s' ⊎ TriesInVain n s v s' ⊎ (Shuts n s v s' × (v.taker.closed ≡ true)))
-
--- one step after another, with the rule kept between them
-abbrev pub Runs : ℕ → ℕ → LaneState → List IntakeEvent → LaneState → Type 0
-Runs node n s [] s' = s' ≡ s
-Runs node n s (e ∷ es) s' = (m : LaneState) × Lane node m × (length m.homes ≡ n) × Moves n s e m × Runs node n m es s'
-
--- ---- The steps of the calls.
-
 -- which step of its seat a call makes: each is one atomic operation on a word of the table
 pub data SeatStep : Type 0 where
   SeeTaken : SeatStep  -- `prepare` loads `taken`, where it remembers no place
@@ -108,7 +58,7 @@ IsMadeBy v TakeFirst = IsTaker v
 IsMadeBy v Shut = IsTaker v
 IsMadeBy v Learn = Unit {0}
 
--- the word, what becomes of it, and what the step tells
+-- the word
 abbrev pub word_of : SeatStep → ℕ
 word_of SeeTaken = taken_word
 word_of SeeClosed = front_word
@@ -119,6 +69,7 @@ word_of TakeFirst = taken_word
 word_of Shut = front_word
 word_of Learn = front_word
 
+-- what becomes of the word
 abbrev pub becomes : View → SeatStep → ℕ → ℕ
 becomes v SeeTaken t = t
 becomes v SeeClosed f = f
@@ -129,6 +80,7 @@ becomes v TakeFirst t = length v.taker.got + 1
 becomes v Shut f = bit_or f 1
 becomes v Learn f = f
 
+-- what the step tells its seat, in a lane of n places
 abbrev pub tells : ℕ → View → SeatStep → Sat → ℕ → Sat → Type 0
 tells n v SeeTaken m t = saw_taken (step n taken_word 0 0 none) m t
 tells n v SeeClosed m f = saw_closed (step n front_word 0 0 none) m f
@@ -149,6 +101,19 @@ event_of v SeeFront f = Look
 event_of v TakeFirst t = Take
 event_of v Shut f = if v.taker.closed then Look else Close
 event_of v Learn f = Look
+
+-- a seat with the view v makes this step, in a lane of n places
+abbrev pub MakesStep : ℕ → LaneState → View → SeatStep → LaneState → Type 0
+MakesStep n s v c s' = IsMadeBy v c × Steps s v (word_of c) (becomes v c) (tells n v c) s'
+
+-- some seat of a lane of n places makes a step that is this event
+abbrev pub Moves : ℕ → LaneState → IntakeEvent → LaneState → Type 0
+Moves n s e s' = (v : View) × (c : SeatStep) × MakesStep n s v c s' × (event_of v c (slice_index s.words (word_of c)) ≡ e)
+
+-- one step after another, with the rule kept between them
+abbrev pub Runs : ℕ → ℕ → LaneState → List IntakeEvent → LaneState → Type 0
+Runs node n s [] s' = s' ≡ s
+Runs node n s (e ∷ es) s' = (m : LaneState) × Lane node m × (length m.homes ≡ n) × Moves n s e m × Runs node n m es s'
 
 -- Wherever a seat is allowed the step, which is what each of the atomic operations asks for, it is that event.
 abbrev pub EachStepIsAnEvent : Type 0

@@ -98,10 +98,8 @@ impl Cursor {
         ensures ends { result ≡ Ok TakenUp.End → S.ended source.new }
         ensures missing { result ≡ Ok TakenUp.Disorder → last + 1 < 2 ^ 63 }
     {
-        let segment = match source.next() {
-            Ok(Item::Segment(segment)) => segment,
-            Ok(Item::End) => return Ok(TakenUp::End),
-            Err(fault) => return Err(fault),
+        let Item::Segment(segment) = source.next()? else {
+            return Ok(TakenUp::End);
         };
         if first_txid(segment.txs()) > last + 1 {
             return Ok(TakenUp::Disorder);
@@ -127,12 +125,11 @@ impl Cursor {
             if let Some(tx) = self.take(last) {
                 return Ok(Next::Transaction(tx));
             }
-            match self.take_up(source, last) {
-                Ok(TakenUp::New) => {}
-                Ok(TakenUp::Old) => {}
-                Ok(TakenUp::Disorder) => return Ok(Next::Disorder),
-                Ok(TakenUp::End) => return Ok(Next::Over),
-                Err(fault) => return Err(fault),
+            match self.take_up(source, last)? {
+                TakenUp::New => {}
+                TakenUp::Old => {}
+                TakenUp::Disorder => return Ok(Next::Disorder),
+                TakenUp::End => return Ok(Next::Over),
             }
         }
     }

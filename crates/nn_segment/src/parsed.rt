@@ -46,10 +46,7 @@ impl Parsed {
     pub fn of(alloc: Global, name: String, bytes: Vec<u8>) -> Result<Parsed, SegmentFault>
         ensures { Gives result (read_segment (string_bytes name) bytes.items) }
     {
-        let txids = match before_lines(name.as_str(), &bytes) {
-            Ok(txids) => txids,
-            Err(fault) => return Err(fault),
-        };
+        let txids = before_lines(name.as_str(), &bytes)?;
         let read = read_lines(alloc, &bytes);
         after_lines(name, bytes, txids, read.txs, read.bad)
     }
@@ -60,10 +57,7 @@ impl Parsed {
         requires { reads_of bytes.items ≡ map Ok txs.items }
         ensures { result ≡ read_segment (string_bytes name) bytes.items }
     {
-        let txids = match before_lines(name.as_str(), &bytes) {
-            Ok(txids) => txids,
-            Err(fault) => return Err(fault),
-        };
+        let txids = before_lines(name.as_str(), &bytes)?;
         after_lines(name, bytes, txids, txs, None)
     }
 

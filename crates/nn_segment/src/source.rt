@@ -1,7 +1,8 @@
 //! Where segments come from.
-ghost use Rattle.std.specs.Prelude.{◌≡◌, ◌<◌, ◌≤◌, ◌++◌, ◌∷◌, [], ℕ, Result, Ok, false, IfOk, OnOk, OnErr};
+ghost use Rattle.std.specs.Prelude.{◌≡◌, ◌<◌, ◌≤◌, ◌++◌, ◌∷◌, [], ℕ, Result, Ok, false, IfOk, IfErr, OnOk, OnErr};
 ghost use Rattle.nn_segment.specs.Source.{is_end, Gathered, OnSourceFault};
 ghost use Rattle.nn_segment.specs.declared.fault.SourceFault.{SourceFault};
+ghost use Rattle.nn_segment.specs.declared.source.GatherFault.TheVariants.{OutOfMemory};
 ghost use Rattle.nn_segment.specs.declared.source.Item.{Item};
 
 use crate::fault::SourceFault;
@@ -114,16 +115,17 @@ pub fn gather<S: SegmentSource>(alloc: Global, source: &mut S) -> Result<Vec<Par
             Ok(Item::End) => return Ok(segments),
             Err(fault) => return Err(GatherFault::Source(fault)),
         };
-        if let Err(_) = push(&mut segments, segment) {
-            return Err(GatherFault::OutOfMemory);
-        }
+        push(&mut segments, segment)?;
     }
 }
 
-fn push(segments: &mut Vec<Parsed>, segment: Parsed) -> Result<(), AllocError>
+fn push(segments: &mut Vec<Parsed>, segment: Parsed) -> Result<(), GatherFault>
     ensures ok { OnOk result (segments.new.items ≡ segments.old.items ++ segment ∷ []) }
     ensures err { OnErr result (segments.new.items ≡ segments.old.items) }
+    ensures fault { IfErr result (λ e. e ≡ OutOfMemory) }
 {
-    segments.push(segment)?;
-    Ok(())
+    match segments.push(segment) {
+        Ok(()) => Ok(()),
+        Err(_) => Err(GatherFault::OutOfMemory),
+    }
 }

@@ -137,9 +137,9 @@ impl Lines {
         if self.torn.is_empty() {
             return self.reading.push_text(alloc, scratch, text, line);
         }
-        if let Err(_) = self.torn.extend_from_slice(text) {
-            return Err(no_memory(line));
-        }
+        self.torn
+            .extend_from_slice(text)
+            .map_err(|_| no_memory(line))?;
         let read = self.reading.push_text(alloc, scratch, &self.torn, line);
         self.torn.clear();
         read
@@ -155,9 +155,9 @@ impl Lines {
         ensures ended { self.new.ended ≡ self.old.ended }
     {
         let line = self.ended;
-        if let Err(_) = self.torn.extend_from_slice(text) {
-            return Err(no_memory(line));
-        }
+        self.torn
+            .extend_from_slice(text)
+            .map_err(|_| no_memory(line))?;
         Ok(())
     }
 }

@@ -111,14 +111,9 @@ impl Reading {
         if is_blank(text) {
             return Ok(());
         }
-        let read = match read_line(alloc, scratch, text) {
-            Ok(read) => read,
-            Err(fault) => return Err(BadLine { fault, line }),
-        };
-        if let Err(_) = self.push_line(alloc, text, read) {
-            return Err(no_memory(line));
-        }
-        Ok(())
+        let read = read_line(alloc, scratch, text).map_err(|fault| BadLine { fault, line })?;
+        self.push_line(alloc, text, read)
+            .map_err(|_| no_memory(line))
     }
 
     fn push_line(&mut self, alloc: Global, text: &[u8], read: Line) -> Result<(), AllocError>
@@ -162,9 +157,7 @@ impl Reading {
             in_hand,
             steps,
         } = self;
-        if in_hand.end(&mut parts).is_err() {
-            return Err(no_memory(line));
-        }
+        in_hand.end(&mut parts).map_err(|_| no_memory(line))?;
         let datanodes = steps.datanodes();
         Ok(Scenario {
             parts,

@@ -52,9 +52,7 @@ impl StepList {
         ensures ok { OnOk result (self.new ≡ self.old ++ Step.Edit ∷ []) }
         ensures left { OnErr result (self.new ≡ self.old) }
     {
-        if let Err(_) = self.kinds.push(false) {
-            return Err(AllocError);
-        }
+        self.kinds.push(false)?;
         Ok(())
     }
 
@@ -63,9 +61,7 @@ impl StepList {
         ensures ok { OnOk result (self.new ≡ self.old ++ Step.Message message ∷ []) }
         ensures left { OnErr result (self.new ≡ self.old) }
     {
-        if let Err(_) = self.messages.push(message) {
-            return Err(AllocError);
-        }
+        self.messages.push(message)?;
         if let Err(_) = self.kinds.push(true) {
             self.messages.pop();
             return Err(AllocError);

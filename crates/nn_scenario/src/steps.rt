@@ -57,9 +57,7 @@ impl Steps {
         ensures ok { OnOk result (self.new ≡ self.old ++ Step.Edit ∷ []) }
         ensures left { OnErr result (self.new ≡ self.old) }
     {
-        if let Err(_) = self.items.push_edit() {
-            return Err(AllocError);
-        }
+        self.items.push_edit()?;
         Ok(())
     }
 
@@ -74,9 +72,7 @@ impl Steps {
         let dn = report.dn;
         let number = self.sent[usize::from(dn)] + 1;
         let next = message(report, number);
-        if let Err(_) = self.items.push_message(next) {
-            return Err(AllocError);
-        }
+        self.items.push_message(next)?;
         self.sent[usize::from(dn)] = number;
         let datanodes = self.datanodes;
         self.datanodes = datanodes.max(dn);

@@ -1,4 +1,5 @@
-use Rattle.std.proofs.Common.{◌≡◌, [], ◌∙◌, ◌++◌, eqb, sym, ap}
+use Rattle.std.proofs.Common.{◌≡◌, [], ◌∙◌, ◌++◌, true, eqb, sym, ap}
+use Rattle.std.specs.Result.{is_ok}
 use Rattle.nn_segment.proofs.LineLemmas.{no_bytes}
 use Rattle.nn_scenario.proofs.ChunkLemmas.{line_taken, line_not_taken}
 use Rattle.nn_scenario.proofs.lines.Lines.end_line.Goals as goal
@@ -17,12 +18,14 @@ returns-then-is_empty-clause-bad c =
 
 pub returns-clause-ok : goal.returns-clause-ok
 returns-clause-ok c =
-    let joined : c.deref.result.now ≡ c.self.inside.torn.items ++ c.args.text.now = c.deref.ensures.value ∙ c.in_default.ensures.items in
+    let ok : is_ok c.extend_from_slice.result ≡ true = sym c.map_err.ensures.variant ∙ ap is_ok c.in_ok-map_err.was in
+    let joined : c.deref.result.now ≡ c.self.inside.torn.items ++ c.args.text.now = c.deref.ensures.value ∙ (rw ok at c.extend_from_slice.ensures.items) in
     line_taken c.args.self.now c.self.inside.reading c.push_text-read.new.self c.self.inside.ended c.self.inside.torn.items c.clear.new.self.items c.deref.result.now c.args.text.now
     c.self.inside.bad c.push_text-read.result c.self.view_is c.self.invariant c.requires.unbroken joined c.clear.ensures.items c.requires.good c.push_text-read.ensures.ok
 
 pub returns-clause-bad : goal.returns-clause-bad
 returns-clause-bad c =
-    let joined : c.deref.result.now ≡ c.self.inside.torn.items ++ c.args.text.now = c.deref.ensures.value ∙ c.in_default.ensures.items in
+    let ok : is_ok c.extend_from_slice.result ≡ true = sym c.map_err.ensures.variant ∙ ap is_ok c.in_ok-map_err.was in
+    let joined : c.deref.result.now ≡ c.self.inside.torn.items ++ c.args.text.now = c.deref.ensures.value ∙ (rw ok at c.extend_from_slice.ensures.items) in
     line_not_taken c.args.self.now c.self.inside.reading c.self.inside.ended c.self.inside.torn.items c.deref.result.now c.args.text.now
     c.self.inside.bad c.push_text-read.result c.self.view_is c.self.invariant c.requires.unbroken joined c.push_text-read.ensures.bad

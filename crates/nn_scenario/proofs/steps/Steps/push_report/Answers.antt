@@ -21,6 +21,6 @@ invariant_of-self-2 c =
     c.from.ensures c.index.ensures c.max-self-inside.ensures in
     let next = next_counted s.items s.sent.items s.datanodes r c.from.result x c.requires c.self.invariant c.from.ensures c.index.ensures in
     let pushed : c.push_message.new.self ≡ with_report s.items r =
-    c.in_default.ensures.ok ∙ ap (λ m. s.items ++ step.Message m ∷ []) (c.message-next.ensures ∙ next) in
+    c.in_ok-push_message.ensures.ok ∙ ap (λ m. s.items ++ step.Message m ∷ []) (c.message-next.ensures ∙ next) in
     subst (λ k. IsCounted c.push_message.new.self (set s.sent.items k (x + 1)) c.max-self-inside.result) first
     (subst (λ steps. IsCounted steps (set s.sent.items c.from.result (x + 1)) c.max-self-inside.result) (sym pushed) counted)

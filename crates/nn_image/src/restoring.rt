@@ -37,10 +37,7 @@ pub fn load<R: Read>(alloc: Global, reader: &mut Reader<R>) -> Result<(Namespace
     ensures noted { IfErr result (λ e. Noted e reader.old.failed reader.new.failed) }
 {
     let mut window = Window::new(alloc)?;
-    let header = match load_header(alloc, reader, &mut window) {
-        Ok(header) => header,
-        Err(fault) => return Err(fault),
-    };
+    let header = load_header(alloc, reader, &mut window)?;
     let txid = header.txid;
     let Ok(namespace) = Namespace::bare(
         alloc,
@@ -51,13 +48,9 @@ pub fn load<R: Read>(alloc: Global, reader: &mut Reader<R>) -> Result<(Namespace
     ) else {
         return Err(ImageFault::OutOfMemory);
     };
-    match load_rows(alloc, reader, &mut window, namespace) {
-        Ok(namespace) => {
-            namespace.well_formed();
-            Ok((namespace, txid))
-        }
-        Err(fault) => Err(fault),
-    }
+    let namespace = load_rows(alloc, reader, &mut window, namespace)?;
+    namespace.well_formed();
+    Ok((namespace, txid))
 }
 
 // The object of the next line, if it is one.
@@ -95,15 +88,10 @@ fn load_header<R: Read>(
     ensures unfailed { OnOk result (reader.new.failed ≡ reader.old.failed) }
     ensures noted { IfErr result (λ e. Noted e reader.old.failed reader.new.failed) }
 {
-    let object = match next_object(alloc, reader, window) {
-        Ok(Some(object)) => object,
-        Ok(None) => return Err(ImageFault::NotHeader),
-        Err(fault) => return Err(fault),
+    let Some(object) = next_object(alloc, reader, window)? else {
+        return Err(ImageFault::NotHeader);
     };
-    let header = match header_in(alloc, &object.value) {
-        Ok(header) => header,
-        Err(fault) => return Err(fault),
-    };
+    let header = header_in(alloc, &object.value)?;
     Ok(header)
 }
 
@@ -127,20 +115,12 @@ fn load_rows<R: Read>(
     let mut namespace = namespace;
     let mut before = root(alloc)?;
     for number in 2..u64::MAX {
-        let object = match next_value(alloc, reader, window, number) {
-            Ok(object) => object,
-            Err(fault) => return Err(fault),
-        };
+        let object = next_value(alloc, reader, window, number)?;
         if let Some(count) = object.value.get("end") {
-            match load_end(alloc, reader, window, number, count) {
-                Ok(()) => return Ok(namespace),
-                Err(fault) => return Err(fault),
-            }
+            load_end(alloc, reader, window, number, count)?;
+            return Ok(namespace);
         }
-        match add_row(alloc, &mut namespace, &mut before, &object.value, number) {
-            Ok(()) => {}
-            Err(fault) => return Err(fault),
-        }
+        add_row(alloc, &mut namespace, &mut before, &object.value, number)?;
     }
     // Each line took a byte at least, and bytes are counted.
     reader.given();
@@ -163,10 +143,9 @@ fn next_value<R: Read>(
     ensures unfailed { OnOk result (reader.new.failed ≡ reader.old.failed) }
     ensures noted { IfErr result (λ e. Noted e reader.old.failed reader.new.failed) }
 {
-    match next_object(alloc, reader, window) {
-        Ok(Some(object)) => Ok(object),
-        Ok(None) => Err(ImageFault::BadLine(number)),
-        Err(fault) => Err(fault),
+    match next_object(alloc, reader, window)? {
+        Some(object) => Ok(object),
+        None => Err(ImageFault::BadLine(number)),
     }
 }
 

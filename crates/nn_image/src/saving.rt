@@ -7,7 +7,7 @@ ghost use Rattle.nn_device.specs.Device.{Took};
 ghost use Rattle.nn_tree.specs.Found.{form_of};
 ghost use Rattle.nn_tree.specs.Listing.{lent_names};
 ghost use Rattle.nn_image.specs.Text.{line_of, block_data, block_items, number_items, header_data, head_data, row_data, row_lines, end_data, image_text, name_text};
-ghost use Rattle.nn_image.specs.Saving.{WroteFront, Stopped, stop_of};
+ghost use Rattle.nn_image.specs.Saving.{WroteFront, Stopped};
 
 use crate::fault::SaveFault;
 use nn_device::Writer;
@@ -54,6 +54,20 @@ enum Stop {
     OutOfMemory,
 }
 
+impl From<ListFault<Stop>> for Stop {
+    ghost use Rattle.std.specs.Prelude.{◌≡◌};
+    ghost use Rattle.nn_image.specs.Saving.{stop_of};
+
+    ghost from_gives = { λ fault stop. stop ≡ stop_of fault };
+
+    fn from(fault: ListFault<Stop>) -> Stop {
+        match fault {
+            ListFault::Sink(stop) => stop,
+            ListFault::OutOfMemory => Stop::OutOfMemory,
+        }
+    }
+}
+
 fn put_image<W: Write>(
     alloc: Global,
     namespace: &Namespace,
@@ -63,17 +77,10 @@ fn put_image<W: Write>(
     ensures ok { OnOk result (Took writer.old writer.new (image_text namespace.now txid)) }
     ensures front { IfErr result (Stopped writer.old writer.new (image_text namespace.now txid)) }
 {
-    if let Err(stop) = put_head(alloc, namespace, txid, writer) {
-        return Err(stop);
-    }
-    let count = match put_rows(alloc, namespace, writer) {
-        Ok(count) => count,
-        Err(stop) => return Err(stop),
-    };
-    match put_end(alloc, count, writer) {
-        Ok(()) => Ok(()),
-        Err(stop) => Err(stop),
-    }
+    put_head(alloc, namespace, txid, writer)?;
+    let count = put_rows(alloc, namespace, writer)?;
+    put_end(alloc, count, writer)?;
+    Ok(())
 }
 
 fn put_head<W: Write>(
@@ -107,21 +114,10 @@ fn put_rows<W: Write>(
         count: 0,
         alloc,
     };
-    if let Err(fault) = namespace.list_to(&mut lines) {
-        return Err(stop_of(fault));
-    }
+    namespace.list_to(&mut lines)?;
     // There are no more lines than bytes, and these were counted.
     lines.writer.taken();
     Ok(lines.count)
-}
-
-fn stop_of(fault: ListFault<Stop>) -> Stop
-    ensures { result ≡ stop_of fault }
-{
-    match fault {
-        ListFault::Sink(stop) => stop,
-        ListFault::OutOfMemory => Stop::OutOfMemory,
-    }
 }
 
 fn put_end<W: Write>(alloc: Global, count: u64, writer: &mut Writer<W>) -> Result<(), Stop>
@@ -162,9 +158,7 @@ impl<'w, W: Write> RowSink for RowWriter<'w, W> {
         let Ok(value) = row_value(self.alloc, names, found) else {
             return Err(Stop::OutOfMemory);
         };
-        if let Err(stop) = put_line(self.alloc, &value, self.writer) {
-            return Err(stop);
-        }
+        put_line(self.alloc, &value, self.writer)?;
         self.count = self.count.saturating_add(1);
         Ok(())
     }

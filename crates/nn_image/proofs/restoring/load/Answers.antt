@@ -1,4 +1,4 @@
-use Rattle.std.proofs.Common.{ℕ, List, ap, ◌∙◌}
+use Rattle.std.proofs.Common.{ℕ, List, ap, ◌∙◌, ◌≡◌, Err, arith}
 use Rattle.nn_tree.specs.Restore.{bare}
 use Rattle.nn_image.specs.Header.{header_value}
 use Rattle.nn_image.specs.Lines.{ahead}
@@ -6,24 +6,29 @@ use Rattle.nn_image.proofs.Loading.{header_stops, rows_stop, loaded}
 use Rattle.nn_image.proofs.PathsRead.{read_again}
 use Rattle.nn_image.proofs.restoring.load.Goals as goal
 
-pub returns-in-Err-clause-fault : goal.returns-in-Err-clause-fault
-returns-in-Err-clause-fault g c = header_stops c.in_ok-window.window c.args.reader.now.left c.in_ok-window.ensures c.in-Err.fault c.in-Err.ensures.fault
+pub returns-in_err-header-clause-fault : goal.returns-in_err-header-clause-fault
+returns-in_err-header-clause-fault g c =
+    let fault = c.in_err-header.field-0.0 in
+    let is : c.from_residual-in_err-header.result ≡ Err fault = grind arith in
+    rw is (header_stops c.in_ok-window.window c.args.reader.now.left c.in_ok-window.ensures fault c.in_err-header.ensures.fault)
 
-pub returns-in-Ok-load_rows-clause-ok : goal.returns-in-Ok-load_rows-clause-ok
-returns-in-Ok-load_rows-clause-ok g c =
+pub returns-clause-ok : goal.returns-clause-ok
+returns-clause-ok g c =
     loaded c.in_ok-window.window c.args.reader.now.left c.in_ok-window.ensures
-    (ahead c.load_header.new.window c.load_header.new.reader.left) c.in-Ok.header.txid (header_value c.in-Ok.header).0
-    c.in-Ok-bare.namespace (c.in-Ok-bare.ensures ∙ ap (λ (ids : List ℕ). bare (record { last_block = c.in-Ok.header.last_block; last_stamp = c.in-Ok.header.last_stamp; awaiting = ids; profile = c.in-Ok.header.profile })) c.deref.ensures.value) c.in-Ok.ensures.ok
-    c.load_rows.new.window c.load_rows.new.reader.left c.in-Ok-load_rows.namespace c.in-Ok-load_rows.ensures.ok
+    (ahead c.load_header.new.window c.load_header.new.reader.left) c.in_ok-header.header.txid (header_value c.in_ok-header.header).0
+    c.in-Ok.namespace (c.in-Ok.ensures ∙ ap (λ (ids : List ℕ). bare (record { last_block = c.in_ok-header.header.last_block; last_stamp = c.in_ok-header.header.last_stamp; awaiting = ids; profile = c.in_ok-header.header.profile })) c.deref.ensures.value) c.in_ok-header.ensures.ok
+    c.load_rows.new.window c.load_rows.new.reader.left c.in_ok-namespace.namespace c.in_ok-namespace.ensures.ok
 
-pub returns-clause-fault : goal.returns-clause-fault
-returns-clause-fault g c =
-    rows_stop c.in_ok-window.window c.args.reader.now.left c.in_ok-window.ensures
-    (ahead c.load_header.new.window c.load_header.new.reader.left) c.in-Ok.header.txid (header_value c.in-Ok.header).0
-    c.in-Ok-bare.namespace (c.in-Ok-bare.ensures ∙ ap (λ (ids : List ℕ). bare (record { last_block = c.in-Ok.header.last_block; last_stamp = c.in-Ok.header.last_stamp; awaiting = ids; profile = c.in-Ok.header.profile })) c.deref.ensures.value) c.in-Ok.ensures.ok c.in-Err-load_rows.fault c.in-Err-load_rows.ensures.fault
+pub returns-in_err-namespace-clause-fault : goal.returns-in_err-namespace-clause-fault
+returns-in_err-namespace-clause-fault g c =
+    let fault = c.in_err-namespace.field-0.0 in
+    let is : c.from_residual-in_err-namespace.result ≡ Err fault = grind arith in
+    rw is (rows_stop c.in_ok-window.window c.args.reader.now.left c.in_ok-window.ensures
+    (ahead c.load_header.new.window c.load_header.new.reader.left) c.in_ok-header.header.txid (header_value c.in_ok-header.header).0
+    c.in-Ok.namespace (c.in-Ok.ensures ∙ ap (λ (ids : List ℕ). bare (record { last_block = c.in_ok-header.header.last_block; last_stamp = c.in_ok-header.header.last_stamp; awaiting = ids; profile = c.in_ok-header.header.profile })) c.deref.ensures.value) c.in_ok-header.ensures.ok fault c.in_err-namespace.ensures.fault)
 
-pub returns-in-Ok-load_rows-clause-again : goal.returns-in-Ok-load_rows-clause-again
-returns-in-Ok-load_rows-clause-again g c =
-    read_again c.in-Ok-load_rows.namespace c.in-Ok-bare.namespace (header_value c.in-Ok.header).0.issued c.in-Ok.header.txid
-    (c.in-Ok-bare.ensures ∙ ap (λ (ids : List ℕ). bare (record { last_block = c.in-Ok.header.last_block; last_stamp = c.in-Ok.header.last_stamp; awaiting = ids; profile = c.in-Ok.header.profile })) c.deref.ensures.value)
-    c.in-Ok-load_rows.ensures.paths c.in-Ok-load_rows.ensures.counted c.well_formed-in-Ok-load_rows.ensures c.in-Ok.ensures.limit
+pub returns-clause-again : goal.returns-clause-again
+returns-clause-again g c =
+    read_again c.in_ok-namespace.namespace c.in-Ok.namespace (header_value c.in_ok-header.header).0.issued c.in_ok-header.header.txid
+    (c.in-Ok.ensures ∙ ap (λ (ids : List ℕ). bare (record { last_block = c.in_ok-header.header.last_block; last_stamp = c.in_ok-header.header.last_stamp; awaiting = ids; profile = c.in_ok-header.header.profile })) c.deref.ensures.value)
+    c.in_ok-namespace.ensures.paths c.in_ok-namespace.ensures.counted c.well_formed-2.ensures c.in_ok-header.ensures.limit

@@ -70,10 +70,7 @@ fn take_messages<T: SegmentSource>(
     ensures until { IfErr result (λ fault. WentUntil T.gives T.failures source.old standby.old source.new fault) }
 {
     for taken in 0..most {
-        let has_come = match take_step(standby, source, Choice::Lane(dn)) {
-            Ok(has_come) => has_come,
-            Err(fault) => return Err(fault),
-        };
+        let has_come = take_step(standby, source, Choice::Lane(dn))?;
         if !has_come {
             return Ok(taken);
         }
@@ -100,10 +97,7 @@ fn take_edits<'a, R: Wait>(
         if !is_at_hand(standby, end) {
             return Ok(taken);
         }
-        let has_come = match take_step(standby, end, Choice::Edit) {
-            Ok(has_come) => has_come,
-            Err(fault) => return Err(fault),
-        };
+        let has_come = take_step(standby, end, Choice::Edit)?;
         if !has_come {
             return Ok(taken);
         }
@@ -125,13 +119,8 @@ fn take_lanes<'a, R: Wait>(
     let mut came = 0usize;
     for i in 0..lanes {
         let most = standby.ends()[i].capacity();
-        let taken = match take_messages(standby, end, (i + 1) as u16, most) {
-            Ok(taken) => taken,
-            Err(fault) => return Err(fault),
-        };
-        if let Err(fault) = take_edits(standby, end, taken) {
-            return Err(fault);
-        }
+        let taken = take_messages(standby, end, (i + 1) as u16, most)?;
+        take_edits(standby, end, taken)?;
         came = came.saturating_add(taken);
     }
     Ok(came)
@@ -147,14 +136,8 @@ fn take_round<'a, R: Wait>(
     ensures until { IfErr result (λ fault. WentUntil GivesWhatIsFed failures_of end.old standby.old end.new fault) }
 {
     let lanes = standby.lanes();
-    let edits = match take_edits(standby, end, lanes) {
-        Ok(edits) => edits,
-        Err(fault) => return Err(fault),
-    };
-    let messages = match take_lanes(standby, end) {
-        Ok(messages) => messages,
-        Err(fault) => return Err(fault),
-    };
+    let edits = take_edits(standby, end, lanes)?;
+    let messages = take_lanes(standby, end)?;
     Ok(edits.max(messages) > 0)
 }
 
@@ -191,10 +174,7 @@ pub(crate) fn rotate<'a, O: Operator, R: Wait>(
             Wish::Promote => return Ok(()),
             Wish::GoOn => {}
         }
-        let has_come = match take_round(standby, end) {
-            Ok(has_come) => has_come,
-            Err(fault) => return Err(fault),
-        };
+        let has_come = take_round(standby, end)?;
         waiting.wait_unless(rt, has_come);
     }
     unreachable!()

@@ -1,4 +1,4 @@
-use Rattle.std.proofs.Common.{◌∙◌, [], refl}
+use Rattle.std.proofs.Common.{◌∙◌, [], refl, ◌≡◌, Err, arith}
 use Rattle.nn_feed.specs.Ends.{GivesWhatIsFed}
 use Rattle.nn_drive.specs.Feeding.{failures_of}
 use Rattle.nn_drive.proofs.Steps.{went_nowhere, went_on, went_until}
@@ -18,13 +18,15 @@ returns-in-Promote-clause-wished g c =
 pub take_round-requires : goal.take_round-requires
 take_round-requires g c = c.loop.invariant.0.2.begun ∙ c.requires
 
-pub returns-in-Err-clause-went : goal.returns-in-Err-clause-went
-returns-in-Err-clause-went g c =
+pub returns-in_err-has_come-clause-went : goal.returns-in_err-has_come-clause-went
+returns-in_err-has_come-clause-went g c =
     went_on GivesWhatIsFed failures_of c.args.end.now c.loop.end c.take_round.new.end c.args.standby.now c.loop.standby c.take_round.new.standby c.loop.invariant.0 c.take_round.ensures.went
 
-pub returns-in-Err-clause-until : goal.returns-in-Err-clause-until
-returns-in-Err-clause-until g c =
-    went_until GivesWhatIsFed failures_of c.args.end.now c.loop.end c.take_round.new.end c.args.standby.now c.loop.standby c.in-Err.fault c.requires c.loop.invariant.0 c.in-Err.ensures.until
+pub returns-in_err-has_come-clause-until : goal.returns-in_err-has_come-clause-until
+returns-in_err-has_come-clause-until g c =
+    let fault = c.in_err-has_come.field-0.0 in
+    let is : c.from_residual.result ≡ Err fault = grind arith in
+    rw is (went_until GivesWhatIsFed failures_of c.args.end.now c.loop.end c.take_round.new.end c.args.standby.now c.loop.standby fault c.requires c.loop.invariant.0 c.in_err-has_come.ensures.until)
 
 pub loop-preserved : goal.loop-preserved
 loop-preserved g c = (

@@ -1,4 +1,4 @@
-use Rattle.std.proofs.Common.{◌<◌, List, length, arith, subst, sym, ◌∙◌}
+use Rattle.std.proofs.Common.{◌<◌, List, length, arith, subst, sym, ◌∙◌, ◌≡◌, Err}
 use Rattle.nn_lane.specs.Ends.{Taking}
 use Rattle.nn_tailer.proofs.Drained.{same_length}
 use Rattle.nn_feed.specs.Ends.{GivesWhatIsFed}
@@ -23,24 +23,28 @@ take_messages-requires-clause-place g c = has_lane c.args.standby.now c.loop-i.s
 pub take_edits-requires : goal.take_edits-requires
 take_edits-requires g c = c.take_messages.ensures.went.2.begun ∙ c.loop-i.invariant.2.begun ∙ c.requires
 
-pub returns-in-Err-clause-went : goal.returns-in-Err-clause-went
-returns-in-Err-clause-went g c = went_on GivesWhatIsFed failures_of c.args.end.now c.loop-i.end c.take_messages.new.source c.args.standby.now c.loop-i.standby c.take_messages.new.standby c.loop-i.invariant c.take_messages.ensures.went
+pub returns-in_err-taken-clause-went : goal.returns-in_err-taken-clause-went
+returns-in_err-taken-clause-went g c = went_on GivesWhatIsFed failures_of c.args.end.now c.loop-i.end c.take_messages.new.source c.args.standby.now c.loop-i.standby c.take_messages.new.standby c.loop-i.invariant c.take_messages.ensures.went
 
-pub returns-in-Err-clause-until : goal.returns-in-Err-clause-until
-returns-in-Err-clause-until g c =
-    went_until GivesWhatIsFed failures_of c.args.end.now c.loop-i.end c.take_messages.new.source c.args.standby.now c.loop-i.standby c.in-Err.fault c.requires c.loop-i.invariant c.in-Err.ensures.until
+pub returns-in_err-taken-clause-until : goal.returns-in_err-taken-clause-until
+returns-in_err-taken-clause-until g c =
+    let fault = c.in_err-taken.field-0.0 in
+    let is : c.from_residual.result ≡ Err fault = grind arith in
+    rw is (went_until GivesWhatIsFed failures_of c.args.end.now c.loop-i.end c.take_messages.new.source c.args.standby.now c.loop-i.standby fault c.requires c.loop-i.invariant c.in_err-taken.ensures.until)
 
-pub returns-in-Err-take_edits-clause-went : goal.returns-in-Err-take_edits-clause-went
-returns-in-Err-take_edits-clause-went g c =
+pub returns-in_err-take_edits-clause-went : goal.returns-in_err-take_edits-clause-went
+returns-in_err-take_edits-clause-went g c =
     went_on GivesWhatIsFed failures_of c.args.end.now c.take_messages.new.source c.take_edits.new.end c.args.standby.now c.take_messages.new.standby c.take_edits.new.standby
     (went_on GivesWhatIsFed failures_of c.args.end.now c.loop-i.end c.take_messages.new.source c.args.standby.now c.loop-i.standby c.take_messages.new.standby c.loop-i.invariant c.take_messages.ensures.went)
     c.take_edits.ensures.went
 
-pub returns-in-Err-take_edits-clause-until : goal.returns-in-Err-take_edits-clause-until
-returns-in-Err-take_edits-clause-until g c =
-    went_until GivesWhatIsFed failures_of c.args.end.now c.take_messages.new.source c.take_edits.new.end c.args.standby.now c.take_messages.new.standby c.in-Err-take_edits.fault c.requires
+pub returns-in_err-take_edits-clause-until : goal.returns-in_err-take_edits-clause-until
+returns-in_err-take_edits-clause-until g c =
+    let fault = c.in_err-take_edits.field-0.0 in
+    let is : c.from_residual-in_err-take_edits.result ≡ Err fault = grind arith in
+    rw is (went_until GivesWhatIsFed failures_of c.args.end.now c.take_messages.new.source c.take_edits.new.end c.args.standby.now c.take_messages.new.standby fault c.requires
     (went_on GivesWhatIsFed failures_of c.args.end.now c.loop-i.end c.take_messages.new.source c.args.standby.now c.loop-i.standby c.take_messages.new.standby c.loop-i.invariant c.take_messages.ensures.went)
-    c.in-Err-take_edits.ensures.until
+    c.in_err-take_edits.ensures.until)
 
 pub loop-i-preserved : goal.loop-i-preserved
 loop-i-preserved g c =

@@ -1,4 +1,4 @@
-use Rattle.std.proofs.Common.{◌∙◌}
+use Rattle.std.proofs.Common.{◌∙◌, ◌≡◌, Err, arith}
 use Rattle.nn_drive.proofs.Steps.{went_nowhere, went_on, went_until, still_place}
 use Rattle.nn_drive.proofs.rotation.take_messages.Goals as goal
 
@@ -11,13 +11,15 @@ take_step-requires-clause-serving g c = c.loop-taken.invariant.2.begun ∙ c.req
 pub take_step-requires-clause-place : goal.take_step-requires-clause-place
 take_step-requires-clause-place g c = still_place c.args.standby.now c.loop-taken.standby c.args.dn c.requires.place c.loop-taken.invariant.2.same_ends
 
-pub returns-in-Err-clause-went : goal.returns-in-Err-clause-went
-returns-in-Err-clause-went g c =
+pub returns-in_err-has_come-clause-went : goal.returns-in_err-has_come-clause-went
+returns-in_err-has_come-clause-went g c =
     went_on g.T.SegmentSource.gives g.T.SegmentSource.failures c.args.source.now c.loop-taken.source c.take_step.new.source c.args.standby.now c.loop-taken.standby c.take_step.new.standby c.loop-taken.invariant c.take_step.ensures.went
 
-pub returns-in-Err-clause-until : goal.returns-in-Err-clause-until
-returns-in-Err-clause-until g c =
-    went_until g.T.SegmentSource.gives g.T.SegmentSource.failures c.args.source.now c.loop-taken.source c.take_step.new.source c.args.standby.now c.loop-taken.standby c.in-Err.fault c.requires.serving c.loop-taken.invariant c.in-Err.ensures.until
+pub returns-in_err-has_come-clause-until : goal.returns-in_err-has_come-clause-until
+returns-in_err-has_come-clause-until g c =
+    let fault = c.in_err-has_come.field-0.0 in
+    let is : c.from_residual.result ≡ Err fault = grind arith in
+    rw is (went_until g.T.SegmentSource.gives g.T.SegmentSource.failures c.args.source.now c.loop-taken.source c.take_step.new.source c.args.standby.now c.loop-taken.standby fault c.requires.serving c.loop-taken.invariant c.in_err-has_come.ensures.until)
 
 pub returns-then-not-has_come-clause-went : goal.returns-then-not-has_come-clause-went
 returns-then-not-has_come-clause-went g c =

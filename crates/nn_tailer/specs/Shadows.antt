@@ -42,8 +42,3 @@ pub record IsFlushed (old new : Contents) : Type 0 where
   pub settings : KeepsSettings old new
   pub stands : (start : Namespace) (base : ℕ) (txs : List Tx) (lanes : Lanes) → StandsBy start base txs lanes (standby_of old)
       → Stands start base txs lanes (standby_of new) × IsWhole start txs (items lanes) new.history × ShowsPicture new.namespace (items lanes) (tables_of (standby_of new))
-
--- an earlier flush ran out of memory: it is asked for now
-pub record IsNotFlushed (old new : Contents) : Type 0 where
-  pub same : ShowsSame old new
-  pub phase : new.phase ≡ record old.phase { active = true }

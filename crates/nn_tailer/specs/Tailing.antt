@@ -1,10 +1,10 @@
 -- What a standby with lanes shows, and when it stands at a log and its lanes.
-use Rattle.std.specs.Prelude.{◌≡◌, ℕ, zero, suc, ◌+◌, ◌-◌, ◌≤◌, Bool, true, false, List, [], ◌∷◌, ◌++◌, length, map, take, Option, Some, None, Result, Err, slice_index_or, slice_set}
+use Rattle.std.specs.Prelude.{◌≡◌, ℕ, zero, suc, ◌+◌, ◌-◌, ◌≤◌, Bool, true, false, List, [], ◌∷◌, ◌++◌, length, take, Option, Some, None, Result, Err, slice_index_or, slice_set}
 use Rattle.nn_types.specs.declared.report.Message.{Message}
 use Rattle.nn_types.specs.declared.tx.Tx.{Tx}
 use Rattle.nn_model.specs.Namespace.{Namespace}
 use Rattle.nn_model.specs.Lanes.{Lanes}
-use Rattle.nn_lane.specs.Ends.{Taking, LaneId, lane_of, node_of, counted}
+use Rattle.nn_lane.specs.Ends.{Taking, node_of, counted}
 use Rattle.nn_model.specs.Log.{CountsUp}
 use Rattle.nn_model.specs.History.{IsBeforeFlush}
 use Rattle.nn_model.specs.Stands.{Stands}
@@ -45,7 +45,7 @@ by_node ts (suc k) = slice_index_or ts k []
 abbrev pub lanes_of : Tailer → Lanes
 lanes_of x = by_node (handed_all x.ends x.undelivered)
 
--- a undelivered message is the last that was taken of its lane
+-- an undelivered message is the last that was taken of its lane
 abbrev pub IsUndelivered : ℕ → Taking → Option Message → Type 0
 IsUndelivered dn e None = Unit {0}
 IsUndelivered dn e (Some m) = (before : List Message) × (e.got ≡ before ++ m ∷ []) × (m.number ≡ length e.got) × (m.dn ≡ dn) × (length e.got ≤ counted e)
@@ -111,26 +111,22 @@ LogStops old answers s = (start : Namespace) (base : ℕ) (given : List Answer) 
 -- ---- changed standbys
 
 abbrev pub with_lane : Tailer → ℕ → Taking → Option Message → Tailer
-with_lane x i e k = record { shadow = x.shadow; ends = slice_set x.ends i e; undelivered = slice_set x.undelivered i k; rest = x.rest; stop = x.stop; active = x.active }
+with_lane x i e k = record x { ends = slice_set x.ends i e; undelivered = slice_set x.undelivered i k }
 
 abbrev pub with_ends : Tailer → List Taking → Tailer
-with_ends x es = record { shadow = x.shadow; ends = es; undelivered = x.undelivered; rest = x.rest; stop = x.stop; active = x.active }
+with_ends x es = record x { ends = es }
 
 abbrev pub with_undelivered : Tailer → ℕ → Option Message → Tailer
-with_undelivered x i k = record { shadow = x.shadow; ends = x.ends; undelivered = slice_set x.undelivered i k; rest = x.rest; stop = x.stop; active = x.active }
+with_undelivered x i k = record x { undelivered = slice_set x.undelivered i k }
 
 abbrev pub with_shadow : Tailer → Contents → Tailer
-with_shadow x s = record { shadow = s; ends = x.ends; undelivered = x.undelivered; rest = x.rest; stop = x.stop; active = x.active }
+with_shadow x s = record x { shadow = s }
 
 abbrev pub with_rest : Tailer → List Tx → Tailer
-with_rest x rest = record { shadow = x.shadow; ends = x.ends; undelivered = x.undelivered; rest = rest; stop = x.stop; active = x.active }
+with_rest x rest = record x { rest = rest }
 
 abbrev pub stopping : Tailer → Stop → Tailer
-stopping x s = record { shadow = x.shadow; ends = x.ends; undelivered = x.undelivered; rest = x.rest; stop = Some s; active = x.active }
-
--- the lanes are the same ones, and as closed as before
-abbrev pub lanes_named : Tailer → List LaneId
-lanes_named x = map lane_of x.ends
+stopping x s = record x { stop = Some s }
 
 abbrev pub lane_at : Tailer → ℕ → Taking → Taking
 lane_at x i d = slice_index_or x.ends i d

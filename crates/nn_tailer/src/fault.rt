@@ -53,6 +53,16 @@ pub enum PromoteFault {
     Step(StepFault),
 }
 
+impl From<StepFault> for PromoteFault {
+    ghost use Rattle.nn_tailer.specs.declared.fault.PromoteFault.TheVariants.{Step};
+
+    ghost from_gives = { λ fault e. e ≡ Step fault };
+
+    fn from(fault: StepFault) -> PromoteFault {
+        PromoteFault::Step(fault)
+    }
+}
+
 impl PromoteFault {
     /// The fault's number.
     pub fn number(self) -> u8

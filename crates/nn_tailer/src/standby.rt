@@ -5,7 +5,7 @@ ghost use Rattle.nn_tailer.specs.Public.{Steps, AreNew, IsNew};
 ghost use Rattle.nn_tailer.specs.declared.fault.StepFault.{StepFault as Why};
 ghost use Rattle.nn_tailer.specs.Refusals.{step_refusal};
 ghost use Rattle.nn_tailer.specs.Steps.{OnLogFault};
-ghost use Rattle.nn_tailer.specs.Tailing.{Carries, has_begun, with_ends};
+ghost use Rattle.nn_tailer.specs.Tailing.{Carries, Keeps, has_begun, with_ends};
 
 mod checkpoint;
 mod lanes;
@@ -142,6 +142,13 @@ impl Standby {
                 None => Err(StepFault::BadLane),
             },
         }
+    }
+
+    // What holds of every standby between two calls. This does nothing: it is there for the proofs of its callers.
+    fn consistent(&self)
+        ensures { Keeps self.now }
+    {
+        let _ = &self.stop;
     }
 
     /// Closes all lanes, under reporters that run: each of these learns of it by a report that is refused. What they had

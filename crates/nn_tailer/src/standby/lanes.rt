@@ -61,10 +61,10 @@ impl Standby {
             }
             Err(refused) => match refused.cause {
                 HandCause::OutOfMemory => Err(StepFault::OutOfMemory),
-                HandCause::Stopped(_) => unreachable!(),
-                HandCause::AlreadyActive => unreachable!(),
-                HandCause::BadLane => unreachable!(),
-                HandCause::WrongNumber => unreachable!(),
+                HandCause::Stopped(_)
+                | HandCause::AlreadyActive
+                | HandCause::BadLane
+                | HandCause::WrongNumber => unreachable!(),
             },
         }
     }
@@ -76,11 +76,10 @@ impl Standby {
         ensures frame { LaneFrame self.old i self.new }
         ensures moves { LaneMoves self.old i self.new result }
     {
-        // To name a field makes no code. The proof learns by it what holds of every standby.
-        let _ = &self.stop;
+        self.consistent();
         match self.fetch(i) {
             Ok(m) => {
-                let _ = &self.stop;
+                self.consistent();
                 let Handed { processed, held } = self.hand_undelivered(i, m)?;
                 Ok(Stepped::Handed { processed, held })
             }
@@ -97,8 +96,6 @@ impl Standby {
         ensures ok { IfOk result (λ _. IsDrained self.new i) }
         ensures err { IfErr result (λ fault. fault ≡ StepFault.OutOfMemory) }
     {
-        // As in `step_at`.
-        let _ = &self.stop;
         loop {
             if let Stepped::Empty { .. } = self.step_at(i)? {
                 return Ok(());

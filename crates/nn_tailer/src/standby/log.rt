@@ -41,9 +41,8 @@ impl Standby {
                     self.stop = Some(mark);
                     Err(StepFault::Stopped(stop))
                 }
-                ApplyFault::Stopped(_) => unreachable!(),
-                ApplyFault::AlreadyActive => unreachable!(),
-                ApplyFault::Disorder { .. } => unreachable!(),
+                ApplyFault::Stopped(_) | ApplyFault::AlreadyActive | ApplyFault::Disorder { .. } =>
+                    unreachable!(),
             },
         }
     }

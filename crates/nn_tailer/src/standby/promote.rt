@@ -40,9 +40,7 @@ impl Standby {
         if !are_closed(self.ends.as_slice()) {
             return Err(PromoteFault::IntakeOpen);
         }
-        if let Err(fault) = self.prepare(source) {
-            return Err(PromoteFault::Step(fault));
-        }
+        self.prepare(source)?;
         self.finish()
     }
 
@@ -55,10 +53,8 @@ impl Standby {
         ensures counted { S.failures source.old ≤ S.failures source.new }
     {
         self.read_log(source)?;
-        // To name a field makes no code. The proof learns by it what holds of every standby.
-        let _ = &self.stop;
         self.drain_all()?;
-        let _ = &self.stop;
+        self.consistent();
         Ok(())
     }
 

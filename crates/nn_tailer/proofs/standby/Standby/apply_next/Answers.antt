@@ -1,4 +1,4 @@
-use Rattle.std.proofs.Common.{◌≡◌, List, drop, refl, sym, ap, ◌∙◌, subst}
+use Rattle.std.proofs.Common.{◌≡◌, List, drop, refl, sym, ap, ◌∙◌, subst, inl, inr}
 use Rattle.nn_types.specs.declared.tx.Tx.{Tx}
 use Rattle.nn_shadow.specs.Refusals.{phase_after_apply}
 use Rattle.nn_tailer.specs.Shadows.{IsApplied}
@@ -59,3 +59,18 @@ returns-in-Refused-clause-err c =
     let n = is_next_tx x c.in-Some.tx.now d.0 c.self.invariant d.1 in
     let why = subst (WhyNot x.shadow c.in-Some.tx.now) c.in-Refused.is (why_not x.shadow c.in-Some.tx.now c.in-Err.fault (is_serving x c.self.invariant l) n e.fault) in
     rw (← c.self.view_is) (record { tx = c.in-Some.tx.now; rest = d.0; fault = c.in-Refused.refused; shown = c.apply.new.self; was = d.1; refused = why; next = n; is_txid = refl; number = c.number.ensures; same = record { standby = e.left.0; settings = e.settings }; active = ap (λ z. z.active) (e.left.1 ∙ ap (phase_after_apply x.shadow.phase c.in-Some.tx.now) c.in-Refused.is); now = refl })
+
+pub unreachable-requires-in-Stopped : goal.unreachable-requires-in-Stopped
+unreachable-requires-in-Stopped c =
+    let x = the_view c.self.inside in
+    let l = subst IsLive (sym c.self.view_is) c.requires.live in
+    let d = c.in-Some.ensures in
+    let n = is_next_tx x c.in-Some.tx.now d.0 c.self.invariant d.1 in
+    let why = why_not x.shadow c.in-Some.tx.now c.in-Err.fault (is_serving x c.self.invariant l) n c.in-Err.ensures.fault in
+    elim c.in-Stopped.is [
+      | inl stopped ↦ subst (WhyNot x.shadow c.in-Some.tx.now) stopped.1 why
+      | inr other ↦ elim other [
+        | inl active ↦ subst (WhyNot x.shadow c.in-Some.tx.now) active why
+        | inr disorder ↦ subst (WhyNot x.shadow c.in-Some.tx.now) disorder.1 why
+      ]
+    ]

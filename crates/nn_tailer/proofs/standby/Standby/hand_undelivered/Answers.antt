@@ -1,4 +1,4 @@
-use Rattle.std.proofs.Common.{◌≡◌, ℕ, ◌<◌, length, Some, refl, sym, subst, ◌∙◌}
+use Rattle.std.proofs.Common.{◌≡◌, ℕ, ◌<◌, length, Some, refl, sym, subst, ◌∙◌, inl, inr}
 use Rattle.nn_types.specs.declared.report.Message.{Message}
 use Rattle.nn_shadow.specs.declared.fault.HandCause.TheVariants as hand
 use Rattle.nn_tailer.specs.Shadows.{IsHanded}
@@ -28,21 +28,22 @@ returns-in-Ok-clause-ok c =
     let h : IsHanded x.shadow c.args.m c.hand.new.self = record { standby = e.ok; phase = e.phase; settings = e.settings; stands = λ start base txs lanes s. (e.stands start base txs lanes s).0; held = λ start base txs lanes s. (e.stands start base txs lanes s).1 } in
     rw (← c.self.view_is) (record { shown = c.hand.new.self; handed = h; now = refl })
 
-pub unreachable-requires-in-BadLane : goal.unreachable-requires-in-BadLane
-unreachable-requires-in-BadLane c =
+pub unreachable-requires : goal.unreachable-requires
+unreachable-requires c =
     let x = the_view c.self.inside in
     let r = subst (Given c.args.i c.args.m) (sym c.self.view_is) (c.requires.live, c.requires.place, c.requires.undelivered) in
     let none = welcome x c.args.i c.args.m (some_end x.ends c.args.i r.1) c.self.invariant r.0 r.1 r.2 in
-    let e : hand.BadLane ≡ hand.OutOfMemory = sym c.in-BadLane.is ∙ only_memory x.shadow c.args.m c.in-Err.refused.cause none c.in-Err.ensures.cause in
-    cc
-
-pub unreachable-requires-in-WrongNumber : goal.unreachable-requires-in-WrongNumber
-unreachable-requires-in-WrongNumber c =
-    let x = the_view c.self.inside in
-    let r = subst (Given c.args.i c.args.m) (sym c.self.view_is) (c.requires.live, c.requires.place, c.requires.undelivered) in
-    let none = welcome x c.args.i c.args.m (some_end x.ends c.args.i r.1) c.self.invariant r.0 r.1 r.2 in
-    let e : hand.WrongNumber ≡ hand.OutOfMemory = sym c.in-WrongNumber.is ∙ only_memory x.shadow c.args.m c.in-Err.refused.cause none c.in-Err.ensures.cause in
-    cc
+    let only = only_memory x.shadow c.args.m c.in-Err.refused.cause none c.in-Err.ensures.cause in
+    elim c.in-Stopped.is [
+      | inl stopped ↦ (let e : hand.Stopped stopped.0 ≡ hand.OutOfMemory = sym stopped.1 ∙ only in cc)
+      | inr other ↦ elim other [
+        | inl active ↦ (let e : hand.AlreadyActive ≡ hand.OutOfMemory = sym active ∙ only in cc)
+        | inr other ↦ elim other [
+          | inl bad ↦ (let e : hand.BadLane ≡ hand.OutOfMemory = sym bad ∙ only in cc)
+          | inr wrong ↦ (let e : hand.WrongNumber ≡ hand.OutOfMemory = sym wrong ∙ only in cc)
+        ]
+      ]
+    ]
 
 pub invariant_of-self-in-Err : goal.invariant_of-self-in-Err
 invariant_of-self-in-Err c =

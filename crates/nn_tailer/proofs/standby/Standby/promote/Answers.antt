@@ -1,4 +1,5 @@
 use Rattle.std.proofs.Common.{Err, refl, subst, sym, ◌≡◌, ap, ◌∙◌, true, false, List, [], Bool}
+use Rattle.std.proofs.lemmas.Result.{err_from_is_err_and}
 use Rattle.std.specs.List.{list_all}
 use Rattle.nn_lane.specs.Ends.{Taking}
 use Rattle.nn_tailer.specs.LaneSteps.{closed_of}
@@ -39,14 +40,19 @@ pub prepare-requires-clause-closed : goal.prepare-requires-clause-closed
 prepare-requires-clause-closed g c =
     of_value (the_view c.self.inside) c.args.self.now c.as_slice.result.now true c.self.view_is c.as_slice.ensures.value c.if-not-are_closed.ensures
 
-pub returns-in-Err-clause-promotes : goal.returns-in-Err-clause-promotes
-returns-in-Err-clause-promotes g c =
-    let q = c.in-Err.ensures.prepares in
-    promote_unready g.S.SegmentSource.gives c.args.source.now c.prepare.new.source c.args.self.now c.prepare.new.self q.0 c.in-Err.fault q.1 q.2
+pub returns-in_err-prepare-clause-promotes : goal.returns-in_err-prepare-clause-promotes
+returns-in_err-prepare-clause-promotes g c =
+    let q = c.in_err-prepare.ensures.prepares in
+    let k = promote_unready g.S.SegmentSource.gives c.args.source.now c.prepare.new.source c.args.self.now c.prepare.new.self q.0 c.in_err-prepare.field-0.0 q.1 q.2 in
+    let p = err_from_is_err_and c.from_residual.result c.from_residual.ensures.1 in rw (p.1, p.2) k
+
+pub returns-in_err-prepare-clause-failed : goal.returns-in_err-prepare-clause-failed
+returns-in_err-prepare-clause-failed g c =
+    let p = err_from_is_err_and c.from_residual.result c.from_residual.ensures.1 in rw (p.1, p.2) c.in_err-prepare.ensures.failed
 
 pub returns-clause-promotes : goal.returns-clause-promotes
 returns-clause-promotes g c =
-    let q = c.in_default-prepare.ensures.prepares in
+    let q = c.in_ok-prepare.ensures.prepares in
     promote_finished g.S.SegmentSource.gives c.args.source.now c.prepare.new.source c.args.self.now c.prepare.new.self c.finish-2.new.self q.0 c.finish-2.result
     (sym (ap (λ z. has_begun z) c.self.view_is) ∙ sym c.is_active.ensures ∙ c.if-is_active.false) (sym (ap (λ z. z.active) c.self.view_is) ∙ c.if-self.false) q.1 q.2 c.finish-2.ensures
 
@@ -71,8 +77,8 @@ returns-then-not-are_closed-clause-refused g c = λ f e. (
   refl,
 )
 
-pub returns-in-Err-clause-refused : goal.returns-in-Err-clause-refused
-returns-in-Err-clause-refused g c = λ f e.
+pub returns-in_err-prepare-clause-refused : goal.returns-in_err-prepare-clause-refused
+returns-in_err-prepare-clause-refused g c = λ f e.
     promotion_goes c.args.self.now f (sym (ap (λ z. z.active) c.self.view_is) ∙ c.if-self.false) (sym (ap (λ z. z.stop) c.self.view_is) ∙ c.in_default.is) (sym (ap (λ z. has_begun z) c.self.view_is) ∙ sym c.is_active.ensures ∙ c.if-is_active.false)
     (of_value (the_view c.self.inside) c.args.self.now c.as_slice.result.now true c.self.view_is c.as_slice.ensures.value c.if-not-are_closed.ensures) e
 

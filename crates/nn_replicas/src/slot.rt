@@ -39,15 +39,12 @@ impl Slot {
     pub fn new(dn: u16) -> Slot
         ensures { result ≡ (dn, no_cell) }
     {
-        let (Some(stamp), Some(len)) = (GenerationStamp::new(0), Length::new(0)) else {
-            unreachable!()
-        };
         Slot {
             dn,
             ordered: false,
             kind: None,
-            stamp,
-            len,
+            stamp: GenerationStamp::new(0).unwrap(),
+            len: Length::new(0).unwrap(),
         }
     }
 

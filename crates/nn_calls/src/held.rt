@@ -64,9 +64,11 @@ fn read(held: &Postponed, call: &mut Call<'_>) -> bool {
 }
 
 fn show_queue(held: &Postponed, call: &mut Call<'_>) {
-    if let Some(queue) = held.queue(call.id(1)) {
-        for message in queue.iter() {
-            call.show_message(message);
+    if let Some(mut queue) = held.queue(call.id(1)) {
+        for _ in 0..held.len() {
+            if let Some(message) = queue.next() {
+                call.show_message(&message);
+            }
         }
     }
 }

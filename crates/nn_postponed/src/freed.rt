@@ -1,20 +1,19 @@
 //! The messages that an edit set free about a block, and the pass through its queue that finds them.
-ghost use Rattle.std.specs.Prelude.{◌≡◌, ◌≤◌, ◌<◌, ◌+◌, ◌&&◌, not, take, length, [], ◌∷◌, IfSome, IfNone};
+ghost use Rattle.std.specs.Prelude.{◌≡◌, ◌≤◌, ◌++◌, ◌&&◌, not, take, length, [], ◌∷◌, IfSome, IfNone};
 ghost use Rattle.std.specs.List.{list_any};
-ghost use Rattle.std.specs.VecDeque.{deque_len};
-ghost use Rattle.nn_postponed.specs.Scans.{KnowsStuck, GoesAt, Marks};
+ghost use Rattle.nn_postponed.specs.Places.{present};
+ghost use Rattle.nn_postponed.specs.Scans.{KnowsStuck, Marks, will_go};
 ghost use Rattle.nn_postponed.specs.Release.{same_source, due_at, freed};
 
 use crate::heads::same_source;
 use nn_types::{BlockId, Message, Status, due};
-use std::collections::VecDeque;
 use std::marker::Model;
 
 /// What releases of a block would give, one message after another, lent while all of it is held. It takes no memory,
 /// and one pass over the block's queue in all.
 #[derive(Drop)]
 pub struct Freed<'a> {
-    messages: &'a VecDeque<Message>,
+    messages: &'a [Option<Message>],
     // The next place to look at.
     at: usize,
     block: BlockId,
@@ -24,22 +23,22 @@ pub struct Freed<'a> {
 }
 
 impl<'a> Model for Freed<'a> {
-    ghost use Rattle.std.specs.Prelude.{◌≤◌, List, take, drop};
-    ghost use Rattle.std.specs.VecDeque.{deque_len};
+    ghost use Rattle.std.specs.Prelude.{◌≤◌, List, take, drop, length};
     ghost use Rattle.nn_types.specs.declared.report.Message.{Message};
+    ghost use Rattle.nn_postponed.specs.Places.{present};
     ghost use Rattle.nn_postponed.specs.Release.{due_at};
     ghost use Rattle.nn_postponed.specs.Scans.{going, KnowsStuck};
 
     ghost Value = { List Message };
 
-    ghost view = { λ f. going (due_at f.block f.status) (take f.at f.messages.now.items) (drop f.at f.messages.now.items) };
+    ghost view = { λ f. going (due_at f.block f.status) (present (take f.at f.messages.now)) (present (drop f.at f.messages.now)) };
 
-    ghost invariant = { λ f. (f.at ≤ deque_len f.messages.now) × KnowsStuck (due_at f.block f.status) f.block (take f.at f.messages.now.items) f.stuck };
+    ghost invariant = { λ f. (f.at ≤ length f.messages.now) × KnowsStuck (due_at f.block f.status) f.block (present (take f.at f.messages.now)) f.stuck };
 }
 
 impl<'a> Freed<'a> {
-    pub(crate) fn new(messages: &'a VecDeque<Message>, block: BlockId, status: Status) -> Freed<'a>
-        ensures { result ≡ freed (due_at block status) [] messages.now.items }
+    pub(crate) fn new(messages: &'a [Option<Message>], block: BlockId, status: Status) -> Freed<'a>
+        ensures { result ≡ freed (due_at block status) [] (present messages.now) }
     {
         Freed {
             messages,
@@ -57,32 +56,41 @@ impl<'a> Freed<'a> {
     {
         while self.at < self.messages.len() {
             let at = self.at;
-            let goes = goes(&mut self.stuck, self.messages, at, self.block, &self.status);
             self.at = at + 1;
-            if goes {
-                return Some(self.messages[at]);
+            let Some(m) = self.messages[at] else {
+                continue;
+            };
+            if goes(
+                &mut self.stuck,
+                self.messages,
+                at,
+                &m,
+                self.block,
+                &self.status,
+            ) {
+                return Some(m);
             }
         }
         None
     }
 }
 
-/// Whether the message at this place goes, once those before it went that go. What is known of a DataNode is whether one
-/// of its messages before the place is not due.
+/// Whether this message, which stands at the place, goes, once those before it went that go. What is known of a
+/// DataNode is whether one of its messages before the place is not due.
 pub(crate) fn goes(
     stuck: &mut [bool],
-    messages: &VecDeque<Message>,
+    messages: &[Option<Message>],
     at: usize,
+    m: &Message,
     block: BlockId,
     status: &Status,
 ) -> bool
-    requires place { at < deque_len messages.now }
-    requires knows { KnowsStuck (due_at block status.now) block (take at messages.now.items) stuck.old }
-    ensures goes { GoesAt (due_at block status.now) messages.now.items at result }
-    ensures knows { KnowsStuck (due_at block status.now) block (take (at + 1) messages.now.items) stuck.new }
+    requires place { at ≤ length messages.now }
+    requires knows { KnowsStuck (due_at block status.now) block (present (take at messages.now)) stuck.old }
+    ensures goes { result ≡ will_go (due_at block status.now) (present (take at messages.now)) m.now }
+    ensures knows { KnowsStuck (due_at block status.now) block (present (take at messages.now) ++ m.now ∷ []) stuck.new }
     ensures len { length stuck.new ≡ length stuck.old }
 {
-    let m = &messages[at];
     if is_due_at(m, block, status) {
         return !is_behind(stuck, messages, at, m, block, status);
     }
@@ -94,15 +102,15 @@ pub(crate) fn goes(
 /// DataNode, and a look at each message only where nothing can be known of so high a DataNode.
 pub(crate) fn is_behind(
     stuck: &[bool],
-    messages: &VecDeque<Message>,
+    messages: &[Option<Message>],
     end: usize,
     m: &Message,
     block: BlockId,
     status: &Status,
 ) -> bool
-    requires place { end ≤ deque_len messages.now }
-    requires knows { KnowsStuck (due_at block status.now) block (take end messages.now.items) stuck.now }
-    ensures { result ≡ list_any (λ e. same_source m.now e && not (due_at block status.now e)) (take end messages.now.items) }
+    requires place { end ≤ length messages.now }
+    requires knows { KnowsStuck (due_at block status.now) block (present (take end messages.now)) stuck.now }
+    ensures { result ≡ list_any (λ e. same_source m.now e && not (due_at block status.now e)) (present (take end messages.now)) }
 {
     let dn = usize::from(m.dn);
     if m.block == block && dn < stuck.len() {
@@ -124,18 +132,20 @@ pub(crate) fn mark(stuck: &mut [bool], m: &Message, block: BlockId)
 
 // Whether one of the messages before a place is of this one's DataNode and block, and not due.
 fn has_late(
-    messages: &VecDeque<Message>,
+    messages: &[Option<Message>],
     end: usize,
     m: &Message,
     block: BlockId,
     status: &Status,
 ) -> bool
-    requires { end ≤ deque_len messages.now }
-    ensures { result ≡ list_any (λ e. same_source m.now e && not (due_at block status.now e)) (take end messages.now.items) }
+    requires { end ≤ length messages.now }
+    ensures { result ≡ list_any (λ e. same_source m.now e && not (due_at block status.now e)) (present (take end messages.now)) }
 {
     for i in 0..end {
-        let e = &messages[i];
-        if same_source(m, e) && !is_due_at(e, block, status) {
+        let Some(e) = messages[i] else {
+            continue;
+        };
+        if same_source(m, &e) && !is_due_at(&e, block, status) {
             return true;
         }
     }

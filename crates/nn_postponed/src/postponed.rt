@@ -9,9 +9,10 @@ ghost use Rattle.nn_postponed.specs.Release.{due_at, first_free, without_free, I
 
 use crate::freed::Freed;
 use crate::queue::Queue;
+use crate::waiting::Waiting;
 use nn_types::{BlockId, Message, Status, fault};
 use std::alloc::{AllocError, Global};
-use std::collections::{BTreeMap, VecDeque};
+use std::collections::BTreeMap;
 use std::marker::Model;
 use thiserror::Error;
 
@@ -36,9 +37,11 @@ const LIMIT: usize = 9223372036854775807;
 
 /// The messages that wait.
 ///
-/// Each block about which messages wait has a queue of its own: `release` takes O(log blocks + DataNodes of the block)
-/// and what `VecDeque::remove` takes, the others O(log blocks + DataNodes of the block), and `due_count`, `freed` to its
-/// end and `drop_freed` one pass over the block's queue each. A queue that has become empty leaves the map.
+/// Each block about which messages wait has a queue of its own. A call takes O(log blocks + DataNodes of the block), in the
+/// mean over all calls where it takes a message: from time to time the messages that are left close up in one pass, and
+/// what comes next of its DataNode is looked for, past each message once for each DataNode. `due_count`, and `queue` and
+/// `freed` to their ends, are one pass over the block's queue each, `free_place` one over what stands before that place,
+/// and `drop_freed` costs what as many calls of `release` cost. A queue that has become empty leaves the map.
 #[derive(Drop)]
 pub struct Postponed {
     queues: BTreeMap<BlockId, Queue>,
@@ -172,9 +175,10 @@ impl Postponed {
         queue.holds(dn, block)
     }
 
-    /// The messages about a block in the order of arrival. None, or no messages, where none is held.
-    pub fn queue(&self, block: BlockId) -> Option<&VecDeque<Message>>
-        ensures some { IfSome result (λ q. q.now.items ≡ queue block self.now) }
+    /// The messages about a block in the order of arrival, lent one after another. None, or no messages, where none is
+    /// held.
+    pub fn queue(&self, block: BlockId) -> Option<Waiting<'_>>
+        ensures some { IfSome result (λ q. q ≡ queue block self.now) }
         ensures none { IfNone result (queue block self.now ≡ []) }
     {
         let Some(queue) = self.queues.get(&block) else {
@@ -212,8 +216,7 @@ impl Postponed {
         Some(message)
     }
 
-    /// The place in the block's queue of the message that `release` would take: what it moves is no more than stands on
-    /// either side of that.
+    /// The place in the block's queue of the message that `release` would take, counted from its first message.
     pub fn free_place(&self, block: BlockId, status: Status) -> Option<usize>
         ensures some { IfSome result (IsFreeAt (due_at block status) (queue block self.now)) }
         ensures none { IfNone result (first_free (due_at block status) [] self.now ≡ None) }
@@ -236,8 +239,7 @@ impl Postponed {
         Some(queue.freed(block, status))
     }
 
-    /// Lets go of all that `freed` lends, in one pass over the block's queue. Calls of `release` leave the same, and
-    /// cost less where only a few are free.
+    /// Lets go of all that `freed` lends. Calls of `release` leave the same, and cost the same.
     pub fn drop_freed(&mut self, block: BlockId, status: Status)
         ensures { self.new ≡ kept (due_at block status) [] self.old }
     {

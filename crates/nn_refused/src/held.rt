@@ -131,7 +131,23 @@ fn message(dn: u16, number: u64, block: u64) -> Message
 fn are_alike(held: &Postponed, twin: &Postponed) -> bool {
     held.len() == twin.len()
         && (0..2 + 2 * MESSAGES).all(|n| match BlockId::new(n) {
-            Some(block) => held.queue(block) == twin.queue(block),
+            Some(block) => have_same(held, twin, block),
             None => false,
         })
+}
+
+// Whether the same messages about the block are held, in the same order.
+fn have_same(held: &Postponed, twin: &Postponed, block: BlockId) -> bool {
+    match (held.queue(block), twin.queue(block)) {
+        (Some(mut queue), Some(mut other)) => {
+            for _ in 0..held.len() {
+                if queue.next() != other.next() {
+                    return false;
+                }
+            }
+            true
+        }
+        (None, None) => true,
+        _ => false,
+    }
 }

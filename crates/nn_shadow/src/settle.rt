@@ -7,7 +7,6 @@ ghost use Rattle.nn_types.specs.declared.event.Cause.TheVariants.{Due, Flush};
 ghost use Rattle.nn_model.specs.History.{processed};
 ghost use Rattle.nn_model.specs.Touched.{ascending, changed_ids};
 ghost use Rattle.nn_model.specs.Stands.{AreByBlock};
-ghost use Rattle.nn_postponed.specs.Queues.{queue};
 ghost use Rattle.nn_postponed.specs.Release.{due_at, first_free, freed, kept};
 ghost use Rattle.nn_shadow.specs.Calls.{is_due_in};
 ghost use Rattle.nn_shadow.specs.Rounds.{TakesBlock, FillsBlock, LeavesOthers};
@@ -28,8 +27,8 @@ use nn_types::{BlockId, Cause, Event, Message, Status};
 /// It leaps from a block that the edit touched to the next one that messages are held about, and back: a leap takes
 /// O(log touched blocks + log held blocks), and there are no more of them than touched blocks, nor than twice the blocks
 /// that messages are held about. It takes no time where nothing is held or nothing was touched. What is free about a
-/// block is released one by one as long as that moves little, and then in one pass over its messages. `written` has the
-/// ids of the changed blocks, ascending, which come in file order themselves.
+/// block is released one by one. `written` has the ids of the changed blocks, ascending, which come in file order
+/// themselves.
 pub(crate) fn settle(
     namespace: &Namespace,
     written: &[BlockId],
@@ -71,11 +70,6 @@ pub(crate) fn settle(
     }
 }
 
-// What releases about a block may move before a pass is made instead: so many times the messages about it. A release
-// moves up to half of them, and a pass looks at each, which takes as long as some ten moves. So an edit that frees few
-// makes no pass, and a pass costs little beside the releases before it.
-const MOVES: usize = 32;
-
 // Processes the messages about the block that are free.
 fn settle_block(
     block: BlockId,
@@ -94,62 +88,12 @@ fn settle_block(
     ensures room { vec_len history.new + length held.new ≤ vec_capacity history.new }
     ensures placed { HavePlaces table.new held.new }
 {
-    let mut moved = 0usize;
-    'releases: loop {
-        let Some(m) = held.release(block, *status) else {
-            return;
-        };
-        let Ok(()) = history.push(processed(&m, Cause::Due)) else {
-            return;
-        };
-        process(table, &m);
-        let Some(place) = held.free_place(block, *status) else {
-            return;
-        };
-        // What the next release would move.
-        let left = queue_len(held, block);
-        moved = moved.saturating_add(place.min(left.saturating_sub(place)));
-        if moved > left.saturating_mul(MOVES) {
-            return settle_rest(block, status, history, held, table);
-        }
-    }
-}
-
-// How many messages about the block are held.
-fn queue_len(held: &Postponed, block: BlockId) -> usize
-    ensures { result ≡ length (queue block held.now) }
-{
-    match held.queue(block) {
-        Some(messages) => messages.len(),
-        None => 0,
-    }
-}
-
-// Processes the messages about the block that are free, in one pass over all that are held about it.
-fn settle_rest(
-    block: BlockId,
-    status: &Status,
-    history: &mut Vec<Event>,
-    held: &mut Postponed,
-    table: &mut Replicas,
-)
-    requires room { vec_len history.old + length held.old ≤ vec_capacity history.old }
-    requires placed { HavePlaces table.old held.old }
-    ensures told { history.new.items ≡ history.old.items ++ map (processed Due) (freed (due_at block status.now) [] held.old) }
-    ensures left { held.new ≡ kept (due_at block status.now) [] held.old }
-    ensures table { table.new ≡ messages_taken table.old (freed (due_at block status.now) [] held.old) }
-    ensures room { vec_len history.new + length held.new ≤ vec_capacity history.new }
-{
-    let Some(mut freed) = held.freed(block, *status) else {
-        return;
-    };
-    while let Some(m) = freed.next() {
+    while let Some(m) = held.release(block, *status) {
         let Ok(()) = history.push(processed(&m, Cause::Due)) else {
             return;
         };
         process(table, &m);
     }
-    held.drop_freed(block, *status);
 }
 
 /// Processes all that is held, by ascending block id and then in the order of arrival.

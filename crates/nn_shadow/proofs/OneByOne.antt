@@ -1,29 +1,19 @@
--- What is free about a block is taken up one by one, and what is left of it in one pass.
-use Rattle.std.proofs.Common.{◌≡◌, ℕ, Bool, true, false, cond, List, [], ◌∷◌, ◌++◌, map, Some, None, refl, sym, subst, inl, inr, append_assoc, append-nil, ◌∙◌}
+-- What is free about a block is taken up one by one.
+use Rattle.std.proofs.Common.{◌≡◌, ℕ, Bool, false, List, [], ◌∷◌, ◌++◌, Some, None, refl, sym, subst, ◌∙◌}
 use Rattle.std.specs.List.{list_any}
 use Rattle.nn_types.specs.declared.report.Message.{Message}
 use Rattle.nn_types.specs.declared.status.Status.{Status}
 use Rattle.nn_types.specs.declared.event.Cause.TheVariants.{Due}
-use Rattle.nn_model.specs.WellFormed.{Has}
 use Rattle.nn_model.specs.History.{History, processed}
-use Rattle.nn_postponed.specs.Release.{must_wait, due_at, first_free, without_free, freed, kept}
-use Rattle.nn_postponed.specs.Laws.{GivesInTurn}
-use Rattle.nn_postponed.proofs.Frees.{releases_in_turn, any_without}
+use Rattle.nn_postponed.specs.Release.{due_at, first_free, without_free}
+use Rattle.nn_postponed.proofs.Frees.{any_without}
 use Rattle.nn_postponed.proofs.Steps.{none_left}
 use Rattle.nn_replicas.specs.Table.{Table}
 use Rattle.nn_shadow.specs.Rounds.{TakesBlock, FillsBlock, LeavesOthers}
-use Rattle.nn_shadow.specs.Steps.{message_taken, messages_taken, HavePlaces}
+use Rattle.nn_shadow.specs.Steps.{message_taken, HavePlaces}
 use Rattle.nn_shadow.proofs.Filling.{fill_goes_on, still_placed, first_is_in}
 use Rattle.nn_shadow.proofs.Quiet.{others_kept}
 use Rattle.nn_shadow.proofs.Turns.{block_goes_on, takes_none}
-
-pub in_freed : (due : Message → Bool) (s ms : List Message) (m : Message) → Has (freed due s ms) m → Has ms m
-in_freed due s [] m here = here
-in_freed due s (x ∷ ms) m here =
-    elim (must_wait due s x) as (λ t. Has (cond t (freed due (x ∷ s) ms) (x ∷ freed due s ms)) m → Has (x ∷ ms) m) [
-      | true ↦ λ i. inr (in_freed due (x ∷ s) ms m i)
-      | false ↦ λ i. elim i [ inl same ↦ inl same | inr later ↦ inr (in_freed due s ms m later) ]
-    ] here
 
 -- what was done about a block so far
 pub record SoFar (block : ℕ) (status : Status) (h0 : History) (r0 : List Message) (t0 : Table) (h1 : History) (r1 : List Message) (t1 : Table) : Type 0 where
@@ -52,27 +42,6 @@ module _ {block : ℕ} {status : Status} {h0 : History} {r0 : List Message} {t0 
       let rest = without_free (due_at block status) [] r1 in
       subst (λ h. SoFar block status h0 r0 t0 h r2 t2) (sym told) (subst (λ l. SoFar block status h0 r0 t0 (h1 ++ processed Due m ∷ []) l t2) (sym left)
       (subst (SoFar block status h0 r0 t0 (h1 ++ processed Due m ∷ []) rest) (sym taken) (one_more so is)))
-
-  in_turn : (given left : List Message) (h1 : History) (r1 : List Message) (t1 : Table) → GivesInTurn (due_at block status) r1 given left → SoFar block status h0 r0 t0 h1 r1 t1 →
-      SoFar block status h0 r0 t0 (h1 ++ map (processed Due) given) left (messages_taken t1 given) × (first_free (due_at block status) [] left ≡ None)
-  in_turn [] left h1 r1 t1 gives so = (
-    subst (λ h. SoFar block status h0 r0 t0 h left t1) (sym (append-nil h1)) (subst (λ l. SoFar block status h0 r0 t0 h1 l t1) gives.1 so),
-    subst (λ l. first_free (due_at block status) [] l ≡ None) gives.1 gives.0,
-  )
-  in_turn (m ∷ given) left h1 r1 t1 gives so =
-      let rest = in_turn given left (h1 ++ processed Due m ∷ []) (without_free (due_at block status) [] r1) (message_taken t1 m) gives.1 (one_more so gives.0) in
-      (subst (λ h. SoFar block status h0 r0 t0 h left (messages_taken t1 (m ∷ given))) (append_assoc h1 (processed Due m ∷ []) (map (processed Due) given)) rest.0, rest.1)
-
-  -- what is still free goes in one pass
-  pub pass_ends : {h1 h2 : History} {r1 r2 : List Message} {t1 t2 : Table} → SoFar block status h0 r0 t0 h1 r1 t1 →
-      h2 ≡ h1 ++ map (processed Due) (freed (due_at block status) [] r1) → r2 ≡ kept (due_at block status) [] r1 → t2 ≡ messages_taken t1 (freed (due_at block status) [] r1) →
-      SoFar block status h0 r0 t0 h2 r2 t2 × (first_free (due_at block status) [] r2 ≡ None)
-  pass_ends {h1 = h1} {h2 = h2} {r1 = r1} {r2 = r2} {t1 = t1} {t2 = t2} so told left taken =
-      let all = in_turn (freed (due_at block status) [] r1) (kept (due_at block status) [] r1) h1 r1 t1 (releases_in_turn (due_at block status) r1) so in (
-        subst (λ h. SoFar block status h0 r0 t0 h r2 t2) (sym told) (subst (λ l. SoFar block status h0 r0 t0 (h1 ++ map (processed Due) (freed (due_at block status) [] r1)) l t2) (sym left)
-            (subst (SoFar block status h0 r0 t0 (h1 ++ map (processed Due) (freed (due_at block status) [] r1)) (kept (due_at block status) [] r1)) (sym taken) all.0)),
-        subst (λ l. first_free (due_at block status) [] l ≡ None) (sym left) all.1,
-      )
 
   -- nothing is free any more
   pub none_free : {h1 : History} {r1 r2 : List Message} {t1 : Table} → SoFar block status h0 r0 t0 h1 r1 t1 → first_free (due_at block status) [] r1 ≡ None →

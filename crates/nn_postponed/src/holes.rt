@@ -33,7 +33,7 @@ pub fn pop_message(messages: &mut Vec<Option<Message>>) -> Option<Message>
     None
 }
 
-/// Where there are more holes than messages, closes the messages up, so that no hole is left. `count` is how many
+/// Where half of the places or more are holes, closes the messages up, so that no hole is left. `count` is how many
 /// messages there are.
 pub fn sweep(messages: &mut Vec<Option<Message>>, heads: &mut Vec<usize>, count: usize)
     requires heads { heads.old.items ≡ places 0 [] messages.old.items }

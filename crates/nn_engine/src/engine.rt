@@ -65,8 +65,8 @@ pub const MAX_IN_MEMORY: usize = 268_435_456;
 
 /// Reads an input to its end and writes the listing of its scenario, or one fault line and nothing else. Nothing is written
 /// before the log has ended. An output is made before its first byte is written; but where the listing has more than
-/// `MAX_IN_MEMORY` bytes, its paths and the image are written as they are made. Where the input begins with an image, that is read first: the standby
-/// starts from it, passes over the transactions up to the image's, and applies those above.
+/// `MAX_IN_MEMORY` bytes, its paths and the image are written as they are made. Where the input begins with an image, that
+/// is read first: the standby starts from it, passes over the transactions up to the image's, and applies those above.
 ///
 /// `fault 8` says that a read failed, or that the scenario has more than 16,777,216 bytes. A reader that has not ended after
 /// 16,777,216 reads counts as failed. `fault 55` says that memory was refused. Neither line takes memory. After a failed

@@ -49,15 +49,15 @@ pub(crate) fn push_image(
 /// Where it is asked for, writes the line `image` and the image of the namespace after this transaction, line by line.
 pub(crate) fn write_image<W: Write>(
     alloc: Global,
-    asked: bool,
+    wanted: bool,
     namespace: &Namespace,
     last: u64,
     writer: &mut Writer<W>,
 ) -> Result<(), Unwritten>
-    ensures ok { OnOk result (Took writer.old writer.new (image_part asked (record { last = last; namespace = namespace.now }))) }
-    ensures front { IfErr result (Stopped writer.old writer.new (image_part asked (record { last = last; namespace = namespace.now }))) }
+    ensures ok { OnOk result (Took writer.old writer.new (image_part wanted (record { last = last; namespace = namespace.now }))) }
+    ensures front { IfErr result (Stopped writer.old writer.new (image_part wanted (record { last = last; namespace = namespace.now }))) }
 {
-    if !asked {
+    if !wanted {
         return Ok(());
     }
     write_text(writer, b"image\n")?;

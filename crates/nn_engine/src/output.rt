@@ -26,7 +26,7 @@ pub struct Output {
 pub enum RunFault {
     #[error("a write failed after {written} bytes")]
     WriteFailed { written: u64 },
-    /// Some were written before. So it is where an output is too large to be made in memory, and nowhere else.
+    /// Memory was refused behind the first byte. This comes only of an output that is made as it is written.
     #[error("out of memory after {written} bytes")]
     OutOfMemory { written: u64 },
 }
@@ -38,7 +38,7 @@ pub struct RunEnd {
 }
 
 impl Output {
-    // A text, and nothing behind it.
+    /// A text, and nothing behind it.
     pub(crate) fn of_text(text: Vec<u8>, status: u8) -> Output
         ensures { shown result ≡ record { text = text.items; status = status } }
     {
@@ -49,7 +49,7 @@ impl Output {
         }
     }
 
-    // A listing that is made as it is written.
+    /// A listing that is made as it is written.
     pub(crate) fn of_rest(alloc: Global, rest: Rest) -> Output
         ensures { shown result ≡ record { text = rest; status = 0 } }
     {
@@ -89,6 +89,7 @@ fn run_fault(stop: Unwritten, written: u64) -> RunFault
     }
 }
 
+/// Writes a text, and answers the status that goes with it.
 pub(crate) fn finish<W: Write>(
     writer: &mut Writer<W>,
     text: &[u8],
@@ -105,6 +106,7 @@ pub(crate) fn finish<W: Write>(
     }
 }
 
+/// Writes an output, and answers its status.
 pub(crate) fn finish_output<W: Write>(
     alloc: Global,
     output: Output,

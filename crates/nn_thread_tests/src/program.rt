@@ -192,7 +192,7 @@ fn fails_at_each_read<R: Abort + Threads + Wait + Sync>(
         ..*given
     };
     // The last read shows the end.
-    let calls = given.bytes.len().div_ceil(width) as u64 + 1;
+    let calls = given.bytes.len().div_ceil(width.max(1)) as u64 + 1;
     for fail_at in 0..calls {
         fails_at(rt, alloc, fail_at, &failed, width, threads);
     }

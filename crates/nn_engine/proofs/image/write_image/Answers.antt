@@ -6,14 +6,14 @@ pub returns-in_err-write_text-clause-front : goal.returns-in_err-write_text-clau
 returns-in_err-write_text-clause-front g c =
     let e = c.in_err-write_text.field-0.0 in
     let is : c.from_residual.result ≡ Err e = grind arith in
-    rw is (image_line_fails c.args.writer.now c.write_text.new.writer c.write_text.new.writer c.args.asked (record { last = c.args.last; namespace = c.args.namespace.now }) c.if-not-asked.false e c.in_err-write_text.ensures.front)
+    rw is (image_line_fails c.args.writer.now c.write_text.new.writer c.write_text.new.writer c.args.wanted (record { last = c.args.last; namespace = c.args.namespace.now }) c.if-not-wanted.false e c.in_err-write_text.ensures.front)
 
 pub returns-in-Err-WriteFault-clause-front : goal.returns-in-Err-WriteFault-clause-front
 returns-in-Err-WriteFault-clause-front g c =
-    image_unwritten c.args.writer.now c.write_text.new.writer c.save.new.writer c.args.asked (record { last = c.args.last; namespace = c.args.namespace.now }) c.if-not-asked.false
+    image_unwritten c.args.writer.now c.write_text.new.writer c.save.new.writer c.args.wanted (record { last = c.args.last; namespace = c.args.namespace.now }) c.if-not-wanted.false
     c.in-Err-WriteFault.field-0-0 c.in_ok-write_text.ensures.ok (rw c.in-Err-WriteFault.field-0-is at c.in-Err-WriteFault.ensures.front)
 
 pub returns-in-Err-OutOfMemory-clause-front : goal.returns-in-Err-OutOfMemory-clause-front
 returns-in-Err-OutOfMemory-clause-front g c =
-    image_refused c.args.writer.now c.write_text.new.writer c.save.new.writer c.args.asked (record { last = c.args.last; namespace = c.args.namespace.now }) c.if-not-asked.false
+    image_refused c.args.writer.now c.write_text.new.writer c.save.new.writer c.args.wanted (record { last = c.args.last; namespace = c.args.namespace.now }) c.if-not-wanted.false
     c.in_ok-write_text.ensures.ok (rw c.in-Err-OutOfMemory.field-0-is at c.in-Err-OutOfMemory.ensures.front)

@@ -1,7 +1,6 @@
 //! The namespace: a directory tree, seen as its rows in path order, and an index of the blocks in its files.
 ghost use Rattle.std.specs.Prelude.{◌≡◌, OnOk, OnErr, IfOk, IfErr, IfSome, IsErrOf, None, Ok, true, option_map, length};
 ghost use Rattle.nn_types.specs.LawfulEdit.{IsLawfulEdit};
-ghost use Rattle.nn_types.specs.Block.{AreBlocks};
 ghost use Rattle.nn_types.specs.Profile.{number_of};
 ghost use Rattle.nn_model.specs.Namespace.{root_alone, lookup};
 ghost use Rattle.nn_model.specs.Apply.{applied, refusal};
@@ -28,7 +27,7 @@ use crate::touched::Touched;
 use crate::tree::Tree;
 pub use blocks::BlockRows;
 use nn_model::BlockRow;
-use nn_types::{Block, BlockId, Edit, EditFault, GenerationStamp, Path, Status};
+use nn_types::{BlockId, Edit, EditFault, GenerationStamp, Path, Status};
 use std::alloc::{AllocError, Global};
 use std::collections::BTreeMap;
 use std::marker::Model;
@@ -262,7 +261,7 @@ fn lawful(edit: &Edit)
         }
         Edit::UpdateBlocks { path, blocks } | Edit::Close { path, blocks } => {
             path.names();
-            lawful_blocks(blocks.as_slice());
+            blocks.lawful();
         }
         Edit::Rename { src, dst } => {
             src.names();
@@ -274,17 +273,5 @@ fn lawful(edit: &Edit)
         Edit::SetGenstamp { stamp } => {
             stamp.get();
         }
-    }
-}
-
-fn lawful_blocks(blocks: &[Block])
-    ensures { AreBlocks blocks.now }
-{
-    let mut left = blocks;
-    'left: while let Some((block, rest)) = left.split_first() {
-        block.id.get();
-        block.stamp.get();
-        block.len.get();
-        left = rest;
     }
 }

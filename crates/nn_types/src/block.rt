@@ -1,5 +1,6 @@
 //! Blocks, and the list of blocks that a file has.
 ghost use Rattle.std.specs.Prelude.{◌≡◌, ◌++◌, ◌∷◌, [], OnOk, OnErr, IfOk};
+ghost use Rattle.nn_types.specs.Block.{IsBlock, AreBlocks};
 
 use crate::number::{BlockId, GenerationStamp, Length};
 use std::alloc::{AllocError, Global};
@@ -13,6 +14,17 @@ pub struct Block {
     pub len: Length,
 }
 
+impl Block {
+    // Its numbers keep their limits. This does nothing: it is there for the proofs of callers.
+    fn lawful(&self)
+        ensures { IsBlock self.now }
+    {
+        self.id.get();
+        self.stamp.get();
+        self.len.get();
+    }
+}
+
 /// Blocks in file order.
 #[derive(Drop)]
 pub struct Blocks {
@@ -22,10 +34,13 @@ pub struct Blocks {
 impl Model for Blocks {
     ghost use Rattle.std.specs.Prelude.{List};
     ghost use Rattle.nn_types.specs.declared.block.Block.{Block};
+    ghost use Rattle.nn_types.specs.Block.{AreBlocks};
 
     ghost Value = { List Block };
 
     ghost view = { λ b. b.items.items };
+
+    ghost invariant = { λ b. AreBlocks b.items.items };
 }
 
 impl Blocks {
@@ -45,11 +60,19 @@ impl Blocks {
         &self.items
     }
 
+    /// The numbers of all blocks keep their limits. This does nothing: it is there for the proofs of callers.
+    pub fn lawful(&self)
+        ensures { AreBlocks self.now }
+    {
+        let _ = &self.items;
+    }
+
     /// Adds a block at the end. If memory runs out, the list is as it was.
     pub fn push(&mut self, block: Block) -> Result<(), AllocError>
         ensures ok { OnOk result (self.new ≡ self.old ++ block ∷ []) }
         ensures err { OnErr result (self.new ≡ self.old) }
     {
+        block.lawful();
         self.items.push(block)?;
         Ok(())
     }

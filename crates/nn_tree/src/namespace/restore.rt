@@ -7,7 +7,7 @@ ghost use Rattle.nn_model.specs.Namespace.{with_row, no_block, no_stamp};
 ghost use Rattle.nn_model.specs.Apply.{refusal};
 ghost use Rattle.nn_tree.specs.Restore.{bare, can_restore, awaiting_fits, block_fits};
 
-use super::{Namespace, lawful_blocks};
+use super::Namespace;
 use crate::fault::RestoreFault;
 use crate::index::{enter, forget};
 use crate::issued::Issued;
@@ -108,8 +108,8 @@ impl Namespace {
     {
         let names = path.names();
         file.replication.get();
+        file.blocks.lawful();
         let blocks = file.blocks.as_slice();
-        lawful_blocks(blocks);
         if let Err(fault) = enter(&mut self.index, blocks, ids, file.closed) {
             return Err(fault);
         }

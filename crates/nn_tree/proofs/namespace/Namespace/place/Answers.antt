@@ -2,7 +2,6 @@ use Rattle.std.proofs.Common.{◌≡◌, ℕ, true, false, Some, None, List, Opt
 use Rattle.std.specs.List.{list_all}
 use Rattle.std.specs.BTreeMap.{get}
 use Rattle.std.specs.Ordering.{nat_cmp}
-use Rattle.nn_types.specs.Block.{AreBlocks}
 use Rattle.nn_types.specs.declared.edit.Edit.TheVariants as edit
 use Rattle.nn_model.specs.declared.form.Form.{Form}
 use Rattle.nn_model.specs.declared.form.Form.TheVariants.{File}
@@ -58,7 +57,7 @@ invariant_of-self-in-Ok c =
     let fit : list_all (block_fits s.issued) x.blocks ≡ true = subst (λ (n : Namespace). list_all (block_fits n.issued) x.blocks ≡ true) (sym c.self.view_is) c.requires.fit in
     subst (λ (n : Namespace). IsKept n (λ id. get nat_cmp c.enter.new.index id)) (sym is)
     (file_kept s p x look (λ id. get nat_cmp c.enter.new.index id) (c.names-names.ensures.lawful, c.get.ensures.limit) applies fit
-    (subst AreBlocks listed c.lawful_blocks.ensures) (ap (are_new look) (sym listed) ∙ c.in_default.ensures.lawful)
+    c.lawful.ensures (ap (are_new look) (sym listed) ∙ c.in_default.ensures.lawful)
     (λ q. c.in_default.ensures.ok q ∙ (λ j. entered look (listed j) x.closed q)) c.self.invariant)
 
 pub returns-clause-ok : goal.returns-clause-ok

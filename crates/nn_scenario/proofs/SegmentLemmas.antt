@@ -1,16 +1,18 @@
 -- Parts of the log as segments.
-use Rattle.std.proofs.Common.{◌≡◌, ℕ, ◌+◌, ◌≤◌, List, [], ◌∷◌, ◌++◌, length, map, true, Some, max, Result, Ok, Err, refl, sym, ap, ◌∙◌, append_assoc, append-nil, arith, length-append}
+use Rattle.std.proofs.Common.{◌≡◌, ℕ, ◌+◌, ◌≤◌, List, [], ◌∷◌, ◌++◌, length, map, true, Some, max, None, Result, Ok, Err, refl, sym, ap, ◌∙◌, subst, append_assoc, append-nil, arith, length-append}
 use Rattle.std.specs.Prelude.{slice_get}
 use Rattle.std.proofs.lemmas.List.{map-append}
-use Rattle.std.specs.List.{list_all}
+use Rattle.std.specs.List.{All, list_all}
 use Rattle.std.proofs.lemmas.Bool.{and_parts}
-use Rattle.std.proofs.lemmas.List.Elements.{All-push, All-nil}
+use Rattle.std.proofs.lemmas.List.Elements.{All-head, All-push, All-nil}
 use Rattle.nn_edits.specs.Reading.{edit_of_line}
 use Rattle.nn_types.specs.declared.tx.Tx.{Tx}
 use Rattle.nn_segment.specs.Lines.{newline, joined_lines, reads_of, is_unbroken}
 use Rattle.nn_segment.proofs.JoinedLines.{reads_joined}
 use Rattle.nn_segment.specs.Segment.{Segment, last_txid}
-use Rattle.nn_segment.specs.Name.{name_text}
+use Rattle.nn_segment.specs.Name.{name_text, txids_of}
+use Rattle.nn_segment.specs.Reading.{read_segment}
+use Rattle.nn_segment.proofs.ReadingLemmas.{no_name}
 use Rattle.nn_segment.specs.declared.fault.SegmentFault.{SegmentFault}
 use Rattle.nn_segment.specs.declared.fault.SegmentFault.TheVariants.{BadName, NoStart, NoEnd, Gap, TornLine, NameMismatch, TooLong, BadLine, WrongProfile, OutOfMemory}
 use Rattle.nn_segment.specs.Outcome.{Gives}
@@ -106,3 +108,15 @@ named [] first last high f l h = absurd (cc)
 named (x ∷ txs) first last high f l h =
     let same : first ≡ x = cc in
     ap (λ n. name_text first.txid n) (h ∙ ap (max first.txid) (sym l)) ∙ ap (λ (t : Tx). name_text t.txid (max t.txid (last_txid (x ∷ txs)))) same
+
+pub first_from_one : (txs : List Tx) (first : Tx) → All (λ tx. 1 ≤ tx.txid) txs → Some first ≡ slice_get txs 0 → 1 ≤ first.txid
+first_from_one [] first all f = absurd (cc)
+first_from_one (x ∷ txs) first all f = subst (λ (t : Tx). 1 ≤ t.txid) (let same : x ≡ first = cc in same) (All-head (λ (t : Tx). 1 ≤ t.txid) x txs all)
+
+no_txids : txids_of [] ≡ None
+unfolding txids_of
+no_txids = refl
+
+-- where there are no transactions there is no name
+pub unnamed : (name bytes : List ℕ) → name ≡ [] → read_segment name bytes ≡ Err BadName
+unnamed name bytes none = no_name name bytes (ap txids_of none ∙ no_txids)

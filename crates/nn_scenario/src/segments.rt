@@ -1,8 +1,9 @@
 //! The edit lines of a scenario as segments.
-ghost use Rattle.std.specs.Prelude.{◌≡◌, ◌≢◌, ◌≤◌, ◌++◌, ◌∷◌, [], true, Ok, Err, IfOk, IfErr, OnOk, max, string_bytes};
+ghost use Rattle.std.specs.Prelude.{◌≡◌, ◌≢◌, ◌≤◌, ◌++◌, ◌∷◌, [], true, Ok, Err, IfOk, IfErr, OnOk, MatchOption, max};
 ghost use Rattle.std.specs.List.{All};
 ghost use Rattle.nn_edits.specs.Reading.{edit_of_line};
 ghost use Rattle.nn_segment.specs.Lines.{newline, is_unbroken};
+ghost use Rattle.nn_segment.specs.Name.{name_text};
 ghost use Rattle.nn_segment.specs.Outcome.{Gives};
 ghost use Rattle.nn_scenario.specs.Cut.{no_lines, with_line, last_part, name_of, segment_of, segments_from};
 
@@ -70,8 +71,11 @@ impl Part {
         ensures { Gives result (segment_of self) }
     {
         let Part { bytes, txs } = self;
-        match name_of(alloc, &txs) {
-            Ok(name) => Parsed::from_lines(name, bytes, txs),
+        let Some(txids) = ends_of(&txs) else {
+            return Err(SegmentFault::BadName);
+        };
+        match segment_name(alloc, txids.0, txids.1) {
+            Ok(name) => Parsed::from_lines(name, txids, bytes, txs),
             Err(AllocError) => Err(SegmentFault::OutOfMemory),
         }
     }
@@ -85,18 +89,14 @@ fn add_line(bytes: &mut Vec<u8>, text: &[u8]) -> Result<(), AllocError>
     Ok(())
 }
 
-// The name of transactions; no text where there are none.
-fn name_of(alloc: Global, txs: &[Tx]) -> Result<String, AllocError>
+// The txids of the name of transactions; none where there are no transactions.
+fn ends_of(txs: &[Tx]) -> Option<(Txid, Txid)>
     requires { All (λ tx. 1 ≤ tx.txid) txs.now }
-    ensures { IfOk result (λ name. string_bytes name ≡ name_of txs.now) }
+    ensures { MatchOption result (name_of txs.now ≡ []) (λ p. (name_of txs.now ≡ name_text p.0 p.1) × (1 ≤ p.0) × (p.0 ≤ p.1)) }
 {
-    let Some(first) = txs.first() else {
-        return Ok(String::new(alloc));
-    };
-    let Some(last) = txs.last() else {
-        return Ok(String::new(alloc));
-    };
-    segment_name(alloc, first.txid, no_lower(first.txid, last.txid))
+    let first = txs.first()?;
+    let last = txs.last()?;
+    Some((first.txid, no_lower(first.txid, last.txid)))
 }
 
 // The last txid, or the first where the last is lower.

@@ -63,12 +63,20 @@ pub refused_early : (name bytes : List ℕ) (e : SegmentFault) → first (when (
     → read_segment name bytes ≡ Err e
 refused_early name bytes e is = refused name bytes e (early name bytes e is)
 
--- ---- name and bytes
-
-pub named_then : (name bytes : List ℕ) (txids : ℕ × ℕ) (o : Option SegmentFault) → txids_of name ≡ Some txids → first (bytes_checks bytes) ≡ o
+named_then : (name bytes : List ℕ) (txids : ℕ × ℕ) (o : Option SegmentFault) → txids_of name ≡ Some txids → first (bytes_checks bytes) ≡ o
     → first (when (is_none (txids_of name)) BadName ∷ first (bytes_checks bytes) ∷ []) ≡ o
 named_then name bytes txids o named is =
     ap (λ t. first (when (is_none t) BadName ∷ first (bytes_checks bytes) ∷ [])) named ∙ ap (λ x. first (None ∷ x ∷ [])) is ∙ lone o
+
+-- a name that names no txids
+pub no_name : (name bytes : List ℕ) → txids_of name ≡ None → read_segment name bytes ≡ Err BadName
+no_name name bytes none = refused_early name bytes BadName (ap (λ o. first (when (is_none o) BadName ∷ first (bytes_checks bytes) ∷ [])) none)
+
+-- a fault of the bytes, under a name
+pub bytes_refused : (name bytes : List ℕ) (txids : ℕ × ℕ) (e : SegmentFault) → txids_of name ≡ Some txids → first (bytes_checks bytes) ≡ Some e → read_segment name bytes ≡ Err e
+bytes_refused name bytes txids e named is = refused_early name bytes e (named_then name bytes txids (Some e) named is)
+
+-- ---- name and bytes
 
 checks_of : Bool → Bool → Bool → ℕ → Option SegmentFault
 checks_of long empty torn n = first (when long TooLong ∷ when empty NoStart ∷ when torn (TornLine n) ∷ [])

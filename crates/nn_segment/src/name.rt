@@ -12,7 +12,8 @@ const NAME_LEN: usize = 45;
 pub fn segment_name(alloc: Global, first: Txid, last: Txid) -> Result<String, AllocError>
     requires from_one { 1 ≤ first }
     requires in_order { first ≤ last }
-    ensures { IfOk result (λ name. string_bytes name ≡ name_text first last) }
+    ensures ok { IfOk result (λ name. string_bytes name ≡ name_text first last) }
+    ensures named { IfOk result (λ name. txids_of (string_bytes name) ≡ Some (first, last)) }
 {
     format!(in alloc; "edits_{:019}-{:019}", first.get(), last.get())
 }

@@ -1,10 +1,9 @@
 //! A segment that was found whole.
-ghost use Rattle.std.specs.Prelude.{◌≡◌, ◌⊎◌, ◌≤◌, ◌<◌, ◌^◌, ◌+◌, ◌∷◌, [], ◌||◌, length, None, Some, Ok, Err, map, drop, is_none, string_bytes, MatchResult};
-ghost use Rattle.nn_segment.specs.declared.fault.SegmentFault.TheVariants.{BadName};
+ghost use Rattle.std.specs.Prelude.{◌≡◌, ◌⊎◌, ◌≤◌, ◌<◌, ◌^◌, ◌+◌, ◌||◌, length, None, Some, Ok, Err, map, drop, string_bytes, MatchResult};
 ghost use Rattle.nn_segment.specs.Name.{txids_of};
 ghost use Rattle.nn_segment.specs.Lines.{reads_of};
 ghost use Rattle.nn_segment.specs.Segment.{start_profile, allows, is_start, is_end, ends_once, first_txid, last_txid, IsSegment};
-ghost use Rattle.nn_segment.specs.Reading.{first, when, bytes_checks, lines_fault, later_fault, is_named, read_segment, fault_of_line};
+ghost use Rattle.nn_segment.specs.Reading.{first, bytes_checks, lines_fault, later_fault, is_named, read_segment, fault_of_line};
 ghost use Rattle.nn_segment.specs.Outcome.{Gives, StopsAt};
 
 use crate::fault::SegmentFault;
@@ -46,18 +45,27 @@ impl Parsed {
     pub fn of(alloc: Global, name: String, bytes: Vec<u8>) -> Result<Parsed, SegmentFault>
         ensures { Gives result (read_segment (string_bytes name) bytes.items) }
     {
-        let txids = before_lines(name.as_str(), &bytes)?;
+        let Some(txids) = parse_name(name.as_str()) else {
+            return Err(SegmentFault::BadName);
+        };
+        check_bytes(&bytes)?;
         let read = read_lines(alloc, &bytes);
         after_lines(name, bytes, txids, read.txs, read.bad)
     }
 
-    /// The same from lines that were read already: the transactions are those of the bytes' lines. Takes no
-    /// memory.
-    pub fn from_lines(name: String, bytes: Vec<u8>, txs: Vec<Tx>) -> Result<Parsed, SegmentFault>
-        requires { reads_of bytes.items ≡ map Ok txs.items }
+    /// The same from what is known already: the name is of these txids, and the transactions are those of the bytes'
+    /// lines. Takes no memory.
+    pub fn from_lines(
+        name: String,
+        txids: (Txid, Txid),
+        bytes: Vec<u8>,
+        txs: Vec<Tx>,
+    ) -> Result<Parsed, SegmentFault>
+        requires named { txids_of (string_bytes name) ≡ Some txids }
+        requires read { reads_of bytes.items ≡ map Ok txs.items }
         ensures { result ≡ read_segment (string_bytes name) bytes.items }
     {
-        let txids = before_lines(name.as_str(), &bytes)?;
+        check_bytes(&bytes)?;
         after_lines(name, bytes, txids, txs, None)
     }
 
@@ -95,15 +103,10 @@ impl Parsed {
     }
 }
 
-// What can be told before any line is read: the txids of the name, or a fault of the name or the bytes.
-fn before_lines(name: &str, bytes: &[u8]) -> Result<(Txid, Txid), SegmentFault>
-    ensures { MatchResult result
-        (λ txids. (txids_of name.now ≡ Some txids) × (first (bytes_checks bytes.now) ≡ None))
-        (λ e. first (when (is_none (txids_of name.now)) BadName ∷ first (bytes_checks bytes.now) ∷ []) ≡ Some e) }
+// The fault of the bytes that can be told before any line is read.
+fn check_bytes(bytes: &[u8]) -> Result<(), SegmentFault>
+    ensures { MatchResult result (λ _. first (bytes_checks bytes.now) ≡ None) (λ e. first (bytes_checks bytes.now) ≡ Some e) }
 {
-    let Some(txids) = parse_name(name) else {
-        return Err(SegmentFault::BadName);
-    };
     if bytes.len() > MAX_BYTES {
         return Err(SegmentFault::TooLong);
     }
@@ -113,7 +116,7 @@ fn before_lines(name: &str, bytes: &[u8]) -> Result<(Txid, Txid), SegmentFault>
     if bytes[bytes.len() - 1] != b'\n' {
         return Err(torn_line(bytes));
     }
-    Ok(txids)
+    Ok(())
 }
 
 // The segment, where the lines were read up to the first bad one.

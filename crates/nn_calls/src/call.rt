@@ -2,7 +2,7 @@
 ghost use Rattle.std.specs.Prelude.{◌<◌, ◌^◌};
 
 use nn_tree::BlockRow;
-use nn_types::{Block, BlockId, GenerationStamp, Kind, Length, Message, Status};
+use nn_types::{Block, BlockId, GenerationStamp, Kind, Length, Message, Report, Status};
 use std::alloc::Global;
 use std::fmt::Display;
 
@@ -90,6 +90,17 @@ impl<'a> Call<'a> {
             id: self.id(1),
             stamp: self.stamp(2),
             len: self.length(3),
+        }
+    }
+
+    /// A report of a received replica: the id, stamp and length of a block. A lane does not read its DataNode.
+    pub fn report(&mut self) -> Report {
+        Report {
+            dn: 1,
+            block: self.id(1),
+            stamp: self.stamp(2),
+            len: self.length(3),
+            kind: Kind::Received,
         }
     }
 

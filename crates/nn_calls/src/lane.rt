@@ -3,7 +3,6 @@ ghost use Rattle.std.specs.Prelude.{◌≡◌};
 
 use crate::call::Call;
 use nn_lane::{LaneEnd, Refusal, Reporter, Taken, lane, meet};
-use nn_types::Kind;
 
 /// A lane with both ends, or the end that is left of one.
 #[derive(Drop)]
@@ -93,13 +92,12 @@ fn send(reporter: &mut Reporter, call: &mut Call<'_>)
         }
         return;
     }
-    let block = call.block();
+    let report = call.report();
     if call.is("report") {
-        let sent = reporter.report(block.id, block.stamp, block.len, Kind::Received);
-        show_sent(sent, call);
+        show_sent(reporter.report(&report), call);
         return;
     }
-    if let Err(refusal) = reporter.prepare(block.id, block.stamp, block.len, Kind::Received) {
+    if let Err(refusal) = reporter.prepare(&report) {
         show_refusal(refusal, call);
     }
 }

@@ -6,7 +6,7 @@ use nn_device::{Reader, Writer};
 use nn_lane::{LaneEnd, Refusal, Reporter, lane};
 use nn_segment::{Item, Parsed, SegmentSource, SourceFault};
 use nn_tailer::{Choice, Standby, StepFault, Stepped};
-use nn_types::{Kind, Settings};
+use nn_types::Settings;
 use std::alloc::Global;
 use std::collections::VecDeque;
 
@@ -203,8 +203,7 @@ fn promote(tailing: &mut Tailing, call: &mut Call<'_>) {
 
 // Sends a report of a received replica.
 fn send(reporter: &mut Reporter, call: &mut Call<'_>) {
-    let block = call.block();
-    match reporter.report(block.id, block.stamp, block.len, Kind::Received) {
+    match reporter.report(&call.report()) {
         Ok(number) => call.show(&number),
         Err(refusal) => show_refusal(refusal, call),
     }

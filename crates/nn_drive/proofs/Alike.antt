@@ -73,12 +73,12 @@ sent_long dn sent [] = omega arith
 sent_long dn sent (r ∷ reports) = omega (arith, sent_long dn (sent ++ next_message dn sent r ∷ []) reports, length-append sent (next_message dn sent r ∷ []))
 
 -- a report that was not sent, of a lane that was not closed: the lane has carried all that it can
-full_of : (P : ℕ → Type 0) (u : Reporting) (f : Report → Message) (last : Option Report) (z : Report) (answer : Result ℕ Refusal) → ((n : ℕ) → P n → last ≡ None) → last ≡ Some z → (IsTold answer → ⊥)
-    → MatchResult answer P (λ e. MatchOption last ⊥ (λ x. TakesNoMore u (f x) e)) → length u.sent ≡ 2 ^ 62
-full_of P u f last z (Ok n) none some open_ h = absurd (let e : None ≡ Some z = sym (none n h) ∙ some in cc)
-full_of P u f last z (Err (Closed m n)) none some open_ h = absurd (open_ tt)
-full_of P u f last z (Err (Exhausted m)) none some open_ h = (subst (λ (o : Option Report). MatchOption o ⊥ (λ x. TakesNoMore u (f x) (Exhausted m))) some h).1
-full_of P u f last z (Err (Full m n)) none some open_ h = absurd (subst (λ (o : Option Report). MatchOption o ⊥ (λ x. TakesNoMore u (f x) (Full m n))) some h)
+full_of : (u : Reporting) (f : Report → Message) (last : Option Report) (z : Report) (answer : Result (Unit {0}) Refusal) → last ≡ Some z → (IsTold answer → ⊥)
+    → MatchResult answer (λ _. last ≡ None) (λ e. MatchOption last ⊥ (λ x. TakesNoMore u (f x) e)) → length u.sent ≡ 2 ^ 62
+full_of u f last z (Ok _) some open_ h = absurd (let e : None ≡ Some z = sym h ∙ some in cc)
+full_of u f last z (Err (Closed m n)) some open_ h = absurd (open_ tt)
+full_of u f last z (Err (Exhausted m)) some open_ h = (subst (λ (o : Option Report). MatchOption o ⊥ (λ x. TakesNoMore u (f x) (Exhausted m))) some h).1
+full_of u f last z (Err (Full m n)) some open_ h = absurd (subst (λ (o : Option Report). MatchOption o ⊥ (λ x. TakesNoMore u (f x) (Full m n))) some h)
 
 module _ {S : Type 0} (gives : S → Option Report → S → Type 0) (fixed : AnswersByFunction gives) (s : S) (r : Reporting) (v w : WorkerExit S)
     (p : Reported gives s r v.source v.reporter v.outcome) (q : Reported gives s r w.source w.reporter w.outcome) (not_told : IsTold v.outcome → ⊥) (not_told' : IsTold w.outcome → ⊥) where
@@ -87,12 +87,12 @@ module _ {S : Type 0} (gives : S → Option Report → S → Type 0) (fixed : An
     | inl same ↦ p.3 ∙ ap (sent_after r.lane.node r.sent) same ∙ sym q.3
     | inr other ↦ elim other [
       | inl more ↦
-          let all = full_of (λ n. (p.1 ≡ None) × (n ≡ length p.0)) v.reporter (next_message r.lane.node v.reporter.sent) p.1 more.0 v.outcome (λ n h. h.0) more.3 not_told p.4 in
+          let all = full_of v.reporter (next_message r.lane.node v.reporter.sent) p.1 more.0 v.outcome more.3 not_told p.4 in
           let longer = ap length more.2 ∙ length-append p.0 (more.0 ∷ more.1) in
           let few = q.5 (omega (arith, longer)) in
           absurd (omega (arith, all, longer, few, ap length p.3, ap length q.3, sent_long r.lane.node r.sent p.0, sent_long r.lane.node r.sent q.0))
       | inr more ↦
-          let all = full_of (λ n. (q.1 ≡ None) × (n ≡ length q.0)) w.reporter (next_message r.lane.node w.reporter.sent) q.1 more.0 w.outcome (λ n h. h.0) more.3 not_told' q.4 in
+          let all = full_of w.reporter (next_message r.lane.node w.reporter.sent) q.1 more.0 w.outcome more.3 not_told' q.4 in
           let longer = ap length more.2 ∙ length-append q.0 (more.0 ∷ more.1) in
           let few = p.5 (omega (arith, longer)) in
           absurd (omega (arith, all, longer, few, ap length p.3, ap length q.3, sent_long r.lane.node r.sent p.0, sent_long r.lane.node r.sent q.0))

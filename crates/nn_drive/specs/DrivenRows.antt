@@ -33,11 +33,11 @@ sent l messages = record (reporting l 2) { sent = messages }
 
 -- ---- All reports of a source.
 
-one_sent : (l : LaneId) → Reported gives_next (report 2 ∷ []) (reporting l 2) [] (sent l (message 2 1 ∷ [])) (Ok 1)
-one_sent l = (report 2 ∷ [], None, ([], ([], (refl, refl), refl), (refl, refl)), refl, (refl, refl), λ few. omega arith)
+one_sent : (l : LaneId) → Reported gives_next (report 2 ∷ []) (reporting l 2) [] (sent l (message 2 1 ∷ [])) (Ok tt)
+one_sent l = (report 2 ∷ [], None, ([], ([], (refl, refl), refl), (refl, refl)), refl, refl, λ few. omega arith)
 
-none_sent : (l : LaneId) → Reported gives_next [] (reporting l 2) [] (reporting l 2) (Ok 0)
-none_sent l = ([], None, ([], refl, (refl, refl)), refl, (refl, refl), λ few. omega arith)
+none_sent : (l : LaneId) → Reported gives_next [] (reporting l 2) [] (reporting l 2) (Ok tt)
+none_sent l = ([], None, ([], refl, (refl, refl)), refl, refl, λ few. omega arith)
 
 -- the second was refused, since the lane was closed
 one_refused : (l : LaneId) → Reported gives_next (report 2 ∷ report 2 ∷ []) (reporting l 2) [] (record (sent l (message 2 1 ∷ [])) { told = true }) (Err (Closed (message 2 2) 1))
@@ -87,7 +87,7 @@ not_dropped l h = let e : 0 ≡ 1 = ap length h.0 in omega (arith, e)
 told_of_a_close : IsTold (Err (Closed (message 2 1) 0))
 told_of_a_close = tt
 
-not_told_at_its_end : IsTold (Ok 3) → ⊥
+not_told_at_its_end : IsTold (Ok tt) → ⊥
 not_told_at_its_end h = h
 
 -- of a lane that was closed before a report is refused, of an open one none is
@@ -95,7 +95,7 @@ not_told_of_an_open_lane : (l : LaneId) → IsToldOnly {S = ℕ} (record { sourc
 not_told_of_an_open_lane l h = true≢false (sym (h tt))
 
 abbrev worked : LaneId → WorkerExit (List Report)
-worked l = record { source = []; reporter = sent l (message 2 1 ∷ []); outcome = Ok 1 }
+worked l = record { source = []; reporter = sent l (message 2 1 ∷ []); outcome = Ok tt }
 
 all_taken : (l : LaneId) → IsTaken gives_next (report 2 ∷ []) (reporting l 2) (taking l 2) (message 2 1 ∷ [])
 all_taken l = (worked l, (refl, one_sent l), refl, λ told. absurd told)
@@ -121,8 +121,8 @@ not_untaken l h = by_outcome h.0.source h.0.reporter h.0.outcome h.1.1 h.2 h.3
     filled r m n None refused = refused
     filled r m n (Some x) refused = refused
 
-    by_outcome : (left : List Report) (r : Reporting) (o : Result ℕ Refusal) → Reported gives_next (report 1 ∷ []) (reporting l 1) left r o → [] ≡ r.sent → (IsTold o → false ≡ true) → ⊥
-    by_outcome left r (Ok n) reported none only = all_sent left reported.0 reported.1 reported.2 reported.4.0 (ap length (none ∙ reported.3))
+    by_outcome : (left : List Report) (r : Reporting) (o : Result (Unit {0}) Refusal) → Reported gives_next (report 1 ∷ []) (reporting l 1) left r o → [] ≡ r.sent → (IsTold o → false ≡ true) → ⊥
+    by_outcome left r (Ok _) reported none only = all_sent left reported.0 reported.1 reported.2 reported.4 (ap length (none ∙ reported.3))
     by_outcome left r (Err (Closed m n)) reported none only = true≢false (sym (only tt))
     by_outcome left r (Err (Exhausted m)) reported none only = carried r m reported.1 reported.4 (ap length none)
     by_outcome left r (Err (Full m n)) reported none only = filled r m n reported.1 reported.4

@@ -27,9 +27,9 @@ pub struct Running<S: ReportSource> {
 #[derive(Drop)]
 pub struct Left<S> {
     pub source: S,
-    /// How many reports were sent before the source gave none; or why the last one was refused. 42 is no fault: the
-    /// standby was promoted meanwhile.
-    pub outcome: Result<u64, Refusal>,
+    /// `Ok` where the source gave no more reports; else why the last one was refused. 42 is no fault: the standby was
+    /// promoted meanwhile. How many were sent, `met` says.
+    pub outcome: Result<(), Refusal>,
     /// What the two ends of its lane counted.
     pub met: Met,
 }

@@ -62,10 +62,10 @@ length_sent dn sent (r ∷ reports) =
     omega (arith, more, one)
 
 -- a list that is no longer than a lane carries is sent whole
-all_sent : (all : List Report) (r u : Reporting) (t : List Report) (dn : ℕ) (answer : Result ℕ Refusal) → r.sent ≡ [] → r.lane.node ≡ dn → length all ≤ 2 ^ 62
+all_sent : (all : List Report) (r u : Reporting) (t : List Report) (dn : ℕ) (answer : Result (Unit {0}) Refusal) → r.sent ≡ [] → r.lane.node ≡ dn → length all ≤ 2 ^ 62
     → (IsTold answer → ⊥) → Reported GivesReport all r t u answer → u.sent ≡ sent_after dn [] all
-all_sent all r u t dn (Ok n) none node few untold h =
-    let whole : all ≡ h.0 = gives_front all h.0 h.2.0 h.2.1 ∙ ap (λ z. h.0 ++ z) (none_left h.2.0 t (subst (λ o. GivesReport h.2.0 o t) h.4.0 h.2.2)) ∙ append-nil h.0 in
+all_sent all r u t dn (Ok _) none node few untold h =
+    let whole : all ≡ h.0 = gives_front all h.0 h.2.0 h.2.1 ∙ ap (λ z. h.0 ++ z) (none_left h.2.0 t (subst (λ o. GivesReport h.2.0 o t) h.4 h.2.2)) ∙ append-nil h.0 in
     h.3 ∙ (λ j. sent_after (node j) (none j) (sym whole j))
 all_sent all r u t dn (Err (Full m n)) none node few untold h = absurd (by_last h.1 h.4)
   where

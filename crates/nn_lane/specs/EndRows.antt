@@ -2,6 +2,7 @@
 use Rattle.std.specs.Prelude.{◌≡◌, ℕ, ◌+◌, ◌≤◌, ⊤, Ok, Err, Option, Some, None, true, false, List, [], ◌∷◌, length, refl}
 use Rattle.std.proofs.Common.{ap, sym, inl, inr, ⊎_elim, subst, get_or, true≢false, arith}
 use Rattle.nn_types.specs.declared.report.Message.{Message}
+use Rattle.nn_types.specs.declared.report.Report.{Report}
 use Rattle.nn_types.specs.declared.report.Kind.{Kind}
 use Rattle.nn_types.specs.declared.report.Kind.TheVariants.{Receiving, Received}
 use Rattle.nn_lane.specs.declared.fault.Refusal.TheVariants.{Closed, Exhausted, Full}
@@ -44,10 +45,14 @@ prepared r x = record r { prepared = Some x }
 abbrev taking : LaneId → List Message → ℕ → ℕ → Taking
 taking l got loads seen = record { lane = lane_of_three l; got = got; seen = seen; loads = loads; closed = false }
 
-numbers_from_one : (l : LaneId) → message_of (reporting l [] 0 0) 1073741825 1001 5 Receiving ≡ first
+-- a report, which names another DataNode: the message is of the lane's
+abbrev report : Kind → Report
+report kind = record { dn = 7; block = 1073741825; stamp = 1001; len = 5; kind = kind }
+
+numbers_from_one : (l : LaneId) → message_of (reporting l [] 0 0) (report Receiving) ≡ first
 numbers_from_one l = refl
 
-next_number : (l : LaneId) → message_of (reporting l (first ∷ []) 1 0) 1073741825 1001 5 Received ≡ second
+next_number : (l : LaneId) → message_of (reporting l (first ∷ []) 1 0) (report Received) ≡ second
 next_number l = refl
 
 -- ---- A report, where the lane has one place.

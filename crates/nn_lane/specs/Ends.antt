@@ -1,8 +1,8 @@
 -- What contracts see of the two ends of a lane, and what their calls do.
 use Rattle.std.specs.Prelude.{◌≡◌, ◌⊎◌, ℕ, ◌+◌, ◌^◌, ◌<◌, ◌≤◌, Bool, true, false, Result, Ok, Err, Option, Some, None, List, [], ◌∷◌, ◌++◌, length}
 use Rattle.atomic_table.specs.Seated.{TableId}
-use Rattle.nn_types.specs.declared.report.Kind.{Kind}
 use Rattle.nn_types.specs.declared.report.Message.{Message}
+use Rattle.nn_types.specs.declared.report.Report.{Report}
 use Rattle.nn_lane.specs.declared.fault.Refusal.{Refusal}
 use Rattle.nn_lane.specs.declared.fault.Refusal.TheVariants.{Closed, Exhausted, Full}
 use Rattle.nn_lane.specs.declared.message.Taken.{Taken}
@@ -66,9 +66,9 @@ IsClosed e = e.closed ≡ true
 
 -- ---- What the reporter's calls do.
 
--- the message that comes next, with this content
-abbrev pub message_of : Reporting → ℕ → ℕ → ℕ → Kind → Message
-message_of r block stamp len kind = record { dn = r.lane.node; number = length r.sent + 1; block = block; stamp = stamp; len = len; kind = kind }
+-- the report as the message that comes next: its DataNode is the lane's
+abbrev pub message_of : Reporting → Report → Message
+message_of r x = record { dn = r.lane.node; number = length r.sent + 1; block = x.block; stamp = x.stamp; len = x.len; kind = x.kind }
 
 abbrev pub StaysUntold : Reporting → Reporting → Type 0
 StaysUntold r r' = (r.told ≡ false) × (r'.told ≡ false)

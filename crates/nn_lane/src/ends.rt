@@ -11,7 +11,7 @@ use crate::plays::{
 };
 use crate::view::View;
 use atomic_table::{Seat, Table};
-use nn_types::{BlockId, GenerationStamp, Kind, Length, Message};
+use nn_types::{BlockId, GenerationStamp, Kind, Length, Message, Report};
 use std::alloc::{AllocError, Global};
 use std::marker::Model;
 use std::sync::Arc;
@@ -124,32 +124,26 @@ fn is_closed(table: &LaneTable, seat: &mut LaneSeat, accepted: u64) -> bool
 }
 
 impl Reporter {
-    /// Writes a message into its place in the lane, from where `publish` sends it. It replaces one that was prepared
-    /// before. O(1); it never waits.
+    /// Writes a report into its place in the lane, as the message that comes next; `publish` sends it from there. It
+    /// replaces one that was prepared before. The report's own DataNode is not read: the lane has one. O(1); it never waits.
     ///
     /// 42 where this end was told that the lane is closed, then 43 at 2^62 messages. Where all places were taken it looks
     /// whether the lane is closed: then 42, and else 41. After a refusal nothing is prepared. It looks at the other end only
     /// if it remembers no place, so 41 comes of two looks in this call.
-    pub fn prepare(
-        &mut self,
-        block: BlockId,
-        stamp: GenerationStamp,
-        len: Length,
-        kind: Kind,
-    ) -> Result<(), Refusal>
+    pub fn prepare(&mut self, report: &Report) -> Result<(), Refusal>
         ensures lane { self.new.lane ≡ self.old.lane }
         ensures same { self.new.sent ≡ self.old.sent }
-        ensures ok { IfOk result (λ _. (self.new.prepared ≡ Some (message_of self.old block stamp len kind)) × HasPlace self.old self.new) }
-        ensures refused { IfErr result (λ e. (self.new.prepared ≡ None) × Refuses self.old self.new (message_of self.old block stamp len kind) e) }
+        ensures ok { IfOk result (λ _. (self.new.prepared ≡ Some (message_of self.old report.now)) × HasPlace self.old self.new) }
+        ensures refused { IfErr result (λ e. (self.new.prepared ≡ None) × Refuses self.old self.new (message_of self.old report.now) e) }
     {
         let accepted = self.accepted;
         let message = Message {
             dn: self.dn,
             number: accepted + 1,
-            block,
-            stamp,
-            len,
-            kind,
+            block: report.block,
+            stamp: report.stamp,
+            len: report.len,
+            kind: report.kind,
         };
         if self.told {
             return Err(Refusal::Closed { message, accepted });
@@ -202,23 +196,17 @@ impl Reporter {
         Some(Ok(accepted + 1))
     }
 
-    /// Sends one message, and answers its number: messages are counted from 1. It is `prepare`, and then `publish`.
+    /// Sends one report, and answers its number as a message: messages are counted from 1. It is `prepare`, and then `publish`.
     /// O(1); it never waits.
     ///
     /// 42 where the lane is closed, then 43 at 2^62 messages, then 41 where all places were taken. After a refusal what
     /// was sent is as it was, and the message comes back with the number that it would have had.
-    pub fn report(
-        &mut self,
-        block: BlockId,
-        stamp: GenerationStamp,
-        len: Length,
-        kind: Kind,
-    ) -> Result<u64, Refusal>
+    pub fn report(&mut self, report: &Report) -> Result<u64, Refusal>
         ensures lane { (self.new.lane ≡ self.old.lane) × (self.new.prepared ≡ None) }
-        ensures ok { IfOk result (λ n. (self.new.sent ≡ self.old.sent ++ message_of self.old block stamp len kind ∷ []) × (n ≡ length self.new.sent) × (n ≤ 2 ^ 62) × HasPlace self.old self.new) }
-        ensures refused { IfErr result (λ e. (self.new.sent ≡ self.old.sent) × Refuses self.old self.new (message_of self.old block stamp len kind) e) }
+        ensures ok { IfOk result (λ n. (self.new.sent ≡ self.old.sent ++ message_of self.old report.now ∷ []) × (n ≡ length self.new.sent) × (n ≤ 2 ^ 62) × HasPlace self.old self.new) }
+        ensures refused { IfErr result (λ e. (self.new.sent ≡ self.old.sent) × Refuses self.old self.new (message_of self.old report.now) e) }
     {
-        self.prepare(block, stamp, len, kind)?;
+        self.prepare(report)?;
         match self.publish() {
             Some(answer) => answer,
             None => unreachable!(),

@@ -14,7 +14,7 @@ use nn_lane::{LaneEnd, Reporter, lane};
 use nn_scenario::Step;
 use nn_segment::MemorySource;
 use nn_tailer::{Choice, PromoteFault, Standby, StepFault};
-use nn_types::{Message, Settings};
+use nn_types::{Message, Report, Settings};
 use std::alloc::{AllocError, Global};
 use std::marker::Model;
 
@@ -84,7 +84,14 @@ fn send_all(reporter: &mut Reporter, dn: u16, scenario: &Scenario) -> Result<(),
 }
 
 fn send(reporter: &mut Reporter, message: &Message) -> Result<(), Halt> {
-    match reporter.report(message.block, message.stamp, message.len, message.kind) {
+    let report = Report {
+        dn: message.dn,
+        block: message.block,
+        stamp: message.stamp,
+        len: message.len,
+        kind: message.kind,
+    };
+    match reporter.report(&report) {
         Ok(_) => Ok(()),
         Err(_) => Err(Halt::BadScenario),
     }

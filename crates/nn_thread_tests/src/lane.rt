@@ -13,13 +13,10 @@ const MESSAGES: u64 = 50_000;
 
 // ---- Each message once, in order.
 
-// Whether the report of this block was sent, in the end.
-fn sends_soon(reporter: &mut Reporter, report: &Report, block: BlockId) -> bool {
+// Whether the report was sent, in the end.
+fn sends_soon(reporter: &mut Reporter, report: &Report) -> bool {
     for _ in 0..TURNS {
-        if reporter
-            .report(block, report.stamp, report.len, report.kind)
-            .is_ok()
-        {
+        if reporter.report(report).is_ok() {
             return true;
         }
         thread::yield_now();
@@ -33,7 +30,7 @@ fn sends_all(mut reporter: Reporter, report: &Report) -> bool {
         let Some(block) = BlockId::new(block) else {
             return false;
         };
-        if !sends_soon(&mut reporter, report, block) {
+        if !sends_soon(&mut reporter, &Report { block, ..*report }) {
             return false;
         }
     }
@@ -83,7 +80,7 @@ fn ends_beside_each_other(rt: HostRuntime) {
 fn is_told(reporter: &mut Reporter, report: &Report) -> bool
     ensures { reporter.new.lane ≡ reporter.old.lane }
 {
-    match reporter.report(report.block, report.stamp, report.len, report.kind) {
+    match reporter.report(report) {
         Ok(_) => false,
         Err(Refusal::Closed { .. }) => true,
         Err(_) => {

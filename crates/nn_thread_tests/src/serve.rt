@@ -509,7 +509,7 @@ fn all_joined<R: Threads>(
 // Whether all that a worker sent was processed, so many messages; and it was told of the close, or had no more.
 fn has_left_all(left: &Left<DataNode>, reports: u64, processed: u64) -> bool {
     let ended = match left.outcome {
-        Ok(count) => count == reports,
+        Ok(()) => left.met.accepted == reports,
         Err(Refusal::Closed { .. }) => reports == u64::MAX,
         Err(_) => false,
     };

@@ -91,7 +91,7 @@ fn sent(reporter: &mut Reporter, block: u64, stamp: u64) -> Answer {
     let Some(report) = report_of(block, stamp) else {
         return DONE;
     };
-    match reporter.report(report.block, report.stamp, report.len, report.kind) {
+    match reporter.report(&report) {
         Ok(number) => ("sent", number, 0),
         Err(Refusal::Closed { message, accepted }) => ("closed", message.number, accepted),
         Err(fault) => refused(fault.number()),

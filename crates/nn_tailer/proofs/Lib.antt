@@ -20,3 +20,4 @@ pub mod Gaps
 pub mod InOrder
 pub mod Refusing
 pub mod Again
+pub mod PromotedRows

@@ -13,3 +13,4 @@ pub mod Shadows
 pub mod Fault
 pub mod TailingRows
 pub mod StandbyRows
+pub mod PromotedRows

@@ -3,7 +3,7 @@ use Rattle.std.specs.Prelude.{◌≡◌, ℕ, true, false, [], ◌∷◌, map, t
 use Rattle.nn_types.specs.declared.profile.Profile.TheVariants.{One}
 use Rattle.nn_types.specs.declared.block.Block.{Block}
 use Rattle.nn_types.specs.declared.report.Kind.{Kind}
-use Rattle.nn_types.specs.declared.report.Kind.TheVariants.{Receiving, Received, Deleted}
+use Rattle.nn_types.specs.declared.report.Kind.TheVariants.{Receiving, Received, Deleted, Begin, Listed, Finish}
 use Rattle.nn_model.specs.declared.form.Form.TheVariants.{Dir, File}
 use Rattle.nn_types.specs.declared.replica.Replica.{Replica}
 use Rattle.nn_types.specs.declared.replica.Class.TheVariants.{Stale, Ahead, Building, Live, WrongLength}
@@ -32,6 +32,11 @@ classes = refl
 stamps_first : map (λ r. class_of r the_block) (replica 1001 5 Receiving ∷ replica 1003 4 Receiving ∷ replica 1001 5 Deleted ∷ replica 1002 5 Deleted ∷ [])
     ≡ Stale ∷ Ahead ∷ Stale ∷ Building ∷ []
 stamps_first = refl
+
+-- nothing but a received one is complete, also where generation stamp and length agree
+incomplete_ones : map (λ kind. class_of (replica 1002 5 kind) the_block) (Receiving ∷ Deleted ∷ Begin ∷ Listed ∷ Finish ∷ [])
+    ≡ Building ∷ Building ∷ Building ∷ Building ∷ Building ∷ []
+incomplete_ones = refl
 
 live_ones : map (λ r. is_live r the_block)
     (None ∷ Some (replica 1001 5 Received) ∷ Some (replica 1003 5 Received) ∷ Some (replica 1002 5 Receiving) ∷ Some (replica 1002 5 Received)

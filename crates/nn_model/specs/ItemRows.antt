@@ -1,8 +1,8 @@
 -- Worked examples of items, computed: what full reports take back, and what they leave alone.
-use Rattle.std.specs.Prelude.{◌≡◌, ℕ, ◌+◌, [], ◌∷◌, Some, None, refl}
+use Rattle.std.specs.Prelude.{◌≡◌, ℕ, ◌+◌, true, false, [], ◌∷◌, map, Some, None, refl}
 use Rattle.nn_types.specs.declared.report.Message.{Message}
 use Rattle.nn_types.specs.declared.report.Kind.TheVariants.{Receiving, Received, Deleted, Begin, Listed, Finish}
-use Rattle.nn_model.specs.Items.{each_once, has_of, left_out, items_of, items, Having, nothing_had, with_item, with_items, having_after}
+use Rattle.nn_model.specs.Items.{each_once, is_deleted, has_of, left_out, taken_back, begun_after, items_of, items, Having, nothing_had, with_item, with_items, having_after}
 use Rattle.nn_model.specs.MessageRows.{b, c, message, two_lanes}
 
 -- of DataNode 1: a begin, an end
@@ -35,6 +35,14 @@ row_of_being_received = refl
 row_of_what_is_left_out : left_out 4 (has_of (had 1 c ∷ had 2 b ∷ had 4 (c + 2) ∷ had 5 (c + 1) ∷ [])) ≡ b ∷ c ∷ []
 row_of_what_is_left_out = refl
 
+-- whatever the end of a report carries, what it takes back has no generation stamp and no length
+row_of_what_is_taken_back : taken_back (message 1 5 Finish c 1001 7) b ≡ gone 5 b
+row_of_what_is_taken_back = refl
+
+-- a delete alone takes away
+row_of_deletes : map is_deleted (Receiving ∷ Received ∷ Deleted ∷ Begin ∷ Listed ∷ Finish ∷ []) ≡ false ∷ false ∷ true ∷ false ∷ false ∷ false ∷ []
+row_of_deletes = refl
+
 -- b is left out, c is listed
 row_of_one_left_out : items_of (had 1 b ∷ had 2 c ∷ begin 3 ∷ listed 4 c ∷ finish 5 ∷ []) ≡ had 1 b ∷ had 2 c ∷ had 4 c ∷ gone 5 b ∷ []
 row_of_one_left_out = refl
@@ -60,6 +68,16 @@ row_of_no_begin = refl
 -- the last begin counts: what was listed before it is not listed in its report
 row_of_a_begin_given_up : items_of (had 1 b ∷ begin 2 ∷ listed 3 b ∷ begin 4 ∷ finish 5 ∷ []) ≡ had 1 b ∷ had 3 b ∷ gone 5 b ∷ []
 row_of_a_begin_given_up = refl
+
+-- a begin takes nothing back, also where a report is open
+row_of_two_begins : items_of (had 1 b ∷ begin 2 ∷ begin 3 ∷ []) ≡ had 1 b ∷ []
+row_of_two_begins = refl
+
+-- a begin opens a report, an end closes it, and no other message does either
+row_of_open_reports : (map (λ kind. begun_after kind (Some 3) 5) (Receiving ∷ Received ∷ Deleted ∷ Listed ∷ Begin ∷ Finish ∷ [])
+    ≡ Some 3 ∷ Some 3 ∷ Some 3 ∷ Some 3 ∷ Some 5 ∷ None ∷ [])
+    × (map (λ kind. begun_after kind None 5) (Receiving ∷ Received ∷ Deleted ∷ Listed ∷ Begin ∷ Finish ∷ []) ≡ None ∷ None ∷ None ∷ None ∷ Some 5 ∷ None ∷ [])
+row_of_open_reports = (refl, refl)
 
 -- told again in any way after the begin, or deleted before it
 row_of_others : items_of (had 1 b ∷ had 2 c ∷ begin 3 ∷ message 1 4 Receiving b 1002 0 ∷ finish 5 ∷ [])

@@ -3,7 +3,7 @@ use Rattle.std.specs.Prelude.{◌≡◌, true, false, [], ◌∷◌, map, take, 
 use Rattle.std.proofs.lemmas.Bool.{both_ways}
 use Rattle.std.proofs.Common.{arith, ap}
 use Rattle.nn_types.specs.declared.report.Message.{Message}
-use Rattle.nn_types.specs.declared.report.Kind.TheVariants.{Receiving, Received}
+use Rattle.nn_types.specs.declared.report.Kind.TheVariants.{Receiving, Received, Deleted, Begin, Listed, Finish}
 use Rattle.nn_types.specs.declared.event.Event.TheVariants.{Applied, Processed}
 use Rattle.nn_types.specs.declared.event.Cause.TheVariants.{Due, Flush}
 use Rattle.nn_types.specs.declared.edit.Edit.TheVariants.{Delete}
@@ -12,7 +12,7 @@ use Rattle.nn_model.specs.Log.{namespace_after}
 use Rattle.nn_model.specs.Lanes.{no_messages, followed_by, AreNumbered, AreInOrder, message_of}
 use Rattle.nn_model.specs.Held.{keeps_back, without_held}
 use Rattle.nn_model.specs.History.{applied_txids, namespace_at, is_flush, processed, numbers_of, times_processed}
-use Rattle.nn_model.specs.Replay.{starting_at, is_named, leaves, after_message, replay}
+use Rattle.nn_model.specs.Replay.{starting_at, is_named, leaves, reported, after_message, replay}
 use Rattle.nn_model.specs.Picture.{last_said, has_now, picture_replica, picture_order, ShowsPicture}
 use Rattle.nn_model.specs.MessageRows.{tx, b, c, f, far, message, received, two_lanes, early_log, early_end, early_report, early_lanes, future_report, delete_behind, other_report, future_lanes, future_history}
 
@@ -106,7 +106,8 @@ numbers = (refl, refl, refl)
 times_of_each : (map (λ k. times_processed 1 k b future_history) (0 ∷ 1 ∷ 2 ∷ 3 ∷ []) ≡ 0 ∷ 1 ∷ 1 ∷ 0 ∷ [])
     × (map (λ k. times_processed 2 k b future_history) (1 ∷ 2 ∷ []) ≡ 1 ∷ 0 ∷ [])
     × (times_processed 1 1 b (processed Due early_report ∷ Applied 1 ∷ processed Flush early_report ∷ []) ≡ 2)
-times_of_each = (refl, refl, refl)
+    × (times_processed 1 1 c (processed Due early_report ∷ []) ≡ 0)
+times_of_each = (refl, refl, refl, refl)
 
 -- ---- The sequential standby.
 
@@ -119,6 +120,10 @@ replicas_change : let s = after_message (starting_at early_end) writing in
     × ((after_message s second_report).replica 1 b ≡ Some (received 1001 6)) × ((after_message s delete_behind).replica 1 b ≡ None)
     × ((after_message s other_report).replica 1 b ≡ Some (record { stamp = 1001; len = 2; kind = Receiving }))
 replicas_change = (refl, refl, refl, refl, refl, refl, refl)
+
+-- only what is received or being received is a replica
+no_replica_by_others : map (λ kind. reported (message 1 1 kind b 1001 5)) (Deleted ∷ Begin ∷ Listed ∷ Finish ∷ []) ≡ None ∷ None ∷ None ∷ None ∷ []
+no_replica_by_others = refl
 
 -- where no file holds the block, an order is
 orders_change : let s = after_message (starting_at root_alone) writing in

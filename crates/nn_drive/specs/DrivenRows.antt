@@ -6,7 +6,7 @@ use Rattle.nn_types.specs.declared.report.Report.{Report}
 use Rattle.nn_types.specs.declared.report.Message.{Message}
 use Rattle.nn_types.specs.declared.edit.Edit.TheVariants.{StartSegment, EndSegment}
 use Rattle.nn_types.specs.declared.profile.Profile.TheVariants.{One}
-use Rattle.nn_model.specs.Namespace.{root_alone}
+use Rattle.nn_model.specs.Namespace.{Namespace, root_alone}
 use Rattle.nn_lane.specs.Ends.{LaneId, Reporting, Taking}
 use Rattle.nn_lane.specs.declared.fault.Refusal.{Refusal}
 use Rattle.nn_lane.specs.declared.fault.Refusal.TheVariants.{Closed, Exhausted, Full}
@@ -14,7 +14,9 @@ use Rattle.nn_segment.specs.Segment.{Segment}
 use Rattle.nn_segment.specs.Source.{Answer, GivesNext, given, end}
 use Rattle.nn_segment.specs.LogEnd.{end_of_log, disorder}
 use Rattle.nn_shadow.specs.Contents.{Contents}
-use Rattle.nn_tailer.specs.Tailing.{Tailer}
+use Rattle.nn_tailer.specs.Tailing.{Tailer, StandsAt}
+use Rattle.nn_tailer.specs.PromotedRows.{new, promoted_shadow, is_promoted, taking as lane_with, marks as two_marks}
+use Rattle.nn_tailer.proofs.PromotedRows.{promoted_from_new}
 use Rattle.nn_tailer.specs.declared.standby.Active.{Active}
 use Rattle.nn_drive.specs.declared.driving.WorkerExit.{WorkerExit}
 use Rattle.nn_drive.specs.LaneRows.{reporting, taking}
@@ -153,8 +155,41 @@ not_the_lane_of_another l h = let e : lane_of_2 l ≡ lane_of_1 l = h.1 0 (7, re
 
 -- ---- A promoted standby.
 
+-- the lane at the end: it is closed, and its one message was taken
+abbrev ended : LaneId → Taking
+ended l = lane_with l (message 1 1 ∷ []) true
+
 abbrev marks : Segment
 marks = record { name = []; bytes = []; txs = record { txid = 5; edit = StartSegment One } ∷ record { txid = 6; edit = EndSegment } ∷ [] }
+
+-- one worker, whose source gave one report: it was sent and taken, and flushed, since no file holds its block
+abbrev one_report : LaneId → List (List Report × Reporting)
+one_report l = (report 1 ∷ [], reporting l 1) ∷ []
+
+report_taken : (l : LaneId) → IsTaken gives_next (report 1 ∷ []) (reporting l 1) (taking l 1) (message 1 1 ∷ [])
+report_taken l = (
+  record { source = []; reporter = record (reporting l 1) { sent = message 1 1 ∷ [] }; outcome = Ok 1 },
+  (refl, (report 1 ∷ [], None, ([], ([], (refl, refl), refl), (refl, refl)), refl, (refl, refl), λ few. omega arith)),
+  refl,
+  λ told. absurd told,
+)
+
+each_taken : (l : LaneId) (i : ℕ) (w : List Report × Reporting) (b e : Taking) → i < 1
+    → IsTaken gives_next (slice_index_or (one_report l) i w).0 (slice_index_or (one_report l) i w).1 (slice_index_or (taking l 1 ∷ []) i b) (slice_index_or (ended l ∷ []) i e).got
+each_taken l zero w b e few = report_taken l
+each_taken l (suc i) w b e few = absurd (omega (arith, few))
+
+promoted_with_one_report : (l : LaneId) → IsPromoted gives_next root_alone 0 (given two_marks ∷ end ∷ []) (one_report l) (taking l 1 ∷ []) (ended l ∷ []) promoted_shadow
+promoted_with_one_report l = let p = is_promoted l in record {
+  stands = p.stands;
+  whole = p.whole;
+  picture = p.picture;
+  none_held = p.none_held;
+  ended = p.ended;
+  log_end = p.log_end;
+  lanes = refl;
+  taken = each_taken l;
+}
 
 not_with_one_held : (x : Contents) (base : ℕ) (answers : List Answer) → IsPromoted gives_next root_alone base answers [] [] [] (record x { held = message 1 1 ∷ [] }) → ⊥
 not_with_one_held x base answers h = let e : message 1 1 ∷ [] ≡ [] = h.none_held in cc
@@ -189,6 +224,34 @@ not_with_one_untaken x l base answers h = not_untaken l (h.taken 0 ([], reportin
 
 abbrev IsDrivenBy : Tailer → List Segment → Contents → Active → Type 0
 IsDrivenBy old segments x active = IsDriven {S = List Report} GivesNext (λ s. 0) gives_next old segments [] x active
+
+-- a new standby over one lane, wherever it stood: its source gives a segment and then End, and its worker's source one report
+driven : (l : LaneId) → IsDriven {T = List Segment} GivesNext (λ s. 0) gives_next (new l) (two_marks ∷ []) (one_report l) promoted_shadow (record { last = 2; flushed = 1 })
+driven l = (
+  given two_marks ∷ end ∷ [],
+  [],
+  ended l ∷ [],
+  ([], (refl, refl), ([], (refl, refl), refl)),
+  omega arith,
+  refl,
+  refl,
+  record { datanodes = refl; min = refl; permille = refl },
+  promoted_there,
+  (two_marks ∷ [], refl),
+)
+  where
+    promoted_there : (start : Namespace) (base : ℕ) (before : List Answer) → StandsAt start base before (new l)
+        → IsPromoted gives_next start base (before ++ given two_marks ∷ end ∷ []) (one_report l) (taking l 1 ∷ []) (ended l ∷ []) promoted_shadow
+    promoted_there start base before h = let p = promoted_from_new l start base before h in record {
+      stands = p.stands;
+      whole = p.whole;
+      picture = p.picture;
+      none_held = p.none_held;
+      ended = p.ended;
+      log_end = p.log_end;
+      lanes = refl;
+      taken = each_taken l;
+    }
 
 not_another_last : (old : Tailer) (x : Contents) (a : Active) → IsDrivenBy old [] (record x { last = 3 }) (record a { last = 4 }) → ⊥
 not_another_last old x a h = let e : 4 ≡ 3 = h.5 in omega (arith, e)

@@ -1,10 +1,15 @@
 -- When an operator has wished a promotion, and which lanes are dry, computed.
-use Rattle.std.specs.Prelude.{◌≡◌, ℕ, zero, suc, true, [], ◌∷◌, refl}
+use Rattle.std.specs.Prelude.{◌≡◌, ℕ, zero, suc, ◌<◌, true, List, [], ◌∷◌, slice_index_or, refl}
 use Rattle.std.proofs.Common.{arith, true≢false, sym}
 use Rattle.nn_lane.specs.Ends.{LaneId, Taking}
+use Rattle.nn_model.specs.Namespace.{root_alone}
+use Rattle.nn_model.specs.MessageRowsLater.{unnamed_report}
+use Rattle.nn_segment.specs.Source.{Answer, given, end}
+use Rattle.nn_shadow.specs.Contents.{Contents}
 use Rattle.nn_tailer.specs.Tailing.{Tailer}
+use Rattle.nn_tailer.specs.PromotedRows.{promoted_shadow, is_promoted, marks, taking as lane_with}
 use Rattle.nn_drive.specs.LaneRows.{taking}
-use Rattle.nn_drive.specs.Serving.{GoesOn, WishesAt, IsDry}
+use Rattle.nn_drive.specs.Serving.{GoesOn, WishesAt, IsDry, IsPromotedAt}
 use Rattle.nn_drive.specs.declared.operator.Wish.{Wish}
 use Rattle.nn_drive.specs.declared.operator.Wish.TheVariants.{GoOn, Promote}
 
@@ -37,3 +42,32 @@ not_dry_with_one_left l h = let e : 0 ≡ 1 = h.1 in omega (arith, e)
 
 not_dry_while_open : (l : LaneId) → IsDry (taking l 1) → ⊥
 not_dry_while_open l h = true≢false (sym h.0)
+
+-- ---- A promoted standby over one lane, which took one message.
+
+abbrev dry_lane : LaneId → Taking
+dry_lane l = lane_with l (unnamed_report ∷ []) true
+
+promoted_over_a_dry_lane : (l : LaneId) → IsPromotedAt root_alone 0 (given marks ∷ end ∷ []) (dry_lane l ∷ []) promoted_shadow
+promoted_over_a_dry_lane l = let p = is_promoted l in record {
+  stands = p.stands;
+  whole = p.whole;
+  picture = p.picture;
+  none_held = p.none_held;
+  ended = p.ended;
+  log_end = p.log_end;
+  dry = each;
+}
+  where
+    each : (k : ℕ) (e : Taking) → k < 1 → IsDry (slice_index_or (dry_lane l ∷ []) k e)
+    each zero e few = (refl, refl)
+    each (suc k) e few = absurd (omega (arith, few))
+
+not_promoted_over_an_open_lane : (x : Contents) (l : LaneId) (answers : List Answer) → IsPromotedAt root_alone 0 answers (taking l 1 ∷ []) x → ⊥
+not_promoted_over_an_open_lane x l answers h = not_dry_while_open l (h.dry 0 (taking l 1) (omega arith))
+
+not_promoted_with_one_left : (x : Contents) (l : LaneId) (answers : List Answer) → IsPromotedAt root_alone 0 answers (closed_lane l 1 ∷ []) x → ⊥
+not_promoted_with_one_left x l answers h = not_dry_with_one_left l (h.dry 0 (taking l 1) (omega arith))
+
+not_promoted_with_one_held : (x : Contents) (answers : List Answer) → IsPromotedAt root_alone 0 answers [] (record x { held = unnamed_report ∷ [] }) → ⊥
+not_promoted_with_one_held x answers h = let e : unnamed_report ∷ [] ≡ [] = h.none_held in cc

@@ -1,12 +1,16 @@
 -- What a DataNode's thread reported, what a drive came to, and for each clause an example that breaks it.
 use Rattle.std.specs.Prelude.{◌≡◌, ℕ, zero, suc, ◌+◌, ◌<◌, ◌≤◌, true, false, List, [], ◌∷◌, ◌++◌, length, Option, Some, None, Result, Ok, Err, MatchOption, slice_index_or, refl}
 use Rattle.std.specs.Iterator.{YieldsThen}
-use Rattle.std.proofs.Common.{arith, sym, ap, subst, ◌∙◌, length-append, true≢false}
+use Rattle.std.proofs.Common.{arith, sym, ap, subst, ◌∙◌, inl, inr, length-append, true≢false}
 use Rattle.nn_types.specs.declared.report.Report.{Report}
 use Rattle.nn_types.specs.declared.report.Message.{Message}
 use Rattle.nn_types.specs.declared.edit.Edit.TheVariants.{StartSegment, EndSegment}
 use Rattle.nn_types.specs.declared.profile.Profile.TheVariants.{One}
+use Rattle.nn_types.specs.declared.event.Event.TheVariants.{Applied}
+use Rattle.nn_types.specs.declared.event.Cause.TheVariants.{Flush}
 use Rattle.nn_model.specs.Namespace.{Namespace, root_alone}
+use Rattle.nn_model.specs.History.{processed}
+use Rattle.nn_model.specs.WellFormed.{Has}
 use Rattle.nn_lane.specs.Ends.{LaneId, Reporting, Taking}
 use Rattle.nn_lane.specs.declared.fault.Refusal.{Refusal}
 use Rattle.nn_lane.specs.declared.fault.Refusal.TheVariants.{Closed, Exhausted, Full}
@@ -190,6 +194,19 @@ promoted_with_one_report l = let p = is_promoted l in record {
   lanes = refl;
   taken = each_taken l;
 }
+
+-- not without its flush in the history
+not_unflushed : (l : LaneId) → IsPromoted gives_next root_alone 0 (given two_marks ∷ end ∷ []) (one_report l) (taking l 1 ∷ []) (ended l ∷ []) (record promoted_shadow { history = Applied 1 ∷ Applied 2 ∷ [] }) → ⊥
+not_unflushed l h = none (h.whole (message 1 1) refl refl)
+  where
+    none : Has (Applied 1 ∷ Applied 2 ∷ []) (processed Flush (message 1 1)) → ⊥
+    none (inl e) = absurd (cc)
+    none (inr (inl e)) = absurd (cc)
+    none (inr (inr e)) = e
+
+-- nor without its order
+not_without_its_order : (l : LaneId) → IsPromoted gives_next root_alone 0 (given two_marks ∷ end ∷ []) (one_report l) (taking l 1 ∷ []) (ended l ∷ []) (record promoted_shadow { table = record { min = 1; entries = [] } }) → ⊥
+not_without_its_order l h = let e : false ≡ true = h.picture.orders 1 1073741825 in true≢false (sym e)
 
 not_with_one_held : (x : Contents) (base : ℕ) (answers : List Answer) → IsPromoted gives_next root_alone base answers [] [] [] (record x { held = message 1 1 ∷ [] }) → ⊥
 not_with_one_held x base answers h = let e : message 1 1 ∷ [] ≡ [] = h.none_held in cc

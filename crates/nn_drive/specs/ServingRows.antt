@@ -1,8 +1,12 @@
 -- When an operator has wished a promotion, and which lanes are dry, computed.
-use Rattle.std.specs.Prelude.{◌≡◌, ℕ, zero, suc, ◌<◌, true, List, [], ◌∷◌, slice_index_or, refl}
-use Rattle.std.proofs.Common.{arith, true≢false, sym}
+use Rattle.std.specs.Prelude.{◌≡◌, ℕ, zero, suc, ◌<◌, true, false, List, [], ◌∷◌, ◌++◌, slice_index_or, refl}
+use Rattle.std.proofs.Common.{arith, true≢false, sym, inl, inr}
 use Rattle.nn_lane.specs.Ends.{LaneId, Taking}
+use Rattle.nn_types.specs.declared.event.Event.TheVariants.{Applied}
+use Rattle.nn_types.specs.declared.event.Cause.TheVariants.{Flush}
 use Rattle.nn_model.specs.Namespace.{root_alone}
+use Rattle.nn_model.specs.History.{processed}
+use Rattle.nn_model.specs.WellFormed.{Has}
 use Rattle.nn_model.specs.MessageRowsLater.{unnamed_report}
 use Rattle.nn_segment.specs.Source.{Answer, given, end}
 use Rattle.nn_shadow.specs.Contents.{Contents}
@@ -71,3 +75,25 @@ not_promoted_with_one_left x l answers h = not_dry_with_one_left l (h.dry 0 (tak
 
 not_promoted_with_one_held : (x : Contents) (answers : List Answer) → IsPromotedAt root_alone 0 answers [] (record x { held = unnamed_report ∷ [] }) → ⊥
 not_promoted_with_one_held x answers h = let e : unnamed_report ∷ [] ≡ [] = h.none_held in cc
+
+not_promoted_unflushed : (l : LaneId) → IsPromotedAt root_alone 0 (given marks ∷ end ∷ []) (dry_lane l ∷ []) (record promoted_shadow { history = Applied 1 ∷ Applied 2 ∷ [] }) → ⊥
+not_promoted_unflushed l h = none (h.whole unnamed_report refl refl)
+  where
+    none : Has (Applied 1 ∷ Applied 2 ∷ []) (processed Flush unnamed_report) → ⊥
+    none (inl e) = absurd (cc)
+    none (inr (inl e)) = absurd (cc)
+    none (inr (inr e)) = e
+
+not_promoted_without_its_order : (l : LaneId) → IsPromotedAt root_alone 0 (given marks ∷ end ∷ []) (dry_lane l ∷ []) (record promoted_shadow { table = record { min = 1; entries = [] } }) → ⊥
+not_promoted_without_its_order l h = let e : false ≡ true = h.picture.orders 1 1073741825 in true≢false (sym e)
+
+not_promoted_elsewhere : (l : LaneId) → IsPromotedAt root_alone 0 (given marks ∷ end ∷ []) (dry_lane l ∷ []) (record promoted_shadow { last = 3 }) → ⊥
+not_promoted_elsewhere l h = let e : 3 ≡ 2 = h.stands.last in omega (arith, e)
+
+not_promoted_before_the_end : (x : Contents) → IsPromotedAt root_alone 0 (given marks ∷ []) [] x → ⊥
+not_promoted_before_the_end x h = one h.ended.0 h.ended.1
+  where
+    one : (before : List Answer) → given marks ∷ [] ≡ before ++ end ∷ [] → ⊥
+    one [] e = cc
+    one (a ∷ []) e = cc
+    one (a ∷ b ∷ later) e = cc

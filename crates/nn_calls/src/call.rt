@@ -185,6 +185,14 @@ impl<'a> Call<'a> {
         }
     }
 
+    /// Answers a message that may be there, or `none`.
+    pub fn show_taken(&mut self, message: &Option<Message>) {
+        match message {
+            Some(message) => self.show_message(message),
+            None => self.say("none"),
+        }
+    }
+
     /// A block's row as BLOCK:STAMP:LENGTH and `closed` or `open`.
     pub fn show_row(&mut self, row: &BlockRow) {
         let (id, stamp, len) = (

@@ -4,7 +4,7 @@ use nn_device::{Reader, Writer};
 use nn_edits::{Scratch, read_edit};
 use nn_image::{image_name, load, rewrite, save};
 use nn_tree::{Found, Namespace, Touched};
-use nn_types::{Path, Status, text_of};
+use nn_types::{Edit, Path, Status, text_of};
 
 /// Calls on a namespace, and on its image. Whether this was one.
 pub fn change(files: &mut Namespace, text: &mut Vec<u8>, call: &mut Call<'_>) -> bool {
@@ -19,24 +19,32 @@ pub fn change(files: &mut Namespace, text: &mut Vec<u8>, call: &mut Call<'_>) ->
     } else if call.is("show") {
         show_lines(text, call);
     } else if call.is("image_name") {
-        let txid = call.number(1);
-        match image_name(call.alloc, txid) {
-            Ok(name) => call.say(&name),
-            Err(_) => call.failed = true,
-        }
+        show_name(call);
     } else {
         return read(files, call);
     }
     true
 }
 
+fn show_name(call: &mut Call<'_>) {
+    let txid = call.number(1);
+    match image_name(call.alloc, txid) {
+        Ok(name) => call.say(&name),
+        Err(_) => call.failed = true,
+    }
+}
+
 fn apply(files: &mut Namespace, call: &mut Call<'_>) {
     let line = call.word(1).as_bytes();
-    let Ok(tx) = read_edit(call.alloc, &mut Scratch::new(call.alloc), line) else {
-        call.failed = true;
-        return;
-    };
-    match files.apply(&tx.edit) {
+    let mut scratch = Scratch::new(call.alloc);
+    match read_edit(call.alloc, &mut scratch, line) {
+        Ok(tx) => apply_edit(files, &tx.edit, call),
+        Err(_) => call.failed = true,
+    }
+}
+
+fn apply_edit(files: &mut Namespace, edit: &Edit, call: &mut Call<'_>) {
+    match files.apply(edit) {
         Ok(touched) => show_touched(&touched, call),
         Err(fault) => call.fault(fault.number(), &fault),
     }
@@ -105,12 +113,8 @@ fn read(files: &Namespace, call: &mut Call<'_>) -> bool {
     } else if call.is("lookup") {
         look_up(files, call);
     } else if call.is("status") {
-        match files.status(call.id(1)) {
-            Status::Unnamed => call.say("unnamed"),
-            Status::Awaiting => call.say("awaiting"),
-            Status::Retired => call.say("retired"),
-            Status::Named(stamp) => call.show(&stamp.get()),
-        }
+        let status = files.status(call.id(1));
+        show_status(&status, call);
     } else if call.is("block") {
         if let Some(row) = files.block(call.id(1)) {
             call.show_row(&row);
@@ -126,6 +130,15 @@ fn read(files: &Namespace, call: &mut Call<'_>) -> bool {
     }
     call.none();
     true
+}
+
+fn show_status(status: &Status, call: &mut Call<'_>) {
+    match status {
+        Status::Unnamed => call.say("unnamed"),
+        Status::Awaiting => call.say("awaiting"),
+        Status::Retired => call.say("retired"),
+        Status::Named(stamp) => call.show(&stamp.get()),
+    }
 }
 
 fn show_awaiting(files: &Namespace, call: &mut Call<'_>) {

@@ -10,20 +10,13 @@ pub fn change(held: &mut Postponed, call: &mut Call<'_>) -> bool {
         let messages = call.messages();
         call.failed = held.hold_all(&messages).is_err() || call.failed;
     } else if call.is("take_last") {
-        if let Some(message) = held.take_last(call.id(1)) {
-            call.show_message(&message);
-        }
-        call.none();
+        let message = held.take_last(call.id(1));
+        call.show_taken(&message);
     } else if call.is("take_first") {
-        if let Some(message) = held.take_first() {
-            call.show_message(&message);
-        }
-        call.none();
+        call.show_taken(&held.take_first());
     } else if call.is("release") {
-        if let Some(message) = held.release(call.id(1), call.status(2)) {
-            call.show_message(&message);
-        }
-        call.none();
+        let message = held.release(call.id(1), call.status(2));
+        call.show_taken(&message);
     } else if call.is("drop_freed") {
         held.drop_freed(call.id(1), call.status(2));
     } else {

@@ -29,25 +29,35 @@ pub fn play(lane: &mut Lane, call: &mut Call<'_>) -> bool {
             None => call.failed = true,
         }
     } else if call.is("report") || call.is("prepare") || call.is("publish") {
-        if let Some(ends) = &mut lane.ends {
-            send(&mut ends.reporter, call);
-        } else if let Some(reporter) = &mut lane.reporter {
-            send(reporter, call);
-        } else {
-            call.failed = true;
-        }
+        use_reporter(lane, call);
     } else if call.is("take") || call.is("close") || call.is("closed") {
-        if let Some(ends) = &mut lane.ends {
-            take(&mut ends.end, call);
-        } else if let Some(end) = &mut lane.end {
-            take(end, call);
-        } else {
-            call.failed = true;
-        }
+        use_end(lane, call);
     } else {
         return false;
     }
     true
+}
+
+// Calls on the reporter, of both ends or alone.
+fn use_reporter(lane: &mut Lane, call: &mut Call<'_>) {
+    if let Some(ends) = &mut lane.ends {
+        send(&mut ends.reporter, call);
+    } else if let Some(reporter) = &mut lane.reporter {
+        send(reporter, call);
+    } else {
+        call.failed = true;
+    }
+}
+
+// Calls on the end, of both ends or alone.
+fn use_end(lane: &mut Lane, call: &mut Call<'_>) {
+    if let Some(ends) = &mut lane.ends {
+        take(&mut ends.end, call);
+    } else if let Some(end) = &mut lane.end {
+        take(end, call);
+    } else {
+        call.failed = true;
+    }
 }
 
 // A new lane of a DataNode with a capacity.

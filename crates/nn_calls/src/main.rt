@@ -41,6 +41,16 @@ fn main(rt: HostRuntime) -> io::Result<()> {
 // How many lines of a script agree, and how many differ.
 fn play(rt: &impl Print, alloc: Global, name: &str, script: &str) -> io::Result<(u64, u64)> {
     let mut subjects = Subjects::new(alloc);
+    play_lines(rt, alloc, name, script, &mut subjects)
+}
+
+fn play_lines(
+    rt: &impl Print,
+    alloc: Global,
+    name: &str,
+    script: &str,
+    subjects: &mut Subjects,
+) -> io::Result<(u64, u64)> {
     let (mut agree, mut differ) = (0u64, 0u64);
     for (at, line) in script.lines().enumerate() {
         if line.is_empty() || line.starts_with('#') {
@@ -48,7 +58,7 @@ fn play(rt: &impl Print, alloc: Global, name: &str, script: &str) -> io::Result<
         }
         let (line, want) = line.split_once(" -> ").unwrap_or((line, "done"));
         let mut call = Call::new(alloc, line);
-        if answers(&mut subjects, &mut call, want) {
+        if answers(subjects, &mut call, want) {
             agree = agree.saturating_add(1);
         } else {
             differ = differ.saturating_add(1);

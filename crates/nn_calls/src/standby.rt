@@ -55,12 +55,8 @@ impl SegmentSource for Given {
 
 /// Calls on the standby. Whether this was one.
 pub fn play(tailing: &mut Option<Tailing>, text: &mut Vec<u8>, call: &mut Call<'_>) -> bool {
-    if call.is("standby") {
-        *tailing = open(None, call);
-        return true;
-    }
-    if call.is("standby_from_image") {
-        *tailing = open(Some(text.as_slice()), call);
+    if call.is("standby") || call.is("standby_from_image") {
+        *tailing = open(text, call);
         return true;
     }
     match tailing {
@@ -69,8 +65,8 @@ pub fn play(tailing: &mut Option<Tailing>, text: &mut Vec<u8>, call: &mut Call<'
     }
 }
 
-// A standby over a lane of four places, which starts from an image, if there is one.
-fn open(image: Option<&[u8]>, call: &mut Call<'_>) -> Option<Tailing> {
+// A standby over a lane of four places. It starts from the image, if the call says so.
+fn open(image: &[u8], call: &mut Call<'_>) -> Option<Tailing> {
     let Ok((reporter, end)) = lane(call.alloc, 1, 4) else {
         call.failed = true;
         return None;
@@ -89,14 +85,14 @@ fn open(image: Option<&[u8]>, call: &mut Call<'_>) -> Option<Tailing> {
     })
 }
 
-fn begin(end: LaneEnd, image: Option<&[u8]>, call: &mut Call<'_>) -> Option<Standby>
+fn begin(end: LaneEnd, image: &[u8], call: &mut Call<'_>) -> Option<Standby>
     requires { (end.lane.node ≡ 1) × (end.got ≡ []) }
 {
     let settings = Settings::new(999, 1)?;
     let ends = ends_of(call.alloc, end)?;
-    let Some(image) = image else {
+    if call.is("standby") {
         return Standby::new(call.alloc, ends, settings).ok();
-    };
+    }
     match Standby::from_image(call.alloc, ends, settings, &mut Reader::new(image)) {
         Ok(standby) => Some(standby),
         Err(fault) => {

@@ -9,18 +9,13 @@ use nn_types::{Block, Kind, Replica, Settings};
 /// Calls that change the table. Whether this was one.
 pub fn change(table: &mut Replicas, call: &mut Call<'_>) -> bool {
     if call.is("table") {
-        match Settings::new(call.datanode(1), call.datanode(2)) {
-            Some(settings) => *table = Replicas::new(call.alloc, settings),
-            None => call.failed = true,
-        }
+        empty(table, call);
     } else if call.is("set") {
-        let closed = call.word(4) == "closed";
-        call.failed = table.set_block(call.block(), closed).is_err() || call.failed;
+        set(table, call);
     } else if call.is("place") {
         call.failed = table.place(call.datanode(1), call.id(2)).is_err() || call.failed;
     } else if call.is("put") {
-        let replica = replica(call);
-        call.failed = table.put(call.datanode(1), call.id(2), replica).is_err() || call.failed;
+        put(table, call);
     } else if call.is("erase") {
         table.erase(call.datanode(1), call.id(2));
     } else if call.is("retire") {
@@ -29,6 +24,24 @@ pub fn change(table: &mut Replicas, call: &mut Call<'_>) -> bool {
         return read(table, call);
     }
     true
+}
+
+// A new table for these settings.
+fn empty(table: &mut Replicas, call: &mut Call<'_>) {
+    match Settings::new(call.datanode(1), call.datanode(2)) {
+        Some(settings) => *table = Replicas::new(call.alloc, settings),
+        None => call.failed = true,
+    }
+}
+
+fn set(table: &mut Replicas, call: &mut Call<'_>) {
+    let closed = call.word(4) == "closed";
+    call.failed = table.set_block(call.block(), closed).is_err() || call.failed;
+}
+
+fn put(table: &mut Replicas, call: &mut Call<'_>) {
+    let replica = replica(call);
+    call.failed = table.put(call.datanode(1), call.id(2), replica).is_err() || call.failed;
 }
 
 fn replica(call: &mut Call<'_>) -> Replica

@@ -2,6 +2,7 @@
 use crate::call::Call;
 use nn_edits::{Scratch, read_edit, read_report, write_edit};
 use nn_segment::{Parsed, parse_name};
+use nn_types::Tx;
 
 /// Calls on a text. Whether this was one.
 pub fn play(text: &mut Vec<u8>, call: &mut Call<'_>) -> bool {
@@ -67,11 +68,16 @@ fn show_parsed(segment: &Parsed, call: &mut Call<'_>) {
 // What a transaction's line is written as once it is read.
 fn show_edit(call: &mut Call<'_>) {
     let line = call.word(1).as_bytes();
-    match read_edit(call.alloc, &mut Scratch::new(call.alloc), line) {
-        Ok(tx) => match write_edit(call.alloc, &tx) {
-            Ok(text) => call.say(&text),
-            Err(fault) => call.fault(fault.number(), &fault),
-        },
+    let mut scratch = Scratch::new(call.alloc);
+    match read_edit(call.alloc, &mut scratch, line) {
+        Ok(tx) => show_written(&tx, call),
+        Err(fault) => call.fault(fault.number(), &fault),
+    }
+}
+
+fn show_written(tx: &Tx, call: &mut Call<'_>) {
+    match write_edit(call.alloc, tx) {
+        Ok(text) => call.say(&text),
         Err(fault) => call.fault(fault.number(), &fault),
     }
 }

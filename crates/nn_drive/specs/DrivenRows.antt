@@ -172,8 +172,8 @@ one_report l = (report 1 ∷ [], reporting l 1) ∷ []
 
 report_taken : (l : LaneId) → IsTaken gives_next (report 1 ∷ []) (reporting l 1) (taking l 1) (message 1 1 ∷ [])
 report_taken l = (
-  record { source = []; reporter = record (reporting l 1) { sent = message 1 1 ∷ [] }; outcome = Ok 1 },
-  (refl, (report 1 ∷ [], None, ([], ([], (refl, refl), refl), (refl, refl)), refl, (refl, refl), λ few. omega arith)),
+  record { source = []; reporter = record (reporting l 1) { sent = message 1 1 ∷ [] }; outcome = Ok tt },
+  (refl, (report 1 ∷ [], None, ([], ([], (refl, refl), refl), (refl, refl)), refl, refl, λ few. omega arith)),
   refl,
   λ told. absurd told,
 )

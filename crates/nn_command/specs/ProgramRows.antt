@@ -1,17 +1,22 @@
 -- What texts are read as, and what the program did to its streams, on small examples.
-use Rattle.std.specs.Prelude.{◌≡◌, ◌<◌, ◌≤◌, ◌∷◌, [], ◌++◌, ℕ, Bool, true, false, List, length, Option, Some, None, codes, refl}
-use Rattle.std.proofs.Common.{arith, sym, ap, inl, inr, lit<, ⊎_elim, true≢false}
+use Rattle.std.specs.Prelude.{◌≡◌, ◌<◌, ◌≤◌, ◌∷◌, [], ◌++◌, ℕ, Bool, true, false, List, length, Option, Some, None, Ok, codes, refl}
+use Rattle.std.proofs.Common.{arith, sym, ap, subst, inl, inr, lit<, ⊎_elim, true≢false}
 use Rattle.nn_device.specs.Device.{Reading, Writing}
+use Rattle.clap.proofs.OnLiterals.{clap_on_literals}
 use Rattle.clap.specs.Words.{Text}
 use Rattle.clap.specs.declared.error.kind.ErrorKind.TheVariants.{DisplayHelp, DisplayVersion, InvalidValue}
 use Rattle.nn_types.specs.Fault.{name_of}
 use Rattle.nn_types.specs.Settings.{Threshold}
+use Rattle.nn_scenario.specs.Cut.{segments_from, cut_from}
+use Rattle.nn_scenario.specs.Scenario.{Scenario, scenario_of, scenario_with, lines_from}
 use Rattle.nn_engine.specs.declared.engine.Options.{Options as RunOptions}
+use Rattle.nn_engine.specs.Output.{Printed, AreEventsOf, output_of, with_history}
+use Rattle.nn_engine.specs.Start.{from_root}
 use Rattle.nn_listing.specs.Listing.{newline}
 use Rattle.nn_command.specs.declared.program.NoArguments.TheVariants.{NotText, OutOfMemory}
 use Rattle.nn_command.specs.declared.options.Request.{Request}
-use Rattle.nn_command.specs.Options.{ReadsAs, IsNumberOf, IsCapacity, AreReadAs, IsFlag, IsRequest}
-use Rattle.nn_command.specs.Program.{Streams, Writes, Runs, Helps, Refuses, Explains, LacksMemory, ServesNone, TellsOf, explanation_line, memory_line, version_line}
+use Rattle.nn_command.specs.Options.{settings_line, lanes_line, command_line, ReadsAs, IsNumberOf, IsCapacity, AreReadAs, IsFlag, IsRequest, AskAs}
+use Rattle.nn_command.specs.Program.{Streams, Serves, AreTaken, Writes, Runs, Helps, Refuses, Explains, LacksMemory, ServesNone, TellsOf, explanation_line, memory_line, version_line}
 
 -- ---- Texts as numbers and flags.
 
@@ -212,3 +217,80 @@ explained = inl (codes "BadGeneration: a stamp is wrong.", refl, (inl (record { 
 no_fault_refused : Explains 34 (all 0 nothing (writer text false)) 2
 unfolding name_of
 no_fault_refused = inr (refl, refuses)
+
+-- ---- A run with no words on the command line, over an empty input.
+
+abbrev program_alone : List Text
+program_alone = codes "nn_standby" ∷ []
+
+abbrev usual_request : Request
+usual_request = record {
+  options = record { settings = usual; history = false; image = false; from_image = false };
+  threads = false;
+  capacity = 64;
+  explain = None;
+}
+
+usual_settings : AreTaken program_alone usual
+unfolding clap_on_literals settings_line lanes_line command_line
+usual_settings = (refl, as_settings)
+
+unset : IsFlag (Some (codes "false")) false
+unset = ((λ e. absurd (cc)), (λ e. refl))
+
+usual_asked : AskAs program_alone usual_request
+unfolding clap_on_literals settings_line lanes_line command_line
+usual_asked = record { places = most_reports; by_threads = unset; with_history = unset; with_image = unset; on_from_image = unset; explains = λ n few h. h }
+
+-- the input gives no scenario lines, and its standby has no history
+abbrev printed_for_nothing : Printed
+printed_for_nothing = with_history false [] (output_of from_root usual_request.options [])
+
+nothing_happens : AreEventsOf from_root false [] (segments_from 1 []) []
+unfolding segments_from
+nothing_happens segments last e f = let none : [] ≡ segments = cc in rw (sym none) (record {
+  lawful = record {
+    applied_in_order = refl;
+    sent = tt;
+    in_sending_order = tt;
+    waited = tt;
+    flush_last = tt;
+    flush_held = tt;
+    none_forgotten = λ m sent. absurd (cc);
+  };
+  whole = λ m sent. absurd (cc);
+  one_thread = λ _. refl;
+})
+
+nothing_read : (scenario : Scenario) → scenario_of [] ≡ Ok scenario → AreEventsOf from_root false scenario.steps (segments_from 1 scenario.parts) []
+unfolding scenario_of lines_from cut_from
+nothing_read scenario e = let same : scenario_with [] [] ≡ scenario = cc in subst (λ (s : Scenario). AreEventsOf from_root false s.steps (segments_from 1 s.parts) []) same nothing_happens
+
+abbrev at_its_end : Reading
+at_its_end = record { left = Some []; given = 0; failed = false }
+
+abbrev run_over_nothing : Streams
+run_over_nothing = record {
+  before = at_its_end;
+  after = at_its_end;
+  output = nothing;
+  output' = writer printed_for_nothing.text false;
+  errors = nothing;
+  errors' = nothing;
+}
+
+serves_a_run : Serves program_alone run_over_nothing printed_for_nothing.status
+serves_a_run = inl (
+  usual_request,
+  usual_settings,
+  usual_asked,
+  (
+    inl (record {
+      output = printed_for_nothing;
+      right = inl (record { input = []; taken = refl; counted = refl; whole = refl; fits = omega arith; is = record { events = []; happened = nothing_read; is = refl } }, refl);
+      took = record { bytes = refl; counted = omega arith; unfailed = refl };
+      ends = refl;
+    }),
+    refl,
+  ),
+)

@@ -1,2 +1,4 @@
 pub mod Device
 pub mod DeviceRows
+pub mod Parts
+pub mod PartRows

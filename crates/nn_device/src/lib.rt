@@ -6,4 +6,7 @@ mod reader;
 mod writer;
 
 pub use reader::{ReadFailed, Reader};
-pub use writer::{WriteFailed, Writer};
+pub use writer::{Unwritten, WriteFailed, Writer};
+
+/// The bytes after which a device is given up: 2^62. None comes to that.
+const MOST_BYTES: u64 = 4_611_686_018_427_387_904;

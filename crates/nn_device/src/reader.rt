@@ -4,12 +4,10 @@ ghost use Rattle.std.specs.Io.{ReadsAtMost};
 ghost use Rattle.std.specs.Io.KnownBytes.{ReadConsumes};
 ghost use Rattle.nn_device.specs.Device.{Gave, FailedToRead};
 
+use crate::MOST_BYTES;
 use std::io::Read;
 use std::marker::Model;
 use thiserror::Error;
-
-/// The bytes after which a reader is given up: 2^62. No device comes to that.
-const MOST_BYTES: u64 = 4_611_686_018_427_387_904;
 
 /// The reads after which a reader is given up that has not ended: 2^24.
 const MOST_READS: u32 = 16_777_216;

@@ -1,13 +1,12 @@
 //! A writer that notes a failed write.
 ghost use Rattle.std.specs.Prelude.{◌≡◌, ◌<◌, false, length, IfErr, OnOk};
 ghost use Rattle.nn_device.specs.Device.{Took, FailedToWrite};
+ghost use Rattle.nn_device.specs.Parts.{TookFront};
 
+use crate::MOST_BYTES;
 use std::io::Write;
 use std::marker::Model;
 use thiserror::Error;
-
-/// The bytes after which a writer is given up: 2^62. No device comes to that.
-const MOST_BYTES: u64 = 4_611_686_018_427_387_904;
 
 /// A writer, how many bytes it took, and whether one of its writes failed.
 #[derive(Drop)]
@@ -30,6 +29,15 @@ impl<W: Write> Model for Writer<W> {
 #[error("a write failed after {written} bytes")]
 pub struct WriteFailed {
     pub written: usize,
+}
+
+/// Why not all of a text was written that is made in parts.
+#[derive(Clone, Copy, Debug, PartialEq, Eq, Error)]
+pub enum Unwritten {
+    #[error("a write failed")]
+    WriteFailed,
+    #[error("out of memory")]
+    OutOfMemory,
 }
 
 impl<W: Write> Writer<W> {
@@ -70,6 +78,18 @@ impl<W: Write> Writer<W> {
             }
         }
         Ok(())
+    }
+
+    /// Writes a part of a longer text as `write_all` does. How much of the whole was written is told by `taken`, and so the
+    /// fault has no number.
+    pub fn write_part(&mut self, part: &[u8]) -> Result<(), Unwritten>
+        ensures ok { OnOk result (Took self.old self.new part.now) }
+        ensures front { IfErr result (TookFront self.old self.new part.now) }
+    {
+        match self.write_all(part) {
+            Ok(()) => Ok(()),
+            Err(_) => Err(Unwritten::WriteFailed),
+        }
     }
 
     /// How many bytes its writes took.

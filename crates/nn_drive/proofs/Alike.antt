@@ -11,7 +11,7 @@ use Rattle.nn_model.specs.Lanes.{Lanes}
 use Rattle.nn_model.specs.Picture.{picture_replica, picture_order}
 use Rattle.nn_model.specs.Replay.{Sequential}
 use Rattle.nn_model.specs.Stands.{tables_of}
-use Rattle.nn_lane.specs.Ends.{Reporting, Taking, got_of}
+use Rattle.nn_lane.specs.Ends.{Reporting, Taking, got_of, next_message}
 use Rattle.nn_lane.specs.declared.fault.Refusal.{Refusal}
 use Rattle.nn_lane.specs.declared.fault.Refusal.TheVariants.{Closed, Exhausted, Full}
 use Rattle.nn_segment.specs.Segment.{Segment}
@@ -19,7 +19,7 @@ use Rattle.nn_segment.specs.Source.{Answer, Asked, given, end}
 use Rattle.nn_shadow.specs.Contents.{Contents, standby_of}
 use Rattle.nn_tailer.specs.Tailing.{by_node}
 use Rattle.nn_drive.specs.declared.driving.WorkerExit.{WorkerExit}
-use Rattle.nn_drive.specs.Reports.{next_message, sent_after, TakesNoMore, Reported}
+use Rattle.nn_drive.specs.Reports.{sent_after, TakesNoMore, Reported}
 use Rattle.nn_drive.specs.Driven.{AreLanes, IsTold, IsTaken, IsPromoted}
 use Rattle.nn_drive.specs.DriveLaws.{AnswersByFunction, AreOpen, DrivesEndAlike}
 

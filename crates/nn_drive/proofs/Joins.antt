@@ -5,14 +5,14 @@ use Rattle.std.proofs.lemmas.List.{get_or_append_left, get_or_push}
 use Rattle.std.specs.declared.thread.PromisedHandle.{PromisedHandle}
 use Rattle.nn_types.specs.declared.report.Report.{Report}
 use Rattle.nn_types.specs.declared.report.Message.{Message}
-use Rattle.nn_lane.specs.Ends.{Reporting, Taking}
+use Rattle.nn_lane.specs.Ends.{Reporting, Taking, next_message}
 use Rattle.nn_lane.specs.declared.fault.Refusal.{Refusal}
 use Rattle.nn_lane.specs.declared.fault.Refusal.TheVariants.{Closed, Exhausted, Full}
 use Rattle.nn_tailer.proofs.Fetched.{any_default}
 use Rattle.nn_drive.specs.declared.driving.WorkerExit.{WorkerExit}
 use Rattle.nn_drive.specs.declared.driving.WorkerPromise.{WorkerPromise}
 use Rattle.nn_drive.specs.Driven.{HasReported, IsTold, IsToldOnly, IsJoined, ToldOne}
-use Rattle.nn_drive.specs.Reports.{next_message, TakesNoMore}
+use Rattle.nn_drive.specs.Reports.{TakesNoMore}
 
 -- what the flag says of the threads so far, and of this one
 abbrev pub TellsOn : {S : Type 0} → Bool → Bool → WorkerExit S → Taking → Type 0

@@ -11,7 +11,7 @@ use Rattle.nn_types.specs.declared.event.Cause.TheVariants.{Flush}
 use Rattle.nn_model.specs.Namespace.{Namespace, root_alone}
 use Rattle.nn_model.specs.History.{processed}
 use Rattle.nn_model.specs.WellFormed.{Has}
-use Rattle.nn_lane.specs.Ends.{LaneId, Reporting, Taking}
+use Rattle.nn_lane.specs.Ends.{LaneId, Reporting, Taking, next_message}
 use Rattle.nn_lane.specs.declared.fault.Refusal.{Refusal}
 use Rattle.nn_lane.specs.declared.fault.Refusal.TheVariants.{Closed, Exhausted, Full}
 use Rattle.nn_segment.specs.Segment.{Segment}
@@ -25,7 +25,7 @@ use Rattle.nn_tailer.specs.declared.standby.Active.{Active}
 use Rattle.nn_drive.specs.declared.driving.WorkerExit.{WorkerExit}
 use Rattle.nn_drive.specs.LaneRows.{reporting, taking}
 use Rattle.nn_drive.specs.ReportRows.{report, message}
-use Rattle.nn_drive.specs.Reports.{Reported, SendsOne, TakesNoMore, next_message, sent_after}
+use Rattle.nn_drive.specs.Reports.{Reported, SendsOne, TakesNoMore, sent_after}
 use Rattle.nn_drive.specs.Driven.{IsLane, AreLanes, IsTold, IsToldOnly, IsTaken, IsPromoted, IsDriven}
 
 -- a source of reports in memory

@@ -12,7 +12,7 @@ use Rattle.nn_model.specs.Lawful.{IsLawful, IsWhole}
 use Rattle.nn_model.specs.Log.{log_of}
 use Rattle.nn_model.specs.Picture.{ShowsPicture}
 use Rattle.nn_model.specs.Stands.{tables_of}
-use Rattle.nn_lane.specs.Ends.{Reporting, Taking, got_of}
+use Rattle.nn_lane.specs.Ends.{Reporting, Taking, got_of, next_message}
 use Rattle.nn_lane.specs.declared.fault.Refusal.{Refusal}
 use Rattle.nn_lane.specs.declared.fault.Refusal.TheVariants.{Closed, Exhausted, Full}
 use Rattle.nn_segment.specs.LogEnd.{end_of_log, given_in}
@@ -25,7 +25,7 @@ use Rattle.nn_tailer.specs.Tailing.{Tailer, by_node, has_begun}
 use Rattle.nn_tailer.proofs.InOrder.{all_given, promoted_at_end, stopped_at}
 use Rattle.nn_drive.specs.Driven.{NotDriven, IsDriven, IsTaken, IsTold}
 use Rattle.nn_drive.specs.NewLanes.{HaveLanes}
-use Rattle.nn_drive.specs.Reports.{next_message, sent_after, TakesNoMore, Reported}
+use Rattle.nn_drive.specs.Reports.{sent_after, TakesNoMore, Reported}
 use Rattle.nn_drive.specs.declared.driving.DriveFault.{DriveFault}
 use Rattle.nn_drive.specs.declared.driving.DriveFault.TheVariants as drive
 use Rattle.nn_tailer.specs.declared.standby.Active.{Active}

@@ -9,7 +9,8 @@ use Rattle.std.proofs.lemmas.List.Elements.{All-head, All-tail}
 use Rattle.nn_types.specs.declared.report.Message.{Message}
 use Rattle.nn_types.specs.declared.report.Report.{Report}
 use Rattle.nn_model.specs.Lanes.{Lanes, no_messages, followed_by}
-use Rattle.nn_drive.specs.Reports.{next_message, sent_after}
+use Rattle.nn_lane.specs.Ends.{next_message}
+use Rattle.nn_drive.specs.Reports.{sent_after}
 use Rattle.nn_drive.proofs.Sends.{sent_more}
 use Rattle.nn_scenario.specs.Steps.{lanes_after, lanes_of, AreInTurn, IsStepOf}
 use Rattle.nn_scenario.specs.declared.steps.Step.{Step}

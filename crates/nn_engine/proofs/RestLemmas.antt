@@ -14,10 +14,10 @@ use Rattle.nn_image.specs.declared.fault.SaveFault.TheVariants as save
 use Rattle.nn_image.specs.Text.{image_text}
 use Rattle.nn_listing.specs.Listing.{newline, row_line, listing_text}
 use Rattle.nn_listing.specs.Tables.{tables_text}
-use Rattle.nn_listing.specs.Writing.{Stopped}
-use Rattle.nn_listing.specs.declared.writing.Unwritten.{Unwritten}
-use Rattle.nn_listing.specs.declared.writing.Unwritten.TheVariants.{WriteFailed, OutOfMemory}
-use Rattle.nn_listing.proofs.Fronts.{front_of, front_after, front_behind, front_taken, took_both}
+use Rattle.nn_device.specs.Parts.{TookFront}
+use Rattle.nn_device.specs.declared.writer.Unwritten.{Unwritten}
+use Rattle.nn_device.specs.declared.writer.Unwritten.TheVariants.{WriteFailed, OutOfMemory}
+use Rattle.nn_device.proofs.Parts.{front_of, front_after, front_behind, front_taken, took_both}
 use Rattle.nn_shadow.specs.Contents.{Contents}
 use Rattle.nn_segment.specs.LogEnd.{LogEnd}
 use Rattle.nn_engine.specs.declared.engine.Options.{Options}
@@ -25,7 +25,7 @@ use Rattle.nn_engine.specs.declared.output.RunFault.{RunFault}
 use Rattle.nn_engine.specs.declared.output.RunFault.TheVariants as run
 use Rattle.nn_engine.specs.Output.{Printed, after_log, image_part, with_history}
 use Rattle.nn_engine.specs.Rest.{StoppedBehind, first_line, run_fault}
-use Rattle.nn_engine.specs.Run.{TookFront}
+use Rattle.nn_engine.specs.Run.{Unfinished}
 use Rattle.nn_engine.specs.Shown.{history_part, with_settings}
 use Rattle.nn_engine.proofs.TellLemmas.{behind}
 
@@ -34,23 +34,23 @@ use Rattle.nn_engine.proofs.TellLemmas.{behind}
 module _ (w0 w1 w2 : Writing) (head rest : List ℕ) where
   pub head_fails : (n : ℕ) → FailedToWrite w0 w1 head n → StoppedBehind w0 w1 (head ++ rest) WriteFailed
   head_fails n h = record {
-    stopped = front_of w0 w1 w1 head rest WriteFailed (front_taken w0 w1 head n h);
+    took = front_of w0 w1 w1 head rest WriteFailed (front_taken w0 w1 head n h);
     begun = λ e. absurd (cc);
   }
 
-  pub rest_fails : (e : Unwritten) → 0 < length head → Took w0 w1 head → Stopped w1 w2 rest e → StoppedBehind w0 w2 (head ++ rest) e
+  pub rest_fails : (e : Unwritten) → 0 < length head → Took w0 w1 head → TookFront w1 w2 rest e → StoppedBehind w0 w2 (head ++ rest) e
   rest_fails e some took h =
       let both = front_behind w0 w1 w2 head rest e took h in
-      record { stopped = both.0; begun = λ _. omega (arith, some, both.1) }
+      record { took = both.0; begun = λ _. omega (arith, some, both.1) }
 
 module _ (w0 w1 w2 w3 : Writing) (lines tables image : List ℕ) where
-  pub lines_fail : (e : Unwritten) → Stopped w0 w1 lines e → Stopped w0 w1 (lines ++ (tables ++ image)) e
+  pub lines_fail : (e : Unwritten) → TookFront w0 w1 lines e → TookFront w0 w1 (lines ++ (tables ++ image)) e
   lines_fail e h = front_of w0 w1 w1 lines (tables ++ image) e h
 
-  pub tables_fail : (e : Unwritten) → Took w0 w1 lines → Stopped w1 w2 tables e → Stopped w0 w2 (lines ++ (tables ++ image)) e
+  pub tables_fail : (e : Unwritten) → Took w0 w1 lines → TookFront w1 w2 tables e → TookFront w0 w2 (lines ++ (tables ++ image)) e
   tables_fail e took h = front_after w0 w1 w2 lines (tables ++ image) e took (front_of w1 w2 w2 tables image e h)
 
-  pub image_fails : (e : Unwritten) → Took w0 w1 lines → Took w1 w2 tables → Stopped w2 w3 image e → Stopped w0 w3 (lines ++ (tables ++ image)) e
+  pub image_fails : (e : Unwritten) → Took w0 w1 lines → Took w1 w2 tables → TookFront w2 w3 image e → TookFront w0 w3 (lines ++ (tables ++ image)) e
   image_fails e took next h = front_after w0 w1 w3 lines (tables ++ image) e took (front_after w1 w2 w3 tables image e next h)
 
   pub all_written : Took w0 w1 lines → Took w1 w2 tables → Took w2 w3 image → Took w0 w3 (lines ++ (tables ++ image))
@@ -62,61 +62,40 @@ abbrev image_line : List ℕ
 image_line = codes "image" ++ newline ∷ []
 
 module _ (w0 w1 w2 : Writing) (asked : Bool) (end : LogEnd) (is : asked ≡ true) where
-  asked_for : (e : Unwritten) → Stopped w0 w2 (image_line ++ image_text end.namespace end.last) e → Stopped w0 w2 (image_part asked end) e
-  asked_for e h = subst (λ b. Stopped w0 w2 (image_part b end) e) (sym is) h
+  asked_for : (e : Unwritten) → TookFront w0 w2 (image_line ++ image_text end.namespace end.last) e → TookFront w0 w2 (image_part asked end) e
+  asked_for e h = subst (λ b. TookFront w0 w2 (image_part b end) e) (sym is) h
 
-  pub image_unwritten : (written : ℕ) → Took w0 w1 image_line → SavedFront w1 w2 (image_text end.namespace end.last) (save.WriteFault written) → Stopped w0 w2 (image_part asked end) WriteFailed
-  image_unwritten written took h = asked_for WriteFailed (front_after w0 w1 w2 image_line (image_text end.namespace end.last) WriteFailed took
-      (record { front = h.front; rest = h.rest; whole = h.whole; bytes = h.bytes; counted = h.counted; cause = (h.told.1, h.told.2) }))
+  pub image_unwritten : (written : ℕ) → Took w0 w1 image_line → SavedFront w1 w2 (image_text end.namespace end.last) (save.WriteFault written) → TookFront w0 w2 (image_part asked end) WriteFailed
+  image_unwritten written took h = asked_for WriteFailed (front_after w0 w1 w2 image_line (image_text end.namespace end.last) WriteFailed took h.took)
 
-  pub image_refused : Took w0 w1 image_line → SavedFront w1 w2 (image_text end.namespace end.last) save.OutOfMemory → Stopped w0 w2 (image_part asked end) OutOfMemory
-  image_refused took h = asked_for OutOfMemory (front_after w0 w1 w2 image_line (image_text end.namespace end.last) OutOfMemory took
-      (record { front = h.front; rest = h.rest; whole = h.whole; bytes = h.bytes; counted = h.counted; cause = h.told }))
+  pub image_refused : Took w0 w1 image_line → SavedFront w1 w2 (image_text end.namespace end.last) save.OutOfMemory → TookFront w0 w2 (image_part asked end) OutOfMemory
+  image_refused took h = asked_for OutOfMemory (front_after w0 w1 w2 image_line (image_text end.namespace end.last) OutOfMemory took h.took)
 
-  pub image_line_fails : (e : Unwritten) → Stopped w0 w2 image_line e → Stopped w0 w2 (image_part asked end) e
+  pub image_line_fails : (e : Unwritten) → TookFront w0 w2 image_line e → TookFront w0 w2 (image_part asked end) e
   image_line_fails e h = asked_for e (front_of w0 w2 w2 image_line (image_text end.namespace end.last) e h)
 
 -- ---- An output.
 
 -- a line that was not written whole
-pub line_fails : (w0 w1 : Writing) (text : List ℕ) (n : ℕ) → FailedToWrite w0 w1 text n → TookFront w0 w1 text (run.WriteFailed n)
-line_fails w0 w1 text n h = record {
-  front = take n text;
-  rest = drop n text;
-  whole = sym (take-append-drop n text);
-  bytes = h.bytes;
-  counted = omega (arith, h.short, h.counted, length-take n text);
-  told = (omega (arith, h.short, length-take n text), omega (arith, h.short, length-drop n text), h.noted);
-}
+pub line_fails : (w0 w1 : Writing) (text : List ℕ) (n : ℕ) → FailedToWrite w0 w1 text n → Unfinished w0 w1 text (run.WriteFailed n)
+line_fails w0 w1 text n h =
+    let took = front_taken w0 w1 text n h in
+    record { took = took; told = omega (arith, h.counted, took.counted) }
 
 module _ (w0 w1 w2 : Writing) (text more : List ℕ) (before written : ℕ) where
-  pub text_fails : (n : ℕ) → FailedToWrite w0 w1 text n → before ≡ w0.taken → written + before ≡ w1.taken → TookFront w0 w1 (text ++ more) (run.WriteFailed written)
-  text_fails n h begins ends = record {
-    front = take n text;
-    rest = drop n text ++ more;
-    whole = ap (λ t. t ++ more) (sym (take-append-drop n text)) ∙ append_assoc (take n text) (drop n text) more;
-    bytes = h.bytes;
-    counted = omega (arith, h.short, h.counted, length-take n text);
-    told = (omega (arith, begins, ends, h.short, h.counted, length-take n text), omega (arith, h.short, length-drop n text, length-append (drop n text) more), h.noted);
-  }
+  pub text_fails : (n : ℕ) → FailedToWrite w0 w1 text n → before ≡ w0.taken → written + before ≡ w1.taken → Unfinished w0 w1 (text ++ more) (run.WriteFailed written)
+  text_fails n h begins ends =
+      let took = front_of w0 w1 w1 text more WriteFailed (front_taken w0 w1 text n h) in
+      record { took = took; told = omega (arith, begins, ends, took.counted) }
 
-  pub rest_stops : (e : Unwritten) → Took w0 w1 text → StoppedBehind w1 w2 more e → before ≡ w0.taken → written + before ≡ w2.taken → TookFront w0 w2 (text ++ more) (run_fault e written)
-  rest_stops WriteFailed first h begins ends = let s = h.stopped in record {
-    front = text ++ s.front;
-    rest = s.rest;
-    whole = ap (λ t. text ++ t) s.whole ∙ sym (append_assoc text s.front s.rest);
-    bytes = Appends-trans w0.contents w1.contents w2.contents text s.front first.bytes s.bytes;
-    counted = omega (arith, first.counted, s.counted, length-append text s.front);
-    told = (omega (arith, begins, ends, first.counted, s.counted, length-append text s.front), s.cause.0, s.cause.1);
-  }
-  rest_stops OutOfMemory first h begins ends = let s = h.stopped in record {
-    front = text ++ s.front;
-    rest = s.rest;
-    whole = ap (λ t. text ++ t) s.whole ∙ sym (append_assoc text s.front s.rest);
-    bytes = Appends-trans w0.contents w1.contents w2.contents text s.front first.bytes s.bytes;
-    counted = omega (arith, first.counted, s.counted, length-append text s.front);
-    told = (omega (arith, begins, ends, first.counted, s.counted, length-append text s.front), omega (arith, begins, ends, first.counted, s.counted, h.begun refl), s.cause ∙ first.unfailed);
-  }
+  pub rest_stops : (cause : Unwritten) → Took w0 w1 text → StoppedBehind w1 w2 more cause → before ≡ w0.taken → written + before ≡ w2.taken → Unfinished w0 w2 (text ++ more) (run_fault cause written)
+  rest_stops WriteFailed first h begins ends =
+      let took = front_after w0 w1 w2 text more WriteFailed first h.took in
+      record { took = took; told = omega (arith, begins, ends, took.counted) }
+  rest_stops OutOfMemory first h begins ends =
+      let both = front_behind w0 w1 w2 text more OutOfMemory first h.took in
+      let told : written ≡ length both.0.front = omega (arith, begins, ends, both.0.counted) in
+      record { took = both.0; told = (told, omega (arith, told, both.0.counted, first.counted, h.took.counted, h.begun refl)) }
 
 -- ---- What is told of a listing that is made as it is written.
 

@@ -12,7 +12,7 @@ use Rattle.nn_engine.specs.declared.engine.Options.{Options}
 use Rattle.nn_engine.specs.Input.{IsUnread, IsReadOfAll}
 use Rattle.nn_engine.specs.declared.device.InputParts.{InputParts}
 use Rattle.nn_engine.specs.Output.{Printed, IsPrinted}
-use Rattle.nn_engine.specs.Run.{Given, IsOutput, NoneFailed, Wrote, WroteFront, TookFront, fault_alone, running, unread_line}
+use Rattle.nn_engine.specs.Run.{Given, IsOutput, NoneFailed, Wrote, WroteFront, Unfinished, fault_alone, running, unread_line}
 
 -- what a whole output, and what a front of one, is where this text was written with this status
 pub record Writes (given : Given) (r : Result RunEnd RunFault) (writer writer' : Writing) : Type 0 where
@@ -22,10 +22,10 @@ pub record Writes (given : Given) (r : Result RunEnd RunFault) (writer writer' :
 pub writes : (given : Given) (r : Result RunEnd RunFault) (writer writer' : Writing) (p : Printed) (text : List ℕ) (status : ℕ) →
     text ≡ p.text → status ≡ p.status → IsOutput given p →
     IfOk r (λ end. Took writer writer' text × (end.status ≡ status)) →
-    IfErr r (TookFront writer writer' text) → Writes given r writer writer'
+    IfErr r (Unfinished writer writer' text) → Writes given r writer writer'
 writes given r writer writer' p text status same ends right ok err = record {
   written = IfOk-weaker r _ _ (λ end e. record { output = p; right = right; took = subst (Took writer writer') same e.0; ends = e.1 ∙ ends }) ok;
-  front = IfErr-weaker r _ _ (λ e w. record { output = p; right = right; front = subst (λ t. TookFront writer writer' t e) same w }) err;
+  front = IfErr-weaker r _ _ (λ e w. record { output = p; right = right; front = subst (λ t. Unfinished writer writer' t e) same w }) err;
 }
 
 pub is_output_of_all : (given : Given) (p : Printed) (parts : InputParts) (all : IsReadOfAll given.options.from_image given.before given.after parts) → IsAtEnd given.after.left →
@@ -60,7 +60,7 @@ is_unread options threads before after OutOfMemory why = inr (inr (refl, why))
 pub writes_unread : (options : Options) (threads : Bool) (before after : Reading) (r : Result RunEnd RunFault) (writer writer' : Writing)
     (fault : InputFault) (text : List ℕ) → IsUnread options.from_image before after fault → text ≡ unread_line fault →
     IfOk r (λ end. Took writer writer' text × (end.status ≡ 1)) →
-    IfErr r (TookFront writer writer' text) → Writes (running options threads before after) r writer writer'
+    IfErr r (Unfinished writer writer' text) → Writes (running options threads before after) r writer writer'
 writes_unread options threads before after r writer writer' fault text why same ok err =
     writes (running options threads before after) r writer writer' (unread fault) text 1 (same ∙ unread_text fault) (unread_status fault)
     (is_unread options threads before after fault why) ok err

@@ -1,10 +1,10 @@
 -- A listing that is made as it is written.
 use Rattle.std.specs.Prelude.{◌≡◌, ℕ, ◌<◌, List, [], ◌∷◌, ◌++◌, length, flat_map, codes, decimal, Option, Some, None, string_bytes}
 use Rattle.nn_device.specs.Device.{Writing}
+use Rattle.nn_device.specs.Parts.{TookFront}
+use Rattle.nn_device.specs.declared.writer.Unwritten.{Unwritten}
+use Rattle.nn_device.specs.declared.writer.Unwritten.TheVariants.{WriteFailed, OutOfMemory}
 use Rattle.nn_listing.specs.Listing.{newline, row_line}
-use Rattle.nn_listing.specs.Writing.{Stopped}
-use Rattle.nn_listing.specs.declared.writing.Unwritten.{Unwritten}
-use Rattle.nn_listing.specs.declared.writing.Unwritten.TheVariants.{WriteFailed, OutOfMemory}
 use Rattle.nn_engine.specs.Output.{image_part}
 use Rattle.nn_engine.specs.declared.output.RunFault.{RunFault}
 use Rattle.nn_engine.specs.declared.output.RunFault.TheVariants as run
@@ -23,9 +23,9 @@ rest_text None = []
 rest_text (Some l) = string_bytes l.texts.head ++ after_head l
 
 -- a front of the text was written, and where memory ran out it is not empty
-pub record StoppedBehind (old new : Writing) (text : List ℕ) (e : Unwritten) : Type 0 where
-  pub stopped : Stopped old new text e
-  pub begun : e ≡ OutOfMemory → 0 < length stopped.front
+pub record StoppedBehind (old new : Writing) (text : List ℕ) (cause : Unwritten) : Type 0 where
+  pub took : TookFront old new text cause
+  pub begun : cause ≡ OutOfMemory → 0 < length took.front
 
 -- the fault of a run, of which so many bytes were written
 abbrev pub run_fault : Unwritten → ℕ → RunFault

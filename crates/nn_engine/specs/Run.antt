@@ -1,7 +1,10 @@
 -- What a run wrote, beside what its reader had.
 use Rattle.std.specs.Prelude.{◌≡◌, ◌⊎◌, ◌≤◌, ◌<◌, ◌+◌, ◌∷◌, [], ◌++◌, ℕ, Bool, true, List, length, codes}
-use Rattle.std.specs.Io.KnownBytes.{Appends, Consumes, IsAtEnd}
+use Rattle.std.specs.Io.KnownBytes.{Consumes, IsAtEnd}
 use Rattle.nn_device.specs.Device.{Reading, Writing, Took}
+use Rattle.nn_device.specs.Parts.{TookFront}
+use Rattle.nn_device.specs.declared.writer.Unwritten.{Unwritten}
+use Rattle.nn_device.specs.declared.writer.Unwritten.TheVariants as device
 use Rattle.nn_listing.specs.Listing.{newline}
 use Rattle.nn_scenario.specs.Scenario.{max_input}
 use Rattle.nn_engine.specs.Input.{GaveTooMuch}
@@ -61,26 +64,26 @@ pub record Wrote (given : Given) (writer writer' : Writing) (status : ℕ) : Typ
   pub took : Took writer writer' output.text
   pub ends : status ≡ output.status
 
--- The fault tells how many bytes were written. A failed write was noted, and left some bytes out. Where memory ran out, some bytes were
--- written before, and no write failed.
-abbrev pub Tells : RunFault → List ℕ → List ℕ → Bool → Bool → Type 0
-Tells (WriteFailed written) front rest before after = (written ≡ length front) × (0 < length rest) × (after ≡ true)
-Tells (run.OutOfMemory written) front rest before after = (written ≡ length front) × (0 < written) × (after ≡ before)
+-- why not all was written
+abbrev pub cause_of : RunFault → Unwritten
+cause_of (WriteFailed written) = device.WriteFailed
+cause_of (run.OutOfMemory written) = device.OutOfMemory
+
+-- The fault tells how many bytes were written. Where memory ran out, some were.
+abbrev pub Tells : RunFault → List ℕ → Type 0
+Tells (WriteFailed written) front = written ≡ length front
+Tells (run.OutOfMemory written) front = (written ≡ length front) × (0 < written)
 
 -- a front of the text was written, and nothing behind it
-pub record TookFront (writer writer' : Writing) (text : List ℕ) (fault : RunFault) : Type 0 where
-  pub front : List ℕ
-  pub rest : List ℕ
-  pub whole : text ≡ front ++ rest
-  pub bytes : Appends writer.contents writer'.contents front
-  pub counted : writer'.taken ≡ writer.taken + length front
-  pub told : Tells fault front rest writer.failed writer'.failed
+pub record Unfinished (writer writer' : Writing) (text : List ℕ) (fault : RunFault) : Type 0 where
+  pub took : TookFront writer writer' text (cause_of fault)
+  pub told : Tells fault took.front
 
 -- a front of an output was written
 pub record WroteFront (given : Given) (writer writer' : Writing) (fault : RunFault) : Type 0 where
   pub output : Printed
   pub right : IsOutput given output
-  pub front : TookFront writer writer' output.text fault
+  pub front : Unfinished writer writer' output.text fault
 
 -- a run, its reader as it was before and after
 abbrev pub running : Options → Bool → Reading → Reading → Given

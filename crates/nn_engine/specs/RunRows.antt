@@ -9,7 +9,7 @@ use Rattle.nn_engine.specs.declared.output.RunFault.TheVariants.{WriteFailed}
 use Rattle.nn_engine.specs.declared.output.RunFault.TheVariants as run
 use Rattle.nn_engine.specs.Input.{IsUnread}
 use Rattle.nn_engine.specs.Output.{Printed}
-use Rattle.nn_engine.specs.Run.{Given, IsOutputOfAll, IsUnreadable, fault_alone, unread_line, NoneFailed, TookFront, Wrote, WroteFront, running}
+use Rattle.nn_engine.specs.Run.{Given, IsOutputOfAll, IsUnreadable, fault_alone, unread_line, NoneFailed, Unfinished, Wrote, WroteFront, running}
 
 unread : map unread_line (ReadFailed ∷ TooLong ∷ OutOfMemory ∷ [])
     ≡ (codes "fault 8" ++ newline ∷ []) ∷ (codes "fault 8" ++ newline ∷ []) ∷ (codes "fault 55" ++ newline ∷ []) ∷ []
@@ -47,7 +47,7 @@ writer taken failed = record { contents = None; taken = taken; failed = failed }
 
 -- a failed write is one that was noted
 no_write_failed : (options : Options) → WroteFront (running options false (reader false) (reader false)) (writer 0 false) (writer 2 false) (WriteFailed 2) → ⊥
-no_write_failed options h = true≢false (sym h.front.told.2)
+no_write_failed options h = true≢false (sym h.front.took.caused.1)
 
 -- ---- What a run wrote.
 
@@ -77,30 +77,36 @@ abbrev word : Bool → Writing
 word failed = record { contents = Some (codes "fault"); taken = 5; failed = failed }
 
 -- a front is not all
-not_a_front_of_all : TookFront unwritten (memory_line true) (fault_alone (codes "55")).text (WriteFailed 9) → ⊥
-not_a_front_of_all h = let e : 9 ≡ length h.front + length h.rest = ap length h.whole ∙ length-append h.front h.rest in omega (arith, e, h.told.0, h.told.1)
+not_a_front_of_all : Unfinished unwritten (memory_line true) (fault_alone (codes "55")).text (WriteFailed 9) → ⊥
+not_a_front_of_all h =
+    let w = h.took in
+    let e : 9 ≡ length w.front + length w.rest = ap length w.whole ∙ length-append w.front w.rest in
+    omega (arith, e, h.told, w.caused.0)
 
 wrote_a_front_of_55 : (options : Options) → WroteFront (running options false (reader false) (reader false)) unwritten (word true) (WriteFailed 5)
 wrote_a_front_of_55 options = record {
   output = fault_alone (codes "55");
   right = inr (inr (refl, refl));
-  front = record { front = codes "fault"; rest = codes " 55" ++ newline ∷ []; whole = refl; bytes = refl; counted = refl; told = (refl, omega arith, refl) };
+  front = record {
+    took = record { front = codes "fault"; rest = codes " 55" ++ newline ∷ []; whole = refl; bytes = refl; counted = refl; caused = (omega arith, refl) };
+    told = refl;
+  };
 }
 
 not_told_of_another_count : (given : Given) → WroteFront given unwritten (word true) (WriteFailed 4) → ⊥
-not_told_of_another_count given h = let e : 5 ≡ 0 + length h.front.front = h.front.counted in omega (arith, e, h.front.told.0)
+not_told_of_another_count given h = let e : 5 ≡ 0 + length h.front.took.front = h.front.took.counted in omega (arith, e, h.front.told)
 
 -- memory ran out behind the first bytes
-ran_out : TookFront unwritten (word false) (codes "faults") (run.OutOfMemory 5)
-ran_out = record { front = codes "fault"; rest = codes "s"; whole = refl; bytes = refl; counted = refl; told = (refl, omega arith, refl) }
+ran_out : Unfinished unwritten (word false) (codes "faults") (run.OutOfMemory 5)
+ran_out = record { took = record { front = codes "fault"; rest = codes "s"; whole = refl; bytes = refl; counted = refl; caused = refl }; told = (refl, omega arith) }
 
 -- and not before them: then the line that memory ran out is written
-not_ran_out_before : (text : List ℕ) → TookFront unwritten unwritten text (run.OutOfMemory 0) → ⊥
+not_ran_out_before : (text : List ℕ) → Unfinished unwritten unwritten text (run.OutOfMemory 0) → ⊥
 not_ran_out_before text h = omega (arith, h.told.1)
 
 -- nor where a write failed
-not_ran_out_at_a_write : (text : List ℕ) → TookFront unwritten (word true) text (run.OutOfMemory 5) → ⊥
-not_ran_out_at_a_write text h = true≢false h.told.2
+not_ran_out_at_a_write : (text : List ℕ) → Unfinished unwritten (word true) text (run.OutOfMemory 5) → ⊥
+not_ran_out_at_a_write text h = true≢false h.took.caused
 
 -- an input is unreadable where a read failed
 unreadable : (options : Options) → IsUnreadable (running options false (reader false) (reader true))

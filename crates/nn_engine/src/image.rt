@@ -1,12 +1,12 @@
 //! The image of a namespace, behind the tables of a run.
 ghost use Rattle.std.specs.Prelude.{◌≡◌, ◌++◌, OnOk, IfErr};
 ghost use Rattle.nn_device.specs.Device.{Took};
-ghost use Rattle.nn_listing.specs.Writing.{Stopped};
+ghost use Rattle.nn_device.specs.Parts.{TookFront};
 ghost use Rattle.nn_engine.specs.Output.{image_part};
 
-use nn_device::Writer;
+use nn_device::{Unwritten, Writer};
 use nn_image::{SaveFault, save};
-use nn_listing::{Unwritten, text_bytes, write_text};
+use nn_listing::text_bytes;
 use nn_tree::{Extent, Namespace};
 use std::alloc::{AllocError, Global};
 use std::io::Write;
@@ -55,12 +55,12 @@ pub(crate) fn write_image<W: Write>(
     writer: &mut Writer<W>,
 ) -> Result<(), Unwritten>
     ensures ok { OnOk result (Took writer.old writer.new (image_part wanted (record { last = last; namespace = namespace.now }))) }
-    ensures front { IfErr result (Stopped writer.old writer.new (image_part wanted (record { last = last; namespace = namespace.now }))) }
+    ensures front { IfErr result (TookFront writer.old writer.new (image_part wanted (record { last = last; namespace = namespace.now }))) }
 {
     if !wanted {
         return Ok(());
     }
-    write_text(writer, b"image\n")?;
+    writer.write_part(b"image\n")?;
     match save(alloc, namespace, last, writer) {
         Ok(()) => Ok(()),
         Err(SaveFault::WriteFault { .. }) => Err(Unwritten::WriteFailed),

@@ -2,12 +2,11 @@
 ghost use Rattle.std.specs.Prelude.{◌≡◌, IfOk, IfErr, OnOk};
 ghost use Rattle.nn_device.specs.Device.{Took};
 ghost use Rattle.nn_engine.specs.Rest.{run_fault};
-ghost use Rattle.nn_engine.specs.Run.{TookFront};
+ghost use Rattle.nn_engine.specs.Run.{Unfinished};
 ghost use Rattle.nn_engine.specs.Shown.{shown};
 
 use crate::rest::Rest;
-use nn_device::Writer;
-use nn_listing::Unwritten;
+use nn_device::{Unwritten, Writer};
 use std::alloc::Global;
 use std::io::Write;
 use thiserror::Error;
@@ -63,7 +62,7 @@ impl Output {
     /// Writes all of it. A text takes one write, and so does each path of a listing that is made as it is written.
     pub fn write<W: Write>(&self, alloc: Global, writer: &mut Writer<W>) -> Result<(), RunFault>
         ensures ok { OnOk result (Took writer.old writer.new (shown self.now).text) }
-        ensures front { IfErr result (TookFront writer.old writer.new (shown self.now).text) }
+        ensures front { IfErr result (Unfinished writer.old writer.new (shown self.now).text) }
     {
         let before = writer.taken();
         let Ok(()) = writer.write_all(&self.text) else {
@@ -72,18 +71,18 @@ impl Output {
         };
         match self.rest.write(alloc, writer) {
             Ok(()) => Ok(()),
-            Err(stop) => {
+            Err(cause) => {
                 let written = writer.taken() - before;
-                Err(run_fault(stop, written))
+                Err(run_fault(cause, written))
             }
         }
     }
 }
 
-fn run_fault(stop: Unwritten, written: u64) -> RunFault
-    ensures { result ≡ run_fault stop written }
+fn run_fault(cause: Unwritten, written: u64) -> RunFault
+    ensures { result ≡ run_fault cause written }
 {
-    match stop {
+    match cause {
         Unwritten::WriteFailed => RunFault::WriteFailed { written },
         Unwritten::OutOfMemory => RunFault::OutOfMemory { written },
     }
@@ -96,7 +95,7 @@ pub(crate) fn finish<W: Write>(
     status: u8,
 ) -> Result<RunEnd, RunFault>
     ensures ok { IfOk result (λ end. Took writer.old writer.new text.now × (end.status ≡ status)) }
-    ensures front { IfErr result (TookFront writer.old writer.new text.now) }
+    ensures front { IfErr result (Unfinished writer.old writer.new text.now) }
 {
     match writer.write_all(text) {
         Ok(()) => Ok(RunEnd { status }),
@@ -113,7 +112,7 @@ pub(crate) fn finish_output<W: Write>(
     writer: &mut Writer<W>,
 ) -> Result<RunEnd, RunFault>
     ensures ok { IfOk result (λ end. Took writer.old writer.new (shown output).text × (end.status ≡ output.status)) }
-    ensures front { IfErr result (TookFront writer.old writer.new (shown output).text) }
+    ensures front { IfErr result (Unfinished writer.old writer.new (shown output).text) }
 {
     let written = output.write(alloc, writer);
     let Output {

@@ -1,14 +1,14 @@
 //! What of an output is too large to be made in memory. It is made as it is written.
 ghost use Rattle.std.specs.Prelude.{◌≡◌, ◌<◌, ◌++◌, [], OnOk, IfErr, flat_map, length, string_bytes};
 ghost use Rattle.nn_device.specs.Device.{Took};
+ghost use Rattle.nn_device.specs.Parts.{TookFront};
 ghost use Rattle.nn_listing.specs.Listing.{row_line};
-ghost use Rattle.nn_listing.specs.Writing.{Stopped};
 ghost use Rattle.nn_engine.specs.Output.{image_part};
 ghost use Rattle.nn_engine.specs.Rest.{after_head, StoppedBehind};
 
 use crate::image::write_image;
-use nn_device::Writer;
-use nn_listing::{Unwritten, write_lines, write_text};
+use nn_device::{Unwritten, Writer};
+use nn_listing::write_lines;
 use nn_shadow::Shadow;
 use std::alloc::Global;
 use std::io::Write;
@@ -117,11 +117,11 @@ fn write_after_head<W: Write>(
     writer: &mut Writer<W>,
 ) -> Result<(), Unwritten>
     ensures ok { OnOk result (Took writer.old writer.new (after_head large.now)) }
-    ensures front { IfErr result (Stopped writer.old writer.new (after_head large.now)) }
+    ensures front { IfErr result (TookFront writer.old writer.new (after_head large.now)) }
 {
     let namespace = large.standby.namespace();
     write_lines(alloc, namespace, writer)?;
-    write_text(writer, large.texts.tables.as_bytes())?;
+    writer.write_part(large.texts.tables.as_bytes())?;
     write_image(
         alloc,
         large.image,

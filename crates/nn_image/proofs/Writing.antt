@@ -1,4 +1,4 @@
--- Values that are written, and fronts of texts.
+-- Values that are written, and the lines of an image.
 use Rattle.std.proofs.Common.{◌≡◌, ℕ, ◌+◌, ◌<◌, ◌≤◌, ◌^◌, List, [], ◌∷◌, ◌++◌, length, take, drop, get_or, false, Bool, refl, sym, ap, ◌∙◌, arith, append_assoc, drop-cons, add-one, subst, length-append, length-drop, ◌-◌}
 use Rattle.std.specs.List.{flat_map}
 use Rattle.std.proofs.KnownBytes.{Appends-trans, Appends-nil}
@@ -14,7 +14,11 @@ use Rattle.nn_model.specs.Namespace.{path_cmp}
 use Rattle.nn_model.specs.WellFormed.{IsWellFormed}
 use Rattle.std.specs.Prelude.{T}
 use Rattle.std.specs.FinMap.Entries.{is_sorted, below_all}
-use Rattle.nn_device.specs.Device.{Writing, Took, FailedToWrite}
+use Rattle.nn_device.specs.Device.{Writing, Took}
+use Rattle.nn_device.specs.Parts.{TookFront}
+use Rattle.nn_device.specs.declared.writer.Unwritten.{Unwritten}
+use Rattle.nn_device.specs.declared.writer.Unwritten.TheVariants.{OutOfMemory}
+use Rattle.nn_device.proofs.Parts.{front_of, front_after, took_both, no_memory, took_nothing}
 use Rattle.nn_tree.specs.Listing.{FailsAt, StopsIn}
 use Rattle.nn_tree.specs.Listing.{Took as TookRows}
 use Rattle.nn_tree.specs.declared.listing.ListFault.{ListFault}
@@ -23,10 +27,7 @@ use Rattle.nn_tree.specs.declared.listing.ListFault.TheVariants as list
 use Rattle.nn_image.specs.declared.saving.RowWriter.{RowWriter}
 use Rattle.nn_image.proofs.Rows.{root_first, T_of, and_T}
 use Rattle.nn_image.specs.Text.{feed, block_data, block_items, number_items, head_data, header_data, form_data, row_data, row_lines, line_of, end_data, image_text}
-use Rattle.nn_image.specs.declared.fault.SaveFault.TheVariants as save
-use Rattle.nn_image.specs.declared.saving.Stop.{Stop}
-use Rattle.nn_image.specs.declared.saving.Stop.TheVariants.{WriteFailed, OutOfMemory}
-use Rattle.nn_image.specs.Saving.{WroteFront, Caused, Stopped, row_text, row_count, TakesRow, FailsOnRow, stop_of}
+use Rattle.nn_image.specs.Saving.{row_text, row_count, TakesRow, FailsOnRow, stop_of}
 use Rattle.std.proofs.lemmas.List.{take-append-drop, length-take}
 use Rattle.std.proofs.Common.{drop_of_length-le}
 
@@ -63,79 +64,11 @@ pub items_push : (vs : List Value) (v : Value) (rest : Items) → items_then (vs
 items_push [] v rest = refl
 items_push (w ∷ vs) v rest = ap (item (view w)) (items_push vs v rest)
 
--- ---- fronts
+-- ---- lines
 
 pub row_lines_push : (front back : List (Path × Form)) → row_lines (front ++ back) ≡ row_lines front ++ row_lines back
 row_lines_push [] back = refl
 row_lines_push (row ∷ front) back = ap (λ t. line_of (row_data row) ++ t) (row_lines_push front back) ∙ sym (append_assoc (line_of (row_data row)) (row_lines front) (row_lines back))
-
-caused_in : (e : Stop) (rest more : List ℕ) (b c : Bool) → Caused e rest b c → Caused e (rest ++ more) b c
-caused_in WriteFailed rest more b c h = (omega (arith, h.0, length-append rest more), h.1)
-caused_in OutOfMemory rest more b c h = h
-
-caused_after : (e : Stop) (rest : List ℕ) (a b c : Bool) → b ≡ a → Caused e rest b c → Caused e rest a c
-caused_after e rest a b c same h = subst (λ a. Caused e rest a c) same h
-
-module _ (w0 w1 w2 : Writing) (a b : List ℕ) where
-  pub front_of : (e : Stop) → Stopped w0 w1 a e → Stopped w0 w1 (a ++ b) e
-  front_of e h = record {
-    front = h.front;
-    rest = h.rest ++ b;
-    whole = ap (λ t. t ++ b) h.whole ∙ append_assoc h.front h.rest b;
-    bytes = h.bytes;
-    counted = h.counted;
-    cause = caused_in e h.rest b w0.failed w1.failed h.cause;
-  }
-
-  pub front_after : (e : Stop) → Took w0 w1 a → Stopped w1 w2 b e → Stopped w0 w2 (a ++ b) e
-  front_after e first h = record {
-    front = a ++ h.front;
-    rest = h.rest;
-    whole = ap (λ t. a ++ t) h.whole ∙ sym (append_assoc a h.front h.rest);
-    bytes = Appends-trans w0.contents w1.contents w2.contents a h.front first.bytes h.bytes;
-    counted = omega (arith, first.counted, h.counted, length-append a h.front);
-    cause = caused_after e h.rest w0.failed w1.failed w2.failed first.unfailed h.cause;
-  }
-
-  pub took_both : Took w0 w1 a → Took w1 w2 b → Took w0 w2 (a ++ b)
-  took_both first later = record {
-    bytes = Appends-trans w0.contents w1.contents w2.contents a b first.bytes later.bytes;
-    counted = omega (arith, first.counted, later.counted, length-append a b);
-    unfailed = later.unfailed ∙ first.unfailed;
-  }
-
-  pub no_memory : Took w0 w1 a → Stopped w0 w1 (a ++ b) OutOfMemory
-  no_memory first = record { front = a; rest = b; whole = refl; bytes = first.bytes; counted = first.counted; cause = first.unfailed }
-
-pub took_nothing : (w : Writing) → Took w w []
-took_nothing w = record { bytes = Appends-nil w.contents; counted = omega arith; unfailed = refl }
-
-pub nothing_yet : (w : Writing) (text : List ℕ) → Stopped w w text OutOfMemory
-nothing_yet w text = no_memory w w w [] text (took_nothing w)
-
-pub front_taken : (old new : Writing) (text : List ℕ) (written : ℕ) → FailedToWrite old new text written → Stopped old new text WriteFailed
-front_taken old new text written h = record {
-  front = take written text;
-  rest = drop written text;
-  whole = sym (take-append-drop written text);
-  bytes = h.bytes;
-  counted = omega (arith, h.short, h.counted, length-take written text);
-  cause = (omega (arith, h.short, length-drop written text), h.noted);
-}
-
--- what a failed write tells
-pub told_written : (old new : Writing) (text : List ℕ) (before written : ℕ) → before ≡ old.taken → written + before ≡ new.taken → Stopped old new text WriteFailed → WroteFront old new text (save.WriteFault written)
-told_written old new text before written is left h = record {
-  front = h.front;
-  rest = h.rest;
-  whole = h.whole;
-  bytes = h.bytes;
-  counted = h.counted;
-  told = (omega (arith, is, left, h.counted), h.cause.0, h.cause.1);
-}
-
-pub told_memory : (old new : Writing) (text : List ℕ) → Stopped old new text OutOfMemory → WroteFront old new text save.OutOfMemory
-told_memory old new text h = record { front = h.front; rest = h.rest; whole = h.whole; bytes = h.bytes; counted = h.counted; told = h.cause }
 
 pub number_turn : (vs : List Value) (v : Value) (ns : List ℕ) (k n d : ℕ) → k < length ns → n ≡ get_or ns k d → view v ≡ number (unsigned n)
     → items_then (vs ++ v ∷ []) (number_items (drop (k + 1) ns)) ≡ items_then vs (number_items (drop k ns))
@@ -204,27 +137,27 @@ module _ {W : Type 0} where
             omega (arith, first, later);
       }
 
-  pub record HasStopped (old : RowWriter W) (rows : List (Path × Form)) (e : Stop) (new : RowWriter W) : Type 0 where
+  pub record HasStopped (old : RowWriter W) (rows : List (Path × Form)) (e : Unwritten) (new : RowWriter W) : Type 0 where
     pub same_writer : new.writer.ghost_name ≡ old.writer.ghost_name
-    pub front : Stopped old.writer.now new.writer.now (listed_text rows) e
+    pub front : TookFront old.writer.now new.writer.now (listed_text rows) e
 
-  stopped_at : (old between new : RowWriter W) (taken left : List (Path × Form)) (fault : ListFault Stop) → HasTaken old between taken → FailsAt FailsOnRow between left fault new
+  stopped_at : (old between new : RowWriter W) (taken left : List (Path × Form)) (fault : ListFault Unwritten) → HasTaken old between taken → FailsAt FailsOnRow between left fault new
       → HasStopped old (taken ++ left) (stop_of fault) new
   stopped_at old between new taken left list.OutOfMemory t failed = record {
     same_writer = ap (λ l. l.writer.ghost_name) failed ∙ t.same_writer;
-    front = subst (λ l. Stopped old.writer.now l.writer.now (listed_text (taken ++ left)) OutOfMemory) (sym failed)
-        (subst (λ text. Stopped old.writer.now between.writer.now text OutOfMemory) (sym (listed_append taken left))
+    front = subst (λ l. TookFront old.writer.now l.writer.now (listed_text (taken ++ left)) OutOfMemory) (sym failed)
+        (subst (λ text. TookFront old.writer.now between.writer.now text OutOfMemory) (sym (listed_append taken left))
         (no_memory old.writer.now between.writer.now between.writer.now (listed_text taken) (listed_text left) t.wrote));
   }
   stopped_at old between new taken [] (Sink e) t failed = absurd failed
   stopped_at old between new taken (row ∷ left) (Sink e) t failed = record {
     same_writer = failed.same_writer ∙ t.same_writer;
-    front = subst (λ text. Stopped old.writer.now new.writer.now text e) (sym (listed_append taken (row ∷ left)))
+    front = subst (λ text. TookFront old.writer.now new.writer.now text e) (sym (listed_append taken (row ∷ left)))
         (front_after old.writer.now between.writer.now new.writer.now (listed_text taken) (row_text row ++ listed_text left) e t.wrote
         (front_of between.writer.now new.writer.now new.writer.now (row_text row) (listed_text left) e failed.front));
   }
 
-  pub has_stopped : (old : RowWriter W) (rows : List (Path × Form)) (fault : ListFault Stop) (new : RowWriter W) → StopsIn TakesRow FailsOnRow old rows fault new → HasStopped old rows (stop_of fault) new
+  pub has_stopped : (old : RowWriter W) (rows : List (Path × Form)) (fault : ListFault Unwritten) (new : RowWriter W) → StopsIn TakesRow FailsOnRow old rows fault new → HasStopped old rows (stop_of fault) new
   has_stopped old rows fault new h =
       subst (λ rs. HasStopped old rs (stop_of fault) new) (sym h.all) (stopped_at old h.between new h.taken h.left fault (has_taken old h.taken h.between h.took) h.failed)
 
@@ -252,13 +185,13 @@ module _ {W : Type 0} (s t : RowWriter W) (x : Writing) (n : Namespace) (w : IsW
       subst (λ text. Took s.writer.now x text) (all_lines n w).0
       (subst (λ y. Took s.writer.now y (listed_text n.rows)) (sym (ends (sym all.same_writer))) all.wrote)
 
-  pub rows_stopped : (fault : ListFault Stop) (e : Stop) → e ≡ stop_of fault → StopsIn TakesRow FailsOnRow s n.rows fault t → (s.writer.ghost_name ≡ t.writer.ghost_name → x ≡ t.writer.now)
-      → Stopped s.writer.now x (row_lines (drop 1 n.rows)) e
+  pub rows_stopped : (fault : ListFault Unwritten) (e : Unwritten) → e ≡ stop_of fault → StopsIn TakesRow FailsOnRow s n.rows fault t → (s.writer.ghost_name ≡ t.writer.ghost_name → x ≡ t.writer.now)
+      → TookFront s.writer.now x (row_lines (drop 1 n.rows)) e
   rows_stopped fault e is stops ends =
       let all = has_stopped s n.rows fault t stops in
-      subst (λ f. Stopped s.writer.now x (row_lines (drop 1 n.rows)) f) (sym is)
-      (subst (λ text. Stopped s.writer.now x text (stop_of fault)) (all_lines n w).0
-      (subst (λ y. Stopped s.writer.now y (listed_text n.rows) (stop_of fault)) (sym (ends (sym all.same_writer))) all.front))
+      subst (λ f. TookFront s.writer.now x (row_lines (drop 1 n.rows)) f) (sym is)
+      (subst (λ text. TookFront s.writer.now x text (stop_of fault)) (all_lines n w).0
+      (subst (λ y. TookFront s.writer.now y (listed_text n.rows) (stop_of fault)) (sym (ends (sym all.same_writer))) all.front))
 
 -- the lines are fewer than the bytes, and so the count did not stay
 pub rows_counted : {W : Type 0} (s t : RowWriter W) (n : Namespace) → IsWellFormed n → TookRows TakesRow s n.rows t → s.count ≡ 0 → t.writer.now.taken < 2 ^ 64 → t.count ≡ length n.rows - 1
@@ -283,21 +216,21 @@ module _ (w0 w1 w2 w3 : Writing) (n : Namespace) (txid : ℕ) where
   abbrev end : List ℕ
   end = line_of (end_data (length n.rows - 1))
 
-  pub head_fails : (e : Stop) → Stopped w0 w1 head e → Stopped w0 w1 (image_text n txid) e
+  pub head_fails : (e : Unwritten) → TookFront w0 w1 head e → TookFront w0 w1 (image_text n txid) e
   unfolding image_text
   head_fails e h = front_of w0 w1 w1 head (rows ++ end) e h
 
-  pub rows_fail : (e : Stop) → Took w0 w1 head → Stopped w1 w2 rows e → Stopped w0 w2 (image_text n txid) e
+  pub rows_fail : (e : Unwritten) → Took w0 w1 head → TookFront w1 w2 rows e → TookFront w0 w2 (image_text n txid) e
   unfolding image_text
   rows_fail e h j = front_after w0 w1 w2 head (rows ++ end) e h (front_of w1 w2 w2 rows end e j)
 
   both_in : Took w0 w1 head → Took w1 w2 rows → Took w0 w2 (head ++ rows)
   both_in h j = took_both w0 w1 w2 head rows h j
 
-  pub end_fails : (e : Stop) → Took w0 w1 head → Took w1 w2 rows → Stopped w2 w3 end e → Stopped w0 w3 (image_text n txid) e
+  pub end_fails : (e : Unwritten) → Took w0 w1 head → Took w1 w2 rows → TookFront w2 w3 end e → TookFront w0 w3 (image_text n txid) e
   unfolding image_text
   end_fails e h j i =
-      subst (λ t. Stopped w0 w3 t e) (append_assoc head rows end) (front_after w0 w2 w3 (head ++ rows) end e (both_in h j) i)
+      subst (λ t. TookFront w0 w3 t e) (append_assoc head rows end) (front_after w0 w2 w3 (head ++ rows) end e (both_in h j) i)
 
   pub all_written : Took w0 w1 head → Took w1 w2 rows → Took w2 w3 end → Took w0 w3 (image_text n txid)
   unfolding image_text

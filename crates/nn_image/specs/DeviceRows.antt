@@ -1,13 +1,12 @@
 -- What is told of a text of which a front was written, and of reads that failed.
-use Rattle.std.specs.Prelude.{true, false, [], ◌∷◌, length, Some, codes, refl}
-use Rattle.std.proofs.Common.{sym, ap, true≢false, arith, length-append}
+use Rattle.std.specs.Prelude.{true, false, [], ◌∷◌, Some, codes, refl}
+use Rattle.std.proofs.Common.{sym, true≢false, arith}
 use Rattle.nn_device.specs.Device.{Writing}
 use Rattle.nn_image.specs.declared.fault.ImageFault.TheVariants.{Truncated, ReadFault, OutOfMemory}
 use Rattle.nn_image.specs.declared.fault.SaveFault.TheVariants as save
-use Rattle.nn_image.specs.declared.saving.Stop.TheVariants as stop
 use Rattle.nn_image.specs.Lines.{Takes}
 use Rattle.nn_image.specs.Outcome.{Noted, IsNoRead}
-use Rattle.nn_image.specs.Saving.{WroteFront, Stopped}
+use Rattle.nn_image.specs.Saving.{WroteFront}
 
 -- ---- writes
 
@@ -23,32 +22,22 @@ abbrev ended_after_two : Writing
 ended_after_two = record { contents = Some (codes "ab"); taken = 7; failed = false }
 
 two_told : WroteFront unwritten failed_after_two (codes "abc") (save.WriteFault 2)
-two_told = record { front = codes "ab"; rest = codes "c"; whole = refl; bytes = refl; counted = refl; told = (refl, omega arith, refl) }
+two_told = record { took = record { front = codes "ab"; rest = codes "c"; whole = refl; bytes = refl; counted = refl; caused = (omega arith, refl) }; told = refl }
 
 -- the bytes of this text are told, and not all that the writer took
 all_told : WroteFront unwritten failed_after_two (codes "abc") (save.WriteFault 7) → ⊥
-all_told h = omega (arith, h.told.0, h.counted)
+all_told h = omega (arith, h.told, h.took.counted)
 
 -- a failed write was noted
 not_noted : WroteFront unwritten ended_after_two (codes "abc") (save.WriteFault 2) → ⊥
-not_noted h = true≢false (sym h.told.2)
-
--- where all was written, no write failed
-none_left : WroteFront unwritten failed_after_two (codes "ab") (save.WriteFault 2) → ⊥
-none_left h = omega (arith, h.told.0, h.told.1, ap length h.whole, length-append h.front h.rest)
+not_noted h = true≢false (sym h.took.caused.1)
 
 no_memory : WroteFront unwritten ended_after_two (codes "abc") save.OutOfMemory
-no_memory = record { front = codes "ab"; rest = codes "c"; whole = refl; bytes = refl; counted = refl; told = refl }
+no_memory = record { took = record { front = codes "ab"; rest = codes "c"; whole = refl; bytes = refl; counted = refl; caused = refl }; told = tt }
 
 -- where memory ran out, no write failed
 no_failure : WroteFront unwritten failed_after_two (codes "abc") save.OutOfMemory → ⊥
-no_failure h = true≢false h.told
-
-part_failed : Stopped unwritten failed_after_two (codes "abc") stop.WriteFailed
-part_failed = record { front = codes "ab"; rest = codes "c"; whole = refl; bytes = refl; counted = refl; cause = (omega arith, refl) }
-
-part_ended : Stopped unwritten failed_after_two (codes "abc") stop.OutOfMemory → ⊥
-part_ended h = true≢false h.cause
+no_failure h = true≢false h.took.caused
 
 -- ---- reads
 

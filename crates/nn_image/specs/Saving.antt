@@ -1,7 +1,9 @@
 -- What a call wrote of a text.
-use Rattle.std.specs.Prelude.{◌≡◌, ℕ, ◌+◌, ◌<◌, ◌^◌, Bool, true, List, [], ◌∷◌, ◌++◌, length}
-use Rattle.std.specs.Io.KnownBytes.{Appends}
+use Rattle.std.specs.Prelude.{◌≡◌, ℕ, ◌+◌, ◌<◌, ◌^◌, List, [], ◌∷◌, length}
 use Rattle.nn_device.specs.Device.{Writing, Took}
+use Rattle.nn_device.specs.Parts.{TookFront}
+use Rattle.nn_device.specs.declared.writer.Unwritten.{Unwritten}
+use Rattle.nn_device.specs.declared.writer.Unwritten.TheVariants.{WriteFailed, OutOfMemory}
 use Rattle.nn_model.specs.declared.form.Form.{Form}
 use Rattle.nn_model.specs.Namespace.{Path}
 use Rattle.nn_image.specs.Text.{line_of, row_data}
@@ -9,45 +11,31 @@ use Rattle.nn_tree.specs.declared.listing.ListFault.{ListFault}
 use Rattle.nn_tree.specs.declared.listing.ListFault.TheVariants.{Sink}
 use Rattle.nn_tree.specs.declared.listing.ListFault.TheVariants as list
 use Rattle.nn_image.specs.declared.saving.RowWriter.{RowWriter}
-use Rattle.nn_image.specs.declared.saving.Stop.{Stop}
-use Rattle.nn_image.specs.declared.saving.Stop.TheVariants as stop
 use Rattle.nn_image.specs.declared.fault.SaveFault.{SaveFault}
-use Rattle.nn_image.specs.declared.fault.SaveFault.TheVariants.{WriteFault, OutOfMemory}
+use Rattle.nn_image.specs.declared.fault.SaveFault.TheVariants.{WriteFault}
+use Rattle.nn_image.specs.declared.fault.SaveFault.TheVariants as save
 
--- A failed write was noted, told how many bytes were written, and left some out. Where memory ran out, no write failed.
-abbrev pub Tells : SaveFault → List ℕ → List ℕ → Bool → Bool → Type 0
-Tells (WriteFault written) front rest before after = (written ≡ length front) × (0 < length rest) × (after ≡ true)
-Tells OutOfMemory front rest before after = after ≡ before
+-- why not all was written
+abbrev pub cause_of : SaveFault → Unwritten
+cause_of (WriteFault written) = WriteFailed
+cause_of save.OutOfMemory = OutOfMemory
+
+-- a failed write is told with the number of bytes that were written
+abbrev pub Tells : SaveFault → List ℕ → Type 0
+Tells (WriteFault written) front = written ≡ length front
+Tells save.OutOfMemory front = Unit {0}
 
 -- a front of the text was written
 pub record WroteFront (old new : Writing) (text : List ℕ) (e : SaveFault) : Type 0 where
-  pub front : List ℕ
-  pub rest : List ℕ
-  pub whole : text ≡ front ++ rest
-  pub bytes : Appends old.contents new.contents front
-  pub counted : new.taken ≡ old.taken + length front
-  pub told : Tells e front rest old.failed new.failed
+  pub took : TookFront old new text (cause_of e)
+  pub told : Tells e took.front
 
--- ---- The parts of an image, which do not tell how many bytes were written.
-
--- A failed write was noted, and left some bytes out. Where memory ran out, no write failed.
-abbrev pub Caused : Stop → List ℕ → Bool → Bool → Type 0
-Caused stop.WriteFailed rest before after = (0 < length rest) × (after ≡ true)
-Caused stop.OutOfMemory rest before after = after ≡ before
-
--- a front of the text was written
-pub record Stopped (old new : Writing) (text : List ℕ) (e : Stop) : Type 0 where
-  pub front : List ℕ
-  pub rest : List ℕ
-  pub whole : text ≡ front ++ rest
-  pub bytes : Appends old.contents new.contents front
-  pub counted : new.taken ≡ old.taken + length front
-  pub cause : Caused e rest old.failed new.failed
+-- ---- The parts of an image.
 
 -- the cause that a listing of lines stopped for
-abbrev pub stop_of : ListFault Stop → Stop
+abbrev pub stop_of : ListFault Unwritten → Unwritten
 stop_of (Sink e) = e
-stop_of list.OutOfMemory = stop.OutOfMemory
+stop_of list.OutOfMemory = OutOfMemory
 
 -- the root has no line
 abbrev pub row_text : Path × Form → List ℕ
@@ -65,6 +53,6 @@ pub record TakesRow {W : Type 0} (old : RowWriter W) (row : Path × Form) (new :
   pub counted : old.count + row_count row < 2 ^ 64 → new.count ≡ old.count + row_count row
 
 -- a front of the row's line was written
-pub record FailsOnRow {W : Type 0} (old : RowWriter W) (row : Path × Form) (e : Stop) (new : RowWriter W) : Type 0 where
+pub record FailsOnRow {W : Type 0} (old : RowWriter W) (row : Path × Form) (e : Unwritten) (new : RowWriter W) : Type 0 where
   pub same_writer : new.writer.ghost_name ≡ old.writer.ghost_name
-  pub front : Stopped old.writer.now new.writer.now (row_text row) e
+  pub front : TookFront old.writer.now new.writer.now (row_text row) e

@@ -4,13 +4,14 @@ ghost use Rattle.serde_json.specs.View.{view, items_view};
 ghost use Rattle.serde_json.specs.Written.{has_float};
 ghost use Rattle.serde_json.specs.Data.{number, unsigned, boolean, array, string, object, member, no_members};
 ghost use Rattle.nn_device.specs.Device.{Took};
+ghost use Rattle.nn_device.specs.Parts.{TookFront};
 ghost use Rattle.nn_tree.specs.Found.{form_of};
 ghost use Rattle.nn_tree.specs.Listing.{lent_names};
 ghost use Rattle.nn_image.specs.Text.{line_of, block_data, block_items, number_items, header_data, head_data, row_data, row_lines, end_data, image_text, name_text};
-ghost use Rattle.nn_image.specs.Saving.{WroteFront, Stopped};
+ghost use Rattle.nn_image.specs.Saving.{WroteFront, stop_of};
 
 use crate::fault::SaveFault;
-use nn_device::Writer;
+use nn_device::{Unwritten, Writer};
 use nn_model::FileRow;
 use nn_tree::{Found, ListFault, Namespace, RowSink, push_text};
 use nn_types::{Block, BlockId, GenerationStamp};
@@ -39,32 +40,11 @@ pub fn save<W: Write>(
     let before = writer.taken();
     match put_image(alloc, namespace, txid, writer) {
         Ok(()) => Ok(()),
-        Err(Stop::WriteFailed) => {
+        Err(Unwritten::WriteFailed) => {
             let written = writer.taken() - before;
             Err(SaveFault::WriteFault { written })
         }
-        Err(Stop::OutOfMemory) => Err(SaveFault::OutOfMemory),
-    }
-}
-
-// Why not all of a text was written.
-#[derive(Clone, Copy)]
-enum Stop {
-    WriteFailed,
-    OutOfMemory,
-}
-
-impl From<ListFault<Stop>> for Stop {
-    ghost use Rattle.std.specs.Prelude.{◌≡◌};
-    ghost use Rattle.nn_image.specs.Saving.{stop_of};
-
-    ghost from_gives = { λ fault stop. stop ≡ stop_of fault };
-
-    fn from(fault: ListFault<Stop>) -> Stop {
-        match fault {
-            ListFault::Sink(stop) => stop,
-            ListFault::OutOfMemory => Stop::OutOfMemory,
-        }
+        Err(Unwritten::OutOfMemory) => Err(SaveFault::OutOfMemory),
     }
 }
 
@@ -73,9 +53,9 @@ fn put_image<W: Write>(
     namespace: &Namespace,
     txid: u64,
     writer: &mut Writer<W>,
-) -> Result<(), Stop>
+) -> Result<(), Unwritten>
     ensures ok { OnOk result (Took writer.old writer.new (image_text namespace.now txid)) }
-    ensures front { IfErr result (Stopped writer.old writer.new (image_text namespace.now txid)) }
+    ensures front { IfErr result (TookFront writer.old writer.new (image_text namespace.now txid)) }
 {
     put_head(alloc, namespace, txid, writer)?;
     let count = put_rows(alloc, namespace, writer)?;
@@ -88,12 +68,12 @@ fn put_head<W: Write>(
     namespace: &Namespace,
     txid: u64,
     writer: &mut Writer<W>,
-) -> Result<(), Stop>
+) -> Result<(), Unwritten>
     ensures ok { OnOk result (Took writer.old writer.new (line_of (header_data namespace.now txid))) }
-    ensures front { IfErr result (Stopped writer.old writer.new (line_of (header_data namespace.now txid))) }
+    ensures front { IfErr result (TookFront writer.old writer.new (line_of (header_data namespace.now txid))) }
 {
     let Ok(value) = header_value(alloc, namespace, txid) else {
-        return Err(Stop::OutOfMemory);
+        return Err(Unwritten::OutOfMemory);
     };
     put_line(alloc, &value, writer)
 }
@@ -103,10 +83,10 @@ fn put_rows<W: Write>(
     alloc: Global,
     namespace: &Namespace,
     writer: &mut Writer<W>,
-) -> Result<u64, Stop>
+) -> Result<u64, Unwritten>
     ensures ok { OnOk result (Took writer.old writer.new (row_lines (drop 1 namespace.now.rows))) }
     ensures count { IfOk result (λ count. count ≡ length namespace.now.rows - 1) }
-    ensures front { IfErr result (Stopped writer.old writer.new (row_lines (drop 1 namespace.now.rows))) }
+    ensures front { IfErr result (TookFront writer.old writer.new (row_lines (drop 1 namespace.now.rows))) }
 {
     namespace.well_formed();
     let mut lines = RowWriter {
@@ -114,18 +94,29 @@ fn put_rows<W: Write>(
         count: 0,
         alloc,
     };
-    namespace.list_to(&mut lines)?;
+    if let Err(fault) = namespace.list_to(&mut lines) {
+        return Err(stop_of(fault));
+    }
     // There are no more lines than bytes, and these were counted.
     lines.writer.taken();
     Ok(lines.count)
 }
 
-fn put_end<W: Write>(alloc: Global, count: u64, writer: &mut Writer<W>) -> Result<(), Stop>
+fn stop_of(fault: ListFault<Unwritten>) -> Unwritten
+    ensures { result ≡ stop_of fault }
+{
+    match fault {
+        ListFault::Sink(cause) => cause,
+        ListFault::OutOfMemory => Unwritten::OutOfMemory,
+    }
+}
+
+fn put_end<W: Write>(alloc: Global, count: u64, writer: &mut Writer<W>) -> Result<(), Unwritten>
     ensures ok { OnOk result (Took writer.old writer.new (line_of (end_data count))) }
-    ensures front { IfErr result (Stopped writer.old writer.new (line_of (end_data count))) }
+    ensures front { IfErr result (TookFront writer.old writer.new (line_of (end_data count))) }
 {
     let Ok(value) = end_value(alloc, count) else {
-        return Err(Stop::OutOfMemory);
+        return Err(Unwritten::OutOfMemory);
     };
     put_line(alloc, &value, writer)
 }
@@ -142,7 +133,7 @@ struct RowWriter<'w, W: Write> {
 impl<'w, W: Write> RowSink for RowWriter<'w, W> {
     ghost use Rattle.nn_image.specs.Saving.{TakesRow, FailsOnRow};
 
-    type Error = Stop;
+    type Error = Unwritten;
 
     ghost takes = { TakesRow };
 
@@ -150,13 +141,13 @@ impl<'w, W: Write> RowSink for RowWriter<'w, W> {
 
     // What it takes of the stack is taken once, and not at each level that a listing is in.
     #[inline(never)]
-    fn row(&mut self, names: &[&str], found: Found<'_>) -> Result<(), Stop> {
+    fn row(&mut self, names: &[&str], found: Found<'_>) -> Result<(), Unwritten> {
         // The root has no line.
         if names.is_empty() {
             return Ok(());
         }
         let Ok(value) = row_value(self.alloc, names, found) else {
-            return Err(Stop::OutOfMemory);
+            return Err(Unwritten::OutOfMemory);
         };
         put_line(self.alloc, &value, self.writer)?;
         self.count = self.count.saturating_add(1);
@@ -165,18 +156,15 @@ impl<'w, W: Write> RowSink for RowWriter<'w, W> {
 }
 
 // Writes the line of a value.
-fn put_line<W: Write>(alloc: Global, value: &Value, writer: &mut Writer<W>) -> Result<(), Stop>
+fn put_line<W: Write>(alloc: Global, value: &Value, writer: &mut Writer<W>) -> Result<(), Unwritten>
     requires { has_float (view value.now) ≡ false }
     ensures ok { OnOk result (Took writer.old writer.new (line_of (view value.now))) }
-    ensures front { IfErr result (Stopped writer.old writer.new (line_of (view value.now))) }
+    ensures front { IfErr result (TookFront writer.old writer.new (line_of (view value.now))) }
 {
     let Ok(line) = line(alloc, value) else {
-        return Err(Stop::OutOfMemory);
+        return Err(Unwritten::OutOfMemory);
     };
-    match writer.write_all(line.as_bytes()) {
-        Ok(()) => Ok(()),
-        Err(_) => Err(Stop::WriteFailed),
-    }
+    writer.write_part(line.as_bytes())
 }
 
 // The line of a value.

@@ -7,7 +7,7 @@ use Rattle.nn_types.specs.declared.report.Kind.{Kind}
 use Rattle.nn_types.specs.declared.report.Kind.TheVariants.{Receiving, Received}
 use Rattle.nn_lane.specs.declared.fault.Refusal.TheVariants.{Closed, Exhausted, Full}
 use Rattle.nn_lane.specs.declared.message.Taken.TheVariants as taken
-use Rattle.nn_lane.specs.Ends.{LaneId, Reporting, Taking, node_of, got_of, loads_of, counted, StaysCounted, message_of, Looks, HasPlace, Refuses, Publishes, Gives, LooksOnce, Looked, StartsWith, capacity_of}
+use Rattle.nn_lane.specs.Ends.{LaneId, Reporting, Taking, node_of, got_of, loads_of, counted, StaysCounted, next_message, Looks, HasPlace, Refuses, Publishes, Gives, LooksOnce, Looked, StartsWith, capacity_of}
 use Rattle.nn_lane.specs.Fault.{number_of}
 
 abbrev message : ℕ → ℕ → ℕ → Kind → Message
@@ -49,11 +49,11 @@ taking l got loads seen = record { lane = lane_of_three l; got = got; seen = see
 abbrev report : Kind → Report
 report kind = record { dn = 7; block = 1073741825; stamp = 1001; len = 5; kind = kind }
 
-numbers_from_one : (l : LaneId) → message_of (reporting l [] 0 0) (report Receiving) ≡ first
-numbers_from_one l = refl
+numbers_from_one : next_message 3 [] (report Receiving) ≡ first
+numbers_from_one = refl
 
-next_number : (l : LaneId) → message_of (reporting l (first ∷ []) 1 0) (report Received) ≡ second
-next_number l = refl
+next_number : next_message 3 (first ∷ []) (report Received) ≡ second
+next_number = refl
 
 -- ---- A report, where the lane has one place.
 

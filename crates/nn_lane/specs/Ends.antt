@@ -66,9 +66,9 @@ IsClosed e = e.closed ≡ true
 
 -- ---- What the reporter's calls do.
 
--- the report as the message that comes next: its DataNode is the lane's
-abbrev pub message_of : Reporting → Report → Message
-message_of r x = record { dn = r.lane.node; number = length r.sent + 1; block = x.block; stamp = x.stamp; len = x.len; kind = x.kind }
+-- the report as the next message of this DataNode, which sent these
+abbrev pub next_message : ℕ → List Message → Report → Message
+next_message dn sent x = record { dn = dn; number = length sent + 1; block = x.block; stamp = x.stamp; len = x.len; kind = x.kind }
 
 abbrev pub StaysUntold : Reporting → Reporting → Type 0
 StaysUntold r r' = (r.told ≡ false) × (r'.told ≡ false)

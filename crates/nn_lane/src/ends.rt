@@ -1,6 +1,6 @@
 //! The two ends of a lane.
 ghost use Rattle.std.specs.Prelude.{◌≡◌, ◌≤◌, ◌<◌, ◌^◌, ◌+◌, ◌∷◌, ◌++◌, ◌⊎◌, length, true, false, [], IfOk, IfErr, Some, None};
-ghost use Rattle.nn_lane.specs.Ends.{capacity_of, message_of, HasPlace, Refuses, Publishes, Gives, Looked, StartsWith};
+ghost use Rattle.nn_lane.specs.Ends.{capacity_of, next_message, HasPlace, Refuses, Publishes, Gives, Looked, StartsWith};
 ghost use Rattle.nn_types.specs.declared.report.Message.{Message};
 ghost use Rattle.nn_lane.specs.Parts.{KnowsRoom, KnowsNext, SenderKeeps, SenderStays, SenderLooks, SenderRemembers, TakerStays, TakerLooks, TakerRemembers};
 
@@ -133,8 +133,8 @@ impl Reporter {
     pub fn prepare(&mut self, report: &Report) -> Result<(), Refusal>
         ensures lane { self.new.lane ≡ self.old.lane }
         ensures same { self.new.sent ≡ self.old.sent }
-        ensures ok { IfOk result (λ _. (self.new.prepared ≡ Some (message_of self.old report.now)) × HasPlace self.old self.new) }
-        ensures refused { IfErr result (λ e. (self.new.prepared ≡ None) × Refuses self.old self.new (message_of self.old report.now) e) }
+        ensures ok { IfOk result (λ _. (self.new.prepared ≡ Some (next_message self.old.lane.node self.old.sent report.now)) × HasPlace self.old self.new) }
+        ensures refused { IfErr result (λ e. (self.new.prepared ≡ None) × Refuses self.old self.new (next_message self.old.lane.node self.old.sent report.now) e) }
     {
         let accepted = self.accepted;
         let message = Message {
@@ -203,8 +203,8 @@ impl Reporter {
     /// was sent is as it was, and the message comes back with the number that it would have had.
     pub fn report(&mut self, report: &Report) -> Result<u64, Refusal>
         ensures lane { (self.new.lane ≡ self.old.lane) × (self.new.prepared ≡ None) }
-        ensures ok { IfOk result (λ n. (self.new.sent ≡ self.old.sent ++ message_of self.old report.now ∷ []) × (n ≡ length self.new.sent) × (n ≤ 2 ^ 62) × HasPlace self.old self.new) }
-        ensures refused { IfErr result (λ e. (self.new.sent ≡ self.old.sent) × Refuses self.old self.new (message_of self.old report.now) e) }
+        ensures ok { IfOk result (λ n. (self.new.sent ≡ self.old.sent ++ next_message self.old.lane.node self.old.sent report.now ∷ []) × (n ≡ length self.new.sent) × (n ≤ 2 ^ 62) × HasPlace self.old self.new) }
+        ensures refused { IfErr result (λ e. (self.new.sent ≡ self.old.sent) × Refuses self.old self.new (next_message self.old.lane.node self.old.sent report.now) e) }
     {
         self.prepare(report)?;
         match self.publish() {

@@ -3,4 +3,4 @@ pub mod KeyTexts
 pub mod SaidIds
 pub mod TableLines
 pub mod PlainNames
-pub mod Fronts
+pub mod WrittenLines

@@ -12,4 +12,4 @@ mod writing;
 pub use history::push_history;
 pub use paths::{listing, listing_bytes, text_bytes, with_listing};
 pub use tables::push_tables;
-pub use writing::{Unwritten, write_lines, write_text};
+pub use writing::write_lines;

@@ -1,24 +1,15 @@
 //! A namespace's lines, written as they are made.
 ghost use Rattle.std.specs.Prelude.{◌≡◌, OnOk, IfErr, flat_map};
 ghost use Rattle.nn_device.specs.Device.{Took};
+ghost use Rattle.nn_device.specs.Parts.{TookFront};
 ghost use Rattle.nn_listing.specs.Listing.{row_line};
-ghost use Rattle.nn_listing.specs.Writing.{Stopped, stop_of};
+ghost use Rattle.nn_listing.specs.Writing.{stop_of};
 
 use crate::paths::push_line;
-use nn_device::Writer;
+use nn_device::{Unwritten, Writer};
 use nn_tree::{Found, ListFault, Namespace, RowSink};
 use std::alloc::Global;
 use std::io::Write;
-use thiserror::Error;
-
-/// Why not all of a text was written.
-#[derive(Clone, Copy, Debug, PartialEq, Eq, Error)]
-pub enum Unwritten {
-    #[error("a write failed")]
-    WriteFailed,
-    #[error("out of memory")]
-    OutOfMemory,
-}
 
 /// Writes the line of each path in path order, each with a write of its own. It takes the memory of one line at a time,
 /// however long the listing is.
@@ -31,7 +22,7 @@ pub fn write_lines<W: Write>(
     writer: &mut Writer<W>,
 ) -> Result<(), Unwritten>
     ensures ok { OnOk result (Took writer.old writer.new (flat_map row_line namespace.now.rows)) }
-    ensures front { IfErr result (Stopped writer.old writer.new (flat_map row_line namespace.now.rows)) }
+    ensures front { IfErr result (TookFront writer.old writer.new (flat_map row_line namespace.now.rows)) }
 {
     let mut line = String::new(alloc);
     let mut lines = LineWriter {
@@ -49,7 +40,7 @@ fn stop_of(fault: ListFault<Unwritten>) -> Unwritten
     ensures { result ≡ stop_of fault }
 {
     match fault {
-        ListFault::Sink(stop) => stop,
+        ListFault::Sink(cause) => cause,
         ListFault::OutOfMemory => Unwritten::OutOfMemory,
     }
 }
@@ -79,17 +70,6 @@ impl<'w, W: Write> RowSink for LineWriter<'w, W> {
         let Ok(()) = push_line(self.alloc, self.line, names, found) else {
             return Err(Unwritten::OutOfMemory);
         };
-        write_text(self.writer, self.line.as_bytes())
-    }
-}
-
-/// Writes a text as `Writer::write_all` does.
-pub fn write_text<W: Write>(writer: &mut Writer<W>, text: &[u8]) -> Result<(), Unwritten>
-    ensures ok { OnOk result (Took writer.old writer.new text.now) }
-    ensures front { IfErr result (Stopped writer.old writer.new text.now) }
-{
-    match writer.write_all(text) {
-        Ok(()) => Ok(()),
-        Err(_) => Err(Unwritten::WriteFailed),
+        self.writer.write_part(self.line.as_bytes())
     }
 }

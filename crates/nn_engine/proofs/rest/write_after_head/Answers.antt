@@ -15,19 +15,19 @@ returns-in_err-write_lines-clause-front g c =
     rw is (lines_fail c.args.writer.now w1 w1 w1 (flat_map row_line l.standby.namespace.rows) (string_bytes l.texts.tables) (image_part l.image (record { last = l.standby.last; namespace = l.standby.namespace })) e
     (rw c.namespace-namespace.ensures at c.in_err-write_lines.ensures.front))
 
-pub returns-in_err-write_text-clause-front : goal.returns-in_err-write_text-clause-front
-returns-in_err-write_text-clause-front g c =
+pub returns-in_err-write_part-clause-front : goal.returns-in_err-write_part-clause-front
+returns-in_err-write_part-clause-front g c =
     let l = c.args.large.now in
-    let w2 = c.write_text.new.writer in
-    let e = c.in_err-write_text.field-0.0 in
-    let is : c.from_residual-in_err-write_text.result ≡ Err e = grind arith in
+    let w2 = c.write_part.new.self in
+    let e = c.in_err-write_part.field-0.0 in
+    let is : c.from_residual-in_err-write_part.result ≡ Err e = grind arith in
     rw is (tables_fail c.args.writer.now c.write_lines.new.writer w2 w2 (flat_map row_line l.standby.namespace.rows) (string_bytes l.texts.tables) (image_part l.image (record { last = l.standby.last; namespace = l.standby.namespace })) e
-    (rw c.namespace-namespace.ensures at c.in_ok-write_lines.ensures.ok) (rw c.as_bytes.ensures.value at c.in_err-write_text.ensures.front))
+    (rw c.namespace-namespace.ensures at c.in_ok-write_lines.ensures.ok) (rw c.as_bytes.ensures.value at c.in_err-write_part.ensures.front))
 
 pub returns-clause-front : goal.returns-clause-front
 returns-clause-front g c =
     let l = c.args.large.now in
     IfErr-weaker c.write_image.result _ _ (λ e h.
-    image_fails c.args.writer.now c.write_lines.new.writer c.write_text.new.writer c.write_image.new.writer (flat_map row_line l.standby.namespace.rows) (string_bytes l.texts.tables) (image_part l.image (record { last = l.standby.last; namespace = l.standby.namespace })) e
-    (rw c.namespace-namespace.ensures at c.in_ok-write_lines.ensures.ok) (rw c.as_bytes.ensures.value at c.in_ok-write_text.ensures.ok) h)
+    image_fails c.args.writer.now c.write_lines.new.writer c.write_part.new.self c.write_image.new.writer (flat_map row_line l.standby.namespace.rows) (string_bytes l.texts.tables) (image_part l.image (record { last = l.standby.last; namespace = l.standby.namespace })) e
+    (rw c.namespace-namespace.ensures at c.in_ok-write_lines.ensures.ok) (rw c.as_bytes.ensures.value at c.in_ok-write_part.ensures.ok) h)
     (rw (c.namespace-namespace.ensures, c.last_txid.ensures.last) at c.write_image.ensures.front)

@@ -1,7 +1,7 @@
 use Rattle.std.proofs.Common.{subst, ◌≡◌, Err, arith}
 use Rattle.nn_device.specs.Device.{Took}
 use Rattle.nn_image.specs.Text.{line_of, end_data}
-use Rattle.nn_image.specs.Saving.{Stopped}
+use Rattle.nn_device.specs.Parts.{TookFront}
 use Rattle.nn_image.proofs.Writing.{head_fails, rows_fail, end_fails, all_written}
 use Rattle.nn_image.proofs.saving.put_image.Goals as goal
 
@@ -34,4 +34,4 @@ returns-in_err-put_end-clause-front g c =
     let stop = c.in_err-put_end.field-0.0 in
     let is : c.from_residual-in_err-put_end.result ≡ Err stop = grind arith in
     rw is (end_fails c.args.writer.now c.put_head.new.writer w2 w3 c.args.namespace.now c.args.txid stop c.in_ok-put_head.ensures.ok c.in_ok-count.ensures.ok
-    (subst (λ k. Stopped w2 w3 (line_of (end_data k)) stop) c.in_ok-count.ensures.count c.in_err-put_end.ensures.front))
+    (subst (λ k. TookFront w2 w3 (line_of (end_data k)) stop) c.in_ok-count.ensures.count c.in_err-put_end.ensures.front))

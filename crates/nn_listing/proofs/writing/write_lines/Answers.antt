@@ -1,5 +1,5 @@
 use Rattle.std.proofs.Common.{rules}
-use Rattle.nn_listing.proofs.Fronts.{lines_written, lines_stopped}
+use Rattle.nn_listing.proofs.WrittenLines.{lines_written, lines_stopped}
 use Rattle.nn_listing.proofs.writing.write_lines.Goals as goal
 
 pub returns-clause-ok : goal.returns-clause-ok

@@ -1,5 +1,5 @@
 use Rattle.std.proofs.Common.{sym, subst, arith}
-use Rattle.nn_engine.specs.Run.{TookFront}
+use Rattle.nn_engine.specs.Run.{Unfinished}
 use Rattle.nn_engine.specs.Rest.{run_fault}
 use Rattle.nn_engine.proofs.RestLemmas.{text_fails, rest_stops}
 use Rattle.nn_engine.proofs.output.Output.write.Goals as goal
@@ -20,5 +20,5 @@ returns-in-Err-clause-front g c =
     let w2 = c.write.new.writer in
     let took = rw c.deref.ensures.value at c.in-Ok.ensures.ok in
     rw c.run_fault.ensures (
-    rest_stops w0 w1 w2 o.text.items o.rest c.taken-before.result _ c.in-Err.stop took c.in-Err.ensures.front c.taken-before.ensures
-    (omega (arith, c.taken-before.ensures, c.taken-in-Err.ensures, took.counted, c.in-Err.ensures.front.stopped.counted)))
+    rest_stops w0 w1 w2 o.text.items o.rest c.taken-before.result _ c.in-Err.cause took c.in-Err.ensures.front c.taken-before.ensures
+    (omega (arith, c.taken-before.ensures, c.taken-in-Err.ensures, took.counted, c.in-Err.ensures.front.took.counted)))

@@ -1,11 +1,13 @@
--- Texts that are written in parts, and fronts of them.
+-- Lines that are written one after another.
 use Rattle.std.proofs.Common.{◌≡◌, ℕ, ◌+◌, ◌<◌, ◌≤◌, List, [], ◌∷◌, ◌++◌, length, take, drop, Bool, refl, sym, ap, ◌∙◌, arith, append_assoc, subst, length-append, length-drop}
 use Rattle.std.specs.List.{flat_map}
-use Rattle.std.proofs.KnownBytes.{Appends-trans, Appends-nil}
-use Rattle.std.proofs.lemmas.List.{take-append-drop, length-take}
 use Rattle.nn_model.specs.declared.form.Form.{Form}
 use Rattle.nn_model.specs.Namespace.{Path}
-use Rattle.nn_device.specs.Device.{Writing, Took, FailedToWrite}
+use Rattle.nn_device.specs.Device.{Writing, Took}
+use Rattle.nn_device.specs.Parts.{TookFront}
+use Rattle.nn_device.specs.declared.writer.Unwritten.{Unwritten}
+use Rattle.nn_device.specs.declared.writer.Unwritten.TheVariants.{OutOfMemory}
+use Rattle.nn_device.proofs.Parts.{front_of, front_after, took_both, no_memory, took_nothing}
 use Rattle.nn_tree.specs.Listing.{FailsAt, StopsIn}
 use Rattle.nn_tree.specs.Listing.{Took as TookRows}
 use Rattle.nn_tree.specs.declared.listing.ListFault.{ListFault}
@@ -13,70 +15,7 @@ use Rattle.nn_tree.specs.declared.listing.ListFault.TheVariants.{Sink}
 use Rattle.nn_tree.specs.declared.listing.ListFault.TheVariants as list
 use Rattle.nn_listing.specs.Listing.{row_line}
 use Rattle.nn_listing.specs.declared.writing.LineWriter.{LineWriter}
-use Rattle.nn_listing.specs.declared.writing.Unwritten.{Unwritten}
-use Rattle.nn_listing.specs.declared.writing.Unwritten.TheVariants.{WriteFailed, OutOfMemory}
-use Rattle.nn_listing.specs.Writing.{Caused, Stopped, TakesRow, FailsOnRow, stop_of}
-
-caused_in : (e : Unwritten) (rest more : List ℕ) (b c : Bool) → Caused e rest b c → Caused e (rest ++ more) b c
-caused_in WriteFailed rest more b c h = (omega (arith, h.0, length-append rest more), h.1)
-caused_in OutOfMemory rest more b c h = h
-
-module _ (w0 w1 w2 : Writing) (a b : List ℕ) where
-  -- a front of the first part is a front of both
-  pub front_of : (e : Unwritten) → Stopped w0 w1 a e → Stopped w0 w1 (a ++ b) e
-  front_of e h = record {
-    front = h.front;
-    rest = h.rest ++ b;
-    whole = ap (λ t. t ++ b) h.whole ∙ append_assoc h.front h.rest b;
-    bytes = h.bytes;
-    counted = h.counted;
-    cause = caused_in e h.rest b w0.failed w1.failed h.cause;
-  }
-
-  -- and so is the first part with a front of the second, which has all of the first
-  pub front_behind : (e : Unwritten) → Took w0 w1 a → Stopped w1 w2 b e → (s : Stopped w0 w2 (a ++ b) e) × (length a ≤ length s.front)
-  front_behind e first h = (
-    record {
-      front = a ++ h.front;
-      rest = h.rest;
-      whole = ap (λ t. a ++ t) h.whole ∙ sym (append_assoc a h.front h.rest);
-      bytes = Appends-trans w0.contents w1.contents w2.contents a h.front first.bytes h.bytes;
-      counted = omega (arith, first.counted, h.counted, length-append a h.front);
-      cause = subst (λ before. Caused e h.rest before w2.failed) first.unfailed h.cause;
-    },
-    omega (arith, length-append a h.front),
-  )
-
-  pub front_after : (e : Unwritten) → Took w0 w1 a → Stopped w1 w2 b e → Stopped w0 w2 (a ++ b) e
-  front_after e first h = (front_behind e first h).0
-
-  pub took_both : Took w0 w1 a → Took w1 w2 b → Took w0 w2 (a ++ b)
-  took_both first later = record {
-    bytes = Appends-trans w0.contents w1.contents w2.contents a b first.bytes later.bytes;
-    counted = omega (arith, first.counted, later.counted, length-append a b);
-    unfailed = later.unfailed ∙ first.unfailed;
-  }
-
-  no_memory : Took w0 w1 a → Stopped w0 w1 (a ++ b) OutOfMemory
-  no_memory first = record { front = a; rest = b; whole = refl; bytes = first.bytes; counted = first.counted; cause = first.unfailed }
-
-pub took_nothing : (w : Writing) → Took w w []
-took_nothing w = record { bytes = Appends-nil w.contents; counted = omega arith; unfailed = refl }
-
-pub nothing_yet : (w : Writing) (text : List ℕ) → Stopped w w text OutOfMemory
-nothing_yet w text = no_memory w w w [] text (took_nothing w)
-
-pub front_taken : (old new : Writing) (text : List ℕ) (written : ℕ) → FailedToWrite old new text written → Stopped old new text WriteFailed
-front_taken old new text written h = record {
-  front = take written text;
-  rest = drop written text;
-  whole = sym (take-append-drop written text);
-  bytes = h.bytes;
-  counted = omega (arith, h.short, h.counted, length-take written text);
-  cause = (omega (arith, h.short, length-drop written text), h.noted);
-}
-
--- ---- Lines, one after another.
+use Rattle.nn_listing.specs.Writing.{TakesRow, FailsOnRow, stop_of}
 
 abbrev lines : List (Path × Form) → List ℕ
 lines rows = flat_map row_line rows
@@ -104,20 +43,20 @@ module _ {W : Type 0} where
 
   record HasStopped (old : LineWriter W) (rows : List (Path × Form)) (e : Unwritten) (new : LineWriter W) : Type 0 where
     same_writer : new.writer.ghost_name ≡ old.writer.ghost_name
-    front : Stopped old.writer.now new.writer.now (lines rows) e
+    front : TookFront old.writer.now new.writer.now (lines rows) e
 
   stopped_at : (old between new : LineWriter W) (taken left : List (Path × Form)) (fault : ListFault Unwritten) → HasTaken old between taken → FailsAt FailsOnRow between left fault new
       → HasStopped old (taken ++ left) (stop_of fault) new
   stopped_at old between new taken left list.OutOfMemory t failed = record {
     same_writer = ap (λ l. l.writer.ghost_name) failed ∙ t.same_writer;
-    front = subst (λ l. Stopped old.writer.now l.writer.now (lines (taken ++ left)) OutOfMemory) (sym failed)
-        (subst (λ text. Stopped old.writer.now between.writer.now text OutOfMemory) (sym (lines_append taken left))
+    front = subst (λ l. TookFront old.writer.now l.writer.now (lines (taken ++ left)) OutOfMemory) (sym failed)
+        (subst (λ text. TookFront old.writer.now between.writer.now text OutOfMemory) (sym (lines_append taken left))
         (no_memory old.writer.now between.writer.now between.writer.now (lines taken) (lines left) t.wrote));
   }
   stopped_at old between new taken [] (Sink e) t failed = absurd failed
   stopped_at old between new taken (row ∷ left) (Sink e) t failed = record {
     same_writer = failed.same_writer ∙ t.same_writer;
-    front = subst (λ text. Stopped old.writer.now new.writer.now text e) (sym (lines_append taken (row ∷ left)))
+    front = subst (λ text. TookFront old.writer.now new.writer.now text e) (sym (lines_append taken (row ∷ left)))
         (front_after old.writer.now between.writer.now new.writer.now (lines taken) (row_line row ++ lines left) e t.wrote
         (front_of between.writer.now new.writer.now new.writer.now (row_line row) (lines left) e failed.front));
   }
@@ -134,8 +73,8 @@ module _ {W : Type 0} (s t : LineWriter W) (x : Writing) (rows : List (Path × F
       subst (λ y. Took s.writer.now y (lines rows)) (sym (ends (sym all.same_writer))) all.wrote
 
   pub lines_stopped : (fault : ListFault Unwritten) (e : Unwritten) → e ≡ stop_of fault → StopsIn TakesRow FailsOnRow s rows fault t → (s.writer.ghost_name ≡ t.writer.ghost_name → x ≡ t.writer.now)
-      → Stopped s.writer.now x (lines rows) e
+      → TookFront s.writer.now x (lines rows) e
   lines_stopped fault e is stops ends =
       let all = has_stopped s rows fault t stops in
-      subst (λ f. Stopped s.writer.now x (lines rows) f) (sym is)
-      (subst (λ y. Stopped s.writer.now y (lines rows) (stop_of fault)) (sym (ends (sym all.same_writer))) all.front)
+      subst (λ f. TookFront s.writer.now x (lines rows) f) (sym is)
+      (subst (λ y. TookFront s.writer.now y (lines rows) (stop_of fault)) (sym (ends (sym all.same_writer))) all.front)

@@ -1,0 +1,70 @@
+-- Texts that are written in parts, and fronts of them.
+use Rattle.std.proofs.Common.{ℕ, ◌≤◌, List, [], ◌++◌, length, take, drop, Bool, refl, sym, ap, ◌∙◌, arith, append_assoc, subst, length-append, length-drop}
+use Rattle.std.proofs.KnownBytes.{Appends-trans, Appends-nil}
+use Rattle.std.proofs.lemmas.List.{take-append-drop, length-take}
+use Rattle.nn_device.specs.Device.{Writing, Took, FailedToWrite}
+use Rattle.nn_device.specs.Parts.{Caused, TookFront}
+use Rattle.nn_device.specs.declared.writer.Unwritten.{Unwritten}
+use Rattle.nn_device.specs.declared.writer.Unwritten.TheVariants.{WriteFailed, OutOfMemory}
+
+caused_in : (cause : Unwritten) (rest more : List ℕ) (before after : Bool) → Caused cause rest before after → Caused cause (rest ++ more) before after
+caused_in WriteFailed rest more before after h = (omega (arith, h.0, length-append rest more), h.1)
+caused_in OutOfMemory rest more before after h = h
+
+module _ (w0 w1 w2 : Writing) (a b : List ℕ) where
+  -- a front of the first part is a front of both
+  pub front_of : (cause : Unwritten) → TookFront w0 w1 a cause → TookFront w0 w1 (a ++ b) cause
+  front_of cause h = record {
+    front = h.front;
+    rest = h.rest ++ b;
+    whole = ap (λ t. t ++ b) h.whole ∙ append_assoc h.front h.rest b;
+    bytes = h.bytes;
+    counted = h.counted;
+    caused = caused_in cause h.rest b w0.failed w1.failed h.caused;
+  }
+
+  -- and so is the first part with a front of the second, which has all of the first
+  pub front_behind : (cause : Unwritten) → Took w0 w1 a → TookFront w1 w2 b cause → (s : TookFront w0 w2 (a ++ b) cause) × (length a ≤ length s.front)
+  front_behind cause first h = (
+    record {
+      front = a ++ h.front;
+      rest = h.rest;
+      whole = ap (λ t. a ++ t) h.whole ∙ sym (append_assoc a h.front h.rest);
+      bytes = Appends-trans w0.contents w1.contents w2.contents a h.front first.bytes h.bytes;
+      counted = omega (arith, first.counted, h.counted, length-append a h.front);
+      caused = subst (λ before. Caused cause h.rest before w2.failed) first.unfailed h.caused;
+    },
+    omega (arith, length-append a h.front),
+  )
+
+  pub front_after : (cause : Unwritten) → Took w0 w1 a → TookFront w1 w2 b cause → TookFront w0 w2 (a ++ b) cause
+  front_after cause first h = (front_behind cause first h).0
+
+  pub took_both : Took w0 w1 a → Took w1 w2 b → Took w0 w2 (a ++ b)
+  took_both first later = record {
+    bytes = Appends-trans w0.contents w1.contents w2.contents a b first.bytes later.bytes;
+    counted = omega (arith, first.counted, later.counted, length-append a b);
+    unfailed = later.unfailed ∙ first.unfailed;
+  }
+
+  -- memory ran out behind the first part
+  pub no_memory : Took w0 w1 a → TookFront w0 w1 (a ++ b) OutOfMemory
+  no_memory first = record { front = a; rest = b; whole = refl; bytes = first.bytes; counted = first.counted; caused = first.unfailed }
+
+pub took_nothing : (w : Writing) → Took w w []
+took_nothing w = record { bytes = Appends-nil w.contents; counted = omega arith; unfailed = refl }
+
+-- memory ran out before the first byte
+pub nothing_yet : (w : Writing) (text : List ℕ) → TookFront w w text OutOfMemory
+nothing_yet w text = no_memory w w w [] text (took_nothing w)
+
+-- what a failed write leaves is a front
+pub front_taken : (old new : Writing) (text : List ℕ) (written : ℕ) → FailedToWrite old new text written → TookFront old new text WriteFailed
+front_taken old new text written h = record {
+  front = take written text;
+  rest = drop written text;
+  whole = sym (take-append-drop written text);
+  bytes = h.bytes;
+  counted = omega (arith, h.short, h.counted, length-take written text);
+  caused = (omega (arith, h.short, length-drop written text), h.noted);
+}

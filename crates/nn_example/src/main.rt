@@ -6,7 +6,7 @@
 mod service;
 
 use anyhow::{Result, bail};
-use nn_drive::Served;
+use nn_drive::{Running, Served};
 use nn_edits::{Line, Scratch, read_line};
 use nn_listing::{listing, push_tables};
 use nn_shadow::Shadow;
@@ -26,18 +26,22 @@ fn line_by_line(rt: &HostRuntime) -> Result<()> {
         bail!("no settings");
     };
     let mut standby = Shadow::new(rt.alloc(), 256, settings)?;
-    follow(rt, &mut standby)?;
-    show(rt, &standby)
+    follow(rt, &mut standby)
 }
 
-// Takes all edits and reports of standard input.
+// Takes all edits and reports of standard input, and shows the standby then.
 fn follow(rt: &HostRuntime, standby: &mut Shadow) -> Result<()> {
     let mut scratch = Scratch::new(rt.alloc());
     for line in rt.lines(rt.alloc()) {
-        match read_line(rt.alloc(), &mut scratch, line?.as_bytes())? {
-            Line::Edit(tx) => standby.apply(&tx)?,
-            Line::Report(report) => hand(standby, report)?,
-        }
+        take(rt.alloc(), &mut scratch, line?.as_bytes(), standby)?;
+    }
+    show(rt, standby)
+}
+
+fn take(alloc: Global, scratch: &mut Scratch, line: &[u8], standby: &mut Shadow) -> Result<()> {
+    match read_line(alloc, scratch, line)? {
+        Line::Edit(tx) => standby.apply(&tx)?,
+        Line::Report(report) => hand(standby, report)?,
     }
     Ok(())
 }
@@ -87,12 +91,35 @@ fn serve_to_failover<R: Print + Threads + Wait + Copy + Send + Drop + 'static>(
     let Some(served) = promoted(rt, alloc, settings, &mut operator) else {
         bail!("the standby was not promoted");
     };
+    show_failover(rt, alloc, &operator, served)
+}
+
+fn show_failover(
+    rt: &(impl Print + Threads),
+    alloc: Global,
+    operator: &Failover,
+    served: Served<DataNode>,
+) -> Result<()> {
+    show_standby(rt, alloc, operator, &served.shadow)?;
+    show_ends(rt, served.workers)
+}
+
+fn show_standby(
+    rt: &impl Print,
+    alloc: Global,
+    operator: &Failover,
+    shadow: &Shadow,
+) -> Result<()> {
+    show_checkpoints(rt, operator)?;
+    show_tables(rt, alloc, shadow)
+}
+
+fn show_checkpoints(rt: &impl Print, operator: &Failover) -> Result<()> {
     for (last, image) in &operator.checkpoints {
         let bytes = image.len();
         println!(rt; "checkpoint {last}, {bytes} bytes")?;
     }
-    show_tables(rt, alloc, &served.shadow)?;
-    show_ends(rt, served)
+    Ok(())
 }
 
 fn show_tables(rt: &impl Print, alloc: Global, shadow: &Shadow) -> Result<()> {
@@ -103,10 +130,10 @@ fn show_tables(rt: &impl Print, alloc: Global, shadow: &Shadow) -> Result<()> {
 }
 
 // Joins each DataNode's thread, which its lane tells of the promotion.
-fn show_ends(rt: &(impl Print + Threads), served: Served<DataNode>) -> Result<()> {
-    for worker in served.workers {
-        let left = worker.join(rt);
-        if let Err(refusal) = left.outcome {
+fn show_ends(rt: &(impl Print + Threads), workers: Vec<Running<DataNode>>) -> Result<()> {
+    for worker in workers {
+        let outcome = worker.join(rt).outcome;
+        if let Err(refusal) = outcome {
             println!(rt; "a DataNode hears: {refusal}")?;
         }
     }

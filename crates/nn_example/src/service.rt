@@ -175,35 +175,37 @@ pub fn promoted<R: Threads + Wait + Copy + Send + Drop + 'static>(
     settings: Settings,
     operator: &mut Failover,
 ) -> Option<Served<DataNode>> {
-    let log = active_log(alloc, &operator.told)?;
-    let (workers, ends) = with_lanes(alloc, data_nodes(alloc)?, 64).ok()?;
+    let Ok((workers, ends)) = with_lanes(alloc, data_nodes(alloc)?, 64) else {
+        return None;
+    };
     if ends.is_empty() || ends.len() > 256 {
         return None;
     }
     let Ok(standby) = Standby::new(alloc, ends, settings) else {
         return None;
     };
-    match serve(rt, alloc, standby, log, workers, operator) {
-        Ok(served) => Some(served),
-        Err(_) => None,
-    }
+    let log = active_log(alloc, &operator.told)?;
+    serve(rt, alloc, standby, log, workers, operator).ok()
 }
 
 fn active_log(alloc: Global, told: &Arc<Told, Global>) -> Option<ActiveLog> {
+    let told = Arc::try_clone(told).ok()?;
     let mut segments = Vec::new(alloc);
     for (name, text) in LOG {
-        let name = String::from_str(alloc, name).ok()?;
-        let bytes = text.as_bytes().to_vec(alloc).ok()?;
-        let segment = Parsed::of(alloc, name, bytes).ok()?;
-        let Ok(()) = segments.push(segment) else {
-            return None;
-        };
+        add_segment(alloc, &mut segments, name, text)?;
     }
     Some(ActiveLog {
-        told: Arc::try_clone(told).ok()?,
+        told,
         segments: MemorySource::new(segments),
         asked: 0,
     })
+}
+
+fn add_segment(alloc: Global, segments: &mut Vec<Parsed>, name: &str, text: &str) -> Option<()> {
+    let name = String::from_str(alloc, name).ok()?;
+    let bytes = text.as_bytes().to_vec(alloc).ok()?;
+    let segment = Parsed::of(alloc, name, bytes).ok()?;
+    segments.push(segment).ok()
 }
 
 // Two DataNodes that received the block.

@@ -124,7 +124,9 @@ fn write_image(alloc: Global, scenario: &Scenario, image: &mut Vec<u8>) -> Resul
         namespace: &namespace,
         txid: scenario.image_txid(),
     };
-    match save.call(image) {
+    let answer = save.call(image);
+    drop(namespace);
+    match answer {
         Answer::Done => Ok(()),
         _ => Err(Halt::OutOfMemory),
     }
@@ -160,7 +162,9 @@ fn save_again(
         namespace: &namespace,
         txid: scenario.image_txid(),
     };
-    write_again(alloc, is_ample, &save, whole)
+    let saved = write_again(alloc, is_ample, &save, whole);
+    drop(namespace);
+    saved
 }
 
 // Makes a call that writes the whole image.
@@ -182,15 +186,28 @@ fn load_whole(
     scenario: &Scenario,
     whole: &[u8],
 ) -> Result<Fate, Halt> {
-    let namespace = scenario.after_the_first(alloc)?;
     let mut heap = Heap::new(alloc, is_ample)?;
+    let namespace = scenario.after_the_first(alloc)?;
     let load = Load {
         alloc,
         image: whole,
     };
+    let fate = load_again(&mut heap, &load, scenario, &namespace);
+    drop(namespace);
+    Ok(fate)
+}
+
+fn load_again(
+    heap: &mut Heap,
+    load: &Load<'_>,
+    scenario: &Scenario,
+    namespace: &Namespace,
+) -> Fate {
     let mut loaded = None;
-    let fate = change(&mut heap, &load, &mut loaded, &None);
-    Ok(fate.if_same(is_image_of(&loaded, &namespace, scenario)))
+    let fate = change(heap, load, &mut loaded, &None);
+    let is_same = is_image_of(&loaded, namespace, scenario);
+    drop(loaded);
+    fate.if_same(is_same)
 }
 
 // Whether what was loaded is this namespace, after the scenario's first segment.

@@ -85,15 +85,29 @@ pub fn apply_log(
     lines.push(&NAMES, &fates)
 }
 
+// Each namespace is dropped by name: each exit that drops it costs the proof seconds.
 fn fates_of_log(
     alloc: Global,
     is_ample: bool,
     scenario: &Scenario,
 ) -> Result<[Fate; OPERATIONS], Halt> {
     let (namespace, fates) = play(alloc, is_ample, scenario)?;
-    let (undisturbed, others) = play(alloc, true, scenario)?;
-    let is_same = are_equal(alloc, &namespace, &undisturbed, scenario)?;
+    let undisturbed = play_undisturbed(alloc, scenario, &namespace);
+    drop(namespace);
+    let (others, is_same) = undisturbed?;
     Ok(both(fates, others, is_same))
+}
+
+// Plays where memory is never refused, and tells whether the same namespace comes of it.
+fn play_undisturbed(
+    alloc: Global,
+    scenario: &Scenario,
+    namespace: &Namespace,
+) -> Result<([Fate; OPERATIONS], bool), Halt> {
+    let (undisturbed, fates) = play(alloc, true, scenario)?;
+    let is_same = are_equal(alloc, namespace, &undisturbed, scenario);
+    drop(undisturbed);
+    Ok((fates, is_same?))
 }
 
 fn are_equal(

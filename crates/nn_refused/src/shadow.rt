@@ -161,16 +161,21 @@ fn fates_of_log(
     Ok(both(fates, others, is_same))
 }
 
-// Plays the log, and shows the standby at its end as text.
+// Plays the log, and shows the standby at its end as text. What is large is dropped by name: each exit that drops it costs
+// the proof seconds.
 fn text_of_play(
     alloc: Global,
     is_ample: bool,
     settings: Settings,
     scenario: &Scenario,
 ) -> Result<(Option<String>, [Fate; 4]), Halt> {
-    let (pair, fates) = play(alloc, is_ample, settings, scenario)?;
-    let text = text_of_pair(alloc, &pair)?;
-    Ok((text, fates))
+    let start = Start::new(alloc, settings, scenario)?;
+    let played = play(alloc, is_ample, &start);
+    drop(start);
+    let (pair, fates) = played?;
+    let text = text_of_pair(alloc, &pair);
+    drop(pair);
+    Ok((text?, fates))
 }
 
 fn text_of_pair(alloc: Global, pair: &Option<Pair<Shadow>>) -> Result<Option<String>, AllocError> {
@@ -183,18 +188,28 @@ fn text_of_pair(alloc: Global, pair: &Option<Pair<Shadow>>) -> Result<Option<Str
 fn play(
     alloc: Global,
     is_ample: bool,
-    settings: Settings,
-    scenario: &Scenario,
+    start: &Start<'_>,
 ) -> Result<(Option<Pair<Shadow>>, [Fate; 4]), Halt> {
     let mut heap = Heap::new(alloc, is_ample)?;
-    let (made, pair) = begin(&mut heap, &Start::new(alloc, settings, scenario)?)?;
-    let Some(mut pair) = pair else {
-        return Ok((None, [made, Fate::Untried, Fate::Untried, Fate::Untried]));
+    let (made, mut pair) = begin(&mut heap, start)?;
+    let fates = follow(&mut heap, start.scenario, made, &mut pair);
+    Ok((pair, fates))
+}
+
+// Makes the calls on the pair, if it was made.
+fn follow(
+    heap: &mut Heap,
+    scenario: &Scenario,
+    made: Fate,
+    pair: &mut Option<Pair<Shadow>>,
+) -> [Fate; 4] {
+    let Some(pair) = pair else {
+        return [made, Fate::Untried, Fate::Untried, Fate::Untried];
     };
-    let (edits, messages) = take_in(&mut heap, scenario, &mut pair);
+    let (edits, messages) = take_in(heap, scenario, pair);
     let asked = Asked::Flush;
-    let flushed = pair.change(&mut heap, &Ask { asked, scenario });
-    Ok((Some(pair), [made, edits, messages, flushed]))
+    let flushed = pair.change(heap, &Ask { asked, scenario });
+    [made, edits, messages, flushed]
 }
 
 // Two standbys are made. What they are made of is there before the heap is full.

@@ -6,8 +6,8 @@ use crate::image::image_of;
 use crate::lines::Lines;
 use crate::scenario::{Halt, Scenario};
 use crate::shadow::are_alike;
-use crate::text::are_same;
-use crate::trial::{Answer, Changing, Fate, Making, both, change_both, make};
+use crate::text::text_of;
+use crate::trial::{Answer, Changing, Fate, Making, Pair, both, make};
 use nn_device::Reader;
 use nn_image::ImageFault;
 use nn_lane::{LaneEnd, Reporter, lane};
@@ -210,32 +210,6 @@ impl Changing for Promote {
 
 // ---- What is played.
 
-// A standby, and its twin.
-#[derive(Drop)]
-struct Pair {
-    tailing: Tailing,
-    twin: Tailing,
-}
-
-impl Pair {
-    fn of(tailing: Option<Tailing>, twin: Option<Tailing>) -> Option<Pair> {
-        let tailing = tailing?;
-        let twin = twin?;
-        Some(Pair { tailing, twin })
-    }
-
-    fn take(&mut self, heap: &mut Heap, choice: Choice, scenario: &Scenario) -> Fate {
-        let call = TakeStep { choice, scenario };
-        change_both(heap, &call, &mut self.tailing, &mut self.twin)
-    }
-
-    fn close_and_promote(&mut self, heap: &mut Heap) -> Fate {
-        self.tailing.standby.close_intake();
-        self.twin.standby.close_intake();
-        change_both(heap, &Promote, &mut self.tailing, &mut self.twin)
-    }
-}
-
 // What both standbys are made of. All of it is there before the heap is full.
 #[derive(Drop)]
 struct Given {
@@ -260,7 +234,7 @@ fn begin<M: Making<Given = NewEnds, Made = Standby>>(
     heap: &mut Heap,
     call: &M,
     text: &[u8],
-) -> Result<(Fate, Option<Pair>), Halt> {
+) -> Result<(Fate, Option<Pair<Tailing>>), Halt> {
     let given = Given::new(alloc, text)?;
     let other = Given::new(alloc, text)?;
     let (fate, tailing) = begin_one(heap, call, given);
@@ -282,19 +256,30 @@ fn begin_one<M: Making<Given = NewEnds, Made = Standby>>(
 }
 
 // Each edit and each message of the lanes is taken, in the order of the scenario's lines.
-fn take_steps(heap: &mut Heap, pair: &mut Pair, scenario: &Scenario) -> (Fate, Fate) {
+fn take_steps(heap: &mut Heap, pair: &mut Pair<Tailing>, scenario: &Scenario) -> (Fate, Fate) {
     let mut fates = (Fate::Untried, Fate::Untried);
     for step in &scenario.steps {
         match *step {
-            Step::Edit => fates.0 = fates.0.and(pair.take(heap, Choice::Edit, scenario)),
+            Step::Edit => {
+                let choice = Choice::Edit;
+                let call = TakeStep { choice, scenario };
+                fates.0 = fates.0.and(pair.change(heap, &call));
+            }
             Step::Message(message) if message.dn <= 2 => {
                 let choice = Choice::Lane(message.dn);
-                fates.1 = fates.1.and(pair.take(heap, choice, scenario));
+                let call = TakeStep { choice, scenario };
+                fates.1 = fates.1.and(pair.change(heap, &call));
             }
             Step::Message(_) => {}
         }
     }
     fates
+}
+
+fn close_and_promote(heap: &mut Heap, pair: &mut Pair<Tailing>) -> Fate {
+    pair.subject.standby.close_intake();
+    pair.twin.standby.close_intake();
+    pair.change(heap, &Promote)
 }
 
 /// A new standby takes all steps and is promoted. Another one starts from the image after the first segment, and is
@@ -306,35 +291,69 @@ pub fn follow_lanes(
     text: &[u8],
     lines: &mut Lines,
 ) -> Result<(), Halt> {
-    let fates = fates_of_lanes(alloc, is_ample, settings, text)?;
+    let steps = fates_of_steps(alloc, is_ample, settings, text)?;
+    let restart = fates_of_restart(alloc, is_ample, settings, text)?;
+    let fates = [
+        steps[0], steps[1], steps[2], steps[3], restart[0], restart[1],
+    ];
     lines.push(&NAMES, &fates)
 }
 
-fn fates_of_lanes(
+fn fates_of_steps(
     alloc: Global,
     is_ample: bool,
     settings: Settings,
     text: &[u8],
-) -> Result<[Fate; 6], Halt> {
-    let (by_steps, fates) = play_steps(alloc, is_ample, settings, text)?;
-    let (undisturbed, others) = play_steps(alloc, true, settings, text)?;
-    let steps = both(fates, others, are_equal(alloc, &by_steps, &undisturbed)?);
-    let (at_once, fates) = play_restart(alloc, is_ample, settings, text)?;
-    let (undisturbed, others) = play_restart(alloc, true, settings, text)?;
-    let restart = both(fates, others, are_equal(alloc, &at_once, &undisturbed)?);
-    Ok([
-        steps[0], steps[1], steps[2], steps[3], restart[0], restart[1],
-    ])
+) -> Result<[Fate; 4], Halt> {
+    let (shown, fates) = text_of_steps(alloc, is_ample, settings, text)?;
+    let (undisturbed, others) = text_of_steps(alloc, true, settings, text)?;
+    let is_same = shown.is_some() && shown == undisturbed;
+    Ok(both(fates, others, is_same))
 }
 
-fn are_equal(alloc: Global, pair: &Option<Pair>, other: &Option<Pair>) -> Result<bool, AllocError> {
-    match (pair, other) {
-        (Some(pair), Some(other)) => are_same(
-            alloc,
-            pair.tailing.standby.shadow(),
-            other.tailing.standby.shadow(),
-        ),
-        _ => Ok(false),
+fn fates_of_restart(
+    alloc: Global,
+    is_ample: bool,
+    settings: Settings,
+    text: &[u8],
+) -> Result<[Fate; 2], Halt> {
+    let (shown, fates) = text_of_restart(alloc, is_ample, settings, text)?;
+    let (undisturbed, others) = text_of_restart(alloc, true, settings, text)?;
+    let is_same = shown.is_some() && shown == undisturbed;
+    Ok(both(fates, others, is_same))
+}
+
+// Plays the steps, and shows the standby at their end as text. The pair is dropped by name: each exit that drops it costs
+// the proof seconds.
+fn text_of_steps(
+    alloc: Global,
+    is_ample: bool,
+    settings: Settings,
+    text: &[u8],
+) -> Result<(Option<String>, [Fate; 4]), Halt> {
+    let (pair, fates) = play_steps(alloc, is_ample, settings, text)?;
+    let shown = text_of_pair(alloc, &pair);
+    drop(pair);
+    Ok((shown?, fates))
+}
+
+// Plays the restart, and shows the standby at its end as text.
+fn text_of_restart(
+    alloc: Global,
+    is_ample: bool,
+    settings: Settings,
+    text: &[u8],
+) -> Result<(Option<String>, [Fate; 2]), Halt> {
+    let (pair, fates) = play_restart(alloc, is_ample, settings, text)?;
+    let shown = text_of_pair(alloc, &pair);
+    drop(pair);
+    Ok((shown?, fates))
+}
+
+fn text_of_pair(alloc: Global, pair: &Option<Pair<Tailing>>) -> Result<Option<String>, AllocError> {
+    match pair {
+        Some(pair) => Ok(Some(text_of(alloc, pair.subject.standby.shadow())?)),
+        None => Ok(None),
     }
 }
 
@@ -343,16 +362,27 @@ fn play_steps(
     is_ample: bool,
     settings: Settings,
     text: &[u8],
-) -> Result<(Option<Pair>, [Fate; 4]), Halt> {
+) -> Result<(Option<Pair<Tailing>>, [Fate; 4]), Halt> {
     let mut heap = Heap::new(alloc, is_ample)?;
     let scenario = Scenario::read(alloc, text)?;
-    let (made, pair) = begin(alloc, &mut heap, &New { alloc, settings }, text)?;
-    let Some(mut pair) = pair else {
-        return Ok((None, [made; 4]));
+    let (made, mut pair) = begin(alloc, &mut heap, &New { alloc, settings }, text)?;
+    let fates = follow_steps(&mut heap, &scenario, made, &mut pair);
+    Ok((pair, fates))
+}
+
+// Takes all steps and promotes, if the pair was made.
+fn follow_steps(
+    heap: &mut Heap,
+    scenario: &Scenario,
+    made: Fate,
+    pair: &mut Option<Pair<Tailing>>,
+) -> [Fate; 4] {
+    let Some(pair) = pair else {
+        return [made; 4];
     };
-    let (edits, messages) = take_steps(&mut heap, &mut pair, &scenario);
-    let promoted = pair.close_and_promote(&mut heap);
-    Ok((Some(pair), [made, edits, messages, promoted]))
+    let (edits, messages) = take_steps(heap, pair, scenario);
+    let promoted = close_and_promote(heap, pair);
+    [made, edits, messages, promoted]
 }
 
 fn play_restart(
@@ -360,7 +390,7 @@ fn play_restart(
     is_ample: bool,
     settings: Settings,
     text: &[u8],
-) -> Result<(Option<Pair>, [Fate; 2]), Halt> {
+) -> Result<(Option<Pair<Tailing>>, [Fate; 2]), Halt> {
     let mut heap = Heap::new(alloc, is_ample)?;
     let image = image_of(alloc, &Scenario::read(alloc, text)?)?;
     let call = FromImage {
@@ -368,10 +398,10 @@ fn play_restart(
         settings,
         image: &image,
     };
-    let (made, pair) = begin(alloc, &mut heap, &call, text)?;
-    let Some(mut pair) = pair else {
-        return Ok((None, [made; 2]));
+    let (made, mut pair) = begin(alloc, &mut heap, &call, text)?;
+    let promoted = match &mut pair {
+        Some(pair) => close_and_promote(&mut heap, pair),
+        None => made,
     };
-    let promoted = pair.close_and_promote(&mut heap);
-    Ok((Some(pair), [made, promoted]))
+    Ok((pair, [made, promoted]))
 }

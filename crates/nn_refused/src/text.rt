@@ -13,11 +13,6 @@ pub fn have_the_same_listing(
     Ok(listing_of(alloc, namespace, 0)? == listing_of(alloc, other, 0)?)
 }
 
-/// Whether two standbys show the same.
-pub fn are_same(alloc: Global, shadow: &Shadow, other: &Shadow) -> Result<bool, AllocError> {
-    Ok(text_of(alloc, shadow)? == text_of(alloc, other)?)
-}
-
 /// A standby's namespace and last txid, its history, its replicas, orders and counts, and how many messages it holds.
 pub fn text_of(alloc: Global, shadow: &Shadow) -> Result<String, AllocError> {
     let mut text = listing_of(alloc, shadow.namespace(), shadow.last_txid())?;

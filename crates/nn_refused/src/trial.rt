@@ -173,8 +173,8 @@ pub struct Pair<T> {
 }
 
 impl<T: Drop> Pair<T> {
-    // Both, if both were made.
-    fn of(subject: Option<T>, twin: Option<T>) -> Option<Pair<T>> {
+    /// Both, if both were made.
+    pub fn of(subject: Option<T>, twin: Option<T>) -> Option<Pair<T>> {
         let subject = subject?;
         let twin = twin?;
         Some(Pair { subject, twin })

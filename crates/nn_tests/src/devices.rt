@@ -6,6 +6,7 @@ use std::alloc::Global;
 use std::io;
 use std::io::{Read, Write};
 use std::process::Abort;
+use std::test::Fail;
 
 // The image of a log up to a file that has no block yet.
 const OPEN_FILE: &str =
@@ -99,13 +100,15 @@ impl Write for Stopping {
 fn failing_readers_of_a_rewrite(rt: HostRuntime) {
     let reads = OLD_FILE.len() as u64 + 1;
     for fail_at in 0..reads {
-        let (number, written) = rewritten_at(rt.alloc(), fail_at);
-        assert_eq!(rt; number, 67, "at {fail_at}");
-        assert!(rt; written.is_empty());
+        rewrites(&rt, rt.alloc(), fail_at, 67, "");
     }
-    let (number, written) = rewritten_at(rt.alloc(), reads);
-    assert_eq!(rt; number, 0);
-    assert!(rt; written.as_slice() == OPEN_FILE.as_bytes());
+    rewrites(&rt, rt.alloc(), reads, 0, OPEN_FILE);
+}
+
+fn rewrites(rt: &impl Abort, alloc: Global, fail_at: u64, number: u8, text: &str) {
+    let (told, written) = rewritten_at(alloc, fail_at);
+    assert_eq!(rt; told, number, "at {fail_at}");
+    assert!(rt; written.as_slice() == text.as_bytes());
 }
 
 fn rewritten_at(alloc: Global, fail_at: u64) -> (u8, Vec<u8>) {
@@ -127,33 +130,38 @@ fn rewritten_at(alloc: Global, fail_at: u64) -> (u8, Vec<u8>) {
 fn failing_readers(rt: HostRuntime) {
     let reads = OPEN_FILE.len() as u64 + 1;
     for fail_at in 0..reads {
-        assert_eq!(rt; number_at(rt.alloc(), fail_at), 67, "at {fail_at}");
+        loads(&rt, rt.alloc(), fail_at, 67);
     }
-    assert_eq!(rt; number_at(rt.alloc(), reads), 0);
+    loads(&rt, rt.alloc(), reads, 0);
 }
 
-fn number_at(alloc: Global, fail_at: u64) -> u8 {
+fn loads(rt: &impl Abort, alloc: Global, fail_at: u64, number: u8) {
     let mut reader = Reader::new(Slow {
         bytes: OPEN_FILE.as_bytes(),
         reads: 0,
         fail_at,
     });
-    match load(alloc, &mut reader) {
+    let told = fault_of_load(alloc, &mut reader);
+    assert_eq!(rt; told, number, "at {fail_at}");
+}
+
+// The number of the fault of loading what a reader gives, or 0.
+fn fault_of_load(alloc: Global, reader: &mut Reader<impl Read>) -> u8 {
+    match load(alloc, reader) {
         Ok(_) => 0,
         Err(fault) => fault.number(),
     }
 }
 
 #[test]
-fn failing_writers(rt: HostRuntime) {
-    match load(rt.alloc(), &mut Reader::new(OPEN_FILE.as_bytes())) {
-        Ok((namespace, txid)) => {
-            for width in [1, 2, 7, 4096] {
-                stops(&rt, rt.alloc(), &namespace, txid, width);
-            }
-        }
-        Err(fault) => assert_eq!(rt; fault.number(), 0),
+fn failing_writers(rt: HostRuntime) -> Result<(), Fail> {
+    let Ok((namespace, txid)) = load(rt.alloc(), &mut Reader::new(OPEN_FILE.as_bytes())) else {
+        return Err(Fail::new("not loaded"));
+    };
+    for width in [1, 2, 7, 4096] {
+        stops(&rt, rt.alloc(), &namespace, txid, width);
     }
+    Ok(())
 }
 
 // Each line is written on its own, so many bytes a time.
@@ -210,8 +218,8 @@ fn rewrite_stops(rt: &impl Abort, alloc: Global, writer: Stopping) {
 
 fn tells_what_it_wrote(rt: &impl Abort, writer: &Stopping, told: u64) {
     assert!(rt; OPEN_FILE.as_bytes().starts_with(&writer.got));
-    assert_eq!(rt; told, writer.got.len() as u64, "at {}", writer.stop_at);
-    assert_eq!(rt; writer.later, 0, "at {}", writer.stop_at);
+    let wrote = (writer.got.len() as u64, 0);
+    assert_eq!(rt; (told, writer.later), wrote, "at {}", writer.stop_at);
 }
 
 // ---- Readers that never end.
@@ -261,17 +269,21 @@ const BUFFER: u64 = 65_536;
 fn endless_readers(rt: HostRuntime) {
     for chunk in [1, 65_536, 1_000_000] {
         for (text, number) in [("", 61), (HEADER, 62), (ROOT_ALONE, 62)] {
-            let (told, given) = load_of(rt.alloc(), text, b'\n', chunk);
-            assert_eq!(rt; told, number, "by {chunk}");
-            assert!(rt;
-                given <= (text.len() as u64).saturating_add(BUFFER),
-                "by {chunk}"
-            );
+            stops_at_the_line(&rt, rt.alloc(), text, number, chunk);
         }
     }
     // A line that never ends, byte by byte: the reader is given up.
-    let (told, given) = load_of(rt.alloc(), HEADER, b' ', 1);
-    assert_eq!(rt; (told, given), (67, 16_777_216));
+    let told = load_of(rt.alloc(), HEADER, b' ', 1);
+    assert_eq!(rt; told, (67, 16_777_216));
+}
+
+fn stops_at_the_line(rt: &impl Abort, alloc: Global, text: &str, number: u8, chunk: usize) {
+    let (told, given) = load_of(alloc, text, b'\n', chunk);
+    assert_eq!(rt; told, number, "by {chunk}");
+    assert!(rt;
+        given <= (text.len() as u64).saturating_add(BUFFER),
+        "by {chunk}"
+    );
 }
 
 fn load_of(alloc: Global, text: &str, then: u8, chunk: usize) -> (u8, u64) {
@@ -281,9 +293,6 @@ fn load_of(alloc: Global, text: &str, then: u8, chunk: usize) -> (u8, u64) {
         chunk,
         given: 0,
     });
-    let number = match load(alloc, &mut reader) {
-        Ok(_) => 0,
-        Err(fault) => fault.number(),
-    };
+    let number = fault_of_load(alloc, &mut reader);
     (number, reader.into_inner().given)
 }

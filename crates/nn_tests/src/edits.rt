@@ -17,12 +17,20 @@ fn same_blocks(alloc: Global, count: usize) -> Result<Blocks, Fail> {
 // The number of the fault of writing an update of so many blocks, or 0.
 fn fault_of_writing(alloc: Global, count: usize) -> Result<u8, Fail> {
     let txid = txid(2)?;
-    let blocks = same_blocks(alloc, count)?;
+    let edit = update(alloc, count)?;
+    Ok(fault_of(alloc, &Tx { txid, edit }))
+}
+
+fn update(alloc: Global, count: usize) -> Result<Edit, Fail> {
     let path = Path::parse(alloc, "/a")?;
-    let edit = Edit::UpdateBlocks { path, blocks };
-    match write_edit(alloc, &Tx { txid, edit }) {
-        Ok(_) => Ok(0),
-        Err(fault) => Ok(fault.number()),
+    let blocks = same_blocks(alloc, count)?;
+    Ok(Edit::UpdateBlocks { path, blocks })
+}
+
+fn fault_of(alloc: Global, tx: &Tx) -> u8 {
+    match write_edit(alloc, tx) {
+        Ok(_) => 0,
+        Err(fault) => fault.number(),
     }
 }
 

@@ -19,10 +19,10 @@ fn read(alloc: Global, input: &[u8]) -> Result<Scenario, Fail> {
     if input.len() > MAX_INPUT {
         return Err(Fail::new("too long"));
     }
-    match read_lines(alloc, input) {
-        Ok(scenario) => Ok(scenario),
-        Err(_) => Err(Fail::new("a bad line")),
-    }
+    let Ok(scenario) = read_lines(alloc, input) else {
+        return Err(Fail::new("a bad line"));
+    };
+    Ok(scenario)
 }
 
 // Each step as DataNode, number and block; an edit has none.
@@ -52,7 +52,11 @@ fn each_datanode_counts_by_itself(rt: HostRuntime) -> Result<(), Fail> {
 fn two_lanes_are_told(rt: &impl Abort, alloc: Global, scenario: Scenario) -> Result<(), Fail> {
     assert_eq!(rt; (scenario.datanodes, scenario.parts.len()), (200, 1));
     assert_eq!(rt; scenario.steps.len(), 7);
-    let steps = told(alloc, scenario.steps)?;
+    are_told(rt, alloc, scenario.steps)
+}
+
+fn are_told(rt: &impl Abort, alloc: Global, steps: StepList) -> Result<(), Fail> {
+    let steps = told(alloc, steps)?;
     let want = [
         (2, 1, 5),
         (0, 0, 0),

@@ -20,32 +20,39 @@ const LATER_SEGMENT: &str = "{\"op\":\"OP_START_LOG_SEGMENT\",\"txid\":2}
 
 // The segment of this text under a name.
 fn parsed(alloc: Global, name: &str, text: &str) -> Result<Parsed, Fail> {
-    let mut bytes = Vec::new(alloc);
-    bytes.extend_from_slice(text.as_bytes())?;
     let name = String::from_str(alloc, name)?;
-    Ok(Parsed::of(alloc, name, bytes)?)
+    let bytes = text.as_bytes().to_vec(alloc)?;
+    let Ok(segment) = Parsed::of(alloc, name, bytes) else {
+        return Err(Fail::new("no segment"));
+    };
+    Ok(segment)
+}
+
+fn add(alloc: Global, segments: &mut Vec<Parsed>, name: &str, text: &str) -> Result<(), Fail> {
+    segments.push(parsed(alloc, name, text)?)?;
+    Ok(())
 }
 
 // A segment, and one that begins in it and ends behind it.
-fn overlapping(alloc: Global) -> Result<Vec<Parsed>, Fail> {
-    let mut segments = Vec::new(alloc);
-    segments.push(parsed(alloc, NAME, SEGMENT)?)?;
-    segments.push(parsed(alloc, LATER, LATER_SEGMENT)?)?;
-    Ok(segments)
+fn add_overlapping(alloc: Global, segments: &mut Vec<Parsed>) -> Result<(), Fail> {
+    add(alloc, segments, NAME, SEGMENT)?;
+    add(alloc, segments, LATER, LATER_SEGMENT)
 }
 
 #[test]
 fn overlapping_segments_in_order(rt: HostRuntime) -> Result<(), Fail> {
-    let segments = overlapping(rt.alloc())?;
-    let mut source = MemorySource::new(segments);
-    gathers_both(&rt, rt.alloc(), &mut source)?;
-    assert!(rt; is_over(&mut source)? && is_over(&mut source)?);
-    Ok(())
+    let mut segments = Vec::new(rt.alloc());
+    add_overlapping(rt.alloc(), &mut segments)?;
+    gives_both(&rt, rt.alloc(), &mut MemorySource::new(segments))
 }
 
-fn gathers_both(rt: &impl Abort, alloc: Global, source: &mut MemorySource) -> Result<(), Fail> {
-    let gathered = gather(alloc, source)?;
+// Then it is over, also when it is asked again.
+fn gives_both(rt: &impl Abort, alloc: Global, source: &mut MemorySource) -> Result<(), Fail> {
+    let Ok(gathered) = gather(alloc, source) else {
+        return Err(Fail::new("not gathered"));
+    };
     are_both(rt, &gathered);
+    assert!(rt; is_over(source) && is_over(source));
     Ok(())
 }
 
@@ -53,19 +60,30 @@ fn gathers_both(rt: &impl Abort, alloc: Global, source: &mut MemorySource) -> Re
 fn a_thousand_segments(rt: HostRuntime) -> Result<(), Fail> {
     let mut segments = Vec::new(rt.alloc());
     for _ in 0..1000 {
-        segments.push(parsed(rt.alloc(), NAME, SEGMENT)?)?;
+        add(rt.alloc(), &mut segments, NAME, SEGMENT)?;
     }
-    let gathered = gather(rt.alloc(), &mut MemorySource::new(segments))?;
-    assert_eq!(rt; gathered.len(), 1000);
+    gives(&rt, rt.alloc(), &mut MemorySource::new(segments), 1000)
+}
+
+fn gives(
+    rt: &impl Abort,
+    alloc: Global,
+    source: &mut MemorySource,
+    count: usize,
+) -> Result<(), Fail> {
+    let Ok(gathered) = gather(alloc, source) else {
+        return Err(Fail::new("not gathered"));
+    };
+    assert_eq!(rt; gathered.len(), count);
     Ok(())
 }
 
 fn are_both(rt: &impl Abort, gathered: &[Parsed]) {
     assert_eq!(rt; gathered.len(), 2);
-    assert_eq!(rt; gathered[0].name(), NAME);
-    assert_eq!(rt; gathered[1].name(), LATER);
+    let names = [gathered[0].name(), gathered[1].name()];
+    assert_eq!(rt; names, [NAME, LATER]);
 }
 
-fn is_over(source: &mut MemorySource) -> Result<bool, Fail> {
-    Ok(matches!(source.next()?, Item::End))
+fn is_over(source: &mut MemorySource) -> bool {
+    matches!(source.next(), Ok(Item::End))
 }

@@ -2,7 +2,7 @@
 ghost use Rattle.std.specs.Prelude.{◌<◌, ◌^◌};
 
 use crate::values::settings;
-use nn_shadow::{ApplyFault, HandCause, Shadow};
+use nn_shadow::Shadow;
 use nn_types::{BlockId, Edit, GenerationStamp, Kind, Length, Message, Path, Tx, Txid};
 use std::alloc::Global;
 use std::process::Abort;
@@ -24,26 +24,31 @@ fn future_report_flushed(rt: HostRuntime) -> Result<(), Fail> {
 
 // Then nothing comes in any more, and a second flush has nothing to do.
 fn the_flush_takes_up_what_is_held(rt: &impl Abort, shadow: &mut Shadow) {
-    assert_eq!(rt; hand(shadow, received(1, 1, B, FAR)), 0);
-    assert_eq!(rt; flushed(shadow), 1);
-    assert_eq!(rt; flushed(shadow), 0);
-    assert_eq!(rt; hand(shadow, deleted(1, 2, B)), 53);
+    let told = [
+        hand(shadow, received(1, 1, B, FAR)),
+        flushed(shadow),
+        flushed(shadow),
+        hand(shadow, deleted(1, 2, B)),
+    ];
+    assert_eq!(rt; told, [0, 1, 0, 53]);
 }
 
 // An edit that does not apply stops the standby for good.
 #[test]
 fn missing_file_stops(rt: HostRuntime) -> Result<(), Fail> {
     let mut shadow = fresh(rt.alloc())?;
-    let path = Path::parse(rt.alloc(), "/f")?;
-    nothing_comes_after_a_refused_edit(&rt, &mut shadow, Edit::Delete { path });
+    nothing_comes_after_a_refused_edit(&rt, rt.alloc(), &mut shadow);
     Ok(())
 }
 
-fn nothing_comes_after_a_refused_edit(rt: &impl Abort, shadow: &mut Shadow, edit: Edit) {
-    assert_eq!(rt; apply(shadow, edit), 22);
-    assert_eq!(rt; apply(shadow, Edit::EndSegment), 51);
-    assert_eq!(rt; hand(shadow, received(1, 1, B, 1001)), 51);
-    assert_eq!(rt; flushed(shadow), 51);
+fn nothing_comes_after_a_refused_edit(rt: &impl Abort, alloc: Global, shadow: &mut Shadow) {
+    let told = [
+        delete(alloc, shadow),
+        end_segment(shadow),
+        hand(shadow, received(1, 1, B, 1001)),
+        flushed(shadow),
+    ];
+    assert_eq!(rt; told, [22, 51, 51, 51]);
     assert!(rt; shadow.stop().is_some() && !shadow.is_active());
 }
 
@@ -59,41 +64,54 @@ fn each_datanode_counts_from_1(rt: &impl Abort, shadow: &mut Shadow) {
         let done = hand(shadow, received(dn, number, B, 1001));
         assert_eq!(rt; done, fault, "{number} of {dn}");
     }
-    assert_eq!(rt; shadow.last_number(1), 1);
-    assert_eq!(rt; shadow.last_number(2), 0);
-    assert_eq!(rt; shadow.last_txid(), 0);
+    let last = [
+        shadow.last_number(1),
+        shadow.last_number(2),
+        shadow.last_txid(),
+    ];
+    assert_eq!(rt; last, [1, 0, 0]);
 }
 
 // ---- Steps.
 
 fn fresh(alloc: Global) -> Result<Shadow, Fail> {
-    Ok(Shadow::new(alloc, 2, settings(1000, 1)?)?)
+    let settings = settings(1000, 1)?;
+    let Ok(shadow) = Shadow::new(alloc, 2, settings) else {
+        return Err(Fail::new("no standby"));
+    };
+    Ok(shadow)
+}
+
+fn delete(alloc: Global, shadow: &mut Shadow) -> u64 {
+    let Ok(path) = Path::parse(alloc, "/f") else {
+        return 255;
+    };
+    apply(shadow, &first(Edit::Delete { path }))
+}
+
+fn end_segment(shadow: &mut Shadow) -> u64 {
+    apply(shadow, &first(Edit::EndSegment))
+}
+
+// The first transaction of a log.
+fn first(edit: Edit) -> Tx {
+    let txid = Txid::new(1).unwrap();
+    Tx { txid, edit }
 }
 
 // The number of the fault, 0 where the transaction is applied.
-fn apply(shadow: &mut Shadow, edit: Edit) -> u8 {
-    let Some(txid) = Txid::new(shadow.last_txid() + 1) else {
-        return 255;
-    };
-    match shadow.apply(&Tx { txid, edit }) {
+fn apply(shadow: &mut Shadow, tx: &Tx) -> u64 {
+    match shadow.apply(tx) {
         Ok(()) => 0,
-        Err(fault) => apply_number(fault),
+        Err(fault) => u64::from(fault.number()),
     }
 }
 
-fn hand(shadow: &mut Shadow, message: Message) -> u8 {
+fn hand(shadow: &mut Shadow, message: Message) -> u64 {
     match shadow.hand(message) {
         Ok(_handed) => 0,
-        Err(fault) => cause_number(fault.cause),
+        Err(fault) => u64::from(fault.cause.number()),
     }
-}
-
-fn apply_number(fault: ApplyFault) -> u8 {
-    fault.number()
-}
-
-fn cause_number(cause: HandCause) -> u8 {
-    cause.number()
 }
 
 // How many messages were flushed, or the number of the fault.

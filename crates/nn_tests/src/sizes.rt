@@ -50,8 +50,16 @@ fn path(alloc: Global) -> Result<Path, Fail> {
 }
 
 fn apply(namespace: &mut Namespace, edit: Edit) -> Result<(), Fail> {
-    namespace.apply(&edit)?;
+    retired_by(namespace, edit)?;
     Ok(())
+}
+
+// How many blocks the edit retires.
+fn retired_by(namespace: &mut Namespace, edit: Edit) -> Result<usize, Fail> {
+    let Ok(touched) = namespace.apply(&edit) else {
+        return Err(Fail::new("not applied"));
+    };
+    Ok(touched.retired.len())
 }
 
 fn make(alloc: Global, namespace: &mut Namespace) -> Result<(), Fail> {
@@ -86,14 +94,14 @@ fn list(alloc: Global, count: u32) -> Result<Blocks, Fail> {
 }
 
 fn update(alloc: Global, namespace: &mut Namespace, count: u32) -> Result<(), Fail> {
-    let blocks = list(alloc, count)?;
     let path = path(alloc)?;
+    let blocks = list(alloc, count)?;
     apply(namespace, Edit::UpdateBlocks { path, blocks })
 }
 
 fn close(alloc: Global, namespace: &mut Namespace, count: u32) -> Result<(), Fail> {
-    let blocks = list(alloc, count)?;
     let path = path(alloc)?;
+    let blocks = list(alloc, count)?;
     apply(namespace, Edit::Close { path, blocks })
 }
 
@@ -104,8 +112,8 @@ fn delete(
     count: usize,
 ) -> Result<(), Fail> {
     let path = path(alloc)?;
-    let touched = namespace.apply(&Edit::Delete { path })?;
-    assert_eq!(rt; touched.retired.len(), count);
+    let retired = retired_by(namespace, Edit::Delete { path })?;
+    assert_eq!(rt; retired, count);
     Ok(())
 }
 
@@ -130,10 +138,18 @@ const PATHS: u64 = 10_000;
 #[test]
 fn an_image_of_10_000_paths(rt: HostRuntime) -> Result<(), Fail> {
     let mut namespace = Namespace::new(rt.alloc());
+    grows_and_comes_back(&rt, rt.alloc(), &mut namespace)
+}
+
+fn grows_and_comes_back(
+    rt: &impl Abort,
+    alloc: Global,
+    namespace: &mut Namespace,
+) -> Result<(), Fail> {
     for n in 0..PATHS {
-        make_directory(rt.alloc(), &mut namespace, n)?;
+        make_directory(alloc, namespace, n)?;
     }
-    comes_back(&rt, rt.alloc(), &namespace)
+    comes_back(rt, alloc, namespace)
 }
 
 fn make_directory(alloc: Global, namespace: &mut Namespace, n: u64) -> Result<(), Fail> {
@@ -145,16 +161,21 @@ fn make_directory(alloc: Global, namespace: &mut Namespace, n: u64) -> Result<()
 // What is saved is loaded, and is saved as the same once more.
 fn comes_back(rt: &impl Abort, alloc: Global, namespace: &Namespace) -> Result<(), Fail> {
     let saved = image_of(alloc, namespace)?;
-    let Ok((loaded, txid)) = load(alloc, &mut Reader::new(saved.as_slice())) else {
-        return Err(Fail::new("not loaded"));
-    };
-    assert_eq!(rt; txid, PATHS);
-    let again = image_of(alloc, &loaded)?;
+    let again = saved_again(rt, alloc, &saved)?;
     assert!(rt; again == saved);
     // The header, a line for each path, and the last line.
     let lines = saved.iter().filter(|byte| **byte == b'\n').count();
     assert_eq!(rt; lines, 10_002);
     Ok(())
+}
+
+// The image of what an image is loaded as.
+fn saved_again(rt: &impl Abort, alloc: Global, saved: &[u8]) -> Result<Vec<u8>, Fail> {
+    let Ok((loaded, txid)) = load(alloc, &mut Reader::new(saved)) else {
+        return Err(Fail::new("not loaded"));
+    };
+    assert_eq!(rt; txid, PATHS);
+    image_of(alloc, &loaded)
 }
 
 // The image, with as many transactions as there are paths.

@@ -1,10 +1,13 @@
 //! Drives over logs of marks alone: all reports are of a block that they do not name, and wait for the flush.
+ghost use Rattle.std.specs.Prelude.{◌≡◌, IfSome};
+ghost use Rattle.nn_tailer.specs.Public.{AreNew};
 ghost use Rattle.nn_drive.specs.Driven.{AreLanes};
 
 use crate::sources::{AT_ANY_TIME, FailsOnce, Pace, Waiting, new_watched};
 use crate::values::{FIRST, Shared, TWO_MARKS, Text, log_of, report_of};
+use nn_device::Reader;
 use nn_drive::{ReportSource, drive, with_lanes};
-use nn_lane::Reporter;
+use nn_lane::{LaneEnd, Reporter};
 use nn_tailer::Standby;
 use nn_types::Settings;
 use std::alloc::Global;
@@ -29,7 +32,8 @@ struct Driven {
     reports: u64,
     wanted: u64,
     counts: u64,
-    // Whether their lanes are closed when it begins.
+    // The log that the standby was promoted over before, or stopped by; and whether the lanes are closed when it begins.
+    before: &'static [Text],
     closed: bool,
     log: &'static [Text],
     pace: Pace,
@@ -48,6 +52,7 @@ const PLAIN: Driven = Driven {
     reports: 1,
     wanted: 0,
     counts: 0,
+    before: &[],
     closed: false,
     log: &[TWO_MARKS],
     pace: AT_ANY_TIME,
@@ -160,21 +165,23 @@ const CLOSED_BEFORE: Driven = Driven {
     ..PLAIN
 };
 
+const DRIVES: &[Driven] = &[
+    AT_ONCE,
+    SLOW_LOG,
+    GATED_REPORTS,
+    WORKERS_256,
+    FAILS_AT_ONCE,
+    FAILS_AT_ITS_END,
+    FAILS_AT_SECOND,
+    ENDLESS_REPORTS,
+    CLOSED_BEFORE,
+];
+
 #[test]
 fn drives(rt: HostRuntime) {
-    for driven in [
-        AT_ONCE,
-        SLOW_LOG,
-        GATED_REPORTS,
-        WORKERS_256,
-        FAILS_AT_ONCE,
-        FAILS_AT_ITS_END,
-        FAILS_AT_SECOND,
-        ENDLESS_REPORTS,
-        CLOSED_BEFORE,
-    ] {
+    for driven in DRIVES {
         for _ in 0..driven.times {
-            ends(&rt, rt.alloc(), &driven);
+            ends(&rt, rt.alloc(), driven);
         }
     }
 }
@@ -187,10 +194,11 @@ fn ends<R: Abort + Threads + Wait + Sync>(rt: &R, alloc: Global, driven: &Driven
         return;
     };
     let end = end_of(rt, alloc, driven, &shared);
+    let came = shared.came.load(Ordering::SeqCst);
+    let vain = shared.vain.load(Ordering::SeqCst);
+    let held = Arc::strong_count(&shared);
     assert_eq!(rt; end, Some(driven.end), "{name}");
-    assert_eq!(rt; shared.came.load(Ordering::SeqCst), driven.came, "{name}");
-    assert_eq!(rt; shared.vain.load(Ordering::SeqCst), 0, "{name}");
-    assert_eq!(rt; Arc::strong_count(&shared), 1, "{name}");
+    assert_eq!(rt; (came, vain, held), (driven.came, 0, 1), "{name}");
 }
 
 // What a drive comes to. A lane holds two reports.
@@ -200,20 +208,24 @@ fn end_of<R: Threads + Wait + Sync>(
     driven: &Driven,
     shared: &Arc<Shared, Global>,
 ) -> Option<Result<(u64, u64), u8>> {
-    let log = new_watched(alloc, shared, driven.log, driven.fails_at, driven.pace)?;
     let sources = sources_of(alloc, driven, shared)?;
-    if sources.len() > 256 {
-        return None;
-    }
-    let (workers, ends) = with_lanes(alloc, sources, 2).ok()?;
-    if ends.is_empty() || ends.len() > 256 {
-        return None;
-    }
-    let settings = Settings::new(999, 1)?;
-    let Ok(standby) = Standby::new(alloc, ends, settings) else {
-        return None;
-    };
-    let standby = begun(&workers, standby, driven.closed);
+    let (workers, mut standby) = laned(alloc, sources, 2, None, driven.before)?;
+    begin(&workers, &mut standby, driven.closed);
+    end_over(rt, alloc, driven, shared, workers, standby)
+}
+
+// What a drive of this standby comes to over its log.
+fn end_over<R: Threads + Wait + Sync>(
+    rt: &R,
+    alloc: Global,
+    driven: &Driven,
+    shared: &Arc<Shared, Global>,
+    workers: Vec<(Waiting, Reporter)>,
+    standby: Standby,
+) -> Option<Result<(u64, u64), u8>>
+    requires { AreLanes workers.items standby.ends }
+{
+    let log = new_watched(alloc, shared, driven.log, driven.fails_at, driven.pace)?;
     match drive(rt, alloc, standby, log, workers) {
         Ok((_shadow, active)) => Some(Ok((active.last, active.flushed))),
         Err(fault) => Some(Err(fault.number())),
@@ -244,17 +256,15 @@ fn sources_of(
 }
 
 // Closes the lanes of these workers, or leaves them open.
-fn begun(workers: &Vec<(Waiting, Reporter)>, standby: Standby, closed: bool) -> Standby
-    requires { AreLanes workers.now.items standby.ends }
-    ensures { AreLanes workers.now.items result.ends }
+fn begin(workers: &Vec<(Waiting, Reporter)>, standby: &mut Standby, closed: bool)
+    requires { AreLanes workers.now.items standby.old.ends }
+    ensures { AreLanes workers.now.items standby.new.ends }
 {
     let _ = workers;
-    let mut standby = standby;
     if !closed {
-        return standby;
+        return;
     }
     standby.close_intake();
-    standby
 }
 
 // A standby that was promoted before is refused with 53, and one that its log stopped with 51: no source is asked.
@@ -264,58 +274,80 @@ fn refused_before_a_thread(rt: HostRuntime) {
     refuses(&rt, rt.alloc(), &[TWO_MORE], 51);
 }
 
-fn refuses<R: Abort + Threads + Wait + Sync>(rt: &R, alloc: Global, log: &[Text], number: u8) {
+fn refuses<R: Abort + Threads + Wait + Sync>(
+    rt: &R,
+    alloc: Global,
+    before: &'static [Text],
+    number: u8,
+) {
     let Some(shared) = Shared::new(alloc) else {
         assert!(rt; false, "out of memory");
         return;
     };
-    let answer = refused_by(rt, alloc, log, &shared);
-    assert_eq!(rt; answer, Some(number));
-    assert_eq!(rt; shared.calls.load(Ordering::SeqCst), 0);
-    assert_eq!(rt; shared.asked.load(Ordering::SeqCst), 0);
+    let driven = Driven { before, ..PLAIN };
+    let end = end_of(rt, alloc, &driven, &shared);
+    let calls = shared.calls.load(Ordering::SeqCst);
+    let asked = shared.asked.load(Ordering::SeqCst);
+    assert_eq!(rt; end, Some(Err(number)));
+    assert_eq!(rt; (calls, asked), (0, 0));
 }
 
-// What a drive answers where its standby was promoted over this log, or stopped by it.
-fn refused_by<R: Threads + Wait + Sync>(
-    rt: &R,
+// ---- Workers and their standby.
+
+/// The workers of these sources, and their standby. Each lane holds so many reports. The standby starts from the image, if
+/// there is one, and was promoted over the log before, or stopped by it.
+pub fn laned<S: ReportSource + Drop>(
     alloc: Global,
-    log: &[Text],
-    shared: &Arc<Shared, Global>,
-) -> Option<u8> {
-    let sources = sources_of(alloc, &PLAIN, shared)?;
-    if sources.len() > 256 {
+    sources: Vec<S>,
+    capacity: usize,
+    image: Option<&[u8]>,
+    before: &[Text],
+) -> Option<(Vec<(S, Reporter)>, Standby)>
+    ensures { IfSome result (λ r. AreLanes r.0.items r.1.ends) }
+{
+    if sources.len() > 256 || capacity == 0 || capacity > 1024 {
         return None;
     }
-    let (workers, ends) = with_lanes(alloc, sources, 2).ok()?;
+    let Ok((workers, ends)) = with_lanes(alloc, sources, capacity) else {
+        return None;
+    };
+    let mut standby = standby_over(alloc, ends, image)?;
+    promote(alloc, &workers, &mut standby, before)?;
+    Some((workers, standby))
+}
+
+/// A standby over these ends, which starts from the image, if there is one.
+pub fn standby_over(alloc: Global, ends: Vec<LaneEnd>, image: Option<&[u8]>) -> Option<Standby>
+    requires { AreNew 1 ends.items }
+    ensures { IfSome result (λ s. s.ends ≡ ends.items) }
+{
     if ends.is_empty() || ends.len() > 256 {
         return None;
     }
     let settings = Settings::new(999, 1)?;
-    let Ok(standby) = Standby::new(alloc, ends, settings) else {
-        return None;
+    let Some(image) = image else {
+        return Standby::new(alloc, ends, settings).ok();
     };
-    let before = FailsOnce::new(log_of(alloc, log)?, u64::MAX);
-    let standby = promoted(&workers, standby, before);
-    let log = new_watched(alloc, shared, &[TWO_MARKS], u64::MAX, AT_ANY_TIME)?;
-    match drive(rt, alloc, standby, log, workers) {
-        Ok(_promoted) => None,
-        Err(fault) => Some(fault.number()),
-    }
+    Standby::from_image(alloc, ends, settings, &mut Reader::new(image)).ok()
 }
 
-// Closes the lanes of these workers, and promotes their standby, unless the log stops it.
-pub fn promoted<S: ReportSource>(
+// Closes the lanes of these workers, and promotes their standby over this log, unless the log stops it. For a log of no
+// segment it does nothing.
+fn promote<S: ReportSource>(
+    alloc: Global,
     workers: &Vec<(S, Reporter)>,
-    standby: Standby,
-    log: FailsOnce,
-) -> Standby
-    requires { AreLanes workers.now.items standby.ends }
-    ensures { AreLanes workers.now.items result.ends }
+    standby: &mut Standby,
+    log: &[Text],
+) -> Option<()>
+    requires { AreLanes workers.now.items standby.old.ends }
+    ensures { AreLanes workers.now.items standby.new.ends }
 {
     let _ = workers;
-    let mut standby = standby;
-    let mut log = log;
+    if log.is_empty() {
+        return Some(());
+    }
+    let mut log = FailsOnce::new(log_of(alloc, log)?, u64::MAX);
     standby.close_intake();
     let _ = standby.promote(&mut log);
-    standby
+    Some(())
 }

@@ -113,18 +113,20 @@ const LEFT_WHILE_FULL: Fed = Fed {
     ..FOUR_ARE_HELD
 };
 
+const FEEDS: &[Fed] = &[
+    GATED,
+    FAST_READER,
+    SLOW_READER,
+    FAILS_AT_SECOND,
+    FOUR_ARE_HELD,
+    LEFT_WHILE_FULL,
+];
+
 #[test]
 fn feeds(rt: HostRuntime) {
-    for fed in [
-        GATED,
-        FAST_READER,
-        SLOW_READER,
-        FAILS_AT_SECOND,
-        FOUR_ARE_HELD,
-        LEFT_WHILE_FULL,
-    ] {
+    for fed in FEEDS {
         for _ in 0..fed.times {
-            ends(&rt, rt.alloc(), &fed);
+            ends(&rt, rt.alloc(), fed);
         }
     }
 }
@@ -136,9 +138,10 @@ fn ends<R: Abort + Threads + Wait + Sync>(rt: &R, alloc: Global, fed: &Fed) {
         return;
     };
     let both = put_and_got(rt, alloc, fed, &shared);
+    let calls = shared.calls.load(Ordering::SeqCst);
+    let vain = shared.vain.load(Ordering::SeqCst);
     assert_eq!(rt; both, Some((fed.put, fed.got)), "{name}");
-    assert_eq!(rt; shared.calls.load(Ordering::SeqCst), fed.calls, "{name}");
-    assert_eq!(rt; shared.vain.load(Ordering::SeqCst), 0, "{name}");
+    assert_eq!(rt; (calls, vain), (fed.calls, 0), "{name}");
 }
 
 // What both threads come to.

@@ -1,20 +1,17 @@
 //! Standbys in service: operators that promote them while DataNodes report, and faults that are gone on from. All reports
 //! are of one block, which only the log of the last test names.
-ghost use Rattle.std.specs.Prelude.{◌≡◌, ◌≤◌, length, IfSome};
-ghost use Rattle.nn_tailer.specs.Public.{AreNew};
-ghost use Rattle.nn_drive.specs.Driven.{AreLanes};
-
-use crate::drive::promoted;
+use crate::drive::laned;
 use crate::sources::{AT_ANY_TIME, FailsOnce, Pace, Watched, new_watched};
+use crate::standby::shown;
 use crate::values::{FIRST, Shared, TWO_MARKS, Text, log_of, report_of};
-use nn_device::{Reader, Writer};
+use nn_device::Writer;
 use nn_drive::{
-    Left, Operator, ReportSource, Served, Unattended, Unfed, Unserved, Wish, serve, with_lanes,
+    Left, Operator, ReportSource, Running, Served, Unattended, Unfed, Unserved, Wish, serve,
 };
-use nn_lane::{LaneEnd, Refusal, Reporter};
-use nn_listing::{listing, push_tables};
+use nn_lane::Refusal;
+use nn_shadow::Shadow;
 use nn_tailer::Standby;
-use nn_types::{Report, Settings};
+use nn_types::Report;
 use std::alloc::Global;
 use std::process::Abort;
 use std::sync::atomic::Ordering;
@@ -343,21 +340,23 @@ const WITH_A_FILE: Service = Service {
     ..ENDLESS
 };
 
+const SERVICES: &[Service] = &[
+    ENDLESS,
+    ALWAYS_READY,
+    SLOW_LOG,
+    FENCED,
+    NODES_256,
+    STAYS,
+    FAILS,
+    STOPS,
+    ACTIVE,
+    STOPPED,
+];
+
 #[test]
 fn services(rt: HostRuntime) {
-    for service in [
-        ENDLESS,
-        ALWAYS_READY,
-        SLOW_LOG,
-        FENCED,
-        NODES_256,
-        STAYS,
-        FAILS,
-        STOPS,
-        ACTIVE,
-        STOPPED,
-    ] {
-        ends(&rt, rt.alloc(), &service);
+    for service in SERVICES {
+        ends(&rt, rt.alloc(), service);
     }
 }
 
@@ -373,9 +372,10 @@ fn ends<R: Abort + Threads + Wait + Copy + Send + Drop + 'static>(
         return;
     };
     let end = end_of(rt, alloc, service, &shared);
+    let vain = shared.vain.load(Ordering::SeqCst);
+    let held = Arc::strong_count(&shared);
     assert_eq!(rt; end, Some((service.end, service.later)), "{name}");
-    assert_eq!(rt; shared.vain.load(Ordering::SeqCst), 0, "{name}");
-    assert_eq!(rt; Arc::strong_count(&shared), 1, "{name}");
+    assert_eq!(rt; (vain, held), (0, 1), "{name}");
 }
 
 // What a service comes to, and what comes of it once its fault was gone on from.
@@ -386,7 +386,18 @@ fn end_of<R: Threads + Wait + Copy + Send + Drop + 'static>(
     shared: &Arc<Shared, Global>,
 ) -> Option<(Result<u64, u8>, Option<u64>)> {
     let mut operator = operator_of(service, shared)?;
-    match served(rt, alloc, service, shared, &[], &mut operator)? {
+    let answer = served(rt, alloc, service, shared, None, &mut operator)?;
+    outcome_of(rt, alloc, service, shared, answer)
+}
+
+fn outcome_of<R: Threads + Wait + Copy + Send + Drop + 'static>(
+    rt: &R,
+    alloc: Global,
+    service: &Service,
+    shared: &Shared,
+    answer: Result<Served<DataNode>, Unserved<'_, Watched, DataNode, R>>,
+) -> Option<(Result<u64, u8>, Option<u64>)> {
+    match answer {
         Ok(promoted) => {
             let last = all_joined(rt, shared, service, promoted)?;
             Some((Ok(last), None))
@@ -414,51 +425,13 @@ fn served<'a, O: Operator, R: Threads + Wait + Copy + Send + Drop + 'static>(
     alloc: Global,
     service: &Service,
     shared: &Arc<Shared, Global>,
-    image: &[u8],
+    image: Option<&[u8]>,
     operator: &mut O,
 ) -> Option<Result<Served<DataNode>, Unserved<'a, Watched, DataNode, R>>> {
-    let log = new_watched(alloc, shared, service.log, service.fails_at, service.pace)?;
     let nodes = data_nodes(alloc, service, shared)?;
-    if nodes.len() > 256 || service.capacity == 0 || service.capacity > 1024 {
-        return None;
-    }
-    let (workers, ends) = with_lanes(alloc, nodes, service.capacity).ok()?;
-    if ends.is_empty() || ends.len() > 256 {
-        return None;
-    }
-    let standby = standby_over(alloc, ends, image)?;
-    let standby = begun(alloc, service.before, &workers, standby)?;
+    let (workers, standby) = laned(alloc, nodes, service.capacity, image, service.before)?;
+    let log = new_watched(alloc, shared, service.log, service.fails_at, service.pace)?;
     Some(serve(rt, alloc, standby, log, workers, operator))
-}
-
-// A standby that was promoted over this log, or stopped by it; none for a log of no segment.
-fn begun(
-    alloc: Global,
-    log: &[Text],
-    workers: &Vec<(DataNode, Reporter)>,
-    standby: Standby,
-) -> Option<Standby>
-    requires { AreLanes workers.now.items standby.ends }
-    ensures { IfSome result (λ s. AreLanes workers.now.items s.ends) }
-{
-    if log.is_empty() {
-        return Some(standby);
-    }
-    let log = FailsOnce::new(log_of(alloc, log)?, u64::MAX);
-    Some(promoted(workers, standby, log))
-}
-
-fn standby_over(alloc: Global, ends: Vec<LaneEnd>, image: &[u8]) -> Option<Standby>
-    requires some { 1 ≤ length ends.items }
-    requires few { length ends.items ≤ 256 }
-    requires fresh { AreNew 1 ends.items }
-    ensures { IfSome result (λ s. s.ends ≡ ends.items) }
-{
-    let settings = Settings::new(999, 1)?;
-    if image.is_empty() {
-        return Standby::new(alloc, ends, settings).ok();
-    }
-    Standby::from_image(alloc, ends, settings, &mut Reader::new(image)).ok()
 }
 
 fn data_nodes(
@@ -495,15 +468,25 @@ fn all_joined<R: Threads>(
         workers,
     } = served;
     shared.came.store(1, Ordering::SeqCst);
+    let whole = have_left_all(rt, workers, service.reports, &shadow);
+    whole.then_some(active.last)
+}
+
+fn have_left_all<R: Threads>(
+    rt: &R,
+    workers: Vec<Running<DataNode>>,
+    reports: u64,
+    shadow: &Shadow,
+) -> bool {
     let mut dn = 0u16;
     for worker in workers {
         dn = dn.saturating_add(1);
         let left = worker.join(rt);
-        if !has_left_all(&left, service.reports, shadow.last_number(dn)) {
-            return None;
+        if !has_left_all(&left, reports, shadow.last_number(dn)) {
+            return false;
         }
     }
-    Some(active.last)
+    true
 }
 
 // Whether all that a worker sent was processed, so many messages; and it was told of the close, or had no more.
@@ -526,18 +509,18 @@ fn gone_on<R: Threads + Wait>(
 ) -> Option<u64> {
     let Unfed {
         fault: _,
-        standby,
+        mut standby,
         workers,
     } = unserved.join(rt);
-    let last = promoted_over(alloc, service, standby);
+    let last = promoted_over(alloc, service, &mut standby);
+    drop(standby);
     for worker in workers {
         drop(worker.join(rt));
     }
     last
 }
 
-fn promoted_over(alloc: Global, service: &Service, standby: Standby) -> Option<u64> {
-    let mut standby = standby;
+fn promoted_over(alloc: Global, service: &Service, standby: &mut Standby) -> Option<u64> {
     if standby.stop().is_some() {
         standby.close_intake();
         return None;
@@ -572,15 +555,9 @@ fn end_without_memory<R: Threads + Wait + Copy + Send + Drop + 'static>(
         return None;
     };
     let mut operator = Hoarding { alloc, blocks };
-    let answer = served(rt, alloc, service, shared, &[], &mut operator)?;
+    let answer = served(rt, alloc, service, shared, None, &mut operator)?;
     drop(operator);
-    match answer {
-        Ok(_) => None,
-        Err(unserved) => {
-            let number = unserved.fault.number();
-            Some((Err(number), gone_on(rt, alloc, service, unserved)))
-        }
-    }
+    outcome_of(rt, alloc, service, shared, answer)
 }
 
 // With no operator a service ends when its DataNodes have, as a drive does: all that they sent was flushed.
@@ -606,10 +583,9 @@ fn flushed_by<R: Threads + Wait + Copy + Send + Drop + 'static>(
     shared: &Arc<Shared, Global>,
 ) -> Option<u64> {
     let mut operator = Unattended;
-    match served(rt, alloc, service, shared, &[], &mut operator)? {
-        Ok(served) => Some(served.active.flushed),
-        Err(_) => None,
-    }
+    let answer = served(rt, alloc, service, shared, None, &mut operator)?;
+    let promoted = answer.ok()?;
+    Some(promoted.active.flushed)
 }
 
 // A standby writes a checkpoint each rotation. One that starts from the last of them, and gets the whole log and all reports
@@ -635,9 +611,9 @@ fn both_tables<R: Threads + Wait + Copy + Send + Drop + 'static>(
         until: operator_of(&WITH_A_FILE, shared)?,
         image: Vec::new(alloc),
     };
-    let first = tables_of(rt, alloc, shared, &[], &mut operator)?;
+    let first = tables_of(rt, alloc, shared, None, &mut operator)?;
     let mut again = Unattended;
-    let second = tables_of(rt, alloc, shared, operator.image.as_slice(), &mut again)?;
+    let second = tables_of(rt, alloc, shared, Some(&operator.image), &mut again)?;
     Some((first, second))
 }
 
@@ -645,16 +621,10 @@ fn tables_of<O: Operator, R: Threads + Wait + Copy + Send + Drop + 'static>(
     rt: &R,
     alloc: Global,
     shared: &Arc<Shared, Global>,
-    image: &[u8],
+    image: Option<&[u8]>,
     operator: &mut O,
 ) -> Option<String> {
-    match served(rt, alloc, &WITH_A_FILE, shared, image, operator)? {
-        Ok(served) => {
-            let shadow = &served.shadow;
-            let mut text = listing(alloc, shadow.namespace(), shadow.last_txid()).ok()?;
-            push_tables(alloc, &mut text, shadow.replicas(), shadow.safe_mode()).ok()?;
-            Some(text)
-        }
-        Err(_) => None,
-    }
+    let answer = served(rt, alloc, &WITH_A_FILE, shared, image, operator)?;
+    let promoted = answer.ok()?;
+    shown(alloc, &promoted.shadow)
 }

@@ -1,13 +1,15 @@
 //! A standby over one lane, from worked logs: what each call answers, and a restart after each transaction.
 ghost use Rattle.std.specs.Prelude.{◌≡◌, [], ◌∷◌, IfSome};
 
+use crate::drive::standby_over;
 use crate::sources::FailsOnce;
 use crate::values::{FIRST, TWO_MARKS, Text, log_of, report_of};
-use nn_device::{Reader, Writer};
+use nn_device::Writer;
 use nn_lane::{LaneEnd, Refusal, Reporter, lane};
 use nn_listing::{listing, push_tables};
+use nn_shadow::Shadow;
 use nn_tailer::{Active, Choice, PromoteFault, Standby, StepFault, Stepped};
-use nn_types::{BlockId, Settings};
+use nn_types::BlockId;
 use std::alloc::Global;
 use std::process::Abort;
 
@@ -125,24 +127,13 @@ fn new_player(alloc: Global, log: &[Text], before: u64, image: Option<&[u8]>) ->
     let Ok((reporter, end)) = lane(alloc, 1, 4) else {
         return None;
     };
-    let standby = begin(alloc, end, image)?;
+    let ends = ends_of(alloc, end)?;
+    let standby = standby_over(alloc, ends, image)?;
     Some(Player {
         standby,
         source,
         reporter,
     })
-}
-
-fn begin(alloc: Global, end: LaneEnd, image: Option<&[u8]>) -> Option<Standby>
-    requires { (end.lane.node ≡ 1) × (end.got ≡ []) }
-{
-    let settings = Settings::new(999, 1)?;
-    let ends = ends_of(alloc, end)?;
-    let Some(image) = image else {
-        return Standby::new(alloc, ends, settings).ok();
-    };
-    let mut reader = Reader::new(image);
-    Standby::from_image(alloc, ends, settings, &mut reader).ok()
 }
 
 fn ends_of(alloc: Global, end: LaneEnd) -> Option<Vec<LaneEnd>>
@@ -328,18 +319,20 @@ const FORGOTTEN_PROFILE: Worked = Worked {
     ],
 };
 
+const WORKED: &[Worked] = &[
+    FLUSHES_UNNAMED,
+    OPEN_INTAKE,
+    MISSING_PARENT,
+    BEGINS_TOO_HIGH,
+    OVERLAPPING,
+    FAILING_SOURCE,
+    LOWER_PROFILE,
+    FORGOTTEN_PROFILE,
+];
+
 #[test]
 fn calls(rt: HostRuntime) {
-    for worked in &[
-        FLUSHES_UNNAMED,
-        OPEN_INTAKE,
-        MISSING_PARENT,
-        BEGINS_TOO_HIGH,
-        OVERLAPPING,
-        FAILING_SOURCE,
-        LOWER_PROFILE,
-        FORGOTTEN_PROFILE,
-    ] {
+    for worked in WORKED {
         for before in worked.fails {
             plays(&rt, rt.alloc(), worked, *before);
         }
@@ -425,9 +418,11 @@ blocks 2 safe 2 needed 1 mode off
 "#,
 };
 
+const RESTARTED: &[Restarted] = &[APPENDED, RELEASED_BY_BLOCK];
+
 #[test]
 fn restarts(rt: HostRuntime) {
-    for restarted in &[APPENDED, RELEASED_BY_BLOCK] {
+    for restarted in RESTARTED {
         for count in 0..restarted.last {
             let shown = shown_after(rt.alloc(), restarted, count);
             let is_whole = shown.is_some_and(|text| text.as_str() == restarted.shown);
@@ -440,23 +435,38 @@ fn restarts(rt: HostRuntime) {
 fn shown_after(alloc: Global, restarted: &Restarted, count: u64) -> Option<String> {
     let image = image_after(alloc, restarted, count)?;
     let mut player = new_player(alloc, &[restarted.log], u64::MAX, Some(&image))?;
+    shown_at_end(alloc, &mut player, restarted, count)
+}
+
+fn shown_at_end(
+    alloc: Global,
+    player: &mut Player,
+    restarted: &Restarted,
+    count: u64,
+) -> Option<String> {
     for (block, stamp) in restarted.reports {
         player.answer(Call::Report(*block, *stamp));
         player.answer(Call::Lane(1));
     }
-    if !all_applied(&mut player, count, restarted.last) {
+    if !all_applied(player, count, restarted.last) {
         return None;
     }
-    shown(alloc, &player.standby)
+    shown(alloc, player.standby.shadow())
 }
 
 fn image_after(alloc: Global, restarted: &Restarted, count: u64) -> Option<Vec<u8>> {
     let mut player = new_player(alloc, &[restarted.log], u64::MAX, None)?;
-    if !all_applied(&mut player, 0, count) {
+    image_at(alloc, &mut player, count)
+}
+
+fn image_at(alloc: Global, player: &mut Player, count: u64) -> Option<Vec<u8>> {
+    if !all_applied(player, 0, count) {
         return None;
     }
     let mut image = Writer::new(Vec::new(alloc));
-    player.standby.checkpoint(alloc, &mut image).ok()?;
+    let Ok(_) = player.standby.checkpoint(alloc, &mut image) else {
+        return None;
+    };
     Some(image.into_inner())
 }
 
@@ -470,8 +480,8 @@ fn all_applied(player: &mut Player, behind: u64, last: u64) -> bool {
     true
 }
 
-fn shown(alloc: Global, standby: &Standby) -> Option<String> {
-    let shadow = standby.shadow();
+/// What a standby shows, as text.
+pub fn shown(alloc: Global, shadow: &Shadow) -> Option<String> {
     let mut text = listing(alloc, shadow.namespace(), shadow.last_txid()).ok()?;
     push_tables(alloc, &mut text, shadow.replicas(), shadow.safe_mode()).ok()?;
     Some(text)

@@ -1,7 +1,7 @@
 use Rattle.nn_drive.proofs.Drives.{still_lanes, same_lanes}
-use Rattle.nn_thread_tests.proofs.drive.promoted.Goals as goal
+use Rattle.nn_thread_tests.proofs.drive.promote.Goals as goal
 
 pub returns : goal.returns
 returns g c =
-    let closed = still_lanes c.args.workers.now.items c.args.standby.ends c.close_intake.new.self.ends c.requires c.close_intake.ensures.ends in
+    let closed = still_lanes c.args.workers.now.items c.args.standby.now.ends c.close_intake.new.self.ends c.requires c.close_intake.ensures.ends in
     same_lanes c.args.workers.now.items c.close_intake.new.self.ends c.promote.new.self.ends closed c.promote.ensures.promotes.3

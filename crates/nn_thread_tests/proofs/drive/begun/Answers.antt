@@ -1,5 +1,0 @@
-use Rattle.nn_drive.proofs.Drives.{still_lanes}
-use Rattle.nn_thread_tests.proofs.drive.begun.Goals as goal
-
-pub returns : goal.returns
-returns c = still_lanes c.args.workers.now.items c.args.standby.ends c.close_intake.new.self.ends c.requires c.close_intake.ensures.ends

@@ -54,10 +54,6 @@ module _ (w0 w1 w2 : Writing) (a b : List ℕ) where
 pub took_nothing : (w : Writing) → Took w w []
 took_nothing w = record { bytes = Appends-nil w.contents; counted = omega arith; unfailed = refl }
 
--- memory ran out before the first byte
-pub nothing_yet : (w : Writing) (text : List ℕ) → TookFront w w text OutOfMemory
-nothing_yet w text = no_memory w w w [] text (took_nothing w)
-
 -- what a failed write leaves is a front
 pub front_taken : (old new : Writing) (text : List ℕ) (written : ℕ) → FailedToWrite old new text written → TookFront old new text WriteFailed
 front_taken old new text written h = record {

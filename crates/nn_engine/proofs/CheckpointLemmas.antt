@@ -1,17 +1,17 @@
 -- A log that is cut, and gone on from where it was cut.
-use Rattle.std.proofs.Common.{◌≡◌, ℕ, ◌+◌, ◌≤◌, List, [], ◌∷◌, ◌++◌, length, Ok, refl, sym, ap, ◌∙◌, subst, arith, length-append}
+use Rattle.std.proofs.Common.{◌≡◌, ℕ, ◌+◌, List, [], ◌∷◌, ◌++◌, length, Ok, sym, ap, ◌∙◌, subst, arith, length-append}
 use Rattle.std.specs.Prelude.{map, flat_map}
 use Rattle.nn_types.specs.declared.tx.Tx.{Tx}
 use Rattle.nn_model.specs.Apply.{effect}
-use Rattle.nn_model.specs.Log.{counted, log_of, namespace_after, IsLog}
+use Rattle.nn_model.specs.Log.{counted, namespace_after, IsLog}
 use Rattle.nn_model.specs.Namespace.{Namespace, root_alone}
 use Rattle.nn_model.proofs.Logs.{counted_append, namespace_of_appended}
 use Rattle.nn_image.proofs.Round.{reads_back}
-use Rattle.nn_segment.specs.Segment.{Segment, first_txid}
-use Rattle.nn_segment.specs.LogEnd.{LogEnd, end_of_log, end_behind}
+use Rattle.nn_segment.specs.Segment.{Segment}
+use Rattle.nn_segment.specs.LogEnd.{end_of_log, end_behind}
 use Rattle.nn_segment.proofs.LogEnds.{ends_with_the_log}
 use Rattle.nn_tailer.proofs.LogEnds.{behind_none, behind_segment, behind_applied}
-use Rattle.nn_engine.specs.Checkpoint.{HasNoGap, PrintsTheSame, StartsThere, start_after}
+use Rattle.nn_engine.specs.Checkpoint.{HasNoGap, PrintsTheSame, StartsThere}
 use Rattle.nn_engine.specs.Output.{after_log}
 use Rattle.nn_engine.specs.Start.{from_image}
 

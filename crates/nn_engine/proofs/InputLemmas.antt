@@ -12,7 +12,6 @@ use Rattle.nn_scenario.specs.declared.scenario.Scenario.{Scenario}
 use Rattle.nn_front.specs.Cut.{Cut, divided, rest_of}
 use Rattle.nn_front.specs.Front.{FrontState, IsFront}
 use Rattle.nn_front.proofs.Fronts.{rest_is}
-use Rattle.nn_engine.specs.Start.{scenario_in}
 use Rattle.nn_engine.specs.declared.device.InputParts.{InputParts}
 use Rattle.nn_engine.specs.Input.{GaveTooMuch, IsRead, IsReadOfAll, IsScenarioOfAll}
 

@@ -1,14 +1,9 @@
 -- What is written of an output: all of it, or a front.
-use Rattle.std.proofs.Common.{◌≡◌, ℕ, ◌+◌, ◌<◌, ◌≤◌, List, [], ◌∷◌, ◌++◌, length, take, drop, Bool, true, false, codes, refl, sym, ap, ◌∙◌, arith, append_assoc, append-nil, subst, length-append, length-drop, Result, Ok}
+use Rattle.std.proofs.Common.{◌≡◌, ℕ, ◌+◌, ◌<◌, List, [], ◌∷◌, ◌++◌, length, Bool, true, codes, refl, sym, ap, ◌∙◌, arith, append_assoc, subst, length-append, Ok}
 use Rattle.std.specs.Prelude.{decimal, flat_map}
-use Rattle.std.specs.Io.KnownBytes.{Appends}
-use Rattle.std.proofs.KnownBytes.{Appends-trans}
-use Rattle.std.proofs.lemmas.List.{take-append-drop, length-take}
 use Rattle.nn_device.specs.Device.{Writing, Took, FailedToWrite}
-use Rattle.nn_model.specs.History.{History}
 use Rattle.nn_model.specs.Items.{items}
 use Rattle.nn_model.specs.Lanes.{Lanes}
-use Rattle.nn_model.specs.Namespace.{Namespace}
 use Rattle.nn_image.specs.Saving.{WroteFront as SavedFront}
 use Rattle.nn_image.specs.declared.fault.SaveFault.TheVariants as save
 use Rattle.nn_image.specs.Text.{image_text}
@@ -21,7 +16,6 @@ use Rattle.nn_device.proofs.Parts.{front_of, front_after, front_behind, front_ta
 use Rattle.nn_shadow.specs.Contents.{Contents}
 use Rattle.nn_segment.specs.LogEnd.{LogEnd}
 use Rattle.nn_engine.specs.declared.engine.Options.{Options}
-use Rattle.nn_engine.specs.declared.output.RunFault.{RunFault}
 use Rattle.nn_engine.specs.declared.output.RunFault.TheVariants as run
 use Rattle.nn_engine.specs.Output.{Printed, after_log, image_part, with_history}
 use Rattle.nn_engine.specs.Rest.{StoppedBehind, first_line, run_fault}

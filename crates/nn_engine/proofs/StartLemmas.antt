@@ -1,19 +1,17 @@
 -- Where a run begins, by the image that was read.
-use Rattle.std.proofs.Common.{◌≡◌, ℕ, Bool, true, false, List, Option, Some, None, Result, Ok, Err, refl, sym, ap, ◌∙◌, subst}
+use Rattle.std.proofs.Common.{◌≡◌, ℕ, Bool, true, false, List, Option, Some, None, Result, Ok, Err, refl, sym, ap, subst}
 use Rattle.std.specs.Prelude.{IfOk, MatchResult, option_map}
 use Rattle.std.proofs.lemmas.Result.{IfOk-weaker}
-use Rattle.nn_model.specs.Namespace.{Namespace}
 use Rattle.nn_image.specs.Reading.{read_image}
 use Rattle.nn_image.specs.declared.fault.ImageFault.{ImageFault}
 use Rattle.nn_image.specs.declared.fault.ImageFault.TheVariants.{NotHeader}
 use Rattle.nn_front.specs.Cut.{Cut, divided}
-use Rattle.nn_engine.specs.Input.{IsStartOf, begun, image_in, start_of}
-use Rattle.nn_engine.specs.Output.{Printed, IsPrinted, IsPrintedFrom, image_fault}
+use Rattle.nn_engine.specs.Input.{image_in}
+use Rattle.nn_engine.specs.Output.{IsPrinted, IsPrintedFrom, image_fault}
 use Rattle.nn_engine.specs.Shown.{shown}
-use Rattle.nn_engine.specs.Start.{Start, from_cut, from_image, from_root, scenario_in, start_in}
+use Rattle.nn_engine.specs.Start.{Start, from_cut, from_image, scenario_in, start_in}
 use Rattle.nn_engine.specs.declared.engine.Options.{Options}
 use Rattle.nn_engine.specs.declared.output.Output.{Output}
-use Rattle.nn_engine.specs.declared.start.Begin.{Begin}
 
 cut_image : (cut : Option Cut) (bytes : List ℕ) → option_map (λ (c : Cut). c.image) cut ≡ Some bytes → from_cut cut ≡ from_image (read_image bytes)
 cut_image None bytes e = absurd (cc)

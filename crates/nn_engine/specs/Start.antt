@@ -1,5 +1,5 @@
 -- Where a run begins: with the root alone, or with the image that its input begins with.
-use Rattle.std.specs.Prelude.{ℕ, Bool, true, false, List, [], Option, Some, None, Result, Ok, Err}
+use Rattle.std.specs.Prelude.{ℕ, Bool, true, false, List, Option, Some, None, Result, Ok, Err}
 use Rattle.nn_model.specs.Namespace.{Namespace, root_alone}
 use Rattle.nn_image.specs.Reading.{read_image}
 use Rattle.nn_image.specs.declared.fault.ImageFault.{ImageFault}

@@ -11,7 +11,7 @@ use Rattle.nn_segment.specs.Lines.{newline, is_unbroken}
 use Rattle.serde_json.specs.Data.{Data}
 use Rattle.nn_image.specs.Reading.{◌>>=◌, object_of, object_only, value_of}
 use Rattle.nn_front.specs.Cut.{Cut, behind_mark, cut_from, divided, has_end, is_end_line, mark, onto, rest_of}
-use Rattle.nn_front.specs.Front.{FrontState, IsAt, IsFront, begun, ended_at, ends_image, kept, kept_at, line_ended, room, with_line}
+use Rattle.nn_front.specs.Front.{FrontState, IsAt, IsFront, begun, ended_at, kept, kept_at, line_ended, room}
 use Rattle.nn_front.specs.declared.front.Place.{Place}
 use Rattle.nn_front.specs.declared.front.Place.TheVariants.{Start, Passing, Header, Rows, Behind}
 

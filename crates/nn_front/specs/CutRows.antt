@@ -1,5 +1,5 @@
 -- Inputs with an image in front, divided.
-use Rattle.std.specs.Prelude.{◌≡◌, ℕ, List, [], ◌∷◌, ◌++◌, true, false, map, flat_map, Option, Some, None, codes, refl}
+use Rattle.std.specs.Prelude.{◌≡◌, ℕ, List, [], ◌∷◌, ◌++◌, true, false, map, flat_map, Some, None, codes, refl}
 use Rattle.std.specs.Str.{is_utf8, chars}
 use Rattle.std.specs.Float.Numeral.{scan_numeral}
 use lib.Utf8.{encode}
@@ -10,7 +10,7 @@ use Rattle.json.specs.Word.{word, after_number}
 use Rattle.serde_json.specs.Read.{number_of}
 use Rattle.nn_image.specs.Text.{feed}
 use Rattle.nn_image.specs.Reading.{object_of, value_of}
-use Rattle.nn_front.specs.Cut.{Cut, divided, is_end_line}
+use Rattle.nn_front.specs.Cut.{divided, is_end_line}
 
 -- lines, each with its line feed
 abbrev lines : List (List ℕ) → List ℕ

@@ -1,7 +1,6 @@
 -- Values that are written, and the lines of an image.
-use Rattle.std.proofs.Common.{◌≡◌, ℕ, ◌+◌, ◌<◌, ◌≤◌, ◌^◌, List, [], ◌∷◌, ◌++◌, length, take, drop, get_or, false, Bool, refl, sym, ap, ◌∙◌, arith, append_assoc, drop-cons, add-one, subst, length-append, length-drop, ◌-◌}
+use Rattle.std.proofs.Common.{◌≡◌, ℕ, ◌+◌, ◌<◌, ◌≤◌, ◌^◌, List, [], ◌∷◌, ◌++◌, length, drop, get_or, false, refl, sym, ap, ◌∙◌, arith, append_assoc, drop-cons, add-one, subst, length-append, ◌-◌}
 use Rattle.std.specs.List.{flat_map}
-use Rattle.std.proofs.KnownBytes.{Appends-trans, Appends-nil}
 use Rattle.serde_json.specs.Data.{Data, Items, no_items, item, number, unsigned}
 use Rattle.serde_json.specs.View.{view, items_view}
 use Rattle.serde_json.specs.Written.{compact_text, has_float, items_have_float}
@@ -28,7 +27,6 @@ use Rattle.nn_image.specs.declared.saving.RowWriter.{RowWriter}
 use Rattle.nn_image.proofs.Rows.{root_first, T_of, and_T}
 use Rattle.nn_image.specs.Text.{feed, block_data, block_items, number_items, head_data, header_data, form_data, row_data, row_lines, line_of, end_data, image_text}
 use Rattle.nn_image.specs.Saving.{row_text, row_count, TakesRow, FailsOnRow, stop_of}
-use Rattle.std.proofs.lemmas.List.{take-append-drop, length-take}
 use Rattle.std.proofs.Common.{drop_of_length-le}
 
 -- ---- no floats

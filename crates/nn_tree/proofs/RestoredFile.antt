@@ -18,7 +18,7 @@ use Rattle.nn_model.specs.Namespace.{Path, Namespace, path_cmp, lookup, with_row
 use Rattle.std.specs.Prelude.{◌⊎◌}
 use Rattle.nn_types.specs.declared.edit_fault.EditFault.TheVariants.{BadReplication}
 use Rattle.nn_model.specs.Apply as apply
-use Rattle.nn_model.specs.Apply.{refusal, checks, first, has_id, is_root, is_dir, walk, exists, replication_range}
+use Rattle.nn_model.specs.Apply.{refusal, checks, first, has_id, is_dir, replication_range}
 use Rattle.nn_model.specs.WellFormed.{Has, times, IsIssued, IsWellFormed}
 use Rattle.nn_model.proofs.Dues.{all_none, when_none}
 use Rattle.nn_model.proofs.InRows.{put_from}

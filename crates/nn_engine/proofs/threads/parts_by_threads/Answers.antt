@@ -1,7 +1,7 @@
 use Rattle.std.proofs.Common.{true, ap, ◌∙◌}
 use Rattle.std.proofs.lemmas.Result.{IfOk-weaker}
 use Rattle.nn_engine.specs.Input.{begun, start_of}
-use Rattle.nn_engine.proofs.StartLemmas.{printed_from, printed_fault}
+use Rattle.nn_engine.proofs.StartLemmas.{printed_from}
 use Rattle.nn_engine.proofs.threads.parts_by_threads.Goals as goal
 
 pub returns-in-Ok : goal.returns-in-Ok

@@ -3,7 +3,7 @@ use crate::heap::Heap;
 use crate::lines::Lines;
 use crate::scenario::{Halt, Scenario};
 use crate::text::text_of;
-use crate::trial::{Answer, Changing, Fate, Making, Pair, both, make_both};
+use crate::trial::{Answer, Changing, Fate, Making, Pair, compared, make_both};
 use crate::{namespace, table};
 use nn_scenario::Step;
 use nn_shadow::{ApplyFault, FlushFault, HandCause, Shadow};
@@ -155,10 +155,9 @@ fn fates_of_log(
     settings: Settings,
     scenario: &Scenario,
 ) -> Result<[Fate; 4], Halt> {
-    let (text, fates) = text_of_play(alloc, is_ample, settings, scenario)?;
-    let (undisturbed, others) = text_of_play(alloc, true, settings, scenario)?;
-    let is_same = text.is_some() && text == undisturbed;
-    Ok(both(fates, others, is_same))
+    let played = text_of_play(alloc, is_ample, settings, scenario)?;
+    let undisturbed = text_of_play(alloc, true, settings, scenario)?;
+    Ok(compared(played, undisturbed))
 }
 
 // Plays the log, and shows the standby at its end as text. What is large is dropped by name: each exit that drops it costs

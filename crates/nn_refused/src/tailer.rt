@@ -7,7 +7,7 @@ use crate::lines::Lines;
 use crate::scenario::{Halt, Scenario};
 use crate::shadow::are_alike;
 use crate::text::text_of;
-use crate::trial::{Answer, Changing, Fate, Making, Pair, both, make};
+use crate::trial::{Answer, Changing, Fate, Making, Pair, compared, make};
 use nn_device::Reader;
 use nn_image::ImageFault;
 use nn_lane::{LaneEnd, Reporter, lane};
@@ -305,10 +305,9 @@ fn fates_of_steps(
     settings: Settings,
     text: &[u8],
 ) -> Result<[Fate; 4], Halt> {
-    let (shown, fates) = text_of_steps(alloc, is_ample, settings, text)?;
-    let (undisturbed, others) = text_of_steps(alloc, true, settings, text)?;
-    let is_same = shown.is_some() && shown == undisturbed;
-    Ok(both(fates, others, is_same))
+    let played = text_of_steps(alloc, is_ample, settings, text)?;
+    let undisturbed = text_of_steps(alloc, true, settings, text)?;
+    Ok(compared(played, undisturbed))
 }
 
 fn fates_of_restart(
@@ -317,10 +316,9 @@ fn fates_of_restart(
     settings: Settings,
     text: &[u8],
 ) -> Result<[Fate; 2], Halt> {
-    let (shown, fates) = text_of_restart(alloc, is_ample, settings, text)?;
-    let (undisturbed, others) = text_of_restart(alloc, true, settings, text)?;
-    let is_same = shown.is_some() && shown == undisturbed;
-    Ok(both(fates, others, is_same))
+    let played = text_of_restart(alloc, is_ample, settings, text)?;
+    let undisturbed = text_of_restart(alloc, true, settings, text)?;
+    Ok(compared(played, undisturbed))
 }
 
 // Plays the steps, and shows the standby at their end as text. The pair is dropped by name: each exit that drops it costs

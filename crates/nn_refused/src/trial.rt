@@ -206,3 +206,12 @@ pub fn both<const N: usize>(fates: [Fate; N], others: [Fate; N], is_same: bool) 
     }
     worse
 }
+
+/// The same for two plays, one of them undisturbed, each with what it shows at its end. One that shows nothing differs.
+pub fn compared<const N: usize>(
+    played: (Option<String>, [Fate; N]),
+    undisturbed: (Option<String>, [Fate; N]),
+) -> [Fate; N] {
+    let is_same = played.0.is_some() && played.0 == undisturbed.0;
+    both(played.1, undisturbed.1, is_same)
+}

@@ -2,6 +2,7 @@
 ghost use Rattle.std.specs.Prelude.{◌≡◌, ◌<◌, false, length, IfErr, OnOk};
 ghost use Rattle.nn_device.specs.Device.{Took, FailedToWrite};
 ghost use Rattle.nn_device.specs.Parts.{TookFront};
+ghost use Rattle.nn_device.specs.declared.writer.Unwritten.TheVariants as unwritten;
 
 use crate::MOST_BYTES;
 use std::io::Write;
@@ -81,10 +82,11 @@ impl<W: Write> Writer<W> {
     }
 
     /// Writes a part of a longer text as `write_all` does. How much of the whole was written is told by `taken`, and so the
-    /// fault has no number.
+    /// fault has no number. It takes no memory.
     pub fn write_part(&mut self, part: &[u8]) -> Result<(), Unwritten>
         ensures ok { OnOk result (Took self.old self.new part.now) }
         ensures front { IfErr result (TookFront self.old self.new part.now) }
+        ensures cause { IfErr result (λ e. e ≡ unwritten.WriteFailed) }
     {
         match self.write_all(part) {
             Ok(()) => Ok(()),

@@ -34,7 +34,7 @@ impl Operator for Unattended {
     ghost use Rattle.std.specs.Prelude.{◌≡◌};
     ghost use Rattle.nn_drive.specs.declared.operator.Wish.TheVariants.{Promote};
 
-    ghost asks = { λ o x n w p. w ≡ Promote → n ≡ 0 };
+    ghost asks = { λ o x n w p. (w ≡ Promote → n ≡ 0) × (n ≡ 0 → w ≡ Promote) };
 
     fn ask(&mut self, _standby: &Standby, running: usize) -> Wish {
         if running == 0 {

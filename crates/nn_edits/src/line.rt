@@ -128,7 +128,7 @@ fn fields_in<'a>(
     if line.len() > MAX_LINE_LEN {
         return Err(LineFault::LineTooLong);
     }
-    let Ok(text) = simdutf8::compat::from_utf8(line) else {
+    let Ok(text) = str::from_utf8(line) else {
         return Err(LineFault::NotJson);
     };
     let mut reader = Reader::new(text, scratch)?;

@@ -26,11 +26,8 @@ use Rattle.nn_engine.proofs.TellLemmas.{behind}
 -- ---- A listing that is made as it is written.
 
 module _ (w0 w1 w2 : Writing) (head rest : List ℕ) where
-  pub head_fails : (n : ℕ) → FailedToWrite w0 w1 head n → StoppedBehind w0 w1 (head ++ rest) WriteFailed
-  head_fails n h = record {
-    took = front_of w0 w1 w1 head rest WriteFailed (front_taken w0 w1 head n h);
-    begun = λ e. absurd (cc);
-  }
+  pub head_fails : (e : Unwritten) → TookFront w0 w1 head e → e ≡ WriteFailed → StoppedBehind w0 w1 (head ++ rest) e
+  head_fails e h failed = record { took = front_of w0 w1 w1 head rest e h; begun = λ refused. absurd (cc) }
 
   pub rest_fails : (e : Unwritten) → 0 < length head → Took w0 w1 head → TookFront w1 w2 rest e → StoppedBehind w0 w2 (head ++ rest) e
   rest_fails e some took h =

@@ -104,9 +104,7 @@ fn write_large<W: Write>(
     ensures ok { OnOk result (Took writer.old writer.new (string_bytes large.now.texts.head ++ after_head large.now)) }
     ensures front { IfErr result (StoppedBehind writer.old writer.new (string_bytes large.now.texts.head ++ after_head large.now)) }
 {
-    let Ok(()) = writer.write_all(large.texts.head.as_bytes()) else {
-        return Err(Unwritten::WriteFailed);
-    };
+    writer.write_part(large.texts.head.as_bytes())?;
     write_after_head(alloc, large, writer)
 }
 

@@ -15,3 +15,4 @@ pub mod Pieces
 pub mod Lawful
 pub mod Images
 pub mod PathsRead
+pub mod RowTexts

@@ -5,9 +5,7 @@ use Rattle.serde_json.specs.Data.{Data, Items, no_items, item, number, unsigned}
 use Rattle.serde_json.specs.View.{view, items_view}
 use Rattle.serde_json.specs.Written.{compact_text, has_float, items_have_float}
 use Rattle.serde_json.specs.declared.value.Value.{Value}
-use Rattle.nn_types.specs.declared.block.Block.{Block}
 use Rattle.nn_model.specs.declared.form.Form.{Form}
-use Rattle.nn_model.specs.declared.form.Form.TheVariants.{Dir, File}
 use Rattle.nn_model.specs.Namespace.{Path, Namespace}
 use Rattle.nn_model.specs.Namespace.{path_cmp}
 use Rattle.nn_model.specs.WellFormed.{IsWellFormed}
@@ -25,7 +23,7 @@ use Rattle.nn_tree.specs.declared.listing.ListFault.TheVariants.{Sink}
 use Rattle.nn_tree.specs.declared.listing.ListFault.TheVariants as list
 use Rattle.nn_image.specs.declared.saving.RowWriter.{RowWriter}
 use Rattle.nn_image.proofs.Rows.{root_first, T_of, and_T}
-use Rattle.nn_image.specs.Text.{feed, block_data, block_items, number_items, head_data, header_data, form_data, row_data, row_lines, line_of, end_data, image_text}
+use Rattle.nn_image.specs.Text.{feed, number_items, head_data, header_data, row_data, row_lines, line_of, end_data, image_text}
 use Rattle.nn_image.specs.Saving.{row_text, row_count, TakesRow, FailsOnRow, stop_of}
 use Rattle.std.proofs.Common.{drop_of_length-le}
 
@@ -35,18 +33,9 @@ numbers_whole : (ns : List ℕ) → items_have_float (number_items ns) ≡ false
 numbers_whole [] = refl
 numbers_whole (n ∷ ns) = numbers_whole ns
 
-blocks_whole : (bs : List Block) → items_have_float (block_items bs) ≡ false
-blocks_whole [] = refl
-blocks_whole (b ∷ bs) = blocks_whole bs
-
 pub head_whole : (n : Namespace) (txid : ℕ) → has_float (header_data n txid) ≡ false
 unfolding head_data
 head_whole n txid = rw (numbers_whole n.issued.awaiting) refl
-
-pub row_whole : (p : Path) (form : Form) → has_float (form_data p form) ≡ false
-unfolding form_data
-row_whole p Dir = refl
-row_whole p (File file) = rw (blocks_whole file.blocks) refl
 
 -- ---- lists that grow
 
@@ -76,19 +65,8 @@ number_turn vs v ns k n d within is e =
     let put : items_then vs (item (view v) (number_items left)) ≡ items_then vs (number_items (n ∷ left)) = ap (λ (d : Data). items_then vs (item d (number_items left))) e in
     items_push vs v (number_items left) ∙ put ∙ ap (λ r. items_then vs (number_items r)) (sym next)
 
-pub block_turn : (vs : List Value) (v : Value) (bs : List Block) (k : ℕ) (b d : Block) → k < length bs → b ≡ get_or bs k d → view v ≡ block_data b
-    → items_then (vs ++ v ∷ []) (block_items (drop (k + 1) bs)) ≡ items_then vs (block_items (drop k bs))
-block_turn vs v bs k b d within is e =
-    let left = drop (k + 1) bs in
-    let next : drop k bs ≡ b ∷ left = drop-cons bs k d within ∙ rw (add-one, ← is) refl in
-    let put : items_then vs (item (view v) (block_items left)) ≡ items_then vs (block_items (b ∷ left)) = ap (λ (d : Data). items_then vs (item d (block_items left))) e in
-    items_push vs v (block_items left) ∙ put ∙ ap (λ r. items_then vs (block_items r)) (sym next)
-
 pub numbers_done : (vs : List Value) (ns : List ℕ) (k : ℕ) → length ns ≤ k → items_then vs (number_items (drop k ns)) ≡ items_view vs
 numbers_done vs ns k over = ap (λ r. items_then vs (number_items r)) (drop_of_length-le ns over) ∙ items_all vs
-
-pub blocks_done : (vs : List Value) (bs : List Block) (k : ℕ) → length bs ≤ k → items_then vs (block_items (drop k bs)) ≡ items_view vs
-blocks_done vs bs k over = ap (λ r. items_then vs (block_items r)) (drop_of_length-le bs over) ∙ items_all vs
 
 -- ---- rows as the tree lists them
 

@@ -7,6 +7,7 @@ mod law;
 mod lines;
 mod restoring;
 mod rewriting;
+mod row_text;
 mod saving;
 
 pub use fault::{ImageFault, RewriteFault, SaveFault};

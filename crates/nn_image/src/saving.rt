@@ -1,20 +1,17 @@
 //! From a namespace to a writer.
-ghost use Rattle.std.specs.Prelude.{◌≡◌, ◌-◌, false, string_bytes, length, drop, OnOk, IfOk, IfErr, codes};
+ghost use Rattle.std.specs.Prelude.{◌≡◌, ◌-◌, false, string_bytes, length, drop, OnOk, IfOk, IfErr};
 ghost use Rattle.serde_json.specs.View.{view, items_view};
 ghost use Rattle.serde_json.specs.Written.{has_float};
-ghost use Rattle.serde_json.specs.Data.{number, unsigned, boolean, array, string, object, member, no_members};
 ghost use Rattle.nn_device.specs.Device.{Took};
 ghost use Rattle.nn_device.specs.Parts.{TookFront};
-ghost use Rattle.nn_tree.specs.Found.{form_of};
-ghost use Rattle.nn_tree.specs.Listing.{lent_names};
-ghost use Rattle.nn_image.specs.Text.{line_of, block_data, block_items, number_items, header_data, head_data, row_data, row_lines, end_data, image_text, name_text};
+ghost use Rattle.nn_image.specs.Text.{line_of, number_items, header_data, head_data, row_lines, end_data, image_text, name_text};
 ghost use Rattle.nn_image.specs.Saving.{WroteFront, stop_of};
 
 use crate::fault::SaveFault;
+use crate::row_text::push_row;
 use nn_device::{Unwritten, Writer};
-use nn_model::FileRow;
-use nn_tree::{Found, ListFault, Namespace, RowSink, push_text};
-use nn_types::{Block, BlockId, GenerationStamp};
+use nn_tree::{Found, ListFault, Namespace, RowSink};
+use nn_types::{BlockId, GenerationStamp};
 use serde_json::{Value, json};
 use std::alloc::{AllocError, Global};
 use std::io::Write;
@@ -26,7 +23,7 @@ pub fn image_name(alloc: Global, txid: u64) -> Result<String, AllocError>
     format!(in alloc; "fsimage_{txid:019}")
 }
 
-/// Writes the image of a namespace, of version 2, line by line: this takes one line and its value. The txid is that of
+/// Writes the image of a namespace, of version 2, line by line: this takes the memory of one line. The txid is that of
 /// the last transaction, or 0; one of 2^63 and more is written, and refused by `load`.
 pub fn save<W: Write>(
     alloc: Global,
@@ -89,8 +86,10 @@ fn put_rows<W: Write>(
     ensures front { IfErr result (TookFront writer.old writer.new (row_lines (drop 1 namespace.now.rows))) }
 {
     namespace.well_formed();
+    let mut line = String::new(alloc);
     let mut lines = RowWriter {
         writer,
+        line: &mut line,
         count: 0,
         alloc,
     };
@@ -125,6 +124,8 @@ fn put_end<W: Write>(alloc: Global, count: u64, writer: &mut Writer<W>) -> Resul
 #[derive(Drop)]
 struct RowWriter<'w, W: Write> {
     writer: &'w mut Writer<W>,
+    // The line of the path before, whose room is used again.
+    line: &'w mut String,
     // The lines so far. A count that would pass `u64::MAX` stays there.
     count: u64,
     alloc: Global,
@@ -146,10 +147,11 @@ impl<'w, W: Write> RowSink for RowWriter<'w, W> {
         if names.is_empty() {
             return Ok(());
         }
-        let Ok(value) = row_value(self.alloc, names, found) else {
+        self.line.clear();
+        let Ok(()) = push_row(self.alloc, self.line, names, found) else {
             return Err(Unwritten::OutOfMemory);
         };
-        put_line(self.alloc, &value, self.writer)?;
+        self.writer.write_part(self.line.as_bytes())?;
         self.count = self.count.saturating_add(1);
         Ok(())
     }
@@ -225,50 +227,4 @@ fn number_values(alloc: Global, numbers: &[BlockId]) -> Result<Vec<Value>, Alloc
         values.push(Value::from(number.get()))?;
     }
     Ok(values)
-}
-
-#[tactic(auto, unfolding(crate::specs::Text::form_data))]
-fn row_value(alloc: Global, names: &[&str], found: Found<'_>) -> Result<Value, AllocError>
-    ensures { IfOk result (λ v. view v ≡ row_data (lent_names names.now, form_of found.entry)) }
-{
-    let mut text = String::new(alloc);
-    push_text(&mut text, names)?;
-    match found {
-        Found::Dir => json!(in alloc; {"path": text, "type": "dir"}),
-        Found::File(file) => file_value(alloc, text, file),
-    }
-}
-
-fn file_value(alloc: Global, text: String, file: &FileRow) -> Result<Value, AllocError>
-    ensures { IfOk result (λ v. view v ≡ object (member (codes "blocks") (array (block_items file.now.blocks))
-        (member (codes "closed") (boolean file.now.closed)
-        (member (codes "path") (string (string_bytes text))
-        (member (codes "replication") (number (unsigned file.now.replication))
-        (member (codes "type") (string (codes "file")) no_members)))))) }
-{
-    let blocks = Value::Array(block_values(alloc, file.blocks.as_slice())?);
-    let closed = file.closed;
-    let replication = file.replication.get();
-    json!(in alloc; {"blocks": blocks, "closed": closed, "path": text, "replication": replication,
-        "type": "file"})
-}
-
-fn block_values(alloc: Global, blocks: &[Block]) -> Result<Vec<Value>, AllocError>
-    ensures { IfOk result (λ v. items_view v.items ≡ block_items blocks.now) }
-{
-    let mut values = Vec::new(alloc);
-    for block in blocks {
-        let value = block_value(alloc, block)?;
-        values.push(value)?;
-    }
-    Ok(values)
-}
-
-fn block_value(alloc: Global, block: &Block) -> Result<Value, AllocError>
-    ensures { IfOk result (λ v. view v ≡ block_data block.now) }
-{
-    let stamp = block.stamp.get();
-    let id = block.id.get();
-    let len = block.len.get();
-    json!(in alloc; {"gen": stamp, "id": id, "len": len})
 }

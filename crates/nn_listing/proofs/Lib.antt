@@ -2,5 +2,4 @@ pub mod ListingLemmas
 pub mod KeyTexts
 pub mod SaidIds
 pub mod TableLines
-pub mod PlainNames
 pub mod WrittenLines

@@ -4,5 +4,4 @@ pub mod Tables
 pub mod TablesRows
 pub mod Trail
 pub mod TrailRows
-pub mod Plain
 pub mod Writing

@@ -1,17 +1,16 @@
 //! What the program prints of its namespace.
-ghost use Rattle.std.specs.Prelude.{◌≡◌, ◌+◌, ◌*◌, ◌++◌, true, IfOk, OnOk, flat_map, string_bytes};
+ghost use Rattle.std.specs.Prelude.{◌≡◌, ◌+◌, ◌*◌, ◌++◌, IfOk, OnOk, flat_map, string_bytes};
 ghost use Rattle.nn_model.specs.declared.form.Form.{Form};
 ghost use Rattle.nn_model.specs.declared.form.Form.TheVariants.{File};
 ghost use Rattle.nn_tree.specs.Extent.{capped};
 ghost use Rattle.nn_tree.specs.Found.{form_of};
 ghost use Rattle.nn_tree.specs.Listing.{lent_names};
-ghost use Rattle.nn_listing.specs.Listing.{listing_text, line_of, path_json, block_text, state_text};
-ghost use Rattle.nn_listing.specs.Plain.{is_plain_byte, is_plain, are_plain};
+ghost use Rattle.nn_listing.specs.Listing.{listing_text, line_of, block_text, state_text};
 
 use nn_model::FileRow;
-use nn_tree::{Extent, Found, Namespace, RowSink, push_text};
+use nn_text::{push_number, push_path};
+use nn_tree::{Extent, Found, Namespace, RowSink};
 use nn_types::Block;
-use serde_json::Value;
 use std::alloc::{AllocError, Global};
 use std::fmt::Write;
 use std::marker::Model;
@@ -147,71 +146,12 @@ fn push_file(
 {
     text.push_str("file ")?;
     push_path(alloc, text, names)?;
-    let replication = file.replication.get();
-    let state = state(file.closed);
-    write!(text, " {replication} {state}")?;
+    text.push_str(" ")?;
+    push_number(text, u64::from(file.replication.get()))?;
+    text.push_str(" ")?;
+    text.push_str(state(file.closed))?;
     push_blocks(text, file.blocks.as_slice())?;
     text.push_str("\n")
-}
-
-// A name is mostly plain, and then its path goes straight into the text.
-fn push_path(alloc: Global, text: &mut String, names: &[&str]) -> Result<(), AllocError>
-    ensures { OnOk result (string_bytes text.new ≡ string_bytes text.old ++ path_json (lent_names names.now)) }
-{
-    if are_plain(names) {
-        push_plain(text, names)
-    } else {
-        push_escaped(alloc, text, names)
-    }
-}
-
-// Whether JSON writes each of the names as it is.
-fn are_plain(names: &[&str]) -> bool
-    ensures { result ≡ true → are_plain (lent_names names.now) ≡ true }
-{
-    for name in names {
-        if !is_plain(name) {
-            return false;
-        }
-    }
-    true
-}
-
-fn is_plain(name: &str) -> bool
-    ensures { result ≡ is_plain name.now }
-{
-    let mut plain = true;
-    // A loop that looks at all bytes takes many at a time. One that ends early takes one after another.
-    for b in name.as_bytes() {
-        plain = plain & is_plain_byte(*b);
-    }
-    plain
-}
-
-fn is_plain_byte(b: u8) -> bool
-    ensures { result ≡ is_plain_byte b }
-{
-    (b >= b' ') & (b != b'"') & (b != b'\\')
-}
-
-// The path of plain names between quotes.
-fn push_plain(text: &mut String, names: &[&str]) -> Result<(), AllocError>
-    requires { are_plain (lent_names names.now) ≡ true }
-    ensures { OnOk result (string_bytes text.new ≡ string_bytes text.old ++ path_json (lent_names names.now)) }
-{
-    text.push_str("\"")?;
-    push_text(text, names)?;
-    text.push_str("\"")?;
-    Ok(())
-}
-
-fn push_escaped(alloc: Global, text: &mut String, names: &[&str]) -> Result<(), AllocError>
-    ensures { OnOk result (string_bytes text.new ≡ string_bytes text.old ++ path_json (lent_names names.now)) }
-{
-    let mut path = String::new(alloc);
-    push_text(&mut path, names)?;
-    let json = Value::String(path).to_string(alloc)?;
-    text.push_str(json.as_str())
 }
 
 fn push_blocks(text: &mut String, blocks: &[Block]) -> Result<(), AllocError>
@@ -226,10 +166,12 @@ fn push_blocks(text: &mut String, blocks: &[Block]) -> Result<(), AllocError>
 fn push_block(text: &mut String, block: Block) -> Result<(), AllocError>
     ensures { OnOk result (string_bytes text.new ≡ string_bytes text.old ++ block_text block) }
 {
-    let id = block.id.get();
-    let stamp = block.stamp.get();
-    let len = block.len.get();
-    write!(text, " {id}:{stamp}:{len}")
+    text.push_str(" ")?;
+    push_number(text, block.id.get())?;
+    text.push_str(":")?;
+    push_number(text, block.stamp.get())?;
+    text.push_str(":")?;
+    push_number(text, block.len.get())
 }
 
 // Whether a file is complete.

@@ -1,11 +1,12 @@
 //! What the program prints of replicas, orders and counts.
-ghost use Rattle.std.specs.Prelude.{◌≡◌, ◌++◌, ℕ, OnOk, string_bytes};
+ghost use Rattle.std.specs.Prelude.{◌≡◌, ◌++◌, ℕ, OnOk, codes, decimal, string_bytes};
 ghost use Rattle.nn_model.specs.Lanes.{Lanes};
 ghost use Rattle.nn_model.specs.Namespace.{Namespace};
 ghost use Rattle.nn_replicas.specs.SafeMode.{counts_of};
 ghost use Rattle.nn_listing.specs.Tables.{mode_text, replica_line, order_line, blocks_line, lines_of_block, lines_of_replicas, lines_of_orders, IsPicture, tables_text};
 
 use nn_replicas::{Replicas, ReplicasOf, SafeMode, class};
+use nn_text::push_number;
 use nn_types::{Block, BlockId, Replica};
 use std::alloc::{AllocError, Global};
 use std::fmt::Write;
@@ -66,13 +67,30 @@ fn push_replica(
 ) -> Result<(), AllocError>
     ensures { OnOk result (string_bytes text.new ≡ string_bytes text.old ++ replica_line id block dn replica) }
 {
-    let id = id.get();
-    let stamp = replica.stamp.get();
-    let len = replica.len.get();
-    let kind = replica.kind.word();
-    let class = class(replica, block).word();
-    write!(text, "replica {id} {dn} {stamp} {len}")?;
-    write!(text, " {kind} {class}\n")
+    text.push_str("replica ")?;
+    push_number(text, id.get())?;
+    push_field(text, u64::from(dn))?;
+    push_field(text, replica.stamp.get())?;
+    push_field(text, replica.len.get())?;
+    push_word(text, replica.kind.word())?;
+    push_word(text, class(replica, block).word())?;
+    text.push_str("\n")
+}
+
+// A space and a number.
+fn push_field(text: &mut String, number: u64) -> Result<(), AllocError>
+    ensures { OnOk result (string_bytes text.new ≡ string_bytes text.old ++ codes " " ++ decimal number) }
+{
+    text.push_str(" ")?;
+    push_number(text, number)
+}
+
+// A space and a word.
+fn push_word(text: &mut String, word: &str) -> Result<(), AllocError>
+    ensures { OnOk result (string_bytes text.new ≡ string_bytes text.old ++ codes " " ++ word.now) }
+{
+    text.push_str(" ")?;
+    text.push_str(word)
 }
 
 /// Adds a line for each order, by ascending block id and then by DataNode. The list of orders is made in the given

@@ -1,6 +1,6 @@
 use Rattle.std.proofs.Common.{◌≡◌, take}
-use Rattle.nn_listing.specs.Plain.{is_plain}
-use Rattle.nn_listing.proofs.paths.is_plain.Given as goal
+use Rattle.nn_text.specs.Plain.{is_plain}
+use Rattle.nn_text.proofs.path.is_plain.Given as goal
 
 -- whether the bytes so far are plain
 abbrev pub invariant-loop-b : goal.invariant-loop-b

@@ -4,9 +4,10 @@ use Rattle.std.specs.Prelude.{◌&&◌, ◌==◌, nat_lt}
 use Rattle.std.specs.List.{list_all}
 use Rattle.std.proofs.lemmas.List.Folds.{list_all-append}
 use Rattle.json.specs.Print.{escape_byte, escape}
+use Rattle.serde_json.specs.Data.{string}
+use Rattle.serde_json.specs.Written.{compact_text}
 use Rattle.nn_types.specs.Path.{joined, path_text}
-use Rattle.nn_listing.specs.Listing.{path_json}
-use Rattle.nn_listing.specs.Plain.{is_plain_byte, is_plain, are_plain}
+use Rattle.nn_text.specs.Plain.{is_plain_byte, is_plain, are_plain}
 
 both : (a b : Bool) → (a && b) ≡ true → (a ≡ true) × (b ≡ true)
 both true true e = (refl, refl)
@@ -41,12 +42,12 @@ text_plain : (names : List (List ℕ)) → are_plain names ≡ true → list_all
 text_plain [] e = refl
 text_plain (name ∷ names) e = joined_plain (name ∷ names) e
 
-plain_path : (names : List (List ℕ)) → are_plain names ≡ true → path_json names ≡ 34 ∷ (path_text names ++ 34 ∷ [])
+plain_path : (names : List (List ℕ)) → are_plain names ≡ true → compact_text (string (path_text names)) ≡ 34 ∷ (path_text names ++ 34 ∷ [])
 plain_path names e = ap (λ text. 34 ∷ (text ++ 34 ∷ [])) (escape_plain (path_text names) (text_plain names e))
 
 -- a quote, the path, a quote
 pub plain_written : (old opened named closed : List ℕ) (names : List (List ℕ)) → are_plain names ≡ true → opened ≡ old ++ 34 ∷ [] → named ≡ opened ++ path_text names
-    → closed ≡ named ++ 34 ∷ [] → closed ≡ old ++ path_json names
+    → closed ≡ named ++ 34 ∷ [] → closed ≡ old ++ compact_text (string (path_text names))
 plain_written old opened named closed names plain e f g =
     let text = path_text names in
     g ∙ ap (λ s. s ++ 34 ∷ []) (f ∙ ap (λ s. s ++ text) e)

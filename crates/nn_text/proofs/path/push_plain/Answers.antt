@@ -1,7 +1,7 @@
 use Rattle.std.proofs.Common.{string_bytes}
 use Rattle.nn_tree.specs.Listing.{lent_names}
-use Rattle.nn_listing.proofs.PlainNames.{plain_written}
-use Rattle.nn_listing.proofs.paths.push_plain.Goals as goal
+use Rattle.nn_text.proofs.PlainNames.{plain_written}
+use Rattle.nn_text.proofs.path.push_plain.Goals as goal
 
 pub returns : goal.returns
 returns c =

@@ -1,7 +1,7 @@
 use Rattle.std.proofs.Common.{◌≡◌, take, true}
 use Rattle.nn_tree.specs.Listing.{lent_names}
-use Rattle.nn_listing.specs.Plain.{are_plain}
-use Rattle.nn_listing.proofs.paths.are_plain.Given as goal
+use Rattle.nn_text.specs.Plain.{are_plain}
+use Rattle.nn_text.proofs.path.are_plain.Given as goal
 
 -- the names so far are plain
 abbrev pub invariant-loop-name : goal.invariant-loop-name

@@ -9,7 +9,8 @@ use std::io::Write;
 use std::marker::Model;
 use thiserror::Error;
 
-/// A writer, how many bytes it took, and whether one of its writes failed.
+/// A writer, how many bytes it took, and whether one of its writes failed. Only its own writes note that, so no user of a
+/// writer can make a failed write up.
 #[derive(Drop)]
 pub struct Writer<W: Write> {
     writer: W,

@@ -9,7 +9,8 @@ use nn_lane::{LaneEnd, Reporter, lane};
 use std::alloc::{AllocError, Global};
 
 /// New lanes for the DataNodes that these sources are of, DataNode 1 first: the workers, each with the reporter of its
-/// lane, and the other ends. `capacity` is how many messages a lane holds at a time, 1 to 1024.
+/// lane, and the other ends. `capacity` is how many messages a lane holds at a time, 1 to 1024. Where memory is refused
+/// the sources are dropped.
 pub fn with_lanes<S: ReportSource + Drop>(
     alloc: Global,
     sources: Vec<S>,

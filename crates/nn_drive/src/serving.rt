@@ -27,7 +27,7 @@ pub struct Running<S: ReportSource> {
 #[derive(Drop)]
 pub struct Left<S> {
     pub source: S,
-    /// `Ok` where the source gave no more reports; else why the last one was refused. 42 is no fault: the standby was
+    /// `Ok` where the source gave no more reports; else why the last one was refused. `Closed` is no fault: the standby was
     /// promoted meanwhile. How many were sent, `met` says.
     pub outcome: Result<(), Refusal>,
     /// What the two ends of its lane counted.
@@ -53,16 +53,19 @@ pub struct Feeding<'a, T: SegmentSource, R: Wait> {
 }
 
 /// A standby that was not promoted, and why.
+///
+/// Where it was refused before a thread was started, it is as it was, there are no threads, and the source and the workers
+/// are dropped.
 #[derive(Drop)]
 pub struct Unserved<'a, T: SegmentSource, S: ReportSource, R: Wait> {
     pub fault: DriveFault,
-    /// The standby, as a step leaves it that fails. After 55 it can go on once there is memory, after 54 over a new source:
-    /// by `step`, or by `promote` once its intake is closed.
+    /// The standby, as a step leaves it that fails. After `OutOfMemory` it can go on once there is memory, after
+    /// `LogNotEnded` over a new source: by `step`, or by `promote` once its intake is closed.
     ///
     /// Its workers still report into its lanes. So who wants the standby no more closes its intake (`close_intake`) before
     /// dropping it: each worker learns of the close by its next report, and ends.
     pub standby: Standby,
-    /// The threads of the workers that were started, in their order.
+    /// The threads of the workers that were started, in their order. The other workers were dropped.
     pub workers: Vec<PromisedHandle<WorkerExit<S>, WorkerPromise<S>>>,
     /// The source's thread, if it was started and not joined.
     pub feeding: Option<Feeding<'a, T, R>>,

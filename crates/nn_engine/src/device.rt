@@ -39,7 +39,7 @@ impl From<AllocError> for InputFault {
 /// Reads a scenario to the reader's end: at most `MAX_INPUT` bytes of it, in reads of up to 65,536 bytes each. The inner
 /// result is the scenario, or its first line that is refused. It reads on behind such a line, since
 /// an input that can't be read is told first; what it read of a line is kept no longer than the line, unless the
-/// scenario has it.
+/// scenario has it. After a fault discard the reader: nothing is said of how far it was read.
 pub fn read_scenario<R: Read>(
     alloc: Global,
     input: &mut Reader<R>,

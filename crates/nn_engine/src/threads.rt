@@ -303,7 +303,8 @@ fn parts_by_threads<G: Gate + Send + Sync + Drop, R: Threads + Wait + Sync>(
 
 /// Reads a scenario to its end and writes its listing, or one fault line and nothing else, as `run` does; but each
 /// DataNode reports from a thread of its own and the log's segments come from another, while the standby tails the log on
-/// this one. Whatever the schedule, it writes the same. An image in front is loaded twice.
+/// this one. Whatever the schedule, it writes the same, except that a history may be any that is lawful and whole. An image in
+/// front is loaded twice.
 ///
 /// `fault 55` says that memory was refused, or a thread. It waits for as long as the gate does.
 pub fn run_threads<I: Read, W: Write, G: Gate + Send + Sync + Drop, R: Threads + Wait + Sync>(

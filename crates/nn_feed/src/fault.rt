@@ -32,7 +32,8 @@ impl Refusal {
     }
 }
 
-/// Why a feeder ended before it had put End.
+/// Why a feeder ended before it had put End. It makes up neither fault: the one is the last answer of its source, the other
+/// that of its last try to put an item.
 #[derive(Drop)]
 pub enum FeedFault {
     /// The source's fault.

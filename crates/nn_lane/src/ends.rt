@@ -127,9 +127,9 @@ impl Reporter {
     /// Writes a report into its place in the lane, as the message that comes next; `publish` sends it from there. It
     /// replaces one that was prepared before. The report's own DataNode is not read: the lane has one. O(1); it never waits.
     ///
-    /// 42 where this end was told that the lane is closed, then 43 at 2^62 messages. Where all places were taken it looks
-    /// whether the lane is closed: then 42, and else 41. After a refusal nothing is prepared. It looks at the other end only
-    /// if it remembers no place, so 41 comes of two looks in this call.
+    /// `Closed` where this end was told that the lane is closed, then `Exhausted` at 2^62 messages. Where all places were
+    /// taken it looks whether the lane is closed: then `Closed`, and else `Full`. After a refusal nothing is prepared. It
+    /// looks at the other end only if it remembers no place, so `Full` comes of two looks in this call.
     pub fn prepare(&mut self, report: &Report) -> Result<(), Refusal>
         ensures lane { self.new.lane ≡ self.old.lane }
         ensures same { self.new.sent ≡ self.old.sent }
@@ -172,7 +172,7 @@ impl Reporter {
     /// Sends the message that is prepared, and answers its number; `None` where none is. O(1); it tries once and never
     /// waits.
     ///
-    /// 42 where the other end closed the lane meanwhile. Afterwards nothing is prepared.
+    /// `Closed` where the other end closed the lane meanwhile. Afterwards nothing is prepared.
     pub fn publish(&mut self) -> Option<Result<u64, Refusal>>
         ensures lane { self.new.lane ≡ self.old.lane }
         ensures after { (self.new.prepared ≡ None) × (self.new.seen ≡ self.old.seen) × (self.new.loads ≡ self.old.loads) }
@@ -199,8 +199,8 @@ impl Reporter {
     /// Sends one report, and answers its number as a message: messages are counted from 1. It is `prepare`, and then `publish`.
     /// O(1); it never waits.
     ///
-    /// 42 where the lane is closed, then 43 at 2^62 messages, then 41 where all places were taken. After a refusal what
-    /// was sent is as it was, and the message comes back with the number that it would have had.
+    /// `Closed` where the lane is closed, then `Exhausted` at 2^62 messages, then `Full` where all places were taken. After a
+    /// refusal what was sent is as it was, and the message comes back with the number that it would have had.
     pub fn report(&mut self, report: &Report) -> Result<u64, Refusal>
         ensures lane { (self.new.lane ≡ self.old.lane) × (self.new.prepared ≡ None) }
         ensures ok { IfOk result (λ n. (self.new.sent ≡ self.old.sent ++ next_message self.old.lane.node self.old.sent report.now ∷ []) × (n ≡ length self.new.sent) × (n ≤ 2 ^ 62) × HasPlace self.old self.new) }
@@ -301,7 +301,8 @@ impl LaneEnd {
 
 /// Ends a lane, and answers what both ends counted. A message that was prepared and not sent is in neither count.
 ///
-/// What was taken comes first of what was sent; of a closed lane the close counted all that was sent.
+/// What was taken comes first of what was sent; of a closed lane the close counted all that was sent. The reporter was told
+/// of a close only if there was one, and neither end saw more of the other than there was.
 pub fn meet(end: LaneEnd, reporter: Reporter) -> Met
     requires { end.lane ≡ reporter.lane }
     ensures front { StartsWith reporter.sent end.got }

@@ -16,7 +16,8 @@ const EVENT: usize = 32;
 /// processed 1 1 1073741825 due
 /// ```
 ///
-/// Memory for about all of it is asked for at once.
+/// Memory for about all of it is asked for at once. Where memory is refused nothing is said of how much of it stands in the
+/// text.
 pub fn push_history(text: &mut String, events: &[Event]) -> Result<(), AllocError>
     ensures { OnOk result (string_bytes text.new ≡ string_bytes text.old ++ history_text events.now) }
 {

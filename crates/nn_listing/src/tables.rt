@@ -19,7 +19,7 @@ use std::fmt::Write;
 /// blocks 1 safe 1 needed 0 mode off
 /// ```
 ///
-/// The orders are copied into a list first.
+/// The orders are copied into a list first. Where memory is refused nothing is said of how much of it stands in the text.
 pub fn push_tables(
     alloc: Global,
     text: &mut String,

@@ -42,8 +42,8 @@ pub struct Scenario {
 }
 
 /// The scenario of a text, or its first line that is refused. Lines end with a line feed, which the last may lack; a
-/// line of spaces, tabs and carriage returns alone is passed over. Each line is parsed once, and the bytes of an edit
-/// line are copied once.
+/// line of spaces, tabs and carriage returns alone is passed over. The messages of each DataNode are numbered from 1, in
+/// the order of the lines. Each line is parsed once, and the bytes of an edit line are copied once.
 pub fn read_lines(alloc: Global, input: &[u8]) -> Result<Scenario, BadLine>
     requires { length input.now ≤ max_input }
     ensures ok { IfOk result (λ s. scenario_of input.now ≡ Ok (seen s)) }

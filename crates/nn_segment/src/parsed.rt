@@ -41,7 +41,7 @@ impl Parsed {
     /// The segment that the bytes are under a name, or the first fault that applies. Each line is read once; name
     /// and bytes move into the segment.
     ///
-    /// Time and memory are of the order of the bytes.
+    /// After a fault name and bytes are dropped. Time and memory are of the order of the bytes.
     pub fn of(alloc: Global, name: String, bytes: Vec<u8>) -> Result<Parsed, SegmentFault>
         ensures { Gives result (read_segment (string_bytes name) bytes.items) }
     {

@@ -7,13 +7,14 @@ use nn_shadow::Stop;
 use nn_types::fault;
 use thiserror::Error;
 
-/// Why a step was not made, in the order in which the causes are looked for.
+/// Why a step was not made, in the order in which the causes are looked for. `AlreadyActive`, a stop of an earlier call and
+/// `BadLane` come before anything is read, and change nothing.
 #[derive(Clone, Copy, Debug, PartialEq, Eq, Error)]
 pub enum StepFault {
     #[error("the standby is active")]
     AlreadyActive,
     /// An edit that does not apply, or a segment that begins above the next transaction, stopped the standby, in this
-    /// call or before.
+    /// call or before. What its shadow shows is as it was.
     #[error("the standby is stopped")]
     Stopped(Stop),
     #[error("there is no such DataNode")]
@@ -40,7 +41,8 @@ impl StepFault {
     }
 }
 
-/// Why the standby was not promoted.
+/// Why the standby was not promoted. `AlreadyActive`, a stop of an earlier call and `IntakeOpen` are looked for in this
+/// order, before anything is read, and change nothing.
 #[derive(Clone, Copy, Debug, PartialEq, Eq, Error)]
 pub enum PromoteFault {
     /// It was promoted before.

@@ -119,6 +119,8 @@ impl Standby {
     /// A transaction comes from the segment in hand, or else from the source's next item, of which those applied before
     /// are passed over. The first cause of refusal is answered: 53, 51, 56, 54, 55. After 54 and 55 nothing is lost: a
     /// segment stays in hand, a message stays undelivered, and the step may be made again. After 51 no step is made any more.
+    /// A step of the log leaves all lanes as they were. One of a lane leaves the other lanes and the segment in hand, and
+    /// after `Ok` its message is not kept.
     pub fn step<S: SegmentSource>(
         &mut self,
         source: &mut S,

@@ -135,7 +135,7 @@ fn copied(alloc: Global, names: &[&str]) -> Result<Vec<String>, AllocError>
     Ok(copy)
 }
 
-/// Adds the text of the path with these names.
+/// Adds the text of the path with these names. Where memory is refused nothing is said of how much of it stands in the text.
 pub fn push_text(text: &mut String, names: &[&str]) -> Result<(), AllocError>
     ensures { OnOk result (string_bytes text.new ≡ string_bytes text.old ++ path_text (lent_names names.now)) }
 {

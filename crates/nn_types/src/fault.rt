@@ -115,7 +115,7 @@ pub const READ_FAULT: u8 = 67;
 pub const WRITE_FAULT: u8 = 68;
 
 /// What the fault of this number means, for whoever meets it: its name and a colon, what was wrong with which line,
-/// transaction or segment, and what can be done.
+/// transaction or segment, and what can be done. `None` where no fault has the number.
 #[tactic(auto, unfolding(crate::specs::Fault::name_of))]
 pub fn explanation(number: u8) -> Option<&'static str>
     ensures { option_map (λ text. name_in text.now) result ≡ name_of number }

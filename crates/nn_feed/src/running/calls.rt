@@ -15,7 +15,7 @@ impl<S: SegmentSource> Promise<FeederExit<S>> for FeederPromise<S> {
 }
 
 /// Puts each segment that the source gives, in order, and then its End; and answers how many segments these were. A fault
-/// of the source, or an item that is not put, ends it.
+/// of the source, or an item that is not put, ends it; then all segments that the source gave before were put.
 ///
 /// It waits for as long as the source does, and while the feed is full.
 pub fn run_feeder<S: SegmentSource, R: Wait>(

@@ -41,6 +41,8 @@ impl Standby {
 
     /// A standby over these lanes, of DataNodes 1, 2 and so on, that starts from an image: it passes over the transactions
     /// up to the image's, and applies those above. The reader is read to its end. After a fault the ends come back.
+    ///
+    /// No DataNode has reported to it yet. So the end of a full report revokes only what was reported to this standby.
     pub fn from_image<R: Read>(
         alloc: Global,
         ends: Vec<LaneEnd>,

@@ -21,7 +21,7 @@ const CAPACITY: usize = 4;
 // No feed carries more segments.
 const MAX_SEGMENTS: u64 = 1 << 60;
 
-/// The two ends of a new feed, which holds at most four answers at a time. No other call takes memory.
+/// The two ends of a new feed, which holds at most four answers at a time. No other call takes memory. It waits for nothing.
 pub fn feed<'a, R: Wait>(rt: &'a R, alloc: Global) -> Result<(Feeder, FeedEnd<'a, R>), AllocError>
     ensures one_feed { IfOk result (λ ends. AreOfOneFeed ends.0 ends.1) }
     ensures empty { IfOk result (λ ends. (put_by ends.0 ≡ []) × (got_by ends.1 ≡ [])) }
@@ -214,7 +214,7 @@ impl<'a, R: Wait> SegmentSource for FeedEnd<'a, R> {
 }
 
 /// Ends a feed, with both ends in one thread: what was got is the front of what was put, and all of it once its last
-/// answer was got.
+/// answer was got. It waits for nothing.
 pub fn meet<'a, R: Wait>(feeder: Feeder, end: FeedEnd<'a, R>)
     requires { AreOfOneFeed feeder end }
     ensures { IsMet (put_by feeder) (got_by end.entry) }

@@ -81,13 +81,6 @@ impl<R: Read> Reader<R> {
         self.given
     }
 
-    /// Whether a read failed.
-    pub fn failed(&self) -> bool
-        ensures { result ≡ self.now.failed }
-    {
-        self.failed
-    }
-
     /// The reader, where its reads left it.
     pub fn into_inner(self) -> R
         ensures { R.remaining result ≡ self.left }

@@ -102,13 +102,6 @@ impl<W: Write> Writer<W> {
         self.taken
     }
 
-    /// Whether a write failed.
-    pub fn failed(&self) -> bool
-        ensures { result ≡ self.now.failed }
-    {
-        self.failed
-    }
-
     /// The writer, where its writes left it.
     pub fn into_inner(self) -> W
         ensures { W.contents result ≡ self.contents }

@@ -152,7 +152,8 @@ pub fn explanation(number: u8) -> Option<&'static str>
         ),
         INPUT_FAULT => Some(
             "InputFault: the input could not be read to its end, or it has more than 16777216 bytes. Cut a longer \
-             log behind an end mark, and go on with --from-image from what --image printed.",
+             log behind an OP_END_LOG_SEGMENT, and go on with --from-image from what --image printed; no image \
+             holds block reports, so tell the second run the full reports of all DataNodes again.",
         ),
         BAD_NAME => Some(
             "BadName: the name is not a segment's: edits_, 19 digits, a dash and 19 digits, of which the first \

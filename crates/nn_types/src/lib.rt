@@ -25,7 +25,7 @@ pub use edit_fault::EditFault;
 pub use event::{Cause, Event};
 pub use names::Names;
 pub use number::{BlockId, GenerationStamp, Length, Replication, Txid};
-pub use path::{Path, PathFault, one_spelling, text_of};
+pub use path::{Path, PathFault, one_spelling};
 pub use profile::Profile;
 pub use replica::{Class, Replica};
 pub use report::{Kind, Message, Report};

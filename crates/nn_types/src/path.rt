@@ -1,8 +1,8 @@
 //! Paths of the namespace, seen as lists of names.
-ghost use Rattle.std.specs.Prelude.{◌≡◌, List, ℕ, length, Some, None, IfOk, IfSome, IfNone, IsErrOf, string_bytes, map, true, false};
+ghost use Rattle.std.specs.Prelude.{◌≡◌, List, ℕ, length, Some, None, IfOk, IfSome, IfNone, IsErrOf, true, false};
 ghost use Rattle.std.specs.List.{list_all};
 ghost use Rattle.nn_types.specs.Fault.{number_of};
-ghost use Rattle.nn_types.specs.Path.{is_name, is_name_byte, parts, path_of, path_text, joined, IsPath};
+ghost use Rattle.nn_types.specs.Path.{is_name, is_name_byte, parts, path_of, path_text, IsPath};
 
 use crate::fault;
 use crate::names::Names;
@@ -125,17 +125,6 @@ impl Path {
     }
 }
 
-/// The text of a path with these names, which may go past the limits of a `Path`: a rename can move
-/// what lies below a directory there.
-pub fn text_of(alloc: Global, names: &[String]) -> Result<String, AllocError>
-    ensures { IfOk result (λ s. string_bytes s ≡ path_text (map string_bytes names.now)) }
-{
-    if names.is_empty() {
-        return String::from_str(alloc, "/");
-    }
-    joined(alloc, names)
-}
-
 /// Each lawful list of names is read from its text, and each text that is read is the text of the names
 /// that were read: a path has one spelling, and no text spells two paths.
 pub fn one_spelling()
@@ -143,18 +132,6 @@ pub fn one_spelling()
     ensures spells { (text : List ℕ) (names : List (List ℕ)) → path_of text ≡ Some names
         → IsPath names × (text ≡ path_text names) }
 {}
-
-// A slash before each name.
-fn joined(alloc: Global, names: &[String]) -> Result<String, AllocError>
-    ensures { IfOk result (λ s. string_bytes s ≡ joined (map string_bytes names.now)) }
-{
-    let mut text = String::new(alloc);
-    for name in names {
-        text.push('/')?;
-        text.push_str(name.as_str())?;
-    }
-    Ok(text)
-}
 
 // How many parts between slashes a text has, if each is a name. An empty text has none.
 fn count_names(text: &str) -> Option<usize>

@@ -36,14 +36,6 @@ impl Settings {
         }
     }
 
-    /// How many blocks of each thousand have to be safe, from 0 to 1000.
-    pub fn permille(self) -> u16
-        ensures value { result ≡ self.permille }
-        ensures limits { AreSettings self.permille self.min }
-    {
-        self.permille
-    }
-
     /// How many live replicas make a block safe, from 1 to 512.
     pub fn min(self) -> u16
         ensures value { result ≡ self.min }

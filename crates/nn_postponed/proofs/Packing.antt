@@ -1,11 +1,9 @@
 -- The messages of a queue close up, each head with its message.
 use Rattle.std.proofs.Common.{◌≡◌, ℕ, zero, suc, ◌+◌, ◌≤◌, ◌<◌, Bool, true, false, cond, List, [], ◌∷◌, ◌++◌, length, take, drop, set, get_or, map, refl}
-use Rattle.std.proofs.Common.{Some, None, Option, sym, ap, ◌∙◌, arith, append-nil, append_assoc, length-append}
-use Rattle.std.specs.Prelude.{◌==◌}
+use Rattle.std.proofs.Common.{Some, None, Option, sym, ap, ◌∙◌, arith, append_assoc, length-append}
 use Rattle.std.specs.List.{list_any}
-use Rattle.std.proofs.Math.ListN.{drop_of_length-le}
 use Rattle.std.proofs.lemmas.Bool.{cond-true, cond-false, eq-eqb, ne_eqb}
-use Rattle.std.proofs.lemmas.List.{take_more_set, drop-set-lt, take-append-drop}
+use Rattle.std.proofs.lemmas.List.{take_more_set, drop-set-lt}
 use Rattle.nn_types.specs.declared.report.Message.{Message}
 use Rattle.nn_postponed.specs.Places.{present, places, packed, starts, EndsWith}
 use Rattle.nn_postponed.specs.Release.{same_source}
@@ -17,10 +15,6 @@ pub present_packed : (ms : List Message) → present (map (λ (m : Message). Som
 present_packed [] = refl
 present_packed (m ∷ ms) = ap (λ l. m ∷ l) (present_packed ms)
 
-pub length_packed : (ms : List Message) → length (map (λ (m : Message). Some m) ms) ≡ length ms
-length_packed [] = refl
-length_packed (m ∷ ms) = omega (arith, length_packed ms)
-
 packed_append : (xs : List Message) (m : Message) → map (λ (m : Message). Some m) (xs ++ m ∷ []) ≡ map (λ (m : Message). Some m) xs ++ Some m ∷ []
 packed_append [] m = refl
 packed_append (x ∷ xs) m = ap (λ l. Some x ∷ l) (packed_append xs m)
@@ -31,14 +25,6 @@ gone_append (None ∷ xs) ys s = gone_append xs ys s
 gone_append (Some x ∷ xs) ys s = gone_append xs ys (x ∷ s)
 
 -- ---- which head stands first
-
-pub starts_at : (hs : List ℕ) (k p d : ℕ) → k < length hs → p ≡ get_or hs k d → (q : ℕ) → starts q (drop k hs) ≡ (p == q)
-starts_at [] k p d in_range at q = absurd (omega (arith, in_range))
-starts_at (h ∷ hs) zero p d in_range at q = ap (λ x. x == q) (sym at)
-starts_at (h ∷ hs) (suc k) p d in_range at q = starts_at hs k p d (omega (arith, in_range)) at q
-
-pub starts_none : (hs : List ℕ) (k q : ℕ) → length hs ≤ k → starts q (drop k hs) ≡ false
-starts_none hs k q end = ap (starts q) (drop_of_length-le hs end)
 
 later_places : (p i : ℕ) (s : List Message) (xs : List (Option Message)) → p < i → starts p (places i s xs) ≡ false
 later_places p i s [] lt = refl
@@ -66,9 +52,6 @@ pub record Packing (slots : List (Option Message)) (from to head : ℕ) (items :
   pub len : length items ≡ length slots
   pub done : take head hs ++ places to (gone (take from slots) []) (packed (drop from slots)) ≡ places 0 [] (packed slots)
   pub left : drop head hs ≡ places from (gone (take from slots) []) (drop from slots)
-
-pub none_packed : (slots : List (Option Message)) (hs : List ℕ) → hs ≡ places 0 [] slots → Packing slots 0 0 0 slots hs
-none_packed slots hs are = record { front = refl; rest = refl; low = omega arith; len = refl; done = refl; left = are }
 
 module _ (slots : List (Option Message)) (from to head : ℕ) (items : List (Option Message)) (hs : List ℕ) (d : Option Message)
     (so : Packing slots from to head items hs) (in_range : from < length items) where
@@ -167,23 +150,6 @@ module _ (slots : List (Option Message)) (from to head : ℕ) (items : List (Opt
                 ∙ ap (λ l. take head hs ++ l) (sym (ap (places to before) packed_now ∙ cond-false known _ _ e)),
             (λ i. drop (n i) (f i)) ∙ drop-set-lt (head + 1) hs head to (omega arith) ∙ after.1,
           )
-
--- all were passed
-pub all_packed : (slots : List (Option Message)) (from to head : ℕ) (items : List (Option Message)) (hs : List ℕ) → Packing slots from to head items hs → length slots ≤ from →
-    (take to items ≡ packed slots) × (hs ≡ places 0 [] (packed slots))
-all_packed slots from to head items hs so end =
-    let none : drop from slots ≡ [] = drop_of_length-le slots end in
-    let behind : drop head hs ≡ [] = so.left ∙ ap (places from (gone (take from slots) [])) none in
-    let front : take head hs ≡ places 0 [] (packed slots) = sym (append-nil (take head hs)) ∙ ap (λ l. take head hs ++ places to (gone (take from slots) []) (packed l)) (sym none) ∙ so.done in (
-      so.front ∙ ap packed (take_whole slots from end),
-      sym (take-append-drop head hs) ∙ (λ i. take head hs ++ behind i) ∙ append-nil (take head hs) ∙ front,
-    )
-  where
-    take_whole : (xs : List (Option Message)) (k : ℕ) → length xs ≤ k → take k xs ≡ xs
-    take_whole [] zero le = refl
-    take_whole [] (suc k) le = refl
-    take_whole (x ∷ xs) zero le = absurd (omega (arith, le))
-    take_whole (x ∷ xs) (suc k) le = ap (λ l. x ∷ l) (take_whole xs k (omega (arith, le)))
 
 -- the last place is taken out
 module _ (was now old : List (Option Message)) (o : Option Message) (same : present now ≡ present was) (heads : places 0 [] now ≡ places 0 [] was) (few : length now ≤ length was) (is : now ≡ old ++ o ∷ []) where

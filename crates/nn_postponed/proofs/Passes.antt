@@ -2,7 +2,6 @@
 use Rattle.std.proofs.Common.{◌≡◌, ℕ, zero, suc, ◌+◌, ◌≤◌, ◌<◌, Bool, true, false, cond, not, List, [], ◌∷◌, ◌++◌, length, take, drop, get_or}
 use Rattle.std.proofs.Common.{Some, None, Option, sym, ap, subst, ◌∙◌, arith, append-nil, append_assoc}
 use Rattle.std.specs.List.{list_any}
-use Rattle.std.proofs.Math.ListN.{drop_of_length-le}
 use Rattle.std.proofs.lemmas.Bool.{or_left, or_right, cond-true, cond-false}
 use Rattle.nn_types.specs.declared.report.Message.{Message}
 use Rattle.nn_postponed.specs.Places.{present}
@@ -55,9 +54,6 @@ module _ (due : Message → Bool) (xs : List (Option Message)) (i : ℕ) (d : Op
 
   pub knows_one : (block : ℕ) (stuck : List Bool) (m : Message) → get_or xs i d ≡ Some m → KnowsStuck due block (present (take i xs) ++ m ∷ []) stuck → KnowsStuck due block (present (take (i + 1) xs)) stuck
   knows_one block stuck m got knows = subst (λ l. KnowsStuck due block l stuck) (sym (one_more xs i d in_range m got)) knows
-
-pub going_ends : (due : Message → Bool) (xs : List (Option Message)) (i : ℕ) → length xs ≤ i → going due (present (take i xs)) (present (drop i xs)) ≡ []
-going_ends due xs i end = ap (λ l. going due (present (take i xs)) (present l)) (drop_of_length-le xs end)
 
 -- ---- one of the messages before a place
 

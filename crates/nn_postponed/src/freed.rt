@@ -1,4 +1,4 @@
-//! The messages that an edit set free about a block, and the pass through its queue that finds them.
+//! The messages about a block that releases would give, and the pass through its queue that finds them.
 ghost use Rattle.std.specs.Prelude.{◌≡◌, ◌≤◌, ◌++◌, ◌&&◌, not, take, length, [], ◌∷◌, IfSome, IfNone};
 ghost use Rattle.std.specs.List.{list_any};
 ghost use Rattle.nn_postponed.specs.Places.{present};
@@ -9,10 +9,10 @@ use crate::heads::same_source;
 use nn_types::{BlockId, Message, Status, due};
 use std::marker::Model;
 
-/// What releases of a block would give, one message after another, lent while all of it is held. It takes no memory,
-/// and one pass over the block's queue in all.
+/// What releases of a block would give, one message after another, while all of it is held. It takes no memory, and one
+/// pass over the block's queue in all.
 #[derive(Drop)]
-pub struct Freed<'a> {
+pub(crate) struct Freed<'a> {
     messages: &'a [Option<Message>],
     // The next place to look at.
     at: usize,
@@ -50,7 +50,7 @@ impl<'a> Freed<'a> {
     }
 
     /// The next one.
-    pub fn next(&mut self) -> Option<Message>
+    pub(crate) fn next(&mut self) -> Option<Message>
         ensures some { IfSome result (λ m. self.old ≡ m ∷ self.new) }
         ensures none { IfNone result ((self.old ≡ []) × (self.new ≡ [])) }
     {

@@ -1,24 +1,9 @@
 //! The places of a queue, and the holes among them that messages left.
-ghost use Rattle.std.specs.Prelude.{◌≡◌, ◌+◌, ◌≤◌, [], List, Some, length, map, take, drop, set, IfSome, IfNone, if◌then◌else◌};
+ghost use Rattle.std.specs.Prelude.{◌≡◌, ◌+◌, ◌≤◌, [], length, drop, set, IfSome, IfNone, if◌then◌else◌};
 ghost use Rattle.nn_types.specs.declared.report.Message.{Message};
 ghost use Rattle.nn_postponed.specs.Places.{places, present, packed, starts, EndsWith};
 
 use nn_types::Message;
-
-/// How many messages stand before this place.
-pub fn present_before(messages: &[Option<Message>], place: usize) -> usize
-    requires { place ≤ length messages.now }
-    ensures { result ≡ length (present (take place messages.now)) }
-{
-    let mut count: usize = 0;
-    for i in 0..place {
-        let Some(_) = messages[i] else {
-            continue;
-        };
-        count += 1;
-    }
-    count
-}
 
 /// Takes the last message out, and the holes behind it.
 pub fn pop_message(messages: &mut Vec<Option<Message>>) -> Option<Message>

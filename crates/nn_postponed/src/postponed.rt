@@ -5,9 +5,8 @@ ghost use Rattle.nn_types.specs.declared.report.Message.{Message};
 ghost use Rattle.nn_types.specs.declared.fault.TheConstants.{MEMORY};
 ghost use Rattle.nn_model.specs.Stands.{AreByBlock};
 ghost use Rattle.nn_postponed.specs.Queues.{queue, queued, all_queued, is_from, IsNext, HaveIds};
-ghost use Rattle.nn_postponed.specs.Release.{due_at, first_free, without_free, IsFreeAt, freed, kept};
+ghost use Rattle.nn_postponed.specs.Release.{due_at, first_free, without_free, freed};
 
-use crate::freed::Freed;
 use crate::queue::Queue;
 use crate::waiting::Waiting;
 use nn_types::{BlockId, Message, Status, fault};
@@ -39,9 +38,8 @@ const LIMIT: usize = 9223372036854775807;
 ///
 /// Each block about which messages wait has a queue of its own. A call takes O(log blocks + DataNodes of the block), in the
 /// mean over all calls where it takes a message: from time to time the messages that are left close up in one pass, and
-/// what comes next of its DataNode is looked for, past each message once for each DataNode. `due_count`, and `queue` and
-/// `freed` to their ends, are one pass over the block's queue each, `free_place` one over what stands before that place,
-/// and `drop_freed` costs what as many calls of `release` cost. A queue that has become empty leaves the map.
+/// what comes next of its DataNode is looked for, past each message once for each DataNode. `due_count`, and `queue` to its
+/// end, are one pass over the block's queue each. A queue that has become empty leaves the map.
 #[derive(Drop)]
 pub struct Postponed {
     queues: BTreeMap<BlockId, Queue>,
@@ -214,43 +212,6 @@ impl Postponed {
         }
         self.count -= 1;
         Some(message)
-    }
-
-    /// The place in the block's queue of the message that `release` would take, counted from its first message.
-    pub fn free_place(&self, block: BlockId, status: Status) -> Option<usize>
-        ensures some { IfSome result (IsFreeAt (due_at block status) (queue block self.now)) }
-        ensures none { IfNone result (first_free (due_at block status) [] self.now ≡ None) }
-    {
-        let Some(queue) = self.queues.get(&block) else {
-            return None;
-        };
-        queue.free_place(block, status)
-    }
-
-    /// What calls of `release` would give, one after another, lent while it is held. None, or nothing, where there is
-    /// none.
-    pub fn freed(&self, block: BlockId, status: Status) -> Option<Freed<'_>>
-        ensures some { IfSome result (λ f. f ≡ freed (due_at block status) [] self.now) }
-        ensures none { IfNone result (freed (due_at block status) [] self.now ≡ []) }
-    {
-        let Some(queue) = self.queues.get(&block) else {
-            return None;
-        };
-        Some(queue.freed(block, status))
-    }
-
-    /// Lets go of all that `freed` lends. Calls of `release` leave the same, and cost the same.
-    pub fn drop_freed(&mut self, block: BlockId, status: Status)
-        ensures { self.new ≡ kept (due_at block status) [] self.old }
-    {
-        let Some(queue) = self.queues.get_mut(&block) else {
-            return;
-        };
-        let gone = queue.drop_freed(block, status);
-        if queue.is_empty() {
-            let _ = self.queues.remove(&block);
-        }
-        self.count -= gone;
     }
 
     /// The least block of at least `from` about which a message is held. A caller that goes on from the id

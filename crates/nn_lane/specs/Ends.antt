@@ -61,9 +61,6 @@ counted e = e.seen
 abbrev pub StaysCounted : Taking → Taking → Type 0
 StaysCounted e e' = e'.seen ≡ e.seen
 
-abbrev pub IsClosed : Taking → Type 0
-IsClosed e = e.closed ≡ true
-
 -- ---- What the reporter's calls do.
 
 -- the report as the next message of this DataNode, which sent these

@@ -7,7 +7,6 @@ use lib.ListN.{get_elem?}
 use Rattle.nn_types.specs.declared.report.Message.{Message}
 use Rattle.nn_lane.specs.declared.view.Sender.{Sender}
 use Rattle.nn_lane.specs.declared.view.Taker.{Taker}
-use Rattle.nn_lane.specs.Ends.{LaneId, IsClosed}
 use Rattle.nn_lane.specs.Intake.{laid}
 use Rattle.nn_lane.specs.IntakeRows.{message}
 use Rattle.nn_lane.specs.Lane.{Kept, new_sender, new_taker}
@@ -199,11 +198,3 @@ not_another_in_its_slot w h = first h.left h.split (λ m. h.lies 0 m)
 -- a slot is at home, if neither end has it
 not_an_empty_slot : (w : List ℕ) → Kept 3 1 w emptied (new_sender 3) (new_taker 3) → ⊥
 not_an_empty_slot w h = let there = h.vacant 0 (omega arith) (λ q. absurd (true≢false (sym q))) (λ q. absurd (true≢false (sym q))) in let e : some none ≡ some (some there.0) = there.1 in cc
-
--- ---- Closed ends.
-
-closed_end : (l : LaneId) → IsClosed (record { lane = l; got = []; seen = 0; loads = 0; closed = true })
-closed_end l = refl
-
-open_end : (l : LaneId) → IsClosed (record { lane = l; got = []; seen = 0; loads = 0; closed = false }) → ⊥
-open_end l h = true≢false (sym h)

@@ -20,9 +20,6 @@ use Rattle.nn_segment.proofs.LogLemmas.{one_taken, one_missing, segment_taken, o
 
 -- ---- passing over
 
-pub none_passed : (last : ℕ) (txs : List Tx) → is_passed last txs ≡ false → PassesOver last txs txs
-none_passed last txs is = record { same = refl; first = is; counts_up = λ before up. (before, up) }
-
 not_next : (last : ℕ) (tx : Tx) (txs : List Tx) → is_passed last (tx ∷ txs) ≡ true → counted last (tx ∷ txs) ≡ counted last txs
 not_next last tx txs is = elim (tx.txid == last + 1) as (λ b. not b ≡ true → cond b (tx ∷ counted tx.txid txs) (counted last txs) ≡ counted last txs) [
   | true ↦ λ e. absurd (cc)
@@ -33,9 +30,6 @@ not_next last tx txs is = elim (tx.txid == last + 1) as (λ b. not b ≡ true �
 pub record Passing (last : ℕ) (old new : List Tx) : Type 0 where
   pub same : counted last old ≡ counted last new
   pub counts_up : (before : ℕ) → CountsUp before old → (from : ℕ) × CountsUp from new
-
-pub none_yet : (last : ℕ) (txs : List Tx) → Passing last txs txs
-none_yet last txs = record { same = refl; counts_up = λ before up. (before, up) }
 
 pub one_more : (last : ℕ) (old mid : List Tx) → is_passed last mid ≡ true → Passing last old mid → Passing last old (drop 1 mid)
 one_more last old [] is p = absurd (cc)
@@ -53,14 +47,6 @@ is_next last tx is = eqb-true tx.txid (last + 1) (not-false (tx.txid == last + 1
 
 next_counts : (last : ℕ) (tx : Tx) (txs : List Tx) → tx.txid ≡ last + 1 → counted last (tx ∷ txs) ≡ tx ∷ counted tx.txid txs
 next_counts last tx txs is = ap (λ b. cond b (tx ∷ counted tx.txid txs) (counted last txs)) (eq-eqb tx.txid (last + 1) is)
-
-pub one_taken_out : (last : ℕ) (old mid new : List Tx) (tx : Tx) → PassesOver last old mid → mid ≡ tx ∷ new → (tx.txid ≡ last + 1) × (counted last old ≡ tx ∷ counted tx.txid new)
-one_taken_out last old mid new tx p is =
-    let e : tx.txid ≡ last + 1 = is_next last tx (sym (ap (is_passed last) is) ∙ p.first) in
-    (e, p.same ∙ ap (counted last) is ∙ next_counts last tx new e)
-
-pub none_taken_out : (last : ℕ) (old mid : List Tx) → PassesOver last old mid → mid ≡ [] → counted last old ≡ []
-none_taken_out last old mid p is = p.same ∙ ap (counted last) is
 
 -- ---- what counts, counts
 

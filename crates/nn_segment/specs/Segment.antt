@@ -2,7 +2,8 @@
 use Rattle.std.specs.Prelude.{◌≡◌, ℕ, ◌-◌, ◌≤◌, List, [], ◌∷◌, length, drop, map, Bool, true, false, ◌==◌, ◌&&◌, ◌||◌, if◌then◌else◌, Ok, Option, Some, None, is_some}
 use Rattle.std.specs.List.{list_all}
 use Rattle.nn_types.specs.declared.edit.Edit.{Edit}
-use Rattle.nn_types.specs.declared.edit.Edit.TheVariants.{StartSegment, EndSegment, Append}
+use Rattle.nn_types.specs.declared.edit.Edit.TheVariants.{StartSegment, EndSegment, Mkdir, Add, AddBlock, UpdateBlocks, Close, Append, Rename, Delete}
+use Rattle.nn_types.specs.declared.edit.Edit.TheVariants.{SetReplication, AllocateBlockId, SetGenstamp}
 use Rattle.nn_types.specs.declared.profile.Profile.{Profile}
 use Rattle.nn_types.specs.declared.profile.Profile.TheVariants.{One, Two}
 use Rattle.nn_types.specs.declared.tx.Tx.{Tx}
@@ -29,11 +30,22 @@ start_profile _ = None
 abbrev pub is_start : Edit → Bool
 is_start edit = is_some (start_profile edit)
 
--- whether a segment of the profile may have the edit: profile 1 has no append
+-- whether a segment of the profile may have the edit: profile 1 has each operation but append
 abbrev pub allows : Profile → Edit → Bool
 allows Two edit = true
+allows One (StartSegment p) = true
+allows One EndSegment = true
+allows One (Mkdir p) = true
+allows One (Add p r) = true
+allows One (AddBlock p id s) = true
+allows One (UpdateBlocks p bs) = true
+allows One (Close p bs) = true
 allows One (Append p) = false
-allows One _ = true
+allows One (Rename p q) = true
+allows One (Delete p) = true
+allows One (SetReplication p r) = true
+allows One (AllocateBlockId id) = true
+allows One (SetGenstamp s) = true
 
 -- whether it may have all of these
 abbrev pub allows_all : Profile → List Tx → Bool

@@ -1,10 +1,7 @@
 -- What sources give.
-use Rattle.std.specs.Prelude.{◌≡◌, List, [], ◌∷◌, ◌++◌, map, Bool, true, false, Result, Ok, Err, MatchResult, Vec}
-use Rattle.std.specs.Global.{Global}
+use Rattle.std.specs.Prelude.{◌≡◌, List, [], ◌∷◌, Bool, true, false, Result, Ok}
 use Rattle.nn_segment.specs.Segment.{Segment}
 use Rattle.nn_segment.specs.declared.fault.SourceFault.{SourceFault}
-use Rattle.nn_segment.specs.declared.source.GatherFault.{GatherFault}
-use Rattle.nn_segment.specs.declared.source.GatherFault.TheVariants as gather
 use Rattle.nn_segment.specs.declared.source.Item.{Item}
 use Rattle.nn_segment.specs.declared.source.Item.TheVariants as item
 
@@ -27,22 +24,6 @@ module _ {S : Type 0} (gives : S → Answer → S → Type 0) where
   abbrev pub Asked : S → List Answer → S → Type 0
   Asked old [] new = old ≡ new
   Asked old (answer ∷ answers) new = (between : S) × gives old answer between × Asked between answers new
-
-  -- why no list was gathered: the source's fault came after segments, or memory was refused for one of them
-  abbrev pub Stopped : List Answer → GatherFault → Type 0
-  Stopped answers (gather.Source fault) = (segments : List Segment) × (answers ≡ map given segments ++ Err fault ∷ [])
-  Stopped answers gather.OutOfMemory = (segments : List Segment) × (answers ≡ map given segments)
-
-  -- the answers of the source in this call were the segments, and then End
-  abbrev pub Gathered : S → S → Result (Vec Segment Global) GatherFault → Type 0
-  Gathered old new result =
-      (answers : List Answer) × Asked old answers new × MatchResult result (λ v. answers ≡ map given v.items ++ end ∷ []) (Stopped answers)
-
--- what holds where the source failed
-abbrev pub OnSourceFault : {T : Type 0} → Result T GatherFault → Type 0 → Type 0
-OnSourceFault (Err (gather.Source fault)) P = P
-OnSourceFault (Err gather.OutOfMemory) P = Unit {0}
-OnSourceFault (Ok x) P = Unit {0}
 
 -- ---- A source in memory.
 

@@ -21,4 +21,4 @@ pub use laws::{
 pub use lines::line_end;
 pub use name::{one_name, parse_name, segment_name};
 pub use parsed::{Parsed, is_end};
-pub use source::{GatherFault, Item, MemorySource, SegmentSource, gather};
+pub use source::{Item, MemorySource, SegmentSource};

@@ -261,12 +261,26 @@ fn start_profile(edit: &Edit) -> Option<Profile>
     }
 }
 
-// Whether a segment of the profile may have the edit.
+// Whether a segment of the profile may have the edit. Each operation is named, so that a new one has to be put here.
 fn allows(profile: Profile, edit: &Edit) -> bool
     ensures { result ≡ allows profile edit.now }
 {
     match profile {
-        Profile::One => !matches!(edit, Edit::Append { .. }),
+        Profile::One => match edit {
+            Edit::StartSegment { .. }
+            | Edit::EndSegment
+            | Edit::Mkdir { .. }
+            | Edit::Add { .. }
+            | Edit::AddBlock { .. }
+            | Edit::UpdateBlocks { .. }
+            | Edit::Close { .. }
+            | Edit::Rename { .. }
+            | Edit::Delete { .. }
+            | Edit::SetReplication { .. }
+            | Edit::AllocateBlockId { .. }
+            | Edit::SetGenstamp { .. } => true,
+            Edit::Append { .. } => false,
+        },
         Profile::Two => true,
     }
 }

@@ -1,16 +1,13 @@
 //! Where segments come from.
-ghost use Rattle.std.specs.Prelude.{◌≡◌, ◌<◌, ◌≤◌, ◌++◌, ◌∷◌, [], ℕ, Result, Ok, false, IfOk, IfErr, OnOk, OnErr};
-ghost use Rattle.nn_segment.specs.Source.{is_end, Gathered, OnSourceFault};
+ghost use Rattle.std.specs.Prelude.{◌≡◌, ◌<◌, ◌≤◌, ℕ, Result, Ok, false, IfOk, OnErr};
+ghost use Rattle.nn_segment.specs.Source.{is_end};
 ghost use Rattle.nn_segment.specs.declared.fault.SourceFault.{SourceFault};
-ghost use Rattle.nn_segment.specs.declared.source.GatherFault.TheVariants.{OutOfMemory};
 ghost use Rattle.nn_segment.specs.declared.source.Item.{Item};
 
 use crate::fault::SourceFault;
 use crate::parsed::Parsed;
-use std::alloc::{AllocError, Global};
 use std::marker::Model;
 use std::vec::IntoIter;
-use thiserror::Error;
 
 /// What a source gives: one segment after another, and then its end.
 #[derive(Drop)]
@@ -90,42 +87,5 @@ impl SegmentSource for MemorySource {
             Some(segment) => Ok(Item::Segment(segment)),
             None => Ok(Item::End),
         }
-    }
-}
-
-/// Why not all segments of a source were gathered.
-#[derive(Clone, Copy, Debug, PartialEq, Eq, Error)]
-pub enum GatherFault {
-    #[error("{0}")]
-    Source(SourceFault),
-    #[error("out of memory")]
-    OutOfMemory,
-}
-
-/// The segments that a source gives up to its end. After a fault those that it gave in this call are gone.
-pub fn gather<S: SegmentSource>(alloc: Global, source: &mut S) -> Result<Vec<Parsed>, GatherFault>
-    ensures gathered { Gathered S.gives source.old source.new result }
-    ensures failed { OnSourceFault result (S.failures source.old < S.failures source.new) }
-    ensures counted { S.failures source.old ≤ S.failures source.new }
-{
-    let mut segments = Vec::new(alloc);
-    'items: loop {
-        let segment = match source.next() {
-            Ok(Item::Segment(segment)) => segment,
-            Ok(Item::End) => return Ok(segments),
-            Err(fault) => return Err(GatherFault::Source(fault)),
-        };
-        push(&mut segments, segment)?;
-    }
-}
-
-fn push(segments: &mut Vec<Parsed>, segment: Parsed) -> Result<(), GatherFault>
-    ensures ok { OnOk result (segments.new.items ≡ segments.old.items ++ segment ∷ []) }
-    ensures err { OnErr result (segments.new.items ≡ segments.old.items) }
-    ensures fault { IfErr result (λ e. e ≡ OutOfMemory) }
-{
-    match segments.push(segment) {
-        Ok(()) => Ok(()),
-        Err(_) => Err(GatherFault::OutOfMemory),
     }
 }

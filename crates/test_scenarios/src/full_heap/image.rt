@@ -1,0 +1,225 @@
+//! `save`, `load` and `rewrite`.
+use crate::full_heap::heap::Heap;
+use crate::full_heap::lines::Lines;
+use crate::full_heap::namespace;
+use crate::full_heap::scenario::{Halt, Scenario};
+use crate::full_heap::trial::{Answer, Changing, Fate, change};
+use nn_device::{Reader, Writer};
+use nn_image::{ImageFault, RewriteFault, SaveFault, load, rewrite, save};
+use nn_tree::Namespace;
+use std::alloc::Global;
+use std::mem;
+
+// What is printed for each call.
+const NAMES: [&str; 3] = ["save", "load", "rewrite"];
+
+// Room for the image.
+const ROOM: usize = 65_536;
+
+#[derive(Clone, Copy)]
+struct Save<'a> {
+    alloc: Global,
+    namespace: &'a Namespace,
+    txid: u64,
+}
+
+impl Changing for Save<'_> {
+    type Subject = Vec<u8>;
+
+    fn call(&self, image: &mut Vec<u8>) -> Answer {
+        image.clear();
+        let mut writer = Writer::new(mem::replace(image, Vec::new(self.alloc)));
+        let saved = save(self.alloc, self.namespace, self.txid, &mut writer);
+        *image = writer.into_inner();
+        match saved {
+            Ok(()) => Answer::Done,
+            Err(SaveFault::OutOfMemory) => Answer::OutOfMemory,
+            Err(_) => Answer::Other,
+        }
+    }
+
+    // What was written is a front of the whole image.
+    fn is_unchanged(&self, image: &Vec<u8>, whole: &Vec<u8>) -> bool {
+        whole.starts_with(image)
+    }
+}
+
+#[derive(Clone, Copy)]
+struct Load<'a> {
+    alloc: Global,
+    image: &'a [u8],
+}
+
+impl Load<'_> {
+    fn load(&self) -> Result<(Namespace, u64), Answer> {
+        match load(self.alloc, &mut Reader::new(self.image)) {
+            Ok(loaded) => Ok(loaded),
+            Err(ImageFault::OutOfMemory) => Err(Answer::OutOfMemory),
+            Err(_) => Err(Answer::Other),
+        }
+    }
+}
+
+impl Changing for Load<'_> {
+    type Subject = Option<(Namespace, u64)>;
+
+    fn call(&self, loaded: &mut Option<(Namespace, u64)>) -> Answer {
+        match self.load() {
+            Ok(namespace) => {
+                *loaded = Some(namespace);
+                Answer::Done
+            }
+            Err(answer) => answer,
+        }
+    }
+
+    fn is_unchanged(
+        &self,
+        loaded: &Option<(Namespace, u64)>,
+        _twin: &Option<(Namespace, u64)>,
+    ) -> bool {
+        loaded.is_none()
+    }
+}
+
+#[derive(Clone, Copy)]
+struct Rewrite<'a> {
+    alloc: Global,
+    image: &'a [u8],
+}
+
+impl Changing for Rewrite<'_> {
+    type Subject = Vec<u8>;
+
+    fn call(&self, written: &mut Vec<u8>) -> Answer {
+        written.clear();
+        let mut writer = Writer::new(mem::replace(written, Vec::new(self.alloc)));
+        let rewritten = rewrite(self.alloc, &mut Reader::new(self.image), &mut writer);
+        *written = writer.into_inner();
+        match rewritten {
+            Ok(_) => Answer::Done,
+            Err(RewriteFault::Load(ImageFault::OutOfMemory)) => Answer::OutOfMemory,
+            Err(RewriteFault::Save(SaveFault::OutOfMemory)) => Answer::OutOfMemory,
+            Err(_) => Answer::Other,
+        }
+    }
+
+    // What was written is a front of the whole image.
+    fn is_unchanged(&self, written: &Vec<u8>, whole: &Vec<u8>) -> bool {
+        whole.starts_with(written)
+    }
+}
+
+/// The image of the namespace after the scenario's first segment.
+pub fn image_of(alloc: Global, scenario: &Scenario) -> Result<Vec<u8>, Halt> {
+    let mut image = Vec::with_capacity(alloc, ROOM)?;
+    write_image(alloc, scenario, &mut image)?;
+    Ok(image)
+}
+
+fn write_image(alloc: Global, scenario: &Scenario, image: &mut Vec<u8>) -> Result<(), Halt> {
+    let namespace = scenario.after_the_first(alloc)?;
+    let save = Save {
+        alloc,
+        namespace: &namespace,
+        txid: scenario.image_txid(),
+    };
+    let answer = save.call(image);
+    drop(namespace);
+    match answer {
+        Answer::Done => Ok(()),
+        _ => Err(Halt::OutOfMemory),
+    }
+}
+
+/// Saves a namespace, and loads and rewrites its image.
+pub fn save_and_load(
+    alloc: Global,
+    is_ample: bool,
+    scenario: &Scenario,
+    lines: &mut Lines,
+) -> Result<(), Halt> {
+    let whole = image_of(alloc, scenario)?;
+    let saved = save_again(alloc, is_ample, scenario, &whole)?;
+    let loaded = load_whole(alloc, is_ample, scenario, &whole)?;
+    let rewrite = Rewrite {
+        alloc,
+        image: &whole,
+    };
+    let rewritten = write_again(alloc, is_ample, &rewrite, &whole)?;
+    lines.push(&NAMES, &[saved, loaded, rewritten])
+}
+
+fn save_again(
+    alloc: Global,
+    is_ample: bool,
+    scenario: &Scenario,
+    whole: &Vec<u8>,
+) -> Result<Fate, Halt> {
+    let namespace = scenario.after_the_first(alloc)?;
+    let save = Save {
+        alloc,
+        namespace: &namespace,
+        txid: scenario.image_txid(),
+    };
+    let saved = write_again(alloc, is_ample, &save, whole);
+    drop(namespace);
+    saved
+}
+
+// Makes a call that writes the whole image.
+fn write_again<C: Changing<Subject = Vec<u8>>>(
+    alloc: Global,
+    is_ample: bool,
+    call: &C,
+    whole: &Vec<u8>,
+) -> Result<Fate, Halt> {
+    let mut image = Vec::with_capacity(alloc, ROOM)?;
+    let mut heap = Heap::new(alloc, is_ample)?;
+    let fate = change(&mut heap, call, &mut image, whole);
+    Ok(fate.if_same(image == *whole))
+}
+
+fn load_whole(
+    alloc: Global,
+    is_ample: bool,
+    scenario: &Scenario,
+    whole: &[u8],
+) -> Result<Fate, Halt> {
+    let mut heap = Heap::new(alloc, is_ample)?;
+    let namespace = scenario.after_the_first(alloc)?;
+    let load = Load {
+        alloc,
+        image: whole,
+    };
+    let fate = load_again(&mut heap, &load, scenario, &namespace);
+    drop(namespace);
+    Ok(fate)
+}
+
+fn load_again(
+    heap: &mut Heap,
+    load: &Load<'_>,
+    scenario: &Scenario,
+    namespace: &Namespace,
+) -> Fate {
+    let mut loaded = None;
+    let fate = change(heap, load, &mut loaded, &None);
+    let is_same = is_image_of(&loaded, namespace, scenario);
+    drop(loaded);
+    fate.if_same(is_same)
+}
+
+// Whether what was loaded is this namespace, after the scenario's first segment.
+fn is_image_of(
+    loaded: &Option<(Namespace, u64)>,
+    namespace: &Namespace,
+    scenario: &Scenario,
+) -> bool {
+    match loaded {
+        Some((read, txid)) => {
+            *txid == scenario.image_txid() && namespace::are_alike(read, namespace, scenario)
+        }
+        None => false,
+    }
+}

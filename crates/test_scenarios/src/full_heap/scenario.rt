@@ -1,0 +1,147 @@
+//! The scenario that the trials play.
+use nn_edits::LineFault;
+use nn_scenario::{
+    BadLine, BadSegment, MAX_INPUT, Part, Step, StepList, read_lines, read_segments,
+};
+use nn_segment::{Parsed, SegmentFault};
+use nn_tree::Namespace;
+use nn_types::{BlockId, Tx};
+use std::alloc::{AllocError, Global};
+use std::io;
+
+/// Why the calls are not played to their end.
+#[derive(Clone, Copy)]
+pub enum Halt {
+    OutOfMemory,
+    /// The file is no scenario.
+    BadScenario,
+}
+
+impl From<Halt> for io::Error {
+    fn from(halt: Halt) -> io::Error {
+        match halt {
+            Halt::OutOfMemory => io::Error::from(io::ErrorKind::OutOfMemory),
+            Halt::BadScenario => io::Error::from(io::ErrorKind::InvalidData),
+        }
+    }
+}
+
+impl From<AllocError> for Halt {
+    fn from(_error: AllocError) -> Halt {
+        Halt::OutOfMemory
+    }
+}
+
+/// A scenario of two segments. A standby that starts from an image starts after the first.
+#[derive(Drop)]
+pub struct Scenario {
+    pub segments: Vec<Parsed>,
+    pub steps: Vec<Step>,
+    // The blocks of its messages, in their order; once for messages that follow one another.
+    pub blocks: Vec<BlockId>,
+}
+
+impl Scenario {
+    /// Reads a text.
+    pub fn read(alloc: Global, text: &[u8]) -> Result<Scenario, Halt> {
+        if text.len() > MAX_INPUT {
+            return Err(Halt::BadScenario);
+        }
+        let lines = match read_lines(alloc, text) {
+            Ok(lines) => lines,
+            Err(bad) => return Err(halt_of_line(&bad)),
+        };
+        let segments = segments_of(alloc, lines.parts)?;
+        let steps = steps_of(alloc, lines.steps)?;
+        let blocks = blocks_of(alloc, &steps)?;
+        Ok(Scenario {
+            segments,
+            steps,
+            blocks,
+        })
+    }
+
+    /// The transactions of the segment at this place, counted from 0.
+    pub fn txs(&self, place: usize) -> &[Tx] {
+        match self.segments.get(place) {
+            Some(segment) => segment.txs(),
+            None => &[],
+        }
+    }
+
+    /// The last txid of the first segment, 0 where there is none.
+    pub fn image_txid(&self) -> u64 {
+        match self.txs(0).last() {
+            Some(tx) => tx.txid.get(),
+            None => 0,
+        }
+    }
+
+    /// The namespace after the first segment.
+    pub fn after_the_first(&self, alloc: Global) -> Result<Namespace, Halt> {
+        let mut namespace = Namespace::new(alloc);
+        for tx in self.txs(0) {
+            if namespace.apply(&tx.edit).is_err() {
+                return Err(Halt::OutOfMemory);
+            }
+        }
+        Ok(namespace)
+    }
+}
+
+fn segments_of(alloc: Global, parts: Vec<Part>) -> Result<Vec<Parsed>, Halt> {
+    match read_segments(alloc, parts) {
+        Ok(segments) => Ok(segments),
+        Err(bad) => Err(halt_of_segment(&bad)),
+    }
+}
+
+fn steps_of(alloc: Global, list: StepList) -> Result<Vec<Step>, Halt> {
+    let count = list.len();
+    let mut left = list.into_steps();
+    let mut steps = Vec::new(alloc);
+    for _ in 0..count {
+        let Some(step) = left.next() else {
+            return Ok(steps);
+        };
+        if steps.push(step).is_err() {
+            return Err(Halt::OutOfMemory);
+        }
+    }
+    Ok(steps)
+}
+
+fn blocks_of(alloc: Global, steps: &[Step]) -> Result<Vec<BlockId>, Halt> {
+    let mut blocks = Vec::new(alloc);
+    for step in steps {
+        if let Step::Message(message) = step {
+            note_block(&mut blocks, message.block)?;
+        }
+    }
+    Ok(blocks)
+}
+
+// Adds the block of a message, unless the message before is about the same.
+fn note_block(blocks: &mut Vec<BlockId>, block: BlockId) -> Result<(), Halt> {
+    if blocks.last() == Some(&block) {
+        return Ok(());
+    }
+    if blocks.push(block).is_err() {
+        return Err(Halt::OutOfMemory);
+    }
+    Ok(())
+}
+
+fn halt_of_line(bad: &BadLine) -> Halt {
+    match bad.fault {
+        LineFault::OutOfMemory => Halt::OutOfMemory,
+        _ => Halt::BadScenario,
+    }
+}
+
+fn halt_of_segment(bad: &BadSegment) -> Halt {
+    match bad.fault {
+        SegmentFault::OutOfMemory => Halt::OutOfMemory,
+        _ => Halt::BadScenario,
+    }
+}

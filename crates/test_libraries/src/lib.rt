@@ -1,5 +1,5 @@
-//! Tests of the libraries' public calls that neither a scenario of nn_worked nor a script of nn_calls can state: devices
-//! that fail, large values, calls that those two do not make. They start no threads.
+//! Tests of the libraries' public calls that no scenario and no script of test_scenarios can state: devices that fail, large
+//! values, calls that test_scenarios does not make. They start no threads.
 //!
 //! Every call is proved in its own crate, and a proof says nothing of memory that never ran out: so calls are run here
 //! with ample memory. They have a crate of their own, since proving a crate's tests proves the crate once more.

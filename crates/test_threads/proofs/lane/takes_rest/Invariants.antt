@@ -1,5 +1,5 @@
 use Rattle.std.proofs.Common.{◌≡◌}
-use Rattle.nn_thread_tests.proofs.lane.takes_some.Given as goal
+use Rattle.test_threads.proofs.lane.takes_rest.Given as goal
 
 abbrev pub invariant-loop : goal.invariant-loop
 invariant-loop l = l.end.lane ≡ l.initial.end.lane

@@ -1,5 +1,5 @@
 use Rattle.nn_drive.proofs.Drives.{still_lanes, same_lanes}
-use Rattle.nn_thread_tests.proofs.drive.promote.Goals as goal
+use Rattle.test_threads.proofs.drive.promote.Goals as goal
 
 pub returns : goal.returns
 returns g c =

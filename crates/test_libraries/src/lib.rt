@@ -10,8 +10,6 @@ mod devices;
 #[cfg(test)]
 mod edits;
 #[cfg(test)]
-mod scenario;
-#[cfg(test)]
 mod segment;
 #[cfg(test)]
 mod shadow;

@@ -1,5 +1,5 @@
-//! A log whose segments overlap, as a source gives it, and one of many segments.
-use nn_segment::{Item, MemorySource, Parsed, SegmentSource, gather};
+//! A source of many segments in memory.
+use nn_segment::{Item, MemorySource, Parsed, SegmentSource};
 use std::alloc::Global;
 use std::process::Abort;
 use std::test::Fail;
@@ -11,6 +11,7 @@ const SEGMENT: &str = "{\"op\":\"OP_START_LOG_SEGMENT\",\"txid\":1}
 {\"op\":\"OP_END_LOG_SEGMENT\",\"txid\":3}
 ";
 
+// It begins in the other one, and ends behind it.
 const LATER: &str = "edits_0000000000000000002-0000000000000000004";
 
 const LATER_SEGMENT: &str = "{\"op\":\"OP_START_LOG_SEGMENT\",\"txid\":2}
@@ -18,70 +19,41 @@ const LATER_SEGMENT: &str = "{\"op\":\"OP_START_LOG_SEGMENT\",\"txid\":2}
 {\"op\":\"OP_END_LOG_SEGMENT\",\"txid\":4}
 ";
 
-// The segment of this text under a name.
-fn parsed(alloc: Global, name: &str, text: &str) -> Result<Parsed, Fail> {
+// Adds the segment of this text under a name.
+fn add(alloc: Global, segments: &mut Vec<Parsed>, name: &str, text: &str) -> Result<(), Fail> {
     let name = String::from_str(alloc, name)?;
     let bytes = text.as_bytes().to_vec(alloc)?;
     let Ok(segment) = Parsed::of(alloc, name, bytes) else {
         return Err(Fail::new("no segment"));
     };
-    Ok(segment)
-}
-
-fn add(alloc: Global, segments: &mut Vec<Parsed>, name: &str, text: &str) -> Result<(), Fail> {
-    segments.push(parsed(alloc, name, text)?)?;
+    segments.push(segment)?;
     Ok(())
 }
 
-// A segment, and one that begins in it and ends behind it.
-fn add_overlapping(alloc: Global, segments: &mut Vec<Parsed>) -> Result<(), Fail> {
-    add(alloc, segments, NAME, SEGMENT)?;
-    add(alloc, segments, LATER, LATER_SEGMENT)
-}
-
-#[test]
-fn overlapping_segments_in_order(rt: HostRuntime) -> Result<(), Fail> {
-    let mut segments = Vec::new(rt.alloc());
-    add_overlapping(rt.alloc(), &mut segments)?;
-    gives_both(&rt, rt.alloc(), &mut MemorySource::new(segments))
-}
-
-// Then it is over, also when it is asked again.
-fn gives_both(rt: &impl Abort, alloc: Global, source: &mut MemorySource) -> Result<(), Fail> {
-    let Ok(gathered) = gather(alloc, source) else {
-        return Err(Fail::new("not gathered"));
-    };
-    are_both(rt, &gathered);
-    assert!(rt; is_over(source) && is_over(source));
-    Ok(())
-}
-
+// A thousand segments come in order, also where they overlap. Then the source is over, also when it is asked again.
 #[test]
 fn a_thousand_segments(rt: HostRuntime) -> Result<(), Fail> {
     let mut segments = Vec::new(rt.alloc());
-    for _ in 0..1000 {
+    for _ in 0..500 {
         add(rt.alloc(), &mut segments, NAME, SEGMENT)?;
+        add(rt.alloc(), &mut segments, LATER, LATER_SEGMENT)?;
     }
-    gives(&rt, rt.alloc(), &mut MemorySource::new(segments), 1000)
-}
-
-fn gives(
-    rt: &impl Abort,
-    alloc: Global,
-    source: &mut MemorySource,
-    count: usize,
-) -> Result<(), Fail> {
-    let Ok(gathered) = gather(alloc, source) else {
-        return Err(Fail::new("not gathered"));
-    };
-    assert_eq!(rt; gathered.len(), count);
+    gives_all(&rt, &mut MemorySource::new(segments));
     Ok(())
 }
 
-fn are_both(rt: &impl Abort, gathered: &[Parsed]) {
-    assert_eq!(rt; gathered.len(), 2);
-    let names = [gathered[0].name(), gathered[1].name()];
-    assert_eq!(rt; names, [NAME, LATER]);
+fn gives_all(rt: &impl Abort, source: &mut MemorySource) {
+    for _ in 0..500 {
+        assert!(rt; gives(source, NAME) && gives(source, LATER));
+    }
+    assert!(rt; is_over(source) && is_over(source));
+}
+
+fn gives(source: &mut MemorySource, name: &str) -> bool {
+    match source.next() {
+        Ok(Item::Segment(segment)) => segment.name() == name,
+        _ => false,
+    }
 }
 
 fn is_over(source: &mut MemorySource) -> bool {

@@ -8,30 +8,10 @@ use std::alloc::Global;
 use std::process::Abort;
 use std::test::Fail;
 
-// The first block id that a log issues, and a generation stamp that none reaches.
+// The first block id that a log issues.
 const B: u64 = 1_073_741_825;
 
-const FAR: u64 = 9_223_372_036_854_775_807;
-
 // A test owns its standby and lends it to the checks: whoever owns one shows at each of its exits that it is dropped.
-
-#[test]
-fn future_report_flushed(rt: HostRuntime) -> Result<(), Fail> {
-    let mut shadow = fresh(rt.alloc())?;
-    the_flush_takes_up_what_is_held(&rt, &mut shadow);
-    Ok(())
-}
-
-// Then nothing comes in any more, and a second flush has nothing to do.
-fn the_flush_takes_up_what_is_held(rt: &impl Abort, shadow: &mut Shadow) {
-    let told = [
-        hand(shadow, received(1, 1, B, FAR)),
-        flushed(shadow),
-        flushed(shadow),
-        hand(shadow, deleted(1, 2, B)),
-    ];
-    assert_eq!(rt; told, [0, 1, 0, 53]);
-}
 
 // An edit that does not apply stops the standby for good.
 #[test]
@@ -59,17 +39,19 @@ fn numbers_without_a_gap(rt: HostRuntime) -> Result<(), Fail> {
     Ok(())
 }
 
+// Behind a flush nothing is taken, and a second flush has nothing to do.
 fn each_datanode_counts_from_1(rt: &impl Abort, shadow: &mut Shadow) {
     for (dn, number, fault) in [(0, 1, 56), (3, 1, 56), (1, 2, 58), (1, 1, 0), (1, 1, 58)] {
         let done = hand(shadow, received(dn, number, B, 1001));
         assert_eq!(rt; done, fault, "{number} of {dn}");
     }
-    let last = [
-        shadow.last_number(1),
-        shadow.last_number(2),
-        shadow.last_txid(),
+    let told = [
+        flushed(shadow),
+        flushed(shadow),
+        hand(shadow, received(1, 2, B, 1001)),
     ];
-    assert_eq!(rt; last, [1, 0, 0]);
+    assert_eq!(rt; told, [1, 0, 53]);
+    assert_eq!(rt; [shadow.last_number(1), shadow.last_number(2)], [1, 0]);
 }
 
 // ---- Steps.
@@ -132,19 +114,6 @@ fn received(dn: u16, number: u64, block: u64, generation: u64) -> Message
         stamp: stamp(generation),
         len: Length::new(5).unwrap(),
         kind: Kind::Received,
-    }
-}
-
-fn deleted(dn: u16, number: u64, block: u64) -> Message
-    requires { block < 2 ^ 63 }
-{
-    Message {
-        dn,
-        number,
-        block: id(block),
-        stamp: stamp(0),
-        len: Length::new(0).unwrap(),
-        kind: Kind::Deleted,
     }
 }
 

@@ -3,11 +3,12 @@ ghost use Rattle.std.specs.Prelude.{◌≡◌, IfSome};
 ghost use Rattle.nn_tailer.specs.Public.{AreNew};
 ghost use Rattle.nn_drive.specs.Driven.{AreLanes};
 
-use crate::sources::{AT_ANY_TIME, FailsOnce, Pace, Waiting, new_watched};
-use crate::values::{FIRST, Shared, TWO_MARKS, Text, log_of, report_of};
+use crate::sources::{AT_ANY_TIME, FailsOnce, Pace, Waiting, Watched, new_watched};
+use crate::values::{FIRST, Shared, TWO_MARKS, TWO_MORE, Text, log_of, report_of};
 use nn_device::Reader;
 use nn_drive::{ReportSource, drive, with_lanes};
 use nn_lane::{LaneEnd, Reporter};
+use nn_segment::Parsed;
 use nn_tailer::Standby;
 use nn_types::Settings;
 use std::alloc::Global;
@@ -15,11 +16,6 @@ use std::process::Abort;
 use std::sync::atomic::Ordering;
 use std::sync::{Arc, Wait};
 use std::thread::Threads;
-
-const TWO_MORE: Text = (
-    "edits_0000000000000000003-0000000000000000004",
-    "{\"op\":\"OP_START_LOG_SEGMENT\",\"txid\":3}\n{\"op\":\"OP_END_LOG_SEGMENT\",\"txid\":4}\n",
-);
 
 // A drive, and what comes of it.
 #[derive(Clone, Copy)]
@@ -201,7 +197,8 @@ fn ends<R: Abort + Threads + Wait + Sync>(rt: &R, alloc: Global, driven: &Driven
     assert_eq!(rt; (came, vain, held), (driven.came, 0, 1), "{name}");
 }
 
-// What a drive comes to. A lane holds two reports.
+// What a drive comes to. A lane holds two reports. The standby is made last: each exit that drops one costs the proof
+// seconds.
 fn end_of<R: Threads + Wait + Sync>(
     rt: &R,
     alloc: Global,
@@ -209,26 +206,25 @@ fn end_of<R: Threads + Wait + Sync>(
     shared: &Arc<Shared, Global>,
 ) -> Option<Result<(u64, u64), u8>> {
     let sources = sources_of(alloc, driven, shared)?;
+    let log = new_watched(alloc, shared, driven.log, driven.fails_at, driven.pace)?;
     let (workers, mut standby) = laned(alloc, sources, 2, None, driven.before)?;
     begin(&workers, &mut standby, driven.closed);
-    end_over(rt, alloc, driven, shared, workers, standby)
+    Some(end_over(rt, alloc, workers, standby, log))
 }
 
-// What a drive of this standby comes to over its log.
+// What a drive of this standby comes to over this log.
 fn end_over<R: Threads + Wait + Sync>(
     rt: &R,
     alloc: Global,
-    driven: &Driven,
-    shared: &Arc<Shared, Global>,
     workers: Vec<(Waiting, Reporter)>,
     standby: Standby,
-) -> Option<Result<(u64, u64), u8>>
+    log: Watched,
+) -> Result<(u64, u64), u8>
     requires { AreLanes workers.items standby.ends }
 {
-    let log = new_watched(alloc, shared, driven.log, driven.fails_at, driven.pace)?;
     match drive(rt, alloc, standby, log, workers) {
-        Ok((_shadow, active)) => Some(Ok((active.last, active.flushed))),
-        Err(fault) => Some(Err(fault.number())),
+        Ok((_shadow, active)) => Ok((active.last, active.flushed)),
+        Err(fault) => Err(fault.number()),
     }
 }
 
@@ -308,23 +304,24 @@ pub fn laned<S: ReportSource + Drop>(
     if sources.len() > 256 || capacity == 0 || capacity > 1024 {
         return None;
     }
+    let log = log_of(alloc, before)?;
     let Ok((workers, ends)) = with_lanes(alloc, sources, capacity) else {
         return None;
     };
     let mut standby = standby_over(alloc, ends, image)?;
-    promote(alloc, &workers, &mut standby, before)?;
+    promote(&workers, &mut standby, log);
     Some((workers, standby))
 }
 
-/// A standby over these ends, which starts from the image, if there is one.
-pub fn standby_over(alloc: Global, ends: Vec<LaneEnd>, image: Option<&[u8]>) -> Option<Standby>
+// A standby over these ends, which starts from the image, if there is one.
+fn standby_over(alloc: Global, ends: Vec<LaneEnd>, image: Option<&[u8]>) -> Option<Standby>
     requires { AreNew 1 ends.items }
     ensures { IfSome result (λ s. s.ends ≡ ends.items) }
 {
     if ends.is_empty() || ends.len() > 256 {
         return None;
     }
-    let settings = Settings::new(999, 1)?;
+    let settings = Settings::new(999, 1).unwrap();
     let Some(image) = image else {
         return Standby::new(alloc, ends, settings).ok();
     };
@@ -333,21 +330,15 @@ pub fn standby_over(alloc: Global, ends: Vec<LaneEnd>, image: Option<&[u8]>) -> 
 
 // Closes the lanes of these workers, and promotes their standby over this log, unless the log stops it. For a log of no
 // segment it does nothing.
-fn promote<S: ReportSource>(
-    alloc: Global,
-    workers: &Vec<(S, Reporter)>,
-    standby: &mut Standby,
-    log: &[Text],
-) -> Option<()>
+fn promote<S: ReportSource>(workers: &Vec<(S, Reporter)>, standby: &mut Standby, log: Vec<Parsed>)
     requires { AreLanes workers.now.items standby.old.ends }
     ensures { AreLanes workers.now.items standby.new.ends }
 {
     let _ = workers;
     if log.is_empty() {
-        return Some(());
+        return;
     }
-    let mut log = FailsOnce::new(log_of(alloc, log)?, u64::MAX);
+    let mut log = FailsOnce::new(log, u64::MAX);
     standby.close_intake();
     let _ = standby.promote(&mut log);
-    Some(())
 }

@@ -1,5 +1,5 @@
-//! Tests of what no clause says: lanes, feeds, drives and services between threads, a standby call by call, and the program on devices
-//! that fail and on large inputs.
+//! Tests of what no clause says: lanes, feeds, drives and services between threads, and the program on devices that fail and
+//! on large inputs.
 #![tactic(auto)]
 
 #[cfg(test)]
@@ -14,7 +14,5 @@ mod program;
 mod serve;
 #[cfg(test)]
 mod sources;
-#[cfg(test)]
-mod standby;
 #[cfg(test)]
 mod values;

@@ -2,7 +2,7 @@
 use crate::values::Shared;
 use nn_command::{NoArguments, serve};
 use nn_device::{Reader, Writer};
-use nn_engine::{Gate, Open, Options, RunFault, ThreadOptions, output_of, run, run_threads};
+use nn_engine::{Gate, Open, Options, RunFault, ThreadOptions, run, run_threads};
 use nn_scenario::MAX_INPUT;
 use nn_types::Settings;
 use std::alloc::Global;
@@ -246,7 +246,6 @@ fn stops_at<R: Abort + Threads + Wait + Sync>(
     fails: bool,
     threads: bool,
 ) -> Option<u8> {
-    let mut input = Reader::new(LINES);
     let mut writer = Writer::new(Stopping {
         got: Vec::new(alloc),
         writes: 0,
@@ -254,21 +253,30 @@ fn stops_at<R: Abort + Threads + Wait + Sync>(
         fails,
     });
     let (status, written) = if threads {
+        let mut input = Reader::new(LINES);
         let status = run_by_threads(rt, alloc, &usual_options(), &mut input, &mut writer);
         (status, None)
     } else {
-        match run(alloc, &usual_options(), &mut input, &mut writer) {
-            Ok(end) => (Some(end.status), Some(LISTING.len() as u64)),
-            Err(RunFault::WriteFailed { written }) => (None, Some(written)),
-            Err(RunFault::OutOfMemory { .. }) => (None, None),
-        }
+        run_to(alloc, &mut writer)
     };
-    let writer = writer.into_inner();
-    assert!(rt; LISTING.starts_with(&writer.got));
-    if let Some(written) = written {
-        assert_eq!(rt; writer.got.len() as u64, written);
-    }
+    is_front(rt, &writer.into_inner().got, written);
     status
+}
+
+// The status of a run, and how many bytes it says that it wrote.
+fn run_to(alloc: Global, writer: &mut Writer<Stopping>) -> (Option<u8>, Option<u64>) {
+    match run(alloc, &usual_options(), &mut Reader::new(LINES), writer) {
+        Ok(end) => (Some(end.status), Some(LISTING.len() as u64)),
+        Err(RunFault::WriteFailed { written }) => (None, Some(written)),
+        Err(RunFault::OutOfMemory { .. }) => (None, None),
+    }
+}
+
+fn is_front(rt: &impl Abort, got: &[u8], written: Option<u64>) {
+    assert!(rt; LISTING.starts_with(got));
+    if let Some(written) = written {
+        assert_eq!(rt; got.len() as u64, written);
+    }
 }
 
 // ---- Sizes.
@@ -378,35 +386,29 @@ fn prints(rt: &impl Abort, alloc: Global, long: &Long) {
     let (text, status) = printed(alloc, &usual_options(), input.as_slice());
     assert!(rt; text.starts_with(long.want.as_bytes()), "at {}", long.bytes);
     assert_eq!(rt; status, long.status);
-    let (same, status) = printed_without_devices(alloc, input);
-    assert!(rt; same == text && status == long.status, "at {}", long.bytes);
-}
-
-fn printed_without_devices(alloc: Global, input: Vec<u8>) -> (Vec<u8>, u8) {
-    if input.len() > MAX_INPUT {
-        return (Vec::new(alloc), 9);
-    }
-    match output_of(alloc, usual_options(), input) {
-        Ok(output) => (output.text, output.status),
-        Err(_) => (Vec::new(alloc), 9),
-    }
 }
 
 fn text_of(alloc: Global, long: &Long) -> Option<Vec<u8>> {
     let mut bytes = Vec::new(alloc);
+    push_lines(alloc, &mut bytes, long)?;
+    Some(bytes)
+}
+
+fn push_lines(alloc: Global, bytes: &mut Vec<u8>, long: &Long) -> Option<()> {
     let start = "{\"op\":\"OP_START_LOG_SEGMENT\",\"txid\":1}";
-    push_padded(&mut bytes, start, long.width)?;
+    push_padded(bytes, start, long.width)?;
     for n in 2..long.lines {
         bytes.push(b'\n').ok()?;
-        let line = format!(in alloc;
-            "{{\"op\":\"OP_MKDIR\",\"path\":\"/d{n}\",\"txid\":{n}}}"
-        ).ok()?;
-        push_padded(&mut bytes, line.as_str(), long.width)?;
+        push_directory(alloc, bytes, n, long.width)?;
     }
     bytes.push(b'\n').ok()?;
     let line = format!(in alloc; "{{{},\"txid\":{}}}", long.last, long.lines).ok()?;
-    push_padded(&mut bytes, line.as_str(), long.last_width)?;
-    Some(bytes)
+    push_padded(bytes, line.as_str(), long.last_width)
+}
+
+fn push_directory(alloc: Global, bytes: &mut Vec<u8>, n: u64, width: usize) -> Option<()> {
+    let line = format!(in alloc; "{{\"op\":\"OP_MKDIR\",\"path\":\"/d{n}\",\"txid\":{n}}}").ok()?;
+    push_padded(bytes, line.as_str(), width)
 }
 
 // Adds a line that is padded with spaces to so many bytes.
@@ -475,35 +477,56 @@ fn counted(alloc: Global, input: &[u8], fail_at: u64) -> Result<(u64, u64), (u64
 // A scenario that nests directories: seven make a short chain, to whose end a rename moves the long one, so many times.
 fn nested(alloc: Global, moves: u64) -> Option<Vec<u8>> {
     let mut text = Vec::new(alloc);
-    push_edit(alloc, &mut text, 1, "OP_START_LOG_SEGMENT", "")?;
-    push_edit(alloc, &mut text, 2, "OP_MKDIR", "\"path\":\"/a\",")?;
+    push_moves(alloc, &mut text, moves)?;
+    Some(text)
+}
+
+fn push_moves(alloc: Global, text: &mut Vec<u8>, moves: u64) -> Option<()> {
+    push_edit(alloc, text, 1, "OP_START_LOG_SEGMENT", "")?;
+    push_edit(alloc, text, 2, "OP_MKDIR", "\"path\":\"/a\",")?;
     let mut txid = 2u64;
     let mut top = "a";
     let mut other = "b";
     for _ in 0..moves {
-        txid = push_move(alloc, &mut text, txid, top, other)?;
+        txid = push_move(alloc, text, txid, top, other)?;
         (top, other) = (other, top);
     }
-    let last = txid.saturating_add(1);
-    push_edit(alloc, &mut text, last, "OP_END_LOG_SEGMENT", "")?;
-    Some(text)
+    push_edit(
+        alloc,
+        text,
+        txid.saturating_add(1),
+        "OP_END_LOG_SEGMENT",
+        "",
+    )
 }
 
 // Adds one move of the directory `top` behind seven directories of the other name, and answers its txid.
 fn push_move(alloc: Global, text: &mut Vec<u8>, txid: u64, top: &str, other: &str) -> Option<u64> {
-    let mut txid = txid;
     let mut path = String::new(alloc);
+    let txid = push_chain(alloc, text, txid, other, &mut path)?;
+    let members = format!(in alloc; "\"src\":\"/{top}\",\"dst\":\"{path}/{top}\",");
+    drop(path);
+    push_edit(alloc, text, txid, "OP_RENAME", members.ok()?.as_str())?;
+    Some(txid)
+}
+
+// Adds the seven directories, and answers the txid behind them.
+fn push_chain(
+    alloc: Global,
+    text: &mut Vec<u8>,
+    txid: u64,
+    name: &str,
+    path: &mut String,
+) -> Option<u64> {
+    let mut txid = txid;
     for _ in 0..7 {
         txid = txid.saturating_add(1);
         path.push('/').ok()?;
-        path.push_str(other).ok()?;
+        path.push_str(name).ok()?;
         let members = format!(in alloc; "\"path\":\"{path}\",").ok()?;
         push_edit(alloc, text, txid, "OP_MKDIR", members.as_str())?;
     }
-    txid = txid.saturating_add(1);
-    let members = format!(in alloc; "\"src\":\"/{top}\",\"dst\":\"{path}/{top}\",").ok()?;
-    push_edit(alloc, text, txid, "OP_RENAME", members.as_str())?;
-    Some(txid)
+    Some(txid.saturating_add(1))
 }
 
 fn push_edit(alloc: Global, text: &mut Vec<u8>, txid: u64, op: &str, members: &str) -> Option<()> {

@@ -2,13 +2,13 @@
 //! are of one block, which only the log of the last test names.
 use crate::drive::laned;
 use crate::sources::{AT_ANY_TIME, FailsOnce, Pace, Watched, new_watched};
-use crate::standby::shown;
-use crate::values::{FIRST, Shared, TWO_MARKS, Text, log_of, report_of};
+use crate::values::{FIRST, Shared, TWO_MARKS, TWO_MORE, Text, log_of, report_of};
 use nn_device::Writer;
 use nn_drive::{
     Left, Operator, ReportSource, Running, Served, Unattended, Unfed, Unserved, Wish, serve,
 };
 use nn_lane::Refusal;
+use nn_listing::{listing, push_tables};
 use nn_shadow::Shadow;
 use nn_tailer::Standby;
 use nn_types::Report;
@@ -17,11 +17,6 @@ use std::process::Abort;
 use std::sync::atomic::Ordering;
 use std::sync::{Arc, Wait};
 use std::thread::Threads;
-
-const TWO_MORE: Text = (
-    "edits_0000000000000000003-0000000000000000004",
-    "{\"op\":\"OP_START_LOG_SEGMENT\",\"txid\":3}\n{\"op\":\"OP_END_LOG_SEGMENT\",\"txid\":4}\n",
-);
 
 const MAKES_A_FILE: Text = (
     "edits_0000000000000000001-0000000000000000005",
@@ -419,7 +414,7 @@ fn operator_of(service: &Service, shared: &Arc<Shared, Global>) -> Option<Until>
     })
 }
 
-// The answer of `serve`, over a new standby or one that starts from this image.
+// The answer of `serve`, over a new standby or one that starts from this image. The standby is made last.
 fn served<'a, O: Operator, R: Threads + Wait + Copy + Send + Drop + 'static>(
     rt: &'a R,
     alloc: Global,
@@ -428,9 +423,9 @@ fn served<'a, O: Operator, R: Threads + Wait + Copy + Send + Drop + 'static>(
     image: Option<&[u8]>,
     operator: &mut O,
 ) -> Option<Result<Served<DataNode>, Unserved<'a, Watched, DataNode, R>>> {
+    let log = new_watched(alloc, shared, service.log, service.fails_at, service.pace)?;
     let nodes = data_nodes(alloc, service, shared)?;
     let (workers, standby) = laned(alloc, nodes, service.capacity, image, service.before)?;
-    let log = new_watched(alloc, shared, service.log, service.fails_at, service.pace)?;
     Some(serve(rt, alloc, standby, log, workers, operator))
 }
 
@@ -627,4 +622,11 @@ fn tables_of<O: Operator, R: Threads + Wait + Copy + Send + Drop + 'static>(
     let answer = served(rt, alloc, &WITH_A_FILE, shared, image, operator)?;
     let promoted = answer.ok()?;
     shown(alloc, &promoted.shadow)
+}
+
+// What a standby shows, as text.
+fn shown(alloc: Global, shadow: &Shadow) -> Option<String> {
+    let mut text = listing(alloc, shadow.namespace(), shadow.last_txid()).ok()?;
+    push_tables(alloc, &mut text, shadow.replicas(), shadow.safe_mode()).ok()?;
+    Some(text)
 }

@@ -34,6 +34,12 @@ pub const TWO_MARKS: Text = (
     "{\"op\":\"OP_START_LOG_SEGMENT\",\"txid\":1}\n{\"op\":\"OP_END_LOG_SEGMENT\",\"txid\":2}\n",
 );
 
+/// And two more behind them.
+pub const TWO_MORE: Text = (
+    "edits_0000000000000000003-0000000000000000004",
+    "{\"op\":\"OP_START_LOG_SEGMENT\",\"txid\":3}\n{\"op\":\"OP_END_LOG_SEGMENT\",\"txid\":4}\n",
+);
+
 /// The segments of these names and texts.
 pub fn log_of(alloc: Global, texts: &[Text]) -> Option<Vec<Parsed>> {
     let mut segments = Vec::new(alloc);

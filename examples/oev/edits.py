@@ -1,6 +1,6 @@
 """What becomes of each record of a log: the edits of this project that it stands for, none, or a refusal.
 
-docs/FORMATS.md has the same as a table. What a record means depends on what exists, so each function here is given the
+docs/HDFS.md has the same as a table. What a record means depends on what exists, so each function here is given the
 tree beside the record. It answers edits as dictionaries of a line's members, and changes nothing.
 """
 from formats import Refused, check_path

@@ -47,6 +47,18 @@ pub struct PathRow {
     pub form: Form,
 }
 
+impl PathRow {
+    /// The text of the path. It may go past the limits of a `Path`, as the names may.
+    pub fn text(&self, alloc: Global) -> Result<String, AllocError>
+        ensures { IfOk result (λ text. string_bytes text ≡ path_text (names_of self.now.names.items)) }
+    {
+        if self.names.is_empty() {
+            return String::from_str(alloc, "/");
+        }
+        joined(alloc, &self.names)
+    }
+}
+
 /// How large a listing is. A count that would pass `usize::MAX` stays there.
 #[derive(Clone, Copy, Debug, PartialEq, Eq)]
 pub struct Extent {
@@ -133,6 +145,18 @@ fn copied(alloc: Global, names: &[&str]) -> Result<Vec<String>, AllocError>
         copy.push(String::from_str(alloc, name)?)?;
     }
     Ok(copy)
+}
+
+// A slash before each name.
+fn joined(alloc: Global, names: &[String]) -> Result<String, AllocError>
+    ensures { IfOk result (λ text. string_bytes text ≡ joined (names_of names.now)) }
+{
+    let mut text = String::new(alloc);
+    for name in names {
+        text.push('/')?;
+        text.push_str(name.as_str())?;
+    }
+    Ok(text)
 }
 
 /// Adds the text of the path with these names. Where memory is refused nothing is said of how much of it stands in the text.

@@ -19,6 +19,9 @@ const ABOUT: &str =
     "Reads a scenario of edit lines and messages, one JSON object a line, from standard input, and \
 prints the namespace that it leaves, the replicas and orders, and the counts of safe mode.";
 
+// A scenario is no argument: its file is standard input.
+const USAGE: &str = "nn_standby [OPTIONS] < SCENARIO";
+
 const PERMILLE: &str =
     "How many blocks of each thousand have to be safe before safe mode ends, 0 to 1000.";
 
@@ -117,6 +120,7 @@ fn settings_command<'a>(alloc: Global) -> Result<Command<'a>, Error>
     let command = Command::new(alloc, "nn_standby")
         .version(VERSION)
         .about(ABOUT)
+        .override_usage(USAGE)
         .arg(valued(alloc, "permille", permille, "999", PERMILLE))?
         .arg(valued(alloc, "min", min, "1", MIN))?;
     Ok(command)

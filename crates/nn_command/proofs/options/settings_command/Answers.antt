@@ -10,7 +10,7 @@ unfolding settings_line
 returns c =
     let first : c.range-permille.result ≡ Signed (pos 0) (pos 1000) = search rules in
     let second : c.range-min.result ≡ Signed (pos 1) (pos 512) = search rules in
-    let start : app_of c.about.result ≡ the_program = search rules in
+    let start : app_of c.override_usage.result ≡ the_program = search rules in
     let permille : rule_of c.valued.result ≡ value_rule (codes "permille") c.range-permille.result (codes "999") = search rules in
     let min : rule_of c.valued-2.result ≡ value_rule (codes "min") c.range-min.result (codes "1") = search rules in
     c.in_ok-command.ensures.shape (search rules)

@@ -1,13 +1,13 @@
 //! The image and the scenario that a reader gives.
-ghost use Rattle.std.specs.Prelude.{◌≡◌, ◌≤◌, false, true, length, IfOk, IfErr, OnOk};
+ghost use Rattle.std.specs.Prelude.{◌≡◌, false, true, length, IfOk, IfErr, OnOk};
 ghost use Rattle.std.specs.Io.KnownBytes.{IsAtEnd};
-ghost use Rattle.nn_scenario.specs.Scenario.{max_input, seen, IsLawfulScenario};
-ghost use Rattle.nn_engine.specs.Input.{IsRead, IsReadOfAll, IsScenarioOfAll, IsUnread};
+ghost use Rattle.nn_scenario.specs.Scenario.{seen, IsLawfulScenario};
+ghost use Rattle.nn_engine.specs.Input.{IsReadOfAll, IsScenarioOfAll, IsUnread};
 
 use nn_device::Reader;
 use nn_edits::Scratch;
 use nn_front::Front;
-use nn_scenario::{BadLine, Lines, MAX_INPUT, Scenario, read_lines};
+use nn_scenario::{BadLine, Lines, MAX_INPUT, Scenario};
 use std::alloc::{AllocError, Global};
 use std::io::Read;
 use thiserror::Error;
@@ -133,27 +133,6 @@ fn read_behind_image<R: Read>(
         lines.push(alloc, &mut scratch, &buffer[at..n]);
         taken += n - at;
     }
-}
-
-/// The same of an input in memory.
-pub(crate) fn parts_of(
-    alloc: Global,
-    from_image: bool,
-    input: &[u8],
-) -> Result<InputParts, AllocError>
-    requires { length input.now ≤ max_input }
-    ensures is { IfOk result (IsRead from_image input.now) }
-    ensures lawful { IfOk result (λ r. IfOk r.lines (λ s. IsLawfulScenario (seen s))) }
-{
-    if !from_image {
-        let lines = read_lines(alloc, input);
-        return Ok(InputParts { image: None, lines });
-    }
-    let mut front = Front::new(alloc);
-    let at = front.push(alloc, input)?;
-    let image = front.end()?;
-    let lines = read_lines(alloc, &input[at..]);
-    Ok(InputParts { image, lines })
 }
 
 // The size is a parameter so that no proof has to look at the buffer's cells one by one.

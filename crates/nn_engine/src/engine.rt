@@ -1,5 +1,5 @@
 //! A run: from a reader's bytes to a writer's.
-ghost use Rattle.std.specs.Prelude.{◌≡◌, ◌≢◌, ◌≤◌, ◌<◌, ◌^◌, ◌++◌, ℕ, List, false, length, codes, Result, Ok, IfOk, IfErr, OnOk, string_bytes};
+ghost use Rattle.std.specs.Prelude.{◌≡◌, ◌≢◌, ◌<◌, ◌^◌, ◌++◌, ℕ, List, false, codes, Result, Ok, IfOk, IfErr, OnOk, string_bytes};
 ghost use Rattle.nn_edits.specs.Fault.{number_of as line_number_of};
 ghost use Rattle.nn_model.specs.Items.{items};
 ghost use Rattle.nn_model.specs.Lanes.{Lanes};
@@ -18,10 +18,10 @@ ghost use Rattle.nn_engine.specs.Rest.{first_line};
 ghost use Rattle.nn_engine.specs.Run.{Wrote, WroteFront, running, unread_line};
 ghost use Rattle.nn_listing.specs.Tables.{tables_text};
 ghost use Rattle.nn_scenario.specs.Chunks.{IsReadAs};
-ghost use Rattle.nn_scenario.specs.Scenario.{max_input, seen, IsLawfulScenario};
+ghost use Rattle.nn_scenario.specs.Scenario.{seen, IsLawfulScenario};
 ghost use Rattle.nn_engine.specs.Shown.{history_part, shown, with_settings, IsFaultOf, IsToldOf};
 
-use crate::device::{InputFault, InputParts, parts_of, read_parts};
+use crate::device::{InputFault, InputParts, read_parts};
 use crate::follow::{FollowFault, follow};
 use crate::image::push_image;
 use crate::output::{Output, RunEnd, RunFault, finish, finish_output};
@@ -61,11 +61,11 @@ const UNREADABLE: &[u8] = b"fault 8\n";
 pub(crate) const OUT_OF_MEMORY: &[u8] = b"fault 55\n";
 
 /// The bytes of a listing, as `listing_bytes` counts them, above which it is made as it is written: 256 MiB.
-pub const MAX_IN_MEMORY: usize = 268_435_456;
+const MAX_IN_MEMORY: usize = 268_435_456;
 
 /// Reads an input to its end and writes the listing of its scenario, or one fault line and nothing else. Nothing is written
 /// before the log has ended. An output is made before its first byte is written; but where the listing has more than
-/// `MAX_IN_MEMORY` bytes, its paths and the image are written as they are made. Where the input begins with an image, that
+/// 268,435,456 bytes, its paths and the image are written as they are made. Where the input begins with an image, that
 /// is read first: the standby starts from it, passes over the transactions up to the image's, and applies those above.
 ///
 /// `fault 8` says that a read failed, or that the scenario has more than 16,777,216 bytes. A reader that has not ended after
@@ -105,19 +105,8 @@ pub(crate) fn unread_line(fault: InputFault) -> &'static [u8]
     }
 }
 
-/// The output of an input: the same for the same bytes, and no other. It knows of no reader, so that neither `fault 8`
-/// nor `fault 55` is among its lines; where memory runs out there is no output. The input is dropped once its lines are
-/// read.
-pub fn output_of(alloc: Global, options: Options, input: Vec<u8>) -> Result<Output, AllocError>
-    requires { length input.items ≤ max_input }
-    ensures { IfOk result (λ o. IsPrinted false options input.items (shown o)) }
-{
-    let parts = parts_of(alloc, options.from_image, &input)?;
-    drop(input);
-    output_of_parts(alloc, options, parts)
-}
-
-// The output of an input whose lines were read.
+// The output of an input whose lines were read: the same for the same bytes, and no other. It knows of no reader, so that
+// neither `fault 8` nor `fault 55` is among its lines; where memory runs out there is no output.
 fn output_of_parts(alloc: Global, options: Options, parts: InputParts) -> Result<Output, AllocError>
     requires { IfOk parts.lines (λ s. IsLawfulScenario (seen s)) }
     ensures { (input : List ℕ) → IsRead options.from_image input parts → IfOk result (λ o. IsPrinted false options input (shown o)) }

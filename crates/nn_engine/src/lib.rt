@@ -16,7 +16,7 @@ mod start;
 mod threads;
 
 pub use device::{InputFault, read_scenario};
-pub use engine::{MAX_IN_MEMORY, Options, output_of, run};
+pub use engine::{Options, run};
 pub use gate::{Gate, Open};
 pub use law::a_checkpoint_prints_the_same;
 pub use output::{Output, RunEnd, RunFault};

@@ -111,7 +111,7 @@ impl ReportSource for DataNode {
 }
 
 /// Writes a checkpoint after each segment. Takes over at the transaction, once enough blocks are safe: it fences the active
-/// NameNode, which ends the log, and wishes the promotion.
+/// NameNode, which ends the log, and asks for the promotion.
 #[derive(Drop)]
 pub struct Failover {
     alloc: Global,

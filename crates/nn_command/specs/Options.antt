@@ -60,7 +60,7 @@ pub record AreReadAs (first second third : Option Text) (settings : Threshold) :
   pub lawful : AreSettings settings.permille settings.min
   pub capacity : (n : ℕ) × IsCapacity third n
 
--- the arguments ask for these settings, by the texts behind the names or by their defaults
+-- the arguments ask for these settings, by the texts after the names or by their defaults
 abbrev pub AskFor : List Text → Threshold → Type 0
 AskFor arguments = AreReadAs (one_of (codes "permille") (matches_of command_line arguments)) (one_of (codes "min") (matches_of command_line arguments)) (one_of (codes "capacity") (matches_of command_line arguments))
 
@@ -69,7 +69,7 @@ abbrev pub IsFlag : Option Text → Bool → Type 0
 IsFlag None set = set ≡ false
 IsFlag (Some text) set = (text ≡ codes "true" → set ≡ true) × (text ≡ codes "false" → set ≡ false)
 
--- beside the settings, the texts behind the names are this request
+-- beside the settings, the texts after the names are this request
 pub record IsRequest (text_of : Text → Option Text) (r : Request) : Type 0 where
   pub places : IsCapacity (text_of (codes "capacity")) r.capacity
   pub by_threads : IsFlag (text_of (codes "threads")) r.threads

@@ -69,7 +69,7 @@ Writes old new text status ended = (Took old new text × (ended ≡ status)) ⊎
 abbrev pub memory_line : List ℕ
 memory_line = codes "fault 55" ++ newline ∷ []
 
--- the output, and the status that goes with it; or a front of it, and the status 1
+-- the output, and the status that goes with it; or a prefix of it, and the status 1
 abbrev pub EndsWith : Given → Writing → Writing → ℕ → Type 0
 EndsWith given output output' ended = Wrote given output output' ended ⊎ ((fault : RunFault) × WroteFront given output output' fault × (ended ≡ 1))
 
@@ -89,7 +89,7 @@ Helps s ended = (text : List ℕ) × Tells text s ended
 abbrev pub version_line : List ℕ
 version_line = codes "nn_standby " ++ VERSION.now ++ newline ∷ []
 
--- a message beside the output, all of it or a front, and nothing was read
+-- a message beside the output, all of it or a prefix, and nothing was read
 abbrev pub Refuses : Streams → ℕ → Type 0
 Refuses s ended =
     ((text : List ℕ) × (Took s.errors s.errors' text ⊎ ((n : ℕ) × FailedToWrite s.errors s.errors' text n))) × (ended ≡ 2) × (s.output' ≡ s.output) × (s.after ≡ s.before)

@@ -23,7 +23,7 @@ use Rattle.nn_command.specs.Program.{Streams, Serves, AreTaken, Writes, Runs, He
 sixty_four : ReadsAs (Some (codes "64")) 64
 sixty_four = ((omega arith, (lit< tt, (lit< tt, tt))), refl)
 
--- zeros in front and a plus count nothing
+-- leading zeros and a plus count nothing
 with_a_plus : ReadsAs (Some (codes "+064")) 64
 with_a_plus = ((omega arith, (lit< tt, (lit< tt, (lit< tt, tt)))), refl)
 
@@ -128,7 +128,7 @@ wrote_a_front = inr (2, record { short = omega arith; bytes = refl; counted = re
 not_another_status : (old new : Writing) → Writes old new text 0 2 → ⊥
 not_another_status old new h = ⊎_elim (λ k. let e : 2 ≡ 0 = k.1 in omega (arith, e)) (λ k. let e : 2 ≡ 1 = k.2 in omega (arith, e)) h
 
--- a front with status 0 is a failed write that nobody hears of
+-- a prefix with status 0 is a failed write that nobody hears of
 not_a_front_alone : Writes nothing (writer (codes "ab") false) text 0 0 → ⊥
 not_a_front_alone h = ⊎_elim (λ k. let e : 2 ≡ 3 = k.0.counted in omega (arith, e)) (λ k. let e : 0 ≡ 1 = k.2 in omega (arith, e)) h
 

@@ -12,7 +12,7 @@ caused_in WriteFailed rest more before after h = (omega (arith, h.0, length-appe
 caused_in OutOfMemory rest more before after h = h
 
 module _ (w0 w1 w2 : Writing) (a b : List ℕ) where
-  -- a front of the first part is a front of both
+  -- a prefix of the first part is a prefix of both
   pub front_of : (cause : Unwritten) → TookFront w0 w1 a cause → TookFront w0 w1 (a ++ b) cause
   front_of cause h = record {
     front = h.front;
@@ -23,7 +23,7 @@ module _ (w0 w1 w2 : Writing) (a b : List ℕ) where
     caused = caused_in cause h.rest b w0.failed w1.failed h.caused;
   }
 
-  -- and so is the first part with a front of the second, which has all of the first
+  -- and so is the first part with a prefix of the second, which has all of the first
   pub front_behind : (cause : Unwritten) → Took w0 w1 a → TookFront w1 w2 b cause → (s : TookFront w0 w2 (a ++ b) cause) × (length a ≤ length s.front)
   front_behind cause first h = (
     record {
@@ -47,14 +47,14 @@ module _ (w0 w1 w2 : Writing) (a b : List ℕ) where
     unfailed = later.unfailed ∙ first.unfailed;
   }
 
-  -- memory ran out behind the first part
+  -- memory ran out after the first part
   pub no_memory : Took w0 w1 a → TookFront w0 w1 (a ++ b) OutOfMemory
   no_memory first = record { front = a; rest = b; whole = refl; bytes = first.bytes; counted = first.counted; caused = first.unfailed }
 
 pub took_nothing : (w : Writing) → Took w w []
 took_nothing w = record { bytes = Appends-nil w.contents; counted = omega arith; unfailed = refl }
 
--- what a failed write leaves is a front
+-- what a failed write leaves is a prefix
 pub front_taken : (old new : Writing) (text : List ℕ) (written : ℕ) → FailedToWrite old new text written → TookFront old new text WriteFailed
 front_taken old new text written h = record {
   front = take written text;

@@ -1,4 +1,4 @@
--- Texts of which a front was written.
+-- Texts of which a prefix was written.
 use Rattle.std.specs.Prelude.{◌≡◌, true, false, [], ◌∷◌, ◌++◌, length, drop, Some, codes, refl}
 use Rattle.std.proofs.Common.{sym, ap, get_or, ◌∙◌, true≢false, arith, length-append}
 use Rattle.nn_device.specs.Device.{Writing}
@@ -27,7 +27,7 @@ all_is_no_failure h = omega (arith, h.counted, h.caused.0, ap length h.whole, le
 not_noted : TookFront unwritten ended_after_two (codes "abc") WriteFailed → ⊥
 not_noted h = true≢false (sym h.caused.1)
 
--- memory may run out behind all bytes, as it may before the first
+-- memory may run out after all bytes, as it may before the first
 ran_out : TookFront unwritten ended_after_two (codes "ab") OutOfMemory
 ran_out = record { front = codes "ab"; rest = []; whole = refl; bytes = refl; counted = refl; caused = refl }
 

@@ -10,7 +10,7 @@ abbrev pub Caused : Unwritten → List ℕ → Bool → Bool → Type 0
 Caused WriteFailed rest before after = (0 < length rest) × (after ≡ true)
 Caused OutOfMemory rest before after = after ≡ before
 
--- The writer took a front of the text, and nothing behind it.
+-- The writer took a prefix of the text, and nothing after it.
 pub record TookFront (old new : Writing) (text : List ℕ) (cause : Unwritten) : Type 0 where
   pub front : List ℕ
   pub rest : List ℕ

@@ -12,6 +12,6 @@ report dn = record { dn = dn; block = 1073741825; stamp = 1001; len = 5; kind = 
 abbrev pub message : ℕ → ℕ → Message
 message dn number = record { dn = dn; number = number; block = 1073741825; stamp = 1001; len = 5; kind = Received }
 
--- they go into the lane of DataNode 2, behind what it had sent
+-- they go into the lane of DataNode 2, after what it had sent
 numbered_in_order : sent_after 2 (message 2 1 ∷ []) (report 2 ∷ report 9 ∷ []) ≡ message 2 1 ∷ message 2 2 ∷ message 2 3 ∷ []
 numbered_in_order = refl

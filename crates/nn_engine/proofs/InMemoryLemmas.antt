@@ -47,7 +47,7 @@ nothing_in_memory count steps sources e in_turn within = record {
   ahead = refl;
 }
 
--- the message's report, sent behind those before it, is the message
+-- the message's report, sent after those before it, is the message
 is_message : (m : Message) (sent : List Message) (dn : ℕ) → m.dn ≡ dn → m.number ≡ length sent + 1 → next_message dn sent (report_of m) ≡ m
 is_message m sent dn d n = (λ j. record { dn = sym d j; number = sym n j; block = m.block; stamp = m.stamp; len = m.len; kind = m.kind })
 

@@ -59,9 +59,9 @@ pub lawful_of_all : (a b : Reading) (taken : ℕ) (lines : Chunks) (r : Result S
     → ((text : List ℕ) → HasCome text lines → IsReadAs text r) → IfOk r (λ s. IsLawfulScenario (seen s))
 lawful_of_all a b taken lines r h read = (read h.text h.come).lawful
 
--- ---- with an image in front
+-- ---- an input that begins with an image
 
--- so many bytes of the scenario were taken behind the front, and the lines have come of them
+-- so many bytes of the scenario were taken after the front, and the lines have come of them
 pub record HasDivided (old new : Reading) (taken : ℕ) (front : FrontState) (lines : Chunks) : Type 0 where
   pub text : List ℕ
   pub rest : List ℕ
@@ -74,7 +74,7 @@ pub record HasDivided (old new : Reading) (taken : ℕ) (front : FrontState) (li
 pub none_divided : (a : Reading) (front : FrontState) (lines : Chunks) → IsFront [] front [] → HasCome [] lines → HasDivided a a 0 front lines
 none_divided a front lines is come = record { text = []; rest = []; got = Consumes-nil a.left; counted = omega arith; is = is; much = refl; come = come }
 
--- what a chunk does to a front, and what is behind it to the lines
+-- what a chunk does to a front, and what is after it to the lines
 abbrev pub PushesFront : FrontState → List ℕ → ℕ → FrontState → Type 0
 PushesFront old bytes at new = (text rest : List ℕ) → IsFront text old rest → IsFront (text ++ bytes) new (rest ++ drop at bytes)
 

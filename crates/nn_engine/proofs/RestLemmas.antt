@@ -1,4 +1,4 @@
--- What is written of an output: all of it, or a front.
+-- What is written of an output: all of it, or a prefix.
 use Rattle.std.proofs.Common.{◌≡◌, ℕ, ◌+◌, ◌<◌, List, [], ◌∷◌, ◌++◌, length, Bool, true, codes, refl, sym, ap, ◌∙◌, arith, append_assoc, subst, length-append, Ok}
 use Rattle.std.specs.Prelude.{decimal, flat_map}
 use Rattle.nn_device.specs.Device.{Writing, Took, FailedToWrite}
@@ -47,7 +47,7 @@ module _ (w0 w1 w2 w3 : Writing) (lines tables image : List ℕ) where
   pub all_written : Took w0 w1 lines → Took w1 w2 tables → Took w2 w3 image → Took w0 w3 (lines ++ (tables ++ image))
   all_written took next last = took_both w0 w1 w3 lines (tables ++ image) took (took_both w1 w2 w3 tables image next last)
 
--- ---- An image behind its line.
+-- ---- An image after its line.
 
 abbrev image_line : List ℕ
 image_line = codes "image" ++ newline ∷ []

@@ -28,7 +28,7 @@ abbrev pub StandsFlushed : Contents → Contents → Type 0
 StandsFlushed x y = (start : Namespace) (base : ℕ) (txs : List Tx) (lanes : Lanes) → StandsBy start base txs lanes (standby_of x)
     → Stands start base txs lanes (standby_of y) × IsWhole start txs (items lanes) y.history × ShowsPicture y.namespace (items lanes) (tables_of (standby_of y))
 
--- a text of three parts behind a history
+-- a text of three parts after a history
 pub behind : (asked : Bool) (events : History) (listing tables image : List ℕ)
     → ◌≡◌ {A = Printed} (record { text = ((history_part asked events ++ listing) ++ tables) ++ image; status = 0 })
     (with_history asked events (record { text = (listing ++ tables) ++ image; status = 0 }))

@@ -14,7 +14,7 @@ use Rattle.nn_engine.specs.declared.device.InputParts.{InputParts}
 use Rattle.nn_engine.specs.Output.{Printed, IsPrinted}
 use Rattle.nn_engine.specs.Run.{Given, IsOutput, NoneFailed, Wrote, WroteFront, Unfinished, fault_alone, running, unread_line}
 
--- what a whole output, and what a front of one, is where this text was written with this status
+-- what a whole output, and what a prefix of one, is where this text was written with this status
 pub record Writes (given : Given) (r : Result RunEnd RunFault) (writer writer' : Writing) : Type 0 where
   pub written : IfOk r (λ end. Wrote given writer writer' end.status)
   pub front : IfErr r (WroteFront given writer writer')

@@ -18,12 +18,12 @@ use Rattle.nn_engine.specs.declared.engine.Options.{Options}
 abbrev pub start_after : List Tx → Start
 start_after txs = record { namespace = namespace_after root_alone txs; txid = length txs }
 
--- behind this txid, each segment begins no higher than the next transaction
+-- after this txid, each segment begins no higher than the next transaction
 abbrev pub HasNoGap : ℕ → List Segment → Type 0
 HasNoGap last [] = Unit {0}
 HasNoGap last (s ∷ segments) = (first_txid s.txs ≤ last + 1) × HasNoGap (last + length (counted last s.txs)) segments
 
--- A log that applies whole is cut at any transaction. Other segments hold what comes behind the cut, with or without what comes before it. Then
+-- A log that applies whole is cut at any transaction. Other segments hold what comes after the cut, with or without what comes before it. Then
 -- a run over these, from where the first part of the log leads to, prints the same listing, tables, counts and safe mode as a run over the whole
 -- log from the root alone, where both are handed the same messages.
 abbrev pub PrintsTheSame : Type 0

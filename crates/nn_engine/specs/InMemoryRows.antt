@@ -13,7 +13,7 @@ message dn number block = record { dn = dn; number = number; block = block; stam
 abbrev report : ℕ → ℕ → Report
 report dn block = record { dn = dn; block = block; stamp = 1001; len = 5; kind = Received }
 
--- each message goes behind those of its DataNode, and an edit changes nothing
+-- each message goes after those of its DataNode, and an edit changes nothing
 behind_its_own : with_step (with_step (with_step ([] ∷ [] ∷ []) (step.Message (message 2 1 7))) step.Edit) (step.Message (message 2 2 8)) ≡ [] ∷ (report 2 7 ∷ report 2 8 ∷ []) ∷ []
 behind_its_own = refl
 

@@ -23,7 +23,7 @@ pub record IsScenarioOfAll (old new : Reading) (lines : Result Scenario BadLine)
   pub fits : length input ≤ max_input
   pub read : IsReadAs input lines
 
--- the reader gave more bytes of a scenario than an input may have, behind its image where that is asked for
+-- the reader gave more bytes of a scenario than an input may have, after its image where that is asked for
 abbrev pub GaveTooMuch : Bool → Reading → Reading → Type 0
 GaveTooMuch from_image old new =
     (bytes : List ℕ) × (max_input < length (scenario_in from_image bytes)) × Consumes old.left new.left bytes × (new.given ≡ old.given + length bytes)

@@ -22,7 +22,7 @@ abbrev pub rest_text : Option Large → List ℕ
 rest_text None = []
 rest_text (Some l) = string_bytes l.texts.head ++ after_head l
 
--- a front of the text was written, and where memory ran out it is not empty
+-- a prefix of the text was written, and where memory ran out it is not empty
 pub record StoppedBehind (old new : Writing) (text : List ℕ) (cause : Unwritten) : Type 0 where
   pub took : TookFront old new text cause
   pub begun : cause ≡ OutOfMemory → 0 < length took.front

@@ -74,12 +74,12 @@ abbrev pub Tells : RunFault → List ℕ → Type 0
 Tells (WriteFailed written) front = written ≡ length front
 Tells (run.OutOfMemory written) front = (written ≡ length front) × (0 < written)
 
--- a front of the text was written, and nothing behind it
+-- a prefix of the text was written, and nothing after it
 pub record Unfinished (writer writer' : Writing) (text : List ℕ) (fault : RunFault) : Type 0 where
   pub took : TookFront writer writer' text (cause_of fault)
   pub told : Tells fault took.front
 
--- a front of an output was written
+-- a prefix of an output was written
 pub record WroteFront (given : Given) (writer writer' : Writing) (fault : RunFault) : Type 0 where
   pub output : Printed
   pub right : IsOutput given output

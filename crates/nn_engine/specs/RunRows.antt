@@ -76,7 +76,7 @@ not_with_more_counted given ended text three h = let n = h.took.counted in let m
 abbrev word : Bool → Writing
 word failed = record { contents = Some (codes "fault"); taken = 5; failed = failed }
 
--- a front is not all
+-- a prefix is not all
 not_a_front_of_all : Unfinished unwritten (memory_line true) (fault_alone (codes "55")).text (WriteFailed 9) → ⊥
 not_a_front_of_all h =
     let w = h.took in
@@ -96,7 +96,7 @@ wrote_a_front_of_55 options = record {
 not_told_of_another_count : (given : Given) → WroteFront given unwritten (word true) (WriteFailed 4) → ⊥
 not_told_of_another_count given h = let e : 5 ≡ 0 + length h.front.took.front = h.front.took.counted in omega (arith, e, h.front.told)
 
--- memory ran out behind the first bytes
+-- memory ran out after the first bytes
 ran_out : Unfinished unwritten (word false) (codes "faults") (run.OutOfMemory 5)
 ran_out = record { took = record { front = codes "fault"; rest = codes "s"; whole = refl; bytes = refl; counted = refl; caused = refl }; told = (refl, omega arith) }
 

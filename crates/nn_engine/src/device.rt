@@ -37,7 +37,7 @@ impl From<AllocError> for InputFault {
 }
 
 /// Reads a scenario to the reader's end: at most `MAX_INPUT` bytes of it, in reads of up to 65,536 bytes each. The inner
-/// result is the scenario, or its first line that is refused. It reads on behind such a line, since
+/// result is the scenario, or its first line that is refused. It reads on after such a line, since
 /// an input that can't be read is told first; what it read of a line is kept no longer than the line, unless the
 /// scenario has it. After a fault discard the reader: nothing is said of how far it was read.
 pub fn read_scenario<R: Read>(
@@ -76,7 +76,7 @@ pub(crate) struct InputParts {
     pub lines: Result<Scenario, BadLine>,
 }
 
-/// Reads an input to the reader's end, with an image in front or without one. The image is kept as it is, and what is
+/// Reads an input to the reader's end, with an image before the scenario or without one. The image is kept as it is, and what is
 /// passed over before it is not. Of what follows the image, `MAX_INPUT` bytes are read at most.
 pub(crate) fn read_parts<R: Read>(
     alloc: Global,

@@ -1,4 +1,4 @@
-//! The image of a namespace, behind the tables of a run.
+//! The image of a namespace, after the tables of a run.
 ghost use Rattle.std.specs.Prelude.{◌≡◌, ◌++◌, OnOk, IfErr};
 ghost use Rattle.nn_device.specs.Device.{Took};
 ghost use Rattle.nn_device.specs.Parts.{TookFront};

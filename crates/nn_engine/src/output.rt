@@ -25,7 +25,7 @@ pub struct Output {
 pub enum RunFault {
     #[error("a write failed after {written} bytes")]
     WriteFailed { written: u64 },
-    /// Memory was refused behind the first byte. This comes only of an output that is made as it is written.
+    /// Memory was refused after the first byte. This comes only of an output that is made as it is written.
     #[error("out of memory after {written} bytes")]
     OutOfMemory { written: u64 },
 }
@@ -37,7 +37,7 @@ pub struct RunEnd {
 }
 
 impl Output {
-    /// A text, and nothing behind it.
+    /// A text, and nothing after it.
     pub(crate) fn of_text(text: Vec<u8>, status: u8) -> Output
         ensures { shown result ≡ record { text = text.items; status = status } }
     {

@@ -21,7 +21,7 @@ pub struct Rest {
     large: Option<Large>,
 }
 
-/// What a listing has before and behind the lines of paths.
+/// What a listing has before and after the lines of paths.
 #[derive(Drop)]
 pub(crate) struct Texts {
     /// The history, where it is asked for, and the line of the last transaction.

@@ -133,7 +133,7 @@ fn report_of(message: &Message) -> Report
     }
 }
 
-// Puts a message's report behind those of its DataNode.
+// Puts a message's report after those of its DataNode.
 fn push_step<G: Drop>(sources: &mut Vec<InMemoryReports<G>>, step: Step) -> Result<(), AllocError>
     requires { IsStepOf (length sources.old.items) step }
     ensures ok { OnOk result (sources.new.items ≡ with_step sources.old.items step) }

@@ -24,7 +24,7 @@ gets_lower old new item h segment =
     let grown = ap length next.1 in omega (arith, fits, grown, length-append old (p ∷ [])))
     (λ nothing. absurd (no_item item nothing.1)) h
 
--- behind an answer that ends them
+-- after an answer that ends them
 abbrev End_ : List Placed → Answer → Type 0
 End_ ps a = EndsIn (answers_of ps) a
 
@@ -34,7 +34,7 @@ gets_ended old new h =
     (λ next. subst (λ ps. End_ ps end) (sym next.1) (ends_push old (placed end (length old))))
     (λ nothing. absurd (no_item _ nothing.1)) h
 
--- behind End comes End again
+-- after End comes End again
 pub gets_end_again : (old new : List Placed) (answer : Answer) → Gets old answer new → EndsIn (answers_of old) end → (answer ≡ end) × EndsIn (answers_of new) end
 gets_end_again old new answer h ends =
     let is : is_last end ≡ true = refl in let over : has_last old ≡ true = last_among old ends.0 end ends.1 is in

@@ -80,7 +80,7 @@ gave_last got (answer ∷ answers) asked over = ends_somewhere answer answers
 
 -- ---- What was put.
 
--- what was got is the front of what was put
+-- what was got is a prefix of what was put
 pub met_front : (put got : List Placed) → IsMet put got → (more : List Answer) × (answers_of put ≡ answers_of got ++ more)
 met_front put got met = (answers_of met.0, ap answers_of met.1 ∙ map-append answer_of got met.0)
 

@@ -68,6 +68,6 @@ Gets old answer new = GetsAgain old answer new ⊎ GetsNext old answer new ⊎ G
 abbrev pub GivesWhatIsFed : {R : Type 0} → FeedEnd R → Answer → FeedEnd R → Type 0
 GivesWhatIsFed old answer new = IsSameEnd old new × Gets (got_by old) answer (got_by new)
 
--- what was put is a feed; what was got is the front of it, and all of it once its last answer was got
+-- what was put is a feed; what was got is a prefix of it, and all of it once its last answer was got
 abbrev pub IsMet : List Placed → List Placed → Type 0
 IsMet put got = (rest : List Placed) × (put ≡ got ++ rest) × (has_last got ≡ true → rest ≡ []) × IsFeed 0 put

@@ -28,7 +28,7 @@ has_last (p ∷ ps) = is_last p.answer || has_last ps
 abbrev pub EndsIn : List Answer → Answer → Type 0
 EndsIn answers last = (before : List Answer) × (answers ≡ before ++ last ∷ [])
 
--- what may be at a place, and before these: a segment, with less than 2^60 before it; End or a fault, with nothing behind it
+-- what may be at a place, and before these: a segment, with less than 2^60 before it; End or a fault, with nothing after it
 abbrev pub MayStand : Answer → ℕ → List Placed → Type 0
 MayStand (Ok (Segment s)) place behind = place < 2 ^ 60
 MayStand (Ok End) place behind = behind ≡ []

@@ -69,7 +69,7 @@ not_fewer_failures : (gives : ℕ → Answer → ℕ → Type 0) (feeder after :
     → HasRun gives (λ s. s) 2 feeder (record { source = 1; outcome = Ok (record { feeder = after; end = Ok n }) }) → ⊥
 not_fewer_failures gives feeder after n h = let fewer : 2 ≤ 1 = h.not_fewer in omega (arith, fewer)
 
--- what was refused comes back as the feeder refuses it: here behind End, of which there is none
+-- what was refused comes back as the feeder refuses it: here after End, of which there is none
 not_refused_as_ended : (feeder : Feeder) → put_by feeder ≡ [] → HasRun GivesNext never [] feeder (record { source = []; outcome = Err (Ended segment) }) → ⊥
 not_refused_as_ended feeder none h = last h.segments [] h.gave
   where

@@ -34,7 +34,7 @@ abbrev pub WasRefused : List Placed → FeedFault → Type 0
 WasRefused put (Source fault) = Unit {0}
 WasRefused put (Refused refusal) = Refuses put (refused_answer refusal) refusal
 
--- what the source answered last, where it was fed to its last answer: End behind so many segments, or a fault
+-- what the source answered last, where it was fed to its last answer: End after so many segments, or a fault
 abbrev pub ending_of : Result ℕ SourceFault → Answer
 ending_of (Ok n) = end
 ending_of (Err fault) = Err fault
@@ -59,7 +59,7 @@ module _ {S : Type 0} (gives : S → Answer → S → Type 0) where
   abbrev pub GaveThen : S → List Segment → Answer → S → Type 0
   GaveThen old segments last new = Asked gives old (then_last segments last) new
 
-  -- Put were just the segments that the source gave, in order, and behind them the End that it gave; or, where its last
+  -- Put were just the segments that the source gave, in order, and after them the End that it gave; or, where its last
   -- answer was a fault or was not put, the segments before it
   abbrev pub Fed : S → List Placed → S → List Placed → Result ℕ FeedFault → Type 0
   Fed old before new after result =

@@ -1,5 +1,5 @@
 //! The rule of the channel: what was got and then what lies in it is what was put, each answer at its place, and nothing
-//! behind End or a fault. One pass puts and one gets.
+//! after End or a fault. One pass puts and one gets.
 use crossbeam_channel::protocol::{Join, Lesson, Outcome, Protocol, Split};
 use nn_segment::{Item, SourceFault};
 use std::collections::LinkedList;

@@ -13,7 +13,7 @@ pub struct FeederExit<S> {
     pub outcome: Result<Delivered, Refusal>,
 }
 
-/// A feeder that put its source's last answer: behind so many segments its End, or its fault.
+/// A feeder that put its source's last answer: after so many segments its End, or its fault.
 #[derive(Drop)]
 pub struct Delivered {
     pub feeder: Feeder,

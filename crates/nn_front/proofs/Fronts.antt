@@ -169,7 +169,7 @@ line_ends Rows text line image rest started before h = by (is_end_line line) ref
 pub ended : (f : FrontState) (text rest : List ℕ) → f.place ≢ Start → f.place ≢ Behind → IsFront text f rest → IsFront (text ++ feed ∷ []) (line_ended f) rest
 ended f text rest = line_ends f.place text f.line f.image rest
 
--- ---- behind the image
+-- ---- after the image
 
 behind_it : (place : Place) (text bytes line image rest : List ℕ) → place ≡ Behind → IsAt place text line image rest → IsAt place (text ++ bytes) line image (rest ++ bytes)
 behind_it Start text bytes line image rest is h = absurd (cc)

@@ -8,7 +8,7 @@ use Rattle.nn_image.specs.Reading.{object_of}
 
 -- ---- Where an image begins.
 
--- the line behind which it does
+-- the line after which it does
 abbrev pub mark : List ℕ
 mark = codes "image"
 
@@ -51,7 +51,7 @@ pub record Cut : Type 0 where
 abbrev pub onto : List ℕ → Cut → Cut
 onto front cut = record { image = front ++ cut.image; rest = cut.rest }
 
--- What is left of an image, and what follows it. The image ends with the first line behind its header that is an end line, or
+-- What is left of an image, and what follows it. The image ends with the first line after its header that is an end line, or
 -- with the bytes. The line in hand begins with these bytes, and may be the header.
 abbrev pub cut_from : Bool → List ℕ → List ℕ → Cut
 cut_from is_header line [] = record { image = []; rest = [] }

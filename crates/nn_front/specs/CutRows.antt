@@ -1,4 +1,4 @@
--- Inputs with an image in front, divided.
+-- Inputs that begin with an image, divided.
 use Rattle.std.specs.Prelude.{◌≡◌, ℕ, List, [], ◌∷◌, ◌++◌, true, false, map, flat_map, Some, None, codes, refl}
 use Rattle.std.specs.Str.{is_utf8, chars}
 use Rattle.std.specs.Float.Numeral.{scan_numeral}
@@ -26,7 +26,7 @@ at_once : divided (lines (codes "{}" ∷ codes "{\"end\":1}" ∷ codes "a" ∷ [
 unfolding divided is_end_line object_of value_of is_utf8 chars encode value punctuate lex content word after_number number_of scan_numeral
 at_once = refl
 
--- or behind the line `image`, and not behind one that only begins so
+-- or after the line `image`, and not after one that only begins so
 behind_the_line : divided (lines (codes "images" ∷ codes " image" ∷ codes "image" ∷ codes "x" ∷ codes "{\"end\":1}" ∷ codes "image" ∷ []))
     ≡ Some (record { image = lines (codes "x" ∷ codes "{\"end\":1}" ∷ []); rest = codes "image" ++ feed ∷ [] })
 unfolding divided is_end_line object_of value_of is_utf8 chars encode value punctuate lex content word after_number number_of scan_numeral

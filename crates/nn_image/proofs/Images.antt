@@ -96,7 +96,7 @@ next_well m d row w is order fits =
     subst IsWellFormed (pushed m (last_path m.rows) (next_line m) loading row order _ refl)
     (restored_well m row.0 row.1 lawful.0 lawful.1 (fits_is m (last_path m.rows) (next_line m) loading row order ∙ fits) w)
 
--- the pieces are lines of rows behind those of m, the end line, and nothing more
+-- the pieces are lines of rows after those of m, the end line, and nothing more
 pub record IsRest (m : Namespace) (pieces : List (List ℕ)) (n : Namespace) : Type 0 where
   pub lines : List (List ℕ)
   pub last : List ℕ

@@ -1,4 +1,4 @@
--- What is told of a text of which a front was written, and of reads that failed.
+-- What is told of a text of which a prefix was written, and of reads that failed.
 use Rattle.std.specs.Prelude.{true, false, [], ◌∷◌, Some, codes, refl}
 use Rattle.std.proofs.Common.{sym, true≢false, arith}
 use Rattle.nn_device.specs.Device.{Writing}

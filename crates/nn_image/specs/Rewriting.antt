@@ -22,7 +22,7 @@ pub record Rewrote (start end : Reading) (old new : Writing) (txid : ℕ) : Type
   pub wrote : Took old new (image_text namespace txid)
   pub again : read_image (image_text namespace txid) ≡ Ok (namespace, txid)
 
--- The reader's whole text was read, and the writer got a front of the image.
+-- The reader's whole text was read, and the writer got a prefix of the image.
 pub record StoppedWriting (start end : Reading) (old new : Writing) (e : SaveFault) : Type 0 where
   pub namespace : Namespace
   pub txid : ℕ

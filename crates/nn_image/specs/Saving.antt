@@ -25,7 +25,7 @@ abbrev pub Tells : SaveFault → List ℕ → Type 0
 Tells (WriteFault written) front = written ≡ length front
 Tells save.OutOfMemory front = Unit {0}
 
--- a front of the text was written
+-- a prefix of the text was written
 pub record WroteFront (old new : Writing) (text : List ℕ) (e : SaveFault) : Type 0 where
   pub took : TookFront old new text (cause_of e)
   pub told : Tells e took.front
@@ -52,7 +52,7 @@ pub record TakesRow {W : Type 0} (old : RowWriter W) (row : Path × Form) (new :
   pub wrote : Took old.writer.now new.writer.now (row_text row)
   pub counted : old.count + row_count row < 2 ^ 64 → new.count ≡ old.count + row_count row
 
--- a front of the row's line was written
+-- a prefix of the row's line was written
 pub record FailsOnRow {W : Type 0} (old : RowWriter W) (row : Path × Form) (e : Unwritten) (new : RowWriter W) : Type 0 where
   pub same_writer : new.writer.ghost_name ≡ old.writer.ghost_name
   pub front : TookFront old.writer.now new.writer.now (row_text row) e

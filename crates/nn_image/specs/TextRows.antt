@@ -39,12 +39,12 @@ no_text : read_image [] ≡ Err Truncated
 unfolding read_image all_from pieces_of
 no_text = refl
 
--- torn in the header, behind it, and in the last line: a torn line is not read as JSON
+-- torn in the header, after it, and in the last line: a torn line is not read as JSON
 torn : map read_image (header ∷ lines (header ∷ []) ∷ (lines (header ∷ dir_a ∷ []) ++ last) ∷ []) ≡ Err Truncated ∷ Err Truncated ∷ Err Truncated ∷ []
 unfolding read_image all_from rows_from pieces_of object_of value_of number_in text_in flag_in array_in path_in block_of gathered blocks_at numbers_at replication_in file_in form_of form_in row_in profile_in fields_in digits is_utf8 chars encode value punctuate lex content word after_number json_number scan_numeral
 torn = refl
 
--- a directory twice, a line that is no object, another count, a line behind the last, and another version
+-- a directory twice, a line that is no object, another count, a line after the last, and another version
 faults : map read_image (lines (header ∷ dir_a ∷ dir_a ∷ last ∷ []) ∷ lines (header ∷ codes "x" ∷ last ∷ []) ∷ lines (header ∷ last ∷ [])
     ∷ lines (header ∷ dir_a ∷ last ∷ last ∷ []) ∷ lines (codes "{\"version\":3}" ∷ []) ∷ lines (codes "{}" ∷ []) ∷ [])
     ≡ Err (WrongOrder 3) ∷ Err (BadLine 2) ∷ Err CountMismatch ∷ Err (BadLine 4) ∷ Err BadVersion ∷ Err NotHeader ∷ []

@@ -68,7 +68,7 @@ fn word(truth: bool) -> &'static str
     if truth { "true" } else { "false" }
 }
 
-// The blocks, with a comma between two, and the bracket behind them.
+// The blocks, with a comma between two, and the bracket after them.
 fn push_blocks(text: &mut String, blocks: &[Block]) -> Result<(), AllocError>
     ensures { OnOk result (string_bytes text.new ≡ string_bytes text.old ++ items_text false (block_items blocks.now)) }
 {

@@ -43,7 +43,7 @@ abbrev pub bit : Bool → ℕ
 bit true = 1
 bit false = 0
 
--- where the two words lie that are used: far enough from each other, and from what lies before and behind, to have cache
+-- where the two words lie that are used: far enough from each other, and from what lies before and after, to have cache
 -- lines of their own
 abbrev pub front_word : ℕ
 front_word = 8

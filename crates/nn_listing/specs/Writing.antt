@@ -22,7 +22,7 @@ pub record TakesRow {W : Type 0} (old : LineWriter W) (row : Path × Form) (new 
   pub same_writer : new.writer.ghost_name ≡ old.writer.ghost_name
   pub wrote : Took old.writer.now new.writer.now (row_line row)
 
--- a front of the row's line was written
+-- a prefix of the row's line was written
 pub record FailsOnRow {W : Type 0} (old : LineWriter W) (row : Path × Form) (e : Unwritten) (new : LineWriter W) : Type 0 where
   pub same_writer : new.writer.ghost_name ≡ old.writer.ghost_name
   pub front : TookFront old.writer.now new.writer.now (row_line row) e

@@ -38,7 +38,7 @@ pub fn listing(alloc: Global, namespace: &Namespace, last: u64) -> Result<String
     with_listing(alloc, String::new(alloc), room, namespace, last)
 }
 
-/// A text, and the listing behind it. Room for so many bytes is asked for at once, mostly `listing_bytes`. Where memory is
+/// A text, and the listing after it. Room for so many bytes is asked for at once, mostly `listing_bytes`. Where memory is
 /// refused both are dropped.
 pub fn with_listing(
     alloc: Global,

@@ -15,7 +15,7 @@ use std::io::Write;
 /// however long the listing is.
 ///
 /// A write that fails ends it, and so does memory that is refused. The writer has the lines up to there then, and maybe a
-/// front of the next.
+/// prefix of the next.
 pub fn write_lines<W: Write>(
     alloc: Global,
     namespace: &Namespace,

@@ -18,7 +18,7 @@ pub had_push : (t : Had) (ms : List Message) (m : Message) → had_from t (ms ++
 had_push t [] m = refl
 had_push t (x ∷ ms) m = had_push (had_after t x) ms m
 
--- one more message adds its own items behind those of the others
+-- one more message adds its own items after those of the others
 pub items_push : (ms : List Message) (m : Message) → items_of (ms ++ m ∷ []) ≡ items_of ms ++ added (having (had_by ms)) m
 items_push ms m = ap (λ (t : Had). t.items) (had_push (had_by []) ms m)
 
@@ -109,7 +109,7 @@ in_order_append dn (x ∷ xs) ys left right between = (
 less_before : (x y : Message) → x.number < y.number → comes_before x y ≡ true
 less_before x y less = or_left _ _ (lt-ltb _ _ less)
 
--- items that a finish takes back, by block
+-- items that a finish revokes, by block
 from_taken : (m : Message) (ids : List ℕ) (y : Message) → Has (map (taken_back m) ids) y → (id : ℕ) × Has ids id × (taken_back m id ≡ y)
 from_taken m [] y here = absurd here
 from_taken m (id ∷ ids) y (inl same) = (id, inl refl, same)

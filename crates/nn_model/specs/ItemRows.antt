@@ -1,4 +1,4 @@
--- Worked examples of items, computed: what full reports take back, and what they leave alone.
+-- Worked examples of items, computed: what full reports revoke, and what they leave alone.
 use Rattle.std.specs.Prelude.{◌≡◌, ℕ, ◌+◌, true, false, [], ◌∷◌, map, Some, None, refl}
 use Rattle.nn_types.specs.declared.report.Message.{Message}
 use Rattle.nn_types.specs.declared.report.Kind.TheVariants.{Receiving, Received, Deleted, Begin, Listed, Finish}
@@ -35,7 +35,7 @@ row_of_being_received = refl
 row_of_what_is_left_out : left_out 4 (has_of (had 1 c ∷ had 2 b ∷ had 4 (c + 2) ∷ had 5 (c + 1) ∷ [])) ≡ b ∷ c ∷ []
 row_of_what_is_left_out = refl
 
--- whatever the end of a report carries, what it takes back has no generation stamp and no length
+-- whatever the end of a report carries, what it revokes has no generation stamp and no length
 row_of_what_is_taken_back : taken_back (message 1 5 Finish c 1001 7) b ≡ gone 5 b
 row_of_what_is_taken_back = refl
 
@@ -54,7 +54,7 @@ row_of_an_empty_report = refl
 row_of_two_left_out : items_of (had 1 c ∷ had 2 b ∷ had 3 c ∷ begin 4 ∷ finish 5 ∷ []) ≡ had 1 c ∷ had 2 b ∷ had 3 c ∷ gone 5 b ∷ gone 5 c ∷ []
 row_of_two_left_out = refl
 
--- what an end took back is not taken back again
+-- what an end revoked is not revoked again
 row_of_two_reports : items_of (had 1 b ∷ begin 2 ∷ finish 3 ∷ begin 4 ∷ finish 5 ∷ []) ≡ had 1 b ∷ gone 3 b ∷ []
 row_of_two_reports = refl
 

@@ -1,4 +1,4 @@
--- What messages say, one block at a time. A full report tells all that its DataNode has, so its end takes back what the DataNode
+-- What messages say, one block at a time. A full report tells all that its DataNode has, so its end revokes what the DataNode
 -- told before the report and left out of it. The result is a list of items: each is received, being received or deleted.
 use Rattle.std.specs.Prelude.{ℕ, Bool, true, false, List, [], ◌∷◌, ◌++◌, map, filter, filter_map, Option, Some, None, option_map, nat_lt, ◌==◌, if◌then◌else◌}
 use Rattle.std.specs.List.{last_or}

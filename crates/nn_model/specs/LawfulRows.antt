@@ -127,7 +127,7 @@ two_datanodes_mix = record {
       (early_report ∷ second_report ∷ []) (other_report ∷ []) ((λ free. search rules), ((λ free. search rules), tt)) ((λ free. search rules), tt);
 }
 
--- ---- A message waits until the log names its block, and behind an earlier one that waits.
+-- ---- A message waits until the log names its block, and for an earlier one that waits.
 
 processed_too_early : IsLawful root_alone early_log early_lanes (take 4 first_five ++ Processed 1 1 b Due ∷ Applied 5 ∷ last_two) → ⊥
 processed_too_early lawful = both_ways _ lawful.waited.1.1.1.1.0 refl

@@ -243,7 +243,7 @@ future_report_flushed_whole = of_sent (λ m. IsHeld (namespace_after root_alone 
     (future_report ∷ delete_behind ∷ []) (other_report ∷ [])
     ((λ held. search rules), ((λ held. search rules), tt)) ((λ held. absurd (both_ways _ refl held)), tt)
 
--- the flushed report makes a replica, which is ahead of its block, and the delete behind it takes that away
+-- the flushed report makes a replica, which is ahead of its block, and the delete after it takes that away
 future_report_flushed_replay :
     ((replay root_alone early_log future_lanes (take 9 future_history)).replica 1 b ≡ Some (received far 5))
     × ((replay root_alone early_log future_lanes future_history).replica 1 b ≡ None)

@@ -25,7 +25,7 @@ left = None ∷ None ∷ Some other_report ∷ Some second_report ∷ []
 without_it : present left ≡ without_first first_report (present slots)
 without_it = refl
 
--- the DataNode's second message becomes a head, behind the other one
+-- the DataNode's second message becomes a head, after the other one
 next_head : spot first_report 0 left ≡ Some 3
 next_head = refl
 

@@ -5,7 +5,7 @@ ghost use Rattle.nn_postponed.specs.Places.{places, present, packed, starts, End
 
 use nn_types::Message;
 
-/// Takes the last message out, and the holes behind it.
+/// Takes the last message out, and the holes after it.
 pub fn pop_message(messages: &mut Vec<Option<Message>>) -> Option<Message>
     ensures some { IfSome result (EndsWith messages.old.items messages.new.items) }
     ensures none { IfNone result (present messages.old.items ≡ []) }

@@ -103,7 +103,7 @@ impl Postponed {
         Ok(())
     }
 
-    // Puts the message behind the others about its block.
+    // Puts the message after the others about its block.
     fn push(&mut self, message: &Message) -> Result<(), AllocError>
         ensures ok { OnOk result (self.new ≡ queued message.now self.old) }
         ensures err { OnErr result (self.new ≡ self.old) }

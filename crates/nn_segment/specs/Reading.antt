@@ -30,7 +30,7 @@ later_fault profile n expected (Err fault ∷ reads) = Some (BadLine n fault)
 later_fault profile n expected (Ok tx ∷ reads) =
     if tx.txid == expected then (if allows profile tx.edit then later_fault profile (n + 1) (tx.txid + 1) reads else Some (WrongProfile n)) else Some (Gap expected)
 
--- the first fault of the lines behind the first one, which is to be a start mark
+-- the first fault of the lines after the first one, which is to be a start mark
 abbrev pub after_start : Option Profile → ℕ → List (Result Tx LineFault) → Option SegmentFault
 after_start None expected reads = Some NoStart
 after_start (Some profile) expected reads = later_fault profile 2 expected reads

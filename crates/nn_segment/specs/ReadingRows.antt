@@ -61,7 +61,7 @@ whole = refl
 gap_in_segment : fault_under 1 4 (tx 1 (StartSegment One) ∷ tx 2 (Mkdir a) ∷ tx 4 EndSegment ∷ []) ≡ Some (Gap 3)
 gap_in_segment = refl
 
--- a bad line behind a gap is not come to, and a gap behind a bad line is not either
+-- a bad line after a gap is not come to, and a gap after a bad line is not either
 gap_before_bad_line : fault_under 1 4 (tx 1 (StartSegment One) ∷ tx 3 (Mkdir a) ∷ Err NotJson ∷ []) ≡ Some (Gap 2)
 gap_before_bad_line = refl
 
@@ -108,7 +108,7 @@ append_of_profile_one = refl
 gap_before_wrong_profile : (fault_under 1 3 (tx 1 (StartSegment One) ∷ tx 3 (Append a) ∷ []) ≡ Some (Gap 2)) × (fault_under 1 1 (tx 1 (Append a) ∷ []) ≡ Some NoStart)
 gap_before_wrong_profile = (refl, refl)
 
--- line by line: a bad line before it is found first, and one behind it is not come to
+-- line by line: a bad line before it is found first, and one after it is not come to
 wrong_profile_and_bad_line : (fault_under 1 3 (tx 1 (StartSegment One) ∷ Err NotJson ∷ tx 3 (Append a) ∷ []) ≡ Some (BadLine 2 NotJson))
     × (fault_under 1 3 (tx 1 (StartSegment One) ∷ tx 2 (Append a) ∷ Err NotJson ∷ []) ≡ Some (WrongProfile 2))
 wrong_profile_and_bad_line = (refl, refl)
@@ -127,7 +127,7 @@ profiles : (map start_profile (StartSegment One ∷ StartSegment Two ∷ EndSegm
     × (map (allows One) (Append a ∷ Delete a ∷ []) ≡ false ∷ true ∷ []) × (map (allows Two) (Append a ∷ Delete a ∷ []) ≡ true ∷ true ∷ [])
 profiles = (refl, refl, refl)
 
--- the transactions behind the mark, each of them; the mark is asked for too
+-- the transactions after the mark, each of them; the mark is asked for too
 profile_kept : (keeps_profile (record { txid = 1; edit = StartSegment Two } ∷ record { txid = 2; edit = Append a } ∷ []) ≡ true)
     × (keeps_profile (record { txid = 1; edit = StartSegment One } ∷ record { txid = 2; edit = Delete a } ∷ []) ≡ true)
     × (keeps_profile (record { txid = 1; edit = StartSegment One } ∷ record { txid = 2; edit = Delete a } ∷ record { txid = 3; edit = Append a } ∷ []) ≡ false)

@@ -45,7 +45,7 @@ SegmentAddsTheRest = (last : ℕ) (s : Segment) → IsSegment s → first_txid s
 
 -- ---- Answer by answer.
 
--- Where so much of the log was applied and the rest of it is in hand, one more segment adds what counts behind that rest.
+-- Where so much of the log was applied and the rest of it is in hand, one more segment adds what counts after that rest.
 abbrev pub SegmentBehindTheRest : Type 0
 SegmentBehindTheRest = (last : ℕ) (answers : List Answer) (applied rest : List Tx) (s : Segment) → log_in last answers ≡ applied ++ rest
     → log_in last (answers ++ given s ∷ []) ≡ applied ++ (rest ++ counted (last + length applied + length rest) s.txs)

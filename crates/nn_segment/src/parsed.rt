@@ -176,7 +176,7 @@ fn order_fault(txs: &[Tx]) -> Option<SegmentFault>
     later_fault(profile, first.txid.get() + 1, later(txs))
 }
 
-// The first fault of the transactions behind the start mark, which has this profile. The expected txid is the next one.
+// The first fault of the transactions after the start mark, which has this profile. The expected txid is the next one.
 fn later_fault(profile: Profile, expected: u64, txs: &[Tx]) -> Option<SegmentFault>
     requires { expected ≤ 2 ^ 63 }
     ensures { result ≡ later_fault profile 2 expected (map Ok txs.now) }

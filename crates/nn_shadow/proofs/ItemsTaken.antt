@@ -56,7 +56,7 @@ none_about begin id m (e ∷ es) less =
       | false ↦ later
     ]
 
--- the blocks of a map differ, and so do those that an end takes back
+-- the blocks of a map differ, and so do those that an end revokes
 pub finished_apart : (begin : ℕ) (m : Message) (es : List (ℕ × ℕ)) → IsStrictlySortedBy nat_cmp (keys_of es) → AreApart (finished (Some begin) es m)
 unfolding IsStrictlySortedBy
 finished_apart begin m [] sorted = tt
@@ -68,7 +68,7 @@ finished_apart begin m (e ∷ es) sorted =
       | false ↦ later
     ]
 
--- what is taken back is forgotten
+-- what is revoked is forgotten
 pub finished_forgotten : (begun : Option ℕ) (es has : List (ℕ × ℕ)) (m : Message) → all_forgotten has (finished begun es m) ≡ with_items has (finished begun es m)
 finished_forgotten None es has m = refl
 finished_forgotten (Some begin) es has m = each (left_out begin es) has
@@ -356,7 +356,7 @@ had_noted x m i old new at in_range is_old is_new =
     λ j. slice_set x.had (at j) ((is_new ∙ (λ k. record (there k) { begun = begun_after m.kind (there k).begun m.number })
     ∙ ap (λ n. record (get_or x.had n nothing_had) { begun = begun_after m.kind (get_or x.had n nothing_had).begun m.number }) at) j)
 
--- ---- the message behind its items
+-- ---- the message after its items
 
 -- neither the namespace nor the last txid
 pub received_stays : (x : StandbyState) (m : Message) → ((received x m).namespace ≡ x.namespace) × ((received x m).last ≡ x.last)

@@ -114,7 +114,7 @@ txs_given (Ok (item.Segment s) ∷ answers) = ap (λ txs. s.txs ++ txs) (txs_giv
 txs_given (Ok item.End ∷ answers) = txs_given answers
 txs_given (Err fault ∷ answers) = txs_given answers
 
--- the log of these segments was read as `txs` and the rest, and where it has a gap, that comes behind `txs`
+-- the log of these segments was read as `txs` and the rest, and where it has a gap, that comes after `txs`
 pub record Read (segments : List Segment) (last : ℕ) (n : Namespace) (txs rest : List Tx) (now : ℕ) (after : Namespace) : Type 0 where
   pub read : counted last (all_txs segments) ≡ txs ++ rest
   pub log : IsLog n last txs

@@ -72,7 +72,7 @@ moves f g k l s d h t c e1 e2 e3 e4 q =
 
 -- ---- The tests of the code.
 
--- the test of first names, and that of what is behind them
+-- the test of first names, and that of what is after them
 pub begins_further : (ps qs ns xs : Path) (n x : List ℕ) (b : Bool) → ps ≡ n ∷ ns → qs ≡ x ∷ xs → b ≡ not (pointwise nat_eq n x) → cond b false (begins_with ns xs) ≡ begins_with ps qs
 begins_further ps qs ns xs n x b e f h = ap (λ t. cond t false (begins_with ns xs)) h ∙ joined (bytes_eq n x) (begins_with ns xs) ∙ sym (λ j. begins_with (e j) (f j))
   where

@@ -48,7 +48,7 @@ impl Read for Slow<'_> {
 }
 
 // A writer that takes at most `width` bytes a time, and fails or takes nothing at its write `stop_at`, counted from 0.
-// Behind that one it counts its writes: a write that was refused is not to be tried again.
+// After that one it counts its writes: a write that was refused is not to be tried again.
 #[derive(Drop)]
 struct Stopping {
     got: Vec<u8>,
@@ -263,7 +263,7 @@ const ROOT_ALONE: &str =
 // One buffer of `load`.
 const BUFFER: u64 = 65_536;
 
-// An empty line is no header, no path and nothing behind the last line. `load` stops there, and has read no further than
+// An empty line is no header, no path and nothing after the last line. `load` stops there, and has read no further than
 // the buffer in which the line ends.
 #[test]
 fn endless_readers(rt: HostRuntime) {

@@ -11,7 +11,7 @@ const SEGMENT: &str = "{\"op\":\"OP_START_LOG_SEGMENT\",\"txid\":1}
 {\"op\":\"OP_END_LOG_SEGMENT\",\"txid\":3}
 ";
 
-// It begins in the other one, and ends behind it.
+// It begins in the other one, and ends after it.
 const LATER: &str = "edits_0000000000000000002-0000000000000000004";
 
 const LATER_SEGMENT: &str = "{\"op\":\"OP_START_LOG_SEGMENT\",\"txid\":2}

@@ -39,7 +39,7 @@ fn numbers_without_a_gap(rt: HostRuntime) -> Result<(), Fail> {
     Ok(())
 }
 
-// Behind a flush nothing is taken, and a second flush has nothing to do.
+// After a flush nothing is taken, and a second flush has nothing to do.
 fn each_datanode_counts_from_1(rt: &impl Abort, shadow: &mut Shadow) {
     for (dn, number, fault) in [(0, 1, 56), (3, 1, 56), (1, 2, 58), (1, 1, 0), (1, 1, 58)] {
         let done = hand(shadow, received(dn, number, B, 1001));

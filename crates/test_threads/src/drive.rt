@@ -71,7 +71,7 @@ const AT_ONCE: Driven = Driven {
     ..PLAIN
 };
 
-// The second segment is held back until each of two DataNodes was asked for what comes behind its 1,003 reports. Its lane
+// The second segment is held back until each of two DataNodes was asked for what comes after its 1,003 reports. Its lane
 // holds two, so at least 1,001 of each were taken by then: a log that is slow keeps back no report.
 const SLOW_LOG: Driven = Driven {
     name: "slow log",
@@ -139,7 +139,7 @@ const FAILS_AT_SECOND: Driven = Driven {
     ..PLAIN
 };
 
-// DataNodes that report without end, behind a log that stops at a gap: the drive ends all the same.
+// DataNodes that report without end, after a log that stops at a gap: the drive ends all the same.
 const ENDLESS_REPORTS: Driven = Driven {
     name: "endless reports",
     reports: u64::MAX,

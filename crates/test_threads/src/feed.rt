@@ -40,7 +40,7 @@ struct Fed {
     put: Result<u64, u8>,
     // How often the log was asked.
     calls: u64,
-    // How many segments were got, and the number of the fault behind them. Or how many were put before the first was
+    // How many segments were got, and the number of the fault after them. Or how many were put before the first was
     // got, and after.
     got: (u64, u64),
 }
@@ -289,7 +289,7 @@ fn is_segment(answer: &Result<Item, SourceFault>) -> bool {
     matches!(answer, Ok(Item::Segment(_)))
 }
 
-// Behind End nothing is put, and End comes again and again.
+// After End nothing is put, and End comes again and again.
 #[test]
 fn after_end(rt: HostRuntime) {
     let Ok((mut feeder, mut end)) = feed(&rt, rt.alloc()) else {
@@ -392,7 +392,7 @@ fn looks_without_taking(rt: HostRuntime) {
     assert_eq!(rt; looks_for_nobody(&rt, rt.alloc()), Some(true));
 }
 
-// Before a segment was put, behind that, once it was got, and once End was got.
+// Before a segment was put, after that, once it was got, and once End was got.
 fn looks(rt: &impl Wait, alloc: Global) -> Option<(bool, bool, bool, bool)> {
     let segment = a_segment(alloc)?;
     let Ok((mut feeder, mut end)) = feed(rt, alloc) else {

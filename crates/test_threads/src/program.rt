@@ -128,11 +128,11 @@ const LINES: &[u8] =
 
 const LISTING: &[u8] = b"txid 3\ndir \"/\"\ndir \"/a\"\nblocks 0 safe 0 needed 0 mode off\n";
 
-// An image of the root alone, and behind it the same lines.
+// An image of the root alone, and after it the same lines.
 const BEHIND_AN_IMAGE: &[u8] =
     b"{\"awaiting\":[],\"image\":\"hdfs-standby\",\"last_block\":1073741824,\"last_gen\":1000,\"profile\":1,\"txid\":0,\"version\":2}\n{\"end\":0}\n{\"op\":\"OP_START_LOG_SEGMENT\",\"txid\":1}\n{\"op\":\"OP_MKDIR\",\"path\":\"/a\",\"txid\":2}\n{\"op\":\"OP_END_LOG_SEGMENT\",\"txid\":3}\n";
 
-// An image that counts a path too many, and lines behind it.
+// An image that counts a path too many, and lines after it.
 const BEHIND_A_BAD_IMAGE: &[u8] =
     b"{\"awaiting\":[],\"image\":\"hdfs-standby\",\"last_block\":1073741824,\"last_gen\":1000,\"profile\":1,\"txid\":0,\"version\":2}\n{\"end\":1}\n{\"op\":\"OP_START_LOG_SEGMENT\",\"txid\":1}\n";
 
@@ -445,7 +445,7 @@ impl Write for Counting {
     }
 }
 
-// A run over 16,500 directories, each in the one before. Their lines have 272,382,000 bytes, and the lines before and behind
+// A run over 16,500 directories, each in the one before. Their lines have 272,382,000 bytes, and the lines before and after
 // them 53.
 #[test]
 fn a_listing_above_256_mib(rt: HostRuntime) {
@@ -500,7 +500,7 @@ fn push_moves(alloc: Global, text: &mut Vec<u8>, moves: u64) -> Option<()> {
     )
 }
 
-// Adds one move of the directory `top` behind seven directories of the other name, and answers its txid.
+// Adds one move of the directory `top` after seven directories of the other name, and answers its txid.
 fn push_move(alloc: Global, text: &mut Vec<u8>, txid: u64, top: &str, other: &str) -> Option<u64> {
     let mut path = String::new(alloc);
     let txid = push_chain(alloc, text, txid, other, &mut path)?;
@@ -510,7 +510,7 @@ fn push_move(alloc: Global, text: &mut Vec<u8>, txid: u64, top: &str, other: &st
     Some(txid)
 }
 
-// Adds the seven directories, and answers the txid behind them.
+// Adds the seven directories, and answers the txid after them.
 fn push_chain(
     alloc: Global,
     text: &mut Vec<u8>,

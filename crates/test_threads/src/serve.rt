@@ -186,7 +186,7 @@ struct Service {
     pace: Pace,
     // The log's call that fails, from 0.
     fails_at: u64,
-    // When the operator wishes a promotion, and whether it shows the log how many messages came.
+    // When the operator asks for a promotion, and whether it shows the log how many messages came.
     messages: u64,
     txid: u64,
     shows_messages: bool,
@@ -244,7 +244,7 @@ const SLOW_LOG: Service = Service {
     ..ENDLESS
 };
 
-// The log has no end before its operator wishes the promotion.
+// The log has no end before its operator asks for the promotion.
 const FENCED: Service = Service {
     name: "fenced",
     log: &[TWO_MARKS],

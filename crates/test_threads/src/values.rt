@@ -34,7 +34,7 @@ pub const TWO_MARKS: Text = (
     "{\"op\":\"OP_START_LOG_SEGMENT\",\"txid\":1}\n{\"op\":\"OP_END_LOG_SEGMENT\",\"txid\":2}\n",
 );
 
-/// And two more behind them.
+/// And two more after them.
 pub const TWO_MORE: Text = (
     "edits_0000000000000000003-0000000000000000004",
     "{\"op\":\"OP_START_LOG_SEGMENT\",\"txid\":3}\n{\"op\":\"OP_END_LOG_SEGMENT\",\"txid\":4}\n",

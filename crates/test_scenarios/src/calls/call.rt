@@ -84,7 +84,7 @@ impl<'a> Call<'a> {
         Length::new(self.number(at)).unwrap()
     }
 
-    /// A block: its id, and behind it its stamp and length.
+    /// A block: its id, and after it its stamp and length.
     pub fn block(&mut self) -> Block {
         Block {
             id: self.id(1),

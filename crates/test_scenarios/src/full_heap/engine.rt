@@ -20,7 +20,7 @@ const LINES: &[u8] = br#"{"op":"OP_START_LOG_SEGMENT","txid":1}
 {"op":"OP_END_LOG_SEGMENT","txid":7}
 "#;
 
-// The image after transaction 4, and the same lines behind it.
+// The image after transaction 4, and the same lines after it.
 const BEHIND_IMAGE: &[u8] =
     br#"{"awaiting":[1073741825],"image":"hdfs-standby","last_block":1073741825,"last_gen":1001,"profile":1,"txid":4,"version":2}
 {"blocks":[],"closed":false,"path":"/f","replication":3,"type":"file"}

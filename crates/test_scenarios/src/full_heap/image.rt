@@ -38,7 +38,7 @@ impl Changing for Save<'_> {
         }
     }
 
-    // What was written is a front of the whole image.
+    // What was written is a prefix of the whole image.
     fn is_unchanged(&self, image: &Vec<u8>, whole: &Vec<u8>) -> bool {
         whole.starts_with(image)
     }
@@ -104,7 +104,7 @@ impl Changing for Rewrite<'_> {
         }
     }
 
-    // What was written is a front of the whole image.
+    // What was written is a prefix of the whole image.
     fn is_unchanged(&self, written: &Vec<u8>, whole: &Vec<u8>) -> bool {
         whole.starts_with(written)
     }

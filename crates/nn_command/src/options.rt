@@ -36,7 +36,7 @@ const HISTORY: &str =
 const IMAGE: &str = "Prints the image of the namespace too, after the tables.";
 
 const FROM_IMAGE: &str =
-    "Goes on from the image that standard input begins with, or that stands there behind a line image.";
+    "Goes on from the image that standard input begins with, or that stands there after a line image.";
 
 const CAPACITY: &str = "How many reports of a DataNode wait at a time with --threads, 1 to 1024.";
 
@@ -51,7 +51,7 @@ pub struct Request {
     pub threads: bool,
     /// How many reports a lane holds at a time, 1 to 1024.
     pub capacity: u16,
-    /// The number of the fault that is to be explained, in place of a run.
+    /// The number of the fault that is to be explained, instead of a run.
     pub explain: Option<u8>,
 }
 

@@ -24,7 +24,7 @@ const MISUSED: u8 = 2;
 
 const NOT_TEXT: &[u8] = b"error: an argument is not UTF-8\n";
 
-const NO_FAULT: &[u8] = b"error: no fault has the number behind --explain\n";
+const NO_FAULT: &[u8] = b"error: no fault has the number after --explain\n";
 
 /// Why the arguments could not be had.
 #[derive(Clone, Copy, Debug, PartialEq, Eq)]

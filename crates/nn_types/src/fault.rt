@@ -152,7 +152,7 @@ pub fn explanation(number: u8) -> Option<&'static str>
         ),
         INPUT_FAULT => Some(
             "InputFault: the input could not be read to its end, or it has more than 16777216 bytes. Cut a longer \
-             log behind an OP_END_LOG_SEGMENT, and go on with --from-image from what --image printed; no image \
+             log after an OP_END_LOG_SEGMENT, and go on with --from-image from what --image printed; no image \
              holds block reports, so tell the second run the full reports of all DataNodes again.",
         ),
         BAD_NAME => Some(
@@ -256,7 +256,7 @@ pub fn explanation(number: u8) -> Option<&'static str>
         ),
         ENDED => Some(
             "Ended: the end or a fault was put into the feed before, or it has carried 2^60 segments. Put nothing \
-             behind it, and make another feed.",
+             after it, and make another feed.",
         ),
         GONE => Some(
             "Gone: the other end of the feed is gone. See why that thread ended, and make another feed.",
@@ -325,7 +325,7 @@ pub fn explanation(number: u8) -> Option<&'static str>
              it again.",
         ),
         WRITE_FAULT => Some(
-            "WriteFault: the image could not be written to its end, so only a front of it is there. Make room for \
+            "WriteFault: the image could not be written to its end, so only a prefix of it is there. Make room for \
              it, and write it again.",
         ),
         _ => None,

@@ -4,7 +4,7 @@ use nn_device::{Reader, Writer};
 use nn_edits::{Scratch, read_edit};
 use nn_image::{image_name, load, rewrite, save};
 use nn_tree::{Found, Namespace, Touched};
-use nn_types::{Edit, Path, Status, text_of};
+use nn_types::{Edit, Path, Status};
 
 /// Calls on a namespace, and on its image. Whether this was one.
 pub fn change(files: &mut Namespace, text: &mut Vec<u8>, call: &mut Call<'_>) -> bool {
@@ -153,7 +153,7 @@ fn show_paths(files: &Namespace, call: &mut Call<'_>) {
         return;
     };
     for row in &rows {
-        match text_of(call.alloc, &row.names) {
+        match row.text(call.alloc) {
             Ok(path) => call.say(&path),
             Err(_) => call.failed = true,
         }

@@ -35,7 +35,7 @@ made_here es m k n ps t e d g b =
     let walked : walk (at es) (n ∷ []) ≡ None = ap (λ o. in_directory o None) (at_top es m d) in
     subst (λ (p : Path). IsMade es p t (dir_rows k)) (sym e) (made_fault (at es) (n ∷ []) refl walked (free []), free, graft_here es m k n (Some t) d b)
 
--- what stood there, put back in place of what came
+-- what stood there, put back instead of what came
 pub put_back : (es : List (Path × Form)) (m k l : Children) (n : List ℕ) (t w : Tree) → IsDir es m → Some w ≡ child m n → Becomes m k n (Some t) → Becomes k l n (Some w) → IsSame es (dir_rows l)
 put_back es m k l n t w d g b c [] = sym (at_top es m d)
 put_back es m k l n t w d g b c (x ∷ q) =

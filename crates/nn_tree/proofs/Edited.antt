@@ -15,7 +15,7 @@ use Rattle.nn_tree.specs.At.{at, grafted, IsSubtree, IsGrafted, IsSame}
 use Rattle.nn_model.proofs.Prefixes.{same, same_cons, name_same}
 use Rattle.nn_tree.proofs.Maps.{graft_gone}
 
--- a row in place of one with nothing below it
+-- a row instead of one with nothing below it
 pub graft_leaf : (f : Path → Option Form) (p : Path) (r : Form) → ((n : List ℕ) (q : Path) → f (p ++ n ∷ q) ≡ None) → (q : Path) → grafted f p (at (([], r) ∷ [])) q ≡ cond (same q p) (Some r) (f q)
 graft_leaf f [] r h [] = refl
 graft_leaf f [] r h (n ∷ q) = sym (h n q)
@@ -31,7 +31,7 @@ graft_leaf f (n ∷ ns) r h (x ∷ q) =
 sorted : (es : List (Path × Form)) → T (is_sorted path_cmp (in_path_order es))
 sorted es = to_T _ (sorted_in_order es)
 
--- a tree with a row at p in place of what was there
+-- a tree with a row at p instead of what was there
 pub put_there : (es new : List (Path × Form)) (p : Path) (r : Form) → ((q : Path) → at new q ≡ cond (same q p) (Some r) (at es q)) → in_path_order new ≡ put path_cmp p r (in_path_order es)
 put_there es new p r h =
     same_rows (in_path_order new) (put path_cmp p r (in_path_order es)) (sorted new) (is_sorted-put path_cmp paths_total p r (in_path_order es) (sorted es))
@@ -46,7 +46,7 @@ gone_there es new p h =
     (λ q. find_in_order q new ∙ h q ∙ graft_gone (at es) p q
     ∙ sym (lookup_delete (in_path_order es) p q ∙ ap (λ o. cond (not (begins_with p q)) o None) (find_in_order q es)))
 
--- ---- a file in place of a file
+-- ---- a file instead of a file
 only : (f : Path → Option Form) (p : Path) (x : Form) → ((q : Path) → f (p ++ q) ≡ at (([], x) ∷ []) q) → (n : List ℕ) (q : Path) → f (p ++ n ∷ q) ≡ None
 only f p x h n q = h (n ∷ q)
 

@@ -54,7 +54,7 @@ still_seen es new issued h = ap (λ r. record { rows = r; issued = issued }) (sa
 pub still_kept : (es new : List (Path × Form)) (issued : Issued) (look : ℕ → Option BlockRow) → IsSame es new → IsKept (seen es issued) look → IsKept (seen new issued) look
 still_kept es new issued look h k = subst (λ n. IsKept n look) (sym (still_seen es new issued h)) k
 
--- ---- a row in place of another
+-- ---- a row instead of another
 pub put_seen : (es new : List (Path × Form)) (issued : Issued) (p : Path) (r : Form) → ((q : Path) → at new q ≡ cond (same q p) (Some r) (at es q)) → seen new issued ≡ with_row (seen es issued) p r
 put_seen es new issued p r h = ap (λ x. record { rows = x; issued = issued }) (put_there es new p r h)
 
@@ -112,7 +112,7 @@ rename_kept es new issued look s d ss ds e f l lawful fault free h k =
           (index_alike (moved_rows (at es) ss ds) (at new) look h (index_renamed (at es) ss ds look move (index_alike (lookup n) (at es) look same_rows k.index)));
     }
 
--- ---- a file in place of a file
+-- ---- a file instead of a file
 -- the file that stood there
 pub file_was : (es : List (Path × Form)) (issued : Issued) (p ns : Path) (x : FileRow) → ns ≡ p → IsSubtree es ns (Some (([], File x) ∷ [])) → lookup (seen es issued) p ≡ Some (File x)
 file_was es issued p ns x e h = sym (λ j. looks es (seen es issued) refl j (e j)) ∙ ap (at es) (sym (append-nil ns)) ∙ h []

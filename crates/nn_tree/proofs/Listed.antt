@@ -83,7 +83,7 @@ list_stays : (n : Namespace) (p : Path) (bs : List Block) (closed : Bool) → Is
 list_stays n p bs true l lawful w = stays_well_formed n (edit.Close p bs) l lawful w
 list_stays n p bs false l lawful w = stays_well_formed n (edit.UpdateBlocks p bs) l lawful w
 
--- a list with the same ids in place of a file's, in a file that is closed or open now
+-- a list with the same ids instead of a file's, in a file that is closed or open now
 written_kept : (n : Namespace) (p : Path) (bs : List Block) (closed : Bool) (x : FileRow) (look next : ℕ → Option BlockRow) → keeps_ids (file_at n p).blocks bs ≡ true → IsWellFormed (with_blocks n p bs closed) → lookup n p ≡ Some (File x) → ((q : ℕ) → next q ≡ renewed look (file_at n p).blocks bs closed q) → IsKept n look → IsKept (with_blocks n p bs closed) next
 written_kept n p bs closed x look next ids well was goes k =
     let f = file_at n p in

@@ -139,7 +139,7 @@ pub on_err : {X E P Q : Type 0} (r : Result X E) → (P → Q) → OnErr r P →
 on_err (Ok x) f p = p
 on_err (Err e) f p = f p
 
--- nothing in place of nothing
+-- nothing instead of nothing
 pub graft_nothing : (f : Path → Option Form) (p : Path) → ((q : Path) → f (p ++ q) ≡ None) → (q : Path) → grafted f p (rows None) q ≡ f q
 graft_nothing f [] h q = sym (h q)
 graft_nothing f (n ∷ ns) h [] = refl

@@ -23,13 +23,13 @@ rows (Some t) q = at t q
 abbrev pub IsSubtree : List (Path × Form) → Path → Option (List (Path × Form)) → Type 0
 IsSubtree es p o = (q : Path) → at es (p ++ q) ≡ rows o q
 
--- f, with g in place of what it has at the path p and below
+-- f, with g instead of what it has at the path p and below
 abbrev pub grafted : (Path → Option Form) → Path → (Path → Option Form) → Path → Option Form
 grafted f [] g q = g q
 grafted f (n ∷ ns) g [] = f []
 grafted f (n ∷ ns) g (m ∷ q) = cond (bytes_eq n m) (grafted (λ r. f (n ∷ r)) ns g q) (f (m ∷ q))
 
--- new is old with o at the path p in place of what stood there, and below it
+-- new is old with o at the path p instead of what stood there, and below it
 abbrev pub IsGrafted : List (Path × Form) → Path → Option (List (Path × Form)) → List (Path × Form) → Type 0
 IsGrafted old p o new = (q : Path) → at new q ≡ grafted (at old) p (rows o) q
 

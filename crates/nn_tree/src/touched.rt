@@ -52,7 +52,7 @@ impl Touched {
         })
     }
 
-    /// A list of blocks in place of another one, which may have more of them, in a file that is closed or open now.
+    /// A list of blocks instead of another one, which may have more of them, in a file that is closed or open now.
     pub(crate) fn listed(
         alloc: Global,
         old: &[Block],

@@ -11,7 +11,7 @@ pub const MISSING_FIELD: u8 = 2;
 pub const BAD_NUMBER: u8 = 3;
 /// The operation is unknown.
 pub const UNKNOWN_OP: u8 = 4;
-/// A text is no path.
+/// A text is not a path.
 pub const BAD_PATH: u8 = 5;
 /// A line is longer than 65,536 bytes.
 pub const LINE_TOO_LONG: u8 = 6;

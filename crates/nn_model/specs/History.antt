@@ -1,4 +1,4 @@
--- Histories of a standby: the transactions that it applied and the messages that it processed, in order.
+-- Histories of a standby: the transactions that it applied and the items that it processed, in order.
 use Rattle.std.specs.Prelude.{◌≡◌, ℕ, Bool, true, false, ◌&&◌, List, [], ◌∷◌, ◌++◌, length, take, Option, Some, None, filter_map, ◌==◌, ◌+◌, if◌then◌else◌}
 use Rattle.std.specs.List.{list_any}
 use Rattle.nn_types.specs.declared.report.Message.{Message}
@@ -13,7 +13,7 @@ use Rattle.nn_model.specs.Log.{namespace_after}
 abbrev pub History : Type 0
 History = List Event
 
--- the message was processed for this cause
+-- the item was processed for this cause
 abbrev pub processed : Cause → Message → Event
 processed cause m = Processed m.dn m.number m.block cause
 
@@ -46,7 +46,7 @@ abbrev pub number_of : ℕ → ℕ → Event → Option ℕ
 number_of dn block (Applied txid) = None
 number_of dn block (Processed d number b cause) = if (d == dn) && (b == block) then Some number else None
 
--- the numbers of the DataNode's messages about the block that were processed, in order
+-- the numbers of the DataNode's items about the block that were processed, in order
 abbrev pub numbers_of : ℕ → ℕ → History → List ℕ
 numbers_of dn block events = filter_map (number_of dn block) events
 
@@ -54,7 +54,7 @@ abbrev pub processes : ℕ → ℕ → ℕ → Event → Bool
 processes dn number block (Applied txid) = false
 processes dn number block (Processed d k b cause) = (d == dn) && (k == number) && (b == block)
 
--- how often the DataNode's message with this number about this block was processed
+-- how often the DataNode's item with this number about this block was processed
 abbrev pub times_processed : ℕ → ℕ → ℕ → History → ℕ
 times_processed dn number block [] = 0
 times_processed dn number block (event ∷ events) = (if processes dn number block event then 1 else 0) + times_processed dn number block events

@@ -16,18 +16,18 @@ use Rattle.nn_model.specs.History.{History, EachEvent, applied_txids, namespace_
 
 -- ---- What a lawful history says of one event, where `before` are the events before it.
 
--- what was processed is a message that was sent: its DataNode, its number and its block are the event's
+-- what was processed is an item that was sent: its DataNode, its number and its block are the event's
 abbrev pub NamesMessage : Lanes → History → Event → Type 0
 NamesMessage lanes before (Applied txid) = Unit {0}
 NamesMessage lanes before (Processed dn number block cause) =
     (m : Message) × IsSent lanes m × (m.dn ≡ dn) × (m.number ≡ number) × (m.block ≡ block)
 
--- the event processes a message of this DataNode about this block, with this number or a later one
+-- the event processes an item of this DataNode about this block, with this number or a later one
 abbrev pub reaches : ℕ → ℕ → ℕ → Event → Bool
 reaches dn block number (Applied txid) = false
 reaches dn block number (Processed d k b cause) = (d == dn) && (b == block) && nat_le number k
 
--- no message of the same DataNode about the same block was processed before with the same number or a later one
+-- no item of the same DataNode about the same block was processed before with the same number or a later one
 abbrev pub NumberRises : History → Event → Type 0
 NumberRises before (Applied txid) = Unit {0}
 NumberRises before (Processed dn number block cause) = list_any (reaches dn block number) before ≡ false
@@ -54,11 +54,11 @@ NoFlushBefore before (Processed dn number block Flush) = Unit {0}
 
 -- ---- Histories.
 
--- lawful, where this rule says when a message may be processed as due
+-- lawful, where this rule says when an item may be processed as due
 pub record IsLawfulBy (rule : History → Event → Type 0) (start : Namespace) (txs : List Tx) (lanes : Lanes) (events : History) : Type 0 where
   -- the transactions were applied in order, each once
   pub applied_in_order : applied_txids events ≡ map (λ tx. tx.txid) txs
-  -- only messages that were sent were processed
+  -- only items that were sent were processed
   pub sent : EachEvent (NamesMessage lanes) events
   -- of one DataNode about one block each was processed once, in sending order
   pub in_sending_order : EachEvent NumberRises events
@@ -80,7 +80,7 @@ abbrev pub IsWhole : Namespace → List Tx → Lanes → History → Type 0
 IsWhole start txs lanes events =
     (m : Message) → IsSent lanes m → IsHeld (namespace_after start txs) lanes m → Has events (processed Flush m)
 
--- ---- A looser reading, which asks of a message alone that it was due, whatever waited before it.
+-- ---- A looser reading, which asks of an item alone that it was due, whatever waited before it.
 
 -- what was processed as due was due by itself at the moment
 abbrev pub WasDueItself : Namespace → List Tx → Lanes → History → Event → Type 0

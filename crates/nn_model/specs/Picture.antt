@@ -8,7 +8,7 @@ use Rattle.nn_model.specs.Namespace.{Namespace}
 use Rattle.nn_model.specs.Lanes.{Lanes}
 use Rattle.nn_model.specs.Replay.{Sequential, reported, is_named}
 
--- the DataNode's last message about the block
+-- the DataNode's last item about the block
 abbrev pub last_said : Lanes → ℕ → ℕ → Option Message
 last_said lanes dn id = last_or None (filter (λ m. m.block == id) (lanes dn))
 

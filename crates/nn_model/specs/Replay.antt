@@ -41,7 +41,7 @@ after_edit s new = record {
   has_order = λ dn id. s.has_order dn id || (leaves s.namespace new id && is_some (s.replica dn id));
 }
 
--- ---- A message.
+-- ---- An item.
 
 abbrev pub reported_as : Kind → Message → Option Replica
 reported_as Receiving m = Some (record { stamp = m.stamp; len = m.len; kind = m.kind })
@@ -51,7 +51,7 @@ reported_as Begin m = None
 reported_as Listed m = None
 reported_as Finish m = None
 
--- the replica that the DataNode has by this message: none where it deleted it
+-- the replica that the DataNode has by this item: none where it deleted it
 abbrev pub reported : Message → Option Replica
 reported m = reported_as m.kind m
 
@@ -77,7 +77,7 @@ abbrev pub process_found : Sequential → Option Message → Sequential
 process_found s None = s
 process_found s (Some m) = after_message s m
 
--- an event: its transaction by its txid, its message by its DataNode, number and block
+-- an event: its transaction by its txid, its item by its DataNode, number and block
 abbrev pub after_event : List Tx → Lanes → Sequential → Event → Sequential
 after_event txs lanes s (Applied txid) = apply_found s (find (λ tx. tx.txid == txid) txs)
 after_event txs lanes s (Processed dn number block cause) = process_found s (message_of lanes dn number block)

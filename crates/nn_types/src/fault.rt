@@ -1,7 +1,8 @@
 //! The number of every fault, in one table. A fault's `number()` and the definitions cite these names; `explanation` says
 //! what each means.
-ghost use Rattle.std.specs.Prelude.{◌≡◌, option_map};
+ghost use Rattle.std.specs.Prelude.{◌≡◌, ◌<◌, ◌≤◌, option_map};
 ghost use Rattle.nn_types.specs.Fault.{name_in, name_of};
+ghost use Rattle.nn_types.specs.declared.fault.TheConstants.{FULL};
 
 /// A line is no JSON object.
 pub const NOT_JSON: u8 = 1;
@@ -116,8 +117,20 @@ pub const WRITE_FAULT: u8 = 68;
 
 /// What the fault of this number means, for whoever meets it: its name and a colon, what was wrong with which line,
 /// transaction or segment, and what can be done. `None` where no fault has the number.
-#[tactic(auto, unfolding(crate::specs::Fault::name_of))]
 pub fn explanation(number: u8) -> Option<&'static str>
+    ensures { option_map (λ text. name_in text.now) result ≡ name_of number }
+{
+    if number < FULL {
+        of_input(number)
+    } else {
+        of_call(number)
+    }
+}
+
+// Of a line, a segment or an edit, which are numbered below the others.
+#[tactic(auto, unfolding(crate::specs::Fault::name_of))]
+fn of_input(number: u8) -> Option<&'static str>
+    requires { number < FULL }
     ensures { option_map (λ text. name_in text.now) result ≡ name_of number }
 {
     match number {
@@ -243,6 +256,17 @@ pub fn explanation(number: u8) -> Option<&'static str>
             "LowerProfile: the start mark has a lower profile than one before it, and a log never goes back to \
              profile 1. Write profile 2 into the mark, or see whether the segment is of another log.",
         ),
+        _ => None,
+    }
+}
+
+// Of a lane, a feed, a source, a standby or an image.
+#[tactic(auto, unfolding(crate::specs::Fault::name_of))]
+fn of_call(number: u8) -> Option<&'static str>
+    requires { FULL ≤ number }
+    ensures { option_map (λ text. name_in text.now) result ≡ name_of number }
+{
+    match number {
         FULL => Some(
             "Full: the lane of the DataNode has no room. Report again once the standby has taken something from \
              it, or make lanes with more room.",

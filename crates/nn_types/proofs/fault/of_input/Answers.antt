@@ -1,7 +1,7 @@
 use Rattle.std.proofs.Common.{rules, refl}
 use borrow.Author.Tests.{tests}
 use Rattle.nn_types.specs.Fault.{name_of}
-use Rattle.nn_types.proofs.fault.explanation.Goals as goal
+use Rattle.nn_types.proofs.fault.of_input.Goals as goal
 
 pub returns-in-29 : goal.returns-in-29
 unfolding name_of

@@ -80,7 +80,7 @@ impl Cursor {
     pub fn advance(&mut self)
         ensures { self.new ≡ drop 1 self.old }
     {
-        let _first = self.txs.pop_front();
+        drop(self.txs.pop_front());
     }
 
     /// Asks the source once, for the segment that comes after the transaction with this txid, and takes in hand what is
@@ -162,7 +162,7 @@ fn pass_over(txs: &mut VecDeque<Tx>, last: u64)
     ensures { PassesOver last txs.old.items txs.new.items }
 {
     'old: while is_passed(txs, last) {
-        let _old = txs.pop_front();
+        drop(txs.pop_front());
     }
 }
 

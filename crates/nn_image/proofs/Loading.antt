@@ -199,6 +199,9 @@ module _ (old mid new : Option (List ℕ)) (n0 n m : Namespace) (d : Data) (so_f
 pub ends_turn : {X : Type 0} (old mid new : Option (List ℕ)) (f g : List ℕ → Result X ImageFault) (x : X) → GoesOn old mid f g → Ends mid new g x → Ends old new f x
 ends_turn old mid new f g x on ends text is = let k = on text is in let j = ends k.0 k.1 in (k.2 ∙ j.0, j.1)
 
+pub goes_further : {X : Type 0} (old mid new : Option (List ℕ)) (f g h : List ℕ → Result X ImageFault) → GoesOn old mid f g → GoesOn mid new g h → GoesOn old new f h
+goes_further old mid new f g h on further text is = let k = on text is in let j = further k.0 k.1 in (j.0, j.1, k.2 ∙ j.2)
+
 -- ---- the whole image
 
 at_end_behind : (window : List ℕ) (left : Option (List ℕ)) → IsAtEnd (ahead window left) → IsAtEnd left

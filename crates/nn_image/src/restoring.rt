@@ -40,7 +40,7 @@ pub fn load<R: Read>(alloc: Global, reader: &mut Reader<R>) -> Result<(Namespace
     let mut window = Window::new(alloc)?;
     let header = load_header(alloc, reader, &mut window)?;
     let txid = header.txid;
-    let Ok(namespace) = Namespace::bare(
+    let Ok(mut namespace) = Namespace::bare(
         alloc,
         header.last_block,
         header.last_stamp,
@@ -49,7 +49,7 @@ pub fn load<R: Read>(alloc: Global, reader: &mut Reader<R>) -> Result<(Namespace
     ) else {
         return Err(ImageFault::OutOfMemory);
     };
-    let namespace = load_rows(alloc, reader, &mut window, namespace)?;
+    load_rows(alloc, reader, &mut window, &mut namespace)?;
     namespace.well_formed();
     Ok((namespace, txid))
 }
@@ -96,36 +96,66 @@ fn load_header<R: Read>(
     Ok(header)
 }
 
+// Reads the lines of paths, and the end line.
 fn load_rows<R: Read>(
     alloc: Global,
     reader: &mut Reader<R>,
     window: &mut Window,
-    namespace: Namespace,
-) -> Result<Namespace, ImageFault>
-    requires loading { IsLoading namespace [] 2 }
+    namespace: &mut Namespace,
+) -> Result<(), ImageFault>
+    requires loading { IsLoading namespace.old [] 2 }
     requires counted { length window.old ≤ reader.old.given }
-    ensures ok { IfOk result (λ n. Ends (ahead window.old reader.old.left) (ahead window.new reader.new.left)
-        (rows_of namespace) n) }
-    ensures paths { IfOk result (λ n. HasPaths namespace → HasPaths n) }
-    ensures counted { IfOk result IsCounted }
+    ensures ok { OnOk result (Ends (ahead window.old reader.old.left) (ahead window.new reader.new.left)
+        (rows_of namespace.old) namespace.new) }
+    ensures paths { OnOk result (HasPaths namespace.old → HasPaths namespace.new) }
+    ensures counted { OnOk result (IsCounted namespace.new) }
     ensures fault { IfErr result (λ e. Stops (ahead window.old reader.old.left) e
-        (rows_of namespace)) }
+        (rows_of namespace.old)) }
     ensures unfailed { OnOk result (reader.new.failed ≡ reader.old.failed) }
     ensures noted { IfErr result (λ e. Noted e reader.old.failed reader.new.failed) }
 {
-    let mut namespace = namespace;
     let mut before = root(alloc)?;
     for number in 2..u64::MAX {
-        let object = next_value(alloc, reader, window, number)?;
-        if let Some(count) = object.value.get("end") {
-            load_end(alloc, reader, window, number, count)?;
-            return Ok(namespace);
+        if load_line(alloc, reader, window, namespace, &mut before, number)? {
+            return Ok(());
         }
-        add_row(alloc, &mut namespace, &mut before, &object.value, number)?;
     }
     // Each line took a byte at least, and bytes are counted.
     reader.given();
     unreachable!()
+}
+
+// The next line: that of a path, which is added, or the end line. Whether it is the end line.
+fn load_line<R: Read>(
+    alloc: Global,
+    reader: &mut Reader<R>,
+    window: &mut Window,
+    namespace: &mut Namespace,
+    before: &mut Path,
+    number: u64,
+) -> Result<bool, ImageFault>
+    requires loading { IsLoading namespace.old before.old number }
+    requires from { 2 ≤ number }
+    requires below { number < 18446744073709551615 }
+    ensures last { result ≡ Ok true → Ends (ahead window.old reader.old.left) (ahead window.new reader.new.left)
+        (rows_of namespace.old) namespace.new }
+    ensures counted { result ≡ Ok true → IsCounted namespace.new }
+    ensures more { result ≡ Ok false → GoesOn (ahead window.old reader.old.left) (ahead window.new reader.new.left)
+        (rows_of namespace.old) (rows_of namespace.new) }
+    ensures loading { result ≡ Ok false → IsLoading namespace.new before.new (number + 1) }
+    ensures taken { result ≡ Ok false → Takes 1 window.old reader.old.given window.new reader.new.given }
+    ensures paths { OnOk result (HasPaths namespace.old → HasPaths namespace.new) }
+    ensures fault { IfErr result (λ e. Stops (ahead window.old reader.old.left) e (rows_of namespace.old)) }
+    ensures unfailed { OnOk result (reader.new.failed ≡ reader.old.failed) }
+    ensures noted { IfErr result (λ e. Noted e reader.old.failed reader.new.failed) }
+{
+    let object = next_value(alloc, reader, window, number)?;
+    if let Some(count) = object.value.get("end") {
+        load_end(alloc, reader, window, number, count)?;
+        return Ok(true);
+    }
+    add_row(alloc, namespace, before, &object.value, number)?;
+    Ok(false)
 }
 
 // The object of the next line.

@@ -54,12 +54,21 @@ fn apply(namespace: &mut Namespace, edit: Edit) -> Result<(), Fail> {
     Ok(())
 }
 
-// How many blocks the edit retires.
+// How many blocks the edit retires. It is dropped by name: each exit that drops it costs the proof seconds.
 fn retired_by(namespace: &mut Namespace, edit: Edit) -> Result<usize, Fail> {
-    let Ok(touched) = namespace.apply(&edit) else {
+    let retired = count_of(namespace, &edit);
+    drop(edit);
+    let Some(count) = retired else {
         return Err(Fail::new("not applied"));
     };
-    Ok(touched.retired.len())
+    Ok(count)
+}
+
+fn count_of(namespace: &mut Namespace, edit: &Edit) -> Option<usize> {
+    match namespace.apply(edit) {
+        Ok(touched) => Some(touched.retired.len()),
+        Err(_) => None,
+    }
 }
 
 fn make(alloc: Global, namespace: &mut Namespace) -> Result<(), Fail> {

@@ -1,6 +1,6 @@
 //! Paths of the namespace, seen as lists of names.
-ghost use Rattle.std.specs.Prelude.{◌≡◌, List, ℕ, length, Some, None, IfOk, IfSome, IfNone, IsErrOf, true, false};
-ghost use Rattle.std.specs.List.{list_all};
+ghost use Rattle.std.specs.Prelude.{◌≡◌, ◌+◌, ◌≤◌, List, ℕ, length, drop, Some, None, IfOk, IfSome, IfNone, IsErrOf, true, false};
+ghost use Rattle.std.specs.List.{list_all, prefix_len};
 ghost use Rattle.nn_types.specs.Fault.{number_of};
 ghost use Rattle.nn_types.specs.Path.{is_name, is_name_byte, parts, path_of, path_text, IsPath};
 
@@ -95,7 +95,7 @@ impl Path {
         let Some(rest) = text.strip_prefix('/') else {
             return Err(PathFault::BadPath);
         };
-        let Some(count) = count_names(rest) else {
+        let Some(count) = count_names(rest.as_bytes()) else {
             return Err(PathFault::BadPath);
         };
         if count > MAX_NAMES {
@@ -134,7 +134,7 @@ pub fn one_spelling()
 {}
 
 // How many parts between slashes a text has, if each is a name. An empty text has none.
-fn count_names(text: &str) -> Option<usize>
+fn count_names(text: &[u8]) -> Option<usize>
     ensures names { IfSome result (λ n. (n ≡ length (parts text.now)) × (list_all is_name (parts text.now) ≡ true)) }
     ensures bad { IfNone result (list_all is_name (parts text.now) ≡ false) }
 {
@@ -142,29 +142,48 @@ fn count_names(text: &str) -> Option<usize>
     if text.is_empty() {
         return Some(count);
     }
-    for name in text.split('/') {
-        if !is_name(name) {
+    let mut start = 0;
+    'names: loop {
+        let end = name_end(text, start);
+        if !is_name(&text[start..end]) {
             return None;
         }
         count += 1;
+        if end >= text.len() {
+            return Some(count);
+        }
+        if text[end] != b'/' {
+            return None;
+        }
+        start = end + 1;
     }
-    Some(count)
 }
 
-fn is_name(name: &str) -> bool
+// Where the first slash or colon from `from` on stands. It is the length of the text where there is none.
+#[inline(always)]
+fn name_end(text: &[u8], from: usize) -> usize
+    requires { from ≤ length text.now }
+    ensures value { result ≡ from + prefix_len is_name_byte (drop from text.now) }
+    ensures bound { result ≤ length text.now }
+{
+    let mut i = from;
+    while i < text.len() && text[i] != b'/' && text[i] != b':' {
+        i += 1;
+    }
+    i
+}
+
+// `name_end` has looked for slashes and colons.
+#[inline(always)]
+fn is_name(name: &[u8]) -> bool
+    requires { list_all is_name_byte name.now ≡ true }
     ensures { result ≡ is_name name.now }
 {
     if name.is_empty() || name.len() > MAX_NAME_LEN {
         return false;
     }
-    if name == "." || name == ".." {
-        return false;
+    match name {
+        b"." | b".." => false,
+        _ => true,
     }
-    has_name_bytes(name)
-}
-
-fn has_name_bytes(name: &str) -> bool
-    ensures { result ≡ list_all is_name_byte name.now }
-{
-    name.bytes().all(|b| b != b'/' && b != b':')
 }

@@ -15,15 +15,15 @@ use std::alloc::Global;
 
 /// The members of a block.
 #[derive(Clone, Copy, Drop)]
-struct Numbers<'a> {
-    id: Member<'a>,
-    stamp: Member<'a>,
-    len: Member<'a>,
+pub(crate) struct Numbers<'a> {
+    pub(crate) id: Member<'a>,
+    pub(crate) stamp: Member<'a>,
+    pub(crate) len: Member<'a>,
 }
 
 impl<'a> Numbers<'a> {
     #[inline(always)]
-    fn put(&mut self, key: &str, member: Member<'a>)
+    pub(crate) fn put(&mut self, key: &str, member: Member<'a>)
         ensures id { seen self.new.id
             ≡ (if bytes_eq key.now (codes "id") then seen member.entry else seen self.old.id) }
         ensures stamp { seen self.new.stamp
@@ -128,7 +128,7 @@ fn read_numbers(reader: &mut Reader<'_>, depth: usize) -> Result<Result<Block, L
 }
 
 #[tactic(auto, unfolding(crate::specs::Parts::block_from))]
-fn block_of(numbers: Numbers<'_>) -> Result<Block, LineFault>
+pub(crate) fn block_of(numbers: Numbers<'_>) -> Result<Block, LineFault>
     ensures { result ≡ block_from (seen numbers.entry.id) (seen numbers.entry.stamp) (seen numbers.entry.len) }
 {
     let id = block_id_in(numbers.id)?;

@@ -1,5 +1,6 @@
 //! The members of a line's object that the formats have, each in its place: filled in one pass over the tokens.
-ghost use Rattle.std.specs.Prelude.{◌≡◌, Err};
+ghost use Rattle.std.specs.Prelude.{◌≡◌, Err, codes};
+ghost use Rattle.std.specs.Str.{bytes_eq};
 ghost use Rattle.serde_json.specs.Data.{object, no_members};
 ghost use Rattle.nn_edits.specs.Parts.{seen, seen_fields, parts_of, slot_of, put_slot, put_if_slot, put_blocks};
 ghost use Rattle.nn_edits.specs.declared.fault.LineFault.TheVariants.{MissingField};
@@ -114,6 +115,17 @@ impl<'a> Fields<'a> {
         ensures { result ≡ self.old.blocks }
     {
         mem::replace(&mut self.blocks, Err(LineFault::MissingField))
+    }
+}
+
+/// Whether the key is that of the blocks.
+#[inline(always)]
+pub(crate) fn is_blocks(key: &str) -> bool
+    ensures { result ≡ bytes_eq key.now (codes "blocks") }
+{
+    match key.as_bytes() {
+        b"blocks" => true,
+        _ => false,
     }
 }
 

@@ -14,7 +14,8 @@ ghost use Rattle.nn_types.specs.declared.report.Report.{Report as ReportData};
 use crate::ahead::{TokenFault, read_member};
 use crate::blocks::read_blocks;
 use crate::fault::LineFault;
-use crate::fields::Fields;
+use crate::fields::{Fields, is_blocks};
+use crate::plain::read_plain;
 use crate::reading::tx_in;
 use crate::report::report_in;
 use json::{Reader, Scratch, Token};
@@ -131,6 +132,10 @@ fn fields_in<'a>(
     let Ok(text) = str::from_utf8(line) else {
         return Err(LineFault::NotJson);
     };
+    if read_plain(alloc, text, fields) {
+        return Ok(());
+    }
+    *fields = Fields::none();
     let mut reader = Reader::new(text, scratch)?;
     let Some(token) = reader.next() else {
         return Err(LineFault::NotJson);
@@ -161,7 +166,7 @@ fn read_fields<'a>(
         → members_at depth (length reader.old) no_members reader.old ≡ None }
 {
     'members: while let Some(key) = reader.next_key()? {
-        if key == "blocks" {
+        if is_blocks(key) {
             let blocks = read_blocks(alloc, reader, depth)?;
             fields.put_blocks(blocks);
         } else {

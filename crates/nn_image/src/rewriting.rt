@@ -36,7 +36,9 @@ pub fn rewrite<R: Read, W: Write>(
         Err(fault) => return Err(RewriteFault::Load(fault)),
     };
     namespace.well_formed();
-    match save(alloc, &namespace, txid, writer) {
+    let saved = save(alloc, &namespace, txid, writer);
+    drop(namespace);
+    match saved {
         Ok(()) => Ok(txid),
         Err(fault) => Err(RewriteFault::Save(fault)),
     }

@@ -324,12 +324,15 @@ fn drive_in<
     ensures err { IfErr result (λ fault. NotDriven T.gives T.failures standby source fault) }
 {
     if let Some(fault) = refusal(&standby) {
+        drop(standby);
         return Err(fault);
     }
     let Ok(reporters) = Vec::with_capacity(alloc, workers.len()) else {
+        drop(standby);
         return Err(DriveFault::OutOfMemory);
     };
     let Some(feeding) = start_feed(scope, rt, alloc, source) else {
+        drop(standby);
         return Err(DriveFault::OutOfMemory);
     };
     let Feeding { mut end, handle } = feeding;
@@ -337,6 +340,7 @@ fn drive_in<
         scope, rt, alloc, standby, &mut end, workers, reporters, ended,
     );
     if !end_feed(rt, end, handle) {
+        drop(outcome);
         return Err(DriveFault::OutOfMemory);
     }
     outcome

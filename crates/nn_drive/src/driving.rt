@@ -323,6 +323,7 @@ fn drive_in<
     ensures ok { IfOk result (λ r. IsDriven T.gives T.failures S.gives standby source workers.items r.0 r.1) }
     ensures err { IfErr result (λ fault. NotDriven T.gives T.failures standby source fault) }
 {
+    // What is owned is dropped by name. That is cheaper to prove than to leave it to each exit.
     if let Some(fault) = refusal(&standby) {
         drop(standby);
         return Err(fault);

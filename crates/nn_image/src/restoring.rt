@@ -49,7 +49,10 @@ pub fn load<R: Read>(alloc: Global, reader: &mut Reader<R>) -> Result<(Namespace
     ) else {
         return Err(ImageFault::OutOfMemory);
     };
-    load_rows(alloc, reader, &mut window, &mut namespace)?;
+    if let Err(fault) = load_rows(alloc, reader, &mut window, &mut namespace) {
+        drop(namespace);
+        return Err(fault);
+    }
     namespace.well_formed();
     Ok((namespace, txid))
 }

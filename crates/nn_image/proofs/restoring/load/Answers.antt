@@ -17,18 +17,16 @@ returns-clause-ok g c =
     loaded c.in_ok-window.window c.args.reader.now.left c.in_ok-window.ensures
     (ahead c.load_header.new.window c.load_header.new.reader.left) c.in_ok-header.header.txid (header_value c.in_ok-header.header).0
     c.in-Ok.namespace (c.in-Ok.ensures ∙ ap (λ (ids : List ℕ). bare (record { last_block = c.in_ok-header.header.last_block; last_stamp = c.in_ok-header.header.last_stamp; awaiting = ids; profile = c.in_ok-header.header.profile })) c.deref.ensures.value) c.in_ok-header.ensures.ok
-    c.load_rows.new.window c.load_rows.new.reader.left c.load_rows.new.namespace c.in_ok-load_rows.ensures.ok
+    c.load_rows.new.window c.load_rows.new.reader.left c.load_rows.new.namespace c.in_default-load_rows.ensures.ok
 
-pub returns-in_err-load_rows-clause-fault : goal.returns-in_err-load_rows-clause-fault
-returns-in_err-load_rows-clause-fault g c =
-    let fault = c.in_err-load_rows.field-0.0 in
-    let is : c.from_residual-in_err-load_rows.result ≡ Err fault = grind arith in
-    rw is (rows_stop c.in_ok-window.window c.args.reader.now.left c.in_ok-window.ensures
+pub returns-in-Err-clause-fault : goal.returns-in-Err-clause-fault
+returns-in-Err-clause-fault g c =
+    rows_stop c.in_ok-window.window c.args.reader.now.left c.in_ok-window.ensures
     (ahead c.load_header.new.window c.load_header.new.reader.left) c.in_ok-header.header.txid (header_value c.in_ok-header.header).0
-    c.in-Ok.namespace (c.in-Ok.ensures ∙ ap (λ (ids : List ℕ). bare (record { last_block = c.in_ok-header.header.last_block; last_stamp = c.in_ok-header.header.last_stamp; awaiting = ids; profile = c.in_ok-header.header.profile })) c.deref.ensures.value) c.in_ok-header.ensures.ok fault c.in_err-load_rows.ensures.fault)
+    c.in-Ok.namespace (c.in-Ok.ensures ∙ ap (λ (ids : List ℕ). bare (record { last_block = c.in_ok-header.header.last_block; last_stamp = c.in_ok-header.header.last_stamp; awaiting = ids; profile = c.in_ok-header.header.profile })) c.deref.ensures.value) c.in_ok-header.ensures.ok c.in-Err.fault c.in-Err.ensures.fault
 
 pub returns-clause-again : goal.returns-clause-again
 returns-clause-again g c =
     read_again c.load_rows.new.namespace c.in-Ok.namespace (header_value c.in_ok-header.header).0.issued c.in_ok-header.header.txid
     (c.in-Ok.ensures ∙ ap (λ (ids : List ℕ). bare (record { last_block = c.in_ok-header.header.last_block; last_stamp = c.in_ok-header.header.last_stamp; awaiting = ids; profile = c.in_ok-header.header.profile })) c.deref.ensures.value)
-    c.in_ok-load_rows.ensures.paths c.in_ok-load_rows.ensures.counted c.well_formed-2.ensures c.in_ok-header.ensures.limit
+    c.in_default-load_rows.ensures.paths c.in_default-load_rows.ensures.counted c.well_formed-2.ensures c.in_ok-header.ensures.limit

@@ -43,7 +43,9 @@ fn play_script(
     tally: &mut Tally,
 ) -> io::Result<()> {
     let mut subjects = Subjects::new(alloc);
-    play_lines(rt, alloc, name, script, &mut subjects, tally)
+    let played = play_lines(rt, alloc, name, script, &mut subjects, tally);
+    drop(subjects);
+    played
 }
 
 fn play_lines(

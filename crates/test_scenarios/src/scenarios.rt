@@ -33,36 +33,49 @@ pub fn play<T: Threads + Wait + Sync>(
     tally.print(rt)
 }
 
+// What is owned is dropped by name, once: each exit that drops it costs the proof seconds.
 fn agrees<T: Threads + Wait + Sync>(rt: &HostRuntime, threads: &T, name: &str) -> io::Result<bool> {
-    let arguments = file(rt, name, "args", "")?;
     let worked = Worked {
+        arguments: file(rt, name, "args", "")?,
         input: file(rt, name, "in", "")?,
         output: file(rt, name, "out", "")?,
         errors: file(rt, name, "err", "")?,
         status: file(rt, name, "status", "0")?,
     };
-    if !plays(threads, rt.alloc(), &worked, &arguments)? {
-        return Ok(false);
-    }
-    // With threads a history has the order of its run.
-    if arguments.contains("--threads") || arguments.contains("--history") {
-        return Ok(true);
-    }
-    // The capacity is given once.
-    if arguments.contains("--capacity") {
-        return Ok(true);
-    }
-    let with_threads = format!(in rt.alloc(); "{arguments} --threads --capacity 1")?;
-    plays(threads, rt.alloc(), &worked, &with_threads)
+    let agrees = plays_twice(threads, rt.alloc(), &worked);
+    drop(worked);
+    agrees
 }
 
 // What the files of a scenario hold.
 #[derive(Drop)]
 struct Worked {
+    arguments: String,
     input: String,
     output: String,
     errors: String,
     status: String,
+}
+
+// Whether the program does what it should, and does it once more with threads. There a history has the order of its run,
+// and the capacity is given once.
+fn plays_twice<T: Threads + Wait + Sync>(
+    threads: &T,
+    alloc: Global,
+    worked: &Worked,
+) -> io::Result<bool> {
+    let arguments = worked.arguments.as_str();
+    if !plays(threads, alloc, worked, arguments)? {
+        return Ok(false);
+    }
+    if arguments.contains("--threads")
+        || arguments.contains("--history")
+        || arguments.contains("--capacity")
+    {
+        return Ok(true);
+    }
+    let with_threads = format!(in alloc; "{arguments} --threads --capacity 1")?;
+    plays(threads, alloc, worked, &with_threads)
 }
 
 // Whether the program does for these arguments what it should.
@@ -73,28 +86,39 @@ fn plays<T: Threads + Wait + Sync>(
     arguments: &str,
 ) -> io::Result<bool> {
     let arguments = arguments_of(alloc, arguments)?;
+    let ends_so = ends_so(threads, alloc, worked, arguments.as_slice());
+    drop(arguments);
+    Ok(ends_so?)
+}
+
+fn ends_so<T: Threads + Wait + Sync>(
+    threads: &T,
+    alloc: Global,
+    worked: &Worked,
+    arguments: &[String],
+) -> Result<bool, AllocError> {
+    let gate = Arc::new(alloc, Open)?;
     let mut output = Writer::new(Vec::new(alloc));
     let mut errors = Writer::new(Vec::new(alloc));
     let mut input = Reader::new(worked.input.as_bytes());
-    let gate = Arc::new(alloc, Open)?;
     let status = serve(
         threads,
         alloc,
-        Ok(arguments.as_slice()),
+        Ok(arguments),
         &mut input,
         &mut output,
         &mut errors,
         gate,
     );
-    let status = format!(in alloc; "{status}")?;
-    let output = output.into_inner();
-    let errors = errors.into_inner();
-    Ok(
-        output.as_slice() == worked.output.as_bytes()
-            && errors.starts_with(worked.errors.as_bytes())
-            && errors.is_empty() == worked.errors.is_empty()
-            && status.as_str() == worked.status.trim(),
-    )
+    let is_told = is_told(worked, &output.into_inner(), &errors.into_inner());
+    Ok(is_told && worked.status.trim().parse::<u8>() == Ok(status))
+}
+
+// Whether these are the output and the errors.
+fn is_told(worked: &Worked, output: &[u8], errors: &[u8]) -> bool {
+    output == worked.output.as_bytes()
+        && errors.starts_with(worked.errors.as_bytes())
+        && errors.is_empty() == worked.errors.is_empty()
 }
 
 // The program's name, and the arguments of a text, which are split at blanks.

@@ -193,6 +193,7 @@ fn ends<R: Abort + Threads + Wait + Sync>(rt: &R, alloc: Global, driven: &Driven
     let came = shared.came.load(Ordering::SeqCst);
     let vain = shared.vain.load(Ordering::SeqCst);
     let held = Arc::strong_count(&shared);
+    drop(shared);
     assert_eq!(rt; end, Some(driven.end), "{name}");
     assert_eq!(rt; (came, vain, held), (driven.came, 0, 1), "{name}");
 }
@@ -223,7 +224,10 @@ fn end_over<R: Threads + Wait + Sync>(
     requires { AreLanes workers.items standby.ends }
 {
     match drive(rt, alloc, standby, log, workers) {
-        Ok((_shadow, active)) => Ok((active.last, active.flushed)),
+        Ok((shadow, active)) => {
+            drop(shadow);
+            Ok((active.last, active.flushed))
+        }
         Err(fault) => Err(fault.number()),
     }
 }
@@ -284,6 +288,7 @@ fn refuses<R: Abort + Threads + Wait + Sync>(
     let end = end_of(rt, alloc, &driven, &shared);
     let calls = shared.calls.load(Ordering::SeqCst);
     let asked = shared.asked.load(Ordering::SeqCst);
+    drop(shared);
     assert_eq!(rt; end, Some(Err(number)));
     assert_eq!(rt; (calls, asked), (0, 0));
 }
@@ -341,4 +346,5 @@ fn promote<S: ReportSource>(workers: &Vec<(S, Reporter)>, standby: &mut Standby,
     let mut log = FailsOnce::new(log, u64::MAX);
     standby.close_intake();
     let _ = standby.promote(&mut log);
+    drop(log);
 }

@@ -369,6 +369,7 @@ fn ends<R: Abort + Threads + Wait + Copy + Send + Drop + 'static>(
     let end = end_of(rt, alloc, service, &shared);
     let vain = shared.vain.load(Ordering::SeqCst);
     let held = Arc::strong_count(&shared);
+    drop(shared);
     assert_eq!(rt; end, Some((service.end, service.later)), "{name}");
     assert_eq!(rt; (vain, held), (0, 1), "{name}");
 }
@@ -381,8 +382,9 @@ fn end_of<R: Threads + Wait + Copy + Send + Drop + 'static>(
     shared: &Arc<Shared, Global>,
 ) -> Option<(Result<u64, u8>, Option<u64>)> {
     let mut operator = operator_of(service, shared)?;
-    let answer = served(rt, alloc, service, shared, None, &mut operator)?;
-    outcome_of(rt, alloc, service, shared, answer)
+    let answer = served(rt, alloc, service, shared, None, &mut operator);
+    drop(operator);
+    outcome_of(rt, alloc, service, shared, answer?)
 }
 
 fn outcome_of<R: Threads + Wait + Copy + Send + Drop + 'static>(
@@ -464,6 +466,7 @@ fn all_joined<R: Threads>(
     } = served;
     shared.came.store(1, Ordering::SeqCst);
     let whole = have_left_all(rt, workers, service.reports, &shadow);
+    drop(shadow);
     whole.then_some(active.last)
 }
 
@@ -473,15 +476,15 @@ fn have_left_all<R: Threads>(
     reports: u64,
     shadow: &Shadow,
 ) -> bool {
+    let mut whole = true;
     let mut dn = 0u16;
     for worker in workers {
         dn = dn.saturating_add(1);
         let left = worker.join(rt);
-        if !has_left_all(&left, reports, shadow.last_number(dn)) {
-            return false;
-        }
+        whole = has_left_all(&left, reports, shadow.last_number(dn)) && whole;
+        drop(left);
     }
-    true
+    whole
 }
 
 // Whether all that a worker sent was processed, so many messages; and it was told of the close, or had no more.
@@ -522,7 +525,9 @@ fn promoted_over(alloc: Global, service: &Service, standby: &mut Standby) -> Opt
     }
     let mut log = FailsOnce::new(log_of(alloc, service.log)?, u64::MAX);
     standby.close_intake();
-    match standby.promote(&mut log) {
+    let promoted = standby.promote(&mut log);
+    drop(log);
+    match promoted {
         Ok(active) => Some(active.last),
         Err(_) => None,
     }
@@ -550,9 +555,9 @@ fn end_without_memory<R: Threads + Wait + Copy + Send + Drop + 'static>(
         return None;
     };
     let mut operator = Hoarding { alloc, blocks };
-    let answer = served(rt, alloc, service, shared, None, &mut operator)?;
+    let answer = served(rt, alloc, service, shared, None, &mut operator);
     drop(operator);
-    outcome_of(rt, alloc, service, shared, answer)
+    outcome_of(rt, alloc, service, shared, answer?)
 }
 
 // With no operator a service ends when its DataNodes have, as a drive does: all that they sent was flushed.
@@ -578,9 +583,17 @@ fn flushed_by<R: Threads + Wait + Copy + Send + Drop + 'static>(
     shared: &Arc<Shared, Global>,
 ) -> Option<u64> {
     let mut operator = Unattended;
-    let answer = served(rt, alloc, service, shared, None, &mut operator)?;
-    let promoted = answer.ok()?;
-    Some(promoted.active.flushed)
+    match served(rt, alloc, service, shared, None, &mut operator)? {
+        Ok(promoted) => {
+            let flushed = promoted.active.flushed;
+            drop(promoted);
+            Some(flushed)
+        }
+        Err(unserved) => {
+            drop(unserved);
+            None
+        }
+    }
 }
 
 // A standby writes a checkpoint each rotation. One that starts from the last of them, and gets the whole log and all reports
@@ -619,9 +632,17 @@ fn tables_of<O: Operator, R: Threads + Wait + Copy + Send + Drop + 'static>(
     image: Option<&[u8]>,
     operator: &mut O,
 ) -> Option<String> {
-    let answer = served(rt, alloc, &WITH_A_FILE, shared, image, operator)?;
-    let promoted = answer.ok()?;
-    shown(alloc, &promoted.shadow)
+    match served(rt, alloc, &WITH_A_FILE, shared, image, operator)? {
+        Ok(promoted) => {
+            let text = shown(alloc, &promoted.shadow);
+            drop(promoted);
+            text
+        }
+        Err(unserved) => {
+            drop(unserved);
+            None
+        }
+    }
 }
 
 // What a standby shows, as text.

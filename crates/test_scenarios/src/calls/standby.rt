@@ -11,6 +11,7 @@ use nn_tailer::{Choice, Standby, StepFault, Stepped};
 use nn_types::Settings;
 use std::alloc::Global;
 use std::collections::VecDeque;
+use std::mem;
 
 /// A standby over the lane of DataNode 1, the reporter of this lane, and the source of the log.
 #[derive(Drop)]
@@ -61,7 +62,7 @@ impl SegmentSource for Given {
 /// Calls on the standby. Whether this was one.
 pub fn play(tailing: &mut Option<Tailing>, text: &mut Vec<u8>, call: &mut Call<'_>) -> bool {
     if call.is("standby") || call.is("standby_from_image") {
-        *tailing = open(text, call);
+        drop(mem::replace(tailing, open(text, call)));
         return true;
     }
     match tailing {

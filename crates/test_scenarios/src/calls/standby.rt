@@ -244,7 +244,7 @@ fn read(standby: &Standby, call: &mut Call<'_>) -> bool {
     true
 }
 
-// What the standby has printed, but for a history.
+// What the standby has printed, except a history.
 fn show_tables(shadow: &Shadow, call: &mut Call<'_>) {
     match tables_of(call.alloc, shadow) {
         Ok(text) => call.say_lines(&text),

@@ -4,11 +4,11 @@ use Rattle.json.specs.Token.{key, string, number, begin_object, begin_array}
 use Rattle.json.specs.Lex.{Lexeme, token, colon, between, lex, string_token, Place, fresh, after_value, after_comma, after_key, may_begin, begins_colon, punctuate}
 use Rattle.json.specs.Print.{escape, IsNumber}
 use Rattle.json.specs.Word.{ends_word}
-use Rattle.nn_edits.specs.Plain.{Stops, AtStop}
+use Rattle.nn_edits.specs.Plain.{Stops}
 use Rattle.json.proofs.Printed.Strings.{content-escape, lex-escape}
 use Rattle.json.proofs.Printed.Numbers.{lex-number}
 
--- ---- words and places
+-- ---- lexemes and places
 
 lex_string : (s r : List ℕ) → escape s ≡ s → lex between (34 ∷ (s ++ 34 ∷ r)) ≡ token (string s) ∷ lex between r
 unfolding lex
@@ -16,20 +16,24 @@ lex_string s r e =
     ap (λ l. lex between (34 ∷ (l ++ 34 ∷ r))) (sym e)
     ∙ ap₂ (λ o l. token (string_token o) ∷ l) (content-escape s r) (lex-escape s r)
 
-no_colon : (c : ℕ) (r : List ℕ) → Stops c → begins_colon (lex between (c ∷ r)) ≡ false
+pub blank_next : (r : List ℕ) → lex between (32 ∷ r) ≡ lex between r
+unfolding lex
+blank_next r = refl
+
+pub colon_next : (r : List ℕ) → lex between (58 ∷ r) ≡ colon ∷ lex between r
+unfolding lex
+colon_next r = refl
+
+pub no_colon : (c : ℕ) (r : List ℕ) → Stops c → begins_colon (lex between (c ∷ r)) ≡ false
 unfolding lex
 no_colon c r (inl e) = subst (λ x. begins_colon (lex between (x ∷ r)) ≡ false) (sym e) refl
 no_colon c r (inr (inl e)) = subst (λ x. begins_colon (lex between (x ∷ r)) ≡ false) (sym e) refl
 no_colon c r (inr (inr e)) = subst (λ x. begins_colon (lex between (x ∷ r)) ≡ false) (sym e) refl
 
-ends : (c : ℕ) (r : List ℕ) → Stops c → ends_word (c ∷ r) ≡ true
+pub ends : (c : ℕ) (r : List ℕ) → Stops c → ends_word (c ∷ r) ≡ true
 ends c r (inl e) = subst (λ x. ends_word (x ∷ r) ≡ true) (sym e) refl
 ends c r (inr (inl e)) = subst (λ x. ends_word (x ∷ r) ≡ true) (sym e) refl
 ends c r (inr (inr e)) = subst (λ x. ends_word (x ∷ r) ≡ true) (sym e) refl
-
-colon_next : (r : List ℕ) → lex between (58 ∷ r) ≡ colon ∷ lex between r
-unfolding lex
-colon_next r = refl
 
 keyed : (p : Place) (s : List ℕ) (ls : List Lexeme) → may_begin p ≡ true → punctuate p (token (string s) ∷ colon ∷ ls) ≡ key s ∷ punctuate fresh ls
 unfolding punctuate
@@ -55,18 +59,20 @@ numbered after_key s ls h = absurd (cc)
 -- ---- at the beginning of a text
 
 -- A key in quotes, and its colon.
-pub key_here : (p : Place) (s r : List ℕ) → may_begin p ≡ true → escape s ≡ s → punctuate p (lex between (34 ∷ (s ++ 34 ∷ 58 ∷ r))) ≡ key s ∷ punctuate fresh (lex between r)
-key_here p s r h e = ap (punctuate p) (lex_string s (58 ∷ r) e ∙ ap (λ ls. token (string s) ∷ ls) (colon_next r)) ∙ keyed p s (lex between r) h
+pub key_then : (p : Place) (s old rest : List ℕ) (ls : List Lexeme) → may_begin p ≡ true → escape s ≡ s → old ≡ 34 ∷ (s ++ 34 ∷ rest) → lex between rest ≡ colon ∷ ls
+    → punctuate p (lex between old) ≡ key s ∷ punctuate fresh ls
+key_then p s old rest ls h e is after =
+    ap (λ t. punctuate p (lex between t)) is ∙ ap (punctuate p) (lex_string s rest e ∙ ap (λ ls. token (string s) ∷ ls) after) ∙ keyed p s ls h
 
 -- A text in quotes, and what comes after it.
-pub text_here : (p : Place) (s r : List ℕ) (c : ℕ) → may_begin p ≡ true → escape s ≡ s → Stops c
-    → punctuate p (lex between (34 ∷ (s ++ 34 ∷ c ∷ r))) ≡ string s ∷ punctuate after_value (lex between (c ∷ r))
-text_here p s r c h e stop = ap (punctuate p) (lex_string s (c ∷ r) e) ∙ texted p s (lex between (c ∷ r)) h (no_colon c r stop)
+pub text_then : (p : Place) (s old rest : List ℕ) → may_begin p ≡ true → escape s ≡ s → old ≡ 34 ∷ (s ++ 34 ∷ rest) → begins_colon (lex between rest) ≡ false
+    → punctuate p (lex between old) ≡ string s ∷ punctuate after_value (lex between rest)
+text_then p s old rest h e is no_key = ap (λ t. punctuate p (lex between t)) is ∙ ap (punctuate p) (lex_string s rest e) ∙ texted p s (lex between rest) h no_key
 
 -- A number, and what comes after it.
-pub number_here : (p : Place) (s r : List ℕ) (c : ℕ) → may_begin p ≡ true → IsNumber s → Stops c
-    → punctuate p (lex between (s ++ c ∷ r)) ≡ number s ∷ punctuate after_value (lex between (c ∷ r))
-number_here p s r c h n stop = ap (punctuate p) (lex-number s (c ∷ r) n (ends c r stop)) ∙ numbered p s (lex between (c ∷ r)) h
+pub number_then : (p : Place) (s old rest : List ℕ) → may_begin p ≡ true → IsNumber s → old ≡ s ++ rest → ends_word rest ≡ true
+    → punctuate p (lex between old) ≡ number s ∷ punctuate after_value (lex between rest)
+number_then p s old rest h n is ends = ap (λ t. punctuate p (lex between t)) is ∙ ap (punctuate p) (lex-number s rest n ends) ∙ numbered p s (lex between rest) h
 
 pub comma_here : (r : List ℕ) → punctuate after_value (lex between (44 ∷ r)) ≡ punctuate after_comma (lex between r)
 unfolding lex punctuate
@@ -83,21 +89,3 @@ open_after_comma r = refl
 pub open_array_here : (r : List ℕ) → punctuate fresh (lex between (91 ∷ r)) ≡ begin_array ∷ punctuate fresh (lex between r)
 unfolding lex punctuate
 open_array_here r = refl
-
--- ---- the same of a text that is said to begin so
-
-pub text_then : (p : Place) (s old rest : List ℕ) → may_begin p ≡ true → escape s ≡ s → AtStop rest → old ≡ 34 ∷ (s ++ 34 ∷ rest)
-    → punctuate p (lex between old) ≡ string s ∷ punctuate after_value (lex between rest)
-text_then p s old rest h e stop is =
-    ap (λ t. punctuate p (lex between t)) (is ∙ ap (λ t. 34 ∷ (s ++ 34 ∷ t)) stop.2) ∙ text_here p s stop.1 stop.0 h e stop.3
-    ∙ ap (λ t. string s ∷ punctuate after_value (lex between t)) (sym stop.2)
-
-pub key_then : (p : Place) (s old rest : List ℕ) → may_begin p ≡ true → escape s ≡ s → old ≡ 34 ∷ (s ++ 34 ∷ 58 ∷ rest)
-    → punctuate p (lex between old) ≡ key s ∷ punctuate fresh (lex between rest)
-key_then p s old rest h e is = ap (λ t. punctuate p (lex between t)) is ∙ key_here p s rest h e
-
-pub number_then : (p : Place) (s old rest : List ℕ) → may_begin p ≡ true → IsNumber s → AtStop rest → old ≡ s ++ rest
-    → punctuate p (lex between old) ≡ number s ∷ punctuate after_value (lex between rest)
-number_then p s old rest h n stop is =
-    ap (λ t. punctuate p (lex between t)) (is ∙ ap (λ t. s ++ t) stop.2) ∙ number_here p s stop.1 stop.0 h n stop.3
-    ∙ ap (λ t. number s ∷ punctuate after_value (lex between t)) (sym stop.2)

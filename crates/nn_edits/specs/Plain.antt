@@ -3,16 +3,21 @@ use Rattle.std.specs.Prelude.{◌≡◌, ◌⊎◌, ℕ, ◌+◌, ◌-◌, List,
 use Rattle.std.specs.List.{list_all}
 use Rattle.std.specs.Str.Parse.{AllDigits, digits_value, digits_value_after}
 use Rattle.json.specs.Token.{Token}
-use Rattle.json.specs.Lex.{between, lex, fresh, after_value, punctuate}
+use Rattle.json.specs.Lex.{between, lex, fresh, after_value, begins_colon, punctuate}
+use Rattle.json.specs.Word.{ends_word}
 
 -- The tokens of the rest of a line. True: a key or a value comes next. False: a value has just ended.
 abbrev pub tokens_left : Bool → List ℕ → List Token
 tokens_left true text = punctuate fresh (lex between text)
 tokens_left false text = punctuate after_value (lex between text)
 
+-- Blanks alone stand from `from` to `to`, or nothing: the lexemes are the same.
+abbrev pub Skips : List ℕ → ℕ → ℕ → Type 0
+Skips text from to = lex between (drop from text) ≡ lex between (drop to text)
+
 -- The next key or item begins at `start`. The first one begins at once, any other one after a comma.
 abbrev pub Begins : Bool → List ℕ → ℕ → ℕ → Type 0
-Begins first text at start = ((first ≡ true) × (start ≡ at)) ⊎ ((first ≡ false) × (get_or text at 0 ≡ 44) × (start ≡ at + 1))
+Begins first text at start = ((first ≡ true) × (start ≡ at)) ⊎ ((first ≡ false) × (get_or text at 0 ≡ 44) × Skips text (at + 1) start)
 
 -- A comma or a bracket that closes. One of them comes after each value in an object or array.
 abbrev pub Stops : ℕ → Type 0
@@ -21,6 +26,12 @@ Stops c = (c ≡ 44) ⊎ ((c ≡ 125) ⊎ (c ≡ 93))
 -- The text begins with one.
 abbrev pub AtStop : List ℕ → Type 0
 AtStop text = (c : ℕ) × (rest : List ℕ) × (text ≡ c ∷ rest) × Stops c
+
+-- A number may end at `end`, and a text there is no key. What comes next stands at `next`.
+pub record EndsValue (text : List ℕ) (end next : ℕ) : Type 0 where
+  pub word : ends_word (drop end text) ≡ true
+  pub no_key : begins_colon (lex between (drop end text)) ≡ false
+  pub skips : Skips text end next
 
 -- ---- texts
 

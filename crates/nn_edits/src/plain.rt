@@ -1,8 +1,8 @@
 //! Lines in the plain spelling, as nearly all lines of a log are.
 //!
-//! A plain line is one object with no blank between its tokens. Its values are texts of printable ASCII without escapes,
+//! A plain line is one object, and no other byte stands before it. Its values are texts of printable ASCII without escapes,
 //! numbers of digits alone, and at `blocks` an array of objects of these. Keys may come in any order, may be repeated,
-//! and there may be others.
+//! and there may be others. Blanks may stand after each token, but no tab and no carriage return.
 //!
 //! This reader needs no index, and looks at each byte few times. It says yes or no, and a no says nothing of the line: the
 //! reader of `line` then begins anew, and decides. So each fault is told there.

@@ -1,11 +1,11 @@
 //! The tokens of a plain line, found as they are read.
-ghost use Rattle.std.specs.Prelude.{◌≡◌, ◌∷◌, ◌≤◌, length, drop, get_or, Some, option_map, if◌then◌else◌, IfSome, IsTrue, true, [], List, ℕ};
+ghost use Rattle.std.specs.Prelude.{◌≡◌, ◌⊎◌, ◌∷◌, ◌≤◌, length, drop, get_or, Some, option_map, if◌then◌else◌, IfSome, IsTrue, true, [], List, ℕ};
 ghost use Rattle.serde_json.specs.Data.{unsigned};
 ghost use Rattle.serde_json.specs.Read.{number_of};
 ghost use Rattle.json.specs.Json.{read_key};
 ghost use Rattle.json.specs.Token.{string, number, begin_object, begin_array, end_array};
 ghost use Rattle.json.specs.Lex.{tokens};
-ghost use Rattle.nn_edits.specs.Plain.{AtStop, Begins, is_printable};
+ghost use Rattle.nn_edits.specs.Plain.{AtStop, Begins, EndsValue, Skips, is_printable};
 
 use crate::plain::number::number_at;
 use crate::plain::text::quoted_at;
@@ -48,7 +48,7 @@ impl<'a> Tokens<'a> {
         }
         Some(Tokens {
             text,
-            at: 1,
+            at: after_blanks(text, 1),
             fresh: true,
         })
     }
@@ -61,16 +61,17 @@ impl<'a> Tokens<'a> {
         let text = self.text;
         let at = self.at;
         if byte_at(text, at) == b'}' {
-            self.at = at + 1;
+            self.at = after_blanks(text, at + 1);
             self.fresh = false;
             return Some(None);
         }
         let start = start_at(text, at, self.fresh)?;
         let (key, end) = quoted_at(text, start)?;
-        if byte_at(text, end) != b':' {
+        let colon = after_blanks(text, end);
+        if byte_at(text, colon) != b':' {
             return None;
         }
-        self.at = end + 1;
+        self.at = after_blanks(text, colon + 1);
         self.fresh = true;
         Some(Some(key))
     }
@@ -91,10 +92,8 @@ impl<'a> Tokens<'a> {
         }
         let text = self.text;
         let (value, end) = quoted_at(text, self.at)?;
-        if !stops_at(text, end) {
-            return None;
-        }
-        self.at = end;
+        let next = value_end(text, end)?;
+        self.at = next;
         self.fresh = false;
         Some(value)
     }
@@ -109,10 +108,8 @@ impl<'a> Tokens<'a> {
         }
         let text = self.text;
         let (n, end) = number_at(text, self.at)?;
-        if !stops_at(text, end) {
-            return None;
-        }
-        self.at = end;
+        let next = value_end(text, end)?;
+        self.at = next;
         self.fresh = false;
         Some(n)
     }
@@ -122,11 +119,12 @@ impl<'a> Tokens<'a> {
     pub(crate) fn begin_array(&mut self) -> bool
         ensures { IsTrue result → self.old ≡ begin_array ∷ self.new }
     {
+        let text = self.text;
         let at = self.at;
-        if !self.fresh || byte_at(self.text, at) != b'[' {
+        if !self.fresh || byte_at(text, at) != b'[' {
             return false;
         }
-        self.at = at + 1;
+        self.at = after_blanks(text, at + 1);
         true
     }
 
@@ -139,7 +137,7 @@ impl<'a> Tokens<'a> {
         let text = self.text;
         let at = self.at;
         if byte_at(text, at) == b']' {
-            self.at = at + 1;
+            self.at = after_blanks(text, at + 1);
             self.fresh = false;
             return Some(false);
         }
@@ -147,7 +145,7 @@ impl<'a> Tokens<'a> {
         if byte_at(text, start) != b'{' {
             return None;
         }
-        self.at = start + 1;
+        self.at = after_blanks(text, start + 1);
         self.fresh = true;
         Some(true)
     }
@@ -183,7 +181,49 @@ fn start_at(text: &str, at: usize, first: bool) -> Option<usize>
     if byte_at(text, at) != b',' {
         return None;
     }
-    Some(at + 1)
+    Some(after_blanks(text, at + 1))
+}
+
+// Where the next token stands after a value. A comma or a bracket that closes has to stand there.
+#[inline(always)]
+fn value_end(text: &str, end: usize) -> Option<usize>
+    requires { end ≤ length text.now }
+    ensures ends { IfSome result (EndsValue text.now end) }
+    ensures bound { IfSome result (λ next. next ≤ length text.now) }
+{
+    let next = after_blanks(text, end);
+    if !stops_at(text, next) {
+        return None;
+    }
+    Some(next)
+}
+
+// The first place from `from` on where no blank stands.
+#[inline(always)]
+fn after_blanks(text: &str, from: usize) -> usize
+    requires { from ≤ length text.now }
+    ensures skips { Skips text.now from result }
+    ensures first { (result ≡ from) ⊎ (get_or text.now from 0 ≡ 32) }
+    ensures bound { result ≤ length text.now }
+{
+    if byte_at(text, from) != b' ' {
+        return from;
+    }
+    blanks_end(text, from)
+}
+
+// The same, of its own: nearly all lines have no blank, and no loop stands in their way.
+#[inline(never)]
+fn blanks_end(text: &str, from: usize) -> usize
+    requires { from ≤ length text.now }
+    ensures skips { Skips text.now from result }
+    ensures bound { result ≤ length text.now }
+{
+    let mut i = from;
+    while byte_at(text, i) == b' ' {
+        i += 1;
+    }
+    i
 }
 
 // Whether a comma or a bracket that closes stands there.

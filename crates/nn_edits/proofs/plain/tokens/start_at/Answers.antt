@@ -5,4 +5,4 @@ pub returns-then-first-clause-begins : goal.returns-then-first-clause-begins
 returns-then-first-clause-begins c = inl (c.if-first.true, refl)
 
 pub returns-clause-begins : goal.returns-clause-begins
-returns-clause-begins c = inr (c.if-first.false, sym c.byte_at.ensures.value ∙ c.if-byte_at-ne44.false, refl)
+returns-clause-begins c = inr (c.if-first.false, sym c.byte_at.ensures.value ∙ c.if-byte_at-ne44.false, c.after_blanks.ensures.skips)

@@ -1,23 +1,20 @@
-use Rattle.std.proofs.Common.{◌+◌, ◌∷◌, ◌++◌, drop, sym, ap, ◌∙◌, arith}
+use Rattle.std.proofs.Common.{sym, ap, ◌∙◌}
 use Rattle.json.specs.Json.{read_key}
-use Rattle.nn_edits.specs.Plain.{tokens_left}
-use Rattle.nn_types.proofs.Lists.{byte_there}
 use Rattle.nn_edits.proofs.TokensLeft.{close_left, key_left}
 use Rattle.nn_edits.proofs.plain.tokens.Tokens.next_key.Goals as goal
 
 pub returns-then-byte_at-eq125 : goal.returns-then-byte_at-eq125
 returns-then-byte_at-eq125 c =
     let a = c.self.inside in
-    let d = a.text.now in
-    let there = byte_there d a.at 125 (omega arith) (sym c.byte_at.ensures.value ∙ c.if-byte_at-eq125.true) in
-    ap read_key (sym c.self.view_is ∙ ap (tokens_left a.fresh) there ∙ close_left a.fresh (drop (a.at + 1) d))
+    let there = sym c.byte_at.ensures.value ∙ c.if-byte_at-eq125.true in
+    ap read_key (sym c.self.view_is ∙ close_left a.fresh a.text.now a.at c.after_blanks-self-inside.result there c.after_blanks-self-inside.ensures.skips)
 
 pub returns : goal.returns
 returns c =
     let a = c.self.inside in
-    let d = a.text.now in
     let start = c.in_ok-start in
     let found = c.in_ok-key in
-    let colon = byte_there d found.end 58 (omega arith) (sym c.byte_at-2.ensures.value ∙ c.if-byte_at-ne58.false) in
-    let is = found.ensures.here ∙ ap (λ t. 34 ∷ (found.key.now ++ 34 ∷ t)) colon in
-    ap read_key (sym c.self.view_is ∙ key_left a.fresh d a.at start.start found.key.now (drop (found.end + 1) d) start.ensures.begins found.ensures.plain is)
+    let colon = c.after_blanks-colon in
+    let there = sym c.byte_at-2.ensures.value ∙ c.if-byte_at-ne58.false in
+    let left = key_left a.fresh a.text.now a.at start.start found.end colon.result c.after_blanks-self-inside-2.result found.key.now start.ensures.begins found.ensures.plain found.ensures.here colon.ensures.skips there c.after_blanks-self-inside-2.ensures.skips in
+    ap read_key (sym c.self.view_is ∙ left)

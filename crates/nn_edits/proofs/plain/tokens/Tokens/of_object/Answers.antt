@@ -1,10 +1,8 @@
-use Rattle.std.proofs.Common.{drop, sym, ap, ◌∙◌, arith}
-use Rattle.json.specs.Lex.{between, lex, fresh, punctuate}
-use Rattle.nn_edits.proofs.FirstToken.{open_here}
-use Rattle.nn_types.proofs.Lists.{byte_there}
+use Rattle.std.proofs.Common.{true, sym, inl, refl, ◌∙◌}
+use Rattle.nn_edits.proofs.TokensLeft.{open_left}
 use Rattle.nn_edits.proofs.plain.tokens.Tokens.of_object.Goals as goal
 
 pub returns : goal.returns
 returns c =
-    let d = c.args.text.now in
-    ap (λ t. punctuate fresh (lex between t)) (byte_there d 0 123 (omega arith) (sym c.byte_at.ensures.value ∙ c.if-byte_at-ne123.false)) ∙ open_here (drop 1 d)
+    let there = sym c.byte_at.ensures.value ∙ c.if-byte_at-ne123.false in
+    open_left true c.args.text.now 0 0 c.after_blanks.result (inl (refl, refl)) there c.after_blanks.ensures.skips

@@ -12,18 +12,18 @@ use nn_types::{Block, BlockId};
 use std::collections::BTreeMap;
 
 // Takes ids out of an index.
-pub(crate) fn forget(index: &mut BTreeMap<u64, BlockRow>, ids: &[BlockId])
+pub(crate) fn forget(index: &mut BTreeMap<BlockId, BlockRow>, ids: &[BlockId])
     ensures { (q : ℕ) → get nat_cmp index.new q ≡ cond (has_id ids.now q) None (get nat_cmp index.old q) }
 {
     for id in ids {
-        let _row = index.remove(&id.get());
+        let _row = index.remove(id);
     }
 }
 
 // Puts the blocks of a file with these ids into an index. Where one of them stands there already, or twice in the
 // file, the index is as it was.
 pub(crate) fn enter(
-    index: &mut BTreeMap<u64, BlockRow>,
+    index: &mut BTreeMap<BlockId, BlockRow>,
     blocks: &[Block],
     ids: &[BlockId],
     closed: bool,
@@ -37,7 +37,7 @@ pub(crate) fn enter(
     let mut done = 0;
     'entering: while done < blocks.len() {
         let block = blocks[done];
-        let key = block.id.get();
+        let key = block.id;
         if index.contains_key(&key) {
             forget(index, &ids[..done]);
             return Err(RestoreFault::Refused);
@@ -52,12 +52,12 @@ pub(crate) fn enter(
 }
 
 // Puts a new list of blocks in an index in place of an old one, which has the same ids and perhaps one more.
-pub(crate) fn renew(index: &mut BTreeMap<u64, BlockRow>, old: &[Block], new: &[Block], closed: bool)
+pub(crate) fn renew(index: &mut BTreeMap<BlockId, BlockRow>, old: &[Block], new: &[Block], closed: bool)
     ensures { (q : ℕ) → get nat_cmp index.new q ≡ renewed (λ id. get nat_cmp index.old id) old.now new.now closed q }
 {
     let both = old.len().min(new.len());
     if let Some(last) = old.get(both) {
-        let _row = index.remove(&last.id.get());
+        let _row = index.remove(&last.id);
     }
     let mut left = both;
     'left: while left > 0 {
@@ -67,10 +67,10 @@ pub(crate) fn renew(index: &mut BTreeMap<u64, BlockRow>, old: &[Block], new: &[B
 }
 
 // Writes the row of a block anew, where it has one.
-fn write_row(index: &mut BTreeMap<u64, BlockRow>, block: Block, closed: bool)
+fn write_row(index: &mut BTreeMap<BlockId, BlockRow>, block: Block, closed: bool)
     ensures { (q : ℕ) → get nat_cmp index.new q ≡ rewritten (λ id. get nat_cmp index.old id) block closed q }
 {
-    let Some(row) = index.get_mut(&block.id.get()) else {
+    let Some(row) = index.get_mut(&block.id) else {
         return;
     };
     *row = BlockRow { block, closed };

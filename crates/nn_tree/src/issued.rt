@@ -24,7 +24,7 @@ pub(crate) struct Issued {
     last_block: BlockId,
     last_stamp: GenerationStamp,
     // The ids that were issued and that no file has got yet.
-    awaiting: BTreeSet<u64>,
+    awaiting: BTreeSet<BlockId>,
     profile: Profile,
 }
 
@@ -87,7 +87,7 @@ impl Issued {
     pub(crate) fn awaits(&self, id: BlockId) -> bool
         ensures { result ≡ has_id self.now.awaiting id }
     {
-        self.awaiting.contains(&id.get())
+        self.awaiting.contains(&id)
     }
 
     /// The ids that no file has got yet, ascending.
@@ -96,11 +96,8 @@ impl Issued {
         ensures { IfOk result (λ ids. ids.items ≡ self.now.awaiting) }
     {
         let mut ids = Vec::new(alloc);
-        for key in self.awaiting.iter() {
-            let Some(id) = BlockId::new(*key) else {
-                unreachable!()
-            };
-            ids.push(id)?;
+        for id in self.awaiting.iter() {
+            ids.push(*id)?;
         }
         Ok(ids)
     }
@@ -126,7 +123,7 @@ impl Issued {
         if !was_given(self.last_block, block.id) {
             return false;
         }
-        if self.awaiting.contains(&block.id.get()) {
+        if self.awaiting.contains(&block.id) {
             return false;
         }
         self.has_stamp(block.stamp)
@@ -138,7 +135,7 @@ impl Issued {
         ensures ok { OnOk result (self.new ≡ record { last_block = id; last_stamp = self.old.last_stamp; awaiting = self.old.awaiting ++ id ∷ []; profile = self.old.profile }) }
         ensures err { OnErr result (self.new ≡ self.old) }
     {
-        let Ok(_added) = self.awaiting.insert(id.get()) else {
+        let Ok(_added) = self.awaiting.insert(id) else {
             return Err(AllocError);
         };
         self.last_block = id;
@@ -150,7 +147,7 @@ impl Issued {
         requires { IsStrictlySortedBy nat_cmp self.now.awaiting }
         ensures { self.new ≡ record { last_block = self.old.last_block; last_stamp = self.old.last_stamp; awaiting = filter (λ k. not (k == id)) self.old.awaiting; profile = self.old.profile } }
     {
-        let _waited = self.awaiting.remove(&id.get());
+        let _waited = self.awaiting.remove(&id);
     }
 
     /// The profile of the last start mark.
@@ -187,13 +184,13 @@ fn awaiting_set(
     alloc: Global,
     last_block: BlockId,
     ids: &[BlockId],
-) -> Result<BTreeSet<u64>, AllocError>
+) -> Result<BTreeSet<BlockId>, AllocError>
     requires { awaiting_fits last_block ids.now ≡ true }
     ensures { IfOk result (λ set. set.keys ≡ ids.now) }
 {
     let mut awaiting = BTreeSet::new(alloc);
     for id in ids {
-        let _added = awaiting.insert(id.get())?;
+        let _added = awaiting.insert(*id)?;
     }
     Ok(awaiting)
 }

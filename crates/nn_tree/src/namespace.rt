@@ -37,7 +37,7 @@ use std::marker::Model;
 pub struct Namespace {
     root: Tree,
     // The blocks of all files by id. No row names a path, so that a rename changes none.
-    index: BTreeMap<u64, BlockRow>,
+    index: BTreeMap<BlockId, BlockRow>,
     issued: Issued,
     alloc: Global,
 }
@@ -193,14 +193,14 @@ impl Namespace {
         ensures file { IfSome result (IsInFile self.now) }
         ensures block { option_map (λ row. row.block) result ≡ block_at self.now id }
     {
-        self.index.get(&id.get()).copied()
+        self.index.get(&id).copied()
     }
 
     /// What the log has said of a block.
     pub fn status(&self, id: BlockId) -> Status
         ensures { result ≡ status_of self.now id }
     {
-        if let Some(row) = self.index.get(&id.get()) {
+        if let Some(row) = self.index.get(&id) {
             return Status::Named(row.block.stamp);
         }
         if self.issued.awaits(id) {

@@ -5,13 +5,14 @@ ghost use Rattle.nn_tree.specs.Blocks.{AreBlocks};
 
 use super::Namespace;
 use nn_model::BlockRow;
+use nn_types::BlockId;
 use std::collections::btree_map::Values;
 use std::marker::Model;
 
 /// The blocks that files have, each with whether its file is closed, by ascending id.
 #[derive(Drop)]
 pub struct BlockRows<'a> {
-    rows: Values<'a, u64, BlockRow>,
+    rows: Values<'a, BlockId, BlockRow>,
 }
 
 impl<'a> Model for BlockRows<'a> {

@@ -94,7 +94,6 @@ impl Namespace {
         ensures { Does (edit.AddBlock path.now id stamp) self.old result self.new }
     {
         let names = path.names();
-        let key = id.get();
         if names.is_empty() {
             return Err(Unchanged);
         }
@@ -111,11 +110,11 @@ impl Namespace {
         let Ok(touched) = Touched::added(self.alloc, id, stamp) else {
             return Err(Unchanged);
         };
-        let Ok(_none) = self.index.insert(key, row) else {
+        let Ok(_none) = self.index.insert(id, row) else {
             return Err(Unchanged);
         };
         let Ok(()) = self.root.push_block(&names, empty_block(id, stamp)) else {
-            let _row = self.index.remove(&key);
+            let _row = self.index.remove(&id);
             return Err(Unchanged);
         };
         self.issued.give(id);

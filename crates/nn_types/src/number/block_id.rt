@@ -2,10 +2,11 @@
 ghost use Rattle.std.specs.Prelude.{◌≡◌, ◌<◌, ◌^◌, SomeIff};
 
 use super::in_range;
+use std::cmp::Ordering;
 use std::marker::Model;
 
 /// The id of a block. The first id that a log issues is 1073741825.
-#[derive(Clone, Copy, Debug, PartialEq, Eq, PartialOrd, Ord, Hash)]
+#[derive(Clone, Copy, Debug, PartialEq, Eq, Hash)]
 pub struct BlockId {
     value: u64,
 }
@@ -40,5 +41,47 @@ impl BlockId {
         ensures limit { self < 2 ^ 63 }
     {
         self.value
+    }
+}
+
+impl PartialOrd for BlockId {
+    ghost use Rattle.std.proofs.Common.{rules};
+    ghost use Rattle.std.specs.Cmp.Rules.{comparing};
+    ghost use Rattle.std.specs.Ordering.{nat_cmp};
+    ghost use Rattle.std.specs.Prelude.{Some};
+
+    ghost partial_cmp = { λ x y. Some (nat_cmp x y) };
+
+    ghost laws = { Prim.search (comparing, rules) };
+
+    #[inline(always)]
+    fn partial_cmp(&self, other: &BlockId) -> Option<Ordering> {
+        Some(self.cmp(other))
+    }
+}
+
+impl Ord for BlockId {
+    ghost use Rattle.std.proofs.Common.{rules};
+    ghost use Rattle.std.specs.Cmp.Rules.{comparing};
+    ghost use Rattle.std.specs.Ordering.{nat_cmp};
+
+    ghost cmp = { nat_cmp };
+
+    ghost total = { Prim.search (comparing, rules) };
+
+    ghost matches_partial_cmp = { Prim.search (comparing, rules) };
+
+    ghost matches_eq = { Prim.search (comparing, rules) };
+
+    #[inline(always)]
+    fn cmp(&self, other: &BlockId) -> Ordering {
+        let (x, y) = (self.value, other.value);
+        if x > y {
+            Ordering::Greater
+        } else if x == y {
+            Ordering::Equal
+        } else {
+            Ordering::Less
+        }
     }
 }

@@ -10,7 +10,7 @@ pub returns-then-contains_key-clause-refused : goal.returns-then-contains_key-cl
 returns-then-contains_key-clause-refused c =
     λ refused. there_already (λ id. get nat_cmp c.args.index.now id) (λ id. get nat_cmp c.entering.index id) c.args.blocks.now c.args.closed c.entering.done c.entering.invariant.entering
     c.index-blocks-done.result c.entering-test.true c.index-blocks-done.is
-    (ap (λ k. is_some (get nat_cmp c.entering.index k)) (sym c.get-key.ensures.value) ∙ sym c.if-contains_key.ensures)
+    (sym c.if-contains_key.ensures)
 
 pub returns-then-contains_key-clause-err : goal.returns-then-contains_key-clause-err
 returns-then-contains_key-clause-err c =
@@ -28,6 +28,6 @@ entering-preserved c = record {
   entering =
       one_more (λ id. get nat_cmp c.args.index.now id) (λ id. get nat_cmp c.entering.index id) c.args.blocks.now c.args.closed c.entering.done c.entering.invariant.entering
       c.index-blocks-done.result c.entering-test.true c.index-blocks-done.is (λ id. get nat_cmp c.insert.new.self id)
-      (ap (λ k. is_some (get nat_cmp c.entering.index k)) (sym c.get-key.ensures.value) ∙ sym c.if-contains_key.ensures)
-      (λ q. c.in-Ok.ensures.updates.0 q ∙ (λ j. cond (is_eq (nat_cmp (c.get-key.ensures.value j) q)) (Some (record { block = c.index-blocks-done.result; closed = c.args.closed })) (get nat_cmp c.entering.index q)));
+      (sym c.if-contains_key.ensures)
+      c.in-Ok.ensures.updates.0;
 }

@@ -9,4 +9,4 @@ use Rattle.nn_tree.proofs.index.forget.Goals as goal
 pub loop-id-preserved : goal.loop-id-preserved
 loop-id-preserved c q =
     subst (λ (xs : List ℕ). get nat_cmp c.remove-row.new.self q ≡ cond (has_id xs q) None (get nat_cmp c.args.index.now q)) (sym (take_more c.args.ids.now c.loop-id.id-index c.id-item.result c.loop-id-test.true))
-    (out_one (take c.loop-id.id-index c.args.ids.now) _ q (λ k. get nat_cmp c.args.index.now k) (λ k. get nat_cmp c.loop-id.index k) (λ k. get nat_cmp c.remove-row.new.self k) (c.loop-id.invariant q) (subst (λ i. get nat_cmp c.remove-row.new.self q ≡ cond (is_eq (nat_cmp i q)) None (get nat_cmp c.loop-id.index q)) (c.get.ensures.value ∙ c.id-item.is) (c.remove-row.ensures.updates.0 q)))
+    (out_one (take c.loop-id.id-index c.args.ids.now) _ q (λ k. get nat_cmp c.args.index.now k) (λ k. get nat_cmp c.loop-id.index k) (λ k. get nat_cmp c.remove-row.new.self k) (c.loop-id.invariant q) (subst (λ i. get nat_cmp c.remove-row.new.self q ≡ cond (is_eq (nat_cmp i q)) None (get nat_cmp c.loop-id.index q)) c.id-item.is (c.remove-row.ensures.updates.0 q)))

@@ -9,6 +9,6 @@ pub returns-clause-ok : goal.returns-clause-ok
 returns-clause-ok c =
     let i = c.self.inside in
     let below : AreBelow c.args.id i.awaiting.keys = subst (λ ks. AreBelow c.args.id ks) (sym (ap (λ s. s.awaiting) c.self.view_is)) c.requires in
-    let keys : c.insert.new.self.keys ≡ i.awaiting.keys ++ c.args.id ∷ [] = c.in-Ok.ensures.keys ∙ ap (insert_key nat_cmp i.awaiting.keys) c.get.ensures.value ∙ insert_last i.awaiting.keys c.args.id below in
+    let keys : c.insert.new.self.keys ≡ i.awaiting.keys ++ c.args.id ∷ [] = c.in-Ok.ensures.keys ∙ insert_last i.awaiting.keys c.args.id below in
     (λ j. record { last_block = c.args.id; last_stamp = i.last_stamp; awaiting = keys j; profile = i.profile })
     ∙ ap (λ s. record { last_block = c.args.id; last_stamp = s.last_stamp; awaiting = s.awaiting ++ c.args.id ∷ []; profile = s.profile }) c.self.view_is

@@ -5,5 +5,4 @@ use Rattle.nn_tree.proofs.issued.Issued.awaits.Goals as goal
 
 pub returns : goal.returns
 returns c =
-    c.contains.ensures ∙ has_is c.self.inside.awaiting.keys c.get.result ∙ ap (has_id c.self.inside.awaiting.keys) c.get.ensures.value
-    ∙ ap (λ i. has_id i.awaiting c.args.id) c.self.view_is
+    c.contains.ensures ∙ has_is c.self.inside.awaiting.keys c.args.id ∙ ap (λ i. has_id i.awaiting c.args.id) c.self.view_is

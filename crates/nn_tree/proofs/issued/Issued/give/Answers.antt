@@ -12,6 +12,6 @@ returns c =
     let i = c.self.inside in
     let sorted : IsStrictlySortedBy nat_cmp i.awaiting.keys = subst (λ ks. IsStrictlySortedBy nat_cmp ks) (sym (ap (λ s. s.awaiting) c.self.view_is)) c.requires in
     let keys : c.remove-waited.new.self.keys ≡ filter (λ k. not (k == c.args.id)) i.awaiting.keys =
-    c.remove-waited.ensures.keys ∙ ap (λ k. remove_key (is_at (nat_cmp k)) i.awaiting.keys) c.get.ensures.value ∙ without_id i.awaiting.keys c.args.id sorted in
+    c.remove-waited.ensures.keys ∙ without_id i.awaiting.keys c.args.id sorted in
     (λ j. record { last_block = i.last_block; last_stamp = i.last_stamp; awaiting = keys j; profile = i.profile })
     ∙ ap (λ s. record { last_block = s.last_block; last_stamp = s.last_stamp; awaiting = filter (λ k. not (k == c.args.id)) s.awaiting; profile = s.profile }) c.self.view_is

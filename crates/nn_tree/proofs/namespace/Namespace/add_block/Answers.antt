@@ -28,8 +28,8 @@ invariant_of-self-in_default-push_block c =
     let look : ℕ → Option BlockRow = λ id. get nat_cmp i.index id in
     kept_looks (seen c.push_block.new.self i.issued) look _
     (undone c.args.id row look (λ id. get nat_cmp c.insert.new.self id) (λ id. get nat_cmp c.remove-row.new.self id) (not_yet s c.args.id look waiting c.self.invariant)
-    (λ q. c.in-Ok-insert.ensures.updates.0 q ∙ (λ j. cond (is_eq (nat_cmp (c.get-key.ensures.value j) q)) (Some (record { block = c.empty_block.ensures j; closed = false })) (look q)))
-    (λ q. c.remove-row.ensures.updates.0 q ∙ (λ j. cond (is_eq (nat_cmp (c.get-key.ensures.value j) q)) None (get nat_cmp c.insert.new.self q))))
+    (λ q. c.in-Ok-insert.ensures.updates.0 q ∙ (λ j. cond (is_eq (nat_cmp c.args.id q)) (Some (record { block = c.empty_block.ensures j; closed = false })) (look q)))
+    (λ q. c.remove-row.ensures.updates.0 q))
     (still_kept i.root c.push_block.new.self i.issued look c.in_default-push_block.ensures.err c.self.invariant)
 
 pub returns-in_default-push_block : goal.returns-in_default-push_block
@@ -56,7 +56,7 @@ invariant_of-self-2 c =
     (done.5.1 ∙ ap (λ (b : Block). record { replication = done.0.replication; closed = false; blocks = done.0.blocks ++ b ∷ [] }) c.empty_block-2.ensures) in
     subst (λ (n : Namespace). IsKept n (λ id. get nat_cmp c.insert.new.self id)) (sym is)
     (add_block_kept s p c.args.id c.args.stamp done.0 look (λ id. get nat_cmp c.insert.new.self id) c.requires.lawful lawful was
-    (λ q. c.in-Ok-insert.ensures.updates.0 q ∙ (λ j. cond (is_eq (nat_cmp (c.get-key.ensures.value j) q)) (Some (record { block = c.empty_block.ensures j; closed = false })) (look q)) ∙ ap (λ b. cond b (Some row) (look q)) (tie c.args.id q))
+    (λ q. c.in-Ok-insert.ensures.updates.0 q ∙ (λ j. cond (is_eq (nat_cmp c.args.id q)) (Some (record { block = c.empty_block.ensures j; closed = false })) (look q)) ∙ ap (λ b. cond b (Some row) (look q)) (tie c.args.id q))
     c.self.invariant)
 
 pub returns : goal.returns

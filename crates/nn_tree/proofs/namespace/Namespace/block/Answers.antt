@@ -12,7 +12,7 @@ use Rattle.nn_tree.proofs.namespace.Namespace.block.Goals as goal
 pub returns-clause-block : goal.returns-clause-block
 returns-clause-block c =
     let i = c.self.inside in
-    ap (option_map (λ row. row.block)) (c.copied.ensures ∙ c.get-2.ensures.value ∙ ap (get nat_cmp i.index) c.get.ensures.value)
+    ap (option_map (λ row. row.block)) (c.copied.ensures ∙ c.get.ensures.value)
     ∙ block_known (seen i.root i.issued) (λ id. get nat_cmp i.index id) c.args.id c.self.invariant ∙ ap (λ (n : Namespace). block_at n c.args.id) c.self.view_is
 
 pub returns-clause-file : goal.returns-clause-file
@@ -20,4 +20,4 @@ returns-clause-file c =
     let i = c.self.inside in
     let s = seen i.root i.issued in
     subst (λ (n : Namespace). IfSome c.copied.result (IsInFile n)) c.self.view_is
-    (row_in_file s (λ id. get nat_cmp i.index id) c.copied.result c.args.id c.self.invariant (c.copied.ensures ∙ c.get-2.ensures.value ∙ ap (get nat_cmp i.index) c.get.ensures.value))
+    (row_in_file s (λ id. get nat_cmp i.index id) c.copied.result c.args.id c.self.invariant (c.copied.ensures ∙ c.get.ensures.value))

@@ -20,6 +20,7 @@ use crate::reading::tx_in;
 use crate::report::report_in;
 use json::{Reader, Scratch, Token};
 use nn_types::{Report, Tx};
+use simdutf8::basic::from_utf8;
 use std::alloc::Global;
 
 /// The bytes that a line may have.
@@ -129,7 +130,7 @@ fn fields_in<'a>(
     if line.len() > MAX_LINE_LEN {
         return Err(LineFault::LineTooLong);
     }
-    let Ok(text) = str::from_utf8(line) else {
+    let Ok(text) = from_utf8(line) else {
         return Err(LineFault::NotJson);
     };
     if read_plain(alloc, text, fields) {

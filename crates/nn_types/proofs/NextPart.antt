@@ -2,13 +2,13 @@
 use Rattle.std.proofs.Common.{◌≡◌, ℕ, suc, ◌+◌, ◌-◌, ◌<◌, ◌≤◌, List, [], ◌∷◌, ◌++◌, length, take, drop, get_or, Bool, true, false, cond, not, nat_lt, ◌&&◌, ◌==◌, ne_eqb, ltb-true, append-nil, refl, sym, ap, ◌∙◌, arith, subst}
 use Rattle.std.specs.List.{slice_split, onto_first, list_all, prefix_len, All}
 use Rattle.std.proofs.lemmas.Bool.{and_parts, and_left, and_right, not-true, eqb-true, eqb-false, ltb-false}
-use Rattle.std.proofs.lemmas.List.{drop_more, drop_all, length-drop, get_or-drop}
+use Rattle.std.proofs.lemmas.List.{drop_more, drop_all, take_all, length-drop, get_or-drop}
 use Rattle.std.proofs.lemmas.List.Sums.{prefix_len_stops}
 use Rattle.std.proofs.lemmas.List.Elements.{All-from_recursion}
 use Rattle.std.proofs.lemmas.List.Splits.{slice_split_none, slice_split_at, slice_split-cons_no}
-use Rattle.nn_types.specs.Path.{slash, is_name_byte, is_name}
+use Rattle.nn_types.specs.Path.{slash, is_name_byte, is_name, parts}
 use Rattle.nn_types.proofs.Lists.{between_places}
-use Rattle.nn_types.proofs.Paths.{cuts, uncut}
+use Rattle.nn_types.proofs.Paths.{cuts, uncut, parts_of_some, some_of_names}
 
 -- ---- the bytes of a name at the beginning of a text
 
@@ -100,3 +100,33 @@ module _ (d : List ℕ) (start end : ℕ) (is : end ≡ start + prefix_len is_na
       ends : (b : Bool) → nat_lt end (length d) ≡ b → list_all is_name (slice_split cuts (drop start d)) ≡ false
       ends true h = cut (get_or d end 0 == 47) refl (ltb-true end _ h)
       ends false h = ap (list_all is_name) (last_part (omega (arith, ltb-false end _ h))) ∙ and_left (is_name name) _ bad
+
+-- ---- the first name of a text
+
+-- A slash comes after it, and only names after that.
+pub record FirstPart (d : List ℕ) (end : ℕ) : Type 0 where
+  pub slash_there : get_or d end 0 ≡ 47
+  pub cut : parts d ≡ take (end - 0) d ∷ parts (drop (end + 1) d)
+  pub rest : list_all is_name (parts (drop (end + 1) d)) ≡ true
+
+pub first_part : (d : List ℕ) (end : ℕ) → end ≡ prefix_len is_name_byte d → list_all is_name (parts d) ≡ true → (length d == 0) ≡ false → end < length d → FirstPart d end
+first_part d end is each filled h = at (get_or d end 0 == 47) refl
+  where
+    split : parts d ≡ slice_split cuts d
+    split = parts_of_some d filled
+
+    at : (b : Bool) → (get_or d end 0 == 47) ≡ b → FirstPart d end
+    at true e =
+        let next : slice_split cuts d ≡ take (end - 0) d ∷ slice_split cuts (drop (end + 1) d) = next_part d 0 end (omega (arith, is)) h (eqb-true _ 47 e) in
+        let later : list_all is_name (slice_split cuts (drop (end + 1) d)) ≡ true = (and_parts (is_name (take (end - 0) d)) _ (ap (list_all is_name) (sym (split ∙ next)) ∙ each)).1 in
+        let same = some_of_names (drop (end + 1) d) later in
+        record { slash_there = eqb-true _ 47 e; cut = split ∙ next ∙ ap (λ r. take (end - 0) d ∷ r) (sym same); rest = ap (list_all is_name) same ∙ later }
+    at false e =
+        let bad : list_all is_name (parts d) ≡ false = ap (list_all is_name) split ∙ colon_there d 0 end (omega (arith, is)) h (eqb-false _ 47 e) in
+        absurd (cc)
+
+-- Nothing comes after it.
+pub only_part : (d : List ℕ) (end : ℕ) → end ≡ prefix_len is_name_byte d → (length d == 0) ≡ false → length d ≤ end → parts d ≡ d ∷ []
+only_part d end is filled h =
+    let last : slice_split cuts d ≡ take (end - 0) d ∷ [] = last_part d 0 end (omega (arith, is)) h in
+    parts_of_some d filled ∙ last ∙ ap (λ t. t ∷ []) (take_all (end - 0) d (omega (arith, h)))

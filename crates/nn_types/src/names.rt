@@ -1,8 +1,9 @@
 //! The names of a path, cut from its text as they are walked.
-ghost use Rattle.std.specs.Prelude.{◌≡◌, [], ◌∷◌, ◌==◌, length, IfSome, IfNone, true};
-ghost use Rattle.std.specs.List.{list_all};
-ghost use Rattle.nn_types.specs.Path.{is_name, parts};
+ghost use Rattle.std.specs.Prelude.{◌≡◌, [], ◌∷◌, ◌==◌, ◌≤◌, length, IfSome, IfNone, true};
+ghost use Rattle.std.specs.List.{list_all, prefix_len};
+ghost use Rattle.nn_types.specs.Path.{is_name, is_name_byte, parts};
 
+use nn_bytes::run_before_either;
 use std::marker::Model;
 
 /// Names from the root, or from a directory on the way, down. They are lent by the text of a path:
@@ -49,9 +50,34 @@ impl<'a> Names<'a> {
         if self.text.is_empty() {
             return None;
         }
-        match self.text.split_once('/') {
-            Some((name, text)) => Some((name, Names { text })),
-            None => Some((self.text, Names { text: "" })),
+        let text = self.text;
+        let end = text_name_len(text);
+        if end >= text.len() {
+            return Some((text, Names { text: "" }));
         }
+        Some((
+            &text[..end],
+            Names {
+                text: &text[end + 1..],
+            },
+        ))
     }
+}
+
+/// How many bytes stand before the first slash or colon of a text, or in all of it where there is none.
+#[inline(always)]
+pub(crate) fn name_len(text: &[u8]) -> usize
+    ensures value { result ≡ prefix_len is_name_byte text.now }
+    ensures bound { result ≤ length text.now }
+{
+    run_before_either(text, b'/', b':')
+}
+
+// The same of a text.
+#[inline(always)]
+fn text_name_len(text: &str) -> usize
+    ensures value { result ≡ prefix_len is_name_byte text.now }
+    ensures bound { result ≤ length text.now }
+{
+    name_len(text.as_bytes())
 }

@@ -5,7 +5,7 @@ ghost use Rattle.nn_types.specs.Fault.{number_of};
 ghost use Rattle.nn_types.specs.Path.{is_name, is_name_byte, parts, path_of, path_text, IsPath};
 
 use crate::fault;
-use crate::names::Names;
+use crate::names::{Names, name_len};
 use std::alloc::{AllocError, AllocFailed, Global};
 use std::marker::Model;
 use thiserror::Error;
@@ -166,11 +166,7 @@ fn name_end(text: &[u8], from: usize) -> usize
     ensures value { result ≡ from + prefix_len is_name_byte (drop from text.now) }
     ensures bound { result ≤ length text.now }
 {
-    let mut i = from;
-    while i < text.len() && text[i] != b'/' && text[i] != b':' {
-        i += 1;
-    }
-    i
+    from + name_len(&text[from..])
 }
 
 // `name_end` has looked for slashes and colons.

@@ -4,6 +4,11 @@ ghost use Rattle.std.specs.List.{prefix_len};
 ghost use Rattle.json.specs.Print.{escape};
 ghost use Rattle.nn_edits.specs.Plain.{is_printable_byte, is_printable, is_no_quote};
 
+use nn_bytes::run_before;
+
+/// How many bytes are looked at one by one before a search begins.
+const NEAR: usize = 8;
+
 /// Whether all bytes are printable ASCII, and none is a backslash.
 #[inline(always)]
 pub(crate) fn is_printable(text: &[u8]) -> bool
@@ -56,15 +61,21 @@ fn closing_quote(text: &[u8], from: usize) -> Option<usize>
 }
 
 // Where the first quote from `from` on stands. It is the length of the text where there is none.
+//
+// Most texts are short, and for these a search of many bytes at once does not pay.
 #[inline(always)]
 fn quote_end(text: &[u8], from: usize) -> usize
     requires { from ≤ length text.now }
     ensures value { result ≡ from + prefix_len is_no_quote (drop from text.now) }
     ensures bound { result ≤ length text.now }
 {
+    let near = text.len().min(from + NEAR);
     let mut i = from;
-    while i < text.len() && text[i] != b'"' {
+    while i < near && text[i] != b'"' {
         i += 1;
     }
-    i
+    if i < near {
+        return i;
+    }
+    i + run_before(&text[i..], b'"')
 }

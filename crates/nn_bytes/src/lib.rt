@@ -1,0 +1,75 @@
+//! How far a text goes before a byte, looked for in 16 bytes at a time.
+#![tactic(auto)]
+
+ghost use Rattle.std.specs.Prelude.{◌≡◌, ◌+◌, ◌≤◌, ◌==◌, length, take, drop, not};
+ghost use Rattle.std.specs.List.{prefix_len};
+ghost use Rattle.nn_bytes.specs.Runs.{is_other, is_neither};
+
+use std::simd::prelude::*;
+
+/// How many bytes stand before the first `byte`, or in all where there is none.
+///
+/// The last 15 bytes of the text are looked at one by one.
+#[inline(always)]
+pub fn run_before(text: &[u8], byte: u8) -> usize
+    ensures run { result ≡ prefix_len (is_other byte) text.now }
+    ensures bound { result ≤ length text.now }
+{
+    run_before_either(text, byte, byte)
+}
+
+/// How many bytes stand before the first that is one of two, or in all where there is none.
+///
+/// The last 15 bytes of the text are looked at one by one.
+#[inline(always)]
+pub fn run_before_either(text: &[u8], a: u8, b: u8) -> usize
+    ensures run { result ≡ prefix_len (is_neither a b) text.now }
+    ensures bound { result ≤ length text.now }
+{
+    let mut i = 0;
+    'blocks: while text.len() - i >= 16 {
+        let run = run_in_block(block_at(text, i), a, b);
+        if run < 16 {
+            return i + run;
+        }
+        i += 16;
+    }
+    'rest: while i < text.len() && text[i] != a && text[i] != b {
+        i += 1;
+    }
+    i
+}
+
+// The 16 bytes from `from` on.
+#[inline(always)]
+fn block_at(text: &[u8], from: usize) -> u8x16
+    requires { from + 16 ≤ length text.now }
+    ensures { result ≡ take 16 (drop from text.now) }
+{
+    u8x16::from_slice(&text[from..])
+}
+
+// How many bytes of a block stand before the first that is one of two.
+#[inline(always)]
+fn run_in_block(block: u8x16, a: u8, b: u8) -> usize
+    requires { length block ≡ 16 }
+    ensures run { result ≡ prefix_len (is_neither a b) block }
+    ensures bound { result ≤ 16 }
+{
+    let first = run_before_one(block, a);
+    let second = run_before_one(block, b);
+    if first < second { first } else { second }
+}
+
+#[inline(always)]
+fn run_before_one(block: u8x16, byte: u8) -> usize
+    requires { length block ≡ 16 }
+    ensures run { result ≡ prefix_len (is_other byte) block }
+    ensures bound { result ≤ 16 }
+{
+    let found = block.simd_eq(u8x16::splat(byte)).to_bitmask();
+    if found == 0 {
+        return 16;
+    }
+    found.trailing_zeros() as usize
+}

@@ -73,7 +73,7 @@ impl Blocks {
         ensures err { OnErr result (self.new ≡ self.old) }
     {
         block.lawful();
-        self.items.push(block)?;
+        push_block(&mut self.items, block)?;
         Ok(())
     }
 
@@ -84,4 +84,16 @@ impl Blocks {
         let items = self.items.clone()?;
         Ok(Blocks { items })
     }
+}
+
+// Most files have one block, and a first push alone would make room for four.
+fn push_block(items: &mut Vec<Block>, block: Block) -> Result<(), AllocError>
+    ensures ok { OnOk result (items.new.items ≡ items.old.items ++ block ∷ []) }
+    ensures err { OnErr result (items.new.items ≡ items.old.items) }
+{
+    if items.is_empty() {
+        items.reserve_exact(1)?;
+    }
+    items.push(block)?;
+    Ok(())
 }

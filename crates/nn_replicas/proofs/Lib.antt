@@ -4,4 +4,5 @@ pub mod Written
 pub mod Tables
 pub mod Listed
 pub mod Lookups
+pub mod Told
 pub mod Ties

@@ -1,6 +1,6 @@
 -- What the table answers, and what each call does to it.
-use Rattle.std.specs.Prelude.{ℕ, Bool, true, false, ◌&&◌, ◌||◌, ◌==◌, nat_lt, IsTrue, List, [], ◌∷◌, Option, Some, None, is_some, unwrap_or}
-use Rattle.std.specs.Prelude.{option_and_then, count_by, flat_map}
+use Rattle.std.specs.Prelude.{ℕ, Bool, true, false, ◌&&◌, ◌||◌, ◌==◌, nat_lt, nat_le, IsTrue, List, [], ◌∷◌, Option, Some, None, is_some, unwrap_or}
+use Rattle.std.specs.Prelude.{option_and_then, count_by, flat_map, if◌then◌else◌}
 use Rattle.std.specs.List.{list_all}
 use Rattle.std.specs.FinMap.Entries.{find, put}
 use Rattle.std.specs.Ordering.{nat_cmp}
@@ -11,7 +11,7 @@ use Rattle.nn_types.specs.declared.replica.Replica.{Replica}
 use Rattle.nn_model.specs.declared.form.BlockRow.{BlockRow}
 use Rattle.nn_replicas.specs.declared.entry.Cell.{Cell}
 use Rattle.nn_replicas.specs.Table.{BlockEntry, Table}
-use Rattle.nn_replicas.specs.Entry.{is_ordered, no_entry, with_row, with_place, with_put, with_erased, retired, rows_in, replicas_in, orders_in}
+use Rattle.nn_replicas.specs.Entry.{is_ordered, no_entry, with_row, with_place, with_put, with_erased, retired, stamp_in, rows_in, replicas_in, orders_in}
 use Rattle.nn_replicas.specs.Entry.{is_closed, is_safe}
 
 -- ---- What it answers.
@@ -26,6 +26,15 @@ entry_or_none t id = unwrap_or (entry_at t id) no_entry
 -- the row of a block, where a file holds it
 abbrev pub row_at : Table → ℕ → Option BlockRow
 row_at t id = (entry_or_none t id).row
+
+-- the generation stamp of the row
+abbrev pub stamp_at : Table → ℕ → Option ℕ
+stamp_at t id = stamp_in (row_at t id)
+
+-- there is a row, with at least this generation stamp
+abbrev pub reaches : Option ℕ → ℕ → Bool
+reaches None stamp = false
+reaches (Some named) stamp = nat_le stamp named
 
 -- the ids of all blocks that files hold, and the rows
 abbrev pub rows_of : Table → List (ℕ × BlockRow)
@@ -104,6 +113,18 @@ replica_put t dn id r = with_entry t id (with_put (entry_or_none t id) dn r)
 -- the DataNode has no replica: of a block that a file holds none is kept, of another none is ordered to be deleted
 abbrev pub replica_erased : Table → ℕ → ℕ → Table
 replica_erased t dn id = changed_at t id (λ e. with_erased e dn)
+
+-- the DataNode has this replica of the block, or none
+abbrev pub pair_told : Table → ℕ → ℕ → Option Replica → Table
+pair_told t dn id (Some r) = replica_put t dn id r
+pair_told t dn id None = replica_erased t dn id
+
+abbrev pub pair_told_if : Bool → Table → ℕ → ℕ → Option Replica → Table
+pair_told_if reached t dn id replica = if reached then pair_told t dn id replica else t
+
+-- there is room for what the DataNode says of the block, and where the row has at least this generation stamp it is told
+abbrev pub due_told : Table → ℕ → ℕ → ℕ → Option Replica → Table
+due_told t dn id stamp replica = pair_told_if (reaches (stamp_at t id) stamp) (pair_placed t dn id) dn id replica
 
 -- no file holds the block any more, and what DataNodes have of it is ordered to be deleted
 abbrev pub block_retired : Table → ℕ → Table

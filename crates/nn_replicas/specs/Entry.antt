@@ -63,11 +63,20 @@ with_put e dn r = with_cell e dn (cell_put (is_some e.row) r (cell_of e dn))
 abbrev pub with_erased : BlockEntry → ℕ → BlockEntry
 with_erased e dn = if has_cell e dn then with_cell e dn (cell_erased (is_some e.row) (cell_of e dn)) else e
 
+-- the DataNode has this replica of the block, or is placed and has none
+abbrev pub with_told : BlockEntry → ℕ → Option Replica → BlockEntry
+with_told e dn (Some r) = with_put e dn r
+with_told e dn None = with_erased (with_place e dn) dn
+
 -- the block leaves its file
 abbrev pub retired : BlockEntry → BlockEntry
 retired e = record { row = None; cells = map (λ c. (c.0, cell_retired c.1)) e.cells }
 
 -- ---- What it answers.
+
+-- the generation stamp of the row
+abbrev pub stamp_in : Option BlockRow → Option ℕ
+stamp_in row = option_map (λ (r : BlockRow). r.block.stamp) row
 
 abbrev pub replica_in : ℕ × Cell → Option (ℕ × Replica)
 replica_in c = option_map (λ r. (c.0, r)) c.1.replica

@@ -6,7 +6,7 @@ use Rattle.nn_types.specs.declared.report.Kind.TheVariants.{Receiving, Received}
 use Rattle.nn_types.specs.declared.replica.Replica.{Replica}
 use Rattle.nn_replicas.specs.Table.{Table}
 use Rattle.nn_replicas.specs.Calls.{row_at, rows_of, replica_at, has_order, is_placed, replicas_at, orders_of, total_of, safe_of, empty_table}
-use Rattle.nn_replicas.specs.Calls.{block_set, pair_placed, replica_put, replica_erased, block_retired}
+use Rattle.nn_replicas.specs.Calls.{stamp_at, block_set, pair_placed, replica_put, replica_erased, due_told, block_retired}
 
 -- ---- The blocks b and c, and reports of b by DataNodes 1, 2 and 3.
 
@@ -64,6 +64,17 @@ placed = pair_placed gone 4 b
 
 rooms : (orders_of placed ≡ orders_of gone) × (map (λ t. is_placed t 4 b) (gone ∷ placed ∷ replica_erased placed 4 b ∷ block_retired placed b ∷ []) ≡ false ∷ true ∷ true ∷ true ∷ [])
 rooms = (refl, refl)
+
+-- what is told with the stamp of the row, or a lower one, is done at once
+told_at_once : (due_told raised 1 b 1002 (Some (replica Received 1002 5)) ≡ reported 5) × (due_told raised 1 b 1001 None ≡ replica_erased raised 1 b)
+told_at_once = (refl, refl)
+
+-- where the row has a lower stamp, or where there is none, there is room alone
+told_early : (due_told raised 3 b 1003 (Some (replica Received 1003 5)) ≡ pair_placed raised 3 b) × (due_told gone 4 b 1001 (Some (replica Received 1001 5)) ≡ placed)
+told_early = (refl, refl)
+
+stamps : map (λ t. stamp_at t b) (empty_table 1 ∷ raised ∷ gone ∷ []) ≡ None ∷ Some 1002 ∷ None ∷ []
+stamps = refl
 
 -- a block that is named again has its orders still, and no replicas
 again : let t = block_set gone (block_b 1003) true in (orders_of t ≡ orders_of gone) × (replicas_at t b ≡ []) × (replica_at (replica_put t 1 b (replica Received 1003 5)) 1 b ≡ Some (replica Received 1003 5))

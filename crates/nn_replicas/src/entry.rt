@@ -4,13 +4,13 @@ ghost use Rattle.std.specs.FinMap.Entries.{find, is_sorted};
 ghost use Rattle.std.specs.Ordering.{nat_cmp};
 ghost use Rattle.nn_model.specs.Counts.{is_live, is_live_class};
 ghost use Rattle.nn_replicas.specs.Scan.{place, is_here};
-ghost use Rattle.nn_replicas.specs.Entry.{replicas_in, orders_in, is_ordered, cell_retired, no_entry, with_row, with_place, with_put, with_erased, retired, is_closed, is_safe};
+ghost use Rattle.nn_replicas.specs.Entry.{replicas_in, orders_in, is_ordered, cell_retired, no_entry, with_row, with_place, with_put, with_erased, with_told, retired, stamp_in, is_closed, is_safe};
 
 use crate::classes::class;
 use crate::replicas_of::ReplicasOf;
 use crate::slot::Slot;
 use nn_model::BlockRow;
-use nn_types::{Block, BlockId, Class, Replica};
+use nn_types::{Block, BlockId, Class, GenerationStamp, Replica};
 use smallvec::SmallVec;
 use std::alloc::{AllocError, Global};
 use std::marker::Model;
@@ -98,6 +98,7 @@ impl Entry {
         ensures row { self.new.row ≡ self.old.row }
         ensures safe { (min : ℕ) → is_safe min self.new ≡ is_safe min self.old }
         ensures err { OnErr result (self.new ≡ self.old) }
+        ensures room { is_some (find nat_cmp dn self.old.cells) ≡ true → IsOk result }
     {
         let place = place_of(self.cells.as_slice(), dn);
         if has_cell(self.cells.as_slice(), place, dn) {
@@ -140,6 +141,35 @@ impl Entry {
             };
             slot.erase(named);
         }
+    }
+
+    // As `place`, and then `put` of the replica, or `erase` where there is none.
+    pub fn tell(&mut self, dn: u16, replica: Option<Replica>) -> Result<(), AllocError>
+        ensures ok { OnOk result (self.new ≡ with_told self.old dn replica) }
+        ensures err { OnErr result (self.new ≡ self.old) }
+        ensures room { is_some (find nat_cmp dn self.old.cells) ≡ true → IsOk result }
+    {
+        let Some(replica) = replica else {
+            let Ok(()) = self.place(dn) else {
+                return Err(AllocError);
+            };
+            self.erase(dn);
+            return Ok(());
+        };
+        let Ok(()) = self.put(dn, replica) else {
+            return Err(AllocError);
+        };
+        Ok(())
+    }
+
+    // The generation stamp of the row.
+    pub fn stamp(&self) -> Option<GenerationStamp>
+        ensures { result ≡ stamp_in self.now.row }
+    {
+        let Some(row) = self.row else {
+            return None;
+        };
+        Some(row.block.stamp)
     }
 
     // Whether the DataNode is to delete what it has.

@@ -1,9 +1,9 @@
 //! Laws over the definitions: functions that do nothing, whose contracts hold.
-ghost use Rattle.std.specs.Prelude.{ℕ, Bool, Some, None};
+ghost use Rattle.std.specs.Prelude.{◌≡◌, ℕ, Bool, true, false, Option, Some, None};
 ghost use Rattle.nn_types.specs.declared.block.Block.{Block};
 ghost use Rattle.nn_types.specs.declared.replica.Replica.{Replica};
 ghost use Rattle.nn_replicas.specs.Table.{Table};
-ghost use Rattle.nn_replicas.specs.Calls.{empty_table, block_set, pair_placed, replica_put, replica_erased, block_retired};
+ghost use Rattle.nn_replicas.specs.Calls.{empty_table, block_set, pair_placed, replica_put, replica_erased, stamp_at, reaches, due_told, block_retired};
 ghost use Rattle.nn_replicas.specs.Effects.{Names, Places, Writes, Retires};
 ghost use Rattle.nn_replicas.specs.Agreement.{CountsAgree};
 ghost use Rattle.nn_replicas.specs.Order.{IsInOrder};
@@ -15,6 +15,8 @@ pub fn each_call_changes()
     ensures place { (t : Table) (dn id : ℕ) → Places t dn id (pair_placed t dn id) }
     ensures put { (t : Table) (dn id : ℕ) (r : Replica) → Writes t dn id (Some r) (replica_put t dn id r) }
     ensures erase { (t : Table) (dn id : ℕ) → Writes t dn id None (replica_erased t dn id) }
+    ensures tell_due { (t : Table) (dn id stamp : ℕ) (r : Option Replica) → reaches (stamp_at t id) stamp ≡ true → Writes (pair_placed t dn id) dn id r (due_told t dn id stamp r) }
+    ensures tell_early { (t : Table) (dn id stamp : ℕ) (r : Option Replica) → reaches (stamp_at t id) stamp ≡ false → Places t dn id (due_told t dn id stamp r) }
     ensures retire { (t : Table) (id : ℕ) → Retires t id (block_retired t id) }
 {}
 
@@ -25,6 +27,7 @@ pub fn tables_are_in_order()
     ensures place { (t : Table) (dn id : ℕ) → IsInOrder t → IsInOrder (pair_placed t dn id) }
     ensures put { (t : Table) (dn id : ℕ) (r : Replica) → IsInOrder t → IsInOrder (replica_put t dn id r) }
     ensures erase { (t : Table) (dn id : ℕ) → IsInOrder t → IsInOrder (replica_erased t dn id) }
+    ensures tell_due { (t : Table) (dn id stamp : ℕ) (r : Option Replica) → IsInOrder t → IsInOrder (due_told t dn id stamp r) }
     ensures retire { (t : Table) (id : ℕ) → IsInOrder t → IsInOrder (block_retired t id) }
 {}
 

@@ -1,14 +1,14 @@
 //! The replica table.
-ghost use Rattle.std.specs.Prelude.{◌≡◌, IsOk, OnOk, OnErr, IfOk, IsTrue, is_some};
+ghost use Rattle.std.specs.Prelude.{◌≡◌, IsOk, OnOk, OnErr, IfOk, IfSome, IsTrue, is_some};
 ghost use Rattle.std.specs.FinMap.Entries.{is_sorted};
 ghost use Rattle.std.specs.Ordering.{nat_cmp};
-ghost use Rattle.nn_replicas.specs.Calls.{row_at, rows_of, replicas_at, orders_of, AreAscending, has_order, is_placed, is_kept, total_of, safe_of, empty_table, block_set, pair_placed, replica_put, replica_erased, block_retired};
+ghost use Rattle.nn_replicas.specs.Calls.{row_at, rows_of, replicas_at, orders_of, AreAscending, has_order, is_placed, is_kept, total_of, safe_of, empty_table, block_set, pair_placed, replica_put, replica_erased, stamp_at, reaches, due_told, block_retired};
 
 use crate::entry::Entry;
 use crate::replicas_of::ReplicasOf;
 use crate::rows::Rows;
 use nn_model::BlockRow;
-use nn_types::{Block, BlockId, Replica, Settings};
+use nn_types::{Block, BlockId, GenerationStamp, Replica, Settings};
 use std::alloc::{AllocError, Global};
 use std::collections::BTreeMap;
 use std::marker::Model;
@@ -142,6 +142,44 @@ impl Replicas {
         self.safe = self.safe - u64::from(was_safe) + u64::from(safe);
     }
 
+    /// Makes room for what a DataNode says of a block, as `place` does. Where a file holds the block with at least this
+    /// generation stamp, it also sets the replica, as `put` does, or takes it away, as `erase` does: all in one look-up.
+    /// Tells the stamp with which a file holds the block. It takes no memory where the DataNode was placed at the block.
+    ///
+    /// If memory runs out, the table is as it was. O(log blocks + replicas of the block).
+    pub fn tell_due(
+        &mut self,
+        dn: u16,
+        block: BlockId,
+        stamp: GenerationStamp,
+        replica: Option<Replica>,
+    ) -> Result<Option<GenerationStamp>, AllocError>
+        requires { IfSome replica (λ r. IsTrue (is_kept r.kind)) }
+        ensures stamp { IfOk result (λ named. named ≡ stamp_at self.old block) }
+        ensures ok { OnOk result (self.new ≡ due_told self.old dn block stamp replica) }
+        ensures err { OnErr result (self.new ≡ self.old) }
+        ensures room { IsTrue (is_placed self.old dn block) → IsOk result }
+    {
+        // Fewer blocks than 2^63 fit in memory, so the counters do not overflow.
+        let _count = self.entries.len();
+        let Some(entry) = self.entries.get_mut(&block) else {
+            let mut entry = Entry::new(self.alloc);
+            entry.place(dn)?;
+            self.entries.insert(block, entry)?;
+            return Ok(None);
+        };
+        let named = entry.stamp();
+        if !reaches(&named, stamp) {
+            entry.place(dn)?;
+            return Ok(named);
+        }
+        let was_safe = entry.is_safe(self.min);
+        entry.tell(dn, replica)?;
+        let safe = entry.is_safe(self.min);
+        self.safe = self.safe - u64::from(was_safe) + u64::from(safe);
+        Ok(named)
+    }
+
     /// Drops the row of a block that no file holds any more, and turns its replicas into orders.
     pub fn retire(&mut self, block: BlockId)
         ensures { self.new ≡ block_retired self.old block }
@@ -209,4 +247,14 @@ impl Replicas {
     {
         self.safe
     }
+}
+
+// Whether there is a stamp that is at least this one.
+fn reaches(named: &Option<GenerationStamp>, stamp: GenerationStamp) -> bool
+    ensures { result ≡ reaches named.now stamp }
+{
+    let Some(named) = *named else {
+        return false;
+    };
+    named >= stamp
 }

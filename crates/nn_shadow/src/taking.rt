@@ -1,20 +1,24 @@
 //! The items of a message are taken in: held while they have to wait, and processed where they need not. Memory comes
 //! before any change that shows.
-ghost use Rattle.std.specs.Prelude.{◌≡◌, [], ◌∷◌, OnOk, OnErr, IfOk, filter};
+ghost use Rattle.std.specs.Prelude.{◌≡◌, [], ◌∷◌, OnOk, OnErr, IfOk, filter, nat_lt};
 ghost use Rattle.nn_model.specs.Items.{added, finished, with_items};
+ghost use Rattle.nn_model.specs.Status.{status_unheld};
 ghost use Rattle.nn_postponed.specs.Release.{must_wait};
 ghost use Rattle.nn_shadow.specs.Calls.{is_due_in};
 ghost use Rattle.nn_shadow.specs.Items.{TakesItems, LeavesItems, counts_of};
-ghost use Rattle.nn_shadow.specs.Steps.{AreApart};
+ghost use Rattle.nn_shadow.specs.Steps.{AreApart, taken_unless, status_by_row};
+ghost use Rattle.nn_replicas.specs.Agreement.{Shows};
+ghost use Rattle.nn_model.specs.WellFormed.{HasWellFormedBlocks};
+ghost use Rattle.nn_replicas.specs.Calls.{pair_placed};
 
 use crate::fault::Handed;
 use crate::had::Had;
 use crate::settle::{process_due, processed};
-use crate::table::{place_all, process};
+use crate::table::{place_all, process_by_row, process_without_row};
 use nn_postponed::Postponed;
 use nn_replicas::Replicas;
 use nn_tree::Namespace;
-use nn_types::{Cause, Event, Kind, Message, due};
+use nn_types::{BlockId, Cause, Event, GenerationStamp, Kind, Message, Status, due};
 use std::alloc::{AllocError, Global};
 
 /// Takes in the items that a message adds, all or none.
@@ -26,6 +30,8 @@ pub(crate) fn take_items(
     had: &mut Had,
     m: &Message,
 ) -> Result<Handed, AllocError>
+    requires shows { Shows namespace.now table.old }
+    requires blocks { HasWellFormedBlocks namespace.now }
     ensures ok { OnOk result (TakesItems namespace.now (added had.old m.now) history.old.items held.old table.old history.new.items held.new table.new) }
     ensures had { OnOk result (had.new ≡ record had.old { has = with_items had.old.has (added had.old m.now) }) }
     ensures apart { OnOk result (AreApart (added had.old m.now)) }
@@ -52,7 +58,7 @@ pub(crate) fn take_items(
     }
 }
 
-// One item.
+// One item, and what its DataNode has.
 fn take_item(
     namespace: &Namespace,
     history: &mut Vec<Event>,
@@ -61,20 +67,44 @@ fn take_item(
     had: &mut Had,
     item: &Message,
 ) -> Result<Handed, AllocError>
+    requires shows { Shows namespace.now table.old }
+    requires blocks { HasWellFormedBlocks namespace.now }
     ensures ok { OnOk result (TakesItems namespace.now (item.now ∷ []) history.old.items held.old table.old history.new.items held.new table.new) }
     ensures had { OnOk result (had.new ≡ record had.old { has = with_items had.old.has (item.now ∷ []) }) }
     ensures handed { IfOk result (λ handed. handed ≡ counts_of namespace.now held.old (item.now ∷ [])) }
     ensures err { OnErr result (LeavesItems (item.now ∷ []) history.old.items held.old table.old history.new.items held.new table.new) }
     ensures had_err { OnErr result (had.new ≡ had.old) }
 {
+    let before = had.note(item)?;
+    let Ok(handed) = process_or_hold(namespace, history, held, table, item) else {
+        had.forget_note(item, before);
+        return Err(AllocError);
+    };
+    had.note_taken(item);
+    Ok(handed)
+}
+
+// Processes an item, or holds it where it has to wait.
+fn process_or_hold(
+    namespace: &Namespace,
+    history: &mut Vec<Event>,
+    held: &mut Postponed,
+    table: &mut Replicas,
+    item: &Message,
+) -> Result<Handed, AllocError>
+    requires shows { Shows namespace.now table.old }
+    requires blocks { HasWellFormedBlocks namespace.now }
+    ensures ok { OnOk result (TakesItems namespace.now (item.now ∷ []) history.old.items held.old table.old history.new.items held.new table.new) }
+    ensures handed { IfOk result (λ handed. handed ≡ counts_of namespace.now held.old (item.now ∷ [])) }
+    ensures err { OnErr result (LeavesItems (item.now ∷ []) history.old.items held.old table.old history.new.items held.new table.new) }
+{
+    history.reserve(1)?;
     // Its room in the table comes now: also where it is held, it is processed later without memory.
-    table.place(item.dn, item.block)?;
-    if must_wait(namespace, held, item) {
+    let Ok(waits) = place_or_process(namespace, held, table, item) else {
+        return Err(AllocError);
+    };
+    if waits {
         let Ok(()) = held.hold(*item) else {
-            return Err(AllocError);
-        };
-        let Ok(()) = had.note_item(item) else {
-            let _ = held.take_last(item.block);
             return Err(AllocError);
         };
         return Ok(Handed {
@@ -82,14 +112,71 @@ fn take_item(
             held: 1,
         });
     }
-    history.reserve(1)?;
-    had.note_item(item)?;
-    process(table, item);
     history.push_reserved(processed(item, Cause::Due));
     Ok(Handed {
         processed: 1,
         held: 0,
     })
+}
+
+// Makes room for an item in the table, and does there what it says unless it has to wait. Tells whether it has to.
+//
+// Where a file holds the block, the table's row says whether the item is due. Where none does, the namespace is asked, and
+// of it only what it keeps of ids that no file has.
+fn place_or_process(
+    namespace: &Namespace,
+    held: &Postponed,
+    table: &mut Replicas,
+    item: &Message,
+) -> Result<bool, AllocError>
+    requires shows { Shows namespace.now table.old }
+    requires blocks { HasWellFormedBlocks namespace.now }
+    ensures waits { IfOk result (λ waits. waits ≡ must_wait (is_due_in namespace.now) held.now item.now) }
+    ensures ok { IfOk result (λ waits. table.new ≡ taken_unless waits (pair_placed table.old item.now.dn item.now.block) item.now) }
+    ensures err { OnErr result (table.new ≡ table.old) }
+{
+    if is_ahead(namespace, item) {
+        let Ok(()) = table.place(item.dn, item.block) else {
+            return Err(AllocError);
+        };
+        return Ok(true);
+    }
+    if held.holds(item.dn, item.block) {
+        let Ok(()) = table.place(item.dn, item.block) else {
+            return Err(AllocError);
+        };
+        return Ok(true);
+    }
+    let Ok(row_stamp) = process_by_row(table, item) else {
+        return Err(AllocError);
+    };
+    let status = status_by_row(&row_stamp, namespace, item.block);
+    if !due(status, item.stamp) {
+        return Ok(true);
+    }
+    process_without_row(table, &row_stamp, item);
+    Ok(false)
+}
+
+// Whether the log has not issued the id of the block yet. Then the item waits, and nothing else has to be looked up.
+fn is_ahead(namespace: &Namespace, item: &Message) -> bool
+    ensures { result ≡ nat_lt namespace.now.issued.last_block item.now.block }
+{
+    namespace.last_block() < item.block
+}
+
+// What the log has said of a block, given the stamp with which a file holds it, if one does.
+fn status_by_row(
+    row_stamp: &Option<GenerationStamp>,
+    namespace: &Namespace,
+    block: BlockId,
+) -> Status
+    ensures { result ≡ status_by_row row_stamp.now (status_unheld namespace.now block) }
+{
+    let Some(stamp) = *row_stamp else {
+        return namespace.unheld_status(block);
+    };
+    Status::Named(stamp)
 }
 
 // The items of the end of a full report. Those that have to wait are held first, which takes memory last; then the

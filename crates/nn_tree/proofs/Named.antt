@@ -1,12 +1,11 @@
 -- The index gives the block that the definition finds.
-use Rattle.std.proofs.Common.{inl, inr, ◌≡◌, ℕ, Bool, true, false, cond, List, [], ◌∷◌, Option, Some, None, refl, sym, ap, ◌∙◌}
-use Rattle.std.specs.Prelude.{IfSome, ◌==◌, option_map, find, nat_le, if◌then◌else◌}
+use Rattle.std.proofs.Common.{inl, inr, ◌≡◌, ℕ, true, false, cond, List, [], ◌∷◌, Option, Some, None, refl, sym, ap, ◌∙◌}
+use Rattle.std.specs.Prelude.{IfSome, ◌==◌, option_map, find}
 use Rattle.std.specs.FinMap.Entries.{find as find_entry, is_sorted, below_all}
 use Rattle.std.proofs.lemmas.Bool.{and_parts, false_from_ne_true}
 use Rattle.nn_types.specs.declared.block.Block.{Block}
-use Rattle.nn_types.specs.declared.status.Status.TheVariants.{Unnamed, Awaiting, Named, Retired}
+use Rattle.nn_types.specs.declared.status.Status.TheVariants.{Named}
 use Rattle.nn_model.specs.Namespace.{Namespace, path_cmp, lookup, blocks_of, all_blocks}
-use Rattle.nn_model.specs.Apply.{has_id}
 use Rattle.nn_model.specs.Status.{block_at, status_of, status_from, status_unheld}
 use Rattle.nn_model.specs.WellFormed.{Has}
 use Rattle.nn_model.proofs.Dues.{found_in, none_found, once_same, blocks_in, has_either}
@@ -59,8 +58,8 @@ block_known n look id k =
 pub status_named : (n : Namespace) (id : ℕ) (b : Block) → block_at n id ≡ Some b → Named b.stamp ≡ status_of n id
 status_named n id b e = sym (ap (λ o. status_from o (status_unheld n id)) e)
 
-pub status_other : (n : Namespace) (id : ℕ) (a b : Bool) → block_at n id ≡ None → has_id n.issued.awaiting id ≡ a → nat_le id n.issued.last_block ≡ b → (if a then Awaiting else if b then Retired else Unnamed) ≡ status_of n id
-status_other n id a b e h k = (λ j. if sym h j then Awaiting else if sym k j then Retired else Unnamed) ∙ sym (ap (λ o. status_from o (status_unheld n id)) e)
+pub status_other : (n : Namespace) (id : ℕ) → block_at n id ≡ None → status_unheld n id ≡ status_of n id
+status_other n id e = sym (ap (λ o. status_from o (status_unheld n id)) e)
 
 -- a row of the index tells of a file
 in_row : (n : Namespace) (p : Path) (r : Form) (b : BlockRow) → lookup n p ≡ Some r → InRow b r → IsInFile n b

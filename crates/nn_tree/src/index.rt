@@ -52,7 +52,12 @@ pub(crate) fn enter(
 }
 
 // Puts a new list of blocks in an index in place of an old one, which has the same ids and perhaps one more.
-pub(crate) fn renew(index: &mut BTreeMap<BlockId, BlockRow>, old: &[Block], new: &[Block], closed: bool)
+pub(crate) fn renew(
+    index: &mut BTreeMap<BlockId, BlockRow>,
+    old: &[Block],
+    new: &[Block],
+    closed: bool,
+)
     ensures { (q : ℕ) → get nat_cmp index.new q ≡ renewed (λ id. get nat_cmp index.old id) old.now new.now closed q }
 {
     let both = old.len().min(new.len());

@@ -5,7 +5,7 @@ ghost use Rattle.nn_types.specs.Profile.{number_of};
 ghost use Rattle.nn_model.specs.Namespace.{root_alone, lookup};
 ghost use Rattle.nn_model.specs.Apply.{applied, refusal};
 ghost use Rattle.nn_types.specs.EditFault.{IsFault};
-ghost use Rattle.nn_model.specs.Status.{block_at, status_of};
+ghost use Rattle.nn_model.specs.Status.{block_at, status_of, status_unheld};
 ghost use Rattle.nn_model.specs.Touched.{touched};
 ghost use Rattle.nn_tree.specs.Extent.{capped, path_bytes, block_count};
 ghost use Rattle.nn_tree.specs.Found.{form_of};
@@ -203,6 +203,13 @@ impl Namespace {
         if let Some(row) = self.index.get(&id) {
             return Status::Named(row.block.stamp);
         }
+        self.unheld_status(id)
+    }
+
+    /// What the log has said of a block that no file holds: `status` without a look at the blocks of the files.
+    pub fn unheld_status(&self, id: BlockId) -> Status
+        ensures { result ≡ status_unheld self.now id }
+    {
         if self.issued.awaits(id) {
             return Status::Awaiting;
         }

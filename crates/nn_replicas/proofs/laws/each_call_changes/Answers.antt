@@ -1,4 +1,5 @@
 use Rattle.nn_replicas.proofs.Lookups.{set_block_names, place_places, put_writes, erase_writes, retire_retires}
+use Rattle.nn_replicas.proofs.Told.{due_writes, early_places}
 use Rattle.nn_replicas.proofs.laws.each_call_changes.Goals as goal
 
 pub returns-clause-set_block : goal.returns-clause-set_block
@@ -12,6 +13,12 @@ returns-clause-put c = put_writes
 
 pub returns-clause-erase : goal.returns-clause-erase
 returns-clause-erase c = erase_writes
+
+pub returns-clause-tell_due : goal.returns-clause-tell_due
+returns-clause-tell_due c = due_writes
+
+pub returns-clause-tell_early : goal.returns-clause-tell_early
+returns-clause-tell_early c = early_places
 
 pub returns-clause-retire : goal.returns-clause-retire
 returns-clause-retire c = retire_retires

@@ -1,4 +1,5 @@
 use Rattle.nn_replicas.proofs.Lookups.{new_in_order, set_block_in_order, place_in_order, put_in_order, erase_in_order, retire_in_order}
+use Rattle.nn_replicas.proofs.Told.{due_in_order}
 use Rattle.nn_replicas.proofs.laws.tables_are_in_order.Goals as goal
 
 pub returns-clause-new : goal.returns-clause-new
@@ -15,6 +16,9 @@ returns-clause-put c = put_in_order
 
 pub returns-clause-erase : goal.returns-clause-erase
 returns-clause-erase c = erase_in_order
+
+pub returns-clause-tell_due : goal.returns-clause-tell_due
+returns-clause-tell_due c = due_in_order
 
 pub returns-clause-retire : goal.returns-clause-retire
 returns-clause-retire c = retire_in_order

@@ -1,8 +1,7 @@
-use Rattle.std.proofs.Common.{cond, Some, refl, sym, ap, ◌∙◌, arith}
-use Rattle.std.specs.Prelude.{is_some}
+use Rattle.std.proofs.Common.{refl, sym, ap, arith}
 use Rattle.std.specs.BTreeMap.{get, is_at}
 use Rattle.std.specs.Map.{lookup as lookup_by}
-use Rattle.std.specs.Ordering.{nat_cmp, is_eq}
+use Rattle.std.specs.Ordering.{nat_cmp}
 use Rattle.nn_tree.proofs.Entered.{forgotten, there_already, one_more}
 use Rattle.nn_tree.proofs.index.enter.Goals as goal
 

@@ -2,7 +2,7 @@ use Rattle.std.proofs.Common.{is_some, refl, sym, ap, ◌∙◌, arith}
 use Rattle.nn_replicas.specs.Entry.{no_cell}
 use Rattle.nn_replicas.specs.Scan.{place, is_here}
 use Rattle.nn_replicas.proofs.Scanned.{place_le}
-use Rattle.nn_replicas.proofs.Written.{sorted_new, wrote_new, there, not_there, placed_there, placed_new}
+use Rattle.nn_replicas.proofs.Written.{sorted_new, wrote_new, there, not_there, is_not_here, placed_there, placed_new}
 use Rattle.nn_replicas.proofs.entry.Entry.place.Goals as goal
 
 pub returns-then-has_cell-clause-ok : goal.returns-then-has_cell-clause-ok
@@ -14,6 +14,11 @@ pub insert-requires : goal.insert-requires
 insert-requires c =
     let k = c.place_of-place.ensures ∙ ap (place c.args.dn) c.as_slice.ensures in
     (omega arith, omega (arith, k, place_le c.args.dn c.self.inside.cells.items))
+
+pub returns-in_err-insert-clause-room : goal.returns-in_err-insert-clause-room
+returns-in_err-insert-clause-room c =
+    let h = sym (c.if-has_cell.ensures ∙ ap (is_here c.args.dn) c.as_slice-2.ensures) in
+    is_not_here (not_there c.args.self.now c.self.inside.row c.self.inside.cells.items c.args.dn c.self.view_is c.self.invariant h)
 
 pub invariant_of-self-2 : goal.invariant_of-self-2
 invariant_of-self-2 c =

@@ -5,7 +5,7 @@ use Rattle.nn_shadow.proofs.Rest.{rest_at, rest_end}
 use Rattle.nn_shadow.proofs.had.Had.forget.Goals as goal
 
 pub loop-item-init : goal.loop-item-init
-loop-item-init c = record { has = ap (λ (h : Having). all_forgotten h.has c.args.gone.now) c.self.view_is; begun = ap (λ (h : Having). h.begun) c.self.view_is }
+loop-item-init c = record { has = ap (λ (h : Having). all_forgotten h.has c.args.gone.now) c.self.view_is; begun = ap (λ (h : Having). h.begun) c.self.view_is; order = c.self.invariant }
 
 pub loop-item-preserved : goal.loop-item-preserved
 loop-item-preserved c = record {
@@ -14,6 +14,7 @@ loop-item-preserved c = record {
       (sym (rest_at c.args.gone.now c.loop-item.item-index c.item-item.result c.loop-item-test.true c.item-item.is))
       ∙ c.loop-item.invariant.has;
   begun = c.loop-item.invariant.begun;
+  order = c.remove.ensures.ordered;
 }
 
 pub returns : goal.returns

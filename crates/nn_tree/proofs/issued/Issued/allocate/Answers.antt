@@ -1,6 +1,4 @@
 use Rattle.std.proofs.Common.{◌≡◌, ◌++◌, ◌∷◌, [], ap, sym, subst, ◌∙◌}
-use Rattle.std.specs.BTreeSet.{insert_key}
-use Rattle.std.specs.Ordering.{nat_cmp}
 use Rattle.nn_tree.proofs.Waiting.{insert_last}
 use Rattle.nn_tree.specs.Issued.{AreBelow}
 use Rattle.nn_tree.proofs.issued.Issued.allocate.Goals as goal

@@ -1,8 +1,6 @@
 use Rattle.std.proofs.Common.{◌≡◌, not, ap, sym, subst, ◌∙◌}
 use Rattle.std.specs.Prelude.{filter, ◌==◌}
-use Rattle.std.specs.BTreeMap.{is_at}
 use Rattle.std.specs.List.Sorted.{IsStrictlySortedBy}
-use Rattle.std.specs.Set.{remove_key}
 use Rattle.std.specs.Ordering.{nat_cmp}
 use Rattle.nn_tree.proofs.Waiting.{without_id}
 use Rattle.nn_tree.proofs.issued.Issued.give.Goals as goal

@@ -29,7 +29,7 @@ use Rattle.nn_shadow.specs.Calls.{is_due_in, after_messages, processing, waits, 
 use Rattle.nn_shadow.specs.Items.{taken_at_once, items_taken, TakesItems, LeavesItems}
 use Rattle.nn_shadow.specs.Refusals.{is_lane}
 use Rattle.nn_shadow.specs.Contents.{Contents, number_in, having_in, standby_of, IsConsistent, Becomes}
-use Rattle.nn_shadow.specs.Steps.{messages_taken, all_placed, all_forgotten, AreApart}
+use Rattle.nn_shadow.specs.Steps.{messages_taken, all_placed, AreApart}
 use Rattle.nn_shadow.proofs.AtOnce.{at_once}
 use Rattle.nn_shadow.proofs.Lists.{from_queued}
 use Rattle.nn_shadow.proofs.Tables.{shown, messages_keep, messages_shown, messages_unnamed}
@@ -67,15 +67,6 @@ finished_apart begin m (e ∷ es) sorted =
       | true ↦ (none_about begin e.0 m es sorted.0, later)
       | false ↦ later
     ]
-
--- what is revoked is forgotten
-pub finished_forgotten : (begun : Option ℕ) (es has : List (ℕ × ℕ)) (m : Message) → all_forgotten has (finished begun es m) ≡ with_items has (finished begun es m)
-finished_forgotten None es has m = refl
-finished_forgotten (Some begin) es has m = each (left_out begin es) has
-  where
-    each : (ids : List ℕ) (h : List (ℕ × ℕ)) → all_forgotten h (map (taken_back m) ids) ≡ with_items h (map (taken_back m) ids)
-    each [] h = refl
-    each (id ∷ ids) h = each ids _
 
 -- the items of a message are of its DataNode
 pub added_own : (k : Kind) (had : Having) (m y : Message) → Has (added_as k had m) y → y.dn ≡ m.dn

@@ -1,6 +1,6 @@
 //! The items of a message are taken in: held while they have to wait, and processed where they need not. Memory comes
 //! before any change that shows.
-ghost use Rattle.std.specs.Prelude.{◌≡◌, [], ◌∷◌, OnOk, OnErr, IfOk, filter, nat_lt};
+ghost use Rattle.std.specs.Prelude.{◌≡◌, ◌≤◌, [], ◌∷◌, OnOk, OnErr, IfOk, filter, nat_lt};
 ghost use Rattle.nn_model.specs.Items.{added, finished, with_items};
 ghost use Rattle.nn_model.specs.Status.{status_unheld};
 ghost use Rattle.nn_postponed.specs.Release.{must_wait};
@@ -32,12 +32,13 @@ pub(crate) fn take_items(
 ) -> Result<Handed, AllocError>
     requires shows { Shows namespace.now table.old }
     requires blocks { HasWellFormedBlocks namespace.now }
-    ensures ok { OnOk result (TakesItems namespace.now (added had.old m.now) history.old.items held.old table.old history.new.items held.new table.new) }
-    ensures had { OnOk result (had.new ≡ record had.old { has = with_items had.old.has (added had.old m.now) }) }
-    ensures apart { OnOk result (AreApart (added had.old m.now)) }
-    ensures handed { IfOk result (λ handed. handed ≡ counts_of namespace.now held.old (added had.old m.now)) }
-    ensures err { OnErr result (LeavesItems (added had.old m.now) history.old.items held.old table.old history.new.items held.new table.new) }
-    ensures had_err { OnErr result (had.new ≡ had.old) }
+    requires number { 1 ≤ m.now.number }
+    ensures ok { OnOk result (TakesItems namespace.now (added had.old.having m.now) history.old.items held.old table.old history.new.items held.new table.new) }
+    ensures had { OnOk result (had.new.having ≡ record had.old.having { has = with_items had.old.having.has (added had.old.having m.now) }) }
+    ensures apart { OnOk result (AreApart (added had.old.having m.now)) }
+    ensures handed { IfOk result (λ handed. handed ≡ counts_of namespace.now held.old (added had.old.having m.now)) }
+    ensures err { OnErr result (LeavesItems (added had.old.having m.now) history.old.items held.old table.old history.new.items held.new table.new) }
+    ensures had_err { OnErr result (had.new.having ≡ had.old.having) }
 {
     match m.kind {
         Kind::Begin => Ok(Handed {
@@ -69,18 +70,20 @@ fn take_item(
 ) -> Result<Handed, AllocError>
     requires shows { Shows namespace.now table.old }
     requires blocks { HasWellFormedBlocks namespace.now }
+    requires number { 1 ≤ item.now.number }
     ensures ok { OnOk result (TakesItems namespace.now (item.now ∷ []) history.old.items held.old table.old history.new.items held.new table.new) }
-    ensures had { OnOk result (had.new ≡ record had.old { has = with_items had.old.has (item.now ∷ []) }) }
+    ensures had { OnOk result (had.new.having ≡ record had.old.having { has = with_items had.old.having.has (item.now ∷ []) }) }
     ensures handed { IfOk result (λ handed. handed ≡ counts_of namespace.now held.old (item.now ∷ [])) }
     ensures err { OnErr result (LeavesItems (item.now ∷ []) history.old.items held.old table.old history.new.items held.new table.new) }
-    ensures had_err { OnErr result (had.new ≡ had.old) }
+    ensures had_err { OnErr result (had.new.having ≡ had.old.having) }
 {
-    let before = had.note(item)?;
-    let Ok(handed) = process_or_hold(namespace, history, held, table, item) else {
-        had.forget_note(item, before);
+    let Ok(()) = had.reserve() else {
         return Err(AllocError);
     };
-    had.note_taken(item);
+    let Ok(handed) = process_or_hold(namespace, history, held, table, item) else {
+        return Err(AllocError);
+    };
+    had.note(item);
     Ok(handed)
 }
 
@@ -189,12 +192,12 @@ fn take_back(
     had: &mut Had,
     finish: &Message,
 ) -> Result<Handed, AllocError>
-    ensures ok { OnOk result (TakesItems namespace.now (finished had.old.begun had.old.has finish.now) history.old.items held.old table.old history.new.items held.new table.new) }
-    ensures had { OnOk result (had.new ≡ record had.old { has = with_items had.old.has (finished had.old.begun had.old.has finish.now) }) }
-    ensures apart { OnOk result (AreApart (finished had.old.begun had.old.has finish.now)) }
-    ensures handed { IfOk result (λ handed. handed ≡ counts_of namespace.now held.old (finished had.old.begun had.old.has finish.now)) }
-    ensures err { OnErr result (LeavesItems (finished had.old.begun had.old.has finish.now) history.old.items held.old table.old history.new.items held.new table.new) }
-    ensures had_err { OnErr result (had.new ≡ had.old) }
+    ensures ok { OnOk result (TakesItems namespace.now (finished had.old.having.begun had.old.having.has finish.now) history.old.items held.old table.old history.new.items held.new table.new) }
+    ensures had { OnOk result (had.new.having ≡ record had.old.having { has = with_items had.old.having.has (finished had.old.having.begun had.old.having.has finish.now) }) }
+    ensures apart { OnOk result (AreApart (finished had.old.having.begun had.old.having.has finish.now)) }
+    ensures handed { IfOk result (λ handed. handed ≡ counts_of namespace.now held.old (finished had.old.having.begun had.old.having.has finish.now)) }
+    ensures err { OnErr result (LeavesItems (finished had.old.having.begun had.old.having.has finish.now) history.old.items held.old table.old history.new.items held.new table.new) }
+    ensures had_err { OnErr result (had.new.having ≡ had.old.having) }
 {
     let alloc = *history.allocator();
     let gone = had.left_out(alloc, finish)?;
@@ -204,7 +207,7 @@ fn take_back(
     history.reserve(due)?;
     held.hold_all(&waiting)?;
     process_due(history, table, held, &gone);
-    had.forget(&gone);
+    had.forget_left_out();
     Ok(Handed {
         processed: due,
         held: waiting.len(),

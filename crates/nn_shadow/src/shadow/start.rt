@@ -1,11 +1,12 @@
 //! How a standby starts.
-ghost use Rattle.std.specs.Prelude.{◌≡◌, ◌≤◌, ◌<◌, ◌^◌, [], length, replicate, false, None, IfOk, IfErr};
+ghost use Rattle.std.specs.Prelude.{◌≡◌, ◌≤◌, ◌<◌, ◌^◌, [], length, map, replicate, false, None, IfOk, IfErr};
 ghost use Rattle.nn_model.specs.Items.{nothing_had};
 ghost use Rattle.nn_model.specs.Lanes.{no_messages};
 ghost use Rattle.nn_model.specs.Stands.{fresh};
 ghost use Rattle.nn_replicas.specs.Agreement.{Shows, HasCounts};
 ghost use Rattle.nn_shadow.specs.Contents.{standby_of};
 ghost use Rattle.nn_shadow.specs.Laws.{StandsBy};
+ghost use Rattle.nn_shadow.specs.Notes.{having_of};
 
 use super::Shadow;
 use crate::fault::FromFault;
@@ -64,7 +65,7 @@ impl Shadow {
 
 // So many DataNodes have nothing.
 fn nothing_had(alloc: Global, datanodes: u16) -> Result<Vec<Had>, AllocError>
-    ensures { IfOk result (λ had. had.items ≡ replicate datanodes nothing_had) }
+    ensures { IfOk result (λ had. map having_of had.items ≡ replicate datanodes nothing_had) }
 {
     let mut had = Vec::new(alloc);
     for _ in 0..datanodes {

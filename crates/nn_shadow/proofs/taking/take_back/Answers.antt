@@ -4,15 +4,15 @@ use Rattle.nn_types.specs.declared.event.Cause.TheVariants.{Due}
 use Rattle.nn_model.specs.Namespace.{Namespace}
 use Rattle.nn_model.specs.WellFormed.{Has}
 use Rattle.nn_model.specs.History.{processed}
-use Rattle.nn_model.specs.Items.{Having}
+use Rattle.nn_model.specs.Items.{Having, finished, with_items}
 use Rattle.nn_replicas.specs.Calls.{is_placed}
 use Rattle.nn_postponed.specs.Queues.{all_queued}
 use Rattle.nn_postponed.specs.Release.{must_wait}
 use Rattle.nn_shadow.specs.Calls.{is_due_in}
 use Rattle.nn_shadow.specs.Items.{TakesItems, free_of, stuck_of}
-use Rattle.nn_shadow.specs.Steps.{messages_taken, all_placed, all_forgotten, not_held, AreApart}
+use Rattle.nn_shadow.specs.Steps.{messages_taken, all_placed, not_held, AreApart}
 use Rattle.nn_shadow.proofs.AtOnce.{free_then}
-use Rattle.nn_shadow.proofs.ItemsTaken.{all_have_room, finished_forgotten}
+use Rattle.nn_shadow.proofs.ItemsTaken.{all_have_room}
 use Rattle.nn_shadow.proofs.Rest.{parts_length}
 use Rattle.nn_shadow.proofs.taking.take_back.Goals as goal
 
@@ -78,9 +78,8 @@ returns-clause-ok c =
 
 pub returns-clause-had : goal.returns-clause-had
 returns-clause-had c =
-    c.forget.ensures
-    ∙ ap {B = Having} (λ l. record c.args.had.now { has = all_forgotten c.args.had.now.has l }) (c.deref-5.ensures.value ∙ c.in_ok-gone.ensures.items)
-    ∙ ap {B = Having} (λ es. record c.args.had.now { has = es }) (finished_forgotten c.args.had.now.begun c.args.had.now.has c.args.had.now.has c.args.finish.now)
+    c.forget_left_out.ensures c.args.finish.now
+    ∙ ap {B = Having} (λ (h : Having). record h { has = with_items h.has (finished h.begun h.has c.args.finish.now) }) c.in_ok-gone.ensures.having
 
 pub returns-clause-handed : goal.returns-clause-handed
 returns-clause-handed c =

@@ -1,0 +1,16 @@
+-- What each DataNode has, read from its notes.
+use Rattle.std.proofs.Common.{◌≡◌, ℕ, List, map, sym, ap, ◌∙◌}
+use Rattle.std.specs.Prelude.{slice_set, get_or}
+use Rattle.std.proofs.Math.ListN.{get_or-map}
+use Rattle.std.proofs.lemmas.List.{map-set}
+use Rattle.nn_shadow.specs.Notes.{Notes, having_of}
+
+pub had_at : (hs : List Notes) (i : ℕ) (n : Notes) → n ≡ get_or hs i n → n.having ≡ get_or (map having_of hs) i n.having
+had_at hs i n is = ap having_of is ∙ sym (get_or-map having_of hs i n)
+
+pub set_at : (hs : List Notes) (i : ℕ) (new n : Notes) → n ≡ get_or (slice_set hs i new) i n → n.having ≡ get_or (slice_set (map having_of hs) i new.having) i n.having
+set_at hs i new n is = had_at (slice_set hs i new) i n is ∙ ap (λ l. get_or l i n.having) (map-set having_of hs i new)
+
+pub set_twice : (hs : List Notes) (i : ℕ) (new end : Notes) →
+    map having_of (slice_set (slice_set hs i new) i end) ≡ slice_set (slice_set (map having_of hs) i new.having) i end.having
+set_twice hs i new end = map-set having_of (slice_set hs i new) i end ∙ ap (λ l. slice_set l i end.having) (map-set having_of hs i new)

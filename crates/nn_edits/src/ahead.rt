@@ -4,7 +4,8 @@ ghost use Rattle.std.specs.Prelude.{◌≡◌, ◌<◌, ◌≤◌, ◌==◌, ◌
 ghost use Rattle.json.specs.Reads.{token_of};
 ghost use Rattle.serde_json.specs.Data.{Data, Members, no_members, unsigned};
 ghost use Rattle.serde_json.specs.Read.{number_of, number_from};
-ghost use Rattle.nn_edits.specs.Ahead.{data_at, members_at, PassesItems, LacksItems};
+ghost use Rattle.nn_plain.specs.Ahead.{data_at, members_at};
+ghost use Rattle.nn_edits.specs.Ahead.{PassesItems, LacksItems};
 ghost use Rattle.nn_edits.specs.Parts.{seen, scalar_of, scalar_of_num};
 
 use crate::fault::LineFault;

@@ -2,7 +2,7 @@
 ghost use Rattle.std.specs.Prelude.{◌≡◌, ◌<◌, length, codes, if◌then◌else◌, IfOk, OnOk, OnErr, Some, None, Err};
 ghost use Rattle.std.specs.Str.{bytes_eq};
 ghost use Rattle.serde_json.specs.Data.{Data, Items, Members, object, no_members};
-ghost use Rattle.nn_edits.specs.Ahead.{data_at, items_at, members_at};
+ghost use Rattle.nn_plain.specs.Ahead.{data_at, items_at, members_at};
 ghost use Rattle.nn_edits.specs.Parts.{seen, blocks_of, block_from};
 ghost use Rattle.nn_edits.specs.Reading.{block_in, items_in};
 

@@ -1,12 +1,14 @@
 //! The members of a line's object that the formats have, each in its place: filled in one pass over the tokens.
 ghost use Rattle.std.specs.Prelude.{◌≡◌, Err, codes};
 ghost use Rattle.std.specs.Str.{bytes_eq};
-ghost use Rattle.serde_json.specs.Data.{object, no_members};
-ghost use Rattle.nn_edits.specs.Parts.{seen, seen_fields, parts_of, slot_of, put_slot, put_if_slot, put_blocks};
+ghost use Rattle.serde_json.specs.Data.{Data, object, no_members};
+ghost use Rattle.nn_plain.specs.Spelling.{Spells};
+ghost use Rattle.nn_edits.specs.Parts.{seen, scalar_of, seen_fields, parts_of, slot_of, put_slot, put_if_slot, put_blocks};
 ghost use Rattle.nn_edits.specs.declared.fault.LineFault.TheVariants.{MissingField};
 
 use crate::fault::LineFault;
 use crate::member::Member;
+use nn_plain::{Plain, Slots};
 use nn_types::Blocks;
 use std::mem;
 
@@ -73,7 +75,7 @@ impl<'a> Fields<'a> {
 
     /// Takes a member, unless no format has its key.
     #[inline(always)]
-    pub(crate) fn put(&mut self, key: &str, member: Member<'a>)
+    pub(crate) fn put_member(&mut self, key: &str, member: Member<'a>)
         ensures { seen_fields self.new
             ≡ put_if_slot (slot_of key.now) (seen member.entry) (seen_fields self.old) }
     {
@@ -115,6 +117,46 @@ impl<'a> Fields<'a> {
         ensures { result ≡ self.old.blocks }
     {
         mem::replace(&mut self.blocks, Err(LineFault::MissingField))
+    }
+}
+
+impl<'a> Slots<'a> for Fields<'a> {
+    ghost use Rattle.std.specs.Prelude.{◌≡◌};
+    ghost use Rattle.serde_json.specs.Data.{object};
+    ghost use Rattle.nn_edits.specs.Parts.{seen_fields, parts_of};
+
+    ghost seen = { λ f ms. seen_fields f ≡ parts_of (object ms) };
+
+    #[inline(always)]
+    fn put(&mut self, key: &'a str, value: Plain<'a>) {
+        if let Some(slot) = slot_of(key) {
+            self.set(slot, member_of(value));
+            return;
+        }
+        if is_blocks(key) {
+            self.put_blocks(Err(LineFault::MissingField));
+        }
+    }
+
+    fn put_array(&mut self, key: &'a str, blocks: Blocks) {
+        if is_blocks(key) {
+            blocks.lawful();
+            self.put_blocks(Ok(blocks));
+            return;
+        }
+        self.put_member(key, Member::Other);
+    }
+}
+
+// What a plain value is to a key that wants a text or a whole number.
+#[inline(always)]
+fn member_of<'a>(value: Plain<'a>) -> Member<'a>
+    ensures { (d : Data) → Spells d value.entry → seen result ≡ scalar_of d }
+{
+    match value {
+        Plain::Text(text) => Member::Text(text),
+        Plain::Whole(n) => Member::Whole(n),
+        Plain::Truth(_) => Member::Other,
     }
 }
 

@@ -3,7 +3,7 @@ ghost use Rattle.std.specs.Prelude.{◌≡◌, ◌<◌, length, Some, None, Ok, 
 ghost use Rattle.serde_json.specs.Data.{Members, object, no_members};
 ghost use Rattle.nn_edits.specs.Grammar.{IsEditLine, IsReportLine, IsLine, IsLawfulReport, IsLawfulLine};
 ghost use Rattle.nn_types.specs.LawfulEdit.{IsLawfulEdit};
-ghost use Rattle.nn_edits.specs.Ahead.{members_at};
+ghost use Rattle.nn_plain.specs.Ahead.{members_at};
 ghost use Rattle.nn_edits.specs.Outcome.{Gives, GivesSeen};
 ghost use Rattle.nn_edits.specs.Parts.{seen_fields, parts_of, parts_of_line, either_from};
 ghost use Rattle.nn_edits.specs.Reading.{edit_of_line, report_of_line, either_of_line};
@@ -15,10 +15,10 @@ use crate::ahead::{TokenFault, read_member};
 use crate::blocks::read_blocks;
 use crate::fault::LineFault;
 use crate::fields::{Fields, is_blocks};
-use crate::plain::read_plain;
 use crate::reading::tx_in;
 use crate::report::report_in;
 use json::{Reader, Scratch, Token};
+use nn_plain::read_plain;
 use nn_types::{Report, Tx};
 use simdutf8::basic::from_utf8;
 use std::alloc::Global;
@@ -172,7 +172,7 @@ fn read_fields<'a>(
             fields.put_blocks(blocks);
         } else {
             let member = read_member(reader, depth)?;
-            fields.put(key, member);
+            fields.put_member(key, member);
         }
     }
     Ok(())

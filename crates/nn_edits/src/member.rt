@@ -13,12 +13,13 @@ const MAX_DN: u64 = 256;
 /// What a member is to a key that wants a text or a whole number.
 ///
 /// `Whole` was written with no sign, no point and no exponent, and is below 2^64. `Other` is any value beside these two.
+// The first three stand as those of `Plain` do: then a member is made of a plain value without a branch.
 #[derive(Clone, Copy, Drop)]
 pub(crate) enum Member<'a> {
-    Missing,
     Text(&'a str),
     Whole(u64),
     Other,
+    Missing,
 }
 
 impl<'a> Member<'a> {

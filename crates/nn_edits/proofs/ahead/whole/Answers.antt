@@ -1,4 +1,4 @@
-use Rattle.nn_edits.proofs.Numerals.{parsed}
+use Rattle.nn_plain.proofs.Numerals.{parsed}
 use Rattle.nn_edits.proofs.ahead.whole.Goals as goal
 
 pub returns : goal.returns

@@ -1,0 +1,9 @@
+pub mod Turns
+pub mod Numerals
+pub mod FirstValue
+pub mod Lines
+pub mod Digits
+pub mod Quoted
+pub mod FirstToken
+pub mod TokensLeft
+pub mod BlockItems

@@ -1,0 +1,75 @@
+-- A text in quotes in a printable line: its bytes are its content.
+use Rattle.std.proofs.Common.{◌≡◌, ℕ, zero, suc, ◌+◌, ◌-◌, ◌<◌, ◌≤◌, length, get_or, List, [], ◌∷◌, ◌++◌, take, drop, Bool, true, false, cond, not, nat_le, nat_lt, ◌&&◌, ◌||◌, ◌==◌, le-ltb, leb-true, ltb-true, refl, sym, ap, ◌∙◌, arith}
+use Rattle.std.proofs.lemmas.Bool.{and_parts, or_parts, not-true, eqb-false, ltb-false}
+use Rattle.std.specs.List.{prefix_len}
+use Rattle.std.specs.Str.{IsUtf8, IsCharBoundary}
+use Rattle.std.proofs.lemmas.Str.{IsCharBoundary-after_ascii}
+use Rattle.nn_plain.specs.Bytes.{is_printable_byte, is_printable, is_no_quote}
+use Rattle.nn_types.proofs.Lists.{between_places, byte_there}
+use Rattle.json.specs.Print.{escape, escape_byte}
+use Rattle.json.specs.Run.{is_plain}
+use Rattle.json.proofs.Printed.Strings.{escape_byte_plain}
+
+-- ---- bytes that need no escape
+
+byte_plain : (x : ℕ) → true ≡ is_plain x → escape_byte x ≡ x ∷ []
+byte_plain x e =
+    let none = or_parts ((x == 34) || (x == 92)) _ (not-true _ (sym e)) in
+    let tests = or_parts (x == 34) _ none.0 in
+    escape_byte_plain x (eqb-false x 34 tests.0) (eqb-false x 92 tests.1) (ltb-false x 32 none.1)
+
+run_more : (p : Bool) (x n : ℕ) (xs : List ℕ) → p ≡ is_plain x → escape (take n xs) ≡ take n xs
+    → escape (take (cond p (1 + n) 0) (x ∷ xs)) ≡ take (cond p (1 + n) 0) (x ∷ xs)
+run_more false x n xs e ih = refl
+run_more true x n xs e ih =
+    let next : suc n ≡ 1 + n = omega arith in
+    let byte = byte_plain x e in
+    ap (λ k. escape (take k (x ∷ xs))) (sym next) ∙ (λ i. byte i ++ ih i) ∙ ap (λ k. take k (x ∷ xs)) next
+
+run_plain : (xs : List ℕ) → escape (take (prefix_len is_plain xs) xs) ≡ take (prefix_len is_plain xs) xs
+run_plain [] = refl
+run_plain (x ∷ xs) = run_more (is_plain x) x (prefix_len is_plain xs) xs refl (run_plain xs)
+
+plain_text : (d : List ℕ) (i stop : ℕ) → stop ≡ i + prefix_len is_plain (drop i d) → escape (take (stop - i) (drop i d)) ≡ take (stop - i) (drop i d)
+plain_text d i stop is =
+    let n : prefix_len is_plain (drop i d) ≡ stop - i = omega (arith, is) in
+    ap (λ k. escape (take k (drop i d))) (sym n) ∙ run_plain (drop i d) ∙ ap (λ k. take k (drop i d)) n
+
+-- ---- in a printable line only a quote ends the run
+
+byte_parts : (x : ℕ) → is_printable_byte x ≡ true → (32 ≤ x) × (x < 127) × ((x == 92) ≡ false)
+byte_parts x e =
+    let a = and_parts (nat_le 32 x && nat_lt x 127) _ e in
+    let b = and_parts (nat_le 32 x) _ a.0 in
+    (leb-true 32 x b.0, ltb-true x 127 b.1, not-true _ a.1)
+
+same_stop : (x : ℕ) → is_printable_byte x ≡ true → is_no_quote x ≡ is_plain x
+same_stop x e = let p = byte_parts x e in rw (p.2, le-ltb x 32 p.0) (at (x == 34))
+  where
+    at : (b : Bool) → not b ≡ not ((b || false) || false)
+    at true = refl
+    at false = refl
+
+same_run : (xs : List ℕ) → is_printable xs ≡ true → prefix_len is_no_quote xs ≡ prefix_len is_plain xs
+same_run [] e = refl
+same_run (x ∷ xs) e =
+    let p = and_parts (is_printable_byte x) _ e in
+    (λ i. cond (same_stop x p.0 i) (1 + same_run xs p.1 i) 0)
+
+printable_rest : (xs : List ℕ) (n : ℕ) → is_printable xs ≡ true → is_printable (drop n xs) ≡ true
+printable_rest xs zero e = e
+printable_rest [] (suc n) e = refl
+printable_rest (x ∷ xs) (suc n) e = printable_rest xs n (and_parts (is_printable_byte x) _ e).1
+
+pub quoted_text : (d : List ℕ) (i stop : ℕ) → is_printable d ≡ true → stop ≡ i + prefix_len is_no_quote (drop i d) → escape (take (stop - i) (drop i d)) ≡ take (stop - i) (drop i d)
+quoted_text d i stop printable is = plain_text d i stop (is ∙ ap (λ n. i + n) (same_run (drop i d) (printable_rest d i printable)))
+
+-- ---- the two quotes
+
+pub between_quotes : (d : List ℕ) (from stop : ℕ) → get_or d from 0 ≡ 34 → get_or d stop 0 ≡ 34 → from < stop → drop from d ≡ 34 ∷ (take (stop - (from + 1)) (drop (from + 1) d) ++ 34 ∷ drop (stop + 1) d)
+between_quotes d from stop first last less =
+    byte_there d from 34 (omega arith) first
+    ∙ ap (λ t. 34 ∷ t) (between_places d (from + 1) stop (omega (arith, less)) ∙ ap (λ t. take (stop - (from + 1)) (drop (from + 1) d) ++ t) (byte_there d stop 34 (omega arith) last))
+
+pub after_quote : (d : List ℕ) (from stop : ℕ) → IsUtf8 d → get_or d from 0 ≡ 34 → from < stop → stop < length d → IsCharBoundary d (from + 1)
+after_quote d from stop text first less within = IsCharBoundary-after_ascii d from text (omega (arith, less, within)) (omega (arith, first))

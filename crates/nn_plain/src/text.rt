@@ -1,0 +1,81 @@
+//! The texts in quotes of a plain line.
+ghost use Rattle.std.specs.Prelude.{◌≡◌, ◌+◌, ◌<◌, ◌≤◌, ◌∷◌, ◌++◌, length, drop, get_or, true, IfSome};
+ghost use Rattle.std.specs.List.{prefix_len};
+ghost use Rattle.json.specs.Print.{escape};
+ghost use Rattle.nn_plain.specs.Bytes.{is_printable_byte, is_printable, is_no_quote};
+
+use nn_bytes::run_before;
+
+/// How many bytes are looked at one by one before a search begins.
+const NEAR: usize = 8;
+
+/// Whether all bytes are printable ASCII, and none is a backslash.
+#[inline(always)]
+pub(crate) fn is_printable(text: &[u8]) -> bool
+    ensures { result ≡ is_printable text.now }
+{
+    let mut printable = true;
+    // A loop that looks at all bytes takes many at a time. One that ends early takes them one by one.
+    for b in text {
+        printable = printable & is_printable_byte(*b);
+    }
+    printable
+}
+
+#[inline(always)]
+fn is_printable_byte(b: u8) -> bool
+    ensures { result ≡ is_printable_byte b }
+{
+    (b >= b' ') & (b < 127) & (b != b'\\')
+}
+
+/// The text in quotes whose first quote stands at `from`, and where its last one ends.
+#[inline(always)]
+pub(crate) fn quoted_at(text: &str, from: usize) -> Option<(&str, usize)>
+    requires bound { from ≤ length text.now }
+    requires printable { is_printable text.now ≡ true }
+    ensures here { IfSome result (λ r. drop from text.now ≡ 34 ∷ (r.0.now ++ 34 ∷ drop r.1 text.now)) }
+    ensures plain { IfSome result (λ r. escape r.0.now ≡ r.0.now) }
+    ensures bound { IfSome result (λ r. (from < r.1) × (r.1 ≤ length text.now)) }
+{
+    let stop = closing_quote(text.as_bytes(), from)?;
+    Some((&text[from + 1..stop], stop + 1))
+}
+
+// Where the quote stands that closes the text whose first quote stands at `from`.
+#[inline(always)]
+fn closing_quote(text: &[u8], from: usize) -> Option<usize>
+    requires { from ≤ length text.now }
+    ensures quotes { IfSome result (λ stop. (get_or text.now from 0 ≡ 34) × (get_or text.now stop 0 ≡ 34)) }
+    ensures bound { IfSome result (λ stop. (from < stop) × (stop < length text.now)) }
+    ensures plain { IfSome result (λ stop. stop ≡ from + 1 + prefix_len is_no_quote (drop (from + 1) text.now)) }
+{
+    if from >= text.len() || text[from] != b'"' {
+        return None;
+    }
+    let stop = quote_end(text, from + 1);
+    if stop >= text.len() || text[stop] != b'"' {
+        return None;
+    }
+    Some(stop)
+}
+
+// Where the first quote from `from` on stands. It is the length of the text where there is none.
+//
+// Most texts are short, and for these a search of many bytes at once does not pay.
+#[inline(always)]
+fn quote_end(text: &[u8], from: usize) -> usize
+    requires { from ≤ length text.now }
+    ensures value { result ≡ from + prefix_len is_no_quote (drop from text.now) }
+    ensures bound { result ≤ length text.now }
+{
+    let near = text.len().min(from + NEAR);
+    let mut i = from;
+    while i < near && text[i] != b'"' {
+        i += 1;
+    }
+    if i < near {
+        return i;
+    }
+    i + run_before(&text[i..], b'"')
+}

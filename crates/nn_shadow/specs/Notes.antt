@@ -31,7 +31,7 @@ with_notes has (note ∷ told) = with_notes (with_note has note) told
 
 -- how many notes may wait beside so many blocks
 abbrev pub most_told : ℕ → ℕ
-most_told blocks = blocks / 4 + 256
+most_told blocks = blocks / 8 + 256
 
 -- as the parts of the code show it: the blocks, the notes, how many these are and may be
 abbrev pub notes_of : List (ℕ × ℕ) → List (ℕ × ℕ) → Option ℕ → ℕ → ℕ → ℕ → Notes

@@ -50,12 +50,12 @@ impl Had {
         }
     }
 
-    /// Makes room for one note. Where many wait, they are sorted in: O(blocks), once for a fourth as many notes.
+    /// Makes room for one note. Where many wait, they are sorted in: O(blocks), once for an eighth as many notes.
     pub fn reserve(&mut self) -> Result<(), AllocError>
         ensures having { self.new.having ≡ self.old.having }
         ensures room { OnOk result (self.new.room ≡ true) }
     {
-        if self.told.len() >= self.has.len() / 4 + 256 {
+        if self.told.len() >= self.has.len() / 8 + 256 {
             let Ok(()) = settle(&mut self.has, &mut self.told) else {
                 return Err(AllocError);
             };

@@ -5,6 +5,6 @@ mod devices;
 mod options;
 mod program;
 
-pub use devices::{out_of_memory, start};
+pub use devices::start;
 pub use options::{Request, parse};
 pub use program::{NoArguments, serve};

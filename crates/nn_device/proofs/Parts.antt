@@ -1,5 +1,5 @@
 -- Texts that are written in parts, and fronts of them.
-use Rattle.std.proofs.Common.{ℕ, ◌≤◌, List, [], ◌++◌, length, take, drop, Bool, refl, sym, ap, ◌∙◌, arith, append_assoc, subst, length-append, length-drop}
+use Rattle.std.proofs.Common.{ℕ, ◌≡◌, ◌≤◌, List, [], ◌++◌, length, take, drop, Bool, refl, sym, ap, ◌∙◌, arith, append-nil, append_assoc, subst, length-append, length-drop}
 use Rattle.std.proofs.KnownBytes.{Appends-trans, Appends-nil}
 use Rattle.std.proofs.lemmas.List.{take-append-drop, length-take}
 use Rattle.nn_device.specs.Device.{Writing, Took, FailedToWrite}
@@ -64,3 +64,37 @@ front_taken old new text written h = record {
   counted = omega (arith, h.short, h.counted, length-take written text);
   caused = (omega (arith, h.short, length-drop written text), h.noted);
 }
+
+-- ---- what is left of a text that is written in parts
+
+-- the writer took the text up to what is left
+pub record HasLeft (old new : Writing) (text left : List ℕ) : Type 0 where
+  pub front : List ℕ
+  pub whole : text ≡ front ++ left
+  pub took : Took old new front
+
+pub all_left : (w : Writing) (text : List ℕ) → HasLeft w w text text
+all_left w text = record { front = []; whole = refl; took = took_nothing w }
+
+pub none_left : (old new : Writing) (text : List ℕ) → HasLeft old new text [] → Took old new text
+none_left old new text h = subst (Took old new) (sym (h.whole ∙ append-nil h.front)) h.took
+
+-- memory ran out
+pub left_over : (old new : Writing) (text left : List ℕ) → HasLeft old new text left → TookFront old new text OutOfMemory
+left_over old new text left h =
+    subst (λ t. TookFront old new t OutOfMemory) (sym h.whole) (no_memory old new new h.front left h.took)
+
+module _ (w0 w1 w2 : Writing) (text part left : List ℕ) (h : HasLeft w0 w1 text (part ++ left)) where
+  -- the next part was written
+  pub part_taken : Took w1 w2 part → HasLeft w0 w2 text left
+  part_taken took = record {
+    front = h.front ++ part;
+    whole = h.whole ∙ sym (append_assoc h.front part left);
+    took = took_both w0 w1 w2 h.front part h.took took;
+  }
+
+  -- the next part was not written whole
+  pub part_fails : (cause : Unwritten) → TookFront w1 w2 part cause → TookFront w0 w2 text cause
+  part_fails cause fails =
+      subst (λ t. TookFront w0 w2 t cause) (sym h.whole)
+      (front_after w0 w1 w2 h.front (part ++ left) cause h.took (front_of w1 w2 w2 part left cause fails))

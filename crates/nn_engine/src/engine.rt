@@ -241,12 +241,15 @@ pub(crate) fn output_of_flushed(
     ensures { IfOk result (λ o. (lanes : Lanes) → ShowsPicture standby.namespace (items lanes) (tables_of (standby_of standby))
         → shown o ≡ with_history options.history standby.history (after_log (with_settings options standby.permille standby.table.min) lanes (Ok (record { last = standby.last; namespace = standby.namespace })))) }
 {
-    let extent = standby.namespace().extent();
+    let Ok(extent) = standby.namespace().extent() else {
+        // Taking it apart would be work for nothing: the process ends.
+        mem::forget(standby);
+        return Err(AllocError);
+    };
     if listing_bytes(extent) > MAX_IN_MEMORY {
         return large_output(alloc, options, standby);
     }
     let output = output_in_memory(alloc, options, extent, &standby);
-    // Taking it apart would be work for nothing: the process ends.
     mem::forget(standby);
     output
 }

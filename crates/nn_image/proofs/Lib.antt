@@ -16,3 +16,4 @@ pub mod Lawful
 pub mod Images
 pub mod PathsRead
 pub mod RowTexts
+pub mod LineBounds

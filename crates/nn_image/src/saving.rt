@@ -5,12 +5,12 @@ ghost use Rattle.serde_json.specs.Written.{has_float};
 ghost use Rattle.nn_device.specs.Device.{Took};
 ghost use Rattle.nn_device.specs.Parts.{TookFront};
 ghost use Rattle.nn_image.specs.Text.{line_of, number_items, header_data, head_data, row_lines, end_data, image_text, name_text};
-ghost use Rattle.nn_image.specs.Saving.{WroteFront, stop_of};
+ghost use Rattle.nn_image.specs.Saving.{WroteFront};
 
 use crate::fault::SaveFault;
 use crate::row_text::push_row;
 use nn_device::{Unwritten, Writer};
-use nn_tree::{Found, ListFault, Namespace, RowSink};
+use nn_tree::{Namespace, Rows};
 use nn_types::{BlockId, GenerationStamp};
 use serde_json::{Value, json};
 use std::alloc::{AllocError, Global};
@@ -23,8 +23,8 @@ pub fn image_name(alloc: Global, txid: u64) -> Result<String, AllocError>
     format!(in alloc; "fsimage_{txid:019}")
 }
 
-/// Writes the image of a namespace, of version 2, line by line: this takes the memory of one line. The txid is that of
-/// the last transaction, or 0; one of 2^63 and more is written, and refused by `load`.
+/// Writes the image of a namespace, of version 2, line by line: this takes the memory of one line and of a walk. The txid
+/// is that of the last transaction, or 0; one of 2^63 and more is written, and refused by `load`.
 pub fn save<W: Write>(
     alloc: Global,
     namespace: &Namespace,
@@ -85,29 +85,39 @@ fn put_rows<W: Write>(
     ensures count { IfOk result (λ count. count ≡ length namespace.now.rows - 1) }
     ensures front { IfErr result (TookFront writer.old writer.new (row_lines (drop 1 namespace.now.rows))) }
 {
-    namespace.well_formed();
-    let mut line = String::new(alloc);
-    let mut lines = RowWriter {
-        writer,
-        line: &mut line,
-        count: 0,
-        alloc,
+    let Ok(mut rows) = rows_below_root(namespace) else {
+        return Err(Unwritten::OutOfMemory);
     };
-    if let Err(fault) = namespace.list_to(&mut lines) {
-        return Err(stop_of(fault));
+    // The line of the path before, whose room is used again.
+    let mut line = String::new(alloc);
+    let mut count = 0;
+    'rows: loop {
+        let Ok(next) = rows.next() else {
+            return Err(Unwritten::OutOfMemory);
+        };
+        let Some(found) = next else {
+            return Ok(count);
+        };
+        line.clear();
+        let Ok(()) = push_row(alloc, &mut line, rows.names(), found) else {
+            return Err(Unwritten::OutOfMemory);
+        };
+        if let Err(cause) = writer.write_part(line.as_bytes()) {
+            return Err(cause);
+        }
+        // There are no more lines than bytes, and these were counted.
+        writer.taken();
+        count += 1;
     }
-    // There are no more lines than bytes, and these were counted.
-    lines.writer.taken();
-    Ok(lines.count)
 }
 
-fn stop_of(fault: ListFault<Unwritten>) -> Unwritten
-    ensures { result ≡ stop_of fault }
+// The rows after that of the root, which has no line.
+fn rows_below_root(namespace: &Namespace) -> Result<Rows<'_>, AllocError>
+    ensures { IfOk result (λ rows. rows.left ≡ drop 1 namespace.now.rows) }
 {
-    match fault {
-        ListFault::Sink(cause) => cause,
-        ListFault::OutOfMemory => Unwritten::OutOfMemory,
-    }
+    let mut rows = namespace.rows();
+    rows.next()?;
+    Ok(rows)
 }
 
 fn put_end<W: Write>(alloc: Global, count: u64, writer: &mut Writer<W>) -> Result<(), Unwritten>
@@ -118,43 +128,6 @@ fn put_end<W: Write>(alloc: Global, count: u64, writer: &mut Writer<W>) -> Resul
         return Err(Unwritten::OutOfMemory);
     };
     put_line(alloc, &value, writer)
-}
-
-// Writes the lines of paths as they come.
-#[derive(Drop)]
-struct RowWriter<'w, W: Write> {
-    writer: &'w mut Writer<W>,
-    // The line of the path before, whose room is used again.
-    line: &'w mut String,
-    // The lines so far. A count that would pass `u64::MAX` stays there.
-    count: u64,
-    alloc: Global,
-}
-
-impl<'w, W: Write> RowSink for RowWriter<'w, W> {
-    ghost use Rattle.nn_image.specs.Saving.{TakesRow, FailsOnRow};
-
-    type Error = Unwritten;
-
-    ghost takes = { TakesRow };
-
-    ghost fails = { FailsOnRow };
-
-    // What it takes of the stack is taken once, and not at each level that a listing is in.
-    #[inline(never)]
-    fn row(&mut self, names: &[&str], found: Found<'_>) -> Result<(), Unwritten> {
-        // The root has no line.
-        if names.is_empty() {
-            return Ok(());
-        }
-        self.line.clear();
-        let Ok(()) = push_row(self.alloc, self.line, names, found) else {
-            return Err(Unwritten::OutOfMemory);
-        };
-        self.writer.write_part(self.line.as_bytes())?;
-        self.count = self.count.saturating_add(1);
-        Ok(())
-    }
 }
 
 // Writes the line of a value.

@@ -1,5 +1,4 @@
-pub mod ListingLemmas
 pub mod KeyTexts
 pub mod SaidIds
 pub mod TableLines
-pub mod WrittenLines
+pub mod LineBounds

@@ -4,4 +4,3 @@ pub mod Tables
 pub mod TablesRows
 pub mod Trail
 pub mod TrailRows
-pub mod Writing

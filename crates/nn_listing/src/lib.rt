@@ -5,11 +5,13 @@
 #![tactic(auto)]
 
 mod history;
+mod law;
 mod paths;
 mod tables;
 mod writing;
 
 pub use history::push_history;
+pub use law::lines_fit;
 pub use paths::{listing, listing_bytes, text_bytes, with_listing};
 pub use tables::push_tables;
 pub use writing::write_lines;

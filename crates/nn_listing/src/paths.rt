@@ -5,15 +5,14 @@ ghost use Rattle.nn_model.specs.declared.form.Form.TheVariants.{File};
 ghost use Rattle.nn_tree.specs.Extent.{capped};
 ghost use Rattle.nn_tree.specs.Found.{form_of};
 ghost use Rattle.nn_tree.specs.Listing.{lent_names};
-ghost use Rattle.nn_listing.specs.Listing.{listing_text, line_of, block_text, state_text};
+ghost use Rattle.nn_listing.specs.Listing.{listing_text, line_of, row_line, block_text, state_text};
 
 use nn_model::FileRow;
 use nn_text::{push_number, push_path};
-use nn_tree::{Extent, Found, Namespace, RowSink};
+use nn_tree::{Extent, Found, Namespace};
 use nn_types::Block;
 use std::alloc::{AllocError, Global};
 use std::fmt::Write;
-use std::marker::Model;
 
 /// About what a line has beside its path.
 const LINE: usize = 20;
@@ -34,7 +33,7 @@ const BLOCK: usize = 30;
 pub fn listing(alloc: Global, namespace: &Namespace, last: u64) -> Result<String, AllocError>
     ensures { IfOk result (λ text. string_bytes text ≡ listing_text last namespace.now) }
 {
-    let room = listing_bytes(namespace.extent());
+    let room = listing_bytes(namespace.extent()?);
     with_listing(alloc, String::new(alloc), room, namespace, last)
 }
 
@@ -52,11 +51,7 @@ pub fn with_listing(
     let mut text = text;
     write!(text, "txid {last}\n")?;
     text.reserve_exact(room)?;
-    let mut lines = RowText { text, alloc };
-    let Ok(()) = namespace.list_to(&mut lines) else {
-        return Err(AllocError);
-    };
-    let RowText { text, alloc: _ } = lines;
+    push_lines(alloc, &mut text, namespace)?;
     Ok(text)
 }
 
@@ -80,37 +75,21 @@ pub fn text_bytes(extent: Extent, line: usize, block: usize) -> usize
         .saturating_add(blocks)
 }
 
-// The lines of a listing so far.
-#[derive(Drop)]
-struct RowText {
-    text: String,
-    alloc: Global,
-}
-
-impl Model for RowText {
-    ghost use Rattle.std.specs.Prelude.{List, ℕ, string_bytes};
-
-    ghost Value = { List ℕ };
-
-    ghost view = { λ lines. string_bytes lines.text };
-}
-
-impl RowSink for RowText {
-    ghost use Rattle.std.specs.Prelude.{◌≡◌, ◌++◌};
-    ghost use Rattle.nn_listing.specs.Listing.{row_line};
-
-    type Error = AllocError;
-
-    ghost takes = { λ text row more. more ≡ text ++ row_line row };
-
-    // If memory runs out, a part of the line may be there.
-    ghost fails = { λ text row e left. Unit {0} };
-
-    // What it takes of the stack is taken once, and not at each level that a listing is in.
-    #[inline(never)]
-    fn row(&mut self, names: &[&str], found: Found<'_>) -> Result<(), AllocError> {
-        push_line(self.alloc, &mut self.text, names, found)?;
-        Ok(())
+// Adds the line of each path in path order.
+fn push_lines(alloc: Global, text: &mut String, namespace: &Namespace) -> Result<(), AllocError>
+    ensures { OnOk result (string_bytes text.new ≡ string_bytes text.old ++ flat_map row_line namespace.now.rows) }
+{
+    let mut rows = namespace.rows();
+    'rows: loop {
+        let Ok(next) = rows.next() else {
+            return Err(AllocError);
+        };
+        let Some(found) = next else {
+            return Ok(());
+        };
+        let Ok(()) = push_line(alloc, text, rows.names(), found) else {
+            return Err(AllocError);
+        };
     }
 }
 

@@ -4,8 +4,5 @@
 use std::process::ExitCode;
 
 fn main(rt: HostRuntime) -> ExitCode {
-    let Ok(workers) = rt.clone() else {
-        return nn_command::out_of_memory(&rt);
-    };
-    nn_command::start(&rt, &rt, workers)
+    nn_command::start(&rt, &rt)
 }

@@ -1,1 +1,2 @@
 pub mod PlainNames
+pub mod Lengths

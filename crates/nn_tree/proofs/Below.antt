@@ -47,7 +47,7 @@ at-under-other n k ns (e ∷ es) h =
     ∙ at-under-other n k ns es h
 
 -- a name that ties with one below y isn't y
-apart : (n k y : List ℕ) → name_cmp n k ≡ Equal → name_cmp k y ≡ Less → is_eq (name_cmp n y) ≡ false
+pub apart : (n k y : List ℕ) → name_cmp n k ≡ Equal → name_cmp k y ≡ Less → is_eq (name_cmp n y) ≡ false
 apart n k y h l = ap is_eq (nat_list_cmp_total.congr n k y h ∙ l)
 
 none_later : (n : List ℕ) (ns : Path) (k : String Global) (cs : List (String Global × List (Path × Form))) → name_cmp n (string_bytes k) ≡ Equal → AllByRecursion (λ y. string_cmp k y ≡ Less) (keys_of cs) → at (below cs) (n ∷ ns) ≡ None

@@ -1,11 +1,10 @@
 -- What a change in one walk comes to, a step further up.
 use Rattle.std.proofs.Common.{◌≡◌, append-nil, ℕ, true, false, List, [], ◌∷◌, length, Option, is_some, Some, None, refl, sym, ap, subst, ◌∙◌, cond, ◌&&◌, ◌++◌, drop, IsSome, nat_lt}
 use Rattle.nn_model.specs.declared.form.Form.{Form}
-use Rattle.nn_model.specs.declared.form.Form.TheVariants.{Dir, File}
-use Rattle.nn_model.specs.declared.form.FileRow.{FileRow}
+use Rattle.nn_model.specs.declared.form.Form.TheVariants.{Dir}
 use Rattle.nn_model.specs.Namespace.{Path, begins_with}
 use Rattle.nn_tree.specs.At.{at, rows, grafted, IsSame}
-use Rattle.nn_tree.specs.Changes.{IsMade, IsFileChanged}
+use Rattle.nn_tree.specs.Changes.{IsMade}
 use Rattle.nn_model.specs.Apply.{first, when, in_directory, is_root, walk, exists, missing}
 use Rattle.nn_tree.specs.Walks.{mkdir_fault, delete_fault, rename_fault}
 use Rattle.nn_model.proofs.Dues.{all_none}
@@ -13,19 +12,18 @@ use Rattle.nn_model.proofs.Prefixes.{name_same, begins_split, begins_append}
 use Rattle.nn_types.specs.declared.edit_fault.EditFault.TheVariants.{IntoItself}
 use Rattle.std.specs.Prelude.{bytes_eq}
 use Rattle.nn_tree.proofs.Prefix.{some_none, graft_at, graft_by}
-use Rattle.nn_tree.proofs.Maps.{mkdir_lawful, delete_by_row}
+use Rattle.nn_tree.proofs.Maps.{delete_by_row}
 use Rattle.std.proofs.lemmas.Bool.{both_ways, false_from_ne_true}
 use Rattle.nn_tree.specs.declared.tree.Tree.{Tree}
-use Rattle.nn_tree.proofs.Subtree.{Children, child, dir_rows, IsDir, at_top, found, subtree_below}
-use Rattle.nn_tree.proofs.Step.{Becomes, at_changed, graft_here, graft_below, graft_nothing}
-use Rattle.nn_tree.proofs.Walk.{walk_below}
+use Rattle.nn_tree.proofs.Subtree.{Children, child, dir_rows, IsDir, at_top, found}
+use Rattle.nn_tree.proofs.Step.{Becomes, at_changed, graft_here, graft_nothing}
 
 -- ---- a tree that is made
 pub none_at : {A : Type 0} (o : Option A) → false ≡ is_some o → o ≡ None
 none_at None h = refl
 none_at (Some t) h = absurd (both_ways _ refl h)
 
-made_fault : (f : Path → Option Form) (p : Path) → is_root p ≡ None → walk f p ≡ None → f p ≡ None → mkdir_fault f p ≡ None
+pub made_fault : (f : Path → Option Form) (p : Path) → is_root p ≡ None → walk f p ≡ None → f p ≡ None → mkdir_fault f p ≡ None
 made_fault f p r w a = λ j. first (r j ∷ w j ∷ exists (a j) ∷ [])
 
 -- in the directory es itself, under a name that no child has
@@ -45,15 +43,6 @@ put_back es m k l n t w d g b c (x ∷ q) =
       | true ↦ λ e. sym (found es m n (Some w) d g q) ∙ ap (λ y. at es (y ∷ q)) (name_same n x e)
       | false ↦ λ e. refl
     ] refl
-
--- in the child t of the name n, which becomes w
-pub made_below : (es : List (Path × Form)) (m k : Children) (n : List ℕ) (ns ps : Path) (t w x : Tree) → ps ≡ n ∷ ns → IsDir es m → Becomes m k n (Some w) → ((q : Path) → at es (n ∷ q) ≡ at t q) → IsMade t ns x w → IsMade es ps x (dir_rows k)
-made_below es m k n ns ps t w x e d b f h =
-    let was = mkdir_lawful (at t) ns h.0 in (
-      made_fault (at es) ps (ap is_root e) (walk_below es t n ns ps e (at_top es m d) f ∙ was.0) (ap (at es) e ∙ f ns ∙ was.1),
-      subtree_below es t n ns ps None e f h.1,
-      graft_below es m k n ns ps t w (Some x) e d b f h.2,
-    )
 
 -- ---- a rename
 rename_lawful : (f : Path → Option Form) (s d : Path) → delete_fault f s ≡ None → begins_with s d ≡ false → mkdir_fault f d ≡ None → rename_fault f s d ≡ None
@@ -93,9 +82,3 @@ made_undone f g k l h s d free e none gone back q =
       | true ↦ λ i. sym (ap f (begins_split d q i) ∙ free _)
       | false ↦ λ i. refl
     ] refl
-
--- ---- a file that is changed
--- a file is changed in the child t of the name n, which becomes w
-pub file_below : (es : List (Path × Form)) (m k : Children) (n : List ℕ) (ns ps : Path) (t w : Tree) (R : FileRow → FileRow → Type 0) → ps ≡ n ∷ ns → IsDir es m → Becomes m k n (Some w) → ((q : Path) → at es (n ∷ q) ≡ at t q) → IsFileChanged t ns w R → IsFileChanged es ps (dir_rows k) R
-file_below es m k n ns ps t w R e d b f h =
-    (h.0, h.1, walk_below es t n ns ps e (at_top es m d) f ∙ h.2, subtree_below es t n ns ps (Some (([], File h.0) ∷ [])) e f h.3, graft_below es m k n ns ps t w (Some (([], File h.1) ∷ [])) e d b f h.4, h.5)

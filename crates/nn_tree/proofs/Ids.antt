@@ -1,5 +1,5 @@
 -- The ids of a directory are those of its children, one after another.
-use Rattle.std.proofs.Common.{◌≡◌, ℕ, List, [], ◌∷◌, ◌++◌, map, append_assoc, refl, sym, ap, ◌∙◌, String, Global, Bor, BTreeMap, Box}
+use Rattle.std.proofs.Common.{◌≡◌, ℕ, List, [], ◌∷◌, ◌++◌, append_assoc, refl, sym, ap, ◌∙◌, String, Global, BTreeMap, Box}
 use Rattle.std.specs.Map.{values_of}
 use Rattle.std.specs.String.{string_bytes}
 use Rattle.nn_model.specs.declared.form.Form.{Form}
@@ -13,10 +13,6 @@ use Rattle.nn_tree.specs.declared.tree.Node.TheVariants.{Folder, Narrow}
 nil_right : (xs : List ℕ) → xs ++ [] ≡ xs
 nil_right [] = refl
 nil_right (x ∷ xs) = ap (λ r. x ∷ r) (nil_right xs)
-
-pub ids_more : (ts : List (Bor Tree)) (t : Bor Tree) → ids_of_all (map (λ x. x.now) (ts ++ t ∷ [])) ≡ ids_of_all (map (λ x. x.now) ts) ++ ids_of t.now
-ids_more [] t = nil_right (ids_of t.now)
-ids_more (u ∷ ts) t = ap (λ r. ids_of u.now ++ r) (ids_more ts t) ∙ sym (append_assoc (ids_of u.now) _ _)
 
 ids_append : (xs ys : List (Path × Form)) → ids_of (xs ++ ys) ≡ ids_of xs ++ ids_of ys
 ids_append [] ys = refl

@@ -24,10 +24,18 @@ pub mod Memory
 pub mod Ascending
 pub mod Retired
 pub mod Listings
+pub mod Nested
+pub mod Counted
+pub mod Places
+pub mod Resumed
+pub mod Ways
 pub mod Restored
 pub mod Entered
 pub mod RestoredFile
-mod Extents
 pub mod Renewed
 pub mod Spare
 pub mod Blocks
+pub mod Work
+pub mod PutOff
+pub mod InOrder
+pub mod Descent

@@ -1,5 +1,5 @@
 -- The paths of a tree are in path order.
-use Rattle.std.proofs.Common.{◌≡◌, ℕ, true, ◌&&◌, List, [], ◌∷◌, ◌++◌, map, refl, sym, ap, subst, ◌∙◌, String, Global, Bor, BTreeMap, Box}
+use Rattle.std.proofs.Common.{◌≡◌, ℕ, true, ◌&&◌, List, [], ◌∷◌, ◌++◌, refl, sym, ap, subst, ◌∙◌, String, Global, BTreeMap, Box}
 use Rattle.std.specs.declared.cmp.Ordering.TheVariants.{Less}
 use Rattle.std.specs.Ordering.{is_lt, ordering_then}
 use Rattle.std.specs.List.{AllByRecursion}
@@ -13,6 +13,7 @@ use Rattle.std.proofs.lemmas.Cmp.{tied_itself}
 use Rattle.std.proofs.lemmas.Map.Keys.{sorted_head, sorted_tail}
 use Rattle.nn_model.specs.Namespace.{path_cmp}
 use Rattle.nn_model.specs.declared.form.Form.{Form}
+use Rattle.nn_model.specs.declared.form.Form.TheVariants.{Dir}
 use Rattle.nn_model.specs.Namespace.{Path}
 use Rattle.nn_tree.specs.Flat.{flat, below, under, IsInOrder}
 use Rattle.nn_tree.proofs.Below.{name_cmp}
@@ -21,13 +22,9 @@ use Rattle.nn_tree.proofs.Subtree.{one_in_order}
 use Rattle.nn_tree.specs.declared.tree.Node.{Node}
 use Rattle.nn_tree.specs.declared.tree.Node.TheVariants.{Folder, Narrow, Leaf}
 
+-- each of them is in path order
 abbrev pub AllSorted : List (List (Path × Form)) → Type 0
-AllSorted [] = Unit {0}
-AllSorted (t ∷ ts) = (is_sorted path_cmp t ≡ true) × AllSorted ts
-
-pub all_push : (ts : List (Bor Tree)) (t : Bor Tree) → AllSorted (map (λ x. x.now) ts) → is_sorted path_cmp t.now ≡ true → AllSorted (map (λ x. x.now) (ts ++ t ∷ []))
-all_push [] t a h = (h, tt)
-all_push (u ∷ ts) t a h = (a.0, all_push ts t a.1 h)
+AllSorted = AllByRecursion (λ t. is_sorted path_cmp t ≡ true)
 
 below_under : (n : List ℕ) (p : Path) (es : List (Path × Form)) → below_all path_cmp (n ∷ p) (under n es) ≡ below_all path_cmp p es
 below_under n p [] = refl
@@ -60,7 +57,7 @@ sorted_more k (e ∷ es) cs a h g =
     and_from (below_all path_cmp (string_bytes k ∷ e.0) (under (string_bytes k) es ++ below cs)) (is_sorted path_cmp (under (string_bytes k) es ++ below cs))
     (below_append (string_bytes k ∷ e.0) (under (string_bytes k) es) (below cs) s.0 (below_later k e.0 cs a)) (sorted_more k es cs a s.1 g)
 
-sorted_below : (cs : List (String Global × List (Path × Form))) → IsStrictlySortedBy string_cmp (keys_of cs) → AllSorted (values_of cs) → is_sorted path_cmp (below cs) ≡ true
+pub sorted_below : (cs : List (String Global × List (Path × Form))) → IsStrictlySortedBy string_cmp (keys_of cs) → AllSorted (values_of cs) → is_sorted path_cmp (below cs) ≡ true
 sorted_below [] s a = refl
 sorted_below (c ∷ cs) s a = sorted_more c.0 c.1 cs (sorted_head string_cmp _ _ s) (sorted_under (string_bytes c.0) c.1 ∙ a.0) (sorted_below cs (sorted_tail string_cmp _ _ s) a.1)
 
@@ -68,9 +65,43 @@ root_under : (n : List ℕ) (es ys : List (Path × Form)) → below_all path_cmp
 root_under n [] ys h = h
 root_under n (e ∷ es) ys h = root_under n es ys h
 
-root_below : (cs : List (String Global × List (Path × Form))) → below_all path_cmp [] (below cs) ≡ true
+pub root_below : (cs : List (String Global × List (Path × Form))) → below_all path_cmp [] (below cs) ≡ true
 root_below [] = refl
 root_below (c ∷ cs) = root_under (string_bytes c.0) c.1 (below cs) (root_below cs)
+
+-- the rows of a directory, from those of its children
+pub sorted_rows : (cs : List (String Global × List (Path × Form))) → IsStrictlySortedBy string_cmp (keys_of cs) → AllSorted (values_of cs) → is_sorted path_cmp (([], Dir) ∷ below cs) ≡ true
+sorted_rows cs s a = and_from (below_all path_cmp [] (below cs)) (is_sorted path_cmp (below cs)) (root_below cs) (sorted_below cs s a)
+
+-- the rows of a directory, from those below it
+pub sorted_whole : (cs : List (String Global × List (Path × Form))) → is_sorted path_cmp (below cs) ≡ true → is_sorted path_cmp (([], Dir) ∷ below cs) ≡ true
+sorted_whole cs s = and_from (below_all path_cmp [] (below cs)) (is_sorted path_cmp (below cs)) (root_below cs) s
+
+-- ---- and back
+pub sorted_left : (xs ys : List (Path × Form)) → is_sorted path_cmp (xs ++ ys) ≡ true → is_sorted path_cmp xs ≡ true
+sorted_left [] ys s = refl
+sorted_left (x ∷ xs) ys s =
+    let parts = and_parts (below_all path_cmp x.0 (xs ++ ys)) (is_sorted path_cmp (xs ++ ys)) s in
+    and_from (below_all path_cmp x.0 xs) (is_sorted path_cmp xs) (below_left x.0 xs ys parts.0) (sorted_left xs ys parts.1)
+  where
+    below_left : (p : Path) (xs ys : List (Path × Form)) → below_all path_cmp p (xs ++ ys) ≡ true → below_all path_cmp p xs ≡ true
+    below_left p [] ys h = refl
+    below_left p (x ∷ xs) ys h =
+        let parts = and_parts (is_lt (path_cmp p x.0)) (below_all path_cmp p (xs ++ ys)) h in
+        and_from (is_lt (path_cmp p x.0)) (below_all path_cmp p xs) parts.0 (below_left p xs ys parts.1)
+
+sorted_right : (xs ys : List (Path × Form)) → is_sorted path_cmp (xs ++ ys) ≡ true → is_sorted path_cmp ys ≡ true
+sorted_right [] ys s = s
+sorted_right (x ∷ xs) ys s = sorted_right xs ys (and_parts (below_all path_cmp x.0 (xs ++ ys)) (is_sorted path_cmp (xs ++ ys)) s).1
+
+pub sorted_children : (cs : List (String Global × List (Path × Form))) → is_sorted path_cmp (below cs) ≡ true → AllSorted (values_of cs)
+sorted_children [] s = tt
+sorted_children (c ∷ cs) s =
+    let one = under (string_bytes c.0) c.1 in
+    (sym (sorted_under (string_bytes c.0) c.1) ∙ sorted_left one (below cs) s, sorted_children cs (sorted_right one (below cs) s))
+
+pub sorted_tail_rows : (cs : List (String Global × List (Path × Form))) → is_sorted path_cmp (([], Dir) ∷ below cs) ≡ true → is_sorted path_cmp (below cs) ≡ true
+sorted_tail_rows cs s = (and_parts (below_all path_cmp [] (below cs)) (is_sorted path_cmp (below cs)) s).1
 
 pub sorted_dir : (es : List (Path × Form)) (node : Node) (m : BTreeMap (String Global) Tree) → flat node ≡ es → IsInOrder node → node ≡ Folder m → AllSorted (values_of m.entries) → is_sorted path_cmp es ≡ true
 sorted_dir es node m v o e a =

@@ -149,5 +149,5 @@ graft_nothing f (n ∷ ns) h (x ∷ q) =
       | false ↦ λ e. refl
     ] refl
 
-pub nothing_taken : (es new : List (Path × Form)) (p : Path) → new ≡ es → IsSubtree es p None → IsGrafted es p None new
-nothing_taken es new p e h q = ap (λ z. at z q) e ∙ sym (graft_nothing (at es) p h q)
+pub nothing_taken : (es new : List (Path × Form)) (p : Path) → IsSame es new → IsSubtree es p None → IsGrafted es p None new
+nothing_taken es new p e h q = e q ∙ sym (graft_nothing (at es) p h q)

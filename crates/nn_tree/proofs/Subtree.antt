@@ -1,7 +1,5 @@
 -- What stands below a directory's child.
-use Rattle.std.proofs.Common.{◌≡◌, ℕ, true, List, [], ◌∷◌, ◌++◌, ◌<◌, length, Option, Some, None, IsSome, refl, sym, ap, subst, ◌∙◌, String, Global, arith, BTreeMap, Box}
-use Rattle.std.specs.Bool.{◌==◌}
-use Rattle.std.proofs.lemmas.Bool.{eqb-true}
+use Rattle.std.proofs.Common.{◌≡◌, ℕ, List, [], ◌∷◌, ◌++◌, length, Option, Some, None, IsSome, refl, sym, ap, subst, ◌∙◌, String, Global, arith, BTreeMap, Box}
 use Rattle.std.specs.BTreeMap.{is_at}
 use Rattle.std.specs.Map.{lookup, keys_of}
 use Rattle.std.specs.List.Sorted.{IsStrictlySortedBy}
@@ -85,15 +83,6 @@ pub leaf_of : (node : Node) → ((k : String Global) (t : Box Tree Global) → n
 leaf_of (Folder m) h k = absurd (k m refl)
 leaf_of (Narrow n t) h k = absurd (h n t refl)
 leaf_of (Leaf f) h k = (f, refl)
-
--- below a file there is nothing
-pub none_in_file : (es : List (Path × Form)) (node : Node) (f : FileRow) (ps : Path) → flat node ≡ es → node ≡ Leaf f → 0 < length ps → IsSubtree es ps None
-none_in_file es node f [] v e h q = absurd (omega arith)
-none_in_file es node f (p ∷ ps) v e h q = at_file es node f p (ps ++ q) v e
-
--- the last name of a path
-pub last_name : (n : List ℕ) (rest ps : Path) → ps ≡ n ∷ rest → true ≡ (length rest == 0) → ps ≡ n ∷ []
-last_name n rest ps e h = e ∙ ap (λ r. n ∷ r) (no_names rest (eqb-true _ _ (sym h)))
 
 pub none_is_some : IsSome {T = Form} None → ⊥
 none_is_some h = cc

@@ -1,5 +1,5 @@
 -- The walk of a path's parents.
-use Rattle.std.proofs.Common.{◌≡◌, ℕ, false, List, [], ◌∷◌, length, Option, Some, None, Result, MatchResult, IfOk, IfSome, Ok, Err, ap, ◌∙◌}
+use Rattle.std.proofs.Common.{◌≡◌, ℕ, false, List, [], ◌∷◌, length, Option, Some, None, Result, MatchResult, IfOk, OnOk, IfSome, Ok, Err, ap, ◌∙◌}
 use Rattle.std.specs.Bool.{◌==◌}
 use Rattle.nn_model.specs.declared.form.Form.{Form}
 use Rattle.nn_model.specs.Namespace.{Path}
@@ -26,13 +26,13 @@ pub if_ok : {X E : Type 0} (r : Result X E) {P Q : X → Type 0} → ((x : X) �
 if_ok (Ok x) f p = f x p
 if_ok (Err e) f p = p
 
+pub ok_then : {X E Q : Type 0} (r : Result X E) {P : X → Type 0} → ((x : X) → P x → Q) → IfOk r P → OnOk r Q
+ok_then (Ok x) f p = f x p
+ok_then (Err e) f p = p
+
 pub if_some : {X : Type 0} (o : Option X) {P : X → Type 0} → ((x : X) → P x) → IfSome o P
 if_some None f = tt
 if_some (Some x) f = f x
-
-pub if_some_too : {X : Type 0} (o : Option X) {P Q : X → Type 0} → ((x : X) → P x → Q x) → IfSome o P → IfSome o Q
-if_some_too None f p = tt
-if_some_too (Some x) f p = f x p
 
 -- a path of one name
 pub walk_last : (es : List (Path × Form)) (n : List ℕ) (ps : Path) → ps ≡ n ∷ [] → at es [] ≡ Some Dir → walk (at es) ps ≡ None

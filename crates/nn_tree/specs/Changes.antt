@@ -16,10 +16,18 @@ use Rattle.nn_tree.specs.Walks.{mkdir_fault}
 abbrev pub IsMade : List (Path × Form) → Path → List (Path × Form) → List (Path × Form) → Type 0
 IsMade old p t new = (mkdir_fault (at old) p ≡ None) × IsSubtree old p None × IsGrafted old p (Some t) new
 
+-- t stood at the path p, and nothing stands there or below now
+abbrev pub IsTaken : List (Path × Form) → Path → List (Path × Form) → List (Path × Form) → Type 0
+IsTaken old p t new = (walk (at old) p ≡ None) × IsSubtree old p (Some t) × IsGrafted old p None new
+
 -- a file x stood at the path p, and now y stands there, where x and y are as R says
 abbrev pub IsFileChanged : List (Path × Form) → Path → List (Path × Form) → (FileRow → FileRow → Type 0) → Type 0
 IsFileChanged old p new R =
     (x : FileRow) × (y : FileRow) × (walk (at old) p ≡ None) × IsSubtree old p (Some (([], File x) ∷ [])) × IsGrafted old p (Some (([], File y) ∷ [])) new × R x y
+
+-- where a walk ends, the file x alone became y alone, where x and y are as R says
+abbrev pub FileBecomes : (FileRow → FileRow → Type 0) → Path → List (Path × Form) → List (Path × Form) → Type 0
+FileBecomes R rest t w = (x : FileRow) × (y : FileRow) × (rest ≡ []) × (t ≡ ([], File x) ∷ []) × (w ≡ ([], File y) ∷ []) × R x y
 
 -- the open file x got the block b at its end
 abbrev pub GetsBlock : Block → FileRow → FileRow → Type 0

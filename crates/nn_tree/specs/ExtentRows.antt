@@ -5,7 +5,7 @@ use Rattle.nn_types.specs.declared.edit.Edit.TheVariants.{StartSegment, EndSegme
 use Rattle.nn_model.specs.declared.form.Form.{Form}
 use Rattle.nn_model.specs.declared.form.Form.TheVariants.{Dir, File}
 use Rattle.nn_model.specs.Namespace.{Path}
-use Rattle.nn_tree.specs.Extent.{capped, path_bytes, block_count, bytes_below}
+use Rattle.nn_tree.specs.Extent.{capped, path_bytes, block_count, greatest_depth, line_bound, greatest_line}
 use Rattle.nn_tree.specs.Memory.{takes_memory}
 
 abbrev below_root : List (Path × Form)
@@ -24,12 +24,18 @@ below_root =
 bytes_of_paths : path_bytes (([], Dir) ∷ below_root) ≡ 10
 bytes_of_paths = refl
 
--- the same paths below "/x", whose text has two bytes
-bytes_of_paths_below : bytes_below 2 below_root ≡ 15
-bytes_of_paths_below = refl
-
 blocks_of_files : block_count (([], Dir) ∷ below_root) ≡ 2
 blocks_of_files = refl
+
+deepest : map greatest_depth ([] ∷ (([], Dir) ∷ []) ∷ (([], Dir) ∷ below_root) ∷ []) ≡ 0 ∷ 0 ∷ 2 ∷ []
+deepest = refl
+
+-- "/", "/a", "/a/bc", and "/f" with its two blocks
+lines : map line_bound (([], Dir) ∷ below_root) ≡ 102 ∷ 108 ∷ 126 ∷ 266 ∷ []
+lines = refl
+
+longest : greatest_line (([], Dir) ∷ below_root) ≡ 266
+longest = refl
 
 stops_at_the_greatest : map capped (0 ∷ 18446744073709551615 ∷ 18446744073709551616 ∷ []) ≡ 0 ∷ 18446744073709551615 ∷ 18446744073709551615 ∷ []
 stops_at_the_greatest = refl

@@ -3,6 +3,8 @@ pub mod Falls
 pub mod At
 pub mod Walks
 pub mod Changes
+pub mod Descent
+pub mod DescentRows
 pub mod Does
 pub mod Ids
 pub mod Issued
@@ -10,6 +12,9 @@ pub mod View
 pub mod Found
 pub mod Touched
 pub mod Listing
+pub mod Rows
+pub mod RowsRows
+pub mod Nesting
 pub mod Blocks
 pub mod BlocksRows
 pub mod Extent
@@ -19,3 +24,7 @@ pub mod Restore
 pub mod RestoreFault
 pub mod Entered
 pub mod RestoreRows
+pub mod Work
+pub mod WorkRows
+pub mod PutOff
+pub mod PutOffRows

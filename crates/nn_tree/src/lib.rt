@@ -5,8 +5,10 @@
 //! path map of the definitions, and an edit does to it what the definitions say.
 //!
 //! Every call takes time in the depth of a path times the logarithm of a directory's width, and in the
-//! logarithm of the number of blocks. A delete and a listing take time in the size of what they go through,
-//! and stack in its depth, as dropping a namespace does.
+//! logarithm of the number of blocks. A delete and a listing take time in the size of what they go through. However
+//! deep directories nest, no call takes more stack than a walk down a path. A listing goes row by row, and takes
+//! memory for the names of one path and for the directories on its way that have children left. A delete takes some
+//! for the trees that it has still to go through, and dropping a namespace takes none.
 #![tactic(auto)]
 
 mod fault;
@@ -15,13 +17,15 @@ mod index;
 mod issued;
 mod listing;
 mod namespace;
+mod rows;
 mod touched;
 mod tree;
 
 pub use fault::RestoreFault;
 pub use found::Found;
-pub use listing::{Extent, ListFault, PathRow, RowSink, push_text};
+pub use listing::{Extent, PathRow, push_text};
 pub use namespace::{BlockRows, Namespace};
 pub use nn_model::{BlockRow, FileRow, Form};
 pub use nn_types::EditFault;
+pub use rows::Rows;
 pub use touched::Touched;

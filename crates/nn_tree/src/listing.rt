@@ -1,43 +1,15 @@
-//! The rows of a namespace in path order, handed to a sink one after another.
-ghost use Rattle.std.specs.Prelude.{◌≡◌, ◌+◌, ◌++◌, ◌∷◌, [], List, string_bytes, OnOk, IfOk, IfErr};
+//! Copies and counts of the rows of a namespace.
+ghost use Rattle.std.specs.Prelude.{◌≡◌, ◌+◌, ◌*◌, ◌++◌, max, length, string_bytes, OnOk, IfOk};
 ghost use Rattle.nn_types.specs.Path.{joined, path_text};
-ghost use Rattle.nn_model.specs.Namespace.{Path};
-ghost use Rattle.nn_model.specs.declared.form.Form.{Form as FormData};
 ghost use Rattle.nn_tree.specs.At.{names_of};
-ghost use Rattle.nn_tree.specs.Extent.{capped};
+ghost use Rattle.nn_tree.specs.Extent.{capped, path_bytes, block_count, greatest_depth, greatest_line};
 ghost use Rattle.nn_tree.specs.Found.{form_of};
 ghost use Rattle.nn_tree.specs.Listing.{rows_of, lent_names};
 
 use crate::found::Found;
+use crate::rows::Rows;
 use nn_model::{FileRow, Form};
 use std::alloc::{AllocError, Global};
-use std::marker::Model;
-
-/// Takes the rows of a listing, one after another.
-pub trait RowSink {
-    /// Why a row was not taken.
-    type Error;
-
-    /// `takes s row t`: the sink s may take the row, and is t then.
-    ghost takes: { Self → Path × FormData → Self → Type 0 };
-
-    /// `fails s row e t`: the sink s may fail on the row with e, and is t then.
-    ghost fails: { Self → Path × FormData → Self.Error → Self → Type 0 };
-
-    /// Takes one row: the names from the root down, and what stands there. A rename can make more names than
-    /// a `Path` may have.
-    fn row(&mut self, names: &[&str], found: Found<'_>) -> Result<(), Self::Error>
-        ensures taken { OnOk result (takes self.old (lent_names names.now, form_of found.entry) self.new) }
-        ensures failed { IfErr result (λ e. fails self.old (lent_names names.now, form_of found.entry) e self.new) };
-}
-
-/// Why a listing ended before its last row.
-#[derive(Clone, Copy, Debug, PartialEq, Eq)]
-pub enum ListFault<E> {
-    /// The sink's own fault.
-    Sink(E),
-    OutOfMemory,
-}
 
 /// A path and what stands there.
 #[derive(Drop)]
@@ -67,74 +39,87 @@ pub struct Extent {
     pub path_bytes: usize,
     /// The blocks of all files together.
     pub blocks: usize,
+    /// The greatest number of names of a path.
+    pub depth: usize,
+    /// No line of a row has more bytes, in a listing or in an image.
+    pub line: usize,
 }
 
 impl Extent {
-    // Counts a path whose text has these bytes, and its blocks.
-    pub(crate) fn add(&mut self, bytes: usize, blocks: usize)
+    // Counts a path of so many names, whose text has these bytes, and its blocks.
+    fn add(&mut self, names: usize, bytes: usize, blocks: usize)
         ensures paths { self.new.paths ≡ capped (self.old.paths + 1) }
         ensures path_bytes { self.new.path_bytes ≡ capped (self.old.path_bytes + bytes) }
         ensures blocks { self.new.blocks ≡ capped (self.old.blocks + blocks) }
+        ensures depth { self.new.depth ≡ max self.old.depth names }
+        ensures line { self.new.line ≡ max self.old.line (capped (6 * bytes + 96 + 79 * blocks)) }
     {
         self.paths = self.paths.saturating_add(1);
         self.path_bytes = self.path_bytes.saturating_add(bytes);
         self.blocks = self.blocks.saturating_add(blocks);
+        self.depth = self.depth.max(names);
+        let path = bytes.saturating_mul(6).saturating_add(96);
+        self.line = self
+            .line
+            .max(path.saturating_add(blocks.saturating_mul(79)));
     }
 }
 
-/// A copy of the rows that it takes.
-#[derive(Drop)]
-pub(crate) struct Copies {
-    rows: Vec<PathRow>,
-    alloc: Global,
-}
-
-impl Model for Copies {
-    ghost use Rattle.std.specs.Prelude.{List};
-    ghost use Rattle.nn_model.specs.declared.form.Form.{Form};
-    ghost use Rattle.nn_model.specs.Namespace.{Path};
-    ghost use Rattle.nn_tree.specs.Listing.{rows_of};
-
-    ghost Value = { List (Path × Form) };
-
-    ghost view = { λ c. rows_of c.rows.items };
-}
-
-impl Copies {
-    /// No rows.
-    pub(crate) fn new(alloc: Global) -> Copies
-        ensures { result ≡ [] }
-    {
-        Copies {
-            rows: Vec::new(alloc),
-            alloc,
-        }
-    }
-
-    /// The rows.
-    pub(crate) fn into_rows(self) -> Vec<PathRow>
-        ensures { rows_of result.items ≡ self }
-    {
-        let Copies { rows, alloc: _ } = self;
-        rows
+/// How large a listing of the rows that are left is.
+pub(crate) fn measured(mut rows: Rows<'_>) -> Result<Extent, AllocError>
+    ensures paths { IfOk result (λ extent. extent.paths ≡ capped (length rows.entry.left)) }
+    ensures path_bytes { IfOk result (λ extent. extent.path_bytes ≡ capped (path_bytes rows.entry.left)) }
+    ensures blocks { IfOk result (λ extent. extent.blocks ≡ capped (block_count rows.entry.left)) }
+    ensures depth { IfOk result (λ extent. extent.depth ≡ capped (greatest_depth rows.entry.left)) }
+    ensures line { IfOk result (λ extent. extent.line ≡ capped (greatest_line rows.entry.left)) }
+{
+    let mut extent = Extent {
+        paths: 0,
+        path_bytes: 0,
+        blocks: 0,
+        depth: 0,
+        line: 0,
+    };
+    'rows: loop {
+        let Ok(found) = rows.next() else {
+            return Err(AllocError);
+        };
+        let Some(found) = found else {
+            return Ok(extent);
+        };
+        extent.add(rows.names().len(), rows.text_len(), found.block_count());
     }
 }
 
-impl RowSink for Copies {
-    ghost use Rattle.std.specs.Prelude.{◌≡◌, ◌++◌, ◌∷◌, []};
-
-    type Error = AllocError;
-
-    ghost takes = { λ rows row more. more ≡ rows ++ row ∷ [] };
-
-    ghost fails = { λ rows row e left. left ≡ rows };
-
-    fn row(&mut self, names: &[&str], found: Found<'_>) -> Result<(), AllocError> {
-        let names = copied(self.alloc, names)?;
-        let form = form(found)?;
-        self.rows.push(PathRow { names, form })?;
-        Ok(())
+/// A copy of the rows that are left.
+pub(crate) fn copies(alloc: Global, mut rows: Rows<'_>) -> Result<Vec<PathRow>, AllocError>
+    ensures { IfOk result (λ copies. rows_of copies.items ≡ rows.entry.left) }
+{
+    let mut copies = Vec::new(alloc);
+    'rows: loop {
+        let Ok(found) = rows.next() else {
+            return Err(AllocError);
+        };
+        let Some(found) = found else {
+            return Ok(copies);
+        };
+        let Ok(row) = path_row(alloc, rows.names(), found) else {
+            return Err(AllocError);
+        };
+        let Ok(()) = copies.push(row) else {
+            return Err(AllocError);
+        };
     }
+}
+
+// A copy of a row.
+fn path_row(alloc: Global, names: &[&str], found: Found<'_>) -> Result<PathRow, AllocError>
+    ensures names { IfOk result (λ row. names_of row.names.items ≡ lent_names names.now) }
+    ensures form { IfOk result (λ row. row.form ≡ form_of found.entry) }
+{
+    let names = copied(alloc, names)?;
+    let form = form(found)?;
+    Ok(PathRow { names, form })
 }
 
 fn copied(alloc: Global, names: &[&str]) -> Result<Vec<String>, AllocError>

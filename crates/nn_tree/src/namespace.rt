@@ -1,5 +1,5 @@
 //! The namespace: a directory tree, seen as its rows in path order, and an index of the blocks in its files.
-ghost use Rattle.std.specs.Prelude.{◌≡◌, OnOk, OnErr, IfOk, IfErr, IfSome, IsErrOf, None, Ok, true, option_map, length};
+ghost use Rattle.std.specs.Prelude.{◌≡◌, OnOk, OnErr, IfOk, IfErr, IfSome, IsErrOf, None, Ok, true, option_map, length, []};
 ghost use Rattle.nn_types.specs.LawfulEdit.{IsLawfulEdit};
 ghost use Rattle.nn_types.specs.Profile.{number_of};
 ghost use Rattle.nn_model.specs.Namespace.{root_alone, lookup};
@@ -7,9 +7,11 @@ ghost use Rattle.nn_model.specs.Apply.{applied, refusal};
 ghost use Rattle.nn_types.specs.EditFault.{IsFault};
 ghost use Rattle.nn_model.specs.Status.{block_at, status_of, status_unheld};
 ghost use Rattle.nn_model.specs.Touched.{touched};
-ghost use Rattle.nn_tree.specs.Extent.{capped, path_bytes, block_count};
+ghost use Rattle.nn_tree.specs.Extent.{capped, path_bytes, block_count, greatest_depth, greatest_line};
 ghost use Rattle.nn_tree.specs.Found.{form_of};
-ghost use Rattle.nn_tree.specs.Listing.{rows_of, Took, StopsIn};
+ghost use Rattle.nn_tree.specs.At.{names_of};
+ghost use Rattle.nn_tree.specs.Listing.{rows_of};
+ghost use Rattle.nn_tree.specs.Rows.{rows_from, Resumes};
 ghost use Rattle.nn_model.specs.WellFormed.{IsWellFormed};
 ghost use Rattle.nn_tree.specs.Blocks.{IsInFile};
 ghost use Rattle.nn_tree.specs.Memory.{takes_memory};
@@ -22,7 +24,8 @@ mod restore;
 
 use crate::found::Found;
 use crate::issued::Issued;
-use crate::listing::{Copies, Extent, ListFault, PathRow, RowSink};
+use crate::listing::{Extent, PathRow, copies, measured};
+use crate::rows::Rows;
 use crate::touched::Touched;
 use crate::tree::Tree;
 pub use blocks::BlockRows;
@@ -141,51 +144,42 @@ impl Namespace {
         Some(tree.top())
     }
 
+    /// All rows in path order, the root first. It takes no memory yet.
+    pub fn rows(&self) -> Rows<'_>
+        ensures left { result.left ≡ self.now.rows }
+        ensures names { result.names ≡ [] }
+    {
+        self.root.in_order();
+        Rows::new(self.alloc, &self.root)
+    }
+
+    /// The rows at this place and behind it. Nothing has to stand there. The place is told by its names from the
+    /// root down, which a rename may have made more of than a `Path` may have. To come there takes time in its
+    /// depth times the logarithm of a directory's width.
+    pub fn rows_from(&self, place: &[String]) -> Result<Rows<'_>, AllocError>
+        ensures left { IfOk result (λ rows. rows.left ≡ rows_from (names_of place.now) self.now.rows) }
+        ensures resumes { Resumes self.now.rows }
+    {
+        self.root.in_order();
+        Rows::from(self.alloc, &self.root, place)
+    }
+
     /// A copy of all rows in path order, the root first.
     pub fn list(&self) -> Result<Vec<PathRow>, AllocError>
         ensures { IfOk result (λ rows. rows_of rows.items ≡ self.now.rows) }
     {
-        let mut copies = Copies::new(self.alloc);
-        let Ok(()) = self.list_to(&mut copies) else {
-            return Err(AllocError);
-        };
-        Ok(copies.into_rows())
-    }
-
-    /// Hands all rows to the sink in path order, the root first. Nothing is copied. The first error of the sink
-    /// ends it, after the rows that the sink has taken by then. Memory is asked for between two rows.
-    pub fn list_to<S: RowSink>(&self, sink: &mut S) -> Result<(), ListFault<S::Error>>
-        ensures took { OnOk result (Took S.takes sink.old self.now.rows sink.new) }
-        ensures stopped { IfErr result (λ e. StopsIn S.takes S.fails sink.old self.now.rows e sink.new) }
-    {
-        let mut names = Vec::new(self.alloc);
-        if let Err(fault) = self.root.list_to(&mut names, sink) {
-            // Only a walk to the end shows that all rows are in path order.
-            let mut extent = Extent {
-                paths: 0,
-                path_bytes: 0,
-                blocks: 0,
-            };
-            self.root.measure(0, &mut extent);
-            return Err(fault);
-        }
-        Ok(())
+        copies(self.alloc, self.rows())
     }
 
     /// How large a listing of all rows is. It looks at each path once, and at no name's bytes.
-    pub fn extent(&self) -> Extent
-        ensures paths { result.paths ≡ capped (length self.now.rows) }
-        ensures path_bytes { result.path_bytes ≡ capped (path_bytes self.now.rows) }
-        ensures blocks { result.blocks ≡ capped (block_count self.now.rows) }
+    pub fn extent(&self) -> Result<Extent, AllocError>
+        ensures paths { IfOk result (λ extent. extent.paths ≡ capped (length self.now.rows)) }
+        ensures path_bytes { IfOk result (λ extent. extent.path_bytes ≡ capped (path_bytes self.now.rows)) }
+        ensures blocks { IfOk result (λ extent. extent.blocks ≡ capped (block_count self.now.rows)) }
+        ensures depth { IfOk result (λ extent. extent.depth ≡ capped (greatest_depth self.now.rows)) }
+        ensures line { IfOk result (λ extent. extent.line ≡ capped (greatest_line self.now.rows)) }
     {
-        // The root's text is one slash, and no slash of another path is counted for it.
-        let mut extent = Extent {
-            paths: 0,
-            path_bytes: 1,
-            blocks: 0,
-        };
-        self.root.measure(0, &mut extent);
-        extent
+        measured(self.rows())
     }
 
     /// The block that a file holds under this id, and whether that file is closed.

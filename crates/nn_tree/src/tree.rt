@@ -1,30 +1,32 @@
 //! A directory tree, seen as the list of its paths with what stands there. It knows no ids and no index.
-ghost use Rattle.std.specs.Prelude.{◌≡◌, [], ◌∷◌, ◌++◌, ◌&&◌, nat_lt, OnOk, OnErr, ◌+◌, ◌<◌, length, IsSome, is_some, Some, None, true, MatchResult, IfOk, IfErr, IfSome};
+ghost use Rattle.std.specs.Prelude.{◌≡◌, [], ◌∷◌, ◌++◌, ◌&&◌, nat_lt, OnOk, OnErr, ◌+◌, ◌<◌, length, is_some, Some, None, true, MatchResult, IfOk, IfErr, IfSome};
 ghost use Rattle.nn_tree.specs.Walks.{file_fault, mkdir_fault, delete_fault, rename_fault, IsRenamed};
 ghost use Rattle.nn_model.specs.Apply.{walk};
 ghost use Rattle.std.specs.Option.{option_copied};
 ghost use Rattle.nn_model.specs.declared.form.Form.TheVariants.{Dir, File};
-ghost use Rattle.nn_tree.specs.Ids.{ids_of};
-ghost use Rattle.nn_tree.specs.Extent.{capped, path_bytes, bytes_below, block_count};
-ghost use Rattle.nn_tree.specs.Flat.{under_all};
-ghost use Rattle.nn_tree.specs.Listing.{lent_names, Took, StopsIn};
+ghost use Rattle.std.specs.List.{sum_by};
+ghost use Rattle.std.specs.BTreeMap.{values};
+ghost use Rattle.nn_tree.specs.Ids.{ids_of, ids_of_all};
+ghost use Rattle.nn_tree.specs.PutOff.{put_off};
+ghost use Rattle.nn_tree.specs.Flat.{flat, below};
+ghost use Rattle.nn_tree.specs.Work.{work, rows_left};
 ghost use Rattle.nn_tree.specs.Found.{form_of};
 ghost use Rattle.std.specs.FinMap.Entries.{is_sorted};
 ghost use Rattle.nn_model.specs.Namespace.{path_cmp, begins_with};
-ghost use Rattle.nn_tree.specs.At.{at, IsSubtree, IsGrafted, IsSame};
-ghost use Rattle.nn_tree.specs.Changes.{IsMade};
+ghost use Rattle.nn_tree.specs.At.{at, IsSubtree, IsSame};
 
+pub(crate) mod children;
+mod descent;
 pub(crate) mod files;
+mod places;
 
 use crate::found::Found;
-use crate::listing::{Extent, ListFault, RowSink};
 use crate::touched::push_ids;
 use nn_model::FileRow;
 use nn_types::{BlockId, EditFault, Names};
 use std::alloc::{AllocError, Global};
 use std::collections::BTreeMap;
 use std::marker::Model;
-use std::mem;
 
 /// Nothing was changed: the edit is refused, or memory ran out. Which of both, and why, `refusal` knows.
 #[derive(Clone, Copy)]
@@ -32,7 +34,6 @@ pub(crate) struct Unchanged;
 
 /// A file, or a directory with all that lies below it.
 #[cycle(tree)]
-#[derive(Drop)]
 pub(crate) struct Tree {
     node: Node,
 }
@@ -47,10 +48,27 @@ enum Node {
     Leaf(FileRow),
 }
 
+// A loop that takes no memory: a deep tree would run out of stack in a recursion. Beside the tree at hand there is the
+// rest of at most one directory. The rests further up hang below it, each in place of a child that was taken out.
+impl Drop for Tree {
+    fn drop(mut self) {
+        let mut rest = None;
+        'tops: loop {
+            let Tree { node } = self;
+            let Some((next, left)) = drop_top(node, rest) else {
+                return;
+            };
+            self = next;
+            rest = left;
+        }
+    }
+}
+
 impl Model for Tree {
-    ghost use Rattle.std.specs.Prelude.{List, length};
+    ghost use Rattle.std.specs.Prelude.{◌≡◌, true, List, length};
+    ghost use Rattle.std.specs.FinMap.Entries.{is_sorted};
     ghost use Rattle.nn_model.specs.declared.form.Form.{Form};
-    ghost use Rattle.nn_model.specs.Namespace.{Path};
+    ghost use Rattle.nn_model.specs.Namespace.{Path, path_cmp};
 
     ghost Value = { List (Path × Form) };
 
@@ -58,7 +76,7 @@ impl Model for Tree {
 
     ghost view = { λ a. flat a.node };
 
-    ghost invariant = { λ a. IsInOrder a.node };
+    ghost invariant = { λ a. IsInOrder a.node × (is_sorted path_cmp (flat a.node) ≡ true) };
 
     ghost size = { length };
 
@@ -86,200 +104,61 @@ impl Tree {
         }
     }
 
+    /// The rows of every tree are in path order. This does nothing: it is there for the proofs of callers.
+    pub(crate) fn in_order(&self)
+        ensures { is_sorted path_cmp self.now ≡ true }
+    {
+        let _ = &self.node;
+    }
+
     /// The tree at a path, if something stands there.
     pub(crate) fn node(&self, names: &Names<'_>) -> Option<&Tree>
         ensures { IsSubtree self.now names.now (option_copied result) }
     {
-        let Some((first, rest)) = names.split_first() else {
-            return Some(self);
-        };
-        if let Node::Narrow(name, child) = &self.node {
-            if name.as_str() != first {
-                return None;
-            }
-            return child.node(&rest);
+        match self.reach(names) {
+            Err(_) => None,
+            Ok(found) => found,
         }
-        let Node::Folder(children) = &self.node else {
-            return None;
-        };
-        let Some(child) = children.get(first) else {
-            return None;
-        };
-        child.node(&rest)
-    }
-
-    /// Puts a tree at a path where nothing stands, in a directory.
-    pub(crate) fn make(
-        &mut self,
-        alloc: Global,
-        names: &Names<'_>,
-        tree: Tree,
-    ) -> Result<(), Unchanged>
-        ensures ok { OnOk result (IsMade self.old names.now tree self.new) }
-        ensures err { OnErr result (IsSame self.old self.new) }
-    {
-        let Some((first, rest)) = names.split_first() else {
-            return Err(Unchanged);
-        };
-        if rest.is_empty() {
-            return self.add(alloc, first, tree);
-        }
-        if let Node::Narrow(name, child) = &mut self.node {
-            if name.as_str() != first {
-                return Err(Unchanged);
-            }
-            return child.make(alloc, &rest, tree);
-        }
-        let Node::Folder(children) = &mut self.node else {
-            return Err(Unchanged);
-        };
-        let Some(child) = children.get_mut(first) else {
-            return Err(Unchanged);
-        };
-        child.make(alloc, &rest, tree)
-    }
-
-    // Puts a tree into a directory, under a name that no child has.
-    fn add(&mut self, alloc: Global, name: &str, tree: Tree) -> Result<(), Unchanged>
-        ensures ok { OnOk result (IsMade self.old (name.now ∷ []) tree self.new) }
-        ensures err { OnErr result (IsSame self.old self.new) }
-    {
-        let Ok(()) = self.widen(alloc) else {
-            return Err(Unchanged);
-        };
-        let Node::Folder(children) = &mut self.node else {
-            return Err(Unchanged);
-        };
-        let Ok(key) = String::from_str(alloc, name) else {
-            return Err(Unchanged);
-        };
-        if children.is_empty() {
-            let Ok(child) = Box::new(alloc, tree) else {
-                return Err(Unchanged);
-            };
-            self.node = Node::Narrow(key, child);
-            return Ok(());
-        }
-        let Ok(before) = children.insert(key, tree) else {
-            return Err(Unchanged);
-        };
-        let Some(before) = before else {
-            return Ok(());
-        };
-        // One search serves where nothing stood. What did stand is put back.
-        let Some(place) = children.get_mut(name) else {
-            unreachable!()
-        };
-        *place = before;
-        Err(Unchanged)
-    }
-
-    // Gives a directory of one child a map, where memory allows. Its rows stay.
-    fn widen(&mut self, alloc: Global) -> Result<(), Unchanged>
-        ensures { self.new ≡ self.old }
-    {
-        let Node::Narrow(name, child) = &mut self.node else {
-            return Ok(());
-        };
-        let own = mem::replace(name, String::new(alloc));
-        let tree = mem::replace(&mut **child, Tree::new_dir(alloc));
-        let mut children = BTreeMap::new(alloc);
-        if let Err(refused) = children.insert(own, tree) {
-            let (own, tree) = refused.value;
-            *name = own;
-            **child = tree;
-            return Err(Unchanged);
-        }
-        self.node = Node::Folder(children);
-        Ok(())
-    }
-
-    /// Takes out what stands at the path.
-    pub(crate) fn take(&mut self, alloc: Global, names: &Names<'_>) -> Option<Tree>
-        requires { 0 < length names.now }
-        ensures walked { IfSome result (λ t. walk (at self.old) names.now ≡ None) }
-        ensures taken { IsSubtree self.old names.now result }
-        ensures gone { IsGrafted self.old names.now None self.new }
-    {
-        let Some((first, rest)) = names.split_first() else {
-            return None;
-        };
-        if let Node::Narrow(name, child) = &mut self.node {
-            if name.as_str() != first {
-                return None;
-            }
-            if !rest.is_empty() {
-                return child.take(alloc, &rest);
-            }
-            let tree = mem::replace(&mut **child, Tree::new_dir(alloc));
-            self.node = Node::Folder(BTreeMap::new(alloc));
-            return Some(tree);
-        }
-        let Node::Folder(children) = &mut self.node else {
-            return None;
-        };
-        if rest.is_empty() {
-            return children.remove(first);
-        }
-        let Some(child) = children.get_mut(first) else {
-            return None;
-        };
-        child.take(alloc, &rest)
-    }
-
-    /// Puts a tree in place of what stands at the path, and gives that back.
-    pub(crate) fn put(&mut self, names: &Names<'_>, tree: Tree) -> Tree
-        requires { IsSome (at self.old names.now) }
-        ensures old { IsSubtree self.old names.now (Some result) }
-        ensures new { IsGrafted self.old names.now (Some tree) self.new }
-    {
-        let Some((first, rest)) = names.split_first() else {
-            return mem::replace(self, tree);
-        };
-        if let Node::Narrow(name, child) = &mut self.node {
-            if name.as_str() != first {
-                unreachable!()
-            }
-            return child.put(&rest, tree);
-        }
-        let Node::Folder(children) = &mut self.node else {
-            unreachable!()
-        };
-        let Some(child) = children.get_mut(first) else {
-            unreachable!()
-        };
-        child.put(&rest, tree)
     }
 
     /// Walks the parents of a path, and then gives what stands at it.
     pub(crate) fn reach(&self, names: &Names<'_>) -> Result<Option<&Tree>, EditFault>
         ensures walked { MatchResult result (λ o. walk (at self.now) names.now ≡ None) (λ e. walk (at self.now) names.now ≡ Some e) }
         ensures found { IfOk result (λ o. IsSubtree self.now names.now (option_copied o)) }
+        ensures free { OnErr result (IsSubtree self.now names.now None) }
         ensures present { IfOk result (λ o. is_some (at self.now names.now) ≡ is_some o) }
     {
         let Some((first, rest)) = names.split_first() else {
             let _ = &self.node;
             return Ok(Some(self));
         };
-        if let Node::Narrow(name, child) = &self.node {
-            if name.as_str() == first {
-                return child.reach(&rest);
-            }
-            if rest.is_empty() {
-                return Ok(None);
-            }
-            return Err(EditFault::Missing);
-        }
-        let Node::Folder(children) = &self.node else {
+        if let Node::Leaf(_) = &self.node {
             return Err(EditFault::NotDirectory);
-        };
-        let Some(child) = children.get(first) else {
+        }
+        let Some(child) = self.child(first) else {
             if rest.is_empty() {
                 return Ok(None);
             }
             return Err(EditFault::Missing);
         };
         child.reach(&rest)
+    }
+
+    // The child of this name, if the tree is a directory that has one.
+    fn child(&self, name: &str) -> Option<&Tree>
+        ensures found { IsSubtree self.now (name.now ∷ []) (option_copied result) }
+        ensures dir { IfSome result (λ t. at self.now [] ≡ Some Dir) }
+    {
+        if let Node::Narrow(own, child) = &self.node {
+            if own.as_str() != name {
+                return None;
+            }
+            return Some(&**child);
+        }
+        let Node::Folder(children) = &self.node else {
+            return None;
+        };
+        children.get(name)
     }
 
     /// The fault of making a directory.
@@ -388,84 +267,122 @@ impl Tree {
         Ok(())
     }
 
-    /// Hands the rows of the tree to the sink in path order, where these names lead to it.
-    pub(crate) fn list_to<'a, S: RowSink>(
+    /// Appends the ids of the blocks in the tree, in path order. The trees that it has not come to yet wait in a list:
+    /// a deep tree would run out of stack in a recursion.
+    pub(crate) fn collect_ids(
+        &self,
+        alloc: Global,
+        out: &mut Vec<BlockId>,
+    ) -> Result<(), AllocError>
+        ensures { OnOk result (out.new.items ≡ out.old.items ++ ids_of self.now) }
+    {
+        let mut later = Vec::new(alloc);
+        later.push(self)?;
+        'trees: while let Some(tree) = later.pop() {
+            tree.collect_own(&mut later, out)?;
+        }
+        Ok(())
+    }
+
+    // Appends the ids of a file, and puts off the children of a directory.
+    fn collect_own<'a>(
         &'a self,
-        names: &mut Vec<&'a str>,
-        sink: &mut S,
-    ) -> Result<(), ListFault<S::Error>>
-        ensures rows { OnOk result (Took S.takes sink.old (under_all (lent_names names.old.items) self.now) sink.new) }
-        ensures stopped { IfErr result (λ e. StopsIn S.takes S.fails sink.old (under_all (lent_names names.old.items) self.now) e sink.new) }
-        ensures names { OnOk result (lent_names names.new.items ≡ lent_names names.old.items) }
-        ensures sorted { OnOk result (is_sorted path_cmp self.now ≡ true) }
+        later: &mut Vec<&'a Tree>,
+        out: &mut Vec<BlockId>,
+    ) -> Result<(), AllocError>
+        ensures ids { OnOk result (out.new.items ++ ids_of_all (put_off later.new.items) ≡ out.old.items ++ ids_of_all (self.now ∷ put_off later.old.items)) }
+        ensures fewer { OnOk result (sum_by length (put_off later.new.items) < sum_by length (self.now ∷ put_off later.old.items)) }
     {
-        let node = &self.node;
-        if let Err(fault) = sink.row(names, self.top()) {
-            return Err(ListFault::Sink(fault));
-        }
-        if let Node::Narrow(name, child) = node {
-            let Ok(()) = names.push(name.as_str()) else {
-                return Err(ListFault::OutOfMemory);
-            };
-            if let Err(fault) = child.list_to(names, sink) {
-                return Err(fault);
+        match &self.node {
+            Node::Leaf(file) => push_ids(out, file.blocks.as_slice()),
+            Node::Narrow(_, child) => {
+                later.push(child)?;
+                Ok(())
             }
-            names.pop();
-            return Ok(());
+            Node::Folder(children) => put_off(children, later),
         }
-        let Node::Folder(children) = node else {
-            return Ok(());
-        };
-        for (name, child) in children.iter() {
-            let Ok(()) = names.push(name.as_str()) else {
-                return Err(ListFault::OutOfMemory);
-            };
-            if let Err(fault) = child.list_to(names, sink) {
-                return Err(fault);
-            }
-            names.pop();
-        }
-        Ok(())
     }
+}
 
-    /// Counts the rows of the tree, where the text of its own path has these bytes, and the root's none.
-    pub(crate) fn measure(&self, bytes: usize, extent: &mut Extent)
-        ensures paths { extent.new.paths ≡ capped (extent.old.paths + length self.now) }
-        ensures path_bytes { extent.new.path_bytes ≡ capped (extent.old.path_bytes + bytes_below bytes self.now) }
-        ensures blocks { extent.new.blocks ≡ capped (extent.old.blocks + block_count self.now) }
-        ensures root { path_bytes self.now ≡ 1 + bytes_below 0 self.now }
-        ensures sorted { is_sorted path_cmp self.now ≡ true }
-    {
-        let children = match &self.node {
-            Node::Leaf(file) => return extent.add(bytes, file.blocks.as_slice().len()),
-            Node::Narrow(name, child) => {
-                extent.add(bytes, 0);
-                return child.measure(bytes.saturating_add(1).saturating_add(name.len()), extent);
-            }
-            Node::Folder(children) => children,
-        };
-        extent.add(bytes, 0);
-        for (name, below) in children.iter() {
-            let bytes = bytes.saturating_add(1).saturating_add(name.len());
-            below.measure(bytes, extent);
-        }
+// Puts off the children of a directory. The first one is put off last, and so comes first.
+fn put_off<'a>(
+    children: &'a BTreeMap<String, Tree>,
+    later: &mut Vec<&'a Tree>,
+) -> Result<(), AllocError>
+    ensures { OnOk result (put_off later.new.items ≡ values children.now ++ put_off later.old.items) }
+{
+    let mut rest = children.values();
+    'rest: while let Some(child) = rest.next_back() {
+        later.push(child)?;
     }
+    Ok(())
+}
 
-    /// Appends the ids of the blocks in the tree, in path order.
-    pub(crate) fn collect_ids(&self, out: &mut Vec<BlockId>) -> Result<(), AllocError>
-        ensures ids { OnOk result (out.new.items ≡ out.old.items ++ ids_of self.now) }
-        ensures sorted { OnOk result (is_sorted path_cmp self.now ≡ true) }
-    {
-        let children = match &self.node {
-            Node::Leaf(file) => return push_ids(out, file.blocks.as_slice()),
-            Node::Narrow(_, child) => return child.collect_ids(out),
-            Node::Folder(children) => children,
-        };
-        for child in children.values() {
-            child.collect_ids(out)?;
+// Drops the top of a tree, beside which there is the rest of a directory. Gives the tree that comes next, and the rest
+// that is beside that one.
+fn drop_top(
+    node: Node,
+    rest: Option<BTreeMap<String, Tree>>,
+) -> Option<(Tree, Option<BTreeMap<String, Tree>>)>
+    requires node { is_sorted path_cmp (flat node) ≡ true }
+    requires rest { is_sorted path_cmp (rows_left rest) ≡ true }
+    ensures less { IfSome result (λ p. work (length p.0) (length (rows_left p.1)) < work (length (flat node)) (length (rows_left rest))) }
+    ensures order { IfSome result (λ p. is_sorted path_cmp (rows_left p.1) ≡ true) }
+{
+    match node {
+        Node::Leaf(_file) => last_child(rest),
+        Node::Narrow(_name, child) => Some((Box::into_inner(child), rest)),
+        Node::Folder(children) => {
+            let Some(rest) = rest else {
+                return last_child(Some(children));
+            };
+            hang_below(children, rest)
         }
-        Ok(())
     }
+}
+
+// The last child of a directory, and the others. Where it was the only one there is no rest any more, so that no further
+// rest is hung below an empty directory. A rest that hangs in place of the first child comes last.
+fn last_child(
+    rest: Option<BTreeMap<String, Tree>>,
+) -> Option<(Tree, Option<BTreeMap<String, Tree>>)>
+    requires { is_sorted path_cmp (rows_left rest) ≡ true }
+    ensures rows { IfSome result (λ p. length p.0 + length (rows_left p.1) ≡ length (rows_left rest)) }
+    ensures order { IfSome result (λ p. is_sorted path_cmp (rows_left p.1) ≡ true) }
+{
+    let Some(mut rest) = rest else {
+        return None;
+    };
+    let Some((_name, last)) = rest.pop_last() else {
+        rest.destroy_empty();
+        return None;
+    };
+    if rest.is_empty() {
+        rest.destroy_empty();
+        return Some((last, None));
+    }
+    Some((last, Some(rest)))
+}
+
+// The first child of a directory, and the others, among which the rest of another directory hangs in its place.
+fn hang_below(
+    mut children: BTreeMap<String, Tree>,
+    rest: BTreeMap<String, Tree>,
+) -> Option<(Tree, Option<BTreeMap<String, Tree>>)>
+    requires children { is_sorted path_cmp (below children.entries) ≡ true }
+    requires rest { is_sorted path_cmp (below rest.entries) ≡ true }
+    ensures less { IfSome result (λ p. work (length p.0) (length (rows_left p.1)) < work (1 + length (below children.entries)) (length (below rest.entries))) }
+    ensures order { IfSome result (λ p. is_sorted path_cmp (rows_left p.1) ≡ true) }
+{
+    let Some(mut first) = children.first_entry() else {
+        children.destroy_empty();
+        return last_child(Some(rest));
+    };
+    let own = Tree {
+        node: Node::Folder(rest),
+    };
+    let next = first.insert(own);
+    Some((next, Some(children)))
 }
 
 // Whether the path begins with the prefix.

@@ -6,6 +6,8 @@
 #![tactic(auto)]
 
 #[cfg(test)]
+mod deep;
+#[cfg(test)]
 mod devices;
 #[cfg(test)]
 mod edits;

@@ -201,8 +201,9 @@ impl Namespace {
         let Ok(Some(tree)) = self.root.reach(&names) else {
             return Err(Unchanged);
         };
+        tree.in_order();
         let mut ids = Vec::new(self.alloc);
-        let Ok(()) = tree.collect_ids(&mut ids) else {
+        let Ok(()) = tree.collect_ids(self.alloc, &mut ids) else {
             return Err(Unchanged);
         };
         let _gone = self.root.take(self.alloc, &names);

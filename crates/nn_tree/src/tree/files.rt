@@ -1,10 +1,11 @@
 //! Changes of a file, made where it stands: one walk down its path checks and changes.
-ghost use Rattle.std.specs.Prelude.{◌≡◌, false, IfOk, OnOk, OnErr};
+ghost use Rattle.std.specs.Prelude.{◌≡◌, ⊤, false, IfOk, OnOk, OnErr};
 ghost use Rattle.nn_model.specs.Apply.{keeps_ids, keeps_stamps};
 ghost use Rattle.nn_tree.specs.At.{at, IsSame};
 ghost use Rattle.nn_tree.specs.Walks.{is_file};
-ghost use Rattle.nn_tree.specs.Changes.{IsFileChanged, GetsBlock, GetsList, GetsReplication, Opens};
+ghost use Rattle.nn_tree.specs.Changes.{IsFileChanged, FileBecomes, GetsBlock, GetsList, GetsReplication, Opens};
 
+use super::descent::Change;
 use super::{Node, Tree, Unchanged};
 use crate::touched::Touched;
 use nn_model::FileRow;
@@ -18,25 +19,7 @@ impl Tree {
         ensures ok { IfOk result (λ done. IsFileChanged self.old names.now self.new (GetsBlock block)) }
         ensures err { OnErr result (IsSame self.old self.new) }
     {
-        let Some((first, rest)) = names.split_first() else {
-            let Node::Leaf(file) = &mut self.node else {
-                return Err(Unchanged);
-            };
-            return push_open(file, block);
-        };
-        if let Node::Narrow(name, child) = &mut self.node {
-            if name.as_str() != first {
-                return Err(Unchanged);
-            }
-            return child.push_block(&rest, block);
-        }
-        let Node::Folder(children) = &mut self.node else {
-            return Err(Unchanged);
-        };
-        let Some(child) = children.get_mut(first) else {
-            return Err(Unchanged);
-        };
-        child.push_block(&rest, block)
+        self.change_at(names, PushBlock { block })
     }
 
     /// Gives an open file another list of blocks, and tells what that touched and the list before.
@@ -51,25 +34,13 @@ impl Tree {
         ensures ok { IfOk result (λ done. IsFileChanged self.old names.now self.new (GetsList blocks.now closed last_stamp done)) }
         ensures err { OnErr result (IsSame self.old self.new) }
     {
-        let Some((first, rest)) = names.split_first() else {
-            let Node::Leaf(file) = &mut self.node else {
-                return Err(Unchanged);
-            };
-            return list_open(alloc, file, blocks, closed, last_stamp);
+        let change = SetBlocks {
+            alloc,
+            blocks,
+            closed,
+            last_stamp,
         };
-        if let Node::Narrow(name, child) = &mut self.node {
-            if name.as_str() != first {
-                return Err(Unchanged);
-            }
-            return child.set_blocks(&rest, alloc, blocks, closed, last_stamp);
-        }
-        let Node::Folder(children) = &mut self.node else {
-            return Err(Unchanged);
-        };
-        let Some(child) = children.get_mut(first) else {
-            return Err(Unchanged);
-        };
-        child.set_blocks(&rest, alloc, blocks, closed, last_stamp)
+        self.change_at(names, change)
     }
 
     /// Opens a closed file, and tells what that touched and its blocks.
@@ -81,25 +52,7 @@ impl Tree {
         ensures ok { IfOk result (λ done. IsFileChanged self.old names.now self.new (Opens done)) }
         ensures err { OnErr result (IsSame self.old self.new) }
     {
-        let Some((first, rest)) = names.split_first() else {
-            let Node::Leaf(file) = &mut self.node else {
-                return Err(Unchanged);
-            };
-            return open_closed(alloc, file);
-        };
-        if let Node::Narrow(name, child) = &mut self.node {
-            if name.as_str() != first {
-                return Err(Unchanged);
-            }
-            return child.append(&rest, alloc);
-        }
-        let Node::Folder(children) = &mut self.node else {
-            return Err(Unchanged);
-        };
-        let Some(child) = children.get_mut(first) else {
-            return Err(Unchanged);
-        };
-        child.append(&rest, alloc)
+        self.change_at(names, Append { alloc })
     }
 
     /// Gives a file another replication.
@@ -112,26 +65,121 @@ impl Tree {
         ensures err { OnErr result (IsSame self.old self.new) }
         ensures no_file { OnErr result (is_file (at self.old names.now) ≡ false) }
     {
-        let Some((first, rest)) = names.split_first() else {
-            let Node::Leaf(file) = &mut self.node else {
-                return Err(Unchanged);
-            };
-            file.replication = replication;
-            return Ok(());
-        };
-        if let Node::Narrow(name, child) = &mut self.node {
-            if name.as_str() != first {
-                return Err(Unchanged);
-            }
-            return child.set_replication(&rest, replication);
-        }
-        let Node::Folder(children) = &mut self.node else {
+        self.change_at(names, SetReplication { replication })
+    }
+}
+
+// The change of `Tree::push_block`.
+#[derive(Drop)]
+struct PushBlock {
+    block: Block,
+}
+
+impl Change for PushBlock {
+    type Gives = ();
+
+    ghost in_parent = { false };
+
+    ghost changes = { λ c rest t w given. FileBecomes (GetsBlock c.block) rest t w };
+
+    ghost refuses = { λ c rest t. ⊤ };
+
+    fn is_in_parent() -> bool {
+        false
+    }
+
+    fn change(self, tree: &mut Tree, _last: Option<&str>) -> Result<(), Unchanged> {
+        let Node::Leaf(file) = &mut tree.node else {
             return Err(Unchanged);
         };
-        let Some(child) = children.get_mut(first) else {
+        push_open(file, self.block)
+    }
+}
+
+// The change of `Tree::set_blocks`.
+#[derive(Drop)]
+struct SetBlocks<'a> {
+    alloc: Global,
+    blocks: &'a Blocks,
+    closed: bool,
+    last_stamp: GenerationStamp,
+}
+
+impl<'a> Change for SetBlocks<'a> {
+    type Gives = (Touched, Blocks);
+
+    ghost in_parent = { false };
+
+    ghost changes = { λ c rest t w given. FileBecomes (GetsList c.blocks.now c.closed c.last_stamp given) rest t w };
+
+    ghost refuses = { λ c rest t. ⊤ };
+
+    fn is_in_parent() -> bool
+        ensures { result ≡ false }
+    {
+        false
+    }
+
+    fn change(self, tree: &mut Tree, _last: Option<&str>) -> Result<(Touched, Blocks), Unchanged> {
+        let Node::Leaf(file) = &mut tree.node else {
             return Err(Unchanged);
         };
-        child.set_replication(&rest, replication)
+        list_open(self.alloc, file, self.blocks, self.closed, self.last_stamp)
+    }
+}
+
+// The change of `Tree::append`.
+#[derive(Drop)]
+struct Append {
+    alloc: Global,
+}
+
+impl Change for Append {
+    type Gives = (Touched, Blocks);
+
+    ghost in_parent = { false };
+
+    ghost changes = { λ c rest t w given. FileBecomes (Opens given) rest t w };
+
+    ghost refuses = { λ c rest t. ⊤ };
+
+    fn is_in_parent() -> bool {
+        false
+    }
+
+    fn change(self, tree: &mut Tree, _last: Option<&str>) -> Result<(Touched, Blocks), Unchanged> {
+        let Node::Leaf(file) = &mut tree.node else {
+            return Err(Unchanged);
+        };
+        open_closed(self.alloc, file)
+    }
+}
+
+// The change of `Tree::set_replication`.
+#[derive(Drop)]
+struct SetReplication {
+    replication: Replication,
+}
+
+impl Change for SetReplication {
+    type Gives = ();
+
+    ghost in_parent = { false };
+
+    ghost changes = { λ c rest t w given. FileBecomes (GetsReplication c.replication) rest t w };
+
+    ghost refuses = { λ c rest t. is_file (at t rest) ≡ false };
+
+    fn is_in_parent() -> bool {
+        false
+    }
+
+    fn change(self, tree: &mut Tree, _last: Option<&str>) -> Result<(), Unchanged> {
+        let Node::Leaf(file) = &mut tree.node else {
+            return Err(Unchanged);
+        };
+        file.replication = self.replication;
+        Ok(())
     }
 }
 

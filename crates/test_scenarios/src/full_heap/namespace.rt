@@ -152,14 +152,25 @@ fn apply_all(
     fates
 }
 
-/// Whether two namespaces show the same at all paths and block ids of the log, in their blocks and in their
-/// extents. It takes no memory.
+/// Whether two namespaces show the same at all paths and block ids of the log, and in their blocks. It can do without
+/// memory: their extents are compared only where there is memory to measure them.
 pub fn are_alike(namespace: &Namespace, twin: &Namespace, scenario: &Scenario) -> bool {
-    namespace.extent() == twin.extent()
+    have_no_other_extent(namespace, twin)
         && namespace.last_block() == twin.last_block()
         && namespace.last_stamp() == twin.last_stamp()
         && have_the_same_blocks(namespace, twin)
         && show_the_same(namespace, twin, scenario)
+}
+
+// Whether no measure tells them apart.
+fn have_no_other_extent(namespace: &Namespace, twin: &Namespace) -> bool {
+    let Ok(extent) = namespace.extent() else {
+        return true;
+    };
+    let Ok(other) = twin.extent() else {
+        return true;
+    };
+    extent == other
 }
 
 fn have_the_same_blocks(namespace: &Namespace, twin: &Namespace) -> bool {

@@ -63,7 +63,7 @@ impl Changing for Ask<'_> {
     }
 }
 
-/// Whether two standbys show the same, about all that the scenario names. It takes no memory.
+/// Whether two standbys show the same, about all that the scenario names. It can do without memory.
 pub fn are_alike(shadow: &Shadow, twin: &Shadow, scenario: &Scenario) -> bool {
     shadow.history() == twin.history()
         && shadow.last_txid() == twin.last_txid()

@@ -21,7 +21,7 @@ pub trait Changing {
     fn call(&self, subject: &mut Self::Subject) -> Answer;
 
     /// Whether a subject shows after a refusal what it showed before. Its twin still does: the call was not made on it. It
-    /// takes no memory.
+    /// can do without memory.
     fn is_unchanged(&self, subject: &Self::Subject, twin: &Self::Subject) -> bool;
 }
 
@@ -34,7 +34,7 @@ pub trait Making {
     /// Makes the call. What comes back comes with what it answered.
     fn call(&self, given: Self::Given) -> Result<Self::Made, (Answer, Self::Given)>;
 
-    /// Whether what came back is what was given. It takes no memory.
+    /// Whether what came back is what was given. It can do without memory.
     fn is_unchanged(&self, given: &Self::Given) -> bool;
 }
 

@@ -1,11 +1,30 @@
-use Rattle.std.proofs.Common.{rules}
-use Rattle.nn_listing.proofs.WrittenLines.{lines_written, lines_stopped}
+use Rattle.std.proofs.Common.{rules, ◌≡◌, ◌∷◌, subst}
+use Rattle.std.specs.Prelude.{flat_map}
+use Rattle.nn_device.specs.Device.{Took}
+use Rattle.nn_device.specs.Parts.{TookFront}
+use Rattle.nn_device.proofs.Parts.{HasLeft, part_taken, part_fails}
+use Rattle.nn_model.specs.declared.form.Form.{Form}
+use Rattle.nn_model.specs.Namespace.{Path}
+use Rattle.nn_tree.specs.Found.{form_of}
+use Rattle.nn_listing.specs.Listing.{row_line}
 use Rattle.nn_listing.proofs.writing.write_lines.Goals as goal
-
-pub returns-clause-ok : goal.returns-clause-ok
-returns-clause-ok g c =
-    lines_written _ c.list_to.new.sink _ c.args.namespace.now.rows c.in_default.ensures.took (search rules)
 
 pub returns-in-Err-clause-front : goal.returns-in-Err-clause-front
 returns-in-Err-clause-front g c =
-    lines_stopped _ c.list_to.new.sink _ c.args.namespace.now.rows c.in-Err.fault c.stop_of.result c.stop_of.ensures c.in-Err.ensures.stopped (search rules)
+    let row : Path × Form = (c.next.new.self.names, form_of c.in-Some.found) in
+    let all = flat_map row_line c.args.namespace.now.rows in
+    let next : c.rows.rows.left ≡ row ∷ c.next.new.self.left = search rules in
+    let line : c.as_bytes.result.now ≡ row_line row = search rules in
+    part_fails c.args.writer.now c.rows.writer c.write_part.new.self all (row_line row) (flat_map row_line c.next.new.self.left)
+    (subst (λ rows. HasLeft c.args.writer.now c.rows.writer all (flat_map row_line rows)) next c.rows.invariant) c.in-Err.cause
+    (subst (λ text. TookFront c.rows.writer c.write_part.new.self text c.in-Err.cause) line c.in-Err.ensures.front)
+
+pub rows-preserved : goal.rows-preserved
+rows-preserved g c =
+    let row : Path × Form = (c.next.new.self.names, form_of c.in-Some.found) in
+    let all = flat_map row_line c.args.namespace.now.rows in
+    let next : c.rows.rows.left ≡ row ∷ c.next.new.self.left = search rules in
+    let line : c.as_bytes.result.now ≡ row_line row = search rules in
+    part_taken c.args.writer.now c.rows.writer c.write_part.new.self all (row_line row) (flat_map row_line c.next.new.self.left)
+    (subst (λ rows. HasLeft c.args.writer.now c.rows.writer all (flat_map row_line rows)) next c.rows.invariant)
+    (subst (Took c.rows.writer c.write_part.new.self) line c.in_default-write_part.ensures.ok)

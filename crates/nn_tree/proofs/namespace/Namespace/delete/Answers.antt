@@ -27,7 +27,7 @@ invariant_of-self c =
     let sub : IsSubtree i.root ns (Some tree) = subst (λ o. IsSubtree i.root ns (option_copied o)) c.in-Ok-Some.field-0-is c.in-Ok-Some.ensures.found in
     let lawful : refusal s (edit.Delete p) ≡ None = delete_applies i.root s p ns refl c.names-names.ensures.names (not_root c.names-names.result c.if-is_empty.ensures) c.in-Ok-Some.ensures.walked (c.in-Ok-Some.ensures.present ∙ ap is_some c.in-Ok-Some.field-0-is) in
     delete_kept i.root c.take-gone.new.self tree i.issued c.collect_ids.new.out.items (λ id. get nat_cmp i.index id) (λ id. get nat_cmp c.forget.new.index id) p ns c.names-names.ensures.names c.requires.lawful
-    lawful c.take-gone.ensures.gone sub c.in-Ok.ensures.sorted (c.in-Ok.ensures.ids ∙ ap (λ (xs : List ℕ). xs ++ ids_of tree) c.new-ids.ensures.items)
+    lawful c.take-gone.ensures.gone sub c.in_order.ensures (c.in-Ok.ensures ∙ ap (λ (xs : List ℕ). xs ++ ids_of tree) c.new-ids.ensures.items)
     (λ id. c.forget.ensures id ∙ ap (λ (xs : List ℕ). cond (has_id xs id) None (get nat_cmp i.index id)) c.deref.ensures.value) c.self.invariant
 
 pub returns : goal.returns
@@ -41,7 +41,7 @@ returns c =
     let is : seen c.take-gone.new.self i.issued ≡ effect s (edit.Delete p) = deleted_seen i.root c.take-gone.new.self i.issued p ns c.names-names.ensures.names c.take-gone.ensures.gone in
     let sub : IsSubtree i.root ns (Some tree) = subst (λ o. IsSubtree i.root ns (option_copied o)) c.in-Ok-Some.field-0-is c.in-Ok-Some.ensures.found in
     let ids : c.collect_ids.new.out.items ≡ ids_below s p =
-    c.in-Ok.ensures.ids ∙ ap (λ (xs : List ℕ). xs ++ ids_of tree) c.new-ids.ensures.items
-    ∙ ids_collected s p tree c.self.invariant.well.blocks.in_order c.in-Ok.ensures.sorted (λ q. sym (λ j. looks i.root s refl j (c.names-names.ensures.names j ++ q)) ∙ sub q) in
+    c.in-Ok.ensures ∙ ap (λ (xs : List ℕ). xs ++ ids_of tree) c.new-ids.ensures.items
+    ∙ ids_collected s p tree c.self.invariant.well.blocks.in_order c.in_order.ensures (λ q. sym (λ j. looks i.root s refl j (c.names-names.ensures.names j ++ q)) ∙ sub q) in
     done (edit.Delete p) c.self.view_is lawful is (c.deleted.ensures
     ∙ (λ j. record { changed = []; retired = (sorted_is c.collect_ids.new.out.items c.sort_unstable.new.self.items c.sort_unstable.ensures.permutation c.sort_unstable.ensures.sorted ∙ ap ascending ids) j; skipped = None }))

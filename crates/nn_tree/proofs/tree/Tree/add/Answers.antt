@@ -2,15 +2,19 @@ use Rattle.std.proofs.Common.{◌≡◌, ◌∷◌, [], ℕ, List, Some, None, s
 use Rattle.std.specs.BTreeMap.{get_by_text}
 use Rattle.std.specs.String.{string_bytes}
 use Rattle.nn_tree.specs.declared.tree.Tree.{Tree}
-use Rattle.nn_tree.proofs.Subtree.{child, no_children, opened}
+use Rattle.nn_tree.proofs.Subtree.{child, no_children, opened, one_in_order, dir_rows}
 use Rattle.nn_tree.proofs.Step.{Becomes, changed, written, one_made}
 use Rattle.nn_tree.proofs.Changed.{made_here, put_back}
+use Rattle.std.specs.FinMap.Entries.{is_sorted}
+use Rattle.nn_model.specs.Namespace.{path_cmp}
+use Rattle.nn_tree.proofs.Sorted.{sorted_rows}
+use Rattle.nn_tree.proofs.InOrder.{stays_sorted, child_sorted}
 use Rattle.nn_tree.proofs.tree.Tree.add.Goals as goal
 
 -- the first child
 pub returns-then-is_empty-clause-ok : goal.returns-then-is_empty-clause-ok
 returns-then-is_empty-clause-ok c =
-    let d = opened c.args.self.now c.self.inside.node c.in-Folder.children (c.self.view_is ∙ c.widen.ensures) c.self.invariant c.in-Folder.is in
+    let d = opened c.args.self.now c.self.inside.node c.in-Folder.children (c.self.view_is ∙ c.widen.ensures) c.self.invariant.0 c.in-Folder.is in
     let n = c.args.name.now in
     let k = c.in-Ok-from_str.key in
     let none = no_children c.in-Folder.children.entries (c.if-is_empty.ensures.0 refl) in
@@ -22,7 +26,7 @@ returns-then-is_empty-clause-ok c =
 -- one more child
 pub returns-in_default-before-clause-ok : goal.returns-in_default-before-clause-ok
 returns-in_default-before-clause-ok c =
-    let d = opened c.args.self.now c.self.inside.node c.in-Folder.children (c.self.view_is ∙ c.widen.ensures) c.self.invariant c.in-Folder.is in
+    let d = opened c.args.self.now c.self.inside.node c.in-Folder.children (c.self.view_is ∙ c.widen.ensures) c.self.invariant.0 c.in-Folder.is in
     let n = string_bytes c.in-Ok-from_str.key in
     let none : get_by_text c.in-Folder.children n ≡ None = sym c.in-Ok-insert.ensures.old ∙ c.in_default-before.is in
     let b = changed c.in-Folder.children c.insert.new.self n (Some c.args.tree) c.in-Ok-insert.ensures.updates c.in-Ok-insert.ensures.ordered in
@@ -31,7 +35,7 @@ returns-in_default-before-clause-ok c =
 -- a child of that name stays
 pub returns-clause-err : goal.returns-clause-err
 returns-clause-err c =
-    let d = opened c.args.self.now c.self.inside.node c.in-Folder.children (c.self.view_is ∙ c.widen.ensures) c.self.invariant c.in-Folder.is in
+    let d = opened c.args.self.now c.self.inside.node c.in-Folder.children (c.self.view_is ∙ c.widen.ensures) c.self.invariant.0 c.in-Folder.is in
     let n = string_bytes c.in-Ok-from_str.key in
     let w : Tree = c.in-Some.before in
     let l = c.get_mut.follows.lender w in
@@ -40,3 +44,34 @@ returns-clause-err c =
     let back = written c.insert.new.self l c.args.name.now c.in-Some-get_mut.place.now w c.in-Some-get_mut.ensures.value (c.get_mut.follows.holds w) in
     put_back c.args.self.now c.in-Folder.children.entries c.insert.new.self.entries l.entries n c.args.tree w d was b
     (subst (λ (x : List ℕ). Becomes c.insert.new.self.entries l.entries x (Some w)) (sym c.in-Ok-from_str.ensures.ok) back)
+
+-- ---- the order of the whole
+pub invariant_of-self-then-is_empty : goal.invariant_of-self-then-is_empty
+invariant_of-self-then-is_empty c =
+    let k = c.in-Ok-from_str.key in
+    (tt, sorted_rows ((k, c.in-Ok-new.child.value) ∷ []) (one_in_order k) (ap (is_sorted path_cmp) c.in-Ok-new.ensures.ok ∙ c.in_order.ensures, tt))
+
+pub invariant_of-self-in_default-before : goal.invariant_of-self-in_default-before
+invariant_of-self-in_default-before c =
+    let seen = c.self.view_is ∙ c.widen.ensures in
+    let d = opened c.args.self.now c.self.inside.node c.in-Folder.children seen c.self.invariant.0 c.in-Folder.is in
+    let n = string_bytes c.in-Ok-from_str.key in
+    let b = changed c.in-Folder.children c.insert.new.self n (Some c.args.tree) c.in-Ok-insert.ensures.updates c.in-Ok-insert.ensures.ordered in
+    (c.in-Ok-insert.ensures.ordered, stays_sorted c.args.self.now c.in-Folder.children.entries c.insert.new.self.entries n (Some c.args.tree) d b (ap (is_sorted path_cmp) (sym seen) ∙ c.self.invariant.1) c.in_order.ensures)
+
+pub invariant_of-self-2 : goal.invariant_of-self-2
+invariant_of-self-2 c =
+    let seen = c.self.view_is ∙ c.widen.ensures in
+    let d = opened c.args.self.now c.self.inside.node c.in-Folder.children seen c.self.invariant.0 c.in-Folder.is in
+    let n = string_bytes c.in-Ok-from_str.key in
+    let w : Tree = c.in-Some.before in
+    let l = c.get_mut.follows.lender w in
+    let whole = ap (is_sorted path_cmp) (sym seen) ∙ c.self.invariant.1 in
+    let was : Some w ≡ get_by_text c.in-Folder.children n = sym c.in-Some.is ∙ c.in-Ok-insert.ensures.old in
+    let b = changed c.in-Folder.children c.insert.new.self n (Some c.args.tree) c.in-Ok-insert.ensures.updates c.in-Ok-insert.ensures.ordered in
+    let back = written c.insert.new.self l c.args.name.now c.in-Some-get_mut.place.now w c.in-Some-get_mut.ensures.value (c.get_mut.follows.holds w) in
+    let between = stays_sorted c.args.self.now c.in-Folder.children.entries c.insert.new.self.entries n (Some c.args.tree) d b whole c.in_order.ensures in (
+      (c.get_mut.follows.holds w).4,
+      stays_sorted (dir_rows c.insert.new.self.entries) c.insert.new.self.entries l.entries c.args.name.now (Some w) (record { is = refl; ordered = b.ordered }) back between
+          (child_sorted c.args.self.now c.in-Folder.children.entries n w d whole was),
+    )

@@ -1,0 +1,7 @@
+use Rattle.nn_tree.specs.Changes.{GetsList}
+use Rattle.nn_tree.proofs.Walk.{if_ok}
+use Rattle.nn_tree.proofs.Descent.{file_changed}
+use Rattle.nn_tree.proofs.tree.Tree.set_blocks.Goals as goal
+
+pub returns-clause-ok : goal.returns-clause-ok
+returns-clause-ok c = if_ok c.change_at.result (λ done. file_changed c.args.self.now c.change_at.new.self c.args.names.now (GetsList c.args.blocks.now c.args.closed c.args.last_stamp done)) c.change_at.ensures.changed

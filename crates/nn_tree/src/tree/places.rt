@@ -1,0 +1,216 @@
+//! Trees that are put into a tree, and taken out.
+ghost use Rattle.std.specs.Prelude.{◌≡◌, ⊤, IfOk, true, false, [], ◌∷◌, length, ◌<◌, Some, None, OnOk, OnErr, IfSome, IsSome};
+ghost use Rattle.nn_model.specs.Apply.{walk};
+ghost use Rattle.nn_tree.specs.At.{at, IsSubtree, IsGrafted, IsSame};
+ghost use Rattle.nn_tree.specs.Changes.{IsMade, IsTaken};
+
+use super::descent::Change;
+use super::{Node, Tree, Unchanged};
+use nn_types::Names;
+use std::alloc::Global;
+use std::collections::BTreeMap;
+use std::mem;
+
+impl Tree {
+    /// Puts a tree at a path where nothing stands, in a directory.
+    pub(crate) fn make(
+        &mut self,
+        alloc: Global,
+        names: &Names<'_>,
+        tree: Tree,
+    ) -> Result<(), Unchanged>
+        ensures ok { OnOk result (IsMade self.old names.now tree self.new) }
+        ensures err { OnErr result (IsSame self.old self.new) }
+    {
+        if names.is_empty() {
+            return Err(Unchanged);
+        }
+        self.change_at(names, Make { alloc, tree })
+    }
+
+    /// Takes out what stands at the path.
+    pub(crate) fn take(&mut self, alloc: Global, names: &Names<'_>) -> Option<Tree>
+        requires { 0 < length names.now }
+        ensures walked { IfSome result (λ t. walk (at self.old) names.now ≡ None) }
+        ensures taken { IsSubtree self.old names.now result }
+        ensures gone { IsGrafted self.old names.now None self.new }
+    {
+        let Ok(tree) = self.change_at(names, Take { alloc }) else {
+            return None;
+        };
+        Some(tree)
+    }
+
+    /// Puts a tree in place of what stands at the path, and gives that back.
+    pub(crate) fn put(&mut self, names: &Names<'_>, tree: Tree) -> Tree
+        requires { IsSome (at self.old names.now) }
+        ensures old { IsSubtree self.old names.now (Some result) }
+        ensures new { IsGrafted self.old names.now (Some tree) self.new }
+    {
+        let Ok(before) = self.change_at(names, Put { tree }) else {
+            unreachable!()
+        };
+        before
+    }
+
+    // Puts a tree into a directory, under a name that no child has.
+    fn add(&mut self, alloc: Global, name: &str, tree: Tree) -> Result<(), Unchanged>
+        ensures ok { OnOk result (IsMade self.old (name.now ∷ []) tree self.new) }
+        ensures err { OnErr result (IsSame self.old self.new) }
+    {
+        tree.in_order();
+        let Ok(()) = self.widen(alloc) else {
+            return Err(Unchanged);
+        };
+        let Node::Folder(children) = &mut self.node else {
+            return Err(Unchanged);
+        };
+        let Ok(key) = String::from_str(alloc, name) else {
+            return Err(Unchanged);
+        };
+        if children.is_empty() {
+            let Ok(child) = Box::new(alloc, tree) else {
+                return Err(Unchanged);
+            };
+            self.node = Node::Narrow(key, child);
+            return Ok(());
+        }
+        let Ok(before) = children.insert(key, tree) else {
+            return Err(Unchanged);
+        };
+        let Some(before) = before else {
+            return Ok(());
+        };
+        // One search serves where nothing stood. What did stand is put back.
+        let Some(place) = children.get_mut(name) else {
+            unreachable!()
+        };
+        *place = before;
+        Err(Unchanged)
+    }
+
+    // Gives a directory of one child a map, where memory allows. Its rows stay.
+    fn widen(&mut self, alloc: Global) -> Result<(), Unchanged>
+        ensures { self.new ≡ self.old }
+    {
+        let Node::Narrow(name, child) = &mut self.node else {
+            return Ok(());
+        };
+        let own = mem::replace(name, String::new(alloc));
+        let tree = mem::replace(&mut **child, Tree::new_dir(alloc));
+        let mut children = BTreeMap::new(alloc);
+        if let Err(refused) = children.insert(own, tree) {
+            let (own, tree) = refused.value;
+            *name = own;
+            **child = tree;
+            return Err(Unchanged);
+        }
+        self.node = Node::Folder(children);
+        Ok(())
+    }
+
+    // Takes the child of this name out of a directory.
+    fn take_child(&mut self, alloc: Global, name: &str) -> Result<Tree, Unchanged>
+        ensures ok { IfOk result (λ t. IsTaken self.old (name.now ∷ []) t self.new) }
+        ensures none { OnErr result (IsSubtree self.old (name.now ∷ []) None) }
+        ensures same { OnErr result (IsSame self.old self.new) }
+    {
+        if let Node::Narrow(own, child) = &mut self.node {
+            if own.as_str() != name {
+                return Err(Unchanged);
+            }
+            let tree = mem::replace(&mut **child, Tree::new_dir(alloc));
+            self.node = Node::Folder(BTreeMap::new(alloc));
+            return Ok(tree);
+        }
+        let Node::Folder(children) = &mut self.node else {
+            return Err(Unchanged);
+        };
+        let Some(tree) = children.remove(name) else {
+            return Err(Unchanged);
+        };
+        Ok(tree)
+    }
+}
+
+// Puts the tree into the directory, under the last name.
+#[derive(Drop)]
+struct Make {
+    alloc: Global,
+    tree: Tree,
+}
+
+impl Change for Make {
+    type Gives = ();
+
+    ghost in_parent = { true };
+
+    ghost changes = { λ c rest t w given. IsMade t rest c.tree w };
+
+    ghost refuses = { λ c rest t. ⊤ };
+
+    fn is_in_parent() -> bool {
+        true
+    }
+
+    fn change(self, dir: &mut Tree, last: Option<&str>) -> Result<(), Unchanged> {
+        let Some(name) = last else {
+            return Err(Unchanged);
+        };
+        let made = dir.add(self.alloc, name, self.tree);
+        dir.in_order();
+        made
+    }
+}
+
+// Takes what the last name has out of the directory.
+#[derive(Drop)]
+struct Take {
+    alloc: Global,
+}
+
+impl Change for Take {
+    type Gives = Tree;
+
+    ghost in_parent = { true };
+
+    ghost changes = { λ c rest t w given. IsTaken t rest given w };
+
+    ghost refuses = { λ c rest t. IsSubtree t rest None };
+
+    fn is_in_parent() -> bool {
+        true
+    }
+
+    fn change(self, dir: &mut Tree, last: Option<&str>) -> Result<Tree, Unchanged> {
+        let Some(name) = last else { unreachable!() };
+        let taken = dir.take_child(self.alloc, name);
+        dir.in_order();
+        taken
+    }
+}
+
+// Puts the tree in place of what is there. It refuses nothing.
+#[derive(Drop)]
+struct Put {
+    tree: Tree,
+}
+
+impl Change for Put {
+    type Gives = Tree;
+
+    ghost in_parent = { false };
+
+    ghost changes = { λ c rest t w given. (rest ≡ []) × (given ≡ t) × (w ≡ c.tree) };
+
+    ghost refuses = { λ c rest t. ⊥ };
+
+    fn is_in_parent() -> bool {
+        false
+    }
+
+    fn change(self, tree: &mut Tree, _last: Option<&str>) -> Result<Tree, Unchanged> {
+        self.tree.in_order();
+        Ok(mem::replace(tree, self.tree))
+    }
+}

@@ -1,7 +1,7 @@
 -- The directories on the way to a row, and what is left in them.
 use Rattle.std.proofs.Common.{◌≡◌, ℕ, suc, ◌+◌, ◌-◌, ◌≤◌, ◌<◌, max, List, [], ◌∷◌, ◌++◌, length, take, drop, Option, Some, None, refl, sym, ap, ◌∙◌, subst, append_assoc, append-nil, length-append, arith, Bor}
 use Rattle.std.specs.Prelude.{IsSome, option_to_list}
-use Rattle.std.specs.List.{slice_get}
+use Rattle.std.specs.List.{slice_get, slice_index_or, slice_set}
 use Rattle.std.specs.Map.Iter.{deref}
 use Rattle.std.specs.String.{string_bytes}
 use Rattle.std.proofs.lemmas.List.{take-append-le, length-take-le, take-append-drop, take_all, take-map, map-append}
@@ -13,7 +13,7 @@ use Rattle.nn_tree.specs.Extent.{capped, greatest_depth}
 use Rattle.nn_tree.specs.Flat.{under, under_all, below}
 use Rattle.nn_tree.specs.Listing.{lent_names}
 use Rattle.nn_tree.specs.Nesting.{Nest, IsAtStart, IsNested}
-use Rattle.nn_tree.specs.Rows.{IsRooted, later_of, entries_of, all_entries, opened, root_rows, rows_open}
+use Rattle.nn_tree.specs.Rows.{IsRooted, Past, later_of, entries_of, all_entries, opened, root_rows, rows_open}
 use Rattle.nn_tree.specs.declared.tree.children.Children.{Children}
 use Rattle.nn_tree.specs.declared.rows.OpenDir.{OpenDir}
 use Rattle.nn_tree.proofs.Listings.{under_all-append, under_all-push, under_all-cons, top_row}
@@ -146,22 +146,44 @@ last_split (y ∷ z ∷ xs) x h =
     let less : length (y ∷ z ∷ xs) - 1 ≡ suc (length (z ∷ xs) - 1) = omega arith in
     ap (λ r. y ∷ r) (last_split (z ∷ xs) x (h ∙ ap (slice_get (y ∷ z ∷ xs)) less)) ∙ ap (λ k. take k (y ∷ z ∷ xs) ++ x ∷ []) (sym less)
 
-last_same : {X : Type 0} (xs : List X) (x y : X) → xs ++ x ∷ [] ≡ xs ++ y ∷ [] → x ≡ y
-last_same [] x y h = cc
-last_same (z ∷ xs) x y h = last_same xs x y (cc)
-
 -- the directory that was looked at is the last one
 pub looked_at : {X : Type 0} (all slice : List X) (x : X) → slice ≡ all → Some x ≡ slice_get slice (length slice - 1) → all ≡ take (length all - 1) all ++ x ∷ []
 looked_at all slice x e h = last_split all x (h ∙ ap (λ xs. slice_get xs (length xs - 1)) e)
 
--- and so is the one that was popped
-pub popped : {X : Type 0} (all slice old rest : List X) (len : ℕ) (x y : X) → slice ≡ all → Some x ≡ slice_get slice (length slice - 1) → old ≡ all → len ≡ length old → rest ≡ take (len - 1) old
-    → old ≡ rest ++ y ∷ [] → (all ≡ rest ++ y ∷ []) × (x ≡ y)
-popped all slice old rest len x y e h same counted front split =
-    let all_front : rest ≡ take (length all - 1) all = front ∙ ap (λ n. take (n - 1) old) counted ∙ ap (λ xs. take (length xs - 1) xs) same in
-    let one : all ≡ rest ++ x ∷ [] = looked_at all slice x e h ∙ ap (λ r. r ++ x ∷ []) (sym all_front) in
-    let other : all ≡ rest ++ y ∷ [] = sym same ∙ split in
-    (other, last_same rest x y (sym one ∙ other))
+get_last : {X : Type 0} (front : List X) (x other : X) → slice_index_or (front ++ x ∷ []) (length front) other ≡ x
+get_last [] x other = refl
+get_last (y ∷ front) x other = get_last front x other
+
+set_last : {X : Type 0} (front : List X) (x new : X) → slice_set (front ++ x ∷ []) (length front) new ≡ front ++ new ∷ []
+set_last [] x new = refl
+set_last (y ∷ front) x new = ap (λ r. y ∷ r) (set_last front x new)
+
+module _ (all front : List OpenDir) (len : ℕ) (last dir : OpenDir) (value : last ≡ slice_index_or all (len - 1) last) (counted : len ≡ length all) (split : all ≡ front ++ dir ∷ []) where
+  place : len - 1 ≡ length front
+  place = omega (arith, counted, ap length split, length-append front (dir ∷ []))
+
+  same_dir : last ≡ dir
+  same_dir = value ∙ (λ j. slice_index_or (split j) (place j) last) ∙ get_last front dir last
+
+  written : (new : OpenDir) → slice_set all (len - 1) new ≡ front ++ new ∷ []
+  written new = (λ j. slice_set (split j) (place j) new) ∙ set_last front dir new
+
+  -- the innermost directory has other children
+  pub past_first : (others : Children) → entries_of others ≡ later_of last.children.later → Past front dir (slice_set all (len - 1) (record { depth = last.depth; bytes = last.bytes; children = others }))
+  past_first others more = (
+    Some others,
+    more ∙ ap (λ (d : OpenDir). later_of d.children.later) same_dir,
+    written (record { depth = last.depth; bytes = last.bytes; children = others }) ∙ ap (λ (d : OpenDir). front ++ opened d.depth d.bytes (Some others)) same_dir,
+  )
+
+  -- it has none, and leaves
+  pub past_last : (new : OpenDir) (after : List OpenDir) → later_of last.children.later ≡ [] → after ≡ take (len - 1) (slice_set all (len - 1) new) → Past front dir after
+  past_last new after ended left =
+      let kept : take (length front) (front ++ new ∷ []) ≡ front = take-append-le (length front) front (new ∷ []) (omega arith) ∙ take_all (length front) front (omega arith) in (
+        None,
+        sym ended ∙ ap (λ (d : OpenDir). later_of d.children.later) same_dir,
+        left ∙ (λ j. take (place j) (written new j)) ∙ kept ∙ sym (append-nil front),
+      )
 
 -- the names after a step
 pub names_step : (old new : List (Bor (List ℕ))) (depth : ℕ) (name : Bor (List ℕ)) → new ≡ take depth old ++ name ∷ [] → lent_names new ≡ take depth (lent_names old) ++ name.now ∷ []

@@ -65,6 +65,13 @@ abbrev pub opened : ℕ → ℕ → Option Children → List OpenDir
 opened depth bytes None = []
 opened depth bytes (Some children) = record { depth = depth; bytes = bytes; children = children } ∷ []
 
+-- what is left past the first child of the last directory, which is gone where it has no others
+abbrev pub Past : List OpenDir → OpenDir → List OpenDir → Type 0
+Past front dir after = (others : Option Children) × (all_entries others ≡ later_of dir.children.later) × (after ≡ front ++ opened dir.depth dir.bytes others)
+
+abbrev pub IsPast : List OpenDir → List OpenDir → Type 0
+IsPast dirs after = (front : List OpenDir) (dir : OpenDir) → dirs ≡ front ++ dir ∷ [] → Past front dir after
+
 -- the rows of the root, where none was given
 abbrev pub root_rows : Option (Bor (List (Path × Form))) → List (Path × Form)
 root_rows None = []

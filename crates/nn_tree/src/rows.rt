@@ -6,7 +6,7 @@ ghost use Rattle.nn_tree.specs.Extent.{capped, greatest_depth};
 ghost use Rattle.nn_tree.specs.Flat.{below};
 ghost use Rattle.nn_tree.specs.Found.{form_of};
 ghost use Rattle.nn_tree.specs.Listing.{lent_names};
-ghost use Rattle.nn_tree.specs.Rows.{rows_from, opened, entries_of, from_children};
+ghost use Rattle.nn_tree.specs.Rows.{IsPast, rows_from, opened, entries_of, from_children};
 ghost use Rattle.std.specs.Vec.{vec_len, vec_capacity};
 
 use crate::found::Found;
@@ -164,22 +164,22 @@ impl<'a> Rows<'a> {
         let Some(dir) = self.dirs.last() else {
             return Ok(None);
         };
+        let depth = dir.depth;
+        let bytes = dir.bytes;
+        let name = dir.children.name;
         let tree = dir.children.tree;
         let inside = tree.children();
-        let Ok(()) = name_room(&mut self.names, dir.depth) else {
+        let Ok(()) = name_room(&mut self.names, depth) else {
             return Err(AllocError);
         };
         let Ok(()) = make_room(&mut self.dirs, &inside) else {
             return Err(AllocError);
         };
         // From here on nothing wants memory.
-        let Some(dir) = self.dirs.pop() else {
-            unreachable!()
-        };
-        self.names.truncate(dir.depth);
-        self.names.push_reserved(dir.children.name.as_str());
-        self.bytes = text_below(dir.bytes, dir.children.name);
-        push_open(&mut self.dirs, dir.depth, dir.bytes, dir.children.behind());
+        pass_child(&mut self.dirs);
+        self.names.truncate(depth);
+        self.names.push_reserved(name.as_str());
+        self.bytes = text_below(bytes, name);
         push_open(&mut self.dirs, self.names.len(), self.bytes, inside);
         Ok(Some(tree.top()))
     }
@@ -283,6 +283,21 @@ fn push_open<'a>(
         bytes,
         children,
     });
+}
+
+// Goes past the first child of the innermost directory, and leaves the directory once no others are left.
+fn pass_child<'a>(dirs: &mut Vec<OpenDir<'a>>)
+    ensures items { IsPast dirs.old.items dirs.new.items }
+    ensures len { vec_len dirs.new ≤ vec_len dirs.old }
+    ensures capacity { vec_capacity dirs.new ≡ vec_capacity dirs.old }
+{
+    let Some(dir) = dirs.last_mut() else {
+        return;
+    };
+    if dir.children.advance() {
+        return;
+    }
+    dirs.pop();
 }
 
 // The bytes of the text of a path, from those of its directory.

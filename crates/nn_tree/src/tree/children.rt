@@ -1,9 +1,9 @@
 //! The children of a directory, one after another.
-ghost use Rattle.std.specs.Prelude.{◌≡◌, ◌∷◌, [], string_bytes};
+ghost use Rattle.std.specs.Prelude.{◌≡◌, ◌∷◌, [], true, false, string_bytes};
 ghost use Rattle.nn_model.specs.declared.form.Form.{Form};
 ghost use Rattle.nn_model.specs.Namespace.{Path};
 ghost use Rattle.nn_tree.specs.Flat.{below};
-ghost use Rattle.nn_tree.specs.Rows.{IsRooted, all_entries, later_of, rows_from, from_children};
+ghost use Rattle.nn_tree.specs.Rows.{IsRooted, all_entries, entries_of, later_of, rows_from, from_children};
 
 use super::{Node, Tree};
 use std::collections::btree_map::Range;
@@ -27,6 +27,22 @@ impl<'a> Children<'a> {
             return None;
         };
         of(later)
+    }
+
+    /// Goes past the first child, and tells whether others are left. Where none are, the first one stays.
+    pub(crate) fn advance(&mut self) -> bool
+        ensures more { result ≡ true → entries_of self.new ≡ later_of self.old.later }
+        ensures last { result ≡ false → later_of self.old.later ≡ [] }
+    {
+        let Some(later) = &mut self.later else {
+            return false;
+        };
+        let Some((name, tree)) = later.next() else {
+            return false;
+        };
+        self.name = name;
+        self.tree = tree;
+        true
     }
 }
 

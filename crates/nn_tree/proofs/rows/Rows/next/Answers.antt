@@ -1,15 +1,13 @@
-use Rattle.std.proofs.Common.{◌≡◌, ◌-◌, length, take, ◌++◌, ◌∷◌, [], sym, ap, ◌∙◌, subst, arith}
+use Rattle.std.proofs.Common.{◌≡◌, ◌-◌, List, length, take, ◌++◌, ◌∷◌, [], sym, ap, ◌∙◌, subst, arith}
 use Rattle.std.proofs.lemmas.List.{length-map}
 use Rattle.std.specs.Map.Iter.{deref}
-use Rattle.nn_model.specs.declared.form.Form.{Form}
-use Rattle.nn_tree.specs.At.{at}
 use Rattle.nn_tree.specs.Extent.{greatest_depth}
-use Rattle.nn_tree.specs.Flat.{below}
+use Rattle.nn_tree.specs.Found.{form_of}
 use Rattle.nn_tree.specs.Listing.{lent_names}
 use Rattle.nn_tree.specs.Nesting.{IsAtStart}
-use Rattle.nn_tree.specs.Rows.{root_rows, rows_open, all_entries, opened}
+use Rattle.nn_tree.specs.Rows.{Past, root_rows, rows_open, opened}
 use Rattle.nn_tree.specs.declared.rows.OpenDir.{OpenDir}
-use Rattle.nn_tree.proofs.Nested.{root_room, child_room, looked_at, popped, names_step, none_of, Step, step_gives, step_nested}
+use Rattle.nn_tree.proofs.Nested.{root_room, child_room, looked_at, names_step, none_of, Step, step_gives, step_nested}
 use Rattle.nn_tree.proofs.rows.Rows.next.Goals as goal
 
 pub returns-in_default-make_room-clause-room : goal.returns-in_default-make_room-clause-room
@@ -43,35 +41,40 @@ returns-in_default-make_room-2-clause-room c h =
     c.self.invariant.nest c.children-inside-2.ensures.rows.1 c.children-inside-2.ensures.rooted c.args.self.now.room (omega (arith, ap greatest_depth left, h)) in
     c.in_default-make_room-2.ensures.succeeds (omega (arith, fits.1, c.self.inside.dirs.ok.0, ap (λ w. w.room) c.self.view_is))
 
-step : (c : goal.After-top-2) → Step c.self.inside.root (lent_names c.self.inside.names.items) (lent_names c.push_reserved.new.self.items) c.self.inside.dirs.items c.pop.new.self.items c.push_open-3.new.dirs.items
-    c.in-Some-pop.dir c.children-inside-2.result c.behind.result c.text_below-self-inside.result
+abbrev front : (c : goal.After-top-2) → List OpenDir
+front c = take (length c.self.inside.dirs.items - 1) c.self.inside.dirs.items
+
+split : (c : goal.After-top-2) → c.self.inside.dirs.items ≡ front c ++ c.in-Some-last.dir.now ∷ []
+split c = looked_at c.self.inside.dirs.items c.deref.result.now c.in-Some-last.dir.now c.deref.ensures.value c.in-Some-last.ensures.value
+
+past : (c : goal.After-top-2) → Past (front c) c.in-Some-last.dir.now c.pass_child.new.dirs.items
+past c = c.pass_child.ensures.items (front c) c.in-Some-last.dir.now (c.make_room-2.ensures.items ∙ split c)
+
+step : (c : goal.After-top-2) → Step c.self.inside.root (lent_names c.self.inside.names.items) (lent_names c.push_reserved.new.self.items) c.self.inside.dirs.items (front c) c.push_open-2.new.dirs.items
+    c.in-Some-last.dir.now c.children-inside-2.result (past c).0 c.text_below-self-inside.result
 step c =
-    let last = popped c.self.inside.dirs.items c.deref.result.now c.make_room-2.new.dirs.items c.pop.new.self.items c.make_room-2.new.dirs.len c.in-Some-last.dir.now c.in-Some-pop.dir
-    c.deref.ensures.value c.in-Some-last.ensures.value c.make_room-2.ensures.items c.make_room-2.new.dirs.ok.0 c.in-Some-pop.ensures.rest c.in-Some-pop.ensures.items in
-    let names = c.push_reserved.ensures.items ∙ ap (λ ns. ns ++ c.as_str.result ∷ []) (c.truncate.ensures.items ∙ ap (take c.in-Some-pop.dir.depth) c.name_room.ensures.items) in
+    let dir = c.in-Some-last.dir.now in
+    let names = c.push_reserved.ensures.items ∙ ap (λ ns. ns ++ c.as_str.result ∷ []) (c.truncate.ensures.items ∙ ap (take dir.depth) c.name_room.ensures.items) in
     let long = c.len.ensures ∙ c.push_reserved.new.self.ok.0 ∙ sym (length-map c.push_reserved.new.self.items deref) in
     record {
       no_root = none_of c.self.inside.root c.in_default.not-Some;
       nest = c.self.invariant.nest;
-      split = last.0;
-      tree = subst (λ (d : OpenDir). (form : Form) × (d.children.tree.now ≡ ([], form) ∷ below (all_entries c.children-inside-2.result))) last.1 c.children-inside-2.ensures.rows;
-      behind_it = c.behind.ensures.entries;
-      named = names_step c.self.inside.names.items c.push_reserved.new.self.items c.in-Some-pop.dir.depth c.as_str.result names
-          ∙ ap (λ n. take c.in-Some-pop.dir.depth (lent_names c.self.inside.names.items) ++ n ∷ []) c.as_str.ensures.value;
+      split = split c;
+      tree = c.children-inside-2.ensures.rows;
+      behind_it = (past c).1;
+      named = names_step c.self.inside.names.items c.push_reserved.new.self.items dir.depth c.as_str.result names
+          ∙ ap (λ n. take dir.depth (lent_names c.self.inside.names.items) ++ n ∷ []) c.as_str.ensures.value;
       text = c.text_below-self-inside.ensures;
-      left = c.push_open-3.ensures.items ∙ (λ j. c.push_open-2.ensures.items j ++ opened (long j) c.text_below-self-inside.result c.children-inside-2.result);
+      left = c.push_open-2.ensures.items ∙ (λ j. (past c).2 j ++ opened (long j) c.text_below-self-inside.result c.children-inside-2.result);
     }
 
 pub invariant_of-self-2 : goal.invariant_of-self-2
 invariant_of-self-2 c =
-    step_nested c.self.inside.root (lent_names c.self.inside.names.items) (lent_names c.push_reserved.new.self.items) c.self.inside.dirs.items c.pop.new.self.items c.push_open-3.new.dirs.items
-    c.in-Some-pop.dir c.children-inside-2.result c.behind.result c.text_below-self-inside.result (step c)
+    step_nested c.self.inside.root (lent_names c.self.inside.names.items) (lent_names c.push_reserved.new.self.items) c.self.inside.dirs.items (front c) c.push_open-2.new.dirs.items
+    c.in-Some-last.dir.now c.children-inside-2.result (past c).0 c.text_below-self-inside.result (step c)
 
 pub returns-clause-row : goal.returns-clause-row
 returns-clause-row c =
-    let last = popped c.self.inside.dirs.items c.deref.result.now c.make_room-2.new.dirs.items c.pop.new.self.items c.make_room-2.new.dirs.len c.in-Some-last.dir.now c.in-Some-pop.dir
-    c.deref.ensures.value c.in-Some-last.ensures.value c.make_room-2.ensures.items c.make_room-2.new.dirs.ok.0 c.in-Some-pop.ensures.rest c.in-Some-pop.ensures.items in
-    step_gives c.self.inside.root (lent_names c.self.inside.names.items) (lent_names c.push_reserved.new.self.items) c.self.inside.dirs.items c.pop.new.self.items c.push_open-3.new.dirs.items
-    c.in-Some-pop.dir c.children-inside-2.result c.behind.result c.text_below-self-inside.result (step c)
-    c.args.self.now.left (Rattle.nn_tree.specs.Found.form_of c.top-2.result) (ap (λ w. w.left) c.self.view_is)
-    (ap (λ (d : OpenDir). at d.children.tree.now []) (sym last.1) ∙ c.top-2.ensures)
+    step_gives c.self.inside.root (lent_names c.self.inside.names.items) (lent_names c.push_reserved.new.self.items) c.self.inside.dirs.items (front c) c.push_open-2.new.dirs.items
+    c.in-Some-last.dir.now c.children-inside-2.result (past c).0 c.text_below-self-inside.result (step c)
+    c.args.self.now.left (form_of c.top-2.result) (ap (λ w. w.left) c.self.view_is) c.top-2.ensures

@@ -18,6 +18,7 @@ use Rattle.nn_segment.specs.Segment.{Segment}
 use Rattle.nn_segment.specs.Source.{Answer, Asked, given, end}
 use Rattle.nn_shadow.specs.Contents.{Contents, standby_of}
 use Rattle.nn_tailer.specs.Tailing.{by_node}
+use Rattle.nn_tailer.specs.Shadows.{shadow_after}
 use Rattle.nn_drive.specs.declared.driving.WorkerExit.{WorkerExit}
 use Rattle.nn_drive.specs.Reports.{sent_after, TakesNoMore, Reported}
 use Rattle.nn_drive.specs.Driven.{AreLanes, IsTold, IsTaken, IsPromoted}
@@ -159,19 +160,19 @@ module _ {S : Type 0} (gives : S → Option Report → S → Type 0) (start : Na
   }
 
 pub drives_end_alike : {T S : Type 0} (asks : T → Answer → T → Type 0) (failures : T → ℕ) (gives : S → Option Report → S → Type 0) → DrivesEndAlike asks failures gives
-drives_end_alike asks failures gives fixed fixed' start base earlier old source workers at lanes are_open x y a b d e =
-    let p = d.8 start base earlier at in
-    let q = e.8 start base earlier at in
+drives_end_alike asks failures gives fixed fixed' past start base earlier old source workers at lanes are_open x y a b d e =
+    let p = d.8 past start base earlier at in
+    let q = e.8 past start base earlier at in
     let segments = same_segments asks fixed source d.1 e.1 d.9.0 e.9.0 (subst (λ rs. Asked asks source rs d.1) d.9.1 d.3) (subst (λ rs. Asked asks source rs e.1) e.9.1 e.3) in
     let answers : d.0 ≡ e.0 = d.9.1 ∙ ap (λ (ss : List Segment). map given ss ++ end ∷ []) segments ∙ sym e.9.1 in
     let log = ap (λ rs. earlier ++ rs) answers in
     let got = same_lanes gives fixed' workers old.ends lanes are_open d.2 e.2 p.lanes q.lanes p.taken q.taken in
-    let tables = same_tables gives start base workers old.ends d.2 e.2 x y (earlier ++ d.0) (earlier ++ e.0) log got p q in
+    let tables = same_tables gives start base workers old.ends d.2 e.2 (shadow_after past x) (shadow_after past y) (earlier ++ d.0) (earlier ++ e.0) log got p q in
     let permille : x.permille ≡ y.permille = d.7.permille ∙ sym e.7.permille in
     let min : x.table.min ≡ y.table.min = d.7.min ∙ sym e.7.min in
     record {
-      namespace = same_namespace gives start base workers old.ends d.2 e.2 x y (earlier ++ d.0) (earlier ++ e.0) log got p q;
-      last = d.5 ∙ same_last gives start base workers old.ends d.2 e.2 x y (earlier ++ d.0) (earlier ++ e.0) log got p q ∙ sym e.5;
+      namespace = same_namespace gives start base workers old.ends d.2 e.2 (shadow_after past x) (shadow_after past y) (earlier ++ d.0) (earlier ++ e.0) log got p q;
+      last = d.5 ∙ same_last gives start base workers old.ends d.2 e.2 (shadow_after past x) (shadow_after past y) (earlier ++ d.0) (earlier ++ e.0) log got p q ∙ sym e.5;
       replicas = λ dn id. ap (λ (t : Sequential). t.replica dn id) tables;
       orders = λ dn id. ap (λ (t : Sequential). t.has_order dn id) tables;
       counts = λ j. let t : Sequential = tables j in safe_mode_of (permille j) (min j) t.namespace t.replica;

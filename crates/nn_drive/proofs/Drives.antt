@@ -4,10 +4,12 @@ use Rattle.std.specs.List.{AllZip}
 use Rattle.std.specs.declared.thread.PromisedHandle.{PromisedHandle}
 use Rattle.nn_types.specs.declared.report.Report.{Report}
 use Rattle.nn_types.specs.declared.report.Message.{Message}
+use Rattle.nn_model.specs.History.{History}
 use Rattle.nn_model.specs.Namespace.{Namespace}
+use Rattle.nn_tailer.specs.Shadows.{shadow_after}
 use Rattle.nn_segment.specs.Source.{Answer}
 use Rattle.nn_lane.specs.Ends.{Reporting, Taking, counted, StartsWith}
-use Rattle.nn_tailer.specs.Tailing.{Tailer, StandsAt, Carries, AllTaken}
+use Rattle.nn_tailer.specs.Tailing.{Tailer, after, StandsAt, Carries, AllTaken}
 use Rattle.nn_tailer.specs.LaneSteps.{SameEnd, SameEnds, ClosesEnd, CloseEnds}
 use Rattle.nn_tailer.specs.Promotion.{Promoted, IsPromoted as Promotes}
 use Rattle.nn_tailer.proofs.Carried.{carries_then}
@@ -126,8 +128,8 @@ module _ {S : Type 0} (gives : S → Option Report → S → Type 0) (workers : 
       carried = subst (λ rs. Carries x0 rs x2) (append-nil a1) (carries_then x0 x1 x2 a1 [] goes.carries carries)
 
       module _ (a2 : List Answer) (promotes : Promotes x2 a2 x3) where
-        promoted : (start : Namespace) (base : ℕ) (given : List Answer) → StandsAt start base given x0 → Promoted start base (given ++ (a1 ++ a2)) x3
-        promoted start base given h = subst (λ g. Promoted start base g x3) (append_assoc given a1 a2) (promotes start base (given ++ a1) (carried start base given h))
+        promoted : (past : History) (start : Namespace) (base : ℕ) (given : List Answer) → StandsAt start base given (after past x0) → Promoted start base (given ++ (a1 ++ a2)) (after past x3)
+        promoted past start base given h = subst (λ g. Promoted start base g (after past x3)) (append_assoc given a1 a2) (promotes past start base (given ++ a1) (carried past start base given h))
 
         module _ (agree : AllZip Agrees x3.ends reporters) (none_told : told ≡ false) where
           is_taken : AllTaken x3.ends x3.undelivered → (i : ℕ) (w : S × Reporting) (b e : Taking) → i < length workers → IsTaken gives (get_or workers i w).0 (get_or workers i w).1 (get_or x0.ends i b) (get_or x3.ends i e).got
@@ -139,7 +141,7 @@ module _ {S : Type 0} (gives : S → Option Report → S → Type 0) (workers : 
               let was = (same_at x0.ends x1.ends i b (omega (arith, below, lanes.0)) goes.same_ends).1 in
               (j.0, j.1, whole ∙ ap (λ z. z.sent) j.2, λ t. sym was ∙ j.3 none_told t)
 
-          pub is_promoted : (start : Namespace) (base : ℕ) (given : List Answer) → StandsAt start base given x0 → IsPromoted gives start base (given ++ (a1 ++ a2)) workers x0.ends x3.ends x3.shadow
-          is_promoted start base given h =
-              let p = promoted start base given h in
+          pub is_promoted : (past : History) (start : Namespace) (base : ℕ) (given : List Answer) → StandsAt start base given (after past x0) → IsPromoted gives start base (given ++ (a1 ++ a2)) workers x0.ends x3.ends (shadow_after past x3.shadow)
+          is_promoted past start base given h =
+              let p = promoted past start base given h in
               record { stands = p.stands; whole = p.whole; picture = p.picture; none_held = p.none_held; ended = p.ended; log_end = p.log_end; lanes = size; taken = is_taken p.taken }

@@ -31,6 +31,7 @@ use Rattle.nn_feed.specs.declared.running.Delivered.{Delivered}
 use Rattle.nn_feed.specs.Running.{HasRun, GaveThen, then_last, last_in, ending_of}
 use Rattle.nn_feed.proofs.Feeds.{last_among, one_last}
 use Rattle.nn_feed.proofs.Wholes.{asked_gets, given_is_got, ends_in_end, ends_in_last}
+use Rattle.nn_tailer.specs.Shadows.{shadow_after}
 use Rattle.nn_drive.specs.declared.driving.DriveFault.{DriveFault}
 use Rattle.nn_drive.specs.declared.driving.DriveFault.TheVariants as drive
 use Rattle.nn_drive.specs.Driven.{EndsEarly, WentUntil, IsPromoted, IsDriven, NotDriven}
@@ -73,8 +74,8 @@ given_behind before answers more others e =
 
 -- a log that stops goes on stopping
 stops_more : (x : Tailer) (answers more others : List Answer) (m : Stop) → given_in others ≡ given_in answers ++ given_in more → LogStops x answers m → LogStops x others m
-stops_more x answers more others m e h start base before at =
-    let s = h start base before at in (
+stops_more x answers more others m e h past start base before at =
+    let s = h past start base before at in (
       s.0,
       s.1,
       λ later. ap (λ l. end_of_log base start (l ++ later)) (given_behind before answers more others e)
@@ -188,9 +189,9 @@ module _ {T : Type 0} (gives : T → Answer → T → Type 0) (failures : T → 
     d.last,
     d.flushed,
     d.settings,
-    λ start base before at.
-        promoted_same d.answers (answers_of (got_by e2) ++ k.more) (given_alike e0 e2 new d.answers d.asked k d.ended) (ends_alike e0 e2 new d.answers d.asked k d.ended) reports start base before workers x.ends d.ends y
-        (d.promoted start base before at),
+    λ past start base before at.
+        promoted_same d.answers (answers_of (got_by e2) ++ k.more) (given_alike e0 e2 new d.answers d.asked k d.ended) (ends_alike e0 e2 new d.answers d.asked k d.ended) reports start base before workers x.ends d.ends (shadow_after past y)
+        (d.promoted past start base before at),
     (let ended = ends_alike e0 e2 new d.answers d.asked k d.ended in
         let is : k.last ≡ end = one_last (then_last k.segments k.last) k.last end (map given k.segments, refl) (ended.0, sym k.are ∙ ended.1) in
         (k.segments, k.are ∙ ap (then_last k.segments) is)),

@@ -11,7 +11,7 @@ use Rattle.nn_feed.specs.Running.{then_last}
 use Rattle.nn_feed.specs.declared.ends.FeedEnd.{FeedEnd}
 use Rattle.nn_feed.proofs.Feeds.{one_last}
 use Rattle.nn_lane.specs.Ends.{Reporting, Taking, lane_of, got_of}
-use Rattle.nn_model.specs.History.{is_flush}
+use Rattle.nn_model.specs.History.{History, is_flush}
 use Rattle.nn_model.specs.Items.{items}
 use Rattle.nn_model.specs.Lawful.{IsWhole}
 use Rattle.nn_model.specs.Namespace.{Namespace}
@@ -21,8 +21,8 @@ use Rattle.nn_segment.specs.Source.{Answer, Asked, given, end}
 use Rattle.nn_segment.proofs.Asks.{asked_append}
 use Rattle.nn_shadow.specs.Contents.{Contents, standby_of, KeepsSettings}
 use Rattle.nn_tailer.specs.LaneSteps.{SameEnds, CloseEnds, AllClosed, closed_of}
-use Rattle.nn_tailer.specs.Promotion.{Promoted}
-use Rattle.nn_tailer.specs.Tailing.{has_begun, Tailer, Carries, AllTaken, EndsInEnd, by_node, with_ends}
+use Rattle.nn_tailer.specs.Promotion.{Promoted, IsPromoted}
+use Rattle.nn_tailer.specs.Tailing.{has_begun, Tailer, after, Carries, AllTaken, EndsInEnd, by_node, with_ends}
 use Rattle.nn_tailer.specs.declared.standby.Active.{Active}
 use Rattle.nn_tailer.proofs.Carried.{carries_same, carries_then}
 use Rattle.nn_tailer.proofs.Drained.{still_closed}
@@ -32,12 +32,15 @@ use Rattle.nn_tailer.proofs.Shadowing.{settings_same, settings_then}
 use Rattle.nn_drive.specs.Driven.{AreLanes, ArePromised, Goes, Stayed, Ends, WentUntil}
 use Rattle.nn_drive.specs.Feeding.{failures_of, HasAnswered, FailsOver, IsKnown}
 use Rattle.nn_drive.specs.Served.{end_of, handle_of, ArePaired, PromotesOver, IsServed, ComesBack}
-use Rattle.nn_drive.specs.Serving.{WasWished, WishesAt, IsDry, IsOf, IsPromotedAt}
+use Rattle.nn_drive.specs.Serving.{Shown, forgotten, WasShown, WasWished, WishesAt, IsDry, IsOf, IsPromotedAt, IsPromotedFrom}
 use Rattle.nn_drive.specs.declared.driving.DriveFault.{DriveFault}
 use Rattle.nn_drive.specs.declared.driving.WorkerPromise.{WorkerPromise}
 use Rattle.nn_drive.specs.declared.driving.WorkerExit.{WorkerExit}
 use Rattle.nn_drive.specs.declared.operator.Wish.{Wish}
 use Rattle.nn_drive.specs.declared.serving.Served.{Served}
+use Rattle.nn_tailer.specs.Shadows.{shadow_after}
+use Rattle.nn_drive.proofs.Kept.{settings_with, settings_of, carries_after, promotes_after, promotes_then, until_after}
+use Rattle.nn_drive.proofs.InTurn.{none_shown, shown_to_more, wishes_of_more}
 use Rattle.nn_drive.proofs.Drives.{some_of, taken_at}
 use Rattle.nn_drive.proofs.Fed.{same_log, same_behind, given_alike, ends_alike, fails_over, got_none}
 use Rattle.nn_drive.proofs.Meets.{zip_of}
@@ -95,73 +98,94 @@ module _ {S : Type 0} (workers : List (S × Reporting)) (handles : List (Promise
 
 -- ---- From the rotation to the promotion, or to a fault.
 
-module _ {O R : Type 0} (asks : O → Tailer → ℕ → Wish → O → Type 0) (x0 : Tailer) (e0 : FeedEnd R) (o p : O) where
+module _ {O R : Type 0} (asks : O → Tailer → ℕ → Wish → O → Type 0) (started workers : ℕ) (few : started ≤ workers) (x0 : Tailer) (e0 : FeedEnd R) (o p : O) where
   -- it was not begun
-  pub comes_back_before : ComesBack asks x0 e0 o x0 e0 p
-  comes_back_before = record {
+  pub comes_back_before : o ≡ p → ComesBack asks workers x0 e0 o x0 e0 p
+  comes_back_before same = record {
     answers = [];
     asked = refl;
+    shown = [];
     goes = record { carries = carries_same x0; lanes = refl; settings = settings_same x0.shadow };
-    intake = inl (ends_same x0.ends, refl);
+    intake = inl (ends_same x0.ends, refl, subst (λ z. WasShown asks workers x0 o [] [] x0 z) same (none_shown asks workers x0 o));
     not_promoted = refl;
   }
 
-  module _ (x1 : Tailer) (e1 : FeedEnd R) (a1 : List Answer) (asked1 : Asked GivesWhatIsFed e0 a1 e1) (goes : Goes x0 a1 x1) where
+  module _ (x1 : Tailer) (e1 : FeedEnd R) (shown : List Shown) (a1 : List Answer) (asked1 : Asked GivesWhatIsFed e0 a1 e1) (goes : Goes x0 a1 (after (forgotten shown) x1)) where
     -- a rotation failed
-    pub comes_back_open : ComesBack asks x0 e0 o x1 e1 p
-    comes_back_open = record {
+    pub comes_back_open : WasShown asks started x0 o shown a1 x1 p → ComesBack asks workers x0 e0 o x1 e1 p
+    comes_back_open was = record {
       answers = a1;
       asked = asked1;
+      shown = shown;
       goes = record { carries = goes.carries; lanes = lanes_same x0.ends x1.ends goes.same_ends; settings = goes.settings };
-      intake = inl (goes.same_ends, goes.begun);
+      intake = inl (goes.same_ends, goes.begun, shown_to_more asks started workers x0 o p shown a1 x1 few was);
       not_promoted = goes.active;
     }
 
     -- a promotion was wished, and the lanes were closed
-    module _ (wishes : WishesAt asks o x1 p) (x2 x3 : Tailer) (e2 : FeedEnd R) (closes : CloseEnds x1.ends x2.ends) (closed : AllClosed x2.ends) (rest : x2 ≡ with_ends x1 x2.ends) (carries : Carries x1 [] x2) where
-      carried : Carries x0 a1 x2
-      carried = subst (λ rs. Carries x0 rs x2) (append-nil a1) (carries_then x0 x1 x2 a1 [] goes.carries carries)
+    module _ (wishes : WishesAt asks started x0 o shown a1 x1 p) (x2 x3 : Tailer) (e2 : FeedEnd R) (closes : CloseEnds x1.ends x2.ends) (closed : AllClosed x2.ends) (rest : x2 ≡ with_ends x1 x2.ends) (carries : Carries x1 [] x2) where
+      abbrev heard : History
+      heard = forgotten shown
+
+      carried : Carries x0 a1 (after heard x2)
+      carried = subst (λ rs. Carries x0 rs (after heard x2)) (append-nil a1) (carries_then x0 (after heard x1) (after heard x2) a1 [] goes.carries (carries_after heard x1 x2 [] carries))
 
       lanes : map lane_of x2.ends ≡ map lane_of x0.ends
       lanes = lanes_closed x1.ends x2.ends closes ∙ lanes_same x0.ends x1.ends goes.same_ends
 
       settings : KeepsSettings x0.shadow x2.shadow
-      settings = subst (λ z. KeepsSettings x0.shadow z) (sym (ap (λ z. z.shadow) rest)) goes.settings
+      settings = settings_of heard x0.shadow x2.shadow (subst (λ z. KeepsSettings x0.shadow (shadow_after heard z)) (sym (ap (λ z. z.shadow) rest)) goes.settings)
 
-      wished : WasWished asks x0 o p
-      wished = (x1, goes.same_ends, goes.begun, wishes)
-
-      pub comes_back_closed : Stayed GivesWhatIsFed e1 x2 e2 x3 → ComesBack asks x0 e0 o x3 e2 p
-      comes_back_closed s = record {
-        answers = a1 ++ s.0;
-        asked = asked_append GivesWhatIsFed e0 e1 e2 a1 s.0 asked1 s.1;
-        goes = record {
-          carries = carries_then x0 x2 x3 a1 s.0 carried s.2.carries;
-          lanes = lanes_same x2.ends x3.ends s.2.same_ends ∙ lanes;
-          settings = settings_then x0.shadow x2.shadow x3.shadow settings s.2.settings;
-        };
-        intake = inr ((still_closed x2.ends x3.ends s.2.same_ends closed).0, wished);
-        not_promoted = s.2.active ∙ ap (λ z. z.active) rest ∙ goes.active;
+      wished : (a2 : List Answer) (Follows : Tailer → List Answer → Type 0) → Follows (after heard x1) a2 → WasWished asks workers x0 o shown (a1 ++ a2) p Follows
+      wished a2 Follows f = record {
+        at = x1;
+        before = a1;
+        since = a2;
+        are = refl;
+        lanes = goes.same_ends;
+        begun = goes.begun;
+        wishes = wishes_of_more asks started workers x0 o p shown a1 x1 few wishes;
+        follows = f;
       }
+
+      pub comes_back_closed : Stayed GivesWhatIsFed e1 x2 e2 x3 → ComesBack asks workers x0 e0 o x3 e2 p
+      comes_back_closed s =
+          let on = carries_after heard x2 x3 s.0 s.2.carries in record {
+            answers = a1 ++ s.0;
+            asked = asked_append GivesWhatIsFed e0 e1 e2 a1 s.0 asked1 s.1;
+            shown = shown;
+            goes = record {
+              carries = carries_then x0 (after heard x2) (after heard x3) a1 s.0 carried on;
+              lanes = lanes_same x2.ends x3.ends s.2.same_ends ∙ lanes;
+              settings = settings_with heard x0.shadow x3.shadow (settings_then x0.shadow x2.shadow x3.shadow settings s.2.settings);
+            };
+            intake = inr (
+              (still_closed x2.ends x3.ends s.2.same_ends closed).0,
+              wished s.0 (λ last since. Carries last since (after heard x3)) (carries_then (after heard x1) (after heard x2) (after heard x3) [] s.0 (carries_after heard x1 x2 [] carries) on),
+            );
+            not_promoted = s.2.active ∙ ap (λ z. z.active) rest ∙ goes.active;
+          }
 
       pub fails_closed : (f g : DriveFault) → has_begun x0 ≡ false → failures_of e0 ≤ failures_of e1 → WentUntil GivesWhatIsFed failures_of e1 x2 e2 f → IsKnown f (has_last (got_by e2)) g → FailsOver x0 e0 e2 g
       fails_closed f g serving not_fewer h known =
           let begun : has_begun x2 ≡ false = ap has_begun rest ∙ goes.begun ∙ serving in
-          fails_over x0 e0 e2 e2 failures_of f g serving (until_then GivesWhatIsFed failures_of e0 e1 e2 x0 x2 a1 f asked1 carried begun not_fewer h) known (got_none (got_by e2))
+          fails_over x0 e0 e2 e2 failures_of f g serving (until_then GivesWhatIsFed failures_of e0 e1 e2 x0 (after heard x2) a1 f asked1 carried begun not_fewer (until_after GivesWhatIsFed failures_of heard e1 e2 x2 f h)) known (got_none (got_by e2))
 
-      pub promotes_over : (active : Active) → Ends GivesWhatIsFed failures_of e1 x2 e2 active x3 → PromotesOver asks x0 e0 o active x3 e2 p
-      promotes_over active e = record {
-        answers = a1 ++ e.0;
-        asked = asked_append GivesWhatIsFed e0 e1 e2 a1 e.0 asked1 e.1;
-        ended = ends_behind a1 e.0 e.7;
-        last = e.3.0;
-        flushed = e.3.1;
-        settings = settings_then x0.shadow x2.shadow x3.shadow settings e.6;
-        wished = wished;
-        lanes = lanes_same x2.ends x3.ends e.2 ∙ lanes;
-        closed = (still_closed x2.ends x3.ends e.2 closed).0;
-        promoted = λ start base given h. subst (λ g. Promoted start base g x3) (append_assoc given a1 e.0) (e.4 start base (given ++ a1) (carried start base given h));
-      }
+      pub promotes_over : (active : Active) → Ends GivesWhatIsFed failures_of e1 x2 e2 active x3 → PromotesOver asks workers x0 e0 o active x3 e2 p
+      promotes_over active e =
+          let promotes = promotes_after heard x2 x3 e.0 e.4 in record {
+            answers = a1 ++ e.0;
+            asked = asked_append GivesWhatIsFed e0 e1 e2 a1 e.0 asked1 e.1;
+            ended = ends_behind a1 e.0 e.7;
+            last = e.3.0;
+            flushed = e.3.1;
+            settings = settings_then x0.shadow x2.shadow x3.shadow settings e.6;
+            shown = shown;
+            wished = wished e.0 (λ last since. IsPromoted last since (after heard x3)) (promotes_then (after heard x1) (after heard x2) (after heard x3) [] e.0 (carries_after heard x1 x2 [] carries) promotes);
+            lanes = lanes_same x2.ends x3.ends e.2 ∙ lanes;
+            closed = (still_closed x2.ends x3.ends e.2 closed).0;
+            promoted = promotes_then x0 (after heard x2) (after heard x3) a1 e.0 carried promotes;
+          }
 
 -- ---- From the end of a feed to its source.
 
@@ -184,8 +208,12 @@ promoted_at start base given y ends x e s p =
     (subst (λ (z : Contents). IsPromotedAt start base given y.ends z) (sym s)
     (record { stands = p.stands; whole = p.whole; picture = p.picture; none_held = p.none_held; ended = p.ended; log_end = p.log_end; dry = all_dry y.ends y.undelivered p.taken }))
 
+promoted_from : (heard : History) (x : Tailer) (rs : List Answer) (y : Tailer) (ends : List Taking) (z : Contents) → ends ≡ y.ends → z ≡ y.shadow → IsPromoted x rs (after heard y) → IsPromotedFrom x rs ends (shadow_after heard z)
+promoted_from heard x rs y ends z e q h past start base before at =
+    promoted_at start base (before ++ rs) (after past (after heard y)) ends (shadow_after past (shadow_after heard z)) e (ap (λ s. shadow_after past (shadow_after heard s)) q) (h past start base before at)
+
 module _ {T R S O : Type 0} (asks : O → Tailer → ℕ → Wish → O → Type 0) (gives : T → Answer → T → Type 0) (failures : T → ℕ) (x : Tailer) (s : T) (workers : List (S × Reporting)) (o p : O) (e0 e2 : FeedEnd R) (new : got_by e0 ≡ [])
-    (met : Bool) (is_met : met ≡ true) (h : HasAnswered gives failures s (got_by e2) met) (active : Active) (y : Tailer) (d : PromotesOver asks x e0 o active y e2 p) where
+    (met : Bool) (is_met : met ≡ true) (h : HasAnswered gives failures s (got_by e2) met) (active : Active) (y : Tailer) (d : PromotesOver asks (length workers) x e0 o active y e2 p) where
   pub served : (handles : List (PromisedHandle (WorkerExit S) (WorkerPromise S))) → ArePromised workers handles → length workers ≤ length handles
       → (r : Served S) → r.active ≡ active → r.shadow ≡ y.shadow → (ends : List Taking) → ends ≡ y.ends → ArePaired ends handles r.workers.items → IsServed asks gives failures x s workers o p r
   served handles promised all r a q ends e paired =
@@ -205,9 +233,21 @@ module _ {T R S O : Type 0} (asks : O → Tailer → ℕ → Wish → O → Type
         last = ap (λ (z : Active). z.last) a ∙ d.last ∙ ap (λ (z : Contents). z.last) (sym q);
         flushed = ap (λ (z : Active). z.flushed) a ∙ d.flushed ∙ ap (λ (z : Contents). count_by is_flush z.history) (sym q);
         settings = subst (λ (z : Contents). KeepsSettings x.shadow z) (sym q) d.settings;
-        wished = d.wished;
+        shown = d.shown;
+        fed = d.answers;
+        same = alike;
+        wished = record {
+          at = d.wished.at;
+          before = d.wished.before;
+          since = d.wished.since;
+          are = d.wished.are;
+          lanes = d.wished.lanes;
+          begun = d.wished.begun;
+          wishes = d.wished.wishes;
+          follows = promoted_from (forgotten d.shown) (after (forgotten d.shown) d.wished.at) d.wished.since y (map end_of r.workers.items) r.shadow (paired.0 ∙ e) q d.wished.follows;
+        };
         run = (many, subst (λ hs. ArePromised workers hs) (sym paired.1) promised);
-        promoted = λ start base before at.
-            promoted_at_same d.answers answers alike ended start base before (map end_of r.workers.items) r.shadow
-            (promoted_at start base (before ++ d.answers) y (map end_of r.workers.items) r.shadow (paired.0 ∙ e) q (d.promoted start base before at));
+        promoted = λ past start base before at.
+            promoted_at_same d.answers answers alike ended start base before (map end_of r.workers.items) (shadow_after past (shadow_after (forgotten d.shown) r.shadow))
+            (promoted_from (forgotten d.shown) x d.answers y (map end_of r.workers.items) r.shadow (paired.0 ∙ e) q d.promoted past start base before at);
       }

@@ -23,7 +23,7 @@ use Rattle.nn_tailer.proofs.Refusing.{has_one, has_none}
 use Rattle.nn_tailer.proofs.Shadowing.{settings_same, settings_then}
 use Rattle.nn_drive.specs.declared.driving.DriveFault.{DriveFault}
 use Rattle.nn_drive.specs.declared.driving.DriveFault.TheVariants as drive
-use Rattle.nn_drive.specs.Driven.{Went, EndsEarly, WentUntil}
+use Rattle.nn_drive.specs.Driven.{Goes, Went, EndsEarly, WentUntil}
 use Rattle.nn_drive.specs.Refusals.{drive_refusal, MayCome, IsSameFault}
 
 -- ---- Which faults come.
@@ -88,6 +88,20 @@ serves x is = serves_by x (has_begun x) refl is
 pub goes : {P : Type 0} (x : Tailer) (f : DriveFault) → has_begun x ≡ false → x.stop ≡ None → drive_refusal x ≡ Some f → P
 goes x f b s e = absurd (let w : None ≡ Some f = sym (refusal_is x false None b s) ∙ e in cc)
 
+-- ---- How a standby went on.
+
+pub goes_nowhere : (x : Tailer) → Goes x [] x
+goes_nowhere x = record { carries = carries_same x; same_ends = ends_same x.ends; begun = refl; active = refl; settings = settings_same x.shadow }
+
+pub goes_then : (x y z : Tailer) (rs bs : List Answer) → Goes x rs y → Goes y bs z → Goes x (rs ++ bs) z
+goes_then x y z rs bs f g = record {
+  carries = carries_then x y z rs bs f.carries g.carries;
+  same_ends = ends_then x.ends y.ends z.ends f.same_ends g.same_ends;
+  begun = g.begun ∙ f.begun;
+  active = g.active ∙ f.active;
+  settings = settings_then x.shadow y.shadow z.shadow f.settings g.settings;
+}
+
 module _ {T : Type 0} (gives : T → Answer → T → Type 0) (failures : T → ℕ) where
   -- ---- Why it ended early.
 
@@ -103,7 +117,7 @@ module _ {T : Type 0} (gives : T → Answer → T → Type 0) (failures : T → 
   later_ends : (s t u : T) (x y : Tailer) (rs qs : List Answer) (f : DriveFault) → has_begun y ≡ false → Carries x rs y → failures s ≤ failures t → EndsEarly failures t y qs u f
       → EndsEarly failures s x (rs ++ qs) u f
   later_ends s t u x y rs qs drive.AlreadyActive b c l h = begun_or_not y b h.0
-  later_ends s t u x y rs qs (drive.Stopped m) b c l h = λ start base given at. subst (λ g. StopsLog start base g m) (append_assoc given rs qs) (h start base (given ++ rs) (c start base given at))
+  later_ends s t u x y rs qs (drive.Stopped m) b c l h = λ past start base given at. subst (λ g. StopsLog start base g m) (append_assoc given rs qs) (h past start base (given ++ rs) (c past start base given at))
   later_ends s t u x y rs qs (drive.LogNotEnded e) b c l h = ((rs ++ h.0.0, ap (λ z. rs ++ z) h.0.1 ∙ sym (append_assoc rs h.0.0 (Err e ∷ []))), omega (arith, l, h.1))
   later_ends s t u x y rs qs drive.OutOfMemory b c l h = tt
 
@@ -113,7 +127,7 @@ module _ {T : Type 0} (gives : T → Answer → T → Type 0) (failures : T → 
 
   -- a standby that stands where the log stopped it
   pub stopped_before : (s : T) (x : Tailer) (m : Stop) → x.stop ≡ Some m → WentUntil gives failures s x s (drive.Stopped m)
-  stopped_before s x m e = ([], refl, (λ start base given h. (carries_same x start base given h).stops m e), omega arith)
+  stopped_before s x m e = ([], refl, (λ past start base given h. (carries_same x past start base given h).stops m e), omega arith)
 
   -- it was not asked yet
   pub nothing_yet : (s : T) (x : Tailer) → WentUntil gives failures s x s drive.OutOfMemory
@@ -134,21 +148,10 @@ module _ {T : Type 0} (gives : T → Answer → T → Type 0) (failures : T → 
   -- ---- How it went.
 
   pub went_nowhere : (s : T) (x : Tailer) → Went gives failures s x s x
-  went_nowhere s x = ([], refl, record { carries = carries_same x; same_ends = ends_same x.ends; begun = refl; active = refl; settings = settings_same x.shadow }, omega arith)
+  went_nowhere s x = ([], refl, goes_nowhere x, omega arith)
 
   pub went_on : (s t u : T) (x y z : Tailer) → Went gives failures s x t y → Went gives failures t y u z → Went gives failures s x u z
-  went_on s t u x y z f g = (
-    f.0 ++ g.0,
-    asked_append gives s t u f.0 g.0 f.1 g.1,
-    record {
-      carries = carries_then x y z f.0 g.0 f.2.carries g.2.carries;
-      same_ends = ends_then x.ends y.ends z.ends f.2.same_ends g.2.same_ends;
-      begun = g.2.begun ∙ f.2.begun;
-      active = g.2.active ∙ f.2.active;
-      settings = settings_then x.shadow y.shadow z.shadow f.2.settings g.2.settings;
-    },
-    omega (arith, f.3, g.3),
-  )
+  went_on s t u x y z f g = (f.0 ++ g.0, asked_append gives s t u f.0 g.0 f.1 g.1, goes_then x y z f.0 g.0 f.2 g.2, omega (arith, f.3, g.3))
 
   pub went_until : (s t u : T) (x y : Tailer) (f : DriveFault) → has_begun x ≡ false → Went gives failures s x t y → WentUntil gives failures t y u f → WentUntil gives failures s x u f
   went_until s t u x y f b g h = until_then s t u x y g.0 f g.1 g.2.carries (g.2.begun ∙ b) g.3 h

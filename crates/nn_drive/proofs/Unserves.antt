@@ -1,6 +1,6 @@
 -- A standby that was not promoted: what its source did, once its thread is joined.
 use Rattle.std.specs.Prelude.{MatchOption, ◌⊎◌}
-use Rattle.std.proofs.Common.{◌≡◌, ℕ, Bool, true, List, [], Option, Some, None, sym, subst, arith, inl}
+use Rattle.std.proofs.Common.{◌≡◌, ℕ, Bool, true, List, [], Option, Some, None, length, sym, subst, arith, inl}
 use Rattle.nn_feed.specs.Ends.{got_by}
 use Rattle.nn_feed.specs.declared.ends.FeedEnd.{FeedEnd}
 use Rattle.nn_lane.specs.Ends.{Reporting}
@@ -48,6 +48,6 @@ is_refused {O} {T} {S} {R} asks gives failures workers o p u old source f e n = 
   why = subst (λ (z : Option (Feeding T R)). MatchOption z (NotDriven gives failures old source u.fault)
       (λ (f : Feeding T R). (f.handle.promise.0.value ≡ source) × ((begin : FeedEnd R) × (got_by begin ≡ []) × FailsOver old begin f.end u.fault))) (sym e.1)
       (subst (λ (z : DriveFault). NotDriven gives failures old source z) (sym e.0) n);
-  back = subst (λ (z : Option (Feeding T R)). MatchOption z (IsUntouched old u ⊎ IsUnmet old u)
-      (λ (f : Feeding T R). (begin : FeedEnd R) × (got_by begin ≡ []) × ComesBack asks old begin o u.standby f.end p)) (sym e.1) (inl e.2);
+  back = subst (λ (z : Option (Feeding T R)). MatchOption z (IsUntouched old u ⊎ IsUnmet asks (length workers) old o p u)
+      (λ (f : Feeding T R). (begin : FeedEnd R) × (got_by begin ≡ []) × ComesBack asks (length workers) old begin o u.standby f.end p)) (sym e.1) (inl e.2);
 }

@@ -1,13 +1,14 @@
 -- What two drives of one standby have in common, as a statement; the function of the crate proves it.
 use Rattle.std.specs.Prelude.{◌≡◌, ℕ, false, Option, List, [], ◌∷◌}
 use Rattle.nn_types.specs.declared.report.Report.{Report}
+use Rattle.nn_model.specs.History.{History}
 use Rattle.nn_model.specs.Namespace.{Namespace}
 use Rattle.nn_model.specs.Counts.{safe_mode_of}
 use Rattle.nn_lane.specs.Ends.{Reporting, Taking}
 use Rattle.nn_segment.specs.Source.{Answer}
 use Rattle.nn_shadow.specs.Contents.{Contents, standby_of}
 use Rattle.nn_tailer.specs.declared.standby.Active.{Active}
-use Rattle.nn_tailer.specs.Tailing.{Tailer, StandsAt}
+use Rattle.nn_tailer.specs.Tailing.{Tailer, after, StandsAt}
 use Rattle.nn_drive.specs.Driven.{AreLanes, IsDriven}
 
 -- a source answers by a function of its state: the same state gives the same answer, and the same state after it
@@ -32,6 +33,6 @@ pub record EndsAlike (x y : Contents) (a b : Active) : Type 0 where
 -- lanes were open, the sources answer by functions, and both drives promoted it.
 abbrev pub DrivesEndAlike : {T S : Type 0} → (T → Answer → T → Type 0) → (T → ℕ) → (S → Option Report → S → Type 0) → Type 0
 DrivesEndAlike {T} {S} asks failures gives =
-    AnswersByFunction asks → AnswersByFunction gives → (start : Namespace) (base : ℕ) (given : List Answer) (old : Tailer) (source : T) (workers : List (S × Reporting))
-    → StandsAt start base given old → AreLanes workers old.ends → AreOpen old.ends → (x y : Contents) (a b : Active)
+    AnswersByFunction asks → AnswersByFunction gives → (past : History) (start : Namespace) (base : ℕ) (given : List Answer) (old : Tailer) (source : T) (workers : List (S × Reporting))
+    → StandsAt start base given (after past old) → AreLanes workers old.ends → AreOpen old.ends → (x y : Contents) (a b : Active)
     → IsDriven asks failures gives old source workers x a → IsDriven asks failures gives old source workers y b → EndsAlike x y a b

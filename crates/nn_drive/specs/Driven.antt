@@ -1,5 +1,5 @@
 -- What threads of DataNodes promise, and what a drive comes to.
-use Rattle.nn_model.specs.History.{is_flush}
+use Rattle.nn_model.specs.History.{History, is_flush}
 use Rattle.nn_model.specs.Items.{items}
 use Rattle.nn_tailer.specs.declared.standby.Active.{Active}
 use Rattle.std.specs.Prelude.{◌≡◌, ℕ, ◌<◌, ◌≤◌, Bool, true, false, Option, Result, List, [], ◌∷◌, ◌++◌, length, map, slice_index_or, count_by, Ok, Err}
@@ -11,6 +11,7 @@ use Rattle.nn_model.specs.Lawful.{IsWhole}
 use Rattle.nn_model.specs.Picture.{ShowsPicture}
 use Rattle.nn_model.specs.Stands.{Stands, tables_of}
 use Rattle.nn_shadow.specs.Contents.{Contents, standby_of, KeepsSettings}
+use Rattle.nn_tailer.specs.Shadows.{shadow_after}
 use Rattle.nn_segment.specs.Segment.{Segment}
 use Rattle.nn_segment.specs.Source.{Answer, Asked, given, end}
 use Rattle.nn_segment.specs.Walk.{log_in}
@@ -22,7 +23,7 @@ use Rattle.nn_drive.specs.declared.driving.DriveFault.TheVariants as drive
 use Rattle.nn_lane.specs.Ends.{Reporting, Taking, got_of, counted, StartsWith}
 use Rattle.nn_lane.specs.declared.fault.Refusal.{Refusal}
 use Rattle.nn_lane.specs.declared.fault.Refusal.TheVariants.{Closed, Exhausted, Full}
-use Rattle.nn_tailer.specs.Tailing.{has_begun, Tailer, StandsAt, Carries, LogStops, EndsInEnd, by_node}
+use Rattle.nn_tailer.specs.Tailing.{has_begun, Tailer, after as behind, StandsAt, Carries, LogStops, EndsInEnd, by_node}
 use Rattle.nn_tailer.specs.LaneSteps.{SameEnds}
 use Rattle.nn_drive.specs.declared.driving.WorkerExit.{WorkerExit}
 use Rattle.nn_drive.specs.declared.driving.WorkerPromise.{WorkerPromise}
@@ -157,5 +158,5 @@ module _ {T S : Type 0} (asks : T → Answer → T → Type 0) (failures : T →
   IsDriven old source workers x active =
       (answers : List Answer) × (after : T) × (ends : List Taking) × Asked asks source answers after × (failures source ≤ failures after)
       × (active.last ≡ x.last) × (active.flushed ≡ count_by is_flush x.history) × KeepsSettings old.shadow x
-      × ((start : Namespace) (base : ℕ) (given : List Answer) → StandsAt start base given old → IsPromoted gives start base (given ++ answers) workers old.ends ends x)
+      × ((past : History) (start : Namespace) (base : ℕ) (given : List Answer) → StandsAt start base given (behind past old) → IsPromoted gives start base (given ++ answers) workers old.ends ends (shadow_after past x))
       × ((segments : List Segment) × (answers ≡ map given segments ++ end ∷ []))

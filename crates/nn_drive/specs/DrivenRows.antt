@@ -9,7 +9,7 @@ use Rattle.nn_types.specs.declared.profile.Profile.TheVariants.{One}
 use Rattle.nn_types.specs.declared.event.Event.TheVariants.{Applied}
 use Rattle.nn_types.specs.declared.event.Cause.TheVariants.{Flush}
 use Rattle.nn_model.specs.Namespace.{Namespace, root_alone}
-use Rattle.nn_model.specs.History.{processed}
+use Rattle.nn_model.specs.History.{History, processed}
 use Rattle.nn_model.specs.WellFormed.{Has}
 use Rattle.nn_lane.specs.Ends.{LaneId, Reporting, Taking, next_message}
 use Rattle.nn_lane.specs.declared.fault.Refusal.{Refusal}
@@ -18,7 +18,8 @@ use Rattle.nn_segment.specs.Segment.{Segment}
 use Rattle.nn_segment.specs.Source.{Answer, GivesNext, given, end}
 use Rattle.nn_segment.specs.LogEnd.{end_of_log, disorder}
 use Rattle.nn_shadow.specs.Contents.{Contents}
-use Rattle.nn_tailer.specs.Tailing.{Tailer, StandsAt}
+use Rattle.nn_tailer.specs.Tailing.{Tailer, after, StandsAt}
+use Rattle.nn_tailer.specs.Shadows.{shadow_after}
 use Rattle.nn_tailer.specs.PromotedRows.{new, promoted_shadow, is_promoted, taking as lane_with, marks as two_marks}
 use Rattle.nn_tailer.proofs.PromotedRows.{promoted_from_new}
 use Rattle.nn_tailer.specs.declared.standby.Active.{Active}
@@ -257,9 +258,9 @@ driven l = (
   (two_marks ∷ [], refl),
 )
   where
-    promoted_there : (start : Namespace) (base : ℕ) (before : List Answer) → StandsAt start base before (new l)
-        → IsPromoted gives_next start base (before ++ given two_marks ∷ end ∷ []) (one_report l) (taking l 1 ∷ []) (ended l ∷ []) promoted_shadow
-    promoted_there start base before h = let p = promoted_from_new l start base before h in record {
+    promoted_there : (past : History) (start : Namespace) (base : ℕ) (before : List Answer) → StandsAt start base before (after past (new l))
+        → IsPromoted gives_next start base (before ++ given two_marks ∷ end ∷ []) (one_report l) (taking l 1 ∷ []) (ended l ∷ []) (shadow_after past promoted_shadow)
+    promoted_there past start base before h = let p = promoted_from_new l past start base before h in record {
       stands = p.stands;
       whole = p.whole;
       picture = p.picture;

@@ -1,5 +1,5 @@
 -- What the source of a feed answered where the end of the feed got so much, and what a run over that end came to.
-use Rattle.nn_model.specs.History.{is_flush}
+use Rattle.nn_model.specs.History.{History, is_flush}
 use Rattle.nn_model.specs.Namespace.{Namespace}
 use Rattle.nn_tailer.specs.declared.standby.Active.{Active}
 use Rattle.std.specs.Prelude.{◌≡◌, ℕ, ◌<◌, ◌≤◌, ◌⊎◌, Bool, true, Option, List, [], ◌++◌, count_by}
@@ -9,8 +9,9 @@ use Rattle.nn_segment.specs.Segment.{Segment}
 use Rattle.nn_segment.specs.Source.{Answer, Asked}
 use Rattle.nn_segment.specs.declared.fault.SourceFault.{SourceFault}
 use Rattle.nn_shadow.specs.Contents.{Contents, KeepsSettings}
+use Rattle.nn_tailer.specs.Shadows.{shadow_after}
 use Rattle.nn_tailer.specs.Reads.{EndsInFault}
-use Rattle.nn_tailer.specs.Tailing.{Tailer, StandsAt, LogStops, EndsInEnd}
+use Rattle.nn_tailer.specs.Tailing.{Tailer, after as behind, StandsAt, LogStops, EndsInEnd}
 use Rattle.nn_feed.specs.declared.ends.FeedEnd.{FeedEnd}
 use Rattle.nn_feed.specs.declared.rule.Placed.{Placed}
 use Rattle.nn_feed.specs.Ends.{got_by, GivesWhatIsFed}
@@ -73,4 +74,4 @@ pub record IsDrivenOver {R S : Type 0} (gives : S → Option Report → S → Ty
   pub flushed : active.flushed ≡ count_by is_flush x.history
   pub settings : KeepsSettings old.shadow x
   pub ends : List Taking
-  pub promoted : (start : Namespace) (base : ℕ) (given : List Answer) → StandsAt start base given old → IsPromoted gives start base (given ++ answers) workers old.ends ends x
+  pub promoted : (past : History) (start : Namespace) (base : ℕ) (given : List Answer) → StandsAt start base given (behind past old) → IsPromoted gives start base (given ++ answers) workers old.ends ends (shadow_after past x)

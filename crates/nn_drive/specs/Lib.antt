@@ -10,7 +10,9 @@ pub mod DriveRows
 pub mod DrivenRows
 pub mod DriveLaws
 pub mod LawRows
+pub mod Rounds
 pub mod Serving
 pub mod Served
 pub mod ServeLaws
+pub mod RoundRows
 pub mod ServingRows

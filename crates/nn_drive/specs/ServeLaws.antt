@@ -2,9 +2,10 @@
 use Rattle.std.specs.Prelude.{◌≡◌, ℕ, ◌<◌, Option, List, length, slice_index_or}
 use Rattle.nn_types.specs.declared.report.Report.{Report}
 use Rattle.nn_lane.specs.Ends.{Reporting}
+use Rattle.nn_model.specs.History.{History}
 use Rattle.nn_model.specs.Namespace.{Namespace}
 use Rattle.nn_segment.specs.Source.{Answer}
-use Rattle.nn_tailer.specs.Tailing.{Tailer, StandsAt}
+use Rattle.nn_tailer.specs.Tailing.{Tailer, after, StandsAt}
 use Rattle.nn_drive.specs.Driven.{HasReported}
 use Rattle.nn_drive.specs.Served.{HasLeft, IsServed}
 use Rattle.nn_drive.specs.declared.driving.WorkerExit.{WorkerExit}
@@ -25,7 +26,7 @@ pub record WasAllTaken {S : Type 0} (gives : S → Option Report → S → Type 
 -- so it is of each worker of a promoted standby, which stood somewhere, once the worker is joined
 abbrev pub TakesAllOfTheJoined : {O T S : Type 0} → (O → Tailer → ℕ → Wish → O → Type 0) → (T → Answer → T → Type 0) → (T → ℕ) → (S → Option Report → S → Type 0) → Type 0
 TakesAllOfTheJoined {O} {T} {S} asks gives failures reports =
-    (start : Namespace) (base : ℕ) (given : List Answer) (old : Tailer) (source : T) (workers : List (S × Reporting)) (o p : O) (served : Served S)
-    → StandsAt start base given old → IsServed asks gives failures old source workers o p served
+    (past : History) (start : Namespace) (base : ℕ) (given : List Answer) (old : Tailer) (source : T) (workers : List (S × Reporting)) (o p : O) (served : Served S)
+    → StandsAt start base given (after past old) → IsServed asks gives failures old source workers o p served
     → (i : ℕ) (w : S × Reporting) (r : Running S) (l : Left S) → i < length workers → HasLeft reports (slice_index_or served.workers.items i r) l
     → WasAllTaken reports (slice_index_or workers i w) (slice_index_or served.workers.items i r) l

@@ -6,17 +6,18 @@ use Rattle.nn_feed.specs.Ends.{GivesWhatIsFed, got_by}
 use Rattle.nn_feed.specs.declared.ends.FeedEnd.{FeedEnd}
 use Rattle.nn_lane.specs.Ends.{Reporting, Taking, lane_of, counted, StartsWith}
 use Rattle.nn_model.specs.History.{is_flush}
-use Rattle.nn_model.specs.Namespace.{Namespace}
+use Rattle.nn_segment.specs.LogEnd.{given_in}
 use Rattle.nn_segment.specs.Segment.{Segment}
 use Rattle.nn_segment.specs.Source.{Answer, Asked, given, end}
 use Rattle.nn_shadow.specs.Contents.{KeepsSettings}
 use Rattle.nn_tailer.specs.LaneSteps.{SameEnds, AllClosed}
 use Rattle.nn_tailer.specs.Promotion.{IsPromoted}
-use Rattle.nn_tailer.specs.Tailing.{has_begun, Tailer, StandsAt, Carries, EndsInEnd}
+use Rattle.nn_tailer.specs.Shadows.{shadow_after}
+use Rattle.nn_tailer.specs.Tailing.{has_begun, Tailer, after as behind, Carries, EndsInEnd}
 use Rattle.nn_tailer.specs.declared.standby.Active.{Active}
-use Rattle.nn_drive.specs.Driven.{HasReported, ArePromised, NotDriven}
+use Rattle.nn_drive.specs.Driven.{HasReported, ArePromised, Went, NotDriven}
 use Rattle.nn_drive.specs.Feeding.{FailsOver}
-use Rattle.nn_drive.specs.Serving.{WasWished, IsDry, IsPromotedAt}
+use Rattle.nn_drive.specs.Serving.{Shown, forgotten, WasShown, WasWished, IsDry, IsPromotedFrom}
 use Rattle.nn_drive.specs.declared.driving.DriveFault.{DriveFault}
 use Rattle.nn_drive.specs.declared.driving.DriveFault.TheVariants as drive
 use Rattle.nn_drive.specs.declared.driving.WorkerPromise.{WorkerPromise}
@@ -58,23 +59,35 @@ pub record HasLeft {S : Type 0} (gives : S → Option Report → S → Type 0) (
   pub accepted : l.met.accepted ≡ length worked.reporter.sent
   pub taken : l.met.taken ≡ length r.end.got
 
+-- ---- Rotations.
+
+-- The standby went on as if it had kept what its operator wished to be forgotten. This holds of what the operator was shown, and of what
+-- the source gave
+pub record Rotates {T : Type 0} (gives : T → Answer → T → Type 0) (failures : T → ℕ) (s : T) (old : Tailer) (t : T) (new : Tailer) (Was : List Shown → List Answer → Type 0) : Type 0 where
+  pub shown : List Shown
+  pub went : Went gives failures s old t (behind (forgotten shown) new)
+  pub was : Was shown went.0
+
 -- ---- A promotion.
 
 -- A run over the end of a feed promoted its standby, at a wish of its operator. Each lane is closed
-pub record PromotesOver {O R : Type 0} (asks : O → Tailer → ℕ → Wish → O → Type 0) (old : Tailer) (begin : FeedEnd R) (o : O) (active : Active) (new : Tailer) (after : FeedEnd R) (p : O) : Type 0 where
+pub record PromotesOver {O R : Type 0} (asks : O → Tailer → ℕ → Wish → O → Type 0) (workers : ℕ) (old : Tailer) (begin : FeedEnd R) (o : O) (active : Active) (new : Tailer) (after : FeedEnd R) (p : O) : Type 0 where
   pub answers : List Answer
   pub asked : Asked GivesWhatIsFed begin answers after
   pub ended : EndsInEnd answers
   pub last : active.last ≡ new.shadow.last
   pub flushed : active.flushed ≡ count_by is_flush new.shadow.history
   pub settings : KeepsSettings old.shadow new.shadow
-  pub wished : WasWished asks old o p
+  pub shown : List Shown
+  pub wished : WasWished asks workers old o shown answers p (λ last since. IsPromoted last since (behind (forgotten shown) new))
   pub lanes : map lane_of new.ends ≡ map lane_of old.ends
   pub closed : AllClosed new.ends
-  pub promoted : IsPromoted old answers new
+  pub promoted : IsPromoted old answers (behind (forgotten shown) new)
 
 -- The standby was promoted, at a wish of its operator: it is at the whole log of its source, which gave segments and then End, and was
--- not asked again. Each lane is closed, and all that it accepted was processed. Its workers may still run
+-- not asked again. Each lane is closed, and all that it accepted was processed. What was taken of its history before, what its operator
+-- wished to be forgotten and what it has are one history, lawful and whole. Of the log the operator was shown fronts, in turn, and the
+-- promoted standby goes on from the last that it was asked about. Its workers may still run
 pub record IsServed {O T S : Type 0} (asks : O → Tailer → ℕ → Wish → O → Type 0) (gives : T → Answer → T → Type 0) (failures : T → ℕ) (old : Tailer) (source : T) (workers : List (S × Reporting)) (o p : O) (r : Served S) : Type 0 where
   pub answers : List Answer
   pub after : T
@@ -85,9 +98,12 @@ pub record IsServed {O T S : Type 0} (asks : O → Tailer → ℕ → Wish → O
   pub last : r.active.last ≡ r.shadow.last
   pub flushed : r.active.flushed ≡ count_by is_flush r.shadow.history
   pub settings : KeepsSettings old.shadow r.shadow
-  pub wished : WasWished asks old o p
+  pub shown : List Shown
+  pub fed : List Answer
+  pub same : given_in answers ≡ given_in fed
+  pub wished : WasWished asks (length workers) old o shown fed p (λ last since. IsPromotedFrom last since (map end_of r.workers.items) (shadow_after (forgotten shown) r.shadow))
   pub run : StillRun workers r.workers.items
-  pub promoted : (start : Namespace) (base : ℕ) (given : List Answer) → StandsAt start base given old → IsPromotedAt start base (given ++ answers) (map end_of r.workers.items) r.shadow
+  pub promoted : IsPromotedFrom old answers (map end_of r.workers.items) (shadow_after (forgotten shown) r.shadow)
 
 -- ---- A fault.
 
@@ -97,25 +113,37 @@ pub record GoesWith (old : Tailer) (answers : List Answer) (new : Tailer) : Type
   pub lanes : map lane_of new.ends ≡ map lane_of old.ends
   pub settings : KeepsSettings old.shadow new.shadow
 
--- Its lanes are as open as they were, and its flush has begun only if it had before. Or its operator wished a promotion, and they are closed
-abbrev pub OpenOrWished : {O : Type 0} → (O → Tailer → ℕ → Wish → O → Type 0) → Tailer → O → O → Tailer → Type 0
-OpenOrWished asks old o p new = (SameEnds old.ends new.ends × (has_begun new ≡ has_begun old)) ⊎ (AllClosed new.ends × WasWished asks old o p)
+-- Its lanes are as open as they were, its flush has begun only if it had before, and its operator wished no promotion. Or it wished one,
+-- and they are closed
+abbrev pub OpenOrWished : {O : Type 0} → (O → Tailer → ℕ → Wish → O → Type 0) → ℕ → Tailer → O → List Shown → List Answer → O → Tailer → Type 0
+OpenOrWished asks workers old o shown answers p new =
+    (SameEnds old.ends new.ends × (has_begun new ≡ has_begun old) × WasShown asks workers old o shown answers new p)
+    ⊎ (AllClosed new.ends × WasWished asks workers old o shown answers p (λ last since. Carries last since (behind (forgotten shown) new)))
 
 -- The standby comes back with all that was got of the feed. It was not promoted
-pub record ComesBack {O R : Type 0} (asks : O → Tailer → ℕ → Wish → O → Type 0) (old : Tailer) (begin : FeedEnd R) (o : O) (new : Tailer) (after : FeedEnd R) (p : O) : Type 0 where
+pub record ComesBack {O R : Type 0} (asks : O → Tailer → ℕ → Wish → O → Type 0) (workers : ℕ) (old : Tailer) (begin : FeedEnd R) (o : O) (new : Tailer) (after : FeedEnd R) (p : O) : Type 0 where
   pub answers : List Answer
   pub asked : Asked GivesWhatIsFed begin answers after
-  pub goes : GoesWith old answers new
-  pub intake : OpenOrWished asks old o p new
+  pub shown : List Shown
+  pub goes : GoesWith old answers (behind (forgotten shown) new)
+  pub intake : OpenOrWished asks workers old o shown answers p new
   pub not_promoted : new.active ≡ old.active
 
 -- no thread was started: the standby is as it was
 abbrev pub IsUntouched : {T S R : Type 0} → Tailer → Unserved T S R → Type 0
 IsUntouched old u = (u.standby ≡ old) × (u.workers.items ≡ [])
 
--- The standby was promoted, and then its feed did not meet, although both its ends were there: no channel does so, and no contract excludes it
-abbrev pub IsUnmet : {T S R : Type 0} → Tailer → Unserved T S R → Type 0
-IsUnmet {T} {S} {R} old u = (u.fault ≡ drive.OutOfMemory) × ((answers : List Answer) × EndsInEnd answers × IsPromoted old answers u.standby × (map lane_of u.standby.ends ≡ map lane_of old.ends) × AllClosed u.standby.ends)
+-- The standby was promoted, and then its feed did not meet, although both its ends were there: no channel does so, and no contract
+-- excludes it
+pub record IsUnmet {O T S R : Type 0} (asks : O → Tailer → ℕ → Wish → O → Type 0) (workers : ℕ) (old : Tailer) (o p : O) (u : Unserved T S R) : Type 0 where
+  pub fault : u.fault ≡ drive.OutOfMemory
+  pub answers : List Answer
+  pub shown : List Shown
+  pub wished : WasWished asks workers old o shown answers p (λ last since. IsPromoted last since (behind (forgotten shown) u.standby))
+  pub ended : EndsInEnd answers
+  pub promoted : IsPromoted old answers (behind (forgotten shown) u.standby)
+  pub lanes : map lane_of u.standby.ends ≡ map lane_of old.ends
+  pub closed : AllClosed u.standby.ends
 
 module _ {T S R : Type 0} (gives : T → Answer → T → Type 0) (failures : T → ℕ) (old : Tailer) (source : T) where
   -- why it was not promoted; where the source's thread was not joined, its end of the feed tells what was got of it by then
@@ -127,7 +155,8 @@ module _ {T S R : Type 0} (gives : T → Answer → T → Type 0) (failures : T 
 pub record IsUnserved {O T S R : Type 0} (asks : O → Tailer → ℕ → Wish → O → Type 0) (gives : T → Answer → T → Type 0) (failures : T → ℕ) (old : Tailer) (source : T) (workers : List (S × Reporting)) (o p : O) (u : Unserved T S R) : Type 0 where
   pub started : ArePromised workers u.workers.items
   pub why : IsStopped gives failures old source u
-  pub back : MatchOption u.feeding (IsUntouched old u ⊎ IsUnmet old u) (λ (f : Feeding T R). (begin : FeedEnd R) × (got_by begin ≡ []) × ComesBack asks old begin o u.standby f.end p)
+  pub back : MatchOption u.feeding (IsUntouched old u ⊎ IsUnmet asks (length workers) old o p u)
+      (λ (f : Feeding T R). (begin : FeedEnd R) × (got_by begin ≡ []) × ComesBack asks (length workers) old begin o u.standby f.end p)
 
 -- it was refused before any thread was started
 abbrev pub IsRefused : {A T S R : Type 0} → Tailer → DriveFault → Result A (Unserved T S R) → Type 0

@@ -1,8 +1,9 @@
 -- What an operator is asked, and when a standby in service is promoted.
-use Rattle.std.specs.Prelude.{◌≡◌, ℕ, true, List, [], ◌∷◌, length, map, Ok}
+use Rattle.std.specs.Prelude.{◌≡◌, ℕ, ◌≤◌, Bool, true, List, [], ◌∷◌, ◌++◌, length, map, Ok, if◌then◌else◌}
 use Rattle.std.specs.List.{All}
 use Rattle.std.specs.declared.thread.PromisedHandle.{PromisedHandle}
 use Rattle.nn_lane.specs.Ends.{Taking, got_of, counted}
+use Rattle.nn_model.specs.History.{History}
 use Rattle.nn_model.specs.Items.{items}
 use Rattle.nn_model.specs.Lawful.{IsWhole}
 use Rattle.nn_model.specs.Namespace.{Namespace}
@@ -13,26 +14,95 @@ use Rattle.nn_segment.specs.Source.{Answer}
 use Rattle.nn_segment.specs.Walk.{log_in}
 use Rattle.nn_shadow.specs.Contents.{Contents, standby_of}
 use Rattle.nn_tailer.specs.LaneSteps.{SameEnds}
-use Rattle.nn_tailer.specs.Tailing.{has_begun, Tailer, EndsInEnd, by_node}
+use Rattle.nn_tailer.specs.Shadows.{shadow_after}
+use Rattle.nn_tailer.specs.Tailing.{has_begun, Tailer, without_history, after, StandsAt, EndsInEnd, by_node}
+use Rattle.nn_drive.specs.Driven.{Goes}
+use Rattle.nn_drive.specs.Rounds.{IsRound}
 use Rattle.nn_drive.specs.declared.driving.WorkerPromise.{WorkerPromise}
 use Rattle.nn_drive.specs.declared.driving.WorkerExit.{WorkerExit}
 use Rattle.nn_drive.specs.declared.operator.Wish.{Wish}
-use Rattle.nn_drive.specs.declared.operator.Wish.TheVariants.{GoOn, Promote}
+use Rattle.nn_drive.specs.declared.operator.Wish.TheVariants.{GoOn, Forget, Promote}
 
-module _ {O : Type 0} (asks : O → Tailer → ℕ → Wish → O → Type 0) where
-  -- it was asked about these in turn, each time with so many workers, and wished each time that the standby goes on
-  abbrev pub GoesOn : O → List (Tailer × ℕ) → O → Type 0
-  GoesOn o [] p = p ≡ o
-  GoesOn o (x ∷ shown) p = (q : O) × asks o x.0 x.1 GoOn q × GoesOn q shown p
+-- An operator was shown this standby, and wished that it goes on, with its history or without. The log's source gave these answers since it
+-- was shown the one before
+pub record Shown : Type 0 where
+  pub answers : List Answer
+  pub standby : Tailer
+  pub running : ℕ
+  pub forgets : Bool
 
-  -- so it did up to this standby, at which it wished a promotion
-  abbrev pub WishesAt : O → Tailer → O → Type 0
-  WishesAt o x p = (shown : List (Tailer × ℕ)) × (q : O) × (running : ℕ) × GoesOn o shown q × asks q x running Promote p
+-- what it wished to be forgotten of this one
+abbrev pub forgotten_of : Shown → History
+forgotten_of x = if x.forgets then x.standby.shadow.history else []
 
-  -- It wished a promotion, and each time before that the standby goes on. Of the standbys that it was asked about, only the last is tied to this one: its lanes
-  -- were as open as at the start, and the flush had not begun. That is enough, since each answer goes by what the operator then was and was shown
-  abbrev pub WasWished : Tailer → O → O → Type 0
-  WasWished old o p = (x : Tailer) × SameEnds old.ends x.ends × (has_begun x ≡ has_begun old) × WishesAt o x p
+-- what was left of it
+abbrev pub left_of : Shown → Tailer
+left_of x = if x.forgets then without_history x.standby else x.standby
+
+-- ---- What an operator was shown, the last first.
+
+-- what it wished to be forgotten, in order
+abbrev pub forgotten : List Shown → History
+forgotten [] = []
+forgotten (x ∷ shown) = forgotten shown ++ forgotten_of x
+
+-- what the log's source gave up to the last one
+abbrev pub answered : List Shown → List Answer
+answered [] = []
+answered (x ∷ shown) = answered shown ++ x.answers
+
+-- the last one, as if it had kept what was forgotten by then; at first the standby that was handed in
+abbrev pub last_shown : Tailer → List Shown → Tailer
+last_shown old [] = old
+last_shown old (x ∷ shown) = after (forgotten shown) x.standby
+
+-- what it is shown next: the standby that was handed in, and then what was left of the last one, after a rotation
+abbrev pub IsNext : Tailer → List Shown → Tailer → Type 0
+IsNext old [] x = x ≡ old
+IsNext old (last ∷ shown) x = IsRound (left_of last) x
+
+-- Each was shown in its turn, and goes on from the one before as if it had kept what was forgotten. At most so many workers were counted as
+-- running
+abbrev pub AreInTurn : ℕ → Tailer → List Shown → Type 0
+AreInTurn workers old [] = Unit {0}
+AreInTurn workers old (x ∷ shown) =
+    AreInTurn workers old shown × IsNext old shown x.standby × Goes (last_shown old shown) x.answers (after (forgotten shown) x.standby) × (x.running ≤ workers)
+
+-- a wish was heeded: the history was forgotten, or nothing was done
+abbrev pub Heeds : Wish → Tailer → Tailer → Type 0
+Heeds GoOn old new = new ≡ old
+Heeds Forget old new = new ≡ without_history old
+Heeds Promote old new = new ≡ old
+
+-- it was asked about these in turn, each time with so many workers, and wished each time that the standby goes on, with its history or
+-- without
+abbrev pub GoesOn : {O : Type 0} → (O → Tailer → ℕ → Wish → O → Type 0) → O → List Shown → O → Type 0
+GoesOn asks o [] p = p ≡ o
+GoesOn {O} asks o (x ∷ shown) p = (q : O) × GoesOn asks o shown q × asks q x.standby x.running (if x.forgets then Forget else GoOn) p
+
+-- so it did, and the standby went on from the last that it was shown to this one. The log's source gave these answers in all
+pub record WasShown {O : Type 0} (asks : O → Tailer → ℕ → Wish → O → Type 0) (workers : ℕ) (old : Tailer) (o : O) (shown : List Shown) (answers : List Answer) (new : Tailer) (p : O) : Type 0 where
+  pub goes_on : GoesOn asks o shown p
+  pub in_turn : AreInTurn workers old shown
+  pub since : List Answer
+  pub are : answers ≡ answered shown ++ since
+  pub goes : Goes (last_shown old shown) since (after (forgotten shown) new)
+
+-- so it did, was shown this standby next, and wished a promotion
+abbrev pub WishesAt : {O : Type 0} → (O → Tailer → ℕ → Wish → O → Type 0) → ℕ → Tailer → O → List Shown → List Answer → Tailer → O → Type 0
+WishesAt {O} asks workers old o shown answers x p = (q : O) × (running : ℕ) × (running ≤ workers) × IsNext old shown x × WasShown asks workers old o shown answers x q × asks q x running Promote p
+
+-- It wished a promotion at a standby whose lanes were as open as those of the one that was handed in, and whose flush had begun only if
+-- that one's had. This holds of that standby, as if it had kept what was forgotten, and of what the log's source gave since
+pub record WasWished {O : Type 0} (asks : O → Tailer → ℕ → Wish → O → Type 0) (workers : ℕ) (old : Tailer) (o : O) (shown : List Shown) (answers : List Answer) (p : O) (Follows : Tailer → List Answer → Type 0) : Type 0 where
+  pub at : Tailer
+  pub before : List Answer
+  pub since : List Answer
+  pub are : answers ≡ before ++ since
+  pub lanes : SameEnds old.ends at.ends
+  pub begun : has_begun at ≡ has_begun old
+  pub wishes : WishesAt asks workers old o shown before at p
+  pub follows : Follows (after (forgotten shown) at) since
 
 -- a lane that is closed, of which all that it accepted was taken
 abbrev pub IsDry : Taking → Type 0
@@ -52,3 +122,7 @@ pub record IsPromotedAt (start : Namespace) (base : ℕ) (given : List Answer) (
   pub ended : EndsInEnd given
   pub log_end : end_of_log base start (given_in given) ≡ Ok (record { last = x.last; namespace = x.namespace })
   pub dry : All IsDry ends
+
+-- wherever the one stood, after whatever was taken from its history, the other is promoted there, with these answers more
+abbrev pub IsPromotedFrom : Tailer → List Answer → List Taking → Contents → Type 0
+IsPromotedFrom old answers ends x = (past : History) (start : Namespace) (base : ℕ) (given : List Answer) → StandsAt start base given (after past old) → IsPromotedAt start base (given ++ answers) ends (shadow_after past x)

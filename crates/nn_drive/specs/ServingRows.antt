@@ -1,6 +1,6 @@
 -- When an operator has wished a promotion, and which lanes are dry, computed.
-use Rattle.std.specs.Prelude.{◌≡◌, ℕ, zero, suc, ◌<◌, true, false, List, [], ◌∷◌, ◌++◌, slice_index_or, refl}
-use Rattle.std.proofs.Common.{arith, true≢false, sym, inl, inr}
+use Rattle.std.specs.Prelude.{◌≡◌, ℕ, ◌+◌, Bool, zero, suc, ◌<◌, true, false, List, [], ◌∷◌, ◌++◌, slice_index_or, refl}
+use Rattle.std.proofs.Common.{arith, true≢false, sym, ap, subst, inl, inr}
 use Rattle.nn_lane.specs.Ends.{LaneId, Taking}
 use Rattle.nn_types.specs.declared.event.Event.TheVariants.{Applied}
 use Rattle.nn_types.specs.declared.event.Cause.TheVariants.{Flush}
@@ -13,25 +13,61 @@ use Rattle.nn_shadow.specs.Contents.{Contents}
 use Rattle.nn_tailer.specs.Tailing.{Tailer}
 use Rattle.nn_tailer.specs.PromotedRows.{promoted_shadow, is_promoted, marks, taking as lane_with}
 use Rattle.nn_drive.specs.LaneRows.{taking}
-use Rattle.nn_drive.specs.Serving.{GoesOn, WishesAt, IsDry, IsPromotedAt}
+use Rattle.nn_tailer.proofs.Carried.{carries_same}
+use Rattle.nn_tailer.proofs.LaneSteps.{ends_same}
+use Rattle.nn_tailer.proofs.Shadowing.{settings_same}
+use Rattle.nn_drive.specs.Driven.{Goes}
+use Rattle.nn_drive.specs.Serving.{Shown, forgotten, AreInTurn, GoesOn, WishesAt, IsDry, IsPromotedAt}
 use Rattle.nn_drive.specs.declared.operator.Wish.{Wish}
-use Rattle.nn_drive.specs.declared.operator.Wish.TheVariants.{GoOn, Promote}
+use Rattle.nn_drive.specs.declared.operator.Wish.TheVariants.{GoOn, Forget, Promote}
 
--- an operator that counts its rotations down, and wishes a promotion at none
+-- an operator that counts its rotations down, wishes the history to be forgotten at the last one, and a promotion at none
 abbrev counts : ℕ → Tailer → ℕ → Wish → ℕ → Type 0
 counts zero x n w p = (w ≡ Promote) × (p ≡ 0)
-counts (suc k) x n w p = (w ≡ GoOn) × (p ≡ k)
+counts (suc zero) x n w p = (w ≡ Forget) × (p ≡ 0)
+counts (suc (suc k)) x n w p = (w ≡ GoOn) × (p ≡ suc k)
 
-after_two_rotations : (x y z : Tailer) → WishesAt counts 2 z 0
-after_two_rotations x y z = ((x, 8) ∷ (y, 7) ∷ [], 0, 7, (1, (refl, refl), (0, (refl, refl), refl)), (refl, refl))
+abbrev show : Tailer → ℕ → Bool → Shown
+show x n forgets = record { answers = []; standby = x; running = n; forgets = forgets }
+
+-- the first history stays, and the second one is forgotten
+two_rotations : (x y : Tailer) → GoesOn counts 2 (show y 7 true ∷ show x 8 false ∷ []) 0
+two_rotations x y = (1, (2, refl, (refl, refl)), (refl, refl))
+
+the_second_is_forgotten : (x y : Tailer) → forgotten (show y 7 true ∷ show x 8 false ∷ []) ≡ y.shadow.history
+the_second_is_forgotten x y = refl
+
+forgotten_in_order : (x y : Tailer) → forgotten (show y 7 true ∷ show x 8 true ∷ []) ≡ x.shadow.history ++ y.shadow.history
+forgotten_in_order x y = refl
 
 -- it does not wish it before
 not_at_once : (x : Tailer) (p : ℕ) → counts 1 x 8 Promote p → ⊥
-not_at_once x p h = let e : Promote ≡ GoOn = h.0 in cc
+not_at_once x p h = let e : Promote ≡ Forget = h.0 in cc
 
 -- nor is it asked on behind its wish
-not_after_its_wish : (x : Tailer) (p : ℕ) → GoesOn counts 0 ((x, 8) ∷ []) p → ⊥
-not_after_its_wish x p h = let e : GoOn ≡ Promote = h.1.0 in cc
+not_after_its_wish : (x : Tailer) (p : ℕ) → GoesOn counts 0 (show x 8 false ∷ []) p → ⊥
+not_after_its_wish x p h = let a = subst (λ q. counts q x 8 GoOn p) h.1 h.2 in let e : GoOn ≡ Promote = a.0 in cc
+
+-- ---- What is shown goes on from what was shown before.
+
+nothing_came : (x : Tailer) → Goes x [] x
+nothing_came x = record { carries = carries_same x; same_ends = ends_same x.ends; begun = refl; active = refl; settings = settings_same x.shadow }
+
+abbrev with_other_settings : Tailer → Tailer
+with_other_settings x = record x { shadow = record x.shadow { permille = x.shadow.permille + 1 } }
+
+-- it is shown the standby that was handed in, and wishes a promotion at once
+wished_at_once : (x : Tailer) → WishesAt counts 8 x 0 [] [] x 0
+wished_at_once x = (0, 8, omega arith, refl, record { goes_on = refl; in_turn = tt; since = []; are = refl; goes = nothing_came x }, (refl, refl))
+
+not_wished_at_another : (x : Tailer) (p : ℕ) (answers : List Answer) → WishesAt counts 8 x 0 [] answers (with_other_settings x) p → ⊥
+not_wished_at_another x p answers h = let e : x.shadow.permille + 1 ≡ x.shadow.permille = ap (λ (z : Tailer). z.shadow.permille) h.3 in omega (arith, e)
+
+not_with_more_running : (x y : Tailer) → AreInTurn 1 x (show y 2 false ∷ []) → ⊥
+not_with_more_running x y h = omega (arith, h.3)
+
+not_another_standby : (x : Tailer) → AreInTurn 8 x (show (with_other_settings x) 8 false ∷ []) → ⊥
+not_another_standby x h = let e : x.shadow.permille + 1 ≡ x.shadow.permille = h.2.settings.permille in omega (arith, e)
 
 -- ---- Lanes that are dry.
 

@@ -10,12 +10,17 @@ use nn_tailer::Standby;
 pub enum Wish {
     /// That the standby goes on.
     GoOn,
+    /// That it goes on, and forgets the history that it showed: its operator has done with it.
+    Forget,
     /// That it is promoted now.
     Promote,
 }
 
 /// Is asked once each rotation, and lent the standby: it may look at all that this shows, and write a checkpoint with a
 /// writer of its own. The standby does nothing while it is asked.
+///
+/// A standby keeps each event that it shows until its operator wishes that it be forgotten. So who serves for long is shown
+/// the events since it wished that last, writes down or counts what it wants of them, and answers `Forget`.
 pub trait Operator {
     /// `asks o x n w p`: an `ask` of an operator in the state o about the standby x, while n workers were counted as
     /// running, may answer w and leave it in the state p.
@@ -26,15 +31,15 @@ pub trait Operator {
         ensures { asks self.old standby.now running result self.new };
 }
 
-/// Wishes a promotion once no worker runs any more.
+/// Wishes a promotion once no worker runs any more, and never that a history be forgotten.
 #[derive(Clone, Copy)]
 pub struct Unattended;
 
 impl Operator for Unattended {
-    ghost use Rattle.std.specs.Prelude.{◌≡◌};
-    ghost use Rattle.nn_drive.specs.declared.operator.Wish.TheVariants.{Promote};
+    ghost use Rattle.std.specs.Prelude.{◌≡◌, ◌≢◌};
+    ghost use Rattle.nn_drive.specs.declared.operator.Wish.TheVariants.{Forget, Promote};
 
-    ghost asks = { λ o x n w p. (w ≡ Promote → n ≡ 0) × (n ≡ 0 → w ≡ Promote) };
+    ghost asks = { λ o x n w p. (w ≡ Promote → n ≡ 0) × (n ≡ 0 → w ≡ Promote) × (w ≢ Forget) };
 
     fn ask(&mut self, _standby: &Standby, running: usize) -> Wish {
         if running == 0 {

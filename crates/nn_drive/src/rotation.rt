@@ -1,5 +1,5 @@
 //! The rotation of a standby: its log and its lanes in turn, until its operator wishes a promotion.
-ghost use Rattle.std.specs.Prelude.{◌≡◌, true, false, IfOk, IfErr};
+ghost use Rattle.std.specs.Prelude.{◌≡◌, ◌≤◌, true, false, IfOk, IfErr};
 ghost use Rattle.nn_feed.specs.Ends.{GivesWhatIsFed};
 ghost use Rattle.nn_tailer.specs.Refusals.{has_place};
 ghost use Rattle.nn_tailer.specs.Tailing.{has_begun};
@@ -7,7 +7,9 @@ ghost use Rattle.nn_tailer.specs.declared.standby.Choice.TheVariants.{Lane};
 ghost use Rattle.nn_drive.specs.Driven.{Went, WentUntil};
 ghost use Rattle.nn_drive.specs.Feeding.{failures_of};
 ghost use Rattle.nn_drive.specs.Refusals.{MayCome, IsSameFault};
-ghost use Rattle.nn_drive.specs.Serving.{WishesAt};
+ghost use Rattle.nn_drive.specs.Rounds.{Makes, HasStepped, HasTried, IsRound};
+ghost use Rattle.nn_drive.specs.Served.{Rotates};
+ghost use Rattle.nn_drive.specs.Serving.{Heeds, WasShown, WishesAt};
 
 use crate::driving::DriveFault;
 use crate::operator::{Operator, Wish};
@@ -49,6 +51,7 @@ fn take_step<T: SegmentSource>(
     requires serving { has_begun standby.old ≡ false }
     requires place { has_place standby.old choice ≡ true }
     ensures went { Went T.gives T.failures source.old standby.old source.new standby.new }
+    ensures made { IfOk result (λ _. Makes standby.old choice standby.new) }
     ensures until { IfErr result (λ fault. WentUntil T.gives T.failures source.old standby.old source.new fault) }
 {
     match standby.step(source, choice) {
@@ -57,7 +60,8 @@ fn take_step<T: SegmentSource>(
     }
 }
 
-// Takes from the lane of this DataNode until it is empty, or until so many messages came. Answers how many came.
+// Takes from the lane of this DataNode until it is empty, or until so many messages came. Answers how many came. The lane is
+// tried once at least.
 fn take_messages<T: SegmentSource>(
     standby: &mut Standby,
     source: &mut T,
@@ -66,7 +70,9 @@ fn take_messages<T: SegmentSource>(
 ) -> Result<usize, DriveFault>
     requires serving { has_begun standby.old ≡ false }
     requires place { has_place standby.old (Lane dn) ≡ true }
+    requires some { 1 ≤ most }
     ensures went { Went T.gives T.failures source.old standby.old source.new standby.new }
+    ensures tried { IfOk result (λ _. HasTried standby.old dn standby.new) }
     ensures until { IfErr result (λ fault. WentUntil T.gives T.failures source.old standby.old source.new fault) }
 {
     for taken in 0..most {
@@ -91,6 +97,7 @@ fn take_edits<'a, R: Wait>(
 ) -> Result<usize, DriveFault>
     requires { has_begun standby.old ≡ false }
     ensures went { Went GivesWhatIsFed failures_of end.old standby.old end.new standby.new }
+    ensures stepped { IfOk result (λ _. HasStepped standby.old standby.new) }
     ensures until { IfErr result (λ fault. WentUntil GivesWhatIsFed failures_of end.old standby.old end.new fault) }
 {
     for taken in 0..most {
@@ -113,12 +120,13 @@ fn take_lanes<'a, R: Wait>(
 ) -> Result<usize, DriveFault>
     requires { has_begun standby.old ≡ false }
     ensures went { Went GivesWhatIsFed failures_of end.old standby.old end.new standby.new }
+    ensures visited { IfOk result (λ _. IsRound standby.old standby.new) }
     ensures until { IfErr result (λ fault. WentUntil GivesWhatIsFed failures_of end.old standby.old end.new fault) }
 {
     let lanes = standby.lanes();
     let mut came = 0usize;
     for i in 0..lanes {
-        let most = standby.ends()[i].capacity();
+        let most = standby.ends()[i].capacity().max(1);
         let taken = take_messages(standby, end, (i + 1) as u16, most)?;
         take_edits(standby, end, taken)?;
         came = came.saturating_add(taken);
@@ -133,6 +141,7 @@ fn take_round<'a, R: Wait>(
 ) -> Result<bool, DriveFault>
     requires { has_begun standby.old ≡ false }
     ensures went { Went GivesWhatIsFed failures_of end.old standby.old end.new standby.new }
+    ensures visited { IfOk result (λ _. IsRound standby.old standby.new) }
     ensures until { IfErr result (λ fault. WentUntil GivesWhatIsFed failures_of end.old standby.old end.new fault) }
 {
     let lanes = standby.lanes();
@@ -142,12 +151,24 @@ fn take_round<'a, R: Wait>(
 }
 
 // How many workers were not yet seen to have ended.
-fn still_running(started: usize, ended: &AtomicU64) -> usize {
+fn still_running(started: usize, ended: &AtomicU64) -> usize
+    ensures { result ≤ started }
+{
     let ended = ended.load(Ordering::SeqCst) as usize;
     started.saturating_sub(ended)
 }
 
-/// Rotations, until the operator wishes a promotion. It is asked before each one.
+// Forgets the history, where that was wished.
+fn forget_wished(standby: &mut Standby, wish: Wish)
+    ensures { Heeds wish standby.old standby.new }
+{
+    if let Wish::Forget = wish {
+        standby.forget_history();
+    }
+}
+
+/// Rotations, until the operator wishes a promotion. It is asked before each one, and what it wishes to be forgotten of the
+/// history is forgotten then.
 ///
 /// A rotation begins with at most as many steps of the log as there are lanes. Then it visits each lane, and takes from it
 /// until it is empty or gave as many messages as it holds; and after each lane it makes at most as many steps of the log as
@@ -163,17 +184,18 @@ pub(crate) fn rotate<'a, O: Operator, R: Wait>(
     started: usize,
 ) -> Result<(), DriveFault>
     requires { has_begun standby.old ≡ false }
-    ensures went { Went GivesWhatIsFed failures_of end.old standby.old end.new standby.new }
-    ensures wished { IfOk result (λ _. WishesAt O.asks operator.old standby.new operator.new) }
+    ensures wished { IfOk result (λ _. Rotates GivesWhatIsFed failures_of end.old standby.old end.new standby.new (λ shown answers. WishesAt O.asks started standby.old operator.old shown answers standby.new operator.new)) }
+    ensures gone { IfErr result (λ _. Rotates GivesWhatIsFed failures_of end.old standby.old end.new standby.new (λ shown answers. WasShown O.asks started standby.old operator.old shown answers standby.new operator.new)) }
     ensures until { IfErr result (λ fault. WentUntil GivesWhatIsFed failures_of end.old standby.old end.new fault) }
 {
     let mut waiting = Waiting::new();
     for _ in rt.forever() {
         let running = still_running(started, ended);
-        match operator.ask(standby, running) {
-            Wish::Promote => return Ok(()),
-            Wish::GoOn => {}
+        let wish = operator.ask(standby, running);
+        if let Wish::Promote = wish {
+            return Ok(());
         }
+        forget_wished(standby, wish);
         let has_come = take_round(standby, end)?;
         waiting.wait_unless(rt, has_come);
     }

@@ -183,7 +183,7 @@ module _ (settings : Threshold) (count : ℕ) (lanes : Lanes) (sources : List (L
     (start : Start) (standby : Tailer) (new : IsBegun start before standby) (kept : (standby.shadow.table.min ≡ settings.min) × (standby.shadow.permille ≡ settings.permille)) (segments : List Segment) where
   pub arrives : (x : Contents) (active : Active) → IsDriven GivesNext (λ _. 0) GivesReport standby segments workers x active → Arrives start settings lanes segments x
   arrives x active d =
-      let p = d.8 start.namespace start.txid [] new.stands in
+      let p = d.8 [] start.namespace start.txid [] new.stands in
       let order = in_order segments d.1 d.0 d.3 in
       let same = same_lanes count lanes sources in_memory workers before d.2 have p.lanes (λ i w b e l. subst (λ es. IsTaken GivesReport (get_or workers i w).0 (get_or workers i w).1 (get_or es i b) (get_or d.2 i e).got) new.ends (p.taken i w b e l)) in
       let log : log_in start.txid d.0 ≡ log_of start.txid (map (λ (s : Segment). s.txs) segments) =
@@ -201,7 +201,7 @@ module _ (settings : Threshold) (count : ℕ) (lanes : Lanes) (sources : List (L
   stop_told options drive.AlreadyActive p h t = absurd t
   stop_told options (drive.Stopped s) p h t =
       let order = in_order segments h.0 h.1.0 h.1.1 in
-      let w = stopped_at start.namespace start.txid segments h.1.0 order s (h.1.2 start.namespace start.txid [] new.stands) in
+      let w = stopped_at start.namespace start.txid segments h.1.0 order s (h.1.2 [] start.namespace start.txid [] new.stands) in
       is_fault options lanes (end_of_log start.txid start.namespace segments) (record { cause = w.0; txid = s.txid }) p w.2 (t ∙ ap (λ n. fault_at (codes " txid ") n s.txid) (sym w.1))
   stop_told options (drive.LogNotEnded f) p h t = absurd t
   stop_told options drive.OutOfMemory p h t = absurd t

@@ -9,6 +9,7 @@ use Rattle.nn_tailer.specs.Shadows.{ShowsSame, IsApplied, IsFlushed}
 use Rattle.nn_tailer.specs.Tailing.{Tailer, Keeps, with_rest, with_shadow, stopping}
 use Rattle.nn_tailer.specs.Parts.{IsLive}
 use Rattle.nn_tailer.proofs.Shadowing.{same_last, same_numbers, applied_last, applied_numbers}
+use Rattle.nn_tailer.proofs.Unflushed.{same_before, applied_before}
 use Rattle.nn_tailer.proofs.Finished.{flushing, activated}
 
 -- the first in hand is the next of the log, and the others go on behind it
@@ -30,6 +31,7 @@ keeps_applied x tx rest s k l e a =
       stops = λ z q. absurd (let w : None ≡ Some z = sym l.1 ∙ q in cc);
       begun_live = λ q. k.begun_live (sym (ap (λ z. z.active) a.phase) ∙ q);
       not_begun = λ q. k.not_begun (sym (ap (λ z. z.active) a.phase) ∙ q);
+      before_flush = λ q. applied_before x.shadow s tx a (k.before_flush q);
     }
 
 still_next : (x : Tailer) (s : Contents) → Keeps x → ShowsSame x.shadow s → CountsUp s.last x.rest
@@ -46,6 +48,7 @@ keeps_unchanged x s k h p = record {
   stops = λ z q. k.stops z q ∙ ap (λ n. n + 1) (sym (same_last x.shadow s h));
   begun_live = λ q. k.begun_live (sym (ap (λ z. z.active) p) ∙ q);
   not_begun = λ q. k.not_begun (sym (ap (λ z. z.active) p) ∙ q);
+  before_flush = λ q. same_before x.shadow s h (k.before_flush q);
 }
 
 pub keeps_stopped : (x : Tailer) (s : Contents) (m : Stop) → Keeps x → IsLive x → ShowsSame x.shadow s → s.phase.active ≡ x.shadow.phase.active → m.txid ≡ x.shadow.last + 1 → Keeps (stopping (with_shadow x s) m)
@@ -59,6 +62,7 @@ keeps_stopped x s m k l h p n = record {
   stops = λ z q. ap (λ w. w.txid) (let e : z ≡ m = cc in e) ∙ n ∙ ap (λ j. j + 1) (sym (same_last x.shadow s h));
   begun_live = λ q. absurd (let w : false ≡ true = sym l.0 ∙ sym p ∙ q in cc);
   not_begun = λ q. k.not_begun (sym p ∙ q);
+  before_flush = λ q. same_before x.shadow s h (k.before_flush q);
 }
 
 pub keeps_flushing : (x : Tailer) (s : Contents) → Keeps x → x.stop ≡ None → ShowsSame x.shadow s → s.phase ≡ record x.shadow.phase { active = true } → Keeps (flushing x s)
@@ -72,6 +76,7 @@ keeps_flushing x s k l h p = record {
   stops = λ z q. k.stops z q ∙ ap (λ n. n + 1) (sym (same_last x.shadow s h));
   begun_live = λ _. l;
   not_begun = λ q. absurd (let w : true ≡ false = sym (ap (λ z. z.active) p) ∙ q in cc);
+  before_flush = λ q. same_before x.shadow s h (k.before_flush q);
 }
 
 flushed_last : (x s : Contents) → IsFlushed x s → s.last ≡ x.last
@@ -88,4 +93,5 @@ keeps_active x s k l f = record {
   stops = λ z q. k.stops z q ∙ ap (λ n. n + 1) (sym (flushed_last x.shadow s f));
   begun_live = λ _. l;
   not_begun = λ q. absurd (let w : true ≡ false = sym (ap (λ z. z.active) f.phase) ∙ q in cc);
+  before_flush = λ q. absurd (let w : true ≡ false = q in cc);
 }

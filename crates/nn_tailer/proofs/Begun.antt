@@ -21,6 +21,7 @@ keeps_rest x rest k h = record {
   stops = k.stops;
   begun_live = k.begun_live;
   not_begun = k.not_begun;
+  before_flush = k.before_flush;
 }
 
 -- what is in hand goes on counting up, whatever the source answered

@@ -5,11 +5,12 @@ use Rattle.nn_types.specs.declared.tx.Tx.{Tx}
 use Rattle.nn_model.specs.Namespace.{Namespace}
 use Rattle.nn_model.specs.Lanes.{Lanes}
 use Rattle.nn_lane.specs.Ends.{Taking}
-use Rattle.nn_model.specs.History.{IsBeforeFlush}
+use Rattle.nn_model.specs.History.{History, IsBeforeFlush}
 use Rattle.nn_model.specs.Stands.{StandbyState, Stands}
 use Rattle.nn_shadow.specs.Contents.{Contents, standby_of}
 use Rattle.nn_shadow.specs.Laws.{StandsBy}
-use Rattle.nn_tailer.specs.Shadows.{ShowsSame}
+use Rattle.nn_shadow.specs.Calls.{after as standby_after}
+use Rattle.nn_tailer.specs.Shadows.{ShowsSame, shadow_after}
 use Rattle.nn_shadow.specs.declared.fault.Stop.{Stop}
 use Rattle.nn_segment.specs.Segment.{Segment, first_txid}
 use Rattle.nn_segment.specs.Source.{Answer, end}
@@ -24,7 +25,7 @@ use Rattle.nn_segment.specs.LogEnd.{refused, disorder, end_of_log, end_behind, g
 use Rattle.nn_segment.proofs.Asks.{end_gives_none, fault_gives_none, one_given}
 use Rattle.nn_tailer.proofs.LogEnds.{behind_none, behind_gap, behind_segment, behind_applied, behind_refused, same_given, same_way, not_refused}
 use Rattle.nn_tailer.proofs.Shadowing.{same_last, same_namespace, applied_last, applied_namespace, handed_last, handed_namespace}
-use Rattle.nn_tailer.specs.Tailing.{has_begun, Tailer, StopsLog, Keeps, StandsAt, Carries, lanes_of, handed_all, by_node, undelivered_at, with_undelivered, with_lane, with_shadow, stopping}
+use Rattle.nn_tailer.specs.Tailing.{has_begun, Tailer, after, StopsLog, Keeps, StandsAt, Carries, lanes_of, handed_all, by_node, undelivered_at, with_undelivered, with_lane, with_shadow, stopping}
 use Rattle.nn_tailer.specs.Parts.{IsLive, AppliesNext, StopsAt, HandsUndelivered, IsAsBefore}
 use Rattle.nn_tailer.proofs.Moves.{lanes_grow}
 
@@ -33,10 +34,10 @@ append_none [] = refl
 append_none (x ∷ xs) = ap (λ l. x ∷ l) (append_none xs)
 
 pub carries_same : (x : Tailer) → Carries x [] x
-carries_same x start base given s = subst (λ g. StandsAt start base g x) (sym (append_none given)) s
+carries_same x past start base given s = subst (λ g. StandsAt start base g (after past x)) (sym (append_none given)) s
 
 pub carries_then : (x y z : Tailer) (rs bs : List Answer) → Carries x rs y → Carries y bs z → Carries x (rs ++ bs) z
-carries_then x y z rs bs f g start base given s = subst (λ h. StandsAt start base h z) (append_assoc given rs bs) (g start base (given ++ rs) (f start base given s))
+carries_then x y z rs bs f g past start base given s = subst (λ h. StandsAt start base h (after past z)) (append_assoc given rs bs) (g past start base (given ++ rs) (f past start base given s))
 
 -- no move but the flush begins it
 not_begun : {P : Type 0} (x : Tailer) → IsLive x → has_begun x ≡ true → P
@@ -57,7 +58,7 @@ not_stopped : {P : Type 0} (o : Option Stop) (m : Stop) → o ≡ None → o ≡
 not_stopped o m n q = absurd (let e : None ≡ Some m = sym n ∙ q in cc)
 
 pub carries_answer : (x : Tailer) (r : Answer) → IsLive x → AddsNone r → Carries x (r ∷ []) x
-carries_answer x r l h start base given s = record {
+carries_answer x r l h past start base given s = record {
   txs = s.txs;
   shadow = s.shadow;
   before_flush = s.before_flush;
@@ -117,12 +118,12 @@ from_segment start base given old p later s l was =
     ∙ ap (λ r. end_behind old.shadow.last old.shadow.namespace r (p ∷ later)) was ∙ behind_none old.shadow.last old.shadow.namespace (p ∷ later)
 
 pub carries_segment : (old new : Tailer) (p : Segment) → TakesIn old p new → Carries old (Ok (segment p) ∷ []) new
-carries_segment old new p t start base given s = record {
+carries_segment old new p t past start base given s = record {
   txs = s.txs;
-  shadow = moved start base s.txs (lanes_of old) (lanes_of new) (standby_of old.shadow) (standby_of new.shadow) (ap standby_of t.shadow) (lanes_by old new t.ends t.undelivered) s.shadow;
-  before_flush = λ _. subst (λ (z : Contents). IsBeforeFlush z.history) (sym t.shadow) (s.before_flush t.live.2);
+  shadow = moved start base s.txs (lanes_of old) (lanes_of new) (standby_of (shadow_after past old.shadow)) (standby_of (shadow_after past new.shadow)) (ap (λ z. standby_of (shadow_after past z)) t.shadow) (lanes_by old new t.ends t.undelivered) s.shadow;
+  before_flush = λ _. subst (λ (z : Contents). IsBeforeFlush (past ++ z.history)) (sym t.shadow) (s.before_flush t.live.2);
   log = more base given p s.txs old.shadow.last (s.log ∙ ap (λ z. s.txs ++ z) t.was ∙ append_none s.txs) s.shadow.last ∙ ap (λ z. s.txs ++ z) (sym t.now);
-  goes_on = (λ _ later. from_segment start base given old p later s t.live t.was
+  goes_on = (λ _ later. from_segment start base given (after past old) p later s t.live t.was
       ∙ behind_segment old.shadow.last old.shadow.namespace p later t.low
       ∙ (λ j. end_behind (sym t.shadow j).last (sym t.shadow j).namespace (sym t.now j) later));
   stops = λ m q. not_stopped new.stop m t.stop q;
@@ -130,7 +131,7 @@ carries_segment old new p t start base given s = record {
 }
 
 pub carries_gap : (old new : Tailer) (p : Segment) (m : Stop) → FindsGap old p m new → Carries old (Ok (segment p) ∷ []) new
-carries_gap old new p m t = subst (λ z. Carries old (Ok (segment p) ∷ []) z) (sym t.now) (λ start base given s. record {
+carries_gap old new p m t = subst (λ z. Carries old (Ok (segment p) ∷ []) z) (sym t.now) (λ past start base given s. record {
   txs = s.txs;
   shadow = s.shadow;
   before_flush = s.before_flush;
@@ -139,7 +140,7 @@ carries_gap old new p m t = subst (λ z. Carries old (Ok (segment p) ∷ []) z) 
   stops = (λ z q. let e : m ≡ z = cc in subst (λ w. StopsLog start base (given ++ Ok (segment p) ∷ []) w) e (
     disorder,
     sym t.number,
-    λ later. from_segment start base given old p later s t.live t.was ∙ behind_gap old.shadow.last old.shadow.namespace p later t.high
+    λ later. from_segment start base given (after past old) p later s t.live t.was ∙ behind_gap old.shadow.last old.shadow.namespace p later t.high
         ∙ ap (λ n. Err (record { cause = disorder; txid = n })) (sym t.txid),
   ));
   ended = not_begun old t.live;
@@ -147,8 +148,8 @@ carries_gap old new p m t = subst (λ z. Carries old (Ok (segment p) ∷ []) z) 
 
 -- a transaction is applied
 pub carries_applied : (old new : Tailer) (txid : ℕ) → IsLive old → AppliesNext old txid new → Carries old [] new
-carries_applied old new txid l a = subst (λ z. Carries old [] z) (sym a.now) (λ start base given s.
-    let by = a.applied.stands start base s.txs (lanes_of old) (stands_live start base given old l s) in record {
+carries_applied old new txid l a = subst (λ z. Carries old [] z) (sym a.now) (λ past start base given s.
+    let by = a.applied.stands past start base s.txs (lanes_of old) (stands_live start base given (after past old) l s) in record {
       txs = s.txs ++ a.tx ∷ [];
       shadow = by.stands;
       before_flush = λ _. by.before_flush;
@@ -162,17 +163,17 @@ carries_applied old new txid l a = subst (λ z. Carries old [] z) (sym a.now) (�
     })
 
 -- it shows what it showed, whatever else is marked
-pub still_stands : (start : Namespace) (base : ℕ) (txs : List Tx) (lanes : Lanes) (x y : Contents) → ShowsSame x y → Stands start base txs lanes (standby_of x) → Stands start base txs lanes (standby_of y)
-still_stands start base txs lanes x y q h = subst (Stands start base txs lanes) (sym q.standby) h
+pub still_stands : (past : History) (start : Namespace) (base : ℕ) (txs : List Tx) (lanes : Lanes) (x y : Contents) → ShowsSame x y → Stands start base txs lanes (standby_of (shadow_after past x)) → Stands start base txs lanes (standby_of (shadow_after past y))
+still_stands past start base txs lanes x y q h = subst (λ z. Stands start base txs lanes (standby_after past z)) (sym q.standby) h
 
-pub still_before : (x y : Contents) → ShowsSame x y → IsBeforeFlush x.history → IsBeforeFlush y.history
-still_before x y q h = subst (λ (z : StandbyState). IsBeforeFlush z.history) (sym q.standby) h
+pub still_before : (past : History) (x y : Contents) → ShowsSame x y → IsBeforeFlush (past ++ x.history) → IsBeforeFlush (past ++ y.history)
+still_before past x y q h = subst (λ (z : StandbyState). IsBeforeFlush (past ++ z.history)) (sym q.standby) h
 
 pub carries_stop : (old new : Tailer) (m : Stop) → IsLive old → StopsAt old m new → Carries old [] new
-carries_stop old new m l a = subst (λ z. Carries old [] z) (sym a.now) (λ start base given s. record {
+carries_stop old new m l a = subst (λ z. Carries old [] z) (sym a.now) (λ past start base given s. record {
   txs = s.txs;
-  shadow = still_stands start base s.txs (lanes_of old) old.shadow a.shown a.same s.shadow;
-  before_flush = λ _. still_before old.shadow a.shown a.same (s.before_flush l.2);
+  shadow = still_stands past start base s.txs (lanes_of old) old.shadow a.shown a.same s.shadow;
+  before_flush = λ _. still_before past old.shadow a.shown a.same (s.before_flush l.2);
   log = same_log base given (s.txs ++ old.rest) s.log;
   goes_on = (λ q. absurd (let e : Some m ≡ None = q in cc));
   stops = (λ z q. let e : m ≡ z = cc in subst (λ w. StopsLog start base (given ++ []) w) e (
@@ -187,10 +188,10 @@ carries_stop old new m l a = subst (λ z. Carries old [] z) (sym a.now) (λ star
 })
 
 pub carries_unchanged : (old new : Tailer) → IsLive old → IsAsBefore old new → Carries old [] new
-carries_unchanged old new l a = subst (λ z. Carries old [] z) (sym a.now) (λ start base given s. record {
+carries_unchanged old new l a = subst (λ z. Carries old [] z) (sym a.now) (λ past start base given s. record {
   txs = s.txs;
-  shadow = still_stands start base s.txs (lanes_of old) old.shadow a.shown a.same s.shadow;
-  before_flush = λ _. still_before old.shadow a.shown a.same (s.before_flush l.2);
+  shadow = still_stands past start base s.txs (lanes_of old) old.shadow a.shown a.same s.shadow;
+  before_flush = λ _. still_before past old.shadow a.shown a.same (s.before_flush l.2);
   log = same_log base given (s.txs ++ old.rest) s.log;
   goes_on = (λ _ later. same_given start base given later ∙ s.goes_on l.1 later ∙ same_way old (with_shadow old a.shown) later (same_last old.shadow a.shown a.same) (same_namespace old.shadow a.shown a.same) refl);
   stops = (λ m q. not_stopped old.stop m l.1 q);
@@ -198,9 +199,9 @@ carries_unchanged old new l a = subst (λ z. Carries old [] z) (sym a.now) (λ s
 })
 
 pub carries_fetch : (old : Tailer) (i : ℕ) (e : Taking) (k : Option Message) → IsLive old → handed_all (with_lane old i e k).ends (with_lane old i e k).undelivered ≡ handed_all old.ends old.undelivered → Carries old [] (with_lane old i e k)
-carries_fetch old i e k l same start base given s = record {
+carries_fetch old i e k l same past start base given s = record {
   txs = s.txs;
-  shadow = subst (λ z. Stands start base s.txs z (standby_of old.shadow)) (sym (ap by_node same)) s.shadow;
+  shadow = subst (λ z. Stands start base s.txs z (standby_of (shadow_after past old.shadow))) (sym (ap by_node same)) s.shadow;
   before_flush = s.before_flush;
   log = same_log base given (s.txs ++ old.rest) s.log;
   goes_on = (λ _ later. same_given start base given later ∙ s.goes_on l.1 later);
@@ -209,10 +210,10 @@ carries_fetch old i e k l same start base given s = record {
 }
 
 pub carries_handed : (old new : Tailer) (i : ℕ) (m : Message) (d : Taking) → IsLive old → Keeps old → i < length old.ends → undelivered_at old i ≡ Some m → HandsUndelivered old i m new → Carries old [] new
-carries_handed old new i m d l k within e h = subst (λ z. Carries old [] z) (sym h.now) (λ start base given s.
-    let by = h.handed.stands start base s.txs (lanes_of old) (stands_live start base given old l s) in record {
+carries_handed old new i m d l k within e h = subst (λ z. Carries old [] z) (sym h.now) (λ past start base given s.
+    let by = h.handed.stands past start base s.txs (lanes_of old) (stands_live start base given (after past old) l s) in record {
       txs = s.txs;
-      shadow = subst (λ z. Stands start base s.txs z (standby_of h.shown)) (sym (lanes_grow old i m d h.shown k within e)) by.stands;
+      shadow = subst (λ z. Stands start base s.txs z (standby_of (shadow_after past h.shown))) (sym (lanes_grow old i m d h.shown k within e)) by.stands;
       before_flush = λ _. by.before_flush;
       log = same_log base given (s.txs ++ old.rest) s.log;
       goes_on = (λ _ later. same_given start base given later ∙ s.goes_on l.1 later ∙ same_way old (with_shadow (with_undelivered old i None) h.shown) later (handed_last old.shadow h.shown m h.handed) (handed_namespace old.shadow h.shown m h.handed) refl);

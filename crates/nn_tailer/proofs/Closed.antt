@@ -7,7 +7,7 @@ use Rattle.nn_types.specs.declared.report.Message.{Message}
 use Rattle.nn_model.specs.Stands.{Stands}
 use Rattle.nn_lane.specs.Ends.{Taking}
 use Rattle.nn_shadow.specs.Contents.{standby_of}
-use Rattle.nn_tailer.specs.Tailing.{Tailer, Keeps, Carries, AllTaken, AreUndelivered, IsUndelivered, handed, handed_all, by_node, with_ends}
+use Rattle.nn_tailer.specs.Tailing.{Tailer, after, Keeps, Carries, AllTaken, AreUndelivered, IsUndelivered, handed, handed_all, by_node, with_ends}
 use Rattle.nn_tailer.specs.LaneSteps.{ClosesEnd, CloseEnds, closed_of, AllClosed}
 use Rattle.nn_tailer.proofs.Carried.{same_log}
 use Rattle.nn_tailer.proofs.LogEnds.{same_given, stops_same}
@@ -60,12 +60,13 @@ keeps_closed x es k c = record {
   stops = k.stops;
   begun_live = k.begun_live;
   not_begun = k.not_begun;
+  before_flush = k.before_flush;
 }
 
 pub carries_closed : (x : Tailer) (es : List Taking) → CloseEnds x.ends es → Carries x [] (with_ends x es)
-carries_closed x es c start base given s = record {
+carries_closed x es c past start base given s = record {
   txs = s.txs;
-  shadow = subst (λ z. Stands start base s.txs z (standby_of x.shadow)) (sym (ap by_node (handed_closed x.ends es x.undelivered c))) s.shadow;
+  shadow = subst (λ z. Stands start base s.txs z (standby_of (after past x).shadow)) (sym (ap by_node (handed_closed x.ends es x.undelivered c))) s.shadow;
   before_flush = s.before_flush;
   log = same_log base given (s.txs ++ x.rest) s.log;
   goes_on = (λ q later. same_given start base given later ∙ s.goes_on q later);

@@ -28,6 +28,7 @@ keeps_lane x i e k h l n m q = record {
   stops = h.stops;
   begun_live = h.begun_live;
   not_begun = h.not_begun;
+  before_flush = h.before_flush;
 }
 
 module _ (x : Tailer) (i : ℕ) (d e' : Taking) (k : Keeps x) (l : i < length x.ends) (none : undelivered_at x i ≡ None) (s : SameLane (get_or x.ends i d) e') where

@@ -13,8 +13,9 @@ use Rattle.nn_shadow.specs.Contents.{Contents, standby_of}
 use Rattle.nn_segment.specs.Segment.{Segment}
 use Rattle.nn_segment.specs.Source.{Answer}
 use Rattle.nn_segment.specs.Walk.{log_in}
-use Rattle.nn_tailer.specs.Shadows.{ShowsSame, IsFlushed}
-use Rattle.nn_tailer.specs.Tailing.{Tailer, way_on, StandsAt, EndsInEnd, AllTaken, lanes_of, by_node}
+use Rattle.nn_model.specs.History.{History}
+use Rattle.nn_tailer.specs.Shadows.{ShowsSame, IsFlushed, shadow_after}
+use Rattle.nn_tailer.specs.Tailing.{Tailer, after, way_on, StandsAt, EndsInEnd, AllTaken, lanes_of, by_node}
 use Rattle.nn_tailer.specs.Promotion.{Promoted}
 use Rattle.nn_tailer.proofs.Carried.{still_stands, still_before}
 use Rattle.nn_segment.specs.LogEnd.{end_of_log, end_behind, given_in}
@@ -29,26 +30,26 @@ flushing x s = record { shadow = s; ends = x.ends; undelivered = x.undelivered; 
 abbrev pub activated : Tailer → Contents → Tailer
 activated x s = record { shadow = s; ends = x.ends; undelivered = x.undelivered; rest = x.rest; stop = x.stop; active = true }
 
-pub stands_flushing : (x : Tailer) (s : Contents) → ShowsSame x.shadow s → (start : Namespace) (base : ℕ) (given : List Answer) → StandsAt start base given x → x.rest ≡ [] → EndsInEnd given → AllTaken x.ends x.undelivered → StandsAt start base given (flushing x s)
-stands_flushing x s f start base given h r e t = record {
+pub stands_flushing : (x : Tailer) (s : Contents) → ShowsSame x.shadow s → (past : History) (start : Namespace) (base : ℕ) (given : List Answer) → StandsAt start base given (after past x) → x.rest ≡ [] → EndsInEnd given → AllTaken x.ends x.undelivered → StandsAt start base given (after past (flushing x s))
+stands_flushing x s f past start base given h r e t = record {
   txs = h.txs;
-  shadow = still_stands start base h.txs (lanes_of x) x.shadow s f h.shadow;
-  before_flush = λ a. still_before x.shadow s f (h.before_flush a);
+  shadow = still_stands past start base h.txs (lanes_of x) x.shadow s f h.shadow;
+  before_flush = λ a. still_before past x.shadow s f (h.before_flush a);
   log = h.log;
   goes_on = (λ q later. h.goes_on q later ∙ same_way x (flushing x s) later (same_last x.shadow s f) (same_namespace x.shadow s f) refl);
   stops = h.stops;
   ended = λ _. (r, e, t);
 }
 
-pub promotes : (x : Tailer) (s : Contents) → x.active ≡ false → x.stop ≡ None → IsFlushed x.shadow s → (start : Namespace) (base : ℕ) (given : List Answer) → StandsAt start base given x → x.rest ≡ [] → EndsInEnd given → AllTaken x.ends x.undelivered → Promoted start base given (activated x s) × StandsAt start base given (activated x s)
-promotes x s a n f start base given h r e t =
+pub promotes : (x : Tailer) (s : Contents) → x.active ≡ false → x.stop ≡ None → IsFlushed x.shadow s → (past : History) (start : Namespace) (base : ℕ) (given : List Answer) → StandsAt start base given (after past x) → x.rest ≡ [] → EndsInEnd given → AllTaken x.ends x.undelivered → Promoted start base given (after past (activated x s)) × StandsAt start base given (after past (activated x s))
+promotes x s a n f past start base given h r e t =
     let log : h.txs ≡ log_in base given = sym (h.log ∙ ap (λ z. h.txs ++ z) r ∙ append-nil h.txs) in
     let lanes : lanes_of x ≡ by_node (map got_of x.ends) = ap by_node (handed_got x.ends x.undelivered t) in
-    let by = f.stands start base h.txs (lanes_of x) (record { stands = h.shadow; before_flush = h.before_flush a }) in
+    let by = f.stands past start base h.txs (lanes_of x) (record { stands = h.shadow; before_flush = h.before_flush a }) in
     let way : x.stop ≡ None → (later : List Segment) → end_of_log base start (given_in given ++ later) ≡ way_on (activated x s) later =
     λ q later. h.goes_on q later ∙ same_way x (activated x s) later (ap (λ (z : StandbyState). z.last) f.standby) (ap (λ (z : StandbyState). z.namespace) f.standby) refl in
-    let S : List Tx → Lanes → Type 0 = λ txs ls. Stands start base txs ls (standby_of s) in
-    let W : List Tx → Lanes → Type 0 = λ txs ls. IsWhole start txs (items ls) s.history in
+    let S : List Tx → Lanes → Type 0 = λ txs ls. Stands start base txs ls (standby_of (shadow_after past s)) in
+    let W : List Tx → Lanes → Type 0 = λ txs ls. IsWhole start txs (items ls) (past ++ s.history) in
     let P : Lanes → Type 0 = λ ls. ShowsPicture s.namespace (items ls) (tables_of (standby_of s)) in (
       record {
         stands = subst (λ ls. S (log_in base given) ls) lanes (subst (λ txs. S txs (lanes_of x)) log by.0);

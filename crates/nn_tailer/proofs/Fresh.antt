@@ -48,6 +48,7 @@ keeps_fresh start base s es ks l n e f = subst (λ z. Keeps (fresh s es z)) (sym
   stops = λ z q. absurd (let w : None ≡ Some z = q in cc);
   begun_live = λ _. refl;
   not_begun = λ _. refl;
+  before_flush = λ _. f.stands.before_flush;
 })
 
 pub is_new_at : (start : Namespace) (base : ℕ) (s : Contents) (es : List Taking) (ks : List (Option Message)) → AreNew 1 es → ks ≡ replicate (length es) None → IsFresh start base (length es) s → IsNewAt start base es (fresh s es ks)

@@ -6,7 +6,7 @@ use Rattle.nn_lane.specs.Ends.{Taking, counted}
 use Rattle.nn_tailer.specs.declared.standby.Stepped.TheVariants as stepped
 use Rattle.nn_tailer.specs.declared.fault.StepFault.{StepFault}
 use Rattle.nn_tailer.specs.declared.fault.StepFault.TheVariants as fault
-use Rattle.nn_tailer.specs.Tailing.{has_begun, Tailer, Keeps, Carries, lanes_of, handed, handed_all, undelivered_at, with_lane}
+use Rattle.nn_tailer.specs.Tailing.{has_begun, Tailer, after, Keeps, Carries, lanes_of, handed, handed_all, undelivered_at, with_lane}
 use Rattle.nn_shadow.specs.Contents.{Contents, standby_of, KeepsSettings}
 use Rattle.nn_shadow.specs.Refusals.{handed_as}
 use Rattle.nn_shadow.specs.declared.fault.Handed.{Handed}
@@ -179,7 +179,7 @@ step_hands old mid new i m counts v k k' l f h w =
           let P : Tailer → Type 0 = λ z. undelivered_at z i ≡ None in subst P (sym h.now) (get_or-set_same mid.undelivered i None None in_mid);
       standby = ap (λ z. standby_of z.shadow) h.now ∙ by.standby;
       answer = subst (λ (z : Contents). handed_as (standby_of z) m ≡ counts) same w;
-      held = λ start base given s. by.held start base s.txs (lanes_of old) (stands_live start base given old v s);
+      held = λ past start base given s. by.held past start base s.txs (lanes_of old) (stands_live start base given (after past old) v s);
     }
 
 frame_unchanged : (x y : Tailer) (i : ℕ) → IsLive x → i < length x.ends → IsAsBefore x y → LaneFrame x i y

@@ -1,6 +1,7 @@
 pub mod Sources
 pub mod LogEnds
 pub mod Shadowing
+pub mod Unflushed
 pub mod Lanes
 pub mod Moves
 pub mod Fetched

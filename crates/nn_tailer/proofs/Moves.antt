@@ -11,6 +11,7 @@ use Rattle.nn_shadow.specs.Contents.{Contents, standby_of, number_in}
 use Rattle.nn_shadow.specs.Refusals.{hand_refusal}
 use Rattle.nn_tailer.specs.Shadows.{IsHanded}
 use Rattle.nn_tailer.specs.Parts.{IsLive}
+use Rattle.nn_tailer.proofs.Unflushed.{handed_before}
 use Rattle.nn_tailer.proofs.Shadowing.{serving, is_welcome, handed_last, handed_numbers}
 use Rattle.nn_tailer.specs.Tailing.{Tailer, Keeps, handed, handed_all, by_node, lanes_of, IsUndelivered, AreUndelivered, undelivered_at, with_undelivered, with_shadow}
 use Rattle.nn_tailer.proofs.Lanes.{lane_known, same_many, handed_set, length_handed, handed_at, handed_undelivered, grows}
@@ -107,4 +108,5 @@ keeps_handed x i m d s k l e h =
       stops = λ z q. k.stops z q ∙ ap (λ n. n + 1) (sym last);
       begun_live = λ q. k.begun_live (sym (ap (λ z. z.active) h.phase) ∙ q);
       not_begun = λ q. k.not_begun (sym (ap (λ z. z.active) h.phase) ∙ q);
+      before_flush = λ q. handed_before x.shadow s m h (k.before_flush q);
     }

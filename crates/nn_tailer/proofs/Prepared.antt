@@ -7,7 +7,7 @@ use Rattle.nn_tailer.specs.declared.fault.StepFault.TheVariants as fault
 use Rattle.nn_tailer.specs.declared.fault.PromoteFault.{PromoteFault}
 use Rattle.nn_tailer.specs.declared.fault.PromoteFault.TheVariants as promote_fault
 use Rattle.nn_tailer.specs.declared.standby.Active.{Active}
-use Rattle.nn_tailer.specs.Tailing.{has_begun, Tailer, Keeps, Carries, StandsAt, EndsInEnd}
+use Rattle.nn_tailer.specs.Tailing.{has_begun, Tailer, after, Keeps, Carries, StandsAt, EndsInEnd}
 use Rattle.nn_tailer.specs.Steps.{SameLanes}
 use Rattle.nn_tailer.specs.LaneSteps.{SameEnds, AllClosed, LanesFrame, AreDrained}
 use Rattle.nn_tailer.specs.Reads.{WhyEnded, StopsFor, EditsOn}
@@ -57,7 +57,7 @@ still_all_closed x y l c = subst AllClosed (sym l.ends) c
 -- a standby that is stopped stands where the log stops
 pub stops_for : (x y : Tailer) (rs : List Answer) (e : StepFault) → Carries x rs y → WhyEnded rs y e → StopsFor x rs e
 stops_for x y rs fault.AlreadyActive c w = tt
-stops_for x y rs (fault.Stopped m) c w = λ start base given h. (c start base given h).stops m w.0
+stops_for x y rs (fault.Stopped m) c w = λ past start base given h. (c past start base given h).stops m w.0
 stops_for x y rs fault.BadLane c w = tt
 stops_for x y rs (fault.LogNotEnded f) c w = w.1
 stops_for x y rs fault.OutOfMemory c w = tt
@@ -76,15 +76,15 @@ module _ {S : Type 0} (gives : S → Answer → S → Type 0) where
   promote_finished s t x y z rs (Ok a) b v q p f = (
     rs,
     q,
-    (λ start base given h. (f.4 start base (given ++ rs) (p.0 start base given h) p.4.1 (ends_behind given rs p.4.2) p.4.3).1),
+    (λ past start base given h. (f.4 past start base (given ++ rs) (p.0 past start base given h) p.4.1 (ends_behind given rs p.4.2) p.4.3).1),
     ends_then x.ends y.ends z.ends p.1 (subst (λ es. SameEnds y.ends es) (sym f.3) (ends_same y.ends)),
-    (f.0, f.1, f.2, (λ start base given h. (f.4 start base (given ++ rs) (p.0 start base given h) p.4.1 (ends_behind given rs p.4.2) p.4.3).0), λ _. p.4.2),
+    (f.0, f.1, f.2, (λ past start base given h. (f.4 past start base (given ++ rs) (p.0 past start base given h) p.4.1 (ends_behind given rs p.4.2) p.4.3).0), λ _. p.4.2),
     settings_then x.shadow y.shadow z.shadow p.5 f.5,
   )
   promote_finished s t x y z rs (Err (promote_fault.Step fault.OutOfMemory)) b v q p f = (
     rs,
     q,
-    (λ start base given h. f.3 start base (given ++ rs) (p.0 start base given h) p.4.1 (ends_behind given rs p.4.2) p.4.3),
+    (λ past start base given h. f.3 past start base (given ++ rs) (p.0 past start base given h) p.4.1 (ends_behind given rs p.4.2) p.4.3),
     ends_then x.ends y.ends z.ends p.1 (subst (λ es. SameEnds y.ends es) (sym f.2) (ends_same y.ends)),
     (f.0 ∙ p.3, f.1, tt),
     settings_then x.shadow y.shadow z.shadow p.5 f.4,
@@ -101,15 +101,15 @@ module _ {S : Type 0} (gives : S → Answer → S → Type 0) where
   promote_resumed s x z (Ok a) b f = (
     [],
     refl,
-    (λ start base given h. let e = h.ended b in subst (λ g. StandsAt start base g z) (sym (append-nil given)) (f.4 start base given h e.0 e.1 e.2).1),
+    (λ past start base given h. let e = h.ended b in subst (λ g. StandsAt start base g (after past z)) (sym (append-nil given)) (f.4 past start base given h e.0 e.1 e.2).1),
     subst (λ es. SameEnds x.ends es) (sym f.3) (ends_same x.ends),
-    (f.0, f.1, f.2, (λ start base given h. let e = h.ended b in subst (λ g. Promoted start base g z) (sym (append-nil given)) (f.4 start base given h e.0 e.1 e.2).0), λ fresh. absurd (true≢false (sym b ∙ fresh))),
+    (f.0, f.1, f.2, (λ past start base given h. let e = h.ended b in subst (λ g. Promoted start base g (after past z)) (sym (append-nil given)) (f.4 past start base given h e.0 e.1 e.2).0), λ fresh. absurd (true≢false (sym b ∙ fresh))),
     f.5,
   )
   promote_resumed s x z (Err (promote_fault.Step fault.OutOfMemory)) b f = (
     [],
     refl,
-    (λ start base given h. let e = h.ended b in subst (λ g. StandsAt start base g z) (sym (append-nil given)) (f.3 start base given h e.0 e.1 e.2)),
+    (λ past start base given h. let e = h.ended b in subst (λ g. StandsAt start base g (after past z)) (sym (append-nil given)) (f.3 past start base given h e.0 e.1 e.2)),
     subst (λ es. SameEnds x.ends es) (sym f.2) (ends_same x.ends),
     (f.0, f.1, tt),
     f.4,

@@ -20,8 +20,8 @@ use Rattle.nn_tailer.proofs.Shadowing.{settings_same}
 -- why nothing was done
 stops_by : (x y : Tailer) (c : Choice) (rs : List Answer) (f : StepFault) → Carries x rs y → NotStepped x c rs y f → StopsWith y f × StopsFor x rs f
 stops_by x y c rs fault.AlreadyActive g h = (tt, tt)
-stops_by x y c rs (fault.Stopped m) g (inl h) = let e = ap (λ z. z.stop) h.1.1 ∙ h.1.0 in (e, λ start base given s. (g start base given s).stops m e)
-stops_by x y c rs (fault.Stopped m) g (inr h) = (h.1.0, λ start base given s. (g start base given s).stops m h.1.0)
+stops_by x y c rs (fault.Stopped m) g (inl h) = let e = ap (λ z. z.stop) h.1.1 ∙ h.1.0 in (e, λ past start base given s. (g past start base given s).stops m e)
+stops_by x y c rs (fault.Stopped m) g (inr h) = (h.1.0, λ past start base given s. (g past start base given s).stops m h.1.0)
 stops_by x y c rs fault.BadLane g h = (tt, tt)
 stops_by x y c rs (fault.LogNotEnded f) g h = (tt, ([], h.1.0))
 stops_by x y c rs fault.OutOfMemory g h = (tt, tt)
@@ -50,7 +50,7 @@ module _ {S : Type 0} (gives : S → Answer → S → Type 0) where
   pub edit_steps : (s t : S) (x y : Tailer) (c : Choice) (r : Result Stepped StepFault) → c ≡ Edit → Edits gives s x t y r → Steps gives s x c t y r
   edit_steps s t x y c (Ok a) q h = (h.0, h.1, h.2, ends_by x y h.3, h.3.begun, subst (λ z. IsStepped x z h.0 y a) (sym q) h.4, h.3.settings, h.3.active, subst (λ z. Leaves x z y) (sym q) (h.3.ends, h.3.undelivered))
   edit_steps s t x y c (Err fault.AlreadyActive) q h = absurd h.4
-  edit_steps s t x y c (Err (fault.Stopped m)) q h = (h.0, h.1, h.2, ends_by x y h.3, h.3.begun, (inr (q, h.4), h.4.0, λ start base given g. (h.2 start base given g).stops m h.4.0), h.3.settings, h.3.active, subst (λ z. Leaves x z y) (sym q) (h.3.ends, h.3.undelivered))
+  edit_steps s t x y c (Err (fault.Stopped m)) q h = (h.0, h.1, h.2, ends_by x y h.3, h.3.begun, (inr (q, h.4), h.4.0, λ past start base given g. (h.2 past start base given g).stops m h.4.0), h.3.settings, h.3.active, subst (λ z. Leaves x z y) (sym q) (h.3.ends, h.3.undelivered))
   edit_steps s t x y c (Err fault.BadLane) q h = absurd h.4
   edit_steps s t x y c (Err (fault.LogNotEnded f)) q h = (h.0, h.1, h.2, ends_by x y h.3, h.3.begun, ((q, h.4), tt, ([], h.4.0)), h.3.settings, h.3.active, subst (λ z. Leaves x z y) (sym q) (h.3.ends, h.3.undelivered))
   edit_steps s t x y c (Err fault.OutOfMemory) q h = (h.0, h.1, h.2, ends_by x y h.3, h.3.begun, (inl (q, h.4), tt, tt), h.3.settings, h.3.active, subst (λ z. Leaves x z y) (sym q) (h.3.ends, h.3.undelivered))

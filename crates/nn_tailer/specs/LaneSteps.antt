@@ -11,6 +11,7 @@ use Rattle.nn_tailer.specs.Shadows.{ShowsSame}
 use Rattle.nn_model.specs.Namespace.{Namespace}
 use Rattle.nn_model.specs.Lanes.{followed_by}
 use Rattle.nn_model.specs.Held.{is_held}
+use Rattle.nn_model.specs.History.{History}
 use Rattle.nn_model.specs.Items.{items}
 use Rattle.nn_model.specs.WellFormed.{Has}
 use Rattle.nn_segment.specs.Source.{Answer}
@@ -18,7 +19,7 @@ use Rattle.nn_shadow.specs.Contents.{standby_of, KeepsSettings}
 use Rattle.nn_shadow.specs.Calls.{waits, items_added, received}
 use Rattle.nn_shadow.specs.Refusals.{handed_as}
 use Rattle.nn_shadow.specs.declared.fault.Handed.{Handed}
-use Rattle.nn_tailer.specs.Tailing.{has_begun, Tailer, StandsAt, Carries, lanes_of, handed_all, undelivered_at}
+use Rattle.nn_tailer.specs.Tailing.{has_begun, Tailer, after, StandsAt, Carries, lanes_of, handed_all, undelivered_at}
 
 -- an end of the same lane, as closed as before; once closed its count stays
 abbrev pub SameEnd : Taking → Taking → Type 0
@@ -77,7 +78,7 @@ pub record HandsNext (old : Tailer) (i : ℕ) (handed : Handed) (new : Tailer) :
   pub none_undelivered : undelivered_at new i ≡ None
   pub standby : standby_of new.shadow ≡ received (standby_of old.shadow) message
   pub answer : handed_as (standby_of old.shadow) message ≡ handed
-  pub held : (start : Namespace) (base : ℕ) (given : List Answer) → StandsAt start base given old → (item : Message) → Has (items_added (standby_of old.shadow) message) item
+  pub held : (past : History) (start : Namespace) (base : ℕ) (given : List Answer) → StandsAt start base given (after past old) → (item : Message) → Has (items_added (standby_of old.shadow) message) item
       → waits (standby_of old.shadow) item ≡ is_held old.shadow.namespace (items (followed_by (lanes_of old) message) message.dn) item
 
 -- it was tried to take from the lane once

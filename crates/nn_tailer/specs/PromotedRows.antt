@@ -106,6 +106,7 @@ keeps_new l = record {
   stops = λ s e. absurd (cc);
   begun_live = λ _. refl;
   not_begun = λ _. refl;
+  before_flush = λ _. refl;
 }
 
 new_stands : (l : LaneId) → StandsAt root_alone 0 [] (new l)
@@ -172,6 +173,7 @@ keeps_in_hand l = record {
   stops = λ s e. absurd (cc);
   begun_live = λ _. refl;
   not_begun = λ _. refl;
+  before_flush = λ _. refl;
 }
 
 in_hand_stands : (l : LaneId) → StandsAt root_alone 0 (given marks ∷ []) (in_hand l)

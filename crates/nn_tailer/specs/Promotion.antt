@@ -2,7 +2,7 @@
 use Rattle.std.specs.Prelude.{◌≡◌, ℕ, true, false, List, [], ◌++◌, map, count_by, None, Result, Ok, Err, MatchResult}
 use Rattle.std.specs.List.{list_all}
 use Rattle.nn_model.specs.Namespace.{Namespace}
-use Rattle.nn_model.specs.History.{is_flush}
+use Rattle.nn_model.specs.History.{History, is_flush}
 use Rattle.nn_model.specs.Items.{items}
 use Rattle.nn_model.specs.Lawful.{IsWhole}
 use Rattle.nn_model.specs.Picture.{ShowsPicture}
@@ -17,7 +17,7 @@ use Rattle.nn_tailer.specs.declared.fault.StepFault.TheVariants as fault
 use Rattle.nn_tailer.specs.declared.fault.PromoteFault.{PromoteFault}
 use Rattle.nn_tailer.specs.declared.fault.PromoteFault.TheVariants as promote_fault
 use Rattle.nn_tailer.specs.declared.standby.Active.{Active}
-use Rattle.nn_tailer.specs.Tailing.{has_begun, Tailer, Carries, StandsAt, EndsInEnd, AllTaken, by_node}
+use Rattle.nn_tailer.specs.Tailing.{has_begun, Tailer, after, Carries, StandsAt, EndsInEnd, AllTaken, by_node}
 use Rattle.nn_tailer.specs.LaneSteps.{SameEnds, closed_of}
 use Rattle.nn_tailer.specs.Reads.{WhyEnded, StopsFor}
 use Rattle.nn_tailer.specs.Steps.{OnLogFault}
@@ -37,11 +37,11 @@ pub record Promoted (start : Namespace) (base : ℕ) (given : List Answer) (x : 
 abbrev pub Finishes : Tailer → Tailer → Result Active PromoteFault → Type 0
 Finishes old new (Ok a) =
     (new.active ≡ true) × (a.last ≡ new.shadow.last) × (a.flushed ≡ count_by is_flush new.shadow.history) × (new.ends ≡ old.ends)
-    × ((start : Namespace) (base : ℕ) (given : List Answer) → StandsAt start base given old → old.rest ≡ [] → EndsInEnd given → AllTaken old.ends old.undelivered → Promoted start base given new × StandsAt start base given new)
+    × ((past : History) (start : Namespace) (base : ℕ) (given : List Answer) → StandsAt start base given (after past old) → old.rest ≡ [] → EndsInEnd given → AllTaken old.ends old.undelivered → Promoted start base given (after past new) × StandsAt start base given (after past new))
     × KeepsSettings old.shadow new.shadow
 Finishes old new (Err (promote_fault.Step fault.OutOfMemory)) =
     (new.active ≡ old.active) × (new.stop ≡ None) × (new.ends ≡ old.ends)
-    × ((start : Namespace) (base : ℕ) (given : List Answer) → StandsAt start base given old → old.rest ≡ [] → EndsInEnd given → AllTaken old.ends old.undelivered → StandsAt start base given new)
+    × ((past : History) (start : Namespace) (base : ℕ) (given : List Answer) → StandsAt start base given (after past old) → old.rest ≡ [] → EndsInEnd given → AllTaken old.ends old.undelivered → StandsAt start base given (after past new))
     × KeepsSettings old.shadow new.shadow
 Finishes old new (Err (promote_fault.Step fault.AlreadyActive)) = ⊥
 Finishes old new (Err (promote_fault.Step (fault.Stopped s))) = ⊥
@@ -64,9 +64,9 @@ OnPromoteLogFault (Err promote_fault.AlreadyActive) P = Unit {0}
 OnPromoteLogFault (Err promote_fault.IntakeOpen) P = Unit {0}
 OnPromoteLogFault (Err (promote_fault.Step f)) P = OnLogFault {A = Unit {0}} (Err f) P
 
--- wherever it stood, it is promoted there, with these answers more
+-- wherever it stood, after whatever was taken from its history, it is promoted there, with these answers more
 abbrev pub IsPromoted : Tailer → List Answer → Tailer → Type 0
-IsPromoted old answers new = (start : Namespace) (base : ℕ) (given : List Answer) → StandsAt start base given old → Promoted start base (given ++ answers) new
+IsPromoted old answers new = (past : History) (start : Namespace) (base : ℕ) (given : List Answer) → StandsAt start base given (after past old) → Promoted start base (given ++ answers) (after past new)
 
 abbrev pub NotPromoted : Tailer → List Answer → Tailer → PromoteFault → Type 0
 NotPromoted old answers new promote_fault.AlreadyActive = (old.active ≡ true) × (has_begun old ≡ true) × (new ≡ old) × (answers ≡ [])

@@ -4,6 +4,7 @@ use Rattle.nn_types.specs.declared.report.Message.{Message}
 use Rattle.nn_types.specs.declared.tx.Tx.{Tx}
 use Rattle.nn_model.specs.Namespace.{Namespace}
 use Rattle.nn_model.specs.Held.{is_held}
+use Rattle.nn_model.specs.History.{History}
 use Rattle.nn_model.specs.Items.{items}
 use Rattle.nn_model.specs.Lanes.{Lanes, followed_by}
 use Rattle.nn_model.specs.Lawful.{IsWhole}
@@ -11,8 +12,12 @@ use Rattle.nn_model.specs.Picture.{ShowsPicture}
 use Rattle.nn_model.specs.Stands.{Stands, tables_of}
 use Rattle.nn_model.specs.WellFormed.{Has}
 use Rattle.nn_shadow.specs.Contents.{Contents, standby_of, KeepsSettings}
-use Rattle.nn_shadow.specs.Calls.{applied_to, waits, items_added, received, flushed}
+use Rattle.nn_shadow.specs.Calls.{applied_to, waits, items_added, received, flushed, after}
 use Rattle.nn_shadow.specs.Laws.{StandsBy}
+
+-- the standby of one thread as if it had kept these events too, which were taken from its history before
+abbrev pub shadow_after : History → Contents → Contents
+shadow_after past x = record x { history = past ++ x.history }
 
 -- it shows what it showed: room may have come
 pub record ShowsSame (old new : Contents) : Type 0 where
@@ -24,21 +29,21 @@ pub record IsApplied (old : Contents) (tx : Tx) (new : Contents) : Type 0 where
   pub standby : standby_of new ≡ applied_to (standby_of old) tx
   pub phase : new.phase ≡ old.phase
   pub settings : KeepsSettings old new
-  pub stands : (start : Namespace) (base : ℕ) (txs : List Tx) (lanes : Lanes) → StandsBy start base txs lanes (standby_of old)
-      → StandsBy start base (txs ++ tx ∷ []) lanes (standby_of new)
+  pub stands : (past : History) (start : Namespace) (base : ℕ) (txs : List Tx) (lanes : Lanes) → StandsBy start base txs lanes (after past (standby_of old))
+      → StandsBy start base (txs ++ tx ∷ []) lanes (after past (standby_of new))
 
 pub record IsHanded (old : Contents) (m : Message) (new : Contents) : Type 0 where
   pub standby : standby_of new ≡ received (standby_of old) m
   pub phase : new.phase ≡ old.phase
   pub settings : KeepsSettings old new
-  pub stands : (start : Namespace) (base : ℕ) (txs : List Tx) (lanes : Lanes) → StandsBy start base txs lanes (standby_of old)
-      → StandsBy start base txs (followed_by lanes m) (standby_of new)
-  pub held : (start : Namespace) (base : ℕ) (txs : List Tx) (lanes : Lanes) → StandsBy start base txs lanes (standby_of old)
+  pub stands : (past : History) (start : Namespace) (base : ℕ) (txs : List Tx) (lanes : Lanes) → StandsBy start base txs lanes (after past (standby_of old))
+      → StandsBy start base txs (followed_by lanes m) (after past (standby_of new))
+  pub held : (past : History) (start : Namespace) (base : ℕ) (txs : List Tx) (lanes : Lanes) → StandsBy start base txs lanes (after past (standby_of old))
       → (item : Message) → Has (items_added (standby_of old) m) item → waits (standby_of old) item ≡ is_held old.namespace (items (followed_by lanes m) m.dn) item
 
 pub record IsFlushed (old new : Contents) : Type 0 where
   pub standby : standby_of new ≡ flushed (standby_of old)
   pub phase : new.phase ≡ record old.phase { active = true }
   pub settings : KeepsSettings old new
-  pub stands : (start : Namespace) (base : ℕ) (txs : List Tx) (lanes : Lanes) → StandsBy start base txs lanes (standby_of old)
-      → Stands start base txs lanes (standby_of new) × IsWhole start txs (items lanes) new.history × ShowsPicture new.namespace (items lanes) (tables_of (standby_of new))
+  pub stands : (past : History) (start : Namespace) (base : ℕ) (txs : List Tx) (lanes : Lanes) → StandsBy start base txs lanes (after past (standby_of old))
+      → Stands start base txs lanes (after past (standby_of new)) × IsWhole start txs (items lanes) (past ++ new.history) × ShowsPicture new.namespace (items lanes) (tables_of (standby_of new))

@@ -6,10 +6,11 @@ use Rattle.nn_model.specs.Namespace.{Namespace}
 use Rattle.nn_model.specs.Lanes.{Lanes}
 use Rattle.nn_lane.specs.Ends.{Taking, node_of, counted}
 use Rattle.nn_model.specs.Log.{CountsUp}
-use Rattle.nn_model.specs.History.{IsBeforeFlush}
+use Rattle.nn_model.specs.History.{History, IsBeforeFlush}
 use Rattle.nn_model.specs.Stands.{Stands}
 use Rattle.nn_shadow.specs.declared.fault.Stop.{Stop}
 use Rattle.nn_shadow.specs.Contents.{Contents, standby_of, number_in}
+use Rattle.nn_tailer.specs.Shadows.{shadow_after}
 use Rattle.nn_segment.specs.Source.{Answer, end}
 use Rattle.nn_segment.specs.Segment.{Segment}
 use Rattle.nn_segment.specs.Walk.{log_in}
@@ -68,6 +69,7 @@ pub record Keeps (x : Tailer) : Type 0 where
   pub stops : (s : Stop) → x.stop ≡ Some s → s.txid ≡ x.shadow.last + 1
   pub begun_live : has_begun x ≡ true → x.stop ≡ None
   pub not_begun : has_begun x ≡ false → x.active ≡ false
+  pub before_flush : x.active ≡ false → IsBeforeFlush x.shadow.history
 
 -- the last answer of a source was End
 abbrev pub EndsInEnd : List Answer → Type 0
@@ -100,13 +102,21 @@ pub record StandsAt (start : Namespace) (base : ℕ) (given : List Answer) (x : 
   pub stops : (s : Stop) → x.stop ≡ Some s → StopsLog start base given s
   pub ended : has_begun x ≡ true → (x.rest ≡ []) × EndsInEnd given × AllTaken x.ends x.undelivered
 
--- wherever it stood, it stands there with these answers more
+-- the standby once its history was taken
+abbrev pub without_history : Tailer → Tailer
+without_history x = record x { shadow = record x.shadow { history = [] } }
+
+-- the standby as if it had kept these events too, which were taken from its history before
+abbrev pub after : History → Tailer → Tailer
+after past x = record x { shadow = shadow_after past x.shadow }
+
+-- wherever it stood, after whatever was taken from its history, it stands there with these answers more
 abbrev pub Carries : Tailer → List Answer → Tailer → Type 0
-Carries old answers new = (start : Namespace) (base : ℕ) (given : List Answer) → StandsAt start base given old → StandsAt start base (given ++ answers) new
+Carries old answers new = (past : History) (start : Namespace) (base : ℕ) (given : List Answer) → StandsAt start base given (after past old) → StandsAt start base (given ++ answers) (after past new)
 
 -- wherever it stood, the log of all that was given then and of these answers stops with this
 abbrev pub LogStops : Tailer → List Answer → Stop → Type 0
-LogStops old answers s = (start : Namespace) (base : ℕ) (given : List Answer) → StandsAt start base given old → StopsLog start base (given ++ answers) s
+LogStops old answers s = (past : History) (start : Namespace) (base : ℕ) (given : List Answer) → StandsAt start base given (after past old) → StopsLog start base (given ++ answers) s
 
 -- ---- changed standbys
 

@@ -1,11 +1,12 @@
 //! The standby over its lanes: what it keeps, and its calls except the promotion.
-ghost use Rattle.std.specs.Prelude.{◌≡◌, ◌<◌, ◌≤◌, [], length, IfOk, IfErr, Err, Some, None, replicate};
+ghost use Rattle.std.specs.Prelude.{◌≡◌, ◌<◌, ◌≤◌, [], ◌++◌, length, IfOk, IfErr, Err, Some, None, replicate};
 ghost use Rattle.nn_tailer.specs.LaneSteps.{AllClosed, CloseEnds};
 ghost use Rattle.nn_tailer.specs.Public.{Steps, AreNew, IsNew};
 ghost use Rattle.nn_tailer.specs.declared.fault.StepFault.{StepFault as Why};
 ghost use Rattle.nn_tailer.specs.Refusals.{step_refusal};
 ghost use Rattle.nn_tailer.specs.Steps.{OnLogFault};
-ghost use Rattle.nn_tailer.specs.Tailing.{Carries, Keeps, has_begun, with_ends};
+ghost use Rattle.nn_model.specs.History.{History};
+ghost use Rattle.nn_tailer.specs.Tailing.{Carries, Keeps, has_begun, with_ends, without_history, after};
 
 mod checkpoint;
 mod lanes;
@@ -17,7 +18,7 @@ use crate::standby::lanes::close_all;
 use nn_lane::LaneEnd;
 use nn_segment::{Cursor, SegmentSource};
 use nn_shadow::{Shadow, Stop};
-use nn_types::{Message, Settings, Txid};
+use nn_types::{Event, Message, Settings, Txid};
 use std::alloc::{AllocError, Global};
 use std::marker::Model;
 
@@ -162,6 +163,24 @@ impl Standby {
         ensures carries { Carries self.old [] self.new }
     {
         close_all(self.ends.as_mut_slice());
+    }
+
+    /// Takes the history: what was done since it was last taken. The standby has none of it any more, and goes on as if it
+    /// had: what was taken, in order, and what it has are one history.
+    pub fn take_history(&mut self) -> Vec<Event>
+        ensures taken { result.items ≡ self.old.shadow.history }
+        ensures left { self.new ≡ without_history self.old }
+        ensures goes_on { (past : History) → after (past ++ result.items) self.new ≡ after past self.old }
+    {
+        self.shadow.take_history()
+    }
+
+    /// Forgets the history, and keeps its room: as `take_history`, where what was taken is not wanted.
+    pub fn forget_history(&mut self)
+        ensures left { self.new ≡ without_history self.old }
+        ensures goes_on { (past : History) → after (past ++ self.old.shadow.history) self.new ≡ after past self.old }
+    {
+        self.shadow.forget_history();
     }
 
     /// The standby below: its namespace, its replicas and orders, its history, what it holds, its counts.

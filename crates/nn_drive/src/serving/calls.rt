@@ -129,11 +129,12 @@ fn serve_over<'a, O: Operator, R: Wait>(
     workers: usize,
 ) -> Result<Active, DriveFault>
     requires serving { has_begun standby.old ≡ false }
+    requires few { started ≤ workers }
     ensures same { IsSameEnd end.old end.new }
-    ensures ok { IfOk result (λ active. PromotesOver O.asks standby.old end.old operator.old active standby.new end.new operator.new) }
+    ensures ok { IfOk result (λ active. PromotesOver O.asks workers standby.old end.old operator.old active standby.new end.new operator.new) }
     ensures started { IfOk result (λ _. workers ≤ started) }
     ensures err { IfErr result (λ fault. FailsOver standby.old end.old end.new fault) }
-    ensures back { IfErr result (λ _. ComesBack O.asks standby.old end.old operator.old standby.new end.new operator.new) }
+    ensures back { IfErr result (λ _. ComesBack O.asks workers standby.old end.old operator.old standby.new end.new operator.new) }
 {
     if !all_started(started, workers) {
         return Err(DriveFault::OutOfMemory);

@@ -1,6 +1,5 @@
 //! The promotion.
-ghost use Rattle.std.specs.Prelude.{◌≡◌, ◌<◌, ◌≤◌, false, List, Err, Some, None, count_by};
-ghost use Rattle.nn_model.specs.History.{is_flush};
+ghost use Rattle.std.specs.Prelude.{◌≡◌, ◌<◌, ◌≤◌, false, List, Err, Some, None};
 ghost use Rattle.nn_segment.specs.Source.{Answer, Asked};
 ghost use Rattle.nn_tailer.specs.LaneSteps.{AllClosed};
 ghost use Rattle.nn_tailer.specs.Parts.{IsLive};
@@ -14,7 +13,6 @@ use super::{Active, Standby};
 use crate::fault::{PromoteFault, StepFault};
 use nn_segment::SegmentSource;
 use nn_shadow::FlushFault;
-use nn_types::{Cause, Event};
 
 impl Standby {
     /// Promotes the standby: it reads the log to its end, drains its lanes and flushes what is held.
@@ -65,35 +63,15 @@ impl Standby {
         ensures { Finishes self.old self.new result }
     {
         match self.shadow.flush() {
-            Ok(_) => {
+            Ok(flushed) => {
                 self.active = true;
                 Ok(Active {
                     last: self.shadow.last_txid(),
-                    flushed: flushes(self.shadow.history()),
+                    flushed,
                 })
             }
             Err(FlushFault::OutOfMemory) => Err(PromoteFault::Step(StepFault::OutOfMemory)),
             Err(FlushFault::Stopped(_)) => unreachable!(),
         }
     }
-}
-
-// Whether the flush processed an item.
-fn is_flush(event: &Event) -> bool
-    ensures { result ≡ is_flush event.now }
-{
-    matches!(
-        event,
-        Event::Processed {
-            cause: Cause::Flush,
-            ..
-        }
-    )
-}
-
-// How many items the flush processed.
-fn flushes(history: &[Event]) -> u64
-    ensures { result ≡ count_by is_flush history.now }
-{
-    history.iter().filter(|event| is_flush(event)).count() as u64
 }

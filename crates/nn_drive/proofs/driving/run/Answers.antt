@@ -14,6 +14,8 @@ use Rattle.nn_feed.specs.Feeds.{has_last}
 use Rattle.nn_drive.specs.Driven.{JoinsAll, AreOneLane, Agrees, IsPromoted}
 use Rattle.nn_drive.proofs.Drives.{fit, lanes_now, none_closed, one_lanes, is_promoted}
 use Rattle.nn_drive.proofs.Fed.{same_then, same_asked, nothing_begun, fails_over}
+use Rattle.nn_tailer.specs.Shadows.{shadow_after}
+use Rattle.nn_drive.proofs.InTurn.{went_whole}
 use Rattle.nn_drive.proofs.Steps.{until_then}
 use Rattle.nn_drive.proofs.driving.run.Goals as goal
 
@@ -23,7 +25,7 @@ returns-then-not-all_started-clause-err g c =
 
 pub returns-in-Err-clause-same : goal.returns-in-Err-clause-same
 returns-in-Err-clause-same g c =
-    let e = c.rotate.ensures.went in same_then c.args.end.now c.rotate.new.end c.give_up-in-Err.new.end (same_asked c.args.end.now c.rotate.new.end e.0 e.1) c.give_up-in-Err.ensures.same
+    let e = c.in-Err.ensures.gone.went in same_then c.args.end.now c.rotate.new.end c.give_up-in-Err.new.end (same_asked c.args.end.now c.rotate.new.end e.0 e.1) c.give_up-in-Err.ensures.same
 
 pub returns-in-Err-clause-err : goal.returns-in-Err-clause-err
 returns-in-Err-clause-err g c =
@@ -33,19 +35,19 @@ returns-in-Err-clause-err g c =
 pub join_all-reporters-requires-clause-fit : goal.join_all-reporters-requires-clause-fit
 join_all-reporters-requires-clause-fit g c =
     let all : length c.args.workers.items ≤ length (vec_items c.start_all-handles.result) = omega (arith, c.if-not-all_started.ensures, c.len-count.ensures, c.len-started.ensures, c.args.workers.ok.0, c.start_all-handles.result.ok.0) in
-    let f = fit g.S.ReportSource.gives c.args.workers.items (vec_items c.start_all-handles.result) c.start_all-handles.ensures all c.args.standby c.rotate.new.standby c.requires.lanes c.rotate.ensures.went.0 c.rotate.ensures.went.2 in
+    let f = fit g.S.ReportSource.gives c.args.workers.items (vec_items c.start_all-handles.result) c.start_all-handles.ensures all c.args.standby c.rotate.new.standby c.requires.lanes (went_whole c.len-started.result c.args.end.now c.rotate.new.end c.args.standby c.rotate.new.standby _ _ c.in_default.ensures.wished).0 (went_whole c.len-started.result c.args.end.now c.rotate.new.end c.args.standby c.rotate.new.standby _ _ c.in_default.ensures.wished).2 in
     subst (λ (es : List Taking). length (vec_items c.start_all-handles.result) ≤ length es) (sym c.ends.ensures) f
 
 pub returns-in-Err-promote-clause-same : goal.returns-in-Err-promote-clause-same
 returns-in-Err-promote-clause-same g c =
-    let e = c.rotate.ensures.went in let p = c.in-Err-promote.ensures.err in
+    let e = went_whole c.len-started.result c.args.end.now c.rotate.new.end c.args.standby c.rotate.new.standby _ _ c.in_default.ensures.wished in let p = c.in-Err-promote.ensures.err in
     same_then c.args.end.now c.promote.new.source c.give_up-in-Err-promote.new.end
     (same_then c.args.end.now c.rotate.new.end c.promote.new.source (same_asked c.args.end.now c.rotate.new.end e.0 e.1) (same_asked c.rotate.new.end c.promote.new.source p.0 p.1))
     c.give_up-in-Err-promote.ensures.same
 
 pub returns-in-Err-promote-clause-err : goal.returns-in-Err-promote-clause-err
 returns-in-Err-promote-clause-err g c =
-    let e = c.rotate.ensures.went in
+    let e = went_whole c.len-started.result c.args.end.now c.rotate.new.end c.args.standby c.rotate.new.standby _ _ c.in_default.ensures.wished in
     let x0 = c.args.standby in
     let x2 = c.close_intake.new.self in
     let carries : Carries x0 e.0 x2 = subst (λ rs. Carries x0 rs x2) (append-nil e.0) (carries_then x0 c.rotate.new.standby x2 e.0 [] e.2.carries c.close_intake.ensures.carries) in
@@ -58,7 +60,7 @@ pub meet_all-requires : goal.meet_all-requires
 meet_all-requires g c =
     let gives = g.S.ReportSource.gives in let workers = c.args.workers.items in let handles = vec_items c.start_all-handles.result in
     let x0 = c.args.standby in let x1 = c.rotate.new.standby in
-    let e = c.rotate.ensures.went in let parts = c.into_parts-shadow.ensures in
+    let e = went_whole c.len-started.result c.args.end.now c.rotate.new.end c.args.standby c.rotate.new.standby _ _ c.in_default.ensures.wished in let parts = c.into_parts-shadow.ensures in
     let reporters = c.join_all-reporters.result.0.items in let told = c.join_all-reporters.result.1 in
     let all : length c.args.workers.items ≤ length (vec_items c.start_all-handles.result) = omega (arith, c.if-not-all_started.ensures, c.len-count.ensures, c.len-started.ensures, c.args.workers.ok.0, c.start_all-handles.result.ok.0) in
     let joins : JoinsAll gives handles x1.ends reporters told = subst (λ (es : List Taking). JoinsAll gives handles es reporters told) c.ends.ensures c.join_all-reporters.ensures in
@@ -70,7 +72,7 @@ pub unreachable-requires : goal.unreachable-requires
 unreachable-requires g c =
     let gives = g.S.ReportSource.gives in let workers = c.args.workers.items in let handles = vec_items c.start_all-handles.result in
     let x0 = c.args.standby in let x1 = c.rotate.new.standby in
-    let e = c.rotate.ensures.went in let parts = c.into_parts-shadow.ensures in
+    let e = went_whole c.len-started.result c.args.end.now c.rotate.new.end c.args.standby c.rotate.new.standby _ _ c.in_default.ensures.wished in let parts = c.into_parts-shadow.ensures in
     let reporters = c.join_all-reporters.result.0.items in let told = c.join_all-reporters.result.1 in
     let all : length c.args.workers.items ≤ length (vec_items c.start_all-handles.result) = omega (arith, c.if-not-all_started.ensures, c.len-count.ensures, c.len-started.ensures, c.args.workers.ok.0, c.start_all-handles.result.ok.0) in
     let joins : JoinsAll gives handles x1.ends reporters told = subst (λ (es : List Taking). JoinsAll gives handles es reporters told) c.ends.ensures c.join_all-reporters.ensures in
@@ -81,7 +83,7 @@ pub meet_all-requires-2 : goal.meet_all-requires-2
 meet_all-requires-2 g c =
     let gives = g.S.ReportSource.gives in let workers = c.args.workers.items in let handles = vec_items c.start_all-handles.result in
     let x0 = c.args.standby in let x1 = c.rotate.new.standby in let x2 = c.close_intake.new.self in let x3 = c.promote.new.standby in
-    let e = c.rotate.ensures.went in let p = c.in-Ok.ensures.ok in let parts = c.into_parts-shadow-2.ensures in
+    let e = went_whole c.len-started.result c.args.end.now c.rotate.new.end c.args.standby c.rotate.new.standby _ _ c.in_default.ensures.wished in let p = c.in-Ok.ensures.ok in let parts = c.into_parts-shadow-2.ensures in
     let reporters = c.join_all-reporters.result.0.items in let told = c.join_all-reporters.result.1 in
     let all : length c.args.workers.items ≤ length (vec_items c.start_all-handles.result) = omega (arith, c.if-not-all_started.ensures, c.len-count.ensures, c.len-started.ensures, c.args.workers.ok.0, c.start_all-handles.result.ok.0) in
     let joins : JoinsAll gives handles x1.ends reporters told = subst (λ (es : List Taking). JoinsAll gives handles es reporters told) c.ends.ensures c.join_all-reporters.ensures in
@@ -90,14 +92,14 @@ meet_all-requires-2 g c =
 
 pub returns-clause-same : goal.returns-clause-same
 returns-clause-same g c =
-    let e = c.rotate.ensures.went in let p = c.in-Ok.ensures.ok in
+    let e = went_whole c.len-started.result c.args.end.now c.rotate.new.end c.args.standby c.rotate.new.standby _ _ c.in_default.ensures.wished in let p = c.in-Ok.ensures.ok in
     same_then c.args.end.now c.rotate.new.end c.promote.new.source (same_asked c.args.end.now c.rotate.new.end e.0 e.1) (same_asked c.rotate.new.end c.promote.new.source p.0 p.1)
 
 pub returns-clause-ok : goal.returns-clause-ok
 returns-clause-ok g c =
     let gives = g.S.ReportSource.gives in let workers = c.args.workers.items in let handles = vec_items c.start_all-handles.result in
     let x0 = c.args.standby in let x1 = c.rotate.new.standby in let x2 = c.close_intake.new.self in let x3 = c.promote.new.standby in
-    let e = c.rotate.ensures.went in let p = c.in-Ok.ensures.ok in let parts = c.into_parts-shadow-2.ensures in
+    let e = went_whole c.len-started.result c.args.end.now c.rotate.new.end c.args.standby c.rotate.new.standby _ _ c.in_default.ensures.wished in let p = c.in-Ok.ensures.ok in let parts = c.into_parts-shadow-2.ensures in
     let reporters = c.join_all-reporters.result.0.items in let told = c.join_all-reporters.result.1 in
     let all : length c.args.workers.items ≤ length (vec_items c.start_all-handles.result) = omega (arith, c.if-not-all_started.ensures, c.len-count.ensures, c.len-started.ensures, c.args.workers.ok.0, c.start_all-handles.result.ok.0) in
     let joins : JoinsAll gives handles x1.ends reporters told = subst (λ (es : List Taking). JoinsAll gives handles es reporters told) c.ends.ensures c.join_all-reporters.ensures in
@@ -111,7 +113,7 @@ returns-clause-ok g c =
       settings = subst (λ (z : Contents). KeepsSettings x0.shadow z) (sym parts.0)
           (settings_then x0.shadow x1.shadow x3.shadow e.2.settings (subst (λ (z : Contents). KeepsSettings z x3.shadow) (ap (λ z. z.shadow) c.close_intake.ensures.rest) p.6));
       ends = x3.ends;
-      promoted = λ start base given h.
-          subst (λ (z : Contents). IsPromoted gives start base (given ++ (e.0 ++ p.0)) workers x0.ends x3.ends z) (sym parts.0)
-          (is_promoted gives workers handles c.start_all-handles.ensures all x0 x1 c.requires.lanes e.0 e.2 reporters told joins x2 x3 c.close_intake.ensures.ends c.close_intake.ensures.carries p.2 p.0 p.4 agree c.if-told.false start base given h);
+      promoted = λ past start base given h.
+          subst (λ (z : Contents). IsPromoted gives start base (given ++ (e.0 ++ p.0)) workers x0.ends x3.ends (shadow_after past z)) (sym parts.0)
+          (is_promoted gives workers handles c.start_all-handles.ensures all x0 x1 c.requires.lanes e.0 e.2 reporters told joins x2 x3 c.close_intake.ensures.ends c.close_intake.ensures.carries p.2 p.0 p.4 agree c.if-told.false past start base given h);
     }

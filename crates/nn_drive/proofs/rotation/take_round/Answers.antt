@@ -1,6 +1,8 @@
-use Rattle.std.proofs.Common.{◌∙◌, ◌≡◌, Err, arith}
+use Rattle.std.proofs.Common.{◌∙◌, ◌≡◌, Err, length, arith}
 use Rattle.nn_feed.specs.Ends.{GivesWhatIsFed}
 use Rattle.nn_drive.specs.Feeding.{failures_of}
+use Rattle.nn_tailer.proofs.Drained.{same_length}
+use Rattle.nn_drive.proofs.Rounds.{visited_then}
 use Rattle.nn_drive.proofs.Steps.{went_on, went_until}
 use Rattle.nn_drive.proofs.rotation.take_round.Goals as goal
 
@@ -24,3 +26,9 @@ returns-in_err-messages-clause-until g c =
 
 pub returns-clause-went : goal.returns-clause-went
 returns-clause-went g c = went_on GivesWhatIsFed failures_of c.args.end.now c.take_edits.new.end c.take_lanes.new.end c.args.standby.now c.take_edits.new.standby c.take_lanes.new.standby c.take_edits.ensures.went c.take_lanes.ensures.went
+
+pub returns-clause-visited : goal.returns-clause-visited
+returns-clause-visited g c =
+    let ends = same_length c.args.standby.now.ends c.take_edits.new.standby.ends c.take_edits.ensures.went.2.same_ends in
+    let v = visited_then c.args.standby.now c.take_edits.new.standby c.take_lanes.new.standby (length c.take_edits.new.standby.ends) c.in_ok-edits.ensures.stepped c.in_ok-messages.ensures.visited in
+    (v.0, v.1, λ i few. v.2 i (omega (arith, few, ends)))

@@ -1,4 +1,4 @@
-use Rattle.std.proofs.Common.{ap, subst, inl, inr}
+use Rattle.std.proofs.Common.{[], ap, subst, inl, inr}
 use Rattle.nn_model.specs.Apply.{effect, outcome}
 use Rattle.nn_tailer.proofs.Shadowing.{WhyNot, why_not}
 use Rattle.nn_engine.proofs.follow.apply.Goals as goal
@@ -20,3 +20,6 @@ unreachable-requires c =
         | inr disorder ↦ subst (WhyNot x tx) disorder.1 why
       ]
     ]
+
+pub returns-in_default-clause-stands : goal.returns-in_default-clause-stands
+returns-in_default-clause-stands c = λ start base txs lanes h. c.in_default.ensures.stands [] start base txs lanes h

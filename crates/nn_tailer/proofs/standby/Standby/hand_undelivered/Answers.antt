@@ -18,14 +18,14 @@ invariant_of-self c =
     let x = the_view c.self.inside in
     let r = subst (Given c.args.i c.args.m) (sym c.self.view_is) (c.requires.live, c.requires.place, c.requires.undelivered) in
     let e = c.in-Ok.ensures in
-    let h : IsHanded x.shadow c.args.m c.hand.new.self = record { standby = e.ok; phase = e.phase; settings = e.settings; stands = λ start base txs lanes s. (e.stands start base txs lanes s).0; held = λ start base txs lanes s. (e.stands start base txs lanes s).1 } in
+    let h : IsHanded x.shadow c.args.m c.hand.new.self = record { standby = e.ok; phase = e.phase; settings = e.settings; stands = λ past start base txs lanes s. (e.stands past start base txs lanes s).0; held = λ past start base txs lanes s. (e.stands past start base txs lanes s).1 } in
     keeps_handed x c.args.i c.args.m (some_end x.ends c.args.i r.1) c.hand.new.self c.self.invariant r.1 r.2 h
 
 pub returns-in-Ok-clause-ok : goal.returns-in-Ok-clause-ok
 returns-in-Ok-clause-ok c =
     let x = the_view c.self.inside in
     let e = c.in-Ok.ensures in
-    let h : IsHanded x.shadow c.args.m c.hand.new.self = record { standby = e.ok; phase = e.phase; settings = e.settings; stands = λ start base txs lanes s. (e.stands start base txs lanes s).0; held = λ start base txs lanes s. (e.stands start base txs lanes s).1 } in
+    let h : IsHanded x.shadow c.args.m c.hand.new.self = record { standby = e.ok; phase = e.phase; settings = e.settings; stands = λ past start base txs lanes s. (e.stands past start base txs lanes s).0; held = λ past start base txs lanes s. (e.stands past start base txs lanes s).1 } in
     rw (← c.self.view_is) (record { shown = c.hand.new.self; handed = h; now = refl })
 
 pub unreachable-requires : goal.unreachable-requires

@@ -1,0 +1,140 @@
+-- What an operator is shown, in turn, while its standby goes on; and what it wished is done.
+use Rattle.std.specs.Prelude.{◌≢◌, if◌then◌else◌}
+use Rattle.std.proofs.Common.{◌≡◌, ℕ, ◌≤◌, Bool, true, false, List, [], ◌∷◌, ◌++◌, refl, sym, ap, ◌∙◌, subst, arith, append_assoc, append-nil}
+use Rattle.nn_feed.specs.Ends.{GivesWhatIsFed}
+use Rattle.nn_feed.specs.declared.ends.FeedEnd.{FeedEnd}
+use Rattle.nn_model.specs.History.{History}
+use Rattle.nn_segment.specs.Source.{Answer}
+use Rattle.nn_segment.proofs.Asks.{asked_append}
+use Rattle.nn_tailer.specs.Tailing.{Tailer, without_history, after}
+use Rattle.nn_drive.specs.Driven.{Goes, Went}
+use Rattle.nn_drive.specs.Feeding.{failures_of}
+use Rattle.nn_drive.specs.Rounds.{IsRound}
+use Rattle.nn_drive.specs.Served.{Rotates}
+use Rattle.nn_drive.specs.Serving.{Shown, forgotten, answered, last_shown, left_of, IsNext, AreInTurn, Heeds, GoesOn, WasShown, WishesAt}
+use Rattle.nn_drive.specs.declared.operator.Wish.{Wish}
+use Rattle.nn_drive.specs.declared.operator.Wish.TheVariants.{GoOn, Forget, Promote}
+use Rattle.nn_drive.proofs.Kept.{goes_after}
+use Rattle.nn_drive.proofs.Steps.{goes_nowhere, goes_then}
+
+-- as many workers at most, where there are more of them
+pub more_workers : (n m : ℕ) (old : Tailer) (shown : List Shown) → n ≤ m → AreInTurn n old shown → AreInTurn m old shown
+more_workers n m old [] l h = tt
+more_workers n m old (x ∷ shown) l h = (more_workers n m old shown l h.0, h.1, h.2, omega (arith, l, h.3))
+
+module _ {O : Type 0} (asks : O → Tailer → ℕ → Wish → O → Type 0) where
+  pub shown_to_more : (n m : ℕ) (old : Tailer) (o p : O) (shown : List Shown) (answers : List Answer) (x : Tailer) → n ≤ m → WasShown asks n old o shown answers x p → WasShown asks m old o shown answers x p
+  shown_to_more n m old o p shown answers x l h = record { goes_on = h.goes_on; in_turn = more_workers n m old shown l h.in_turn; since = h.since; are = h.are; goes = h.goes }
+
+  pub wishes_of_more : (n m : ℕ) (old : Tailer) (o p : O) (shown : List Shown) (answers : List Answer) (x : Tailer) → n ≤ m → WishesAt asks n old o shown answers x p → WishesAt asks m old o shown answers x p
+  wishes_of_more n m old o p shown answers x l h = (h.0, h.1, omega (arith, l, h.2), h.3, shown_to_more n m old o h.0 shown answers x l h.4, h.5)
+
+  -- it was shown nothing yet
+  pub none_shown : (n : ℕ) (x : Tailer) (o : O) → WasShown asks n x o [] [] x o
+  none_shown n x o = record { goes_on = refl; in_turn = tt; since = []; are = refl; goes = goes_nowhere x }
+
+  -- it was shown all but this standby
+  abbrev pub IsShownNext : ℕ → Tailer → O → Tailer → O → List Shown → List Answer → Type 0
+  IsShownNext workers old o x q shown answers = IsNext old shown x × WasShown asks workers old o shown answers x q
+
+  -- the standby is what was left of the last that it was shown
+  abbrev IsLeft : List Shown → Tailer → Type 0
+  IsLeft [] y = ⊥
+  IsLeft (last ∷ shown) y = y ≡ left_of last
+
+  abbrev WasAsked : ℕ → Tailer → O → Tailer → O → List Shown → List Answer → Type 0
+  WasAsked workers old o y p shown answers = IsLeft shown y × WasShown asks workers old o shown answers y p
+
+  pub rotates_none : {T : Type 0} (gives : T → Answer → T → Type 0) (failures : T → ℕ) (workers : ℕ) (s : T) (x : Tailer) (o : O) → Rotates gives failures s x s x (IsShownNext workers x o x o)
+  rotates_none gives failures workers s x o = record { shown = []; went = ([], refl, goes_nowhere x, omega arith); was = (refl, none_shown workers x o) }
+
+  module _ {T : Type 0} (gives : T → Answer → T → Type 0) (failures : T → ℕ) (workers : ℕ) (s t : T) (old x : Tailer) (o q p : O) where
+    -- it was asked about the standby, and left this
+    asked_once : (y : Tailer) (running : ℕ) (b : Bool) → running ≤ workers → asks q x running (if b then Forget else GoOn) p
+        → y ≡ (if b then without_history x else x) → ((past : History) → after (past ++ (if b then x.shadow.history else [])) y ≡ after past x)
+        → Rotates gives failures s old t x (IsShownNext workers old o x q) → Rotates gives failures s old t y (WasAsked workers old o y p)
+    asked_once y running b few a left e r =
+        let was = r.was.1 in
+        let one : Shown = record { answers = was.since; standby = x; running = running; forgets = b } in
+        let same = sym (e (forgotten r.shown)) in record {
+          shown = one ∷ r.shown;
+          went = (r.went.0, r.went.1, subst (λ z. Goes old r.went.0 z) same r.went.2, r.went.3);
+          was = (
+            left,
+            record {
+              goes_on = (q, was.goes_on, a);
+              in_turn = (was.in_turn, r.was.0, was.goes, few);
+              since = [];
+              are = was.are ∙ sym (append-nil (answered r.shown ++ was.since));
+              goes = subst (λ z. Goes (after (forgotten r.shown) x) [] z) same (goes_nowhere (after (forgotten r.shown) x));
+            },
+          );
+        }
+
+    -- what it wished was done
+    pub obeys : (y : Tailer) (running : ℕ) → running ≤ workers → (w : Wish) → (w ≡ Promote → ⊥) → asks q x running w p → Heeds w x y
+        → Rotates gives failures s old t x (IsShownNext workers old o x q) → Rotates gives failures s old t y (WasAsked workers old o y p)
+    obeys y running few GoOn other a left r = asked_once y running false few a left (λ past. ap (λ (h : History). after h y) (append-nil past) ∙ ap (after past) left) r
+    obeys y running few Forget other a left r =
+        asked_once y running true few a left (λ past. ap (after (past ++ x.shadow.history)) left ∙ ap (λ (h : History). record x { shadow = record x.shadow { history = h } }) (append-nil (past ++ x.shadow.history))) r
+    obeys y running few Promote other a left r = absurd (other refl)
+
+    -- it wished a promotion
+    pub wishes_now : (running : ℕ) → running ≤ workers → (w : Wish) → w ≡ Promote → asks q x running w p
+        → Rotates gives failures s old t x (IsShownNext workers old o x q) → Rotates gives failures s old t x (λ shown answers. WishesAt asks workers old o shown answers x p)
+    wishes_now running few w e a r = record {
+      shown = r.shown;
+      went = r.went;
+      was = (q, running, few, r.was.0, r.was.1, subst (λ (z : Wish). asks q x running z p) e a);
+    }
+
+  module _ {T : Type 0} (gives : T → Answer → T → Type 0) (failures : T → ℕ) (workers : ℕ) (s t u : T) (old y z : Tailer) (o p : O)
+      (r : Rotates gives failures s old t y (WasAsked workers old o y p)) (w : Went gives failures t y u z) where
+    abbrev went_round : Went gives failures s old u (after (forgotten r.shown) z)
+    went_round = (
+      r.went.0 ++ w.0,
+      asked_append gives s t u r.went.0 w.0 r.went.1 w.1,
+      goes_then old (after (forgotten r.shown) y) (after (forgotten r.shown) z) r.went.0 w.0 r.went.2 (goes_after (forgotten r.shown) y z w.0 w.2),
+      omega (arith, r.went.3, w.3),
+    )
+
+    shown_round : WasShown asks workers old o r.shown (r.went.0 ++ w.0) z p
+    shown_round = let was = r.was.1 in record {
+      goes_on = was.goes_on;
+      in_turn = was.in_turn;
+      since = was.since ++ w.0;
+      are = ap (λ rs. rs ++ w.0) was.are ∙ append_assoc (answered r.shown) was.since w.0;
+      goes = goes_then (last_shown old r.shown) (after (forgotten r.shown) y) (after (forgotten r.shown) z) was.since w.0 was.goes (goes_after (forgotten r.shown) y z w.0 w.2);
+    }
+
+    -- a rotation failed
+    pub goes_round : Rotates gives failures s old u z (λ shown answers. WasShown asks workers old o shown answers z p)
+    goes_round = record { shown = r.shown; went = went_round; was = shown_round }
+
+    is_next : (shown : List Shown) → IsLeft shown y → IsRound y z → IsNext old shown z
+    is_next [] left round = absurd left
+    is_next (last ∷ shown) left round = subst (λ v. IsRound v z) left round
+
+    -- a rotation more
+    pub next_round : IsRound y z → Rotates gives failures s old u z (IsShownNext workers old o z p)
+    next_round round = record { shown = r.shown; went = went_round; was = (is_next r.shown r.was.0 round, shown_round) }
+
+-- ---- An operator that never wishes that a history be forgotten.
+
+-- what `Unattended` is asked
+abbrev pub Unasked : {O : Type 0} → O → Tailer → ℕ → Wish → O → Type 0
+Unasked o x n w p = (w ≡ Promote → n ≡ 0) × (n ≡ 0 → w ≡ Promote) × (w ≢ Forget)
+
+never : {O : Type 0} (o p : O) (x : Tailer) (n : ℕ) (b : Bool) → Unasked o x n (if b then Forget else GoOn) p → b ≡ false
+never o p x n true a = absurd (a.2 refl)
+never o p x n false a = refl
+
+none_forgotten : {O : Type 0} (o p : O) (shown : List Shown) → GoesOn Unasked o shown p → forgotten shown ≡ []
+none_forgotten o p [] h = refl
+none_forgotten o p (x ∷ shown) h =
+    ap (λ b. forgotten shown ++ (if b then x.standby.shadow.history else [])) (never h.0 p x.standby x.running x.forgets h.2) ∙ append-nil (forgotten shown) ∙ none_forgotten o h.0 shown h.1
+
+-- its standby keeps the whole history
+pub went_whole : {O R : Type 0} (workers : ℕ) (s t : FeedEnd R) (x y : Tailer) (o p : O)
+    → Rotates GivesWhatIsFed failures_of s x t y (λ shown answers. WishesAt Unasked workers x o shown answers y p) → Went GivesWhatIsFed failures_of s x t y
+went_whole workers s t x y o p r = subst (λ h. Went GivesWhatIsFed failures_of s x t (after h y)) (none_forgotten o r.was.0 r.shown r.was.4.goes_on) r.went

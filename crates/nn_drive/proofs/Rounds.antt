@@ -1,0 +1,64 @@
+-- Steps after steps, up to a rotation.
+use Rattle.std.proofs.Common.{ℕ, ◌+◌, ◌<◌, List, [], ◌∷◌, ◌++◌, Ok, refl, sym, subst, arith, inl, inr}
+use Rattle.std.proofs.Math.Nat.{eq-or-lt_of_le}
+use Rattle.nn_segment.specs.Source.{Answer}
+use Rattle.nn_tailer.specs.Public.{Steps}
+use Rattle.nn_tailer.specs.Tailing.{Tailer}
+use Rattle.nn_tailer.specs.declared.standby.Choice.{Choice}
+use Rattle.nn_tailer.specs.declared.standby.Choice.TheVariants.{Lane}
+use Rattle.nn_tailer.specs.declared.standby.Stepped.{Stepped}
+use Rattle.nn_drive.specs.Rounds.{Makes, HasMade, Tries, HasStepped, HasTried, HasVisited}
+
+pub makes : {T : Type 0} (gives : T → Answer → T → Type 0) (s t : T) (x y : Tailer) (choice : Choice) (stepped : Stepped) → Steps gives s x choice t y (Ok stepped) → Makes x choice y
+makes gives s t x y choice stepped h = (h.0, stepped, h.5, h.8, record { carries = h.2; same_ends = h.3; begun = h.4; active = h.7; settings = h.6 })
+
+made_then : (x y z : Tailer) (steps more : List Choice) → HasMade x steps y → HasMade y more z → HasMade x (more ++ steps) z
+made_then x y z steps [] f g = subst (λ v. HasMade x steps v) (sym g) f
+made_then x y z steps (choice ∷ more) f g = (g.0, made_then x y g.0 steps more f g.1, g.2)
+
+tries_before : (steps more : List Choice) (dn : ℕ) → Tries steps dn → Tries (more ++ steps) dn
+tries_before steps [] dn h = h
+tries_before steps (choice ∷ more) dn h = inr (tries_before steps more dn h)
+
+tries_then : (steps more : List Choice) (dn : ℕ) → Tries more dn → Tries (more ++ steps) dn
+tries_then steps [] dn h = absurd h
+tries_then steps (choice ∷ more) dn (inl e) = inl e
+tries_then steps (choice ∷ more) dn (inr h) = inr (tries_then steps more dn h)
+
+-- ---- Steps of the log or of lanes.
+
+pub none_stepped : (x : Tailer) → HasStepped x x
+none_stepped x = ([], refl)
+
+pub one_stepped : (x y z : Tailer) (choice : Choice) → HasStepped x y → Makes y choice z → HasStepped x z
+one_stepped x y z choice f m = (choice ∷ f.0, (y, f.1, m))
+
+-- ---- Of one lane.
+
+pub one_tried : (x y z : Tailer) (dn : ℕ) → HasStepped x y → Makes y (Lane dn) z → HasTried x dn z
+one_tried x y z dn f m = (Lane dn ∷ f.0, (y, f.1, m), inl refl)
+
+pub tried_steps : (x y : Tailer) (dn : ℕ) → HasTried x dn y → HasStepped x y
+tried_steps x y dn h = (h.0, h.1)
+
+-- ---- Of each lane.
+
+pub none_visited : (x : Tailer) → HasVisited x 0 x
+none_visited x = ([], refl, λ i few. absurd (omega (arith, few)))
+
+-- one lane more, and then steps of the log
+one_more : (steps more : List Choice) (lanes : ℕ) → ((i : ℕ) → i < lanes → Tries steps (i + 1)) → Tries more (lanes + 1) → (i : ℕ) → i < lanes + 1 → Tries (more ++ steps) (i + 1)
+one_more steps more lanes each last i few = elim (eq-or-lt_of_le {n = i} {m = lanes} (omega arith)) [
+  | inl e ↦ tries_then steps more (i + 1) (let P : ℕ → Type 0 = λ n. Tries more (n + 1) in subst P (sym e) last)
+  | inr below ↦ tries_before steps more (i + 1) (each i below)
+]
+
+pub one_visited : (x y z w : Tailer) (lanes : ℕ) → HasVisited x lanes y → HasTried y (lanes + 1) z → HasStepped z w → HasVisited x (lanes + 1) w
+one_visited x y z w lanes f g h = (
+  h.0 ++ (g.0 ++ f.0),
+  made_then x z w (g.0 ++ f.0) h.0 (made_then x y z f.0 g.0 f.1 g.1) h.1,
+  λ i few. tries_before (g.0 ++ f.0) h.0 (i + 1) (one_more f.0 g.0 lanes f.2 g.2 i few),
+)
+
+pub visited_then : (x y z : Tailer) (lanes : ℕ) → HasStepped x y → HasVisited y lanes z → HasVisited x lanes z
+visited_then x y z lanes f g = (g.0 ++ f.0, made_then x y z f.0 g.0 f.1 g.1, λ i few. tries_then f.0 g.0 (i + 1) (g.2 i few))

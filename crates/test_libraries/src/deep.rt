@@ -25,11 +25,7 @@ fn dropped(rt: HostRuntime) -> Result<(), Fail> {
     hang(rt.alloc(), &mut namespace)
 }
 
-fn hangs_and_goes(
-    rt: &impl Abort,
-    alloc: Global,
-    namespace: &mut Namespace,
-) -> Result<(), Fail> {
+fn hangs_and_goes(rt: &impl Abort, alloc: Global, namespace: &mut Namespace) -> Result<(), Fail> {
     hang(alloc, namespace)?;
     has(rt, namespace, 6_000_001, 3_000_001)?;
     let mut rows = namespace.rows();
@@ -41,12 +37,7 @@ fn hangs_and_goes(
 }
 
 // So many paths, of so many names at most.
-fn has(
-    rt: &impl Abort,
-    namespace: &Namespace,
-    paths: usize,
-    depth: usize,
-) -> Result<(), Fail> {
+fn has(rt: &impl Abort, namespace: &Namespace, paths: usize, depth: usize) -> Result<(), Fail> {
     let extent = namespace.extent()?;
     assert_eq!(rt; extent.paths, paths);
     assert_eq!(rt; extent.depth, depth);

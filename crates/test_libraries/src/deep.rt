@@ -58,9 +58,7 @@ fn begins(rt: &impl Abort, rows: &mut Rows<'_>) -> Result<(), Fail> {
 fn hang(alloc: Global, namespace: &mut Namespace) -> Result<(), Fail> {
     for chain in 0..CHAINS {
         make_chain(alloc, namespace, chain)?;
-        if chain > 0 {
-            hang_below(alloc, namespace, chain)?;
-        }
+        hang_below(alloc, namespace, chain)?;
     }
     Ok(())
 }
@@ -85,9 +83,11 @@ fn make_beside(alloc: Global, namespace: &mut Namespace, text: &str) -> Result<(
     make(alloc, namespace, text.as_str())
 }
 
-// The chain before goes below the last directory of this one.
+// The chain before, if there is one, goes below the last directory of this one.
 fn hang_below(alloc: Global, namespace: &mut Namespace, chain: u64) -> Result<(), Fail> {
-    let before = chain - 1;
+    let Some(before) = chain.checked_sub(1) else {
+        return Ok(());
+    };
     let src = top(alloc, before)?;
     let text = format!(in alloc; "/a{chain}/a/a/a/a/a/a/a/a{before}")?;
     let dst = Path::parse(alloc, text.as_str())?;

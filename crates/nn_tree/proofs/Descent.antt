@@ -65,6 +65,10 @@ folder_stays es node m k v i e h =
 pub folder_other : (es : Rows) (node : Node) (m : Map) (n : List ℕ) → flat node ≡ es → IsInOrder node × (is_sorted path_cmp (flat node) ≡ true) → node ≡ Folder m → None ≡ get_by_text m n → (q : Path) → at es (n ∷ q) ≡ None
 folder_other es node m n v i e g = found es m.entries n None (opened es node m v i.0 e) g
 
+-- a directory of one child has that child alone
+pub same_child : (node : Node) (j k : String Global) (t u : Box Tree Global) → node ≡ Narrow j t → node ≡ Narrow k u → t ≡ u
+same_child node j k t u e f = cc
+
 pub narrow_other : (es : Rows) (node : Node) (k : String Global) (b : Box Tree Global) (a n : List ℕ) → flat node ≡ es → node ≡ Narrow k b → a ≡ string_bytes k → true ≡ not (bytes_eq a n) → (q : Path) → at es (n ∷ q) ≡ None
 narrow_other es node k b a n v e s c = one_other es k n b.value (opened_narrow es node k b v e) (is_called_else k a n s c)
 

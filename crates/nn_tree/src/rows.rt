@@ -6,7 +6,8 @@ ghost use Rattle.nn_tree.specs.Extent.{capped, greatest_depth};
 ghost use Rattle.nn_tree.specs.Flat.{below};
 ghost use Rattle.nn_tree.specs.Found.{form_of};
 ghost use Rattle.nn_tree.specs.Listing.{lent_names};
-ghost use Rattle.nn_tree.specs.Rows.{IsPast, rows_from, opened, entries_of, from_children};
+ghost use Rattle.nn_tree.specs.Nesting.{IsNested};
+ghost use Rattle.nn_tree.specs.Rows.{IsPast, rows_from, rows_open, opened, entries_of, from_children};
 ghost use Rattle.std.specs.Vec.{vec_len, vec_capacity};
 
 use crate::found::Found;
@@ -97,24 +98,14 @@ impl<'a> Rows<'a> {
         let mut dirs = Vec::new(alloc);
         'down: loop {
             let Some(children) = tree.children_from(name) else {
-                return Ok(Rows {
-                    root: None,
-                    names,
-                    bytes,
-                    dirs,
-                });
+                return Ok(Rows::on_way(names, bytes, dirs));
             };
             let depth = names.len();
             let Some((next, below)) = way_on(&children, name, rest) else {
                 let Ok(()) = add_open(&mut dirs, depth, bytes, Some(children)) else {
                     return Err(AllocError);
                 };
-                return Ok(Rows {
-                    root: None,
-                    names,
-                    bytes,
-                    dirs,
-                });
+                return Ok(Rows::on_way(names, bytes, dirs));
             };
             let text = text_below(bytes, children.name);
             let Ok(()) = names.push(children.name.as_str()) else {
@@ -127,6 +118,19 @@ impl<'a> Rows<'a> {
             bytes = text;
             name = next;
             rest = below;
+        }
+    }
+
+    // What is left in these directories, which lie on the way to these names.
+    fn on_way(names: Vec<&'a str>, bytes: usize, dirs: Vec<OpenDir<'a>>) -> Rows<'a>
+        requires { IsNested None (lent_names names.items) bytes dirs.items }
+        ensures { result.left ≡ rows_open (lent_names names.entry.items) dirs.entry.items }
+    {
+        Rows {
+            root: None,
+            names,
+            bytes,
+            dirs,
         }
     }
 

@@ -333,6 +333,10 @@ fn drop_top(
         Node::Leaf(_file) => last_child(rest),
         Node::Narrow(_name, child) => Some((Box::into_inner(child), rest)),
         Node::Folder(children) => {
+            if children.is_empty() {
+                children.destroy_empty();
+                return last_child(rest);
+            }
             let Some(rest) = rest else {
                 return last_child(Some(children));
             };

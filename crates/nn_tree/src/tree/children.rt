@@ -20,8 +20,7 @@ pub(crate) struct Children<'a> {
 impl<'a> Children<'a> {
     /// The children behind the first one, if there are any.
     pub(crate) fn behind(self) -> Option<Children<'a>>
-        ensures entries { all_entries result ≡ later_of self.entry.later }
-        ensures rooted { IsRooted result }
+        ensures { all_entries result ≡ later_of self.entry.later }
     {
         let Some(later) = self.later else {
             return None;
@@ -69,7 +68,12 @@ impl Tree {
         ensures rooted { IsRooted result }
     {
         match &self.node {
-            Node::Folder(children) => of(children.range(..)),
+            Node::Folder(children) => {
+                if children.is_empty() {
+                    return None;
+                }
+                of(children.range(..))
+            }
             Node::Narrow(name, tree) => {
                 let _found = tree.top();
                 Some(Children {

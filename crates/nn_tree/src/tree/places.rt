@@ -115,13 +115,15 @@ impl Tree {
         ensures none { OnErr result (IsSubtree self.old (name.now ∷ []) None) }
         ensures same { OnErr result (IsSame self.old self.new) }
     {
-        if let Node::Narrow(own, child) = &mut self.node {
+        if let Node::Narrow(own, _child) = &self.node {
             if own.as_str() != name {
                 return Err(Unchanged);
             }
-            let tree = mem::replace(&mut **child, Tree::new_dir(alloc));
-            self.node = Node::Folder(BTreeMap::new(alloc));
-            return Ok(tree);
+            let bare = Node::Folder(BTreeMap::new(alloc));
+            let Node::Narrow(_own, child) = mem::replace(&mut self.node, bare) else {
+                unreachable!()
+            };
+            return Ok(Box::into_inner(child));
         }
         let Node::Folder(children) = &mut self.node else {
             return Err(Unchanged);
@@ -154,9 +156,7 @@ impl Change for Make {
     }
 
     fn change(self, dir: &mut Tree, last: Option<&str>) -> Result<(), Unchanged> {
-        let Some(name) = last else {
-            return Err(Unchanged);
-        };
+        let Some(name) = last else { unreachable!() };
         let made = dir.add(self.alloc, name, self.tree);
         dir.in_order();
         made

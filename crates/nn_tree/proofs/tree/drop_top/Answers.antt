@@ -22,3 +22,7 @@ returns-in-Some-clause-less c =
     let e : work (1 + length (below c.in-Folder.children.entries)) (length (below c.in-Some.rest.entries)) ≡ work (length (flat c.args.node)) (length (rows_left c.args.rest)) =
     ap (λ n. work n (length (below c.in-Some.rest.entries))) (sym (folder_rows c.args.node c.in-Folder.children c.in-Folder.is)) ∙ ap (λ o. work (length (flat c.args.node)) (length (rows_left o))) (sym c.in-Some.is) in
     subst (λ w. IfSome c.hang_below.result (λ p. work (length p.0) (length (rows_left p.1)) < w)) e c.hang_below.ensures.less
+
+pub returns-then-is_empty-clause-less : goal.returns-then-is_empty-clause-less
+returns-then-is_empty-clause-less c =
+    less_left c.last_child-then-is_empty.result _ (length (flat c.args.node)) (length (rows_left c.args.rest)) c.last_child-then-is_empty.ensures.rows (omega (arith, folder_rows c.args.node c.in-Folder.children c.in-Folder.is))

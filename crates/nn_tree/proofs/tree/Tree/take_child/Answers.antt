@@ -1,28 +1,30 @@
 use Rattle.std.proofs.Common.{[], ◌∷◌, Some, None, sym, ap, subst, ◌∙◌}
 use Rattle.std.specs.FinMap.Entries.{is_sorted}
 use Rattle.nn_model.specs.Namespace.{path_cmp}
-use Rattle.nn_tree.specs.At.{at, IsSubtree}
+use Rattle.nn_tree.specs.At.{at, IsSubtree, IsGrafted}
+use Rattle.nn_tree.specs.Flat.{flat}
 use Rattle.nn_tree.proofs.Subtree.{at_top, opened, opened_narrow, found}
 use Rattle.nn_tree.proofs.Step.{Becomes, changed, graft_here, graft_nothing, is_called, one_found, one_gone}
 use Rattle.nn_tree.proofs.Walk.{walk_last}
-use Rattle.nn_tree.proofs.Descent.{narrow_other}
+use Rattle.nn_tree.proofs.Descent.{narrow_other, same_child}
 use Rattle.nn_tree.proofs.InOrder.{stays_sorted}
 use Rattle.nn_tree.proofs.tree.Tree.take_child.Goals as goal
 
 -- ---- a directory with one child
 pub returns-then-ne-clause-none : goal.returns-then-ne-clause-none
-returns-then-ne-clause-none c = narrow_other c.args.self.now c.self.inside.node c.in-Narrow.own c.in-Narrow.child c.as_str.result.now c.args.name.now c.self.view_is c.in-Narrow.is c.as_str.ensures.value c.if-ne.ensures
+returns-then-ne-clause-none c = narrow_other c.args.self.now c.self.inside.node c.in-Narrow.own c.in-Narrow._child c.as_str.result.now c.args.name.now c.self.view_is c.in-Narrow.is c.as_str.ensures.value c.if-ne.ensures
 
 pub returns-in-Narrow-clause-ok : goal.returns-in-Narrow-clause-ok
 returns-in-Narrow-clause-ok c =
     let n = c.args.name.now in
-    let d = opened_narrow c.args.self.now c.self.inside.node c.in-Narrow.own c.in-Narrow.child c.self.view_is c.in-Narrow.is in
+    let one = (c.in-Narrow.own, c.in-Narrow._child.value) ∷ [] in
+    let d = opened_narrow c.args.self.now c.self.inside.node c.in-Narrow.own c.in-Narrow._child c.self.view_is c.in-Narrow.is in
     let called = is_called c.in-Narrow.own c.as_str.result.now n c.as_str.ensures.value c.if-ne.ensures in
-    let f = one_found c.args.self.now c.in-Narrow.own n c.in-Narrow.child.value c.deref_mut.result.now d called c.deref_mut.ensures.value in (
-      walk_last c.args.self.now n (n ∷ []) (λ j. n ∷ []) (at_top c.args.self.now ((c.in-Narrow.own, c.in-Narrow.child.value) ∷ []) d),
-      (λ q. f q ∙ ap (λ t. at t q) (sym c.replace-tree.ensures.value)),
-      graft_here c.args.self.now ((c.in-Narrow.own, c.in-Narrow.child.value) ∷ []) c.new.result.entries n None d
-          (subst (λ es. Becomes ((c.in-Narrow.own, c.in-Narrow.child.value) ∷ []) es n None) (sym c.new.ensures.empty) (one_gone c.in-Narrow.own n c.in-Narrow.child.value called)),
+    let taken = c.into_inner.ensures ∙ ap (λ child. child.value) (same_child c.replace.result c.in-Narrow-replace._own c.in-Narrow.own c.in-Narrow-replace.child c.in-Narrow._child c.in-Narrow-replace.is (c.replace.ensures.value ∙ c.in-Narrow.is)) in (
+      walk_last c.args.self.now n (n ∷ []) (λ j. n ∷ []) (at_top c.args.self.now one d),
+      one_found c.args.self.now c.in-Narrow.own n c.in-Narrow._child.value c.into_inner.result d called taken,
+      subst (λ node. IsGrafted c.args.self.now (n ∷ []) None (flat node)) (sym c.replace.ensures.after)
+          (graft_here c.args.self.now one c.new.result.entries n None d (subst (λ es. Becomes one es n None) (sym c.new.ensures.empty) (one_gone c.in-Narrow.own n c.in-Narrow._child.value called))),
     )
 
 -- ---- any directory

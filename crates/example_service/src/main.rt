@@ -1,6 +1,6 @@
 //! Standbys in a program of one's own. One follows the edits and reports of standard input on one thread, and its namespace
 //! is printed, with how many reports still wait for the log. The other is in service with threads up to its failover; its
-//! checkpoints and its tables are printed, and how its DataNodes ended.
+//! checkpoints and its tables are printed, how much its journal has, and how its DataNodes ended.
 #![tactic(auto)]
 
 mod service;
@@ -91,16 +91,17 @@ fn serve_to_failover<R: Print + Threads + Wait + Copy + Send + Drop + 'static>(
     let Some(served) = promoted(rt, alloc, settings, &mut operator) else {
         bail!("the standby was not promoted");
     };
-    show_failover(rt, alloc, &operator, served)
+    show_failover(rt, alloc, operator, served)
 }
 
 fn show_failover(
     rt: &(impl Print + Threads),
     alloc: Global,
-    operator: &Failover,
+    operator: Failover,
     served: Served<DataNode>,
 ) -> Result<()> {
-    show_standby(rt, alloc, operator, &served.shadow)?;
+    show_standby(rt, alloc, &operator, &served.shadow)?;
+    show_journal(rt, operator, &served.shadow)?;
     show_ends(rt, served.workers)
 }
 
@@ -127,6 +128,28 @@ fn show_tables(rt: &impl Print, alloc: Global, shadow: &Shadow) -> Result<()> {
     push_tables(alloc, &mut text, shadow.replicas(), shadow.safe_mode())?;
     print!(rt; "{text}")?;
     Ok(())
+}
+
+// What the operator recorded, and then what the promoted standby still has, is the whole history.
+fn show_journal(rt: &impl Print, mut operator: Failover, shadow: &Shadow) -> Result<()> {
+    if !operator.record(shadow.history()) {
+        bail!("the journal failed");
+    }
+    let journal = String::from_utf8(operator.journal.into_inner())?;
+    let transactions = transactions(&journal);
+    println!(rt; "journal of {transactions} transactions")?;
+    Ok(())
+}
+
+// How many transactions a journal has. Its other lines are of reports.
+fn transactions(journal: &str) -> u64 {
+    let mut count = 0u64;
+    for line in journal.split('\n') {
+        if line.starts_with("applied ") {
+            count = count.saturating_add(1);
+        }
+    }
+    count
 }
 
 // Joins each DataNode's thread, which its lane tells of the promotion.

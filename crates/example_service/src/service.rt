@@ -1,12 +1,14 @@
 //! A standby in service. Two DataNodes report from threads of their own, for as long as they run, and the log of the active
-//! NameNode comes from one more. An operator writes a checkpoint after each segment, and takes over at transaction 11.
+//! NameNode comes from one more. An operator writes the history into a journal and a checkpoint after each segment, and takes
+//! over at transaction 11.
 ghost use Rattle.std.specs.Prelude.{◌≤◌, length, IfSome};
 
 use nn_device::Writer;
 use nn_drive::{Operator, ReportSource, Served, Wish, serve, with_lanes};
+use nn_listing::push_history;
 use nn_segment::{Item, MemorySource, Parsed, SegmentSource, SourceFault};
 use nn_tailer::Standby;
-use nn_types::{BlockId, GenerationStamp, Kind, Length, Report, Settings};
+use nn_types::{BlockId, Event, GenerationStamp, Kind, Length, Report, Settings};
 use std::alloc::Global;
 use std::sync::atomic::{AtomicBool, AtomicU64, Ordering};
 use std::sync::{Arc, Wait};
@@ -110,8 +112,8 @@ impl ReportSource for DataNode {
     }
 }
 
-/// Writes a checkpoint after each segment. Takes over at the transaction, once enough blocks are safe: it fences the active
-/// NameNode, which ends the log, and asks for the promotion.
+/// Writes the history into a journal, and a checkpoint after each segment. Takes over at the transaction, once enough blocks
+/// are safe: it fences the active NameNode, which ends the log, and asks for the promotion.
 #[derive(Drop)]
 pub struct Failover {
     alloc: Global,
@@ -119,6 +121,8 @@ pub struct Failover {
     saved: u64,
     /// The last txid and the image of each checkpoint.
     pub checkpoints: Vec<(u64, Vec<u8>)>,
+    /// The history so far, a line for each event.
+    pub journal: Writer<Vec<u8>>,
 }
 
 impl Operator for Failover {
@@ -136,7 +140,10 @@ impl Operator for Failover {
         if last > self.saved && last < TAKEOVER && standby.in_hand() == 0 {
             self.save(standby, last);
         }
-        Wish::GoOn
+        if !self.record(standby.shadow().history()) {
+            return Wish::GoOn;
+        }
+        Wish::Forget
     }
 }
 
@@ -151,7 +158,17 @@ impl Failover {
             told: Arc::new(alloc, told).ok()?,
             saved: 0,
             checkpoints: Vec::new(alloc),
+            journal: Writer::new(Vec::new(alloc)),
         })
+    }
+
+    /// Writes the events into the journal. False if that failed: they are not to be forgotten, and are shown again.
+    pub fn record(&mut self, events: &[Event]) -> bool {
+        let mut lines = String::new(self.alloc);
+        let Ok(()) = push_history(&mut lines, events) else {
+            return false;
+        };
+        self.journal.write_all(lines.as_bytes()).is_ok()
     }
 
     // Where memory is refused, the next rotation tries again.

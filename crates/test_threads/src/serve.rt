@@ -133,6 +133,29 @@ fn least_sent(standby: &Standby, nodes: u16) -> u64 {
     least
 }
 
+// Wishes a promotion once at most so many workers run. It lets those DataNodes go that stay once it saw more of them run.
+#[derive(Drop)]
+struct UntilFewRun {
+    shared: Arc<Shared, Global>,
+    most: usize,
+    saw_more: bool,
+}
+
+impl Operator for UntilFewRun {
+    ghost use Rattle.std.specs.Prelude.{⊤};
+
+    ghost asks = { λ o x n w p. ⊤ };
+
+    fn ask(&mut self, _standby: &Standby, running: usize) -> Wish {
+        if running <= self.most {
+            return Wish::Promote;
+        }
+        self.saw_more = true;
+        self.shared.came.store(1, Ordering::SeqCst);
+        Wish::GoOn
+    }
+}
+
 // Takes all memory that is left whenever it is asked.
 #[derive(Drop)]
 struct Hoarding {
@@ -177,8 +200,10 @@ impl Hoarding {
 struct Service {
     name: &'static str,
     nodes: u16,
-    // How many reports each DataNode has, and whether it stays in its last call until the promotion is answered.
+    // How many reports each DataNode has, or the first one if it has others; and whether it stays in its last call until it
+    // is let go, at the latest when the promotion is answered.
     reports: u64,
+    first: Option<u64>,
     stays: bool,
     // How many messages a lane holds.
     capacity: usize,
@@ -203,6 +228,7 @@ const ENDLESS: Service = Service {
     name: "endless",
     nodes: 2,
     reports: u64::MAX,
+    first: None,
     stays: false,
     capacity: 64,
     log: &[TWO_MARKS, TWO_MORE],
@@ -273,6 +299,15 @@ const STAYS: Service = Service {
     reports: 5,
     stays: true,
     messages: 5,
+    ..ENDLESS
+};
+
+// One DataNode of two ends, once both were seen to run. The other one never does.
+const ONE_OF_TWO: Service = Service {
+    name: "one of two",
+    first: Some(5),
+    stays: true,
+    pace: AT_ANY_TIME,
     ..ENDLESS
 };
 
@@ -438,11 +473,11 @@ fn data_nodes(
 ) -> Option<Vec<DataNode>> {
     let report = report_of(FIRST, 1001)?;
     let mut nodes = Vec::new(alloc);
-    for _ in 0..service.nodes {
+    for i in 0..service.nodes {
         let node = DataNode {
             shared: Arc::try_clone(shared).ok()?,
             report,
-            left: service.reports,
+            left: reports_of(service, i.saturating_add(1)),
             stays: service.stays,
         };
         let Ok(()) = nodes.push(node) else {
@@ -450,6 +485,14 @@ fn data_nodes(
         };
     }
     Some(nodes)
+}
+
+// How many reports this DataNode has.
+fn reports_of(service: &Service, dn: u16) -> u64 {
+    match service.first {
+        Some(first) if dn == 1 => first,
+        _ => service.reports,
+    }
 }
 
 // The last txid, if each worker that is joined had sent just what was processed of its lane. Those that stay are let go.
@@ -465,7 +508,7 @@ fn all_joined<R: Threads>(
         workers,
     } = served;
     shared.came.store(1, Ordering::SeqCst);
-    let whole = have_left_all(rt, workers, service.reports, &shadow);
+    let whole = have_left_all(rt, workers, service, &shadow);
     drop(shadow);
     whole.then_some(active.last)
 }
@@ -473,7 +516,7 @@ fn all_joined<R: Threads>(
 fn have_left_all<R: Threads>(
     rt: &R,
     workers: Vec<Running<DataNode>>,
-    reports: u64,
+    service: &Service,
     shadow: &Shadow,
 ) -> bool {
     let mut whole = true;
@@ -481,6 +524,7 @@ fn have_left_all<R: Threads>(
     for worker in workers {
         dn = dn.saturating_add(1);
         let left = worker.join(rt);
+        let reports = reports_of(service, dn);
         whole = has_left_all(&left, reports, shadow.last_number(dn)) && whole;
         drop(left);
     }
@@ -558,6 +602,35 @@ fn end_without_memory<R: Threads + Wait + Copy + Send + Drop + 'static>(
     let answer = served(rt, alloc, service, shared, None, &mut operator);
     drop(operator);
     outcome_of(rt, alloc, service, shared, answer?)
+}
+
+// An operator waits for one of two workers. It was asked while both ran; the one that ended sent all that it had, and the
+// other one is told that its lane is closed.
+#[test]
+fn waits_for_one_of_two_workers(rt: HostRuntime) {
+    let Some(shared) = Shared::new(rt.alloc()) else {
+        assert!(rt; false, "out of memory");
+        return;
+    };
+    let end = end_with_one(&rt, rt.alloc(), &shared);
+    assert_eq!(rt; end, Some((Ok(4), None)));
+}
+
+fn end_with_one<R: Threads + Wait + Copy + Send + Drop + 'static>(
+    rt: &R,
+    alloc: Global,
+    shared: &Arc<Shared, Global>,
+) -> Option<(Result<u64, u8>, Option<u64>)> {
+    let mut operator = UntilFewRun {
+        shared: Arc::try_clone(shared).ok()?,
+        most: 1,
+        saw_more: false,
+    };
+    let answer = served(rt, alloc, &ONE_OF_TWO, shared, None, &mut operator);
+    let saw_both = operator.saw_more;
+    drop(operator);
+    let end = outcome_of(rt, alloc, &ONE_OF_TWO, shared, answer?);
+    if saw_both { end } else { None }
 }
 
 // With no operator a service ends when its DataNodes have, as a drive does: all that they sent was flushed.

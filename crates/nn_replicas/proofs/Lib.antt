@@ -6,3 +6,4 @@ pub mod Listed
 pub mod Lookups
 pub mod Told
 pub mod Ties
+pub mod GivenBack

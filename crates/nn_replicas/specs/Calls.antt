@@ -3,6 +3,8 @@ use Rattle.std.specs.Prelude.{ℕ, Bool, true, false, ◌&&◌, ◌||◌, ◌==�
 use Rattle.std.specs.Prelude.{option_and_then, count_by, flat_map, if◌then◌else◌}
 use Rattle.std.specs.List.{list_all}
 use Rattle.std.specs.FinMap.Entries.{find, put}
+use Rattle.std.specs.Map.{remove_entry}
+use Rattle.std.specs.BTreeMap.{is_at}
 use Rattle.std.specs.Ordering.{nat_cmp}
 use Rattle.nn_types.specs.declared.block.Block.{Block}
 use Rattle.nn_types.specs.declared.report.Kind.{Kind}
@@ -12,7 +14,7 @@ use Rattle.nn_model.specs.declared.form.BlockRow.{BlockRow}
 use Rattle.nn_replicas.specs.declared.entry.Cell.{Cell}
 use Rattle.nn_replicas.specs.Table.{BlockEntry, Table}
 use Rattle.nn_replicas.specs.Entry.{is_ordered, no_entry, with_row, with_place, with_put, with_erased, retired, stamp_in, rows_in, replicas_in, orders_in}
-use Rattle.nn_replicas.specs.Entry.{is_closed, is_safe}
+use Rattle.nn_replicas.specs.Entry.{is_closed, is_safe, is_idle}
 
 -- ---- What it answers.
 
@@ -54,6 +56,14 @@ has_order t dn id = is_ordered (cell_at t dn id)
 -- whether there is room for what the DataNode says of the block
 abbrev pub is_placed : Table → ℕ → ℕ → Bool
 is_placed t dn id = is_some (cell_at t dn id)
+
+-- whether there is an entry of the block id
+abbrev pub has_entry : Table → ℕ → Bool
+has_entry t id = is_some (entry_at t id)
+
+-- whether the block id has no row, no replica and no order: an entry of it is room alone
+abbrev pub is_idle_at : Table → ℕ → Bool
+is_idle_at t id = is_idle (entry_or_none t id)
 
 -- the DataNodes with a replica of the block, and the replicas
 abbrev pub replicas_at : Table → ℕ → List (ℕ × Replica)
@@ -129,6 +139,14 @@ due_told t dn id stamp replica = pair_told_if (reaches (stamp_at t id) stamp) (p
 -- no file holds the block any more, and what DataNodes have of it is ordered to be deleted
 abbrev pub block_retired : Table → ℕ → Table
 block_retired t id = changed_at t id retired
+
+-- the block id has no entry
+abbrev pub without_entry : Table → ℕ → Table
+without_entry t id = record t { entries = remove_entry (is_at (nat_cmp id)) t.entries }
+
+-- where the entry of the block id is room alone, it goes
+abbrev pub room_given_back : Table → ℕ → Table
+room_given_back t id = if is_idle_at t id then without_entry t id else t
 
 -- only what is received or being received is a replica
 abbrev pub is_kept : Kind → Bool

@@ -3,7 +3,7 @@ use Rattle.std.specs.Prelude.{◌≡◌, ℕ, Bool, not, ◌&&◌, ◌||◌, ◌
 use Rattle.nn_types.specs.declared.block.Block.{Block}
 use Rattle.nn_types.specs.declared.replica.Replica.{Replica}
 use Rattle.nn_replicas.specs.Table.{Table}
-use Rattle.nn_replicas.specs.Calls.{row_at, replica_at, has_order, is_placed}
+use Rattle.nn_replicas.specs.Calls.{row_at, replica_at, has_order, is_placed, has_entry, is_idle_at}
 
 abbrev pub is_named : Table → ℕ → Bool
 is_named t id = is_some (row_at t id)
@@ -39,3 +39,11 @@ pub record Retires (old : Table) (id : ℕ) (new : Table) : Type 0 where
   pub replicas : (d b : ℕ) → replica_at new d b ≡ (if b == id then None else replica_at old d b)
   pub orders : (d b : ℕ) → has_order new d b ≡ (has_order old d b || ((b == id) && is_some (replica_at old d b)))
   pub room : (d b : ℕ) → is_placed new d b ≡ is_placed old d b
+
+-- where the block has no row, no replica and no order, its entry goes with all its room, and nothing else changes
+pub record GivesBack (old : Table) (id : ℕ) (new : Table) : Type 0 where
+  pub rows : (b : ℕ) → row_at new b ≡ row_at old b
+  pub replicas : (d b : ℕ) → replica_at new d b ≡ replica_at old d b
+  pub orders : (d b : ℕ) → has_order new d b ≡ has_order old d b
+  pub room : (d b : ℕ) → is_placed new d b ≡ (not ((b == id) && is_idle_at old id) && is_placed old d b)
+  pub entries : (b : ℕ) → has_entry new b ≡ (not ((b == id) && is_idle_at old id) && has_entry old b)

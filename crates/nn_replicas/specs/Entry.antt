@@ -1,6 +1,7 @@
 -- What is done to a block id, and how it counts.
-use Rattle.std.specs.Prelude.{ℕ, Bool, true, false, ◌&&◌, ◌||◌, nat_le, List, [], map, Option, Some, None, is_some, unwrap_or, count_by, filter_map}
+use Rattle.std.specs.Prelude.{ℕ, Bool, true, false, not, ◌&&◌, ◌||◌, nat_le, List, [], map, Option, Some, None, is_some, unwrap_or, count_by, filter_map}
 use Rattle.std.specs.Prelude.{if◌then◌else◌}
+use Rattle.std.specs.List.{list_all}
 use Rattle.std.specs.Option.{option_map}
 use Rattle.std.specs.FinMap.Entries.{find, put}
 use Rattle.std.specs.Ordering.{nat_cmp}
@@ -71,6 +72,16 @@ with_told e dn None = with_erased (with_place e dn) dn
 -- the block leaves its file
 abbrev pub retired : BlockEntry → BlockEntry
 retired e = record { row = None; cells = map (λ c. (c.0, cell_retired c.1)) e.cells }
+
+-- ---- What is room alone.
+
+-- the DataNode has neither a replica of the block nor an order
+abbrev pub is_idle_cell : Cell → Bool
+is_idle_cell c = not c.ordered && not (is_some c.replica)
+
+-- the block has no row, and no DataNode has a replica of it or an order
+abbrev pub is_idle : BlockEntry → Bool
+is_idle e = not (is_some e.row) && list_all (λ c. is_idle_cell c.1) e.cells
 
 -- ---- What it answers.
 

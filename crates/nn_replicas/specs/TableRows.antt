@@ -1,12 +1,12 @@
 -- A table through its calls, computed.
-use Rattle.std.specs.Prelude.{◌≡◌, ℕ, true, false, [], ◌∷◌, map, Some, None, refl}
+use Rattle.std.specs.Prelude.{◌≡◌, ℕ, Bool, true, false, List, [], ◌∷◌, map, Some, None, refl}
 use Rattle.nn_types.specs.declared.block.Block.{Block}
 use Rattle.nn_types.specs.declared.report.Kind.{Kind}
 use Rattle.nn_types.specs.declared.report.Kind.TheVariants.{Receiving, Received}
 use Rattle.nn_types.specs.declared.replica.Replica.{Replica}
 use Rattle.nn_replicas.specs.Table.{Table}
 use Rattle.nn_replicas.specs.Calls.{row_at, rows_of, replica_at, has_order, is_placed, replicas_at, orders_of, total_of, safe_of, empty_table}
-use Rattle.nn_replicas.specs.Calls.{stamp_at, block_set, pair_placed, replica_put, replica_erased, due_told, block_retired}
+use Rattle.nn_replicas.specs.Calls.{stamp_at, block_set, pair_placed, replica_put, replica_erased, due_told, block_retired, has_entry, is_idle_at, room_given_back}
 
 -- ---- The blocks b and c, and reports of b by DataNodes 1, 2 and 3.
 
@@ -58,12 +58,43 @@ stray = replica_put gone 3 c (replica Received 1001 0)
 strays : (has_order stray 3 c ≡ true) × (replica_at stray 3 c ≡ None) × (has_order (replica_erased stray 3 c) 3 c ≡ false) × (orders_of (replica_erased stray 3 c) ≡ orders_of gone)
 strays = (refl, refl, refl, refl)
 
--- room alone is neither a replica nor an order, and stays
+-- room alone is neither a replica nor an order, and stays until it is given back
 abbrev placed : Table
 placed = pair_placed gone 4 b
 
 rooms : (orders_of placed ≡ orders_of gone) × (map (λ t. is_placed t 4 b) (gone ∷ placed ∷ replica_erased placed 4 b ∷ block_retired placed b ∷ []) ≡ false ∷ true ∷ true ∷ true ∷ [])
 rooms = (refl, refl)
+
+-- room is given back, and with it the entry, once there is no row, no replica and no order: here the orders are done, one
+-- after another
+abbrev done : Table
+done = replica_erased (replica_erased (replica_erased placed 1 b) 2 b) 3 b
+
+abbrev idle_blocks : Table → List Bool
+idle_blocks t = is_idle_at t b ∷ is_idle_at t c ∷ []
+
+idle : map idle_blocks (raised ∷ placed ∷ replica_erased (replica_erased placed 1 b) 2 b ∷ done ∷ pair_placed stray 1 c ∷ pair_placed done 1 c ∷ [])
+    ≡ (false ∷ true ∷ []) ∷ (false ∷ true ∷ []) ∷ (false ∷ true ∷ []) ∷ (true ∷ true ∷ []) ∷ (false ∷ false ∷ []) ∷ (true ∷ true ∷ []) ∷ []
+idle = refl
+
+entries : map (λ t. has_entry t b ∷ has_entry t c ∷ []) (done ∷ pair_placed done 1 c ∷ room_given_back (pair_placed done 1 c) b ∷ room_given_back done c ∷ [])
+    ≡ (true ∷ false ∷ []) ∷ (true ∷ true ∷ []) ∷ (false ∷ true ∷ []) ∷ (true ∷ false ∷ []) ∷ []
+entries = refl
+
+given_back : (room_given_back done b ≡ empty_table 1) × (is_placed (room_given_back (pair_placed done 1 c) b) 1 c ≡ true) × (room_given_back done c ≡ done)
+given_back = (refl, refl, refl)
+
+-- an order, a row, or a row with a replica: nothing is given back
+not_given_back : (room_given_back placed b ≡ placed)
+    × (room_given_back (block_set (empty_table 1) (block_b 1001) false) b ≡ block_set (empty_table 1) (block_b 1001) false) × (room_given_back raised b ≡ raised)
+not_given_back = (refl, refl, refl)
+
+-- nor where a replica stands without a row
+abbrev replica_alone : Table
+replica_alone = record { min = 1; entries = (b, record { row = None; cells = (1, record { replica = Some (replica Received 1001 5); ordered = false }) ∷ [] }) ∷ [] }
+
+not_given_back_alone : room_given_back replica_alone b ≡ replica_alone
+not_given_back_alone = refl
 
 -- what is told with the stamp of the row, or a lower one, is done at once
 told_at_once : (due_told raised 1 b 1002 (Some (replica Received 1002 5)) ≡ reported 5) × (due_told raised 1 b 1001 None ≡ replica_erased raised 1 b)

@@ -1,10 +1,11 @@
 //! What is known of one block id: its row, and a cell for each DataNode that was placed.
 ghost use Rattle.std.specs.Prelude.{◌≡◌, ℕ, IsOk, OnOk, OnErr, is_some, true, map, ◌++◌, IsTrue};
+ghost use Rattle.std.specs.List.{list_all};
 ghost use Rattle.std.specs.FinMap.Entries.{find, is_sorted};
 ghost use Rattle.std.specs.Ordering.{nat_cmp};
 ghost use Rattle.nn_model.specs.Counts.{is_live, is_live_class};
 ghost use Rattle.nn_replicas.specs.Scan.{place, is_here};
-ghost use Rattle.nn_replicas.specs.Entry.{replicas_in, orders_in, is_ordered, cell_retired, no_entry, with_row, with_place, with_put, with_erased, with_told, retired, stamp_in, is_closed, is_safe};
+ghost use Rattle.nn_replicas.specs.Entry.{replicas_in, orders_in, is_ordered, cell_retired, no_entry, is_idle, is_idle_cell, with_row, with_place, with_put, with_erased, with_told, retired, stamp_in, is_closed, is_safe};
 
 use crate::classes::class;
 use crate::replicas_of::ReplicasOf;
@@ -24,8 +25,8 @@ pub struct Cell {
     pub ordered: bool,
 }
 
-// A cell stands for a DataNode that was placed, and stays: so a later report or a retirement is written in place
-// and takes no memory. Up to three cells lie in the entry itself.
+// A cell stands for a DataNode that was placed, and stays as long as the entry: so a later report or a retirement is
+// written in place and takes no memory. Up to three cells lie in the entry itself.
 #[derive(Drop)]
 pub struct Entry {
     // Where a file holds the block. Blocks of open files do not count.
@@ -211,6 +212,16 @@ impl Entry {
         Ok(())
     }
 
+    // Whether the block has no row, no replica and no order.
+    pub fn is_idle(&self) -> bool
+        ensures { result ≡ is_idle self.now }
+    {
+        if self.row.is_some() {
+            return false;
+        }
+        are_idle(self.cells.as_slice())
+    }
+
     // Drops the row, and turns the replicas into orders.
     pub fn retire(&mut self)
         ensures { self.new ≡ retired self.old }
@@ -249,6 +260,27 @@ fn retire_slots(slots: &mut [Slot])
     for slot in slots.iter_mut() {
         slot.retire();
     }
+}
+
+fn are_idle(slots: &[Slot]) -> bool
+    ensures { result ≡ list_all (λ c. is_idle_cell c.1) slots.now }
+{
+    for slot in slots {
+        if !is_idle_slot(slot) {
+            return false;
+        }
+    }
+    true
+}
+
+fn is_idle_slot(slot: &Slot) -> bool
+    ensures { result ≡ is_idle_cell slot.now.1 }
+{
+    let cell = slot.cell();
+    if cell.ordered {
+        return false;
+    }
+    cell.replica.is_none()
 }
 
 fn is_live(block: &Block, slot: &Slot) -> bool

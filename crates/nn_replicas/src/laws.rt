@@ -3,8 +3,8 @@ ghost use Rattle.std.specs.Prelude.{◌≡◌, ℕ, Bool, true, false, Option, S
 ghost use Rattle.nn_types.specs.declared.block.Block.{Block};
 ghost use Rattle.nn_types.specs.declared.replica.Replica.{Replica};
 ghost use Rattle.nn_replicas.specs.Table.{Table};
-ghost use Rattle.nn_replicas.specs.Calls.{empty_table, block_set, pair_placed, replica_put, replica_erased, stamp_at, reaches, due_told, block_retired};
-ghost use Rattle.nn_replicas.specs.Effects.{Names, Places, Writes, Retires};
+ghost use Rattle.nn_replicas.specs.Calls.{empty_table, block_set, pair_placed, replica_put, replica_erased, stamp_at, reaches, due_told, block_retired, room_given_back};
+ghost use Rattle.nn_replicas.specs.Effects.{Names, Places, Writes, Retires, GivesBack};
 ghost use Rattle.nn_replicas.specs.Agreement.{CountsAgree};
 ghost use Rattle.nn_replicas.specs.Order.{IsInOrder};
 
@@ -18,6 +18,7 @@ pub fn each_call_changes()
     ensures tell_due { (t : Table) (dn id stamp : ℕ) (r : Option Replica) → reaches (stamp_at t id) stamp ≡ true → Writes (pair_placed t dn id) dn id r (due_told t dn id stamp r) }
     ensures tell_early { (t : Table) (dn id stamp : ℕ) (r : Option Replica) → reaches (stamp_at t id) stamp ≡ false → Places t dn id (due_told t dn id stamp r) }
     ensures retire { (t : Table) (id : ℕ) → Retires t id (block_retired t id) }
+    ensures give_back { (t : Table) (id : ℕ) → IsInOrder t → GivesBack t id (room_given_back t id) }
 {}
 
 /// Block ids are in order in every table that the calls make, and so are the DataNodes of each.
@@ -29,6 +30,7 @@ pub fn tables_are_in_order()
     ensures erase { (t : Table) (dn id : ℕ) → IsInOrder t → IsInOrder (replica_erased t dn id) }
     ensures tell_due { (t : Table) (dn id stamp : ℕ) (r : Option Replica) → IsInOrder t → IsInOrder (due_told t dn id stamp r) }
     ensures retire { (t : Table) (id : ℕ) → IsInOrder t → IsInOrder (block_retired t id) }
+    ensures give_back { (t : Table) (id : ℕ) → IsInOrder t → IsInOrder (room_given_back t id) }
 {}
 
 /// A table that shows a namespace has its counts.

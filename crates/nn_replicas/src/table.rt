@@ -2,7 +2,7 @@
 ghost use Rattle.std.specs.Prelude.{◌≡◌, IsOk, OnOk, OnErr, IfOk, IfSome, IsTrue, is_some};
 ghost use Rattle.std.specs.FinMap.Entries.{is_sorted};
 ghost use Rattle.std.specs.Ordering.{nat_cmp};
-ghost use Rattle.nn_replicas.specs.Calls.{row_at, rows_of, replicas_at, orders_of, AreAscending, has_order, is_placed, is_kept, total_of, safe_of, empty_table, block_set, pair_placed, replica_put, replica_erased, stamp_at, reaches, due_told, block_retired};
+ghost use Rattle.nn_replicas.specs.Calls.{row_at, rows_of, replicas_at, orders_of, AreAscending, has_order, is_placed, is_kept, total_of, safe_of, empty_table, block_set, pair_placed, replica_put, replica_erased, stamp_at, reaches, due_told, block_retired, room_given_back};
 
 use crate::entry::Entry;
 use crate::replicas_of::ReplicasOf;
@@ -16,8 +16,8 @@ use std::marker::Model;
 /// The replicas of blocks, the orders to delete, and the counts that decide on safe mode.
 ///
 /// A block has a row while a file holds it. A DataNode has a replica of a block with a row, or an order to delete
-/// what it has of a block without one. A DataNode that was once placed at a block keeps its room there, so a later
-/// report of it takes no memory.
+/// what it has of a block without one. A DataNode that was placed at a block keeps its room there, so a later report of
+/// it takes no memory, until `give_back` takes the room of all DataNodes at that block.
 #[derive(Drop)]
 pub struct Replicas {
     min: u16,
@@ -85,7 +85,7 @@ impl Replicas {
         Ok(())
     }
 
-    /// Makes room for what a DataNode says of a block. The room stays, and a `put` on it takes no memory.
+    /// Makes room for what a DataNode says of a block. The room stays until it is given back, and a `put` on it takes no memory.
     ///
     /// If memory runs out, the table is as it was. O(log blocks + replicas of the block).
     pub fn place(&mut self, dn: u16, block: BlockId) -> Result<(), AllocError>
@@ -191,6 +191,23 @@ impl Replicas {
         entry.retire();
         self.total -= u64::from(was_closed);
         self.safe -= u64::from(was_safe);
+    }
+
+    /// Gives back the room of a block that has no row, no replica and no order. Of any other block nothing changes. It is
+    /// the one call that takes room away: a DataNode that was placed there has to be placed anew. A caller that has it
+    /// placed for an item that is still to come does not give it back.
+    ///
+    /// O(log blocks + replicas of the block).
+    pub fn give_back(&mut self, block: BlockId)
+        ensures { self.new ≡ room_given_back self.old block }
+    {
+        let Some(entry) = self.entries.get(&block) else {
+            return;
+        };
+        if !entry.is_idle() {
+            return;
+        }
+        let _room = self.entries.remove(&block);
     }
 
     /// Whether a DataNode is ordered to delete what it has of a block.

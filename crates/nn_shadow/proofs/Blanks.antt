@@ -1,6 +1,6 @@
 -- A table that is filled with the blocks of a namespace shows it.
 use Rattle.std.proofs.Common.{◌≡◌, ℕ, ◌+◌, ◌≤◌, zero, suc, true, cond, List, [], ◌∷◌, map, replicate, Option, Some, None, refl, sym, ap, subst, ◌∙◌, inl, inr, arith}
-use Rattle.std.specs.Prelude.{◌==◌, find, slice_index}
+use Rattle.std.specs.Prelude.{◌==◌, find, slice_index, is_some, unwrap_or}
 use Rattle.std.specs.Ordering.{nat_cmp}
 use Rattle.std.specs.declared.cmp.Ordering.TheVariants.{Less}
 use Rattle.std.specs.List.{AllByRecursion}
@@ -9,15 +9,19 @@ use Rattle.std.proofs.lemmas.Bool.{both_ways, cases_Bool, eqb-true}
 use Rattle.std.proofs.lemmas.Cmp.{nat_cmp_total, tied_itself}
 use Rattle.nn_model.specs.declared.form.BlockRow.{BlockRow}
 use Rattle.nn_model.specs.Namespace.{Namespace}
-use Rattle.nn_model.specs.Touched.{or_before}
+use Rattle.nn_model.specs.Apply.{has_id}
+use Rattle.nn_model.specs.Touched.{or_before, ids_of}
 use Rattle.nn_model.specs.WellFormed.{times}
 use Rattle.nn_model.proofs.Members.{blocks_of_rows}
 use Rattle.nn_tree.specs.Blocks.{AreBlocks}
 use Rattle.nn_replicas.specs.Table.{Table}
-use Rattle.nn_replicas.specs.Calls.{empty_table}
+use Rattle.nn_replicas.specs.Entry.{no_entry}
+use Rattle.nn_replicas.specs.Calls.{has_entry, empty_table}
+use Rattle.nn_replicas.specs.Effects.{is_named as has_row}
 use Rattle.nn_replicas.proofs.Lookups.{new_in_order}
 use Rattle.nn_shadow.specs.Starting.{IsFilling, IsBlank}
 use Rattle.nn_shadow.specs.Steps.{rows_set}
+use Rattle.nn_shadow.proofs.Apart.{rows_there, rows_apart}
 use Rattle.nn_shadow.proofs.Follows.{set_rows, rows_keep}
 
 -- ---- the rows
@@ -49,6 +53,15 @@ or_nothing : (o : Option BlockRow) → or_before o None ≡ o
 or_nothing None = refl
 or_nothing (Some r) = refl
 
+-- where only blocks with rows have entries, it stays so as rows are set
+rows_alone : (t : Table) (rows : List BlockRow) (id : ℕ) → (has_entry t id ≡ true → has_row t id ≡ true) → has_entry (rows_set t rows) id ≡ true → has_row (rows_set t rows) id ≡ true
+rows_alone t rows id alone here = elim (cases_Bool (has_id (ids_of (map (λ row. row.block) rows)) id)) [
+  | inl set ↦ rows_there t rows id set
+  | inr other ↦
+      let same = rows_apart t rows id other in
+      ap (λ o. is_some (unwrap_or o no_entry).row) same ∙ alone (ap is_some (sym same) ∙ here)
+]
+
 pub begins_filling : (n : Namespace) (min : ℕ) (t : Table) (rows : List BlockRow) → t ≡ empty_table min → AreBlocks n rows → IsFilling n min t rows
 begins_filling n min t rows is blocks = record { all = rows; blocks = blocks; left = ap (λ x. rows_set x rows) is }
 
@@ -65,6 +78,7 @@ is_blank n min t rows none f =
             ∙ f.blocks.all id;
         datanodes = λ dn id here. absurd (both_ways _ (keeps.room dn id) here);
       };
+      entries = λ id here. rows_alone start f.all id (λ none. cc) here;
       replicas = keeps.replicas;
       orders = keeps.orders;
       min = keeps.min;

@@ -29,12 +29,16 @@ use Rattle.nn_shadow.specs.Calls.{is_due_in, after_messages, processing, waits, 
 use Rattle.nn_shadow.specs.Items.{taken_at_once, items_taken, TakesItems, LeavesItems}
 use Rattle.nn_shadow.specs.Refusals.{is_lane}
 use Rattle.nn_shadow.specs.Contents.{Contents, number_in, having_in, standby_of, IsConsistent, Becomes}
+use Rattle.nn_shadow.specs.Room.{IsTight, all_given_back, item_blocks}
 use Rattle.nn_shadow.specs.Steps.{messages_taken, all_placed, AreApart}
 use Rattle.nn_shadow.proofs.AtOnce.{at_once}
 use Rattle.nn_shadow.proofs.Lists.{from_queued}
 use Rattle.nn_shadow.proofs.Tables.{shown, messages_keep, messages_shown, messages_unnamed}
 use Rattle.nn_shadow.proofs.Follows.{rows_of_shown}
-use Rattle.nn_shadow.proofs.Consistent.{Leaves, nothing_done, place_consistent, place_becomes, placed_now, numbered_in, none_queued, keeps_shows, has_either_message}
+use Rattle.nn_shadow.proofs.GivenBack.{Stays, becomes_more, all_given_stays}
+use Rattle.nn_shadow.proofs.Sound.{IsSound, sound_of}
+use Rattle.nn_shadow.proofs.Tight.{items_tight, failed_tight}
+use Rattle.nn_shadow.proofs.Consistent.{Leaves, nothing_done, place_sound, place_becomes, placed_now, numbered_in, none_queued, keeps_shows, has_either_message}
 
 -- ---- the items of the end of a report
 
@@ -92,11 +96,11 @@ added_own Finish had m y here = of_finish had.begun y here
 
 -- ---- room
 
-pub places_consistent : (x : Contents) (ms : List Message) → ((m : Message) → Has ms m → is_lane (length x.numbers) m.dn ≡ true) → IsConsistent x →
-    IsConsistent (record x { table = all_placed x.table ms })
-places_consistent x [] lanes c = c
-places_consistent x (m ∷ ms) lanes c =
-    places_consistent (record x { table = pair_placed x.table m.dn m.block }) ms (λ y here. lanes y (inr here)) (place_consistent x m c (lanes m (inl refl)))
+pub places_sound : (x : Contents) (ms : List Message) → ((m : Message) → Has ms m → is_lane (length x.numbers) m.dn ≡ true) → IsSound x →
+    IsSound (record x { table = all_placed x.table ms })
+places_sound x [] lanes c = c
+places_sound x (m ∷ ms) lanes c =
+    places_sound (record x { table = pair_placed x.table m.dn m.block }) ms (λ y here. lanes y (inr here)) (place_sound x m c (lanes m (inl refl)))
 
 pub places_become : (x : Contents) (ms : List Message) → Becomes x (standby_of x) (record x { table = all_placed x.table ms })
 places_become x [] = nothing_done x
@@ -126,16 +130,25 @@ from_take (suc n) [] y none = absurd none
 from_take (suc n) (m ∷ ms) y (inl same) = inl same
 from_take (suc n) (m ∷ ms) y (inr here) = inr (from_take n ms y here)
 
--- where memory was refused, some of the room may be there
+-- where memory was refused, the room that some got is given back
 pub items_failed : (x : Contents) (items : List Message) (h : History) (t : Table) (held : List Message) (hs : List Having) →
     LeavesItems items x.history x.held x.table h held t → hs ≡ x.had → ((m : Message) → Has items m → is_lane (length x.numbers) m.dn ≡ true) → IsConsistent x →
     Leaves x (standby_of x) (record x { history = h; table = t; held = held; had = hs })
 items_failed x items h t held hs l is_hs lanes c =
-    subst (Leaves x (standby_of x)) (λ j. record x { history = sym l.history j; table = sym l.table j; held = sym l.held j; had = sym is_hs j })
-    (record {
-      consistent = places_consistent x (take l.count items) (λ y here. lanes y (from_take l.count items y here)) c;
-      becomes = places_become x (take l.count items);
-    })
+    subst (Leaves x (standby_of x)) (λ j. record x { history = sym l.history j; table = t; held = sym l.held j; had = sym is_hs j })
+    (record { sound = stays.sound; tight = λ serves. subst (λ k. IsTight k t) l.held (failed_tight l (λ k. (some_placed k).shows.in_order) (c.tight serves)); becomes = stays.becomes })
+  where
+    some_placed : (k : ℕ) → IsSound (record x { table = all_placed x.table (take k items) })
+    some_placed k = places_sound x (take k items) (λ y here. lanes y (from_take k items y here)) (sound_of c)
+
+    stays : Stays x t
+    stays = elim l.table [
+      | inl same ↦ subst (Stays x) (sym same) (record { sound = sound_of c; becomes = nothing_done x })
+      | inr some ↦
+          let y : Contents = record x { table = all_placed x.table (take some.0 items) } in
+          let given : Stays y (all_given_back y.held y.table (item_blocks items)) = all_given_stays y (item_blocks items) (some_placed some.0) in
+          subst (Stays x) (sym some.1) (record { sound = given.sound; becomes = becomes_more (places_become x (take some.0 items)) given.becomes })
+    ]
 
 -- ---- those that wait
 
@@ -147,7 +160,7 @@ still_waits due held m y stuck = elim (or_cases (not (due y)) (list_any (same_so
 ]
 
 all_held : (x : Contents) (ms : List Message) → ((y : Message) → Has ms y → must_wait (is_due_in x.namespace) x.held y ≡ true) →
-    ((y : Message) → Has ms y → is_placed x.table y.dn y.block ≡ true) → IsConsistent x → IsConsistent (record x { held = all_queued x.held ms })
+    ((y : Message) → Has ms y → is_placed x.table y.dn y.block ≡ true) → IsSound x → IsSound (record x { held = all_queued x.held ms })
 all_held x [] stuck placed c = c
 all_held x (m ∷ ms) stuck placed c =
     all_held (record x { held = queued m x.held }) ms (λ y here. still_waits (is_due_in x.namespace) x.held m y (stuck y (inr here))) (λ y here. placed y (inr here))
@@ -173,8 +186,8 @@ all_held x (m ∷ ms) stuck placed c =
 
 -- ---- and the others
 
-all_done : (x : Contents) (ms : List Message) → ((y : Message) → Has ms y → is_placed x.table y.dn y.block ≡ true) → IsConsistent x →
-    IsConsistent (record x { history = x.history ++ map (processed Due) ms; table = messages_taken x.table ms })
+all_done : (x : Contents) (ms : List Message) → ((y : Message) → Has ms y → is_placed x.table y.dn y.block ≡ true) → IsSound x →
+    IsSound (record x { history = x.history ++ map (processed Due) ms; table = messages_taken x.table ms })
 all_done x ms placed c =
     let keeps = messages_keep x.table ms placed in
     record {
@@ -191,7 +204,7 @@ all_done x ms placed c =
       settled = c.settled;
     }
 
-done_standby : (x : Contents) (ms : List Message) → IsConsistent x →
+done_standby : (x : Contents) (ms : List Message) → IsSound x →
     standby_of (record x { history = x.history ++ map (processed Due) ms; table = messages_taken x.table ms }) ≡ processing Due ms (standby_of x)
 done_standby x ms c =
     let tables : shown x.namespace (messages_taken x.table ms) ≡ after_messages (shown x.namespace x.table) ms =
@@ -200,8 +213,8 @@ done_standby x ms c =
 
 -- ---- what is had
 
-had_consistent : (x : Contents) (hs : List Having) → length hs ≡ length x.numbers → IsConsistent x → IsConsistent (record x { had = hs })
-had_consistent x hs is c = record {
+had_sound : (x : Contents) (hs : List Having) → length hs ≡ length x.numbers → IsSound x → IsSound (record x { had = hs })
+had_sound x hs is c = record {
   limit = c.limit;
   stopped = c.stopped;
   well_formed = c.well_formed;
@@ -271,20 +284,26 @@ module _ (x : Contents) (dn : ℕ) (items : List Message) (c : IsConsistent x) (
     table = messages_taken (all_placed x.table items) (due_now (standby_of x) items);
   }
 
+  abbrev back : Contents
+  back = record done { table = all_given_back done.held done.table (item_blocks items) }
+
   abbrev noted : Having
   noted = record (get_or x.had (dn - 1) nothing_had) { has = with_items (get_or x.had (dn - 1) nothing_had).has items }
 
-  held_so : IsConsistent held
+  held_so : IsSound held
   held_so = all_held placed (waiting (standby_of x) items) (λ y here. (from_filter (waits (standby_of x)) items y here).1)
       (λ y here. all_have_room x.table items y (from_filter (waits (standby_of x)) items y here).0)
-      (places_consistent x items lanes_of c)
+      (places_sound x items lanes_of (sound_of c))
 
-  done_so : IsConsistent done
+  done_so : IsSound done
   done_so = all_done held (due_now (standby_of x) items)
       (λ y here. all_have_room x.table items y (from_filter (λ i. not (waits (standby_of x) i)) items y here).0) held_so
 
-  noted_so : IsConsistent (record done { had = slice_set x.had (dn - 1) noted })
-  noted_so = had_consistent done (slice_set x.had (dn - 1) noted) (length-set x.had (dn - 1) noted ∙ c.had_each) done_so
+  back_so : Stays done back.table
+  back_so = all_given_stays done (item_blocks items) done_so
+
+  noted_so : IsSound (record back { had = slice_set x.had (dn - 1) noted })
+  noted_so = had_sound back (slice_set x.had (dn - 1) noted) (length-set x.had (dn - 1) noted ∙ c.had_each) back_so.sound
 
   done_is : standby_of done ≡ taken_at_once (standby_of x) items
   done_is = done_standby held (due_now (standby_of x) items) held_so
@@ -306,28 +325,30 @@ module _ (x : Contents) (dn : ℕ) (items : List Message) (c : IsConsistent x) (
             ∙ sym (cond-false (d == dn) (record (having_in x.had d) { has = with_items (having_in x.had d).has items }) (having_in x.had d) other)
       ])
 
-  all_left : Leaves x (items_taken (standby_of x) dn items) (record done { had = slice_set x.had (dn - 1) noted })
-  all_left = record {
-    consistent = noted_so;
-    becomes = record {
-      standby = λ j. record (done_is j) { had = λ d. had_is d j };
+  pub items_left : (h : History) (t : Table) (now : List Message) (hs : List Having) →
+      TakesItems x.namespace items x.history x.held x.table h now t → HadAfter x dn items hs →
+      Leaves x (items_taken (standby_of x) dn items) (record x { history = h; table = t; held = now; had = hs })
+  items_left h t now hs takes is_hs = record {
+    sound = subst IsSound is noted_so;
+    tight = λ serves. items_tight takes done_so.shows.in_order (c.tight serves);
+    becomes = subst (Becomes x (items_taken (standby_of x) dn items)) is (record {
+      standby = λ j. record ((back_so.becomes.standby ∙ done_is) j) { had = λ d. had_is d j };
       phase = refl;
       settings = record {
         datanodes = refl;
-        min = (messages_keep (all_placed x.table items) (due_now (standby_of x) items)
+        min = back_so.becomes.settings.min
+            ∙ (messages_keep (all_placed x.table items) (due_now (standby_of x) items)
             (λ y here. all_have_room x.table items y (from_filter (λ i. not (waits (standby_of x) i)) items y here).0)).min
             ∙ (places_become x items).settings.min;
         permille = refl;
       };
-    };
+    });
   }
-
-  pub items_left : (h : History) (t : Table) (now : List Message) (hs : List Having) →
-      TakesItems x.namespace items x.history x.held x.table h now t → HadAfter x dn items hs →
-      Leaves x (items_taken (standby_of x) dn items) (record x { history = h; table = t; held = now; had = hs })
-  items_left h t now hs takes is_hs =
-      subst (Leaves x (items_taken (standby_of x) dn items))
-      (λ j. record x { history = sym takes.history j; table = sym takes.table j; held = sym takes.held j; had = sym is_hs j }) all_left
+    where
+      is : record back { had = slice_set x.had (dn - 1) noted } ≡ record x { history = h; table = t; held = now; had = hs }
+      is =
+          (λ j. record back { table = all_given_back (sym takes.held j) done.table (item_blocks items); had = slice_set x.had (dn - 1) noted; held = sym takes.held j })
+          ∙ (λ j. record x { history = sym takes.history j; table = sym takes.table j; held = now; had = sym is_hs j })
 
 -- where the code writes at the DataNode's place
 pub had_after : (x : Contents) (dn : ℕ) (items : List Message) (i : ℕ) (old new : Having) → i ≡ dn - 1 → i < length x.had →
@@ -363,7 +384,7 @@ received_stays x m = all x (items_added x m)
 
 -- its items were taken in, and then it was noted
 module _ (x mid : Contents) (m : Message) (lane : is_lane (length x.numbers) m.dn ≡ true) (apart : AreApart (items_added (standby_of x) m))
-    (c : IsConsistent mid) (b : Becomes x (items_taken (standby_of x) m.dn (items_added (standby_of x) m)) mid) where
+    (c : IsSound mid) (tight : mid.phase.active ≡ false → IsTight mid.held mid.table) (b : Becomes x (items_taken (standby_of x) m.dn (items_added (standby_of x) m)) mid) where
   lane_now : is_lane (length mid.numbers) m.dn ≡ true
   lane_now = subst (λ n. is_lane n m.dn ≡ true) (sym b.settings.datanodes) lane
 
@@ -401,7 +422,7 @@ module _ (x mid : Contents) (m : Message) (lane : is_lane (length x.numbers) m.d
   number_end : (d : ℕ) → number_in (slice_set mid.numbers (m.dn - 1) m.number) d ≡ numbers_after (number_in x.numbers) m d
   number_end d = numbered_in mid.numbers m d lane_now ∙ ap (λ (s : StandbyState). numbers_after s.last_number m d) b.standby
 
-  end_so : IsConsistent (record mid { had = slice_set mid.had (m.dn - 1) noted_last; numbers = slice_set mid.numbers (m.dn - 1) m.number })
+  end_so : IsSound (record mid { had = slice_set mid.had (m.dn - 1) noted_last; numbers = slice_set mid.numbers (m.dn - 1) m.number })
   end_so = record {
     limit = c.limit;
     stopped = c.stopped;
@@ -421,7 +442,8 @@ module _ (x mid : Contents) (m : Message) (lane : is_lane (length x.numbers) m.d
   message_left hs ns is_hs is_ns =
       subst (Leaves x (received (standby_of x) m)) (λ j. record mid { had = sym is_hs j; numbers = sym is_ns j })
       (record {
-        consistent = end_so;
+        sound = end_so;
+        tight = tight;
         becomes = record {
           standby =
               (λ j. record (b.standby j) { had = λ d. had_end d j; last_number = λ d. number_end d j })
@@ -471,5 +493,5 @@ message_done x m i old new last end h t held c lane at is_old is_new apart takes
     (subst (λ l. TakesItems x.namespace l x.history x.held x.table h held t) its takes)
     (had_after x m.dn (items_added (standby_of x) m) i old new at here.1 is_old (is_new ∙ ap {B = Having} (λ l. record old { has = with_items old.has l }) its)) in
     let long : i < length mid.had = subst (λ n. i < n) (sym (length-set x.had i new)) here.1 in
-    message_left x mid m lane (subst AreApart its apart) taken.consistent taken.becomes (slice_set mid.had i end) (slice_set x.numbers i m.number)
+    message_left x mid m lane (subst AreApart its apart) taken.sound taken.tight taken.becomes (slice_set mid.had i end) (slice_set x.numbers i m.number)
     (had_noted mid m i last end at long is_last is_end) (ap (λ k. slice_set x.numbers k m.number) at)

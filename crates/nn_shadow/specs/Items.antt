@@ -1,5 +1,5 @@
 -- Several items of one DataNode, taken in at once.
-use Rattle.std.specs.Prelude.{◌≡◌, ℕ, not, List, ◌++◌, map, filter, take, length, ◌==◌, if◌then◌else◌}
+use Rattle.std.specs.Prelude.{◌≡◌, ℕ, not, List, ◌++◌, ◌⊎◌, map, filter, take, length, ◌==◌, if◌then◌else◌}
 use Rattle.nn_types.specs.declared.report.Message.{Message}
 use Rattle.nn_types.specs.declared.event.Cause.TheVariants.{Due}
 use Rattle.nn_model.specs.Namespace.{Namespace}
@@ -12,6 +12,7 @@ use Rattle.nn_replicas.specs.Table.{Table}
 use Rattle.nn_shadow.specs.declared.fault.Handed.{Handed}
 use Rattle.nn_shadow.specs.Calls.{is_due_in, processing, waiting, due_now}
 use Rattle.nn_shadow.specs.Steps.{messages_taken, all_placed}
+use Rattle.nn_shadow.specs.Room.{all_given_back, item_blocks}
 
 -- those that have to wait were held, and then the others were processed
 abbrev pub taken_at_once : StandbyState → List Message → StandbyState
@@ -34,15 +35,14 @@ stuck_of n held items = filter (must_wait (is_due_in n) held) items
 abbrev pub counts_of : Namespace → List Message → List Message → Handed
 counts_of n held items = record { processed = length (free_of n held items); held = length (stuck_of n held items) }
 
--- history, held items and table after these items were taken in
+-- history, held items and table after these items were taken in, and the room that they left idle was given back
 pub record TakesItems (n : Namespace) (items : List Message) (h : History) (was : List Message) (t : Table) (h_now : History) (now : List Message) (t_now : Table) : Type 0 where
   pub history : h_now ≡ h ++ map (processed Due) (free_of n was items)
   pub held : now ≡ all_queued was (stuck_of n was items)
-  pub table : t_now ≡ messages_taken (all_placed t items) (free_of n was items)
+  pub table : t_now ≡ all_given_back now (messages_taken (all_placed t items) (free_of n was items)) (item_blocks items)
 
--- none was taken in: the first ones may have their room
+-- none was taken in: the table is as it was, or the first ones got their room and it was given back
 pub record LeavesItems (items : List Message) (h : History) (was : List Message) (t : Table) (h_now : History) (now : List Message) (t_now : Table) : Type 0 where
   pub history : h_now ≡ h
   pub held : now ≡ was
-  pub count : ℕ
-  pub table : t_now ≡ all_placed t (take count items)
+  pub table : (t_now ≡ t) ⊎ ((count : ℕ) × (t_now ≡ all_given_back was (all_placed t (take count items)) (item_blocks items)))

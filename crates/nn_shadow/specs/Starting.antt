@@ -1,11 +1,12 @@
 -- The table with which a standby starts over a namespace.
-use Rattle.std.specs.Prelude.{◌≡◌, ℕ, List, None, false}
+use Rattle.std.specs.Prelude.{◌≡◌, ℕ, List, None, true, false}
 use Rattle.nn_model.specs.declared.form.BlockRow.{BlockRow}
 use Rattle.nn_model.specs.Namespace.{Namespace}
 use Rattle.nn_tree.specs.Blocks.{AreBlocks}
 use Rattle.nn_replicas.specs.Table.{Table}
-use Rattle.nn_replicas.specs.Calls.{replica_at, has_order, empty_table}
+use Rattle.nn_replicas.specs.Calls.{replica_at, has_order, has_entry, empty_table}
 use Rattle.nn_replicas.specs.Agreement.{Shows}
+use Rattle.nn_replicas.specs.Effects.{is_named as has_row}
 use Rattle.nn_shadow.specs.Steps.{rows_set}
 
 -- the table has these blocks of the namespace, where the first ones are set and `rows` are left
@@ -14,9 +15,10 @@ pub record IsFilling (n : Namespace) (min : ℕ) (t : Table) (rows : List BlockR
   pub blocks : AreBlocks n all
   pub left : rows_set t rows ≡ rows_set (empty_table min) all
 
--- the table has the rows of the namespace's blocks, and no replicas and no orders
+-- the table has the rows of the namespace's blocks, and of no other block an entry; and no replicas and no orders
 pub record IsBlank (n : Namespace) (enough : ℕ) (t : Table) : Type 0 where
   pub shows : Shows n t
+  pub entries : (id : ℕ) → has_entry t id ≡ true → has_row t id ≡ true
   pub replicas : (dn id : ℕ) → replica_at t dn id ≡ None
   pub orders : (dn id : ℕ) → has_order t dn id ≡ false
   pub min : t.min ≡ enough

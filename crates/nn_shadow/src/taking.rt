@@ -1,18 +1,23 @@
 //! The items of a message are taken in: held while they have to wait, and processed where they need not. Memory comes
 //! before any change that shows.
-ghost use Rattle.std.specs.Prelude.{◌≡◌, ◌≤◌, [], ◌∷◌, OnOk, OnErr, IfOk, filter, nat_lt};
+ghost use Rattle.std.specs.Prelude.{◌≡◌, ◌≤◌, ℕ, [], ◌∷◌, ◌++◌, OnOk, OnErr, IfOk, filter, map, take, nat_lt};
+ghost use Rattle.nn_types.specs.declared.event.Cause.TheVariants.{Due};
+ghost use Rattle.nn_model.specs.History.{processed};
 ghost use Rattle.nn_model.specs.Items.{added, finished, with_items};
 ghost use Rattle.nn_model.specs.Status.{status_unheld};
 ghost use Rattle.nn_postponed.specs.Release.{must_wait};
+ghost use Rattle.nn_postponed.specs.Queues.{all_queued};
 ghost use Rattle.nn_shadow.specs.Calls.{is_due_in};
-ghost use Rattle.nn_shadow.specs.Items.{TakesItems, LeavesItems, counts_of};
-ghost use Rattle.nn_shadow.specs.Steps.{AreApart, taken_unless, status_by_row};
+ghost use Rattle.nn_shadow.specs.Items.{TakesItems, LeavesItems, free_of, stuck_of, counts_of};
+ghost use Rattle.nn_shadow.specs.Steps.{AreApart, messages_taken, all_placed, status_by_row};
+ghost use Rattle.nn_shadow.specs.Room.{taken_unless};
 ghost use Rattle.nn_replicas.specs.Agreement.{Shows};
 ghost use Rattle.nn_model.specs.WellFormed.{HasWellFormedBlocks};
 ghost use Rattle.nn_replicas.specs.Calls.{pair_placed};
 
 use crate::fault::Handed;
 use crate::had::Had;
+use crate::room::{give_back, give_back_items};
 use crate::settle::{process_due, processed};
 use crate::table::{place_all, process_by_row, process_without_row};
 use nn_postponed::Postponed;
@@ -108,6 +113,7 @@ fn process_or_hold(
     };
     if waits {
         let Ok(()) = held.hold(*item) else {
+            give_back(table, held, item.block);
             return Err(AllocError);
         };
         return Ok(Handed {
@@ -122,7 +128,8 @@ fn process_or_hold(
     })
 }
 
-// Makes room for an item in the table, and does there what it says unless it has to wait. Tells whether it has to.
+// Makes room for an item in the table, and does there what it says unless it has to wait. Tells whether it has to. Room that
+// it leaves idle is given back.
 //
 // Where a file holds the block, the table's row says whether the item is due. Where none does, the namespace is asked, and
 // of it only what it keeps of ids that no file has.
@@ -135,7 +142,7 @@ fn place_or_process(
     requires shows { Shows namespace.now table.old }
     requires blocks { HasWellFormedBlocks namespace.now }
     ensures waits { IfOk result (λ waits. waits ≡ must_wait (is_due_in namespace.now) held.now item.now) }
-    ensures ok { IfOk result (λ waits. table.new ≡ taken_unless waits (pair_placed table.old item.now.dn item.now.block) item.now) }
+    ensures ok { IfOk result (λ waits. table.new ≡ taken_unless waits held.now (pair_placed table.old item.now.dn item.now.block) item.now) }
     ensures err { OnErr result (table.new ≡ table.old) }
 {
     if is_ahead(namespace, item) {
@@ -157,7 +164,7 @@ fn place_or_process(
     if !due(status, item.stamp) {
         return Ok(true);
     }
-    process_without_row(table, &row_stamp, item);
+    process_without_row(table, held, &row_stamp, item);
     Ok(false)
 }
 
@@ -182,8 +189,7 @@ fn status_by_row(
     Status::Named(stamp)
 }
 
-// The items of the end of a full report. Those that have to wait are held first, which takes memory last; then the
-// others are processed.
+// The items of the end of a full report. Their room is given back behind them where nobody needs it.
 fn take_back(
     namespace: &Namespace,
     history: &mut Vec<Event>,
@@ -200,14 +206,43 @@ fn take_back(
     ensures had_err { OnErr result (had.new.having ≡ had.old.having) }
 {
     let alloc = *history.allocator();
-    let gone = had.left_out(alloc, finish)?;
-    place_all(table, &gone)?;
-    let waiting = waiting(namespace, held, alloc, &gone)?;
-    let due = gone.len() - waiting.len();
-    history.reserve(due)?;
-    held.hold_all(&waiting)?;
-    process_due(history, table, held, &gone);
+    let Ok(gone) = had.left_out(alloc, finish) else {
+        return Err(AllocError);
+    };
+    let items = gone.as_slice();
+    let Ok(handed) = process_or_hold_all(namespace, history, held, table, items) else {
+        give_back_items(table, held, items);
+        return Err(AllocError);
+    };
+    give_back_items(table, held, items);
     had.forget_left_out();
+    Ok(handed)
+}
+
+// Processes items about different blocks, and holds those that have to wait. These are held first, which takes memory last;
+// then the others are processed.
+fn process_or_hold_all(
+    namespace: &Namespace,
+    history: &mut Vec<Event>,
+    held: &mut Postponed,
+    table: &mut Replicas,
+    items: &[Message],
+) -> Result<Handed, AllocError>
+    requires apart { AreApart items.now }
+    ensures told { OnOk result (history.new.items ≡ history.old.items ++ map (processed Due) (free_of namespace.now held.old items.now)) }
+    ensures held { OnOk result (held.new ≡ all_queued held.old (stuck_of namespace.now held.old items.now)) }
+    ensures table { OnOk result (table.new ≡ messages_taken (all_placed table.old items.now) (free_of namespace.now held.old items.now)) }
+    ensures handed { IfOk result (λ handed. handed ≡ counts_of namespace.now held.old items.now) }
+    ensures stays { OnErr result ((history.new.items ≡ history.old.items) × (held.new ≡ held.old)) }
+    ensures placed { OnErr result ((count : ℕ) × (table.new ≡ all_placed table.old (take count items.now))) }
+{
+    let alloc = *history.allocator();
+    place_all(table, items)?;
+    let waiting = waiting(namespace, held, alloc, items)?;
+    let due = items.len() - waiting.len();
+    history.reserve(due)?;
+    held.hold_all(waiting.as_slice())?;
+    process_due(history, table, held, items);
     Ok(Handed {
         processed: due,
         held: waiting.len(),

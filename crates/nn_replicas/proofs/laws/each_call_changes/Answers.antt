@@ -1,5 +1,6 @@
 use Rattle.nn_replicas.proofs.Lookups.{set_block_names, place_places, put_writes, erase_writes, retire_retires}
 use Rattle.nn_replicas.proofs.Told.{due_writes, early_places}
+use Rattle.nn_replicas.proofs.GivenBack.{give_back_gives}
 use Rattle.nn_replicas.proofs.laws.each_call_changes.Goals as goal
 
 pub returns-clause-set_block : goal.returns-clause-set_block
@@ -22,3 +23,6 @@ returns-clause-tell_early c = early_places
 
 pub returns-clause-retire : goal.returns-clause-retire
 returns-clause-retire c = retire_retires
+
+pub returns-clause-give_back : goal.returns-clause-give_back
+returns-clause-give_back c = give_back_gives

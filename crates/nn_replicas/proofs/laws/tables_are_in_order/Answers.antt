@@ -1,5 +1,6 @@
 use Rattle.nn_replicas.proofs.Lookups.{new_in_order, set_block_in_order, place_in_order, put_in_order, erase_in_order, retire_in_order}
 use Rattle.nn_replicas.proofs.Told.{due_in_order}
+use Rattle.nn_replicas.proofs.GivenBack.{give_back_in_order}
 use Rattle.nn_replicas.proofs.laws.tables_are_in_order.Goals as goal
 
 pub returns-clause-new : goal.returns-clause-new
@@ -22,3 +23,6 @@ returns-clause-tell_due c = due_in_order
 
 pub returns-clause-retire : goal.returns-clause-retire
 returns-clause-retire c = retire_in_order
+
+pub returns-clause-give_back : goal.returns-clause-give_back
+returns-clause-give_back c = give_back_in_order

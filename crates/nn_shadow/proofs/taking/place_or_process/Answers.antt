@@ -4,6 +4,8 @@ use Rattle.nn_model.specs.Status.{status_unheld}
 use Rattle.nn_replicas.specs.Calls.{is_placed}
 use Rattle.nn_shadow.specs.Steps.{status_by_row}
 use Rattle.nn_shadow.proofs.Rows.{room_without_row, late_waits, due_goes}
+use Rattle.nn_shadow.proofs.OneItem.{taken_by_row}
+use Rattle.nn_shadow.specs.Room.{taken_without_row}
 use Rattle.nn_shadow.proofs.Ahead.{ahead_waits}
 use Rattle.nn_shadow.proofs.taking.place_or_process.Goals as goal
 
@@ -31,3 +33,12 @@ returns-clause-waits c =
 pub returns-then-is_ahead-clause-waits : goal.returns-then-is_ahead-clause-waits
 returns-then-is_ahead-clause-waits c =
     ahead_waits c.args.namespace.now c.args.held.now c.args.item.now c.requires.blocks (sym c.is_ahead.ensures ∙ c.if-is_ahead.true)
+
+pub returns-clause-ok : goal.returns-clause-ok
+returns-clause-ok c =
+    let n = c.args.namespace.now in
+    let m = c.args.item.now in
+    c.process_without_row.ensures
+    ∙ ap (λ t. taken_without_row c.in-Ok-process_by_row.row_stamp c.args.held.now t m) c.in-Ok-process_by_row.ensures.ok
+    ∙ taken_by_row c.args.table.now c.args.held.now m (status_unheld n m.block) c.in-Ok-process_by_row.row_stamp c.in-Ok-process_by_row.ensures.stamp
+    (ap (λ s. is_due s m.stamp) (sym c.status_by_row-status.ensures) ∙ sym c.due.ensures ∙ c.if-not-due.false)

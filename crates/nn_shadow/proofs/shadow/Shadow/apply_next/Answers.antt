@@ -1,11 +1,14 @@
-use Rattle.std.proofs.Common.{◌≡◌, ◌∷◌, [], ◌++◌, None, ap, subst, sym, ◌∙◌, inl, inr}
+use Rattle.std.proofs.Math.Seq.{drop-append_seam}
+use Rattle.nn_shadow.specs.Room.{given_back_after}
+use Rattle.std.proofs.Common.{◌≡◌, ◌∷◌, [], ◌++◌, drop, None, ap, subst, sym, ◌∙◌, inl, inr}
 use Rattle.nn_types.specs.declared.event.Event.TheVariants.{Applied}
 use Rattle.nn_shadow.specs.contracts.shadow.Shadow.{the_view}
 use Rattle.nn_replicas.specs.Calls.{is_placed}
 use Rattle.nn_shadow.specs.Calls.{is_due_in, applied_to}
 use Rattle.nn_shadow.specs.Contents.{Contents, standby_of, Becomes}
 use Rattle.nn_shadow.specs.Refusals.{turn_refusal}
-use Rattle.nn_shadow.proofs.Consistent.{Leaves, edit_applied, edit_failed, edit_refused, edit_room}
+use Rattle.nn_shadow.proofs.Consistent.{Leaves, left_consistent, edit_applied, edit_failed, edit_refused, edit_room}
+use Rattle.nn_shadow.proofs.Sound.{sound_of}
 use Rattle.nn_model.specs.Namespace.{Namespace}
 use Rattle.nn_model.specs.Apply.{effect, refusal}
 use Rattle.nn_model.specs.Touched.{Touched, ascending, changed_ids}
@@ -24,7 +27,7 @@ failed c =
     c.in_default-change.ensures.kept c.in-Ok.ensures.items c.in_default-change.ensures.undone
 
 pub invariant_of-self-in_default-change : goal.invariant_of-self-in_default-change
-invariant_of-self-in_default-change c = (failed c).consistent
+invariant_of-self-in_default-change c = left_consistent (failed c)
 
 pub returns-in_default-change-clause-err : goal.returns-in_default-change-clause-err
 returns-in_default-change-clause-err c =
@@ -43,27 +46,29 @@ returns-in_default-change-clause-same c =
 pub settle-requires-clause-placed : goal.settle-requires-clause-placed
 settle-requires-clause-placed c =
     λ m here. ap (λ t. is_placed t m.dn m.block) c.in-Ok-change.ensures.table
-    ∙ edit_room (the_view c.self.inside) c.args.tx.now c.self.invariant c.in-Ok-change.ensures.lawful c.in-Ok-change.ensures.applies m here
+    ∙ edit_room (the_view c.self.inside) c.args.tx.now (sound_of c.self.invariant) c.in-Ok-change.ensures.lawful c.in-Ok-change.ensures.applies m here
 
 made : (c : goal.After-drop-written-2) → Leaves (the_view c.self.inside) (applied_to (standby_of (the_view c.self.inside)) c.args.tx.now)
     (record (the_view c.self.inside) {
       namespace = c.change.new.namespace;
       last = c.get-self-inside.result;
       history = c.settle.new.history.items;
-      table = c.settle.new.table;
+      table = c.give_back_touched.new.table;
       held = c.settle.new.held;
     })
 made c =
     edit_applied (the_view c.self.inside) c.args.tx.now c.change.new.namespace c.get-self-inside.result c.push.new.self.items
-    c.settle.new.history.items c.change.new.table c.settle.new.table c.settle.new.held c.self.invariant c.in-Ok-change.ensures.lawful
+    c.settle.new.history.items c.change.new.table c.settle.new.table c.give_back_touched.new.table c.settle.new.held c.self.invariant c.in-Ok-change.ensures.lawful
     (fits_if (the_view c.self.inside).phase (standby_of (the_view c.self.inside)) c.args.tx.now
     (subst (λ (x : Contents). turn_refusal x.phase (standby_of x) c.args.tx.now ≡ None) (sym c.self.view_is) c.requires) c.in-Ok-change.ensures.applies)
     c.get-self-inside.ensures.limit c.in-Ok-change.ensures.namespace c.get-self-inside.ensures.value
     (c.in-Ok-push.ensures.items ∙ ap (λ h. h ++ Applied c.args.tx.now.txid ∷ []) c.in-Ok.ensures.items)
     c.in-Ok-change.ensures.table c.settle.ensures.told c.settle.ensures.left c.settle.ensures.table
+    (c.give_back_touched.ensures ∙ (λ j. given_back_after c.settle.new.held c.settle.new.table (c.in-Ok-change.ensures.touched j)
+    ((λ k. drop (c.len-before.ensures k) ((c.as_slice-2.ensures.value ∙ c.settle.ensures.told) k)) ∙ drop-append_seam c.push.new.self.items _) j))
 
 pub invariant_of-self-2 : goal.invariant_of-self-2
-invariant_of-self-2 c = (made c).consistent
+invariant_of-self-2 c = left_consistent (made c)
 
 pub returns-clause-ok : goal.returns-clause-ok
 returns-clause-ok c =
@@ -72,7 +77,7 @@ returns-clause-ok c =
       namespace = c.change.new.namespace;
       last = c.get-self-inside.result;
       history = c.settle.new.history.items;
-      table = c.settle.new.table;
+      table = c.give_back_touched.new.table;
       held = c.settle.new.held;
     }))
     c.self.view_is (made c).becomes

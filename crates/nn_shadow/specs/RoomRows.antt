@@ -1,0 +1,70 @@
+-- Room that is given back, computed.
+use Rattle.std.specs.Prelude.{◌≡◌, true, false, List, [], ◌∷◌, map, Some, None, refl}
+use Rattle.nn_types.specs.declared.report.Message.{Message}
+use Rattle.nn_types.specs.declared.report.Kind.TheVariants.{Received, Deleted}
+use Rattle.nn_types.specs.declared.event.Event.TheVariants.{Applied, Processed}
+use Rattle.nn_types.specs.declared.event.Cause.TheVariants.{Due}
+use Rattle.nn_types.specs.declared.edit.Edit.{Edit}
+use Rattle.nn_types.specs.declared.edit.Edit.TheVariants.{EndSegment, AddBlock}
+use Rattle.nn_model.specs.MessageRows.{b, c, f, message}
+use Rattle.nn_model.specs.Touched.{nothing}
+use Rattle.nn_replicas.specs.Table.{Table}
+use Rattle.nn_replicas.specs.Calls.{empty_table, pair_placed}
+use Rattle.nn_shadow.specs.Room.{is_waited_for, given_back, all_given_back, taken_unless, taken_without_row, given_back_after, row_given_back}
+use Rattle.nn_shadow.specs.Steps.{message_taken, row_made}
+
+-- ---- DataNode 1 was placed at b and c. No file holds them.
+
+abbrev at_b : Table
+at_b = pair_placed (empty_table 1) 1 b
+
+abbrev at_c : Table
+at_c = pair_placed (empty_table 1) 1 c
+
+abbrev at_both : Table
+at_both = pair_placed at_b 1 c
+
+abbrev received_b : Message
+received_b = message 1 1 Received b 1001 5
+
+abbrev deleted_b : Message
+deleted_b = message 1 1 Deleted b 0 0
+
+abbrev about_b : List Message
+about_b = received_b ∷ []
+
+waited_for : map (is_waited_for about_b) (b ∷ c ∷ []) ≡ true ∷ false ∷ []
+waited_for = refl
+
+-- a block that an item is held about keeps its room
+of_each : (map (given_back [] at_both) (b ∷ c ∷ []) ≡ at_c ∷ at_b ∷ []) × (map (given_back about_b at_both) (b ∷ c ∷ []) ≡ at_both ∷ at_b ∷ [])
+of_each = (refl, refl)
+
+of_both : (all_given_back [] at_both (b ∷ c ∷ []) ≡ empty_table 1) × (all_given_back about_b at_both (b ∷ c ∷ []) ≡ at_b)
+of_both = (refl, refl)
+
+-- ---- A message. A delete leaves room alone, and a replica an order.
+
+of_a_message : (taken_without_row None [] at_b deleted_b ≡ empty_table 1) × (taken_without_row None about_b at_b deleted_b ≡ at_b)
+    × (taken_without_row None [] at_b received_b ≡ message_taken at_b received_b) × (taken_without_row (Some 1001) [] at_b deleted_b ≡ at_b)
+of_a_message = (refl, refl, refl, refl)
+
+-- one that has to wait will need its room
+of_one_that_waits : (taken_unless true [] at_b deleted_b ≡ at_b) × (taken_unless false [] at_b deleted_b ≡ empty_table 1)
+of_one_that_waits = (refl, refl)
+
+-- ---- An edit retired b, or passed over c and set an item about it free.
+
+of_retired : given_back_after [] at_both (record nothing { retired = b ∷ [] }) (Processed 1 1 c Due ∷ []) ≡ at_c
+of_retired = refl
+
+of_skipped : given_back_after [] at_both (record nothing { skipped = Some (c, c) }) (Applied 1 ∷ Processed 1 1 c Due ∷ []) ≡ at_b
+of_skipped = refl
+
+-- a row was made and unmade
+abbrev adds_b : Edit
+adds_b = AddBlock f b 1001
+
+of_a_row : (row_given_back [] (row_made (empty_table 1) adds_b) adds_b ≡ empty_table 1) × (row_given_back about_b (row_made at_b adds_b) adds_b ≡ at_b)
+    × (row_given_back [] at_b EndSegment ≡ at_b)
+of_a_row = (refl, refl, refl)

@@ -1,8 +1,7 @@
 -- What is done about other blocks leaves the entry of a block as it was.
-use Rattle.std.proofs.Common.{◌≡◌, ℕ, Bool, true, false, cond, List, [], ◌∷◌, map, Option, Some, None, is_some, refl, sym, ap, ◌∙◌, inl, inr, nat_cmp}
-use Rattle.std.specs.Prelude.{◌==◌, ◌||◌, unwrap_or}
-use Rattle.std.specs.List.{list_any}
-use Rattle.std.proofs.lemmas.Bool.{or_parts, or_cases, eqb-true, eq-eqb}
+use Rattle.std.proofs.Common.{◌≡◌, ℕ, true, false, cond, List, [], ◌∷◌, map, Option, Some, None, is_some, refl, ap, ◌∙◌, inl, inr}
+use Rattle.std.specs.Prelude.{◌==◌}
+use Rattle.std.proofs.lemmas.Bool.{or_parts, or_cases}
 use Rattle.nn_types.specs.declared.report.Message.{Message}
 use Rattle.nn_types.specs.declared.report.Kind.{Kind}
 use Rattle.nn_types.specs.declared.report.Kind.TheVariants.{Receiving, Received, Deleted, Begin, Listed, Finish}
@@ -11,15 +10,15 @@ use Rattle.nn_types.specs.declared.edit.Edit.TheVariants.{StartSegment, EndSegme
 use Rattle.nn_types.specs.declared.edit.Edit.TheVariants.{SetReplication, AllocateBlockId, SetGenstamp}
 use Rattle.nn_model.specs.declared.form.BlockRow.{BlockRow}
 use Rattle.nn_model.specs.Namespace.{Namespace}
-use Rattle.nn_model.specs.Apply.{has_id, new_block}
+use Rattle.nn_model.specs.Apply.{has_id}
 use Rattle.nn_model.specs.Touched.{touched, ids_of, changed_ids}
 use Rattle.nn_replicas.specs.Table.{BlockEntry, Table}
-use Rattle.nn_replicas.specs.Entry.{no_entry, retired, with_place, with_erased}
-use Rattle.nn_replicas.specs.Calls.{entry_at, entry_or_none, has_entry, row_at, with_entry, changed_from, block_set, pair_placed, block_retired}
+use Rattle.nn_replicas.specs.Entry.{retired, with_place, with_erased}
+use Rattle.nn_replicas.specs.Calls.{entry_at, entry_or_none, row_at, with_entry, changed_from, block_set, pair_placed, block_retired}
 use Rattle.nn_replicas.specs.Effects.{is_named as has_row}
 use Rattle.nn_replicas.proofs.Lookups.{find_put, set_block_names}
 use Rattle.nn_shadow.specs.Room.{is_waited_for}
-use Rattle.nn_shadow.specs.Steps.{taken_as, message_taken, messages_taken, all_placed, row_made, row_unmade, rows_set, blocks_retired}
+use Rattle.nn_shadow.specs.Steps.{taken_as, message_taken, messages_taken, all_placed, row_made, rows_set, blocks_retired}
 use Rattle.nn_shadow.proofs.Filling.{row_stays}
 use Rattle.nn_shadow.proofs.Follows.{eq_swap}
 

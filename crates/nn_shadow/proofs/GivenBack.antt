@@ -1,6 +1,6 @@
 -- Room is given back: the standby stays, no block about which an item is held loses its room, and none is left idle.
-use Rattle.std.proofs.Common.{◌≡◌, ℕ, ◌≤◌, Bool, true, false, cond, List, [], ◌∷◌, Option, Some, None, is_some, refl, sym, ap, subst, ◌∙◌, inl, inr, arith}
-use Rattle.std.specs.Prelude.{◌≢◌, ◌<◌, ◌==◌, ◌&&◌, ◌||◌, ◌⊎◌, not, nat_le, nat_lt, unwrap_or}
+use Rattle.std.proofs.Common.{◌≡◌, ℕ, true, false, cond, List, [], ◌∷◌, Option, Some, None, is_some, refl, sym, ap, subst, ◌∙◌, inl, inr, arith}
+use Rattle.std.specs.Prelude.{◌≢◌, ◌<◌, ◌==◌, ◌&&◌, not, nat_le, nat_lt, unwrap_or}
 use Rattle.std.specs.List.{list_any}
 use Rattle.std.proofs.lemmas.Bool.{both_ways, and_parts, cases_Bool, or_parts, or_cases, eqb-true, eq-eqb, le-leb, lt-ltb}
 use Rattle.nn_types.specs.declared.block.Block.{Block}
@@ -8,15 +8,15 @@ use Rattle.nn_types.specs.declared.report.Message.{Message}
 use Rattle.nn_model.specs.Apply.{has_id}
 use Rattle.nn_model.specs.Stands.{StandbyState}
 use Rattle.nn_model.specs.WellFormed.{Has}
-use Rattle.nn_replicas.specs.Table.{BlockEntry, Table}
-use Rattle.nn_replicas.specs.Entry.{no_entry, is_idle, is_idle_cell}
-use Rattle.nn_replicas.specs.Calls.{entry_at, entry_or_none, has_entry, is_placed, is_idle_at, without_entry, room_given_back}
+use Rattle.nn_replicas.specs.Table.{Table}
+use Rattle.nn_replicas.specs.Entry.{no_entry, is_idle}
+use Rattle.nn_replicas.specs.Calls.{entry_at, has_entry, is_placed, is_idle_at, without_entry, room_given_back}
 use Rattle.nn_replicas.specs.Effects.{is_named as has_row}
 use Rattle.nn_replicas.specs.Order.{IsInOrder}
 use Rattle.nn_replicas.proofs.GivenBack.{find_removed, idle_tells, give_back_gives, give_back_in_order}
 use Rattle.nn_postponed.specs.Queues.{IsLeast}
 use Rattle.nn_postponed.proofs.Orders.{any_weaker}
-use Rattle.nn_shadow.specs.Contents.{Contents, standby_of, KeepsSettings, Becomes}
+use Rattle.nn_shadow.specs.Contents.{Contents, standby_of, Becomes}
 use Rattle.nn_shadow.specs.Room.{is_waited_for, IsNeeded, given_back, all_given_back, given_back_for}
 use Rattle.nn_shadow.proofs.Sound.{IsSound}
 

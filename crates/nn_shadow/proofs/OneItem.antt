@@ -1,7 +1,6 @@
 -- One item is taken in: it is held, or it is processed and the room that this leaves idle is given back.
-use Rattle.std.proofs.Common.{◌≡◌, ℕ, Bool, true, false, cond, List, [], ◌∷◌, ◌++◌, map, Option, Some, None, is_some, refl, sym, ap, subst, ◌∙◌, inr, append-nil}
-use Rattle.std.specs.Prelude.{◌==◌, ◌&&◌, ◌||◌, not, nat_le}
-use Rattle.std.specs.List.{list_any}
+use Rattle.std.proofs.Common.{◌≡◌, ℕ, true, false, cond, List, [], ◌∷◌, ◌++◌, map, Option, Some, None, is_some, refl, sym, ap, ◌∙◌, inr, append-nil}
+use Rattle.std.specs.Prelude.{◌==◌, ◌&&◌, not}
 use Rattle.std.proofs.lemmas.Bool.{both_ways, and_from, or_left, eq-eqb, false_from_ne_true}
 use Rattle.nn_types.specs.declared.report.Message.{Message}
 use Rattle.nn_types.specs.declared.report.Kind.{Kind}
@@ -16,7 +15,7 @@ use Rattle.nn_model.specs.History.{History, processed}
 use Rattle.nn_model.specs.Replay.{reported, reported_as}
 use Rattle.nn_replicas.specs.Table.{Table}
 use Rattle.nn_replicas.specs.Entry.{stamp_in}
-use Rattle.nn_replicas.specs.Calls.{row_at, replica_at, has_order, is_idle_at, without_entry, room_given_back, pair_placed, replica_put, stamp_at, reaches, pair_told, pair_told_if, due_told}
+use Rattle.nn_replicas.specs.Calls.{row_at, has_order, is_idle_at, without_entry, room_given_back, pair_placed, replica_put, stamp_at, reaches, pair_told, pair_told_if, due_told}
 use Rattle.nn_replicas.specs.Effects.{is_pair, is_named as has_row}
 use Rattle.nn_replicas.proofs.GivenBack.{idle_tells}
 use Rattle.nn_replicas.proofs.Lookups.{place_places, put_writes}
@@ -24,9 +23,9 @@ use Rattle.nn_postponed.specs.Queues.{queued, all_queued}
 use Rattle.nn_postponed.specs.Release.{must_wait}
 use Rattle.nn_postponed.proofs.Orders.{any_queued}
 use Rattle.nn_shadow.specs.Calls.{is_due_in}
-use Rattle.nn_shadow.specs.Items.{TakesItems, LeavesItems, free_of, stuck_of}
-use Rattle.nn_shadow.specs.Room.{is_waited_for, given_back, all_given_back, item_blocks, taken_and_given_back, taken_without_row}
-use Rattle.nn_shadow.specs.Steps.{taken_as, message_taken, messages_taken, all_placed, status_by_row}
+use Rattle.nn_shadow.specs.Items.{TakesItems, LeavesItems}
+use Rattle.nn_shadow.specs.Room.{is_waited_for, given_back, taken_and_given_back, taken_without_row}
+use Rattle.nn_shadow.specs.Steps.{taken_as, message_taken, messages_taken, status_by_row}
 use Rattle.nn_shadow.proofs.Tables.{taken_writes}
 
 -- ---- what keeps its room

@@ -1,8 +1,8 @@
 -- After each call no room in the table lies idle.
 use Rattle.std.proofs.Common.{◌≡◌, ℕ, zero, suc, Bool, true, false, cond, List, [], ◌∷◌, map, Option, Some, None, is_some, refl, sym, ap, subst, ◌∙◌, inl, inr}
-use Rattle.std.specs.Prelude.{◌==◌, ◌&&◌, ◌||◌, ◌⊎◌, not, filter, take, unwrap_or}
+use Rattle.std.specs.Prelude.{◌==◌, ◌&&◌, ◌||◌, not, filter, take, unwrap_or}
 use Rattle.std.specs.List.{list_any}
-use Rattle.std.proofs.lemmas.Bool.{both_ways, and_from, cases_Bool, or_parts, or_cases, or_left, or_right, or_from, eqb-true, eq-eqb, not-true, and_parts}
+use Rattle.std.proofs.lemmas.Bool.{both_ways, cases_Bool, or_parts, or_cases, or_left, or_right, or_from, eqb-true, and_parts}
 use Rattle.nn_types.specs.declared.report.Message.{Message}
 use Rattle.nn_types.specs.declared.event.Cause.{Cause}
 use Rattle.nn_types.specs.declared.event.Cause.TheVariants.{Due}
@@ -18,16 +18,15 @@ use Rattle.nn_replicas.specs.Entry.{no_entry}
 use Rattle.nn_replicas.specs.Calls.{entry_at, row_at}
 use Rattle.nn_replicas.specs.Effects.{is_named as has_row}
 use Rattle.nn_replicas.specs.Order.{IsInOrder}
-use Rattle.nn_postponed.specs.Queues.{all_queued}
 use Rattle.nn_postponed.specs.Release.{same_source, must_wait, first_free, freed, kept}
 use Rattle.nn_postponed.proofs.Orders.{any_all}
 use Rattle.nn_shadow.specs.Items.{TakesItems, LeavesItems, free_of, stuck_of}
-use Rattle.nn_shadow.specs.Room.{is_waited_for, IsNeeded, IsTight, given_back, all_given_back, item_blocks, processed_blocks, skipped_blocks, given_back_after, row_given_back}
-use Rattle.nn_shadow.specs.Steps.{messages_taken, all_placed, row_made, row_unmade, rows_set, blocks_retired, followed}
+use Rattle.nn_shadow.specs.Room.{is_waited_for, IsNeeded, IsTight, all_given_back, item_blocks, processed_blocks, skipped_blocks, given_back_after, row_given_back}
+use Rattle.nn_shadow.specs.Steps.{messages_taken, all_placed, row_made, row_unmade, rows_set, followed}
 use Rattle.nn_shadow.specs.Touching.{due_untouched, IsQuiet}
 use Rattle.nn_shadow.proofs.Apart.{messages_apart, places_apart, rows_apart, retired_apart, made_apart, unmade_apart, rows_there}
 use Rattle.nn_shadow.proofs.Follows.{eq_swap}
-use Rattle.nn_shadow.proofs.GivenBack.{needed_alike, needed_row, given_in_order, all_given_in_order, all_needed_stays, all_needed_given}
+use Rattle.nn_shadow.proofs.GivenBack.{needed_alike, needed_row, all_given_in_order, all_needed_stays, all_needed_given}
 use Rattle.nn_shadow.proofs.Lists.{first_waits}
 
 -- ---- items

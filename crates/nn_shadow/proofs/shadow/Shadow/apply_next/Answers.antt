@@ -65,7 +65,7 @@ made c =
     (c.in-Ok-push.ensures.items ∙ ap (λ h. h ++ Applied c.args.tx.now.txid ∷ []) c.in-Ok.ensures.items)
     c.in-Ok-change.ensures.table c.settle.ensures.told c.settle.ensures.left c.settle.ensures.table
     (c.give_back_touched.ensures ∙ (λ j. given_back_after c.settle.new.held c.settle.new.table (c.in-Ok-change.ensures.touched j)
-    ((λ k. drop (c.len-before.ensures k) ((c.as_slice-2.ensures.value ∙ c.settle.ensures.told) k)) ∙ drop-append_seam c.push.new.self.items _) j))
+    (((λ k. drop ((c.len-before.ensures ∙ c.push.new.self.ok.0) k) ((c.as_slice-2.ensures.value ∙ c.settle.ensures.told) k)) ∙ drop-append_seam c.push.new.self.items _) j)))
 
 pub invariant_of-self-2 : goal.invariant_of-self-2
 invariant_of-self-2 c = left_consistent (made c)

@@ -107,7 +107,7 @@ not_without_places r h = h.places.0
 
 -- a reader with so many bytes given, of three
 abbrev reader : ℕ → Reading
-reader given = record { left = None; given = given; failed = false }
+reader given = record { left = None; reads = 0; given = given; failed = false }
 
 abbrev writer : List ℕ → Bool → Writing
 writer got failed = record { contents = Some got; taken = length got; failed = failed }
@@ -225,7 +225,7 @@ program_alone = codes "nn_standby" ∷ []
 
 abbrev usual_request : Request
 usual_request = record {
-  options = record { settings = usual; history = false; image = false; from_image = false };
+  options = record { settings = usual; history = false; image = false; from_image = false; leave_memory = true };
   threads = false;
   capacity = 64;
   explain = None;
@@ -267,7 +267,7 @@ unfolding scenario_of lines_from cut_from
 nothing_read scenario e = let same : scenario_with [] [] ≡ scenario = cc in subst (λ (s : Scenario). AreEventsOf from_root false s.steps (segments_from 1 s.parts) []) same nothing_happens
 
 abbrev at_its_end : Reading
-at_its_end = record { left = Some []; given = 0; failed = false }
+at_its_end = record { left = Some []; reads = 0; given = 0; failed = false }
 
 abbrev run_over_nothing : Streams
 run_over_nothing = record {

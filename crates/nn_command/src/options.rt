@@ -185,6 +185,7 @@ fn matched(matches: &ArgMatches<'_>) -> Option<Request>
             history: matches.get_flag("history"),
             image: matches.get_flag("image"),
             from_image: matches.get_flag("from-image"),
+            leave_memory: true,
         },
         threads: matches.get_flag("threads"),
         capacity,

@@ -1,15 +1,11 @@
 -- Texts that are written in parts, and fronts of them.
-use Rattle.std.proofs.Common.{ℕ, ◌≡◌, ◌≤◌, List, [], ◌++◌, length, take, drop, Bool, refl, sym, ap, ◌∙◌, arith, append-nil, append_assoc, subst, length-append, length-drop}
+use Rattle.std.proofs.Common.{ℕ, ◌≡◌, ◌≤◌, ◌<◌, List, [], ◌++◌, length, take, drop, refl, sym, ap, ◌∙◌, arith, append-nil, append_assoc, subst, length-append, length-drop}
 use Rattle.std.proofs.KnownBytes.{Appends-trans, Appends-nil}
 use Rattle.std.proofs.lemmas.List.{take-append-drop, length-take}
 use Rattle.nn_device.specs.Device.{Writing, Took, FailedToWrite}
 use Rattle.nn_device.specs.Parts.{Caused, TookFront}
 use Rattle.nn_device.specs.declared.writer.Unwritten.{Unwritten}
 use Rattle.nn_device.specs.declared.writer.Unwritten.TheVariants.{WriteFailed, OutOfMemory}
-
-caused_in : (cause : Unwritten) (rest more : List ℕ) (before after : Bool) → Caused cause rest before after → Caused cause (rest ++ more) before after
-caused_in WriteFailed rest more before after h = (omega (arith, h.0, length-append rest more), h.1)
-caused_in OutOfMemory rest more before after h = h
 
 module _ (w0 w1 w2 : Writing) (a b : List ℕ) where
   -- a prefix of the first part is a prefix of both
@@ -18,9 +14,10 @@ module _ (w0 w1 w2 : Writing) (a b : List ℕ) where
     front = h.front;
     rest = h.rest ++ b;
     whole = ap (λ t. t ++ b) h.whole ∙ append_assoc h.front h.rest b;
+    short = omega (arith, h.short, length-append h.rest b);
     bytes = h.bytes;
     counted = h.counted;
-    caused = caused_in cause h.rest b w0.failed w1.failed h.caused;
+    caused = h.caused;
   }
 
   -- and so is the first part with a prefix of the second, which has all of the first
@@ -30,9 +27,10 @@ module _ (w0 w1 w2 : Writing) (a b : List ℕ) where
       front = a ++ h.front;
       rest = h.rest;
       whole = ap (λ t. a ++ t) h.whole ∙ sym (append_assoc a h.front h.rest);
+      short = h.short;
       bytes = Appends-trans w0.contents w1.contents w2.contents a h.front first.bytes h.bytes;
       counted = omega (arith, first.counted, h.counted, length-append a h.front);
-      caused = subst (λ before. Caused cause h.rest before w2.failed) first.unfailed h.caused;
+      caused = subst (λ before. Caused cause before w2.failed) first.unfailed h.caused;
     },
     omega (arith, length-append a h.front),
   )
@@ -48,8 +46,8 @@ module _ (w0 w1 w2 : Writing) (a b : List ℕ) where
   }
 
   -- memory ran out after the first part
-  pub no_memory : Took w0 w1 a → TookFront w0 w1 (a ++ b) OutOfMemory
-  no_memory first = record { front = a; rest = b; whole = refl; bytes = first.bytes; counted = first.counted; caused = first.unfailed }
+  pub no_memory : 0 < length b → Took w0 w1 a → TookFront w0 w1 (a ++ b) OutOfMemory
+  no_memory more first = record { front = a; rest = b; whole = refl; short = more; bytes = first.bytes; counted = first.counted; caused = first.unfailed }
 
 pub took_nothing : (w : Writing) → Took w w []
 took_nothing w = record { bytes = Appends-nil w.contents; counted = omega arith; unfailed = refl }
@@ -60,9 +58,10 @@ front_taken old new text written h = record {
   front = take written text;
   rest = drop written text;
   whole = sym (take-append-drop written text);
+  short = omega (arith, h.short, length-drop written text);
   bytes = h.bytes;
   counted = omega (arith, h.short, h.counted, length-take written text);
-  caused = (omega (arith, h.short, length-drop written text), h.noted);
+  caused = h.noted;
 }
 
 -- ---- what is left of a text that is written in parts
@@ -79,10 +78,10 @@ all_left w text = record { front = []; whole = refl; took = took_nothing w }
 pub none_left : (old new : Writing) (text : List ℕ) → HasLeft old new text [] → Took old new text
 none_left old new text h = subst (Took old new) (sym (h.whole ∙ append-nil h.front)) h.took
 
--- memory ran out
-pub left_over : (old new : Writing) (text left : List ℕ) → HasLeft old new text left → TookFront old new text OutOfMemory
-left_over old new text left h =
-    subst (λ t. TookFront old new t OutOfMemory) (sym h.whole) (no_memory old new new h.front left h.took)
+-- memory ran out while something was left
+pub left_over : (old new : Writing) (text left : List ℕ) → 0 < length left → HasLeft old new text left → TookFront old new text OutOfMemory
+left_over old new text left more h =
+    subst (λ t. TookFront old new t OutOfMemory) (sym h.whole) (no_memory old new new h.front left more h.took)
 
 module _ (w0 w1 w2 : Writing) (text part left : List ℕ) (h : HasLeft w0 w1 text (part ++ left)) where
   -- the next part was written

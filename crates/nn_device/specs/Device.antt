@@ -1,10 +1,12 @@
 -- What reads and writes leave of a device that notes the ones that failed.
-use Rattle.std.specs.Prelude.{◌≡◌, ℕ, ◌+◌, ◌<◌, ◌^◌, Bool, true, false, List, length, take, Option}
+use Rattle.std.specs.Prelude.{◌≡◌, ◌⊎◌, ℕ, ◌+◌, ◌<◌, ◌^◌, Bool, true, false, List, length, take, Option}
 use Rattle.std.specs.Io.KnownBytes.{Appends}
 
--- A reader: the bytes that it has left, where they are known; how many its reads gave; whether a read failed.
+-- A reader: the bytes that it has left, where they are known; how many reads were made, and how many bytes they gave;
+-- whether a read failed.
 pub record Reading : Type 0 where
   pub left : Option (List ℕ)
+  pub reads : ℕ
   pub given : ℕ
   pub failed : Bool
 
@@ -18,12 +20,14 @@ pub record Writing : Type 0 where
 pub record Gave (old new : Reading) (n : ℕ) : Type 0 where
   pub open_before : old.failed ≡ false
   pub open_after : new.failed ≡ false
+  pub read : new.reads ≡ old.reads + 1
   pub counted : new.given ≡ old.given + n
   pub bounded : old.given < 2 ^ 62
 
--- A read failed, and gave nothing.
+-- A read failed, and gave nothing. A reader that had failed before was not read again.
 pub record FailedToRead (old new : Reading) : Type 0 where
   pub noted : new.failed ≡ true
+  pub read : (new.reads ≡ old.reads) ⊎ ((new.reads ≡ old.reads + 1) × (old.failed ≡ false))
   pub counted : new.given ≡ old.given
 
 -- The writer took all of the text, and no write failed.

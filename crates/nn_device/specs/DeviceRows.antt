@@ -1,16 +1,16 @@
 -- Reads and writes of devices whose bytes are known.
-use Rattle.std.specs.Prelude.{◌≡◌, ◌<◌, true, false, Some, codes, refl}
-use Rattle.std.proofs.Common.{sym, true≢false, arith}
+use Rattle.std.specs.Prelude.{◌≡◌, ◌<◌, ◌⊎◌, ℕ, true, false, Some, codes, refl}
+use Rattle.std.proofs.Common.{sym, inl, inr, true≢false, arith}
 use Rattle.nn_device.specs.Device.{Reading, Writing, Gave, FailedToRead, Took, FailedToWrite}
 
 abbrev unread : Reading
-unread = record { left = Some (codes "abc"); given = 0; failed = false }
+unread = record { left = Some (codes "abc"); reads = 0; given = 0; failed = false }
 
 abbrev half_read : Reading
-half_read = record { left = Some (codes "c"); given = 2; failed = false }
+half_read = record { left = Some (codes "c"); reads = 1; given = 2; failed = false }
 
 abbrev failed_reader : Reading
-failed_reader = record { left = Some (codes "c"); given = 2; failed = true }
+failed_reader = record { left = Some (codes "c"); reads = 1; given = 2; failed = true }
 
 abbrev unwritten : Writing
 unwritten = record { contents = Some (codes "x"); taken = 7; failed = false }
@@ -23,7 +23,7 @@ torn = record { contents = Some (codes "xab"); taken = 9; failed = true }
 
 -- two bytes were given
 gave_two : Gave unread half_read 2
-gave_two = record { open_before = refl; open_after = refl; counted = refl; bounded = omega arith }
+gave_two = record { open_before = refl; open_after = refl; read = refl; counted = refl; bounded = omega arith }
 
 -- no read that gave bytes notes a failure
 no_failure_noted : Gave unread failed_reader 2 → ⊥
@@ -37,9 +37,24 @@ fails_for_good h = true≢false h.open_before
 one_too_few : Gave unread half_read 1 → ⊥
 one_too_few h = let e : 2 ≡ 1 = h.counted in omega (arith, e)
 
--- a failed read is counted as nothing
-failed_read : FailedToRead half_read failed_reader
-failed_read = record { noted = refl; counted = refl }
+-- each read that gave bytes is counted
+not_read : Gave unread (record half_read { reads = 0 }) 2 → ⊥
+not_read h = let e : 0 ≡ 1 = h.read in omega (arith, e)
+
+-- a failed read gives nothing, and is counted
+failed_read : FailedToRead half_read (record failed_reader { reads = 2 })
+failed_read = record { noted = refl; read = inr (refl, refl); counted = refl }
+
+-- a reader that was given up is not read
+given_up : FailedToRead half_read failed_reader
+given_up = record { noted = refl; read = inl refl; counted = refl }
+
+-- a failed read is not made again
+read_again : FailedToRead failed_reader (record failed_reader { reads = 2 }) → ⊥
+read_again h = neither h.read where
+  neither : (◌≡◌ {A = ℕ} 2 1) ⊎ ((◌≡◌ {A = ℕ} 2 2) × (true ≡ false)) → ⊥
+  neither (inl e) = omega (arith, e)
+  neither (inr more) = true≢false more.1
 
 -- an end is no failed read
 end_is_no_failure : FailedToRead half_read half_read → ⊥

@@ -17,22 +17,26 @@ abbrev ended_after_two : Writing
 ended_after_two = record { contents = Some (codes "xab"); taken = 7; failed = false }
 
 two_of_three : TookFront unwritten failed_after_two (codes "abc") WriteFailed
-two_of_three = record { front = codes "ab"; rest = codes "c"; whole = refl; bytes = refl; counted = refl; caused = (omega arith, refl) }
+two_of_three = record { front = codes "ab"; rest = codes "c"; whole = refl; short = omega arith; bytes = refl; counted = refl; caused = refl }
 
 -- where all was written, no write failed
 all_is_no_failure : TookFront unwritten failed_after_two (codes "ab") WriteFailed → ⊥
-all_is_no_failure h = omega (arith, h.counted, h.caused.0, ap length h.whole, length-append h.front h.rest)
+all_is_no_failure h = omega (arith, h.counted, h.short, ap length h.whole, length-append h.front h.rest)
 
 -- a failed write is noted
 not_noted : TookFront unwritten ended_after_two (codes "abc") WriteFailed → ⊥
-not_noted h = true≢false (sym h.caused.1)
+not_noted h = true≢false (sym h.caused)
 
--- memory may run out after all bytes, as it may before the first
-ran_out : TookFront unwritten ended_after_two (codes "ab") OutOfMemory
-ran_out = record { front = codes "ab"; rest = []; whole = refl; bytes = refl; counted = refl; caused = refl }
+-- memory may run out before the last byte, and before the first
+ran_out : TookFront unwritten ended_after_two (codes "abc") OutOfMemory
+ran_out = record { front = codes "ab"; rest = codes "c"; whole = refl; short = omega arith; bytes = refl; counted = refl; caused = refl }
 
 ran_out_at_once : TookFront unwritten unwritten (codes "ab") OutOfMemory
-ran_out_at_once = record { front = []; rest = codes "ab"; whole = refl; bytes = refl; counted = refl; caused = refl }
+ran_out_at_once = record { front = []; rest = codes "ab"; whole = refl; short = omega arith; bytes = refl; counted = refl; caused = refl }
+
+-- where all was written, memory did not run out
+all_is_no_refusal : TookFront unwritten ended_after_two (codes "ab") OutOfMemory → ⊥
+all_is_no_refusal h = omega (arith, h.counted, h.short, ap length h.whole, length-append h.front h.rest)
 
 -- where memory ran out, no write failed
 no_write_failed : TookFront unwritten failed_after_two (codes "abc") OutOfMemory → ⊥

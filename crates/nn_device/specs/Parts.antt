@@ -5,16 +5,17 @@ use Rattle.nn_device.specs.Device.{Writing}
 use Rattle.nn_device.specs.declared.writer.Unwritten.{Unwritten}
 use Rattle.nn_device.specs.declared.writer.Unwritten.TheVariants.{WriteFailed, OutOfMemory}
 
--- A failed write was noted, and left some bytes out. Where memory ran out, no write failed.
-abbrev pub Caused : Unwritten → List ℕ → Bool → Bool → Type 0
-Caused WriteFailed rest before after = (0 < length rest) × (after ≡ true)
-Caused OutOfMemory rest before after = after ≡ before
+-- A failed write was noted. Where memory ran out, no write failed.
+abbrev pub Caused : Unwritten → Bool → Bool → Type 0
+Caused WriteFailed before after = after ≡ true
+Caused OutOfMemory before after = after ≡ before
 
--- The writer took a prefix of the text, and nothing after it.
+-- The writer took a prefix of the text, which is not all of it, and nothing after it.
 pub record TookFront (old new : Writing) (text : List ℕ) (cause : Unwritten) : Type 0 where
   pub front : List ℕ
   pub rest : List ℕ
   pub whole : text ≡ front ++ rest
+  pub short : 0 < length rest
   pub bytes : Appends old.contents new.contents front
   pub counted : new.taken ≡ old.taken + length front
-  pub caused : Caused cause rest old.failed new.failed
+  pub caused : Caused cause old.failed new.failed

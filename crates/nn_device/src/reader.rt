@@ -1,5 +1,5 @@
 //! A reader that notes a failed read.
-ghost use Rattle.std.specs.Prelude.{◌≡◌, ◌+◌, ◌<◌, ◌^◌, false, IfOk, OnErr};
+ghost use Rattle.std.specs.Prelude.{◌≡◌, ◌+◌, ◌<◌, ◌≤◌, ◌^◌, false, IfOk, OnErr};
 ghost use Rattle.std.specs.Io.{ReadsAtMost};
 ghost use Rattle.std.specs.Io.KnownBytes.{ReadConsumes};
 ghost use Rattle.nn_device.specs.Device.{Gave, FailedToRead};
@@ -12,7 +12,7 @@ use thiserror::Error;
 /// The reads after which a reader is given up that has not ended: 2^24.
 const MOST_READS: u32 = 16_777_216;
 
-/// A reader, how many bytes it gave, and whether one of its reads failed. Only `read` notes that, so no user of a reader
+/// A reader, how often it was read, how many bytes it gave, and whether one of its reads failed. Only `read` notes that, so no user of a reader
 /// can make a failed read up.
 #[derive(Drop)]
 pub struct Reader<R: Read> {
@@ -23,14 +23,14 @@ pub struct Reader<R: Read> {
 }
 
 impl<R: Read> Model for Reader<R> {
-    ghost use Rattle.std.specs.Prelude.{◌<◌, ◌+◌, ◌^◌};
+    ghost use Rattle.std.specs.Prelude.{◌<◌, ◌≤◌, ◌+◌, ◌^◌};
     ghost use Rattle.nn_device.specs.Device.{Reading};
 
     ghost Value = { Reading };
 
-    ghost view = { λ i. record { left = R.remaining i.reader; given = i.given; failed = i.failed } };
+    ghost view = { λ i. record { left = R.remaining i.reader; reads = i.reads; given = i.given; failed = i.failed } };
 
-    ghost invariant = { λ i. i.given < 2 ^ 62 + 2 ^ 63 };
+    ghost invariant = { λ i. (i.reads ≤ 2 ^ 24) × (i.given < 2 ^ 62 + 2 ^ 63) };
 }
 
 /// A read failed.
@@ -41,7 +41,7 @@ pub struct ReadFailed;
 impl<R: Read> Reader<R> {
     /// This reader, of which nothing was read.
     pub fn new(reader: R) -> Reader<R>
-        ensures { result ≡ record { left = R.remaining reader; given = 0; failed = false } }
+        ensures { result ≡ record { left = R.remaining reader; reads = 0; given = 0; failed = false } }
     {
         Reader {
             reader,
@@ -71,6 +71,14 @@ impl<R: Read> Reader<R> {
         };
         self.given += n as u64;
         Ok(n)
+    }
+
+    /// How many reads were made, at most 16,777,216.
+    pub fn reads(&self) -> u32
+        ensures reads { result ≡ self.now.reads }
+        ensures bounded { self.now.reads ≤ 2 ^ 24 }
+    {
+        self.reads
     }
 
     /// How many bytes its reads gave.

@@ -1,5 +1,5 @@
 -- Two drives of one standby, with the same sources, end alike.
-use Rattle.std.proofs.Common.{◌≡◌, ℕ, zero, suc, ◌+◌, ◌<◌, ◌^◌, true, false, List, [], ◌∷◌, ◌++◌, length, map, get_or, Option, Some, None, Result, Ok, Err, refl, sym, ap, ◌∙◌, subst, arith, length-append, inl, inr}
+use Rattle.std.proofs.Common.{◌≡◌, ℕ, zero, suc, ◌<◌, ◌^◌, true, false, List, [], ◌∷◌, ◌++◌, length, map, get_or, Option, Some, None, Result, Ok, Err, refl, sym, ap, ◌∙◌, subst, arith, length-append, inl, inr}
 use Rattle.std.specs.Prelude.{◌⊎◌, MatchOption, MatchResult}
 use Rattle.std.specs.Iterator.{Yields, YieldsThen}
 use Rattle.nn_types.specs.declared.report.Report.{Report}
@@ -11,7 +11,7 @@ use Rattle.nn_model.specs.Lanes.{Lanes}
 use Rattle.nn_model.specs.Picture.{picture_replica, picture_order}
 use Rattle.nn_model.specs.Replay.{Sequential}
 use Rattle.nn_model.specs.Stands.{tables_of}
-use Rattle.nn_lane.specs.Ends.{Reporting, Taking, got_of, next_message}
+use Rattle.nn_lane.specs.Ends.{Reporting, Taking, got_of}
 use Rattle.nn_lane.specs.declared.fault.Refusal.{Refusal}
 use Rattle.nn_lane.specs.declared.fault.Refusal.TheVariants.{Closed, Exhausted, Full}
 use Rattle.nn_segment.specs.Segment.{Segment}
@@ -20,8 +20,9 @@ use Rattle.nn_shadow.specs.Contents.{Contents, standby_of}
 use Rattle.nn_tailer.specs.Tailing.{by_node}
 use Rattle.nn_tailer.specs.Shadows.{shadow_after}
 use Rattle.nn_drive.specs.declared.driving.WorkerExit.{WorkerExit}
-use Rattle.nn_drive.specs.Reports.{sent_after, TakesNoMore, Reported}
+use Rattle.nn_drive.specs.Reports.{message_of, sent_after, TakesNoMore, Reported}
 use Rattle.nn_drive.specs.Driven.{AreLanes, IsTold, IsTaken, IsPromoted}
+use Rattle.nn_drive.proofs.Sends.{sent_long}
 use Rattle.nn_drive.specs.DriveLaws.{AnswersByFunction, AreOpen, DrivesEndAlike}
 
 -- ---- The source of segments.
@@ -69,17 +70,13 @@ module _ {S : Type 0} (gives : S → Option Report → S → Type 0) (fixed : An
       with_first x y xs ys last last' first
       (alike q.1.0 t u xs ys last last' (p.0, subst (λ z. Yields gives z xs p.0) both.1 p.1.2, p.2) (q.0, q.1.2, q.2))
 
-sent_long : (dn : ℕ) (sent : List Message) (reports : List Report) → length (sent_after dn sent reports) ≡ length sent + length reports
-sent_long dn sent [] = omega arith
-sent_long dn sent (r ∷ reports) = omega (arith, sent_long dn (sent ++ next_message dn sent r ∷ []) reports, length-append sent (next_message dn sent r ∷ []))
-
 -- a report that was not sent, of a lane that was not closed: the lane has carried all that it can
-full_of : (u : Reporting) (f : Report → Message) (last : Option Report) (z : Report) (answer : Result (Unit {0}) Refusal) → last ≡ Some z → (IsTold answer → ⊥)
-    → MatchResult answer (λ _. last ≡ None) (λ e. MatchOption last ⊥ (λ x. TakesNoMore u (f x) e)) → length u.sent ≡ 2 ^ 62
-full_of u f last z (Ok _) some open_ h = absurd (let e : None ≡ Some z = sym h ∙ some in cc)
-full_of u f last z (Err (Closed m n)) some open_ h = absurd (open_ tt)
-full_of u f last z (Err (Exhausted m)) some open_ h = (subst (λ (o : Option Report). MatchOption o ⊥ (λ x. TakesNoMore u (f x) (Exhausted m))) some h).1
-full_of u f last z (Err (Full m n)) some open_ h = absurd (subst (λ (o : Option Report). MatchOption o ⊥ (λ x. TakesNoMore u (f x) (Full m n))) some h)
+full_of : (u : Reporting) (f : Report → Message) (last : Option Report) (size : ℕ) (z : Report) (answer : Result ℕ Refusal) → last ≡ Some z → (IsTold answer → ⊥)
+    → MatchResult answer (λ n. (last ≡ None) × (n ≡ size)) (λ e. MatchOption last ⊥ (λ x. TakesNoMore u (f x) e)) → length u.sent ≡ 2 ^ 62
+full_of u f last size z (Ok _) some open_ h = absurd (let e : None ≡ Some z = sym h.0 ∙ some in cc)
+full_of u f last size z (Err (Closed m n)) some open_ h = absurd (open_ tt)
+full_of u f last size z (Err (Exhausted m)) some open_ h = (subst (λ (o : Option Report). MatchOption o ⊥ (λ x. TakesNoMore u (f x) (Exhausted m))) some h).1
+full_of u f last size z (Err (Full m n)) some open_ h = absurd (subst (λ (o : Option Report). MatchOption o ⊥ (λ x. TakesNoMore u (f x) (Full m n))) some h)
 
 module _ {S : Type 0} (gives : S → Option Report → S → Type 0) (fixed : AnswersByFunction gives) (s : S) (r : Reporting) (v w : WorkerExit S)
     (p : Reported gives s r v.source v.reporter v.outcome) (q : Reported gives s r w.source w.reporter w.outcome) (not_told : IsTold v.outcome → ⊥) (not_told' : IsTold w.outcome → ⊥) where
@@ -88,12 +85,12 @@ module _ {S : Type 0} (gives : S → Option Report → S → Type 0) (fixed : An
     | inl same ↦ p.3 ∙ ap (sent_after r.lane.node r.sent) same ∙ sym q.3
     | inr other ↦ elim other [
       | inl more ↦
-          let all = full_of v.reporter (next_message r.lane.node v.reporter.sent) p.1 more.0 v.outcome more.3 not_told p.4 in
+          let all = full_of v.reporter (message_of r.lane.node v.reporter.sent) p.1 (length p.0) more.0 v.outcome more.3 not_told p.4 in
           let longer = ap length more.2 ∙ length-append p.0 (more.0 ∷ more.1) in
           let few = q.5 (omega (arith, longer)) in
           absurd (omega (arith, all, longer, few, ap length p.3, ap length q.3, sent_long r.lane.node r.sent p.0, sent_long r.lane.node r.sent q.0))
       | inr more ↦
-          let all = full_of w.reporter (next_message r.lane.node w.reporter.sent) q.1 more.0 w.outcome more.3 not_told' q.4 in
+          let all = full_of w.reporter (message_of r.lane.node w.reporter.sent) q.1 (length q.0) more.0 w.outcome more.3 not_told' q.4 in
           let longer = ap length more.2 ∙ length-append q.0 (more.0 ∷ more.1) in
           let few = p.5 (omega (arith, longer)) in
           absurd (omega (arith, all, longer, few, ap length p.3, ap length q.3, sent_long r.lane.node r.sent p.0, sent_long r.lane.node r.sent q.0))

@@ -5,14 +5,14 @@ use Rattle.std.proofs.lemmas.List.{get_or_append_left, get_or_push}
 use Rattle.std.specs.declared.thread.PromisedHandle.{PromisedHandle}
 use Rattle.nn_types.specs.declared.report.Report.{Report}
 use Rattle.nn_types.specs.declared.report.Message.{Message}
-use Rattle.nn_lane.specs.Ends.{Reporting, Taking, next_message}
+use Rattle.nn_lane.specs.Ends.{Reporting, Taking}
 use Rattle.nn_lane.specs.declared.fault.Refusal.{Refusal}
 use Rattle.nn_lane.specs.declared.fault.Refusal.TheVariants.{Closed, Exhausted, Full}
 use Rattle.nn_tailer.proofs.Fetched.{any_default}
 use Rattle.nn_drive.specs.declared.driving.WorkerExit.{WorkerExit}
 use Rattle.nn_drive.specs.declared.driving.WorkerPromise.{WorkerPromise}
 use Rattle.nn_drive.specs.Driven.{HasReported, IsTold, IsToldOnly, IsJoined, ToldOne}
-use Rattle.nn_drive.specs.Reports.{TakesNoMore}
+use Rattle.nn_drive.specs.Reports.{message_of, TakesNoMore}
 
 -- what the flag says of the threads so far, and of this one
 abbrev pub TellsOn : {S : Type 0} → Bool → Bool → WorkerExit S → Taking → Type 0
@@ -27,11 +27,11 @@ one_told was true w e h q = h
 one_told was false w e h q = absurd (let z : false ≡ true = q in cc)
 
 -- what a reporter answered last, its own model says
-told_last : (u : Reporting) (f : Report → Message) (last : Option Report) (answer : Result (Unit {0}) Refusal) → IsTold answer → MatchResult answer (λ _. last ≡ None) (λ e. MatchOption last ⊥ (λ x. TakesNoMore u (f x) e)) → u.told ≡ true
-told_last u f last (Ok _) t h = absurd t
-told_last u f last (Err (Exhausted m)) t h = absurd t
-told_last u f last (Err (Full m n)) t h = absurd t
-told_last u f last (Err (Closed m n)) t h = by_last last h
+told_last : (u : Reporting) (f : Report → Message) (last : Option Report) (size : ℕ) (answer : Result ℕ Refusal) → IsTold answer → MatchResult answer (λ n. (last ≡ None) × (n ≡ size)) (λ e. MatchOption last ⊥ (λ x. TakesNoMore u (f x) e)) → u.told ≡ true
+told_last u f last size (Ok _) t h = absurd t
+told_last u f last size (Err (Exhausted m)) t h = absurd t
+told_last u f last size (Err (Full m n)) t h = absurd t
+told_last u f last size (Err (Closed m n)) t h = by_last last h
   where
     by_last : (last : Option Report) → MatchOption last ⊥ (λ x. TakesNoMore u (f x) (Closed m n)) → u.told ≡ true
     by_last None g = absurd g
@@ -67,7 +67,7 @@ module _ {S : Type 0} (gives : S → Option Report → S → Type 0) (handles : 
         | inr x ↦ record {
           place = n;
           within = omega (arith, len, longer);
-          told = λ r. ap (λ z. z.told) (get_or_push rs w.reporter r n len) ∙ told_last w.reporter (next_message h.promise.1.value.lane.node w.reporter.sent) reported.1.1 w.outcome x.0 reported.1.4;
+          told = λ r. ap (λ z. z.told) (get_or_push rs w.reporter r n len) ∙ told_last w.reporter (message_of h.promise.1.value.lane.node w.reporter.sent) reported.1.1 (length reported.1.0) w.outcome x.0 reported.1.4;
           is_open = λ e. ap (λ z. z.closed) (any_default ends n e d in_ends) ∙ x.1;
         }
       ])

@@ -39,7 +39,7 @@ AreLanes {S} workers ends =
     (length ends ≡ length workers) × ((i : ℕ) (w : S × Reporting) (e : Taking) → i < length workers → IsLane (slice_index_or workers i w).1 (slice_index_or ends i e))
 
 -- its last report was refused, since the lane is closed
-abbrev pub IsTold : Result (Unit {0}) Refusal → Type 0
+abbrev pub IsTold : Result ℕ Refusal → Type 0
 IsTold (Ok _) = ⊥
 IsTold (Err (Closed m n)) = Unit {0}
 IsTold (Err (Exhausted m)) = ⊥

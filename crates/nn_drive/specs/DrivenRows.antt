@@ -11,7 +11,7 @@ use Rattle.nn_types.specs.declared.event.Cause.TheVariants.{Flush}
 use Rattle.nn_model.specs.Namespace.{Namespace, root_alone}
 use Rattle.nn_model.specs.History.{History, processed}
 use Rattle.nn_model.specs.WellFormed.{Has}
-use Rattle.nn_lane.specs.Ends.{LaneId, Reporting, Taking, next_message}
+use Rattle.nn_lane.specs.Ends.{LaneId, Reporting, Taking}
 use Rattle.nn_lane.specs.declared.fault.Refusal.{Refusal}
 use Rattle.nn_lane.specs.declared.fault.Refusal.TheVariants.{Closed, Exhausted, Full}
 use Rattle.nn_segment.specs.Segment.{Segment}
@@ -26,7 +26,7 @@ use Rattle.nn_tailer.specs.declared.standby.Active.{Active}
 use Rattle.nn_drive.specs.declared.driving.WorkerExit.{WorkerExit}
 use Rattle.nn_drive.specs.LaneRows.{reporting, taking}
 use Rattle.nn_drive.specs.ReportRows.{report, message}
-use Rattle.nn_drive.specs.Reports.{Reported, SendsOne, TakesNoMore, sent_after}
+use Rattle.nn_drive.specs.Reports.{message_of, Reported, SendsOne, LooksWhileFull, TakesNoMore, sent_after}
 use Rattle.nn_drive.specs.Driven.{IsLane, AreLanes, IsTold, IsToldOnly, IsTaken, IsPromoted, IsDriven}
 
 -- a source of reports in memory
@@ -40,11 +40,19 @@ sent l messages = record (reporting l 2) { sent = messages }
 
 -- ---- All reports of a source.
 
-one_sent : (l : LaneId) → Reported gives_next (report 2 ∷ []) (reporting l 2) [] (sent l (message 2 1 ∷ [])) (Ok tt)
-one_sent l = (report 2 ∷ [], None, ([], ([], (refl, refl), refl), (refl, refl)), refl, refl, λ few. omega arith)
+one_sent : (l : LaneId) → Reported gives_next (report 2 ∷ []) (reporting l 2) [] (sent l (message 2 1 ∷ [])) (Ok 1)
+one_sent l = (report 2 ∷ [], None, ([], ([], (refl, refl), refl), (refl, refl)), refl, (refl, refl), λ few. omega arith)
 
-none_sent : (l : LaneId) → Reported gives_next [] (reporting l 2) [] (reporting l 2) (Ok tt)
-none_sent l = ([], None, ([], refl, (refl, refl)), refl, refl, λ few. omega arith)
+none_sent : (l : LaneId) → Reported gives_next [] (reporting l 2) [] (reporting l 2) (Ok 0)
+none_sent l = ([], None, ([], refl, (refl, refl)), refl, (refl, refl), λ few. omega arith)
+
+-- not with another count: what it had sent before is not counted
+not_counted_from_before : (l : LaneId) → Reported gives_next [] (sent l (message 2 1 ∷ [])) [] (sent l (message 2 1 ∷ [])) (Ok 1) → ⊥
+not_counted_from_before l h = none h.0 h.1 h.2 h.4.1
+  where
+    none : (reports : List Report) (o : Option Report) → YieldsThen gives_next [] reports o [] → 1 ≡ length reports → ⊥
+    none [] o y e = omega (arith, e)
+    none (x ∷ reports) o y e = let e : Some x ≡ None = y.1.1.0 in cc
 
 -- the second was refused, since the lane was closed
 one_refused : (l : LaneId) → Reported gives_next (report 2 ∷ report 2 ∷ []) (reporting l 2) [] (record (sent l (message 2 1 ∷ [])) { told = true }) (Err (Closed (message 2 2) 1))
@@ -54,7 +62,7 @@ one_refused l = (report 2 ∷ [], Some (report 2), (report 2 ∷ [], (report 2 �
 not_refused_unasked : (l : LaneId) (r : Reporting) (e : Refusal) → Reported gives_next [] (reporting l 2) [] r (Err e) → ⊥
 not_refused_unasked l r e h = last h.0 h.1 h.2 h.4
   where
-    last : (reports : List Report) (o : Option Report) → YieldsThen gives_next [] reports o [] → MatchOption o ⊥ (λ x. TakesNoMore r (next_message 2 r.sent x) e) → ⊥
+    last : (reports : List Report) (o : Option Report) → YieldsThen gives_next [] reports o [] → MatchOption o ⊥ (λ x. TakesNoMore r (message_of 2 r.sent x) e) → ⊥
     last [] None y n = n
     last [] (Some x) y n = let none = subst (λ (t : List Report). gives_next t (Some x) []) (sym y.1) y.2 in let e : Some x ≡ None = none.0 in cc
     last (x ∷ reports) o y n = let e : Some x ≡ None = y.1.1.0 in cc
@@ -89,12 +97,19 @@ not_sent_as_another l h = let e : 9 ≡ 2 = ap first_dn h.0 in omega (arith, e)
 not_dropped : (l : LaneId) → SendsOne (reporting l 2) (report 2) (reporting l 2) (Ok 1) → ⊥
 not_dropped l h = let e : 0 ≡ 1 = ap length h.0 in omega (arith, e)
 
+-- the lane was found full once, it looked for a close, and then there was a place
+looked_once : (l : LaneId) → LooksWhileFull (reporting l 2) (record (reporting l 2) { loads = 2; checks = 1 })
+looked_once l = omega arith
+
+not_full_again_unlooked : (l : LaneId) → LooksWhileFull (reporting l 2) (record (reporting l 2) { loads = 2; checks = 0 }) → ⊥
+not_full_again_unlooked l h = let e = h in omega (arith, e)
+
 -- ---- What a lane took of a worker.
 
 told_of_a_close : IsTold (Err (Closed (message 2 1) 0))
 told_of_a_close = tt
 
-not_told_at_its_end : IsTold (Ok tt) → ⊥
+not_told_at_its_end : IsTold (Ok 1) → ⊥
 not_told_at_its_end h = h
 
 -- of a lane that was closed before a report is refused, of an open one none is
@@ -102,7 +117,7 @@ not_told_of_an_open_lane : (l : LaneId) → IsToldOnly {S = ℕ} (record { sourc
 not_told_of_an_open_lane l h = true≢false (sym (h tt))
 
 abbrev worked : LaneId → WorkerExit (List Report)
-worked l = record { source = []; reporter = sent l (message 2 1 ∷ []); outcome = Ok tt }
+worked l = record { source = []; reporter = sent l (message 2 1 ∷ []); outcome = Ok 1 }
 
 all_taken : (l : LaneId) → IsTaken gives_next (report 2 ∷ []) (reporting l 2) (taking l 2) (message 2 1 ∷ [])
 all_taken l = (worked l, (refl, one_sent l), refl, λ told. absurd told)
@@ -110,7 +125,7 @@ all_taken l = (worked l, (refl, one_sent l), refl, λ told. absurd told)
 longer : (dn : ℕ) (before : List Message) (reports : List Report) → length before ≤ length (sent_after dn before reports)
 longer dn before [] = omega arith
 longer dn before (r ∷ reports) =
-    let m = next_message dn before r in let more = longer dn (before ++ m ∷ []) reports in omega (arith, more, length-append before (m ∷ []))
+    let m = message_of dn before r in let more = longer dn (before ++ m ∷ []) reports in omega (arith, more, length-append before (m ∷ []))
 
 -- what the source gave has to be there
 not_untaken : (l : LaneId) → IsTaken gives_next (report 1 ∷ []) (reporting l 1) (taking l 1) [] → ⊥
@@ -118,18 +133,18 @@ not_untaken l h = by_outcome h.0.source h.0.reporter h.0.outcome h.1.1 h.2 h.3
   where
     all_sent : (left : List Report) (reports : List Report) (o : Option Report) → YieldsThen gives_next (report 1 ∷ []) reports o left → o ≡ None → 0 ≡ length (sent_after 1 [] reports) → ⊥
     all_sent left [] o y none few = let some = subst (λ (t : List Report). gives_next t o left) (sym y.1) y.2 in let e : Some (report 1) ≡ None = sym some.0 ∙ none in cc
-    all_sent left (x ∷ reports) o y none few = let more = longer 1 (next_message 1 [] x ∷ []) reports in omega (arith, more, few)
+    all_sent left (x ∷ reports) o y none few = let more = longer 1 (message_of 1 [] x ∷ []) reports in omega (arith, more, few)
 
-    carried : (r : Reporting) (m : Message) (o : Option Report) → MatchOption o ⊥ (λ x. TakesNoMore r (next_message 1 r.sent x) (Exhausted m)) → 0 ≡ length r.sent → ⊥
+    carried : (r : Reporting) (m : Message) (o : Option Report) → MatchOption o ⊥ (λ x. TakesNoMore r (message_of 1 r.sent x) (Exhausted m)) → 0 ≡ length r.sent → ⊥
     carried r m None refused few = refused
     carried r m (Some x) refused few = let many = refused.1 in omega (arith, many, few)
 
-    filled : (r : Reporting) (m : Message) (n : ℕ) (o : Option Report) → MatchOption o ⊥ (λ x. TakesNoMore r (next_message 1 r.sent x) (Full m n)) → ⊥
+    filled : (r : Reporting) (m : Message) (n : ℕ) (o : Option Report) → MatchOption o ⊥ (λ x. TakesNoMore r (message_of 1 r.sent x) (Full m n)) → ⊥
     filled r m n None refused = refused
     filled r m n (Some x) refused = refused
 
-    by_outcome : (left : List Report) (r : Reporting) (o : Result (Unit {0}) Refusal) → Reported gives_next (report 1 ∷ []) (reporting l 1) left r o → [] ≡ r.sent → (IsTold o → false ≡ true) → ⊥
-    by_outcome left r (Ok _) reported none only = all_sent left reported.0 reported.1 reported.2 reported.4 (ap length (none ∙ reported.3))
+    by_outcome : (left : List Report) (r : Reporting) (o : Result ℕ Refusal) → Reported gives_next (report 1 ∷ []) (reporting l 1) left r o → [] ≡ r.sent → (IsTold o → false ≡ true) → ⊥
+    by_outcome left r (Ok _) reported none only = all_sent left reported.0 reported.1 reported.2 reported.4.0 (ap length (none ∙ reported.3))
     by_outcome left r (Err (Closed m n)) reported none only = true≢false (sym (only tt))
     by_outcome left r (Err (Exhausted m)) reported none only = carried r m reported.1 reported.4 (ap length none)
     by_outcome left r (Err (Full m n)) reported none only = filled r m n reported.1 reported.4
@@ -173,8 +188,8 @@ one_report l = (report 1 ∷ [], reporting l 1) ∷ []
 
 report_taken : (l : LaneId) → IsTaken gives_next (report 1 ∷ []) (reporting l 1) (taking l 1) (message 1 1 ∷ [])
 report_taken l = (
-  record { source = []; reporter = record (reporting l 1) { sent = message 1 1 ∷ [] }; outcome = Ok tt },
-  (refl, (report 1 ∷ [], None, ([], ([], (refl, refl), refl), (refl, refl)), refl, refl, λ few. omega arith)),
+  record { source = []; reporter = record (reporting l 1) { sent = message 1 1 ∷ [] }; outcome = Ok 1 },
+  (refl, (report 1 ∷ [], None, ([], ([], (refl, refl), refl), (refl, refl)), refl, (refl, refl), λ few. omega arith)),
   refl,
   λ told. absurd told,
 )

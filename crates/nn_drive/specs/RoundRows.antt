@@ -1,7 +1,7 @@
 -- A rotation over one lane, in which nothing is to be taken, computed.
-use Rattle.std.specs.Prelude.{◌≡◌, ℕ, ◌+◌, ◌<◌, ◌≤◌, zero, suc, false, true, List, [], ◌∷◌, None, refl}
+use Rattle.std.specs.Prelude.{◌≡◌, ℕ, ◌+◌, ◌<◌, ◌≤◌, zero, suc, false, true, [], ◌∷◌, None, refl}
 use Rattle.std.proofs.Common.{arith, subst, inl, inr}
-use Rattle.nn_lane.specs.Ends.{LaneId, Taking}
+use Rattle.nn_lane.specs.Ends.{LaneId}
 use Rattle.nn_tailer.specs.LaneSteps.{handed_count, all_count}
 use Rattle.nn_tailer.specs.Public.{IsStepped, SameLane}
 use Rattle.nn_tailer.specs.PromotedRows.{new, taking}

@@ -1,5 +1,5 @@
 -- What a standby in service hands back: promoted, or for a fault.
-use Rattle.std.specs.Prelude.{◌≡◌, ◌≤◌, ◌⊎◌, ℕ, Option, None, Result, MatchOption, MatchResult, List, [], ◌∷◌, ◌++◌, length, map, count_by}
+use Rattle.std.specs.Prelude.{◌≡◌, ◌≤◌, ◌⊎◌, ℕ, ◌+◌, Option, Some, None, Result, IfSome, MatchOption, MatchResult, List, [], ◌∷◌, ◌++◌, length, drop, map, count_by}
 use Rattle.std.specs.declared.thread.PromisedHandle.{PromisedHandle}
 use Rattle.nn_types.specs.declared.report.Report.{Report}
 use Rattle.nn_feed.specs.Ends.{GivesWhatIsFed, got_by}
@@ -129,9 +129,14 @@ pub record ComesBack {O R : Type 0} (asks : O → Tailer → ℕ → Wish → O 
   pub intake : OpenOrWished asks workers old o shown answers p new
   pub not_promoted : new.active ≡ old.active
 
--- no thread was started: the standby is as it was
-abbrev pub IsUntouched : {T S R : Type 0} → Tailer → Unserved T S R → Type 0
-IsUntouched old u = (u.standby ≡ old) × (u.workers.items ≡ [])
+-- The threads at the handles are those of the first workers, in order. The workers behind those come back, except for the first one where
+-- its thread was refused
+abbrev pub AreStarted : {S : Type 0} → List (S × Reporting) → List (PromisedHandle (WorkerExit S) (WorkerPromise S)) → List (S × Reporting) → Type 0
+AreStarted workers handles back = ArePromised workers handles × ((refused : ℕ) × (refused ≤ 1) × (back ≡ drop (length handles + refused) workers))
+
+-- no thread was started: the standby is as it was, and all workers come back
+abbrev pub IsUntouched : {T S R : Type 0} → Tailer → List (S × Reporting) → Unserved T S R → Type 0
+IsUntouched old workers u = (u.standby ≡ old) × (u.workers.items ≡ []) × (u.unstarted.items ≡ workers)
 
 -- The standby was promoted, and then its feed did not meet, although both its ends were there: no channel does so, and no contract
 -- excludes it
@@ -153,11 +158,14 @@ module _ {T S R : Type 0} (gives : T → Answer → T → Type 0) (failures : T 
 
 -- why it was not promoted, and what comes back
 pub record IsUnserved {O T S R : Type 0} (asks : O → Tailer → ℕ → Wish → O → Type 0) (gives : T → Answer → T → Type 0) (failures : T → ℕ) (old : Tailer) (source : T) (workers : List (S × Reporting)) (o p : O) (u : Unserved T S R) : Type 0 where
-  pub started : ArePromised workers u.workers.items
+  pub started : AreStarted workers u.workers.items u.unstarted.items
+  -- a source that comes back was not asked
+  pub source_back : IfSome u.source (λ s. s ≡ source)
   pub why : IsStopped gives failures old source u
-  pub back : MatchOption u.feeding (IsUntouched old u ⊎ IsUnmet asks (length workers) old o p u)
+  pub back : MatchOption u.feeding (IsUntouched old workers u ⊎ IsUnmet asks (length workers) old o p u)
       (λ (f : Feeding T R). (begin : FeedEnd R) × (got_by begin ≡ []) × ComesBack asks (length workers) old begin o u.standby f.end p)
 
--- it was refused before any thread was started
-abbrev pub IsRefused : {A T S R : Type 0} → Tailer → DriveFault → Result A (Unserved T S R) → Type 0
-IsRefused {A} {T} {S} {R} old fault result = MatchResult result (λ _. ⊥) (λ u. (u.fault ≡ fault) × (u.feeding ≡ None) × IsUntouched old u)
+-- it was refused before any thread was started, and the source and the workers come back as they were
+abbrev pub IsRefused : {A T S R : Type 0} → Tailer → T → List (S × Reporting) → DriveFault → Result A (Unserved T S R) → Type 0
+IsRefused {A} {T} {S} {R} old source workers fault result =
+    MatchResult result (λ _. ⊥) (λ u. (u.fault ≡ fault) × (u.feeding ≡ None) × (u.source ≡ Some source) × IsUntouched old workers u)

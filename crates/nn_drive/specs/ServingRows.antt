@@ -1,7 +1,7 @@
 -- When an operator has wished a promotion, and which lanes are dry, computed.
-use Rattle.std.specs.Prelude.{◌≡◌, ℕ, ◌+◌, Bool, zero, suc, ◌<◌, true, false, List, [], ◌∷◌, ◌++◌, slice_index_or, refl}
-use Rattle.std.proofs.Common.{arith, true≢false, sym, ap, subst, inl, inr}
-use Rattle.nn_lane.specs.Ends.{LaneId, Taking}
+use Rattle.std.specs.Prelude.{◌≡◌, ℕ, ◌+◌, Bool, zero, suc, ◌<◌, ◌≤◌, true, false, Option, Some, None, Err, List, [], ◌∷◌, ◌++◌, length, drop, slice_index_or, refl}
+use Rattle.std.proofs.Common.{arith, true≢false, sym, ap, ◌∙◌, subst, inl, inr}
+use Rattle.nn_lane.specs.Ends.{LaneId, Reporting, Taking}
 use Rattle.nn_types.specs.declared.event.Event.TheVariants.{Applied}
 use Rattle.nn_types.specs.declared.event.Cause.TheVariants.{Flush}
 use Rattle.nn_model.specs.Namespace.{root_alone}
@@ -12,14 +12,16 @@ use Rattle.nn_segment.specs.Source.{Answer, given, end}
 use Rattle.nn_shadow.specs.Contents.{Contents}
 use Rattle.nn_tailer.specs.Tailing.{Tailer}
 use Rattle.nn_tailer.specs.PromotedRows.{promoted_shadow, is_promoted, marks, taking as lane_with}
-use Rattle.nn_drive.specs.LaneRows.{taking}
+use Rattle.nn_drive.specs.LaneRows.{reporting, taking}
 use Rattle.nn_tailer.proofs.Carried.{carries_same}
 use Rattle.nn_tailer.proofs.LaneSteps.{ends_same}
 use Rattle.nn_tailer.proofs.Shadowing.{settings_same}
 use Rattle.nn_drive.specs.Driven.{Goes}
 use Rattle.nn_drive.specs.Serving.{Shown, forgotten, AreInTurn, GoesOn, WishesAt, IsDry, IsPromotedAt}
+use Rattle.nn_drive.specs.Served.{AreStarted, IsUntouched, IsRefused}
 use Rattle.nn_drive.specs.declared.operator.Wish.{Wish}
 use Rattle.nn_drive.specs.declared.operator.Wish.TheVariants.{GoOn, Forget, Promote}
+use Rattle.nn_drive.specs.declared.serving.Unserved.{Unserved}
 
 -- an operator that counts its rotations down, wishes the history to be forgotten at the last one, and a promotion at none
 abbrev counts : ℕ → Tailer → ℕ → Wish → ℕ → Type 0
@@ -68,6 +70,35 @@ not_with_more_running x y h = omega (arith, h.3)
 
 not_another_standby : (x : Tailer) → AreInTurn 8 x (show (with_other_settings x) 8 false ∷ []) → ⊥
 not_another_standby x h = let e : x.shadow.permille + 1 ≡ x.shadow.permille = h.2.settings.permille in omega (arith, e)
+
+-- ---- What comes back of a service that is refused.
+
+abbrev worker : LaneId → ℕ → ℕ × Reporting
+worker l dn = (dn, reporting l dn)
+
+-- no thread was started: memory was refused, or the first worker's thread, which is dropped
+none_started : (l : LaneId) → AreStarted (worker l 1 ∷ worker l 2 ∷ []) [] (worker l 1 ∷ worker l 2 ∷ [])
+none_started l = ((omega arith, λ i w h low. absurd (omega (arith, low))), (0, omega arith, refl))
+
+first_refused : (l : LaneId) → AreStarted (worker l 1 ∷ worker l 2 ∷ []) [] (worker l 2 ∷ [])
+first_refused l = ((omega arith, λ i w h low. absurd (omega (arith, low))), (1, omega arith, refl))
+
+not_two_dropped : (l : LaneId) → AreStarted (worker l 1 ∷ worker l 2 ∷ []) [] [] → ⊥
+not_two_dropped l h = let none : 0 + h.1.0 ≡ h.1.0 = omega arith in by h.1.0 h.1.1 (h.1.2 ∙ ap (λ k. drop k (worker l 1 ∷ worker l 2 ∷ [])) none)
+  where
+    by : (refused : ℕ) → refused ≤ 1 → [] ≡ drop refused (worker l 1 ∷ worker l 2 ∷ []) → ⊥
+    by zero few e = let n : 0 ≡ 2 = ap length e in omega (arith, n)
+    by (suc zero) few e = let n : 0 ≡ 1 = ap length e in omega (arith, n)
+    by (suc (suc k)) few e = omega (arith, few)
+
+not_untouched_with_one_dropped : {T R : Type 0} (l : LaneId) (old : Tailer) (u : Unserved T ℕ R) → u.unstarted.items ≡ worker l 1 ∷ [] → IsUntouched old (worker l 1 ∷ worker l 2 ∷ []) u → ⊥
+not_untouched_with_one_dropped l old u one h = let n : 1 ≡ 2 = ap length (sym one ∙ h.2) in omega (arith, n)
+
+not_refused_with_the_source_dropped : (A : Type 0) {R : Type 0} (old : Tailer) (u : Unserved ℕ ℕ R) → u.source ≡ None → IsRefused {A = A} old 7 [] u.fault (Err u) → ⊥
+not_refused_with_the_source_dropped A old u none h = no_seven (sym none ∙ h.2)
+  where
+    no_seven : ◌≡◌ {A = Option ℕ} None (Some 7) → ⊥
+    no_seven e = cc
 
 -- ---- Lanes that are dry.
 

@@ -35,7 +35,8 @@ use thiserror::Error;
 pub struct WorkerExit<S> {
     pub source: S,
     pub reporter: Reporter,
-    pub outcome: Result<(), Refusal>,
+    /// How many reports it sent, where its source gave no more; else why the last one was refused.
+    pub outcome: Result<u64, Refusal>,
 }
 
 /// The promise of a worker's thread: the source and the reporter that it began with.
@@ -144,7 +145,7 @@ pub(crate) fn all_started(started: usize, workers: usize) -> bool
 }
 
 // Whether a worker was told before of a close of an open lane, or was so with this outcome.
-fn still_told(told: bool, outcome: &Result<(), Refusal>, end: &LaneEnd) -> bool
+fn still_told(told: bool, outcome: &Result<u64, Refusal>, end: &LaneEnd) -> bool
     ensures { MatchBool result ((told ≡ true) ⊎ (IsTold outcome.now × (end.now.closed ≡ false))) ((told ≡ false) × (IsTold outcome.now → end.now.closed ≡ true)) }
 {
     told || (matches!(outcome, Err(Refusal::Closed { .. })) && !end.closed())

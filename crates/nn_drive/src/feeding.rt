@@ -1,5 +1,5 @@
 //! The source of segments on a thread of its own, and the end of its feed.
-ghost use Rattle.std.specs.Prelude.{◌≡◌, [], IfSome};
+ghost use Rattle.std.specs.Prelude.{◌≡◌, [], IfOk, IfErr, IfSome};
 ghost use Rattle.nn_feed.specs.Ends.{put_by, got_by, AreOfOneFeed, IsSameEnd};
 ghost use Rattle.nn_feed.specs.Feeds.{has_last};
 ghost use Rattle.nn_feed.specs.Running.{HasRun};
@@ -30,18 +30,24 @@ pub(crate) fn start_feed<'s, E, T: SegmentSource + Send + Drop + 's, R: Wait + S
     Some(Feeding { end, handle })
 }
 
-// The same, on a thread that no scope waits for.
+// The same, on a thread that no scope waits for. Where memory is refused to the feed the source comes back; one whose thread
+// is refused is dropped.
 pub(crate) fn start_feed_alone<
     'a,
     T: SegmentSource + Send + Drop + 'static,
     R: Threads + Wait + Copy + Send + Drop + 'static,
->(rt: &'a R, alloc: Global, source: T) -> Option<Feeding<'a, T, R>>
-    ensures source { IfSome result (λ f. f.handle.promise.0.value ≡ source) }
-    ensures empty { IfSome result (λ f. got_by f.end ≡ []) }
+>(rt: &'a R, alloc: Global, source: T) -> Result<Feeding<'a, T, R>, Option<T>>
+    ensures source { IfOk result (λ f. f.handle.promise.0.value ≡ source) }
+    ensures empty { IfOk result (λ f. got_by f.end ≡ []) }
+    ensures back { IfErr result (λ back. IfSome back (λ s. s ≡ source)) }
 {
-    let (feeder, end) = feed(rt, alloc).ok()?;
-    let handle = start_feeder_alone(rt, source, feeder)?;
-    Some(Feeding { end, handle })
+    let Ok((feeder, end)) = feed(rt, alloc) else {
+        return Err(Some(source));
+    };
+    let Some(handle) = start_feeder_alone(rt, source, feeder) else {
+        return Err(None);
+    };
+    Ok(Feeding { end, handle })
 }
 
 // The feeder on a thread of the scope.

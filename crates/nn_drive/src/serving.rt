@@ -6,7 +6,7 @@ ghost use Rattle.nn_feed.specs.Ends.{AreOfOneFeed, put_by};
 use crate::driving::{DriveFault, WorkerExit, WorkerPromise};
 use crate::reporting::ReportSource;
 use nn_feed::{FeedEnd, FeederExit, FeederPromise};
-use nn_lane::{LaneEnd, Met, Refusal};
+use nn_lane::{LaneEnd, Met, Refusal, Reporter};
 use nn_segment::SegmentSource;
 use nn_shadow::Shadow;
 use nn_tailer::{Active, Standby};
@@ -27,9 +27,9 @@ pub struct Running<S: ReportSource> {
 #[derive(Drop)]
 pub struct Left<S> {
     pub source: S,
-    /// `Ok` where the source gave no more reports; else why the last one was refused. `Closed` is no fault: the standby was
-    /// promoted meanwhile. How many were sent, `met` says.
-    pub outcome: Result<(), Refusal>,
+    /// How many reports it sent, where its source gave no more; else why the last one was refused. `Closed` is no fault: the
+    /// standby was promoted meanwhile.
+    pub outcome: Result<u64, Refusal>,
     /// What the two ends of its lane counted.
     pub met: Met,
 }
@@ -54,8 +54,8 @@ pub struct Feeding<'a, T: SegmentSource, R: Wait> {
 
 /// A standby that was not promoted, and why.
 ///
-/// Where it was refused before a thread was started, it is as it was, there are no threads, and the source and the workers
-/// are dropped.
+/// Where it was refused before a thread was started, it is as it was, there are no threads, and all workers come back; so
+/// does the source, unless its own thread was refused. A new `serve` can take them.
 #[derive(Drop)]
 pub struct Unserved<'a, T: SegmentSource, S: ReportSource, R: Wait> {
     pub fault: DriveFault,
@@ -65,18 +65,25 @@ pub struct Unserved<'a, T: SegmentSource, S: ReportSource, R: Wait> {
     /// Its workers still report into its lanes. So who wants the standby no more closes its intake (`close_intake`) before
     /// dropping it: each worker learns of the close by its next report, and ends.
     pub standby: Standby,
-    /// The threads of the workers that were started, in their order. The other workers were dropped.
+    /// The source as it was handed in, if no thread was asked for it. One whose thread was refused is dropped.
+    pub source: Option<T>,
+    /// The threads of the workers that were started, in their order.
     pub workers: Vec<PromisedHandle<WorkerExit<S>, WorkerPromise<S>>>,
+    /// The workers behind those, in their order and as they were handed in. If the thread of one was refused, it stood
+    /// first among them, and is dropped.
+    pub unstarted: Vec<(S, Reporter)>,
     /// The source's thread, if it was started and not joined.
     pub feeding: Option<Feeding<'a, T, R>>,
 }
 
 /// What is left of a standby that was not promoted, once its source's thread was joined.
 #[derive(Drop)]
-pub struct Unfed<S: ReportSource> {
+pub struct Unfed<T, S: ReportSource> {
     pub fault: DriveFault,
     pub standby: Standby,
+    pub source: Option<T>,
     pub workers: Vec<PromisedHandle<WorkerExit<S>, WorkerPromise<S>>>,
+    pub unstarted: Vec<(S, Reporter)>,
 }
 
 mod calls;

@@ -12,7 +12,7 @@ use Rattle.nn_model.specs.Lawful.{IsLawful, IsWhole}
 use Rattle.nn_model.specs.Log.{log_of}
 use Rattle.nn_model.specs.Picture.{ShowsPicture}
 use Rattle.nn_model.specs.Stands.{tables_of}
-use Rattle.nn_lane.specs.Ends.{Reporting, Taking, got_of, next_message}
+use Rattle.nn_lane.specs.Ends.{Reporting, Taking, got_of}
 use Rattle.nn_lane.specs.declared.fault.Refusal.{Refusal}
 use Rattle.nn_lane.specs.declared.fault.Refusal.TheVariants.{Closed, Exhausted, Full}
 use Rattle.nn_segment.specs.LogEnd.{end_of_log, given_in}
@@ -25,7 +25,8 @@ use Rattle.nn_tailer.specs.Tailing.{Tailer, by_node, has_begun}
 use Rattle.nn_tailer.proofs.InOrder.{all_given, promoted_at_end, stopped_at}
 use Rattle.nn_drive.specs.Driven.{NotDriven, IsDriven, IsTaken, IsTold}
 use Rattle.nn_drive.specs.NewLanes.{HaveLanes}
-use Rattle.nn_drive.specs.Reports.{sent_after, TakesNoMore, Reported}
+use Rattle.nn_drive.specs.Reports.{message_of, sent_after, TakesNoMore, Reported}
+use Rattle.nn_drive.proofs.Sends.{sent_long}
 use Rattle.nn_drive.specs.declared.driving.DriveFault.{DriveFault}
 use Rattle.nn_drive.specs.declared.driving.DriveFault.TheVariants as drive
 use Rattle.nn_tailer.specs.declared.standby.Active.{Active}
@@ -54,33 +55,26 @@ one_left : (left : List Report) (x : Report) (t : List Report) → GivesReport l
 one_left [] x t h = absurd (let q : Some x ≡ None = h.0 in cc)
 one_left (r ∷ left) x t h = omega arith
 
-length_sent : (dn : ℕ) (sent : List Message) (reports : List Report) → length (sent_after dn sent reports) ≡ length sent + length reports
-length_sent dn sent [] = omega arith
-length_sent dn sent (r ∷ reports) =
-    let more = length_sent dn (sent ++ next_message dn sent r ∷ []) reports in
-    let one = length-append sent (next_message dn sent r ∷ []) in
-    omega (arith, more, one)
-
 -- a list that is no longer than a lane carries is sent whole
-all_sent : (all : List Report) (r u : Reporting) (t : List Report) (dn : ℕ) (answer : Result (Unit {0}) Refusal) → r.sent ≡ [] → r.lane.node ≡ dn → length all ≤ 2 ^ 62
+all_sent : (all : List Report) (r u : Reporting) (t : List Report) (dn : ℕ) (answer : Result ℕ Refusal) → r.sent ≡ [] → r.lane.node ≡ dn → length all ≤ 2 ^ 62
     → (IsTold answer → ⊥) → Reported GivesReport all r t u answer → u.sent ≡ sent_after dn [] all
 all_sent all r u t dn (Ok _) none node few untold h =
-    let whole : all ≡ h.0 = gives_front all h.0 h.2.0 h.2.1 ∙ ap (λ z. h.0 ++ z) (none_left h.2.0 t (subst (λ o. GivesReport h.2.0 o t) h.4 h.2.2)) ∙ append-nil h.0 in
+    let whole : all ≡ h.0 = gives_front all h.0 h.2.0 h.2.1 ∙ ap (λ z. h.0 ++ z) (none_left h.2.0 t (subst (λ o. GivesReport h.2.0 o t) h.4.0 h.2.2)) ∙ append-nil h.0 in
     h.3 ∙ (λ j. sent_after (node j) (none j) (sym whole j))
 all_sent all r u t dn (Err (Full m n)) none node few untold h = absurd (by_last h.1 h.4)
   where
-    by_last : (last : Option Report) → MatchOption last ⊥ (λ x. TakesNoMore u (next_message r.lane.node u.sent x) (Full m n)) → ⊥
+    by_last : (last : Option Report) → MatchOption last ⊥ (λ x. TakesNoMore u (message_of r.lane.node u.sent x) (Full m n)) → ⊥
     by_last None g = g
     by_last (Some x) g = g
 all_sent all r u t dn (Err (Closed m n)) none node few untold h = absurd (untold tt)
 all_sent all r u t dn (Err (Exhausted e)) none node few untold h = by_last h.1 h.2.2 h.4
   where
-    by_last : (last : Option Report) → GivesReport h.2.0 last t → MatchOption last ⊥ (λ x. TakesNoMore u (next_message r.lane.node u.sent x) (Exhausted e)) → u.sent ≡ sent_after dn [] all
+    by_last : (last : Option Report) → GivesReport h.2.0 last t → MatchOption last ⊥ (λ x. TakesNoMore u (message_of r.lane.node u.sent x) (Exhausted e)) → u.sent ≡ sent_after dn [] all
     by_last None g m = absurd m
     by_last (Some x) g m =
         let front = ap length (gives_front all h.0 h.2.0 h.2.1) in
         let sum = length-append h.0 h.2.0 in
-        let sent = ap length h.3 ∙ length_sent r.lane.node r.sent h.0 in
+        let sent = ap length h.3 ∙ sent_long r.lane.node r.sent h.0 in
         let begun = ap length none in
         let more = one_left h.2.0 x t g in
         absurd (omega (arith, few, front, sum, sent, begun, more, m.1))

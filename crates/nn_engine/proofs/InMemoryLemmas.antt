@@ -9,8 +9,7 @@ use Rattle.std.proofs.lemmas.List.Elements.{All-head, All-tail}
 use Rattle.nn_types.specs.declared.report.Message.{Message}
 use Rattle.nn_types.specs.declared.report.Report.{Report}
 use Rattle.nn_model.specs.Lanes.{Lanes, no_messages, followed_by}
-use Rattle.nn_lane.specs.Ends.{next_message}
-use Rattle.nn_drive.specs.Reports.{sent_after}
+use Rattle.nn_drive.specs.Reports.{message_of, sent_after}
 use Rattle.nn_drive.proofs.Sends.{sent_more}
 use Rattle.nn_scenario.specs.Steps.{lanes_after, lanes_of, AreInTurn, IsStepOf}
 use Rattle.nn_scenario.specs.declared.steps.Step.{Step}
@@ -48,7 +47,7 @@ nothing_in_memory count steps sources e in_turn within = record {
 }
 
 -- the message's report, sent after those before it, is the message
-is_message : (m : Message) (sent : List Message) (dn : ℕ) → m.dn ≡ dn → m.number ≡ length sent + 1 → next_message dn sent (report_of m) ≡ m
+is_message : (m : Message) (sent : List Message) (dn : ℕ) → m.dn ≡ dn → m.number ≡ length sent + 1 → message_of dn sent (report_of m) ≡ m
 is_message m sent dn d n = (λ j. record { dn = sym d j; number = sym n j; block = m.block; stamp = m.stamp; len = m.len; kind = m.kind })
 
 chosen : {A : Type 0} (b c : Bool) (x y : A) → b ≡ c → (if b then x else y) ≡ (if c then x else y)
@@ -71,7 +70,7 @@ module _ (count : ℕ) (lanes : Lanes) (m : Message) (sources : List (List Repor
       let number : m.number ≡ length (lanes (i + 1)) + 1 = next ∙ ap (λ k. length (lanes k) + 1) dn in
       ap (sent_after (i + 1) []) there
       ∙ sent_more (i + 1) [] (get_or sources (m.dn - 1) []) (report_of m)
-      ∙ (λ j. was j ++ next_message (i + 1) (was j) (report_of m) ∷ [])
+      ∙ (λ j. was j ++ message_of (i + 1) (was j) (report_of m) ∷ [])
       ∙ ap (λ z. lanes (i + 1) ++ z ∷ []) (is_message m (lanes (i + 1)) (i + 1) dn number)
       ∙ sym (chosen ((i + 1) == m.dn) true (lanes (i + 1) ++ m ∷ []) (lanes (i + 1)) (eq-eqb (i + 1) m.dn (sym dn)))
 

@@ -11,3 +11,5 @@ pub mod RunRows
 pub mod Shown
 pub mod InMemory
 pub mod InMemoryRows
+pub mod StartRows
+pub mod CheckpointRows

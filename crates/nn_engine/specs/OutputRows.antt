@@ -26,7 +26,7 @@ use Rattle.nn_engine.specs.Start.{from_root}
 
 -- what is asked for where the command line has no words
 abbrev usual : Options
-usual = record { settings = record { permille = 999; min = 1 }; history = false; image = false; from_image = false }
+usual = record { settings = record { permille = 999; min = 1 }; history = false; image = false; from_image = false; leave_memory = false }
 
 -- lines, each with its line feed
 abbrev lines : List (List ℕ) → List ℕ

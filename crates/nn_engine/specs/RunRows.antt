@@ -21,7 +21,7 @@ status = refl
 
 -- a reader that has three bytes left
 abbrev reader : Bool → Reading
-reader failed = record { left = Some (codes "abc"); given = 0; failed = failed }
+reader failed = record { left = Some (codes "abc"); reads = 0; given = 0; failed = failed }
 
 read_failed : IsUnread false (reader false) (reader true) ReadFailed
 read_failed = refl
@@ -31,7 +31,7 @@ not_made_up : IsUnread false (reader false) (reader false) ReadFailed → ⊥
 not_made_up h = true≢false (sym h)
 
 -- three bytes are not too many
-not_too_long : IsUnread false (reader false) (record { left = Some []; given = 3; failed = false }) TooLong → ⊥
+not_too_long : IsUnread false (reader false) (record { left = Some []; reads = 1; given = 3; failed = false }) TooLong → ⊥
 not_too_long h = let more = h.0.1 in let many = h.0.3 in omega (arith, more, many)
 
 -- where memory ran out, no read failed
@@ -47,7 +47,7 @@ writer taken failed = record { contents = None; taken = taken; failed = failed }
 
 -- a failed write is one that was noted
 no_write_failed : (options : Options) → WroteFront (running options false (reader false) (reader false)) (writer 0 false) (writer 2 false) (WriteFailed 2) → ⊥
-no_write_failed options h = true≢false (sym h.front.took.caused.1)
+no_write_failed options h = true≢false (sym h.front.took.caused)
 
 -- ---- What a run wrote.
 
@@ -81,14 +81,14 @@ not_a_front_of_all : Unfinished unwritten (memory_line true) (fault_alone (codes
 not_a_front_of_all h =
     let w = h.took in
     let e : 9 ≡ length w.front + length w.rest = ap length w.whole ∙ length-append w.front w.rest in
-    omega (arith, e, h.told, w.caused.0)
+    omega (arith, e, h.told, w.short)
 
 wrote_a_front_of_55 : (options : Options) → WroteFront (running options false (reader false) (reader false)) unwritten (word true) (WriteFailed 5)
 wrote_a_front_of_55 options = record {
   output = fault_alone (codes "55");
   right = inr (inr (refl, refl));
   front = record {
-    took = record { front = codes "fault"; rest = codes " 55" ++ newline ∷ []; whole = refl; bytes = refl; counted = refl; caused = (omega arith, refl) };
+    took = record { front = codes "fault"; rest = codes " 55" ++ newline ∷ []; whole = refl; short = omega arith; bytes = refl; counted = refl; caused = refl };
     told = refl;
   };
 }
@@ -98,11 +98,17 @@ not_told_of_another_count given h = let e : 5 ≡ 0 + length h.front.took.front 
 
 -- memory ran out after the first bytes
 ran_out : Unfinished unwritten (word false) (codes "faults") (run.OutOfMemory 5)
-ran_out = record { took = record { front = codes "fault"; rest = codes "s"; whole = refl; bytes = refl; counted = refl; caused = refl }; told = (refl, omega arith) }
+ran_out = record { took = record { front = codes "fault"; rest = codes "s"; whole = refl; short = omega arith; bytes = refl; counted = refl; caused = refl }; told = (refl, omega arith) }
 
 -- and not before them: then the line that memory ran out is written
 not_ran_out_before : (text : List ℕ) → Unfinished unwritten unwritten text (run.OutOfMemory 0) → ⊥
 not_ran_out_before text h = omega (arith, h.told.1)
+
+-- nor behind the last
+not_ran_out_behind : Unfinished unwritten (word false) (codes "fault") (run.OutOfMemory 5) → ⊥
+not_ran_out_behind h =
+    let w = h.took in
+    omega (arith, ap length w.whole, length-append w.front w.rest, w.counted, w.short)
 
 -- nor where a write failed
 not_ran_out_at_a_write : (text : List ℕ) → Unfinished unwritten (word true) text (run.OutOfMemory 5) → ⊥
@@ -113,12 +119,12 @@ unreadable : (options : Options) → IsUnreadable (running options false (reader
 unreadable options = inl refl
 
 -- three bytes that were read are not too many
-not_unreadable : (options : Options) → IsUnreadable (running (record options { from_image = false }) false (reader false) (record { left = Some []; given = 3; failed = false })) → ⊥
+not_unreadable : (options : Options) → IsUnreadable (running (record options { from_image = false }) false (reader false) (record { left = Some []; reads = 1; given = 3; failed = false })) → ⊥
 not_unreadable options h = ⊎_elim (λ (e : false ≡ true). true≢false (sym e)) (λ k. let more = k.1 in let many = k.3 in omega (arith, more, many)) h
 
 -- the output of all is of what was given, up to the end, and of no more than an input may have
-not_of_a_part : (given : Given) (p : Printed) → IsOutputOfAll (record given { after = record { left = Some (codes "c"); given = 2; failed = false } }) p → ⊥
+not_of_a_part : (given : Given) (p : Printed) → IsOutputOfAll (record given { after = record { left = Some (codes "c"); reads = 1; given = 2; failed = false } }) p → ⊥
 not_of_a_part given p h = let e : codes "c" ≡ [] = h.whole in cc
 
-not_of_other_bytes : (options : Options) (p : Printed) (o : IsOutputOfAll (running options false (reader false) (record { left = Some []; given = 3; failed = false })) p) → length o.input ≡ 2 → ⊥
+not_of_other_bytes : (options : Options) (p : Printed) (o : IsOutputOfAll (running options false (reader false) (record { left = Some []; reads = 1; given = 3; failed = false })) p) → length o.input ≡ 2 → ⊥
 not_of_other_bytes options p o two = let e : 3 ≡ 0 + length o.input = o.counted in omega (arith, e, two)

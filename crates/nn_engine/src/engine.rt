@@ -1,5 +1,5 @@
 //! A run: from a reader's bytes to a writer's.
-ghost use Rattle.std.specs.Prelude.{◌≡◌, ◌≢◌, ◌<◌, ◌^◌, ◌++◌, ℕ, List, false, codes, Result, Ok, IfOk, IfErr, OnOk, string_bytes};
+ghost use Rattle.std.specs.Prelude.{◌≡◌, ◌≢◌, ◌<◌, ◌≤◌, ◌^◌, ◌++◌, ℕ, List, false, codes, Result, Ok, IfOk, IfErr, OnOk, string_bytes};
 ghost use Rattle.nn_edits.specs.Fault.{number_of as line_number_of};
 ghost use Rattle.nn_model.specs.Items.{items};
 ghost use Rattle.nn_model.specs.Lanes.{Lanes};
@@ -23,8 +23,8 @@ ghost use Rattle.nn_engine.specs.Shown.{history_part, shown, with_settings, IsFa
 
 use crate::device::{InputFault, InputParts, read_parts};
 use crate::follow::{FollowFault, follow};
-use crate::image::push_image;
-use crate::output::{Output, RunEnd, RunFault, finish, finish_output};
+use crate::image::{last_of, push_image};
+use crate::output::{Output, RunEnd, RunFault, finish, finish_output, let_go};
 use crate::rest::{Rest, Texts};
 use crate::start::{Begin, start_from};
 use nn_device::{Reader, Writer};
@@ -39,7 +39,6 @@ use nn_types::{Event, Settings, fault};
 use std::alloc::{AllocError, Global};
 use std::fmt::Write as _;
 use std::io::{Read, Write};
-use std::mem;
 
 /// What a run is asked for.
 #[derive(Clone, Copy, Debug, PartialEq, Eq)]
@@ -52,6 +51,9 @@ pub struct Options {
     pub image: bool,
     /// Whether the input begins with an image, from which the run goes on.
     pub from_image: bool,
+    /// Whether the namespace and the tables are left to the end of the process in place of being freed. A process that ends
+    /// behind the run saves that time.
+    pub leave_memory: bool,
 }
 
 /// The line of an input that a reader did not give whole.
@@ -84,13 +86,17 @@ pub fn run<R: Read, W: Write>(
     ensures front { IfErr result (WroteFront
         (running options.now false input.old input.new)
         writer.old writer.new) }
+    ensures reads { input.new.reads ≤ 2 ^ 24 }
 {
-    let parts = match read_parts(alloc, options.from_image, input) {
+    let read = read_parts(alloc, options.from_image, input);
+    // A reader counts its reads, and is given up before there are more.
+    input.reads();
+    let parts = match read {
         Ok(parts) => parts,
         Err(fault) => return finish(writer, unread_line(fault), 1),
     };
     match output_of_parts(alloc, *options, parts) {
-        Ok(output) => finish_output(alloc, output, writer),
+        Ok(output) => finish_output(alloc, output, writer, options.leave_memory),
         Err(AllocError) => finish(writer, OUT_OF_MEMORY, 1),
     }
 }
@@ -241,16 +247,16 @@ pub(crate) fn output_of_flushed(
     ensures { IfOk result (λ o. (lanes : Lanes) → ShowsPicture standby.namespace (items lanes) (tables_of (standby_of standby))
         → shown o ≡ with_history options.history standby.history (after_log (with_settings options standby.permille standby.table.min) lanes (Ok (record { last = standby.last; namespace = standby.namespace })))) }
 {
+    let leave_memory = options.leave_memory;
     let Ok(extent) = standby.namespace().extent() else {
-        // Taking it apart would be work for nothing: the process ends.
-        mem::forget(standby);
+        let_go(standby, leave_memory);
         return Err(AllocError);
     };
     if listing_bytes(extent) > MAX_IN_MEMORY {
         return large_output(alloc, options, standby);
     }
     let output = output_in_memory(alloc, options, extent, &standby);
-    mem::forget(standby);
+    let_go(standby, leave_memory);
     output
 }
 
@@ -259,11 +265,11 @@ fn large_output(alloc: Global, options: Options, standby: Shadow) -> Result<Outp
     ensures { IfOk result (λ o. (lanes : Lanes) → ShowsPicture standby.namespace (items lanes) (tables_of (standby_of standby))
         → shown o ≡ with_history options.history standby.history (after_log (with_settings options standby.permille standby.table.min) lanes (Ok (record { last = standby.last; namespace = standby.namespace })))) }
 {
+    let leave_memory = options.leave_memory;
     match texts_beside_paths(alloc, options.history, &standby) {
         Ok(texts) => Ok(Output::of_rest(alloc, Rest::of(texts, standby, options.image))),
         Err(error) => {
-            // Taking it apart would be work for nothing: the process ends.
-            mem::forget(standby);
+            let_go(standby, leave_memory);
             Err(error)
         }
     }
@@ -308,7 +314,7 @@ fn output_in_memory(
         &mut text,
         extent,
         standby.namespace(),
-        standby.last_txid(),
+        last_of(standby),
     )?;
     Ok(Output::of_text(text, 0))
 }

@@ -7,7 +7,9 @@ ghost use Rattle.nn_engine.specs.Output.{image_part};
 use nn_device::{Unwritten, Writer};
 use nn_image::{SaveFault, save};
 use nn_listing::text_bytes;
+use nn_shadow::Shadow;
 use nn_tree::{Extent, Namespace};
+use nn_types::Txid;
 use std::alloc::{AllocError, Global};
 use std::io::Write;
 use std::mem::replace;
@@ -18,6 +20,16 @@ const LINE: usize = 70;
 /// About what a line has for each block.
 const BLOCK: usize = 40;
 
+/// The last txid of a standby, with which its image is saved.
+pub(crate) fn last_of(standby: &Shadow) -> Txid
+    ensures { result ≡ standby.now.last }
+{
+    match Txid::new(standby.last_txid()) {
+        Some(txid) => txid,
+        None => unreachable!(),
+    }
+}
+
 /// Where it is asked for, adds the line `image` and the image of the namespace after this transaction. Memory for about
 /// all of it, by the namespace's extent, is asked for at once, so that an image that is larger than the memory is refused
 /// before it is begun.
@@ -27,7 +39,7 @@ pub(crate) fn push_image(
     text: &mut Vec<u8>,
     extent: Extent,
     namespace: &Namespace,
-    last: u64,
+    last: Txid,
 ) -> Result<(), AllocError>
     ensures { OnOk result (text.new.items ≡ text.old.items ++ image_part asked (record { last = last; namespace = namespace.now })) }
 {
@@ -51,7 +63,7 @@ pub(crate) fn write_image<W: Write>(
     alloc: Global,
     wanted: bool,
     namespace: &Namespace,
-    last: u64,
+    last: Txid,
     writer: &mut Writer<W>,
 ) -> Result<(), Unwritten>
     ensures ok { OnOk result (Took writer.old writer.new (image_part wanted (record { last = last; namespace = namespace.now }))) }

@@ -9,6 +9,7 @@ use crate::rest::Rest;
 use nn_device::{Unwritten, Writer};
 use std::alloc::Global;
 use std::io::Write;
+use std::mem;
 use thiserror::Error;
 
 /// What a run prints, and its status.
@@ -105,11 +106,21 @@ pub(crate) fn finish<W: Write>(
     }
 }
 
+/// Frees a value, or leaves it to the end of the process.
+pub(crate) fn let_go<T: Drop>(value: T, leave_memory: bool) {
+    if leave_memory {
+        mem::forget(value);
+    } else {
+        drop(value);
+    }
+}
+
 /// Writes an output, and answers its status.
 pub(crate) fn finish_output<W: Write>(
     alloc: Global,
     output: Output,
     writer: &mut Writer<W>,
+    leave_memory: bool,
 ) -> Result<RunEnd, RunFault>
     ensures ok { IfOk result (λ end. Took writer.old writer.new (shown output).text × (end.status ≡ output.status)) }
     ensures front { IfErr result (Unfinished writer.old writer.new (shown output).text) }
@@ -120,7 +131,7 @@ pub(crate) fn finish_output<W: Write>(
         rest,
         status,
     } = output;
-    rest.forget();
+    let_go(rest, leave_memory);
     match written {
         Ok(()) => Ok(RunEnd { status }),
         Err(fault) => Err(fault),

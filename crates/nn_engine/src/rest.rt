@@ -6,14 +6,13 @@ ghost use Rattle.nn_listing.specs.Listing.{row_line};
 ghost use Rattle.nn_engine.specs.Output.{image_part};
 ghost use Rattle.nn_engine.specs.Rest.{after_head, StoppedBehind};
 
-use crate::image::write_image;
+use crate::image::{last_of, write_image};
 use nn_device::{Unwritten, Writer};
 use nn_listing::write_lines;
 use nn_shadow::Shadow;
 use std::alloc::Global;
 use std::io::Write;
 use std::marker::Model;
-use std::mem;
 
 /// What follows the text of an output: nothing, or all of a listing that is larger than a text may be.
 #[derive(Drop)]
@@ -88,11 +87,6 @@ impl Rest {
             Some(large) => write_large(alloc, large, writer),
         }
     }
-
-    /// Leaves a standby as it is: taking it apart would be work for nothing, since the process ends.
-    pub(crate) fn forget(self) {
-        mem::forget(self);
-    }
 }
 
 fn write_large<W: Write>(
@@ -124,7 +118,7 @@ fn write_after_head<W: Write>(
         alloc,
         large.image,
         namespace,
-        large.standby.last_txid(),
+        last_of(&large.standby),
         writer,
     )
 }

@@ -33,7 +33,10 @@ pub(crate) fn start_from(
         return Ok(without_image(alloc, from_image));
     };
     match load(alloc, &mut Reader::new(image.as_slice())) {
-        Ok((namespace, txid)) => Ok(Ok(Begin { namespace, txid })),
+        Ok((namespace, txid)) => Ok(Ok(Begin {
+            namespace,
+            txid: txid.get(),
+        })),
         Err(fault) => {
             let Some(fault) = of_text(fault) else {
                 return Err(AllocError);

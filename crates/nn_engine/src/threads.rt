@@ -7,9 +7,12 @@ ghost use Rattle.nn_scenario.specs.Cut.{segments_from};
 ghost use Rattle.nn_scenario.specs.Chunks.{IsReadAs};
 ghost use Rattle.nn_scenario.specs.Scenario.{seen, IsLawfulScenario};
 ghost use Rattle.nn_scenario.specs.Steps.{lanes_of, AreInTurn, IsStepOf};
-ghost use Rattle.nn_engine.specs.InMemory.{report_of, with_step, AreFew, AreInMemory, IsBegun, MayEnd, TellsStop};
+ghost use Rattle.nn_engine.specs.InMemory.{GivesReport, report_of, with_step, AreFew, AreInMemory, IsBegun, MayEnd, TellsStop};
 ghost use Rattle.nn_engine.specs.Input.{IsRead, IsStartOf};
 ghost use Rattle.nn_engine.specs.Start.{Start};
+ghost use Rattle.nn_drive.specs.Driven.{AreLanes, IsDriven, NotDriven};
+ghost use Rattle.nn_drive.specs.NewLanes.{HavePlaces};
+ghost use Rattle.nn_segment.specs.Source.{GivesNext};
 ghost use Rattle.nn_tailer.specs.Public.{AreNew};
 ghost use Rattle.nn_tailer.specs.Tailing.{has_begun};
 ghost use Rattle.nn_engine.specs.Output.{output_of, IsPrinted, IsPrintedFrom};
@@ -27,10 +30,11 @@ use crate::segments::Segments;
 use crate::start::start_from;
 use nn_device::{Reader, Writer};
 use nn_drive::{DriveFault, ReportSource, drive, with_lanes};
-use nn_lane::LaneEnd;
+use nn_lane::{LaneEnd, Reporter};
 use nn_scenario::{BadLine, Scenario, Step, StepList, read_segments};
 use nn_segment::Parsed;
-use nn_tailer::Standby;
+use nn_shadow::Shadow;
+use nn_tailer::{Active, Standby};
 use nn_types::{Message, Report, Settings};
 use std::alloc::{AllocError, Global};
 use std::collections::VecDeque;
@@ -209,6 +213,26 @@ fn standby_over(
     }
 }
 
+// Drives a standby over lanes of just the places that were asked for.
+fn drive_over<G: Gate + Send + Sync + Drop, R: Threads + Wait + Sync>(
+    rt: &R,
+    alloc: Global,
+    asked: &ThreadOptions<G>,
+    standby: Standby,
+    segments: Vec<Parsed>,
+    workers: Vec<(InMemoryReports<G>, Reporter)>,
+) -> Result<(Shadow, Active), DriveFault>
+    requires lanes { AreLanes workers.items standby.ends }
+    requires places { HavePlaces asked.now.capacity standby.ends }
+    ensures ok { IfOk result (λ r. IsDriven GivesNext (λ _. 0) GivesReport standby segments.items workers.items r.0 r.1) }
+    ensures err { IfErr result (NotDriven GivesNext (λ _. 0) standby segments.items) }
+{
+    let Ok(gate) = Arc::try_clone(&asked.gate) else {
+        return Err(DriveFault::OutOfMemory);
+    };
+    drive(rt, alloc, standby, Segments::new(segments, gate), workers)
+}
+
 // Drives a standby over these segments and steps, and tells what comes of it.
 fn output_of_drive<G: Gate + Send + Sync + Drop, R: Threads + Wait + Sync>(
     rt: &R,
@@ -229,8 +253,7 @@ fn output_of_drive<G: Gate + Send + Sync + Drop, R: Threads + Wait + Sync>(
     let sources = sources_of(alloc, &asked.gate, datanodes, steps)?;
     let (workers, ends) = with_lanes(alloc, sources, asked.capacity)?;
     let standby = standby_over(alloc, ends, asked.options.settings, image)?;
-    let gate = Arc::try_clone(&asked.gate)?;
-    match drive(rt, alloc, standby, Segments::new(segments, gate), workers) {
+    match drive_over(rt, alloc, asked, standby, segments, workers) {
         Ok((shadow, _active)) => output_of_flushed(alloc, asked.options, shadow),
         Err(fault) => output_of_fault(alloc, fault),
     }
@@ -321,13 +344,17 @@ pub fn run_threads<I: Read, W: Write, G: Gate + Send + Sync + Drop, R: Threads +
     ensures front { IfErr result (WroteFront
         (running asked.now.options true input.old input.new)
         writer.old writer.new) }
+    ensures reads { input.new.reads ≤ 2 ^ 24 }
 {
-    let parts = match read_parts(alloc, asked.options.from_image, input) {
+    let read = read_parts(alloc, asked.options.from_image, input);
+    // A reader counts its reads, and is given up before there are more.
+    input.reads();
+    let parts = match read {
         Ok(parts) => parts,
         Err(fault) => return finish(writer, unread_line(fault), 1),
     };
     match parts_by_threads(rt, alloc, asked, parts) {
-        Ok(output) => finish_output(alloc, output, writer),
+        Ok(output) => finish_output(alloc, output, writer, asked.options.leave_memory),
         Err(AllocError) => finish(writer, OUT_OF_MEMORY, 1),
     }
 }

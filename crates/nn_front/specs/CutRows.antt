@@ -10,7 +10,7 @@ use Rattle.json.specs.Word.{word, after_number}
 use Rattle.serde_json.specs.Read.{number_of}
 use Rattle.nn_image.specs.Text.{feed}
 use Rattle.nn_image.specs.Reading.{object_of, value_of}
-use Rattle.nn_front.specs.Cut.{divided, is_end_line}
+use Rattle.nn_front.specs.Cut.{divided, is_end_line, rest_of}
 
 -- lines, each with its line feed
 abbrev lines : List (List ℕ) → List ℕ
@@ -25,6 +25,11 @@ end_lines = refl
 at_once : divided (lines (codes "{}" ∷ codes "{\"end\":1}" ∷ codes "a" ∷ [])) ≡ Some (record { image = lines (codes "{}" ∷ codes "{\"end\":1}" ∷ []); rest = codes "a" ++ feed ∷ [] })
 unfolding divided is_end_line object_of value_of is_utf8 chars encode value punctuate lex content word after_number number_of scan_numeral
 at_once = refl
+
+-- where the input begins with `{` no line `image` is looked for
+no_mark : divided (lines (codes "{}" ∷ codes "image" ∷ codes "{\"end\":1}" ∷ [])) ≡ Some (record { image = lines (codes "{}" ∷ codes "image" ∷ codes "{\"end\":1}" ∷ []); rest = [] })
+unfolding divided is_end_line object_of value_of is_utf8 chars encode value punctuate lex content word after_number number_of scan_numeral
+no_mark = refl
 
 -- or after the line `image`, and not after one that only begins so
 behind_the_line : divided (lines (codes "images" ∷ codes " image" ∷ codes "image" ∷ codes "x" ∷ codes "{\"end\":1}" ∷ codes "image" ∷ []))
@@ -42,3 +47,7 @@ no_end = refl
 none_begins : map divided ([] ∷ codes "image" ∷ (codes "a" ++ feed ∷ codes "{}") ∷ (codes " {}" ++ feed ∷ []) ∷ []) ≡ None ∷ None ∷ None ∷ None ∷ []
 unfolding divided is_end_line object_of value_of is_utf8 chars encode value punctuate lex content word after_number number_of scan_numeral
 none_begins = refl
+
+-- nothing follows where no image begins, and else what is behind it
+rests : map rest_of (None ∷ Some (record { image = codes "a"; rest = codes "b" }) ∷ []) ≡ [] ∷ codes "b" ∷ []
+rests = refl

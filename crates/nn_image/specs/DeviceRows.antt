@@ -1,11 +1,11 @@
 -- What is told of a text of which a prefix was written, and of reads that failed.
-use Rattle.std.specs.Prelude.{true, false, [], ◌∷◌, Some, codes, refl}
-use Rattle.std.proofs.Common.{sym, true≢false, arith}
+use Rattle.std.specs.Prelude.{ℕ, true, false, [], ◌∷◌, length, Some, Ok, Err, codes, refl}
+use Rattle.std.proofs.Common.{sym, ap, inl, inr, true≢false, arith, length-append}
 use Rattle.nn_device.specs.Device.{Writing}
-use Rattle.nn_image.specs.declared.fault.ImageFault.TheVariants.{Truncated, ReadFault, OutOfMemory}
+use Rattle.nn_image.specs.declared.fault.ImageFault.TheVariants.{Truncated, BadLine, ReadFault, OutOfMemory}
 use Rattle.nn_image.specs.declared.fault.SaveFault.TheVariants as save
 use Rattle.nn_image.specs.Lines.{Takes}
-use Rattle.nn_image.specs.Outcome.{Noted, IsNoRead}
+use Rattle.nn_image.specs.Outcome.{Fails, IsOfDevice, Noted, IsNoRead}
 use Rattle.nn_image.specs.Saving.{WroteFront}
 
 -- ---- writes
@@ -22,7 +22,7 @@ abbrev ended_after_two : Writing
 ended_after_two = record { contents = Some (codes "ab"); taken = 7; failed = false }
 
 two_told : WroteFront unwritten failed_after_two (codes "abc") (save.WriteFault 2)
-two_told = record { took = record { front = codes "ab"; rest = codes "c"; whole = refl; bytes = refl; counted = refl; caused = (omega arith, refl) }; told = refl }
+two_told = record { took = record { front = codes "ab"; rest = codes "c"; whole = refl; short = omega arith; bytes = refl; counted = refl; caused = refl }; told = refl }
 
 -- the bytes of this text are told, and not all that the writer took
 all_told : WroteFront unwritten failed_after_two (codes "abc") (save.WriteFault 7) → ⊥
@@ -30,14 +30,18 @@ all_told h = omega (arith, h.told, h.took.counted)
 
 -- a failed write was noted
 not_noted : WroteFront unwritten ended_after_two (codes "abc") (save.WriteFault 2) → ⊥
-not_noted h = true≢false (sym h.took.caused.1)
+not_noted h = true≢false (sym h.took.caused)
 
 no_memory : WroteFront unwritten ended_after_two (codes "abc") save.OutOfMemory
-no_memory = record { took = record { front = codes "ab"; rest = codes "c"; whole = refl; bytes = refl; counted = refl; caused = refl }; told = tt }
+no_memory = record { took = record { front = codes "ab"; rest = codes "c"; whole = refl; short = omega arith; bytes = refl; counted = refl; caused = refl }; told = tt }
 
 -- where memory ran out, no write failed
 no_failure : WroteFront unwritten failed_after_two (codes "abc") save.OutOfMemory → ⊥
 no_failure h = true≢false h.took.caused
+
+-- and some bytes are left out
+no_memory_behind_all : WroteFront unwritten ended_after_two (codes "ab") save.OutOfMemory → ⊥
+no_memory_behind_all h = omega (arith, h.took.counted, h.took.short, ap length h.took.whole, length-append h.took.front h.took.rest)
 
 -- ---- reads
 
@@ -60,6 +64,27 @@ of_the_text = tt
 
 of_a_read : IsNoRead ReadFault → ⊥
 of_a_read h = h
+
+-- a fault of the text is the one that the definition gives
+given : Fails {Y = ℕ} (BadLine 2) (Err (BadLine 2))
+given = refl
+
+another_line : Fails {Y = ℕ} (BadLine 3) (Err (BadLine 2)) → ⊥
+another_line h = cc
+
+no_fault : Fails {Y = ℕ} Truncated (Ok 5) → ⊥
+no_fault h = cc
+
+-- a fault of the device comes whatever the definition gives
+whatever : Fails {Y = ℕ} ReadFault (Ok 5) × Fails {Y = ℕ} OutOfMemory (Err (BadLine 2))
+whatever = (tt, tt)
+
+of_the_device : IsOfDevice ReadFault × IsOfDevice OutOfMemory
+of_the_device = (inl refl, inr refl)
+
+not_of_the_device : IsOfDevice Truncated → ⊥
+not_of_the_device (inl e) = cc
+not_of_the_device (inr e) = cc
 
 -- a line of one byte was taken: it was in the window, or came of a read
 from_the_window : Takes 1 (10 ∷ []) 5 [] 5

@@ -13,3 +13,4 @@ pub mod Rewriting
 pub mod ImageRows
 pub mod TextRows
 pub mod DeviceRows
+pub mod RewritingRows

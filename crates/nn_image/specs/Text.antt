@@ -59,9 +59,12 @@ line_of d = compact_text d ++ feed ∷ []
 abbrev pub row_lines : List (Path × Form) → List ℕ
 row_lines rows = flat_map (λ row. line_of (row_data row)) rows
 
--- the header, each path except the root, which is the first, and the number of those paths
+-- each path except the root, which is the first, and the number of those paths
+abbrev pub body_text : Namespace → List ℕ
+body_text n = row_lines (drop 1 n.rows) ++ line_of (end_data (length n.rows - 1))
+
 unfoldable pub image_text : Namespace → ℕ → List ℕ
-image_text n txid = line_of (header_data n txid) ++ (row_lines (drop 1 n.rows) ++ line_of (end_data (length n.rows - 1)))
+image_text n txid = line_of (header_data n txid) ++ body_text n
 
 -- `fsimage_` and the txid in 19 digits
 unfoldable pub name_text : ℕ → List ℕ

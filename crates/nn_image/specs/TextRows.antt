@@ -18,10 +18,10 @@ use Rattle.nn_image.specs.Image.{IsImage}
 use Rattle.nn_image.specs.Text.{feed}
 use Rattle.nn_image.specs.Reading.{read_image, all_from, rows_from, pieces_of, object_of, value_of, number_in, text_in, flag_in, array_in, path_in, block_of, gathered, blocks_at, numbers_at, replication_in, file_in, form_of, form_in, row_in, profile_in, fields_in}
 
-abbrev lines : List (List ℕ) → List ℕ
+abbrev pub lines : List (List ℕ) → List ℕ
 lines each = flat_map (λ l. l ++ feed ∷ []) each
 
-abbrev header : List ℕ
+abbrev pub header : List ℕ
 header = codes "{\"awaiting\":[],\"image\":\"hdfs-standby\",\"last_block\":1073741824,\"last_gen\":1000,\"profile\":1,\"txid\":5,\"version\":2}"
 
 abbrev dir_a : List ℕ

@@ -10,7 +10,7 @@ ghost use Rattle.nn_tree.specs.Restore.{awaiting_fits, is_issued, rises};
 use crate::fault::ImageFault;
 use nn_model::{FileRow, Form};
 use nn_types::{
-    Block, BlockId, Blocks, GenerationStamp, Length, Path, PathFault, Profile, Replication,
+    Block, BlockId, Blocks, GenerationStamp, Length, Path, PathFault, Profile, Replication, Txid,
 };
 use serde_json::Value;
 use std::alloc::{AllocError, Global};
@@ -70,6 +70,25 @@ fn stamp_in(key: &str, value: &Value) -> Option<GenerationStamp>
 {
     match value.get(key) {
         Some(member) => stamp_of(member),
+        None => None,
+    }
+}
+
+fn txid_of(value: &Value) -> Option<Txid>
+    ensures { result ≡ number_of (view value.now) }
+{
+    match value.as_u64() {
+        Some(n) => Txid::new(n),
+        None => None,
+    }
+}
+
+#[tactic(auto, unfolding(crate::specs::Reading::number_in))]
+fn txid_in(key: &str, value: &Value) -> Option<Txid>
+    ensures { result ≡ number_in key.now (view value.now) }
+{
+    match value.get(key) {
+        Some(member) => txid_of(member),
         None => None,
     }
 }
@@ -277,7 +296,7 @@ pub(crate) struct Header {
     pub last_stamp: GenerationStamp,
     pub awaiting: Vec<BlockId>,
     pub profile: Profile,
-    pub txid: u64,
+    pub txid: Txid,
 }
 
 fn awaiting_fits(last_block: BlockId, ids: &[BlockId]) -> bool
@@ -329,7 +348,7 @@ fn fields_in(alloc: Global, version: u64, value: &Value) -> Result<Option<Header
     let Some(mark) = text_in("image", value) else {
         return Ok(None);
     };
-    let Some(txid) = number_in("txid", value) else {
+    let Some(txid) = txid_in("txid", value) else {
         return Ok(None);
     };
     let Some(last_block) = block_id_in("last_block", value) else {

@@ -19,7 +19,7 @@ use crate::fields::{Header, Object, header_in, number_of, object_of, row_in};
 use crate::lines::{Window, next_line};
 use nn_device::Reader;
 use nn_tree::{Namespace, RestoreFault};
-use nn_types::{Names, Path};
+use nn_types::{Names, Path, Txid};
 use serde_json::Value;
 use std::alloc::{AllocError, Global};
 use std::cmp::Ordering;
@@ -27,11 +27,32 @@ use std::io::Read;
 
 /// Reads an image of version 1 or 2, and gives its namespace and its txid. Version 1 has no profile, and stands for
 /// profile 1. Saved, the two make an image that is read as the same. It reads on to the end, or at most 65,536
-/// bytes after the line of a fault. Each fault but `ReadFault` and `OutOfMemory` is the first one of the whole text all the
-/// same. Beside the namespace it takes a buffer of 65,536 bytes, and one line with its value.
-pub fn load<R: Read>(alloc: Global, reader: &mut Reader<R>) -> Result<(Namespace, u64), ImageFault>
+/// bytes after the line of a fault, and never more than 16,777,216 times. Each fault but `ReadFault` and `OutOfMemory` is
+/// the first one of the whole text all the same. Beside the namespace it takes a buffer of 65,536 bytes, and one line with
+/// its value.
+pub fn load<R: Read>(alloc: Global, reader: &mut Reader<R>) -> Result<(Namespace, Txid), ImageFault>
     ensures ok { IfOk result (λ i. Ends reader.old.left reader.new.left read_image i) }
     ensures limit { IfOk result (λ i. i.1 < 2 ^ 63) }
+    ensures paths { IfOk result (λ i. HasPaths i.0) }
+    ensures again { IfOk result (λ i. read_image (image_text i.0 i.1) ≡ Ok i) }
+    ensures unfailed { OnOk result (reader.new.failed ≡ reader.old.failed) }
+    ensures fault { IfErr result (λ e. Stops reader.old.left e read_image) }
+    ensures noted { IfErr result (λ e. Noted e reader.old.failed reader.new.failed) }
+    ensures reads { reader.new.reads ≤ 2 ^ 24 }
+{
+    let loaded = load_image(alloc, reader);
+    // A reader counts its reads, and is given up before there are more.
+    reader.reads();
+    loaded
+}
+
+fn load_image<R: Read>(
+    alloc: Global,
+    reader: &mut Reader<R>,
+) -> Result<(Namespace, Txid), ImageFault>
+    ensures ok { IfOk result (λ i. Ends reader.old.left reader.new.left read_image i) }
+    ensures limit { IfOk result (λ i. i.1 < 2 ^ 63) }
+    ensures paths { IfOk result (λ i. HasPaths i.0) }
     ensures again { IfOk result (λ i. read_image (image_text i.0 i.1) ≡ Ok i) }
     ensures unfailed { OnOk result (reader.new.failed ≡ reader.old.failed) }
     ensures fault { IfErr result (λ e. Stops reader.old.left e read_image) }

@@ -1,5 +1,5 @@
 //! From an image of any version to one of the version that is written.
-ghost use Rattle.std.specs.Prelude.{◌≡◌, ◌<◌, ◌^◌, IfOk, IfErr};
+ghost use Rattle.std.specs.Prelude.{◌≡◌, ◌<◌, ◌≤◌, ◌^◌, IfOk, IfErr};
 ghost use Rattle.nn_image.specs.Reading.{read_image};
 ghost use Rattle.nn_image.specs.Outcome.{Noted};
 ghost use Rattle.nn_image.specs.Loading.{Stops};
@@ -9,6 +9,7 @@ use crate::fault::RewriteFault;
 use crate::restoring::load;
 use crate::saving::save;
 use nn_device::{Reader, Writer};
+use nn_types::Txid;
 use std::alloc::Global;
 use std::io::{Read, Write};
 
@@ -23,9 +24,10 @@ pub fn rewrite<R: Read, W: Write>(
     alloc: Global,
     reader: &mut Reader<R>,
     writer: &mut Writer<W>,
-) -> Result<u64, RewriteFault>
+) -> Result<Txid, RewriteFault>
     ensures ok { IfOk result (λ txid. Rewrote reader.old reader.new writer.old writer.new txid) }
     ensures limit { IfOk result (λ txid. txid < 2 ^ 63) }
+    ensures reads { reader.new.reads ≤ 2 ^ 24 }
     ensures unread { IfErr result (IfLoad (λ e. Stops reader.old.left e read_image)) }
     ensures noted { IfErr result (IfLoad (λ e. Noted e reader.old.failed reader.new.failed)) }
     ensures untouched { IfErr result (IfLoad (λ e. writer.new ≡ writer.old)) }

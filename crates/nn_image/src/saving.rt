@@ -1,34 +1,38 @@
 //! From a namespace to a writer.
-ghost use Rattle.std.specs.Prelude.{◌≡◌, ◌-◌, false, string_bytes, length, drop, OnOk, IfOk, IfErr};
+ghost use Rattle.std.specs.Prelude.{◌≡◌, false, string_bytes, drop, OnOk, IfOk, IfErr};
 ghost use Rattle.serde_json.specs.View.{view, items_view};
 ghost use Rattle.serde_json.specs.Written.{has_float};
 ghost use Rattle.nn_device.specs.Device.{Took};
 ghost use Rattle.nn_device.specs.Parts.{TookFront};
-ghost use Rattle.nn_image.specs.Text.{line_of, number_items, header_data, head_data, row_lines, end_data, image_text, name_text};
+ghost use Rattle.nn_image.specs.Text.{line_of, number_items, header_data, head_data, body_text, end_data, image_text, name_text};
 ghost use Rattle.nn_image.specs.Saving.{WroteFront};
 
 use crate::fault::SaveFault;
 use crate::row_text::push_row;
 use nn_device::{Unwritten, Writer};
 use nn_tree::{Namespace, Rows};
-use nn_types::{BlockId, GenerationStamp};
+use nn_types::{BlockId, GenerationStamp, Txid};
 use serde_json::{Value, json};
 use std::alloc::{AllocError, Global};
 use std::io::Write;
 
 /// The name of the image of the namespace after this transaction.
-pub fn image_name(alloc: Global, txid: u64) -> Result<String, AllocError>
+pub fn image_name(alloc: Global, txid: Txid) -> Result<String, AllocError>
     ensures { IfOk result (λ name. string_bytes name ≡ name_text txid) }
 {
+    let txid = txid.get();
     format!(in alloc; "fsimage_{txid:019}")
 }
 
 /// Writes the image of a namespace, of version 2, line by line: this takes the memory of one line and of a walk. The txid
-/// is that of the last transaction, or 0; one of 2^63 and more is written, and refused by `load`.
+/// is that of the last transaction, or 0 where there was none.
+///
+/// A write that fails ends it, and so does memory that is refused. The writer has a prefix of the image then, and never all
+/// of it.
 pub fn save<W: Write>(
     alloc: Global,
     namespace: &Namespace,
-    txid: u64,
+    txid: Txid,
     writer: &mut Writer<W>,
 ) -> Result<(), SaveFault>
     ensures ok { OnOk result (Took writer.old writer.new (image_text namespace.now txid)) }
@@ -48,22 +52,20 @@ pub fn save<W: Write>(
 fn put_image<W: Write>(
     alloc: Global,
     namespace: &Namespace,
-    txid: u64,
+    txid: Txid,
     writer: &mut Writer<W>,
 ) -> Result<(), Unwritten>
     ensures ok { OnOk result (Took writer.old writer.new (image_text namespace.now txid)) }
     ensures front { IfErr result (TookFront writer.old writer.new (image_text namespace.now txid)) }
 {
     put_head(alloc, namespace, txid, writer)?;
-    let count = put_rows(alloc, namespace, writer)?;
-    put_end(alloc, count, writer)?;
-    Ok(())
+    put_body(alloc, namespace, writer)
 }
 
 fn put_head<W: Write>(
     alloc: Global,
     namespace: &Namespace,
-    txid: u64,
+    txid: Txid,
     writer: &mut Writer<W>,
 ) -> Result<(), Unwritten>
     ensures ok { OnOk result (Took writer.old writer.new (line_of (header_data namespace.now txid))) }
@@ -75,15 +77,14 @@ fn put_head<W: Write>(
     put_line(alloc, &value, writer)
 }
 
-// The line of each path except the root, and their number.
-fn put_rows<W: Write>(
+// The line of each path except the root, and then that of their number.
+fn put_body<W: Write>(
     alloc: Global,
     namespace: &Namespace,
     writer: &mut Writer<W>,
-) -> Result<u64, Unwritten>
-    ensures ok { OnOk result (Took writer.old writer.new (row_lines (drop 1 namespace.now.rows))) }
-    ensures count { IfOk result (λ count. count ≡ length namespace.now.rows - 1) }
-    ensures front { IfErr result (TookFront writer.old writer.new (row_lines (drop 1 namespace.now.rows))) }
+) -> Result<(), Unwritten>
+    ensures ok { OnOk result (Took writer.old writer.new (body_text namespace.now)) }
+    ensures front { IfErr result (TookFront writer.old writer.new (body_text namespace.now)) }
 {
     let Ok(mut rows) = rows_below_root(namespace) else {
         return Err(Unwritten::OutOfMemory);
@@ -96,7 +97,7 @@ fn put_rows<W: Write>(
             return Err(Unwritten::OutOfMemory);
         };
         let Some(found) = next else {
-            return Ok(count);
+            return put_end(alloc, count, writer);
         };
         line.clear();
         let Ok(()) = push_row(alloc, &mut line, rows.names(), found) else {
@@ -152,7 +153,7 @@ fn line(alloc: Global, value: &Value) -> Result<String, AllocError>
     Ok(text)
 }
 
-fn header_value(alloc: Global, namespace: &Namespace, txid: u64) -> Result<Value, AllocError>
+fn header_value(alloc: Global, namespace: &Namespace, txid: Txid) -> Result<Value, AllocError>
     ensures { IfOk result (λ v. view v ≡ header_data namespace.now txid) }
 {
     let awaiting = namespace.awaiting(alloc)?;
@@ -180,7 +181,7 @@ fn head_value(
     last_stamp: GenerationStamp,
     awaiting: &[BlockId],
     profile: u64,
-    txid: u64,
+    txid: Txid,
 ) -> Result<Value, AllocError>
     ensures { IfOk result (λ v. view v ≡ head_data last_block last_stamp awaiting.now profile txid) }
 {
@@ -188,6 +189,7 @@ fn head_value(
     let version = 2u64;
     let last_block = last_block.get();
     let last_stamp = last_stamp.get();
+    let txid = txid.get();
     json!(in alloc; {"awaiting": ids, "image": "hdfs-standby", "last_block": last_block,
         "last_gen": last_stamp, "profile": profile, "txid": txid, "version": version})
 }

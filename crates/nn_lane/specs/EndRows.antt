@@ -2,12 +2,11 @@
 use Rattle.std.specs.Prelude.{◌≡◌, ℕ, ◌+◌, ◌≤◌, ⊤, Ok, Err, Option, Some, None, true, false, List, [], ◌∷◌, length, refl}
 use Rattle.std.proofs.Common.{ap, sym, inl, inr, ⊎_elim, subst, get_or, true≢false, arith}
 use Rattle.nn_types.specs.declared.report.Message.{Message}
-use Rattle.nn_types.specs.declared.report.Report.{Report}
 use Rattle.nn_types.specs.declared.report.Kind.{Kind}
 use Rattle.nn_types.specs.declared.report.Kind.TheVariants.{Receiving, Received}
 use Rattle.nn_lane.specs.declared.fault.Refusal.TheVariants.{Closed, Exhausted, Full}
 use Rattle.nn_lane.specs.declared.message.Taken.TheVariants as taken
-use Rattle.nn_lane.specs.Ends.{LaneId, Reporting, Taking, node_of, got_of, loads_of, counted, StaysCounted, next_message, Looks, HasPlace, Refuses, Publishes, Gives, LooksOnce, Looked, StartsWith, capacity_of}
+use Rattle.nn_lane.specs.Ends.{LaneId, Reporting, Taking, node_of, got_of, loads_of, counted, StaysCounted, next_message, Looks, Remembers, FindsPlace, HasPlace, Refuses, LooksForClose, Publishes, Gives, LooksOnce, Looked, StartsWith, capacity_of}
 use Rattle.nn_lane.specs.Fault.{number_of}
 
 abbrev message : ℕ → ℕ → ℕ → Kind → Message
@@ -45,41 +44,38 @@ prepared r x = record r { prepared = Some x }
 abbrev taking : LaneId → List Message → ℕ → ℕ → Taking
 taking l got loads seen = record { lane = lane_of_three l; got = got; seen = seen; loads = loads; closed = false }
 
--- a report, which names another DataNode: the message is of the lane's
-abbrev report : Kind → Report
-report kind = record { dn = 7; block = 1073741825; stamp = 1001; len = 5; kind = kind }
-
-numbers_from_one : next_message 3 [] (report Receiving) ≡ first
+numbers_from_one : next_message 3 [] 1073741825 1001 5 Receiving ≡ first
 numbers_from_one = refl
 
-next_number : next_message 3 (first ∷ []) (report Received) ≡ second
+next_number : next_message 3 (first ∷ []) 1073741825 1001 5 Received ≡ second
 next_number = refl
 
 -- ---- A report, where the lane has one place.
 
 first_has_a_place : (l : LaneId) → HasPlace (reporting l [] 0 0) (reporting l (first ∷ []) 1 0)
-first_has_a_place l = (inl (refl, refl, omega arith, omega arith), (refl, refl), omega arith, omega arith)
+first_has_a_place l = ((inl (refl, refl, omega arith, omega arith), omega arith, omega arith), (refl, refl))
 
 -- it was seen before that nothing was taken
 first_has_a_place_unlooked : (l : LaneId) → HasPlace (reporting l [] 1 0) (reporting l (first ∷ []) 1 0)
-first_has_a_place_unlooked l = (inr (refl, refl), (refl, refl), omega arith, omega arith)
+first_has_a_place_unlooked l = ((inr (refl, refl), omega arith, omega arith), (refl, refl))
 
 -- with no look it knows no more than it did
 not_more_places_unlooked : (l : LaneId) → HasPlace (reporting l [] 1 0) (reporting l (first ∷ []) 1 1) → ⊥
 not_more_places_unlooked l h =
-    ⊎_elim (λ (k : Looks (reporting l [] 1 0) (reporting l (first ∷ []) 1 1) 1). let e : 1 ≡ 1 + 1 = k.0 in omega (arith, e)) (λ (k : (1 ≡ 1) × (1 ≡ 0)). let e : 1 ≡ 0 = k.1 in omega (arith, e)) h.0
+    ⊎_elim (λ (k : Looks (reporting l [] 1 0) (reporting l (first ∷ []) 1 1) 1). let e : 1 ≡ 1 + 1 = k.0 in omega (arith, e)) (λ (k : (1 ≡ 1) × (1 ≡ 0)). let e : 1 ≡ 0 = k.1 in omega (arith, e)) h.0.0
 
 second_has_none_yet : (l : LaneId) → HasPlace (reporting l (first ∷ []) 1 0) (reporting l (first ∷ second ∷ []) 2 0) → ⊥
-second_has_none_yet l h = let e = h.2 in omega (arith, e)
+second_has_none_yet l h = let e = h.0.1 in omega (arith, e)
 
 second_has_one_then : (l : LaneId) → HasPlace (reporting l (first ∷ []) 1 0) (reporting l (first ∷ second ∷ []) 2 1)
-second_has_one_then l = (inl (refl, refl, omega arith, omega arith), (refl, refl), omega arith, omega arith)
+second_has_one_then l = ((inl (refl, refl, omega arith, omega arith), omega arith, omega arith), (refl, refl))
 
 none_once_told : (l : LaneId) (r : Reporting) → HasPlace (told (reporting l [] 0 0)) r → ⊥
 none_once_told l r h = true≢false h.1.0
 
--- full: the message has the number that stays free, and in this call its one place was seen taken, and the lane open
-full : (l : LaneId) → Refuses (reporting l (first ∷ []) 1 0) (checked (reporting l (first ∷ []) 2 0)) second (Full second 0)
+-- full: the message has the number that stays free, and in this call its one place was seen taken. Whether the lane is
+-- closed was not looked at
+full : (l : LaneId) → Refuses (reporting l (first ∷ []) 1 0) (reporting l (first ∷ []) 2 0) second (Full second 0)
 full l = (refl, omega arith, (refl, refl), (refl, refl, omega arith, omega arith), refl, refl)
 
 not_with_another_number : (l : LaneId) (r : Reporting) → Refuses (reporting l (first ∷ []) 1 0) r second (Full (message 3 3 1073741825 Received) 0) → ⊥
@@ -91,15 +87,30 @@ not_full_with_one_taken l r why = let e : 1 ≡ 1 + 1 = why.4 in omega (arith, e
 not_full_unless_seen_so : (l : LaneId) → Refuses (reporting l (first ∷ []) 1 0) (reporting l (first ∷ []) 1 0) second (Full second 0) → ⊥
 not_full_unless_seen_so l why = let e : 1 ≡ 1 + 1 = why.3.0 in omega (arith, e)
 
-not_full_unless_seen_open : (l : LaneId) → Refuses (reporting l (first ∷ []) 1 0) (reporting l (first ∷ []) 2 0) second (Full second 0) → ⊥
-not_full_unless_seen_open l why = let e : 0 ≡ 0 + 1 = why.5 in omega (arith, e)
+not_full_with_a_look_for_a_close : (l : LaneId) → Refuses (reporting l (first ∷ []) 1 0) (checked (reporting l (first ∷ []) 2 0)) second (Full second 0) → ⊥
+not_full_with_a_look_for_a_close l why = let e : 0 + 1 ≡ 0 = why.5 in omega (arith, e)
+
+not_full_once_told : (l : LaneId) (r : Reporting) → Refuses (told (reporting l (first ∷ []) 1 0)) r second (Full second 0) → ⊥
+not_full_once_told l r why = true≢false why.2.0
 
 not_exhausted : (l : LaneId) (r : Reporting) → Refuses (reporting l (first ∷ []) 1 0) r second (Exhausted second) → ⊥
 not_exhausted l r why = let e : 1 ≡ 4611686018427387904 = why.1 in omega (arith, e)
 
--- closed: one message was accepted, and the reporter knows it from now on
-closed : (l : LaneId) → Refuses (reporting l (first ∷ []) 1 0) (told (reporting l (first ∷ []) 2 0)) second (Closed second 1)
-closed l = (refl, refl, refl)
+-- closed: one message was accepted and taken, so the second has a place, and the try finds the lane closed
+closed : (l : LaneId) → Refuses (reporting l (first ∷ []) 1 0) (told (reporting l (first ∷ []) 2 1)) second (Closed second 1)
+closed l = (refl, refl, refl, inr (inl (refl, refl, omega arith, omega arith), omega arith, omega arith))
+
+-- told before, at a full lane and with no look
+closed_as_told : (l : LaneId) → Refuses (told (reporting l (first ∷ []) 1 0)) (told (reporting l (first ∷ []) 1 0)) second (Closed second 1)
+closed_as_told l = (refl, refl, refl, inl (refl, (refl, refl)))
+
+not_closed_as_told_with_a_look : (l : LaneId) → Refuses (told (reporting l (first ∷ []) 1 0)) (told (reporting l (first ∷ []) 2 0)) second (Closed second 1) → ⊥
+not_closed_as_told_with_a_look l why = ⊎_elim (λ (h : (true ≡ true) × Remembers (reporting l (first ∷ []) 1 0) (reporting l (first ∷ []) 2 0)). let e : 2 ≡ 1 = h.1.0 in omega (arith, e))
+    (λ (h : FindsPlace (told (reporting l (first ∷ []) 1 0)) (told (reporting l (first ∷ []) 2 0))). let e = h.1 in omega (arith, e)) why.3
+
+-- told of no close before, a reporter finds a closed lane full
+not_closed_where_full : (l : LaneId) → Refuses (reporting l (first ∷ []) 1 0) (told (reporting l (first ∷ []) 2 0)) second (Closed second 1) → ⊥
+not_closed_where_full l why = ⊎_elim (λ (e : (false ≡ true) × Remembers (reporting l (first ∷ []) 1 0) (told (reporting l (first ∷ []) 2 0))). true≢false (sym e.0)) (λ (h : FindsPlace (reporting l (first ∷ []) 1 0) (told (reporting l (first ∷ []) 2 0))). let e = h.1 in omega (arith, e)) why.3
 
 not_closed_with_two : (l : LaneId) (r : Reporting) → Refuses (reporting l (first ∷ []) 1 0) r second (Closed second 2) → ⊥
 not_closed_with_two l r why = let e : 2 ≡ 1 = why.1 in omega (arith, e)
@@ -107,13 +118,37 @@ not_closed_with_two l r why = let e : 2 ≡ 1 = why.1 in omega (arith, e)
 not_closed_untold : (l : LaneId) → Refuses (reporting l (first ∷ []) 1 0) (reporting l (first ∷ []) 2 0) second (Closed second 1) → ⊥
 not_closed_untold l why = true≢false (sym why.2)
 
+-- ---- A look for a close.
+
+sees_it_closed : (l : LaneId) → LooksForClose (reporting l [] 1 0) (told (checked (reporting l [] 1 0))) true
+sees_it_closed l = refl
+
+sees_it_open : (l : LaneId) → LooksForClose (prepared (reporting l [] 1 0) first) (checked (prepared (reporting l [] 1 0) first)) false
+sees_it_open l = refl
+
+-- told before, it does not look again
+told_before : (l : LaneId) → LooksForClose (told (reporting l [] 1 0)) (told (reporting l [] 1 0)) true
+told_before l = (refl, refl)
+
+not_open_once_told : (l : LaneId) (r : Reporting) → LooksForClose (told (reporting l [] 1 0)) r false → ⊥
+not_open_once_told l r h = true≢false (sym h.0)
+
+not_open_unlooked : (l : LaneId) → LooksForClose (reporting l [] 1 0) (reporting l [] 1 0) false → ⊥
+not_open_unlooked l h = let e : 0 ≡ 0 + 1 = ap (λ (r : Reporting). r.checks) h in omega (arith, e)
+
+not_closed_and_untold : (l : LaneId) → LooksForClose (reporting l [] 1 0) (checked (reporting l [] 1 0)) true → ⊥
+not_closed_and_untold l h = true≢false (sym (ap (λ (r : Reporting). r.told) h))
+
 -- ---- A message that is prepared, and then published.
 
 sends_it : (l : LaneId) → Publishes (prepared (reporting l [] 1 0) first) (reporting l (first ∷ []) 1 0) (Some (Ok 1))
 sends_it l = (first, refl, refl, refl, refl, refl, omega arith, (refl, refl))
 
 finds_it_closed : (l : LaneId) → Publishes (prepared (reporting l [] 1 0) first) (told (reporting l [] 1 0)) (Some (Err (Closed first 0)))
-finds_it_closed l = (first, refl, refl, refl, refl, refl, refl, refl)
+finds_it_closed l = (first, refl, refl, refl, refl, refl, refl)
+
+not_sent_once_told : (l : LaneId) (r : Reporting) (n : ℕ) → Publishes (told (prepared (reporting l [] 1 0) first)) r (Some (Ok n)) → ⊥
+not_sent_once_told l r n h = true≢false h.7.0
 
 none_prepared : (l : LaneId) → Publishes (reporting l [] 1 0) (reporting l [] 1 0) None
 none_prepared l = (refl, refl)

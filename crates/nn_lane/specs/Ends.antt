@@ -1,8 +1,8 @@
 -- What contracts see of the two ends of a lane, and what their calls do.
-use Rattle.std.specs.Prelude.{◌≡◌, ◌⊎◌, ℕ, ◌+◌, ◌^◌, ◌<◌, ◌≤◌, Bool, true, false, Result, Ok, Err, Option, Some, None, List, [], ◌∷◌, ◌++◌, length}
+use Rattle.std.specs.Prelude.{◌≡◌, ◌⊎◌, ℕ, ◌+◌, ◌^◌, ◌<◌, ◌≤◌, Bool, true, false, Result, Ok, Err, Option, Some, None, List, [], ◌∷◌, ◌++◌, length, MatchBool}
 use Rattle.atomic_table.specs.Seated.{TableId}
 use Rattle.nn_types.specs.declared.report.Message.{Message}
-use Rattle.nn_types.specs.declared.report.Report.{Report}
+use Rattle.nn_types.specs.declared.report.Kind.{Kind}
 use Rattle.nn_lane.specs.declared.fault.Refusal.{Refusal}
 use Rattle.nn_lane.specs.declared.fault.Refusal.TheVariants.{Closed, Exhausted, Full}
 use Rattle.nn_lane.specs.declared.message.Taken.{Taken}
@@ -63,9 +63,9 @@ StaysCounted e e' = e'.seen ≡ e.seen
 
 -- ---- What the reporter's calls do.
 
--- the report as the next message of this DataNode, which sent these
-abbrev pub next_message : ℕ → List Message → Report → Message
-next_message dn sent x = record { dn = dn; number = length sent + 1; block = x.block; stamp = x.stamp; len = x.len; kind = x.kind }
+-- the next message of this DataNode, which sent these
+abbrev pub next_message : ℕ → List Message → (block stamp len : ℕ) → Kind → Message
+next_message dn sent block stamp len kind = record { dn = dn; number = length sent + 1; block = block; stamp = stamp; len = len; kind = kind }
 
 abbrev pub StaysUntold : Reporting → Reporting → Type 0
 StaysUntold r r' = (r.told ≡ false) × (r'.told ≡ false)
@@ -74,30 +74,43 @@ StaysUntold r r' = (r.told ≡ false) × (r'.told ≡ false)
 abbrev pub Looks : Reporting → Reporting → ℕ → Type 0
 Looks r r' taken = (r'.loads ≡ r.loads + 1) × (r'.seen ≡ taken) × (r.seen ≤ taken) × (taken ≤ length r.sent)
 
--- the reporter looked once, or goes by what it saw when it last did
+-- it did not look, and goes by what it saw when it last did
+abbrev pub Remembers : Reporting → Reporting → Type 0
+Remembers r r' = (r'.loads ≡ r.loads) × (r'.seen ≡ r.seen)
+
+-- it looked once, or did not
 abbrev pub Knows : Reporting → Reporting → Type 0
-Knows r r' = Looks r r' r'.seen ⊎ ((r'.loads ≡ r.loads) × (r'.seen ≡ r.seen))
+Knows r r' = Looks r r' r'.seen ⊎ Remembers r r'
 
 -- the next message has a place, as the reporter saw when it last looked, and a number
+abbrev pub FindsPlace : Reporting → Reporting → Type 0
+FindsPlace r r' = Knows r r' × (length r.sent < r'.seen + capacity_of r.lane) × (length r.sent < 2 ^ 62)
+
 abbrev pub HasPlace : Reporting → Reporting → Type 0
-HasPlace r r' = Knows r r' × StaysUntold r r' × (length r.sent < r'.seen + capacity_of r.lane) × (length r.sent < 2 ^ 62)
+HasPlace r r' = FindsPlace r r' × StaysUntold r r'
 
--- it looked once whether the lane is closed
-abbrev pub Checks : Reporting → Reporting → Type 0
-Checks r r' = r'.checks ≡ r.checks + 1
+-- it did not look whether the lane is closed
+abbrev pub StaysUnchecked : Reporting → Reporting → Type 0
+StaysUnchecked r r' = r'.checks ≡ r.checks
 
--- the message x was refused so: it comes back, 43 comes exactly where the lane has carried all that it can, and 41 where
--- all its places were taken when the reporter looked, and it saw no close when it looked for one
+-- the message x was refused so: it comes back. 42 comes where the reporter was told of the close before the call, or where it
+-- knew of a place and found the lane closed when it tried to send x; 43 exactly where the lane has carried all that it can;
+-- and 41 where all its places were taken when the reporter looked. Whether a full lane is closed was not looked at
 abbrev pub Refuses : Reporting → Reporting → Message → Refusal → Type 0
-Refuses r r' x (Closed m n) = (m ≡ x) × (n ≡ length r.sent) × (r'.told ≡ true)
-Refuses r r' x (Exhausted m) = (m ≡ x) × (length r.sent ≡ 2 ^ 62) × StaysUntold r r'
-Refuses r r' x (Full m n) = (m ≡ x) × (length r.sent < 2 ^ 62) × StaysUntold r r' × Looks r r' n × (length r.sent ≡ n + capacity_of r.lane) × Checks r r'
+Refuses r r' x (Closed m n) = (m ≡ x) × (n ≡ length r.sent) × (r'.told ≡ true) × (((r.told ≡ true) × Remembers r r') ⊎ FindsPlace r r')
+Refuses r r' x (Exhausted m) = (m ≡ x) × (length r.sent ≡ 2 ^ 62) × StaysUntold r r' × Remembers r r'
+Refuses r r' x (Full m n) = (m ≡ x) × (length r.sent < 2 ^ 62) × StaysUntold r r' × Looks r r' n × (length r.sent ≡ n + capacity_of r.lane) × StaysUnchecked r r'
 
--- the prepared message was sent, or the lane was closed before
+-- it looked once whether the lane is closed, and knows from now on what it saw; told before, it did not look. All else is as
+-- it was
+abbrev pub LooksForClose : Reporting → Reporting → Bool → Type 0
+LooksForClose r r' closed = MatchBool r.told ((closed ≡ true) × (r' ≡ r)) (r' ≡ record r { checks = r.checks + 1; told = closed })
+
+-- the prepared message was sent, or the lane was closed before: the reporter was told of it before, or is now
 abbrev pub Publishes : Reporting → Reporting → Option (Result ℕ Refusal) → Type 0
 Publishes r r' None = (r.prepared ≡ None) × (r' ≡ r)
 Publishes r r' (Some (Ok n)) = (x : Message) × (r.prepared ≡ Some x) × (r'.sent ≡ r.sent ++ x ∷ []) × (x.number ≡ n) × (x.dn ≡ r.lane.node) × (n ≡ length r'.sent) × (n ≤ 2 ^ 62) × StaysUntold r r'
-Publishes r r' (Some (Err e)) = (x : Message) × (r.prepared ≡ Some x) × (r'.sent ≡ r.sent) × (x.number ≡ length r.sent + 1) × (x.dn ≡ r.lane.node) × (e ≡ Closed x (length r.sent)) × (r.told ≡ false) × (r'.told ≡ true)
+Publishes r r' (Some (Err e)) = (x : Message) × (r.prepared ≡ Some x) × (r'.sent ≡ r.sent) × (x.number ≡ length r.sent + 1) × (x.dn ≡ r.lane.node) × (e ≡ Closed x (length r.sent)) × (r'.told ≡ true)
 
 -- ---- What the other end's calls do.
 

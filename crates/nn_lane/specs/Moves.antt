@@ -39,7 +39,7 @@ open_front v = 2 * length v.sender.sent
 -- which step of its seat a call makes: each is one atomic operation on a word of the table
 pub data SeatStep : Type 0 where
   SeeTaken : SeatStep  -- `prepare` loads `taken`, where it remembers no place
-  SeeClosed : SeatStep  -- and loads `front`, where it found none
+  SeeClosed : SeatStep  -- `is_closed` loads `front`, unless it was told before
   Send : Message → SeatStep  -- `publish` compare-exchanges `front`
   GiveBack : SeatStep  -- `meet` loads `taken` with the reporter's seat
   SeeFront : SeatStep  -- `take` loads `front`, where it remembers no message

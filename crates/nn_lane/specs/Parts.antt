@@ -17,12 +17,10 @@ KnowsNext None seat taken = (seat.me.0.taker.seen ≤ taken) × (seat.me.1 ≡ [
 KnowsNext (Some x) seat taken = (taken < seat.me.0.taker.seen) × (seat.me.1 ≡ (taken % seat.table_id.slots, x) ∷ []) × (x.number ≡ taken + 1) × (x.dn ≡ seat.me.0.taker.node)
 
 -- what a look of an end leaves as it was, and what it changes
-abbrev pub SenderKeeps : Seat Message View → Seat Message View → Type 0
-SenderKeeps s s' = (s'.table_id ≡ s.table_id) × (s'.me.0.sends ≡ s.me.0.sends) × (s'.me.0.takes ≡ s.me.0.takes)
-    × (s'.me.0.sender.node ≡ s.me.0.sender.node) × (s'.me.0.sender.sent ≡ s.me.0.sender.sent)
-
 abbrev pub SenderStays : Seat Message View → Seat Message View → Type 0
-SenderStays s s' = SenderKeeps s s' × (s'.me.0.sender.checks ≡ s.me.0.sender.checks) × (s'.me.0.sender.told ≡ s.me.0.sender.told)
+SenderStays s s' = (s'.table_id ≡ s.table_id) × (s'.me.0.sends ≡ s.me.0.sends) × (s'.me.0.takes ≡ s.me.0.takes)
+    × (s'.me.0.sender.node ≡ s.me.0.sender.node) × (s'.me.0.sender.sent ≡ s.me.0.sender.sent)
+    × (s'.me.0.sender.checks ≡ s.me.0.sender.checks) × (s'.me.0.sender.told ≡ s.me.0.sender.told)
 
 abbrev pub SenderLooks : Seat Message View → Seat Message View → ℕ → Type 0
 SenderLooks s s' n = (s'.me.0.sender.loads ≡ s.me.0.sender.loads + 1) × (s'.me.0.sender.seen ≡ n) × (s.me.0.sender.seen ≤ n) × (n ≤ length s.me.0.sender.sent)
@@ -44,7 +42,7 @@ TakerRemembers s s' = (s'.me.0.taker.loads ≡ s.me.0.taker.loads) × (s'.me.0.t
 abbrev pub Ready : Option Message → Seat Message View → ℕ → Type 0
 Ready None seat accepted = Unit {0}
 Ready (Some x) seat accepted = (seat.me.0.sender.out ≡ true) × (seat.me.1 ≡ (accepted % seat.table_id.slots, x) ∷ []) × (x.number ≡ accepted + 1) × (x.dn ≡ seat.me.0.sender.node)
-    × (accepted < 2 ^ 62) × (seat.me.0.sender.told ≡ false)
+    × (accepted < 2 ^ 62)
 
 pub record ReporterOk (table : TableId) (seat : Seat Message View) (dn accepted limit : ℕ) (told : Bool) (prepared : Option Message) : Type 0 where
   pub seated : seat.table_id ≡ table

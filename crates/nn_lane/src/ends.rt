@@ -1,8 +1,8 @@
 //! The two ends of a lane.
 ghost use Rattle.std.specs.Prelude.{◌≡◌, ◌≤◌, ◌<◌, ◌^◌, ◌+◌, ◌∷◌, ◌++◌, ◌⊎◌, length, true, false, [], IfOk, IfErr, Some, None};
-ghost use Rattle.nn_lane.specs.Ends.{capacity_of, next_message, HasPlace, Refuses, Publishes, Gives, Looked, StartsWith};
+ghost use Rattle.nn_lane.specs.Ends.{capacity_of, next_message, HasPlace, Refuses, StaysUnchecked, LooksForClose, Publishes, Gives, Looked, StartsWith};
 ghost use Rattle.nn_types.specs.declared.report.Message.{Message};
-ghost use Rattle.nn_lane.specs.Parts.{KnowsRoom, KnowsNext, SenderKeeps, SenderStays, SenderLooks, SenderRemembers, TakerStays, TakerLooks, TakerRemembers};
+ghost use Rattle.nn_lane.specs.Parts.{KnowsRoom, KnowsNext, SenderStays, SenderLooks, SenderRemembers, TakerStays, TakerLooks, TakerRemembers};
 
 use crate::fault::Refusal;
 use crate::message::{Met, Taken};
@@ -11,7 +11,7 @@ use crate::plays::{
 };
 use crate::view::View;
 use atomic_table::{Seat, Table};
-use nn_types::{BlockId, GenerationStamp, Kind, Length, Message, Report};
+use nn_types::{BlockId, GenerationStamp, Kind, Length, Message};
 use std::alloc::{AllocError, Global};
 use std::marker::Model;
 use std::sync::Arc;
@@ -104,48 +104,36 @@ fn places(table: &LaneTable, seat: &mut LaneSeat, accepted: u64, limit: u64) -> 
     Ok(taken + capacity)
 }
 
-// Whether the lane is closed: a look of a reporter that found no place, and was told of no close.
-fn is_closed(table: &LaneTable, seat: &mut LaneSeat, accepted: u64) -> bool
-    requires table { (seat.old.table_id ≡ table.now.shared.table_id) × (table.now.shared.table_id.words ≡ 32) }
-    requires seat { (seat.old.me.0.sends ≡ true) × (seat.old.me.0.takes ≡ false) × (accepted ≡ length seat.old.me.0.sender.sent) × (accepted ≤ 2 ^ 62) }
-    requires untold { seat.old.me.0.sender.told ≡ false }
-    requires none_out { (seat.old.me.0.sender.out ≡ false) × (seat.old.me.1 ≡ []) }
-    ensures keeps { SenderKeeps seat.old seat.new }
-    ensures remembers { SenderRemembers seat.old seat.new }
-    ensures none_out { (seat.new.me.0.sender.out ≡ false) × (seat.new.me.1 ≡ []) }
-    ensures looked { seat.new.me.0.sender.checks ≡ seat.old.me.0.sender.checks + 1 }
-    ensures told { seat.new.me.0.sender.told ≡ result }
-{
-    let front = table.shared.load::<SeeClosed>(seat, FRONT);
-    if front == 2 * accepted {
-        return false;
-    }
-    true
-}
-
 impl Reporter {
-    /// Writes a report into its place in the lane, as the message that comes next; `publish` sends it from there. It
-    /// replaces one that was prepared before. The report's own DataNode is not read: the lane has one. O(1); it never waits.
+    /// Writes what a message carries into its place in the lane, as the message that comes next; `publish` sends it from
+    /// there. It replaces one that was prepared before. O(1); it never waits.
     ///
-    /// `Closed` where this end was told that the lane is closed, then `Exhausted` at 2^62 messages. Where all places were
-    /// taken it looks whether the lane is closed: then `Closed`, and else `Full`. After a refusal nothing is prepared. It
-    /// looks at the other end only if it remembers no place, so `Full` comes of two looks in this call.
-    pub fn prepare(&mut self, report: &Report) -> Result<(), Refusal>
+    /// `Closed` where this end was told before that the lane is closed, then `Exhausted` at 2^62 messages, then `Full` where
+    /// all places were taken, whether the lane is closed or not: `is_closed` tells. After a refusal nothing is prepared. It
+    /// looks at the other end only if it remembers no place, so `Full` comes of a look in this call.
+    pub fn prepare(
+        &mut self,
+        block: BlockId,
+        stamp: GenerationStamp,
+        len: Length,
+        kind: Kind,
+    ) -> Result<(), Refusal>
         ensures lane { self.new.lane ≡ self.old.lane }
-        ensures same { self.new.sent ≡ self.old.sent }
-        ensures ok { IfOk result (λ _. (self.new.prepared ≡ Some (next_message self.old.lane.node self.old.sent report.now)) × HasPlace self.old self.new) }
-        ensures refused { IfErr result (λ e. (self.new.prepared ≡ None) × Refuses self.old self.new (next_message self.old.lane.node self.old.sent report.now) e) }
+        ensures same { (self.new.sent ≡ self.old.sent) × (self.new.told ≡ self.old.told) × StaysUnchecked self.old self.new }
+        ensures ok { IfOk result (λ _. (self.new.prepared ≡ Some (next_message self.old.lane.node self.old.sent block stamp len kind)) × HasPlace self.old self.new) }
+        ensures refused { IfErr result (λ e. (self.new.prepared ≡ None) × Refuses self.old self.new (next_message self.old.lane.node self.old.sent block stamp len kind) e) }
     {
         let accepted = self.accepted;
         let message = Message {
             dn: self.dn,
             number: accepted + 1,
-            block: report.block,
-            stamp: report.stamp,
-            len: report.len,
-            kind: report.kind,
+            block,
+            stamp,
+            len,
+            kind,
         };
         if self.told {
+            self.prepared = None;
             return Err(Refusal::Closed { message, accepted });
         }
         if accepted >= MAX_MESSAGES {
@@ -154,13 +142,7 @@ impl Reporter {
         let table: &LaneTable = &self.table;
         match places(table, &mut self.seat, accepted, self.limit) {
             Ok(limit) => self.limit = limit,
-            Err(taken) => {
-                if is_closed(table, &mut self.seat, accepted) {
-                    self.told = true;
-                    return Err(Refusal::Closed { message, accepted });
-                }
-                return Err(Refusal::Full { message, taken });
-            }
+            Err(taken) => return Err(Refusal::Full { message, taken }),
         }
         let slot = (accepted % table.slot_count() as u64) as usize;
         let copy = message;
@@ -172,22 +154,26 @@ impl Reporter {
     /// Sends the message that is prepared, and answers its number; `None` where none is. O(1); it tries once and never
     /// waits.
     ///
-    /// `Closed` where the other end closed the lane meanwhile. Afterwards nothing is prepared.
+    /// `Closed` where the other end closed the lane meanwhile: told of it before, by `is_closed`, it does not try.
+    /// Afterwards nothing is prepared.
     pub fn publish(&mut self) -> Option<Result<u64, Refusal>>
         ensures lane { self.new.lane ≡ self.old.lane }
-        ensures after { (self.new.prepared ≡ None) × (self.new.seen ≡ self.old.seen) × (self.new.loads ≡ self.old.loads) }
+        ensures after { (self.new.prepared ≡ None) × (self.new.seen ≡ self.old.seen) × (self.new.loads ≡ self.old.loads) × StaysUnchecked self.old self.new }
         ensures publishes { Publishes self.old self.new result }
     {
         let Some(message) = self.prepared else {
             return None;
         };
+        self.prepared = None;
         let accepted = self.accepted;
+        if self.told {
+            return Some(Err(Refusal::Closed { message, accepted }));
+        }
         let front = 2 * accepted;
         let found = self
             .table
             .shared
             .compare_exchange_with::<Accept>(&mut self.seat, FRONT, front, front + 2, &message);
-        self.prepared = None;
         if found != front {
             self.told = true;
             return Some(Err(Refusal::Closed { message, accepted }));
@@ -196,21 +182,46 @@ impl Reporter {
         Some(Ok(accepted + 1))
     }
 
-    /// Sends one report, and answers its number as a message: messages are counted from 1. It is `prepare`, and then `publish`.
-    /// O(1); it never waits.
+    /// Sends one message, and answers its number: messages are counted from 1. It is `prepare`, and then `publish`. O(1); it
+    /// never waits.
     ///
-    /// `Closed` where the lane is closed, then `Exhausted` at 2^62 messages, then `Full` where all places were taken. After a
-    /// refusal what was sent is as it was, and the message comes back with the number that it would have had.
-    pub fn report(&mut self, report: &Report) -> Result<u64, Refusal>
-        ensures lane { (self.new.lane ≡ self.old.lane) × (self.new.prepared ≡ None) }
-        ensures ok { IfOk result (λ n. (self.new.sent ≡ self.old.sent ++ next_message self.old.lane.node self.old.sent report.now ∷ []) × (n ≡ length self.new.sent) × (n ≤ 2 ^ 62) × HasPlace self.old self.new) }
-        ensures refused { IfErr result (λ e. (self.new.sent ≡ self.old.sent) × Refuses self.old self.new (next_message self.old.lane.node self.old.sent report.now) e) }
+    /// `Closed` where this end was told before that the lane is closed; then `Exhausted` at 2^62 messages; then `Full` where
+    /// all places were taken, whether the lane is closed or not: `is_closed` tells; and `Closed` where the try to send finds
+    /// the lane closed. After a refusal what was sent is as it was, and the message comes back with the number that it would
+    /// have had.
+    pub fn report(
+        &mut self,
+        block: BlockId,
+        stamp: GenerationStamp,
+        len: Length,
+        kind: Kind,
+    ) -> Result<u64, Refusal>
+        ensures lane { (self.new.lane ≡ self.old.lane) × (self.new.prepared ≡ None) × StaysUnchecked self.old self.new }
+        ensures ok { IfOk result (λ n. (self.new.sent ≡ self.old.sent ++ next_message self.old.lane.node self.old.sent block stamp len kind ∷ []) × (n ≡ length self.new.sent) × (n ≤ 2 ^ 62) × HasPlace self.old self.new) }
+        ensures refused { IfErr result (λ e. (self.new.sent ≡ self.old.sent) × Refuses self.old self.new (next_message self.old.lane.node self.old.sent block stamp len kind) e) }
     {
-        self.prepare(report)?;
+        self.prepare(block, stamp, len, kind)?;
         match self.publish() {
             Some(answer) => answer,
             None => unreachable!(),
         }
+    }
+
+    /// Whether the lane is closed: one look at the other end, unless this end was told before. From then on it is told, and
+    /// each message is refused. O(1); it never waits. For a reporter that finds the lane full: `Full` says nothing of a
+    /// close.
+    ///
+    /// `false` says no more than that no close was seen in this call. A message that is prepared stays so: after a `true`
+    /// `publish` answers `Closed` for it, with no try.
+    pub fn is_closed(&mut self) -> bool
+        ensures { LooksForClose self.old self.new result }
+    {
+        if self.told {
+            return true;
+        }
+        let front = self.table.shared.load::<SeeClosed>(&mut self.seat, FRONT);
+        self.told = front != 2 * self.accepted;
+        self.told
     }
 }
 

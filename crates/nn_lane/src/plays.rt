@@ -23,7 +23,7 @@ impl Play<Message, View> for SeeTaken {
     ghost then = { saw_taken };
 }
 
-// It found no place, and loads `front`: it is told where the lane is closed.
+// It loads `front`: where the lane is closed, it is told.
 pub struct SeeClosed;
 
 impl Play<Message, View> for SeeClosed {

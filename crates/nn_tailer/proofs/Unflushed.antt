@@ -1,5 +1,5 @@
 -- Before its flush a standby adds no event of one, and the flush adds one for each item that it held.
-use Rattle.std.proofs.Common.{◌≡◌, true, false, cond, List, [], ◌∷◌, ◌++◌, map, length, count_by, filter, refl, sym, ap, ◌∙◌, subst}
+use Rattle.std.proofs.Common.{◌≡◌, true, false, cond, List, [], ◌∷◌, ◌++◌, map, length, count_by, refl, sym, ap, ◌∙◌, subst}
 use Rattle.std.proofs.lemmas.List.Sums.{length-filter}
 use Rattle.nn_types.specs.declared.report.Message.{Message}
 use Rattle.nn_types.specs.declared.tx.Tx.{Tx}
@@ -11,7 +11,7 @@ use Rattle.nn_model.specs.Stands.{StandbyState}
 use Rattle.nn_model.proofs.Events.{any-append}
 use Rattle.nn_postponed.specs.Queues.{queued}
 use Rattle.nn_postponed.specs.Release.{freed}
-use Rattle.nn_shadow.specs.Calls.{is_due_in, processing, applied_to, waits, taken_in, all_taken_in, items_added, received, flushed}
+use Rattle.nn_shadow.specs.Calls.{is_due_in, processing, waits, taken_in, all_taken_in, items_added, flushed}
 use Rattle.nn_shadow.specs.Contents.{Contents, standby_of}
 use Rattle.nn_shadow.proofs.Standings.{flush_tells_each}
 use Rattle.nn_tailer.specs.Shadows.{ShowsSame, IsApplied, IsHanded, IsFlushed}

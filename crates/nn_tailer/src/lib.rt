@@ -8,10 +8,10 @@
 
 mod fault;
 mod laws;
-mod restart;
+mod refused;
 mod standby;
 
 pub use fault::{PromoteFault, StepFault};
 pub use laws::a_restart_goes_on;
-pub use restart::RestartFault;
+pub use refused::{ImageRefused, NewFault};
 pub use standby::{Active, Choice, Standby, Stepped};

@@ -14,6 +14,7 @@ mod log;
 mod promote;
 
 use crate::fault::StepFault;
+use crate::refused::NewFault;
 use crate::standby::lanes::close_all;
 use nn_lane::LaneEnd;
 use nn_segment::{Cursor, SegmentSource};
@@ -86,24 +87,20 @@ impl Model for Standby {
 impl Standby {
     /// A standby over these lanes, of DataNodes 1, 2 and so on, before the first transaction: its namespace is the root
     /// alone. Where memory is refused the ends come back.
-    pub fn new(
-        alloc: Global,
-        ends: Vec<LaneEnd>,
-        settings: Settings,
-    ) -> Result<Standby, Vec<LaneEnd>>
+    pub fn new(alloc: Global, ends: Vec<LaneEnd>, settings: Settings) -> Result<Standby, NewFault>
         requires some { 1 ≤ length ends.items }
         requires few { length ends.items ≤ 256 }
         requires fresh { AreNew 1 ends.items }
         ensures ok { IfOk result (λ x. IsNew ends.items x) }
         ensures settings { IfOk result (λ x. (x.shadow.table.min ≡ settings.min) × (x.shadow.permille ≡ settings.permille)) }
-        ensures err { IfErr result (λ back. back ≡ ends) }
+        ensures err { IfErr result (λ fault. fault.ends ≡ ends) }
     {
         let lanes = ends.len();
         let Ok(undelivered) = all_delivered(alloc, lanes) else {
-            return Err(ends);
+            return Err(NewFault { ends });
         };
         let Ok(shadow) = Shadow::new(alloc, lanes as u16, settings) else {
-            return Err(ends);
+            return Err(NewFault { ends });
         };
         Ok(Standby {
             shadow,

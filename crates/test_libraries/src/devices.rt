@@ -2,6 +2,7 @@
 use nn_device::{Reader, Writer};
 use nn_image::{RewriteFault, SaveFault, load, rewrite, save};
 use nn_tree::Namespace;
+use nn_types::Txid;
 use std::alloc::Global;
 use std::io;
 use std::io::{Read, Write};
@@ -165,7 +166,7 @@ fn failing_writers(rt: HostRuntime) -> Result<(), Fail> {
 }
 
 // Each line is written on its own, so many bytes a time.
-fn stops(rt: &impl Abort, alloc: Global, namespace: &Namespace, txid: u64, width: usize) {
+fn stops(rt: &impl Abort, alloc: Global, namespace: &Namespace, txid: Txid, width: usize) {
     let mut writes = 0u64;
     for line in OPEN_FILE.split_inclusive('\n') {
         writes = writes.saturating_add(writes_of(line.len(), width));
@@ -197,7 +198,7 @@ fn writes_of(len: usize, width: usize) -> u64 {
     writes
 }
 
-fn save_stops(rt: &impl Abort, alloc: Global, namespace: &Namespace, txid: u64, writer: Stopping) {
+fn save_stops(rt: &impl Abort, alloc: Global, namespace: &Namespace, txid: Txid, writer: Stopping) {
     let mut writer = Writer::new(writer);
     let told = match save(alloc, namespace, txid, &mut writer) {
         Err(SaveFault::WriteFault { written }) => written,

@@ -7,7 +7,7 @@ use crate::values::{replication, stamp};
 use nn_device::{Reader, Writer};
 use nn_image::{load, save};
 use nn_tree::{Found, Namespace};
-use nn_types::{Block, Blocks, Edit, Path};
+use nn_types::{Block, Blocks, Edit, Path, Txid};
 use std::alloc::Global;
 use std::process::Abort;
 use std::test::Fail;
@@ -183,14 +183,17 @@ fn saved_again(rt: &impl Abort, alloc: Global, saved: &[u8]) -> Result<Vec<u8>, 
     let Ok((loaded, txid)) = load(alloc, &mut Reader::new(saved)) else {
         return Err(Fail::new("not loaded"));
     };
-    assert_eq!(rt; txid, PATHS);
+    assert_eq!(rt; txid.get(), PATHS);
     image_of(alloc, &loaded)
 }
 
 // The image, with as many transactions as there are paths.
 fn image_of(alloc: Global, namespace: &Namespace) -> Result<Vec<u8>, Fail> {
+    let Some(txid) = Txid::new(PATHS) else {
+        return Err(Fail::new("no txid"));
+    };
     let mut image = Writer::new(Vec::new(alloc));
-    let Ok(()) = save(alloc, namespace, PATHS, &mut image) else {
+    let Ok(()) = save(alloc, namespace, txid, &mut image) else {
         return Err(Fail::new("not saved"));
     };
     Ok(image.into_inner())

@@ -5,6 +5,7 @@
 //! no call, and of one for which memory does not suffice. Each script begins with nothing held, an empty table, no lane,
 //! no standby, the root alone and an empty text.
 mod call;
+mod faults;
 mod files;
 mod held;
 mod lane;
@@ -107,6 +108,7 @@ fn answers(subjects: &mut Subjects, call: &mut Call<'_>, want: &str) -> bool {
         || lane::play(&mut subjects.lane, call)
         || text::play(&mut subjects.text, call)
         || files::change(&mut subjects.files, &mut subjects.text, call)
+        || faults::play(call)
         || standby::play(&mut subjects.tailing, &mut subjects.text, call);
     if call.failed || !known {
         call.say("?");

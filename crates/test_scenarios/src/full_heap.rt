@@ -4,12 +4,14 @@
 //! For each call it prints whether it was refused memory, and whether it then left everything as it was and succeeded
 //! later. Where the heap is left as it is, a call that is refused is made again, three times at most, and its line says
 //! `done`; if memory is still refused, that is the program's fault.
+mod checkpoint;
 mod engine;
 mod heap;
 mod held;
 mod image;
 mod lines;
 mod namespace;
+mod restore;
 mod scenario;
 mod shadow;
 mod table;
@@ -43,6 +45,7 @@ fn lines_of(alloc: Global, is_ample: bool, text: &[u8]) -> Result<Lines, Halt> {
     let mut lines = Lines::new(alloc, is_ample);
     make_calls(alloc, is_ample, settings, &scenario, &mut lines)?;
     tailer::follow_lanes(alloc, is_ample, settings, text, &mut lines)?;
+    checkpoint::write_checkpoint(alloc, is_ample, settings, &scenario, &mut lines)?;
     engine::run_scenario(alloc, is_ample, settings, &mut lines)?;
     Ok(lines)
 }
@@ -56,6 +59,7 @@ fn make_calls(
     lines: &mut Lines,
 ) -> Result<(), Halt> {
     namespace::apply_log(alloc, is_ample, scenario, lines)?;
+    restore::restore_paths(alloc, is_ample, scenario, lines)?;
     table::change_table(alloc, is_ample, settings, lines)?;
     held::hold_messages(alloc, is_ample, lines)?;
     shadow::follow_log(alloc, is_ample, settings, scenario, lines)?;

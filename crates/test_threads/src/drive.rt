@@ -4,7 +4,9 @@ ghost use Rattle.nn_tailer.specs.Public.{AreNew};
 ghost use Rattle.nn_drive.specs.Driven.{AreLanes};
 
 use crate::sources::{AT_ANY_TIME, FailsOnce, Pace, Waiting, Watched, new_watched};
-use crate::values::{FIRST, Shared, TWO_MARKS, TWO_MORE, Text, log_of, report_of};
+use crate::values::{
+    BEHIND_TWO_MARKS, FIRST, Shared, TWO_MARKS, TWO_MORE, Text, log_of, report_of,
+};
 use nn_device::Reader;
 use nn_drive::{ReportSource, drive, with_lanes};
 use nn_lane::{LaneEnd, Reporter};
@@ -31,6 +33,8 @@ struct Driven {
     // The log that the standby was promoted over before, or stopped by; and whether the lanes are closed when it begins.
     before: &'static [Text],
     closed: bool,
+    // The image that the standby starts from, if there is one.
+    image: Option<&'static [u8]>,
     log: &'static [Text],
     pace: Pace,
     // The log's call that fails, from 0.
@@ -50,6 +54,7 @@ const PLAIN: Driven = Driven {
     counts: 0,
     before: &[],
     closed: false,
+    image: None,
     log: &[TWO_MARKS],
     pace: AT_ANY_TIME,
     fails_at: u64::MAX,
@@ -99,6 +104,38 @@ const GATED_REPORTS: Driven = Driven {
     end: Ok((2, 10)),
     came: 1,
     ..PLAIN
+};
+
+// With few workers, with some and with many all reports are processed.
+const WORKERS_3: Driven = Driven {
+    name: "3 workers",
+    sources: 3,
+    reports: 5,
+    end: Ok((2, 15)),
+    ..PLAIN
+};
+
+const WORKERS_17: Driven = Driven {
+    name: "17 workers",
+    sources: 17,
+    end: Ok((2, 85)),
+    ..WORKERS_3
+};
+
+const WORKERS_100: Driven = Driven {
+    name: "100 workers",
+    sources: 100,
+    end: Ok((2, 500)),
+    ..WORKERS_3
+};
+
+// A standby that starts from an image gets the log behind it.
+const FROM_AN_IMAGE: Driven = Driven {
+    name: "from an image",
+    image: Some(BEHIND_TWO_MARKS),
+    log: &[TWO_MORE],
+    end: Ok((4, 85)),
+    ..WORKERS_17
 };
 
 // As many workers as there can be: none is dropped, and each is asked from one thread.
@@ -165,6 +202,10 @@ const DRIVES: &[Driven] = &[
     AT_ONCE,
     SLOW_LOG,
     GATED_REPORTS,
+    WORKERS_3,
+    WORKERS_17,
+    WORKERS_100,
+    FROM_AN_IMAGE,
     WORKERS_256,
     FAILS_AT_ONCE,
     FAILS_AT_ITS_END,
@@ -208,7 +249,7 @@ fn end_of<R: Threads + Wait + Sync>(
 ) -> Option<Result<(u64, u64), u8>> {
     let sources = sources_of(alloc, driven, shared)?;
     let log = new_watched(alloc, shared, driven.log, driven.fails_at, driven.pace)?;
-    let (workers, mut standby) = laned(alloc, sources, 2, None, driven.before)?;
+    let (workers, mut standby) = laned(alloc, sources, 2, driven.image, driven.before)?;
     begin(&workers, &mut standby, driven.closed);
     Some(end_over(rt, alloc, workers, standby, log))
 }

@@ -1,10 +1,10 @@
 //! What no clause of a feed says: it goes on, it is full at four, and a feeder that is gone tells the other end.
-use crate::sources::{AT_ANY_TIME, FailsOnce, Pace, Watched, new_watched};
-use crate::values::{Shared, TWO_MARKS, Text, log_of, reaches};
+use crate::sources::{AT_ANY_TIME, FailsOnce, Pace, new_watched};
+use crate::values::{Shared, TWO_MARKS, Text, log_of, marks, reaches};
 use nn_feed::{
     Delivered, FeedFault, Feeder, FeederExit, Refusal, feed, meet, run_feeder, run_thread,
 };
-use nn_segment::{Item, SegmentSource, SourceFault};
+use nn_segment::{Item, Parsed, SegmentSource, SourceFault};
 use std::alloc::Global;
 use std::process::Abort;
 use std::sync::atomic::{AtomicU64, Ordering};
@@ -46,8 +46,8 @@ struct Fed {
 }
 
 // Each segment goes through the feed while its source waits for that: neither end works before the other.
-const GATED: Fed = Fed {
-    name: "gated",
+const GATED_FEED: Fed = Fed {
+    name: "gated feed",
     times: 1,
     log: &[TWO_MARKS; 9],
     pace: Pace {
@@ -68,7 +68,7 @@ const FAST_READER: Fed = Fed {
     times: 100,
     log: &[TWO_MARKS; 9],
     pace: AT_ANY_TIME,
-    ..GATED
+    ..GATED_FEED
 };
 
 // The feeder waits for the reader, as a rule. No send fails.
@@ -114,7 +114,7 @@ const LEFT_WHILE_FULL: Fed = Fed {
 };
 
 const FEEDS: &[Fed] = &[
-    GATED,
+    GATED_FEED,
     FAST_READER,
     SLOW_READER,
     FAILS_AT_SECOND,
@@ -163,7 +163,7 @@ fn put_and_got<R: Threads + Wait + Sync>(
     ))
 }
 
-fn put_by(ran: FeederExit<Watched>) -> Result<u64, u8> {
+fn put_by(ran: FeederExit<impl SegmentSource + Drop>) -> Result<u64, u8> {
     let FeederExit { source, outcome } = ran;
     drop(source);
     match outcome {
@@ -242,6 +242,57 @@ fn put_when_full(shared: &Shared) -> u64 {
         thread::yield_now();
     }
     shared.calls.load(Ordering::SeqCst).saturating_sub(1)
+}
+
+// ---- A long log.
+
+const SEGMENTS: u64 = 10_000;
+
+// Each segment comes once, in its turn.
+#[test]
+fn many_segments(rt: HostRuntime) {
+    assert_eq!(rt;
+        put_and_followed(&rt, rt.alloc()),
+        Some((Ok(SEGMENTS), SEGMENTS))
+    );
+}
+
+// How many segments were put before End, and how many were got in order before it.
+fn put_and_followed<R: Threads + Wait + Sync>(
+    rt: &R,
+    alloc: Global,
+) -> Option<(Result<u64, u8>, u64)> {
+    let source = FailsOnce::new(marks(alloc, SEGMENTS)?, u64::MAX);
+    let Ok((feeder, end)) = feed(rt, alloc) else {
+        return None;
+    };
+    Some(join(
+        rt,
+        || put_by(run_thread(rt, source, feeder)),
+        || follow(end),
+    ))
+}
+
+// How many segments came before End or a fault, or before one that does not begin where the one before ended.
+fn follow(mut end: impl SegmentSource + Drop) -> u64 {
+    let mut next = 1u64;
+    for count in 0..u64::MAX {
+        let Ok(Item::Segment(segment)) = end.next() else {
+            return count;
+        };
+        if !begins_at(&segment, next) {
+            return count;
+        }
+        next = next.saturating_add(2);
+    }
+    0
+}
+
+fn begins_at(segment: &Parsed, txid: u64) -> bool {
+    segment
+        .txs()
+        .first()
+        .is_some_and(|tx| tx.txid.get() == txid)
 }
 
 // ---- Both ends on one thread.

@@ -1,22 +1,31 @@
-//! The two ends of a lane on two threads: every message comes once, in order, however few places there are; and lanes that
+//! The two ends of a lane: every message comes once, in order, however few places there are, and however many; and lanes that
 //! are closed under reporters that never end by themselves.
-ghost use Rattle.std.specs.Prelude.{◌≡◌, ◌≤◌};
+ghost use Rattle.std.specs.Prelude.{◌≡◌, ◌≤◌, IfSome};
 
+use crate::sources::Endless;
 use crate::values::{FIRST, TURNS, report_of};
+use nn_drive::report_all;
 use nn_lane::{LaneEnd, Met, Refusal, Reporter, Taken, lane, meet};
 use nn_types::{BlockId, Report};
 use std::alloc::Global;
+use std::sync::Wait;
 use std::thread;
 use std::thread::{Threads, join};
 
 const MESSAGES: u64 = 50_000;
+
+fn send(reporter: &mut Reporter, report: &Report) -> Result<u64, Refusal>
+    ensures { reporter.new.lane ≡ reporter.old.lane }
+{
+    reporter.report(report.block, report.stamp, report.len, report.kind)
+}
 
 // ---- Each message once, in order.
 
 // Whether the report was sent, in the end.
 fn sends_soon(reporter: &mut Reporter, report: &Report) -> bool {
     for _ in 0..TURNS {
-        if reporter.report(report).is_ok() {
+        if send(reporter, report).is_ok() {
             return true;
         }
         thread::yield_now();
@@ -74,18 +83,64 @@ fn ends_beside_each_other(rt: HostRuntime) {
     assert_eq!(rt; beside(&rt, rt.alloc(), 1024), Some((true, true)));
 }
 
+// ---- A lane that is filled before any of it is taken.
+
+const PLACES: u64 = 1000;
+
+// Each place takes a report, and the next report is refused: none of them was taken. Then all come, in order.
+#[test]
+fn filled_lane(rt: HostRuntime) {
+    assert_eq!(rt; filled(rt.alloc()), Some((true, Some(0), true)));
+}
+
+// Whether each place took a report, how many messages were taken when the next report was refused, and whether all came.
+fn filled(alloc: Global) -> Option<(bool, Option<u64>, bool)> {
+    let report = report_of(FIRST, 1001)?;
+    let Ok((mut reporter, mut end)) = lane(alloc, 1, PLACES as usize) else {
+        return None;
+    };
+    let whole = fills(&mut reporter, &report);
+    let taken = match send(&mut reporter, &report) {
+        Err(Refusal::Full { taken, .. }) => Some(taken),
+        _ => None,
+    };
+    let came = drains(&mut end);
+    Some((whole, taken, came))
+}
+
+fn fills(reporter: &mut Reporter, report: &Report) -> bool {
+    for block in FIRST..FIRST + PLACES {
+        let Some(block) = BlockId::new(block) else {
+            return false;
+        };
+        if send(reporter, &Report { block, ..*report }).is_err() {
+            return false;
+        }
+    }
+    true
+}
+
+fn drains(end: &mut LaneEnd) -> bool {
+    for before in 0..PLACES {
+        if !takes_soon(end, before + 1, FIRST + before) {
+            return false;
+        }
+    }
+    matches!(end.take(), Taken::Empty { accepted: PLACES })
+}
+
 // ---- Lanes that are closed under their reporters.
 
-// Whether the reporter was told of a close, where it tried to send this report.
+// Whether the reporter was told of a close, where it tried to send this report, and looked for a close if the lane is full.
 fn is_told(reporter: &mut Reporter, report: &Report) -> bool
     ensures { reporter.new.lane ≡ reporter.old.lane }
 {
-    match reporter.report(report) {
+    match send(reporter, report) {
         Ok(_) => false,
         Err(Refusal::Closed { .. }) => true,
         Err(_) => {
             thread::yield_now();
-            false
+            reporter.is_closed()
         }
     }
 }
@@ -183,4 +238,38 @@ fn closed_beside(rt: &(impl Threads + Sync), alloc: Global) -> Option<(bool, boo
         || (closes(first_end), closes(second_end)),
     );
     Some((is_whole(ends.0, reporters.0), is_whole(ends.1, reporters.1)))
+}
+
+// The same of a reporter that is in `report_all`, with a source that never ends.
+#[test]
+fn close_beside_report_all(rt: HostRuntime) {
+    assert_eq!(rt; closed_beside_report_all(&rt, rt.alloc()), Some(true));
+}
+
+fn closed_beside_report_all(rt: &(impl Threads + Wait + Sync), alloc: Global) -> Option<bool> {
+    let report = report_of(FIRST, 1001)?;
+    let Ok((reporter, end)) = lane(alloc, 1, 4) else {
+        return None;
+    };
+    let (told, drained) = join(
+        rt,
+        || reports_until_told(rt, reporter, Endless { report }),
+        || closes(end),
+    );
+    let reporter = told?;
+    Some(is_whole(drained, reporter))
+}
+
+// The reporter, once it was told of a close.
+fn reports_until_told(
+    rt: &impl Wait,
+    mut reporter: Reporter,
+    mut source: Endless,
+) -> Option<Reporter>
+    ensures { IfSome result (λ r. r.lane ≡ reporter.lane) }
+{
+    match report_all(rt, &mut source, &mut reporter) {
+        Err(Refusal::Closed { .. }) => Some(reporter),
+        _ => None,
+    }
 }

@@ -7,6 +7,8 @@ mod drive;
 #[cfg(test)]
 mod feed;
 #[cfg(test)]
+mod idle;
+#[cfg(test)]
 mod lane;
 #[cfg(test)]
 mod program;
@@ -14,5 +16,7 @@ mod program;
 mod serve;
 #[cfg(test)]
 mod sources;
+#[cfg(test)]
+mod steps;
 #[cfg(test)]
 mod values;

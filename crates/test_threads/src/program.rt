@@ -1,5 +1,5 @@
 //! The program on readers and writers that fail, without arguments, on large inputs, and with threads that wait for one another.
-use crate::values::Shared;
+use crate::values::{Shared, push_edit};
 use nn_command::{NoArguments, serve};
 use nn_device::{Reader, Writer};
 use nn_engine::{Gate, Open, Options, RunFault, ThreadOptions, run, run_threads};
@@ -21,6 +21,7 @@ fn usual_options() -> Options {
             history: false,
             image: false,
             from_image: false,
+            leave_memory: false,
         },
         None => unreachable!(),
     }
@@ -527,12 +528,6 @@ fn push_chain(
         push_edit(alloc, text, txid, "OP_MKDIR", members.as_str())?;
     }
     Some(txid.saturating_add(1))
-}
-
-fn push_edit(alloc: Global, text: &mut Vec<u8>, txid: u64, op: &str, members: &str) -> Option<()> {
-    let line = format!(in alloc; "{{\"op\":\"{op}\",{members}\"txid\":{txid}}}\n").ok()?;
-    text.extend_from_slice(line.as_bytes()).ok()?;
-    Some(())
 }
 
 // ---- The command line.

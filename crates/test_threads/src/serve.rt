@@ -2,7 +2,9 @@
 //! are of one block, which only the log of the last test names.
 use crate::drive::laned;
 use crate::sources::{AT_ANY_TIME, FailsOnce, Pace, Watched, new_watched};
-use crate::values::{FIRST, Shared, TWO_MARKS, TWO_MORE, Text, log_of, report_of};
+use crate::values::{
+    BEHIND_TWO_MARKS, FIRST, Shared, TWO_MARKS, TWO_MORE, Text, log_of, report_of,
+};
 use nn_device::Writer;
 use nn_drive::{
     Left, Operator, ReportSource, Running, Served, Unattended, Unfed, Unserved, Wish, serve,
@@ -37,6 +39,14 @@ const CLOSES_IT: Text = (
 "#,
 );
 
+const DELETES_WHAT_IS_NOT_THERE: Text = (
+    "edits_0000000000000000001-0000000000000000003",
+    r#"{"op":"OP_START_LOG_SEGMENT","txid":1}
+{"op":"OP_DELETE","path":"/f","txid":2}
+{"op":"OP_END_LOG_SEGMENT","txid":3}
+"#,
+);
+
 // The first block of memory that is asked for, half of what a process can address; and the first one of later times.
 const LARGEST_BLOCK: usize = 70_368_744_177_664;
 
@@ -53,6 +63,9 @@ struct DataNode {
     left: u64,
     // Whether it waits before it gives none, until the test lets it go.
     stays: bool,
+    // Whether it gives a report only once the operator shows that those before were processed; and how many it gave.
+    gated: bool,
+    given: u64,
 }
 
 impl ReportSource for DataNode {
@@ -61,6 +74,9 @@ impl ReportSource for DataNode {
     ghost gives = { λ s r t. ⊤ };
 
     fn next(&mut self) -> Option<Report> {
+        if self.gated && !self.shared.wait_until_asked(self.given) {
+            return None;
+        }
         if self.left == 0 {
             if self.stays {
                 self.shared.wait_for_all(1);
@@ -68,13 +84,15 @@ impl ReportSource for DataNode {
             return None;
         }
         self.left -= 1;
+        self.given = self.given.saturating_add(1);
         let report = self.report;
         Some(report)
     }
 }
 
-// Wishes a promotion once each of so many DataNodes has sent so many messages, and the log has come so far. It shows the
-// log's source how far the log has come, or how many messages each DataNode has sent, and in the end that it wished.
+// Wishes a promotion once each of so many DataNodes has sent so many messages, and the log has come so far; or once a
+// thread waited in vain. It shows the sources how far the log has come, or how many messages each DataNode has sent, and in
+// the end that it wished.
 #[derive(Drop)]
 struct Until {
     shared: Arc<Shared, Global>,
@@ -92,7 +110,8 @@ impl Operator for Until {
     fn ask(&mut self, standby: &Standby, _running: usize) -> Wish {
         let last = standby.shadow().last_txid();
         let sent = least_sent(standby, self.nodes);
-        if last >= self.txid && sent >= self.messages {
+        let vain = self.shared.vain.load(Ordering::SeqCst);
+        if vain > 0 || (last >= self.txid && sent >= self.messages) {
             self.shared.asked.store(u64::MAX, Ordering::SeqCst);
             return Wish::Promote;
         }
@@ -205,6 +224,8 @@ struct Service {
     reports: u64,
     first: Option<u64>,
     stays: bool,
+    // Whether each report waits until those before were processed. The operator shows then how many messages came.
+    gated: bool,
     // How many messages a lane holds.
     capacity: usize,
     log: &'static [Text],
@@ -215,7 +236,8 @@ struct Service {
     messages: u64,
     txid: u64,
     shows_messages: bool,
-    // The log that the standby was promoted over before, or stopped by.
+    // The image that the standby starts from, if there is one; and the log that it was promoted over before, or stopped by.
+    image: Option<&'static [u8]>,
     before: &'static [Text],
     // The last txid, or the fault's number; and the last txid once it was gone on from.
     end: Result<u64, u8>,
@@ -230,6 +252,7 @@ const ENDLESS: Service = Service {
     reports: u64::MAX,
     first: None,
     stays: false,
+    gated: false,
     capacity: 64,
     log: &[TWO_MARKS, TWO_MORE],
     pace: Pace {
@@ -241,6 +264,7 @@ const ENDLESS: Service = Service {
     messages: 100,
     txid: 4,
     shows_messages: false,
+    image: None,
     before: &[],
     end: Ok(4),
     later: None,
@@ -282,6 +306,45 @@ const FENCED: Service = Service {
     txid: 2,
     end: Ok(2),
     ..ENDLESS
+};
+
+// With few DataNodes, with some and with many all reports are processed.
+const NODES_3: Service = Service {
+    name: "3 DataNodes",
+    nodes: 3,
+    reports: 5,
+    capacity: 2,
+    messages: 5,
+    ..ENDLESS
+};
+
+const NODES_17: Service = Service {
+    name: "17 DataNodes",
+    nodes: 17,
+    ..NODES_3
+};
+
+const NODES_100: Service = Service {
+    name: "100 DataNodes",
+    nodes: 100,
+    ..NODES_3
+};
+
+// A standby that starts from an image gets the log behind it.
+const FROM_AN_IMAGE: Service = Service {
+    name: "from an image",
+    image: Some(BEHIND_TWO_MARKS),
+    log: &[TWO_MORE],
+    ..NODES_17
+};
+
+// A DataNode's next report comes only once those before were processed: each is sent before the next one is asked for.
+const GATED_REPORTS: Service = Service {
+    name: "gated reports",
+    gated: true,
+    pace: AT_ANY_TIME,
+    shows_messages: true,
+    ..NODES_3
 };
 
 // As many DataNodes as there can be, with one place each, are promoted in the middle.
@@ -331,7 +394,26 @@ const STOPS: Service = Service {
     ..ENDLESS
 };
 
-// A standby that was promoted before, and one that was stopped: no thread is started.
+// It stops at an edit, and ten segments are still to come: more than its feed holds.
+const STOPS_EARLY: Service = Service {
+    name: "stopping early",
+    log: &[
+        DELETES_WHAT_IS_NOT_THERE,
+        TWO_MARKS,
+        TWO_MARKS,
+        TWO_MARKS,
+        TWO_MARKS,
+        TWO_MARKS,
+        TWO_MARKS,
+        TWO_MARKS,
+        TWO_MARKS,
+        TWO_MARKS,
+        TWO_MARKS,
+    ],
+    ..STOPS
+};
+
+// A standby that was promoted before, and one that was stopped: no thread is started, and all that was handed in comes back.
 const ACTIVE: Service = Service {
     name: "active",
     before: &[TWO_MARKS],
@@ -383,9 +465,26 @@ const SERVICES: &[Service] = &[
     STOPPED,
 ];
 
+// The others: the prover reads no larger constant.
+const MORE_SERVICES: &[Service] = &[
+    NODES_3,
+    NODES_17,
+    NODES_100,
+    FROM_AN_IMAGE,
+    GATED_REPORTS,
+    STOPS_EARLY,
+];
+
 #[test]
 fn services(rt: HostRuntime) {
     for service in SERVICES {
+        ends(&rt, rt.alloc(), service);
+    }
+}
+
+#[test]
+fn more_services(rt: HostRuntime) {
+    for service in MORE_SERVICES {
         ends(&rt, rt.alloc(), service);
     }
 }
@@ -417,7 +516,7 @@ fn end_of<R: Threads + Wait + Copy + Send + Drop + 'static>(
     shared: &Arc<Shared, Global>,
 ) -> Option<(Result<u64, u8>, Option<u64>)> {
     let mut operator = operator_of(service, shared)?;
-    let answer = served(rt, alloc, service, shared, None, &mut operator);
+    let answer = served(rt, alloc, service, shared, service.image, &mut operator);
     drop(operator);
     outcome_of(rt, alloc, service, shared, answer?)
 }
@@ -436,9 +535,21 @@ fn outcome_of<R: Threads + Wait + Copy + Send + Drop + 'static>(
         }
         Err(unserved) => {
             let number = unserved.fault.number();
-            Some((Err(number), gone_on(rt, alloc, service, unserved)))
+            let whole = is_whole(service, &unserved);
+            let later = gone_on(rt, alloc, service, unserved);
+            whole.then_some((Err(number), later))
         }
     }
+}
+
+// Whether each worker and the source have a thread; or none has one, and all came back.
+fn is_whole<R: Wait>(service: &Service, unserved: &Unserved<'_, Watched, DataNode, R>) -> bool {
+    let nodes = usize::from(service.nodes);
+    let (started, back) = (unserved.workers.len(), unserved.unstarted.len());
+    if unserved.feeding.is_some() {
+        return started == nodes && back == 0 && unserved.source.is_none();
+    }
+    started == 0 && back == nodes && unserved.source.is_some()
 }
 
 fn operator_of(service: &Service, shared: &Arc<Shared, Global>) -> Option<Until> {
@@ -479,6 +590,8 @@ fn data_nodes(
             report,
             left: reports_of(service, i.saturating_add(1)),
             stays: service.stays,
+            gated: service.gated,
+            given: 0,
         };
         let Ok(()) = nodes.push(node) else {
             return None;
@@ -531,10 +644,11 @@ fn have_left_all<R: Threads>(
     whole
 }
 
-// Whether all that a worker sent was processed, so many messages; and it was told of the close, or had no more.
+// Whether all that a worker sent was processed, so many messages; and it was told of the close, or had no more and answered
+// how many it sent.
 fn has_left_all(left: &Left<DataNode>, reports: u64, processed: u64) -> bool {
     let ended = match left.outcome {
-        Ok(()) => left.met.accepted == reports,
+        Ok(count) => count == reports && left.met.accepted == reports,
         Err(Refusal::Closed { .. }) => reports == u64::MAX,
         Err(_) => false,
     };
@@ -552,8 +666,12 @@ fn gone_on<R: Threads + Wait>(
     let Unfed {
         fault: _,
         mut standby,
+        source,
         workers,
+        unstarted,
     } = unserved.join(rt);
+    drop(source);
+    drop(unstarted);
     let last = promoted_over(alloc, service, &mut standby);
     drop(standby);
     for worker in workers {

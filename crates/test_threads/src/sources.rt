@@ -136,6 +136,21 @@ fn keep_pace(shared: &Shared, pace: Pace) -> Pace {
     }
 }
 
+/// Gives one report again and again, without end.
+#[derive(Clone, Copy)]
+pub struct Endless {
+    pub report: Report,
+}
+
+impl ReportSource for Endless {
+    ghost gives = { λ s r t. ⊤ };
+
+    fn next(&mut self) -> Option<Report> {
+        let report = self.report;
+        Some(report)
+    }
+}
+
 /// Comes, waits until so many came, and then gives one report again and again.
 #[derive(Drop)]
 pub struct Waiting {

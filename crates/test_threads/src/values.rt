@@ -40,6 +40,10 @@ pub const TWO_MORE: Text = (
     "{\"op\":\"OP_START_LOG_SEGMENT\",\"txid\":3}\n{\"op\":\"OP_END_LOG_SEGMENT\",\"txid\":4}\n",
 );
 
+/// An image of the root alone, behind the two marks.
+pub const BEHIND_TWO_MARKS: &[u8] =
+    b"{\"awaiting\":[],\"image\":\"hdfs-standby\",\"last_block\":1073741824,\"last_gen\":1000,\"profile\":1,\"txid\":2,\"version\":2}\n{\"end\":0}\n";
+
 /// The segments of these names and texts.
 pub fn log_of(alloc: Global, texts: &[Text]) -> Option<Vec<Parsed>> {
     let mut segments = Vec::new(alloc);
@@ -57,6 +61,54 @@ fn segment(alloc: Global, name: &str, text: &str) -> Option<Parsed> {
     bytes.extend_from_slice(text.as_bytes()).ok()?;
     let name = String::from_str(alloc, name).ok()?;
     Parsed::of(alloc, name, bytes).ok()
+}
+
+/// So many segments, each of a start mark and an end mark, from transaction 1 on.
+pub fn marks(alloc: Global, count: u64) -> Option<Vec<Parsed>> {
+    let mut segments = Vec::new(alloc);
+    let mut first = 1u64;
+    for _ in 0..count {
+        let last = first.saturating_add(1);
+        let segment = marked(alloc, first, last, &[])?;
+        let Ok(()) = segments.push(segment) else {
+            return None;
+        };
+        first = last.saturating_add(1);
+    }
+    Some(segments)
+}
+
+/// A segment of the transactions from 1 to `last`, of which each between the marks makes a directory of the root.
+pub fn directories(alloc: Global, last: u64) -> Option<Parsed> {
+    let mut lines = Vec::new(alloc);
+    for txid in 2..last {
+        let members = format!(in alloc; "\"path\":\"/d{txid}\",").ok()?;
+        push_edit(alloc, &mut lines, txid, "OP_MKDIR", members.as_str())?;
+    }
+    marked(alloc, 1, last, &lines)
+}
+
+// The segment of these lines between a start mark and an end mark of these txids.
+fn marked(alloc: Global, first: u64, last: u64, lines: &[u8]) -> Option<Parsed> {
+    let mut bytes = Vec::new(alloc);
+    push_edit(alloc, &mut bytes, first, "OP_START_LOG_SEGMENT", "")?;
+    bytes.extend_from_slice(lines).ok()?;
+    push_edit(alloc, &mut bytes, last, "OP_END_LOG_SEGMENT", "")?;
+    let name = format!(in alloc; "edits_{first:019}-{last:019}").ok()?;
+    Parsed::of(alloc, name, bytes).ok()
+}
+
+/// Adds the line of an edit with these members.
+pub fn push_edit(
+    alloc: Global,
+    text: &mut Vec<u8>,
+    txid: u64,
+    op: &str,
+    members: &str,
+) -> Option<()> {
+    let line = format!(in alloc; "{{\"op\":\"{op}\",{members}\"txid\":{txid}}}\n").ok()?;
+    text.extend_from_slice(line.as_bytes()).ok()?;
+    Some(())
 }
 
 // ---- Threads.

@@ -1,12 +1,12 @@
 // The calls of a standby in service.
-ghost use Rattle.std.specs.Prelude.{◌≡◌, ◌≤◌, [], false, length, vec_capacity, Some, None, IfOk, IfErr, IfSome};
+ghost use Rattle.std.specs.Prelude.{◌≡◌, ◌≤◌, [], false, length, reverse, vec_capacity, Some, None, IfOk, IfErr, IfSome};
 ghost use Rattle.std.specs.List.{AllZip};
 ghost use Rattle.nn_feed.specs.Ends.{got_by, IsSameEnd};
 ghost use Rattle.nn_tailer.specs.Tailing.{has_begun, Tailer};
-ghost use Rattle.nn_drive.specs.Driven.{HasReported, ArePromised, AreLanes, NotDriven};
+ghost use Rattle.nn_drive.specs.Driven.{HasReported, AreLanes, NotDriven};
 ghost use Rattle.nn_drive.specs.Feeding.{FailsOver};
 ghost use Rattle.nn_drive.specs.Refusals.{drive_refusal};
-ghost use Rattle.nn_drive.specs.Served.{HasLeft, ArePaired, PromotesOver, IsServed, ComesBack, IsUntouched, IsStopped, IsUnserved, IsRefused};
+ghost use Rattle.nn_drive.specs.Served.{HasLeft, ArePaired, AreStarted, PromotesOver, IsServed, ComesBack, IsUntouched, IsStopped, IsUnserved, IsRefused};
 ghost use Rattle.nn_drive.specs.Serving.{IsOf};
 ghost use Rattle.nn_drive.specs.declared.driving.DriveFault.{DriveFault as Why};
 
@@ -68,23 +68,24 @@ fn start_alone<
     thread::spawn_with(rt, promise, run).ok()
 }
 
-// A thread for each worker, in order; fewer where memory or threads run out, and the other workers are dropped.
-fn start_all_alone<
+// A thread for each worker, the last one first; fewer where threads run out. The others stay, except for one whose thread
+// was refused: it is dropped.
+fn start_from_the_last<
     S: ReportSource + Send + Drop + 'static,
     R: Threads + Wait + Copy + Send + Drop + 'static,
 >(
     rt: &R,
-    alloc: Global,
-    workers: Vec<(S, Reporter)>,
+    workers: &mut Vec<(S, Reporter)>,
+    room: Vec<PromisedHandle<WorkerExit<S>, WorkerPromise<S>>>,
     ended: &Arc<AtomicU64, Global>,
 ) -> Vec<PromisedHandle<WorkerExit<S>, WorkerPromise<S>>>
-    ensures { ArePromised workers.items result.items }
+    requires none { room.items ≡ [] }
+    requires room { length workers.old.items ≤ vec_capacity room }
+    ensures { AreStarted (reverse workers.old.items) result.items (reverse workers.new.items) }
 {
-    let Ok(mut handles) = Vec::with_capacity(alloc, workers.len()) else {
-        return Vec::new(alloc);
-    };
-    for (source, reporter) in workers {
-        let Ok(counter) = Arc::try_clone(ended) else {
+    let mut handles = room;
+    while let Ok(counter) = Arc::try_clone(ended) {
+        let Some((source, reporter)) = workers.pop() else {
             return handles;
         };
         let Some(handle) = start_alone(rt, source, reporter, counter) else {
@@ -92,6 +93,29 @@ fn start_all_alone<
         };
         handles.push_reserved(handle);
     }
+    handles
+}
+
+// A thread for each worker, in order; fewer where memory or threads run out. The others stay, except for one whose thread
+// was refused: it is dropped.
+fn start_all_alone<
+    S: ReportSource + Send + Drop + 'static,
+    R: Threads + Wait + Copy + Send + Drop + 'static,
+>(
+    rt: &R,
+    alloc: Global,
+    workers: &mut Vec<(S, Reporter)>,
+    ended: &Arc<AtomicU64, Global>,
+) -> Vec<PromisedHandle<WorkerExit<S>, WorkerPromise<S>>>
+    ensures { AreStarted workers.old.items result.items workers.new.items }
+{
+    let Ok(room) = Vec::with_capacity(alloc, workers.len()) else {
+        return Vec::new(alloc);
+    };
+    // Turned round, the first one is taken from the end.
+    workers.reverse();
+    let handles = start_from_the_last(rt, workers, room, ended);
+    workers.reverse();
     handles
 }
 
@@ -175,9 +199,10 @@ fn serve_with<
     ensures err { IfErr result (λ u. IsUnserved O.asks T.gives T.failures standby feeding.entry.handle.promise.0.value workers.items operator.old operator.new u) }
 {
     let mut standby = standby;
+    let mut workers = workers;
     let Feeding { mut end, handle } = feeding;
     let count = workers.len();
-    let handles = start_all_alone(rt, alloc, workers, ended);
+    let handles = start_all_alone(rt, alloc, &mut workers, ended);
     let started = handles.len();
     let active = match serve_over(rt, &mut standby, &mut end, operator, ended, started, count) {
         Ok(active) => active,
@@ -185,7 +210,9 @@ fn serve_with<
             return Err(Unserved {
                 fault,
                 standby,
+                source: None,
                 workers: handles,
+                unstarted: workers,
                 feeding: Some(Feeding { end, handle }),
             });
         }
@@ -194,7 +221,9 @@ fn serve_with<
         return Err(Unserved {
             fault: DriveFault::OutOfMemory,
             standby,
+            source: None,
             workers: handles,
+            unstarted: workers,
             feeding: None,
         });
     }
@@ -209,23 +238,28 @@ fn serve_with<
 
 impl<'a, T: SegmentSource + Drop, S: ReportSource, R: Threads + Wait> Unserved<'a, T, S, R> {
     /// Drops what the feed still brings, and joins the source's thread: for as long as the source gives segments or waits.
-    /// The standby and the workers come back as they are. The fault is then known as `drive` knows one: with what its
-    /// source gave; or it is 55, where the feed failed while both its ends were there.
-    pub fn join(self, rt: &R) -> Unfed<S>
+    /// All else comes back as it is. The fault is then known as `drive` knows one: with what its source gave; or it is 55,
+    /// where the feed failed while both its ends were there.
+    pub fn join(self, rt: &R) -> Unfed<T, S>
         ensures rest { (result.standby ≡ self.entry.standby) × (result.workers ≡ self.entry.workers) }
+        ensures back { (result.source ≡ self.entry.source) × (result.unstarted ≡ self.entry.unstarted) }
         ensures fault { (old : Tailer) (source : T) → IsStopped T.gives T.failures old source self.entry → NotDriven T.gives T.failures old source result.fault }
     {
         let Unserved {
             fault,
             standby,
+            source,
             workers,
+            unstarted,
             feeding,
         } = self;
         let Some(feeding) = feeding else {
             return Unfed {
                 fault,
                 standby,
+                source,
                 workers,
+                unstarted,
             };
         };
         let Feeding { mut end, handle } = feeding;
@@ -234,29 +268,39 @@ impl<'a, T: SegmentSource + Drop, S: ReportSource, R: Threads + Wait> Unserved<'
             return Unfed {
                 fault: DriveFault::OutOfMemory,
                 standby,
+                source,
                 workers,
+                unstarted,
             };
         }
         Unfed {
             fault,
             standby,
+            source,
             workers,
+            unstarted,
         }
     }
 }
 
-// A standby that was refused before any thread was started.
+// A standby that was refused before any thread was started, with all that was handed in; the source is dropped if its own
+// thread was refused.
 fn refused<'a, T: SegmentSource, S: ReportSource, R: Wait>(
     alloc: Global,
     standby: Standby,
+    source: Option<T>,
+    workers: Vec<(S, Reporter)>,
     fault: DriveFault,
 ) -> Unserved<'a, T, S, R>
-    ensures { (result.fault ≡ fault) × (result.feeding ≡ None) × IsUntouched standby result }
+    ensures fault { (result.fault ≡ fault) × (result.feeding ≡ None) × (result.source ≡ source) }
+    ensures rest { IsUntouched standby workers.items result }
 {
     Unserved {
         fault,
         standby,
+        source,
         workers: Vec::new(alloc),
+        unstarted: workers,
         feeding: None,
     }
 }
@@ -270,8 +314,8 @@ fn refused<'a, T: SegmentSource, S: ReportSource, R: Wait>(
 /// hand. While it is slow, messages are taken and the operator is asked; once the promotion has begun, it is waited for.
 /// The first cause of refusal is answered: 53 where the flush had begun before and 51 where the standby was stopped, both
 /// before any thread is started; then 55 where memory or a thread is refused, and while it works 51, 54, 55. A fault is
-/// answered at once, and the standby comes back. 55 would also come if the feed failed while both its ends were there,
-/// which no channel does and no contract excludes.
+/// answered at once, and the standby comes back; so do the source and the workers, as far as no thread was asked for them. 55
+/// would also come if the feed failed while both its ends were there, which no channel does and no contract excludes.
 pub fn serve<
     'a,
     O: Operator,
@@ -287,21 +331,27 @@ pub fn serve<
     operator: &mut O,
 ) -> Result<Served<S>, Unserved<'a, T, S, R>>
     requires { AreLanes workers.items standby.ends }
-    ensures refused { (fault : Why) → drive_refusal standby ≡ Some fault → IsRefused standby fault result }
+    ensures refused { (fault : Why) → drive_refusal standby ≡ Some fault → IsRefused standby source workers.items fault result }
     ensures ok { IfOk result (λ r. IsServed O.asks T.gives T.failures standby source workers.items operator.old operator.new r) }
     ensures err { IfErr result (λ u. IsUnserved O.asks T.gives T.failures standby source workers.items operator.old operator.new u) }
 {
     if let Some(fault) = refusal(&standby) {
-        return Err(refused(alloc, standby, fault));
+        return Err(refused(alloc, standby, Some(source), workers, fault));
     }
     let Ok(room) = Vec::with_capacity(alloc, workers.len()) else {
-        return Err(refused(alloc, standby, DriveFault::OutOfMemory));
+        let fault = DriveFault::OutOfMemory;
+        return Err(refused(alloc, standby, Some(source), workers, fault));
     };
     let Ok(ended) = Arc::new(alloc, AtomicU64::new(0)) else {
-        return Err(refused(alloc, standby, DriveFault::OutOfMemory));
+        let fault = DriveFault::OutOfMemory;
+        return Err(refused(alloc, standby, Some(source), workers, fault));
     };
-    let Some(feeding) = start_feed_alone(rt, alloc, source) else {
-        return Err(refused(alloc, standby, DriveFault::OutOfMemory));
+    let feeding = match start_feed_alone(rt, alloc, source) {
+        Ok(feeding) => feeding,
+        Err(back) => {
+            let fault = DriveFault::OutOfMemory;
+            return Err(refused(alloc, standby, back, workers, fault));
+        }
     };
     serve_with(rt, alloc, standby, feeding, workers, room, &ended, operator)
 }

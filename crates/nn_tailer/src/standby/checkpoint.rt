@@ -1,5 +1,5 @@
 //! A standby writes an image, and starts from one.
-ghost use Rattle.std.specs.Prelude.{◌≡◌, ◌≤◌, length, OnOk, IfOk, IfErr};
+ghost use Rattle.std.specs.Prelude.{◌≡◌, ◌≤◌, ◌^◌, length, OnOk, IfOk, IfErr};
 ghost use Rattle.nn_device.specs.Device.{Took};
 ghost use Rattle.nn_image.specs.Text.{image_text};
 ghost use Rattle.nn_image.specs.Reading.{read_image};
@@ -10,13 +10,13 @@ ghost use Rattle.nn_tailer.specs.Public.{AreNew};
 ghost use Rattle.nn_tailer.specs.Restart.{IsNewAt, point_of};
 
 use super::{Standby, all_delivered};
-use crate::restart::RestartFault;
+use crate::refused::ImageRefused;
 use nn_device::{Reader, Writer};
 use nn_image::{ImageFault, SaveFault, load, save};
 use nn_lane::LaneEnd;
 use nn_segment::Cursor;
 use nn_shadow::Shadow;
-use nn_types::Settings;
+use nn_types::{Settings, Txid};
 use std::alloc::Global;
 use std::io::{Read, Write};
 
@@ -31,12 +31,11 @@ impl Standby {
         ensures ok { OnOk result (Took writer.old writer.new (image_text self.now.shadow.namespace self.now.shadow.last)) }
         ensures front { IfErr result (WroteFront writer.old writer.new (image_text self.now.shadow.namespace self.now.shadow.last)) }
     {
-        save(
-            alloc,
-            self.shadow.namespace(),
-            self.shadow.last_txid(),
-            writer,
-        )
+        // Each txid that is applied is below 2^63.
+        let Some(last) = Txid::new(self.shadow.last_txid()) else {
+            unreachable!()
+        };
+        save(alloc, self.shadow.namespace(), last, writer)
     }
 
     /// A standby over these lanes, of DataNodes 1, 2 and so on, that starts from an image: it passes over the transactions
@@ -48,7 +47,7 @@ impl Standby {
         ends: Vec<LaneEnd>,
         settings: Settings,
         reader: &mut Reader<R>,
-    ) -> Result<Standby, RestartFault>
+    ) -> Result<Standby, ImageRefused>
         requires some { 1 ≤ length ends.items }
         requires few { length ends.items ≤ 256 }
         requires fresh { AreNew 1 ends.items }
@@ -56,18 +55,19 @@ impl Standby {
         ensures new { IfOk result (λ x. IsNewAt x.shadow.namespace x.shadow.last ends.items x) }
         ensures settings { IfOk result (λ x. (x.shadow.table.min ≡ settings.min) × (x.shadow.permille ≡ settings.permille)) }
         ensures unfailed { OnOk result (reader.new.failed ≡ reader.old.failed) }
-        ensures fault { IfErr result (λ e. (e.ends ≡ ends) × Stops reader.old.left e.cause read_image) }
-        ensures noted { IfErr result (λ e. Noted e.cause reader.old.failed reader.new.failed) }
+        ensures fault { IfErr result (λ e. (e.ends ≡ ends) × Stops reader.old.left e.fault read_image) }
+        ensures noted { IfErr result (λ e. Noted e.fault reader.old.failed reader.new.failed) }
+        ensures reads { reader.new.reads ≤ 2 ^ 24 }
     {
         let (namespace, txid) = match load(alloc, reader) {
             Ok(loaded) => loaded,
-            Err(cause) => return Err(RestartFault { ends, cause }),
+            Err(fault) => return Err(ImageRefused { ends, fault }),
         };
         let lanes = ends.len();
         let Ok(undelivered) = all_delivered(alloc, lanes) else {
             return Err(out_of_memory(ends));
         };
-        let Ok(shadow) = Shadow::from(alloc, namespace, txid, lanes as u16, settings) else {
+        let Ok(shadow) = Shadow::from(alloc, namespace, txid.get(), lanes as u16, settings) else {
             return Err(out_of_memory(ends));
         };
         Ok(Standby {
@@ -81,11 +81,11 @@ impl Standby {
     }
 }
 
-fn out_of_memory(ends: Vec<LaneEnd>) -> RestartFault
-    ensures { (result.ends ≡ ends) × (result.cause ≡ ImageFault.OutOfMemory) }
+fn out_of_memory(ends: Vec<LaneEnd>) -> ImageRefused
+    ensures { (result.ends ≡ ends) × (result.fault ≡ ImageFault.OutOfMemory) }
 {
-    RestartFault {
+    ImageRefused {
         ends,
-        cause: ImageFault::OutOfMemory,
+        fault: ImageFault::OutOfMemory,
     }
 }

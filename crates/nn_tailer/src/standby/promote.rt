@@ -1,11 +1,12 @@
 //! The promotion.
-ghost use Rattle.std.specs.Prelude.{◌≡◌, ◌<◌, ◌≤◌, false, List, Err, Some, None};
+ghost use Rattle.std.specs.Prelude.{◌≡◌, ◌<◌, ◌≤◌, true, false, List, Err, Some, None};
 ghost use Rattle.nn_segment.specs.Source.{Answer, Asked};
 ghost use Rattle.nn_tailer.specs.LaneSteps.{AllClosed};
 ghost use Rattle.nn_tailer.specs.Parts.{IsLive};
 ghost use Rattle.nn_tailer.specs.Promotion.{Finishes, Prepares, Promotes, OnPromoteLogFault};
 ghost use Rattle.nn_tailer.specs.declared.fault.PromoteFault.{PromoteFault as Why};
 ghost use Rattle.nn_tailer.specs.Refusals.{promote_refusal};
+ghost use Rattle.nn_tailer.specs.Tailing.{has_begun};
 ghost use Rattle.nn_tailer.specs.Steps.{OnLogFault};
 
 use super::lanes::are_closed;
@@ -19,12 +20,13 @@ impl Standby {
     ///
     /// The first cause of refusal is answered: 53 where it was promoted before, 51, 52; and then, while it works, 51, 54,
     /// 55. After 54 and 55 it stands at what its history shows and may be promoted again; only the flush closes it to
-    /// steps.
+    /// steps. Once the flush has begun, no source is asked.
     pub fn promote<S: SegmentSource>(&mut self, source: &mut S) -> Result<Active, PromoteFault>
         ensures refused { (fault : Why) → promote_refusal self.old ≡ Some fault → (result ≡ Err fault) × (self.new ≡ self.old) }
         ensures promotes { Promotes S.gives source.old self.old source.new self.new result }
         ensures failed { OnPromoteLogFault result (S.failures source.old < S.failures source.new) }
         ensures counted { S.failures source.old ≤ S.failures source.new }
+        ensures unasked { has_begun self.old ≡ true → source.new ≡ source.old }
     {
         if self.active {
             return Err(PromoteFault::AlreadyActive);

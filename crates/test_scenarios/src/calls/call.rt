@@ -2,7 +2,7 @@
 ghost use Rattle.std.specs.Prelude.{◌<◌, ◌^◌};
 
 use nn_tree::BlockRow;
-use nn_types::{Block, BlockId, GenerationStamp, Kind, Length, Message, Report, Status};
+use nn_types::{Block, BlockId, GenerationStamp, Kind, Length, Message, Status};
 use std::alloc::Global;
 use std::fmt::Display;
 
@@ -84,23 +84,12 @@ impl<'a> Call<'a> {
         Length::new(self.number(at)).unwrap()
     }
 
-    /// A block: its id, and after it its stamp and length.
+    /// A block: its id, and after it its stamp and length. Of a report it is the replica.
     pub fn block(&mut self) -> Block {
         Block {
             id: self.id(1),
             stamp: self.stamp(2),
             len: self.length(3),
-        }
-    }
-
-    /// A report of a received replica: the id, stamp and length of a block. A lane does not read its DataNode.
-    pub fn report(&mut self) -> Report {
-        Report {
-            dn: 1,
-            block: self.id(1),
-            stamp: self.stamp(2),
-            len: self.length(3),
-            kind: Kind::Received,
         }
     }
 

@@ -4,7 +4,7 @@ use nn_device::{Reader, Writer};
 use nn_edits::{Scratch, read_edit};
 use nn_image::{image_name, load, rewrite, save};
 use nn_tree::{Found, Namespace, Touched};
-use nn_types::{Edit, Path, Status};
+use nn_types::{Edit, Path, Status, Txid};
 
 /// Calls on a namespace, and on its image. Whether this was one.
 pub fn change(files: &mut Namespace, text: &mut Vec<u8>, call: &mut Call<'_>) -> bool {
@@ -27,7 +27,10 @@ pub fn change(files: &mut Namespace, text: &mut Vec<u8>, call: &mut Call<'_>) ->
 }
 
 fn show_name(call: &mut Call<'_>) {
-    let txid = call.number(1);
+    let Some(txid) = Txid::new(call.number(1)) else {
+        call.failed = true;
+        return;
+    };
     match image_name(call.alloc, txid) {
         Ok(name) => call.say(&name),
         Err(_) => call.failed = true,
@@ -68,7 +71,10 @@ fn show_touched(touched: &Touched, call: &mut Call<'_>) {
 
 // Puts the image of the namespace in the place of the text.
 fn write_image(files: &Namespace, text: &mut Vec<u8>, call: &mut Call<'_>) {
-    let txid = call.number(1);
+    let Some(txid) = Txid::new(call.number(1)) else {
+        call.failed = true;
+        return;
+    };
     let mut image = Writer::new(Vec::new(call.alloc));
     call.failed = save(call.alloc, files, txid, &mut image).is_err() || call.failed;
     *text = image.into_inner();
@@ -79,7 +85,7 @@ fn restore(files: &mut Namespace, text: &[u8], call: &mut Call<'_>) {
     match load(call.alloc, &mut Reader::new(text)) {
         Ok((namespace, txid)) => {
             *files = namespace;
-            call.show(&txid);
+            call.show(&txid.get());
         }
         Err(fault) => call.fault(fault.number(), &fault),
     }
@@ -89,7 +95,7 @@ fn restore(files: &mut Namespace, text: &[u8], call: &mut Call<'_>) {
 fn write_again(text: &mut Vec<u8>, call: &mut Call<'_>) {
     let mut written = Writer::new(Vec::new(call.alloc));
     match rewrite(call.alloc, &mut Reader::new(text.as_slice()), &mut written) {
-        Ok(txid) => call.show(&txid),
+        Ok(txid) => call.show(&txid.get()),
         Err(fault) => call.fault(fault.number(), &fault),
     }
     *text = written.into_inner();

@@ -3,6 +3,7 @@ ghost use Rattle.std.specs.Prelude.{◌≡◌};
 
 use crate::calls::call::Call;
 use nn_lane::{LaneEnd, Refusal, Reporter, Taken, lane, meet};
+use nn_types::Kind;
 
 /// A lane with both ends, or the end that is left of one.
 #[derive(Drop)]
@@ -28,7 +29,7 @@ pub fn play(lane: &mut Lane, call: &mut Call<'_>) -> bool {
             Some(ends) => part(lane, ends, call),
             None => call.failed = true,
         }
-    } else if call.is("report") || call.is("prepare") || call.is("publish") {
+    } else if is_of_reporter(call) {
         use_reporter(lane, call);
     } else if call.is("take") || call.is("close") || call.is("closed") {
         use_end(lane, call);
@@ -38,12 +39,17 @@ pub fn play(lane: &mut Lane, call: &mut Call<'_>) -> bool {
     true
 }
 
+// Whether it is a call on the reporter.
+fn is_of_reporter(call: &Call<'_>) -> bool {
+    call.is("report") || call.is("prepare") || call.is("publish") || call.is("is_closed")
+}
+
 // Calls on the reporter, of both ends or alone.
 fn use_reporter(lane: &mut Lane, call: &mut Call<'_>) {
     if let Some(ends) = &mut lane.ends {
-        send(&mut ends.reporter, call);
+        report(&mut ends.reporter, call);
     } else if let Some(reporter) = &mut lane.reporter {
-        send(reporter, call);
+        report(reporter, call);
     } else {
         call.failed = true;
     }
@@ -92,9 +98,13 @@ fn part(lane: &mut Lane, ends: Ends, call: &mut Call<'_>) {
     }
 }
 
-fn send(reporter: &mut Reporter, call: &mut Call<'_>)
+fn report(reporter: &mut Reporter, call: &mut Call<'_>)
     ensures { reporter.new.lane ≡ reporter.old.lane }
 {
+    if call.is("is_closed") {
+        call.show(&reporter.is_closed());
+        return;
+    }
     if call.is("publish") {
         match reporter.publish() {
             Some(sent) => show_sent(sent, call),
@@ -102,12 +112,20 @@ fn send(reporter: &mut Reporter, call: &mut Call<'_>)
         }
         return;
     }
-    let report = call.report();
+    send(reporter, call);
+}
+
+// Sends a report of a received replica, or prepares its message.
+fn send(reporter: &mut Reporter, call: &mut Call<'_>)
+    ensures { reporter.new.lane ≡ reporter.old.lane }
+{
+    let block = call.block();
     if call.is("report") {
-        show_sent(reporter.report(&report), call);
+        let sent = reporter.report(block.id, block.stamp, block.len, Kind::Received);
+        show_sent(sent, call);
         return;
     }
-    if let Err(refusal) = reporter.prepare(&report) {
+    if let Err(refusal) = reporter.prepare(block.id, block.stamp, block.len, Kind::Received) {
         show_refusal(refusal, call);
     }
 }

@@ -8,7 +8,7 @@ use nn_lane::{LaneEnd, Refusal, Reporter, lane};
 use nn_segment::{Item, Parsed, SegmentSource, SourceFault};
 use nn_shadow::Shadow;
 use nn_tailer::{Choice, Standby, StepFault, Stepped};
-use nn_types::Settings;
+use nn_types::{Kind, Settings};
 use std::alloc::Global;
 use std::collections::VecDeque;
 use std::mem;
@@ -101,8 +101,8 @@ fn begin(end: LaneEnd, image: &[u8], call: &mut Call<'_>) -> Option<Standby>
     }
     match Standby::from_image(call.alloc, ends, settings, &mut Reader::new(image)) {
         Ok(standby) => Some(standby),
-        Err(fault) => {
-            call.fault(fault.cause.number(), &fault.cause);
+        Err(refused) => {
+            call.fault(refused.fault.number(), &refused.fault);
             None
         }
     }
@@ -205,7 +205,8 @@ fn promote(tailing: &mut Tailing, call: &mut Call<'_>) {
 
 // Sends a report of a received replica.
 fn send(reporter: &mut Reporter, call: &mut Call<'_>) {
-    match reporter.report(&call.report()) {
+    let block = call.block();
+    match reporter.report(block.id, block.stamp, block.len, Kind::Received) {
         Ok(number) => call.show(&number),
         Err(refusal) => show_refusal(refusal, call),
     }

@@ -94,6 +94,7 @@ pub fn run_scenario(
             history: true,
             image: true,
             from_image: false,
+            leave_memory: false,
         },
     };
     let fate = fate_of(alloc, is_ample, &run)?;

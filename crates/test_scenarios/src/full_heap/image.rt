@@ -7,6 +7,7 @@ use crate::full_heap::trial::{Answer, Changing, Fate, change};
 use nn_device::{Reader, Writer};
 use nn_image::{ImageFault, RewriteFault, SaveFault, load, rewrite, save};
 use nn_tree::Namespace;
+use nn_types::Txid;
 use std::alloc::Global;
 use std::mem;
 
@@ -20,7 +21,7 @@ const ROOM: usize = 65_536;
 struct Save<'a> {
     alloc: Global,
     namespace: &'a Namespace,
-    txid: u64,
+    txid: Txid,
 }
 
 impl Changing for Save<'_> {
@@ -51,7 +52,7 @@ struct Load<'a> {
 }
 
 impl Load<'_> {
-    fn load(&self) -> Result<(Namespace, u64), Answer> {
+    fn load(&self) -> Result<(Namespace, Txid), Answer> {
         match load(self.alloc, &mut Reader::new(self.image)) {
             Ok(loaded) => Ok(loaded),
             Err(ImageFault::OutOfMemory) => Err(Answer::OutOfMemory),
@@ -61,9 +62,9 @@ impl Load<'_> {
 }
 
 impl Changing for Load<'_> {
-    type Subject = Option<(Namespace, u64)>;
+    type Subject = Option<(Namespace, Txid)>;
 
-    fn call(&self, loaded: &mut Option<(Namespace, u64)>) -> Answer {
+    fn call(&self, loaded: &mut Option<(Namespace, Txid)>) -> Answer {
         match self.load() {
             Ok(namespace) => {
                 *loaded = Some(namespace);
@@ -75,8 +76,8 @@ impl Changing for Load<'_> {
 
     fn is_unchanged(
         &self,
-        loaded: &Option<(Namespace, u64)>,
-        _twin: &Option<(Namespace, u64)>,
+        loaded: &Option<(Namespace, Txid)>,
+        _twin: &Option<(Namespace, Txid)>,
     ) -> bool {
         loaded.is_none()
     }
@@ -122,7 +123,7 @@ fn write_image(alloc: Global, scenario: &Scenario, image: &mut Vec<u8>) -> Resul
     let save = Save {
         alloc,
         namespace: &namespace,
-        txid: scenario.image_txid(),
+        txid: scenario.image_txid()?,
     };
     let answer = save.call(image);
     drop(namespace);
@@ -160,15 +161,15 @@ fn save_again(
     let save = Save {
         alloc,
         namespace: &namespace,
-        txid: scenario.image_txid(),
+        txid: scenario.image_txid()?,
     };
     let saved = write_again(alloc, is_ample, &save, whole);
     drop(namespace);
     saved
 }
 
-// Makes a call that writes the whole image.
-fn write_again<C: Changing<Subject = Vec<u8>>>(
+/// Makes a call that writes the whole image.
+pub fn write_again<C: Changing<Subject = Vec<u8>>>(
     alloc: Global,
     is_ample: bool,
     call: &C,
@@ -192,7 +193,8 @@ fn load_whole(
         alloc,
         image: whole,
     };
-    let fate = load_again(&mut heap, &load, scenario, &namespace);
+    let txid = scenario.image_txid()?;
+    let fate = load_again(&mut heap, &load, scenario, txid, &namespace);
     drop(namespace);
     Ok(fate)
 }
@@ -201,24 +203,26 @@ fn load_again(
     heap: &mut Heap,
     load: &Load<'_>,
     scenario: &Scenario,
+    txid: Txid,
     namespace: &Namespace,
 ) -> Fate {
     let mut loaded = None;
     let fate = change(heap, load, &mut loaded, &None);
-    let is_same = is_image_of(&loaded, namespace, scenario);
+    let is_same = is_image_of(&loaded, namespace, txid, scenario);
     drop(loaded);
     fate.if_same(is_same)
 }
 
 // Whether what was loaded is this namespace, after the scenario's first segment.
 fn is_image_of(
-    loaded: &Option<(Namespace, u64)>,
+    loaded: &Option<(Namespace, Txid)>,
     namespace: &Namespace,
+    txid: Txid,
     scenario: &Scenario,
 ) -> bool {
     match loaded {
-        Some((read, txid)) => {
-            *txid == scenario.image_txid() && namespace::are_alike(read, namespace, scenario)
+        Some((read, read_txid)) => {
+            *read_txid == txid && namespace::are_alike(read, namespace, scenario)
         }
         None => false,
     }

@@ -5,7 +5,7 @@ use nn_scenario::{
 };
 use nn_segment::{Parsed, SegmentFault};
 use nn_tree::Namespace;
-use nn_types::{BlockId, Tx};
+use nn_types::{BlockId, Tx, Txid};
 use std::alloc::{AllocError, Global};
 use std::io;
 
@@ -69,11 +69,11 @@ impl Scenario {
         }
     }
 
-    /// The last txid of the first segment, 0 where there is none.
-    pub fn image_txid(&self) -> u64 {
+    /// The last txid of the first segment.
+    pub fn image_txid(&self) -> Result<Txid, Halt> {
         match self.txs(0).last() {
-            Some(tx) => tx.txid.get(),
-            None => 0,
+            Some(tx) => Ok(tx.txid),
+            None => Err(Halt::BadScenario),
         }
     }
 

@@ -8,17 +8,18 @@ use crate::shown::text_of;
 use nn_scenario::Step;
 use nn_shadow::{ApplyFault, FlushFault, HandCause, Shadow};
 use nn_tree::Namespace;
-use nn_types::{BlockId, Message, Settings, Tx, Txid};
+use nn_types::{BlockId, Kind, Message, Settings, Tx, Txid};
 use std::alloc::{AllocError, Global};
 
 // The DataNodes of the scenario.
 const DATANODES: u16 = 6;
 
 // What is printed for each call.
-const NAMES: [&str; 4] = [
+const NAMES: [&str; 5] = [
     "Shadow::from",
     "Shadow::apply",
     "Shadow::hand",
+    "Shadow::hand, the end of a report",
     "Shadow::flush",
 ];
 
@@ -100,13 +101,10 @@ struct Start<'a> {
 
 impl Start<'_> {
     fn new(alloc: Global, settings: Settings, scenario: &Scenario) -> Result<Start<'_>, Halt> {
-        let Some(txid) = Txid::new(scenario.image_txid()) else {
-            return Err(Halt::BadScenario);
-        };
         Ok(Start {
             alloc,
             settings,
-            txid,
+            txid: scenario.image_txid()?,
             twin: scenario.after_the_first(alloc)?,
             scenario,
         })
@@ -154,7 +152,7 @@ fn fates_of_log(
     is_ample: bool,
     settings: Settings,
     scenario: &Scenario,
-) -> Result<[Fate; 4], Halt> {
+) -> Result<[Fate; 5], Halt> {
     let played = text_of_play(alloc, is_ample, settings, scenario)?;
     let undisturbed = text_of_play(alloc, true, settings, scenario)?;
     Ok(compared(played, undisturbed))
@@ -167,7 +165,7 @@ fn text_of_play(
     is_ample: bool,
     settings: Settings,
     scenario: &Scenario,
-) -> Result<(Option<String>, [Fate; 4]), Halt> {
+) -> Result<(Option<String>, [Fate; 5]), Halt> {
     let start = Start::new(alloc, settings, scenario)?;
     let played = play(alloc, is_ample, &start);
     drop(start);
@@ -188,7 +186,7 @@ fn play(
     alloc: Global,
     is_ample: bool,
     start: &Start<'_>,
-) -> Result<(Option<Pair<Shadow>>, [Fate; 4]), Halt> {
+) -> Result<(Option<Pair<Shadow>>, [Fate; 5]), Halt> {
     let mut heap = Heap::new(alloc, is_ample)?;
     let (made, mut pair) = begin(&mut heap, start)?;
     let fates = follow(&mut heap, start.scenario, made, &mut pair);
@@ -201,14 +199,15 @@ fn follow(
     scenario: &Scenario,
     made: Fate,
     pair: &mut Option<Pair<Shadow>>,
-) -> [Fate; 4] {
+) -> [Fate; 5] {
     let Some(pair) = pair else {
-        return [made, Fate::Untried, Fate::Untried, Fate::Untried];
+        let untried = Fate::Untried;
+        return [made, untried, untried, untried, untried];
     };
-    let (edits, messages) = take_in(heap, scenario, pair);
+    let (edits, messages, ends) = take_in(heap, scenario, pair);
     let asked = Asked::Flush;
     let flushed = pair.change(heap, &Ask { asked, scenario });
-    [made, edits, messages, flushed]
+    [made, edits, messages, ends, flushed]
 }
 
 // Two standbys are made. What they are made of is there before the heap is full.
@@ -218,16 +217,22 @@ fn begin(heap: &mut Heap, start: &Start<'_>) -> Result<(Fate, Option<Pair<Shadow
     Ok(make_both(heap, start, namespace, other))
 }
 
-// Takes in the messages and applies the last segment, in the order of the scenario's lines.
-fn take_in(heap: &mut Heap, scenario: &Scenario, pair: &mut Pair<Shadow>) -> (Fate, Fate) {
-    let mut fates = (Fate::Untried, Fate::Untried);
+// Takes in the messages and applies the last segment, in the order of the scenario's lines: the fates of edits, of messages,
+// and of those that end a full report.
+fn take_in(heap: &mut Heap, scenario: &Scenario, pair: &mut Pair<Shadow>) -> (Fate, Fate, Fate) {
+    let mut fates = (Fate::Untried, Fate::Untried, Fate::Untried);
     let mut before = scenario.txs(0).len();
     let mut txs = scenario.txs(1).iter();
     for step in &scenario.steps {
         match *step {
             Step::Message(message) => {
                 let asked = Asked::Hand(message);
-                fates.1 = fates.1.and(pair.change(heap, &Ask { asked, scenario }));
+                let fate = pair.change(heap, &Ask { asked, scenario });
+                if message.kind == Kind::Finish {
+                    fates.2 = fates.2.and(fate);
+                } else {
+                    fates.1 = fates.1.and(fate);
+                }
             }
             Step::Edit if before > 0 => before -= 1,
             Step::Edit => {

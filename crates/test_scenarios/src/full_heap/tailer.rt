@@ -13,8 +13,8 @@ use nn_image::ImageFault;
 use nn_lane::{LaneEnd, Reporter, lane};
 use nn_scenario::Step;
 use nn_segment::MemorySource;
-use nn_tailer::{Choice, PromoteFault, Standby, StepFault};
-use nn_types::{Message, Report, Settings};
+use nn_tailer::{Choice, ImageRefused, NewFault, PromoteFault, Standby, StepFault};
+use nn_types::{Message, Settings};
 use std::alloc::{AllocError, Global};
 use std::marker::Model;
 
@@ -84,14 +84,7 @@ fn send_all(reporter: &mut Reporter, dn: u16, scenario: &Scenario) -> Result<(),
 }
 
 fn send(reporter: &mut Reporter, message: &Message) -> Result<(), Halt> {
-    let report = Report {
-        dn: message.dn,
-        block: message.block,
-        stamp: message.stamp,
-        len: message.len,
-        kind: message.kind,
-    };
-    match reporter.report(&report) {
+    match reporter.report(message.block, message.stamp, message.len, message.kind) {
         Ok(_) => Ok(()),
         Err(_) => Err(Halt::BadScenario),
     }
@@ -113,7 +106,7 @@ impl Making for New {
     fn call(&self, given: NewEnds) -> Result<Standby, (Answer, NewEnds)> {
         match Standby::new(self.alloc, given.ends, self.settings) {
             Ok(standby) => Ok(standby),
-            Err(ends) => Err((Answer::OutOfMemory, NewEnds { ends })),
+            Err(NewFault { ends }) => Err((Answer::OutOfMemory, NewEnds { ends })),
         }
     }
 
@@ -139,12 +132,12 @@ impl Making for FromImage<'_> {
         let mut reader = Reader::new(self.image);
         match Standby::from_image(self.alloc, given.ends, self.settings, &mut reader) {
             Ok(standby) => Ok(standby),
-            Err(fault) => {
-                let answer = match fault.cause {
+            Err(ImageRefused { ends, fault }) => {
+                let answer = match fault {
                     ImageFault::OutOfMemory => Answer::OutOfMemory,
                     _ => Answer::Other,
                 };
-                Err((answer, NewEnds { ends: fault.ends }))
+                Err((answer, NewEnds { ends }))
             }
         }
     }

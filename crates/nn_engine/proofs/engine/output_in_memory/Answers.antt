@@ -15,5 +15,5 @@ returns c = λ lanes picture.
     (c.in_ok-text.ensures ∙ (λ j. string_bytes c.push_asked_history.new.text ++ listing_text (c.last_txid.ensures.last j) (c.namespace.ensures j)))
     (λ permille min n ls pictured. c.in_ok-push_tables.ensures.pictured permille min n ls (rw c.replicas.ensures pictured))
     (c.in_ok-push_image.ensures
-    ∙ (λ j. (c.into_bytes-text.ensures.value j).items ++ image_part c.args.options.image (record { last = c.last_txid-2.ensures.last j; namespace = c.namespace-2.ensures j })))
+    ∙ (λ j. (c.into_bytes-text.ensures.value j).items ++ image_part c.args.options.image (record { last = c.last_of.ensures j; namespace = c.namespace-2.ensures j })))
     picture

@@ -30,4 +30,4 @@ returns-clause-front g c =
     IfErr-weaker c.write_image.result _ _ (λ e h.
     image_fails c.args.writer.now c.write_lines.new.writer c.write_part.new.self c.write_image.new.writer (flat_map row_line l.standby.namespace.rows) (string_bytes l.texts.tables) (image_part l.image (record { last = l.standby.last; namespace = l.standby.namespace })) e
     (rw c.namespace-namespace.ensures at c.in_ok-write_lines.ensures.ok) (rw c.as_bytes.ensures.value at c.in_ok-write_part.ensures.ok) h)
-    (rw (c.namespace-namespace.ensures, c.last_txid.ensures.last) at c.write_image.ensures.front)
+    (rw (c.namespace-namespace.ensures, c.last_of.ensures) at c.write_image.ensures.front)

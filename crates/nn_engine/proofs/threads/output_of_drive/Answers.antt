@@ -1,10 +1,10 @@
-use Rattle.std.proofs.Common.{true, Ok, map, refl, subst, arith}
+use Rattle.std.proofs.Common.{true, Ok, map, refl, arith}
 use Rattle.std.proofs.lemmas.Result.{IfOk-weaker}
 use Rattle.nn_scenario.specs.Steps.{lanes_of}
 use Rattle.nn_segment.specs.Segment.{Segment}
 use Rattle.nn_model.specs.Log.{log_of}
 use Rattle.nn_engine.specs.Output.{IsHistoryOf}
-use Rattle.nn_engine.specs.Shown.{shown, IsToldOf}
+use Rattle.nn_engine.specs.Shown.{shown}
 use Rattle.nn_engine.proofs.ToldLemmas.{told_history, told_fault}
 use Rattle.nn_engine.proofs.DrivenLemmas.{ends_many, arrives, may_end, stop_told, tells}
 use Rattle.nn_engine.proofs.threads.output_of_drive.Goals as goal
@@ -26,24 +26,26 @@ returns-in-Ok g c =
     let options = c.args.asked.now.options in
     let settings = options.settings in
     let lanes = lanes_of c.args.steps in
-    IfOk-weaker c.output_of_flushed.result _ _ (λ o told start is. subst (λ s. IsToldOf start true options c.args.steps (Ok s) (shown o)) c.new.ensures (
-    let a = arrives settings c.args.datanodes lanes c.in_ok-sources.sources.items c.in_ok-sources.ensures c.in_ok-workers.workers.items c.in_ok-workers.ends.items c.in_ok-workers.ensures.own start c.in_ok-standby.standby (c.in_ok-standby.ensures.begun start is) c.in_ok-standby.ensures.settings c.new.result
+    let segments = c.args.segments.items in
+    IfOk-weaker c.output_of_flushed.result _ _ (λ o told start is.
+    let a = arrives settings c.args.datanodes lanes c.in_ok-sources.sources.items c.in_ok-sources.ensures c.in_ok-workers.workers.items c.in_ok-workers.ends.items c.in_ok-workers.ensures.own start c.in_ok-standby.standby (c.in_ok-standby.ensures.begun start is) c.in_ok-standby.ensures.settings segments
     c.in-Ok.shadow c.in-Ok._active c.in-Ok.ensures.ok in
-    let happened : IsHistoryOf start true (log_of start.txid (map (λ (s : Segment). s.txs) c.new.result)) c.args.steps c.in-Ok.shadow.history =
+    let happened : IsHistoryOf start true (log_of start.txid (map (λ (s : Segment). s.txs) segments)) c.args.steps c.in-Ok.shadow.history =
     record { lawful = a.lawful; whole = a.whole; one_thread = λ none. absurd (cc) } in
-    told_history start true options c.args.steps (Ok c.new.result) c.new.result c.in-Ok.shadow.history (shown o) refl (λ end ended. happened)
-    (tells start options lanes c.new.result c.in-Ok.shadow (shown o) a told)
-    )) c.output_of_flushed.ensures
+    told_history start true options c.args.steps (Ok segments) segments c.in-Ok.shadow.history (shown o) refl (λ end ended. happened)
+    (tells start options lanes segments c.in-Ok.shadow (shown o) a told)
+    ) c.output_of_flushed.ensures
 
 pub output_of_fault-requires : goal.output_of_fault-requires
-output_of_fault-requires g c = may_end c.in_ok-standby.standby c.new.result c.in_ok-standby.ensures.serves c.in-Err.fault c.in-Err.ensures.err
+output_of_fault-requires g c = may_end c.in_ok-standby.standby c.args.segments.items c.in_ok-standby.ensures.serves c.in-Err.fault c.in-Err.ensures.err
 
 pub returns-in-Err : goal.returns-in-Err
 returns-in-Err g c =
     let options = c.args.asked.now.options in
     let settings = options.settings in
     let lanes = lanes_of c.args.steps in
-    IfOk-weaker c.output_of_fault.result _ _ (λ o told start is. subst (λ s. IsToldOf start true options c.args.steps (Ok s) (shown o)) c.new.ensures
-    (told_fault start true options c.args.steps (Ok c.new.result) c.new.result (shown o) refl
-    (stop_told settings c.args.datanodes lanes c.in_ok-sources.sources.items c.in_ok-sources.ensures c.in_ok-workers.workers.items c.in_ok-workers.ends.items c.in_ok-workers.ensures.own start c.in_ok-standby.standby (c.in_ok-standby.ensures.begun start is) c.in_ok-standby.ensures.settings c.new.result
-    options c.in-Err.fault (shown o) c.in-Err.ensures.err told))) c.output_of_fault.ensures
+    let segments = c.args.segments.items in
+    IfOk-weaker c.output_of_fault.result _ _ (λ o told start is.
+    told_fault start true options c.args.steps (Ok segments) segments (shown o) refl
+    (stop_told settings c.args.datanodes lanes c.in_ok-sources.sources.items c.in_ok-sources.ensures c.in_ok-workers.workers.items c.in_ok-workers.ends.items c.in_ok-workers.ensures.own start c.in_ok-standby.standby (c.in_ok-standby.ensures.begun start is) c.in_ok-standby.ensures.settings segments
+    options c.in-Err.fault (shown o) c.in-Err.ensures.err told)) c.output_of_fault.ensures

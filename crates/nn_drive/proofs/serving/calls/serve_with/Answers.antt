@@ -19,6 +19,7 @@ pub returns-in-Err-clause-err : goal.returns-in-Err-clause-err
 returns-in-Err-clause-err g c =
     let count : c.len-count.result ≡ length c.args.workers.items = omega (arith, c.len-count.ensures, c.args.workers.ok.0) in record {
       started = c.start_all_alone-handles.ensures;
+      source_back = tt;
       why = (refl, (c.args.feeding.end, c.requires.new, c.in-Err.ensures.err));
       back = (
         c.args.feeding.end,
@@ -32,6 +33,7 @@ returns-then-not-end_feed-clause-err g c =
     let count : c.len-count.result ≡ length c.args.workers.items = omega (arith, c.len-count.ensures, c.args.workers.ok.0) in
     let d = subst (λ (n : ℕ). PromotesOver g.O.Operator.asks n c.args.standby c.args.feeding.end c.args.operator.now c.in-Ok.active c.serve_over.new.standby c.serve_over.new.end c.serve_over.new.operator) count c.in-Ok.ensures.ok in record {
       started = c.start_all_alone-handles.ensures;
+      source_back = tt;
       why = not_met g.T.SegmentSource.gives g.T.SegmentSource.failures c.args.feeding.handle.promise.0.value c.args.standby (got_by c.serve_over.new.end) c.end_feed.result c.end_feed.ensures;
       back = inr (record { fault = refl; answers = d.answers; shown = d.shown; wished = d.wished; ended = d.ended; promoted = d.promoted; lanes = d.lanes; closed = d.closed });
     }
@@ -42,10 +44,10 @@ pair-workers-requires-clause-own g c =
     let d = c.in-Ok.ensures.ok in
     let all : length workers ≤ length handles = omega (arith, c.in-Ok.ensures.started, c.len-count.ensures, c.len-started.ensures, c.args.workers.ok.0, c.start_all_alone-handles.result.ok.0) in
     subst (λ (es : List Taking). AllZip IsOf es handles) (sym c.into_parts-shadow.ensures.1)
-    (are_of workers handles c.start_all_alone-handles.ensures all c.args.standby.ends c.serve_over.new.standby.ends c.requires.lanes d.lanes d.closed)
+    (are_of workers handles c.start_all_alone-handles.ensures.0 all c.args.standby.ends c.serve_over.new.standby.ends c.requires.lanes d.lanes d.closed)
 
 pub pair-workers-requires-clause-room : goal.pair-workers-requires-clause-room
-pair-workers-requires-clause-room g c = omega (arith, c.start_all_alone-handles.ensures.0, c.requires.room)
+pair-workers-requires-clause-room g c = omega (arith, c.start_all_alone-handles.ensures.0.0, c.requires.room)
 
 pub returns-clause-ok : goal.returns-clause-ok
 returns-clause-ok g c =
@@ -54,8 +56,8 @@ returns-clause-ok g c =
     let workers = c.args.workers.items in let handles = vec_items c.start_all_alone-handles.result in
     let all : length workers ≤ length handles = omega (arith, c.in-Ok.ensures.started, c.len-count.ensures, c.len-started.ensures, c.args.workers.ok.0, c.start_all_alone-handles.result.ok.0) in
     served g.O.Operator.asks g.T.SegmentSource.gives g.T.SegmentSource.failures c.args.standby c.args.feeding.handle.promise.0.value workers c.args.operator.now c.serve_over.new.operator c.args.feeding.end c.serve_over.new.end c.requires.new
-    c.end_feed.result c.if-not-end_feed.false c.end_feed.ensures c.in-Ok.active c.serve_over.new.standby d handles c.start_all_alone-handles.ensures all
+    c.end_feed.result c.if-not-end_feed.false c.end_feed.ensures c.in-Ok.active c.serve_over.new.standby d handles c.start_all_alone-handles.ensures.0 all
     _ refl c.into_parts-shadow.ensures.0 _ c.into_parts-shadow.ensures.1 c.pair-workers.ensures
 
 pub serve_over-requires-clause-few : goal.serve_over-requires-clause-few
-serve_over-requires-clause-few g c = omega (arith, c.start_all_alone-handles.ensures.0, c.len-count.ensures, c.len-started.ensures, c.args.workers.ok.0, c.start_all_alone-handles.result.ok.0)
+serve_over-requires-clause-few g c = omega (arith, c.start_all_alone-handles.ensures.0.0, c.len-count.ensures, c.len-started.ensures, c.args.workers.ok.0, c.start_all_alone-handles.result.ok.0)

@@ -1,40 +1,20 @@
-use Rattle.std.specs.Prelude.{◌≡◌, ◌+◌, get_or, vec_items, vec_len}
-use Rattle.std.specs.Vec.Iter.{into_iter_items, into_iter_len}
-use Rattle.std.proofs.Common.{rules, arith, subst, sym}
+use Rattle.std.specs.Prelude.{reverse, vec_items}
+use Rattle.std.specs.declared.thread.PromisedHandle.{PromisedHandle}
+use Rattle.std.proofs.Common.{List, sym, ap, ◌∙◌, subst}
+use Rattle.std.proofs.lemmas.List.{reverse-reverse}
 use Rattle.nn_lane.specs.Ends.{Reporting}
-use Rattle.nn_drive.specs.Driven.{IsPromised}
-use Rattle.nn_drive.proofs.Places.{each_more}
+use Rattle.nn_drive.specs.Served.{AreStarted}
+use Rattle.nn_drive.specs.declared.driving.WorkerExit.{WorkerExit}
+use Rattle.nn_drive.specs.declared.driving.WorkerPromise.{WorkerPromise}
+use Rattle.nn_drive.proofs.Starts.{none_started}
 use Rattle.nn_drive.proofs.serving.calls.start_all_alone.Goals as goal
 
--- The worker that is started stood first among the rest, so its handle is at the next place.
-pub loop-source-preserved : goal.loop-source-preserved
-loop-source-preserved g c =
-    let was = c.loop-source.invariant in let done = vec_len c.loop-source.handles in
-    let first = into_iter_items c.into_iter-source-iterator.result in
-    let pushed = c.push_reserved in let handle = c.in-Some-start_alone.handle in
-    let worker : g.row.S.Denot × Reporting = (c.in-Some.source, c.in-Some.reporter) in
-    let grown : vec_len pushed.new.self ≡ done + 1 = search rules in (
-      search rules,
-      (λ k w below. let h = was.1 (k + 1) w in grind rules),
-      (λ k w h below.
-          let at = each_more (λ w h. IsPromised w h) first (vec_items c.loop-source.handles) done handle (search rules) was.2
-          (λ w. let here : get_or first done w ≡ worker = let h = was.1 0 w in grind rules in subst (λ p. IsPromised p handle) (sym here) c.in-Some-start_alone.ensures) k w h (omega arith) in
-          subst (λ hs. IsPromised (get_or first k w) (get_or hs k h)) (sym pushed.ensures.items) at),
-      search rules,
-    )
+pub returns-in_default : goal.returns-in_default
+returns-in_default g c = subst (λ (hs : List (PromisedHandle (WorkerExit g.row.S.Denot) (WorkerPromise g.row.S.Denot))). AreStarted (vec_items c.args.workers.now) hs (vec_items c.args.workers.now)) (sym c.new.ensures.items) (none_started (vec_items c.args.workers.now))
 
-pub returns-in_default-try_clone : goal.returns-in_default-try_clone
-returns-in_default-try_clone g c =
-    let was = c.loop-source.invariant in let began = c.into_iter-source-iterator.ensures.into_iter_gives in
-    let len : vec_len c.loop-source.handles + into_iter_len c.loop-source.source-iterator ≡ vec_len c.args.workers = omega (arith, was.0, began.1) in (
-      search rules,
-      (λ k w h below. subst (λ ws. IsPromised (get_or ws k w) (get_or (vec_items c.loop-source.handles) k h)) began.0 (was.2 k w h (search rules))),
-    )
-
-pub returns-in_default-start_alone : goal.returns-in_default-start_alone
-returns-in_default-start_alone g c =
-    let was = c.loop-source.invariant in let began = c.into_iter-source-iterator.ensures.into_iter_gives in
-    let len : vec_len c.loop-source.handles + into_iter_len c.loop-source.source-iterator ≡ vec_len c.args.workers = omega (arith, was.0, began.1) in (
-      search rules,
-      (λ k w h below. subst (λ ws. IsPromised (get_or ws k w) (get_or (vec_items c.loop-source.handles) k h)) began.0 (was.2 k w h (search rules))),
-    )
+pub returns : goal.returns
+returns g c =
+    let turned = c.reverse.ensures.items in let back = c.reverse-2.ensures.items in
+    let whole = ap reverse turned ∙ reverse-reverse (vec_items c.args.workers.now) in
+    subst (λ (ws : List (g.row.S.Denot × Reporting)). AreStarted ws (vec_items c.start_from_the_last-handles.result) (vec_items c.reverse-2.new.self)) whole
+    (subst (λ (ws : List (g.row.S.Denot × Reporting)). AreStarted (reverse (vec_items c.reverse.new.self)) (vec_items c.start_from_the_last-handles.result) ws) (sym back) c.start_from_the_last-handles.ensures)

@@ -1,6 +1,4 @@
-use Rattle.std.proofs.Common.{sym, subst, arith}
-use Rattle.nn_engine.specs.Run.{Unfinished}
-use Rattle.nn_engine.specs.Rest.{run_fault}
+use Rattle.std.proofs.Common.{arith}
 use Rattle.nn_engine.proofs.RestLemmas.{text_fails, rest_stops}
 use Rattle.nn_engine.proofs.output.Output.write.Goals as goal
 

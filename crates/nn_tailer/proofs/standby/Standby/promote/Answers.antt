@@ -1,4 +1,4 @@
-use Rattle.std.proofs.Common.{Err, refl, subst, sym, ◌≡◌, ap, ◌∙◌, true, false, List, [], Bool}
+use Rattle.std.proofs.Common.{Err, refl, subst, sym, ◌≡◌, ap, ◌∙◌, true, false, true≢false, List, [], Bool}
 use Rattle.std.proofs.lemmas.Result.{err_from_is_err_and}
 use Rattle.std.specs.List.{list_all}
 use Rattle.nn_lane.specs.Ends.{Taking}
@@ -86,3 +86,11 @@ pub returns-clause-refused : goal.returns-clause-refused
 returns-clause-refused g c = λ f e.
     promotion_goes c.args.self.now f (sym (ap (λ z. z.active) c.self.view_is) ∙ c.if-self.false) (sym (ap (λ z. z.stop) c.self.view_is) ∙ c.in_default.is) (sym (ap (λ z. has_begun z) c.self.view_is) ∙ sym c.is_active.ensures ∙ c.if-is_active.false)
     (of_value (the_view c.self.inside) c.args.self.now c.as_slice.result.now true c.self.view_is c.as_slice.ensures.value c.if-not-are_closed.ensures) e
+
+pub returns-in_err-prepare-clause-unasked : goal.returns-in_err-prepare-clause-unasked
+returns-in_err-prepare-clause-unasked g c = λ begun.
+    absurd (true≢false (sym begun ∙ sym (ap (λ z. has_begun z) c.self.view_is) ∙ sym c.is_active.ensures ∙ c.if-is_active.false))
+
+pub returns-clause-unasked : goal.returns-clause-unasked
+returns-clause-unasked g c = λ begun.
+    absurd (true≢false (sym begun ∙ sym (ap (λ z. has_begun z) c.self.view_is) ∙ sym c.is_active.ensures ∙ c.if-is_active.false))

@@ -12,8 +12,8 @@ use thiserror::Error;
 /// The reads after which a reader is given up that has not ended: 2^24.
 const MOST_READS: u32 = 16_777_216;
 
-/// A reader, how often it was read, how many bytes it gave, and whether one of its reads failed. Only `read` notes that, so no user of a reader
-/// can make a failed read up.
+/// A reader, how often it was read, how many bytes it gave, and whether one of its reads failed. Only `read` notes that, so
+/// no user of a reader can make a failed read up.
 #[derive(Drop)]
 pub struct Reader<R: Read> {
     reader: R,

@@ -16,3 +16,4 @@ pub mod Served
 pub mod ServeLaws
 pub mod RoundRows
 pub mod ServingRows
+pub mod ServedRows

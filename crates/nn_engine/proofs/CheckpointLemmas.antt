@@ -70,4 +70,4 @@ prints_the_same options lanes segments rest front back end is whole behind gap =
     ∙ sym is)
 
 pub starts_there : StartsThere
-starts_there txs well_formed paths few limit = ap from_image (reads_back (namespace_after root_alone txs) (length txs) well_formed paths few limit)
+starts_there txs well_formed utf8 paths few limit = ap from_image (reads_back (namespace_after root_alone txs) (length txs) well_formed utf8 paths few limit)

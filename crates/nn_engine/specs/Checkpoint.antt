@@ -4,7 +4,7 @@ use Rattle.nn_types.specs.declared.tx.Tx.{Tx}
 use Rattle.nn_model.specs.Lanes.{Lanes}
 use Rattle.nn_model.specs.Log.{counted, log_of, namespace_after}
 use Rattle.nn_model.specs.Namespace.{root_alone}
-use Rattle.nn_model.specs.WellFormed.{IsWellFormed}
+use Rattle.nn_model.specs.WellFormed.{IsWellFormed, HasUtf8Names}
 use Rattle.nn_image.specs.Lawful.{HasPaths, IsCounted}
 use Rattle.nn_image.specs.Text.{image_text}
 use Rattle.nn_image.specs.Reading.{read_image}
@@ -34,5 +34,5 @@ PrintsTheSame = (options : Options) (lanes : Lanes) (segments rest : List Segmen
 
 -- and that is where the image of version 2 starts a run, where every path keeps the limits of paths
 abbrev pub StartsThere : Type 0
-StartsThere = (txs : List Tx) → IsWellFormed (namespace_after root_alone txs) → HasPaths (namespace_after root_alone txs) → IsCounted (namespace_after root_alone txs) → length txs < 2 ^ 63
+StartsThere = (txs : List Tx) → IsWellFormed (namespace_after root_alone txs) → HasUtf8Names (namespace_after root_alone txs) → HasPaths (namespace_after root_alone txs) → IsCounted (namespace_after root_alone txs) → length txs < 2 ^ 63
     → from_image (read_image (image_text (namespace_after root_alone txs) (length txs))) ≡ Ok (start_after txs)

@@ -14,14 +14,19 @@ use Rattle.nn_model.specs.declared.form.Form.TheVariants.{Dir}
 use Rattle.nn_model.specs.Namespace.{root_alone, with_row}
 use Rattle.nn_image.specs.declared.fault.ImageFault.TheVariants.{NotHeader, BadLine, WrongOrder, CountMismatch, Truncated, BadVersion, ReadFault, OutOfMemory}
 use Rattle.nn_image.specs.Reading.{read_image, all_from, rows_from, pieces_of, object_of, value_of, number_in, text_in, flag_in, array_in, path_in, block_of, gathered, blocks_at, numbers_at, replication_in, file_in, form_of, form_in, row_in, profile_in, fields_in}
+use Rattle.json.specs.Print.{escape_byte}
 use Rattle.nn_listing.specs.Listing.{newline}
+use Rattle.nn_listing.specs.Tables.{datanodes}
+use Rattle.nn_model.specs.History.{History}
+use Rattle.nn_segment.specs.LogEnd.{end_of_log, end_of_txs}
+use Rattle.nn_scenario.specs.Cut.{segments_from, cut_from}
 use Rattle.nn_front.specs.Cut.{divided, is_end_line}
 use Rattle.nn_edits.specs.Reading.{edit_of_line, either_of_line, object_in, value_of as line_value, either_in, tx_in, op_in, op_of, txid_in, whole_in, number_in as line_number, path_in as line_path, profile_in as line_profile, edit_in, block_in, items_in, blocks_in, report_in, dn_in, kind_in, kind_of}
 use Rattle.nn_edits.specs.declared.fault.LineFault.TheVariants.{MissingField}
-use Rattle.nn_scenario.specs.Scenario.{scenario_of, lines_from}
+use Rattle.nn_scenario.specs.Scenario.{Scenario, scenario_of, lines_from}
 use Rattle.nn_types.specs.declared.event.Event.TheVariants.{Applied}
 use Rattle.nn_engine.specs.declared.engine.Options.{Options}
-use Rattle.nn_engine.specs.Output.{Printed, output_of, with_history, image_fault, IsPrinted}
+use Rattle.nn_engine.specs.Output.{Printed, output_of, with_history, AreEventsOf, image_fault, IsPrinted}
 use Rattle.nn_engine.specs.Start.{from_root, start_in, scenario_in}
 
 -- lines, each with its line feed
@@ -119,3 +124,27 @@ another_text h =
     let same : printed 1 (codes "fault 3 line 1" ∷ []) ≡ printed 1 (codes "fault 2 line 1" ∷ []) = h.is ∙ ap (with_history false h.events) is_told in
     let digit : 51 ≡ 50 = ap (λ p. get_or p.text 6 0) same in
     omega (arith, digit)
+
+-- ---- The history.
+
+abbrev no_lines : Scenario
+no_lines = record { parts = []; steps = []; datanodes = 1 }
+
+abbrev the_root : List (List ℕ)
+the_root = codes "txid 0" ∷ codes "dir \"/\"" ∷ codes "blocks 0 safe 0 needed 0 mode off" ∷ []
+
+the_root_is_told : output_of from_root (record usual { history = true }) [] ≡ printed 0 the_root
+unfolding output_of scenario_of lines_from segments_from cut_from end_of_log end_of_txs digits escape_byte datanodes
+the_root_is_told = refl
+
+-- where the input has no line, nothing happened
+none_happened : (events : History) → ((scenario : Scenario) → scenario_of [] ≡ Ok scenario → AreEventsOf from_root false scenario.steps (segments_from 1 scenario.parts) events) → events ≡ []
+unfolding scenario_of lines_from segments_from cut_from end_of_log end_of_txs
+none_happened events happened = (happened no_lines refl [] (record { last = 0; namespace = root_alone }) refl refl).one_thread refl
+
+not_what_did_not_happen : IsPrinted false (record usual { history = true }) [] (printed 0 (codes "applied 1" ∷ the_root)) → ⊥
+unfolding digits
+not_what_did_not_happen h =
+    let same : printed 0 (codes "applied 1" ∷ the_root) ≡ printed 0 the_root = h.is ∙ (λ i. with_history true (none_happened h.events h.happened i) (the_root_is_told i)) in
+    let letter : 97 ≡ 116 = ap (λ p. get_or p.text 0 0) same in
+    omega (arith, letter)

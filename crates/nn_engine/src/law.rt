@@ -6,7 +6,8 @@ ghost use Rattle.nn_engine.specs.Checkpoint.{PrintsTheSame, StartsThere};
 /// before the cut too: they are passed over. It has no gap. Nothing is said of the history, in which messages may have other
 /// places, nor of a log that does not apply whole.
 ///
-/// The image of version 2 starts a run at the cut, if each path of the namespace there keeps the limits of paths and is UTF-8.
+/// The image of version 2 starts a run at the cut, if each path of the namespace there keeps the limits of paths. Its names are
+/// UTF-8, as those of every namespace are.
 pub fn a_checkpoint_prints_the_same()
     ensures tables { PrintsTheSame }
     ensures start { StartsThere }

@@ -30,7 +30,7 @@ below_has p (x ∷ rows) row h here =
     let both = and_T (is_lt (path_cmp p x.0)) _ h in
     elim here as (λ _. path_cmp p row.0 ≡ Less) [ inl e ↦ subst (λ r. path_cmp p r.0 ≡ Less) e (less_of _ both.0) | inr k ↦ below_has p rows row both.1 k ]
 
-found_row : (rows : Rows) (row : Path × Form) → T (is_sorted path_cmp rows) → Has rows row → find_entry path_cmp row.0 rows ≡ Some row.1
+pub found_row : (rows : Rows) (row : Path × Form) → T (is_sorted path_cmp rows) → Has rows row → find_entry path_cmp row.0 rows ≡ Some row.1
 found_row [] row sorted here = absurd here
 found_row (x ∷ rows) row sorted here =
     let both = and_T (below_all path_cmp x.0 rows) _ sorted in

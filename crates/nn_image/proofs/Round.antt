@@ -1,5 +1,5 @@
 -- An image is read as what it was made of.
-use Rattle.std.proofs.Common.{◌≡◌, ℕ, ◌-◌, ◌<◌, ◌^◌, List, [], ◌∷◌, ◌++◌, length, drop, true, eqb, Some, None, Ok, refl, sym, ap, ◌∙◌, arith, append-nil, append_assoc, subst}
+use Rattle.std.proofs.Common.{◌≡◌, ℕ, ◌-◌, ◌<◌, ◌^◌, List, [], ◌∷◌, ◌++◌, length, drop, true, eqb, is_some, Some, None, Ok, refl, sym, ap, ◌∙◌, arith, append-nil, append_assoc, subst}
 use Rattle.std.specs.List.{slice_split}
 use Rattle.std.specs.declared.cmp.Ordering.TheVariants.{Less}
 use Rattle.std.proofs.lemmas.Bool.Decides.{Decides-eqb}
@@ -10,21 +10,22 @@ use Rattle.serde_json.specs.Data.{Data}
 use Rattle.serde_json.specs.Find.{get}
 use Rattle.serde_json.specs.Written.{compact_text}
 use Rattle.std.specs.FinMap.Entries.{is_sorted}
+use Rattle.nn_types.proofs.Utf8Names.{path_text_utf8}
 use Rattle.nn_model.specs.declared.form.Form.{Form}
 use Rattle.nn_model.specs.declared.form.Form.TheVariants.{Dir, File}
 use Rattle.nn_model.specs.Namespace.{Path, path_cmp, Namespace}
 use Rattle.nn_image.specs.Reading.{with_rows}
 use Rattle.nn_tree.specs.Restore.{bare, row_fits}
-use Rattle.nn_model.specs.WellFormed.{Has, IsWellFormed}
+use Rattle.nn_model.specs.WellFormed.{Has, IsWellFormed, HasUtf8Names}
 use Rattle.nn_image.proofs.Keeps.{Keeps}
-use Rattle.nn_image.proofs.Kept.{keeps}
+use Rattle.nn_image.proofs.Kept.{keeps, found_row}
 use Rattle.nn_image.specs.Text.{feed, line_of, header_data, form_data, row_data, end_data, row_lines, image_text}
 use Rattle.nn_image.specs.Reading.{row_in, object_of, of_header, ◌then◌, last_path, with_next, nothing_more, by_key, by_value, rows_from, pieces_of, all_from, read_image}
 use Rattle.nn_types.specs.declared.profile.Profile.{Profile}
 use Rattle.nn_types.specs.declared.profile.Profile.TheVariants.{One}
 use Rattle.nn_model.specs.Laws.{in_profile}
 use Rattle.nn_image.specs.OldText.{old_header_data, old_image_text}
-use Rattle.nn_image.specs.Lawful.{HasPaths, IsCounted, ReadsOldBack}
+use Rattle.nn_image.specs.Lawful.{HasPaths, IsCounted, IsReadBack, ReadsOldBack}
 use Rattle.nn_image.proofs.Json.{IsPlain, no_feed_compact}
 use Rattle.nn_image.proofs.Shapes.{IsShortForm, form_plain, row_read, row_object, end_plain, end_object, header_plain, header_object, header_read, old_header_plain, old_header_object, old_header_read}
 use Rattle.nn_image.proofs.Rows.{Rows, T_of, root_first, has_mid, last_less, parent_less, short_awaiting, short_form, mid_sorted, fits_here}
@@ -73,7 +74,7 @@ nothing_after n = refl
 same_test : (a : ℕ) → eqb a a ≡ true
 same_test a = (Decides-eqb a a).1 refl
 
-module _ (n : Namespace) (w : Keeps n) (paths : HasPaths n) (counted : IsCounted n) where
+module _ (n : Namespace) (w : Keeps n) (utf8 : HasUtf8Names n) (paths : HasPaths n) (counted : IsCounted n) where
   abbrev the_end : Data
   the_end = end_data (length n.rows - 1)
 
@@ -96,14 +97,16 @@ module _ (n : Namespace) (w : Keeps n) (paths : HasPaths n) (counted : IsCounted
   rows_read (row ∷ rest) first before same =
       let m = with_rows n (first ∷ before) in
       let left = row_lines rest ++ line_of the_end in
-      let path = paths row (subst (λ rows. Has rows row) (sym same) (has_mid (first ∷ before) row rest)) in
+      let here : Has n.rows row = subst (λ rows. Has rows row) (sym same) (has_mid (first ∷ before) row rest) in
+      let path = paths row here in
+      let text = path_text_utf8 row.0 (utf8 row.0 (ap is_some (found_row n.rows row (T_of (is_sorted path_cmp n.rows) w.in_order) here))) in
       let short : IsShortForm row.1 = short_form n w (first ∷ before) row rest same in
       let less : path_cmp (last_path (first ∷ before)) row.0 ≡ Less = last_less first before row rest (mid_sorted n w (first ∷ before) row rest same) in
       let fits : row_fits m row.0 row.1 ≡ true = fits_here n w (first ∷ before) row rest same (parent_less _ row.0 less) in
-      let read : row_in (row_data row) ≡ Some row = row_read row.0 row.1 path.0 short in
+      let read : row_in (row_data row) ≡ Some row = row_read row.0 row.1 path short in
       let accepted : with_next m (row_in (row_data row)) ≡ Ok (with_rows n ((first ∷ before) ++ row ∷ [])) = ap (with_next m) read ∙ rw (less, fits) refl in
       ap (λ text. rows_from m (pieces_of text)) (append_assoc (line_of (row_data row)) (row_lines rest) (line_of the_end))
-      ∙ line_turn m (row_data row) left (form_plain row.0 row.1 path.1 short) (row_object row.0 row.1 path.1 short)
+      ∙ line_turn m (row_data row) left (form_plain row.0 row.1 text short) (row_object row.0 row.1 text short)
       ∙ ap (by_key m (row_data row) (pieces_of left) (λ m. rows_from m (pieces_of left))) (no_end row.0 row.1)
       ∙ ap (λ r. r then (λ m. rows_from m (pieces_of left))) accepted
       ∙ rows_read rest first (before ++ row ∷ []) (same ∙ sym (append_assoc (first ∷ before) (row ∷ []) rest))
@@ -123,14 +126,18 @@ module _ (n : Namespace) (w : Keeps n) (paths : HasPaths n) (counted : IsCounted
       ∙ ap (λ r. r then (λ h. rows_from h.0 (pieces_of left) then (λ m. Ok (m, h.1)))) found
       ∙ ap (λ r. r then (λ m. Ok (m, txid))) rows
 
-pub reads_back : (n : Namespace) (txid : ℕ) → IsWellFormed n → HasPaths n → IsCounted n → txid < 2 ^ 63 → read_image (image_text n txid) ≡ Ok (n, txid)
+pub reads_back : (n : Namespace) (txid : ℕ) → IsWellFormed n → HasUtf8Names n → HasPaths n → IsCounted n → txid < 2 ^ 63 → read_image (image_text n txid) ≡ Ok (n, txid)
 unfolding image_text
-reads_back n txid well paths counted small =
+reads_back n txid well utf8 paths counted small =
     let w = keeps n well in
     let awaiting = short_awaiting n w in
     let is : object_of (compact_text (header_data n txid)) ≡ Some (header_data n txid) = header_object n txid awaiting w.last_block_to w.last_stamp_to small in
-    text_read n w paths counted (header_data n txid) txid (header_plain n txid awaiting w.last_block_to w.last_stamp_to small)
+    text_read n w utf8 paths counted (header_data n txid) txid (header_plain n txid awaiting w.last_block_to w.last_stamp_to small)
     (ap of_header is ∙ header_read n txid awaiting w.last_block_to w.last_stamp_to small w.awaiting w.last_block_from w.last_stamp_from)
+
+-- what the name says, where the types see to all but the limits of paths
+pub is_read_back : (n : Namespace) (txid : ℕ) → IsWellFormed n → HasUtf8Names n → txid < 2 ^ 63 → IsReadBack n txid
+is_read_back n txid well utf8 small paths counted = reads_back n txid well utf8 paths counted small
 
 -- ---- the text of version 1
 
@@ -153,9 +160,9 @@ keeps_in profile n w = record {
 
 pub reads_old_back : ReadsOldBack
 unfolding old_image_text
-reads_old_back n txid well paths counted small =
+reads_old_back n txid well utf8 paths counted small =
     let w = keeps n well in
     let awaiting = short_awaiting n w in
     let is : object_of (compact_text (old_header_data n txid)) ≡ Some (old_header_data n txid) = old_header_object n txid awaiting w.last_block_to w.last_stamp_to small in
-    text_read (in_profile One n) (keeps_in One n w) paths counted (old_header_data n txid) txid (old_header_plain n txid awaiting w.last_block_to w.last_stamp_to small)
+    text_read (in_profile One n) (keeps_in One n w) utf8 paths counted (old_header_data n txid) txid (old_header_plain n txid awaiting w.last_block_to w.last_stamp_to small)
     (ap of_header is ∙ old_header_read n txid awaiting w.last_block_to w.last_stamp_to small w.awaiting w.last_block_from w.last_stamp_from)

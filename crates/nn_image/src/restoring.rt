@@ -1,9 +1,7 @@
 //! From a reader to a namespace.
 ghost use Rattle.std.specs.Prelude.{◌≡◌, ◌≤◌, ◌<◌, ◌+◌, ◌^◌, [], true, false, length, OnOk, IfOk, IfErr, Ok, Some, Option, option_map, ◌⊎◌};
 ghost use Rattle.std.specs.Ordering.{is_lt};
-ghost use Rattle.std.specs.Str.{IsUtf8};
 ghost use Rattle.serde_json.specs.View.{view};
-ghost use Rattle.nn_types.specs.Path.{IsPath, path_text};
 ghost use Rattle.nn_model.specs.Namespace.{path_cmp, Namespace as Rows};
 ghost use Rattle.nn_image.specs.Header.{header_value, object_view, IsLawful};
 ghost use Rattle.nn_image.specs.Lines.{ahead, Takes};
@@ -257,7 +255,6 @@ fn add_row(
     let Some((path, form)) = row_in(alloc, value)? else {
         return Err(ImageFault::BadLine(number));
     };
-    is_text(&path);
     if !comes_before(&before.names(), &path.names()) {
         return Err(ImageFault::WrongOrder(number));
     }
@@ -268,14 +265,6 @@ fn add_row(
     }
     *before = path;
     Ok(())
-}
-
-// A path keeps the limits of paths, and is text.
-fn is_text(path: &Path)
-    ensures lawful { IsPath path.now }
-    ensures text { IsUtf8 (path_text path.now) }
-{
-    path.text();
 }
 
 // The path of the root.

@@ -5,6 +5,7 @@ ghost use Rattle.serde_json.specs.Written.{has_float};
 ghost use Rattle.nn_device.specs.Device.{Took};
 ghost use Rattle.nn_device.specs.Parts.{TookFront};
 ghost use Rattle.nn_image.specs.Text.{line_of, number_items, header_data, head_data, body_text, end_data, image_text, name_text};
+ghost use Rattle.nn_image.specs.Lawful.{IsReadBack};
 ghost use Rattle.nn_image.specs.Saving.{WroteFront};
 
 use crate::fault::SaveFault;
@@ -25,7 +26,8 @@ pub fn image_name(alloc: Global, txid: Txid) -> Result<String, AllocError>
 }
 
 /// Writes the image of a namespace, of version 2, line by line: this takes the memory of one line and of a walk. The txid
-/// is that of the last transaction, or 0 where there was none.
+/// is that of the last transaction, or 0 where there was none. `load` reads the image as this namespace, if each path
+/// keeps the limits of paths: a rename can push one past them.
 ///
 /// A write that fails ends it, and so does memory that is refused. The writer has a prefix of the image then, and never all
 /// of it.
@@ -37,7 +39,9 @@ pub fn save<W: Write>(
 ) -> Result<(), SaveFault>
     ensures ok { OnOk result (Took writer.old writer.new (image_text namespace.now txid)) }
     ensures front { IfErr result (WroteFront writer.old writer.new (image_text namespace.now txid)) }
+    ensures again { IsReadBack namespace.now txid }
 {
+    is_read_back(namespace, txid);
     let before = writer.taken();
     match put_image(alloc, namespace, txid, writer) {
         Ok(()) => Ok(()),
@@ -47,6 +51,14 @@ pub fn save<W: Write>(
         }
         Err(Unwritten::OutOfMemory) => Err(SaveFault::OutOfMemory),
     }
+}
+
+// What a reader makes of the image. This does nothing.
+fn is_read_back(namespace: &Namespace, txid: Txid)
+    ensures { IsReadBack namespace.now txid }
+{
+    namespace.well_formed();
+    txid.get();
 }
 
 fn put_image<W: Write>(

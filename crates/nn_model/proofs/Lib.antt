@@ -5,6 +5,7 @@ pub mod Lookups
 pub mod Prefixes
 pub mod Moves
 pub mod Trees
+pub mod Utf8Names
 pub mod Equals
 pub mod Logs
 pub mod Limits

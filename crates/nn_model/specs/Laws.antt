@@ -3,7 +3,7 @@ use Rattle.std.specs.Prelude.{◌≡◌, ℕ, ◌+◌, ◌<◌, ◌≤◌, true,
 use Rattle.std.specs.Option.{option_map}
 use Rattle.nn_types.specs.declared.edit.Edit.{Edit}
 use Rattle.nn_types.specs.declared.tx.Tx.{Tx}
-use Rattle.nn_types.specs.LawfulEdit.{IsLawfulEdit}
+use Rattle.nn_types.specs.LawfulEdit.{IsLawfulEdit, IsUtf8Edit}
 use Rattle.nn_types.specs.declared.profile.Profile.{Profile}
 use Rattle.nn_types.specs.declared.profile.Profile.TheVariants.{One}
 use Rattle.nn_model.specs.Namespace.{Path, Namespace, lookup}
@@ -11,7 +11,7 @@ use Rattle.nn_model.specs.Apply.{has_id, refusal, effect}
 use Rattle.nn_model.specs.Status.{block_at, due_in}
 use Rattle.nn_model.specs.Touched.{touched, row_after, block_after, is_touched}
 use Rattle.nn_model.specs.Blocks.{block_row_at}
-use Rattle.nn_model.specs.WellFormed.{Has, HasWellFormedBlocks, IsWellFormed}
+use Rattle.nn_model.specs.WellFormed.{Has, HasWellFormedBlocks, IsWellFormed, HasUtf8Names}
 use Rattle.nn_model.specs.Log.{namespace_after, IsLog, run, counted, log_of, CountsUp, AreLawful}
 
 -- what is due in the first namespace is due in the second
@@ -29,6 +29,10 @@ BlocksStayWellFormed = (n : Namespace) (edit : Edit) → IsLawfulEdit edit → r
 -- an edit that applies keeps a namespace well formed
 abbrev pub StaysWellFormed : Type 0
 StaysWellFormed = (n : Namespace) (edit : Edit) → IsLawfulEdit edit → refusal n edit ≡ None → IsWellFormed n → IsWellFormed (effect n edit)
+
+-- an edit that applies, and whose names are UTF-8, keeps the names of a namespace UTF-8
+abbrev pub NamesStayUtf8 : Type 0
+NamesStayUtf8 = (n : Namespace) (edit : Edit) → IsUtf8Edit edit → refusal n edit ≡ None → IsWellFormed n → HasUtf8Names n → HasUtf8Names (effect n edit)
 
 -- a block's row shows the block
 abbrev pub RowsShowBlocks : Type 0

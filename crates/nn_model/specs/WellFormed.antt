@@ -5,6 +5,7 @@ use Rattle.std.specs.List.Sorted.{IsStrictlySortedBy}
 use Rattle.std.specs.Ordering.{nat_cmp}
 use Rattle.nn_types.specs.declared.block.Block.{Block}
 use Rattle.nn_types.specs.Number.{IsNumber}
+use Rattle.nn_types.specs.Path.{AreUtf8}
 use Rattle.nn_model.specs.declared.form.Form.TheVariants.{Dir, File}
 use Rattle.nn_model.specs.declared.form.FileRow.{FileRow}
 use Rattle.nn_model.specs.Namespace.{Path, path_cmp, Issued, Namespace, lookup, all_blocks, no_block, no_stamp}
@@ -48,3 +49,7 @@ pub record IsWellFormed (n : Namespace) : Type 0 where
   pub last_block_to : IsNumber n.issued.last_block
   pub last_stamp_from : no_stamp ≤ n.issued.last_stamp
   pub last_stamp_to : IsNumber n.issued.last_stamp
+
+-- each name in the namespace is UTF-8
+abbrev pub HasUtf8Names : Namespace → Type 0
+HasUtf8Names n = (p : Path) → is_some (lookup n p) ≡ true → AreUtf8 p

@@ -1,14 +1,16 @@
 -- For each clause of a well formed namespace one namespace that breaks that clause alone.
 use Rattle.std.specs.Prelude.{◌≡◌, ℕ, ◌≤◌, ◌<◌, ◌^◌, true, false, [], ◌∷◌, nat_le, nat_lt, codes, refl}
 use Rattle.std.specs.Ordering.{is_lt}
+use Rattle.std.specs.Str.{is_utf8}
 use Rattle.std.specs.List.Sorted.{IsStrictlySortedBy}
-use Rattle.std.proofs.Common.{ap, inl, inr}
-use Rattle.std.proofs.lemmas.Bool.{both_ways, le-leb, lt-ltb}
+use Rattle.std.proofs.Common.{ap, inl, inr, arith}
+use Rattle.std.proofs.lemmas.Bool.{both_ways, le-leb, lt-ltb, and_parts}
 use Rattle.std.proofs.lemmas.Option.{none-some}
+use Rattle.std.proofs.lemmas.Str.{IsUtf8-from_is_utf8, lead_after_ascii}
 use Rattle.nn_types.specs.declared.block.Block.{Block}
 use Rattle.nn_model.specs.declared.form.Form.TheVariants.{Dir}
 use Rattle.nn_model.specs.Namespace.{Namespace, root_alone}
-use Rattle.nn_model.specs.WellFormed.{IsIssued, HasWellFormedBlocks, IsWellFormed}
+use Rattle.nn_model.specs.WellFormed.{IsIssued, HasWellFormedBlocks, IsWellFormed, HasUtf8Names}
 use Rattle.nn_model.specs.NamespaceRows.{a, a_b, b, c, f, block, file, namespace}
 
 -- the least number that is too great for the formats
@@ -68,6 +70,14 @@ awaiting_before_the_first w = above 1073741825 1073741824 refl (w.awaiting_from 
 
 awaiting_above_the_last : HasWellFormedBlocks (namespace [] b 1001 (c ∷ [])) → ⊥
 awaiting_above_the_last w = above c b refl (w.awaiting_from c refl).1
+
+-- ---- Names.
+
+-- a directory whose name is the letter a, and the end of another one
+half_a_letter : HasUtf8Names (namespace (((97 ∷ 169 ∷ []) ∷ [], Dir) ∷ []) b 1001 []) → ⊥
+half_a_letter utf8 =
+    let name = (and_parts (is_utf8 (97 ∷ 169 ∷ [])) true (utf8 ((97 ∷ 169 ∷ []) ∷ []) refl)).0 in
+    above 192 169 refl (lead_after_ascii (97 ∷ 169 ∷ []) 0 (IsUtf8-from_is_utf8 _ name) (omega arith) (omega arith) (omega arith))
 
 -- ---- Blocks.
 

@@ -1,7 +1,7 @@
 //! What edits and logs keep. Each law is the contract of a function that does nothing.
 ghost use Rattle.nn_model.specs.Namespace.{root_alone};
 ghost use Rattle.nn_model.specs.WellFormed.{IsWellFormed};
-ghost use Rattle.nn_model.specs.Laws.{DueStays, BlocksStayWellFormed, StaysWellFormed, EqualLookUps};
+ghost use Rattle.nn_model.specs.Laws.{DueStays, BlocksStayWellFormed, StaysWellFormed, NamesStayUtf8, EqualLookUps};
 ghost use Rattle.nn_model.specs.Laws.{TouchedTells, RowsAreTold, RowsShowBlocks, OnlyTouchedBecomeDue};
 ghost use Rattle.nn_model.specs.Laws.{LogKeepsWellFormed, LogKeepsBlocks, LogKeepsDue, NamespaceOfAppended, AppendedLog, LogRuns};
 ghost use Rattle.nn_model.specs.Laws.{LogCountsUp, OneMoreSegment, OldAddsNothing, GapAddsNothing, OverlapAddsTheRest, LowerProfileGoesOn};
@@ -22,6 +22,12 @@ pub fn blocks_stay_well_formed()
 /// formed blocks, in the limits of its numbers.
 pub fn stays_well_formed()
     ensures { StaysWellFormed }
+{}
+
+/// After an edit that applies the names of the namespace are UTF-8, as those of the edit are: a rename puts names of
+/// both together.
+pub fn names_stay_utf8()
+    ensures { NamesStayUtf8 }
 {}
 
 /// Whoever keeps blocks by their id, as a replica table does, can follow the log by what each edit touched: the

@@ -215,13 +215,13 @@ goes_on start base given more x y s t =
 -- ---- the namespace of an image
 
 pub keeps_status : KeepsStatus
-keeps_status n txid m well paths few small read id =
-    let both : Ok (n, txid) ≡ Ok m = sym (reads_back n txid well paths few small) ∙ read in
+keeps_status n txid m well utf8 paths few small read id =
+    let both : Ok (n, txid) ≡ Ok m = sym (reads_back n txid well utf8 paths few small) ∙ read in
     let same : (n, txid) ≡ m = cc in
     sym (ap (λ (p : Namespace × ℕ). status_of p.0 id) same)
 
 pub keeps_old_status : KeepsOldStatus
-keeps_old_status n txid m well paths few small read id =
-    let both : Ok (in_profile One n, txid) ≡ Ok m = sym (reads_old_back n txid well paths few small) ∙ read in
+keeps_old_status n txid m well utf8 paths few small read id =
+    let both : Ok (in_profile One n, txid) ≡ Ok m = sym (reads_old_back n txid well utf8 paths few small) ∙ read in
     let same : (in_profile One n, txid) ≡ m = cc in
     sym (ap (λ (p : Namespace × ℕ). status_of p.0 id) same)

@@ -5,7 +5,7 @@ use Rattle.nn_types.specs.declared.tx.Tx.{Tx}
 use Rattle.nn_model.specs.Namespace.{Namespace}
 use Rattle.nn_model.specs.Log.{namespace_after, IsLog}
 use Rattle.nn_model.specs.Status.{status_of}
-use Rattle.nn_model.specs.WellFormed.{IsWellFormed}
+use Rattle.nn_model.specs.WellFormed.{IsWellFormed, HasUtf8Names}
 use Rattle.nn_shadow.specs.declared.fault.Stop.{Stop}
 use Rattle.nn_segment.specs.Segment.{Segment, IsSegment}
 use Rattle.nn_segment.specs.Source.{Answer}
@@ -41,10 +41,10 @@ StopsAgain = (start : Namespace) (base : ℕ) (given : List Answer) (x : Tailer)
 
 -- what is said of each block id by the namespace that an image was written of, the namespace that it is read as says too
 abbrev pub KeepsStatus : Type 0
-KeepsStatus = (n : Namespace) (txid : ℕ) (m : Namespace × ℕ) → IsWellFormed n → HasPaths n → IsCounted n → txid < 2 ^ 63
+KeepsStatus = (n : Namespace) (txid : ℕ) (m : Namespace × ℕ) → IsWellFormed n → HasUtf8Names n → HasPaths n → IsCounted n → txid < 2 ^ 63
     → read_image (image_text n txid) ≡ Ok m → (id : ℕ) → status_of m.0 id ≡ status_of n id
 
 -- and so it is with an image of version 1, which has no profile
 abbrev pub KeepsOldStatus : Type 0
-KeepsOldStatus = (n : Namespace) (txid : ℕ) (m : Namespace × ℕ) → IsWellFormed n → HasPaths n → IsCounted n → txid < 2 ^ 63
+KeepsOldStatus = (n : Namespace) (txid : ℕ) (m : Namespace × ℕ) → IsWellFormed n → HasUtf8Names n → HasPaths n → IsCounted n → txid < 2 ^ 63
     → read_image (old_image_text n txid) ≡ Ok m → (id : ℕ) → status_of m.0 id ≡ status_of n id

@@ -5,7 +5,8 @@ use Rattle.std.specs.Ordering.{is_eq, nat_cmp}
 use Rattle.std.proofs.lemmas.Bool.{both_ways, cases_Bool, eqb-true, eq-eqb, ne_eqb, not-false}
 use Rattle.nn_types.specs.declared.block.Block.{Block}
 use Rattle.nn_types.specs.declared.edit.Edit.TheVariants as edit
-use Rattle.nn_types.specs.LawfulEdit.{IsLawfulEdit}
+use Rattle.nn_types.specs.LawfulEdit.{IsTypedEdit}
+use Rattle.nn_model.proofs.Utf8Names.{names_stay_utf8}
 use Rattle.nn_model.proofs.Trees.{stays_well_formed}
 use Rattle.nn_model.specs.declared.form.Form.TheVariants.{File}
 use Rattle.nn_model.specs.declared.form.FileRow.{FileRow}
@@ -42,7 +43,7 @@ not_yet n i look waiting k =
           absurd (both_ways _ (subst (λ j. has_id n.issued.awaiting j ≡ false) s.0 is.not_awaiting) waiting)
     ] refl
 
-pub add_block_kept : (n : Namespace) (p : Path) (i stamp : ℕ) (x : FileRow) (look next : ℕ → Option BlockRow) → IsLawfulEdit (edit.AddBlock p i stamp) → refusal n (edit.AddBlock p i stamp) ≡ None → lookup n p ≡ Some (File x) →
+pub add_block_kept : (n : Namespace) (p : Path) (i stamp : ℕ) (x : FileRow) (look next : ℕ → Option BlockRow) → IsTypedEdit (edit.AddBlock p i stamp) → refusal n (edit.AddBlock p i stamp) ≡ None → lookup n p ≡ Some (File x) →
     ((q : ℕ) → next q ≡ cond (i == q) (Some (record { block = record { id = i; stamp = stamp; len = 0 }; closed = false })) (look q)) → IsKept n look → IsKept (effect n (edit.AddBlock p i stamp)) next
 add_block_kept n p i stamp x look next l lawful was goes k =
     let b : Block = record { id = i; stamp = stamp; len = 0 } in
@@ -53,7 +54,8 @@ add_block_kept n p i stamp x look next l lawful was goes k =
     let is_open : x.closed ≡ false = sym (ap (λ o. (file_or_none o).closed) was) ∙ open_file n p i stamp lawful in
     let new : (c : BlockRow) → Stands (lookup n) c → c.block.id ≡ i → ⊥ = λ c s e. (let here = k.index.complete c s in let there : look c.block.id ≡ None = ap look e ∙ none in (cc (here, there))) in
     record {
-      well = stays_well_formed n (edit.AddBlock p i stamp) l lawful k.well;
+      well = stays_well_formed n (edit.AddBlock p i stamp) l.0 lawful k.well;
+      utf8 = names_stay_utf8 n (edit.AddBlock p i stamp) l.1 lawful k.well k.utf8;
       index = put_index n p (File y) look next (record {
         own = λ z here c q r at_q in_row is. elim here [
           | inl added ↦ elim (has_either f.blocks (b ∷ []) z added) [

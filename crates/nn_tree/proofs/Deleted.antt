@@ -9,11 +9,12 @@ use Rattle.std.proofs.lemmas.Cmp.{nat_cmp_total, tied_itself}
 use Rattle.std.proofs.lemmas.Bool.{both_ways, cases_Bool, and_parts, eqb-true, eq-eqb, or_left, or_right, false_from_ne_true}
 use Rattle.nn_types.specs.declared.block.Block.{Block}
 use Rattle.nn_types.specs.declared.edit.Edit.TheVariants as edit
-use Rattle.nn_types.specs.LawfulEdit.{IsLawfulEdit}
+use Rattle.nn_types.specs.LawfulEdit.{IsTypedEdit}
+use Rattle.nn_model.proofs.Utf8Names.{names_stay_utf8}
 use Rattle.nn_model.proofs.Trees.{stays_well_formed}
 use Rattle.nn_model.specs.Namespace.{Namespace, path_cmp, lookup, blocks_of, begins_with}
 use Rattle.nn_model.specs.Apply.{refusal, effect, has_id}
-use Rattle.nn_model.specs.WellFormed.{Has, HasWellFormedBlocks, IsWellFormed}
+use Rattle.nn_model.specs.WellFormed.{Has, HasWellFormedBlocks, IsWellFormed, HasUtf8Names}
 use Rattle.nn_model.proofs.Wells.{blocks_of_found, not_below}
 use Rattle.nn_model.proofs.Lookups.{find_in_order}
 use Rattle.nn_model.specs.declared.form.Form.{Form}
@@ -112,12 +113,13 @@ index_deleted n g p t look next w e sub sorted goes x = record {
 pub deleted_seen : (es new : List (Path × Form)) (issued : Issued) (p ns : Path) → ns ≡ p → IsGrafted es ns None new → seen new issued ≡ effect (seen es issued) (edit.Delete p)
 deleted_seen es new issued p ns e h = ap (λ x. record { rows = x; issued = issued }) (gone_there es new p (λ q. subst (λ (s : Path). at new q ≡ Rattle.nn_tree.specs.At.grafted (at es) s (Rattle.nn_tree.specs.At.rows None) q) e (h q)))
 
-pub delete_kept : (es new t : List (Path × Form)) (issued : Issued) (ids : List ℕ) (look next : ℕ → Option BlockRow) (p ns : Path) → ns ≡ p → IsLawfulEdit (edit.Delete p) → refusal (seen es issued) (edit.Delete p) ≡ None → IsGrafted es ns None new → IsSubtree es ns (Some t) → is_sorted path_cmp t ≡ true → ids ≡ ids_of t →
+pub delete_kept : (es new t : List (Path × Form)) (issued : Issued) (ids : List ℕ) (look next : ℕ → Option BlockRow) (p ns : Path) → ns ≡ p → IsTypedEdit (edit.Delete p) → refusal (seen es issued) (edit.Delete p) ≡ None → IsGrafted es ns None new → IsSubtree es ns (Some t) → is_sorted path_cmp t ≡ true → ids ≡ ids_of t →
     ((id : ℕ) → next id ≡ cond (has_id ids id) None (look id)) → IsKept (seen es issued) look → IsKept (seen new issued) next
 delete_kept es new t issued ids look next p ns e l lawful h sub sorted is goes k =
     let n = seen es issued in
     record {
-      well = subst IsWellFormed (sym (deleted_seen es new issued p ns e h)) (stays_well_formed n (edit.Delete p) l lawful k.well);
+      well = subst IsWellFormed (sym (deleted_seen es new issued p ns e h)) (stays_well_formed n (edit.Delete p) l.0 lawful k.well);
+      utf8 = subst HasUtf8Names (sym (deleted_seen es new issued p ns e h)) (names_stay_utf8 n (edit.Delete p) l.1 lawful k.well k.utf8);
       index = index_deleted n (lookup (seen new issued)) ns t look next k.well.blocks
           (λ q. find_in_order q new ∙ h q ∙ graft_gone (at es) ns q ∙ ap (λ o. cond (not (begins_with ns q)) o None) (sym (find_in_order q es)))
           (λ q. find_in_order (ns ++ q) es ∙ sub q) sorted (λ id. goes id ∙ ap (λ (x : List ℕ). cond (has_id x id) None (look id)) is) k.index;

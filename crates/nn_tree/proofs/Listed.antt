@@ -4,7 +4,9 @@ use Rattle.std.specs.Prelude.{◌==◌, option_map}
 use Rattle.std.proofs.lemmas.Bool.{both_ways, eqb-true, eq-eqb, ne_eqb, not-false, and_parts, and_from}
 use Rattle.nn_types.specs.declared.block.Block.{Block}
 use Rattle.nn_types.specs.declared.edit.Edit.TheVariants as edit
-use Rattle.nn_types.specs.LawfulEdit.{IsLawfulEdit}
+use Rattle.nn_types.specs.LawfulEdit.{IsTypedEdit}
+use Rattle.nn_types.specs.Path.{AreUtf8}
+use Rattle.nn_model.proofs.Utf8Names.{row_utf8}
 use Rattle.nn_model.proofs.Trees.{stays_well_formed}
 use Rattle.nn_model.specs.declared.form.Form.TheVariants.{Dir, File}
 use Rattle.nn_model.specs.declared.form.FileRow.{FileRow}
@@ -79,19 +81,20 @@ renewed_gone look closed (x ∷ old) (y ∷ new) a ids (inr h) away =
     ap (λ t. cond t (option_map (λ _. record { block = y; closed = closed }) rest) rest) (ne_eqb y.id a.id (away y (inl refl)))
     ∙ renewed_gone look closed old new a (tail_ids x y old new ids) h (λ z k. away z (inr k))
 
-list_stays : (n : Namespace) (p : Path) (bs : List Block) (closed : Bool) → IsLawfulEdit (edit.Close p bs) → first (list_checks n p bs) ≡ None → IsWellFormed n → IsWellFormed (with_blocks n p bs closed)
-list_stays n p bs true l lawful w = stays_well_formed n (edit.Close p bs) l lawful w
-list_stays n p bs false l lawful w = stays_well_formed n (edit.UpdateBlocks p bs) l lawful w
+list_stays : (n : Namespace) (p : Path) (bs : List Block) (closed : Bool) → IsTypedEdit (edit.Close p bs) → first (list_checks n p bs) ≡ None → IsWellFormed n → IsWellFormed (with_blocks n p bs closed)
+list_stays n p bs true l lawful w = stays_well_formed n (edit.Close p bs) l.0 lawful w
+list_stays n p bs false l lawful w = stays_well_formed n (edit.UpdateBlocks p bs) l.0 lawful w
 
 -- a list with the same ids instead of a file's, in a file that is closed or open now
-written_kept : (n : Namespace) (p : Path) (bs : List Block) (closed : Bool) (x : FileRow) (look next : ℕ → Option BlockRow) → keeps_ids (file_at n p).blocks bs ≡ true → IsWellFormed (with_blocks n p bs closed) → lookup n p ≡ Some (File x) → ((q : ℕ) → next q ≡ renewed look (file_at n p).blocks bs closed q) → IsKept n look → IsKept (with_blocks n p bs closed) next
-written_kept n p bs closed x look next ids well was goes k =
+written_kept : (n : Namespace) (p : Path) (bs : List Block) (closed : Bool) (x : FileRow) (look next : ℕ → Option BlockRow) → keeps_ids (file_at n p).blocks bs ≡ true → AreUtf8 p → IsWellFormed (with_blocks n p bs closed) → lookup n p ≡ Some (File x) → ((q : ℕ) → next q ≡ renewed look (file_at n p).blocks bs closed q) → IsKept n look → IsKept (with_blocks n p bs closed) next
+written_kept n p bs closed x look next ids names well was goes k =
     let f = file_at n p in
     let y : FileRow = record { replication = f.replication; closed = closed; blocks = bs } in
     let stood : (o : Block) → Has f.blocks o → look o.id ≡ Some (record { block = o; closed = x.closed }) = λ o h. k.index.complete (record { block = o; closed = x.closed }) (p, File x, was, (refl, subst (λ r. Has (old_blocks r) o) was h)) in
     let once : (id : ℕ) → times id f.blocks ≤ 1 = λ id. omega (arith, times_put id p Dir n.rows k.well.blocks.in_order, k.well.blocks.once id) in
     record {
       well = well;
+      utf8 = row_utf8 n k.utf8 p (File y) names;
       index = put_index n p (File y) look next (record {
         own = old_own n p (File y) k.well.blocks (λ z h. old_one f.blocks bs z ids h);
         written = λ c h.
@@ -102,18 +105,18 @@ written_kept n p bs closed x look next ids well was goes k =
       }) k.index;
     }
 
-pub list_kept : (n : Namespace) (p : Path) (bs : List Block) (closed : Bool) (x : FileRow) (look next : ℕ → Option BlockRow) → IsLawfulEdit (edit.Close p bs) → first (list_checks n p bs) ≡ None → lookup n p ≡ Some (File x) → ((q : ℕ) → next q ≡ renewed look (file_at n p).blocks bs closed q) → IsKept n look → IsKept (with_blocks n p bs closed) next
+pub list_kept : (n : Namespace) (p : Path) (bs : List Block) (closed : Bool) (x : FileRow) (look next : ℕ → Option BlockRow) → IsTypedEdit (edit.Close p bs) → first (list_checks n p bs) ≡ None → lookup n p ≡ Some (File x) → ((q : ℕ) → next q ≡ renewed look (file_at n p).blocks bs closed q) → IsKept n look → IsKept (with_blocks n p bs closed) next
 list_kept n p bs closed x look next l lawful was goes k =
     let found = all_none (list_checks n p bs) lawful in
-    written_kept n p bs closed x look next (not-false _ (when_none _ _ found.1.1.1.1.1.0)) (list_stays n p bs closed l lawful k.well) was goes k
+    written_kept n p bs closed x look next (not-false _ (when_none _ _ found.1.1.1.1.1.0)) l.1 (list_stays n p bs closed l lawful k.well) was goes k
 
 keeps_itself : (bs : List Block) → keeps_ids bs bs ≡ true
 keeps_itself [] = refl
 keeps_itself (b ∷ bs) = and_from (b.id == b.id) (keeps_ids bs bs) (eq-eqb b.id b.id refl) (keeps_itself bs)
 
-pub append_kept : (n : Namespace) (p : Path) (x : FileRow) (look next : ℕ → Option BlockRow) → IsLawfulEdit (edit.Append p) → refusal n (edit.Append p) ≡ None → lookup n p ≡ Some (File x) → ((q : ℕ) → next q ≡ renewed look (file_at n p).blocks (file_at n p).blocks false q) → IsKept n look → IsKept (effect n (edit.Append p)) next
+pub append_kept : (n : Namespace) (p : Path) (x : FileRow) (look next : ℕ → Option BlockRow) → IsTypedEdit (edit.Append p) → refusal n (edit.Append p) ≡ None → lookup n p ≡ Some (File x) → ((q : ℕ) → next q ≡ renewed look (file_at n p).blocks (file_at n p).blocks false q) → IsKept n look → IsKept (effect n (edit.Append p)) next
 append_kept n p x look next l applies was goes k =
-    written_kept n p (file_at n p).blocks false x look next (keeps_itself (file_at n p).blocks) (stays_well_formed n (edit.Append p) l applies k.well) was goes k
+    written_kept n p (file_at n p).blocks false x look next (keeps_itself (file_at n p).blocks) l.1 (stays_well_formed n (edit.Append p) l.0 applies k.well) was goes k
 
 -- what a new list touched
 pub list_touched : (n : Namespace) (p : Path) (bs : List Block) (closed : Bool) (x : FileRow) → lookup n p ≡ Some (File x) →

@@ -15,7 +15,7 @@ use Rattle.nn_model.specs.declared.form.Form.TheVariants.{Dir, File}
 use Rattle.nn_model.specs.declared.form.FileRow.{FileRow}
 use Rattle.nn_model.specs.Namespace.{Path, Issued, Namespace, lookup, blocks_of, no_block, no_stamp}
 use Rattle.nn_model.specs.Apply.{refusal, checks, walk, has_id, is_dir}
-use Rattle.nn_model.specs.WellFormed.{Has, IsWellFormed}
+use Rattle.nn_model.specs.WellFormed.{Has, IsWellFormed, HasUtf8Names}
 use Rattle.nn_tree.specs.Restore.{bare, parent_of, rises, is_issued, awaiting_fits, can_restore}
 use Rattle.nn_tree.specs.View.{IsKept, Stands}
 use Rattle.nn_model.specs.declared.form.BlockRow.{BlockRow}
@@ -166,9 +166,14 @@ no_block_stands : (issued : Issued) (b : BlockRow) → Stands (lookup (bare issu
 no_block_stands issued b ([], r, e, here) = let is : Dir ≡ r = cc in subst (λ form. Has (blocks_of form) b.block) (sym is) here.1
 no_block_stands issued b (name ∷ p, r, e, here) = absurd (cc)
 
+bare_utf8 : (issued : Issued) → HasUtf8Names (bare issued)
+bare_utf8 issued [] some = refl
+bare_utf8 issued (name ∷ p) some = absurd (both_ways _ refl some)
+
 pub bare_kept : (n : Namespace) (look : ℕ → Option BlockRow) (issued : Issued) → n ≡ bare issued → IsWellFormed (bare issued) → ((id : ℕ) → look id ≡ None) → IsKept n look
 bare_kept n look issued e w none = record {
   well = subst IsWellFormed (sym e) w;
+  utf8 = subst HasUtf8Names (sym e) (bare_utf8 issued);
   index = record {
     sound = λ id b h. absurd (let m = none id in (cc (m, h)));
     complete = λ b stands. absurd (no_block_stands issued b (subst (λ m. Stands (lookup m) b) e stands));

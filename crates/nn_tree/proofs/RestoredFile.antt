@@ -9,7 +9,7 @@ use Rattle.nn_types.specs.Block.{AreBlocks}
 use Rattle.nn_types.specs.Number.{IsNumber}
 use Rattle.nn_types.specs.declared.edit.Edit.TheVariants as edit
 use Rattle.nn_types.specs.declared.edit_fault.EditFault.{EditFault}
-use Rattle.nn_types.specs.LawfulEdit.{IsLawfulEdit}
+use Rattle.nn_types.specs.LawfulEdit.{IsLawfulEdit, IsTypedEdit}
 use Rattle.nn_types.specs.Path.{IsPath}
 use Rattle.nn_model.specs.declared.form.Form.{Form}
 use Rattle.nn_model.specs.declared.form.Form.TheVariants.{Dir, File}
@@ -23,6 +23,7 @@ use Rattle.nn_model.specs.WellFormed.{Has, times, IsIssued, IsWellFormed}
 use Rattle.nn_model.proofs.Dues.{all_none, when_none}
 use Rattle.nn_model.proofs.InRows.{put_from}
 use Rattle.nn_model.proofs.Lookups.{paths_total, lookup_put}
+use Rattle.nn_model.proofs.Utf8Names.{row_utf8}
 use Rattle.nn_model.proofs.Trees.{stays_well_formed}
 use Rattle.nn_model.proofs.Wells.{times_put, times-append, from_T, to_T}
 use Rattle.nn_model.specs.declared.form.BlockRow.{BlockRow}
@@ -377,10 +378,11 @@ entered_apart look [] closed id away = refl
 entered_apart look (y ∷ bs) closed id away =
     ap (λ t. cond t (Some (record { block = y; closed = closed })) (entered look bs closed id)) (ne_eqb y.id id (away y (inl refl))) ∙ entered_apart look bs closed id (λ b here. away b (inr here))
 
-pub file_kept : (n : Namespace) (p : Path) (x : FileRow) (look next : ℕ → Option BlockRow) → IsLawfulEdit (edit.Add p x.replication) → refusal n (edit.Add p x.replication) ≡ None → list_all (block_fits n.issued) x.blocks ≡ true → AreBlocks x.blocks
+pub file_kept : (n : Namespace) (p : Path) (x : FileRow) (look next : ℕ → Option BlockRow) → IsTypedEdit (edit.Add p x.replication) → refusal n (edit.Add p x.replication) ≡ None → list_all (block_fits n.issued) x.blocks ≡ true → AreBlocks x.blocks
     → are_new look x.blocks ≡ true → ((q : ℕ) → next q ≡ entered look x.blocks x.closed q) → IsKept n look → IsKept (with_row n p (File x)) next
 file_kept n p x look next lawful applies fit lengths new goes k = record {
-  well = well n p x lawful applies k.well fit lengths (new_is_once n look x.blocks k new);
+  well = well n p x lawful.0 applies k.well fit lengths (new_is_once n look x.blocks k new);
+  utf8 = row_utf8 n k.utf8 p (File x) lawful.1;
   index = put_index n p (File x) look next (record {
     own = λ z here c q s at_q in_row is. elim here [
       | inl own ↦

@@ -5,7 +5,7 @@ use Rattle.nn_model.specs.declared.form.Form.{Form}
 use Rattle.nn_model.specs.declared.form.Form.TheVariants.{Dir, File}
 use Rattle.nn_model.specs.Namespace.{Path, Issued, Namespace, lookup, blocks_of}
 use Rattle.nn_model.specs.Apply.{in_path_order}
-use Rattle.nn_model.specs.WellFormed.{Has, IsWellFormed}
+use Rattle.nn_model.specs.WellFormed.{Has, IsWellFormed, HasUtf8Names}
 use Rattle.nn_model.specs.declared.form.BlockRow.{BlockRow}
 
 -- the namespace of a tree's paths, and of what was issued
@@ -30,9 +30,10 @@ pub record IsIndex (f : Path → Option Form) (look : ℕ → Option BlockRow) :
   pub sound : (id : ℕ) (b : BlockRow) → look id ≡ Some b → (b.block.id ≡ id) × Stands f b
   pub complete : (b : BlockRow) → Stands f b → look b.block.id ≡ Some b
 
--- what holds between two calls: the namespace is well formed, and the index is its own
+-- what holds between two calls: the namespace is well formed, its names are UTF-8, and the index is its own
 pub record IsKept (n : Namespace) (look : ℕ → Option BlockRow) : Type 0 where
   pub well : IsWellFormed n
+  pub utf8 : HasUtf8Names n
   pub index : IsIndex (lookup n) look
 
 -- the index after the row of a block was written anew, if there is one

@@ -1,6 +1,6 @@
 //! The namespace: a directory tree, seen as its rows in path order, and an index of the blocks in its files.
 ghost use Rattle.std.specs.Prelude.{◌≡◌, OnOk, OnErr, IfOk, IfErr, IfSome, IsErrOf, None, Ok, true, option_map, length, []};
-ghost use Rattle.nn_types.specs.LawfulEdit.{IsLawfulEdit};
+ghost use Rattle.nn_types.specs.LawfulEdit.{IsLawfulEdit, IsTypedEdit};
 ghost use Rattle.nn_types.specs.Profile.{number_of};
 ghost use Rattle.nn_model.specs.Namespace.{root_alone, lookup};
 ghost use Rattle.nn_model.specs.Apply.{applied, refusal};
@@ -12,7 +12,7 @@ ghost use Rattle.nn_tree.specs.Found.{form_of};
 ghost use Rattle.nn_tree.specs.At.{names_of};
 ghost use Rattle.nn_tree.specs.Listing.{rows_of};
 ghost use Rattle.nn_tree.specs.Rows.{rows_from, Resumes};
-ghost use Rattle.nn_model.specs.WellFormed.{IsWellFormed};
+ghost use Rattle.nn_model.specs.WellFormed.{IsWellFormed, HasUtf8Names};
 ghost use Rattle.nn_tree.specs.Blocks.{IsInFile};
 ghost use Rattle.nn_tree.specs.Memory.{takes_memory};
 ghost use Rattle.nn_tree.specs.Touched.{seen};
@@ -103,9 +103,10 @@ impl Namespace {
         fault
     }
 
-    /// Every namespace is well formed. This does nothing: it is there for the proofs of callers.
+    /// Every namespace is well formed, and its names are UTF-8. This does nothing: it is there for the proofs of callers.
     pub fn well_formed(&self)
-        ensures { IsWellFormed self.now }
+        ensures well_formed { IsWellFormed self.now }
+        ensures utf8 { HasUtf8Names self.now }
     {
         let _ = &self.root;
     }
@@ -242,9 +243,9 @@ impl Namespace {
     }
 }
 
-// The paths and numbers of an edit keep their limits. This does nothing.
+// The paths and numbers of an edit keep their limits, and its names are UTF-8. This does nothing.
 fn lawful(edit: &Edit)
-    ensures { IsLawfulEdit edit.now }
+    ensures { IsTypedEdit edit.now }
 {
     match edit {
         Edit::StartSegment { .. } | Edit::EndSegment => {}

@@ -1,7 +1,12 @@
 -- Paths at their limits, and what is just past them.
-use Rattle.std.specs.Prelude.{◌≡◌, ℕ, zero, suc, true, false, List, [], ◌∷◌, map, codes, refl}
+use Rattle.std.specs.Prelude.{◌≡◌, ◌≤◌, ℕ, zero, suc, true, false, List, [], ◌∷◌, map, codes, refl}
 use Rattle.std.proofs.Common.{lit≤, arith}
-use Rattle.nn_types.specs.Path.{is_name, path_text, IsPath}
+use Rattle.std.specs.Char.{IsScalar}
+use Rattle.std.specs.Str.{is_utf8}
+use Rattle.std.proofs.Math.Utf8.{encode}
+use Rattle.std.proofs.lemmas.Bool.{and_from, and_parts}
+use Rattle.std.proofs.lemmas.Str.{IsUtf8-encode, is_utf8-from_IsUtf8, IsUtf8-from_is_utf8, lead_after_ascii}
+use Rattle.nn_types.specs.Path.{is_name, path_text, IsPath, AreUtf8}
 
 -- so many letters n
 abbrev letters : ℕ → List ℕ
@@ -25,6 +30,20 @@ names_refused = refl
 
 texts : map path_text ([] ∷ (codes "a" ∷ []) ∷ (codes "a" ∷ codes "b" ∷ []) ∷ []) ≡ codes "/" ∷ codes "/a" ∷ codes "/a/b" ∷ []
 texts = refl
+
+-- the second name is the letter é
+utf8_names : AreUtf8 (encode 97 ∷ encode 233 ∷ [])
+utf8_names = and_from _ _ (letter 97 refl) (and_from _ true (letter 233 refl) refl)
+  where
+    letter : (c : ℕ) → IsScalar c → is_utf8 (encode c) ≡ true
+    letter c scalar = is_utf8-from_IsUtf8 _ (IsUtf8-encode c scalar)
+
+-- the second name is the letter a, and the end of another one
+half_a_letter : AreUtf8 (codes "a" ∷ (97 ∷ 169 ∷ []) ∷ []) → ⊥
+half_a_letter utf8 =
+    let name = (and_parts (is_utf8 (97 ∷ 169 ∷ [])) true (and_parts (is_utf8 (codes "a")) _ utf8).1).0 in
+    let lead : 192 ≤ 169 = lead_after_ascii (97 ∷ 169 ∷ []) 0 (IsUtf8-from_is_utf8 _ name) (omega arith) (omega arith) (omega arith) in
+    omega (arith, lead)
 
 -- ---- 1000 names and 8000 bytes.
 

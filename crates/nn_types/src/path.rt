@@ -2,7 +2,7 @@
 ghost use Rattle.std.specs.Prelude.{◌≡◌, ◌+◌, ◌≤◌, List, ℕ, length, drop, Some, None, IfOk, IfSome, IfNone, IsErrOf, true, false};
 ghost use Rattle.std.specs.List.{list_all, prefix_len};
 ghost use Rattle.nn_types.specs.Fault.{number_of};
-ghost use Rattle.nn_types.specs.Path.{is_name, is_name_byte, parts, path_of, path_text, IsPath};
+ghost use Rattle.nn_types.specs.Path.{is_name, is_name_byte, parts, path_of, path_text, IsPath, AreUtf8};
 
 use crate::fault;
 use crate::names::{Names, name_len};
@@ -109,6 +109,7 @@ impl Path {
     pub fn names(&self) -> Names<'_>
         ensures names { result ≡ self.now }
         ensures lawful { IsPath self.now }
+        ensures utf8 { AreUtf8 self.now }
     {
         match self.text.strip_prefix('/') {
             Some(names) => Names::of(names),

@@ -3,6 +3,7 @@ ghost use Rattle.std.specs.Prelude.{◌≡◌, ◌≤◌, ◌^◌, length, OnOk,
 ghost use Rattle.nn_device.specs.Device.{Took};
 ghost use Rattle.nn_image.specs.Text.{image_text};
 ghost use Rattle.nn_image.specs.Reading.{read_image};
+ghost use Rattle.nn_image.specs.Lawful.{IsReadBack};
 ghost use Rattle.nn_image.specs.Saving.{WroteFront};
 ghost use Rattle.nn_image.specs.Outcome.{Noted};
 ghost use Rattle.nn_image.specs.Loading.{Ends, Stops};
@@ -22,7 +23,7 @@ use std::io::{Read, Write};
 
 impl Standby {
     /// Writes the image of its namespace, with its last txid: whatever it holds, has in hand or was stopped by is no part
-    /// of it.
+    /// of it. `from_image` starts from just that, if each path of the namespace keeps the limits of paths.
     pub fn checkpoint<W: Write>(
         &self,
         alloc: Global,
@@ -30,6 +31,7 @@ impl Standby {
     ) -> Result<(), SaveFault>
         ensures ok { OnOk result (Took writer.old writer.new (image_text self.now.shadow.namespace self.now.shadow.last)) }
         ensures front { IfErr result (WroteFront writer.old writer.new (image_text self.now.shadow.namespace self.now.shadow.last)) }
+        ensures again { IsReadBack self.now.shadow.namespace self.now.shadow.last }
     {
         // Each txid that is applied is below 2^63.
         let Some(last) = Txid::new(self.shadow.last_txid()) else {

@@ -2,7 +2,7 @@
 //! that is refused, and one for which memory ran out, leaves all as it was. `Namespace::refusal` tells these apart.
 ghost use Rattle.std.specs.Prelude.{◌≡◌, ◌≢◌, None, OnOk, OnErr, IfOk, false, []};
 ghost use Rattle.nn_types.specs.declared.edit.Edit.TheVariants as edit;
-ghost use Rattle.nn_types.specs.LawfulEdit.{IsLawfulEdit};
+ghost use Rattle.nn_types.specs.LawfulEdit.{IsTypedEdit};
 ghost use Rattle.nn_model.specs.Apply.{refusal, first, list_checks, with_blocks};
 ghost use Rattle.nn_model.specs.Touched.{listed};
 ghost use Rattle.nn_tree.specs.Does.{Does};
@@ -21,7 +21,7 @@ use std::alloc::Global;
 impl Namespace {
     // Makes the change of an edit, if it applies.
     pub(super) fn change(&mut self, edit: &Edit) -> Result<Touched, Unchanged>
-        requires lawful { IsLawfulEdit edit.now }
+        requires lawful { IsTypedEdit edit.now }
         ensures does { Does edit.now self.old result self.new }
         ensures spare { OnErr result (takes_memory edit.now ≡ false → refusal self.old edit.now ≢ None) }
     {
@@ -43,7 +43,7 @@ impl Namespace {
     }
 
     fn start_segment(&mut self, profile: Profile) -> Result<Touched, Unchanged>
-        requires lawful { IsLawfulEdit (edit.StartSegment profile) }
+        requires lawful { IsTypedEdit (edit.StartSegment profile) }
         ensures does { Does (edit.StartSegment profile) self.old result self.new }
         ensures refused { OnErr result (refusal self.old (edit.StartSegment profile) ≢ None) }
     {
@@ -55,7 +55,7 @@ impl Namespace {
     }
 
     pub(super) fn mkdir(&mut self, path: &Path) -> Result<Touched, Unchanged>
-        requires lawful { IsLawfulEdit (edit.Mkdir path.now) }
+        requires lawful { IsTypedEdit (edit.Mkdir path.now) }
         ensures { Does (edit.Mkdir path.now) self.old result self.new }
     {
         let Ok(()) = self
@@ -68,7 +68,7 @@ impl Namespace {
     }
 
     fn add(&mut self, path: &Path, replication: Replication) -> Result<Touched, Unchanged>
-        requires lawful { IsLawfulEdit (edit.Add path.now replication) }
+        requires lawful { IsTypedEdit (edit.Add path.now replication) }
         ensures { Does (edit.Add path.now replication) self.old result self.new }
     {
         if !is_replication(replication) {
@@ -90,7 +90,7 @@ impl Namespace {
         id: BlockId,
         stamp: GenerationStamp,
     ) -> Result<Touched, Unchanged>
-        requires lawful { IsLawfulEdit (edit.AddBlock path.now id stamp) }
+        requires lawful { IsTypedEdit (edit.AddBlock path.now id stamp) }
         ensures { Does (edit.AddBlock path.now id stamp) self.old result self.new }
     {
         let names = path.names();
@@ -122,14 +122,14 @@ impl Namespace {
     }
 
     fn update_blocks(&mut self, path: &Path, blocks: &Blocks) -> Result<Touched, Unchanged>
-        requires lawful { IsLawfulEdit (edit.UpdateBlocks path.now blocks.now) }
+        requires lawful { IsTypedEdit (edit.UpdateBlocks path.now blocks.now) }
         ensures { Does (edit.UpdateBlocks path.now blocks.now) self.old result self.new }
     {
         self.set_blocks(path, blocks, false)
     }
 
     fn close(&mut self, path: &Path, blocks: &Blocks) -> Result<Touched, Unchanged>
-        requires lawful { IsLawfulEdit (edit.Close path.now blocks.now) }
+        requires lawful { IsTypedEdit (edit.Close path.now blocks.now) }
         ensures { Does (edit.Close path.now blocks.now) self.old result self.new }
     {
         self.set_blocks(path, blocks, true)
@@ -142,7 +142,7 @@ impl Namespace {
         blocks: &Blocks,
         closed: bool,
     ) -> Result<Touched, Unchanged>
-        requires lawful { IsLawfulEdit (edit.Close path.now blocks.now) }
+        requires lawful { IsTypedEdit (edit.Close path.now blocks.now) }
         ensures applies { OnOk result (first (list_checks self.old path.now blocks.now) ≡ None) }
         ensures ok { OnOk result (self.new ≡ with_blocks self.old path.now blocks.now closed) }
         ensures touched { IfOk result (λ t. seen t ≡ listed self.old path.now blocks.now closed) }
@@ -165,7 +165,7 @@ impl Namespace {
 
     // Opens a closed file. The rows of its blocks are open then.
     fn append(&mut self, path: &Path) -> Result<Touched, Unchanged>
-        requires lawful { IsLawfulEdit (edit.Append path.now) }
+        requires lawful { IsTypedEdit (edit.Append path.now) }
         ensures { Does (edit.Append path.now) self.old result self.new }
     {
         let names = path.names();
@@ -181,7 +181,7 @@ impl Namespace {
     }
 
     fn rename(&mut self, src: &Path, dst: &Path) -> Result<Touched, Unchanged>
-        requires lawful { IsLawfulEdit (edit.Rename src.now dst.now) }
+        requires lawful { IsTypedEdit (edit.Rename src.now dst.now) }
         ensures { Does (edit.Rename src.now dst.now) self.old result self.new }
     {
         let Ok(()) = self.root.rename(self.alloc, &src.names(), &dst.names()) else {
@@ -191,7 +191,7 @@ impl Namespace {
     }
 
     fn delete(&mut self, path: &Path) -> Result<Touched, Unchanged>
-        requires lawful { IsLawfulEdit (edit.Delete path.now) }
+        requires lawful { IsTypedEdit (edit.Delete path.now) }
         ensures { Does (edit.Delete path.now) self.old result self.new }
     {
         let names = path.names();
@@ -217,7 +217,7 @@ impl Namespace {
         path: &Path,
         replication: Replication,
     ) -> Result<Touched, Unchanged>
-        requires lawful { IsLawfulEdit (edit.SetReplication path.now replication) }
+        requires lawful { IsTypedEdit (edit.SetReplication path.now replication) }
         ensures does { Does (edit.SetReplication path.now replication) self.old result self.new }
         ensures refused { OnErr result (refusal self.old (edit.SetReplication path.now replication) ≢ None) }
     {
@@ -235,7 +235,7 @@ impl Namespace {
     }
 
     fn allocate(&mut self, id: BlockId) -> Result<Touched, Unchanged>
-        requires lawful { IsLawfulEdit (edit.AllocateBlockId id) }
+        requires lawful { IsTypedEdit (edit.AllocateBlockId id) }
         ensures { Does (edit.AllocateBlockId id) self.old result self.new }
     {
         if self.allocate_refusal(id).is_some() {
@@ -249,7 +249,7 @@ impl Namespace {
     }
 
     fn set_genstamp(&mut self, stamp: GenerationStamp) -> Result<Touched, Unchanged>
-        requires lawful { IsLawfulEdit (edit.SetGenstamp stamp) }
+        requires lawful { IsTypedEdit (edit.SetGenstamp stamp) }
         ensures does { Does (edit.SetGenstamp stamp) self.old result self.new }
         ensures refused { OnErr result (refusal self.old (edit.SetGenstamp stamp) ≢ None) }
     {

@@ -13,7 +13,7 @@ returns-in-Ok-follow c =
     let whole = segments_from 1 c.args.scenario.parts.items in
     let followed = c.in-Ok-follow.ensures in
     IfOk-weaker c.output_of_standby.result _ _ (λ o told.
-    told_in_turn (start_of c.args.begin) c.args.options c.args.scenario.steps whole c.in-Ok.segments.items c.in-Ok-follow.standby (shown o) c.in-Ok.ensures.ok c.well_formed-2.ensures.blocks c.requires.lawful.in_turn
+    told_in_turn (start_of c.args.begin) c.args.options c.args.scenario.steps whole c.in-Ok.segments.items c.in-Ok-follow.standby (shown o) c.in-Ok.ensures.ok c.well_formed-2.ensures.well_formed.blocks c.requires.lawful.in_turn
     followed.arrived followed.turns followed.settings told) c.output_of_standby.ensures
 
 pub returns-in-Err-follow : goal.returns-in-Err-follow

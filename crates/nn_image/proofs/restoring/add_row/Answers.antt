@@ -37,4 +37,4 @@ returns-clause-paths c =
     let n = c.args.namespace.now in
     let order = order_is _ _ _ _ c.comes_before.result true c.names.ensures.names c.names-2.ensures.names c.comes_before.ensures c.if-not-comes_before.false in
     let row : Path × Form = (c.in-Some.path, c.in-Some.form) in
-    one_more_path n c.restore.new.self row (pushed n _ c.args.number c.requires row order c.restore.new.self c.in-Ok.ensures.ok) c.is_text.ensures.lawful c.is_text.ensures.text
+    one_more_path n c.restore.new.self row (pushed n _ c.args.number c.requires row order c.restore.new.self c.in-Ok.ensures.ok) c.names-2.ensures.lawful

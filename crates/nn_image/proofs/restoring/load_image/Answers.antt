@@ -30,7 +30,7 @@ pub returns-clause-again : goal.returns-clause-again
 returns-clause-again g c =
     read_again c.load_rows.new.namespace c.in-Ok.namespace (header_value c.in_ok-header.header).0.issued c.in_ok-header.header.txid
     (c.in-Ok.ensures ∙ ap (λ (ids : List ℕ). bare (record { last_block = c.in_ok-header.header.last_block; last_stamp = c.in_ok-header.header.last_stamp; awaiting = ids; profile = c.in_ok-header.header.profile })) c.deref.ensures.value)
-    c.in_default-load_rows.ensures.paths c.in_default-load_rows.ensures.counted c.well_formed-2.ensures c.in_ok-header.ensures.limit
+    c.in_default-load_rows.ensures.paths c.in_default-load_rows.ensures.counted c.well_formed-2.ensures.well_formed c.well_formed-2.ensures.utf8 c.in_ok-header.ensures.limit
 
 pub returns-clause-paths : goal.returns-clause-paths
 returns-clause-paths g c =

@@ -56,7 +56,7 @@ invariant_of-self-in-Ok c =
     let applies : refusal s (edit.Add p x.replication) ≡ None = subst (λ (n : Namespace). refusal n (edit.Add p x.replication) ≡ None) (sym c.self.view_is) c.requires.applies in
     let fit : list_all (block_fits s.issued) x.blocks ≡ true = subst (λ (n : Namespace). list_all (block_fits n.issued) x.blocks ≡ true) (sym c.self.view_is) c.requires.fit in
     subst (λ (n : Namespace). IsKept n (λ id. get nat_cmp c.enter.new.index id)) (sym is)
-    (file_kept s p x look (λ id. get nat_cmp c.enter.new.index id) (c.names-names.ensures.lawful, c.get.ensures.limit) applies fit
+    (file_kept s p x look (λ id. get nat_cmp c.enter.new.index id) ((c.names-names.ensures.lawful, c.get.ensures.limit), c.names-names.ensures.utf8) applies fit
     c.lawful.ensures (ap (are_new look) (sym listed) ∙ c.in_default.ensures.lawful)
     (λ q. c.in_default.ensures.ok q ∙ (λ j. entered look (listed j) x.closed q)) c.self.invariant)
 

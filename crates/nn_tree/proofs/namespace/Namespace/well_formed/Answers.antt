@@ -1,6 +1,9 @@
 use Rattle.std.proofs.Common.{subst}
-use Rattle.nn_model.specs.WellFormed.{IsWellFormed}
+use Rattle.nn_model.specs.WellFormed.{IsWellFormed, HasUtf8Names}
 use Rattle.nn_tree.proofs.namespace.Namespace.well_formed.Goals as goal
 
-pub returns : goal.returns
-returns c = subst IsWellFormed c.self.view_is c.self.invariant.well
+pub returns-clause-well_formed : goal.returns-clause-well_formed
+returns-clause-well_formed c = subst IsWellFormed c.self.view_is c.self.invariant.well
+
+pub returns-clause-utf8 : goal.returns-clause-utf8
+returns-clause-utf8 c = subst HasUtf8Names c.self.view_is c.self.invariant.utf8

@@ -2,7 +2,8 @@
 use Rattle.std.specs.Prelude.{◌≡◌, ◌≤◌, ◌<◌, ◌+◌, ℕ, Bool, true, false, List, length, Option, Some, None, option_map, Result, Ok, Err}
 use Rattle.std.specs.Io.KnownBytes.{Consumes}
 use Rattle.nn_device.specs.Device.{Reading}
-use Rattle.nn_scenario.specs.Chunks.{IsReadAs}
+use Rattle.nn_scenario.specs.Chunks.{IsReadAs, IsReadBy}
+use Rattle.nn_scenario.specs.Reading.{Reading as Lines}
 use Rattle.nn_scenario.specs.Scenario.{max_input}
 use Rattle.nn_scenario.specs.declared.scenario.BadLine.{BadLine}
 use Rattle.nn_scenario.specs.declared.scenario.Scenario.{Scenario}
@@ -35,6 +36,14 @@ IsUnread from_image old new TooLong = GaveTooMuch from_image old new × (new.fai
 IsUnread from_image old new OutOfMemory = new.failed ≡ old.failed
 
 -- ---- For private clauses.
+
+-- all that the reader gave is an input, whose lines were handed to a sink that was this first
+pub record IsReadToEnd {S : Type 0} (has_read : S → Lines → S → Type 0) (first : S) (old new : Reading) (lines : Result S BadLine) : Type 0 where
+  pub input : List ℕ
+  pub taken : Consumes old.left new.left input
+  pub counted : new.given ≡ old.given + length input
+  pub fits : length input ≤ max_input
+  pub read : IsReadBy has_read first input lines
 
 -- the image of an input, where it is asked for and there
 abbrev pub image_in : Bool → List ℕ → Option (List ℕ)

@@ -1,13 +1,14 @@
 //! The image and the scenario that a reader gives.
 ghost use Rattle.std.specs.Prelude.{◌≡◌, false, true, length, IfOk, IfErr, OnOk};
 ghost use Rattle.std.specs.Io.KnownBytes.{IsAtEnd};
+ghost use Rattle.nn_scenario.specs.Reading.{nothing_read};
 ghost use Rattle.nn_scenario.specs.Scenario.{seen, IsLawfulScenario};
-ghost use Rattle.nn_engine.specs.Input.{IsReadOfAll, IsScenarioOfAll, IsUnread};
+ghost use Rattle.nn_engine.specs.Input.{IsReadOfAll, IsReadToEnd, IsScenarioOfAll, IsUnread};
 
 use nn_device::Reader;
 use nn_edits::Scratch;
 use nn_front::Front;
-use nn_scenario::{BadLine, Lines, MAX_INPUT, Scenario};
+use nn_scenario::{BadLine, LineSink, Lines, MAX_INPUT, Reading, Scenario, scenario_of};
 use std::alloc::{AllocError, Global};
 use std::io::Read;
 use thiserror::Error;
@@ -50,7 +51,25 @@ pub fn read_scenario<R: Read>(
     ensures none_failed { OnOk result (input.new.failed ≡ input.old.failed) }
     ensures why { IfErr result (IsUnread false input.old input.new) }
 {
-    let mut lines = Lines::new(alloc)?;
+    let reading = Reading::new(alloc)?;
+    let lines = read_lines_to(alloc, reading, input)?;
+    Ok(scenario_of(lines))
+}
+
+// Hands each line of a scenario to the sink. The reader is read to its end, behind a line that is refused too.
+fn read_lines_to<R: Read, S: LineSink + Drop>(
+    alloc: Global,
+    sink: S,
+    input: &mut Reader<R>,
+) -> Result<Result<S, BadLine>, InputFault>
+    requires new { S.has_read sink nothing_read sink }
+    requires none { S.count sink ≡ 0 }
+    ensures whole { IfOk result (IsReadToEnd S.has_read sink input.old input.new) }
+    ensures end { OnOk result (IsAtEnd input.new.left) }
+    ensures none_failed { OnOk result (input.new.failed ≡ input.old.failed) }
+    ensures why { IfErr result (IsUnread false input.old input.new) }
+{
+    let mut lines = Lines::to(alloc, sink);
     let mut scratch = Scratch::new(alloc);
     let mut buffer = new_buffer(alloc, BUFFER)?;
     let mut taken = 0;
@@ -109,7 +128,8 @@ fn read_behind_image<R: Read>(
     ensures why { IfErr result (IsUnread true input.old input.new) }
 {
     let mut front = Front::new(alloc);
-    let mut lines = Lines::new(alloc)?;
+    let reading = Reading::new(alloc)?;
+    let mut lines = Lines::to(alloc, reading);
     let mut scratch = Scratch::new(alloc);
     let mut buffer = new_buffer(alloc, BUFFER)?;
     let mut taken = 0;
@@ -121,7 +141,8 @@ fn read_behind_image<R: Read>(
             let Ok(image) = front.end() else {
                 return Err(InputFault::OutOfMemory);
             };
-            let lines = lines.end(alloc, &mut scratch);
+            let read = lines.end(alloc, &mut scratch);
+            let lines = scenario_of(read);
             return Ok(InputParts { image, lines });
         }
         let Ok(at) = front.push(alloc, &buffer[..n]) else {

@@ -11,14 +11,14 @@ use Rattle.nn_edits.specs.Reading.{either_of_line}
 use Rattle.nn_edits.specs.declared.fault.LineFault.{LineFault}
 use Rattle.nn_edits.specs.declared.fault.LineFault.TheVariants.{OutOfMemory}
 use Rattle.nn_segment.specs.Lines.{newline, is_unbroken}
-use Rattle.nn_scenario.specs.Chunks.{Chunks, IsKept, HasCome, IsReadAs, follow, goes_on}
+use Rattle.nn_scenario.specs.Chunks.{Chunks, IsKept, IsRefused, CameTo, HasCome, Hands, GoesOnAs, Takes, Refuses, IsReadBy, IsReadAs, follow, goes_on, with_reading}
 use Rattle.nn_scenario.specs.Cut.{last_part}
-use Rattle.nn_scenario.specs.Scenario.{Scenario, is_blank, lines_from, scenario_of, scenario_with, seen}
-use Rattle.nn_scenario.specs.Reading.{Reading, nothing_read}
+use Rattle.nn_scenario.specs.Scenario.{is_blank, lines_from, scenario_of, scenario_with, seen}
+use Rattle.nn_scenario.specs.Reading.{Reading, nothing_read, IsFollowed}
 use Rattle.nn_scenario.specs.declared.scenario.BadLine.{BadLine}
 use Rattle.nn_scenario.specs.declared.scenario.Scenario.{Scenario as Read}
 use Rattle.nn_scenario.proofs.LawfulLemmas.{has_messages, lawful_scenario}
-use Rattle.nn_scenario.proofs.LineLemmas.{Turned, no_more, pieces, refused, turn, whole_input}
+use Rattle.nn_scenario.proofs.LineLemmas.{no_more, pieces, refused, turn, whole_input}
 
 -- ---- lines
 
@@ -41,136 +41,191 @@ unbroken_joined torn text u v = list_all-append (λ b. not (eqb b newline)) torn
 
 -- ---- a line ends
 
-abbrev after_line : Chunks → Reading → Chunks
+abbrev after_line : Chunks Reading → Reading → Chunks Reading
 after_line c next = record { so_far = next; ended = c.ended + 1; torn = []; bad = None }
 
-first_of : (c : Chunks) (text more : List ℕ) → is_unbroken (c.torn ++ text) ≡ true →
+first_of : (c : Chunks Reading) (text more : List ℕ) → is_unbroken (c.torn ++ text) ≡ true →
     goes_on c (text ++ newline ∷ more) ≡ follow c.so_far (lines_from (c.ended + 1) ((c.torn ++ text) ∷ pieces more))
 first_of c text more whole =
     ap (λ t. follow c.so_far (lines_from (c.ended + 1) (pieces t))) (sym (append_assoc c.torn text (newline ∷ more)))
     ∙ ap (λ ls. follow c.so_far (lines_from (c.ended + 1) ls)) (cut_first (c.torn ++ text) more whole)
 
-pub line_ended : (c : Chunks) (text : List ℕ) (next : Reading) → is_unbroken (c.torn ++ text) ≡ true → Turned (c.torn ++ text) c.so_far next →
+line_ended : (c : Chunks Reading) (text : List ℕ) (next : Reading) → is_unbroken (c.torn ++ text) ≡ true → IsFollowed (c.torn ++ text) c.so_far next →
     (more : List ℕ) → goes_on c (text ++ newline ∷ more) ≡ goes_on (after_line c next) more
-line_ended c text next whole turned more = first_of c text more whole ∙ turn (c.ended + 1) (c.torn ++ text) (pieces more) c.so_far next turned
+line_ended c text next whole followed more = first_of c text more whole ∙ turn (c.ended + 1) (c.torn ++ text) (pieces more) c.so_far next followed
 
-pub line_refused : (c : Chunks) (text : List ℕ) (d : LineFault) → is_unbroken (c.torn ++ text) ≡ true → is_blank (c.torn ++ text) ≡ false →
+line_refused : (c : Chunks Reading) (text : List ℕ) (d : LineFault) → is_unbroken (c.torn ++ text) ≡ true → is_blank (c.torn ++ text) ≡ false →
     either_of_line (c.torn ++ text) ≡ Err d → (more : List ℕ) → goes_on c (text ++ newline ∷ more) ≡ Err (record { fault = d; line = c.ended + 1 })
 line_refused c text d whole blank is more = first_of c text more whole ∙ refused (c.ended + 1) (c.torn ++ text) (pieces more) d c.so_far blank is
 
--- the same where the text was put behind what stood, and the line was read
-pub line_taken : (k : Chunks) (x next : Reading) (n : ℕ) (torn torn' line text : List ℕ) (b : Option BadLine) (r : Result (Unit {0}) BadLine) →
-    record { so_far = x; ended = n; torn = torn; bad = b } ≡ k → is_unbroken torn ≡ true → is_unbroken text ≡ true → line ≡ torn ++ text → torn' ≡ [] → k.bad ≡ None →
-    OnOk r (Turned line x next) →
-    OnOk r ((b ≡ None) × ((more : List ℕ) → goes_on k (text ++ newline ∷ more) ≡ goes_on (record { so_far = next; ended = n + 1; torn = torn'; bad = b }) more))
-line_taken k x next n torn torn' line text b (Err e) view u v joined empty good turned = tt
-line_taken k x next n torn torn' line text b (Ok done) view u v joined empty good turned =
-    let old : Chunks = record { so_far = x; ended = n; torn = torn; bad = b } in (
-      ap (λ c. c.bad) view ∙ good,
+-- the same where the text was put behind what stood, and the sink took the line
+pub line_taken : {S : Type 0} (has_read : S → Reading → S → Type 0) (k : Chunks S) (s t : S) (n : ℕ) (torn torn' line text : List ℕ) (b : Option BadLine) (r : Result (Unit {0}) BadLine) →
+    record { so_far = s; ended = n; torn = torn; bad = b } ≡ k → is_unbroken torn ≡ true → is_unbroken text ≡ true → line ≡ torn ++ text → torn' ≡ [] → k.bad ≡ None →
+    OnOk r (Hands has_read line s t) →
+    OnOk r ((b ≡ None) × Takes has_read (text ++ newline ∷ []) k (record { so_far = t; ended = n + 1; torn = torn'; bad = b }))
+line_taken has_read k s t n torn torn' line text b (Err e) view u v joined empty good hands = tt
+line_taken {S} has_read k s t n torn torn' line text b (Ok done) view u v joined empty good hands =
+    let old : Chunks S = record { so_far = s; ended = n; torn = torn; bad = b } in
+    let new : Chunks S = record { so_far = t; ended = n + 1; torn = torn'; bad = b } in
+    let takes : Takes has_read (text ++ newline ∷ []) old new = λ first x h.
+    let y = hands first x h in (
+      y.0,
+      y.1,
       λ more.
-          ap (λ c. goes_on c (text ++ newline ∷ more)) (sym view)
-          ∙ line_ended old text next (unbroken_joined torn text u v) (subst (λ l. Turned l x next) joined turned) more
-          ∙ ap (λ t. goes_on (record { so_far = next; ended = n + 1; torn = t; bad = b }) more) (sym empty),
-    )
+          ap (goes_on (with_reading old x)) (append_assoc text (newline ∷ []) more)
+          ∙ line_ended (with_reading old x) text y.0 (unbroken_joined torn text u v) (subst (λ l. IsFollowed l x y.0) joined y.2) more
+          ∙ ap (λ l. goes_on (record { so_far = y.0; ended = n + 1; torn = l; bad = b }) more) (sym empty),
+    ) in
+    (ap (λ c. c.bad) view ∙ good, subst (λ c. Takes has_read (text ++ newline ∷ []) c new) view takes)
 
 -- the same where it was refused
 abbrev pub Refused : List ℕ → ℕ → BadLine → Type 0
 Refused line n e = (e.line ≡ n) × (is_blank line ≡ false) × (e.fault ≢ OutOfMemory → either_of_line line ≡ Err e.fault)
 
-pub line_not_taken : (k : Chunks) (x : Reading) (n : ℕ) (torn line text : List ℕ) (b : Option BadLine) (r : Result (Unit {0}) BadLine) →
-    record { so_far = x; ended = n; torn = torn; bad = b } ≡ k → is_unbroken torn ≡ true → is_unbroken text ≡ true → line ≡ torn ++ text → IfErr r (Refused line (n + 1)) →
-    IfErr r (λ e. e.fault ≢ OutOfMemory → (more : List ℕ) → goes_on k (text ++ newline ∷ more) ≡ Err e)
-line_not_taken k x n torn line text b (Ok done) view u v joined why = tt
-line_not_taken k x n torn line text b (Err e) view u v joined why = λ other more.
-    let old : Chunks = record { so_far = x; ended = n; torn = torn; bad = b } in
+pub line_not_taken : {S : Type 0} (has_read : S → Reading → S → Type 0) (k : Chunks S) (s : S) (n : ℕ) (torn line text : List ℕ) (b : Option BadLine) (r : Result (Unit {0}) BadLine) →
+    record { so_far = s; ended = n; torn = torn; bad = b } ≡ k → is_unbroken torn ≡ true → is_unbroken text ≡ true → line ≡ torn ++ text → IfErr r (Refused line (n + 1)) →
+    IfErr r (Refuses has_read (text ++ newline ∷ []) k)
+line_not_taken has_read k s n torn line text b (Ok done) view u v joined why = tt
+line_not_taken {S} has_read k s n torn line text b (Err e) view u v joined why =
+    let old : Chunks S = record { so_far = s; ended = n; torn = torn; bad = b } in
     let why' : Refused (torn ++ text) (n + 1) e = subst (λ l. Refused l (n + 1) e) joined why in
-    ap (λ c. goes_on c (text ++ newline ∷ more)) (sym view)
-    ∙ line_refused old text e.fault (unbroken_joined torn text u v) why'.1 (why'.2 other) more
-    ∙ ap (λ l. Err (record { fault = e.fault; line = l })) (sym why'.0)
+    let refuses : Refuses has_read (text ++ newline ∷ []) old e = λ other first x h more.
+    ap (goes_on (with_reading old x)) (append_assoc text (newline ∷ []) more)
+    ∙ line_refused (with_reading old x) text e.fault (unbroken_joined torn text u v) why'.1 (why'.2 other) more
+    ∙ ap (λ l. Err (record { fault = e.fault; line = l })) (sym why'.0) in
+    subst (λ c. Refuses has_read (text ++ newline ∷ []) c e) view refuses
+
+-- bytes that are kept behind what stood
+pub bytes_kept : {S : Type 0} (has_read : S → Reading → S → Type 0) (k : Chunks S) (s : S) (n : ℕ) (torn torn' text : List ℕ) (b : Option BadLine) →
+    record { so_far = s; ended = n; torn = torn; bad = b } ≡ k → torn' ≡ torn ++ text → k.bad ≡ None →
+    (b ≡ None) × Takes has_read text k (record { so_far = s; ended = n; torn = torn'; bad = b })
+bytes_kept {S} has_read k s n torn torn' text b view joined good =
+    let old : Chunks S = record { so_far = s; ended = n; torn = torn; bad = b } in
+    let new : Chunks S = record { so_far = s; ended = n; torn = torn'; bad = b } in
+    let takes : Takes has_read text old new = λ first x h. (
+      x,
+      h,
+      λ more.
+          ap (λ t. follow x (lines_from (n + 1) (pieces t))) (sym (append_assoc torn text more))
+          ∙ ap (λ t. follow x (lines_from (n + 1) (pieces (t ++ more)))) (sym joined),
+    ) in
+    (ap (λ c. c.bad) view ∙ good, subst (λ c. Takes has_read text c new) view takes)
 
 -- bytes with a line feed in them
-pub cut_there : (rest more : List ℕ) (end : ℕ) → end < length rest → get_or rest end 0 ≡ newline → rest ++ more ≡ take end rest ++ newline ∷ (drop (end + 1) rest ++ more)
-cut_there rest more end less there =
+pub cut_there : (rest : List ℕ) (end : ℕ) → end < length rest → get_or rest end 0 ≡ newline → rest ≡ (take end rest ++ newline ∷ []) ++ drop (end + 1) rest
+cut_there rest end less there =
     let next : suc end ≡ end + 1 = omega arith in
     let from : drop end rest ≡ newline ∷ drop (end + 1) rest = drop-cons rest end 0 less ∙ ap (λ b. b ∷ drop (suc end) rest) there ∙ ap (λ n. newline ∷ drop n rest) next in
-    ap (λ l. l ++ more) (sym (take-append-drop end rest) ∙ ap (λ l. take end rest ++ l) from)
-    ∙ append_assoc (take end rest) (newline ∷ drop (end + 1) rest) more
+    sym (take-append-drop end rest) ∙ ap (λ l. take end rest ++ l) from ∙ sym (append_assoc (take end rest) (newline ∷ []) (drop (end + 1) rest))
+
+-- ---- some bytes, and then others
+
+pub then_takes : {S : Type 0} (has_read : S → Reading → S → Type 0) (c c' c'' : Chunks S) (bytes front rest : List ℕ) →
+    GoesOnAs has_read c bytes c' (front ++ rest) → Takes has_read front c' c'' → GoesOnAs has_read c bytes c'' rest
+then_takes has_read c c' c'' bytes front rest goes takes = λ first x h.
+    let y = goes first x h in
+    let z = takes first y.0 y.1 in
+    (z.0, z.1, λ more. y.2 more ∙ ap (goes_on (with_reading c' y.0)) (append_assoc front rest more) ∙ z.2 (rest ++ more))
+
+pub then_ends : {S : Type 0} (has_read : S → Reading → S → Type 0) (c c' c'' : Chunks S) (bytes rest : List ℕ) →
+    GoesOnAs has_read c bytes c' rest → Takes has_read rest c' c'' → Takes has_read bytes c c''
+then_ends has_read c c' c'' bytes rest goes takes = λ first x h.
+    let y = goes first x h in
+    let z = takes first y.0 y.1 in
+    (z.0, z.1, λ more. y.2 more ∙ z.2 more)
+
+pub then_refuses : {S : Type 0} (has_read : S → Reading → S → Type 0) (c c' : Chunks S) (bytes front rest : List ℕ) (e : BadLine) →
+    GoesOnAs has_read c bytes c' (front ++ rest) → Refuses has_read front c' e → Refuses has_read bytes c e
+then_refuses has_read c c' bytes front rest e goes refuses = λ other first x h more.
+    let y = goes first x h in y.2 more ∙ ap (goes_on (with_reading c' y.0)) (append_assoc front rest more) ∙ refuses other first y.0 y.1 (rest ++ more)
+
+-- memory ran out in them
+pub then_no_memory : {S : Type 0} (has_read : S → Reading → S → Type 0) (c : Chunks S) (bytes : List ℕ) (e : BadLine) → e.fault ≡ OutOfMemory → Refuses has_read bytes c e
+then_no_memory has_read c bytes e none = λ other. absurd (other none)
 
 -- ---- what has come
 
-pub new_come : (x : Reading) (torn : List ℕ) → x ≡ nothing_read → torn ≡ [] → HasCome [] (record { so_far = x; ended = 0; torn = torn; bad = None })
-new_come x torn none empty = λ more.
-    sym (ap (λ t. follow x (lines_from 1 (pieces (t ++ more)))) empty ∙ ap (λ y. follow y (lines_from 1 (pieces more))) none ∙ whole_input more)
+pub new_come : {S : Type 0} (has_read : S → Reading → S → Type 0) (s : S) (torn : List ℕ) → has_read s nothing_read s → torn ≡ []
+    → HasCome has_read s [] (record { so_far = s; ended = 0; torn = torn; bad = None })
+new_come has_read s torn h empty = (
+  nothing_read,
+  h,
+  λ more. sym (ap (λ t. follow nothing_read (lines_from 1 (pieces (t ++ more)))) empty ∙ whole_input more),
+)
 
-pub more_came : (text bytes : List ℕ) (c c' : Chunks) → c.bad ≡ None → c'.bad ≡ None → ((more : List ℕ) → goes_on c (bytes ++ more) ≡ goes_on c' more) →
-    HasCome text c → HasCome (text ++ bytes) c'
-more_came text bytes c c' good good' step come =
-    let kept : IsKept text c None = subst (IsKept text c) good come in
-    subst (IsKept (text ++ bytes) c') (sym good') (λ more. ap scenario_of (append_assoc text bytes more) ∙ kept (bytes ++ more) ∙ step more)
+pub more_came : {S : Type 0} (has_read : S → Reading → S → Type 0) (first : S) (text bytes : List ℕ) (c c' : Chunks S) → c.bad ≡ None → c'.bad ≡ None → Takes has_read bytes c c' →
+    HasCome has_read first text c → HasCome has_read first (text ++ bytes) c'
+more_came has_read first text bytes c c' good good' takes come =
+    let kept : CameTo has_read first text c None = subst (CameTo has_read first text c) good come in
+    let y = takes first kept.0 kept.1 in
+    subst (CameTo has_read first (text ++ bytes) c') (sym good')
+    (y.0, y.1, λ more. ap scenario_of (append_assoc text bytes more) ∙ kept.2 (bytes ++ more) ∙ y.2 more)
 
-pub bad_came : (text bytes : List ℕ) (c c' : Chunks) (e : BadLine) → c.bad ≡ None → c'.bad ≡ Some e →
-    (e.fault ≢ OutOfMemory → (more : List ℕ) → goes_on c (bytes ++ more) ≡ Err e) → HasCome text c → HasCome (text ++ bytes) c'
-bad_came text bytes c c' e good bad step come =
-    let kept : IsKept text c None = subst (IsKept text c) good come in
-    subst (IsKept (text ++ bytes) c') (sym bad) (λ other more. ap scenario_of (append_assoc text bytes more) ∙ kept (bytes ++ more) ∙ step other more)
+pub bad_came : {S : Type 0} (has_read : S → Reading → S → Type 0) (first : S) (text bytes : List ℕ) (c c' : Chunks S) (e : BadLine) → c.bad ≡ None → c'.bad ≡ Some e →
+    Refuses has_read bytes c e → HasCome has_read first text c → HasCome has_read first (text ++ bytes) c'
+bad_came has_read first text bytes c c' e good bad refuses come =
+    let kept : CameTo has_read first text c None = subst (CameTo has_read first text c) good come in
+    subst (CameTo has_read first (text ++ bytes) c') (sym bad)
+    (λ other more. ap scenario_of (append_assoc text bytes more) ∙ kept.2 (bytes ++ more) ∙ refuses other first kept.0 kept.1 more)
 
-pub still_bad : (text bytes : List ℕ) (c : Chunks) → is_some c.bad ≡ true → HasCome text c → HasCome (text ++ bytes) c
-still_bad text bytes c = at c.bad
+pub still_bad : {S : Type 0} (has_read : S → Reading → S → Type 0) (first : S) (text bytes : List ℕ) (c : Chunks S) → is_some c.bad ≡ true → HasCome has_read first text c → HasCome has_read first (text ++ bytes) c
+still_bad has_read first text bytes c = at c.bad
   where
-    at : (bad : Option BadLine) → is_some bad ≡ true → IsKept text c bad → IsKept (text ++ bytes) c bad
+    at : (bad : Option BadLine) → is_some bad ≡ true → CameTo has_read first text c bad → CameTo has_read first (text ++ bytes) c bad
     at None e come = absurd (let z : false ≡ true = e in cc)
     at (Some bad) e come = λ other more. ap scenario_of (append_assoc text bytes more) ∙ come other (bytes ++ more)
 
 -- ---- the end
 
-last_of : (text : List ℕ) (c : Chunks) → is_unbroken c.torn ≡ true → c.bad ≡ None → HasCome text c →
-    scenario_of text ≡ follow c.so_far (lines_from (c.ended + 1) (c.torn ∷ []))
-last_of text c whole good come =
-    let kept : IsKept text c None = subst (IsKept text c) good come in
+last_of : (text : List ℕ) (c : Chunks Reading) → is_unbroken c.torn ≡ true → IsKept text c → scenario_of text ≡ follow c.so_far (lines_from (c.ended + 1) (c.torn ∷ []))
+last_of text c whole kept =
     ap scenario_of (sym (append-nil text))
     ∙ kept []
     ∙ ap (λ t. follow c.so_far (lines_from (c.ended + 1) (pieces t))) (append-nil c.torn)
     ∙ ap (λ ls. follow c.so_far (lines_from (c.ended + 1) ls)) (one_line c.torn whole)
 
-last_line : (text : List ℕ) (c : Chunks) (next : Reading) → is_unbroken c.torn ≡ true → c.bad ≡ None → Turned c.torn c.so_far next → HasCome text c →
+last_line : (text : List ℕ) (c : Chunks Reading) (next : Reading) → is_unbroken c.torn ≡ true → IsFollowed c.torn c.so_far next → IsKept text c →
     scenario_of text ≡ Ok (scenario_with (next.parts ++ last_part next.in_hand) next.steps)
-last_line text c next whole good turned come = last_of text c whole good come ∙ turn (c.ended + 1) c.torn [] c.so_far next turned ∙ no_more (c.ended + 1 + 1) next
+last_line text c next whole followed kept = last_of text c whole kept ∙ turn (c.ended + 1) c.torn [] c.so_far next followed ∙ no_more (c.ended + 1 + 1) next
 
-last_refused : (text : List ℕ) (c : Chunks) (d : LineFault) → is_unbroken c.torn ≡ true → c.bad ≡ None → is_blank c.torn ≡ false → either_of_line c.torn ≡ Err d →
-    HasCome text c → scenario_of text ≡ Err (record { fault = d; line = c.ended + 1 })
-last_refused text c d whole good blank is come = last_of text c whole good come ∙ refused (c.ended + 1) c.torn [] d c.so_far blank is
+last_refused : (text : List ℕ) (c : Chunks Reading) (d : LineFault) → is_unbroken c.torn ≡ true → is_blank c.torn ≡ false → either_of_line c.torn ≡ Err d →
+    IsKept text c → scenario_of text ≡ Err (record { fault = d; line = c.ended + 1 })
+last_refused text c d whole blank is kept = last_of text c whole kept ∙ refused (c.ended + 1) c.torn [] d c.so_far blank is
 
-read_as : (text : List ℕ) (r : Result Read BadLine) (s : Scenario) → scenario_of text ≡ Ok s → IfOk r (λ x. seen x ≡ s) → IfErr r (λ e. e.fault ≡ OutOfMemory) →
-    IsReadAs text r
-read_as text (Ok x) s whole is none =
-    let same : scenario_of text ≡ Ok (seen x) = whole ∙ ap Ok (sym is) in
-    record { ok = same; messages = has_messages text (seen x) same; lawful = lawful_scenario text (seen x) same; bad = tt }
-read_as text (Err e) s whole is none = record { ok = tt; messages = tt; lawful = tt; bad = λ other. absurd (other none) }
+pub end_bad : {S : Type 0} (has_read : S → Reading → S → Type 0) (first : S) (text : List ℕ) (c : Chunks S) (e : BadLine) → c.bad ≡ Some e → HasCome has_read first text c → IsReadBy has_read first text (Err e)
+end_bad has_read first text c e bad come = λ other.
+    let refused' : IsRefused text e = subst (CameTo has_read first text c) bad come in ap scenario_of (sym (append-nil text)) ∙ refused' other []
 
-refused_as : (text : List ℕ) (e : BadLine) → (e.fault ≢ OutOfMemory → scenario_of text ≡ Err e) → IsReadAs text (Err e)
-refused_as text e is = record { ok = tt; messages = tt; lawful = tt; bad = is }
+-- what came to lines of which none was refused
+kept_so_far : {S : Type 0} (has_read : S → Reading → S → Type 0) (first : S) (text : List ℕ) (k c : Chunks S) → c ≡ k → c.bad ≡ None → HasCome has_read first text k → CameTo has_read first text c None
+kept_so_far has_read first text k c view none come = subst (CameTo has_read first text c) none (subst (HasCome has_read first text) (sym view) come)
 
-bad_is_told : (text : List ℕ) (c : Chunks) (e : BadLine) → c.bad ≡ Some e → HasCome text c → e.fault ≢ OutOfMemory → scenario_of text ≡ Err e
-bad_is_told text c e bad come other =
-    let kept : IsKept text c (Some e) = subst (IsKept text c) bad come in
-    ap scenario_of (sym (append-nil text)) ∙ kept other []
-
-pub end_bad : (text : List ℕ) (c : Chunks) (e : BadLine) → c.bad ≡ Some e → HasCome text c → IsReadAs text (Err e)
-end_bad text c e bad come = refused_as text e (bad_is_told text c e bad come)
-
-pub end_refused : (text : List ℕ) (k : Chunks) (x : Reading) (n : ℕ) {torn : List ℕ} (line : List ℕ) {b : Option BadLine} (e : BadLine) →
-    record { so_far = x; ended = n; torn = torn; bad = b } ≡ k → is_unbroken torn ≡ true → line ≡ torn → b ≡ None → Refused line (n + 1) e → HasCome text k → IsReadAs text (Err e)
-end_refused text k x n {torn} line {b} e view whole same none why come =
-    let old : Chunks = record { so_far = x; ended = n; torn = torn; bad = b } in
+pub end_refused : {S : Type 0} (has_read : S → Reading → S → Type 0) (first : S) (text : List ℕ) (k : Chunks S) (s : S) (n : ℕ) {torn : List ℕ} (line : List ℕ) {b : Option BadLine} (e : BadLine) →
+    record { so_far = s; ended = n; torn = torn; bad = b } ≡ k → is_unbroken torn ≡ true → line ≡ torn → b ≡ None → Refused line (n + 1) e → HasCome has_read first text k → IsReadBy has_read first text (Err e)
+end_refused {S} has_read first text k s n {torn} line {b} e view whole same none why come = λ other.
+    let old : Chunks S = record { so_far = s; ended = n; torn = torn; bad = b } in
+    let kept = kept_so_far has_read first text k old view none come in
     let why' : Refused torn (n + 1) e = subst (λ l. Refused l (n + 1) e) same why in
-    refused_as text e
-    (λ other. last_refused text old e.fault whole none why'.1 (why'.2 other) (subst (HasCome text) (sym view) come)
-    ∙ ap (λ l. Err (record { fault = e.fault; line = l })) (sym why'.0))
+    last_refused text (with_reading old kept.0) e.fault whole why'.1 (why'.2 other) kept.2
+    ∙ ap (λ l. Err (record { fault = e.fault; line = l })) (sym why'.0)
 
-pub end_told : (text : List ℕ) (k : Chunks) (x next : Reading) (n : ℕ) {torn : List ℕ} (line : List ℕ) {b : Option BadLine} (r : Result Read BadLine) →
-    record { so_far = x; ended = n; torn = torn; bad = b } ≡ k → is_unbroken torn ≡ true → line ≡ torn → b ≡ None → Turned line x next
-    → IfOk r (λ s. seen s ≡ scenario_with (next.parts ++ last_part next.in_hand) next.steps) → IfErr r (λ e. e.fault ≡ OutOfMemory) → HasCome text k → IsReadAs text r
-end_told text k x next n {torn} line {b} r view whole same none turned ok memory come =
-    let old : Chunks = record { so_far = x; ended = n; torn = torn; bad = b } in
-    read_as text r (scenario_with (next.parts ++ last_part next.in_hand) next.steps)
-    (last_line text old next whole none (subst (λ l. Turned l x next) same turned) (subst (HasCome text) (sym view) come)) ok memory
+pub end_told : {S : Type 0} (has_read : S → Reading → S → Type 0) (first : S) (text : List ℕ) (k : Chunks S) (s t : S) (n : ℕ) {torn : List ℕ} (line : List ℕ) {b : Option BadLine} →
+    record { so_far = s; ended = n; torn = torn; bad = b } ≡ k → is_unbroken torn ≡ true → line ≡ torn → b ≡ None → Hands has_read line s t → HasCome has_read first text k → IsReadBy has_read first text (Ok t)
+end_told {S} has_read first text k s t n {torn} line {b} view whole same none hands come =
+    let old : Chunks S = record { so_far = s; ended = n; torn = torn; bad = b } in
+    let kept = kept_so_far has_read first text k old view none come in
+    let y = hands first kept.0 kept.1 in
+    (y.0, y.1, last_line text (with_reading old kept.0) y.0 whole (subst (λ l. IsFollowed l kept.0 y.0) same y.2) kept.2)
+
+-- ---- a scenario that was kept
+
+pub read_as : (first : Reading) (text : List ℕ) (x : Reading) (r : Result Read BadLine) → IsReadBy (λ _ y reading. reading ≡ y) first text (Ok x)
+    → IfOk r (λ s. seen s ≡ scenario_with (x.parts ++ last_part x.in_hand) x.steps) → IfErr r (λ e. e.fault ≡ OutOfMemory) → IsReadAs text r
+read_as first text x (Ok s) read is none =
+    let same : scenario_of text ≡ Ok (seen s) =
+    read.2 ∙ ap (λ (y : Reading). Ok (scenario_with (y.parts ++ last_part y.in_hand) y.steps)) (sym read.1) ∙ ap Ok (sym is) in
+    record { ok = same; messages = has_messages text (seen s) same; lawful = lawful_scenario text (seen s) same; bad = tt }
+read_as first text x (Err e) read is none = record { ok = tt; messages = tt; lawful = tt; bad = λ other. absurd (other none) }
+
+pub refused_as : (text : List ℕ) (e : BadLine) → (e.fault ≢ OutOfMemory → scenario_of text ≡ Err e) → IsReadAs text (Err e)
+refused_as text e is = record { ok = tt; messages = tt; lawful = tt; bad = is }

@@ -4,3 +4,4 @@ pub mod LineLemmas
 pub mod LawfulLemmas
 pub mod SegmentLemmas
 pub mod ChunkLemmas
+pub mod CheckLemmas

@@ -16,7 +16,7 @@ use Rattle.nn_scenario.specs.Cut.{no_lines, with_line, last_part, cut_from}
 use Rattle.nn_scenario.specs.Scenario.{ScenarioLine, edit, report, line_as, is_blank, and_later, with_read, lines_from, edit_lines, steps_from}
 use Rattle.nn_scenario.specs.Scenario.{scenario_with, scenario_from, scenario_of}
 use Rattle.nn_scenario.specs.Chunks.{and_lines, follow}
-use Rattle.nn_scenario.specs.Reading.{Reading, nothing_read, followed_by_line}
+use Rattle.nn_scenario.specs.Reading.{Reading, nothing_read, followed_by_line, IsFollowed}
 use Rattle.nn_scenario.specs.Steps.{next_message, lanes_of, with_report}
 use Rattle.nn_scenario.specs.declared.scenario.BadLine.{BadLine}
 use Rattle.nn_scenario.specs.declared.steps.Step.{Step}
@@ -69,11 +69,7 @@ one_taken : (x : Reading) (line : ScenarioLine) (r : Result (List ScenarioLine) 
 one_taken x line (Ok lines) = ap Ok (taken x line lines)
 one_taken x line (Err e) = refl
 
--- what a line that was taken up leaves
-abbrev pub Turned : List ℕ → Reading → Reading → Type 0
-Turned text x next = MatchBool (is_blank text) (next ≡ x) ((line : Line) × (either_of_line text ≡ Ok line) × (next ≡ followed_by_line x (line_as text line)))
-
-pub turn : (n : ℕ) (text : List ℕ) (texts : List (List ℕ)) (x next : Reading) → Turned text x next
+pub turn : (n : ℕ) (text : List ℕ) (texts : List (List ℕ)) (x next : Reading) → IsFollowed text x next
     → follow x (lines_from n (text ∷ texts)) ≡ follow next (lines_from (n + 1) texts)
 unfolding lines_from
 turn n text texts x next h = at (is_blank text) h

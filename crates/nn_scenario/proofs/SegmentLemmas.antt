@@ -29,7 +29,7 @@ unfolding segments_from
 no_parts k front [] e = ap Ok (append-nil front)
 no_parts k front (part ∷ parts) e = absurd (omega arith)
 
-part_taken : (k : ℕ) (part : Part) (parts : List Part) (front : List Segment) (s : Segment) → segment_of part ≡ Ok s
+pub part_taken : (k : ℕ) (part : Part) (parts : List Part) (front : List Segment) (s : Segment) → segment_of part ≡ Ok s
     → prepend front (segments_from k (part ∷ parts)) ≡ prepend (front ++ s ∷ []) (segments_from (k + 1) parts)
 unfolding segments_from
 part_taken k part parts front s is = rw is (later (segments_from (k + 1) parts))

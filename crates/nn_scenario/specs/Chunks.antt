@@ -1,21 +1,25 @@
 -- A scenario whose bytes come in chunks.
-use Rattle.std.specs.Prelude.{◌≡◌, ◌≢◌, ◌==◌, ℕ, ◌+◌, List, ◌++◌, Option, None, Some, Result, Ok, Err, IfOk, IfErr}
+use Rattle.std.specs.Prelude.{◌≡◌, ◌≢◌, ◌==◌, ℕ, ◌+◌, List, [], ◌++◌, Option, None, Some, Result, Ok, Err, IfOk, IfErr}
 use Rattle.std.specs.List.{slice_split}
 use Rattle.nn_edits.specs.declared.fault.LineFault.TheVariants.{OutOfMemory}
 use Rattle.nn_segment.specs.Lines.{newline}
-use Rattle.nn_scenario.specs.Cut.{cut_from}
+use Rattle.nn_scenario.specs.Cut.{cut_from, last_part}
 use Rattle.nn_scenario.specs.Scenario.{ScenarioLine, Scenario, HasMessagesOf, IsLawfulScenario, edit_lines, lines_from, scenario_of, scenario_with, seen, steps_from}
-use Rattle.nn_scenario.specs.Reading.{Reading}
+use Rattle.nn_scenario.specs.Reading.{Reading, IsFollowed}
 use Rattle.nn_scenario.specs.Steps.{lanes_of}
 use Rattle.nn_scenario.specs.declared.scenario.BadLine.{BadLine}
 use Rattle.nn_scenario.specs.declared.scenario.Scenario.{Scenario as Read}
 
--- what was read of the lines that ended, how many these are, the bytes behind them, and the first line that was refused
-pub record Chunks : Type 0 where
-  pub so_far : Reading
+-- who took the lines that ended, how many these are, the bytes behind them, and the first line that was refused
+pub record Chunks (S : Type 0) : Type 0 where
+  pub so_far : S
   pub ended : ℕ
   pub torn : List ℕ
   pub bad : Option BadLine
+
+-- the same with what was read of the lines
+abbrev pub with_reading : {S : Type 0} → Chunks S → Reading → Chunks Reading
+with_reading c x = record { so_far = x; ended = c.ended; torn = c.torn; bad = c.bad }
 
 -- the scenario of what was read and of lines after it
 abbrev pub and_lines : Reading → List ScenarioLine → Scenario
@@ -25,18 +29,49 @@ abbrev pub follow : Reading → Result (List ScenarioLine) BadLine → Result Sc
 follow x (Ok lines) = Ok (and_lines x lines)
 follow x (Err e) = Err e
 
--- the same where no line was refused, and these bytes follow
-abbrev pub goes_on : Chunks → List ℕ → Result Scenario BadLine
+-- the scenario where no line was refused, and these bytes follow
+abbrev pub goes_on : Chunks Reading → List ℕ → Result Scenario BadLine
 goes_on c more = follow c.so_far (lines_from (c.ended + 1) (slice_split (λ b. b == newline) (c.torn ++ more)))
 
--- of a text whose first bytes came, the rest is as good as the whole: with what is kept of them it is the same scenario, or the same line is refused
-abbrev pub IsKept : List ℕ → Chunks → Option BadLine → Type 0
-IsKept text c None = (more : List ℕ) → scenario_of (text ++ more) ≡ goes_on c more
-IsKept text c (Some bad) = bad.fault ≢ OutOfMemory → (more : List ℕ) → scenario_of (text ++ more) ≡ Err bad
+-- of a text whose first bytes came, the rest is as good as the whole: with what is kept of them it is the same scenario
+abbrev pub IsKept : List ℕ → Chunks Reading → Type 0
+IsKept text c = (more : List ℕ) → scenario_of (text ++ more) ≡ goes_on c more
 
--- this much of a text came
-abbrev pub HasCome : List ℕ → Chunks → Type 0
-HasCome text c = IsKept text c c.bad
+-- of a text whose first bytes came, this line is refused, whatever follows
+abbrev pub IsRefused : List ℕ → BadLine → Type 0
+IsRefused text bad = bad.fault ≢ OutOfMemory → (more : List ℕ) → scenario_of (text ++ more) ≡ Err bad
+
+-- this much of a text came: the sink, which was this first, has read its lines, or one of them is refused
+abbrev pub CameTo : {S : Type 0} → (S → Reading → S → Type 0) → S → List ℕ → Chunks S → Option BadLine → Type 0
+CameTo has_read first text c None = (x : Reading) × has_read first x c.so_far × IsKept text (with_reading c x)
+CameTo has_read first text c (Some bad) = IsRefused text bad
+
+abbrev pub HasCome : {S : Type 0} → (S → Reading → S → Type 0) → S → List ℕ → Chunks S → Type 0
+HasCome has_read first text c = CameTo has_read first text c c.bad
+
+-- a sink that took the line of this text has read it behind what it had read
+abbrev pub Hands : {S : Type 0} → (S → Reading → S → Type 0) → List ℕ → S → S → Type 0
+Hands {S} has_read text s t = (first : S) (x : Reading) → has_read first x s → (y : Reading) × has_read first y t × IsFollowed text x y
+
+-- with these bytes it goes on as the other does with those
+abbrev pub GoesOnAs : {S : Type 0} → (S → Reading → S → Type 0) → Chunks S → List ℕ → Chunks S → List ℕ → Type 0
+GoesOnAs {S} has_read c bytes c' rest =
+    (first : S) (x : Reading) → has_read first x c.so_far
+    → (y : Reading) × has_read first y c'.so_far × ((more : List ℕ) → goes_on (with_reading c x) (bytes ++ more) ≡ goes_on (with_reading c' y) (rest ++ more))
+
+-- with these bytes it goes on as the other does without
+abbrev pub Takes : {S : Type 0} → (S → Reading → S → Type 0) → List ℕ → Chunks S → Chunks S → Type 0
+Takes has_read bytes c c' = GoesOnAs has_read c bytes c' []
+
+-- in these bytes a line is refused
+abbrev pub Refuses : {S : Type 0} → (S → Reading → S → Type 0) → List ℕ → Chunks S → BadLine → Type 0
+Refuses {S} has_read bytes c e =
+    e.fault ≢ OutOfMemory → (first : S) (x : Reading) → has_read first x c.so_far → (more : List ℕ) → goes_on (with_reading c x) (bytes ++ more) ≡ Err e
+
+-- a whole text was read by a sink that was this first, or a line is refused, unless memory ran out
+abbrev pub IsReadBy : {S : Type 0} → (S → Reading → S → Type 0) → S → List ℕ → Result S BadLine → Type 0
+IsReadBy has_read first text (Ok s) = (x : Reading) × has_read first x s × (scenario_of text ≡ Ok (scenario_with (x.parts ++ last_part x.in_hand) x.steps))
+IsReadBy has_read first text (Err e) = e.fault ≢ OutOfMemory → scenario_of text ≡ Err e
 
 -- what was read of a whole text: its scenario, or its first line that is refused, unless memory ran out
 pub record IsReadAs (text : List ℕ) (r : Result Read BadLine) : Type 0 where

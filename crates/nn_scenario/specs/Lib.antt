@@ -4,5 +4,7 @@ pub mod Cut
 pub mod Scenario
 pub mod Reading
 pub mod Chunks
+pub mod Checking
+pub mod CheckingRows
 pub mod CutRows
 pub mod StepRows

@@ -1,9 +1,12 @@
 -- What was read of a scenario while its lines are read one after another.
-use Rattle.std.specs.Prelude.{List, [], ◌∷◌, ◌++◌, if◌then◌else◌}
+use Rattle.std.specs.Prelude.{◌≡◌, ℕ, List, [], ◌∷◌, ◌++◌, if◌then◌else◌, Ok}
+use Rattle.std.specs.Bool.{MatchBool}
+use Rattle.nn_edits.specs.Reading.{either_of_line}
+use Rattle.nn_edits.specs.declared.line.Line.{Line}
 use Rattle.nn_types.specs.declared.report.Report.{Report}
 use Rattle.nn_segment.specs.Segment.{is_end}
 use Rattle.nn_scenario.specs.Cut.{EditLine, Part, no_lines, with_line}
-use Rattle.nn_scenario.specs.Scenario.{ScenarioLine, edit, report}
+use Rattle.nn_scenario.specs.Scenario.{ScenarioLine, edit, report, is_blank, line_as}
 use Rattle.nn_scenario.specs.Steps.{with_report}
 use Rattle.nn_scenario.specs.declared.steps.Step.{Step}
 use Rattle.nn_scenario.specs.declared.steps.Step.TheVariants as step
@@ -31,3 +34,7 @@ with_report_line x r = record { parts = x.parts; in_hand = x.in_hand; steps = wi
 abbrev pub followed_by_line : Reading → ScenarioLine → Reading
 followed_by_line x (edit line) = with_edit_line x line
 followed_by_line x (report r) = with_report_line x r
+
+-- what was read before a line of this text and behind it: a blank line says nothing
+abbrev pub IsFollowed : List ℕ → Reading → Reading → Type 0
+IsFollowed text x next = MatchBool (is_blank text) (next ≡ x) ((line : Line) × (either_of_line text ≡ Ok line) × (next ≡ followed_by_line x (line_as text line)))

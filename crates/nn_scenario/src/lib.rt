@@ -4,14 +4,16 @@
 //! mark; its reports are the messages of their DataNodes, numbered from 1. The steps keep the order of the lines.
 #![tactic(auto)]
 
+mod checking;
 mod lines;
 mod scenario;
 mod segments;
 mod step_list;
 mod steps;
 
-pub use lines::Lines;
-pub use scenario::{BadLine, MAX_INPUT, Scenario, read_lines};
+pub use checking::SegmentCheck;
+pub use lines::{LineSink, Lines};
+pub use scenario::{BadLine, MAX_INPUT, Reading, Scenario, read_lines, scenario_of};
 pub use segments::{BadSegment, Part, read_segments};
 pub use step_list::{StepList, StepsLeft};
 pub use steps::Step;

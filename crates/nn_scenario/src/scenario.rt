@@ -1,19 +1,17 @@
 //! A scenario's bytes as the lines of segments and as steps: cut into lines, each line read.
-ghost use Rattle.std.specs.Prelude.{◌≡◌, ◌≢◌, ◌≤◌, ◌<◌, ◌==◌, ◌++◌, true, false, length, Ok, Err, IfOk, IfErr, OnOk};
-ghost use Rattle.std.specs.Bool.{MatchBool as IfElse};
-ghost use Rattle.nn_edits.specs.Grammar.{IsLawfulLine};
-ghost use Rattle.nn_edits.specs.Reading.{edit_of_line, either_of_line};
-ghost use Rattle.nn_edits.specs.declared.line.Line.{Line as LineData};
+ghost use Rattle.std.specs.Prelude.{◌≡◌, ◌≢◌, ◌≤◌, ◌+◌, ◌++◌, true, List, ℕ, length, Ok, Err, IfOk, IfErr, OnOk};
+ghost use Rattle.nn_edits.specs.Reading.{edit_of_line};
+ghost use Rattle.nn_scenario.specs.Chunks.{IsReadAs, IsReadBy};
 ghost use Rattle.nn_scenario.specs.Cut.{last_part};
-ghost use Rattle.nn_scenario.specs.Scenario.{max_input, scenario_of, seen, HasMessagesOf, IsLawfulScenario, is_blank, line_as, scenario_with};
-ghost use Rattle.nn_scenario.specs.Reading.{nothing_read, with_edit_line, followed_by_line};
+ghost use Rattle.nn_scenario.specs.Scenario.{max_input, scenario_of, seen, HasMessagesOf, IsLawfulScenario, scenario_with};
+ghost use Rattle.nn_scenario.specs.Reading.{Reading as SoFar, nothing_read, with_edit_line};
 ghost use Rattle.nn_segment.specs.Lines.{is_unbroken};
 
-use crate::lines::Lines;
+use crate::lines::{LineSink, Lines};
 use crate::segments::Part;
 use crate::step_list::StepList;
 use crate::steps::Steps;
-use nn_edits::{Line, LineFault, Scratch, read_line};
+use nn_edits::{Line, LineFault, Scratch};
 use nn_segment::is_end;
 use nn_types::Tx;
 use std::alloc::{AllocError, Global};
@@ -51,12 +49,23 @@ pub fn read_lines(alloc: Global, input: &[u8]) -> Result<Scenario, BadLine>
     ensures lawful { IfOk result (λ s. IsLawfulScenario (seen s)) }
     ensures bad { IfErr result (λ e. e.fault ≢ LineFault.OutOfMemory → scenario_of input.now ≡ Err e) }
 {
-    let Ok(mut lines) = Lines::new(alloc) else {
+    let Ok(reading) = Reading::new(alloc) else {
         return Err(no_memory(0));
     };
+    let mut lines = Lines::to(alloc, reading);
     let mut scratch = Scratch::new(alloc);
     lines.push(alloc, &mut scratch, input);
-    lines.end(alloc, &mut scratch)
+    scenario_of(lines.end(alloc, &mut scratch))
+}
+
+/// The scenario of all lines, where none was refused.
+pub fn scenario_of(lines: Result<Reading, BadLine>) -> Result<Scenario, BadLine>
+    ensures { (first : SoFar) (text : List ℕ) → IsReadBy (λ _ x reading. reading ≡ x) first text lines → IsReadAs text result }
+{
+    match lines {
+        Ok(reading) => reading.into_scenario(),
+        Err(bad) => Err(bad),
+    }
 }
 
 pub(crate) fn no_memory(line: u64) -> BadLine
@@ -66,9 +75,9 @@ pub(crate) fn no_memory(line: u64) -> BadLine
     BadLine { fault, line }
 }
 
-// What was read so far: the parts that ended, the one in hand, and the steps.
+/// What was read so far: the parts that ended, the one in hand, and the steps.
 #[derive(Drop)]
-pub(crate) struct Reading {
+pub struct Reading {
     parts: Vec<Part>,
     in_hand: Part,
     steps: Steps,
@@ -82,8 +91,22 @@ impl Model for Reading {
     ghost view = { λ r. record { parts = r.parts.items; in_hand = r.in_hand; steps = r.steps } };
 }
 
+impl LineSink for Reading {
+    ghost has_read = { λ _ x reading. reading ≡ x };
+
+    ghost count = { λ reading. length reading.steps };
+
+    fn line(&mut self, alloc: Global, text: &[u8], read: Line) -> Result<(), AllocError> {
+        match read {
+            Line::Edit(tx) => self.push_edit(alloc, text, tx),
+            Line::Report(report) => self.steps.push_report(report),
+        }
+    }
+}
+
 impl Reading {
-    pub(crate) fn new(alloc: Global) -> Result<Reading, AllocError>
+    /// Nothing.
+    pub fn new(alloc: Global) -> Result<Reading, AllocError>
         ensures { IfOk result (λ reading. reading ≡ nothing_read) }
     {
         let steps = Steps::new(alloc)?;
@@ -94,46 +117,13 @@ impl Reading {
         })
     }
 
-    // Reads one more line, unless it is blank.
-    pub(crate) fn push_text(
-        &mut self,
-        alloc: Global,
-        scratch: &mut Scratch,
-        text: &[u8],
-        line: u64,
-    ) -> Result<(), BadLine>
-        requires { is_unbroken text.now ≡ true }
-        ensures ok { OnOk result (IfElse (is_blank text.now) (self.new ≡ self.old)
-            ((x : LineData) × (either_of_line text.now ≡ Ok x) × (self.new ≡ followed_by_line self.old (line_as text.now x)))) }
-        ensures bad { IfErr result (λ e. (e.line ≡ line) × (is_blank text.now ≡ false)
-            × (e.fault ≢ LineFault.OutOfMemory → either_of_line text.now ≡ Err e.fault)) }
-    {
-        if is_blank(text) {
-            return Ok(());
-        }
-        let read = read_line(alloc, scratch, text).map_err(|fault| BadLine { fault, line })?;
-        self.push_line(alloc, text, read)
-            .map_err(|_| no_memory(line))
-    }
-
-    fn push_line(&mut self, alloc: Global, text: &[u8], read: Line) -> Result<(), AllocError>
-        requires unbroken { is_unbroken text.now ≡ true }
-        requires read { either_of_line text.now ≡ Ok read }
-        requires lawful { IsLawfulLine read }
-        ensures { OnOk result (self.new ≡ followed_by_line self.old (line_as text.now read)) }
-    {
-        match read {
-            Line::Edit(tx) => self.push_edit(alloc, text, tx),
-            Line::Report(report) => self.steps.push_report(report),
-        }
-    }
-
     // An end mark ends the part in hand.
     fn push_edit(&mut self, alloc: Global, text: &[u8], tx: Tx) -> Result<(), AllocError>
         requires unbroken { is_unbroken text.now ≡ true }
         requires read { edit_of_line text.now ≡ Ok tx }
         requires from_one { 1 ≤ tx.txid }
-        ensures { OnOk result (self.new ≡ with_edit_line self.old (record { text = text.now; tx = tx })) }
+        ensures read { OnOk result (self.new ≡ with_edit_line self.old (record { text = text.now; tx = tx })) }
+        ensures count { length self.new.steps ≤ length self.old.steps + 1 }
     {
         self.steps.push_edit()?;
         let ends = is_end(&tx.edit);
@@ -148,7 +138,7 @@ impl Reading {
     }
 
     // All that was read, at the last line.
-    pub(crate) fn into_scenario(self, line: u64) -> Result<Scenario, BadLine>
+    fn into_scenario(self) -> Result<Scenario, BadLine>
         ensures ok { IfOk result (λ s. seen s ≡ scenario_with (self.parts ++ last_part self.in_hand) self.steps) }
         ensures bad { IfErr result (λ e. e.fault ≡ LineFault.OutOfMemory) }
     {
@@ -157,7 +147,7 @@ impl Reading {
             in_hand,
             steps,
         } = self;
-        in_hand.end(&mut parts).map_err(|_| no_memory(line))?;
+        in_hand.end(&mut parts).map_err(|_| no_memory(0))?;
         let datanodes = steps.datanodes();
         Ok(Scenario {
             parts,
@@ -165,11 +155,4 @@ impl Reading {
             datanodes,
         })
     }
-}
-
-fn is_blank(text: &[u8]) -> bool
-    ensures { result ≡ is_blank text.now }
-{
-    text.iter()
-        .all(|b| *b == b' ' || *b == b'\t' || *b == b'\r')
 }

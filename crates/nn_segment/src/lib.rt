@@ -20,5 +20,5 @@ pub use laws::{
 };
 pub use lines::line_end;
 pub use name::{one_name, parse_name, segment_name};
-pub use parsed::{Parsed, is_end};
+pub use parsed::{Parsed, allows, is_end, is_start, start_profile};
 pub use source::{Item, MemorySource, SegmentSource};

@@ -245,14 +245,15 @@ fn is_mark(edit: &Edit) -> bool
     is_start(edit) || is_end(edit)
 }
 
-fn is_start(edit: &Edit) -> bool
+/// Whether the edit is a mark that starts a segment.
+pub fn is_start(edit: &Edit) -> bool
     ensures { result ≡ is_start edit.now }
 {
     start_profile(edit).is_some()
 }
 
-// The profile of a start mark.
-fn start_profile(edit: &Edit) -> Option<Profile>
+/// The profile of a start mark.
+pub fn start_profile(edit: &Edit) -> Option<Profile>
     ensures { result ≡ start_profile edit.now }
 {
     match edit {
@@ -261,8 +262,9 @@ fn start_profile(edit: &Edit) -> Option<Profile>
     }
 }
 
-// Whether a segment of the profile may have the edit. Each operation is named, so that a new one has to be put here.
-fn allows(profile: Profile, edit: &Edit) -> bool
+/// Whether a segment of the profile may have the edit.
+// Each operation is named, so that a new one has to be put here.
+pub fn allows(profile: Profile, edit: &Edit) -> bool
     ensures { result ≡ allows profile edit.now }
 {
     match profile {

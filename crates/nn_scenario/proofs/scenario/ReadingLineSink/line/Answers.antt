@@ -1,6 +1,6 @@
 use Rattle.std.proofs.Common.{◌∙◌, ap, Ok}
 use Rattle.nn_scenario.proofs.LineLemmas.{edit_alone, edit_from_one}
-use Rattle.nn_scenario.proofs.scenario.Reading.push_line.Goals as goal
+use Rattle.nn_scenario.proofs.scenario.ReadingLineSink.line.Goals as goal
 
 pub push_edit-requires-clause-read : goal.push_edit-requires-clause-read
 push_edit-requires-clause-read c = edit_alone c.args.text.now c.in-Edit.tx (c.requires.read ∙ ap Ok c.in-Edit.is)

@@ -1,11 +1,12 @@
 use Rattle.std.proofs.Common.{◌≡◌, ◌≤◌, ◌<◌, ◌-◌, length}
 use Rattle.nn_engine.proofs.InputLemmas.{HasTaken}
-use Rattle.nn_engine.proofs.device.read_scenario.Given as goal
+use Rattle.nn_engine.proofs.device.read_lines_to.Given as goal
 
 -- the lines have come of what the reader gave, and no read failed
 abbrev pub invariant-reads : goal.invariant-reads
 invariant-reads g l = record {
-  took : HasTaken l.fn.input l.input l.taken l.lines;
+  took : HasTaken g.S.LineSink.has_read l.fn.sink l.fn.input l.input l.taken l.lines;
+  count : g.S.LineSink.count l.lines.so_far ≤ l.lines.ended;
   ended : l.lines.ended ≤ l.taken;
   fits : l.taken ≤ 16777216;
   room : 0 < length l.buffer.items;

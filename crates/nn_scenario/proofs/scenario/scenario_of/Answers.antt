@@ -1,0 +1,8 @@
+use Rattle.std.proofs.Common.{◌≡◌, subst}
+use Rattle.nn_scenario.specs.Chunks.{IsReadBy}
+use Rattle.nn_scenario.proofs.ChunkLemmas.{read_as}
+use Rattle.nn_scenario.proofs.scenario.scenario_of.Goals as goal
+
+pub returns-in-Ok : goal.returns-in-Ok
+returns-in-Ok c = λ first text read.
+    read_as first text c.in-Ok.reading c.into_scenario.result (subst (IsReadBy (λ _ x reading. reading ≡ x) first text) c.in-Ok.is read) c.into_scenario.ensures.ok c.into_scenario.ensures.bad

@@ -1,5 +1,8 @@
-pub mod LogLemmas
-pub mod FollowLemmas
+pub mod Walks
+pub mod FollowerLemmas
+pub mod LiveLemmas
+pub mod PassLemmas
+pub mod RunLemmas
 pub mod TurnLemmas
 pub mod ToldLemmas
 pub mod TellLemmas

@@ -1,5 +1,5 @@
 -- A standby that has arrived and flushed tells its tables.
-use Rattle.std.proofs.Common.{◌≡◌, ℕ, Bool, true, false, List, ◌++◌, append_assoc, Result, Ok, refl, sym, ap, ◌∙◌}
+use Rattle.std.proofs.Common.{◌≡◌, ℕ, Bool, true, false, List, ◌++◌, append_assoc, Ok, refl, sym, ap, ◌∙◌}
 use Rattle.nn_types.specs.declared.tx.Tx.{Tx}
 use Rattle.nn_model.specs.Counts.{SafeMode, safe_mode_of}
 use Rattle.nn_model.specs.History.{History}
@@ -11,22 +11,20 @@ use Rattle.nn_model.specs.Picture.{ShowsPicture}
 use Rattle.nn_model.specs.Stands.{Stands, tables_of}
 use Rattle.nn_replicas.specs.Agreement.{Shows}
 use Rattle.nn_replicas.specs.Calls.{replica_at}
-use Rattle.nn_shadow.specs.Calls.{flushed}
+use Rattle.nn_shadow.specs.Calls.{after, flushed}
 use Rattle.nn_shadow.specs.Contents.{Contents, standby_of, KeepsSettings}
 use Rattle.nn_shadow.specs.Laws.{StandsBy}
-use Rattle.nn_engine.specs.Follow.{HasArrived}
 use Rattle.nn_listing.specs.Listing.{listing_text}
-use Rattle.nn_segment.specs.LogEnd.{LogEnd, LogStop}
 use Rattle.nn_engine.specs.declared.engine.Options.{Options}
 use Rattle.nn_engine.specs.Output.{Printed, after_log, image_part, with_history}
 use Rattle.nn_engine.specs.Shown.{history_part, with_settings}
 use Rattle.nn_listing.specs.Trail.{history_text}
 use Rattle.nn_listing.specs.Tables.{IsPicture, tables_text}
 
--- what a flush says of every log and lanes at which the standby stood
+-- what a flush says of every log and lanes at which the standby stood, whatever events were forgotten before
 abbrev pub StandsFlushed : Contents → Contents → Type 0
-StandsFlushed x y = (start : Namespace) (base : ℕ) (txs : List Tx) (lanes : Lanes) → StandsBy start base txs lanes (standby_of x)
-    → Stands start base txs lanes (standby_of y) × IsWhole start txs (items lanes) y.history × ShowsPicture y.namespace (items lanes) (tables_of (standby_of y))
+StandsFlushed x y = (past : History) (start : Namespace) (base : ℕ) (txs : List Tx) (lanes : Lanes) → StandsBy start base txs lanes (after past (standby_of x))
+    → Stands start base txs lanes (after past (standby_of y)) × IsWhole start txs (items lanes) (past ++ y.history) × ShowsPicture y.namespace (items lanes) (tables_of (standby_of y))
 
 -- a text of three parts after a history
 pub behind : (asked : Bool) (events : History) (listing tables image : List ℕ)
@@ -54,10 +52,10 @@ tables_told options y lanes mode told before tables after shows counts events li
     (image_part options.image (record { last = y.last; namespace = y.namespace }))
 
 -- after the flush it is told as before
-pub flushed_told : (options : Options) (x y : Contents) (lanes : Lanes) (whole : Result LogEnd LogStop) (p : Printed) → standby_of y ≡ flushed (standby_of x) → KeepsSettings x y → StandsFlushed x y
+pub flushed_told : (options : Options) (x y : Contents) (p : Printed) → standby_of y ≡ flushed (standby_of x) → KeepsSettings x y → StandsFlushed x y
     → ((lanes : Lanes) → ShowsPicture y.namespace (items lanes) (tables_of (standby_of y)) → p ≡ with_history options.history y.history (after_log (with_settings options y.permille y.table.min) lanes (Ok (record { last = y.last; namespace = y.namespace }))))
-    → HasArrived whole lanes x → p ≡ with_history options.history (flushed (standby_of x)).history (after_log (with_settings options x.permille x.table.min) lanes whole)
-flushed_told options x y lanes whole p done settings flush told h =
-    told lanes (flush h.start h.base h.txs lanes h.stands).2
+    → (past : History) (start : Namespace) (base : ℕ) (txs : List Tx) (lanes : Lanes) → StandsBy start base txs lanes (after past (standby_of x))
+    → p ≡ with_history options.history (flushed (standby_of x)).history (after_log (with_settings options x.permille x.table.min) lanes (Ok (record { last = x.last; namespace = x.namespace })))
+flushed_told options x y p done settings flush told past start base txs lanes h =
+    told lanes (flush past start base txs lanes h).2
     ∙ (λ j. with_history options.history (done j).history (after_log (with_settings options (settings.permille j) (settings.min j)) lanes (Ok (record { last = (done j).last; namespace = (done j).namespace }))))
-    ∙ ap (λ w. with_history options.history (flushed (standby_of x)).history (after_log (with_settings options x.permille x.table.min) lanes w)) (sym h.ends)

@@ -10,7 +10,6 @@ use Rattle.nn_engine.specs.declared.output.RunEnd.{RunEnd}
 use Rattle.nn_engine.specs.declared.output.RunFault.{RunFault}
 use Rattle.nn_engine.specs.declared.engine.Options.{Options}
 use Rattle.nn_engine.specs.Input.{IsUnread, IsReadOfAll}
-use Rattle.nn_engine.specs.declared.device.InputParts.{InputParts}
 use Rattle.nn_engine.specs.Output.{Printed, IsPrinted}
 use Rattle.nn_engine.specs.Run.{Given, IsOutput, NoneFailed, Wrote, WroteFront, Unfinished, fault_alone, running, unread_line}
 
@@ -28,9 +27,9 @@ writes given r writer writer' p text status same ends right ok err = record {
   front = IfErr-weaker r _ _ (λ e w. record { output = p; right = right; front = subst (λ t. Unfinished writer writer' t e) same w }) err;
 }
 
-pub is_output_of_all : (given : Given) (p : Printed) (parts : InputParts) (all : IsReadOfAll given.options.from_image given.before given.after parts) → IsAtEnd given.after.left →
+pub is_output_of_all : (given : Given) (p : Printed) (is_read : List ℕ → Type 0) (all : IsReadOfAll given.options.from_image is_read given.before given.after) → IsAtEnd given.after.left →
     NoneFailed given → IsPrinted given.threads given.options all.input p → IsOutput given p
-is_output_of_all given p parts all whole none is = inl (record { input = all.input; taken = all.taken; counted = all.counted; whole = whole; fits = all.fits; is = is }, none)
+is_output_of_all given p is_read all whole none is = inl (record { input = all.input; taken = all.taken; counted = all.counted; whole = whole; fits = all.fits; is = is }, none)
 
 pub is_no_memory : (given : Given) → NoneFailed given → IsOutput given (fault_alone (codes "55"))
 is_no_memory given none = inr (inr (refl, none))

@@ -1,18 +1,19 @@
 -- What was read of an input, and why one was not.
-use Rattle.std.specs.Prelude.{◌≡◌, ◌≤◌, ◌<◌, ◌+◌, ℕ, Bool, true, false, List, length, Option, Some, None, option_map, Result, Ok, Err}
+use Rattle.std.specs.Prelude.{◌≡◌, ◌≤◌, ◌<◌, ◌+◌, ℕ, Bool, true, false, is_some, List, length, Option, Some, None, option_map, Result, Ok, Err}
 use Rattle.std.specs.Io.KnownBytes.{Consumes}
 use Rattle.nn_device.specs.Device.{Reading}
-use Rattle.nn_scenario.specs.Chunks.{IsReadAs, IsReadBy}
-use Rattle.nn_scenario.specs.Reading.{Reading as Lines}
+use Rattle.nn_scenario.specs.Chunks.{Chunks, HasCome, IsReadAs}
+use Rattle.nn_scenario.specs.Reading.{Reading as Lines, nothing_read}
 use Rattle.nn_scenario.specs.Scenario.{max_input}
 use Rattle.nn_scenario.specs.declared.scenario.BadLine.{BadLine}
 use Rattle.nn_scenario.specs.declared.scenario.Scenario.{Scenario}
 use Rattle.nn_image.specs.Reading.{read_image}
 use Rattle.nn_image.specs.declared.fault.ImageFault.{ImageFault}
 use Rattle.nn_front.specs.Cut.{divided}
+use Rattle.nn_front.specs.Front.{FrontState, IsFront}
 use Rattle.nn_engine.specs.Start.{Start, from_root, scenario_in}
 use Rattle.nn_engine.specs.declared.start.Begin.{Begin}
-use Rattle.nn_engine.specs.declared.device.InputParts.{InputParts}
+use Rattle.nn_engine.specs.declared.parts.InputParts.{InputParts}
 use Rattle.nn_engine.specs.declared.device.InputFault.{InputFault}
 use Rattle.nn_engine.specs.declared.device.InputFault.TheVariants.{ReadFailed, TooLong, OutOfMemory}
 
@@ -37,13 +38,18 @@ IsUnread from_image old new OutOfMemory = new.failed ≡ old.failed
 
 -- ---- For private clauses.
 
--- all that the reader gave is an input, whose lines were handed to a sink that was this first
-pub record IsReadToEnd {S : Type 0} (has_read : S → Lines → S → Type 0) (first : S) (old new : Reading) (lines : Result S BadLine) : Type 0 where
+-- a sink took all that the reader gave so far
+pub record HasTaken {S : Type 0} (has_taken : S → List ℕ → Type 0) (sink : S) (old new : Reading) : Type 0 where
   pub input : List ℕ
-  pub taken : Consumes old.left new.left input
+  pub got : Consumes old.left new.left input
   pub counted : new.given ≡ old.given + length input
-  pub fits : length input ≤ max_input
-  pub read : IsReadBy has_read first input lines
+  pub taken : has_taken sink input
+
+-- why a sink takes no more of an input, of which these bytes came
+abbrev pub IsNotTaken : Bool → List ℕ → InputFault → Type 0
+IsNotTaken from_image input ReadFailed = ⊥
+IsNotTaken from_image input TooLong = max_input < length (scenario_in from_image input)
+IsNotTaken from_image input OutOfMemory = Unit {0}
 
 -- the image of an input, where it is asked for and there
 abbrev pub image_in : Bool → List ℕ → Option (List ℕ)
@@ -55,13 +61,35 @@ pub record IsRead (from_image : Bool) (input : List ℕ) (r : InputParts) : Type
   pub image : image_in from_image input ≡ option_map (λ v. v.items) r.image
   pub read : IsReadAs (scenario_in from_image input) r.lines
 
--- all that the reader gave is an input, and this was read of it
-pub record IsReadOfAll (from_image : Bool) (old new : Reading) (r : InputParts) : Type 0 where
+-- all that the reader gave is an input, of which this holds
+pub record IsReadOfAll (from_image : Bool) (is_read : List ℕ → Type 0) (old new : Reading) : Type 0 where
   pub input : List ℕ
   pub taken : Consumes old.left new.left input
   pub counted : new.given ≡ old.given + length input
   pub fits : length (scenario_in from_image input) ≤ max_input
-  pub is : IsRead from_image input r
+  pub is : is_read input
+
+-- what has come of an input: its front, where an image is asked for, the lines of its scenario, and how many bytes these have
+pub record PartsTaken : Type 0 where
+  pub front : Option FrontState
+  pub lines : Chunks Lines
+  pub taken : ℕ
+
+-- of an input this is behind the image, where one is asked for
+abbrev pub IsFrontOf : Option FrontState → List ℕ → List ℕ → Type 0
+IsFrontOf None input rest = rest ≡ input
+IsFrontOf (Some front) input rest = IsFront input front rest
+
+-- so much of an input was taken
+pub record HasParts (p : PartsTaken) (input : List ℕ) : Type 0 where
+  pub rest : List ℕ
+  pub front : IsFrontOf p.front input rest
+  pub much : length rest ≡ p.taken
+  pub come : HasCome (λ _ x reading. reading ≡ x) nothing_read rest p.lines
+
+-- what the end of a front says of its input
+abbrev pub EndsFront : Option FrontState → Option (List ℕ) → Type 0
+EndsFront front image = (input rest : List ℕ) → IsFrontOf front input rest → image_in (is_some front) input ≡ image
 
 -- an image of these bytes stands for this start, and none for the root alone
 abbrev pub IsStartOf : Option (List ℕ) → Start → Type 0

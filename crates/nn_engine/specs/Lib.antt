@@ -1,6 +1,9 @@
 pub mod Start
-pub mod Follow
+pub mod Walk
+pub mod Following
+pub mod Pass
 pub mod Turns
+pub mod TurnsRows
 pub mod Output
 pub mod OutputRows
 pub mod Input

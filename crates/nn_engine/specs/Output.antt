@@ -1,5 +1,5 @@
 -- What the program prints for a scenario.
-use Rattle.std.specs.Prelude.{◌≡◌, ℕ, Bool, true, false, ◌&&◌, ◌==◌, if◌then◌else◌, List, [], ◌∷◌, ◌++◌, map, Result, Ok, Err, MatchResult, codes, decimal}
+use Rattle.std.specs.Prelude.{◌≡◌, ℕ, Bool, true, false, ◌&&◌, ◌==◌, if◌then◌else◌, List, [], ◌∷◌, ◌++◌, flat_map, map, Result, Ok, Err, MatchResult, codes, decimal}
 use Rattle.nn_edits.specs.Fault.{number_of as line_number_of}
 use Rattle.nn_types.specs.declared.tx.Tx.{Tx}
 use Rattle.nn_model.specs.History.{History}
@@ -68,18 +68,18 @@ output_of start options text = after_lines start options (scenario_of text)
 abbrev pub with_history : Bool → History → Printed → Printed
 with_history asked events p = if (p.status == 0) && asked then record { text = history_text events ++ p.text; status = 0 } else p
 
--- the history of a standby that followed this log from a start, and these steps, on one thread or with a thread for each DataNode
-pub record IsHistoryOf (start : Start) (threads : Bool) (log : List Tx) (steps : List Step) (events : History) : Type 0 where
-  pub lawful : IsLawful start.namespace log (items (lanes_of steps)) events
-  pub whole : IsWhole start.namespace log (items (lanes_of steps)) events
+-- the history of a standby that followed these segments from a start, and these steps, on one thread or with a thread for each DataNode
+pub record IsHistoryOf (start : Start) (threads : Bool) (segments : List (List Tx)) (steps : List Step) (events : History) : Type 0 where
+  pub lawful : IsLawful start.namespace (log_of start.txid segments) (items (lanes_of steps)) events
+  pub whole : IsWhole start.namespace (log_of start.txid segments) (items (lanes_of steps)) events
   -- without threads it is the one that the lines make in their order
-  pub one_thread : threads ≡ false → events ≡ history_in_turn start log steps
+  pub one_thread : threads ≡ false → events ≡ history_in_turn start (flat_map (λ (txs : List Tx). txs) segments) steps
 
--- where the log of these segments ends, the events are the history of a standby that followed it and these steps
+-- where the log of these segments ends, the events are the history of a standby that followed them and these steps
 abbrev pub AreEventsOf : Start → Bool → List Step → Result (List Segment) BadSegment → History → Type 0
 AreEventsOf start threads steps whole events =
     (segments : List Segment) (end : LogEnd) → whole ≡ Ok segments → end_of_log start.txid start.namespace segments ≡ Ok end
-    → IsHistoryOf start threads (log_of start.txid (map (λ s. s.txs) segments)) steps events
+    → IsHistoryOf start threads (map (λ s. s.txs) segments) steps events
 
 -- What is printed for a scenario from a start: its output, and before it the history, where that is asked for.
 pub record IsPrintedFrom (start : Start) (threads : Bool) (options : Options) (text : List ℕ) (p : Printed) : Type 0 where

@@ -1,5 +1,5 @@
--- The history of a standby that follows a log and the messages of a scenario on one thread, in the order of the lines.
-use Rattle.std.specs.Prelude.{List, [], ◌∷◌, drop}
+-- The history of a standby that follows the lines of a scenario in their order, on one thread.
+use Rattle.std.specs.Prelude.{◌+◌, ◌==◌, List, [], ◌∷◌, drop, if◌then◌else◌}
 use Rattle.nn_types.specs.declared.tx.Tx.{Tx}
 use Rattle.nn_model.specs.History.{History}
 use Rattle.nn_model.specs.Stands.{StandbyState, fresh}
@@ -8,23 +8,21 @@ use Rattle.nn_scenario.specs.declared.steps.Step.{Step}
 use Rattle.nn_scenario.specs.declared.steps.Step.TheVariants as step
 use Rattle.nn_engine.specs.Start.{Start}
 
--- the next transaction was applied, where one is left
-abbrev pub next_applied : StandbyState → List Tx → StandbyState
-next_applied x [] = x
-next_applied x (tx ∷ log) = applied_to x tx
+-- the line of the next transaction applies it, and the line of any other does nothing
+abbrev pub line_applied : StandbyState → Tx → StandbyState
+line_applied x tx = if tx.txid == x.last + 1 then applied_to x tx else x
 
--- all transactions were applied
-abbrev pub all_applied : StandbyState → List Tx → StandbyState
-all_applied x [] = x
-all_applied x (tx ∷ log) = all_applied (applied_to x tx) log
+-- the line of the first of these transactions, where there is one
+abbrev pub next_line : StandbyState → List Tx → StandbyState
+next_line x [] = x
+next_line x (tx ∷ txs) = line_applied x tx
 
--- an edit's line applies the next transaction that is left of the log, a message's line hands it over, and after the last line
--- comes the rest of the log
+-- each edit step is the line of the next of these transactions, and each message's line hands it over
 abbrev pub in_turn : StandbyState → List Tx → List Step → StandbyState
-in_turn x log [] = all_applied x log
-in_turn x log (step.Edit ∷ steps) = in_turn (next_applied x log) (drop 1 log) steps
-in_turn x log (step.Message m ∷ steps) = in_turn (received x m) log steps
+in_turn x txs [] = x
+in_turn x txs (step.Edit ∷ steps) = in_turn (next_line x txs) (drop 1 txs) steps
+in_turn x txs (step.Message m ∷ steps) = in_turn (received x m) txs steps
 
 -- and then the flush
 abbrev pub history_in_turn : Start → List Tx → List Step → History
-history_in_turn start log steps = (flushed (in_turn (fresh start.namespace start.txid) log steps)).history
+history_in_turn start txs steps = (flushed (in_turn (fresh start.namespace start.txid) txs steps)).history

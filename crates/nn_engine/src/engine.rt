@@ -1,37 +1,39 @@
 //! A run: from a reader's bytes to a writer's.
-ghost use Rattle.std.specs.Prelude.{◌≡◌, ◌≢◌, ◌<◌, ◌≤◌, ◌^◌, ◌++◌, ℕ, List, false, codes, Result, Ok, IfOk, IfErr, OnOk, string_bytes};
+ghost use Rattle.std.specs.Prelude.{◌≡◌, ◌≢◌, ◌<◌, ◌≤◌, ◌^◌, ◌++◌, ℕ, List, false, codes, Ok, Err, IfOk, IfErr, OnOk, string_bytes};
 ghost use Rattle.nn_edits.specs.Fault.{number_of as line_number_of};
+ghost use Rattle.nn_model.specs.History.{History};
 ghost use Rattle.nn_model.specs.Items.{items};
 ghost use Rattle.nn_model.specs.Lanes.{Lanes};
+ghost use Rattle.nn_model.specs.Namespace.{Namespace as Paths};
 ghost use Rattle.nn_model.specs.Picture.{ShowsPicture};
 ghost use Rattle.nn_model.specs.Stands.{tables_of};
+ghost use Rattle.nn_shadow.specs.Calls.{after, flushed};
 ghost use Rattle.nn_shadow.specs.Contents.{standby_of};
+ghost use Rattle.nn_shadow.specs.Laws.{StandsBy};
 ghost use Rattle.nn_segment.specs.Fault.{number_of as segment_number_of};
-ghost use Rattle.nn_scenario.specs.Cut.{segments_from};
-ghost use Rattle.nn_engine.specs.Follow.{serving, HasArrived, StopsAs};
-ghost use Rattle.nn_segment.specs.LogEnd.{LogEnd, LogStop};
+ghost use Rattle.nn_segment.specs.LogEnd.{stop_number};
+ghost use Rattle.nn_types.specs.declared.tx.Tx.{Tx};
+ghost use Rattle.nn_listing.specs.Tables.{tables_text};
+ghost use Rattle.nn_engine.specs.Following.{serving, stop_of};
 ghost use Rattle.nn_engine.specs.declared.engine.Options.{Options as RunOptions};
-ghost use Rattle.nn_engine.specs.Output.{output_of, after_log, fault_at, fault_of_image, image_fault, with_history, IsPrinted, IsPrintedFrom};
-ghost use Rattle.nn_engine.specs.Input.{start_of, IsRead};
-ghost use Rattle.nn_shadow.specs.Calls.{flushed};
+ghost use Rattle.nn_engine.specs.Output.{after_log, fault_at, fault_of_image, image_fault, with_history, IsPrinted};
+ghost use Rattle.nn_engine.specs.Pass.{IsRunOf};
 ghost use Rattle.nn_engine.specs.Rest.{first_line};
 ghost use Rattle.nn_engine.specs.Run.{Wrote, WroteFront, running, unread_line};
-ghost use Rattle.nn_listing.specs.Tables.{tables_text};
-ghost use Rattle.nn_scenario.specs.Chunks.{IsReadAs};
-ghost use Rattle.nn_scenario.specs.Scenario.{seen, IsLawfulScenario};
-ghost use Rattle.nn_engine.specs.Shown.{history_part, shown, with_settings, IsFaultOf, IsToldOf};
+ghost use Rattle.nn_engine.specs.Shown.{history_part, shown, with_settings};
 
-use crate::device::{InputFault, InputParts, read_parts};
-use crate::follow::{FollowFault, follow};
+use crate::device::InputFault;
+use crate::follower::LogFault;
 use crate::image::{last_of, push_image};
+use crate::live::Halt;
 use crate::output::{Output, RunEnd, RunFault, finish, finish_output, let_go};
+use crate::pass::follow_input;
 use crate::rest::{Rest, Texts};
-use crate::start::{Begin, start_from};
 use nn_device::{Reader, Writer};
 use nn_edits::LineFault;
 use nn_image::ImageFault;
 use nn_listing::{listing_bytes, push_history, push_tables, with_listing};
-use nn_scenario::{BadLine, BadSegment, Scenario, read_segments};
+use nn_scenario::{BadLine, BadSegment};
 use nn_segment::SegmentFault;
 use nn_shadow::{FlushFault, Shadow};
 use nn_tree::Extent;
@@ -72,8 +74,10 @@ const MAX_IN_MEMORY: usize = 268_435_456;
 ///
 /// `fault 8` says that a read failed, or that the scenario has more than 16,777,216 bytes. A reader that has not ended after
 /// 16,777,216 reads counts as failed. `fault 55` says that memory was refused. Neither line takes memory. After a failed
-/// write the writer has a front of the output, and so it has where memory is refused after the first byte was written. An
-/// image is kept whole until it is loaded.
+/// write the writer has a front of the output, and so it has where memory is refused after the first byte was written.
+///
+/// Each line is followed as it comes, and none is kept; nor are events, unless a history is asked for. An image is kept whole
+/// until its end line has come.
 pub fn run<R: Read, W: Write>(
     alloc: Global,
     options: &Options,
@@ -88,14 +92,14 @@ pub fn run<R: Read, W: Write>(
         writer.old writer.new) }
     ensures reads { input.new.reads ≤ 2 ^ 24 }
 {
-    let read = read_parts(alloc, options.from_image, input);
+    let read = follow_input(alloc, options, input);
     // A reader counts its reads, and is given up before there are more.
     input.reads();
-    let parts = match read {
-        Ok(parts) => parts,
+    let end = match read {
+        Ok(end) => end,
         Err(fault) => return finish(writer, unread_line(fault), 1),
     };
-    match output_of_parts(alloc, *options, parts) {
+    match output_of_end(alloc, *options, end) {
         Ok(output) => finish_output(alloc, output, writer, options.leave_memory),
         Err(AllocError) => finish(writer, OUT_OF_MEMORY, 1),
     }
@@ -111,18 +115,30 @@ pub(crate) fn unread_line(fault: InputFault) -> &'static [u8]
     }
 }
 
-// The output of an input whose lines were read: the same for the same bytes, and no other. It knows of no reader, so that
+// The output of an input that was followed: the same for the same bytes, and no other. It knows of no reader, so that
 // neither `fault 8` nor `fault 55` is among its lines; where memory runs out there is no output.
-fn output_of_parts(alloc: Global, options: Options, parts: InputParts) -> Result<Output, AllocError>
-    requires { IfOk parts.lines (λ s. IsLawfulScenario (seen s)) }
-    ensures { (input : List ℕ) → IsRead options.from_image input parts → IfOk result (λ o. IsPrinted false options input (shown o)) }
+fn output_of_end(
+    alloc: Global,
+    options: Options,
+    end: Result<Shadow, Halt>,
+) -> Result<Output, AllocError>
+    requires { IfOk end (λ standby. standby.phase ≡ serving) }
+    ensures { (input : List ℕ) → IsRunOf options input end → IfOk result (λ o. IsPrinted false options input (shown o)) }
 {
-    let InputParts { image, lines } = parts;
-    let begun = start_from(alloc, options.from_image, &image)?;
-    drop(image);
-    match begun {
-        Ok(begin) => output_of_lines(alloc, options, begin, lines),
-        Err(fault) => output_of_image_fault(alloc, fault),
+    match end {
+        Ok(standby) => output_of_standby(alloc, options, standby),
+        Err(halt) => output_of_halt(alloc, halt),
+    }
+}
+
+fn output_of_halt(alloc: Global, halt: Halt) -> Result<Output, AllocError>
+    ensures { (options : RunOptions) (input : List ℕ) → IsRunOf options input (Err halt) → IfOk result (λ o. IsPrinted false options input (shown o)) }
+{
+    match halt {
+        Halt::Image(fault) => output_of_image_fault(alloc, fault),
+        Halt::Line(bad) => output_of_bad(alloc, bad),
+        Halt::Segment(bad) => output_of_bad_segment(alloc, bad),
+        Halt::Log(fault) => output_of_log_fault(alloc, fault),
     }
 }
 
@@ -149,24 +165,6 @@ fn image_output(alloc: Global, number: u8) -> Result<Output, AllocError>
     Ok(Output::of_text(text, 1))
 }
 
-// The output of a scenario whose lines were read, from a start.
-#[tactic(auto, unfolding(crate::specs::Output::output_of))]
-fn output_of_lines(
-    alloc: Global,
-    options: Options,
-    begin: Begin,
-    lines: Result<Scenario, BadLine>,
-) -> Result<Output, AllocError>
-    requires limit { begin.txid < 2 ^ 63 }
-    requires lawful { IfOk lines (λ s. IsLawfulScenario (seen s)) }
-    ensures { (text : List ℕ) → IsReadAs text lines → IfOk result (λ o. IsPrintedFrom (start_of begin) false options text (shown o)) }
-{
-    match lines {
-        Ok(scenario) => output_of_scenario(alloc, options, begin, scenario),
-        Err(bad) => output_of_bad(alloc, bad),
-    }
-}
-
 pub(crate) fn output_of_bad(alloc: Global, bad: BadLine) -> Result<Output, AllocError>
     ensures { IfOk result (λ o. (bad.fault ≢ LineFault.OutOfMemory)
         × (shown o ≡ fault_at (codes " line ") (line_number_of bad.fault) bad.line)) }
@@ -175,31 +173,6 @@ pub(crate) fn output_of_bad(alloc: Global, bad: BadLine) -> Result<Output, Alloc
         return Err(AllocError);
     }
     fault_output(alloc, bad.fault.number(), " line ", bad.line)
-}
-
-fn output_of_scenario(
-    alloc: Global,
-    options: Options,
-    begin: Begin,
-    scenario: Scenario,
-) -> Result<Output, AllocError>
-    requires limit { begin.txid < 2 ^ 63 }
-    requires lawful { IsLawfulScenario (seen scenario) }
-    ensures { IfOk result (λ o. IsToldOf (start_of begin) false options scenario.steps (segments_from 1 scenario.parts.items) (shown o)) }
-{
-    let Scenario {
-        parts,
-        steps,
-        datanodes,
-    } = scenario;
-    begin.namespace.well_formed();
-    match read_segments(alloc, parts) {
-        Ok(segments) => match follow(alloc, begin, options.settings, datanodes, steps, segments) {
-            Ok(standby) => output_of_standby(alloc, options, standby),
-            Err(fault) => output_of_follow_fault(alloc, fault),
-        },
-        Err(bad) => output_of_bad_segment(alloc, bad),
-    }
 }
 
 pub(crate) fn output_of_bad_segment(alloc: Global, bad: BadSegment) -> Result<Output, AllocError>
@@ -212,21 +185,20 @@ pub(crate) fn output_of_bad_segment(alloc: Global, bad: BadSegment) -> Result<Ou
     fault_output(alloc, bad.fault.number(), " segment ", bad.segment)
 }
 
-fn output_of_follow_fault(alloc: Global, fault: FollowFault) -> Result<Output, AllocError>
-    ensures { IfOk result (λ o. (options : RunOptions) (lanes : Lanes) (whole : Result LogEnd LogStop) → StopsAs fault whole → IsFaultOf options lanes whole (shown o)) }
+fn output_of_log_fault(alloc: Global, fault: LogFault) -> Result<Output, AllocError>
+    ensures { IfOk result (λ o. shown o ≡ fault_at (codes " txid ") (stop_number (stop_of fault).cause) (stop_of fault).txid) }
 {
     match fault {
-        FollowFault::Refused { fault, txid } => fault_output(alloc, fault.number(), " txid ", txid),
-        FollowFault::Disorder { txid } => fault_output(alloc, fault::DISORDER, " txid ", txid),
-        FollowFault::OutOfMemory => Err(AllocError),
+        LogFault::Refused { fault, txid } => fault_output(alloc, fault.number(), " txid ", txid),
+        LogFault::Disorder { txid } => fault_output(alloc, fault::DISORDER, " txid ", txid),
     }
 }
 
 // The standby followed its log to the end. It flushes what it holds, and then its tables are told.
 fn output_of_standby(alloc: Global, options: Options, standby: Shadow) -> Result<Output, AllocError>
     requires { standby.phase ≡ serving }
-    ensures { IfOk result (λ o. (lanes : Lanes) (whole : Result LogEnd LogStop) → HasArrived whole lanes standby
-        → shown o ≡ with_history options.history (flushed (standby_of standby)).history (after_log (with_settings options standby.permille standby.table.min) lanes whole)) }
+    ensures { IfOk result (λ o. (past : History) (start : Paths) (base : ℕ) (txs : List Tx) (lanes : Lanes) → StandsBy start base txs lanes (after past (standby_of standby))
+        → shown o ≡ with_history options.history (flushed (standby_of standby)).history (after_log (with_settings options standby.permille standby.table.min) lanes (Ok (record { last = standby.last; namespace = standby.namespace })))) }
 {
     let mut standby = standby;
     if let Err(fault) = standby.flush() {

@@ -4,21 +4,24 @@
 
 mod device;
 mod engine;
-mod follow;
+mod follower;
 mod gate;
 mod image;
 mod law;
-mod log;
+mod live;
 mod output;
+mod parts;
+mod pass;
 mod rest;
 mod segments;
 mod start;
 mod threads;
 
-pub use device::{InputFault, read_scenario};
+pub use device::InputFault;
 pub use engine::{Options, run};
 pub use gate::{Gate, Open};
 pub use law::a_checkpoint_prints_the_same;
 pub use output::{Output, RunEnd, RunFault};
+pub use parts::read_scenario;
 pub use rest::Rest;
 pub use threads::{ThreadOptions, run_threads};

@@ -19,13 +19,13 @@ ghost use Rattle.nn_engine.specs.Output.{output_of, IsPrinted, IsPrintedFrom};
 ghost use Rattle.nn_engine.specs.Run.{Wrote, WroteFront, running};
 ghost use Rattle.nn_engine.specs.Shown.{shown, IsToldOf};
 
-use crate::device::{InputParts, read_parts};
 use crate::engine::{
     OUT_OF_MEMORY, Options, fault_output, output_of_bad, output_of_bad_segment, output_of_flushed,
     output_of_image_fault, unread_line,
 };
 use crate::gate::{Gate, GatePass};
 use crate::output::{Output, RunEnd, RunFault, finish, finish_output};
+use crate::parts::{InputParts, read_parts};
 use crate::segments::Segments;
 use crate::start::start_from;
 use nn_device::{Reader, Writer};

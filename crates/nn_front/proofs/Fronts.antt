@@ -182,6 +182,17 @@ behind_it Behind text bytes line image rest is h = λ more.
 pub behind : (f : FrontState) (text bytes rest : List ℕ) → f.place ≡ Behind → IsFront text f rest → IsFront (text ++ bytes) f (rest ++ bytes)
 behind f text bytes rest = behind_it f.place text bytes f.line f.image rest
 
+-- and before that
+nothing_behind : (place : Place) (text line image rest : List ℕ) → place ≢ Behind → IsAt place text line image rest → rest ≡ []
+nothing_behind Start text line image rest other h = h.3
+nothing_behind Passing text line image rest other h = h.3
+nothing_behind Header text line image rest other h = h.0
+nothing_behind Rows text line image rest other h = h.0
+nothing_behind Behind text line image rest other h = absurd (other refl)
+
+pub none_behind : (f : FrontState) (text rest : List ℕ) → f.place ≢ Behind → IsFront text f rest → rest ≡ []
+none_behind f text rest = nothing_behind f.place text f.line f.image rest
+
 -- ---- the first byte
 
 at_once : (more : List ℕ) → divided (123 ∷ more) ≡ Some (onto (123 ∷ []) (cut_from true (123 ∷ []) more))

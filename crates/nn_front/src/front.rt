@@ -1,5 +1,5 @@
 //! The bytes of an input up to the end of its image.
-ghost use Rattle.std.specs.Prelude.{◌≡◌, ◌≢◌, ◌≤◌, ◌<◌, ◌++◌, [], List, ℕ, true, drop, length, option_map, slice_index, IfOk, OnOk};
+ghost use Rattle.std.specs.Prelude.{◌≡◌, ◌≢◌, ◌≤◌, ◌<◌, ◌++◌, [], List, ℕ, None, Some, true, drop, length, option_map, slice_index, IfOk, IfSome, OnOk};
 ghost use Rattle.std.specs.Str.{bytes_eq};
 ghost use Rattle.nn_segment.specs.Lines.{is_unbroken};
 ghost use Rattle.nn_front.specs.Cut.{divided, mark};
@@ -9,6 +9,7 @@ use crate::end_line::is_end_line;
 use nn_segment::line_end;
 use std::alloc::{AllocError, Global};
 use std::marker::Model;
+use std::mem;
 
 /// The line behind which an image begins.
 const MARK: &[u8] = b"image";
@@ -90,6 +91,20 @@ impl Front {
             Place::Rows => Ok(Some(joined(image, &line)?)),
             Place::Behind => Ok(Some(image)),
         }
+    }
+
+    /// The image, once it has ended: all bytes that come then are of the scenario. A front of no bytes takes its place. Takes
+    /// no memory.
+    pub fn take_ended(&mut self, alloc: Global) -> Option<Vec<u8>>
+        ensures ended { IfSome result (λ image. (text rest more : List ℕ) → IsFront text self.old rest
+            → divided (text ++ more) ≡ Some (record { image = image.items; rest = rest ++ more })) }
+        ensures not_yet { result ≡ None → (self.new ≡ self.old) × ((text rest : List ℕ) → IsFront text self.old rest → rest ≡ []) }
+    {
+        if self.place != Place::Behind {
+            return None;
+        }
+        let Front { image, .. } = mem::replace(self, Front::new(alloc));
+        Some(image)
     }
 
     // Takes the first byte of the input, which says where the image begins. How many bytes it took.

@@ -95,7 +95,8 @@ impl<S: LineSink + Drop> Lines<S> {
     pub fn end(self, alloc: Global, scratch: &mut Scratch) -> Result<S, BadLine>
         requires short { self.ended ≤ max_input }
         requires count { S.count self.so_far ≤ self.ended }
-        ensures { (first : S) (text : List ℕ) → HasCome S.has_read first text self → IsReadBy S.has_read first text result }
+        ensures read { (first : S) (text : List ℕ) → HasCome S.has_read first text self → IsReadBy S.has_read first text result }
+        ensures count { IfOk result (λ sink. S.count sink ≤ self.ended + 1) }
     {
         let Lines {
             mut sink,

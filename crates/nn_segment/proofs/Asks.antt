@@ -55,11 +55,3 @@ fault_gives_none fault answers = given-append answers (Err fault ∷ []) ∙ app
 
 pub one_given : (answers : List Answer) (s : Segment) (later : List Segment) → given_in (answers ++ given s ∷ []) ++ later ≡ given_in answers ++ (s ∷ later)
 one_given answers s later = ap (λ g. g ++ later) (given-append answers (given s ∷ [])) ∙ append_assoc (given_in answers) (s ∷ []) later
-
--- a source in memory gave its first segments, and has the others
-pub memory_left : (old new : List Segment) (answers : List Answer) → Asked GivesNext old answers new → given_in answers ++ new ≡ old
-memory_left old new [] asked = sym asked
-memory_left [] new (answer ∷ answers) asked =
-    ap (λ a. given_in (a ∷ answers) ++ new) asked.1.0 ∙ memory_left asked.0 new answers asked.2 ∙ asked.1.1
-memory_left (s ∷ segments) new (answer ∷ answers) asked =
-    ap (λ a. given_in (a ∷ answers) ++ new) asked.1.0 ∙ ap (λ rest. s ∷ rest) (memory_left asked.0 new answers asked.2 ∙ asked.1.1)

@@ -58,9 +58,6 @@ module _ (last : ℕ) (n : Namespace) where
       → end_of_left last n old ≡ Err (record { cause = disorder; txid = last + 1 })
   one_missing old s segments none is l = spent old none ∙ ap (end_of_log last n) is ∙ gap s segments l
 
-  pub log_is_over : (old : LogLeft) → counted last old.txs ≡ [] → old.segments ≡ [] → end_of_left last n old ≡ Ok (record { last = last; namespace = n })
-  log_is_over old none is = spent old none ∙ ap (end_of_log last n) is ∙ no_more
-
   pub segment_taken : (old : LogLeft) (s : Segment) (segments : List Segment) → counted last old.txs ≡ [] → old.segments ≡ s ∷ segments → first_txid s.txs ≤ last + 1
       → end_of_left last n old ≡ end_of_left last n (record { txs = s.txs; segments = segments })
   segment_taken old s segments none is l = spent old none ∙ ap (end_of_log last n) is ∙ segment_on s segments l
@@ -87,9 +84,6 @@ one_left last old new tx next is same =
     ∙ (λ j. is j ++ counted (last + length (is j)) (txs_of (same j)))
     ∙ ap (λ k. tx ∷ (own ++ counted k (txs_of new.segments))) place
     ∙ ap (λ txs. tx ∷ txs) (sym (counted_append tx.txid new.txs (txs_of new.segments)))
-
-pub none_left : (last : ℕ) (old : LogLeft) → counted last old.txs ≡ [] → old.segments ≡ [] → txs_left last old ≡ []
-none_left last old none is = spent_left last old none ∙ ap (λ segments. counted last (txs_of segments)) is
 
 pub segment_left : (last : ℕ) (old : LogLeft) (s : Segment) (segments : List Segment) → counted last old.txs ≡ [] → old.segments ≡ s ∷ segments
     → txs_left last old ≡ txs_left last (record { txs = s.txs; segments = segments })

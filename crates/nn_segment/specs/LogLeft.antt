@@ -31,10 +31,6 @@ ComesNext last left tx rest =
 abbrev pub IsMissing : ℕ → LogLeft → Type 0
 IsMissing last left = (n : Namespace) → end_of_left last n left ≡ Err (record { cause = disorder; txid = last + 1 })
 
--- nothing comes any more
-abbrev pub IsOver : ℕ → LogLeft → Type 0
-IsOver last left = ((n : Namespace) → end_of_left last n left ≡ Ok (record { last = last; namespace = n })) × (txs_left last left ≡ [])
-
 -- the same is left, except what is passed over
 abbrev pub LeavesSame : ℕ → LogLeft → LogLeft → Type 0
 LeavesSame last old new = ((n : Namespace) → end_of_left last n old ≡ end_of_left last n new) × (txs_left last old ≡ txs_left last new)

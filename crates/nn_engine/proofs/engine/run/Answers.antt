@@ -6,24 +6,24 @@ use Rattle.nn_engine.proofs.engine.run.Goals as goal
 
 pub returns-in-Err : goal.returns-in-Err
 returns-in-Err g c =
-    let w = writes_unread c.args.options.now false c.args.input.now c.read_parts-read.new.input c.finish.result c.args.writer.now c.finish.new.writer
+    let w = writes_unread c.args.options.now false c.args.input.now c.follow_input-read.new.input c.finish.result c.args.writer.now c.finish.new.writer
     c.in-Err.fault c.unread_line.result.now c.in-Err.ensures.why c.unread_line.ensures c.finish.ensures.ok c.finish.ensures.front in
     record { written = w.written; front = w.front; reads = c.reads.ensures.bounded }
 
-pub returns-in-Ok-output_of_parts : goal.returns-in-Ok-output_of_parts
-returns-in-Ok-output_of_parts g c =
-    let given = running c.args.options.now false c.args.input.now c.read_parts-read.new.input in
+pub returns-in-Ok-output_of_end : goal.returns-in-Ok-output_of_end
+returns-in-Ok-output_of_end g c =
+    let given = running c.args.options.now false c.args.input.now c.follow_input-read.new.input in
     let all = c.in-Ok.ensures.whole in
-    let p = shown c.in-Ok-output_of_parts.output in
+    let p = shown c.in-Ok-output_of_end.output in
     let w = writes given c.finish_output.result c.args.writer.now c.finish_output.new.writer p _ _ refl refl
-    (is_output_of_all given p _ all c.in-Ok.ensures.end c.in-Ok.ensures.none_failed (c.in-Ok-output_of_parts.ensures all.input all.is))
+    (is_output_of_all given p _ all c.in-Ok.ensures.end c.in-Ok.ensures.none_failed (c.in-Ok-output_of_end.ensures all.input all.is))
     c.finish_output.ensures.ok c.finish_output.ensures.front in
     record { written = w.written; front = w.front; reads = c.reads.ensures.bounded }
 
-pub returns-in-Err-output_of_parts : goal.returns-in-Err-output_of_parts
-returns-in-Err-output_of_parts g c =
-    let given = running c.args.options.now false c.args.input.now c.read_parts-read.new.input in
-    let w = writes given c.finish-in-Err-output_of_parts.result c.args.writer.now c.finish-in-Err-output_of_parts.new.writer
+pub returns-in-Err-output_of_end : goal.returns-in-Err-output_of_end
+returns-in-Err-output_of_end g c =
+    let given = running c.args.options.now false c.args.input.now c.follow_input-read.new.input in
+    let w = writes given c.finish-in-Err-output_of_end.result c.args.writer.now c.finish-in-Err-output_of_end.new.writer
     (fault_alone (codes "55")) _ _ refl refl (is_no_memory given c.in-Ok.ensures.none_failed)
-    c.finish-in-Err-output_of_parts.ensures.ok c.finish-in-Err-output_of_parts.ensures.front in
+    c.finish-in-Err-output_of_end.ensures.ok c.finish-in-Err-output_of_end.ensures.front in
     record { written = w.written; front = w.front; reads = c.reads.ensures.bounded }

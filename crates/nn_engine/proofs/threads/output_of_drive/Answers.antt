@@ -2,7 +2,6 @@ use Rattle.std.proofs.Common.{true, Ok, map, refl, arith}
 use Rattle.std.proofs.lemmas.Result.{IfOk-weaker}
 use Rattle.nn_scenario.specs.Steps.{lanes_of}
 use Rattle.nn_segment.specs.Segment.{Segment}
-use Rattle.nn_model.specs.Log.{log_of}
 use Rattle.nn_engine.specs.Output.{IsHistoryOf}
 use Rattle.nn_engine.specs.Shown.{shown}
 use Rattle.nn_engine.proofs.ToldLemmas.{told_history, told_fault}
@@ -30,7 +29,7 @@ returns-in-Ok g c =
     IfOk-weaker c.output_of_flushed.result _ _ (λ o told start is.
     let a = arrives settings c.args.datanodes lanes c.in_ok-sources.sources.items c.in_ok-sources.ensures c.in_ok-workers.workers.items c.in_ok-workers.ends.items c.in_ok-workers.ensures.own start c.in_ok-standby.standby (c.in_ok-standby.ensures.begun start is) c.in_ok-standby.ensures.settings segments
     c.in-Ok.shadow c.in-Ok._active c.in-Ok.ensures.ok in
-    let happened : IsHistoryOf start true (log_of start.txid (map (λ (s : Segment). s.txs) segments)) c.args.steps c.in-Ok.shadow.history =
+    let happened : IsHistoryOf start true (map (λ (s : Segment). s.txs) segments) c.args.steps c.in-Ok.shadow.history =
     record { lawful = a.lawful; whole = a.whole; one_thread = λ none. absurd (cc) } in
     told_history start true options c.args.steps (Ok segments) segments c.in-Ok.shadow.history (shown o) refl (λ end ended. happened)
     (tells start options lanes segments c.in-Ok.shadow (shown o) a told)

@@ -1,0 +1,19 @@
+use Rattle.std.proofs.Common.{List, ℕ, subst}
+use Rattle.std.specs.Prelude.{IfOk, is_some}
+use Rattle.nn_scenario.specs.Reading.{nothing_read}
+use Rattle.nn_scenario.specs.Scenario.{seen, IsLawfulScenario}
+use Rattle.nn_engine.specs.Input.{HasParts, IsRead, PartsTaken}
+use Rattle.nn_engine.specs.declared.parts.InputParts.{InputParts}
+use Rattle.nn_engine.proofs.InputLemmas.{parts_read}
+use Rattle.nn_engine.proofs.parts.Parts.end.Goals as goal
+
+pub returns-clause-read : goal.returns-clause-read
+returns-clause-read c =
+    let r : InputParts = record { image = c.in_ok-image.image; lines = c.scenario_of-lines.result } in
+    subst (λ (p : PartsTaken). (input : List ℕ) → HasParts p input → IsRead (is_some p.front) input r) c.self.view_is (λ input h.
+    parts_read _ r input c.in_ok-image.ensures (λ text come. c.scenario_of-lines.ensures nothing_read text (c.end-read.ensures.read nothing_read text come)) h)
+
+pub returns-clause-lawful : goal.returns-clause-lawful
+returns-clause-lawful c =
+    subst (λ (p : PartsTaken). (input : List ℕ) → HasParts p input → IfOk c.scenario_of-lines.result (λ s. IsLawfulScenario (seen s))) c.self.view_is (λ input h.
+    (c.scenario_of-lines.ensures nothing_read h.rest (c.end-read.ensures.read nothing_read h.rest h.come)).lawful)

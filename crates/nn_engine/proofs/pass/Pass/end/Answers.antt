@@ -1,0 +1,17 @@
+use Rattle.std.proofs.Common.{List, ℕ, subst}
+use Rattle.nn_engine.specs.Pass.{Passed, HasPassed, IsRunOf}
+use Rattle.nn_engine.proofs.PassLemmas.{ends_behind, ends_in_front}
+use Rattle.nn_engine.proofs.pass.Pass.end.Goals as goal
+
+pub returns-in-Front-clause-ends : goal.returns-in-Front-clause-ends
+returns-in-Front-clause-ends c =
+    let p : Passed = record { options = c.self.inside.options; stage = c.self.inside.stage; taken = c.self.inside.taken } in
+    subst (λ (p : Passed). (input : List ℕ) → HasPassed p input → IsRunOf p.options input c.end_of_begun.result) c.self.view_is
+    (ends_in_front (λ v. v.items) p c.in-Front.front c.in_ok-image-in-Front.image c.in_ok-begun-in-Front.begun c.end_of_begun.result c.in-Front.is c.in_ok-image-in-Front.ensures
+    c.in_ok-begun-in-Front.ensures.starts c.end_of_begun.ensures.ends)
+
+pub returns-clause-ends : goal.returns-clause-ends
+returns-clause-ends c =
+    let p : Passed = record { options = c.self.inside.options; stage = c.self.inside.stage; taken = c.self.inside.taken } in
+    subst (λ (p : Passed). (input : List ℕ) → HasPassed p input → IsRunOf p.options input c.end_of_begun-in-Begun.result) c.self.view_is
+    (ends_behind p c.in-Begun.begun c.end_of_begun-in-Begun.result c.in-Begun.is c.end_of_begun-in-Begun.ensures.ends)

@@ -1,0 +1,163 @@
+//! The parts of an input that are kept whole, for a run with threads: its image and its scenario.
+ghost use Rattle.std.specs.Prelude.{◌≡◌, ◌≤◌, ◌++◌, [], List, ℕ, false, drop, is_some, length, option_map, IfOk, IfErr, OnOk};
+ghost use Rattle.std.specs.Io.KnownBytes.{IsAtEnd};
+ghost use Rattle.nn_scenario.specs.Scenario.{seen, IsLawfulScenario};
+ghost use Rattle.nn_engine.specs.Input.{EndsFront, HasParts, IsFrontOf, IsRead, IsReadOfAll, IsScenarioOfAll, IsUnread};
+
+use crate::device::{ByteSink, InputFault, read_to_end};
+use nn_device::Reader;
+use nn_edits::Scratch;
+use nn_front::Front;
+use nn_scenario::{BadLine, Lines, MAX_INPUT, Reading, Scenario, scenario_of};
+use std::alloc::{AllocError, Global};
+use std::io::Read;
+use std::marker::Model;
+
+/// The image of an input, where it is asked for and there, and the scenario or its first line that is refused.
+#[derive(Drop)]
+pub(crate) struct InputParts {
+    pub image: Option<Vec<u8>>,
+    pub lines: Result<Scenario, BadLine>,
+}
+
+/// Reads a scenario to the reader's end: at most `MAX_INPUT` bytes of it, in reads of up to 65,536 bytes each. The inner
+/// result is the scenario, or its first line that is refused. It reads on after such a line, since
+/// an input that can't be read is told first; what it read of a line is kept no longer than the line, unless the
+/// scenario has it. After a fault discard the reader: nothing is said of how far it was read.
+pub fn read_scenario<R: Read>(
+    alloc: Global,
+    input: &mut Reader<R>,
+) -> Result<Result<Scenario, BadLine>, InputFault>
+    ensures whole { IfOk result (IsScenarioOfAll input.old input.new) }
+    ensures end { OnOk result (IsAtEnd input.new.left) }
+    ensures lawful { IfOk result (λ lines. IfOk lines (λ s. IsLawfulScenario (seen s))) }
+    ensures none_failed { OnOk result (input.new.failed ≡ input.old.failed) }
+    ensures why { IfErr result (IsUnread false input.old input.new) }
+{
+    let parts = read_parts(alloc, false, input)?;
+    let InputParts { lines, .. } = parts;
+    Ok(lines)
+}
+
+/// Reads an input to the reader's end, with an image before the scenario or without one. The image is kept as it is, and what is
+/// passed over before it is not. Of what follows the image, `MAX_INPUT` bytes are read at most.
+pub(crate) fn read_parts<R: Read>(
+    alloc: Global,
+    from_image: bool,
+    input: &mut Reader<R>,
+) -> Result<InputParts, InputFault>
+    ensures whole { IfOk result (λ r. IsReadOfAll from_image (λ input. IsRead from_image input r) input.old input.new) }
+    ensures end { OnOk result (IsAtEnd input.new.left) }
+    ensures lawful { IfOk result (λ r. IfOk r.lines (λ s. IsLawfulScenario (seen s))) }
+    ensures none_failed { OnOk result (input.new.failed ≡ input.old.failed) }
+    ensures why { IfErr result (IsUnread from_image input.old input.new) }
+{
+    let mut parts = Parts::new(alloc, from_image)?;
+    read_to_end(alloc, &mut parts, input)?;
+    let read = parts.end(alloc)?;
+    Ok(read)
+}
+
+// The parts of an input that have come.
+#[derive(Drop)]
+struct Parts {
+    // the front, where an image is asked for
+    front: Option<Front>,
+    lines: Lines<Reading>,
+    scratch: Scratch,
+    // how many bytes of the scenario have come
+    taken: usize,
+}
+
+impl Model for Parts {
+    ghost use Rattle.std.specs.Prelude.{◌≤◌, length};
+    ghost use Rattle.nn_scenario.specs.Scenario.{max_input};
+    ghost use Rattle.nn_engine.specs.Input.{PartsTaken};
+
+    ghost Value = { PartsTaken };
+
+    ghost view = { λ p. record { front = p.front; lines = p.lines; taken = p.taken } };
+
+    ghost invariant = { λ p. (length p.lines.so_far.steps ≤ p.lines.ended) × (p.lines.ended ≤ p.taken) × (p.taken ≤ max_input) };
+}
+
+impl ByteSink for Parts {
+    ghost use Rattle.std.specs.Prelude.{is_some};
+    ghost use Rattle.nn_engine.specs.Input.{HasParts};
+
+    ghost from_image = { λ p. is_some p.front };
+
+    ghost has_taken = { λ _ p input. HasParts p input };
+
+    fn push(&mut self, alloc: Global, bytes: &[u8]) -> Result<(), InputFault> {
+        let at = push_front(&mut self.front, alloc, bytes)?;
+        let more = bytes.len() - at;
+        if more > MAX_INPUT - self.taken {
+            return Err(InputFault::TooLong);
+        }
+        self.lines.push(alloc, &mut self.scratch, &bytes[at..]);
+        self.taken += more;
+        Ok(())
+    }
+}
+
+impl Parts {
+    // No bytes have come.
+    fn new(alloc: Global, from_image: bool) -> Result<Parts, AllocError>
+        ensures none { IfOk result (λ p. HasParts p []) }
+        ensures front { IfOk result (λ p. is_some p.front ≡ from_image) }
+    {
+        let reading = Reading::new(alloc)?;
+        let front = if from_image {
+            Some(Front::new(alloc))
+        } else {
+            None
+        };
+        Ok(Parts {
+            front,
+            lines: Lines::to(alloc, reading),
+            scratch: Scratch::new(alloc),
+            taken: 0,
+        })
+    }
+
+    // The parts of an input that has ended.
+    fn end(self, alloc: Global) -> Result<InputParts, AllocError>
+        ensures read { IfOk result (λ r. (input : List ℕ) → HasParts self input → IsRead (is_some self.front) input r) }
+        ensures lawful { IfOk result (λ r. (input : List ℕ) → HasParts self input → IfOk r.lines (λ s. IsLawfulScenario (seen s))) }
+        ensures fits { self.taken ≤ 16777216 }
+    {
+        let Parts {
+            front,
+            lines,
+            mut scratch,
+            ..
+        } = self;
+        let image = image_of(front)?;
+        let read = lines.end(alloc, &mut scratch);
+        let lines = scenario_of(read);
+        Ok(InputParts { image, lines })
+    }
+}
+
+// The image of an input that has ended, where one is asked for and there.
+fn image_of(front: Option<Front>) -> Result<Option<Vec<u8>>, AllocError>
+    ensures { IfOk result (λ image. EndsFront front (option_map (λ v. v.items) image)) }
+{
+    match front {
+        Some(front) => front.end(),
+        None => Ok(None),
+    }
+}
+
+// Takes the bytes of the front, where an image is asked for. The answer is how many there are.
+fn push_front(front: &mut Option<Front>, alloc: Global, bytes: &[u8]) -> Result<usize, AllocError>
+    ensures within { IfOk result (λ n. n ≤ length bytes.now) }
+    ensures front { IfOk result (λ n. (input rest : List ℕ) → IsFrontOf front.old input rest → IsFrontOf front.new (input ++ bytes.now) (rest ++ drop n bytes.now)) }
+    ensures same { is_some front.new ≡ is_some front.old }
+{
+    match front {
+        Some(front) => front.push(alloc, bytes),
+        None => Ok(0),
+    }
+}

@@ -2,9 +2,11 @@
 //! them can tell a failed read or write from every other end.
 #![tactic(auto)]
 
+mod page;
 mod reader;
 mod writer;
 
+pub use page::Page;
 pub use reader::{ReadFailed, Reader};
 pub use writer::{Unwritten, WriteFailed, Writer};
 

@@ -1,2 +1,3 @@
 pub mod PlainNames
 pub mod Lengths
+pub mod PutNames

@@ -28,7 +28,7 @@ stands b e =
     rw (quote, backslash, eight, twelve, ten, thirteen, nine, above) refl
 
 -- plain bytes stand as they are
-escape_plain : (bs : List ℕ) → list_all is_plain_byte bs ≡ true → escape bs ≡ bs
+pub escape_plain : (bs : List ℕ) → list_all is_plain_byte bs ≡ true → escape bs ≡ bs
 escape_plain [] e = refl
 escape_plain (b ∷ bs) e = let h = both (is_plain_byte b) (list_all is_plain_byte bs) e in rw (stands b h.0, escape_plain bs h.1) refl
 

@@ -1,6 +1,8 @@
 -- Names that JSON writes as they are, between its quotes. For private clauses.
-use Rattle.std.specs.Prelude.{ℕ, List, Bool, not, ◌&&◌, ◌==◌, nat_le}
+use Rattle.std.specs.Prelude.{ℕ, List, ◌∷◌, Bool, not, ◌&&◌, ◌==◌, nat_le}
 use Rattle.std.specs.List.{list_all}
+use Rattle.json.specs.Print.{escape}
+use Rattle.nn_types.specs.Path.{slash}
 
 -- no control character, no quote and no backslash
 abbrev pub is_plain_byte : ℕ → Bool
@@ -11,3 +13,7 @@ is_plain name = list_all is_plain_byte name
 
 abbrev pub are_plain : List (List ℕ) → Bool
 are_plain names = list_all is_plain names
+
+-- a slash and a name, as a string of JSON has them
+abbrev pub escaped_name : List ℕ → List ℕ
+escaped_name name = slash ∷ escape name

@@ -35,7 +35,7 @@ fn are_plain(names: &[&str]) -> bool
     true
 }
 
-fn is_plain(name: &str) -> bool
+pub(crate) fn is_plain(name: &str) -> bool
     ensures { result ≡ is_plain name.now }
 {
     let mut plain = true;

@@ -1,0 +1,110 @@
+//! A text that goes to a writer in large parts as it grows.
+ghost use Rattle.std.specs.Prelude.{◌≡◌, [], ℕ, List, false, true, OnOk, IfErr};
+ghost use Rattle.nn_device.specs.Device.{Writing, Took};
+ghost use Rattle.nn_device.specs.Page.{HasPut, Puts};
+ghost use Rattle.nn_device.specs.Parts.{TookFront};
+
+use crate::writer::{Unwritten, Writer};
+use std::alloc::Global;
+use std::io::Write;
+use std::marker::Model;
+
+/// The bytes after which what was gathered is written.
+const PART: usize = 65_536;
+
+/// Gathers a text piece by piece, and writes it in parts of some 65,536 bytes. No piece is refused: one for which there is no
+/// memory is written at once, and what comes behind a failed write is let go. `end` tells of that write.
+#[derive(Drop)]
+pub struct Page {
+    // what is to be written
+    gathered: Vec<u8>,
+    // whether a write failed
+    lost: bool,
+}
+
+impl Model for Page {
+    ghost use Rattle.nn_device.specs.Page.{Gathered};
+
+    ghost Value = { Gathered };
+
+    ghost view = { λ p. record { left = p.gathered.items; lost = p.lost } };
+}
+
+impl Page {
+    /// No text yet. Takes no memory.
+    pub fn new(alloc: Global) -> Page
+        ensures { (start : Writing) → HasPut start [] result start }
+    {
+        Page {
+            gathered: Vec::new(alloc),
+            lost: false,
+        }
+    }
+
+    /// The next piece of the text. The whole of a text has to go to one writer.
+    pub fn put<W: Write>(&mut self, writer: &mut Writer<W>, piece: &[u8])
+        ensures { Puts piece.now self.old writer.old self.new writer.new }
+    {
+        self.write_full(writer);
+        if self.lost {
+            return;
+        }
+        if let Err(_) = self.gathered.extend_from_slice(piece) {
+            self.write(writer);
+            self.write_piece(writer, piece);
+        }
+    }
+
+    /// Writes the rest of the text.
+    pub fn end<W: Write>(self, writer: &mut Writer<W>) -> Result<(), Unwritten>
+        ensures ok { OnOk result ((start : Writing) (text : List ℕ) → HasPut start text self writer.old → Took start writer.new text) }
+        ensures front { IfErr result (λ cause. (start : Writing) (text : List ℕ) → HasPut start text self writer.old → TookFront start writer.new text cause) }
+    {
+        let Page { gathered, lost } = self;
+        if lost {
+            return Err(Unwritten::WriteFailed);
+        }
+        match writer.write_part(&gathered) {
+            Ok(()) => Ok(()),
+            Err(_) => Err(Unwritten::WriteFailed),
+        }
+    }
+
+    // Writes what was gathered, if that is a part.
+    fn write_full<W: Write>(&mut self, writer: &mut Writer<W>)
+        ensures { Puts [] self.old writer.old self.new writer.new }
+    {
+        if self.gathered.len() >= PART {
+            self.write(writer);
+        }
+    }
+
+    // Writes what was gathered.
+    fn write<W: Write>(&mut self, writer: &mut Writer<W>)
+        ensures same { Puts [] self.old writer.old self.new writer.new }
+        ensures none { self.new.left ≡ [] }
+    {
+        if self.lost {
+            self.gathered.clear();
+            return;
+        }
+        let written = writer.write_part(&self.gathered);
+        self.gathered.clear();
+        if let Err(_) = written {
+            self.lost = true;
+        }
+    }
+
+    // Writes a piece behind what was written.
+    fn write_piece<W: Write>(&mut self, writer: &mut Writer<W>, piece: &[u8])
+        requires { self.old.left ≡ [] }
+        ensures { Puts piece.now self.old writer.old self.new writer.new }
+    {
+        if self.lost {
+            return;
+        }
+        if let Err(_) = writer.write_part(piece) {
+            self.lost = true;
+        }
+    }
+}

@@ -1,5 +1,6 @@
 -- The table after the room of a block was given back.
 use Rattle.std.proofs.Common.{◌≡◌, ℕ, ◌+◌, Bool, true, false, cond, List, [], ◌∷◌, Option, Some, None, is_some, refl, sym, ap, ◌∙◌, arith, nat_cmp, eqb-true}
+use Rattle.std.proofs.option.Match.{None-if_not_some}
 use Rattle.std.specs.Prelude.{◌&&◌, ◌==◌, not, unwrap_or, option_and_then}
 use Rattle.std.specs.List.{list_all}
 use Rattle.std.specs.Map.{remove_entry, lookup}
@@ -9,10 +10,10 @@ use Rattle.std.specs.FinMap.Entries.{find, below_all, is_sorted}
 use Rattle.nn_replicas.specs.declared.entry.Cell.{Cell}
 use Rattle.nn_replicas.specs.Table.{BlockEntry, Table}
 use Rattle.nn_replicas.specs.Entry.{is_ordered, no_entry, is_idle, is_idle_cell, is_closed, is_closed_row, is_safe, is_safe_row}
-use Rattle.nn_replicas.specs.Calls.{entry_at, entry_or_none, has_entry, row_at, cell_at, replica_at, has_order, is_placed, without_entry, is_idle_at, room_given_back}
+use Rattle.nn_replicas.specs.Calls.{entry_at, entry_or_none, has_entry, row_at, replica_at, has_order, is_placed, without_entry, is_idle_at, room_given_back}
 use Rattle.nn_replicas.specs.Order.{IsInOrder}
 use Rattle.nn_replicas.specs.Effects.{GivesBack}
-use Rattle.nn_replicas.proofs.Entries.{halves, from_T, find_below, tail_sorted, weight, counted, counted_cons}
+use Rattle.nn_replicas.proofs.Entries.{halves, find_below, tail_sorted, weight, counted, counted_cons}
 use Rattle.nn_replicas.proofs.Lookups.{eq_is}
 use Rattle.nn_replicas.proofs.Entries.{lookup_is_find}
 use Rattle.nn_replicas.proofs.Tables.{Entries, table}
@@ -91,12 +92,8 @@ idle_parts e h = cases (is_some e.row) refl
     cases true g = let no = ap (λ b. not b && list_all (λ c. is_idle_cell c.1) e.cells) (sym g) ∙ h in cc
     cases false g = (g, ap (λ b. not b && list_all (λ c. is_idle_cell c.1) e.cells) (sym g) ∙ h)
 
-no_some : {X : Type 0} (r : Option X) → is_some r ≡ false → r ≡ None
-no_some None h = refl
-no_some (Some x) h = cc
-
 no_row : (e : BlockEntry) → is_idle e ≡ true → e.row ≡ None
-no_row e h = no_some e.row (idle_parts e h).0
+no_row e h = None-if_not_some e.row (idle_parts e h).0
 
 idle_found : (dn : ℕ) (cells : List (ℕ × Cell)) → list_all (λ c. is_idle_cell c.1) cells ≡ true → (option_and_then (λ (c : Cell). c.replica) (find nat_cmp dn cells) ≡ None) × (is_ordered (find nat_cmp dn cells) ≡ false)
 idle_found dn [] h = (refl, refl)

@@ -7,3 +7,4 @@ pub mod Lookups
 pub mod Told
 pub mod Ties
 pub mod GivenBack
+pub mod RoomMade

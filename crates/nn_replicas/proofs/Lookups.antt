@@ -12,11 +12,11 @@ use Rattle.nn_model.specs.declared.form.BlockRow.{BlockRow}
 use Rattle.nn_replicas.specs.declared.entry.Cell.{Cell}
 use Rattle.nn_replicas.specs.Table.{BlockEntry, Table}
 use Rattle.nn_replicas.specs.Entry.{is_ordered, no_cell, no_entry, cell_put, cell_erased, cell_retired, cell_of, has_cell, with_row, with_cell, with_place, with_put, with_erased, retired}
-use Rattle.nn_replicas.specs.Calls.{entry_at, entry_or_none, row_at, cell_at, replica_at, has_order, is_placed, with_entry, changed_from, changed_at, empty_table, block_set, pair_placed, replica_put, replica_erased, block_retired}
+use Rattle.nn_replicas.specs.Calls.{entry_at, entry_or_none, row_at, cell_at, replica_at, has_order, is_placed, with_entry, changed_from, changed_at, has_entry, empty_table, room_made, block_set, pair_placed, replica_put, replica_erased, block_retired}
 use Rattle.nn_replicas.specs.Order.{IsInOrder}
 use Rattle.nn_replicas.proofs.Entries.{put_sorted}
 use Rattle.nn_replicas.proofs.Written.{sorted_retired}
-use Rattle.nn_replicas.specs.Effects.{is_named, is_pair, Names, Places, Writes, Retires}
+use Rattle.nn_replicas.specs.Effects.{is_named, is_pair, MakesRoom, Names, Places, Writes, Retires}
 
 -- ---- look-ups in entries
 
@@ -213,6 +213,22 @@ erased_row e dn = elim (has_cell e dn) as (λ b. (cond b (with_cell e dn (cell_e
 
 -- ---- the laws
 
+-- there is an entry of the block id that was set
+pub entry_set : (t : Table) (id : ℕ) (e : BlockEntry) (b : ℕ) → has_entry (with_entry t id e) b ≡ ((b == id) || has_entry t b)
+entry_set t id e b = ap is_some (find_put b id e t.entries) ∙ through is_some (b == id) (Some e) (entry_at t b) ∙ or_by (b == id) (has_entry t b)
+
+pub make_room_makes : (t : Table) (id : ℕ) → MakesRoom t id (room_made t id)
+make_room_makes t id =
+    let e = entry_or_none t id in
+    let cells = λ (d b : ℕ). kept (λ x. find nat_cmp d x.cells) t id e refl b in
+    record {
+      rows = λ b. kept (λ x. x.row) t id e refl b;
+      replicas = λ d b. ap replica_of (cells d b);
+      orders = λ d b. ap is_ordered (cells d b);
+      room = λ d b. ap is_some (cells d b);
+      entries = λ b. entry_set t id e b;
+    }
+
 pub set_block_names : (t : Table) (block : Block) (closed : Bool) → Names t block closed (block_set t block closed)
 set_block_names t block closed =
     let row : BlockRow = record { block = block; closed = closed } in
@@ -320,6 +336,9 @@ changed_in_order t id g h keeps = cases (entry_at t id) refl
 
 pub new_in_order : (min : ℕ) → IsInOrder (empty_table min)
 new_in_order min = record { blocks = refl; datanodes = λ id. refl }
+
+pub make_room_in_order : (t : Table) (id : ℕ) → IsInOrder t → IsInOrder (room_made t id)
+make_room_in_order t id h = cells_sorted_with t id (entry_or_none t id) h (h.datanodes id)
 
 pub set_block_in_order : (t : Table) (block : Block) (closed : Bool) → IsInOrder t → IsInOrder (block_set t block closed)
 set_block_in_order t block closed h = cells_sorted_with t block.id _ h (h.datanodes block.id)

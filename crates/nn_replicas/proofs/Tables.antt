@@ -9,7 +9,7 @@ use Rattle.std.proofs.lemmas.Bool.{both_ways}
 use Rattle.std.proofs.lemmas.List.Sums.{count_by-le-length}
 use Rattle.nn_replicas.specs.Table.{BlockEntry, Table}
 use Rattle.nn_replicas.specs.Entry.{is_ordered, replicas_in, no_entry, no_cell, has_cell, cell_of, with_cell, cell_erased, with_place, with_erased, is_closed}
-use Rattle.nn_replicas.specs.Calls.{entry_or_none, row_at, replicas_at, has_order, is_placed, with_entry, changed_from, changed_at}
+use Rattle.nn_replicas.specs.Calls.{entry_or_none, replicas_at, has_order, is_placed, has_entry, with_entry, changed_from, changed_at}
 use Rattle.nn_replicas.proofs.Entries.{weight, counted, counted_there, counted_put, sorted_of, lookup_is_find, insert_is_put, set_is_put, put_same}
 use mir.Val.{bool_byte}
 
@@ -90,9 +90,9 @@ same_new {es} {fs} {b} {v} {w} h t min e m = ap (table min) (h.put ∙ ap (λ x.
 
 -- ---- what stands at a block id
 
-pub no_row : {P : Type 0} (t : Table) (min b : ℕ) (es : Entries) → table min es ≡ t → None ≡ lookup (is_at (nat_cmp b)) es → is_some (row_at t b) ≡ true → P
-no_row t min b es e h has =
-    let none : is_some (row_at t b) ≡ false = ap (λ x. is_some (row_at x b)) (sym e) ∙ ap (λ o. is_some (unwrap_or o no_entry).row) (sym (lookup_is_find b es) ∙ sym h) in
+pub no_entry_there : {P : Type 0} (t : Table) (min b : ℕ) (es : Entries) → table min es ≡ t → None ≡ lookup (is_at (nat_cmp b)) es → has_entry t b ≡ true → P
+no_entry_there t min b es e h has =
+    let none : has_entry t b ≡ false = ap (λ x. has_entry x b) (sym e) ∙ ap is_some (sym (lookup_is_find b es) ∙ sym h) in
     absurd (both_ways _ none has)
 
 pub no_place : {P : Type 0} (t : Table) (min dn b : ℕ) (es : Entries) → table min es ≡ t → None ≡ lookup (is_at (nat_cmp b)) es → is_placed t dn b ≡ true → P

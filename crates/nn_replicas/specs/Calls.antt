@@ -18,7 +18,7 @@ use Rattle.nn_replicas.specs.Entry.{is_closed, is_safe, is_idle}
 
 -- ---- What it answers.
 
--- what is known of a block id, if a row or a placed DataNode ever made room for it
+-- what is known of a block id, if a row, a placed DataNode or room for it ever made an entry
 abbrev pub entry_at : Table → ℕ → Option BlockEntry
 entry_at t id = find nat_cmp id t.entries
 
@@ -107,6 +107,10 @@ changed_from t id change (Some e) = with_entry t id (change e)
 -- a change of what is known of a block id, where something is
 abbrev pub changed_at : Table → ℕ → (BlockEntry → BlockEntry) → Table
 changed_at t id change = changed_from t id change (entry_at t id)
+
+-- there is an entry of the block id
+abbrev pub room_made : Table → ℕ → Table
+room_made t id = with_entry t id (entry_or_none t id)
 
 -- a file holds the block
 abbrev pub block_set : Table → Block → Bool → Table

@@ -19,6 +19,14 @@ pub record Names (old : Table) (block : Block) (closed : Bool) (new : Table) : T
   pub orders : (d b : ℕ) → has_order new d b ≡ has_order old d b
   pub room : (d b : ℕ) → is_placed new d b ≡ is_placed old d b
 
+-- there is an entry of the block, and nothing else changes
+pub record MakesRoom (old : Table) (id : ℕ) (new : Table) : Type 0 where
+  pub rows : (b : ℕ) → row_at new b ≡ row_at old b
+  pub replicas : (d b : ℕ) → replica_at new d b ≡ replica_at old d b
+  pub orders : (d b : ℕ) → has_order new d b ≡ has_order old d b
+  pub room : (d b : ℕ) → is_placed new d b ≡ is_placed old d b
+  pub entries : (b : ℕ) → has_entry new b ≡ ((b == id) || has_entry old b)
+
 -- there is room for what a DataNode says of a block, and nothing else changes
 pub record Places (old : Table) (dn id : ℕ) (new : Table) : Type 0 where
   pub rows : (b : ℕ) → row_at new b ≡ row_at old b

@@ -5,7 +5,7 @@ use Rattle.nn_types.specs.declared.report.Kind.{Kind}
 use Rattle.nn_types.specs.declared.report.Kind.TheVariants.{Receiving, Received}
 use Rattle.nn_types.specs.declared.replica.Replica.{Replica}
 use Rattle.nn_replicas.specs.Table.{Table}
-use Rattle.nn_replicas.specs.Calls.{row_at, rows_of, replica_at, has_order, is_placed, replicas_at, orders_of, total_of, safe_of, empty_table}
+use Rattle.nn_replicas.specs.Calls.{row_at, rows_of, replica_at, has_order, is_placed, replicas_at, orders_of, total_of, safe_of, empty_table, room_made}
 use Rattle.nn_replicas.specs.Calls.{stamp_at, block_set, pair_placed, replica_put, replica_erased, due_told, block_retired, has_entry, is_idle_at, room_given_back}
 
 -- ---- The blocks b and c, and reports of b by DataNodes 1, 2 and 3.
@@ -80,6 +80,11 @@ idle = refl
 entries : map (λ t. has_entry t b ∷ has_entry t c ∷ []) (done ∷ pair_placed done 1 c ∷ room_given_back (pair_placed done 1 c) b ∷ room_given_back done c ∷ [])
     ≡ (true ∷ false ∷ []) ∷ (true ∷ true ∷ []) ∷ (false ∷ true ∷ []) ∷ (true ∷ false ∷ []) ∷ []
 entries = refl
+
+-- room for a block is an entry and no more: where there is one nothing changes, and where there was none it can be given back
+made : (map (λ t. has_entry t b ∷ has_entry t c ∷ []) (room_made (empty_table 1) c ∷ room_made done c ∷ []) ≡ (false ∷ true ∷ []) ∷ (true ∷ true ∷ []) ∷ [])
+    × (room_made raised b ≡ raised) × (room_given_back (room_made raised c) c ≡ raised)
+made = (refl, refl, refl)
 
 given_back : (room_given_back done b ≡ empty_table 1) × (is_placed (room_given_back (pair_placed done 1 c) b) 1 c ≡ true) × (room_given_back done c ≡ done)
 given_back = (refl, refl, refl)

@@ -3,14 +3,15 @@ ghost use Rattle.std.specs.Prelude.{◌≡◌, ℕ, Bool, true, false, Option, S
 ghost use Rattle.nn_types.specs.declared.block.Block.{Block};
 ghost use Rattle.nn_types.specs.declared.replica.Replica.{Replica};
 ghost use Rattle.nn_replicas.specs.Table.{Table};
-ghost use Rattle.nn_replicas.specs.Calls.{empty_table, block_set, pair_placed, replica_put, replica_erased, stamp_at, reaches, due_told, block_retired, room_given_back};
-ghost use Rattle.nn_replicas.specs.Effects.{Names, Places, Writes, Retires, GivesBack};
+ghost use Rattle.nn_replicas.specs.Calls.{empty_table, room_made, block_set, pair_placed, replica_put, replica_erased, stamp_at, reaches, due_told, block_retired, room_given_back};
+ghost use Rattle.nn_replicas.specs.Effects.{MakesRoom, Names, Places, Writes, Retires, GivesBack};
 ghost use Rattle.nn_replicas.specs.Agreement.{CountsAgree};
 ghost use Rattle.nn_replicas.specs.Order.{IsInOrder};
 
 /// What each call of the table changes, told by the four things that it is asked for: rows, replicas, orders and
 /// room.
 pub fn each_call_changes()
+    ensures make_room { (t : Table) (id : ℕ) → MakesRoom t id (room_made t id) }
     ensures set_block { (t : Table) (block : Block) (closed : Bool) → Names t block closed (block_set t block closed) }
     ensures place { (t : Table) (dn id : ℕ) → Places t dn id (pair_placed t dn id) }
     ensures put { (t : Table) (dn id : ℕ) (r : Replica) → Writes t dn id (Some r) (replica_put t dn id r) }
@@ -24,6 +25,7 @@ pub fn each_call_changes()
 /// Block ids are in order in every table that the calls make, and so are the DataNodes of each.
 pub fn tables_are_in_order()
     ensures new { (min : ℕ) → IsInOrder (empty_table min) }
+    ensures make_room { (t : Table) (id : ℕ) → IsInOrder t → IsInOrder (room_made t id) }
     ensures set_block { (t : Table) (block : Block) (closed : Bool) → IsInOrder t → IsInOrder (block_set t block closed) }
     ensures place { (t : Table) (dn id : ℕ) → IsInOrder t → IsInOrder (pair_placed t dn id) }
     ensures put { (t : Table) (dn id : ℕ) (r : Replica) → IsInOrder t → IsInOrder (replica_put t dn id r) }

@@ -1,8 +1,8 @@
 //! The replica table.
-ghost use Rattle.std.specs.Prelude.{◌≡◌, IsOk, OnOk, OnErr, IfOk, IfSome, IsTrue, is_some};
+ghost use Rattle.std.specs.Prelude.{◌≡◌, IsOk, OnOk, OnErr, IfOk, IfSome, IsTrue};
 ghost use Rattle.std.specs.FinMap.Entries.{is_sorted};
 ghost use Rattle.std.specs.Ordering.{nat_cmp};
-ghost use Rattle.nn_replicas.specs.Calls.{row_at, rows_of, replicas_at, orders_of, AreAscending, has_order, is_placed, is_kept, total_of, safe_of, empty_table, block_set, pair_placed, replica_put, replica_erased, stamp_at, reaches, due_told, block_retired, room_given_back};
+ghost use Rattle.nn_replicas.specs.Calls.{rows_of, replicas_at, orders_of, AreAscending, has_order, is_placed, has_entry, is_kept, total_of, safe_of, empty_table, room_made, block_set, pair_placed, replica_put, replica_erased, stamp_at, reaches, due_told, block_retired, room_given_back};
 
 use crate::entry::Entry;
 use crate::replicas_of::ReplicasOf;
@@ -17,7 +17,8 @@ use std::marker::Model;
 ///
 /// A block has a row while a file holds it. A DataNode has a replica of a block with a row, or an order to delete
 /// what it has of a block without one. A DataNode that was placed at a block keeps its room there, so a later report of
-/// it takes no memory, until `give_back` takes the room of all DataNodes at that block.
+/// it takes no memory, and a block for which room was made gets its row without memory: until `give_back` takes the entry of
+/// that block, with the room of all DataNodes.
 #[derive(Drop)]
 pub struct Replicas {
     min: u16,
@@ -57,13 +58,29 @@ impl Replicas {
         }
     }
 
-    /// Names a block of a file, or changes its row. It takes no memory where the block has a row.
+    /// Makes room for a block: an entry without row, replica or order, if there is none of the block. A `set_block` on it
+    /// takes no memory.
+    ///
+    /// If memory runs out, the table is as it was. O(log blocks).
+    pub fn make_room(&mut self, block: BlockId) -> Result<(), AllocError>
+        ensures ok { OnOk result (self.new ≡ room_made self.old block) }
+        ensures err { OnErr result (self.new ≡ self.old) }
+    {
+        let Some(_entry) = self.entries.get(&block) else {
+            self.entries.insert(block, Entry::new(self.alloc))?;
+            return Ok(());
+        };
+        Ok(())
+    }
+
+    /// Names a block of a file, or changes its row. It takes no memory where the block has an entry: a row, a placed DataNode or
+    /// room.
     ///
     /// If memory runs out, the table is as it was. O(log blocks + replicas of the block).
     pub fn set_block(&mut self, block: Block, closed: bool) -> Result<(), AllocError>
         ensures ok { OnOk result (self.new ≡ block_set self.old block closed) }
         ensures err { OnErr result (self.new ≡ self.old) }
-        ensures room { IsTrue (is_some (row_at self.old block.id)) → IsOk result }
+        ensures room { IsTrue (has_entry self.old block.id) → IsOk result }
     {
         // Fewer blocks than 2^63 fit in memory, so the counters do not overflow.
         let _count = self.entries.len();
@@ -194,8 +211,8 @@ impl Replicas {
     }
 
     /// Gives back the room of a block that has no row, no replica and no order. Of any other block nothing changes. It is
-    /// the one call that takes room away: a DataNode that was placed there has to be placed anew. A caller that has it
-    /// placed for an item that is still to come does not give it back.
+    /// the one call that takes room away: a DataNode that was placed there has to be placed anew, and a later row takes memory
+    /// again. A caller that has it placed for an item that is still to come does not give it back.
     ///
     /// O(log blocks + replicas of the block).
     pub fn give_back(&mut self, block: BlockId)

@@ -18,7 +18,7 @@ use Rattle.nn_replicas.specs.Calls.{entry_at, entry_or_none, row_at, with_entry,
 use Rattle.nn_replicas.specs.Effects.{is_named as has_row}
 use Rattle.nn_replicas.proofs.Lookups.{find_put, set_block_names}
 use Rattle.nn_shadow.specs.Room.{is_waited_for}
-use Rattle.nn_shadow.specs.Steps.{taken_as, message_taken, messages_taken, all_placed, row_made, rows_set, blocks_retired}
+use Rattle.nn_shadow.specs.Steps.{taken_as, message_taken, messages_taken, all_placed, room_made_for, rows_set, blocks_retired}
 use Rattle.nn_shadow.proofs.Filling.{row_stays}
 use Rattle.nn_shadow.proofs.Follows.{eq_swap}
 
@@ -76,7 +76,7 @@ retired_apart t (id ∷ ids) b none =
     let parts = or_parts (id == b) (has_id ids b) none in
     retired_apart (block_retired t id) ids b parts.1 ∙ changed_apart t id retired (entry_at t id) b (eq_swap b id ∙ parts.0)
 
-pub made_apart : (n : Namespace) (t : Table) (edit : Edit) (b : ℕ) → has_id (changed_ids (touched n edit)) b ≡ false → entry_at (row_made t edit) b ≡ entry_at t b
+pub made_apart : (n : Namespace) (t : Table) (edit : Edit) (b : ℕ) → has_id (changed_ids (touched n edit)) b ≡ false → entry_at (room_made_for t edit) b ≡ entry_at t b
 made_apart n t (StartSegment profile) b none = refl
 made_apart n t EndSegment b none = refl
 made_apart n t (Mkdir p) b none = refl
@@ -90,10 +90,6 @@ made_apart n t (Delete p) b none = refl
 made_apart n t (SetReplication p r) b none = refl
 made_apart n t (AllocateBlockId i) b none = refl
 made_apart n t (SetGenstamp stamp) b none = refl
-
--- the row of another block was made and unmade
-pub unmade_apart : (t : Table) (id : ℕ) (made : Table) (b : ℕ) → (b == id) ≡ false → entry_at made b ≡ entry_at t b → entry_at (block_retired made id) b ≡ entry_at t b
-unmade_apart t id made b apart same = changed_apart made id retired (entry_at made id) b apart ∙ same
 
 -- ---- rows
 

@@ -3,21 +3,23 @@ use Rattle.std.proofs.Common.{◌≡◌, ℕ, true, false, cond, List, [], ◌�
 use Rattle.std.specs.Prelude.{◌≢◌, ◌<◌, ◌==◌, ◌&&◌, not, nat_le, nat_lt, unwrap_or}
 use Rattle.std.specs.List.{list_any}
 use Rattle.std.proofs.lemmas.Bool.{both_ways, and_parts, cases_Bool, or_parts, or_cases, eqb-true, eq-eqb, le-leb, lt-ltb}
-use Rattle.nn_types.specs.declared.block.Block.{Block}
 use Rattle.nn_types.specs.declared.report.Message.{Message}
+use Rattle.nn_types.specs.declared.edit.Edit.{Edit}
 use Rattle.nn_model.specs.Apply.{has_id}
 use Rattle.nn_model.specs.Stands.{StandbyState}
 use Rattle.nn_model.specs.WellFormed.{Has}
-use Rattle.nn_replicas.specs.Table.{Table}
+use Rattle.nn_replicas.specs.Table.{BlockEntry, Table}
 use Rattle.nn_replicas.specs.Entry.{no_entry, is_idle}
-use Rattle.nn_replicas.specs.Calls.{entry_at, has_entry, is_placed, is_idle_at, without_entry, room_given_back}
+use Rattle.nn_replicas.specs.Calls.{entry_at, has_entry, is_placed, is_idle_at, room_made, without_entry, room_given_back}
 use Rattle.nn_replicas.specs.Effects.{is_named as has_row}
 use Rattle.nn_replicas.specs.Order.{IsInOrder}
 use Rattle.nn_replicas.proofs.GivenBack.{find_removed, idle_tells, give_back_gives, give_back_in_order}
+use Rattle.nn_replicas.proofs.RoomMade.{placed_entry, made_there, made_given}
 use Rattle.nn_postponed.specs.Queues.{IsLeast}
 use Rattle.nn_postponed.proofs.Orders.{any_weaker}
 use Rattle.nn_shadow.specs.Contents.{Contents, standby_of, Becomes}
-use Rattle.nn_shadow.specs.Room.{is_waited_for, IsNeeded, given_back, all_given_back, given_back_for}
+use Rattle.nn_shadow.specs.Room.{is_waited_for, IsNeeded, IsTight, given_back, all_given_back, given_back_at, added_given_back}
+use Rattle.nn_shadow.specs.Steps.{HavePlaces, block_added, room_made_at, room_made_for}
 use Rattle.nn_shadow.proofs.Sound.{IsSound}
 
 -- ---- whether an item about the block is held
@@ -115,6 +117,41 @@ all_needed_given held t (id ∷ ids) b o has = elim (or_cases (id == b) (has_id 
   | inr later ↦ all_needed_given held (given_back held t id) ids b (given_in_order held t id o) later
 ]
 
+-- ---- the room of a block that an edit adds
+
+-- an item that is held has its room
+waited_entry : (t : Table) (held : List Message) (id : ℕ) → HavePlaces t held → is_waited_for held id ≡ true → has_entry t id ≡ true
+waited_entry t [] id placed waits = absurd (both_ways _ refl waits)
+waited_entry t (m ∷ held) id placed waits = elim (or_cases (m.block == id) (is_waited_for held id) waits) [
+  | inl own ↦ subst (λ b. has_entry t b ≡ true) (eqb-true m.block id own) (placed_entry t m.dn m.block (placed m (inl refl)))
+  | inr later ↦ waited_entry t held id (λ x here. placed x (inr here)) later
+]
+
+-- room was made for a block, and given back: one that had an entry has it still, and of any other it goes again
+made_back : (held : List Message) (t : Table) (id : ℕ) → IsInOrder t → IsNeeded held t id → (is_waited_for held id ≡ true → has_entry t id ≡ true) →
+    given_back held (room_made t id) id ≡ t
+made_back held t id o needed waits = by_entry (entry_at t id) refl
+  where
+    by_entry : (e : Option BlockEntry) → entry_at t id ≡ e → given_back held (room_made t id) id ≡ t
+    by_entry None is = elim (cases_Bool (is_waited_for held id)) [
+      | inl about ↦ absurd (both_ways (has_entry t id) (ap is_some is) (waits about))
+      | inr none ↦ ap (λ w. cond w (room_made t id) (room_given_back (room_made t id) id)) none ∙ made_given t id is
+    ]
+    by_entry (Some e) is =
+        ap (λ s. given_back held s id) (made_there t id e o.blocks is)
+        ∙ cases_given held t id (λ s. s ≡ t) refl (λ none. elim (cases_Bool (is_idle_at t id)) [
+          | inl idle ↦ absurd (both_ways (is_waited_for held id) none (needed (ap is_some is) idle))
+          | inr busy ↦ ap (λ i. cond i (without_entry t id) t) busy
+        ])
+
+pub added_back : (held : List Message) (t : Table) (edit : Edit) → IsInOrder t → IsTight held t → HavePlaces t held →
+    added_given_back held (room_made_for t edit) edit ≡ t
+added_back held t edit o tight placed = by_block (block_added edit)
+  where
+    by_block : (b : Option ℕ) → given_back_at held (room_made_at t b) b ≡ t
+    by_block None = refl
+    by_block (Some id) = made_back held t id o (tight id) (waited_entry t held id placed)
+
 -- ---- the standby
 
 -- it shows what it showed, and what holds within a call holds
@@ -164,11 +201,6 @@ room_stays x id c none =
 
 pub given_stays : (x : Contents) (id : ℕ) → IsSound x → Stays x (given_back x.held x.table id)
 given_stays x id c = cases_given x.held x.table id (Stays x) (same_stays x c) (room_stays x id c)
-
--- the room that the row of an edit's block took
-pub room_given_stays : (x : Contents) (o : Option Block) → IsSound x → Stays x (given_back_for x.held x.table o)
-room_given_stays x None c = same_stays x c
-room_given_stays x (Some b) c = given_stays x b.id c
 
 pub all_given_stays : (x : Contents) (ids : List ℕ) → IsSound x → Stays x (all_given_back x.held x.table ids)
 all_given_stays x [] c = same_stays x c

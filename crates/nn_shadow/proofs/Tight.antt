@@ -7,8 +7,6 @@ use Rattle.nn_types.specs.declared.report.Message.{Message}
 use Rattle.nn_types.specs.declared.event.Cause.{Cause}
 use Rattle.nn_types.specs.declared.event.Cause.TheVariants.{Due}
 use Rattle.nn_types.specs.declared.edit.Edit.{Edit}
-use Rattle.nn_types.specs.declared.edit.Edit.TheVariants.{StartSegment, EndSegment, Mkdir, Add, AddBlock, UpdateBlocks, Close, Append, Rename, Delete}
-use Rattle.nn_types.specs.declared.edit.Edit.TheVariants.{SetReplication, AllocateBlockId, SetGenstamp}
 use Rattle.nn_model.specs.Namespace.{Namespace}
 use Rattle.nn_model.specs.Apply.{has_id}
 use Rattle.nn_model.specs.History.{History, processed}
@@ -21,11 +19,10 @@ use Rattle.nn_replicas.specs.Order.{IsInOrder}
 use Rattle.nn_postponed.specs.Release.{same_source, must_wait, first_free, freed, kept}
 use Rattle.nn_postponed.proofs.Orders.{any_all}
 use Rattle.nn_shadow.specs.Items.{TakesItems, LeavesItems, free_of, stuck_of}
-use Rattle.nn_shadow.specs.Room.{is_waited_for, IsNeeded, IsTight, all_given_back, item_blocks, processed_blocks, skipped_blocks, given_back_after, row_given_back}
-use Rattle.nn_shadow.specs.Steps.{messages_taken, all_placed, row_made, row_unmade, rows_set, followed}
+use Rattle.nn_shadow.specs.Room.{is_waited_for, IsNeeded, IsTight, all_given_back, item_blocks, processed_blocks, skipped_blocks, given_back_after}
+use Rattle.nn_shadow.specs.Steps.{messages_taken, all_placed, room_made_for, rows_set, followed}
 use Rattle.nn_shadow.specs.Touching.{due_untouched, IsQuiet}
-use Rattle.nn_shadow.proofs.Apart.{messages_apart, places_apart, rows_apart, retired_apart, made_apart, unmade_apart, rows_there}
-use Rattle.nn_shadow.proofs.Follows.{eq_swap}
+use Rattle.nn_shadow.proofs.Apart.{messages_apart, places_apart, rows_apart, retired_apart, made_apart, rows_there}
 use Rattle.nn_shadow.proofs.GivenBack.{needed_alike, needed_row, all_given_in_order, all_needed_stays, all_needed_given}
 use Rattle.nn_shadow.proofs.Lists.{first_waits}
 
@@ -140,11 +137,11 @@ skipped_told (Some range) events b within has = has
 -- a block that an edit changed has a row, one that it retired is given back, and one that it passed over too, where an item about
 -- it was set free. Of any other block nothing changed.
 pub edit_tight : (n : Namespace) (t : Table) (edit : Edit) (due : Message → Bool) (held : List Message) →
-    IsQuiet (touched n edit) due held → IsInOrder (messages_taken (followed (row_made t edit) (touched n edit)) (freed due [] held)) →
-    ((b : ℕ) → row_at (messages_taken (followed (row_made t edit) (touched n edit)) (freed due [] held)) b ≡ row_at (followed (row_made t edit) (touched n edit)) b) →
+    IsQuiet (touched n edit) due held → IsInOrder (messages_taken (followed (room_made_for t edit) (touched n edit)) (freed due [] held)) →
+    ((b : ℕ) → row_at (messages_taken (followed (room_made_for t edit) (touched n edit)) (freed due [] held)) b ≡ row_at (followed (room_made_for t edit) (touched n edit)) b) →
     IsTight held t →
     IsTight (kept due [] held)
-    (given_back_after (kept due [] held) (messages_taken (followed (row_made t edit) (touched n edit)) (freed due [] held)) (touched n edit) (map (processed Due) (freed due [] held)))
+    (given_back_after (kept due [] held) (messages_taken (followed (room_made_for t edit) (touched n edit)) (freed due [] held)) (touched n edit) (map (processed Due) (freed due [] held)))
 edit_tight n t edit due held quiet o rows tight b = elim (cases_Bool (has_id what.retired b)) [
   | inl gone ↦ needed_more (all_needed_given now taken what.retired b o gone)
   | inr stays ↦ elim (cases_Bool (has_id (changed_ids what) b)) [
@@ -171,7 +168,7 @@ edit_tight n t edit due held quiet o rows tight b = elim (cases_Bool (has_id wha
     events = map (processed Due) out
 
     made : Table
-    made = followed (row_made t edit) what
+    made = followed (room_made_for t edit) what
 
     taken : Table
     taken = messages_taken made out
@@ -192,42 +189,15 @@ edit_tight n t edit due held quiet o rows tight b = elim (cases_Bool (has_id wha
     needed_all needed = needed_more (all_needed_stays now taken what.retired b o needed)
 
     row_now : has_id (changed_ids what) b ≡ true → has_id what.retired b ≡ false → has_row made b ≡ true
-    row_now changed stays = ap (λ o. is_some (unwrap_or o no_entry).row) (retired_apart (rows_set (row_made t edit) what.changed) what.retired b stays) ∙ rows_there (row_made t edit) what.changed b changed
+    row_now changed stays = ap (λ o. is_some (unwrap_or o no_entry).row) (retired_apart (rows_set (room_made_for t edit) what.changed) what.retired b stays) ∙ rows_there (room_made_for t edit) what.changed b changed
 
     followed_apart : has_id (changed_ids what) b ≡ false → has_id what.retired b ≡ false → entry_at made b ≡ entry_at t b
     followed_apart other stays =
-        retired_apart (rows_set (row_made t edit) what.changed) what.retired b stays
-        ∙ rows_apart (row_made t edit) what.changed b other ∙ made_apart n t edit b other
+        retired_apart (rows_set (room_made_for t edit) what.changed) what.retired b stays
+        ∙ rows_apart (room_made_for t edit) what.changed b other ∙ made_apart n t edit b other
 
     within : has_id (changed_ids what) b ≡ false → has_id what.retired b ≡ false → is_waited_for out b ≡ true → is_within what.skipped b ≡ true
     within other stays about = elim (or_cases (has_id (changed_ids what) b || has_id what.retired b) (is_within what.skipped b) (freed_touched what due held b quiet about)) [
       | inl written ↦ absurd (both_ways (has_id (changed_ids what) b || has_id what.retired b) (or_from (has_id (changed_ids what) b) (has_id what.retired b) other stays) written)
       | inr passed ↦ passed
     ]
-
--- an edit was not made: the row of its block went again, with its room
-pub unmade_tight : (n : Namespace) (t : Table) (edit : Edit) (held : List Message) → IsInOrder (row_unmade (row_made t edit) edit) → IsTight held t →
-    IsTight held (row_given_back held (row_made t edit) edit)
-unmade_tight n t (StartSegment profile) held o tight b = tight b
-unmade_tight n t EndSegment held o tight b = tight b
-unmade_tight n t (Mkdir p) held o tight b = tight b
-unmade_tight n t (Add p r) held o tight b = tight b
-unmade_tight n t (AddBlock p i stamp) held o tight b = elim (cases_Bool (b == i)) [
-  | inl same ↦ all_needed_given held unmade (i ∷ []) b o (or_left (i == b) false (eq_swap i b ∙ same))
-  | inr other ↦ all_needed_stays held unmade (i ∷ []) b o
-      (needed_alike held held t unmade b (unmade_apart t i made b other (made_apart n t (AddBlock p i stamp) b (or_from (i == b) false (eq_swap i b ∙ other) refl))) (λ w. w) (tight b))
-]
-  where
-    made : Table
-    made = row_made t (AddBlock p i stamp)
-
-    unmade : Table
-    unmade = row_unmade made (AddBlock p i stamp)
-unmade_tight n t (UpdateBlocks p bs) held o tight b = tight b
-unmade_tight n t (Close p bs) held o tight b = tight b
-unmade_tight n t (Append p) held o tight b = tight b
-unmade_tight n t (Rename s d) held o tight b = tight b
-unmade_tight n t (Delete p) held o tight b = tight b
-unmade_tight n t (SetReplication p r) held o tight b = tight b
-unmade_tight n t (AllocateBlockId i) held o tight b = tight b
-unmade_tight n t (SetGenstamp stamp) held o tight b = tight b

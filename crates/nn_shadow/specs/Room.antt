@@ -1,7 +1,6 @@
 -- Room in the table that nobody needs any more.
 use Rattle.std.specs.Prelude.{◌≡◌, ℕ, Bool, true, List, [], ◌∷◌, map, Option, Some, None, ◌==◌, if◌then◌else◌}
 use Rattle.std.specs.List.{list_any}
-use Rattle.nn_types.specs.declared.block.Block.{Block}
 use Rattle.nn_types.specs.declared.report.Message.{Message}
 use Rattle.nn_types.specs.declared.event.Event.TheVariants.{Applied, Processed}
 use Rattle.nn_types.specs.declared.edit.Edit.{Edit}
@@ -9,7 +8,7 @@ use Rattle.nn_model.specs.History.{History}
 use Rattle.nn_model.specs.Touched.{Touched}
 use Rattle.nn_replicas.specs.Table.{Table}
 use Rattle.nn_replicas.specs.Calls.{has_entry, is_idle_at, room_given_back}
-use Rattle.nn_shadow.specs.Steps.{message_taken, block_added, row_unmade}
+use Rattle.nn_shadow.specs.Steps.{message_taken, block_added}
 
 -- an item about the block is held
 abbrev pub is_waited_for : List Message → ℕ → Bool
@@ -65,10 +64,10 @@ skipped_blocks (Some range) events = processed_blocks events
 abbrev pub given_back_after : List Message → Table → Touched → History → Table
 given_back_after held t what events = all_given_back held (all_given_back held t what.retired) (skipped_blocks what.skipped events)
 
--- the row of the block that an edit adds was made, and is unmade with its room
-abbrev pub given_back_for : List Message → Table → Option Block → Table
-given_back_for held t None = t
-given_back_for held t (Some b) = given_back held t b.id
+abbrev pub given_back_at : List Message → Table → Option ℕ → Table
+given_back_at held t None = t
+given_back_at held t (Some id) = given_back held t id
 
-abbrev pub row_given_back : List Message → Table → Edit → Table
-row_given_back held t edit = given_back_for held (row_unmade t edit) (block_added edit)
+-- the room of the block that an edit adds
+abbrev pub added_given_back : List Message → Table → Edit → Table
+added_given_back held t edit = given_back_at held t (block_added edit)

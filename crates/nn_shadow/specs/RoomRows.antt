@@ -1,17 +1,19 @@
 -- Room that is given back, computed.
-use Rattle.std.specs.Prelude.{◌≡◌, true, false, List, [], ◌∷◌, map, Some, None, refl}
+use Rattle.std.specs.Prelude.{◌≡◌, true, false, List, [], ◌∷◌, map, filter_map, Some, None, refl}
 use Rattle.nn_types.specs.declared.report.Message.{Message}
 use Rattle.nn_types.specs.declared.report.Kind.TheVariants.{Received, Deleted}
 use Rattle.nn_types.specs.declared.event.Event.TheVariants.{Applied, Processed}
 use Rattle.nn_types.specs.declared.event.Cause.TheVariants.{Due}
+use Rattle.nn_types.specs.declared.profile.Profile.TheVariants.{One}
 use Rattle.nn_types.specs.declared.edit.Edit.{Edit}
-use Rattle.nn_types.specs.declared.edit.Edit.TheVariants.{EndSegment, AddBlock}
+use Rattle.nn_types.specs.declared.edit.Edit.TheVariants.{StartSegment, EndSegment, Mkdir, Add, AddBlock, UpdateBlocks, Close, Append, Rename, Delete}
+use Rattle.nn_types.specs.declared.edit.Edit.TheVariants.{SetReplication, AllocateBlockId, SetGenstamp}
 use Rattle.nn_model.specs.MessageRows.{b, c, f, message}
 use Rattle.nn_model.specs.Touched.{nothing}
 use Rattle.nn_replicas.specs.Table.{Table}
-use Rattle.nn_replicas.specs.Calls.{empty_table, pair_placed}
-use Rattle.nn_shadow.specs.Room.{is_waited_for, given_back, all_given_back, taken_unless, taken_without_row, given_back_after, row_given_back}
-use Rattle.nn_shadow.specs.Steps.{message_taken, row_made}
+use Rattle.nn_replicas.specs.Calls.{empty_table, pair_placed, room_made}
+use Rattle.nn_shadow.specs.Room.{is_waited_for, given_back, all_given_back, taken_unless, taken_without_row, given_back_after, added_given_back}
+use Rattle.nn_shadow.specs.Steps.{message_taken, block_added, room_made_for}
 
 -- ---- DataNode 1 was placed at b and c. No file holds them.
 
@@ -61,10 +63,18 @@ of_retired = refl
 of_skipped : given_back_after [] at_both (record nothing { skipped = Some (c, c) }) (Applied 1 ∷ Processed 1 1 c Due ∷ []) ≡ at_b
 of_skipped = refl
 
--- a row was made and unmade
+-- ---- An edit adds b, for which room is made, and given back where the edit was not made.
+
 abbrev adds_b : Edit
 adds_b = AddBlock f b 1001
 
-of_a_row : (row_given_back [] (row_made (empty_table 1) adds_b) adds_b ≡ empty_table 1) × (row_given_back about_b (row_made at_b adds_b) adds_b ≡ at_b)
-    × (row_given_back [] at_b EndSegment ≡ at_b)
-of_a_row = (refl, refl, refl)
+added : filter_map block_added (StartSegment One ∷ EndSegment ∷ Mkdir f ∷ Add f 3 ∷ adds_b ∷ UpdateBlocks f [] ∷ Close f [] ∷ Append f ∷ Rename f f ∷ Delete f
+    ∷ SetReplication f 3 ∷ AllocateBlockId c ∷ SetGenstamp 1002 ∷ []) ≡ b ∷ []
+added = refl
+
+of_an_added : (room_made_for (empty_table 1) adds_b ≡ room_made (empty_table 1) b) × (room_made_for at_b adds_b ≡ at_b) × (room_made_for at_b EndSegment ≡ at_b)
+of_an_added = (refl, refl, refl)
+
+of_one_not_added : (added_given_back [] (room_made_for (empty_table 1) adds_b) adds_b ≡ empty_table 1) × (added_given_back about_b (room_made_for at_b adds_b) adds_b ≡ at_b)
+    × (added_given_back [] at_b EndSegment ≡ at_b)
+of_one_not_added = (refl, refl, refl)

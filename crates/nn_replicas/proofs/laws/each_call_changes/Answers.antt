@@ -1,7 +1,10 @@
-use Rattle.nn_replicas.proofs.Lookups.{set_block_names, place_places, put_writes, erase_writes, retire_retires}
+use Rattle.nn_replicas.proofs.Lookups.{make_room_makes, set_block_names, place_places, put_writes, erase_writes, retire_retires}
 use Rattle.nn_replicas.proofs.Told.{due_writes, early_places}
 use Rattle.nn_replicas.proofs.GivenBack.{give_back_gives}
 use Rattle.nn_replicas.proofs.laws.each_call_changes.Goals as goal
+
+pub returns-clause-make_room : goal.returns-clause-make_room
+returns-clause-make_room c = make_room_makes
 
 pub returns-clause-set_block : goal.returns-clause-set_block
 returns-clause-set_block c = set_block_names

@@ -1,10 +1,13 @@
-use Rattle.nn_replicas.proofs.Lookups.{new_in_order, set_block_in_order, place_in_order, put_in_order, erase_in_order, retire_in_order}
+use Rattle.nn_replicas.proofs.Lookups.{new_in_order, make_room_in_order, set_block_in_order, place_in_order, put_in_order, erase_in_order, retire_in_order}
 use Rattle.nn_replicas.proofs.Told.{due_in_order}
 use Rattle.nn_replicas.proofs.GivenBack.{give_back_in_order}
 use Rattle.nn_replicas.proofs.laws.tables_are_in_order.Goals as goal
 
 pub returns-clause-new : goal.returns-clause-new
 returns-clause-new c = new_in_order
+
+pub returns-clause-make_room : goal.returns-clause-make_room
+returns-clause-make_room c = make_room_in_order
 
 pub returns-clause-set_block : goal.returns-clause-set_block
 returns-clause-set_block c = set_block_in_order

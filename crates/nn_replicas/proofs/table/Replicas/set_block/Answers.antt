@@ -2,13 +2,13 @@ use Rattle.std.proofs.Common.{sym, ap, ◌∙◌, cond, nat_cmp}
 use Rattle.std.specs.BTreeMap.{insert_entry}
 use Rattle.std.specs.Option.{option_copied_mut}
 use Rattle.nn_replicas.specs.Entry.{with_row, is_closed, is_safe}
-use Rattle.nn_replicas.proofs.Tables.{written, added, byte_one, was_counted, count_now, count_more, with_new, no_row}
+use Rattle.nn_replicas.proofs.Tables.{written, added, byte_one, was_counted, count_now, count_more, with_new, no_entry_there}
 use Rattle.nn_replicas.proofs.table.Replicas.set_block.Goals as goal
 
 pub returns-in_err-insert-clause-room : goal.returns-in_err-insert-clause-room
 returns-in_err-insert-clause-room c =
     let none = sym (ap option_copied_mut c.in_default.is) ∙ c.get_mut.ensures.value in
-    no_row c.args.self.now c.self.inside.min c.args.block.id c.self.inside.entries.entries c.self.view_is none
+    no_entry_there c.args.self.now c.self.inside.min c.args.block.id c.self.inside.entries.entries c.self.view_is none
 
 pub invariant_of-self-in_default : goal.invariant_of-self-in_default
 invariant_of-self-in_default c =

@@ -5,43 +5,39 @@ use Rattle.nn_types.specs.declared.event.Event.TheVariants.{Applied}
 use Rattle.nn_shadow.specs.contracts.shadow.Shadow.{the_view}
 use Rattle.nn_replicas.specs.Calls.{is_placed}
 use Rattle.nn_shadow.specs.Calls.{is_due_in, applied_to}
-use Rattle.nn_shadow.specs.Contents.{Contents, standby_of, Becomes}
+use Rattle.nn_shadow.specs.Contents.{Contents, standby_of, IsConsistent, Becomes}
 use Rattle.nn_shadow.specs.Refusals.{turn_refusal}
-use Rattle.nn_shadow.proofs.Consistent.{Leaves, left_consistent, edit_applied, edit_failed, edit_refused, edit_room}
+use Rattle.nn_shadow.proofs.Consistent.{Leaves, left_consistent, edit_applied, edit_failed, edit_room}
 use Rattle.nn_shadow.proofs.Sound.{sound_of}
 use Rattle.nn_model.specs.Namespace.{Namespace}
-use Rattle.nn_model.specs.Apply.{effect, refusal}
+use Rattle.nn_model.specs.Apply.{effect}
 use Rattle.nn_model.specs.Touched.{Touched, ascending, changed_ids}
 use Rattle.nn_tree.specs.Touched.{seen}
 use Rattle.nn_shadow.specs.Touching.{IsQuiet}
 use Rattle.nn_shadow.proofs.Quiet.{begins_quiet}
-use Rattle.nn_shadow.proofs.Refusing.{fits_if}
+use Rattle.nn_shadow.proofs.Refusing.{fits_if, turn_serves}
 use Rattle.nn_shadow.specs.Touching.{Rises}
 use Rattle.nn_shadow.proofs.Searching.{retired_rises, written_is}
 use Rattle.nn_shadow.proofs.shadow.Shadow.apply_next.Goals as goal
 
-failed : (c : goal.After-drop-written) → Leaves (the_view c.self.inside) (standby_of (the_view c.self.inside))
-    (record (the_view c.self.inside) { namespace = c.change.new.namespace; history = c.reserve.new.self.items; table = c.change.new.table })
+-- an edit is made only while the standby serves
+pub change-requires-clause-tight : goal.change-requires-clause-tight
+change-requires-clause-tight c =
+    let x = the_view c.self.inside in
+    c.self.invariant.tight (turn_serves x.phase (standby_of x) c.args.tx.now
+    (subst (λ (y : Contents). turn_refusal y.phase (standby_of y) c.args.tx.now ≡ None) (sym c.self.view_is) c.requires))
+
+failed : (c : goal.After-drop-written) → record (the_view c.self.inside) { namespace = c.change.new.namespace; history = c.reserve.new.self.items; table = c.change.new.table }
+    ≡ the_view c.self.inside
 failed c =
-    edit_failed (the_view c.self.inside) c.args.tx.now c.change.new.namespace c.reserve.new.self.items c.change.new.table c.self.invariant
-    c.in_default-change.ensures.kept c.in-Ok.ensures.items c.in_default-change.ensures.undone
+    edit_failed (the_view c.self.inside) c.change.new.namespace c.reserve.new.self.items c.change.new.table
+    c.in_default-change.ensures.kept.0 c.in-Ok.ensures.items c.in_default-change.ensures.kept.1
 
 pub invariant_of-self-in_default-change : goal.invariant_of-self-in_default-change
-invariant_of-self-in_default-change c = left_consistent (failed c)
+invariant_of-self-in_default-change c = subst IsConsistent (sym (failed c)) c.self.invariant
 
 pub returns-in_default-change-clause-err : goal.returns-in_default-change-clause-err
-returns-in_default-change-clause-err c =
-    subst (λ (x : Contents). Becomes x (standby_of x)
-    (record (the_view c.self.inside) { namespace = c.change.new.namespace; history = c.reserve.new.self.items; table = c.change.new.table }))
-    c.self.view_is (failed c).becomes
-
-pub returns-in_default-change-clause-same : goal.returns-in_default-change-clause-same
-returns-in_default-change-clause-same c =
-    subst (λ (x : Contents). (refusal x.namespace c.args.tx.now.edit ≡ None → ⊥) →
-    record (the_view c.self.inside) { namespace = c.change.new.namespace; history = c.reserve.new.self.items; table = c.change.new.table } ≡ x)
-    c.self.view_is
-    (edit_refused (the_view c.self.inside) c.args.tx.now c.change.new.namespace c.reserve.new.self.items c.change.new.table
-    c.in_default-change.ensures.kept c.in-Ok.ensures.items c.in_default-change.ensures.undone)
+returns-in_default-change-clause-err c = failed c ∙ c.self.view_is
 
 pub settle-requires-clause-placed : goal.settle-requires-clause-placed
 settle-requires-clause-placed c =

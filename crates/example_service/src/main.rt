@@ -6,9 +6,10 @@
 mod service;
 
 use anyhow::{Result, bail};
+use nn_device::{Page, Writer};
 use nn_drive::{Running, Served};
 use nn_edits::{Line, Scratch, read_line};
-use nn_listing::{listing, push_tables};
+use nn_listing::{ReadyListing, ReadyTables, write_listing};
 use nn_shadow::Shadow;
 use nn_types::{Message, Report, Settings};
 use service::{DataNode, Failover, promoted};
@@ -47,7 +48,14 @@ fn take(alloc: Global, scratch: &mut Scratch, line: &[u8], standby: &mut Shadow)
 }
 
 fn show(rt: &HostRuntime, standby: &Shadow) -> Result<()> {
-    let text = listing(rt.alloc(), standby.namespace(), standby.last_txid())?;
+    let mut listing = Writer::new(Vec::new(rt.alloc()));
+    write_listing(
+        rt.alloc(),
+        standby.namespace(),
+        standby.last_txid(),
+        &mut listing,
+    )?;
+    let text = String::from_utf8(listing.into_inner())?;
     let held = standby.held_count();
     println!(rt; "{text}held {held}")?;
     Ok(())
@@ -124,9 +132,22 @@ fn show_checkpoints(rt: &impl Print, operator: &Failover) -> Result<()> {
 }
 
 fn show_tables(rt: &impl Print, alloc: Global, shadow: &Shadow) -> Result<()> {
-    let mut text = listing(alloc, shadow.namespace(), shadow.last_txid())?;
-    push_tables(alloc, &mut text, shadow.replicas(), shadow.safe_mode())?;
+    let mut text = Writer::new(Vec::new(alloc));
+    put_tables(alloc, shadow, &mut text)?;
+    let text = String::from_utf8(text.into_inner())?;
     print!(rt; "{text}")?;
+    Ok(())
+}
+
+// The listing and the tables. Both are made ready first, which takes all the memory that they want.
+fn put_tables(alloc: Global, shadow: &Shadow, text: &mut Writer<Vec<u8>>) -> Result<()> {
+    let extent = shadow.namespace().extent()?;
+    let listing = ReadyListing::of(shadow.namespace(), extent, shadow.last_txid())?;
+    let tables = ReadyTables::of(alloc, shadow.replicas(), shadow.safe_mode())?;
+    let mut page = Page::new(alloc);
+    listing.put(&mut page, text);
+    tables.put(&mut page, text);
+    page.end(text)?;
     Ok(())
 }
 

@@ -3,9 +3,9 @@
 //! over at transaction 11.
 ghost use Rattle.std.specs.Prelude.{◌≤◌, length, IfSome};
 
-use nn_device::Writer;
+use nn_device::{Page, Writer};
 use nn_drive::{Operator, ReportSource, Served, Wish, serve, with_lanes};
-use nn_listing::push_history;
+use nn_listing::put_history;
 use nn_segment::{Item, MemorySource, Parsed, SegmentSource, SourceFault};
 use nn_tailer::Standby;
 use nn_types::{BlockId, Event, GenerationStamp, Kind, Length, Report, Settings};
@@ -164,11 +164,9 @@ impl Failover {
 
     /// Writes the events into the journal. False if that failed: they are not to be forgotten, and are shown again.
     pub fn record(&mut self, events: &[Event]) -> bool {
-        let mut lines = String::new(self.alloc);
-        let Ok(()) = push_history(&mut lines, events) else {
-            return false;
-        };
-        self.journal.write_all(lines.as_bytes()).is_ok()
+        let mut page = Page::new(self.alloc);
+        put_history(&mut page, &mut self.journal, events);
+        page.end(&mut self.journal).is_ok()
     }
 
     // Where memory is refused, the next rotation tries again.

@@ -7,10 +7,7 @@ use Rattle.nn_device.specs.Device.{Writing, Took}
 use Rattle.nn_device.specs.Page.{Gathered, TookAllBut, HasGone, HasPut, Puts, PutsAllBut}
 use Rattle.nn_device.specs.Parts.{TookFront}
 use Rattle.nn_device.specs.declared.writer.Unwritten.TheVariants.{WriteFailed}
-use Rattle.nn_device.proofs.Parts.{took_nothing, took_both, front_after, front_of}
-
-pub nothing_put : (start : Writing) → TookAllBut start start [] []
-nothing_put start = record { front = []; whole = refl; took = took_nothing start }
+use Rattle.nn_device.proofs.Parts.{took_both, front_after, front_of}
 
 -- behind a failed write nothing changes
 lost_on : (start now : Writing) (text piece : List ℕ) → TookFront start now text WriteFailed → TookFront start now (text ++ piece) WriteFailed

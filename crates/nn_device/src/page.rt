@@ -1,8 +1,11 @@
 //! A text that goes to a writer in large parts as it grows.
-ghost use Rattle.std.specs.Prelude.{◌≡◌, [], ℕ, List, false, true, OnOk, IfErr};
+//!
+//! The library's `BufWriter` would do, but its contract says nothing of what a failed write has left in the writer.
+ghost use Rattle.std.specs.Prelude.{◌≡◌, [], ◌∷◌, ℕ, List, false, true, OnOk, IfErr};
 ghost use Rattle.nn_device.specs.Device.{Writing, Took};
 ghost use Rattle.nn_device.specs.Page.{HasPut, Puts};
 ghost use Rattle.nn_device.specs.Parts.{TookFront};
+ghost use Rattle.nn_device.specs.declared.writer.Unwritten.TheVariants.{WriteFailed};
 
 use crate::writer::{Unwritten, Writer};
 use std::alloc::Global;
@@ -55,10 +58,24 @@ impl Page {
         }
     }
 
+    /// The next byte of the text, in fewer steps than a piece of one byte. It is written with a later piece, or at the end.
+    pub fn put_byte<W: Write>(&mut self, writer: &mut Writer<W>, byte: u8)
+        ensures { Puts (byte ∷ []) self.old writer.old self.new writer.new }
+    {
+        if self.lost {
+            return;
+        }
+        if let Err(_) = self.gathered.push(byte) {
+            self.write(writer);
+            self.write_piece(writer, &[byte]);
+        }
+    }
+
     /// Writes the rest of the text.
     pub fn end<W: Write>(self, writer: &mut Writer<W>) -> Result<(), Unwritten>
         ensures ok { OnOk result ((start : Writing) (text : List ℕ) → HasPut start text self writer.old → Took start writer.new text) }
         ensures front { IfErr result (λ cause. (start : Writing) (text : List ℕ) → HasPut start text self writer.old → TookFront start writer.new text cause) }
+        ensures cause { IfErr result (λ cause. cause ≡ WriteFailed) }
     {
         let Page { gathered, lost } = self;
         if lost {

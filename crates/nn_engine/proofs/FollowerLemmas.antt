@@ -1,5 +1,5 @@
 -- A standby that follows lines, one line further.
-use Rattle.std.proofs.Common.{◌≡◌, ◌≢◌, ℕ, suc, Bool, true, false, cond, ◌+◌, ◌≤◌, List, [], ◌∷◌, ◌++◌, length, Option, Some, None, Err, refl, sym, ap, ◌∙◌, subst, arith, append-nil, append_assoc}
+use Rattle.std.proofs.Common.{◌≡◌, ◌≢◌, ℕ, suc, Bool, true, false, cond, ◌+◌, ◌≤◌, List, [], ◌∷◌, ◌++◌, length, Option, Some, None, Err, sym, ap, ◌∙◌, subst, arith, append-nil, append_assoc}
 use Rattle.std.specs.Prelude.{◌&&◌, ◌==◌, nat_lt, is_some, flat_map}
 use Rattle.std.proofs.lemmas.Bool.{eqb-true, eq-eqb, ne_eqb, ltb-true, ltb-false, and_parts}
 use Rattle.nn_types.specs.declared.report.Message.{Message}
@@ -16,16 +16,13 @@ use Rattle.nn_model.proofs.Logs.{counted_append}
 use Rattle.nn_shadow.specs.Calls.{after, applied_to, received}
 use Rattle.nn_shadow.specs.Contents.{Contents, KeepsSettings, number_in, standby_of}
 use Rattle.nn_shadow.specs.Laws.{StandsBy}
+use Rattle.nn_tailer.proofs.Shadowing.{settings_same}
 use Rattle.nn_segment.specs.LogEnd.{LogStop, refused, disorder}
 use Rattle.nn_scenario.specs.Steps.{message, next_message}
 use Rattle.nn_engine.specs.Start.{Start}
 use Rattle.nn_engine.specs.Walk.{HasWalked, Fits}
 use Rattle.nn_engine.specs.Following.{Following, TakesNext, HasFollowed, FollowsEdit, FollowsReport, log_so_far}
 use Rattle.nn_engine.proofs.Walks.{passes, applies, refuses, stops, stays}
-
-pub none_of : {A : Type 0} (o : Option A) → is_some o ≡ false → o ≡ None
-none_of None none = refl
-none_of (Some x) none = absurd (let z : true ≡ false = none in cc)
 
 -- ---- The log so far.
 
@@ -50,9 +47,6 @@ log_taken base parts front tx last is next =
 
 -- ---- What a line does.
 
-same_settings : (x : Contents) → KeepsSettings x x
-same_settings x = record { datanodes = refl; min = refl; permille = refl }
-
 -- where the log has not stopped
 followed_so_far : (past : History) (start : Start) (parts : List (List Tx)) (front : List Tx) (lanes : Lanes) (f : Following) → f.stop ≡ None
     → HasFollowed past start parts front lanes f.standby f.stop → HasFollowed past start parts front lanes f.standby None
@@ -66,7 +60,7 @@ pub edit_ignored : (begun : Bool) (tx : Tx) (f : Following) → is_some f.stop �
 edit_ignored begun tx f some = record {
   walks = λ past start parts front lanes first h. at past start parts front lanes f.stop some h;
   turn = λ none. has_stopped f some none;
-  settings = same_settings f.standby;
+  settings = settings_same f.standby;
 }
   where
     at : (past : History) (start : Start) (parts : List (List Tx)) (front : List Tx) (lanes : Lanes) (stop : Option LogStop) → is_some stop ≡ true
@@ -78,7 +72,7 @@ pub report_ignored : (r : Report) (f : Following) → is_some f.stop ≡ true �
 report_ignored r f some = record {
   walks = λ past start parts front lanes h. at past start parts front lanes f.stop some h;
   turn = λ none. has_stopped f some none;
-  settings = same_settings f.standby;
+  settings = settings_same f.standby;
 }
   where
     at : (past : History) (start : Start) (parts : List (List Tx)) (front : List Tx) (lanes : Lanes) (stop : Option LogStop) → is_some stop ≡ true
@@ -97,7 +91,7 @@ gap_found begun tx f g none gap same stop = record {
   walks = λ past start parts front lanes first h.
       subst (HasFollowed past start parts (front ++ tx ∷ []) lanes g.standby) (sym stop) (at past start parts front lanes first (followed_so_far past start parts front lanes f none h));
   turn = λ still. (let z : None ≡ Some (record { cause = disorder; txid = f.standby.last + 1 }) = sym still ∙ stop in absurd (cc));
-  settings = subst (KeepsSettings f.standby) (sym same) (same_settings f.standby);
+  settings = subst (KeepsSettings f.standby) (sym same) (settings_same f.standby);
 }
   where
     both : (begun ≡ true) × (nat_lt (f.standby.last + 1) tx.txid ≡ true)
@@ -121,7 +115,7 @@ passed_over begun tx f none no_gap other = record {
         subst (λ txs. StandsBy start.namespace start.txid txs lanes (after past (standby_of f.standby))) (sym (log_passed start.txid parts front tx f.standby.last k.1.stands.last other)) k.1,
       );
   turn = λ still. (none, sym (ap (λ b. cond b (applied_to (standby_of f.standby) tx) (standby_of f.standby)) (ne_eqb tx.txid (f.standby.last + 1) other)));
-  settings = same_settings f.standby;
+  settings = settings_same f.standby;
 }
 
 -- it is, and its edit applies

@@ -12,4 +12,3 @@ pub mod DrivenLemmas
 pub mod InputLemmas
 pub mod CheckpointLemmas
 pub mod StartLemmas
-pub mod RestLemmas

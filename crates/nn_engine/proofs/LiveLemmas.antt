@@ -2,7 +2,9 @@
 use Rattle.std.proofs.Common.{◌≡◌, ℕ, Bool, true, false, cond, ◌+◌, List, [], ◌∷◌, ◌++◌, length, map, Option, Some, None, Result, Ok, Err, refl, sym, ap, ◌∙◌, subst, arith, append-nil, append_assoc, length-append}
 use Rattle.std.specs.Prelude.{◌==◌, nat_lt, flat_map}
 use Rattle.std.proofs.lemmas.Bool.{eq-eqb, ne_eqb}
+use Rattle.std.proofs.lemmas.Grind.{flat_map-append}
 use Rattle.std.proofs.lemmas.List.{map-append}
+use Rattle.std.proofs.lemmas.List.Folds.{flat_map-map}
 use Rattle.nn_types.specs.declared.report.Message.{Message}
 use Rattle.nn_types.specs.declared.report.Report.{Report}
 use Rattle.nn_types.specs.declared.tx.Tx.{Tx}
@@ -12,9 +14,10 @@ use Rattle.nn_model.specs.Log.{counted, log_of}
 use Rattle.nn_model.specs.Namespace.{Namespace}
 use Rattle.nn_model.specs.Stands.{fresh}
 use Rattle.nn_shadow.specs.Calls.{after, received}
-use Rattle.nn_shadow.specs.Contents.{Contents, KeepsSettings, standby_of}
+use Rattle.nn_shadow.specs.Contents.{Contents, standby_of}
 use Rattle.nn_shadow.specs.Laws.{StandsBy}
 use Rattle.nn_shadow.proofs.Taken.{receives_after, takes_after}
+use Rattle.nn_tailer.proofs.Shadowing.{settings_then}
 use Rattle.nn_segment.specs.LogEnd.{LogEnd, LogStop, disorder, end_of_txs, end_of_log, and_then}
 use Rattle.nn_segment.specs.Segment.{Segment, is_end, first_txid}
 use Rattle.nn_scenario.specs.Checking.{IsCheckOf, AreSegments}
@@ -35,12 +38,8 @@ use Rattle.nn_engine.proofs.Walks.{begins, ends_part, stays_behind, ended, stopp
 
 -- ---- A part is over.
 
-flat_lists : (parts : List (List Tx)) (txs : List Tx) → flat_map (λ (ts : List Tx). ts) (parts ++ txs ∷ []) ≡ flat_map (λ (ts : List Tx). ts) parts ++ txs
-flat_lists [] txs = append-nil txs
-flat_lists (p ∷ parts) txs = ap (λ ts. p ++ ts) (flat_lists parts txs) ∙ sym (append_assoc p (flat_map (λ (ts : List Tx). ts) parts) txs)
-
 log_over : (base : ℕ) (parts : List (List Tx)) (txs : List Tx) → log_so_far base (parts ++ txs ∷ []) [] ≡ log_so_far base parts txs
-log_over base parts txs = ap (counted base) (append-nil (flat_map (λ (ts : List Tx). ts) (parts ++ txs ∷ [])) ∙ flat_lists parts txs)
+log_over base parts txs = ap (counted base) (append-nil (flat_map (λ (ts : List Tx). ts) (parts ++ txs ∷ [])) ∙ flat_map-append (λ (ts : List Tx). ts) parts (txs ∷ []) ∙ ap (λ ts. flat_map (λ (ts : List Tx). ts) parts ++ ts) (append-nil txs))
 
 part_over : (past : History) (start : Start) (parts : List (List Tx)) (t : Tx) (front : List Tx) (lanes : Lanes) (x : Contents) (stop : Option LogStop)
     → HasFollowed past start parts (t ∷ front) lanes x stop → HasFollowed past start (parts ++ (t ∷ front) ∷ []) [] lanes x stop
@@ -58,14 +57,7 @@ whole_over past start parts (t ∷ front) tx lanes x stop h = part_over past sta
 abbrev lists_of : List Part → List (List Tx)
 lists_of parts = map (λ (p : Part). p.txs) parts
 
-flat_more : (parts : List Part) (part : Part) → flat_map (λ (p : Part). p.txs) (parts ++ part ∷ []) ≡ flat_map (λ (p : Part). p.txs) parts ++ part.txs
-flat_more [] part = append-nil part.txs
-flat_more (p ∷ parts) part = ap (λ txs. p.txs ++ txs) (flat_more parts part) ∙ sym (append_assoc p.txs (flat_map (λ (q : Part). q.txs) parts) part.txs)
-
 -- ---- One line further.
-
-keeps_on : (x y z : Contents) → KeepsSettings x y → KeepsSettings y z → KeepsSettings x z
-keeps_on x y z one more = record { datanodes = more.datanodes ∙ one.datanodes; min = more.min ∙ one.min; permille = more.permille ∙ one.permille }
 
 module _ (first old new : Lived) (same : new.history ≡ old.history) where
   pub edit_lived : (x : Reading) (line : EditLine) (begun : Bool) → begun ≡ (old.check.lines == 0)
@@ -76,7 +68,7 @@ module _ (first old new : Lived) (same : new.history ≡ old.history) where
     past = h.past;
     kept = λ asked. h.kept (sym same ∙ asked);
     same = same ∙ h.same;
-    settings = keeps_on first.follower.standby old.follower.standby new.follower.standby h.settings follows.settings;
+    settings = settings_then first.follower.standby old.follower.standby new.follower.standby h.settings follows.settings;
     follower = at (is_end line.tx.edit);
     edits = read_as_many (is_end line.tx.edit);
     turns = λ still. turned_by (is_end line.tx.edit) (follows.turn still);
@@ -101,7 +93,7 @@ module _ (first old new : Lived) (same : new.history ≡ old.history) where
       lanes = lanes_after_edit no_messages x.steps
 
       kept_whole : txs_read whole ≡ txs_read x ++ line.tx ∷ []
-      kept_whole = append-nil (flat_map (λ (p : Part). p.txs) (x.parts ++ part ∷ [])) ∙ flat_more x.parts part
+      kept_whole = append-nil (flat_map (λ (p : Part). p.txs) (x.parts ++ part ∷ [])) ∙ flat_map-append (λ (p : Part). p.txs) x.parts (part ∷ []) ∙ ap (λ txs. flat_map (λ (p : Part). p.txs) x.parts ++ txs) (append-nil part.txs)
           ∙ sym (append_assoc (flat_map (λ (p : Part). p.txs) x.parts) x.in_hand.txs (line.tx ∷ []))
 
       kept_part : txs_read begun_part ≡ txs_read x ++ line.tx ∷ []
@@ -138,7 +130,7 @@ module _ (first old new : Lived) (same : new.history ≡ old.history) where
     past = h.past;
     kept = λ asked. h.kept (sym same ∙ asked);
     same = same ∙ h.same;
-    settings = keeps_on first.follower.standby old.follower.standby new.follower.standby h.settings follows.settings;
+    settings = settings_then first.follower.standby old.follower.standby new.follower.standby h.settings follows.settings;
     follower = subst (λ ls. HasFollowed h.past start (lists_of x.parts) x.in_hand.txs ls new.follower.standby new.follower.stop)
         (sym (lanes_after_message no_messages x.steps next))
         (follows.walks h.past start (lists_of x.parts) x.in_hand.txs (lanes_of x.steps) h.follower);
@@ -234,10 +226,6 @@ parts_end : (start : Start) (x : Reading) (segments : List Segment) (r : Result 
 parts_end start x segments r same is = ends_alike start.txid start.namespace segments ∙ ap (end_of_parts start.txid start.namespace) same ∙ is
 
 -- the transactions of all edit lines are those of all parts
-read_flat : (parts : List Part) → flat_map (λ (p : Part). p.txs) parts ≡ flat_map (λ (txs : List Tx). txs) (lists_of parts)
-read_flat [] = refl
-read_flat (p ∷ parts) = ap (λ txs. p.txs ++ txs) (read_flat parts)
-
 last_flat : (part : Part) → flat_map (λ (p : Part). p.txs) (last_part part) ≡ part.txs
 last_flat part = at part.txs refl
   where
@@ -245,13 +233,9 @@ last_flat part = at part.txs refl
     at [] was = ap (λ b. flat_map (λ (p : Part). p.txs) (cond b [] (part ∷ []))) (eq-eqb (length part.txs) 0 (ap length was)) ∙ sym was
     at (t ∷ front) was = ap (λ b. flat_map (λ (p : Part). p.txs) (cond b [] (part ∷ []))) (ne_eqb (length part.txs) 0 (λ none. absurd (omega (arith, none, ap length was)))) ∙ append-nil part.txs
 
-flat_append : (some more : List Part) → flat_map (λ (p : Part). p.txs) (some ++ more) ≡ flat_map (λ (p : Part). p.txs) some ++ flat_map (λ (p : Part). p.txs) more
-flat_append [] more = refl
-flat_append (p ∷ some) more = ap (λ txs. p.txs ++ txs) (flat_append some more) ∙ sym (append_assoc p.txs (flat_map (λ (q : Part). q.txs) some) (flat_map (λ (q : Part). q.txs) more))
-
 all_txs : (x : Reading) (segments : List Segment) → txs_of segments ≡ lists_of (parts_of x) → txs_read x ≡ flat_map (λ (txs : List Tx). txs) (txs_of segments)
 all_txs x segments same =
-    ap (λ txs. flat_map (λ (p : Part). p.txs) x.parts ++ txs) (sym (last_flat x.in_hand)) ∙ sym (flat_append x.parts (last_part x.in_hand)) ∙ read_flat (parts_of x)
+    ap (λ txs. flat_map (λ (p : Part). p.txs) x.parts ++ txs) (sym (last_flat x.in_hand)) ∙ sym (flat_map-append (λ (p : Part). p.txs) x.parts (last_part x.in_hand)) ∙ sym (flat_map-map (λ (txs : List Tx). txs) (λ (p : Part). p.txs) (parts_of x))
     ∙ ap (flat_map (λ (txs : List Tx). txs)) (sym same)
 
 module _ (first l : Lived) (x : Reading) (h : IsLive first x l) (segments : AreSegments (parts_of x) None) where

@@ -4,14 +4,14 @@ use Rattle.std.specs.Prelude.{IfOk, MatchResult, option_map}
 use Rattle.std.proofs.lemmas.Result.{IfOk-weaker}
 use Rattle.nn_image.specs.Reading.{read_image}
 use Rattle.nn_image.specs.declared.fault.ImageFault.{ImageFault}
+use Rattle.nn_image.specs.declared.fault.ImageFault.TheVariants as image
 use Rattle.nn_image.specs.declared.fault.ImageFault.TheVariants.{NotHeader}
 use Rattle.nn_front.specs.Cut.{Cut, divided}
 use Rattle.nn_engine.specs.Input.{image_in}
-use Rattle.nn_engine.specs.Output.{IsPrinted, IsPrintedFrom, image_fault}
-use Rattle.nn_engine.specs.Shown.{shown}
+use Rattle.nn_engine.specs.Output.{Printed, IsPrinted, IsPrintedFrom, image_fault}
+use Rattle.nn_engine.specs.Pieces.{faulted}
 use Rattle.nn_engine.specs.Start.{Start, from_cut, from_image, scenario_in, start_in}
 use Rattle.nn_engine.specs.declared.engine.Options.{Options}
-use Rattle.nn_engine.specs.declared.output.Output.{Output}
 
 cut_image : (cut : Option Cut) (bytes : List ℕ) → option_map (λ (c : Cut). c.image) cut ≡ Some bytes → from_cut cut ≡ from_image (read_image bytes)
 cut_image None bytes e = absurd (cc)
@@ -30,12 +30,24 @@ starts_from_image true input bytes e = cut_image (divided input) bytes e
 pub starts_from_none : (input : List ℕ) → image_in true input ≡ None → start_in true input ≡ Err NotHeader
 starts_from_none input e = no_cut (divided input) e
 
-pub printed_from : {E : Type 0} (threads : Bool) (options : Options) (input : List ℕ) (r : Result Output E) (start : Start) → start_in options.from_image input ≡ Ok start
-    → IfOk r (λ o. IsPrintedFrom start threads options (scenario_in options.from_image input) (shown o)) → IfOk r (λ o. IsPrinted threads options input (shown o))
-printed_from threads options input r start e h = IfOk-weaker r _ _ (λ o is.
-    subst (λ s. MatchResult s (λ start. IsPrintedFrom start threads options (scenario_in options.from_image input) (shown o)) (λ fault. shown o ≡ image_fault fault)) (sym e) is) h
+module _ (threads : Bool) (options : Options) (input : List ℕ) (p : Printed) where
+  pub begun_so : (start : Start) → start_in options.from_image input ≡ Ok start → IsPrintedFrom start threads options (scenario_in options.from_image input) p → IsPrinted threads options input p
+  begun_so start e is = subst (λ s. MatchResult s (λ start. IsPrintedFrom start threads options (scenario_in options.from_image input) p) (λ fault. p ≡ image_fault fault)) (sym e) is
 
-pub printed_fault : {E : Type 0} (threads : Bool) (options : Options) (input : List ℕ) (r : Result Output E) (fault : ImageFault) → start_in options.from_image input ≡ Err fault
-    → IfOk r (λ o. shown o ≡ image_fault fault) → IfOk r (λ o. IsPrinted threads options input (shown o))
-printed_fault threads options input r fault e h = IfOk-weaker r _ _ (λ o is.
-    subst (λ s. MatchResult s (λ start. IsPrintedFrom start threads options (scenario_in options.from_image input) (shown o)) (λ fault. shown o ≡ image_fault fault)) (sym e) is) h
+  pub not_begun : (fault : ImageFault) → start_in options.from_image input ≡ Err fault → p ≡ image_fault fault → IsPrinted threads options input p
+  not_begun fault e is = subst (λ s. MatchResult s (λ start. IsPrintedFrom start threads options (scenario_in options.from_image input) p) (λ fault. p ≡ image_fault fault)) (sym e) is
+
+pub printed_from : {X E : Type 0} (shown : X → Printed) (threads : Bool) (options : Options) (input : List ℕ) (r : Result X E) (start : Start) → start_in options.from_image input ≡ Ok start
+    → IfOk r (λ o. IsPrintedFrom start threads options (scenario_in options.from_image input) (shown o)) → IfOk r (λ o. IsPrinted threads options input (shown o))
+printed_from shown threads options input r start e h = IfOk-weaker r _ _ (λ o is. begun_so threads options input (shown o) start e is) h
+
+-- the line of an image's fault is all that is printed of it
+pub image_faulted : (fault : ImageFault) → faulted (image_fault fault).text ≡ image_fault fault
+image_faulted image.NotHeader = refl
+image_faulted (image.BadLine line) = refl
+image_faulted (image.WrongOrder line) = refl
+image_faulted image.CountMismatch = refl
+image_faulted image.Truncated = refl
+image_faulted image.BadVersion = refl
+image_faulted image.ReadFault = refl
+image_faulted image.OutOfMemory = refl

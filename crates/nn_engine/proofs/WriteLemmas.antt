@@ -1,5 +1,5 @@
 -- What was written is an output.
-use Rattle.std.proofs.Common.{◌≡◌, ℕ, Bool, List, Result, codes, refl, ◌∙◌, subst, inl, inr}
+use Rattle.std.proofs.Common.{◌≡◌, ℕ, Bool, List, Result, codes, refl, sym, ◌∙◌, subst, inl, inr}
 use Rattle.std.specs.Prelude.{IfOk, IfErr}
 use Rattle.std.specs.Io.KnownBytes.{IsAtEnd}
 use Rattle.std.proofs.lemmas.Result.{IfOk-weaker, IfErr-weaker}
@@ -11,6 +11,7 @@ use Rattle.nn_engine.specs.declared.output.RunFault.{RunFault}
 use Rattle.nn_engine.specs.declared.engine.Options.{Options}
 use Rattle.nn_engine.specs.Input.{IsUnread, IsReadOfAll}
 use Rattle.nn_engine.specs.Output.{Printed, IsPrinted}
+use Rattle.nn_engine.specs.Shown.{Finished, FinishedFront, IsToCome}
 use Rattle.nn_engine.specs.Run.{Given, IsOutput, NoneFailed, Wrote, WroteFront, Unfinished, fault_alone, running, unread_line}
 
 -- what a whole output, and what a prefix of one, is where this text was written with this status
@@ -33,6 +34,18 @@ is_output_of_all given p is_read all whole none is = inl (record { input = all.i
 
 pub is_no_memory : (given : Given) → NoneFailed given → IsOutput given (fault_alone (codes "55"))
 is_no_memory given none = inr (inr (refl, none))
+
+-- an output, or the line that there was no memory for it
+pub finishes : (given : Given) (r : Result RunEnd RunFault) (writer writer' : Writing) (p : Printed) → NoneFailed given → IsOutput given p →
+    IfOk r (λ end. Finished p writer writer' end.status) → IfErr r (FinishedFront p writer writer') → Writes given r writer writer'
+finishes given r writer writer' p none right ok err = record {
+  written = IfOk-weaker r _ _ (λ end f. record { output = f.output; right = is_output f.output f.right; took = f.took; ends = f.ends }) ok;
+  front = IfErr-weaker r _ _ (λ e f. record { output = f.output; right = is_output f.output f.right; front = f.front }) err;
+}
+  where
+    is_output : (q : Printed) → IsToCome p q → IsOutput given q
+    is_output q (inl same) = subst (IsOutput given) (sym same) right
+    is_output q (inr empty) = subst (IsOutput given) (sym empty) (is_no_memory given none)
 
 -- the output of an input that was not read
 abbrev unread : InputFault → Printed

@@ -8,9 +8,9 @@ pub mod Output
 pub mod OutputRows
 pub mod Input
 pub mod Checkpoint
-pub mod Rest
 pub mod Run
 pub mod RunRows
+pub mod Pieces
 pub mod Shown
 pub mod InMemory
 pub mod InMemoryRows

@@ -1,10 +1,9 @@
 -- What a run wrote, beside what its reader had.
-use Rattle.std.specs.Prelude.{◌≡◌, ◌⊎◌, ◌≤◌, ◌<◌, ◌+◌, ◌∷◌, [], ◌++◌, ℕ, Bool, true, List, length, codes}
+use Rattle.std.specs.Prelude.{◌≡◌, ◌⊎◌, ◌≤◌, ◌+◌, ◌∷◌, [], ◌++◌, ℕ, Bool, true, List, length, codes}
 use Rattle.std.specs.Io.KnownBytes.{Consumes, IsAtEnd}
 use Rattle.nn_device.specs.Device.{Reading, Writing, Took}
 use Rattle.nn_device.specs.Parts.{TookFront}
-use Rattle.nn_device.specs.declared.writer.Unwritten.{Unwritten}
-use Rattle.nn_device.specs.declared.writer.Unwritten.TheVariants as device
+use Rattle.nn_device.specs.declared.writer.Unwritten.TheVariants.{WriteFailed}
 use Rattle.nn_listing.specs.Listing.{newline}
 use Rattle.nn_scenario.specs.Scenario.{max_input}
 use Rattle.nn_engine.specs.Input.{GaveTooMuch}
@@ -12,8 +11,6 @@ use Rattle.nn_engine.specs.declared.device.InputFault.{InputFault}
 use Rattle.nn_engine.specs.declared.device.InputFault.TheVariants.{ReadFailed, TooLong, OutOfMemory}
 use Rattle.nn_engine.specs.declared.engine.Options.{Options}
 use Rattle.nn_engine.specs.declared.output.RunFault.{RunFault}
-use Rattle.nn_engine.specs.declared.output.RunFault.TheVariants.{WriteFailed}
-use Rattle.nn_engine.specs.declared.output.RunFault.TheVariants as run
 use Rattle.nn_engine.specs.Output.{Printed, IsPrinted}
 use Rattle.nn_engine.specs.Start.{scenario_in}
 
@@ -64,20 +61,10 @@ pub record Wrote (given : Given) (writer writer' : Writing) (status : ℕ) : Typ
   pub took : Took writer writer' output.text
   pub ends : status ≡ output.status
 
--- why not all was written
-abbrev pub cause_of : RunFault → Unwritten
-cause_of (WriteFailed written) = device.WriteFailed
-cause_of (run.OutOfMemory written) = device.OutOfMemory
-
--- The fault tells how many bytes were written. Where memory ran out, some were.
-abbrev pub Tells : RunFault → List ℕ → Type 0
-Tells (WriteFailed written) front = written ≡ length front
-Tells (run.OutOfMemory written) front = (written ≡ length front) × (0 < written)
-
--- a prefix of the text was written, and nothing after it
+-- a prefix of the text was written, and nothing after it: the fault tells how many bytes
 pub record Unfinished (writer writer' : Writing) (text : List ℕ) (fault : RunFault) : Type 0 where
-  pub took : TookFront writer writer' text (cause_of fault)
-  pub told : Tells fault took.front
+  pub took : TookFront writer writer' text WriteFailed
+  pub told : fault.written ≡ length took.front
 
 -- a prefix of an output was written
 pub record WroteFront (given : Given) (writer writer' : Writing) (fault : RunFault) : Type 0 where

@@ -5,8 +5,6 @@ use Rattle.nn_device.specs.Device.{Reading, Writing}
 use Rattle.nn_listing.specs.Listing.{newline}
 use Rattle.nn_engine.specs.declared.device.InputFault.TheVariants.{ReadFailed, TooLong, OutOfMemory}
 use Rattle.nn_engine.specs.declared.engine.Options.{Options}
-use Rattle.nn_engine.specs.declared.output.RunFault.TheVariants.{WriteFailed}
-use Rattle.nn_engine.specs.declared.output.RunFault.TheVariants as run
 use Rattle.nn_engine.specs.Input.{IsUnread}
 use Rattle.nn_engine.specs.Output.{Printed}
 use Rattle.nn_engine.specs.Run.{Given, IsOutputOfAll, IsUnreadable, fault_alone, unread_line, NoneFailed, Unfinished, Wrote, WroteFront, running}
@@ -46,7 +44,7 @@ abbrev writer : ℕ → Bool → Writing
 writer taken failed = record { contents = None; taken = taken; failed = failed }
 
 -- a failed write is one that was noted
-no_write_failed : (options : Options) → WroteFront (running options false (reader false) (reader false)) (writer 0 false) (writer 2 false) (WriteFailed 2) → ⊥
+no_write_failed : (options : Options) → WroteFront (running options false (reader false) (reader false)) (writer 0 false) (writer 2 false) (record { written = 2 }) → ⊥
 no_write_failed options h = true≢false (sym h.front.took.caused)
 
 -- ---- What a run wrote.
@@ -77,13 +75,13 @@ abbrev word : Bool → Writing
 word failed = record { contents = Some (codes "fault"); taken = 5; failed = failed }
 
 -- a prefix is not all
-not_a_front_of_all : Unfinished unwritten (memory_line true) (fault_alone (codes "55")).text (WriteFailed 9) → ⊥
+not_a_front_of_all : Unfinished unwritten (memory_line true) (fault_alone (codes "55")).text (record { written = 9 }) → ⊥
 not_a_front_of_all h =
     let w = h.took in
     let e : 9 ≡ length w.front + length w.rest = ap length w.whole ∙ length-append w.front w.rest in
     omega (arith, e, h.told, w.short)
 
-wrote_a_front_of_55 : (options : Options) → WroteFront (running options false (reader false) (reader false)) unwritten (word true) (WriteFailed 5)
+wrote_a_front_of_55 : (options : Options) → WroteFront (running options false (reader false) (reader false)) unwritten (word true) (record { written = 5 })
 wrote_a_front_of_55 options = record {
   output = fault_alone (codes "55");
   right = inr (inr (refl, refl));
@@ -93,26 +91,8 @@ wrote_a_front_of_55 options = record {
   };
 }
 
-not_told_of_another_count : (given : Given) → WroteFront given unwritten (word true) (WriteFailed 4) → ⊥
+not_told_of_another_count : (given : Given) → WroteFront given unwritten (word true) (record { written = 4 }) → ⊥
 not_told_of_another_count given h = let e : 5 ≡ 0 + length h.front.took.front = h.front.took.counted in omega (arith, e, h.front.told)
-
--- memory ran out after the first bytes
-ran_out : Unfinished unwritten (word false) (codes "faults") (run.OutOfMemory 5)
-ran_out = record { took = record { front = codes "fault"; rest = codes "s"; whole = refl; short = omega arith; bytes = refl; counted = refl; caused = refl }; told = (refl, omega arith) }
-
--- and not before them: then the line that memory ran out is written
-not_ran_out_before : (text : List ℕ) → Unfinished unwritten unwritten text (run.OutOfMemory 0) → ⊥
-not_ran_out_before text h = omega (arith, h.told.1)
-
--- nor behind the last
-not_ran_out_behind : Unfinished unwritten (word false) (codes "fault") (run.OutOfMemory 5) → ⊥
-not_ran_out_behind h =
-    let w = h.took in
-    omega (arith, ap length w.whole, length-append w.front w.rest, w.counted, w.short)
-
--- nor where a write failed
-not_ran_out_at_a_write : (text : List ℕ) → Unfinished unwritten (word true) text (run.OutOfMemory 5) → ⊥
-not_ran_out_at_a_write text h = true≢false h.took.caused
 
 -- an input is unreadable where a read failed
 unreadable : (options : Options) → IsUnreadable (running options false (reader false) (reader true))

@@ -1,20 +1,67 @@
--- An output of the code as what it prints; and options. For private clauses.
-use Rattle.std.specs.Prelude.{◌≡◌, ℕ, Bool, true, false, List, [], ◌++◌, Result, Ok}
+-- What the outputs of the code print, what was written of them, and options. For private clauses.
+use Rattle.std.specs.Prelude.{◌≡◌, ◌⊎◌, ℕ, Bool, true, false, List, [], ◌++◌, Result, Ok, codes}
+use Rattle.nn_device.specs.Device.{Writing, Took}
 use Rattle.nn_model.specs.History.{History}
+use Rattle.nn_model.specs.Counts.{safe_mode_of}
 use Rattle.nn_model.specs.Lanes.{Lanes}
 use Rattle.nn_segment.specs.LogEnd.{LogEnd, LogStop}
 use Rattle.nn_segment.specs.Segment.{Segment}
+use Rattle.nn_replicas.specs.Calls.{replica_at}
+use Rattle.nn_shadow.specs.Contents.{Contents}
+use Rattle.nn_listing.specs.Listing.{listing_text}
+use Rattle.nn_listing.specs.Tables.{blocks_line, lines_of_orders, lines_of_replicas}
 use Rattle.nn_listing.specs.Trail.{history_text}
 use Rattle.nn_scenario.specs.Steps.{lanes_of}
 use Rattle.nn_scenario.specs.declared.segments.BadSegment.{BadSegment}
 use Rattle.nn_scenario.specs.declared.steps.Step.{Step}
-use Rattle.nn_engine.specs.Output.{Printed, AreEventsOf, after_log, after_segments, with_history}
+use Rattle.nn_engine.specs.Output.{Printed, AreEventsOf, after_log, after_segments, image_part, with_history}
+use Rattle.nn_engine.specs.Pieces.{faulted}
 use Rattle.nn_engine.specs.declared.engine.Options.{Options}
 use Rattle.nn_engine.specs.Start.{Start}
+use Rattle.nn_engine.specs.Run.{Unfinished, fault_alone}
 use Rattle.nn_engine.specs.declared.output.Output.{Output}
+use Rattle.nn_engine.specs.declared.output.Output.TheVariants as output
+use Rattle.nn_engine.specs.declared.output.RunFault.{RunFault}
+use Rattle.nn_engine.specs.declared.ready.Ready.{Ready}
+use Rattle.nn_engine.specs.declared.ready.Ready.TheVariants as ready
 
-abbrev pub shown : Output → Printed
-shown o = record { text = o.text.items ++ o.rest; status = o.status }
+-- the lines of replicas, orders and counts that a standby holds
+abbrev pub held_tables : Contents → List ℕ
+held_tables s = lines_of_replicas s.table ++ lines_of_orders s.table ++ blocks_line (safe_mode_of s.permille s.table.min s.namespace (replica_at s.table))
+
+-- the history, where it is asked for
+abbrev pub history_part : Bool → History → List ℕ
+history_part false events = []
+history_part true events = history_text events
+
+-- the listing of a standby that has flushed, as it is asked for
+abbrev pub listed_text : Options → Contents → List ℕ
+listed_text options s = history_part options.history s.history ++ ((listing_text s.last s.namespace ++ held_tables s) ++ image_part options.image (record { last = s.last; namespace = s.namespace }))
+
+abbrev pub shown : Options → Output → Printed
+shown options (output.Flushed s) = record { text = listed_text options s; status = 0 }
+shown options (output.Fault line) = faulted line
+
+abbrev pub printed_of : Ready → Printed
+printed_of (ready.Listing text) = record { text = text; status = 0 }
+printed_of (ready.Fault line) = faulted line.now
+
+-- an output, or the line that memory ran out before its first byte
+abbrev pub IsToCome : Printed → Printed → Type 0
+IsToCome p q = (q ≡ p) ⊎ (q ≡ fault_alone (codes "55"))
+
+-- it was written whole, and this is its status
+pub record Finished (p : Printed) (writer writer' : Writing) (status : ℕ) : Type 0 where
+  pub output : Printed
+  pub right : IsToCome p output
+  pub took : Took writer writer' output.text
+  pub ends : status ≡ output.status
+
+-- a prefix of it was written
+pub record FinishedFront (p : Printed) (writer writer' : Writing) (fault : RunFault) : Type 0 where
+  pub output : Printed
+  pub right : IsToCome p output
+  pub front : Unfinished writer writer' output.text fault
 
 -- the options, with these settings
 abbrev pub with_settings : Options → ℕ → ℕ → Options
@@ -25,11 +72,6 @@ pub record IsToldOf (start : Start) (threads : Bool) (options : Options) (steps 
   pub events : History
   pub happened : AreEventsOf start threads steps whole events
   pub is : p ≡ with_history options.history events (after_segments start options (lanes_of steps) whole)
-
--- the history, where it is asked for
-abbrev pub history_part : Bool → History → List ℕ
-history_part false events = []
-history_part true events = history_text events
 
 -- the fault line of a log that did not end, which no history comes before
 pub record IsFaultOf (options : Options) (lanes : Lanes) (whole : Result LogEnd LogStop) (p : Printed) : Type 0 where

@@ -4,15 +4,15 @@
 
 mod device;
 mod engine;
+mod fault_line;
 mod follower;
 mod gate;
-mod image;
 mod law;
 mod live;
 mod output;
 mod parts;
 mod pass;
-mod rest;
+mod ready;
 mod segments;
 mod start;
 mod threads;
@@ -21,7 +21,6 @@ pub use device::InputFault;
 pub use engine::{Options, run};
 pub use gate::{Gate, Open};
 pub use law::a_checkpoint_prints_the_same;
-pub use output::{Output, RunEnd, RunFault};
+pub use output::{RunEnd, RunFault};
 pub use parts::read_scenario;
-pub use rest::Rest;
 pub use threads::{ThreadOptions, run_threads};

@@ -1,34 +1,35 @@
-//! What a run prints, and how it is written.
-ghost use Rattle.std.specs.Prelude.{◌≡◌, IfOk, IfErr, OnOk};
+//! What a run comes to, and how it is written.
+ghost use Rattle.std.specs.Prelude.{◌≡◌, codes, IfOk, IfErr};
 ghost use Rattle.nn_device.specs.Device.{Took};
-ghost use Rattle.nn_engine.specs.Rest.{run_fault};
-ghost use Rattle.nn_engine.specs.Run.{Unfinished};
-ghost use Rattle.nn_engine.specs.Shown.{shown};
+ghost use Rattle.nn_engine.specs.Run.{Unfinished, fault_alone};
+ghost use Rattle.nn_engine.specs.Shown.{Finished, FinishedFront, printed_of, shown};
 
-use crate::rest::Rest;
-use nn_device::{Unwritten, Writer};
-use std::alloc::Global;
+use crate::engine::Options;
+use crate::fault_line::FaultLine;
+use crate::ready::Ready;
+use nn_device::{Page, Writer};
+use nn_shadow::Shadow;
+use std::alloc::{AllocError, Global};
 use std::io::Write;
 use std::mem;
 use thiserror::Error;
 
-/// What a run prints, and its status.
+/// The line of a run for which memory was refused.
+pub(crate) const OUT_OF_MEMORY: &[u8] = b"fault 55\n";
+
+/// What a run comes to.
 #[derive(Drop)]
-pub struct Output {
-    pub text: Vec<u8>,
-    /// What follows the text: nothing, unless a listing is too large to be made in memory.
-    pub rest: Rest,
-    pub status: u8,
+pub(crate) enum Output {
+    /// A standby that has flushed, of which a listing is printed.
+    Flushed(Shadow),
+    Fault(FaultLine),
 }
 
-/// Why not all of an output was written. The writer has its first `written` bytes.
+/// Why not all of an output was written: a write failed. The writer has the output's first `written` bytes.
 #[derive(Clone, Copy, Debug, PartialEq, Eq, Error)]
-pub enum RunFault {
-    #[error("a write failed after {written} bytes")]
-    WriteFailed { written: u64 },
-    /// Memory was refused after the first byte. This comes only of an output that is made as it is written.
-    #[error("out of memory after {written} bytes")]
-    OutOfMemory { written: u64 },
+#[error("a write failed after {written} bytes")]
+pub struct RunFault {
+    pub written: u64,
 }
 
 /// How a run ended: with status 0 after a listing, with status 1 after a fault line.
@@ -37,59 +38,72 @@ pub struct RunEnd {
     pub status: u8,
 }
 
-impl Output {
-    /// A text, and nothing after it.
-    pub(crate) fn of_text(text: Vec<u8>, status: u8) -> Output
-        ensures { shown result ≡ record { text = text.items; status = status } }
-    {
-        Output {
-            text,
-            rest: Rest::none(),
-            status,
-        }
-    }
-
-    /// A listing that is made as it is written.
-    pub(crate) fn of_rest(alloc: Global, rest: Rest) -> Output
-        ensures { shown result ≡ record { text = rest; status = 0 } }
-    {
-        Output {
-            text: Vec::new(alloc),
-            rest,
-            status: 0,
-        }
-    }
-
-    /// Writes all of it. A text takes one write, and so does each path of a listing that is made as it is written.
-    pub fn write<W: Write>(&self, alloc: Global, writer: &mut Writer<W>) -> Result<(), RunFault>
-        ensures ok { OnOk result (Took writer.old writer.new (shown self.now).text) }
-        ensures front { IfErr result (Unfinished writer.old writer.new (shown self.now).text) }
-    {
-        let before = writer.taken();
-        let Ok(()) = writer.write_all(&self.text) else {
-            let written = writer.taken() - before;
-            return Err(RunFault::WriteFailed { written });
-        };
-        match self.rest.write(alloc, writer) {
-            Ok(()) => Ok(()),
-            Err(cause) => {
-                let written = writer.taken() - before;
-                Err(run_fault(cause, written))
-            }
-        }
-    }
-}
-
-fn run_fault(cause: Unwritten, written: u64) -> RunFault
-    ensures { result ≡ run_fault cause written }
+/// Writes an output, or the line that memory ran out, and answers the status that goes with it. The standby is freed, or left
+/// to the end of the process.
+pub(crate) fn finish_output<W: Write>(
+    alloc: Global,
+    options: &Options,
+    output: Output,
+    writer: &mut Writer<W>,
+) -> Result<RunEnd, RunFault>
+    ensures written { IfOk result (λ end. Finished (shown options.now output) writer.old writer.new end.status) }
+    ensures front { IfErr result (FinishedFront (shown options.now output) writer.old writer.new) }
 {
-    match cause {
-        Unwritten::WriteFailed => RunFault::WriteFailed { written },
-        Unwritten::OutOfMemory => RunFault::OutOfMemory { written },
+    let finished = finish_lent(alloc, options, &output, writer);
+    if options.leave_memory {
+        mem::forget(output);
+    } else {
+        drop(output);
+    }
+    finished
+}
+
+fn finish_lent<W: Write>(
+    alloc: Global,
+    options: &Options,
+    output: &Output,
+    writer: &mut Writer<W>,
+) -> Result<RunEnd, RunFault>
+    ensures written { IfOk result (λ end. Finished (shown options.now output.now) writer.old writer.new end.status) }
+    ensures front { IfErr result (FinishedFront (shown options.now output.now) writer.old writer.new) }
+{
+    match Ready::of(alloc, options, output) {
+        Ok(ready) => write_ready(alloc, ready, writer),
+        Err(AllocError) => no_memory(writer),
     }
 }
 
-/// Writes a text, and answers the status that goes with it.
+/// Writes the line of a run for which memory was refused.
+pub(crate) fn no_memory<W: Write>(writer: &mut Writer<W>) -> Result<RunEnd, RunFault>
+    ensures ok { IfOk result (λ end. Took writer.old writer.new (fault_alone (codes "55")).text × (end.status ≡ 1)) }
+    ensures front { IfErr result (Unfinished writer.old writer.new (fault_alone (codes "55")).text) }
+{
+    finish(writer, OUT_OF_MEMORY, 1)
+}
+
+// Writes an output that is ready.
+fn write_ready<W: Write>(
+    alloc: Global,
+    ready: Ready<'_>,
+    writer: &mut Writer<W>,
+) -> Result<RunEnd, RunFault>
+    ensures ok { IfOk result (λ end. Took writer.old writer.new (printed_of ready.entry).text × (end.status ≡ (printed_of ready.entry).status)) }
+    ensures front { IfErr result (Unfinished writer.old writer.new (printed_of ready.entry).text) }
+{
+    let before = writer.taken();
+    let status = ready.status();
+    let mut page = Page::new(alloc);
+    ready.put(&mut page, writer);
+    match page.end(writer) {
+        Ok(()) => Ok(RunEnd { status }),
+        Err(_) => {
+            let written = writer.taken() - before;
+            Err(RunFault { written })
+        }
+    }
+}
+
+/// Writes a text, and answers the status that goes with it. It takes no memory.
 pub(crate) fn finish<W: Write>(
     writer: &mut Writer<W>,
     text: &[u8],
@@ -100,40 +114,8 @@ pub(crate) fn finish<W: Write>(
 {
     match writer.write_all(text) {
         Ok(()) => Ok(RunEnd { status }),
-        Err(failed) => Err(RunFault::WriteFailed {
+        Err(failed) => Err(RunFault {
             written: failed.written as u64,
         }),
-    }
-}
-
-/// Frees a value, or leaves it to the end of the process.
-pub(crate) fn let_go<T: Drop>(value: T, leave_memory: bool) {
-    if leave_memory {
-        mem::forget(value);
-    } else {
-        drop(value);
-    }
-}
-
-/// Writes an output, and answers its status.
-pub(crate) fn finish_output<W: Write>(
-    alloc: Global,
-    output: Output,
-    writer: &mut Writer<W>,
-    leave_memory: bool,
-) -> Result<RunEnd, RunFault>
-    ensures ok { IfOk result (λ end. Took writer.old writer.new (shown output).text × (end.status ≡ output.status)) }
-    ensures front { IfErr result (Unfinished writer.old writer.new (shown output).text) }
-{
-    let written = output.write(alloc, writer);
-    let Output {
-        text: _,
-        rest,
-        status,
-    } = output;
-    let_go(rest, leave_memory);
-    match written {
-        Ok(()) => Ok(RunEnd { status }),
-        Err(fault) => Err(fault),
     }
 }

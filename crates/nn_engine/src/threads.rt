@@ -16,15 +16,14 @@ ghost use Rattle.nn_segment.specs.Source.{GivesNext};
 ghost use Rattle.nn_tailer.specs.Public.{AreNew};
 ghost use Rattle.nn_tailer.specs.Tailing.{has_begun};
 ghost use Rattle.nn_engine.specs.Output.{output_of, IsPrinted, IsPrintedFrom};
+ghost use Rattle.nn_engine.specs.Pieces.{faulted};
 ghost use Rattle.nn_engine.specs.Run.{Wrote, WroteFront, running};
 ghost use Rattle.nn_engine.specs.Shown.{shown, IsToldOf};
 
-use crate::engine::{
-    OUT_OF_MEMORY, Options, fault_output, output_of_bad, output_of_bad_segment, output_of_flushed,
-    output_of_image_fault, unread_line,
-};
+use crate::engine::{Options, output_of_flushed, unread_line};
+use crate::fault_line::FaultLine;
 use crate::gate::{Gate, GatePass};
-use crate::output::{Output, RunEnd, RunFault, finish, finish_output};
+use crate::output::{Output, RunEnd, RunFault, finish, finish_output, no_memory};
 use crate::parts::{InputParts, read_parts};
 use crate::segments::Segments;
 use crate::start::start_from;
@@ -171,13 +170,13 @@ fn sources_of<G: Drop>(
     Ok(sources)
 }
 
-// What a drive ended with that did not promote the standby: the line of the stop.
-fn output_of_fault(alloc: Global, fault: DriveFault) -> Result<Output, AllocError>
+// The line of what a drive ended with that did not promote the standby.
+fn line_of_drive(fault: DriveFault) -> Result<FaultLine, AllocError>
     requires { MayEnd fault }
-    ensures { IfOk result (λ o. TellsStop fault (shown o)) }
+    ensures { IfOk result (λ line. TellsStop fault (faulted line)) }
 {
     match fault {
-        DriveFault::Stopped(stop) => fault_output(alloc, stop.number, " txid ", stop.txid.get()),
+        DriveFault::Stopped(stop) => Ok(FaultLine::at(stop.number, " txid ", stop.txid.get())),
         DriveFault::OutOfMemory => Err(AllocError),
         DriveFault::AlreadyActive => unreachable!(),
         DriveFault::LogNotEnded(_) => unreachable!(),
@@ -248,14 +247,14 @@ fn output_of_drive<G: Gate + Send + Sync + Drop, R: Threads + Wait + Sync>(
     requires in_turn { AreInTurn no_messages steps }
     requires within { All (IsStepOf datanodes) steps }
     ensures { IfOk result (λ o. (start : Start) → IsStartOf (option_map (λ v. v.items) image.now) start
-        → IsToldOf start true asked.now.options steps (Ok segments.items) (shown o)) }
+        → IsToldOf start true asked.now.options steps (Ok segments.items) (shown asked.now.options o)) }
 {
     let sources = sources_of(alloc, &asked.gate, datanodes, steps)?;
     let (workers, ends) = with_lanes(alloc, sources, asked.capacity)?;
     let standby = standby_over(alloc, ends, asked.options.settings, image)?;
     match drive_over(rt, alloc, asked, standby, segments, workers) {
-        Ok((shadow, _active)) => output_of_flushed(alloc, asked.options, shadow),
-        Err(fault) => output_of_fault(alloc, fault),
+        Ok((shadow, _active)) => Ok(output_of_flushed(shadow)),
+        Err(fault) => Ok(Output::Fault(line_of_drive(fault)?)),
     }
 }
 
@@ -269,7 +268,7 @@ fn output_of_threads<G: Gate + Send + Sync + Drop, R: Threads + Wait + Sync>(
     requires capacity { (1 ≤ asked.now.capacity) × (asked.now.capacity ≤ 1024) }
     requires lawful { IsLawfulScenario (seen scenario) }
     ensures { IfOk result (λ o. (start : Start) → IsStartOf (option_map (λ v. v.items) image.now) start
-        → IsToldOf start true asked.now.options scenario.steps (segments_from 1 scenario.parts.items) (shown o)) }
+        → IsToldOf start true asked.now.options scenario.steps (segments_from 1 scenario.parts.items) (shown asked.now.options o)) }
 {
     let Scenario {
         parts,
@@ -278,7 +277,7 @@ fn output_of_threads<G: Gate + Send + Sync + Drop, R: Threads + Wait + Sync>(
     } = scenario;
     match read_segments(alloc, parts) {
         Ok(segments) => output_of_drive(rt, alloc, asked, image, datanodes, steps, segments),
-        Err(bad) => Ok(output_of_bad_segment(alloc, bad)?),
+        Err(bad) => Ok(Output::Fault(FaultLine::of_bad_segment(bad)?)),
     }
 }
 
@@ -294,11 +293,11 @@ fn output_by_threads<G: Gate + Send + Sync + Drop, R: Threads + Wait + Sync>(
     requires capacity { (1 ≤ asked.now.capacity) × (asked.now.capacity ≤ 1024) }
     requires lawful { IfOk lines (λ s. IsLawfulScenario (seen s)) }
     ensures { (text : List ℕ) → IsReadAs text lines → IfOk result (λ o. (start : Start) → IsStartOf (option_map (λ v. v.items) image.now) start
-        → IsPrintedFrom start true asked.now.options text (shown o)) }
+        → IsPrintedFrom start true asked.now.options text (shown asked.now.options o)) }
 {
     match lines {
         Ok(scenario) => output_of_threads(rt, alloc, asked, image, scenario),
-        Err(bad) => Ok(output_of_bad(alloc, bad)?),
+        Err(bad) => Ok(Output::Fault(FaultLine::of_bad_line(bad)?)),
     }
 }
 
@@ -312,7 +311,7 @@ fn parts_by_threads<G: Gate + Send + Sync + Drop, R: Threads + Wait + Sync>(
 ) -> Result<Output, AllocError>
     requires capacity { (1 ≤ asked.now.capacity) × (asked.now.capacity ≤ 1024) }
     requires lawful { IfOk parts.lines (λ s. IsLawfulScenario (seen s)) }
-    ensures { (input : List ℕ) → IsRead asked.now.options.from_image input parts → IfOk result (λ o. IsPrinted true asked.now.options input (shown o)) }
+    ensures { (input : List ℕ) → IsRead asked.now.options.from_image input parts → IfOk result (λ o. IsPrinted true asked.now.options input (shown asked.now.options o)) }
 {
     let InputParts { image, lines } = parts;
     match start_from(alloc, asked.options.from_image, &image)? {
@@ -320,7 +319,7 @@ fn parts_by_threads<G: Gate + Send + Sync + Drop, R: Threads + Wait + Sync>(
             drop(begin);
             output_by_threads(rt, alloc, asked, &image, lines)
         }
-        Err(fault) => Ok(output_of_image_fault(alloc, fault)?),
+        Err(fault) => Ok(Output::Fault(FaultLine::of_image(fault))),
     }
 }
 
@@ -354,7 +353,7 @@ pub fn run_threads<I: Read, W: Write, G: Gate + Send + Sync + Drop, R: Threads +
         Err(fault) => return finish(writer, unread_line(fault), 1),
     };
     match parts_by_threads(rt, alloc, asked, parts) {
-        Ok(output) => finish_output(alloc, output, writer, asked.options.leave_memory),
-        Err(AllocError) => finish(writer, OUT_OF_MEMORY, 1),
+        Ok(output) => finish_output(alloc, &asked.options, output, writer),
+        Err(AllocError) => no_memory(writer),
     }
 }

@@ -16,4 +16,4 @@ pub mod Lawful
 pub mod Images
 pub mod PathsRead
 pub mod RowTexts
-pub mod LineBounds
+pub mod Putting

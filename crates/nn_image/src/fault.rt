@@ -65,7 +65,7 @@ impl<T: Drop> From<AllocFailed<T>> for ImageFault {
     }
 }
 
-/// Why an image was not saved. The writer got a prefix of it.
+/// Why an image was not saved. The writer got a prefix of it: none of it where memory was refused.
 #[derive(Clone, Copy, Debug, PartialEq, Eq, Error)]
 pub enum SaveFault {
     #[error("a write failed after {written} bytes")]
@@ -92,7 +92,7 @@ pub enum RewriteFault {
     /// It was not loaded. The writer got nothing.
     #[error("{0}")]
     Load(ImageFault),
-    /// It was loaded and not saved. The writer got a prefix of the image.
+    /// It was loaded and not saved. The writer got a prefix of the image: none of it where memory was refused.
     #[error("{0}")]
     Save(SaveFault),
 }

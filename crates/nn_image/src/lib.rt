@@ -1,4 +1,4 @@
-//! Images of a namespace: written as text, and read back, line by line.
+//! Images of a namespace: written as text in large parts, and read back line by line.
 #![tactic(auto)]
 
 mod fault;
@@ -11,7 +11,7 @@ mod row_text;
 mod saving;
 
 pub use fault::{ImageFault, RewriteFault, SaveFault};
-pub use law::{lines_fit, reading_is_the_image, reads_back, reads_old_back};
+pub use law::{reading_is_the_image, reads_back, reads_old_back};
 pub use restoring::load;
 pub use rewriting::rewrite;
-pub use saving::{image_name, save};
+pub use saving::{ReadyImage, image_name, save};

@@ -14,9 +14,9 @@ use std::alloc::Global;
 use std::io::{Read, Write};
 
 /// Reads an image of version 1 or 2 and writes it as one of version 2. The answer is its txid. The whole image is read
-/// before the first byte is written, and takes the memory of `load`. What is written is read as the same, so to rewrite it
-/// once more changes nothing. The faults are those of `load`, after which nothing was written, and those of `save`, after
-/// which a prefix of the image was.
+/// before the first byte is written, and takes the memory of `load`, and then that of `save`. What is written is read as
+/// the same, so to rewrite it once more changes nothing. The faults are those of `load`, after which nothing was written,
+/// and those of `save`, after which a prefix of the image was: none of it where memory was refused.
 ///
 /// If the prover does not know the bytes of the device, only this is proved: what was written is the image of some
 /// well-formed namespace, with the txid of the answer.

@@ -1,65 +1,60 @@
-//! The line of a path, straight into a text.
-ghost use Rattle.std.specs.Prelude.{◌≡◌, ◌++◌, false, OnOk, string_bytes};
+//! The line of a path, on a page. None of these takes memory.
+ghost use Rattle.std.specs.Prelude.{◌≡◌, false};
 ghost use Rattle.serde_json.specs.Data.{boolean};
 ghost use Rattle.serde_json.specs.Written.{compact_text, items_text};
+ghost use Rattle.nn_device.specs.Page.{Puts};
 ghost use Rattle.nn_model.specs.declared.form.Form.TheVariants as form;
 ghost use Rattle.nn_tree.specs.Found.{form_of};
 ghost use Rattle.nn_tree.specs.Listing.{lent_names};
 ghost use Rattle.nn_image.specs.Text.{line_of, block_data, block_items, row_data};
 
+use nn_device::{Page, Writer};
 use nn_model::FileRow;
-use nn_text::{push_number, push_path};
+use nn_text::{put_number, put_path};
 use nn_tree::Found;
 use nn_types::Block;
-use std::alloc::{AllocError, Global};
+use std::io::Write;
 
-/// Adds the line of what is at the path with these names, as an image has it:
+/// Puts the line of what is at the path with these names, as an image has it:
 ///
 /// ```text
 /// {"path":"/d","type":"dir"}
 /// {"blocks":[{"gen":1001,"id":1073741825,"len":5}],"closed":true,"path":"/d/f","replication":3,"type":"file"}
 /// ```
-pub(crate) fn push_row(
-    alloc: Global,
-    text: &mut String,
+pub(crate) fn put_row<W: Write>(
+    page: &mut Page,
+    writer: &mut Writer<W>,
     names: &[&str],
     found: Found<'_>,
-) -> Result<(), AllocError>
-    ensures { OnOk result (string_bytes text.new ≡ string_bytes text.old ++ line_of (row_data (lent_names names.now, form_of found.entry))) }
+)
+    ensures { Puts (line_of (row_data (lent_names names.now, form_of found.entry))) page.old writer.old page.new writer.new }
 {
     match found {
-        Found::Dir => push_dir(alloc, text, names),
-        Found::File(file) => push_file(alloc, text, names, file),
+        Found::Dir => put_dir(page, writer, names),
+        Found::File(file) => put_file(page, writer, names, file),
     }
 }
 
-fn push_dir(alloc: Global, text: &mut String, names: &[&str]) -> Result<(), AllocError>
-    ensures { OnOk result (string_bytes text.new ≡ string_bytes text.old ++ line_of (row_data (lent_names names.now, form.Dir))) }
+fn put_dir<W: Write>(page: &mut Page, writer: &mut Writer<W>, names: &[&str])
+    ensures { Puts (line_of (row_data (lent_names names.now, form.Dir))) page.old writer.old page.new writer.new }
 {
-    text.push_str("{\"path\":")?;
-    push_path(alloc, text, names)?;
-    text.push_str(",\"type\":\"dir\"}\n")?;
-    Ok(())
+    page.put(writer, b"{\"path\":");
+    put_path(page, writer, names);
+    page.put(writer, b",\"type\":\"dir\"}\n");
 }
 
-fn push_file(
-    alloc: Global,
-    text: &mut String,
-    names: &[&str],
-    file: &FileRow,
-) -> Result<(), AllocError>
-    ensures { OnOk result (string_bytes text.new ≡ string_bytes text.old ++ line_of (row_data (lent_names names.now, form.File file.now))) }
+fn put_file<W: Write>(page: &mut Page, writer: &mut Writer<W>, names: &[&str], file: &FileRow)
+    ensures { Puts (line_of (row_data (lent_names names.now, form.File file.now))) page.old writer.old page.new writer.new }
 {
-    text.push_str("{\"blocks\":[")?;
-    push_blocks(text, file.blocks.as_slice())?;
-    text.push_str(",\"closed\":")?;
-    text.push_str(word(file.closed))?;
-    text.push_str(",\"path\":")?;
-    push_path(alloc, text, names)?;
-    text.push_str(",\"replication\":")?;
-    push_number(text, u64::from(file.replication.get()))?;
-    text.push_str(",\"type\":\"file\"}\n")?;
-    Ok(())
+    page.put(writer, b"{\"blocks\":[");
+    put_blocks(page, writer, file.blocks.as_slice());
+    page.put(writer, b",\"closed\":");
+    page.put(writer, word(file.closed).as_bytes());
+    page.put(writer, b",\"path\":");
+    put_path(page, writer, names);
+    page.put(writer, b",\"replication\":");
+    put_number(page, writer, u64::from(file.replication.get()));
+    page.put(writer, b",\"type\":\"file\"}\n");
 }
 
 fn word(truth: bool) -> &'static str
@@ -69,29 +64,29 @@ fn word(truth: bool) -> &'static str
 }
 
 // The blocks, with a comma between two, and the bracket after them.
-fn push_blocks(text: &mut String, blocks: &[Block]) -> Result<(), AllocError>
-    ensures { OnOk result (string_bytes text.new ≡ string_bytes text.old ++ items_text false (block_items blocks.now)) }
+fn put_blocks<W: Write>(page: &mut Page, writer: &mut Writer<W>, blocks: &[Block])
+    ensures { Puts (items_text false (block_items blocks.now)) page.old writer.old page.new writer.new }
 {
     let Some((first, others)) = blocks.split_first() else {
-        return text.push_str("]");
+        page.put(writer, b"]");
+        return;
     };
-    push_block(text, *first)?;
+    put_block(page, writer, *first);
     for block in others {
-        text.push_str(",")?;
-        push_block(text, *block)?;
+        page.put(writer, b",");
+        put_block(page, writer, *block);
     }
-    text.push_str("]")
+    page.put(writer, b"]");
 }
 
-fn push_block(text: &mut String, block: Block) -> Result<(), AllocError>
-    ensures { OnOk result (string_bytes text.new ≡ string_bytes text.old ++ compact_text (block_data block)) }
+fn put_block<W: Write>(page: &mut Page, writer: &mut Writer<W>, block: Block)
+    ensures { Puts (compact_text (block_data block)) page.old writer.old page.new writer.new }
 {
-    text.push_str("{\"gen\":")?;
-    push_number(text, block.stamp.get())?;
-    text.push_str(",\"id\":")?;
-    push_number(text, block.id.get())?;
-    text.push_str(",\"len\":")?;
-    push_number(text, block.len.get())?;
-    text.push_str("}")?;
-    Ok(())
+    page.put(writer, b"{\"gen\":");
+    put_number(page, writer, block.stamp.get());
+    page.put(writer, b",\"id\":");
+    put_number(page, writer, block.id.get());
+    page.put(writer, b",\"len\":");
+    put_number(page, writer, block.len.get());
+    page.put(writer, b"}");
 }

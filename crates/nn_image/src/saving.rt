@@ -1,21 +1,24 @@
 //! From a namespace to a writer.
-ghost use Rattle.std.specs.Prelude.{◌≡◌, false, string_bytes, drop, OnOk, IfOk, IfErr};
+ghost use Rattle.std.specs.Prelude.{◌≡◌, ◌≤◌, false, string_bytes, drop, OnOk, IfOk, IfErr, IsErrOf};
 ghost use Rattle.serde_json.specs.View.{view, items_view};
 ghost use Rattle.serde_json.specs.Written.{has_float};
 ghost use Rattle.nn_device.specs.Device.{Took};
-ghost use Rattle.nn_device.specs.Parts.{TookFront};
-ghost use Rattle.nn_image.specs.Text.{line_of, number_items, header_data, head_data, body_text, end_data, image_text, name_text};
+ghost use Rattle.nn_device.specs.Page.{Puts};
+ghost use Rattle.nn_tree.specs.Rows.{extent_of, greatest_depth};
+ghost use Rattle.nn_image.specs.Text.{line_of, number_items, header_data, head_data, row_lines, end_data, image_text, name_text};
 ghost use Rattle.nn_image.specs.Lawful.{IsReadBack};
 ghost use Rattle.nn_image.specs.Saving.{WroteFront};
 
 use crate::fault::SaveFault;
-use crate::row_text::push_row;
-use nn_device::{Unwritten, Writer};
-use nn_tree::{Namespace, Rows};
+use crate::row_text::put_row;
+use nn_device::{Page, Writer};
+use nn_text::put_number;
+use nn_tree::{Extent, Namespace, Rows};
 use nn_types::{BlockId, GenerationStamp, Txid};
 use serde_json::{Value, json};
 use std::alloc::{AllocError, Global};
 use std::io::Write;
+use std::marker::Model;
 
 /// The name of the image of the namespace after this transaction.
 pub fn image_name(alloc: Global, txid: Txid) -> Result<String, AllocError>
@@ -25,12 +28,70 @@ pub fn image_name(alloc: Global, txid: Txid) -> Result<String, AllocError>
     format!(in alloc; "fsimage_{txid:019}")
 }
 
-/// Writes the image of a namespace, of version 2, line by line: this takes the memory of one line and of a walk. The txid
-/// is that of the last transaction, or 0 where there was none. `load` reads the image as this namespace, if each path
-/// keeps the limits of paths: a rename can push one past them.
+/// The image of a namespace, ready to be put: all memory that it wants is had.
+#[derive(Drop)]
+pub struct ReadyImage<'a> {
+    // the line of the header
+    head: String,
+    // the rows below the root
+    rows: Rows<'a>,
+    // how many these are
+    paths: u64,
+}
+
+impl<'a> Model for ReadyImage<'a> {
+    ghost use Rattle.std.specs.Prelude.{ℕ, List, ◌++◌, ◌≤◌, string_bytes};
+    ghost use Rattle.nn_tree.specs.Rows.{greatest_depth};
+    ghost use Rattle.nn_image.specs.Text.{row_lines, line_of, end_data};
+
+    ghost Value = { List ℕ };
+
+    ghost view = { λ a. string_bytes a.head ++ (row_lines a.rows.left ++ line_of (end_data a.paths)) };
+
+    ghost invariant = { λ a. greatest_depth a.rows.left ≤ a.rows.room };
+}
+
+impl<'a> ReadyImage<'a> {
+    /// The image of version 2 after this transaction, 0 where there was none. The extent is that of the namespace.
+    pub fn of(
+        alloc: Global,
+        namespace: &'a Namespace,
+        extent: Extent,
+        txid: Txid,
+    ) -> Result<ReadyImage<'a>, AllocError>
+        requires { extent ≡ extent_of namespace.now.rows }
+        ensures { IfOk result (λ image. image ≡ image_text namespace.now txid) }
+    {
+        let Ok(head) = head_line(alloc, namespace, txid) else {
+            return Err(AllocError);
+        };
+        let Ok(rows) = rows_below_root(namespace, extent.depth) else {
+            return Err(AllocError);
+        };
+        let paths = extent.paths.saturating_sub(1);
+        Ok(ReadyImage { head, rows, paths })
+    }
+
+    /// Puts the image on a page. It takes no memory.
+    pub fn put<W: Write>(self, page: &mut Page, writer: &mut Writer<W>)
+        ensures { Puts self.entry page.old writer.old page.new writer.new }
+    {
+        let ReadyImage { head, rows, paths } = self;
+        page.put(writer, head.as_bytes());
+        put_rows(page, writer, rows);
+        put_end(page, writer, paths);
+    }
+}
+
+/// Writes the image of a namespace, of version 2, in parts of some 65,536 bytes. The txid is that of the last transaction,
+/// or 0 where there was none. `load` reads the image as this namespace, if each path keeps the limits of paths: a rename can
+/// push one past them.
 ///
-/// A write that fails ends it, and so does memory that is refused. The writer has a prefix of the image then, and never all
-/// of it.
+/// It goes through the paths twice, first to measure them. It takes the memory of the header's line, of a walk to the deepest
+/// path, and of a part. The first two it has before the first byte: where memory is refused, the writer has nothing. A part
+/// that gets no memory is written piece by piece.
+///
+/// A write that fails ends it. The writer has a prefix of the image then, and never all of it.
 pub fn save<W: Write>(
     alloc: Global,
     namespace: &Namespace,
@@ -39,18 +100,37 @@ pub fn save<W: Write>(
 ) -> Result<(), SaveFault>
     ensures ok { OnOk result (Took writer.old writer.new (image_text namespace.now txid)) }
     ensures front { IfErr result (WroteFront writer.old writer.new (image_text namespace.now txid)) }
+    ensures memory { IsErrOf result SaveFault.OutOfMemory → writer.new ≡ writer.old }
     ensures again { IsReadBack namespace.now txid }
 {
     is_read_back(namespace, txid);
+    let Ok(image) = ready_image(alloc, namespace, txid) else {
+        return Err(SaveFault::OutOfMemory);
+    };
     let before = writer.taken();
-    match put_image(alloc, namespace, txid, writer) {
+    let mut page = Page::new(alloc);
+    image.put(&mut page, writer);
+    match page.end(writer) {
         Ok(()) => Ok(()),
-        Err(Unwritten::WriteFailed) => {
+        Err(_) => {
             let written = writer.taken() - before;
             Err(SaveFault::WriteFault { written })
         }
-        Err(Unwritten::OutOfMemory) => Err(SaveFault::OutOfMemory),
     }
+}
+
+// The image of a namespace that was not measured yet.
+fn ready_image<'a>(
+    alloc: Global,
+    namespace: &'a Namespace,
+    txid: Txid,
+) -> Result<ReadyImage<'a>, AllocError>
+    ensures { IfOk result (λ image. image ≡ image_text namespace.now txid) }
+{
+    let Ok(extent) = namespace.extent() else {
+        return Err(AllocError);
+    };
+    ReadyImage::of(alloc, namespace, extent, txid)
 }
 
 // What a reader makes of the image. This does nothing.
@@ -61,98 +141,50 @@ fn is_read_back(namespace: &Namespace, txid: Txid)
     txid.get();
 }
 
-fn put_image<W: Write>(
-    alloc: Global,
-    namespace: &Namespace,
-    txid: Txid,
-    writer: &mut Writer<W>,
-) -> Result<(), Unwritten>
-    ensures ok { OnOk result (Took writer.old writer.new (image_text namespace.now txid)) }
-    ensures front { IfErr result (TookFront writer.old writer.new (image_text namespace.now txid)) }
+// The line of each row. A walk that has its room wants no more memory.
+fn put_rows<W: Write>(page: &mut Page, writer: &mut Writer<W>, mut rows: Rows<'_>)
+    requires { greatest_depth rows.left ≤ rows.room }
+    ensures { Puts (row_lines rows.entry.left) page.old writer.old page.new writer.new }
 {
-    put_head(alloc, namespace, txid, writer)?;
-    put_body(alloc, namespace, writer)
-}
-
-fn put_head<W: Write>(
-    alloc: Global,
-    namespace: &Namespace,
-    txid: Txid,
-    writer: &mut Writer<W>,
-) -> Result<(), Unwritten>
-    ensures ok { OnOk result (Took writer.old writer.new (line_of (header_data namespace.now txid))) }
-    ensures front { IfErr result (TookFront writer.old writer.new (line_of (header_data namespace.now txid))) }
-{
-    let Ok(value) = header_value(alloc, namespace, txid) else {
-        return Err(Unwritten::OutOfMemory);
-    };
-    put_line(alloc, &value, writer)
-}
-
-// The line of each path except the root, and then that of their number.
-fn put_body<W: Write>(
-    alloc: Global,
-    namespace: &Namespace,
-    writer: &mut Writer<W>,
-) -> Result<(), Unwritten>
-    ensures ok { OnOk result (Took writer.old writer.new (body_text namespace.now)) }
-    ensures front { IfErr result (TookFront writer.old writer.new (body_text namespace.now)) }
-{
-    let Ok(mut rows) = rows_below_root(namespace) else {
-        return Err(Unwritten::OutOfMemory);
-    };
-    // The line of the path before, whose room is used again.
-    let mut line = String::new(alloc);
-    let mut count = 0;
     'rows: loop {
         let Ok(next) = rows.next() else {
-            return Err(Unwritten::OutOfMemory);
+            unreachable!();
         };
         let Some(found) = next else {
-            return put_end(alloc, count, writer);
+            return;
         };
-        line.clear();
-        let Ok(()) = push_row(alloc, &mut line, rows.names(), found) else {
-            return Err(Unwritten::OutOfMemory);
-        };
-        if let Err(cause) = writer.write_part(line.as_bytes()) {
-            return Err(cause);
-        }
-        // There are no more lines than bytes, and these were counted.
-        writer.taken();
-        count += 1;
+        put_row(page, writer, rows.names(), found);
     }
 }
 
-// The rows after that of the root, which has no line.
-fn rows_below_root(namespace: &Namespace) -> Result<Rows<'_>, AllocError>
-    ensures { IfOk result (λ rows. rows.left ≡ drop 1 namespace.now.rows) }
+// The line of the number of paths.
+fn put_end<W: Write>(page: &mut Page, writer: &mut Writer<W>, paths: u64)
+    ensures { Puts (line_of (end_data paths)) page.old writer.old page.new writer.new }
 {
-    let mut rows = namespace.rows();
+    page.put(writer, b"{\"end\":");
+    put_number(page, writer, paths);
+    page.put(writer, b"}\n");
+}
+
+// The rows after that of the root, which has no line, with memory for paths of so many names.
+fn rows_below_root(namespace: &Namespace, depth: usize) -> Result<Rows<'_>, AllocError>
+    requires { greatest_depth namespace.now.rows ≤ depth }
+    ensures left { IfOk result (λ rows. rows.left ≡ drop 1 namespace.now.rows) }
+    ensures room { IfOk result (λ rows. greatest_depth rows.left ≤ rows.room) }
+{
+    let mut rows = namespace.ready_rows(depth)?;
     rows.next()?;
     Ok(rows)
 }
 
-fn put_end<W: Write>(alloc: Global, count: u64, writer: &mut Writer<W>) -> Result<(), Unwritten>
-    ensures ok { OnOk result (Took writer.old writer.new (line_of (end_data count))) }
-    ensures front { IfErr result (TookFront writer.old writer.new (line_of (end_data count))) }
+// The line of the header.
+fn head_line(alloc: Global, namespace: &Namespace, txid: Txid) -> Result<String, AllocError>
+    ensures { IfOk result (λ s. string_bytes s ≡ line_of (header_data namespace.now txid)) }
 {
-    let Ok(value) = end_value(alloc, count) else {
-        return Err(Unwritten::OutOfMemory);
+    let Ok(value) = header_value(alloc, namespace, txid) else {
+        return Err(AllocError);
     };
-    put_line(alloc, &value, writer)
-}
-
-// Writes the line of a value.
-fn put_line<W: Write>(alloc: Global, value: &Value, writer: &mut Writer<W>) -> Result<(), Unwritten>
-    requires { has_float (view value.now) ≡ false }
-    ensures ok { OnOk result (Took writer.old writer.new (line_of (view value.now))) }
-    ensures front { IfErr result (TookFront writer.old writer.new (line_of (view value.now))) }
-{
-    let Ok(line) = line(alloc, value) else {
-        return Err(Unwritten::OutOfMemory);
-    };
-    writer.write_part(line.as_bytes())
+    line(alloc, &value)
 }
 
 // The line of a value.
@@ -177,13 +209,6 @@ fn header_value(alloc: Global, namespace: &Namespace, txid: Txid) -> Result<Valu
         namespace.profile(),
         txid,
     )
-}
-
-#[tactic(auto, unfolding(crate::specs::Text::end_data))]
-fn end_value(alloc: Global, count: u64) -> Result<Value, AllocError>
-    ensures { IfOk result (λ v. view v ≡ end_data count) }
-{
-    json!(in alloc; {"end": count})
 }
 
 #[tactic(auto, unfolding(crate::specs::Text::head_data))]

@@ -1,5 +1,4 @@
 pub mod KeyTexts
 pub mod SaidIds
 pub mod TableLines
-pub mod LineBounds
-pub mod Lines
+pub mod Pieces

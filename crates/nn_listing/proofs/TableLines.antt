@@ -1,6 +1,6 @@
 -- What a table lists of a picture is the picture's text.
 use Rattle.std.proofs.Common.{◌≡◌, ℕ, ◌+◌, Bool, true, false, cond, List, [], ◌∷◌, ◌++◌, Option, Some, None, is_some, refl, sym, ap, ◌∙◌, arith}
-use Rattle.std.proofs.Common.{nat_cmp, append_assoc}
+use Rattle.std.proofs.Common.{nat_cmp}
 use Rattle.std.specs.Prelude.{flat_map, unwrap_or, option_and_then}
 use Rattle.std.specs.List.{range_with_len}
 use Rattle.std.specs.Option.{option_map}
@@ -170,12 +170,3 @@ all_datanodes = refl
 pub pictured : (permille min : ℕ) (n : Namespace) (lanes : Lanes) (t : Table) (mode : SafeMode) → IsPicture permille min n lanes t mode
     → lines_of_replicas t ++ lines_of_orders t ++ blocks_line mode ≡ tables_text permille min n lanes
 pictured permille min n lanes t mode h = tables_are permille min n lanes t mode h 256 refl all_datanodes
-
--- three texts were pushed
-pub pushed : (old replicas orders counts after_replicas after_orders new whole : List ℕ) → after_replicas ≡ old ++ replicas
-    → after_orders ≡ after_replicas ++ orders → replicas ++ orders ++ counts ≡ whole → new ≡ after_orders ++ counts → new ≡ old ++ whole
-pushed old replicas orders counts after_replicas after_orders new whole r o w e =
-    e ∙ ap (λ x. x ++ counts) (o ∙ ap (λ x. x ++ orders) r) ∙ joined ∙ ap (λ x. old ++ x) w
-  where
-    joined : ((old ++ replicas) ++ orders) ++ counts ≡ old ++ (replicas ++ orders ++ counts)
-    joined = simp append_assoc

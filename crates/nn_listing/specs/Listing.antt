@@ -34,6 +34,10 @@ line_of p (File file) =
 abbrev pub row_line : Path × Form → List ℕ
 row_line row = line_of row.0 row.1
 
+-- the last transaction, and then these rows
+abbrev pub listing_of : ℕ → List (Path × Form) → List ℕ
+listing_of last rows = codes "txid " ++ decimal last ++ newline ∷ [] ++ flat_map row_line rows
+
 -- the last transaction, and then each path in path order
 abbrev pub listing_text : ℕ → Namespace → List ℕ
-listing_text last n = codes "txid " ++ decimal last ++ newline ∷ [] ++ flat_map row_line n.rows
+listing_text last n = listing_of last n.rows

@@ -1,40 +1,37 @@
 //! What the program prints of a standby's history.
-ghost use Rattle.std.specs.Prelude.{◌≡◌, ◌++◌, OnOk, string_bytes};
+ghost use Rattle.std.specs.Prelude.{◌≡◌};
+ghost use Rattle.nn_device.specs.Page.{Puts};
 ghost use Rattle.nn_listing.specs.Trail.{cause_text, event_line, history_text};
 
+use crate::fields::{put_field, put_word};
+use nn_device::{Page, Writer};
 use nn_types::{Cause, Event};
-use std::alloc::AllocError;
-use std::fmt::Write;
+use std::io::Write;
 
-/// About what an event's line has.
-const EVENT: usize = 32;
-
-/// Adds a line for each event, in the order in which they happened:
+/// Puts a line for each event, in the order in which they happened:
 ///
 /// ```text
 /// applied 5
 /// processed 1 1 1073741825 due
 /// ```
 ///
-/// Memory for about all of it is asked for at once. Where memory is refused nothing is said of how much of it stands in the
-/// text.
-pub fn push_history(text: &mut String, events: &[Event]) -> Result<(), AllocError>
-    ensures { OnOk result (string_bytes text.new ≡ string_bytes text.old ++ history_text events.now) }
+/// It takes no memory.
+pub fn put_history<W: Write>(page: &mut Page, writer: &mut Writer<W>, events: &[Event])
+    ensures { Puts (history_text events.now) page.old writer.old page.new writer.new }
 {
-    text.reserve_exact(events.len().saturating_mul(EVENT))?;
     for event in events {
-        push_event(text, *event)?;
+        put_event(page, writer, *event);
     }
-    Ok(())
 }
 
-fn push_event(text: &mut String, event: Event) -> Result<(), AllocError>
-    ensures { OnOk result (string_bytes text.new ≡ string_bytes text.old ++ event_line event) }
+fn put_event<W: Write>(page: &mut Page, writer: &mut Writer<W>, event: Event)
+    ensures { Puts (event_line event) page.old writer.old page.new writer.new }
 {
     match event {
         Event::Applied { txid } => {
-            let txid = txid.get();
-            write!(text, "applied {txid}\n")
+            page.put(writer, b"applied");
+            put_field(page, writer, txid.get());
+            page.put(writer, b"\n");
         }
         Event::Processed {
             dn,
@@ -42,9 +39,12 @@ fn push_event(text: &mut String, event: Event) -> Result<(), AllocError>
             block,
             cause,
         } => {
-            let block = block.get();
-            let cause = cause_word(cause);
-            write!(text, "processed {dn} {number} {block} {cause}\n")
+            page.put(writer, b"processed");
+            put_field(page, writer, u64::from(dn));
+            put_field(page, writer, number);
+            put_field(page, writer, block.get());
+            put_word(page, writer, cause_word(cause));
+            page.put(writer, b"\n");
         }
     }
 }

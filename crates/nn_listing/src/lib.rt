@@ -1,17 +1,15 @@
 //! What a standby holds, as text: its history, its namespace, its replicas and orders, and its counts.
 //!
 //! The listing has a line for each path, in path order; the tables have a line for each replica and each order, by
-//! ascending block id and then by DataNode, and one line of counts.
+//! ascending block id and then by DataNode, and one line of counts. Both are made ready first, which takes all the memory
+//! that they want, and then put on a page, which is refused none.
 #![tactic(auto)]
 
+mod fields;
 mod history;
-mod law;
 mod paths;
 mod tables;
-mod writing;
 
-pub use history::push_history;
-pub use law::lines_fit;
-pub use paths::{listing, listing_bytes, text_bytes, with_listing};
-pub use tables::push_tables;
-pub use writing::write_lines;
+pub use history::put_history;
+pub use paths::{ReadyListing, write_listing};
+pub use tables::ReadyTables;

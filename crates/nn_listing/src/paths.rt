@@ -1,157 +1,167 @@
 //! What the program prints of its namespace.
-ghost use Rattle.std.specs.Prelude.{◌≡◌, ◌+◌, ◌*◌, ◌++◌, IfOk, OnOk, flat_map, string_bytes};
+ghost use Rattle.std.specs.Prelude.{◌≡◌, ◌≤◌, OnOk, IfErr, IfOk, Err, flat_map};
+ghost use Rattle.nn_device.specs.Device.{Took};
+ghost use Rattle.nn_device.specs.Page.{Puts};
+ghost use Rattle.nn_device.specs.Parts.{TookFront};
+ghost use Rattle.nn_device.specs.declared.writer.Unwritten.TheVariants.{OutOfMemory};
 ghost use Rattle.nn_model.specs.declared.form.Form.{Form};
 ghost use Rattle.nn_model.specs.declared.form.Form.TheVariants.{File};
-ghost use Rattle.nn_tree.specs.Extent.{capped};
 ghost use Rattle.nn_tree.specs.Found.{form_of};
 ghost use Rattle.nn_tree.specs.Listing.{lent_names};
+ghost use Rattle.nn_tree.specs.Rows.{extent_of, greatest_depth};
 ghost use Rattle.nn_listing.specs.Listing.{listing_text, line_of, row_line, block_text, state_text};
 
+use crate::fields::{put_field, put_word};
+use nn_device::{Page, Unwritten, Writer};
 use nn_model::FileRow;
-use nn_text::{push_number, push_path};
-use nn_tree::{Extent, Found, Namespace};
+use nn_text::{put_number, put_path};
+use nn_tree::{Extent, Found, Namespace, Rows};
 use nn_types::Block;
 use std::alloc::{AllocError, Global};
-use std::fmt::Write;
+use std::io::Write;
+use std::marker::Model;
 
-/// About what a line has beside its path.
-const LINE: usize = 20;
-
-/// About what a line has for each block.
-const BLOCK: usize = 30;
-
-/// The last transaction's number and the line of each path in path order:
+/// The listing of a namespace, ready to be put: all memory that it wants is had. It has the last transaction's number and the
+/// line of each path in path order:
 ///
 /// ```text
 /// txid 9
 /// dir "/"
 /// file "/f" 3 closed 1073741825:1001:5
 /// ```
-///
-/// Memory for about all of it is asked for at once, so that a listing that is larger than the memory is refused
-/// before it is begun.
-pub fn listing(alloc: Global, namespace: &Namespace, last: u64) -> Result<String, AllocError>
-    ensures { IfOk result (λ text. string_bytes text ≡ listing_text last namespace.now) }
-{
-    let room = listing_bytes(namespace.extent()?);
-    with_listing(alloc, String::new(alloc), room, namespace, last)
+#[derive(Drop)]
+pub struct ReadyListing<'a> {
+    last: u64,
+    rows: Rows<'a>,
 }
 
-/// A text, and the listing after it. Room for so many bytes is asked for at once, mostly `listing_bytes`. Where memory is
-/// refused both are dropped.
-pub fn with_listing(
+impl<'a> Model for ReadyListing<'a> {
+    ghost use Rattle.std.specs.Prelude.{List, ℕ, ◌≤◌};
+    ghost use Rattle.nn_tree.specs.Rows.{greatest_depth};
+    ghost use Rattle.nn_listing.specs.Listing.{listing_of};
+
+    ghost Value = { List ℕ };
+
+    ghost view = { λ l. listing_of l.last l.rows.left };
+
+    ghost invariant = { λ l. greatest_depth l.rows.left ≤ l.rows.room };
+}
+
+impl<'a> ReadyListing<'a> {
+    /// The listing after this transaction, 0 where there was none. The extent is that of the namespace.
+    pub fn of(
+        namespace: &'a Namespace,
+        extent: Extent,
+        last: u64,
+    ) -> Result<ReadyListing<'a>, AllocError>
+        requires { extent ≡ extent_of namespace.now.rows }
+        ensures { IfOk result (λ listing. listing ≡ listing_text last namespace.now) }
+    {
+        let rows = namespace.ready_rows(extent.depth)?;
+        Ok(ReadyListing { last, rows })
+    }
+
+    /// Puts the listing. It takes no memory.
+    pub fn put<W: Write>(self, page: &mut Page, writer: &mut Writer<W>)
+        ensures { Puts self.entry page.old writer.old page.new writer.new }
+    {
+        page.put(writer, b"txid");
+        put_field(page, writer, self.last);
+        page.put(writer, b"\n");
+        put_rows(page, writer, self.rows);
+    }
+}
+
+/// Writes the listing of a namespace after this transaction, 0 where there was none, in parts of some 65,536 bytes.
+///
+/// A write that fails ends it: the writer has a front of the listing then. Where memory is refused, it has nothing of it.
+pub fn write_listing<W: Write>(
     alloc: Global,
-    text: String,
-    room: usize,
     namespace: &Namespace,
     last: u64,
-) -> Result<String, AllocError>
-    ensures { IfOk result (λ longer. string_bytes longer ≡ string_bytes text ++ listing_text last namespace.now) }
+    writer: &mut Writer<W>,
+) -> Result<(), Unwritten>
+    ensures ok { OnOk result (Took writer.old writer.new (listing_text last namespace.now)) }
+    ensures front { IfErr result (TookFront writer.old writer.new (listing_text last namespace.now)) }
+    ensures memory { result ≡ Err OutOfMemory → writer.new ≡ writer.old }
 {
-    let mut text = text;
-    write!(text, "txid {last}\n")?;
-    text.reserve_exact(room)?;
-    push_lines(alloc, &mut text, namespace)?;
-    Ok(text)
+    let Ok(listing) = listing_of(namespace, last) else {
+        return Err(Unwritten::OutOfMemory);
+    };
+    let mut page = Page::new(alloc);
+    listing.put(&mut page, writer);
+    page.end(writer)
 }
 
-/// About how many bytes the listing of a namespace has, by its extent.
-pub fn listing_bytes(extent: Extent) -> usize
-    ensures { result ≡ capped (extent.path_bytes + 20 * extent.paths + 30 * extent.blocks) }
+fn listing_of(namespace: &Namespace, last: u64) -> Result<ReadyListing<'_>, AllocError>
+    ensures { IfOk result (λ listing. listing ≡ listing_text last namespace.now) }
 {
-    text_bytes(extent, LINE, BLOCK)
+    let extent = namespace.extent()?;
+    ReadyListing::of(namespace, extent, last)
 }
 
-/// The bytes of a text with a line for each path, where a line has so many bytes beside its path, and so many for each
-/// block.
-pub fn text_bytes(extent: Extent, line: usize, block: usize) -> usize
-    ensures { result ≡ capped (extent.path_bytes + line * extent.paths + block * extent.blocks) }
+// Puts the line of each of these rows.
+fn put_rows<W: Write>(page: &mut Page, writer: &mut Writer<W>, rows: Rows<'_>)
+    requires { greatest_depth rows.left ≤ rows.room }
+    ensures { Puts (flat_map row_line rows.entry.left) page.old writer.old page.new writer.new }
 {
-    let lines = extent.paths.saturating_mul(line);
-    let blocks = extent.blocks.saturating_mul(block);
-    extent
-        .path_bytes
-        .saturating_add(lines)
-        .saturating_add(blocks)
-}
-
-// Adds the line of each path in path order.
-fn push_lines(alloc: Global, text: &mut String, namespace: &Namespace) -> Result<(), AllocError>
-    ensures { OnOk result (string_bytes text.new ≡ string_bytes text.old ++ flat_map row_line namespace.now.rows) }
-{
-    let mut rows = namespace.rows();
+    let mut rows = rows;
     'rows: loop {
         let Ok(next) = rows.next() else {
-            return Err(AllocError);
+            unreachable!();
         };
         let Some(found) = next else {
-            return Ok(());
+            return;
         };
-        let Ok(()) = push_line(alloc, text, rows.names(), found) else {
-            return Err(AllocError);
-        };
+        put_line(page, writer, rows.names(), found);
     }
 }
 
-// Adds the line of what is at the path with these names.
-pub(crate) fn push_line(
-    alloc: Global,
-    text: &mut String,
-    names: &[&str],
-    found: Found<'_>,
-) -> Result<(), AllocError>
-    ensures { OnOk result (string_bytes text.new ≡ string_bytes text.old ++ line_of (lent_names names.now) (form_of found.entry)) }
+// Puts the line of what is at the path with these names.
+fn put_line<W: Write>(page: &mut Page, writer: &mut Writer<W>, names: &[&str], found: Found<'_>)
+    ensures { Puts (line_of (lent_names names.now) (form_of found.entry)) page.old writer.old page.new writer.new }
 {
     match found {
-        Found::Dir => push_dir(alloc, text, names),
-        Found::File(file) => push_file(alloc, text, names, file),
+        Found::Dir => put_dir(page, writer, names),
+        Found::File(file) => put_file(page, writer, names, file),
     }
 }
 
-fn push_dir(alloc: Global, text: &mut String, names: &[&str]) -> Result<(), AllocError>
-    ensures { OnOk result (string_bytes text.new ≡ string_bytes text.old ++ line_of (lent_names names.now) Form.Dir) }
+fn put_dir<W: Write>(page: &mut Page, writer: &mut Writer<W>, names: &[&str])
+    ensures { Puts (line_of (lent_names names.now) Form.Dir) page.old writer.old page.new writer.new }
 {
-    text.push_str("dir ")?;
-    push_path(alloc, text, names)?;
-    text.push_str("\n")
+    page.put(writer, b"dir ");
+    put_path(page, writer, names);
+    page.put_byte(writer, b'\n');
 }
 
-fn push_file(
-    alloc: Global,
-    text: &mut String,
-    names: &[&str],
-    file: &FileRow,
-) -> Result<(), AllocError>
-    ensures { OnOk result (string_bytes text.new ≡ string_bytes text.old ++ line_of (lent_names names.now) (File file.now)) }
+fn put_file<W: Write>(page: &mut Page, writer: &mut Writer<W>, names: &[&str], file: &FileRow)
+    ensures { Puts (line_of (lent_names names.now) (File file.now)) page.old writer.old page.new writer.new }
 {
-    text.push_str("file ")?;
-    push_path(alloc, text, names)?;
-    text.push_str(" ")?;
-    push_number(text, u64::from(file.replication.get()))?;
-    text.push_str(" ")?;
-    text.push_str(state(file.closed))?;
-    push_blocks(text, file.blocks.as_slice())?;
-    text.push_str("\n")
+    page.put(writer, b"file ");
+    put_path(page, writer, names);
+    put_field(page, writer, u64::from(file.replication.get()));
+    put_word(page, writer, state(file.closed));
+    put_blocks(page, writer, file.blocks.as_slice());
+    page.put_byte(writer, b'\n');
 }
 
-fn push_blocks(text: &mut String, blocks: &[Block]) -> Result<(), AllocError>
-    ensures { OnOk result (string_bytes text.new ≡ string_bytes text.old ++ flat_map block_text blocks.now) }
+fn put_blocks<W: Write>(page: &mut Page, writer: &mut Writer<W>, blocks: &[Block])
+    ensures { Puts (flat_map block_text blocks.now) page.old writer.old page.new writer.new }
 {
     for block in blocks {
-        push_block(text, *block)?;
+        put_block(page, writer, *block);
     }
-    Ok(())
 }
 
-fn push_block(text: &mut String, block: Block) -> Result<(), AllocError>
-    ensures { OnOk result (string_bytes text.new ≡ string_bytes text.old ++ block_text block) }
+fn put_block<W: Write>(page: &mut Page, writer: &mut Writer<W>, block: Block)
+    ensures { Puts (block_text block) page.old writer.old page.new writer.new }
 {
-    text.push_str(" ")?;
-    push_number(text, block.id.get())?;
-    text.push_str(":")?;
-    push_number(text, block.stamp.get())?;
-    text.push_str(":")?;
-    push_number(text, block.len.get())
+    put_field(page, writer, block.id.get());
+    page.put_byte(writer, b':');
+    put_number(page, writer, block.stamp.get());
+    page.put_byte(writer, b':');
+    put_number(page, writer, block.len.get());
 }
 
 // Whether a file is complete.

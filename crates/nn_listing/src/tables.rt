@@ -1,17 +1,20 @@
 //! What the program prints of replicas, orders and counts.
-ghost use Rattle.std.specs.Prelude.{◌≡◌, ◌++◌, ℕ, OnOk, codes, decimal, string_bytes};
+ghost use Rattle.std.specs.Prelude.{◌≡◌, ◌++◌, ℕ, IfOk, flat_map};
+ghost use Rattle.nn_device.specs.Page.{Puts};
 ghost use Rattle.nn_model.specs.Lanes.{Lanes};
 ghost use Rattle.nn_model.specs.Namespace.{Namespace};
 ghost use Rattle.nn_replicas.specs.SafeMode.{counts_of};
 ghost use Rattle.nn_listing.specs.Tables.{mode_text, replica_line, order_line, blocks_line, lines_of_block, lines_of_replicas, lines_of_orders, IsPicture, tables_text};
 
+use crate::fields::{put_field, put_word};
+use nn_device::{Page, Writer};
 use nn_replicas::{Replicas, ReplicasOf, SafeMode, class};
-use nn_text::push_number;
 use nn_types::{Block, BlockId, Replica};
 use std::alloc::{AllocError, Global};
-use std::fmt::Write;
+use std::io::Write;
+use std::marker::Model;
 
-/// Adds the lines of replicas, orders and counts:
+/// The lines of replicas, orders and counts, ready to be put: all memory that they want is had.
 ///
 /// ```text
 /// replica 1073741825 1 1001 5 received live
@@ -19,102 +22,123 @@ use std::fmt::Write;
 /// blocks 1 safe 1 needed 0 mode off
 /// ```
 ///
-/// The orders are copied into a list first. Where memory is refused nothing is said of how much of it stands in the text.
-pub fn push_tables(
-    alloc: Global,
-    text: &mut String,
-    table: &Replicas,
+/// Replicas and orders come by ascending block id and then by DataNode.
+#[derive(Drop)]
+pub struct ReadyTables<'a> {
+    table: &'a Replicas,
+    orders: Vec<(BlockId, u16)>,
     mode: SafeMode,
-) -> Result<(), AllocError>
-    ensures listed { OnOk result (string_bytes text.new ≡ string_bytes text.old ++ lines_of_replicas table.now ++ lines_of_orders table.now ++ blocks_line (counts_of mode)) }
-    ensures pictured { (permille min : ℕ) (n : Namespace) (lanes : Lanes) → IsPicture permille min n lanes table.now (counts_of mode) → OnOk result (string_bytes text.new ≡ string_bytes text.old ++ tables_text permille min n lanes) }
-{
-    push_replicas(text, table)?;
-    push_orders(alloc, text, table)?;
-    push_counts(text, mode)
 }
 
-/// Adds a line for each replica, by ascending block id and then by DataNode.
-pub fn push_replicas(text: &mut String, table: &Replicas) -> Result<(), AllocError>
-    ensures { OnOk result (string_bytes text.new ≡ string_bytes text.old ++ lines_of_replicas table.now) }
+impl<'a> Model for ReadyTables<'a> {
+    ghost use Rattle.std.specs.Prelude.{List, ℕ, ◌++◌, flat_map};
+    ghost use Rattle.nn_replicas.specs.SafeMode.{counts_of};
+    ghost use Rattle.nn_listing.specs.Tables.{order_line, blocks_line, lines_of_replicas};
+
+    ghost Value = { List ℕ };
+
+    ghost view = { λ t. lines_of_replicas t.table.now ++ flat_map (λ order. order_line order.0 order.1) t.orders.items ++ blocks_line (counts_of t.mode) };
+}
+
+impl<'a> ReadyTables<'a> {
+    /// The lines of a table. The list of orders is made in the given allocator.
+    pub fn of(
+        alloc: Global,
+        table: &'a Replicas,
+        mode: SafeMode,
+    ) -> Result<ReadyTables<'a>, AllocError>
+        ensures listed { IfOk result (λ tables. tables ≡ lines_of_replicas table.now ++ lines_of_orders table.now ++ blocks_line (counts_of mode)) }
+        ensures pictured { (permille min : ℕ) (n : Namespace) (lanes : Lanes) → IsPicture permille min n lanes table.now (counts_of mode) → IfOk result (λ tables. tables ≡ tables_text permille min n lanes) }
+    {
+        ReadyTables::listed(alloc, table, mode)
+    }
+
+    fn listed(
+        alloc: Global,
+        table: &'a Replicas,
+        mode: SafeMode,
+    ) -> Result<ReadyTables<'a>, AllocError>
+        ensures { IfOk result (λ tables. tables ≡ lines_of_replicas table.now ++ lines_of_orders table.now ++ blocks_line (counts_of mode)) }
+    {
+        let orders = table.orders(alloc)?;
+        Ok(ReadyTables {
+            table,
+            orders,
+            mode,
+        })
+    }
+
+    /// Puts the lines. It takes no memory.
+    pub fn put<W: Write>(self, page: &mut Page, writer: &mut Writer<W>)
+        ensures { Puts self.entry page.old writer.old page.new writer.new }
+    {
+        put_replicas(page, writer, self.table);
+        put_orders(page, writer, &self.orders);
+        put_counts(page, writer, self.mode);
+    }
+}
+
+fn put_replicas<W: Write>(page: &mut Page, writer: &mut Writer<W>, table: &Replicas)
+    ensures { Puts (lines_of_replicas table.now) page.old writer.old page.new writer.new }
 {
     for (block, row) in table.rows() {
-        push_block_replicas(text, block, &row.block, table.replicas_of(block))?;
+        put_block_replicas(page, writer, block, &row.block, table.replicas_of(block));
     }
-    Ok(())
 }
 
-fn push_block_replicas(
-    text: &mut String,
+fn put_block_replicas<W: Write>(
+    page: &mut Page,
+    writer: &mut Writer<W>,
     id: BlockId,
     block: &Block,
     replicas: ReplicasOf<'_>,
-) -> Result<(), AllocError>
-    ensures { OnOk result (string_bytes text.new ≡ string_bytes text.old ++ lines_of_block id block.now replicas.entry) }
+)
+    ensures { Puts (lines_of_block id block.now replicas.entry) page.old writer.old page.new writer.new }
 {
     for (dn, replica) in replicas {
-        push_replica(text, id, *block, dn, replica)?;
+        put_replica(page, writer, id, *block, dn, replica);
     }
-    Ok(())
 }
 
-fn push_replica(
-    text: &mut String,
+fn put_replica<W: Write>(
+    page: &mut Page,
+    writer: &mut Writer<W>,
     id: BlockId,
     block: Block,
     dn: u16,
     replica: Replica,
-) -> Result<(), AllocError>
-    ensures { OnOk result (string_bytes text.new ≡ string_bytes text.old ++ replica_line id block dn replica) }
+)
+    ensures { Puts (replica_line id block dn replica) page.old writer.old page.new writer.new }
 {
-    text.push_str("replica ")?;
-    push_number(text, id.get())?;
-    push_field(text, u64::from(dn))?;
-    push_field(text, replica.stamp.get())?;
-    push_field(text, replica.len.get())?;
-    push_word(text, replica.kind.word())?;
-    push_word(text, class(replica, block).word())?;
-    text.push_str("\n")
+    page.put(writer, b"replica");
+    put_field(page, writer, id.get());
+    put_field(page, writer, u64::from(dn));
+    put_field(page, writer, replica.stamp.get());
+    put_field(page, writer, replica.len.get());
+    put_word(page, writer, replica.kind.word());
+    put_word(page, writer, class(replica, block).word());
+    page.put(writer, b"\n");
 }
 
-// A space and a number.
-fn push_field(text: &mut String, number: u64) -> Result<(), AllocError>
-    ensures { OnOk result (string_bytes text.new ≡ string_bytes text.old ++ codes " " ++ decimal number) }
+fn put_orders<W: Write>(page: &mut Page, writer: &mut Writer<W>, orders: &[(BlockId, u16)])
+    ensures { Puts (flat_map (λ order. order_line order.0 order.1) orders.now) page.old writer.old page.new writer.new }
 {
-    text.push_str(" ")?;
-    push_number(text, number)
-}
-
-// A space and a word.
-fn push_word(text: &mut String, word: &str) -> Result<(), AllocError>
-    ensures { OnOk result (string_bytes text.new ≡ string_bytes text.old ++ codes " " ++ word.now) }
-{
-    text.push_str(" ")?;
-    text.push_str(word)
-}
-
-/// Adds a line for each order, by ascending block id and then by DataNode. The list of orders is made in the given
-/// allocator.
-pub fn push_orders(alloc: Global, text: &mut String, table: &Replicas) -> Result<(), AllocError>
-    ensures { OnOk result (string_bytes text.new ≡ string_bytes text.old ++ lines_of_orders table.now) }
-{
-    let orders = table.orders(alloc)?;
-    for (block, dn) in &orders {
-        push_order(text, *block, *dn)?;
+    for (block, dn) in orders {
+        put_order(page, writer, *block, *dn);
     }
-    Ok(())
 }
 
-fn push_order(text: &mut String, id: BlockId, dn: u16) -> Result<(), AllocError>
-    ensures { OnOk result (string_bytes text.new ≡ string_bytes text.old ++ order_line id dn) }
+fn put_order<W: Write>(page: &mut Page, writer: &mut Writer<W>, id: BlockId, dn: u16)
+    ensures { Puts (order_line id dn) page.old writer.old page.new writer.new }
 {
-    let id = id.get();
-    write!(text, "order {id} {dn}\n")
+    page.put(writer, b"order");
+    put_field(page, writer, id.get());
+    put_field(page, writer, u64::from(dn));
+    page.put(writer, b"\n");
 }
 
-/// Adds the line of the counts.
-pub fn push_counts(text: &mut String, mode: SafeMode) -> Result<(), AllocError>
-    ensures { OnOk result (string_bytes text.new ≡ string_bytes text.old ++ blocks_line (counts_of mode)) }
+fn put_counts<W: Write>(page: &mut Page, writer: &mut Writer<W>, mode: SafeMode)
+    ensures { Puts (blocks_line (counts_of mode)) page.old writer.old page.new writer.new }
 {
     let SafeMode {
         total,
@@ -122,11 +146,15 @@ pub fn push_counts(text: &mut String, mode: SafeMode) -> Result<(), AllocError>
         needed,
         on,
     } = mode;
-    let mode = mode_word(on);
-    write!(
-        text,
-        "blocks {total} safe {safe} needed {needed} mode {mode}\n"
-    )
+    page.put(writer, b"blocks");
+    put_field(page, writer, total);
+    page.put(writer, b" safe");
+    put_field(page, writer, safe);
+    page.put(writer, b" needed");
+    put_field(page, writer, needed);
+    page.put(writer, b" mode");
+    put_word(page, writer, mode_word(on));
+    page.put(writer, b"\n");
 }
 
 fn mode_word(on: bool) -> &'static str

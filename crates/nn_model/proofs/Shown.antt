@@ -1,10 +1,10 @@
 -- What the sequential standby shows of one DataNode and one block: what the last message that it processed says.
 use Rattle.std.proofs.Common.{◌≡◌, ℕ, ◌+◌, Bool, true, false, cond, not, ◌&&◌, ◌||◌, List, [], ◌∷◌, ◌++◌, length, take, map, Some, None, Option, refl, sym, ap, subst, ◌∙◌, inl, inr, arith, append_assoc, append-nil}
+use Rattle.std.proofs.option.Match.{None-if_not_some}
 use Rattle.std.specs.Prelude.{◌==◌, find, is_some, option_and_then, if◌then◌else◌}
 use Rattle.std.specs.List.{list_any}
 use Rattle.std.proofs.lemmas.Bool.{or_parts, both_ways, and_parts, eqb-true, cases_Bool, cond-false}
 use Rattle.std.proofs.lemmas.List.Elements.{filter_map-append}
-use Rattle.nn_types.specs.declared.block.Block.{Block}
 use Rattle.nn_types.specs.declared.report.Message.{Message}
 use Rattle.nn_types.specs.declared.event.Event.{Event}
 use Rattle.nn_types.specs.declared.event.Event.TheVariants.{Applied, Processed}
@@ -64,11 +64,7 @@ edit_order false false o r h e f new = ap (λ y. y || false) f ∙ or_false (is_
     or_false false = refl
 
 not_named : (n : Namespace) (id : ℕ) → is_named n id ≡ false → block_at n id ≡ None
-not_named n id without = go (block_at n id) without
-  where
-    go : (o : Option Block) → is_some o ≡ false → o ≡ None
-    go None without = refl
-    go (Some b) without = absurd (both_ways _ without refl)
+not_named n id without = None-if_not_some (block_at n id) without
 
 none_has : (last : Option Message) → ((m : Message) → last ≡ Some m → ⊥) → has last ≡ None
 none_has None without = refl

@@ -1,18 +1,17 @@
 -- Edits keep the names of a namespace UTF-8.
-use Rattle.std.proofs.Common.{◌≡◌, ℕ, Bool, true, false, cond, not, List, [], ◌∷◌, ◌++◌, length, drop, Option, Some, None, is_some, refl, sym, ap, subst, ◌∙◌, inl, inr}
+use Rattle.std.proofs.Common.{◌≡◌, true, cond, not, ◌++◌, length, drop, Option, Some, None, is_some, refl, sym, ap, subst, ◌∙◌, inl, inr}
 use Rattle.std.specs.Str.{is_utf8}
 use Rattle.std.specs.List.{list_all}
 use Rattle.std.proofs.lemmas.Bool.{both_ways, cases_Bool, cond-false, and_parts, and_from}
 use Rattle.std.proofs.lemmas.List.Folds.{list_all-append}
 use Rattle.nn_types.specs.Path.{AreUtf8}
 use Rattle.nn_types.specs.LawfulEdit.{IsUtf8Edit}
-use Rattle.nn_types.specs.declared.block.Block.{Block}
 use Rattle.nn_types.specs.declared.edit.Edit.{Edit}
 use Rattle.nn_types.specs.declared.edit.Edit.TheVariants.{StartSegment, EndSegment, Mkdir, Add, AddBlock, UpdateBlocks, Close, Append, Rename, Delete, SetReplication}
 use Rattle.nn_types.specs.declared.edit.Edit.TheVariants.{AllocateBlockId, SetGenstamp}
 use Rattle.nn_model.specs.declared.form.Form.{Form}
-use Rattle.nn_model.specs.declared.form.Form.TheVariants.{Dir, File}
-use Rattle.nn_model.specs.Namespace.{Path, Namespace, lookup, with_row, begins_with, file_at}
+use Rattle.nn_model.specs.declared.form.Form.TheVariants.{Dir}
+use Rattle.nn_model.specs.Namespace.{Path, Namespace, lookup, with_row, begins_with}
 use Rattle.nn_model.specs.Apply.{checks, refusal, effect}
 use Rattle.nn_model.specs.WellFormed.{IsWellFormed, HasUtf8Names}
 use Rattle.nn_model.proofs.Dues.{all_none}

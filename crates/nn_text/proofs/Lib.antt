@@ -1,3 +1,2 @@
 pub mod PlainNames
-pub mod Lengths
 pub mod PutNames

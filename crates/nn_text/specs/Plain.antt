@@ -11,9 +11,6 @@ is_plain_byte b = nat_le 32 b && not (b == 34) && not (b == 92)
 abbrev pub is_plain : List ℕ → Bool
 is_plain name = list_all is_plain_byte name
 
-abbrev pub are_plain : List (List ℕ) → Bool
-are_plain names = list_all is_plain names
-
 -- a slash and a name, as a string of JSON has them
 abbrev pub escaped_name : List ℕ → List ℕ
 escaped_name name = slash ∷ escape name

@@ -10,7 +10,7 @@ ghost use Rattle.nn_types.specs.Path.{path_text};
 ghost use Rattle.nn_tree.specs.Listing.{lent_names};
 ghost use Rattle.nn_text.specs.Plain.{escaped_name};
 
-use crate::path::is_plain;
+use crate::plain::is_plain;
 use itoa::Buffer;
 use nn_device::{Page, Writer};
 use std::io::Write;
@@ -27,16 +27,16 @@ pub fn put_number<W: Write>(page: &mut Page, writer: &mut Writer<W>, number: u64
 pub fn put_path<W: Write>(page: &mut Page, writer: &mut Writer<W>, names: &[&str])
     ensures { Puts (compact_text (string (path_text (lent_names names.now)))) page.old writer.old page.new writer.new }
 {
-    page.put(writer, b"\"");
+    page.put_byte(writer, b'"');
     put_text(page, writer, names);
-    page.put(writer, b"\"");
+    page.put_byte(writer, b'"');
 }
 
 fn put_text<W: Write>(page: &mut Page, writer: &mut Writer<W>, names: &[&str])
     ensures { Puts (escape (path_text (lent_names names.now))) page.old writer.old page.new writer.new }
 {
     if names.is_empty() {
-        page.put(writer, b"/");
+        page.put_byte(writer, b'/');
         return;
     }
     put_names(page, writer, names);
@@ -47,7 +47,7 @@ fn put_names<W: Write>(page: &mut Page, writer: &mut Writer<W>, names: &[&str])
     ensures { Puts (flat_map (λ n. escaped_name (deref n)) names.now) page.old writer.old page.new writer.new }
 {
     for name in names {
-        page.put(writer, b"/");
+        page.put_byte(writer, b'/');
         put_name(page, writer, name);
     }
 }
@@ -79,7 +79,7 @@ fn put_byte<W: Write>(page: &mut Page, writer: &mut Writer<W>, b: u8)
         page.put(writer, &[hex_digit(b / 16), hex_digit(b % 16)]);
         return;
     }
-    page.put(writer, &[b]);
+    page.put_byte(writer, b);
 }
 
 // The letter of a byte's short escape, or 0 where it has none.

@@ -1,5 +1,6 @@
 -- The blocks of a file enter the index one after another, and are taken out again.
 use Rattle.std.proofs.Common.{inl, inr, ◌≡◌, ℕ, zero, suc, ◌+◌, get_or, take-append-drop, Bool, true, false, cond, not, ◌&&◌, ◌||◌, List, [], ◌∷◌, ◌++◌, map, take, drop, length, ◌<◌, Option, Some, None, refl, sym, ap, ◌∙◌}
+use Rattle.std.proofs.option.Match.{None-if_not_some}
 use Rattle.std.specs.Prelude.{◌==◌, is_some}
 use Rattle.std.proofs.lemmas.List.{take_more, drop_more}
 use Rattle.std.specs.Ordering.{nat_cmp, is_eq}
@@ -16,10 +17,6 @@ ids bs = map (λ b. b.id) bs
 pub not_true : (b : Bool) → not b ≡ true → b ≡ false
 not_true true e = absurd (both_ways _ refl e)
 not_true false e = refl
-
-pub not_some : (o : Option BlockRow) → is_some o ≡ false → o ≡ None
-not_some None e = refl
-not_some (Some x) e = absurd (both_ways _ e refl)
 
 abbrev row : Bool → Block → BlockRow
 row closed b = record { block = b; closed = closed }
@@ -92,7 +89,7 @@ undone look (b ∷ bs) closed q new =
     let rest = and_parts (not (is_some (look b.id))) (not (has_id (ids bs) b.id)) parts.0 in
     elim (cases_Bool (b.id == q)) [
       | inl here ↦ ap (λ t. cond (t || has_id (ids bs) q) None (cond t (Some (row closed b)) (entered look bs closed q))) here
-          ∙ sym (ap look (sym (eqb-true b.id q here)) ∙ not_some (look b.id) (not_true _ rest.0))
+          ∙ sym (ap look (sym (eqb-true b.id q here)) ∙ None-if_not_some (look b.id) (not_true _ rest.0))
       | inr other ↦ ap (λ t. cond (t || has_id (ids bs) q) None (cond t (Some (row closed b)) (entered look bs closed q))) other ∙ undone look bs closed q parts.1
     ]
 
@@ -128,5 +125,5 @@ module _ (old now : ℕ → Option BlockRow) (bs : List Block) (closed : Bool) (
         record {
           shows = λ q. goes q ∙ (λ j. cond (tie b.id q j) (Some (row closed b)) (entering.shows q j))
               ∙ sym (entered_push old (take k bs) b closed q parts.0) ∙ ap (λ xs. entered old xs closed q) (sym more);
-          new = ap (are_new old) more ∙ new_push old (take k bs) b entering.new parts.0 (not_some (old b.id) parts.1);
+          new = ap (are_new old) more ∙ new_push old (take k bs) b entering.new parts.0 (None-if_not_some (old b.id) parts.1);
         }

@@ -25,7 +25,6 @@ pub mod Ascending
 pub mod Retired
 pub mod Listings
 pub mod Nested
-pub mod Counted
 pub mod Places
 pub mod Resumed
 pub mod Ways

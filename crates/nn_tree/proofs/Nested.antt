@@ -5,15 +5,13 @@ use Rattle.std.specs.List.{slice_get, slice_index_or, slice_set}
 use Rattle.std.specs.Map.Iter.{deref}
 use Rattle.std.specs.String.{string_bytes}
 use Rattle.std.proofs.lemmas.List.{take-append-le, length-take-le, take-append-drop, take_all, take-map, map-append}
-use Rattle.nn_types.specs.Path.{joined}
 use Rattle.nn_model.specs.declared.form.Form.{Form}
 use Rattle.nn_model.specs.Namespace.{Path}
 use Rattle.nn_tree.specs.At.{at}
-use Rattle.nn_tree.specs.Extent.{capped, greatest_depth}
+use Rattle.nn_tree.specs.Rows.{IsRooted, Past, greatest_depth, later_of, entries_of, all_entries, opened, root_rows, rows_open}
 use Rattle.nn_tree.specs.Flat.{under, under_all, below}
 use Rattle.nn_tree.specs.Listing.{lent_names}
 use Rattle.nn_tree.specs.Nesting.{Nest, IsAtStart, IsNested}
-use Rattle.nn_tree.specs.Rows.{IsRooted, Past, later_of, entries_of, all_entries, opened, root_rows, rows_open}
 use Rattle.nn_tree.specs.declared.tree.children.Children.{Children}
 use Rattle.nn_tree.specs.declared.rows.OpenDir.{OpenDir}
 use Rattle.nn_tree.proofs.Listings.{under_all-append, under_all-push, under_all-cons, top_row}
@@ -30,45 +28,40 @@ take_front d high names more h k =
 
 nest_bound : (names : Path) (low high : ℕ) (dirs : List OpenDir) → Nest names low high dirs → low ≤ high
 nest_bound names low high [] n = n
-nest_bound names low high (o ∷ dirs) n = omega (arith, n.0, nest_bound names (o.depth + 1) high dirs n.2)
+nest_bound names low high (o ∷ dirs) n = omega (arith, n.0, nest_bound names (o.depth + 1) high dirs n.1)
 
 nest_count : (names : Path) (low high : ℕ) (dirs : List OpenDir) → Nest names low high dirs → low + length dirs ≤ high
 nest_count names low high [] n = omega (arith, n)
-nest_count names low high (o ∷ dirs) n = omega (arith, n.0, nest_count names (o.depth + 1) high dirs n.2)
+nest_count names low high (o ∷ dirs) n = omega (arith, n.0, nest_count names (o.depth + 1) high dirs n.1)
 
 nest_last : (names : Path) (low high : ℕ) (dirs : List OpenDir) (o : OpenDir) → Nest names low high (dirs ++ o ∷ [])
-    → Nest names low o.depth dirs × (o.bytes ≡ capped (length (joined (take o.depth names)))) × (o.depth + 1 ≤ high)
-nest_last names low high [] o n = (n.0, n.1, n.2)
-nest_last names low high (d ∷ dirs) o n = let l = nest_last names (d.depth + 1) high dirs o n.2 in ((n.0, n.1, l.0), l.1, l.2)
+    → Nest names low o.depth dirs × (o.depth + 1 ≤ high)
+nest_last names low high [] o n = n
+nest_last names low high (d ∷ dirs) o n = let l = nest_last names (d.depth + 1) high dirs o n.1 in ((n.0, l.0), l.1)
 
-nest_push : (names : Path) (low high : ℕ) (dirs : List OpenDir) (o : OpenDir) → Nest names low high dirs → high ≤ o.depth → o.bytes ≡ capped (length (joined (take o.depth names)))
-    → Nest names low (o.depth + 1) (dirs ++ o ∷ [])
-nest_push names low high [] o n h b = (omega (arith, n, h), b, omega arith)
-nest_push names low high (d ∷ dirs) o n h b = (n.0, n.1, nest_push names (d.depth + 1) high dirs o n.2 h b)
+nest_push : (names : Path) (low high : ℕ) (dirs : List OpenDir) (o : OpenDir) → Nest names low high dirs → high ≤ o.depth → Nest names low (o.depth + 1) (dirs ++ o ∷ [])
+nest_push names low high [] o n h = (omega (arith, n, h), omega arith)
+nest_push names low high (d ∷ dirs) o n h = (n.0, nest_push names (d.depth + 1) high dirs o n.1 h)
 
 pub nest_wider : (names : Path) (low high wide : ℕ) (dirs : List OpenDir) → Nest names low high dirs → high ≤ wide → Nest names low wide dirs
 nest_wider names low high wide [] n h = omega (arith, n, h)
-nest_wider names low high wide (d ∷ dirs) n h = (n.0, n.1, nest_wider names (d.depth + 1) high wide dirs n.2 h)
+nest_wider names low high wide (d ∷ dirs) n h = (n.0, nest_wider names (d.depth + 1) high wide dirs n.1 h)
 
-pub nest_opened : (names : Path) (high depth bytes : ℕ) (dirs : List OpenDir) (children : Option Children) → Nest names 0 high dirs → high ≤ depth → bytes ≡ capped (length (joined (take depth names)))
-    → Nest names 0 (depth + 1) (dirs ++ opened depth bytes children)
-nest_opened names high depth bytes dirs None n h b = subst (Nest names 0 (depth + 1)) (sym (append-nil dirs)) (nest_wider names 0 high (depth + 1) dirs n (omega (arith, h)))
-nest_opened names high depth bytes dirs (Some children) n h b = nest_push names 0 high dirs (record { depth = depth; bytes = bytes; children = children }) n h b
+pub nest_opened : (names : Path) (high depth : ℕ) (dirs : List OpenDir) (children : Option Children) → Nest names 0 high dirs → high ≤ depth
+    → Nest names 0 (depth + 1) (dirs ++ opened depth children)
+nest_opened names high depth dirs None n h = subst (Nest names 0 (depth + 1)) (sym (append-nil dirs)) (nest_wider names 0 high (depth + 1) dirs n (omega (arith, h)))
+nest_opened names high depth dirs (Some children) n h = nest_push names 0 high dirs (record { depth = depth; children = children }) n h
 
 pub nest_kept : (names more : Path) (low high : ℕ) (dirs : List OpenDir) → Nest names low high dirs → high ≤ length names → Nest (take high names ++ more) low high dirs
 nest_kept names more low high [] n h = n
 nest_kept names more low high (o ∷ dirs) n h =
-    let deep = nest_bound names (o.depth + 1) high dirs n.2 in (
-      n.0,
-      n.1 ∙ ap (λ p. capped (length (joined p))) (sym (take_front o.depth high names more (omega (arith, deep)) h)),
-      nest_kept names more (o.depth + 1) high dirs n.2 h,
-    )
+    (n.0, nest_kept names more (o.depth + 1) high dirs n.1 h)
 
 pub rows_kept : (names more : Path) (low high : ℕ) (dirs : List OpenDir) → Nest names low high dirs → high ≤ length names → rows_open (take high names ++ more) dirs ≡ rows_open names dirs
 rows_kept names more low high [] n h = refl
 rows_kept names more low high (o ∷ dirs) n h =
-    let deep = nest_bound names (o.depth + 1) high dirs n.2 in
-    (λ j. rows_kept names more (o.depth + 1) high dirs n.2 h j ++ under_all (take_front o.depth high names more (omega (arith, deep)) h j) (below (entries_of o.children)))
+    let deep = nest_bound names (o.depth + 1) high dirs n.1 in
+    (λ j. rows_kept names more (o.depth + 1) high dirs n.1 h j ++ under_all (take_front o.depth high names more (omega (arith, deep)) h j) (below (entries_of o.children)))
 
 -- ---- The innermost directory comes first.
 
@@ -82,10 +75,10 @@ rows_last names (d ∷ dirs) o =
     let own = under_all (take d.depth names) (below (entries_of d.children)) in
     ap (λ r. r ++ own) (rows_last names dirs o) ∙ append_assoc (under_all (take o.depth names) (below (entries_of o.children))) (rows_open names dirs) own
 
-pub rows_opened : (names : Path) (dirs : List OpenDir) (depth bytes : ℕ) (children : Option Children)
-    → rows_open names (dirs ++ opened depth bytes children) ≡ under_all (take depth names) (below (all_entries children)) ++ rows_open names dirs
-rows_opened names dirs depth bytes None = ap (rows_open names) (append-nil dirs) ∙ ap (λ r. r ++ rows_open names dirs) (sym (under_all_none (take depth names)))
-rows_opened names dirs depth bytes (Some children) = rows_last names dirs (record { depth = depth; bytes = bytes; children = children })
+pub rows_opened : (names : Path) (dirs : List OpenDir) (depth : ℕ) (children : Option Children)
+    → rows_open names (dirs ++ opened depth children) ≡ under_all (take depth names) (below (all_entries children)) ++ rows_open names dirs
+rows_opened names dirs depth None = ap (rows_open names) (append-nil dirs) ∙ ap (λ r. r ++ rows_open names dirs) (sym (under_all_none (take depth names)))
+rows_opened names dirs depth (Some children) = rows_last names dirs (record { depth = depth; children = children })
 
 -- ---- One step of a walk: the first child of the innermost directory.
 
@@ -117,23 +110,19 @@ module _ (names : Path) (all rest : List OpenDir) (dir : OpenDir) (form : Form) 
   parent_taken : dir.depth ≤ length names → take dir.depth own ≡ parent
   parent_taken h = take_front dir.depth dir.depth names (string_bytes dir.children.name.now ∷ []) (omega arith) h
 
-  module _ (behind : Option Children) (bytes : ℕ) (is : all ≡ rest ++ dir ∷ []) (nest : Nest names 0 (length names + 1) all) (later : all_entries behind ≡ later_of dir.children.later) where
+  module _ (behind : Option Children) (is : all ≡ rest ++ dir ∷ []) (nest : Nest names 0 (length names + 1) all) (later : all_entries behind ≡ later_of dir.children.later) where
     abbrev after : List OpenDir
-    after = (rest ++ opened dir.depth dir.bytes behind) ++ opened (length own) bytes inside
+    after = (rest ++ opened dir.depth behind) ++ opened (length own) inside
 
     step_rows : dir.children.tree.now ≡ ([], form) ∷ below (all_entries inside) → rows_open names all ≡ (own, form) ∷ rows_open own after
     step_rows tree =
         let last = nest_last names 0 (length names + 1) rest dir (subst (Nest names 0 (length names + 1)) is nest) in
-        let deep : dir.depth ≤ length names = omega (arith, last.2) in
+        let deep : dir.depth ≤ length names = omega (arith, last.1) in
         let new : rows_open own after ≡ under_all own (below (all_entries inside)) ++ (under_all parent (below (later_of dir.children.later)) ++ rows_open names rest) =
-        rows_opened own (rest ++ opened dir.depth dir.bytes behind) (length own) bytes inside
-        ∙ (λ j. under_all (own_taken j) (below (all_entries inside)) ++ rows_opened own rest dir.depth dir.bytes behind j)
+        rows_opened own (rest ++ opened dir.depth behind) (length own) inside
+        ∙ (λ j. under_all (own_taken j) (below (all_entries inside)) ++ rows_opened own rest dir.depth behind j)
         ∙ (λ j. under_all own (below (all_entries inside)) ++ (under_all (parent_taken deep j) (below (later j)) ++ rows_kept names (string_bytes dir.children.name.now ∷ []) 0 dir.depth rest last.0 deep j)) in
         first_rows is tree ∙ ap (λ r. (own, form) ∷ r) (sym new)
-
-pub length-joined : (p : Path) (n : List ℕ) → length (joined (p ++ n ∷ [])) ≡ length (joined p) + 1 + length n
-length-joined [] n = omega (arith, length-append n [])
-length-joined (m ∷ p) n = omega (arith, length-append m (joined (p ++ n ∷ [])), length-append m (joined p), length-joined p n)
 
 pub none_of : {X : Type 0} (o : Option X) → ((x : X) → o ≡ Some x → ⊥) → o ≡ None
 none_of None h = refl
@@ -169,11 +158,11 @@ module _ (all front : List OpenDir) (len : ℕ) (last dir : OpenDir) (value : la
   written new = (λ j. slice_set (split j) (place j) new) ∙ set_last front dir new
 
   -- the innermost directory has other children
-  pub past_first : (others : Children) → entries_of others ≡ later_of last.children.later → Past front dir (slice_set all (len - 1) (record { depth = last.depth; bytes = last.bytes; children = others }))
+  pub past_first : (others : Children) → entries_of others ≡ later_of last.children.later → Past front dir (slice_set all (len - 1) (record { depth = last.depth; children = others }))
   past_first others more = (
     Some others,
     more ∙ ap (λ (d : OpenDir). later_of d.children.later) same_dir,
-    written (record { depth = last.depth; bytes = last.bytes; children = others }) ∙ ap (λ (d : OpenDir). front ++ opened d.depth d.bytes (Some others)) same_dir,
+    written (record { depth = last.depth; children = others }) ∙ ap (λ (d : OpenDir). front ++ opened d.depth (Some others)) same_dir,
   )
 
   -- it has none, and leaves
@@ -224,7 +213,7 @@ module _ (names : Path) (all rest : List OpenDir) (dir : OpenDir) (form : Form) 
       → (room : ℕ) → greatest_depth (rows_open names all) ≤ room → (dir.depth < room) × (length all + length (option_to_list inside) ≤ room)
   child_room is nest tree rooted room h =
       let last = nest_last names 0 (length names + 1) rest dir (subst (Nest names 0 (length names + 1)) is nest) in
-      let deep : dir.depth ≤ length names = omega (arith, last.2) in
+      let deep : dir.depth ≤ length names = omega (arith, last.1) in
       let mine = take dir.depth names ++ string_bytes dir.children.name.now ∷ [] in
       let below_it = under_all mine (below (all_entries inside)) in
       let behind = under_all (take dir.depth names) (below (later_of dir.children.later)) ++ rows_open names rest in
@@ -235,40 +224,34 @@ module _ (names : Path) (all rest : List OpenDir) (dir : OpenDir) (form : Form) 
 
 -- ---- The contract of a step.
 
-pub record Step (root : Option (Bor Rows)) (names new_names : Path) (all rest after : List OpenDir) (dir : OpenDir) (inside behind : Option Children) (bytes : ℕ) : Type 0 where
+pub record Step (root : Option (Bor Rows)) (names new_names : Path) (all rest after : List OpenDir) (dir : OpenDir) (inside behind : Option Children) : Type 0 where
   pub no_root : root ≡ None
   pub nest : Nest names 0 (length names + 1) all
   pub split : all ≡ rest ++ dir ∷ []
   pub tree : (form : Form) × (dir.children.tree.now ≡ ([], form) ∷ below (all_entries inside))
   pub behind_it : all_entries behind ≡ later_of dir.children.later
   pub named : new_names ≡ take dir.depth names ++ string_bytes dir.children.name.now ∷ []
-  pub text : bytes ≡ capped (dir.bytes + 1 + length (string_bytes dir.children.name.now))
-  pub left : after ≡ (rest ++ opened dir.depth dir.bytes behind) ++ opened (length new_names) bytes inside
+  pub left : after ≡ (rest ++ opened dir.depth behind) ++ opened (length new_names) inside
 
-module _ (root : Option (Bor Rows)) (names new_names : Path) (all rest after : List OpenDir) (dir : OpenDir) (inside behind : Option Children) (bytes : ℕ) (s : Step root names new_names all rest after dir inside behind bytes) where
+module _ (root : Option (Bor Rows)) (names new_names : Path) (all rest after : List OpenDir) (dir : OpenDir) (inside behind : Option Children) (s : Step root names new_names all rest after dir inside behind) where
   pub step_gives : (left : Rows) (top : Form) → root_rows root ++ rows_open names all ≡ left → at dir.children.tree.now [] ≡ Some top → left ≡ (new_names, top) ∷ (root_rows root ++ rows_open new_names after)
   step_gives left top is found =
       let form : top ≡ s.tree.0 = top_row dir.children.tree.now (below (all_entries inside)) s.tree.0 top s.tree.1 found in
       let none : (rows : Rows) → root_rows root ++ rows ≡ rows = λ rows. ap (λ o. root_rows o ++ rows) s.no_root in
-      sym is ∙ none (rows_open names all) ∙ step_rows names all rest dir s.tree.0 inside behind bytes s.split s.nest s.behind_it s.tree.1
-      ∙ (λ j. (sym s.named j, sym form j) ∷ rows_open (sym s.named j) ((rest ++ opened dir.depth dir.bytes behind) ++ opened (length (sym s.named j)) bytes inside))
+      sym is ∙ none (rows_open names all) ∙ step_rows names all rest dir s.tree.0 inside behind s.split s.nest s.behind_it s.tree.1
+      ∙ (λ j. (sym s.named j, sym form j) ∷ rows_open (sym s.named j) ((rest ++ opened dir.depth behind) ++ opened (length (sym s.named j)) inside))
       ∙ ap (λ dirs. (new_names, top) ∷ rows_open new_names dirs) (sym s.left) ∙ ap (λ rows. (new_names, top) ∷ rows) (sym (none (rows_open new_names after)))
 
-  pub step_nested : IsNested root new_names bytes after
+  pub step_nested : IsNested root new_names after
   step_nested =
       let name = string_bytes dir.children.name.now in
-      let parent = take dir.depth names in
       let last = nest_last names 0 (length names + 1) rest dir (subst (Nest names 0 (length names + 1)) s.split s.nest) in
-      let deep : dir.depth ≤ length names = omega (arith, last.2) in
+      let deep : dir.depth ≤ length names = omega (arith, last.1) in
       let long : length new_names ≡ dir.depth + 1 = ap length s.named ∙ length-own names all rest dir s.tree.0 inside deep in
-      let text : bytes ≡ capped (length (joined new_names)) = omega (arith, s.text, last.1, length-joined parent name, ap (λ p. length (joined p)) s.named) in
       let kept : Nest new_names 0 dir.depth rest = subst (λ p. Nest p 0 dir.depth rest) (sym s.named) (nest_kept names (name ∷ []) 0 dir.depth rest last.0 deep) in
-      let front : take dir.depth new_names ≡ parent = ap (take dir.depth) s.named ∙ parent_taken names all rest dir s.tree.0 inside deep in
-      let more = nest_opened new_names dir.depth dir.depth dir.bytes rest behind kept (omega arith) (last.1 ∙ ap (λ p. capped (length (joined p))) (sym front)) in
-      let own : take (length new_names) new_names ≡ new_names = take_all (length new_names) new_names (omega arith) in
-      let nest = nest_opened new_names (dir.depth + 1) (length new_names) bytes (rest ++ opened dir.depth dir.bytes behind) inside more (omega (arith, long)) (text ∙ ap (λ p. capped (length (joined p))) (sym own)) in
+      let more = nest_opened new_names dir.depth dir.depth rest behind kept (omega arith) in
+      let nest = nest_opened new_names (dir.depth + 1) (length new_names) (rest ++ opened dir.depth behind) inside more (omega (arith, long)) in
       record {
         start = subst (λ o. IsAtStart o new_names after) (sym s.no_root) tt;
-        text = text;
         nest = subst (Nest new_names 0 (length new_names + 1)) (sym s.left) nest;
       }

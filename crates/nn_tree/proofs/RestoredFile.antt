@@ -1,5 +1,6 @@
 -- A file is restored with blocks that are new.
 use Rattle.std.proofs.Common.{inl, inr, ◌≡◌, ℕ, ◌+◌, ◌≤◌, Bool, true, false, cond, not, ◌&&◌, ◌||◌, List, [], ◌∷◌, ◌++◌, Option, Some, None, is_some, refl, sym, ap, subst, ◌∙◌, arith}
+use Rattle.std.proofs.option.Match.{None-if_not_some}
 use Rattle.std.specs.Prelude.{◌==◌, find, option_map, nat_le, nat_lt}
 use Rattle.std.specs.List.{list_all}
 use Rattle.std.specs.FinMap.Entries.{is_sorted-put}
@@ -8,7 +9,6 @@ use Rattle.nn_types.specs.declared.block.Block.{Block}
 use Rattle.nn_types.specs.Block.{AreBlocks}
 use Rattle.nn_types.specs.Number.{IsNumber}
 use Rattle.nn_types.specs.declared.edit.Edit.TheVariants as edit
-use Rattle.nn_types.specs.declared.edit_fault.EditFault.{EditFault}
 use Rattle.nn_types.specs.LawfulEdit.{IsLawfulEdit, IsTypedEdit}
 use Rattle.nn_types.specs.Path.{IsPath}
 use Rattle.nn_model.specs.declared.form.Form.{Form}
@@ -30,7 +30,7 @@ use Rattle.nn_model.specs.declared.form.BlockRow.{BlockRow}
 use Rattle.nn_tree.specs.Entered.{entered, are_new}
 use Rattle.nn_tree.specs.Restore.{is_issued, replication_fits, block_fits, once, form_fits, can_restore, parent_of}
 use Rattle.nn_tree.specs.View.{IsKept}
-use Rattle.nn_tree.proofs.Entered.{ids, not_true, not_some}
+use Rattle.nn_tree.proofs.Entered.{ids, not_true}
 use Rattle.nn_tree.proofs.Indexed.{old_blocks}
 use Rattle.nn_tree.proofs.Kept.{mkdir_free, add_mkdir, put_index}
 use Rattle.nn_tree.proofs.Named.{block_known}
@@ -141,7 +141,7 @@ new_free look (b ∷ bs) q e h =
     let parts = and_parts (not (is_some (look b.id)) && not (has_id (ids bs) b.id)) (are_new look bs) e in
     let rest = and_parts (not (is_some (look b.id))) (not (has_id (ids bs) b.id)) parts.0 in
     elim (cases_Bool (b.id == q)) [
-      | inl here ↦ ap look (sym (eqb-true b.id q here)) ∙ not_some (look b.id) (not_true _ rest.0)
+      | inl here ↦ ap look (sym (eqb-true b.id q here)) ∙ None-if_not_some (look b.id) (not_true _ rest.0)
       | inr other ↦ new_free look bs q parts.1 (sym (ap (λ t. t || has_id (ids bs) q) other) ∙ h)
     ]
 
@@ -237,12 +237,8 @@ add_none n p r h fits =
 dir_applies : (n : Namespace) (p : Path) → IsWellFormed n → can_restore n p Dir ≡ true → refusal n (edit.Mkdir p) ≡ None
 dir_applies n p w e = elim (cases_Bool (is_some (refusal n (edit.Mkdir p)))) [
   | inl some ↦ absurd (both_ways _ (dir_refused n p w some) e)
-  | inr none ↦ no_fault (refusal n (edit.Mkdir p)) none
+  | inr none ↦ None-if_not_some (refusal n (edit.Mkdir p)) none
 ]
-  where
-    no_fault : (o : Option EditFault) → is_some o ≡ false → o ≡ None
-    no_fault None e = refl
-    no_fault (Some x) e = absurd (both_ways _ e refl)
 
 pub file_refused : (n : Namespace) (p : Path) (x : FileRow) → IsWellFormed n → is_some (refusal n (edit.Add p x.replication)) ≡ true → can_restore n p (File x) ≡ false
 file_refused n p x w some = elim (cases_Bool (can_restore n p (File x))) [

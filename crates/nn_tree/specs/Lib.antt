@@ -17,9 +17,8 @@ pub mod RowsRows
 pub mod Nesting
 pub mod Blocks
 pub mod BlocksRows
-pub mod Extent
-pub mod ExtentRows
 pub mod Memory
+pub mod MemoryRows
 pub mod Restore
 pub mod RestoreFault
 pub mod Entered

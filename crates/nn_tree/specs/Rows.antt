@@ -1,5 +1,5 @@
 -- A walk over rows in path order, and the rows from a path on.
-use Rattle.std.specs.Prelude.{◌≡◌, ℕ, List, [], ◌∷◌, ◌++◌, Option, Some, None, IsSome, filter, take, cond, bytes_eq}
+use Rattle.std.specs.Prelude.{◌≡◌, ℕ, List, [], ◌∷◌, ◌++◌, Option, Some, None, IsSome, length, max, filter, take, cond, bytes_eq}
 use Rattle.std.specs.Borrow.{Bor}
 use Rattle.std.specs.Ordering.{is_le}
 use Rattle.std.specs.String.{string_bytes}
@@ -10,6 +10,7 @@ use Rattle.nn_model.specs.Namespace.{Path, path_cmp}
 use Rattle.nn_tree.specs.At.{at}
 use Rattle.nn_tree.specs.Flat.{under, under_all, below}
 use Rattle.nn_tree.specs.declared.tree.children.Children.{Children}
+use Rattle.nn_tree.specs.declared.rows.Extent.{Extent}
 use Rattle.nn_tree.specs.declared.rows.OpenDir.{OpenDir}
 
 -- Where a walk stands: the names of the row that it gave last, the rows that are left, and how many names a row may have that takes no memory any more.
@@ -17,6 +18,15 @@ pub record Walk : Type 0 where
   pub names : Path
   pub left : List (Path × Form)
   pub room : ℕ
+
+-- the greatest number of names of a path
+abbrev pub greatest_depth : List (Path × Form) → ℕ
+greatest_depth [] = 0
+greatest_depth (row ∷ rows) = max (length row.0) (greatest_depth rows)
+
+-- how many rows there are, and how deep they are
+abbrev pub extent_of : List (Path × Form) → Extent
+extent_of rows = record { paths = length rows; depth = greatest_depth rows }
 
 -- the rows at the path p and behind it
 abbrev pub rows_from : Path → List (Path × Form) → List (Path × Form)
@@ -61,13 +71,13 @@ from_children n p (Some children) =
 -- ---- What is left of a walk.
 
 -- a directory with these children left, and none where none are left
-abbrev pub opened : ℕ → ℕ → Option Children → List OpenDir
-opened depth bytes None = []
-opened depth bytes (Some children) = record { depth = depth; bytes = bytes; children = children } ∷ []
+abbrev pub opened : ℕ → Option Children → List OpenDir
+opened depth None = []
+opened depth (Some children) = record { depth = depth; children = children } ∷ []
 
 -- what is left past the first child of the last directory, which is gone where it has no others
 abbrev pub Past : List OpenDir → OpenDir → List OpenDir → Type 0
-Past front dir after = (others : Option Children) × (all_entries others ≡ later_of dir.children.later) × (after ≡ front ++ opened dir.depth dir.bytes others)
+Past front dir after = (others : Option Children) × (all_entries others ≡ later_of dir.children.later) × (after ≡ front ++ opened dir.depth others)
 
 abbrev pub IsPast : List OpenDir → List OpenDir → Type 0
 IsPast dirs after = (front : List OpenDir) (dir : OpenDir) → dirs ≡ front ++ dir ∷ [] → Past front dir after

@@ -1,9 +1,9 @@
--- Rows from a path on.
+-- Rows from a path on, and how deep rows are.
 use Rattle.std.specs.Prelude.{◌≡◌, ℕ, List, [], ◌∷◌, map, codes, refl}
 use Rattle.nn_model.specs.declared.form.Form.{Form}
 use Rattle.nn_model.specs.declared.form.Form.TheVariants.{Dir}
 use Rattle.nn_model.specs.Namespace.{Path}
-use Rattle.nn_tree.specs.Rows.{rows_from}
+use Rattle.nn_tree.specs.Rows.{extent_of, rows_from}
 
 abbrev a : List ℕ
 a = codes "a"
@@ -37,3 +37,7 @@ below_no_path = refl
 
 from_behind_all : from (b ∷ a ∷ []) ≡ []
 from_behind_all = refl
+
+-- `/a/b` has two names
+extents : map extent_of ([] ∷ (([], Dir) ∷ []) ∷ rows ∷ []) ≡ record { paths = 0; depth = 0 } ∷ record { paths = 1; depth = 0 } ∷ record { paths = 5; depth = 2 } ∷ []
+extents = refl

@@ -23,9 +23,9 @@ mod tree;
 
 pub use fault::RestoreFault;
 pub use found::Found;
-pub use listing::{Extent, PathRow, push_text};
+pub use listing::PathRow;
 pub use namespace::{BlockRows, Namespace};
 pub use nn_model::{BlockRow, FileRow, Form};
 pub use nn_types::EditFault;
-pub use rows::Rows;
+pub use rows::{Extent, Rows};
 pub use touched::Touched;

@@ -1,8 +1,7 @@
-//! Copies and counts of the rows of a namespace.
-ghost use Rattle.std.specs.Prelude.{◌≡◌, ◌+◌, ◌*◌, ◌++◌, max, length, string_bytes, OnOk, IfOk};
+//! Copies of the rows of a namespace.
+ghost use Rattle.std.specs.Prelude.{◌≡◌, ◌++◌, string_bytes, OnOk, IfOk};
 ghost use Rattle.nn_types.specs.Path.{joined, path_text};
 ghost use Rattle.nn_tree.specs.At.{names_of};
-ghost use Rattle.nn_tree.specs.Extent.{capped, path_bytes, block_count, greatest_depth, greatest_line};
 ghost use Rattle.nn_tree.specs.Found.{form_of};
 ghost use Rattle.nn_tree.specs.Listing.{rows_of, lent_names};
 
@@ -28,66 +27,6 @@ impl PathRow {
             return String::from_str(alloc, "/");
         }
         joined(alloc, &self.names)
-    }
-}
-
-/// How large a listing is. A count that would pass `usize::MAX` stays there.
-#[derive(Clone, Copy, Debug, PartialEq, Eq)]
-pub struct Extent {
-    pub paths: usize,
-    /// The bytes of all the paths' texts together.
-    pub path_bytes: usize,
-    /// The blocks of all files together.
-    pub blocks: usize,
-    /// The greatest number of names of a path.
-    pub depth: usize,
-    /// No line of a row has more bytes, in a listing or in an image.
-    pub line: usize,
-}
-
-impl Extent {
-    // Counts a path of so many names, whose text has these bytes, and its blocks.
-    fn add(&mut self, names: usize, bytes: usize, blocks: usize)
-        ensures paths { self.new.paths ≡ capped (self.old.paths + 1) }
-        ensures path_bytes { self.new.path_bytes ≡ capped (self.old.path_bytes + bytes) }
-        ensures blocks { self.new.blocks ≡ capped (self.old.blocks + blocks) }
-        ensures depth { self.new.depth ≡ max self.old.depth names }
-        ensures line { self.new.line ≡ max self.old.line (capped (6 * bytes + 96 + 79 * blocks)) }
-    {
-        self.paths = self.paths.saturating_add(1);
-        self.path_bytes = self.path_bytes.saturating_add(bytes);
-        self.blocks = self.blocks.saturating_add(blocks);
-        self.depth = self.depth.max(names);
-        let path = bytes.saturating_mul(6).saturating_add(96);
-        self.line = self
-            .line
-            .max(path.saturating_add(blocks.saturating_mul(79)));
-    }
-}
-
-/// How large a listing of the rows that are left is.
-pub(crate) fn measured(mut rows: Rows<'_>) -> Result<Extent, AllocError>
-    ensures paths { IfOk result (λ extent. extent.paths ≡ capped (length rows.entry.left)) }
-    ensures path_bytes { IfOk result (λ extent. extent.path_bytes ≡ capped (path_bytes rows.entry.left)) }
-    ensures blocks { IfOk result (λ extent. extent.blocks ≡ capped (block_count rows.entry.left)) }
-    ensures depth { IfOk result (λ extent. extent.depth ≡ capped (greatest_depth rows.entry.left)) }
-    ensures line { IfOk result (λ extent. extent.line ≡ capped (greatest_line rows.entry.left)) }
-{
-    let mut extent = Extent {
-        paths: 0,
-        path_bytes: 0,
-        blocks: 0,
-        depth: 0,
-        line: 0,
-    };
-    'rows: loop {
-        let Ok(found) = rows.next() else {
-            return Err(AllocError);
-        };
-        let Some(found) = found else {
-            return Ok(extent);
-        };
-        extent.add(rows.names().len(), rows.text_len(), found.block_count());
     }
 }
 
@@ -142,27 +81,6 @@ fn joined(alloc: Global, names: &[String]) -> Result<String, AllocError>
         text.push_str(name.as_str())?;
     }
     Ok(text)
-}
-
-/// Adds the text of the path with these names. Where memory is refused nothing is said of how much of it stands in the text.
-pub fn push_text(text: &mut String, names: &[&str]) -> Result<(), AllocError>
-    ensures { OnOk result (string_bytes text.new ≡ string_bytes text.old ++ path_text (lent_names names.now)) }
-{
-    if names.is_empty() {
-        return text.push_str("/");
-    }
-    push_joined(text, names)
-}
-
-// A slash before each name.
-fn push_joined(text: &mut String, names: &[&str]) -> Result<(), AllocError>
-    ensures { OnOk result (string_bytes text.new ≡ string_bytes text.old ++ joined (lent_names names.now)) }
-{
-    for name in names {
-        text.push_str("/")?;
-        text.push_str(name)?;
-    }
-    Ok(())
 }
 
 // A copy of what a look-up found.

@@ -1,5 +1,5 @@
 //! The namespace: a directory tree, seen as its rows in path order, and an index of the blocks in its files.
-ghost use Rattle.std.specs.Prelude.{◌≡◌, OnOk, OnErr, IfOk, IfErr, IfSome, IsErrOf, None, Ok, true, option_map, length, []};
+ghost use Rattle.std.specs.Prelude.{◌≡◌, ◌≤◌, OnOk, OnErr, IfOk, IfErr, IfSome, IsErrOf, None, Ok, true, option_map, length, []};
 ghost use Rattle.nn_types.specs.LawfulEdit.{IsLawfulEdit, IsTypedEdit};
 ghost use Rattle.nn_types.specs.Profile.{number_of};
 ghost use Rattle.nn_model.specs.Namespace.{root_alone, lookup};
@@ -7,11 +7,10 @@ ghost use Rattle.nn_model.specs.Apply.{applied, refusal};
 ghost use Rattle.nn_types.specs.EditFault.{IsFault};
 ghost use Rattle.nn_model.specs.Status.{block_at, status_of, status_unheld};
 ghost use Rattle.nn_model.specs.Touched.{touched};
-ghost use Rattle.nn_tree.specs.Extent.{capped, path_bytes, block_count, greatest_depth, greatest_line};
 ghost use Rattle.nn_tree.specs.Found.{form_of};
 ghost use Rattle.nn_tree.specs.At.{names_of};
 ghost use Rattle.nn_tree.specs.Listing.{rows_of};
-ghost use Rattle.nn_tree.specs.Rows.{rows_from, Resumes};
+ghost use Rattle.nn_tree.specs.Rows.{extent_of, rows_from, Resumes};
 ghost use Rattle.nn_model.specs.WellFormed.{IsWellFormed, HasUtf8Names};
 ghost use Rattle.nn_tree.specs.Blocks.{IsInFile};
 ghost use Rattle.nn_tree.specs.Memory.{takes_memory};
@@ -24,8 +23,8 @@ mod restore;
 
 use crate::found::Found;
 use crate::issued::Issued;
-use crate::listing::{Extent, PathRow, copies, measured};
-use crate::rows::Rows;
+use crate::listing::{PathRow, copies};
+use crate::rows::{Extent, Rows};
 use crate::touched::Touched;
 use crate::tree::Tree;
 pub use blocks::BlockRows;
@@ -154,6 +153,24 @@ impl Namespace {
         Rows::new(self.alloc, &self.root)
     }
 
+    /// How many paths there are, and how deep they are. It goes through all of them. A number that a `u64` does not hold is
+    /// refused as memory is.
+    pub fn extent(&self) -> Result<Extent, AllocError>
+        ensures { IfOk result (λ extent. extent ≡ extent_of self.now.rows) }
+    {
+        self.rows().extent()
+    }
+
+    /// All rows in path order, with memory for paths of so many names: where none is deeper, their `next` is not refused any.
+    pub fn ready_rows(&self, depth: usize) -> Result<Rows<'_>, AllocError>
+        ensures left { IfOk result (λ rows. rows.left ≡ self.now.rows) }
+        ensures room { IfOk result (λ rows. depth ≤ rows.room) }
+    {
+        let mut rows = self.rows();
+        rows.reserve(depth)?;
+        Ok(rows)
+    }
+
     /// The rows at this place and behind it. Nothing has to stand there. The place is told by its names from the
     /// root down, which a rename may have made more of than a `Path` may have. To come there takes time in its
     /// depth times the logarithm of a directory's width.
@@ -170,17 +187,6 @@ impl Namespace {
         ensures { IfOk result (λ rows. rows_of rows.items ≡ self.now.rows) }
     {
         copies(self.alloc, self.rows())
-    }
-
-    /// How large a listing of all rows is. It looks at each path once, and at no name's bytes.
-    pub fn extent(&self) -> Result<Extent, AllocError>
-        ensures paths { IfOk result (λ extent. extent.paths ≡ capped (length self.now.rows)) }
-        ensures path_bytes { IfOk result (λ extent. extent.path_bytes ≡ capped (path_bytes self.now.rows)) }
-        ensures blocks { IfOk result (λ extent. extent.blocks ≡ capped (block_count self.now.rows)) }
-        ensures depth { IfOk result (λ extent. extent.depth ≡ capped (greatest_depth self.now.rows)) }
-        ensures line { IfOk result (λ extent. extent.line ≡ capped (greatest_line self.now.rows)) }
-    {
-        measured(self.rows())
     }
 
     /// The block that a file holds under this id, and whether that file is closed.

@@ -1,13 +1,11 @@
 //! The rows of a namespace in path order, one after another.
 ghost use Rattle.std.specs.Prelude.{◌≡◌, ◌+◌, ◌++◌, ◌∷◌, [], ◌≤◌, ◌<◌, min, Some, None, true, bytes_eq, IfOk, IfSome, OnOk, OnErr, IsOk, length, option_to_list, string_bytes};
-ghost use Rattle.nn_types.specs.Path.{path_text};
 ghost use Rattle.nn_tree.specs.At.{names_of};
-ghost use Rattle.nn_tree.specs.Extent.{capped, greatest_depth};
 ghost use Rattle.nn_tree.specs.Flat.{below};
 ghost use Rattle.nn_tree.specs.Found.{form_of};
 ghost use Rattle.nn_tree.specs.Listing.{lent_names};
 ghost use Rattle.nn_tree.specs.Nesting.{IsNested};
-ghost use Rattle.nn_tree.specs.Rows.{IsPast, rows_from, rows_open, opened, entries_of, from_children};
+ghost use Rattle.nn_tree.specs.Rows.{IsPast, extent_of, greatest_depth, rows_from, rows_open, opened, entries_of, from_children};
 ghost use Rattle.std.specs.Vec.{vec_len, vec_capacity};
 
 use crate::found::Found;
@@ -24,18 +22,23 @@ pub struct Rows<'a> {
     root: Option<&'a Tree>,
     // The names of the row that was given last, from the root down.
     names: Vec<&'a str>,
-    // Those of their text, at most usize::MAX. The root has none here.
-    bytes: usize,
     // The directories on the way that have children left, the outermost first.
     dirs: Vec<OpenDir<'a>>,
+}
+
+/// How many paths there are, and how deep they are.
+#[derive(Clone, Copy, Debug, PartialEq, Eq)]
+pub struct Extent {
+    pub paths: u64,
+    /// The greatest number of names of a path.
+    pub depth: usize,
 }
 
 // A directory with children left.
 #[derive(Drop)]
 struct OpenDir<'a> {
-    // How many names it has, and the bytes of their text.
+    // How many names it has.
     depth: usize,
-    bytes: usize,
     children: Children<'a>,
 }
 
@@ -50,7 +53,7 @@ impl<'a> Model for Rows<'a> {
 
     ghost view = { λ a. record { names = lent_names a.names.items; left = root_rows a.root ++ rows_open (lent_names a.names.items) a.dirs.items; room = min (vec_capacity a.names) (vec_capacity a.dirs) } };
 
-    ghost invariant = { λ a. IsNested a.root (lent_names a.names.items) a.bytes a.dirs.items };
+    ghost invariant = { λ a. IsNested a.root (lent_names a.names.items) a.dirs.items };
 }
 
 impl<'a> Rows<'a> {
@@ -62,7 +65,6 @@ impl<'a> Rows<'a> {
         Rows {
             root: Some(root),
             names: Vec::new(alloc),
-            bytes: 0,
             dirs: Vec::new(alloc),
         }
     }
@@ -94,42 +96,38 @@ impl<'a> Rows<'a> {
         let mut rest = others;
         let mut tree = root;
         let mut names = Vec::new(alloc);
-        let mut bytes = 0;
         let mut dirs = Vec::new(alloc);
         'down: loop {
             let Some(children) = tree.children_from(name) else {
-                return Ok(Rows::on_way(names, bytes, dirs));
+                return Ok(Rows::on_way(names, dirs));
             };
             let depth = names.len();
             let Some((next, below)) = way_on(&children, name, rest) else {
-                let Ok(()) = add_open(&mut dirs, depth, bytes, Some(children)) else {
+                let Ok(()) = add_open(&mut dirs, depth, Some(children)) else {
                     return Err(AllocError);
                 };
-                return Ok(Rows::on_way(names, bytes, dirs));
+                return Ok(Rows::on_way(names, dirs));
             };
-            let text = text_below(bytes, children.name);
             let Ok(()) = names.push(children.name.as_str()) else {
                 return Err(AllocError);
             };
             tree = children.tree;
-            let Ok(()) = add_open(&mut dirs, depth, bytes, children.behind()) else {
+            let Ok(()) = add_open(&mut dirs, depth, children.behind()) else {
                 return Err(AllocError);
             };
-            bytes = text;
             name = next;
             rest = below;
         }
     }
 
     // What is left in these directories, which lie on the way to these names.
-    fn on_way(names: Vec<&'a str>, bytes: usize, dirs: Vec<OpenDir<'a>>) -> Rows<'a>
-        requires { IsNested None (lent_names names.items) bytes dirs.items }
+    fn on_way(names: Vec<&'a str>, dirs: Vec<OpenDir<'a>>) -> Rows<'a>
+        requires { IsNested None (lent_names names.items) dirs.items }
         ensures { result.left ≡ rows_open (lent_names names.entry.items) dirs.entry.items }
     {
         Rows {
             root: None,
             names,
-            bytes,
             dirs,
         }
     }
@@ -162,14 +160,13 @@ impl<'a> Rows<'a> {
                 return Err(AllocError);
             };
             self.root = None;
-            push_open(&mut self.dirs, 0, self.bytes, inside);
+            push_open(&mut self.dirs, 0, inside);
             return Ok(Some(root.top()));
         }
         let Some(dir) = self.dirs.last() else {
             return Ok(None);
         };
         let depth = dir.depth;
-        let bytes = dir.bytes;
         let name = dir.children.name;
         let tree = dir.children.tree;
         let inside = tree.children();
@@ -183,9 +180,28 @@ impl<'a> Rows<'a> {
         pass_child(&mut self.dirs);
         self.names.truncate(depth);
         self.names.push_reserved(name.as_str());
-        self.bytes = text_below(bytes, name);
-        push_open(&mut self.dirs, self.names.len(), self.bytes, inside);
+        push_open(&mut self.dirs, self.names.len(), inside);
         Ok(Some(tree.top()))
+    }
+
+    /// How many rows are left, and how deep they are.
+    pub(crate) fn extent(mut self) -> Result<Extent, AllocError>
+        ensures { IfOk result (λ extent. extent ≡ extent_of self.entry.left) }
+    {
+        let mut extent = Extent { paths: 0, depth: 0 };
+        'rows: loop {
+            let Ok(found) = self.next() else {
+                return Err(AllocError);
+            };
+            let Some(_) = found else {
+                return Ok(extent);
+            };
+            let Some(paths) = extent.paths.checked_add(1) else {
+                return Err(AllocError);
+            };
+            extent.paths = paths;
+            extent.depth = extent.depth.max(self.names().len());
+        }
     }
 
     /// The names of the row that `next` gave last, from the root down. None at first.
@@ -193,16 +209,6 @@ impl<'a> Rows<'a> {
         ensures { lent_names result.now ≡ self.now.names }
     {
         &self.names
-    }
-
-    /// The bytes of the text of that path, at most `usize::MAX`.
-    pub fn text_len(&self) -> usize
-        ensures { result ≡ capped (length (path_text self.now.names)) }
-    {
-        if self.names.is_empty() {
-            return 1;
-        }
-        self.bytes
     }
 }
 
@@ -256,37 +262,27 @@ fn way_on<'p>(
 fn add_open<'a>(
     dirs: &mut Vec<OpenDir<'a>>,
     depth: usize,
-    bytes: usize,
     children: Option<Children<'a>>,
 ) -> Result<(), AllocError>
-    ensures { OnOk result (dirs.new.items ≡ dirs.old.items ++ opened depth bytes children.entry) }
+    ensures { OnOk result (dirs.new.items ≡ dirs.old.items ++ opened depth children.entry) }
 {
     let Ok(()) = make_room(dirs, &children) else {
         return Err(AllocError);
     };
-    push_open(dirs, depth, bytes, children);
+    push_open(dirs, depth, children);
     Ok(())
 }
 
 // Puts a directory behind the others, if it has children.
-fn push_open<'a>(
-    dirs: &mut Vec<OpenDir<'a>>,
-    depth: usize,
-    bytes: usize,
-    children: Option<Children<'a>>,
-)
+fn push_open<'a>(dirs: &mut Vec<OpenDir<'a>>, depth: usize, children: Option<Children<'a>>)
     requires { vec_len dirs.old + length (option_to_list children) ≤ vec_capacity dirs.old }
-    ensures items { dirs.new.items ≡ dirs.old.items ++ opened depth bytes children.entry }
+    ensures items { dirs.new.items ≡ dirs.old.items ++ opened depth children.entry }
     ensures capacity { vec_capacity dirs.new ≡ vec_capacity dirs.old }
 {
     let Some(children) = children else {
         return;
     };
-    dirs.push_reserved(OpenDir {
-        depth,
-        bytes,
-        children,
-    });
+    dirs.push_reserved(OpenDir { depth, children });
 }
 
 // Goes past the first child of the innermost directory, and leaves the directory once no others are left.
@@ -302,11 +298,4 @@ fn pass_child<'a>(dirs: &mut Vec<OpenDir<'a>>)
         return;
     }
     dirs.pop();
-}
-
-// The bytes of the text of a path, from those of its directory.
-fn text_below(bytes: usize, name: &String) -> usize
-    ensures { result ≡ capped (bytes + 1 + length (string_bytes name.now)) }
-{
-    bytes.saturating_add(1).saturating_add(name.len())
 }

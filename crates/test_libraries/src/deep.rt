@@ -37,7 +37,7 @@ fn hangs_and_goes(rt: &impl Abort, alloc: Global, namespace: &mut Namespace) -> 
 }
 
 // So many paths, of so many names at most.
-fn has(rt: &impl Abort, namespace: &Namespace, paths: usize, depth: usize) -> Result<(), Fail> {
+fn has(rt: &impl Abort, namespace: &Namespace, paths: u64, depth: usize) -> Result<(), Fail> {
     let extent = namespace.extent()?;
     assert_eq!(rt; extent.paths, paths);
     assert_eq!(rt; extent.depth, depth);

@@ -165,12 +165,9 @@ fn failing_writers(rt: HostRuntime) -> Result<(), Fail> {
     Ok(())
 }
 
-// Each line is written on its own, so many bytes a time.
+// The image is one part, of which the writer takes so many bytes a time.
 fn stops(rt: &impl Abort, alloc: Global, namespace: &Namespace, txid: Txid, width: usize) {
-    let mut writes = 0u64;
-    for line in OPEN_FILE.split_inclusive('\n') {
-        writes = writes.saturating_add(writes_of(line.len(), width));
-    }
+    let writes = writes_of(OPEN_FILE.len(), width);
     for fails in [false, true] {
         for stop_at in 0..writes {
             save_stops(

@@ -268,8 +268,7 @@ fn stops_at<R: Abort + Threads + Wait + Sync>(
 fn run_to(alloc: Global, writer: &mut Writer<Stopping>) -> (Option<u8>, Option<u64>) {
     match run(alloc, &usual_options(), &mut Reader::new(LINES), writer) {
         Ok(end) => (Some(end.status), Some(LISTING.len() as u64)),
-        Err(RunFault::WriteFailed { written }) => (None, Some(written)),
-        Err(RunFault::OutOfMemory { .. }) => (None, None),
+        Err(RunFault { written }) => (None, Some(written)),
     }
 }
 
@@ -421,7 +420,7 @@ fn push_padded(bytes: &mut Vec<u8>, line: &str, width: usize) -> Option<()> {
     Some(())
 }
 
-// ---- A listing that is too large to be made in memory.
+// ---- A listing of many parts.
 
 // A writer that counts, and fails at its write `fail_at`, counted from 0.
 #[derive(Drop)]
@@ -449,12 +448,12 @@ impl Write for Counting {
 // A run over 16,500 directories, each in the one before. Their lines have 272,382,000 bytes, and the lines before and after
 // them 53.
 #[test]
-fn a_listing_above_256_mib(rt: HostRuntime) {
+fn a_listing_of_many_parts(rt: HostRuntime) {
     let input = nested(rt.alloc(), 2357).unwrap_or(Vec::new(rt.alloc()));
-    let written = Ok((16_503, 272_382_053));
+    let written = Ok((4_157, 272_382_053));
     assert_eq!(rt; counted(rt.alloc(), &input, u64::MAX), written);
-    // The first line, the root's, and 98 of directories.
-    let front = Err((100, 10_407));
+    // 100 parts of 65,536 bytes, 61 of them with a byte more.
+    let front = Err((100, 6_553_661));
     assert_eq!(rt; counted(rt.alloc(), &input, 100), front);
 }
 
@@ -470,8 +469,7 @@ fn counted(alloc: Global, input: &[u8], fail_at: u64) -> Result<(u64, u64), (u64
     let counting = writer.into_inner();
     match end {
         Ok(_) => Ok((counting.writes, counting.bytes)),
-        Err(RunFault::WriteFailed { written }) => Err((counting.writes, written)),
-        Err(RunFault::OutOfMemory { .. }) => Err((0, 0)),
+        Err(RunFault { written }) => Err((counting.writes, written)),
     }
 }
 

@@ -5,12 +5,12 @@ use crate::sources::{AT_ANY_TIME, FailsOnce, Pace, Watched, new_watched};
 use crate::values::{
     BEHIND_TWO_MARKS, FIRST, Shared, TWO_MARKS, TWO_MORE, Text, log_of, report_of,
 };
-use nn_device::Writer;
+use nn_device::{Page, Writer};
 use nn_drive::{
     Left, Operator, ReportSource, Running, Served, Unattended, Unfed, Unserved, Wish, serve,
 };
 use nn_lane::Refusal;
-use nn_listing::{listing, push_tables};
+use nn_listing::{ReadyListing, ReadyTables};
 use nn_shadow::Shadow;
 use nn_tailer::Standby;
 use nn_types::Report;
@@ -838,7 +838,13 @@ fn tables_of<O: Operator, R: Threads + Wait + Copy + Send + Drop + 'static>(
 
 // What a standby shows, as text.
 fn shown(alloc: Global, shadow: &Shadow) -> Option<String> {
-    let mut text = listing(alloc, shadow.namespace(), shadow.last_txid()).ok()?;
-    push_tables(alloc, &mut text, shadow.replicas(), shadow.safe_mode()).ok()?;
-    Some(text)
+    let extent = shadow.namespace().extent().ok()?;
+    let listing = ReadyListing::of(shadow.namespace(), extent, shadow.last_txid()).ok()?;
+    let tables = ReadyTables::of(alloc, shadow.replicas(), shadow.safe_mode()).ok()?;
+    let mut page = Page::new(alloc);
+    let mut writer = Writer::new(Vec::new(alloc));
+    listing.put(&mut page, &mut writer);
+    tables.put(&mut page, &mut writer);
+    page.end(&mut writer).ok()?;
+    String::from_utf8(writer.into_inner()).ok()
 }

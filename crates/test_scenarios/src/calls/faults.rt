@@ -309,12 +309,7 @@ fn input_faults(call: &mut Call<'_>) {
 }
 
 fn run_faults(call: &mut Call<'_>) {
-    for fault in [
-        RunFault::WriteFailed { written: 9 },
-        RunFault::OutOfMemory { written: 9 },
-    ] {
-        unnumbered(call, &fault);
-    }
+    unnumbered(call, &RunFault { written: 9 });
 }
 
 // ---- What faults carry.

@@ -8,11 +8,7 @@ use Rattle.nn_engine.proofs.StartLemmas.{printed_from}
 use Rattle.nn_engine.proofs.engine.output_of_end.Goals as goal
 
 pub returns-in-Ok : goal.returns-in-Ok
-returns-in-Ok c = λ input is.
-    let options = c.args.options in
+returns-in-Ok c = λ options input is.
     let h = subst (IsRunOf options input) c.in-Ok.is is in
-    printed_from false options input c.output_of_standby.result h.0 h.1
-    (IfOk-weaker c.output_of_standby.result _ _ (λ o told. printed_of_standby options h.0 (scenario_in options.from_image input) h.2 h.3 (shown o) c.in-Ok.standby h.4 told) c.output_of_standby.ensures)
-
-pub returns-in-Err : goal.returns-in-Err
-returns-in-Err c = λ input is. c.output_of_halt.ensures c.args.options input (subst (IsRunOf c.args.options input) c.in-Err.is is)
+    printed_from (shown options) false options input c.output_of_standby.result h.0 h.1
+    (IfOk-weaker c.output_of_standby.result _ _ (λ o told. printed_of_standby options h.0 (scenario_in options.from_image input) h.2 h.3 (shown options o) c.in-Ok.standby h.4 (told options)) c.output_of_standby.ensures)

@@ -1,5 +1,9 @@
-use Rattle.nn_engine.proofs.RestLemmas.{line_fails}
+use Rattle.std.proofs.Common.{arith}
+use Rattle.nn_device.proofs.Parts.{front_taken}
 use Rattle.nn_engine.proofs.output.finish.Goals as goal
 
 pub returns-in-Err-clause-front : goal.returns-in-Err-clause-front
-returns-in-Err-clause-front g c = line_fails c.args.writer.now c.write_all.new.self c.args.text.now c.in-Err.failed.written c.in-Err.ensures.err
+returns-in-Err-clause-front g c =
+    let failed = c.in-Err.ensures.err in
+    let took = front_taken c.args.writer.now c.write_all.new.self c.args.text.now c.in-Err.failed.written failed in
+    record { took = took; told = omega (arith, failed.counted, took.counted) }

@@ -9,4 +9,4 @@ use Rattle.nn_engine.proofs.threads.output_by_threads.Goals as goal
 pub returns-in-Ok : goal.returns-in-Ok
 returns-in-Ok g c = λ text read.
     IfOk-weaker c.output_of_threads.result _ _ (λ o told start is.
-    printed_of_told start true c.args.asked.now.options text (seen c.in-Ok.scenario) (shown o) (subst (IsReadAs text) c.in-Ok.is read).ok (told start is)) c.output_of_threads.ensures
+    printed_of_told start true c.args.asked.now.options text (seen c.in-Ok.scenario) (shown c.args.asked.now.options o) (subst (IsReadAs text) c.in-Ok.is read).ok (told start is)) c.output_of_threads.ensures

@@ -1,8 +1,8 @@
 use Rattle.std.proofs.Common.{true, Ok, map, refl, arith}
-use Rattle.std.proofs.lemmas.Result.{IfOk-weaker}
 use Rattle.nn_scenario.specs.Steps.{lanes_of}
 use Rattle.nn_segment.specs.Segment.{Segment}
 use Rattle.nn_engine.specs.Output.{IsHistoryOf}
+use Rattle.nn_engine.specs.Pieces.{faulted}
 use Rattle.nn_engine.specs.Shown.{shown}
 use Rattle.nn_engine.proofs.ToldLemmas.{told_history, told_fault}
 use Rattle.nn_engine.proofs.DrivenLemmas.{ends_many, arrives, may_end, stop_told, tells}
@@ -26,25 +26,26 @@ returns-in-Ok g c =
     let settings = options.settings in
     let lanes = lanes_of c.args.steps in
     let segments = c.args.segments.items in
-    IfOk-weaker c.output_of_flushed.result _ _ (λ o told start is.
+    λ start is.
+    let p = shown options c.output_of_flushed.result in
     let a = arrives settings c.args.datanodes lanes c.in_ok-sources.sources.items c.in_ok-sources.ensures c.in_ok-workers.workers.items c.in_ok-workers.ends.items c.in_ok-workers.ensures.own start c.in_ok-standby.standby (c.in_ok-standby.ensures.begun start is) c.in_ok-standby.ensures.settings segments
     c.in-Ok.shadow c.in-Ok._active c.in-Ok.ensures.ok in
     let happened : IsHistoryOf start true (map (λ (s : Segment). s.txs) segments) c.args.steps c.in-Ok.shadow.history =
     record { lawful = a.lawful; whole = a.whole; one_thread = λ none. absurd (cc) } in
-    told_history start true options c.args.steps (Ok segments) segments c.in-Ok.shadow.history (shown o) refl (λ end ended. happened)
-    (tells start options lanes segments c.in-Ok.shadow (shown o) a told)
-    ) c.output_of_flushed.ensures
+    told_history start true options c.args.steps (Ok segments) segments c.in-Ok.shadow.history p refl (λ end ended. happened)
+    (tells start options lanes segments c.in-Ok.shadow p a (c.output_of_flushed.ensures options))
 
-pub output_of_fault-requires : goal.output_of_fault-requires
-output_of_fault-requires g c = may_end c.in_ok-standby.standby c.args.segments.items c.in_ok-standby.ensures.serves c.in-Err.fault c.in-Err.ensures.err
+pub line_of_drive-requires : goal.line_of_drive-requires
+line_of_drive-requires g c = may_end c.in_ok-standby.standby c.args.segments.items c.in_ok-standby.ensures.serves c.in-Err.fault c.in-Err.ensures.err
 
-pub returns-in-Err : goal.returns-in-Err
-returns-in-Err g c =
+pub returns-in_ok-line_of_drive-in-Err : goal.returns-in_ok-line_of_drive-in-Err
+returns-in_ok-line_of_drive-in-Err g c =
     let options = c.args.asked.now.options in
     let settings = options.settings in
     let lanes = lanes_of c.args.steps in
     let segments = c.args.segments.items in
-    IfOk-weaker c.output_of_fault.result _ _ (λ o told start is.
-    told_fault start true options c.args.steps (Ok segments) segments (shown o) refl
+    let line = faulted c.in_ok-line_of_drive-in-Err.field-0 in
+    λ start is.
+    told_fault start true options c.args.steps (Ok segments) segments line refl
     (stop_told settings c.args.datanodes lanes c.in_ok-sources.sources.items c.in_ok-sources.ensures c.in_ok-workers.workers.items c.in_ok-workers.ends.items c.in_ok-workers.ensures.own start c.in_ok-standby.standby (c.in_ok-standby.ensures.begun start is) c.in_ok-standby.ensures.settings segments
-    options c.in-Err.fault (shown o) c.in-Err.ensures.err told)) c.output_of_fault.ensures
+    options c.in-Err.fault line c.in-Err.ensures.err c.in_ok-line_of_drive-in-Err.ensures)

@@ -22,4 +22,4 @@ returns-then-b-lt32 g c = λ start text h.
 pub returns : goal.returns
 returns g c = λ start text h.
     let none : escape_letter c.args.b ≤ 0 = omega (arith, c.escape_letter-letter.ensures, c.if-letter-gt0.false) in
-    subst (λ t. HasPut start (text ++ t) c.put-2.new.self c.put-2.new.writer) (sym (no_escape c.args.b none (omega (arith, c.if-b-lt32.false)))) (c.put-2.ensures start text h)
+    subst (λ t. HasPut start (text ++ t) c.put_byte.new.self c.put_byte.new.writer) (sym (no_escape c.args.b none (omega (arith, c.if-b-lt32.false)))) (c.put_byte.ensures start text h)

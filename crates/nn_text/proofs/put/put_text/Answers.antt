@@ -5,7 +5,7 @@ use Rattle.nn_text.proofs.put.put_text.Goals as goal
 
 pub returns-then-is_empty : goal.returns-then-is_empty
 returns-then-is_empty g c = λ start text h.
-    subst (λ t. HasPut start (text ++ t) c.put.new.self c.put.new.writer) (lent_root c.args.names.now (sym c.if-is_empty.ensures)) (c.put.ensures start text h)
+    subst (λ t. HasPut start (text ++ t) c.put_byte.new.self c.put_byte.new.writer) (lent_root c.args.names.now (sym c.if-is_empty.ensures)) (c.put_byte.ensures start text h)
 
 pub returns : goal.returns
 returns g c = λ start text h.

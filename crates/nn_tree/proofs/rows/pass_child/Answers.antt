@@ -9,4 +9,4 @@ returns-then-advance-clause-items c front dir split =
 pub returns-clause-items : goal.returns-clause-items
 returns-clause-items c front dir split =
     past_last c.args.dirs.now.items front c.args.dirs.now.len c.in-Some.dir.now dir c.in-Some.ensures.value c.args.dirs.now.ok.0 split
-    (record { depth = c.in-Some.dir.now.depth; bytes = c.in-Some.dir.now.bytes; children = c.advance.new.self }) c.pop.new.self.items (c.if-advance.ensures.last refl) c.pop.ensures.rest
+    (record { depth = c.in-Some.dir.now.depth; children = c.advance.new.self }) c.pop.new.self.items (c.if-advance.ensures.last refl) c.pop.ensures.rest

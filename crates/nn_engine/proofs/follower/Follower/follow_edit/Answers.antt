@@ -1,8 +1,9 @@
 use Rattle.std.proofs.Common.{◌≡◌, ◌+◌, None, Some, refl, sym, ap, ◌∙◌, subst}
 use Rattle.std.specs.Prelude.{◌&&◌, nat_lt, option_map}
+use Rattle.std.proofs.option.Match.{None-if_not_some}
 use Rattle.nn_segment.specs.LogEnd.{refused, disorder}
 use Rattle.nn_engine.specs.Following.{Following, FollowsEdit, stop_of}
-use Rattle.nn_engine.proofs.FollowerLemmas.{edit_applied, edit_refused, gap_found, none_of, passed_over}
+use Rattle.nn_engine.proofs.FollowerLemmas.{edit_applied, edit_refused, gap_found, passed_over}
 use Rattle.nn_engine.proofs.follower.Follower.follow_edit.Goals as goal
 
 pub returns-then-is_gap-clause-ok : goal.returns-then-is_gap-clause-ok
@@ -10,7 +11,7 @@ returns-then-is_gap-clause-ok c =
     let tx = c.args.tx.now in
     let f : Following = record { standby = c.self.inside.shadow; messages = c.self.inside.messages; stop = option_map stop_of c.self.inside.stop } in
     let g : Following = record f { stop = Some (record { cause = disorder; txid = c.last_txid-last.result + 1 }) } in
-    let none : f.stop ≡ None = ap (option_map stop_of) (none_of c.self.inside.stop (sym c.is_some.ensures ∙ c.if-is_some.false)) in
+    let none : f.stop ≡ None = ap (option_map stop_of) (None-if_not_some c.self.inside.stop (sym c.is_some.ensures ∙ c.if-is_some.false)) in
     let same : (c.args.begins && nat_lt (c.last_txid-last.result + 1) c.get-txid.result) ≡ (c.args.begins && nat_lt (f.standby.last + 1) tx.txid) =
     (λ j. c.args.begins && nat_lt (c.last_txid-last.ensures.last j + 1) (c.get-txid.ensures.value j)) in
     let stop : g.stop ≡ Some (record { cause = disorder; txid = f.standby.last + 1 }) = (λ j. Some (record { cause = disorder; txid = c.last_txid-last.ensures.last j + 1 })) in
@@ -21,7 +22,7 @@ pub returns-then-txid-last-clause-ok : goal.returns-then-txid-last-clause-ok
 returns-then-txid-last-clause-ok c =
     let tx = c.args.tx.now in
     let f : Following = record { standby = c.self.inside.shadow; messages = c.self.inside.messages; stop = option_map stop_of c.self.inside.stop } in
-    let none : f.stop ≡ None = ap (option_map stop_of) (none_of c.self.inside.stop (sym c.is_some.ensures ∙ c.if-is_some.false)) in
+    let none : f.stop ≡ None = ap (option_map stop_of) (None-if_not_some c.self.inside.stop (sym c.is_some.ensures ∙ c.if-is_some.false)) in
     let same : (c.args.begins && nat_lt (c.last_txid-last.result + 1) c.get-txid.result) ≡ (c.args.begins && nat_lt (f.standby.last + 1) tx.txid) =
     (λ j. c.args.begins && nat_lt (c.last_txid-last.ensures.last j + 1) (c.get-txid.ensures.value j)) in
     subst (λ x. FollowsEdit c.args.begins tx x x) c.self.view_is
@@ -33,7 +34,7 @@ returns-in-Err-clause-ok c =
     let tx = c.args.tx.now in
     let f : Following = record { standby = c.self.inside.shadow; messages = c.self.inside.messages; stop = option_map stop_of c.self.inside.stop } in
     let g : Following = record { standby = c.apply.new.shadow; messages = c.self.inside.messages; stop = Some (record { cause = refused c.in-Err.fault; txid = c.get-txid.result }) } in
-    let none : f.stop ≡ None = ap (option_map stop_of) (none_of c.self.inside.stop (sym c.is_some.ensures ∙ c.if-is_some.false)) in
+    let none : f.stop ≡ None = ap (option_map stop_of) (None-if_not_some c.self.inside.stop (sym c.is_some.ensures ∙ c.if-is_some.false)) in
     let same : (c.args.begins && nat_lt (c.last_txid-last.result + 1) c.get-txid.result) ≡ (c.args.begins && nat_lt (f.standby.last + 1) tx.txid) =
     (λ j. c.args.begins && nat_lt (c.last_txid-last.ensures.last j + 1) (c.get-txid.ensures.value j)) in
     let stop : g.stop ≡ Some (record { cause = refused c.in-Err.fault; txid = tx.txid }) = (λ j. Some (record { cause = refused c.in-Err.fault; txid = c.get-txid.ensures.value j })) in
@@ -46,7 +47,7 @@ returns-in_default-clause-ok c =
     let tx = c.args.tx.now in
     let f : Following = record { standby = c.self.inside.shadow; messages = c.self.inside.messages; stop = option_map stop_of c.self.inside.stop } in
     let g : Following = record f { standby = c.apply.new.shadow } in
-    let none : f.stop ≡ None = ap (option_map stop_of) (none_of c.self.inside.stop (sym c.is_some.ensures ∙ c.if-is_some.false)) in
+    let none : f.stop ≡ None = ap (option_map stop_of) (None-if_not_some c.self.inside.stop (sym c.is_some.ensures ∙ c.if-is_some.false)) in
     let same : (c.args.begins && nat_lt (c.last_txid-last.result + 1) c.get-txid.result) ≡ (c.args.begins && nat_lt (f.standby.last + 1) tx.txid) =
     (λ j. c.args.begins && nat_lt (c.last_txid-last.ensures.last j + 1) (c.get-txid.ensures.value j)) in
     subst (λ x. FollowsEdit c.args.begins tx x g) c.self.view_is

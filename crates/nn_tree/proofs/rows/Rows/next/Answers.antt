@@ -1,11 +1,10 @@
 use Rattle.std.proofs.Common.{◌≡◌, ◌-◌, List, length, take, ◌++◌, ◌∷◌, [], sym, ap, ◌∙◌, subst, arith}
 use Rattle.std.proofs.lemmas.List.{length-map}
 use Rattle.std.specs.Map.Iter.{deref}
-use Rattle.nn_tree.specs.Extent.{greatest_depth}
 use Rattle.nn_tree.specs.Found.{form_of}
 use Rattle.nn_tree.specs.Listing.{lent_names}
 use Rattle.nn_tree.specs.Nesting.{IsAtStart}
-use Rattle.nn_tree.specs.Rows.{Past, root_rows, rows_open, opened}
+use Rattle.nn_tree.specs.Rows.{Past, greatest_depth, root_rows, rows_open, opened}
 use Rattle.nn_tree.specs.declared.rows.OpenDir.{OpenDir}
 use Rattle.nn_tree.proofs.Nested.{root_room, child_room, looked_at, names_step, none_of, Step, step_gives, step_nested}
 use Rattle.nn_tree.proofs.rows.Rows.next.Goals as goal
@@ -51,7 +50,7 @@ past : (c : goal.After-top-2) → Past (front c) c.in-Some-last.dir.now c.pass_c
 past c = c.pass_child.ensures.items (front c) c.in-Some-last.dir.now (c.make_room-2.ensures.items ∙ split c)
 
 step : (c : goal.After-top-2) → Step c.self.inside.root (lent_names c.self.inside.names.items) (lent_names c.push_reserved.new.self.items) c.self.inside.dirs.items (front c) c.push_open-2.new.dirs.items
-    c.in-Some-last.dir.now c.children-inside-2.result (past c).0 c.text_below-self-inside.result
+    c.in-Some-last.dir.now c.children-inside-2.result (past c).0
 step c =
     let dir = c.in-Some-last.dir.now in
     let names = c.push_reserved.ensures.items ∙ ap (λ ns. ns ++ c.as_str.result ∷ []) (c.truncate.ensures.items ∙ ap (take dir.depth) c.name_room.ensures.items) in
@@ -64,17 +63,16 @@ step c =
       behind_it = (past c).1;
       named = names_step c.self.inside.names.items c.push_reserved.new.self.items dir.depth c.as_str.result names
           ∙ ap (λ n. take dir.depth (lent_names c.self.inside.names.items) ++ n ∷ []) c.as_str.ensures.value;
-      text = c.text_below-self-inside.ensures;
-      left = c.push_open-2.ensures.items ∙ (λ j. (past c).2 j ++ opened (long j) c.text_below-self-inside.result c.children-inside-2.result);
+      left = c.push_open-2.ensures.items ∙ (λ j. (past c).2 j ++ opened (long j) c.children-inside-2.result);
     }
 
 pub invariant_of-self-2 : goal.invariant_of-self-2
 invariant_of-self-2 c =
     step_nested c.self.inside.root (lent_names c.self.inside.names.items) (lent_names c.push_reserved.new.self.items) c.self.inside.dirs.items (front c) c.push_open-2.new.dirs.items
-    c.in-Some-last.dir.now c.children-inside-2.result (past c).0 c.text_below-self-inside.result (step c)
+    c.in-Some-last.dir.now c.children-inside-2.result (past c).0 (step c)
 
 pub returns-clause-row : goal.returns-clause-row
 returns-clause-row c =
     step_gives c.self.inside.root (lent_names c.self.inside.names.items) (lent_names c.push_reserved.new.self.items) c.self.inside.dirs.items (front c) c.push_open-2.new.dirs.items
-    c.in-Some-last.dir.now c.children-inside-2.result (past c).0 c.text_below-self-inside.result (step c)
+    c.in-Some-last.dir.now c.children-inside-2.result (past c).0 (step c)
     c.args.self.now.left (form_of c.top-2.result) (ap (λ w. w.left) c.self.view_is) c.top-2.ensures

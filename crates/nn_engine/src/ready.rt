@@ -1,0 +1,161 @@
+//! An output that is ready to be put: all memory that it wants is had.
+ghost use Rattle.std.specs.Prelude.{◌≡◌, ◌++◌, IfOk, option_map};
+ghost use Rattle.nn_device.specs.Page.{Puts};
+ghost use Rattle.nn_tree.specs.Rows.{extent_of};
+ghost use Rattle.nn_image.specs.Text.{image_text};
+ghost use Rattle.nn_listing.specs.Trail.{history_text};
+ghost use Rattle.nn_engine.specs.Output.{image_part};
+ghost use Rattle.nn_engine.specs.Pieces.{image_after};
+ghost use Rattle.nn_engine.specs.Shown.{history_part, listed_text, printed_of, shown};
+
+use crate::engine::Options;
+use crate::fault_line::FaultLine;
+use crate::output::Output;
+use nn_device::{Page, Writer};
+use nn_image::ReadyImage;
+use nn_listing::{ReadyListing, ReadyTables, put_history};
+use nn_shadow::Shadow;
+use nn_tree::Extent;
+use nn_types::{Event, Txid};
+use std::alloc::{AllocError, Global};
+use std::io::Write;
+use std::marker::Model;
+
+/// An output that is ready to be put.
+#[derive(Drop)]
+pub(crate) enum Ready<'a> {
+    Listing(ReadyParts<'a>),
+    Fault(&'a FaultLine),
+}
+
+/// The parts of a listing, one behind another.
+#[derive(Drop)]
+pub(crate) struct ReadyParts<'a> {
+    // none where no history is asked for
+    events: &'a [Event],
+    listing: ReadyListing<'a>,
+    tables: ReadyTables<'a>,
+    // none where none is asked for
+    image: Option<ReadyImage<'a>>,
+}
+
+impl<'a> Model for ReadyParts<'a> {
+    ghost use Rattle.std.specs.Prelude.{List, ℕ, ◌++◌};
+    ghost use Rattle.nn_listing.specs.Trail.{history_text};
+    ghost use Rattle.nn_engine.specs.Pieces.{image_after};
+
+    ghost Value = { List ℕ };
+
+    ghost view = { λ p. history_text p.events.now ++ ((p.listing ++ p.tables) ++ image_after p.image) };
+}
+
+impl<'a> Ready<'a> {
+    /// What is asked for of an output.
+    pub(crate) fn of(
+        alloc: Global,
+        options: &Options,
+        output: &'a Output,
+    ) -> Result<Ready<'a>, AllocError>
+        ensures { IfOk result (λ ready. printed_of ready ≡ shown options.now output.now) }
+    {
+        match output {
+            Output::Flushed(standby) => Ok(Ready::Listing(ReadyParts::of(
+                alloc, options, standby,
+            )?)),
+            Output::Fault(line) => Ok(Ready::Fault(line)),
+        }
+    }
+
+    /// The status that goes with it.
+    pub(crate) fn status(&self) -> u8
+        ensures { result ≡ (printed_of self.now).status }
+    {
+        match self {
+            Ready::Listing(_) => 0,
+            Ready::Fault(_) => 1,
+        }
+    }
+
+    /// Puts it on a page. It takes no memory.
+    pub(crate) fn put<W: Write>(self, page: &mut Page, writer: &mut Writer<W>)
+        ensures { Puts (printed_of self.entry).text page.old writer.old page.new writer.new }
+    {
+        match self {
+            Ready::Listing(parts) => parts.put(page, writer),
+            Ready::Fault(line) => line.put(page, writer),
+        }
+    }
+}
+
+impl<'a> ReadyParts<'a> {
+    fn of(
+        alloc: Global,
+        options: &Options,
+        standby: &'a Shadow,
+    ) -> Result<ReadyParts<'a>, AllocError>
+        ensures { IfOk result (λ parts. parts ≡ listed_text options.now standby.now) }
+    {
+        let namespace = standby.namespace();
+        let extent = namespace.extent()?;
+        let image = asked_image(alloc, options.image, standby, extent)?;
+        Ok(ReadyParts {
+            events: asked_history(options.history, standby),
+            listing: ReadyListing::of(namespace, extent, standby.last_txid())?,
+            tables: ReadyTables::of(alloc, standby.replicas(), standby.safe_mode())?,
+            image,
+        })
+    }
+
+    fn put<W: Write>(self, page: &mut Page, writer: &mut Writer<W>)
+        ensures { Puts self.entry page.old writer.old page.new writer.new }
+    {
+        let ReadyParts {
+            events,
+            listing,
+            tables,
+            image,
+        } = self;
+        put_history(page, writer, events);
+        listing.put(page, writer);
+        tables.put(page, writer);
+        let Some(image) = image else {
+            return;
+        };
+        page.put(writer, b"image\n");
+        image.put(page, writer);
+    }
+}
+
+// The history, where it is asked for.
+fn asked_history(asked: bool, standby: &Shadow) -> &[Event]
+    ensures { history_text result.now ≡ history_part asked standby.now.history }
+{
+    if asked { standby.history() } else { &[] }
+}
+
+// The image, where it is asked for.
+fn asked_image<'a>(
+    alloc: Global,
+    asked: bool,
+    standby: &'a Shadow,
+    extent: Extent,
+) -> Result<Option<ReadyImage<'a>>, AllocError>
+    requires { extent ≡ extent_of standby.now.namespace.rows }
+    ensures { IfOk result (λ image. image_after image ≡ image_part asked (record { last = standby.now.last; namespace = standby.now.namespace })) }
+{
+    if !asked {
+        return Ok(None);
+    }
+    let image = ReadyImage::of(alloc, standby.namespace(), extent, last_of(standby))?;
+    Ok(Some(image))
+}
+
+// The last txid of a standby, with which its image is saved.
+fn last_of(standby: &Shadow) -> Txid
+    ensures { result ≡ standby.now.last }
+{
+    match Txid::new(standby.last_txid()) {
+        Some(txid) => txid,
+        None => unreachable!(),
+    }
+}

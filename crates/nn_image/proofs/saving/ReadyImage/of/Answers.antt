@@ -1,0 +1,6 @@
+use Rattle.std.proofs.Common.{rules}
+use Rattle.nn_image.proofs.Writing.{whole_image}
+use Rattle.nn_image.proofs.saving.ReadyImage.of.Goals as goal
+
+pub returns : goal.returns
+returns c = whole_image c.args.namespace.now c.args.txid _ _ _ c.in-Ok.ensures c.in-Ok-rows_below_root.ensures.left (search rules)

@@ -1,0 +1,17 @@
+use Rattle.std.proofs.Common.{rules, ◌≡◌, ◌∷◌}
+use Rattle.nn_model.specs.declared.form.Form.{Form}
+use Rattle.nn_model.specs.Namespace.{Path}
+use Rattle.nn_tree.specs.Found.{form_of}
+use Rattle.nn_image.specs.Text.{row_lines}
+use Rattle.nn_image.proofs.Putting.{next_row, room_left}
+use Rattle.nn_image.proofs.saving.put_rows.Goals as goal
+
+pub rows-preserved : goal.rows-preserved
+rows-preserved g c =
+    let row : Path × Form = (c.next.new.self.names, form_of c.in-Some.found) in
+    let next : c.rows.rows.left ≡ row ∷ c.next.new.self.left = search rules in
+    record {
+      put = next_row (row_lines c.args.rows.left) c.args.page.now c.rows.page c.put_row.new.page c.args.writer.now c.rows.writer c.put_row.new.writer
+          row c.rows.rows.left c.next.new.self.left next c.rows.invariant.put (rw c.names.ensures at c.put_row.ensures);
+      room = room_left row c.rows.rows.left c.next.new.self.left c.rows.rows.room c.next.new.self.room next c.rows.invariant.room c.next.ensures.more_room;
+    }

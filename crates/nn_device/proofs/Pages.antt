@@ -1,5 +1,5 @@
 -- A text that is gathered, one piece further.
-use Rattle.std.proofs.Common.{◌≡◌, ◌<◌, ◌≤◌, ◌+◌, ℕ, suc, add-one, drop, get_or, length, true, false, List, [], ◌++◌, refl, sym, ap, ◌∙◌, subst, append-nil, append_assoc}
+use Rattle.std.proofs.Common.{◌≡◌, ◌<◌, ◌≤◌, ◌+◌, ℕ, suc, add-one, drop, get_or, length, true, false, List, [], ◌∷◌, ◌++◌, refl, sym, ap, ◌∙◌, subst, append-nil, append_assoc}
 use Rattle.std.specs.Prelude.{flat_map}
 use Rattle.std.proofs.Math.Seq.{drop-cons}
 use Rattle.std.proofs.lemmas.List.{drop_all}
@@ -89,6 +89,10 @@ one_more text piece left p q r w x y h more = (h.0 ++ piece, h.1 ∙ sym (append
 pub all_of : (text : List ℕ) (p q : Gathered) (w x : Writing) → PutsAllBut text [] p w q x → Puts text p w q x
 all_of text p q w x h = subst (λ t. Puts t p w q x) (sym (h.1 ∙ append-nil h.0)) h.2
 
+-- behind a failed write what is left may be left out
+pub rest_dropped : (text left : List ℕ) (p q : Gathered) (w x : Writing) → q.lost ≡ true → PutsAllBut text left p w q x → Puts text p w q x
+rest_dropped text left p q w x lost h = subst (λ t. Puts t p w q x) (sym h.1) (puts_both h.0 left p q q w x x h.2 (piece_dropped q left x lost))
+
 -- the next of pieces that are made of a list
 pub next_of : {X : Type 0} (f : X → List ℕ) (xs : List X) (i : ℕ) (d : X) (p q r : Gathered) (w x y : Writing) → i < length xs
     → PutsAllBut (flat_map f xs) (flat_map f (drop i xs)) p w q x → Puts (f (get_or xs i d)) q x r y → PutsAllBut (flat_map f xs) (flat_map f (drop (i + 1) xs)) p w r y
@@ -101,3 +105,9 @@ next_of f xs i d p q r w x y within h more =
 pub last_of : {X : Type 0} (f : X → List ℕ) (xs : List X) (i : ℕ) (p q : Gathered) (w x : Writing) → length xs ≤ i
     → PutsAllBut (flat_map f xs) (flat_map f (drop i xs)) p w q x → Puts (flat_map f xs) p w q x
 last_of f xs i p q w x past h = all_of (flat_map f xs) p q w x (subst (λ l. PutsAllBut (flat_map f xs) (flat_map f l) p w q x) (drop_all i xs past) h)
+
+-- the first of those that are left
+pub next_first : {X : Type 0} (f : X → List ℕ) (text : List ℕ) (first : X) (left more : List X) (p q r : Gathered) (w x y : Writing) → left ≡ first ∷ more
+    → PutsAllBut text (flat_map f left) p w q x → Puts (f first) q x r y → PutsAllBut text (flat_map f more) p w r y
+next_first f text first left more p q r w x y is h put =
+    one_more text (f first) (flat_map f more) p q r w x y (subst (λ l. PutsAllBut text (flat_map f l) p w q x) is h) put

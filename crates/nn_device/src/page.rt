@@ -16,7 +16,7 @@ use std::marker::Model;
 const PART: usize = 65_536;
 
 /// Gathers a text piece by piece, and writes it in parts of some 65,536 bytes. No piece is refused: one for which there is no
-/// memory is written at once, and what comes behind a failed write is let go. `end` tells of that write.
+/// memory is written at once, and what comes behind a failed write is let go. `end` tells of that write, and so does `has_failed` before the end.
 #[derive(Drop)]
 pub struct Page {
     // what is to be written
@@ -69,6 +69,13 @@ impl Page {
             self.write(writer);
             self.write_piece(writer, &[byte]);
         }
+    }
+
+    /// Whether a write failed. Whoever puts a long text may end it then: no more of it is written.
+    pub fn has_failed(&self) -> bool
+        ensures { result ≡ self.now.lost }
+    {
+        self.lost
     }
 
     /// Writes the rest of the text.

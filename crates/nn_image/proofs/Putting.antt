@@ -12,7 +12,7 @@ use Rattle.nn_device.specs.Parts.{TookFront}
 use Rattle.nn_device.specs.declared.writer.Unwritten.TheVariants.{OutOfMemory}
 use Rattle.nn_device.proofs.Pages.{one_more, all_of}
 use Rattle.nn_tree.specs.Rows.{greatest_depth}
-use Rattle.nn_image.specs.Text.{feed, block_data, block_items, header_data, body_text, image_text, line_of, row_data, row_lines}
+use Rattle.nn_image.specs.Text.{feed, block_data, block_items, header_data, body_text, image_text, line_of}
 
 module _ (text : List ℕ) (p q r : Gathered) (w x y : Writing) where
   -- a comma and the next of the blocks
@@ -28,12 +28,6 @@ module _ (text : List ℕ) (p q r : Gathered) (w x y : Writing) where
       → Puts (codes "]") q x r y → Puts text p w r y
   last_bracket bs i past h more =
       all_of text p r w y (one_more text (codes "]") [] p q r w x y (subst (λ l. PutsAllBut text (items_text true (block_items l)) p w q x) (drop_all i bs past) h) more)
-
-  -- the line of the next row
-  pub next_row : (row : Path × Form) (rows more : List (Path × Form)) → rows ≡ row ∷ more → PutsAllBut text (row_lines rows) p w q x
-      → Puts (line_of (row_data row)) q x r y → PutsAllBut text (row_lines more) p w r y
-  next_row row rows more is h put =
-      one_more text (line_of (row_data row)) (row_lines more) p q r w x y (subst (λ l. PutsAllBut text (row_lines l) p w q x) is h) put
 
 -- a text that was put on a new page
 pub all_put : (start now : Writing) (page page' : Gathered) (put text : List ℕ) → put ≡ text → ((s : Writing) → HasPut s [] page s)

@@ -62,12 +62,8 @@ impl<'a> ReadyImage<'a> {
         requires { extent ≡ extent_of namespace.now.rows }
         ensures { IfOk result (λ image. image ≡ image_text namespace.now txid) }
     {
-        let Ok(head) = head_line(alloc, namespace, txid) else {
-            return Err(AllocError);
-        };
-        let Ok(rows) = rows_below_root(namespace, extent.depth) else {
-            return Err(AllocError);
-        };
+        let head = head_line(alloc, namespace, txid)?;
+        let rows = rows_below_root(namespace, extent.depth)?;
         let paths = extent.paths.saturating_sub(1);
         Ok(ReadyImage { head, rows, paths })
     }
@@ -127,9 +123,7 @@ fn ready_image<'a>(
 ) -> Result<ReadyImage<'a>, AllocError>
     ensures { IfOk result (λ image. image ≡ image_text namespace.now txid) }
 {
-    let Ok(extent) = namespace.extent() else {
-        return Err(AllocError);
-    };
+    let extent = namespace.extent()?;
     ReadyImage::of(alloc, namespace, extent, txid)
 }
 
@@ -141,12 +135,12 @@ fn is_read_back(namespace: &Namespace, txid: Txid)
     txid.get();
 }
 
-// The line of each row. A walk that has its room wants no more memory.
+// Puts the line of each of these rows. A walk that has its room wants no more memory.
 fn put_rows<W: Write>(page: &mut Page, writer: &mut Writer<W>, mut rows: Rows<'_>)
     requires { greatest_depth rows.left ≤ rows.room }
     ensures { Puts (row_lines rows.entry.left) page.old writer.old page.new writer.new }
 {
-    'rows: loop {
+    'rows: while !page.has_failed() {
         let Ok(next) = rows.next() else {
             unreachable!();
         };
@@ -157,7 +151,7 @@ fn put_rows<W: Write>(page: &mut Page, writer: &mut Writer<W>, mut rows: Rows<'_
     }
 }
 
-// The line of the number of paths.
+// Puts the line of the number of paths.
 fn put_end<W: Write>(page: &mut Page, writer: &mut Writer<W>, paths: u64)
     ensures { Puts (line_of (end_data paths)) page.old writer.old page.new writer.new }
 {
@@ -181,9 +175,7 @@ fn rows_below_root(namespace: &Namespace, depth: usize) -> Result<Rows<'_>, Allo
 fn head_line(alloc: Global, namespace: &Namespace, txid: Txid) -> Result<String, AllocError>
     ensures { IfOk result (λ s. string_bytes s ≡ line_of (header_data namespace.now txid)) }
 {
-    let Ok(value) = header_value(alloc, namespace, txid) else {
-        return Err(AllocError);
-    };
+    let value = header_value(alloc, namespace, txid)?;
     line(alloc, &value)
 }
 

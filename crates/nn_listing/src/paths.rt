@@ -100,13 +100,12 @@ fn listing_of(namespace: &Namespace, last: u64) -> Result<ReadyListing<'_>, Allo
     ReadyListing::of(namespace, extent, last)
 }
 
-// Puts the line of each of these rows.
-fn put_rows<W: Write>(page: &mut Page, writer: &mut Writer<W>, rows: Rows<'_>)
+// Puts the line of each of these rows. A walk that has its room wants no more memory.
+fn put_rows<W: Write>(page: &mut Page, writer: &mut Writer<W>, mut rows: Rows<'_>)
     requires { greatest_depth rows.left ≤ rows.room }
     ensures { Puts (flat_map row_line rows.entry.left) page.old writer.old page.new writer.new }
 {
-    let mut rows = rows;
-    'rows: loop {
+    'rows: while !page.has_failed() {
         let Ok(next) = rows.next() else {
             unreachable!();
         };

@@ -1,7 +1,7 @@
-use Rattle.std.proofs.Common.{rules, ◌≡◌, ◌∷◌, ap, subst, arith}
+use Rattle.std.proofs.Common.{rules, ◌≡◌, ◌∷◌, true, ap, arith}
 use Rattle.std.specs.Prelude.{flat_map}
-use Rattle.nn_device.specs.Page.{Puts, PutsAllBut}
-use Rattle.nn_device.proofs.Pages.{one_more}
+use Rattle.nn_device.specs.Page.{Puts}
+use Rattle.nn_device.proofs.Pages.{next_first, rest_dropped}
 use Rattle.nn_model.specs.declared.form.Form.{Form}
 use Rattle.nn_model.specs.Namespace.{Path}
 use Rattle.nn_tree.specs.Found.{form_of}
@@ -12,10 +12,14 @@ use Rattle.nn_listing.proofs.paths.put_rows.Goals as goal
 pub rows-preserved : goal.rows-preserved
 rows-preserved g c =
     let row : Path × Form = (c.next.new.self.names, form_of c.in-Some.found) in
-    let all = flat_map row_line c.args.rows.left in
     let next : c.rows.rows.left ≡ row ∷ c.next.new.self.left = search rules in
     let line : Puts (row_line row) c.rows.page c.rows.writer c.put_line.new.page c.put_line.new.writer = search rules in (
-      one_more all (row_line row) (flat_map row_line c.next.new.self.left) c.args.page.now c.rows.page c.put_line.new.page c.args.writer.now c.rows.writer c.put_line.new.writer
-          (subst (λ rows. PutsAllBut all (flat_map row_line rows) c.args.page.now c.args.writer.now c.rows.page c.rows.writer) next c.rows.invariant.0) line,
+      next_first row_line (flat_map row_line c.args.rows.left) row c.rows.rows.left c.next.new.self.left c.args.page.now c.rows.page c.put_line.new.page
+          c.args.writer.now c.rows.writer c.put_line.new.writer next c.rows.invariant.0 line,
       omega (arith, ap greatest_depth next, c.rows.invariant.1, c.in-Ok.ensures.more_room),
     )
+
+pub returns : goal.returns
+returns g c =
+    let lost : c.rows.page.lost ≡ true = search rules in
+    rest_dropped (flat_map row_line c.args.rows.left) (flat_map row_line c.rows.rows.left) c.args.page.now c.rows.page c.args.writer.now c.rows.writer lost c.rows.invariant.0

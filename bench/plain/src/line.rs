@@ -28,6 +28,11 @@ impl<'a> PathText<'a> {
         }
     }
 
+    /// The text without its leading slash. That of the root is empty.
+    pub fn below_root(&self) -> &str {
+        &self.0[1..]
+    }
+
     /// The parent, without its leading slash and empty for the root, and the last name. The root has neither.
     pub fn split_last(&self) -> Option<(&str, &str)> {
         let text = &self.0[1..];

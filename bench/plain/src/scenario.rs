@@ -8,6 +8,7 @@ use std::io::{ErrorKind, Read};
 use crate::engine::{Engine, Settings};
 use crate::fault::{Fault, Refusal};
 use crate::fields::Fields;
+use crate::image;
 use crate::line::{Edit, Line, Tx};
 
 const MAX_LINE: usize = 65_536;
@@ -23,6 +24,8 @@ pub struct Lines<R> {
     end: usize,
     number: u64,
     bytes: usize,
+    /// How many bytes there may be. An image may have any number.
+    limit: usize,
     reads: u64,
     ended: bool,
 }
@@ -37,37 +40,55 @@ impl<R: Read> Lines<R> {
             end: 0,
             number: 0,
             bytes: 0,
+            limit: usize::MAX,
             reads: 0,
             ended: false,
         }
     }
 
-    /// The next line that isn't blank, with its number.
-    fn next(&mut self) -> Result<Option<(u64, &[u8])>, Refusal> {
-        let line = loop {
+    /// The scenario begins here: its bytes and its lines are counted.
+    fn begin_scenario(&mut self) -> Result<(), Refusal> {
+        self.number = 0;
+        self.bytes = self.end - self.start;
+        self.limit = MAX_INPUT;
+        self.check_bytes()
+    }
+
+    /// The next line with its line feed, which the last one may lack. At the end of the input it is empty.
+    pub fn next_whole(&mut self) -> Result<&[u8], Refusal> {
+        let mut seen = 0;
+        let len = loop {
             let rest = &self.buf[self.start..self.end];
-            let line = match memchr::memchr(b'\n', rest) {
-                Some(len) => {
-                    let line = self.start..self.start + len;
-                    self.start += len + 1;
-                    line
-                }
-                None if !self.ended => {
+            match memchr::memchr(b'\n', &rest[seen..]) {
+                Some(at) => break seen + at + 1,
+                None if self.ended => break rest.len(),
+                None => {
+                    seen = rest.len();
                     self.fill()?;
-                    continue;
                 }
-                None if rest.is_empty() => return Ok(None),
-                None => std::mem::replace(&mut self.start, self.end)..self.end,
-            };
-            self.number += 1;
-            if !self.buf[line.clone()]
-                .iter()
-                .all(|byte| matches!(byte, b' ' | b'\t' | b'\r'))
-            {
-                break line;
             }
         };
-        Ok(Some((self.number, &self.buf[line])))
+        let line = self.start..self.start + len;
+        self.start += len;
+        Ok(&self.buf[line])
+    }
+
+    /// The next line that isn't blank, with its number.
+    fn next(&mut self) -> Result<Option<(u64, &[u8])>, Refusal> {
+        let len = loop {
+            let line = self.next_whole()?;
+            if line.is_empty() {
+                return Ok(None);
+            }
+            let len = line.len();
+            let blank = line.iter().all(|byte| matches!(byte, b' ' | b'\t' | b'\r' | b'\n'));
+            self.number += 1;
+            if !blank {
+                break len;
+            }
+        };
+        let line = &self.buf[self.start - len..self.start];
+        Ok(Some((self.number, line.strip_suffix(b"\n").unwrap_or(line))))
     }
 
     /// Reads once, behind what was not yet given out.
@@ -91,22 +112,26 @@ impl<R: Read> Lines<R> {
             Err(error) if error.kind() == ErrorKind::Interrupted => {}
             Err(_) => return Err(Refusal::Input),
         }
-        if self.bytes > MAX_INPUT {
+        self.check_bytes()
+    }
+
+    fn check_bytes(&self) -> Result<(), Refusal> {
+        if self.bytes > self.limit {
             Err(Refusal::Input)
         } else {
             Ok(())
         }
     }
 
-    /// The refusal of a line: that of the input, where it has one, comes before it.
-    fn refusal(mut self, fault: Fault, line: u64) -> Refusal {
+    /// A refusal of a line or an image: that of the input, where it has one, comes before it.
+    fn refusal(mut self, refusal: Refusal) -> Refusal {
         while !self.ended {
             self.start = self.end;
             if let Err(refusal) = self.fill() {
                 return refusal;
             }
         }
-        Refusal::Line { fault, line }
+        refusal
     }
 }
 
@@ -190,14 +215,24 @@ impl Cutter {
     }
 }
 
-/// Reads and runs a scenario in one pass, in the order of its lines.
+/// Reads and runs a scenario in one pass, in the order of its lines. The image that it may start from stands before it.
 pub fn run_scenario(
     mut lines: Lines<impl Read>,
     read: impl Fn(&str) -> serde_json::Result<Fields<'_>>,
     settings: Settings,
+    from_image: bool,
 ) -> Result<Engine, Refusal> {
     let mut cutter = Cutter::default();
     let mut engine = Engine::new(settings);
+    let loaded = if from_image {
+        image::load(&mut lines, &mut engine)?
+    } else {
+        Ok(())
+    };
+    lines.begin_scenario()?;
+    if let Err(refusal) = loaded {
+        return Err(lines.refusal(refusal));
+    }
     let mut running = true;
     let mut stopped = Ok(());
     while let Some((number, text)) = lines.next()? {
@@ -211,7 +246,12 @@ pub fn run_scenario(
             }
             Ok(Line::Report(report)) if running => engine.hand(report),
             Ok(Line::Report(_)) => {}
-            Err(fault) => return Err(lines.refusal(fault, number)),
+            Err(fault) => {
+                return Err(lines.refusal(Refusal::Line {
+                    fault,
+                    line: number,
+                }))
+            }
         }
     }
     cutter.finish()?;

@@ -41,10 +41,13 @@ enum Key {
 }
 
 /// How a type is made of any JSON value: one `Visitor` serves all fields.
-trait FromJson<'de>: Sized {
+pub trait FromJson<'de>: Sized {
     /// Of a value that is none of those below.
     fn other() -> Self;
     fn whole(_: u64) -> Self {
+        Self::other()
+    }
+    fn truth(_: bool) -> Self {
         Self::other()
     }
     fn text(_: &str) -> Self {
@@ -62,12 +65,12 @@ trait FromJson<'de>: Sized {
     }
 }
 
-fn skip_rest<'de, A: SeqAccess<'de>>(mut seq: A) -> Result<(), A::Error> {
+pub fn skip_rest<'de, A: SeqAccess<'de>>(mut seq: A) -> Result<(), A::Error> {
     while seq.next_element::<Json<Skip>>()?.is_some() {}
     Ok(())
 }
 
-struct Json<T>(T);
+pub struct Json<T>(pub T);
 
 impl<'de, T: FromJson<'de>> Deserialize<'de> for Json<T> {
     #[inline]
@@ -87,8 +90,8 @@ impl<'de, T: FromJson<'de>> Deserialize<'de> for Json<T> {
             fn visit_f64<E: Error>(self, _: f64) -> Result<Json<T>, E> {
                 Ok(Json(T::other()))
             }
-            fn visit_bool<E: Error>(self, _: bool) -> Result<Json<T>, E> {
-                Ok(Json(T::other()))
+            fn visit_bool<E: Error>(self, truth: bool) -> Result<Json<T>, E> {
+                Ok(Json(T::truth(truth)))
             }
             fn visit_unit<E: Error>(self) -> Result<Json<T>, E> {
                 Ok(Json(T::other()))
@@ -110,11 +113,11 @@ impl<'de, T: FromJson<'de>> Deserialize<'de> for Json<T> {
     }
 }
 
-fn value<'de, T: FromJson<'de>, A: MapAccess<'de>>(map: &mut A) -> Result<T, A::Error> {
+pub fn value<'de, T: FromJson<'de>, A: MapAccess<'de>>(map: &mut A) -> Result<T, A::Error> {
     map.next_value::<Json<T>>().map(|json| json.0)
 }
 
-struct Skip;
+pub struct Skip;
 
 impl FromJson<'_> for Skip {
     fn other() -> Self {

@@ -1,5 +1,5 @@
 //! Readers and writers of images that fail, and readers that give little at a time.
-use nn_device::{Reader, Writer};
+use nn_device::{Page, Reader, Writer};
 use nn_image::{RewriteFault, SaveFault, load, rewrite, save};
 use nn_tree::Namespace;
 use nn_types::Txid;
@@ -96,7 +96,31 @@ impl Write for Stopping {
     }
 }
 
-// The same of an image that is rewritten, and then nothing is written.
+// A page writes each part as soon as it is full. Behind a write that fails it writes nothing more, and tells so.
+#[test]
+fn parts_of_a_page(rt: HostRuntime) {
+    let mut page = Page::new(rt.alloc());
+    let mut writer = Writer::new(Stopping::new(rt.alloc(), usize::MAX, 2, true));
+    for taken in [0u64, 65_600, 131_200, 131_200] {
+        assert!(rt; !page.has_failed());
+        put_part(&mut page, &mut writer);
+        assert_eq!(rt; writer.taken(), taken);
+    }
+    assert!(rt; page.has_failed());
+    assert!(rt; page.end(&mut writer).is_err());
+    let device = writer.into_inner();
+    assert_eq!(rt; device.writes, 3);
+    assert_eq!(rt; device.later, 0);
+}
+
+// 65,600 bytes, of which the last piece makes a part full.
+fn put_part(page: &mut Page, writer: &mut Writer<Stopping>) {
+    for _ in 0..656u64 {
+        page.put(writer, &[b'x'; 100]);
+    }
+}
+
+// A read that fails ends a rewrite, and then nothing is written.
 #[test]
 fn failing_readers_of_a_rewrite(rt: HostRuntime) {
     let reads = OLD_FILE.len() as u64 + 1;

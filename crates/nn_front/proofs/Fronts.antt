@@ -1,14 +1,17 @@
 -- The bytes of a front, one after another.
 use Rattle.std.proofs.Common.{◌≡◌, ◌≢◌, ◌⊎◌, ℕ, suc, ◌+◌, ◌-◌, ◌<◌, ◌≤◌, get_or, List, [], ◌∷◌, ◌++◌, length, take, drop, min, Bool, true, false, not, ◌&&◌, cond, eqb, Option, Some, None, inl, inr, refl, sym, ap, ◌∙◌, subst, arith, append_assoc, append-nil, drop_of_length-le, length-drop, take-append-drop}
 use Rattle.std.proofs.Math.Seq.{drop-cons}
-use Rattle.std.specs.Prelude.{option_map}
+use Rattle.std.specs.Prelude.{codes, is_some, option_map}
 use Rattle.std.specs.Str.{bytes_eq}
-use Rattle.std.proofs.lemmas.Bool.{and_parts, not-true, cases_lt}
+use Rattle.std.proofs.lemmas.Bool.{false≢true, and_parts, not-true, cases_lt}
 use Rattle.std.proofs.lemmas.Bool.Decides.{Decides-eqb}
+use Rattle.std.proofs.lemmas.Slice.Eq.{bytes_eq-Decides}
 use Rattle.std.proofs.lemmas.List.{drop-drop, take_all}
 use Rattle.nn_image.specs.Text.{feed}
 use Rattle.nn_segment.specs.Lines.{newline, is_unbroken}
-use Rattle.serde_json.specs.Data.{Data}
+use Rattle.serde_json.specs.Data.{Data, Members, object, put}
+use Rattle.serde_json.specs.Find.{get}
+use Rattle.serde_json.proofs.Views.{get_member-put, get_member-put_other}
 use Rattle.nn_image.specs.Reading.{◌>>=◌, object_of, object_only, value_of}
 use Rattle.nn_front.specs.Cut.{Cut, behind_mark, cut_from, divided, has_end, is_end_line, mark, onto, rest_of}
 use Rattle.nn_front.specs.Front.{FrontState, IsAt, IsFront, begun, ended_at, kept, kept_at, line_ended, room}
@@ -430,3 +433,16 @@ no_end_line line e = ap (λ v. has_end (v >>= object_only)) e
 pub end_line_of : (line : List ℕ) (d : Data) (b : Bool) → b ≡ has_end (object_only d) → Some d ≡ value_of line → b ≡ is_end_line line
 unfolding is_end_line object_of
 end_line_of line d b is e = is ∙ ap (λ v. has_end (v >>= object_only)) e
+
+-- ---- a member that is put to others
+
+-- with a member `end`
+pub end_put : (key : List ℕ) (d : Data) (ms : Members) → bytes_eq key (codes "end") ≡ true → true ≡ has_end (Some (object (put key d ms)))
+end_put key d ms same =
+    let is : codes "end" ≡ key = sym ((bytes_eq-Decides key (codes "end")).0 same) in
+    sym (ap (λ (k : List ℕ). is_some (get k (object (put key d ms)))) is ∙ ap is_some (get_member-put key d ms))
+
+-- with any other one
+pub end_kept : (key : List ℕ) (d : Data) (ms : Members) → bytes_eq key (codes "end") ≡ false → has_end (Some (object ms)) ≡ has_end (Some (object (put key d ms)))
+end_kept key d ms other =
+    sym (ap is_some (get_member-put_other (codes "end") key d ms (λ (h : codes "end" ≡ key). false≢true (sym other ∙ (bytes_eq-Decides key (codes "end")).1 (sym h)))))

@@ -17,3 +17,4 @@ pub mod Images
 pub mod PathsRead
 pub mod RowTexts
 pub mod Putting
+pub mod PlainRows

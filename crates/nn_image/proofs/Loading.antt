@@ -7,18 +7,20 @@ use Rattle.std.proofs.lemmas.List.Splits.{slice_split_at, slice_split_none}
 use Rattle.nn_image.specs.declared.lines.Line.{Line}
 use Rattle.nn_image.specs.Text.{feed}
 use Rattle.nn_image.specs.Lines.{ahead, no_feed, spelled, IsNext}
-use Rattle.nn_image.specs.Reading.{pieces_of, object_of, all_from, rows_from, by_value, by_key, of_header, of_version, number_in, number_of, next_line, at_end, nothing_more, with_next, row_in, read_image, ◌then◌}
+use Rattle.nn_image.specs.Reading.{pieces_of, object_of, all_from, rows_from, by_value, of_header, of_version, number_in, next_line, at_end, nothing_more, with_next, read_image, ◌then◌}
 use Rattle.std.proofs.lemmas.Bool.Decides.{Decides-eqb}
 use Rattle.std.specs.Prelude.{codes}
 use Rattle.serde_json.specs.Data.{Data}
-use Rattle.serde_json.specs.Find.{get}
-use Rattle.nn_model.specs.Namespace.{Issued, Namespace}
+use Rattle.nn_model.specs.declared.form.Form.{Form}
+use Rattle.nn_model.specs.Namespace.{Path, Issued, Namespace}
+use Rattle.nn_image.specs.declared.row_line.RowLine.{RowLine}
+use Rattle.nn_image.specs.declared.row_line.RowLine.TheVariants.{Row, End, Bad}
 use Rattle.nn_tree.specs.Restore.{bare}
 use Rattle.std.proofs.KnownBytes.{prepend_known-nil}
 use Rattle.nn_image.specs.declared.fault.ImageFault.{ImageFault}
 use Rattle.nn_image.specs.declared.fault.ImageFault.TheVariants.{NotHeader, BadLine, WrongOrder, CountMismatch, Truncated, BadVersion, ReadFault, OutOfMemory}
 use Rattle.nn_image.specs.Outcome.{Fails, IsOfDevice}
-use Rattle.nn_image.specs.Loading.{Stops, GoesOn, Ends, GivesObject, IsTorn, IsLoading, rows_of, rows_by, after_end, all_of, with_txid}
+use Rattle.nn_image.specs.Loading.{Stops, GoesOn, Ends, GivesLine, IsTorn, IsLoading, rows_of, after_end, by_read, IsReadAs, all_of, with_txid}
 use Rattle.nn_image.proofs.Round.{some_piece, rows_turn, all_turn}
 
 and_true : (a b : Bool) → (a && b) ≡ true → (a ≡ true) × (b ≡ true)
@@ -90,46 +92,61 @@ pub torn_stops : {X : Type 0} (known : Option (List ℕ)) (e : ImageFault) (f : 
 torn_stops known e f (inl device) h text is = device_stops e (f text) device
 torn_stops known e f (inr torn) h text is = subst (λ e. Fails e (f text)) (sym torn.0) (let k = torn.1 text is in h text k.0 k.1)
 
--- ---- objects
+-- ---- lines
 
-pub object_piece : (old new : Option (List ℕ)) (l : Line) (o : Option Data) → IsNext old new l → l.whole ≡ true → o ≡ object_of l.text.items → GivesObject old new o
-object_piece old new l o h whole e text is = let k = next_piece old new l h whole text is in (l.text.items, k.0, k.1, k.2, e)
+pub line_piece : (old new : Option (List ℕ)) (l : Line) → IsNext old new l → l.whole ≡ true → GivesLine old new l.text.items
+line_piece old new l h whole text is = next_piece old new l h whole text is
 
 pub torn_piece : (old new : Option (List ℕ)) (l : Line) → IsNext old new l → l.whole ≡ false → IsTorn old
 torn_piece old new l h part text is = (l.text.items, last_piece old new l h part text is)
 
-module _ (old new : Option (List ℕ)) where
-  pub header_none : GivesObject old new None → (text : List ℕ) → old ≡ Some text → all_of text ≡ Err NotHeader
-  header_none h text is =
-      let k = h text is in
-      ap all_from k.3 ∙ all_turn k.0 (pieces_of k.1) (some_piece k.1) ∙ ap (λ o. of_header o then (λ head. rows_from head.0 (pieces_of k.1) then (λ n. Ok (n, head.1)))) (sym k.4)
-
-  pub header_some : (d : Data) → GivesObject old new (Some d) → (head : Namespace × ℕ) → of_version d (number_in (codes "version") d) ≡ Ok head
-      → GoesOn old new all_of (λ left. with_txid head.1 (rows_of head.0 left))
-  header_some d h head e text is =
+module _ (old new : Option (List ℕ)) (line : List ℕ) (h : GivesLine old new line) where
+  -- the line as that of the header
+  as_header : (o : Option Data) → object_of line ≡ o → (text : List ℕ) → old ≡ Some text
+      → (left : List ℕ) × (new ≡ Some left) × (all_of text ≡ (of_header o then (λ head. with_txid head.1 (rows_of head.0 left))))
+  as_header o there text is =
       let k = h text is in (
+        k.0,
         k.1,
-        k.2,
-        ap all_from k.3 ∙ all_turn k.0 (pieces_of k.1) (some_piece k.1) ∙ ap (λ o. of_header o then (λ head. rows_from head.0 (pieces_of k.1) then (λ n. Ok (n, head.1)))) (sym k.4)
-            ∙ ap (λ r. r then (λ head. rows_from head.0 (pieces_of k.1) then (λ n. Ok (n, head.1)))) e,
+        ap all_from k.2 ∙ all_turn line (pieces_of k.0) (some_piece k.0) ∙ ap (λ o. of_header o then (λ head. with_txid head.1 (rows_of head.0 k.0))) there,
       )
 
-  pub header_fails : (d : Data) → GivesObject old new (Some d) → (e : ImageFault) → Fails e (of_version d (number_in (codes "version") d)) → Stops old e all_of
-  header_fails d h e f text is =
-      let k = h text is in
-      fails_on e (of_version d (number_in (codes "version") d)) (all_of text)
-      (λ r. ap all_from k.3 ∙ all_turn k.0 (pieces_of k.1) (some_piece k.1) ∙ ap (λ o. of_header o then (λ head. rows_from head.0 (pieces_of k.1) then (λ n. Ok (n, head.1)))) (sym k.4)
-      ∙ ap (λ r. r then (λ head. rows_from head.0 (pieces_of k.1) then (λ n. Ok (n, head.1)))) r) f
+  pub header_none : object_of line ≡ None → (text : List ℕ) → old ≡ Some text → all_of text ≡ Err NotHeader
+  header_none none text is = let k = as_header None none text is in k.2
 
-  pub rows_none : GivesObject old new None → (n : Namespace) (number : ℕ) → next_line n ≡ number → (text : List ℕ) → old ≡ Some text → rows_of n text ≡ Err (BadLine number)
-  rows_none h n number at text is =
-      let k = h text is in
-      ap (rows_from n) k.3 ∙ rows_turn n k.0 (pieces_of k.1) (some_piece k.1) ∙ ap (by_value n (pieces_of k.1) (λ m. rows_from m (pieces_of k.1))) (sym k.4) ∙ ap (λ l. Err (BadLine l)) at
+  module _ (d : Data) (there : object_of line ≡ Some d) where
+    pub header_some : (head : Namespace × ℕ) → of_version d (number_in (codes "version") d) ≡ Ok head → GoesOn old new all_of (λ left. with_txid head.1 (rows_of head.0 left))
+    header_some head e text is =
+        let k = as_header (Some d) there text is in
+        (k.0, k.1, k.2 ∙ ap (λ r. r then (λ head. with_txid head.1 (rows_of head.0 k.0))) e)
 
-  pub rows_some : (d : Data) → GivesObject old new (Some d) → (n : Namespace) → GoesOn old new (rows_of n) (rows_by n d)
-  rows_some d h n text is =
-      let k = h text is in
-      (k.1, k.2, ap (rows_from n) k.3 ∙ rows_turn n k.0 (pieces_of k.1) (some_piece k.1) ∙ ap (by_value n (pieces_of k.1) (λ m. rows_from m (pieces_of k.1))) (sym k.4))
+    pub header_fails : (e : ImageFault) → Fails e (of_version d (number_in (codes "version") d)) → Stops old e all_of
+    header_fails e f text is =
+        let k = as_header (Some d) there text is in
+        fails_on e (of_version d (number_in (codes "version") d)) (all_of text) (λ r. k.2 ∙ ap (λ r. r then (λ head. with_txid head.1 (rows_of head.0 k.0))) r) f
+
+  module _ (n : Namespace) where
+    -- the line as one behind the header
+    as_row : (text : List ℕ) → old ≡ Some text → (left : List ℕ) × (new ≡ Some left) × (rows_of n text ≡ by_value n (pieces_of left) (λ m. rows_of m left) (object_of line))
+    as_row text known = let k = h text known in (k.0, k.1, ap (rows_from n) k.2 ∙ rows_turn n line (pieces_of k.0) (some_piece k.0))
+
+    as_read : (r : RowLine) → IsReadAs line r → (text : List ℕ) → old ≡ Some text
+        → (left : List ℕ) × (new ≡ Some left) × (rows_of n text ≡ by_read n (pieces_of left) (λ m. rows_of m left) r)
+    as_read r is text known = let k = as_row text known in (k.0, k.1, k.2 ∙ is n (pieces_of k.0) (λ m. rows_of m k.0))
+
+    pub row_turn : (m : Namespace) (path : Path) (form : Form) → IsReadAs line (Row path form) → with_next n (Some (path, form)) ≡ Ok m → GoesOn old new (rows_of n) (rows_of m)
+    row_turn m path form is e text known = let k = as_read (Row path form) is text known in (k.0, k.1, k.2 ∙ ap (λ r. r then (λ m. rows_of m k.0)) e)
+
+    pub row_fails : (e : ImageFault) (path : Path) (form : Form) → IsReadAs line (Row path form) → Fails e (with_next n (Some (path, form))) → Stops old e (rows_of n)
+    row_fails e path form is f text known =
+        let k = as_read (Row path form) is text known in
+        fails_on e (with_next n (Some (path, form))) (rows_of n text) (λ r. k.2 ∙ ap (λ r. r then (λ m. rows_of m k.0)) r) f
+
+    pub end_turn : (count : Option ℕ) → IsReadAs line (End count) → GoesOn old new (rows_of n) (after_end n count)
+    end_turn count is = as_read (End count) is
+
+    pub row_bad : (number : ℕ) → next_line n ≡ number → IsReadAs line Bad → (text : List ℕ) → old ≡ Some text → rows_of n text ≡ Err (BadLine number)
+    row_bad number at is text known = let k = as_read Bad is text known in k.2 ∙ ap (λ l. Err (BadLine l)) at
 
 pub torn_rows : (n : Namespace) (text torn : List ℕ) → pieces_of text ≡ torn ∷ [] → rows_of n text ≡ Err Truncated
 unfolding rows_from
@@ -151,11 +168,11 @@ count_not n number count pieces at h = test (eqb count (length n.rows - 1)) refl
     test true e = let same : count ≡ length n.rows - 1 = (Decides-eqb count (length n.rows - 1)).0 e in absurd (h (omega arith))
     test false e = refl
 
-module _ (n : Namespace) (number count : ℕ) (at : next_line n ≡ number) (same : count ≡ number - 2) (d : Data) (is : number_of d ≡ Some count) (old new : Option (List ℕ)) (l : Line) (h : IsNext old new l) (text : List ℕ) (known : old ≡ Some text) where
-  counted : after_end n d text ≡ nothing_more n (pieces_of text)
+module _ (n : Namespace) (number count : ℕ) (at : next_line n ≡ number) (same : count ≡ number - 2) (o : Option ℕ) (is : o ≡ Some count) (old new : Option (List ℕ)) (l : Line) (h : IsNext old new l) (text : List ℕ) (known : old ≡ Some text) where
+  counted : after_end n o text ≡ nothing_more n (pieces_of text)
   counted = ap (λ o. at_end n o (pieces_of text)) is ∙ rw (count_is n number count at same) refl
 
-  pub end_more : l.whole ≡ true → after_end n d text ≡ Err (BadLine (number + 1))
+  pub end_more : l.whole ≡ true → after_end n o text ≡ Err (BadLine (number + 1))
   end_more whole =
       let k = next_piece old new l h whole text known in
       counted ∙ ap (nothing_more n) k.2 ∙ more l.text.items (pieces_of k.0) (some_piece k.0) ∙ ap (λ m. Err (BadLine (m + 1))) at
@@ -166,35 +183,17 @@ module _ (n : Namespace) (number count : ℕ) (at : next_line n ≡ number) (sam
       more [] (next ∷ pieces) some = refl
       more (b ∷ line) (next ∷ pieces) some = refl
 
-  pub end_torn : l.whole ≡ false → (l.text.items ≡ [] → ⊥) → after_end n d text ≡ Err Truncated
+  pub end_torn : l.whole ≡ false → (l.text.items ≡ [] → ⊥) → after_end n o text ≡ Err Truncated
   end_torn part some = counted ∙ ap (nothing_more n) (last_piece old new l h part text known) ∙ torn l.text.items some
     where
       torn : (line : List ℕ) → (line ≡ [] → ⊥) → nothing_more n (line ∷ []) ≡ Err Truncated
       torn [] some = absurd (some refl)
       torn (b ∷ line) some = refl
 
-  pub end_ok : l.whole ≡ false → l.text.items ≡ [] → (after_end n d text ≡ Ok n) × IsAtEnd new
+  pub end_ok : l.whole ≡ false → l.text.items ≡ [] → (after_end n o text ≡ Ok n) × IsAtEnd new
   end_ok part none = (counted ∙ ap (nothing_more n) (last_piece old new l h part text known ∙ ap (λ line. line ∷ []) none), h.last part)
 
--- ---- a row
-
-module _ (old mid new : Option (List ℕ)) (n0 n m : Namespace) (d : Data) (so_far : GoesOn old mid (rows_of n0) (rows_of n)) (line : GoesOn mid new (rows_of n) (rows_by n d)) where
-  on_line : GoesOn old new (rows_of n0) (rows_by n d)
-  on_line text is = let k = so_far text is in let j = line k.0 k.1 in (j.0, j.1, k.2 ∙ j.2)
-
-  pub row_turn : get (codes "end") d ≡ None → with_next n (row_in d) ≡ Ok m → GoesOn old new (rows_of n0) (rows_of m)
-  row_turn none e text is =
-      let k = on_line text is in
-      (k.0, k.1, k.2 ∙ ap (by_key n d (pieces_of k.0) (λ m. rows_of m k.0)) none ∙ ap (λ r. r then (λ m. rows_of m k.0)) e)
-
-  pub row_fails : (e : ImageFault) → get (codes "end") d ≡ None → Fails e (with_next n (row_in d)) → Stops old e (rows_of n0)
-  row_fails e none f text is =
-      let k = on_line text is in
-      fails_on e (with_next n (row_in d)) (rows_of n0 text)
-      (λ r. k.2 ∙ ap (by_key n d (pieces_of k.0) (λ m. rows_of m k.0)) none ∙ ap (λ r. r then (λ m. rows_of m k.0)) r) f
-
-  pub end_turn : (count : Data) → get (codes "end") d ≡ Some count → GoesOn old new (rows_of n0) (after_end n count)
-  end_turn count some text is = let k = on_line text is in (k.0, k.1, k.2 ∙ ap (by_key n d (pieces_of k.0) (λ m. rows_of m k.0)) some)
+-- ---- one after another
 
 pub ends_turn : {X : Type 0} (old mid new : Option (List ℕ)) (f g : List ℕ → Result X ImageFault) (x : X) → GoesOn old mid f g → Ends mid new g x → Ends old new f x
 ends_turn old mid new f g x on ends text is = let k = on text is in let j = ends k.0 k.1 in (k.2 ∙ j.0, j.1)

@@ -14,3 +14,4 @@ pub mod ImageRows
 pub mod TextRows
 pub mod DeviceRows
 pub mod RewritingRows
+pub mod Plain

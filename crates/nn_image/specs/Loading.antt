@@ -1,13 +1,14 @@
 -- What the calls that read an image say of the bytes to come, where those are known.
-use Rattle.std.specs.Prelude.{◌≡◌, ℕ, List, IsTrue, Option, Some, Result, Ok, codes, [], ◌∷◌}
+use Rattle.std.specs.Prelude.{◌≡◌, ◌<◌, ◌^◌, ℕ, List, IsTrue, IfSome, Option, Some, Result, Ok, Err, [], ◌∷◌}
 use Rattle.std.specs.Io.KnownBytes.{IsAtEnd}
 use Rattle.std.specs.FinMap.Entries.{is_sorted}
-use Rattle.serde_json.specs.Data.{Data}
-use Rattle.serde_json.specs.Find.{get}
 use Rattle.nn_model.specs.Namespace.{Path, path_cmp, Namespace}
 use Rattle.nn_image.specs.declared.fault.ImageFault.{ImageFault}
 use Rattle.nn_image.specs.Outcome.{Fails}
-use Rattle.nn_image.specs.Reading.{last_path, next_line, by_key, rows_from, at_end, number_of, pieces_of, all_from, object_of, ◌then◌}
+use Rattle.nn_image.specs.Reading.{last_path, next_line, with_next, by_value, rows_from, at_end, pieces_of, all_from, ◌then◌, object_of}
+use Rattle.nn_image.specs.declared.row_line.RowLine.{RowLine}
+use Rattle.nn_image.specs.declared.row_line.RowLine.TheVariants.{Row, End, Bad}
+use Rattle.nn_image.specs.declared.fault.ImageFault.TheVariants.{BadLine}
 
 -- the known bytes make the definition fail in this way, unless a read failed or memory ran out
 abbrev pub Stops : {X : Type 0} → Option (List ℕ) → ImageFault → (List ℕ → Result X ImageFault) → Type 0
@@ -21,10 +22,9 @@ GoesOn old new f g = (text : List ℕ) → old ≡ Some text → (left : List �
 abbrev pub Ends : {X : Type 0} → Option (List ℕ) → Option (List ℕ) → (List ℕ → Result X ImageFault) → X → Type 0
 Ends old new f x = (text : List ℕ) → old ≡ Some text → (f text ≡ Ok x) × IsAtEnd new
 
--- the next line is whole, and this is its object
-abbrev pub GivesObject : Option (List ℕ) → Option (List ℕ) → Option Data → Type 0
-GivesObject old new o = (text : List ℕ) → old ≡ Some text
-    → (line : List ℕ) × (left : List ℕ) × (new ≡ Some left) × (pieces_of text ≡ line ∷ pieces_of left) × (o ≡ object_of line)
+-- the next line is whole, and this is its text
+abbrev pub GivesLine : Option (List ℕ) → Option (List ℕ) → List ℕ → Type 0
+GivesLine old new line = (text : List ℕ) → old ≡ Some text → (left : List ℕ) × (new ≡ Some left) × (pieces_of text ≡ line ∷ pieces_of left)
 
 -- the known bytes have no whole line
 abbrev pub IsTorn : Option (List ℕ) → Type 0
@@ -33,12 +33,23 @@ IsTorn known = (text : List ℕ) → known ≡ Some text → (torn : List ℕ) �
 abbrev pub rows_of : Namespace → List ℕ → Result Namespace ImageFault
 rows_of n text = rows_from n (pieces_of text)
 
--- the rows from here, where the next line is this value
-abbrev pub rows_by : Namespace → Data → List ℕ → Result Namespace ImageFault
-rows_by n d text = by_key n d (pieces_of text) (λ m. rows_of m text) (get (codes "end") d)
+abbrev pub after_end : Namespace → Option ℕ → List ℕ → Result Namespace ImageFault
+after_end n count text = at_end n count (pieces_of text)
 
-abbrev pub after_end : Namespace → Data → List ℕ → Result Namespace ImageFault
-after_end n count text = at_end n (number_of count) (pieces_of text)
+-- what a line that was read and then the pieces make of the namespace
+abbrev pub by_read : Namespace → List (List ℕ) → (Namespace → Result Namespace ImageFault) → RowLine → Result Namespace ImageFault
+by_read n pieces more (Row path form) = with_next n (Some (path, form)) then more
+by_read n pieces more (End count) = at_end n count pieces
+by_read n pieces more Bad = Err (BadLine (next_line n))
+
+-- the count of an end line is a number of the formats
+abbrev pub HasLimit : RowLine → Type 0
+HasLimit (Row path form) = Unit {0}
+HasLimit (End count) = IfSome count (λ n. n < 2 ^ 63)
+HasLimit Bad = Unit {0}
+
+abbrev pub IsReadAs : List ℕ → RowLine → Type 0
+IsReadAs line read = (n : Namespace) (pieces : List (List ℕ)) (more : Namespace → Result Namespace ImageFault) → by_value n pieces more (object_of line) ≡ by_read n pieces more read
 
 abbrev pub all_of : List ℕ → Result (Namespace × ℕ) ImageFault
 all_of text = all_from (pieces_of text)

@@ -5,8 +5,10 @@ mod fault;
 mod fields;
 mod law;
 mod lines;
+mod plain;
 mod restoring;
 mod rewriting;
+mod row_line;
 mod row_text;
 mod saving;
 

@@ -1,24 +1,24 @@
 //! From a reader to a namespace.
-ghost use Rattle.std.specs.Prelude.{◌≡◌, ◌≤◌, ◌<◌, ◌+◌, ◌^◌, [], true, false, length, OnOk, IfOk, IfErr, Ok, Some, Option, option_map, ◌⊎◌};
+ghost use Rattle.std.specs.Prelude.{◌≡◌, ◌≤◌, ◌<◌, ◌+◌, ◌^◌, [], true, false, length, OnOk, IfOk, IfErr, IfSome, Ok, Some, ◌⊎◌};
 ghost use Rattle.std.specs.Ordering.{is_lt};
-ghost use Rattle.serde_json.specs.View.{view};
 ghost use Rattle.nn_model.specs.Namespace.{path_cmp, Namespace as Rows};
-ghost use Rattle.nn_image.specs.Header.{header_value, object_view, IsLawful};
+ghost use Rattle.nn_image.specs.Header.{header_value, IsLawful};
 ghost use Rattle.nn_image.specs.Lines.{ahead, Takes};
 ghost use Rattle.nn_image.specs.Text.{image_text};
 ghost use Rattle.nn_image.specs.Lawful.{HasPaths, IsCounted};
 ghost use Rattle.nn_image.specs.declared.fault.ImageFault.TheVariants.{Truncated};
 ghost use Rattle.nn_image.specs.Outcome.{Fails, IsOfDevice, Noted, IsNoRead};
-ghost use Rattle.nn_image.specs.Reading.{next_line, with_next, row_in, read_image};
-ghost use Rattle.nn_image.specs.Loading.{GivesObject, IsTorn, Stops, GoesOn, Ends, rows_of, rows_by, after_end, all_of, with_txid, IsLoading};
+ghost use Rattle.nn_image.specs.Reading.{next_line, with_next, read_image};
+ghost use Rattle.nn_image.specs.Loading.{GivesLine, IsTorn, Stops, GoesOn, Ends, rows_of, after_end, all_of, with_txid, IsLoading};
 
 use crate::fault::ImageFault;
-use crate::fields::{Header, Object, header_in, number_of, object_of, row_in};
-use crate::lines::{Window, next_line};
+use crate::fields::{Header, header_in, object_of};
+use crate::lines::{Line, Window, next_line};
+use crate::row_line::{RowLine, row_line};
 use nn_device::Reader;
+use nn_model::Form;
 use nn_tree::{Namespace, RestoreFault};
 use nn_types::{Names, Path, Txid};
-use serde_json::Value;
 use std::alloc::{AllocError, Global};
 use std::cmp::Ordering;
 use std::io::Read;
@@ -26,8 +26,8 @@ use std::io::Read;
 /// Reads an image of version 1 or 2, and gives its namespace and its txid. Version 1 has no profile, and stands for
 /// profile 1. Saved, the two make an image that is read as the same. It reads on to the end, or at most 65,536
 /// bytes after the line of a fault, and never more than 16,777,216 times. Each fault but `ReadFault` and `OutOfMemory` is
-/// the first one of the whole text all the same. Beside the namespace it takes a buffer of 65,536 bytes, and one line with
-/// its value.
+/// the first one of the whole text all the same. Beside the namespace it takes a buffer of 65,536 bytes, and one line, which is
+/// read into a value where it is no plain one.
 pub fn load<R: Read>(alloc: Global, reader: &mut Reader<R>) -> Result<(Namespace, Txid), ImageFault>
     ensures ok { IfOk result (λ i. Ends reader.old.left reader.new.left read_image i) }
     ensures limit { IfOk result (λ i. i.1 < 2 ^ 63) }
@@ -57,7 +57,8 @@ fn load_image<R: Read>(
     ensures noted { IfErr result (λ e. Noted e reader.old.failed reader.new.failed) }
 {
     let mut window = Window::new(alloc)?;
-    let header = load_header(alloc, reader, &mut window)?;
+    let mut line = Line::new(alloc);
+    let header = load_header(alloc, reader, &mut window, &mut line)?;
     let txid = header.txid;
     let Ok(mut namespace) = Namespace::bare(
         alloc,
@@ -68,7 +69,7 @@ fn load_image<R: Read>(
     ) else {
         return Err(ImageFault::OutOfMemory);
     };
-    if let Err(fault) = load_rows(alloc, reader, &mut window, &mut namespace) {
+    if let Err(fault) = load_rows(alloc, reader, &mut window, &mut line, &mut namespace) {
         drop(namespace);
         return Err(fault);
     }
@@ -76,31 +77,30 @@ fn load_image<R: Read>(
     Ok((namespace, txid))
 }
 
-// The object of the next line, if it is one.
-fn next_object<R: Read>(
-    alloc: Global,
+// The next line, if it is whole.
+fn next_whole<R: Read>(
     reader: &mut Reader<R>,
     window: &mut Window,
-) -> Result<Option<Object>, ImageFault>
-    ensures ok { IfOk result (λ o. GivesObject (ahead window.old reader.old.left) (ahead window.new reader.new.left)
-        (option_map object_view o)) }
+    line: &mut Line,
+) -> Result<(), ImageFault>
+    ensures ok { OnOk result (GivesLine (ahead window.old reader.old.left) (ahead window.new reader.new.left) line.new.text.items) }
     ensures fault { IfErr result (λ e. IsOfDevice e ⊎ ((e ≡ Truncated) × IsTorn (ahead window.old reader.old.left))) }
     ensures taken { OnOk result (Takes 1 window.old reader.old.given window.new reader.new.given) }
     ensures unfailed { OnOk result (reader.new.failed ≡ reader.old.failed) }
     ensures noted { IfErr result (λ e. Noted e reader.old.failed reader.new.failed) }
 {
-    let line = next_line(alloc, reader, window)?;
+    next_line(reader, window, line)?;
     if !line.whole {
         return Err(ImageFault::Truncated);
     }
-    let object = object_of(alloc, &line.text)?;
-    Ok(object)
+    Ok(())
 }
 
 fn load_header<R: Read>(
     alloc: Global,
     reader: &mut Reader<R>,
     window: &mut Window,
+    line: &mut Line,
 ) -> Result<Header, ImageFault>
     ensures ok { IfOk result (λ h. GoesOn (ahead window.old reader.old.left) (ahead window.new reader.new.left)
         all_of (λ left. with_txid h.txid (rows_of (header_value h).0 left))) }
@@ -111,7 +111,8 @@ fn load_header<R: Read>(
     ensures unfailed { OnOk result (reader.new.failed ≡ reader.old.failed) }
     ensures noted { IfErr result (λ e. Noted e reader.old.failed reader.new.failed) }
 {
-    let Some(object) = next_object(alloc, reader, window)? else {
+    next_whole(reader, window, line)?;
+    let Some(object) = object_of(alloc, &line.text)? else {
         return Err(ImageFault::NotHeader);
     };
     let header = header_in(alloc, &object.value)?;
@@ -123,6 +124,7 @@ fn load_rows<R: Read>(
     alloc: Global,
     reader: &mut Reader<R>,
     window: &mut Window,
+    line: &mut Line,
     namespace: &mut Namespace,
 ) -> Result<(), ImageFault>
     requires loading { IsLoading namespace.old [] 2 }
@@ -138,7 +140,7 @@ fn load_rows<R: Read>(
 {
     let mut before = root(alloc)?;
     for number in 2..u64::MAX {
-        if load_line(alloc, reader, window, namespace, &mut before, number)? {
+        if load_line(alloc, reader, window, line, namespace, &mut before, number)? {
             return Ok(());
         }
     }
@@ -152,6 +154,7 @@ fn load_line<R: Read>(
     alloc: Global,
     reader: &mut Reader<R>,
     window: &mut Window,
+    line: &mut Line,
     namespace: &mut Namespace,
     before: &mut Path,
     number: u64,
@@ -171,63 +174,47 @@ fn load_line<R: Read>(
     ensures unfailed { OnOk result (reader.new.failed ≡ reader.old.failed) }
     ensures noted { IfErr result (λ e. Noted e reader.old.failed reader.new.failed) }
 {
-    let object = next_value(alloc, reader, window, number)?;
-    if let Some(count) = object.value.get("end") {
-        load_end(alloc, reader, window, number, count)?;
-        return Ok(true);
-    }
-    add_row(alloc, namespace, before, &object.value, number)?;
-    Ok(false)
-}
-
-// The object of the next line.
-fn next_value<R: Read>(
-    alloc: Global,
-    reader: &mut Reader<R>,
-    window: &mut Window,
-    number: u64,
-) -> Result<Object, ImageFault>
-    ensures ok { IfOk result (λ v. (n : Rows) → next_line n ≡ number →
-        GoesOn (ahead window.old reader.old.left) (ahead window.new reader.new.left)
-        (rows_of n) (rows_by n (object_view v))) }
-    ensures fault { IfErr result (λ e. (n : Rows) → next_line n ≡ number →
-        Stops (ahead window.old reader.old.left) e (rows_of n)) }
-    ensures taken { OnOk result (Takes 1 window.old reader.old.given window.new reader.new.given) }
-    ensures unfailed { OnOk result (reader.new.failed ≡ reader.old.failed) }
-    ensures noted { IfErr result (λ e. Noted e reader.old.failed reader.new.failed) }
-{
-    match next_object(alloc, reader, window)? {
-        Some(object) => Ok(object),
-        None => Err(ImageFault::BadLine(number)),
+    next_whole(reader, window, line)?;
+    match row_line(alloc, &line.text)? {
+        RowLine::Row(path, form) => {
+            place(namespace, before, path, form, number)?;
+            Ok(false)
+        }
+        RowLine::End(count) => {
+            load_end(reader, window, line, number, count)?;
+            Ok(true)
+        }
+        RowLine::Bad => Err(ImageFault::BadLine(number)),
     }
 }
 
 // The end line's number, and that nothing follows.
 fn load_end<R: Read>(
-    alloc: Global,
     reader: &mut Reader<R>,
     window: &mut Window,
+    line: &mut Line,
     number: u64,
-    count: &Value,
+    count: Option<u64>,
 ) -> Result<(), ImageFault>
     requires from { 2 ≤ number }
     requires below { number < 18446744073709551615 }
+    requires limit { IfSome count (λ n. n < 2 ^ 63) }
     ensures ok { OnOk result ((n : Rows) → next_line n ≡ number →
         Ends (ahead window.old reader.old.left) (ahead window.new reader.new.left)
-        (after_end n (view count.now)) n) }
+        (after_end n count) n) }
     ensures counted { OnOk result (number ≤ 2 ^ 63 + 1) }
     ensures fault { IfErr result (λ e. (n : Rows) → next_line n ≡ number →
-        Stops (ahead window.old reader.old.left) e (after_end n (view count.now))) }
+        Stops (ahead window.old reader.old.left) e (after_end n count)) }
     ensures unfailed { OnOk result (reader.new.failed ≡ reader.old.failed) }
     ensures noted { IfErr result (λ e. Noted e reader.old.failed reader.new.failed) }
 {
-    let Some(count) = number_of(count) else {
+    let Some(count) = count else {
         return Err(ImageFault::BadLine(number));
     };
     if count != number - 2 {
         return Err(ImageFault::CountMismatch);
     }
-    let line = next_line(alloc, reader, window)?;
+    next_line(reader, window, line)?;
     if line.whole {
         return Err(ImageFault::BadLine(number + 1));
     }
@@ -237,24 +224,21 @@ fn load_end<R: Read>(
     Ok(())
 }
 
-// Adds the path of a line.
-fn add_row(
-    alloc: Global,
+// Adds what stands at the path of a line.
+fn place(
     namespace: &mut Namespace,
     before: &mut Path,
-    value: &Value,
+    path: Path,
+    form: Form,
     number: u64,
 ) -> Result<(), ImageFault>
     requires { IsLoading namespace.old before.old number }
-    ensures ok { OnOk result (with_next namespace.old (row_in (view value.now)) ≡ Ok namespace.new) }
+    ensures ok { OnOk result (with_next namespace.old (Some (path, form)) ≡ Ok namespace.new) }
     ensures loading { OnOk result (IsLoading namespace.new before.new (number + 1)) }
     ensures paths { OnOk result (HasPaths namespace.old → HasPaths namespace.new) }
-    ensures fault { IfErr result (λ e. Fails e (with_next namespace.old (row_in (view value.now)))) }
+    ensures fault { IfErr result (λ e. Fails e (with_next namespace.old (Some (path, form)))) }
     ensures own { IfErr result IsNoRead }
 {
-    let Some((path, form)) = row_in(alloc, value)? else {
-        return Err(ImageFault::BadLine(number));
-    };
     if !comes_before(&before.names(), &path.names()) {
         return Err(ImageFault::WrongOrder(number));
     }

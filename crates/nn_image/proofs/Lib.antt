@@ -6,9 +6,8 @@ pub mod Kept
 pub mod Round
 pub mod ArrayLemmas
 pub mod LineLemmas
-pub mod Loading
+pub mod LoadedLines
 pub mod Order
-pub mod Empty
 pub mod Writing
 pub mod Naming
 pub mod Pieces

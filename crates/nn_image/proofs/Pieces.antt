@@ -6,7 +6,7 @@ use Rattle.nn_image.specs.Image.{with_feed}
 use Rattle.nn_image.specs.Lines.{no_feed}
 use Rattle.nn_image.specs.Reading.{pieces_of}
 use Rattle.nn_image.specs.Text.{feed}
-use Rattle.nn_image.proofs.Loading.{piece}
+use Rattle.nn_image.proofs.LoadedLines.{piece}
 use Rattle.nn_image.proofs.Rows.{and_true}
 
 -- lines with their line feeds are their own pieces, and an empty one at the end

@@ -1,40 +1,61 @@
--- What the calls that read an image say of the bytes to come, where those are known.
-use Rattle.std.specs.Prelude.{◌≡◌, ◌<◌, ◌^◌, ℕ, List, IsTrue, IfSome, Option, Some, Result, Ok, Err, [], ◌∷◌}
+-- What the calls that read an image say of its lines, and of the bytes to come, where those are known.
+use Rattle.std.specs.Prelude.{◌≡◌, ◌<◌, ◌≤◌, ◌+◌, ◌^◌, ℕ, List, true, IsTrue, IfSome, Option, Some, None, Result, Ok, Err, ◌∷◌, if◌then◌else◌}
 use Rattle.std.specs.Io.KnownBytes.{IsAtEnd}
 use Rattle.std.specs.FinMap.Entries.{is_sorted}
 use Rattle.nn_model.specs.Namespace.{Path, path_cmp, Namespace}
 use Rattle.nn_image.specs.declared.fault.ImageFault.{ImageFault}
-use Rattle.nn_image.specs.Outcome.{Fails}
-use Rattle.nn_image.specs.Reading.{last_path, next_line, with_next, by_value, rows_from, at_end, pieces_of, all_from, ◌then◌, object_of}
+use Rattle.nn_image.specs.declared.fault.ImageFault.TheVariants.{BadLine}
+use Rattle.nn_image.specs.declared.loading.Begun.{Begun}
+use Rattle.nn_image.specs.declared.loading.Stage.{Stage}
+use Rattle.nn_image.specs.declared.loading.Stage.TheVariants as stage
 use Rattle.nn_image.specs.declared.row_line.RowLine.{RowLine}
 use Rattle.nn_image.specs.declared.row_line.RowLine.TheVariants.{Row, End, Bad}
-use Rattle.nn_image.specs.declared.fault.ImageFault.TheVariants.{BadLine}
+use Rattle.nn_image.specs.Lawful.{HasPaths}
+use Rattle.nn_image.specs.Outcome.{Fails, IsNoRead}
+use Rattle.nn_image.specs.Reading.{last_path, next_line, with_next, by_value, rows_from, at_end, nothing_more, pieces_of, all_from, read_image, ◌then◌, object_of}
 
 -- the known bytes make the definition fail in this way, unless a read failed or memory ran out
 abbrev pub Stops : {X : Type 0} → Option (List ℕ) → ImageFault → (List ℕ → Result X ImageFault) → Type 0
 Stops known e f = (text : List ℕ) → known ≡ Some text → Fails e (f text)
 
--- the definition's answer for the known bytes is another definition's for the bytes that are left
-abbrev pub GoesOn : {X : Type 0} → Option (List ℕ) → Option (List ℕ) → (List ℕ → Result X ImageFault) → (List ℕ → Result X ImageFault) → Type 0
-GoesOn old new f g = (text : List ℕ) → old ≡ Some text → (left : List ℕ) × (new ≡ Some left) × (f text ≡ g left)
-
 -- the definition gives this for the known bytes, and none is left
 abbrev pub Ends : {X : Type 0} → Option (List ℕ) → Option (List ℕ) → (List ℕ → Result X ImageFault) → X → Type 0
 Ends old new f x = (text : List ℕ) → old ≡ Some text → (f text ≡ Ok x) × IsAtEnd new
 
--- the next line is whole, and this is its text
-abbrev pub GivesLine : Option (List ℕ) → Option (List ℕ) → List ℕ → Type 0
-GivesLine old new line = (text : List ℕ) → old ≡ Some text → (left : List ℕ) × (new ≡ Some left) × (pieces_of text ≡ line ∷ pieces_of left)
+-- ---- line by line
 
--- the known bytes have no whole line
-abbrev pub IsTorn : Option (List ℕ) → Type 0
-IsTorn known = (text : List ℕ) → known ≡ Some text → (torn : List ℕ) × (pieces_of text ≡ torn ∷ [])
+abbrev pub with_txid : ℕ → Result Namespace ImageFault → Result (Namespace × ℕ) ImageFault
+with_txid txid r = r then λ n. Ok (n, txid)
 
-abbrev pub rows_of : Namespace → List ℕ → Result Namespace ImageFault
-rows_of n text = rows_from n (pieces_of text)
+-- what the lines that have come make of an image
+pub data LoadState : Type 0 where
+  -- none has come
+  at_header : LoadState
+  -- the header has come, and lines of paths; with the txid
+  in_rows : Namespace → ℕ → LoadState
+  -- and the end line
+  behind_end : Namespace → ℕ → LoadState
+  -- one of them has this fault
+  refused : ImageFault → LoadState
 
-abbrev pub after_end : Namespace → Option ℕ → List ℕ → Result Namespace ImageFault
-after_end n count text = at_end n count (pieces_of text)
+-- what they and these pieces of a text make of it: each piece except the last is a line
+abbrev pub loaded_from : LoadState → List (List ℕ) → Result (Namespace × ℕ) ImageFault
+loaded_from at_header pieces = all_from pieces
+loaded_from (in_rows n txid) pieces = with_txid txid (rows_from n pieces)
+loaded_from (behind_end n txid) pieces = with_txid txid (nothing_more n pieces)
+loaded_from (refused e) pieces = Err e
+
+-- the line came
+abbrev pub TakesLine : LoadState → LoadState → List ℕ → Type 0
+TakesLine old new line = (next : List ℕ) (pieces : List (List ℕ)) → loaded_from old (line ∷ next ∷ pieces) ≡ loaded_from new (next ∷ pieces)
+
+abbrev pub fault_of : LoadState → Option ImageFault
+fault_of at_header = None
+fault_of (in_rows n txid) = None
+fault_of (behind_end n txid) = None
+fault_of (refused e) = Some e
+
+-- ---- For private clauses.
 
 -- what a line that was read and then the pieces make of the namespace
 abbrev pub by_read : Namespace → List (List ℕ) → (Namespace → Result Namespace ImageFault) → RowLine → Result Namespace ImageFault
@@ -51,14 +72,38 @@ HasLimit Bad = Unit {0}
 abbrev pub IsReadAs : List ℕ → RowLine → Type 0
 IsReadAs line read = (n : Namespace) (pieces : List (List ℕ)) (more : Namespace → Result Namespace ImageFault) → by_value n pieces more (object_of line) ≡ by_read n pieces more read
 
-abbrev pub all_of : List ℕ → Result (Namespace × ℕ) ImageFault
-all_of text = all_from (pieces_of text)
-
-abbrev pub with_txid : ℕ → Result Namespace ImageFault → Result (Namespace × ℕ) ImageFault
-with_txid txid r = r then λ n. Ok (n, txid)
-
 -- the rows that stand so far, the path of the last of them, and the number of the next line
 pub record IsLoading (n : Namespace) (before : Path) (number : ℕ) : Type 0 where
   pub sorted : IsTrue (is_sorted path_cmp n.rows)
   pub last : last_path n.rows ≡ before
   pub at : next_line n ≡ number
+
+-- so it is behind a header, and behind an end line the paths are counted
+pub record IsBegun (b : Begun) : Type 0 where
+  pub loading : IsLoading b.namespace b.before b.number
+  pub from : 2 ≤ b.number
+  pub paths : HasPaths b.namespace
+  pub counted : b.has_ended ≡ true → b.number ≤ 2 ^ 63 + 1
+
+-- what is left of the lines of paths makes of them
+abbrev pub rows_left : Begun → List (List ℕ) → Result Namespace ImageFault
+rows_left b pieces = if b.has_ended then nothing_more b.namespace pieces else rows_from b.namespace pieces
+
+abbrev pub state_of : Stage → LoadState
+state_of stage.Header = at_header
+state_of (stage.Begun b) = if b.has_ended then behind_end b.namespace b.txid else in_rows b.namespace b.txid
+state_of (stage.Refused e) = refused e
+
+abbrev pub IsLawfulStage : Stage → Type 0
+IsLawfulStage stage.Header = Unit {0}
+IsLawfulStage (stage.Begun b) = IsBegun b
+IsLawfulStage (stage.Refused e) = IsNoRead e
+
+-- A line came behind the header: the fault that it has, or none.
+abbrev pub TakesRow : Begun → Begun → RowLine → Option ImageFault → Type 0
+TakesRow old new read None = (line next : List ℕ) (pieces : List (List ℕ)) → IsReadAs line read → rows_left old (line ∷ next ∷ pieces) ≡ rows_left new (next ∷ pieces)
+TakesRow old new read (Some e) = (line next : List ℕ) (pieces : List (List ℕ)) → IsReadAs line read → rows_left old (line ∷ next ∷ pieces) ≡ Err e
+
+-- of the bytes to come so many were taken, and this is what their lines make of an image
+abbrev pub HasLoaded : Option (List ℕ) → Option (List ℕ) → LoadState → Type 0
+HasLoaded old new l = (text : List ℕ) → old ≡ Some text → (left : List ℕ) × (new ≡ Some left) × (read_image text ≡ loaded_from l (pieces_of left))

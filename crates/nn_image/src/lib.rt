@@ -5,6 +5,7 @@ mod fault;
 mod fields;
 mod law;
 mod lines;
+mod loading;
 mod plain;
 mod restoring;
 mod rewriting;
@@ -14,6 +15,7 @@ mod saving;
 
 pub use fault::{ImageFault, RewriteFault, SaveFault};
 pub use law::{reading_is_the_image, reads_back, reads_old_back};
+pub use loading::Loading;
 pub use restoring::load;
 pub use rewriting::rewrite;
 pub use saving::{ReadyImage, image_name, save};

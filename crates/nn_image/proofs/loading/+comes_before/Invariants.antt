@@ -1,5 +1,5 @@
 use Rattle.std.proofs.Common.{length}
-use Rattle.nn_image.proofs.restoring.+comes_before.Given as goal
+use Rattle.nn_image.proofs.loading.+comes_before.Given as goal
 
 abbrev pub decreases-comes_before : goal.decreases-comes_before
 decreases-comes_before l = length l.a.now

@@ -1,10 +1,9 @@
 //! The image that a run may start from: each of its lines is read into fields, checked, and put into the tree and the table.
 
 use std::cmp::Ordering;
-use std::fmt;
 use std::io::Read;
 
-use serde::de::{DeserializeSeed, Deserializer, MapAccess, SeqAccess, Visitor};
+use serde::de::SeqAccess;
 
 use crate::engine::{Engine, Issued, FIRST_BLOCK, FIRST_STAMP};
 use crate::fault::{Fault, Refusal};
@@ -12,7 +11,7 @@ use crate::fields::{Blocks, Keyword, Named, Number, Text};
 use crate::line::PathText;
 use crate::scenario::Lines;
 use crate::tree::{Children, File, Node};
-use crate::typed::{skip_rest, value, FromJson, Json, Skip};
+use crate::typed::{read_into, reads_object, skip_rest, FromJson, Json};
 
 const MARK: &[u8] = b"image\n";
 
@@ -115,9 +114,7 @@ struct Members<'a> {
 fn read(line: &[u8]) -> Option<Members<'_>> {
     let text = std::str::from_utf8(line).ok()?;
     let mut members = Members::default();
-    let mut json = serde_json::Deserializer::from_str(text);
-    (&mut members).deserialize(&mut json).ok()?;
-    json.end().ok()?;
+    read_into(text, &mut members).ok()?;
     Some(members)
 }
 
@@ -168,7 +165,9 @@ impl<'a> Members<'a> {
         let lawful = issued.last_block >= FIRST_BLOCK - 1
             && issued.last_stamp >= FIRST_STAMP - 1
             && ids.windows(2).all(|pair| pair[0] < pair[1])
-            && ids.iter().all(|id| (FIRST_BLOCK..=issued.last_block).contains(id));
+            && ids
+                .iter()
+                .all(|id| (FIRST_BLOCK..=issued.last_block).contains(id));
         lawful.then_some(issued)
     }
 }
@@ -298,39 +297,18 @@ impl FromJson<'_> for Key {
     }
 }
 
-impl<'de> DeserializeSeed<'de> for &mut Members<'de> {
-    type Value = ();
-    fn deserialize<D: Deserializer<'de>>(self, deserializer: D) -> Result<(), D::Error> {
-        deserializer.deserialize_map(self)
-    }
-}
-
-impl<'de> Visitor<'de> for &mut Members<'de> {
-    type Value = ();
-    fn expecting(&self, f: &mut fmt::Formatter) -> fmt::Result {
-        f.write_str("an object")
-    }
-    fn visit_map<A: MapAccess<'de>>(self, mut map: A) -> Result<(), A::Error> {
-        while let Some(Json(key)) = map.next_key()? {
-            match key {
-                Key::Path => self.path = value(&mut map)?,
-                Key::Kind => self.kind = value(&mut map)?,
-                Key::Blocks => self.blocks = value(&mut map)?,
-                Key::Closed => self.closed = value(&mut map)?,
-                Key::Replication => self.replication = value(&mut map)?,
-                Key::End => self.end = value(&mut map)?,
-                Key::Image => self.image = value(&mut map)?,
-                Key::Version => self.version = value(&mut map)?,
-                Key::Txid => self.txid = value(&mut map)?,
-                Key::LastBlock => self.last_block = value(&mut map)?,
-                Key::LastStamp => self.last_stamp = value(&mut map)?,
-                Key::Profile => self.profile = value(&mut map)?,
-                Key::Awaiting => self.awaiting = value(&mut map)?,
-                Key::Other => {
-                    value::<Skip, _>(&mut map)?;
-                }
-            }
-        }
-        Ok(())
-    }
-}
+reads_object!(Members {
+    Path => path,
+    Kind => kind,
+    Blocks => blocks,
+    Closed => closed,
+    Replication => replication,
+    End => end,
+    Image => image,
+    Version => version,
+    Txid => txid,
+    LastBlock => last_block,
+    LastStamp => last_stamp,
+    Profile => profile,
+    Awaiting => awaiting,
+});

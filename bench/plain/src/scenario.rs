@@ -81,14 +81,19 @@ impl<R: Read> Lines<R> {
                 return Ok(None);
             }
             let len = line.len();
-            let blank = line.iter().all(|byte| matches!(byte, b' ' | b'\t' | b'\r' | b'\n'));
+            let blank = line
+                .iter()
+                .all(|byte| matches!(byte, b' ' | b'\t' | b'\r' | b'\n'));
             self.number += 1;
             if !blank {
                 break len;
             }
         };
         let line = &self.buf[self.start - len..self.start];
-        Ok(Some((self.number, line.strip_suffix(b"\n").unwrap_or(line))))
+        Ok(Some((
+            self.number,
+            line.strip_suffix(b"\n").unwrap_or(line),
+        )))
     }
 
     /// Reads once, behind what was not yet given out.

@@ -1,6 +1,5 @@
 -- What a reader gave so far, and what was taken of it.
-use Rattle.std.proofs.Common.{◌≡◌, ◌≤◌, ◌+◌, ◌-◌, ◌<◌, ℕ, Bool, is_some, List, [], ◌++◌, length, take, drop, Option, Some, None, refl, sym, ap, ◌∙◌, subst, arith, append-nil, length-append, length-drop}
-use Rattle.std.specs.Prelude.{option_map}
+use Rattle.std.proofs.Common.{◌≡◌, ◌≤◌, ◌+◌, ◌-◌, ◌<◌, ℕ, Bool, is_some, List, [], ◌++◌, length, take, drop, Option, Some, None, Result, sym, ap, ◌∙◌, subst, arith, append-nil, length-append, length-drop}
 use Rattle.std.specs.Io.KnownBytes.{Consumes}
 use Rattle.std.proofs.KnownBytes.{Consumes-nil, Consumes-trans}
 use Rattle.std.proofs.lemmas.List.{length-take}
@@ -8,7 +7,9 @@ use Rattle.nn_device.specs.Device.{Reading, Gave}
 use Rattle.nn_scenario.specs.Chunks.{HasCome, IsReadAs}
 use Rattle.nn_scenario.specs.Reading.{nothing_read}
 use Rattle.nn_scenario.specs.Scenario.{max_input}
-use Rattle.nn_front.specs.Cut.{Cut, divided}
+use Rattle.nn_model.specs.Namespace.{Namespace}
+use Rattle.nn_image.specs.declared.fault.ImageFault.{ImageFault}
+use Rattle.nn_front.specs.Cut.{divided, image_read, rest_of}
 use Rattle.nn_front.specs.Front.{FrontState, IsFront}
 use Rattle.nn_front.proofs.Fronts.{rest_is}
 use Rattle.nn_engine.specs.declared.device.InputFault.{InputFault}
@@ -63,14 +64,10 @@ pub fits_front : (front : Option FrontState) (input rest : List ℕ) → IsFront
 fits_front None input rest is = sym is
 fits_front (Some front) input rest is = rest_is front input rest is
 
-image_of : {V : Type 0} (items : V → List ℕ) (image : Option V) (rest : List ℕ) → option_map (λ (c : Cut). c.image) (option_map (λ v. record { image = items v; rest = rest }) image) ≡ option_map items image
-image_of items None rest = refl
-image_of items (Some v) rest = refl
-
 -- what the end of a front says
-pub ends_front : {V : Type 0} (items : V → List ℕ) (front : FrontState) (image : Option V)
-    → ((text rest : List ℕ) → IsFront text front rest → divided text ≡ option_map (λ v. record { image = items v; rest = rest }) image) → EndsFront (Some front) (option_map items image)
-ends_front items front image ends = λ input rest is. ap (option_map (λ (c : Cut). c.image)) (ends input rest is) ∙ image_of items image rest
+pub ends_front : (front : FrontState) (loaded : Option (Result (Namespace × ℕ) ImageFault))
+    → ((text rest : List ℕ) → IsFront text front rest → (loaded ≡ image_read (divided text)) × (rest_of (divided text) ≡ rest)) → EndsFront (Some front) loaded
+ends_front front loaded ends = λ input rest is. sym (ends input rest is).0
 
 -- more bytes came than an input may have
 pub too_many : (front front' : Option FrontState) (input rest bytes : List ℕ) (at taken : ℕ) → is_some front' ≡ is_some front → IsFrontOf front' (input ++ bytes) (rest ++ drop at bytes)
@@ -90,10 +87,10 @@ parts_taken p q input bytes at within taken front come h = record {
   come = come h.rest h.come;
 }
 
-pub parts_read : (p : PartsTaken) (r : InputParts) (input : List ℕ) → EndsFront p.front (option_map (λ v. v.items) r.image)
+pub parts_read : (p : PartsTaken) (r : InputParts) (input : List ℕ) → EndsFront p.front r.loaded
     → ((text : List ℕ) → HasCome (λ _ x reading. reading ≡ x) nothing_read text p.lines → IsReadAs text r.lines) → HasParts p input → IsRead (is_some p.front) input r
 parts_read p r input ends read h = record {
-  image = ends input h.rest h.front;
+  loaded = ends input h.rest h.front;
   read = subst (λ t. IsReadAs t r.lines) (sym (fits_front p.front input h.rest h.front)) (read h.rest h.come);
 }
 

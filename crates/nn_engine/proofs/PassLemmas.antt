@@ -1,14 +1,14 @@
 -- A pass over an input, some bytes further, and at its end.
 use Rattle.std.proofs.Common.{◌≡◌, ◌+◌, ℕ, true, false, List, [], ◌++◌, length, drop, Option, Some, None, Result, Ok, Err, refl, sym, ap, ◌∙◌, subst, arith, append-nil, append_assoc, length-append}
-use Rattle.std.specs.Prelude.{option_map}
 use Rattle.nn_image.specs.declared.fault.ImageFault.{ImageFault}
-use Rattle.nn_front.specs.Cut.{Cut, divided, rest_of}
+use Rattle.nn_model.specs.Namespace.{Namespace}
+use Rattle.nn_front.specs.Cut.{divided, image_read, rest_of}
 use Rattle.nn_front.specs.Front.{FrontState, IsFront}
 use Rattle.nn_front.proofs.Fronts.{rest_is}
 use Rattle.nn_shadow.specs.Contents.{Contents}
 use Rattle.nn_scenario.specs.Chunks.{Chunks, HasCome}
 use Rattle.nn_engine.specs.Following.{Lived, IsLive}
-use Rattle.nn_engine.specs.Input.{image_in}
+use Rattle.nn_engine.specs.Input.{loaded_in}
 use Rattle.nn_engine.specs.Pass.{Passed, HasBegun, HasPassed, HasPassedTo, IsAt, IsScenario, IsRunOf, EndsFrom, RunEnds, StartsFrom}
 use Rattle.nn_engine.specs.Start.{Start, start_in, scenario_in}
 use Rattle.nn_engine.specs.declared.engine.Options.{Options}
@@ -16,7 +16,6 @@ use Rattle.nn_engine.specs.declared.live.Halt.{Halt}
 use Rattle.nn_engine.specs.declared.live.Halt.TheVariants as halt
 use Rattle.nn_engine.specs.declared.pass.Stage.{Stage}
 use Rattle.nn_engine.specs.declared.pass.Stage.TheVariants as stage
-use Rattle.nn_engine.proofs.InputLemmas.{ends_front}
 
 -- ---- No bytes have come.
 
@@ -31,7 +30,7 @@ scenario_begins options begun unasked starts = record {
   much = refl;
   at = record {
     start = starts.0;
-    starts = λ more. starts.1 more (ap (λ b. image_in b more) unasked);
+    starts = λ more. starts.1 more (ap (λ b. loaded_in b more) unasked);
     scenario = λ more. ap (λ b. scenario_in b more) unasked;
     follows = starts.2;
   };
@@ -71,18 +70,18 @@ image_goes_on p q front front' input bytes n was is same taken takes not_yet h =
     (ap (λ o. o.from_image) same ∙ k.0, subst (IsFront (input ++ bytes) front') none now, refl, none)
 
 -- it ends, and the scenario begins behind it
-pub image_ends : (p q : Passed) (front front' : FrontState) (begun : Result (Chunks Lived) ImageFault) (input bytes image : List ℕ) (n : ℕ) → p.stage ≡ stage.Front front → q.stage ≡ stage.Begun begun → q.options ≡ p.options
+pub image_ends : (p q : Passed) (front front' : FrontState) (begun : Result (Chunks Lived) ImageFault) (input bytes : List ℕ) (loaded : Result (Namespace × ℕ) ImageFault) (n : ℕ) → p.stage ≡ stage.Front front → q.stage ≡ stage.Begun begun → q.options ≡ p.options
     → q.taken ≡ p.taken → FrontTakes front bytes n front'
-    → ((input rest more : List ℕ) → IsFront input front' rest → divided (input ++ more) ≡ Some (record { image = image; rest = rest ++ more }))
-    → StartsFrom p.options (Some image) begun → HasPassed p input → HasPassedTo q (input ++ bytes) (drop n bytes)
-image_ends p q front front' begun input bytes image n was is same taken takes ended starts h =
+    → ((input rest more : List ℕ) → IsFront input front' rest → (image_read (divided (input ++ more)) ≡ Some loaded) × (rest_of (divided (input ++ more)) ≡ rest ++ more))
+    → StartsFrom p.options (Some loaded) begun → HasPassed p input → HasPassedTo q (input ++ bytes) (drop n bytes)
+image_ends p q front front' begun input bytes loaded n was is same taken takes ended starts h =
     let k = at_stage p (stage.Front front) input [] was h in
     let cut = λ (more : List ℕ). ended (input ++ bytes) (drop n bytes) more (takes input [] k.1) in
     is_at q (stage.Begun begun) (input ++ bytes) [] (drop n bytes) is (ap length (sym k.2) ∙ h.much ∙ sym taken)
     (subst (λ o. IsScenario o (input ++ bytes) [] (drop n bytes) begun) (sym same) (record {
       start = starts.0;
-      starts = λ more. starts.1 ((input ++ bytes) ++ more) (ap (λ b. image_in b ((input ++ bytes) ++ more)) k.0 ∙ ap (option_map (λ (c : Cut). c.image)) (cut more));
-      scenario = λ more. ap (λ b. scenario_in b ((input ++ bytes) ++ more)) k.0 ∙ ap rest_of (cut more);
+      starts = λ more. starts.1 ((input ++ bytes) ++ more) (ap (λ b. loaded_in b ((input ++ bytes) ++ more)) k.0 ∙ (cut more).0);
+      scenario = λ more. ap (λ b. scenario_in b ((input ++ bytes) ++ more)) k.0 ∙ (cut more).1;
       follows = starts.2;
     }))
 
@@ -156,14 +155,15 @@ ends_behind p begun r is ends input h =
     let rest : scenario_in p.options.from_image input ≡ h.rest = ap (scenario_in p.options.from_image) (sym (append-nil input)) ∙ k.scenario [] ∙ append-nil h.rest in
     subst (λ s. RunEnds p.options s (scenario_in p.options.from_image input) r) (sym start) (subst (λ t. RunEnds p.options k.start t r) (sym rest) (ends p.options k.start h.rest k.follows))
 
-pub ends_in_front : {V : Type 0} (items : V → List ℕ) (p : Passed) (front : FrontState) (image : Option V) (begun : Result (Chunks Lived) ImageFault) (r : Result Contents Halt) → p.stage ≡ stage.Front front
-    → ((text rest : List ℕ) → IsFront text front rest → divided text ≡ option_map (λ v. record { image = items v; rest = rest }) image)
-    → StartsFrom p.options (option_map items image) begun
+pub ends_in_front : (p : Passed) (front : FrontState) (loaded : Option (Result (Namespace × ℕ) ImageFault)) (begun : Result (Chunks Lived) ImageFault) (r : Result Contents Halt) → p.stage ≡ stage.Front front
+    → ((text rest : List ℕ) → IsFront text front rest → (loaded ≡ image_read (divided text)) × (rest_of (divided text) ≡ rest))
+    → StartsFrom p.options loaded begun
     → ((options : Options) (start : Result Start ImageFault) (rest : List ℕ) → HasBegun options start rest begun → RunEnds options start rest r)
     → (input : List ℕ) → HasPassed p input → IsRunOf p.options input r
-ends_in_front items p front image begun r is ended starts ends input h =
+ends_in_front p front loaded begun r is ended starts ends input h =
     let k = at_stage p (stage.Front front) input [] is h in
-    let there : image_in p.options.from_image input ≡ option_map items image = ap (λ b. image_in b input) k.0 ∙ ends_front items front image ended input [] k.1 in
+    let e = ended input [] k.1 in
+    let there : loaded_in p.options.from_image input ≡ loaded = ap (λ b. loaded_in b input) k.0 ∙ sym e.0 in
     let start : start_in p.options.from_image input ≡ starts.0 = starts.1 input there in
-    let rest : scenario_in p.options.from_image input ≡ [] = ap (λ b. scenario_in b input) k.0 ∙ rest_is front input [] k.1 in
+    let rest : scenario_in p.options.from_image input ≡ [] = ap (λ b. scenario_in b input) k.0 ∙ e.1 in
     subst (λ s. RunEnds p.options s (scenario_in p.options.from_image input) r) (sym start) (subst (λ t. RunEnds p.options starts.0 t r) (sym rest) (ends p.options starts.0 [] starts.2))

@@ -1,33 +1,34 @@
 -- Where a run begins, by the image that was read.
 use Rattle.std.proofs.Common.{◌≡◌, ℕ, Bool, true, false, List, Option, Some, None, Result, Ok, Err, refl, sym, ap, subst}
-use Rattle.std.specs.Prelude.{IfOk, MatchResult, option_map}
+use Rattle.std.specs.Prelude.{IfOk, MatchResult}
 use Rattle.std.proofs.lemmas.Result.{IfOk-weaker}
 use Rattle.nn_image.specs.Reading.{read_image}
 use Rattle.nn_image.specs.declared.fault.ImageFault.{ImageFault}
 use Rattle.nn_image.specs.declared.fault.ImageFault.TheVariants as image
 use Rattle.nn_image.specs.declared.fault.ImageFault.TheVariants.{NotHeader}
-use Rattle.nn_front.specs.Cut.{Cut, divided}
-use Rattle.nn_engine.specs.Input.{image_in}
+use Rattle.nn_model.specs.Namespace.{Namespace}
+use Rattle.nn_front.specs.Cut.{Cut, divided, image_read}
+use Rattle.nn_engine.specs.Input.{loaded_in}
 use Rattle.nn_engine.specs.Output.{Printed, IsPrinted, IsPrintedFrom, image_fault}
 use Rattle.nn_engine.specs.Pieces.{faulted}
 use Rattle.nn_engine.specs.Start.{Start, from_cut, from_image, scenario_in, start_in}
 use Rattle.nn_engine.specs.declared.engine.Options.{Options}
 
-cut_image : (cut : Option Cut) (bytes : List ℕ) → option_map (λ (c : Cut). c.image) cut ≡ Some bytes → from_cut cut ≡ from_image (read_image bytes)
-cut_image None bytes e = absurd (cc)
-cut_image (Some cut) bytes e = let same : cut.image ≡ bytes = cc in ap (λ i. from_image (read_image i)) same
+cut_read : (cut : Option Cut) (r : Result (Namespace × ℕ) ImageFault) → image_read cut ≡ Some r → from_cut cut ≡ from_image r
+cut_read None r e = absurd (cc)
+cut_read (Some cut) r e = let same : read_image cut.image ≡ r = cc in ap from_image same
 
-no_cut : (cut : Option Cut) → option_map (λ (c : Cut). c.image) cut ≡ None → from_cut cut ≡ Err NotHeader
+no_cut : (cut : Option Cut) → image_read cut ≡ None → from_cut cut ≡ Err NotHeader
 no_cut None e = refl
 no_cut (Some cut) e = absurd (cc)
 
 -- an image that was read
-pub starts_from_image : (asked : Bool) (input bytes : List ℕ) → image_in asked input ≡ Some bytes → start_in asked input ≡ from_image (read_image bytes)
-starts_from_image false input bytes e = absurd (cc)
-starts_from_image true input bytes e = cut_image (divided input) bytes e
+pub starts_from_image : (asked : Bool) (input : List ℕ) (r : Result (Namespace × ℕ) ImageFault) → loaded_in asked input ≡ Some r → start_in asked input ≡ from_image r
+starts_from_image false input r e = absurd (cc)
+starts_from_image true input r e = cut_read (divided input) r e
 
 -- and none
-pub starts_from_none : (input : List ℕ) → image_in true input ≡ None → start_in true input ≡ Err NotHeader
+pub starts_from_none : (input : List ℕ) → loaded_in true input ≡ None → start_in true input ≡ Err NotHeader
 starts_from_none input e = no_cut (divided input) e
 
 module _ (threads : Bool) (options : Options) (input : List ℕ) (p : Printed) where

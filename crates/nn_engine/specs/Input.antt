@@ -1,5 +1,5 @@
 -- What was read of an input, and why one was not.
-use Rattle.std.specs.Prelude.{◌≡◌, ◌≤◌, ◌<◌, ◌+◌, ℕ, Bool, true, false, is_some, List, length, Option, Some, None, option_map, Result, Ok, Err}
+use Rattle.std.specs.Prelude.{◌≡◌, ◌≤◌, ◌<◌, ◌+◌, ℕ, Bool, true, false, is_some, List, length, Option, Some, None, Result, Ok, Err}
 use Rattle.std.specs.Io.KnownBytes.{Consumes}
 use Rattle.nn_device.specs.Device.{Reading}
 use Rattle.nn_scenario.specs.Chunks.{Chunks, HasCome, IsReadAs}
@@ -7,11 +7,11 @@ use Rattle.nn_scenario.specs.Reading.{Reading as Lines, nothing_read}
 use Rattle.nn_scenario.specs.Scenario.{max_input}
 use Rattle.nn_scenario.specs.declared.scenario.BadLine.{BadLine}
 use Rattle.nn_scenario.specs.declared.scenario.Scenario.{Scenario}
-use Rattle.nn_image.specs.Reading.{read_image}
+use Rattle.nn_model.specs.Namespace.{Namespace}
 use Rattle.nn_image.specs.declared.fault.ImageFault.{ImageFault}
-use Rattle.nn_front.specs.Cut.{divided}
+use Rattle.nn_front.specs.Cut.{divided, image_read}
 use Rattle.nn_front.specs.Front.{FrontState, IsFront}
-use Rattle.nn_engine.specs.Start.{Start, from_root, scenario_in}
+use Rattle.nn_engine.specs.Start.{Start, scenario_in}
 use Rattle.nn_engine.specs.declared.start.Begin.{Begin}
 use Rattle.nn_engine.specs.declared.parts.InputParts.{InputParts}
 use Rattle.nn_engine.specs.declared.device.InputFault.{InputFault}
@@ -51,14 +51,14 @@ IsNotTaken from_image input ReadFailed = ⊥
 IsNotTaken from_image input TooLong = max_input < length (scenario_in from_image input)
 IsNotTaken from_image input OutOfMemory = Unit {0}
 
--- the image of an input, where it is asked for and there
-abbrev pub image_in : Bool → List ℕ → Option (List ℕ)
-image_in false input = None
-image_in true input = option_map (λ cut. cut.image) (divided input)
+-- what the image of an input is read as, where it is asked for and there
+abbrev pub loaded_in : Bool → List ℕ → Option (Result (Namespace × ℕ) ImageFault)
+loaded_in false input = None
+loaded_in true input = image_read (divided input)
 
 -- the image of an input and its scenario, as they were read
 pub record IsRead (from_image : Bool) (input : List ℕ) (r : InputParts) : Type 0 where
-  pub image : image_in from_image input ≡ option_map (λ v. v.items) r.image
+  pub loaded : loaded_in from_image input ≡ r.loaded
   pub read : IsReadAs (scenario_in from_image input) r.lines
 
 -- all that the reader gave is an input, of which this holds
@@ -88,13 +88,8 @@ pub record HasParts (p : PartsTaken) (input : List ℕ) : Type 0 where
   pub come : HasCome (λ _ x reading. reading ≡ x) nothing_read rest p.lines
 
 -- what the end of a front says of its input
-abbrev pub EndsFront : Option FrontState → Option (List ℕ) → Type 0
-EndsFront front image = (input rest : List ℕ) → IsFrontOf front input rest → image_in (is_some front) input ≡ image
-
--- an image of these bytes stands for this start, and none for the root alone
-abbrev pub IsStartOf : Option (List ℕ) → Start → Type 0
-IsStartOf None start = start ≡ from_root
-IsStartOf (Some image) start = read_image image ≡ Ok (start.namespace, start.txid)
+abbrev pub EndsFront : Option FrontState → Option (Result (Namespace × ℕ) ImageFault) → Type 0
+EndsFront front loaded = (input rest : List ℕ) → IsFrontOf front input rest → loaded_in (is_some front) input ≡ loaded
 
 abbrev pub start_of : Begin → Start
 start_of b = record { namespace = b.namespace; txid = b.txid }

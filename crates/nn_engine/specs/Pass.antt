@@ -2,10 +2,11 @@
 use Rattle.std.specs.Prelude.{◌≡◌, ◌≤◌, ℕ, true, List, [], ◌++◌, length, Option, Result, Ok, Err}
 use Rattle.nn_image.specs.declared.fault.ImageFault.{ImageFault}
 use Rattle.nn_front.specs.Front.{IsFront}
+use Rattle.nn_model.specs.Namespace.{Namespace}
 use Rattle.nn_shadow.specs.Contents.{Contents}
 use Rattle.nn_scenario.specs.Chunks.{Chunks, HasCome}
 use Rattle.nn_engine.specs.Following.{Lived, IsLive, EndsSo, line_count, start_at}
-use Rattle.nn_engine.specs.Input.{image_in}
+use Rattle.nn_engine.specs.Input.{loaded_in}
 use Rattle.nn_engine.specs.Start.{Start, start_in, scenario_in}
 use Rattle.nn_engine.specs.declared.engine.Options.{Options}
 use Rattle.nn_engine.specs.declared.live.Halt.{Halt}
@@ -48,10 +49,10 @@ HasBegun options start rest (Err fault) = start ≡ Err fault
 abbrev pub StartsLines : Options → Start → Chunks Lived → Type 0
 StartsLines options start lines = HasLines options start [] lines
 
--- and for each input that begins with this image, or with none
-abbrev pub StartsFrom : Options → Option (List ℕ) → Result (Chunks Lived) ImageFault → Type 0
-StartsFrom options image begun =
-    (start : Result Start ImageFault) × ((input : List ℕ) → image_in options.from_image input ≡ image → start_in options.from_image input ≡ start)
+-- and for each input whose image is read as this, or that has none
+abbrev pub StartsFrom : Options → Option (Result (Namespace × ℕ) ImageFault) → Result (Chunks Lived) ImageFault → Type 0
+StartsFrom options loaded begun =
+    (start : Result Start ImageFault) × ((input : List ℕ) → loaded_in options.from_image input ≡ loaded → start_in options.from_image input ≡ start)
     × HasBegun options start [] begun
 
 -- Of an input whose first bytes came: where its scenario has begun, it is these bytes, those that are still to be taken, and all that comes.

@@ -13,14 +13,14 @@ use Rattle.serde_json.specs.Read.{number_of as json_number}
 use Rattle.nn_model.specs.declared.form.Form.TheVariants.{Dir}
 use Rattle.nn_model.specs.Namespace.{root_alone, with_row}
 use Rattle.nn_image.specs.declared.fault.ImageFault.TheVariants.{NotHeader, BadLine, WrongOrder, CountMismatch, Truncated, BadVersion, ReadFault, OutOfMemory}
-use Rattle.nn_image.specs.Reading.{read_image, all_from, rows_from, pieces_of, object_of, value_of, number_in, text_in, flag_in, array_in, path_in, block_of, gathered, blocks_at, numbers_at, replication_in, file_in, form_of, form_in, row_in, profile_in, fields_in}
+use Rattle.nn_image.specs.Reading.{is_end_line, read_image, all_from, rows_from, pieces_of, object_of, value_of, number_in, text_in, flag_in, array_in, path_in, block_of, gathered, blocks_at, numbers_at, replication_in, file_in, form_of, form_in, row_in, profile_in, fields_in}
 use Rattle.json.specs.Print.{escape_byte}
 use Rattle.nn_listing.specs.Listing.{newline}
 use Rattle.nn_listing.specs.Tables.{datanodes}
 use Rattle.nn_model.specs.History.{History}
 use Rattle.nn_segment.specs.LogEnd.{end_of_log, end_of_txs}
 use Rattle.nn_scenario.specs.Cut.{segments_from, cut_from}
-use Rattle.nn_front.specs.Cut.{divided, is_end_line}
+use Rattle.nn_front.specs.Cut.{divided}
 use Rattle.nn_edits.specs.Reading.{edit_of_line, either_of_line, object_in, value_of as line_value, either_in, tx_in, op_in, op_of, txid_in, whole_in, number_in as line_number, path_in as line_path, profile_in as line_profile, edit_in, block_in, items_in, blocks_in, report_in, dn_in, kind_in, kind_of}
 use Rattle.nn_edits.specs.declared.fault.LineFault.TheVariants.{MissingField}
 use Rattle.nn_scenario.specs.Scenario.{Scenario, scenario_of, lines_from}

@@ -1,5 +1,5 @@
-//! The parts of an input that are kept whole, for a run with threads: its image and its scenario.
-ghost use Rattle.std.specs.Prelude.{◌≡◌, ◌≤◌, ◌++◌, [], List, ℕ, false, drop, is_some, length, option_map, IfOk, IfErr, OnOk};
+//! The parts of an input that are read whole, for a run with threads: its image and its scenario.
+ghost use Rattle.std.specs.Prelude.{◌≡◌, ◌≤◌, ◌++◌, [], List, ℕ, false, drop, is_some, length, IfOk, IfErr, OnOk};
 ghost use Rattle.std.specs.Io.KnownBytes.{IsAtEnd};
 ghost use Rattle.nn_scenario.specs.Scenario.{seen, IsLawfulScenario};
 ghost use Rattle.nn_engine.specs.Input.{EndsFront, HasParts, IsFrontOf, IsRead, IsReadOfAll, IsScenarioOfAll, IsUnread};
@@ -7,16 +7,16 @@ ghost use Rattle.nn_engine.specs.Input.{EndsFront, HasParts, IsFrontOf, IsRead, 
 use crate::device::{ByteSink, InputFault, read_to_end};
 use nn_device::Reader;
 use nn_edits::Scratch;
-use nn_front::Front;
+use nn_front::{Front, Loaded};
 use nn_scenario::{BadLine, Lines, MAX_INPUT, Reading, Scenario, scenario_of};
 use std::alloc::{AllocError, Global};
 use std::io::Read;
 use std::marker::Model;
 
-/// The image of an input, where it is asked for and there, and the scenario or its first line that is refused.
+/// What the image of an input is read as, where it is asked for and there, and the scenario or its first line that is refused.
 #[derive(Drop)]
 pub(crate) struct InputParts {
-    pub image: Option<Vec<u8>>,
+    pub loaded: Option<Loaded>,
     pub lines: Result<Scenario, BadLine>,
 }
 
@@ -39,8 +39,8 @@ pub fn read_scenario<R: Read>(
     Ok(lines)
 }
 
-/// Reads an input to the reader's end, with an image before the scenario or without one. The image is kept as it is, and what is
-/// passed over before it is not. Of what follows the image, `MAX_INPUT` bytes are read at most.
+/// Reads an input to the reader's end, with an image before the scenario or without one. The image is loaded as it comes, and
+/// what is passed over before it is not kept. Of what follows the image, `MAX_INPUT` bytes are read at most.
 pub(crate) fn read_parts<R: Read>(
     alloc: Global,
     from_image: bool,
@@ -54,8 +54,7 @@ pub(crate) fn read_parts<R: Read>(
 {
     let mut parts = Parts::new(alloc, from_image)?;
     read_to_end(alloc, &mut parts, input)?;
-    let read = parts.end(alloc)?;
-    Ok(read)
+    Ok(parts.end(alloc))
 }
 
 // The parts of an input that have come.
@@ -122,9 +121,9 @@ impl Parts {
     }
 
     // The parts of an input that has ended.
-    fn end(self, alloc: Global) -> Result<InputParts, AllocError>
-        ensures read { IfOk result (λ r. (input : List ℕ) → HasParts self input → IsRead (is_some self.front) input r) }
-        ensures lawful { IfOk result (λ r. (input : List ℕ) → HasParts self input → IfOk r.lines (λ s. IsLawfulScenario (seen s))) }
+    fn end(self, alloc: Global) -> InputParts
+        ensures read { (input : List ℕ) → HasParts self input → IsRead (is_some self.front) input result }
+        ensures lawful { (input : List ℕ) → HasParts self input → IfOk result.lines (λ s. IsLawfulScenario (seen s)) }
         ensures fits { self.taken ≤ 16777216 }
     {
         let Parts {
@@ -133,20 +132,20 @@ impl Parts {
             mut scratch,
             ..
         } = self;
-        let image = image_of(front)?;
+        let loaded = loaded_of(front);
         let read = lines.end(alloc, &mut scratch);
         let lines = scenario_of(read);
-        Ok(InputParts { image, lines })
+        InputParts { loaded, lines }
     }
 }
 
-// The image of an input that has ended, where one is asked for and there.
-fn image_of(front: Option<Front>) -> Result<Option<Vec<u8>>, AllocError>
-    ensures { IfOk result (λ image. EndsFront front (option_map (λ v. v.items) image)) }
+// What the image of an input that has ended is read as, where one is asked for and there.
+fn loaded_of(front: Option<Front>) -> Option<Loaded>
+    ensures { EndsFront front result }
 {
     match front {
         Some(front) => front.end(),
-        None => Ok(None),
+        None => None,
     }
 }
 

@@ -3,7 +3,7 @@ ghost use Rattle.std.specs.Prelude.{◌≡◌, ◌≤◌, ◌<◌, ◌+◌, ◌^
 ghost use Rattle.std.specs.Io.KnownBytes.{IsAtEnd};
 ghost use Rattle.nn_image.specs.declared.fault.ImageFault.{ImageFault as Fault};
 ghost use Rattle.nn_engine.specs.Following.{serving};
-ghost use Rattle.nn_engine.specs.Input.{image_in, start_of, IsReadOfAll, IsUnread};
+ghost use Rattle.nn_engine.specs.Input.{loaded_in, start_of, IsReadOfAll, IsUnread};
 ghost use Rattle.nn_engine.specs.Pass.{HasBegun, HasPassed, HasPassedTo, HasRoom, IsRoomy, RunEnds, IsRunOf, StartsFrom, StartsLines};
 ghost use Rattle.nn_engine.specs.Start.{Start};
 ghost use Rattle.nn_engine.specs.declared.engine.Options.{Options as RunOptions};
@@ -14,7 +14,7 @@ use crate::live::{Halt, Live, end_of_lines};
 use crate::start::{Begin, start_from};
 use nn_device::Reader;
 use nn_edits::Scratch;
-use nn_front::Front;
+use nn_front::{Front, Loaded};
 use nn_image::ImageFault;
 use nn_scenario::{Lines, MAX_INPUT};
 use nn_shadow::Shadow;
@@ -26,8 +26,7 @@ use std::marker::Model;
 const DATANODES: u16 = 256;
 
 /// Follows an input to the reader's end. The answer is the standby at the end of its log, or why there is none. It reads on
-/// after a fault, since an input that can't be read is told first. No line is kept, and an image no longer than until its
-/// last line has come.
+/// after a fault, since an input that can't be read is told first. No line is kept, and none of an image.
 pub(crate) fn follow_input<R: Read>(
     alloc: Global,
     options: &Options,
@@ -132,10 +131,10 @@ impl Pass {
             return Ok(0);
         };
         let at = front.push(alloc, bytes)?;
-        let Some(image) = front.take_ended(alloc) else {
+        let Some(loaded) = front.take_ended(alloc) else {
             return Ok(at);
         };
-        let begun = begin(alloc, &self.options, Some(image))?;
+        let begun = begin(alloc, &self.options, Some(loaded))?;
         self.stage = Stage::Begun(begun);
         Ok(at)
     }
@@ -168,8 +167,7 @@ impl Pass {
         } = self;
         match stage {
             Stage::Front(front) => {
-                let image = front.end()?;
-                let begun = begin(alloc, &options, image)?;
+                let begun = begin(alloc, &options, front.end())?;
                 Ok(end_of_begun(alloc, &mut scratch, begun))
             }
             Stage::Begun(begun) => Ok(end_of_begun(alloc, &mut scratch, begun)),
@@ -177,14 +175,12 @@ impl Pass {
     }
 }
 
-// Begins to follow a scenario behind this image, which is let go before a line comes.
-fn begin(alloc: Global, options: &Options, image: Option<Vec<u8>>) -> Result<Begun, AllocError>
-    ensures starts { IfOk result (StartsFrom options.now (option_map (λ v. v.items) image)) }
+// Begins to follow a scenario behind an image that is read as this.
+fn begin(alloc: Global, options: &Options, loaded: Option<Loaded>) -> Result<Begun, AllocError>
+    ensures starts { IfOk result (StartsFrom options.now loaded) }
     ensures room { IfOk result (IsRoomy 0) }
 {
-    let begun = start_from(alloc, options.from_image, &image)?;
-    drop(image);
-    match begun {
+    match start_from(alloc, options.from_image, loaded) {
         Ok(begin) => Ok(Ok(lines_from(alloc, options, begin)?)),
         Err(fault) => Ok(Err(fault)),
     }
@@ -192,12 +188,11 @@ fn begin(alloc: Global, options: &Options, image: Option<Vec<u8>>) -> Result<Beg
 
 // The lines of a scenario, none of which has come, for a standby at this start.
 fn lines_from(alloc: Global, options: &Options, begin: Begin) -> Result<Lines<Live>, AllocError>
-    requires { begin.txid < 2 ^ 63 }
     ensures starts { IfOk result (StartsLines options.now (start_of begin)) }
     ensures room { IfOk result (λ lines. IsRoomy 0 (Ok lines)) }
 {
     let Begin { namespace, txid } = begin;
-    let Ok(shadow) = Shadow::from(alloc, namespace, txid, DATANODES, options.settings) else {
+    let Ok(shadow) = Shadow::from(alloc, namespace, txid.get(), DATANODES, options.settings) else {
         return Err(AllocError);
     };
     Ok(Lines::to(alloc, Live::of(shadow, options.history)))

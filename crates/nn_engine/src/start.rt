@@ -1,76 +1,48 @@
 //! Where a run begins.
-ghost use Rattle.std.specs.Prelude.{◌≡◌, ◌<◌, ◌^◌, ℕ, List, None, Result, Err, IfOk, IfSome, option_map};
-ghost use Rattle.nn_image.specs.Outcome.{Fails};
-ghost use Rattle.nn_model.specs.Namespace.{Namespace as Rows};
-ghost use Rattle.nn_image.specs.declared.fault.ImageFault.{ImageFault as Fault};
-ghost use Rattle.nn_engine.specs.Input.{IsStartOf, begun, image_in, start_of};
-ghost use Rattle.nn_engine.specs.Start.{from_root, start_in};
+ghost use Rattle.std.specs.Prelude.{◌≡◌, ℕ, List, None};
+ghost use Rattle.nn_engine.specs.Input.{begun, loaded_in};
+ghost use Rattle.nn_engine.specs.Start.{start_in};
 
-use nn_device::Reader;
-use nn_image::{ImageFault, load};
+use nn_front::Loaded;
+use nn_image::ImageFault;
 use nn_tree::Namespace;
-use std::alloc::{AllocError, Global};
+use nn_types::Txid;
+use std::alloc::Global;
 
-/// A namespace, and the txid of its last transaction.
+/// A namespace, and the txid of its last transaction, 0 where there was none.
 #[derive(Drop)]
 pub(crate) struct Begin {
     pub namespace: Namespace,
-    pub txid: u64,
+    pub txid: Txid,
 }
 
-/// Where the run of an input begins whose image this is, or the first fault of the image. Where an image is asked for and
-/// none is there, it has no header.
+/// Where the run of an input begins whose image is read as this, or the first fault of the image. Where an image is asked for
+/// and none is there, it has no header.
 pub(crate) fn start_from(
     alloc: Global,
     from_image: bool,
-    image: &Option<Vec<u8>>,
-) -> Result<Result<Begin, ImageFault>, AllocError>
-    ensures start { IfOk result (λ r. (input : List ℕ) → image_in from_image input ≡ option_map (λ v. v.items) image.now → start_in from_image input ≡ begun r) }
-    ensures of_image { IfOk result (λ r. IfOk r (λ b. IsStartOf (option_map (λ v. v.items) image.now) (start_of b))) }
-    ensures limit { IfOk result (λ r. IfOk r (λ b. b.txid < 2 ^ 63)) }
+    loaded: Option<Loaded>,
+) -> Result<Begin, ImageFault>
+    ensures { (input : List ℕ) → loaded_in from_image input ≡ loaded → start_in from_image input ≡ begun result }
 {
-    let Some(image) = image else {
-        return Ok(without_image(alloc, from_image));
-    };
-    match load(alloc, &mut Reader::new(image.as_slice())) {
-        Ok((namespace, txid)) => Ok(Ok(Begin {
-            namespace,
-            txid: txid.get(),
-        })),
-        Err(fault) => {
-            let Some(fault) = of_text(fault) else {
-                return Err(AllocError);
-            };
-            Ok(Err(fault))
-        }
+    match loaded {
+        Some(Ok((namespace, txid))) => Ok(Begin { namespace, txid }),
+        Some(Err(fault)) => Err(fault),
+        None => without_image(alloc, from_image),
     }
 }
 
 fn without_image(alloc: Global, from_image: bool) -> Result<Begin, ImageFault>
-    ensures start { (input : List ℕ) → image_in from_image input ≡ None → start_in from_image input ≡ begun result }
-    ensures root { IfOk result (λ b. start_of b ≡ from_root) }
-    ensures limit { IfOk result (λ b. b.txid ≡ 0) }
+    ensures { (input : List ℕ) → loaded_in from_image input ≡ None → start_in from_image input ≡ begun result }
 {
     if from_image {
         return Err(ImageFault::NotHeader);
     }
+    let Some(txid) = Txid::new(0) else {
+        unreachable!()
+    };
     Ok(Begin {
         namespace: Namespace::new(alloc),
-        txid: 0,
+        txid,
     })
-}
-
-// The fault, where the image has it. A text in memory is read without fail, so that else memory was refused.
-fn of_text(fault: ImageFault) -> Option<ImageFault>
-    ensures { IfSome result (λ f. (r : Result (Rows × ℕ) Fault) → Fails fault r → r ≡ Err f) }
-{
-    match fault {
-        ImageFault::ReadFault | ImageFault::OutOfMemory => None,
-        ImageFault::NotHeader => Some(ImageFault::NotHeader),
-        ImageFault::BadLine(line) => Some(ImageFault::BadLine(line)),
-        ImageFault::WrongOrder(line) => Some(ImageFault::WrongOrder(line)),
-        ImageFault::CountMismatch => Some(ImageFault::CountMismatch),
-        ImageFault::Truncated => Some(ImageFault::Truncated),
-        ImageFault::BadVersion => Some(ImageFault::BadVersion),
-    }
 }

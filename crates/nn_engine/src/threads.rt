@@ -1,6 +1,6 @@
 //! A run with threads: each DataNode reports from a thread of its own and the log comes from another, while a standby
 //! tails it.
-ghost use Rattle.std.specs.Prelude.{◌≡◌, ◌≤◌, ◌^◌, ◌++◌, ◌∷◌, [], ℕ, List, length, replicate, true, false, option_map, Ok, IfOk, IfErr, OnOk};
+ghost use Rattle.std.specs.Prelude.{◌≡◌, ◌≤◌, ◌^◌, ◌++◌, ◌∷◌, [], ℕ, List, length, replicate, true, false, Ok, IfOk, IfErr, OnOk};
 ghost use Rattle.std.specs.List.{All};
 ghost use Rattle.nn_model.specs.Lanes.{no_messages};
 ghost use Rattle.nn_scenario.specs.Cut.{segments_from};
@@ -8,8 +8,7 @@ ghost use Rattle.nn_scenario.specs.Chunks.{IsReadAs};
 ghost use Rattle.nn_scenario.specs.Scenario.{seen, IsLawfulScenario};
 ghost use Rattle.nn_scenario.specs.Steps.{lanes_of, AreInTurn, IsStepOf};
 ghost use Rattle.nn_engine.specs.InMemory.{GivesReport, report_of, with_step, AreFew, AreInMemory, IsBegun, MayEnd, TellsStop};
-ghost use Rattle.nn_engine.specs.Input.{IsRead, IsStartOf};
-ghost use Rattle.nn_engine.specs.Start.{Start};
+ghost use Rattle.nn_engine.specs.Input.{IsRead, start_of};
 ghost use Rattle.nn_drive.specs.Driven.{AreLanes, IsDriven, NotDriven};
 ghost use Rattle.nn_drive.specs.NewLanes.{HavePlaces};
 ghost use Rattle.nn_segment.specs.Source.{GivesNext};
@@ -26,7 +25,7 @@ use crate::gate::{Gate, GatePass};
 use crate::output::{Output, RunEnd, RunFault, finish, finish_output, no_memory};
 use crate::parts::{InputParts, read_parts};
 use crate::segments::Segments;
-use crate::start::start_from;
+use crate::start::{Begin, start_from};
 use nn_device::{Reader, Writer};
 use nn_drive::{DriveFault, ReportSource, drive, with_lanes};
 use nn_lane::{LaneEnd, Reporter};
@@ -183,33 +182,26 @@ fn line_of_drive(fault: DriveFault) -> Result<FaultLine, AllocError>
     }
 }
 
-// A standby over these lanes that starts from an image, which was loaded before, or from the root alone.
+// A standby over these lanes that goes on from here.
 fn standby_over(
     alloc: Global,
     ends: Vec<LaneEnd>,
     settings: Settings,
-    image: &Option<Vec<u8>>,
+    begin: Begin,
 ) -> Result<Standby, AllocError>
     requires some { 1 ≤ length ends.items }
     requires few { length ends.items ≤ 256 }
     requires fresh { AreNew 1 ends.items }
     ensures ends { IfOk result (λ x. x.ends ≡ ends.items) }
     ensures serves { IfOk result (λ x. has_begun x ≡ false) }
-    ensures begun { IfOk result (λ x. (start : Start) → IsStartOf (option_map (λ v. v.items) image.now) start → IsBegun start ends.items x) }
+    ensures begun { IfOk result (IsBegun (start_of begin) ends.items) }
     ensures settings { IfOk result (λ x. (x.shadow.table.min ≡ settings.min) × (x.shadow.permille ≡ settings.permille)) }
 {
-    let Some(image) = image else {
-        let Ok(standby) = Standby::new(alloc, ends, settings) else {
-            return Err(AllocError);
-        };
-        return Ok(standby);
+    let Begin { namespace, txid } = begin;
+    let Ok(standby) = Standby::from_namespace(alloc, ends, settings, namespace, txid) else {
+        return Err(AllocError);
     };
-    let mut reader = Reader::new(image.as_slice());
-    match Standby::from_image(alloc, ends, settings, &mut reader) {
-        Ok(standby) => Ok(standby),
-        // It was loaded before, so that only memory can be short.
-        Err(_) => Err(AllocError),
-    }
+    Ok(standby)
 }
 
 // Drives a standby over lanes of just the places that were asked for.
@@ -237,7 +229,7 @@ fn output_of_drive<G: Gate + Send + Sync + Drop, R: Threads + Wait + Sync>(
     rt: &R,
     alloc: Global,
     asked: &ThreadOptions<G>,
-    image: &Option<Vec<u8>>,
+    begin: Begin,
     datanodes: u16,
     steps: StepList,
     segments: Vec<Parsed>,
@@ -246,12 +238,11 @@ fn output_of_drive<G: Gate + Send + Sync + Drop, R: Threads + Wait + Sync>(
     requires datanodes { (1 ≤ datanodes) × (datanodes ≤ 256) }
     requires in_turn { AreInTurn no_messages steps }
     requires within { All (IsStepOf datanodes) steps }
-    ensures { IfOk result (λ o. (start : Start) → IsStartOf (option_map (λ v. v.items) image.now) start
-        → IsToldOf start true asked.now.options steps (Ok segments.items) (shown asked.now.options o)) }
+    ensures { IfOk result (λ o. IsToldOf (start_of begin) true asked.now.options steps (Ok segments.items) (shown asked.now.options o)) }
 {
     let sources = sources_of(alloc, &asked.gate, datanodes, steps)?;
     let (workers, ends) = with_lanes(alloc, sources, asked.capacity)?;
-    let standby = standby_over(alloc, ends, asked.options.settings, image)?;
+    let standby = standby_over(alloc, ends, asked.options.settings, begin)?;
     match drive_over(rt, alloc, asked, standby, segments, workers) {
         Ok((shadow, _active)) => Ok(output_of_flushed(shadow)),
         Err(fault) => Ok(Output::Fault(line_of_drive(fault)?)),
@@ -262,13 +253,12 @@ fn output_of_threads<G: Gate + Send + Sync + Drop, R: Threads + Wait + Sync>(
     rt: &R,
     alloc: Global,
     asked: &ThreadOptions<G>,
-    image: &Option<Vec<u8>>,
+    begin: Begin,
     scenario: Scenario,
 ) -> Result<Output, AllocError>
     requires capacity { (1 ≤ asked.now.capacity) × (asked.now.capacity ≤ 1024) }
     requires lawful { IsLawfulScenario (seen scenario) }
-    ensures { IfOk result (λ o. (start : Start) → IsStartOf (option_map (λ v. v.items) image.now) start
-        → IsToldOf start true asked.now.options scenario.steps (segments_from 1 scenario.parts.items) (shown asked.now.options o)) }
+    ensures { IfOk result (λ o. IsToldOf (start_of begin) true asked.now.options scenario.steps (segments_from 1 scenario.parts.items) (shown asked.now.options o)) }
 {
     let Scenario {
         parts,
@@ -276,7 +266,7 @@ fn output_of_threads<G: Gate + Send + Sync + Drop, R: Threads + Wait + Sync>(
         datanodes,
     } = scenario;
     match read_segments(alloc, parts) {
-        Ok(segments) => output_of_drive(rt, alloc, asked, image, datanodes, steps, segments),
+        Ok(segments) => output_of_drive(rt, alloc, asked, begin, datanodes, steps, segments),
         Err(bad) => Ok(Output::Fault(FaultLine::of_bad_segment(bad)?)),
     }
 }
@@ -287,22 +277,20 @@ fn output_by_threads<G: Gate + Send + Sync + Drop, R: Threads + Wait + Sync>(
     rt: &R,
     alloc: Global,
     asked: &ThreadOptions<G>,
-    image: &Option<Vec<u8>>,
+    begin: Begin,
     lines: Result<Scenario, BadLine>,
 ) -> Result<Output, AllocError>
     requires capacity { (1 ≤ asked.now.capacity) × (asked.now.capacity ≤ 1024) }
     requires lawful { IfOk lines (λ s. IsLawfulScenario (seen s)) }
-    ensures { (text : List ℕ) → IsReadAs text lines → IfOk result (λ o. (start : Start) → IsStartOf (option_map (λ v. v.items) image.now) start
-        → IsPrintedFrom start true asked.now.options text (shown asked.now.options o)) }
+    ensures { (text : List ℕ) → IsReadAs text lines → IfOk result (λ o. IsPrintedFrom (start_of begin) true asked.now.options text (shown asked.now.options o)) }
 {
     match lines {
-        Ok(scenario) => output_of_threads(rt, alloc, asked, image, scenario),
+        Ok(scenario) => output_of_threads(rt, alloc, asked, begin, scenario),
         Err(bad) => Ok(Output::Fault(FaultLine::of_bad_line(bad)?)),
     }
 }
 
-// The output of an input whose parts were read, by threads. The image is loaded once to see whether it has a fault, and once
-// for the standby, whose lanes are not known before the scenario is.
+// The output of an input whose parts were read, by threads.
 fn parts_by_threads<G: Gate + Send + Sync + Drop, R: Threads + Wait + Sync>(
     rt: &R,
     alloc: Global,
@@ -313,20 +301,16 @@ fn parts_by_threads<G: Gate + Send + Sync + Drop, R: Threads + Wait + Sync>(
     requires lawful { IfOk parts.lines (λ s. IsLawfulScenario (seen s)) }
     ensures { (input : List ℕ) → IsRead asked.now.options.from_image input parts → IfOk result (λ o. IsPrinted true asked.now.options input (shown asked.now.options o)) }
 {
-    let InputParts { image, lines } = parts;
-    match start_from(alloc, asked.options.from_image, &image)? {
-        Ok(begin) => {
-            drop(begin);
-            output_by_threads(rt, alloc, asked, &image, lines)
-        }
+    let InputParts { loaded, lines } = parts;
+    match start_from(alloc, asked.options.from_image, loaded) {
+        Ok(begin) => output_by_threads(rt, alloc, asked, begin, lines),
         Err(fault) => Ok(Output::Fault(FaultLine::of_image(fault))),
     }
 }
 
 /// Reads a scenario to its end and writes its listing, or one fault line and nothing else, as `run` does; but each
 /// DataNode reports from a thread of its own and the log's segments come from another, while the standby tails the log on
-/// this one. Whatever the schedule, it writes the same, except that a history may be any that is lawful and whole. An image in
-/// front is loaded twice.
+/// this one. Whatever the schedule, it writes the same, except that a history may be any that is lawful and whole.
 ///
 /// `fault 55` says that memory was refused, or a thread. It waits for as long as the gate does.
 pub fn run_threads<I: Read, W: Write, G: Gate + Send + Sync + Drop, R: Threads + Wait + Sync>(

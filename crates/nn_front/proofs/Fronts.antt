@@ -1,22 +1,24 @@
 -- The bytes of a front, one after another.
-use Rattle.std.proofs.Common.{◌≡◌, ◌≢◌, ◌⊎◌, ℕ, suc, ◌+◌, ◌-◌, ◌<◌, ◌≤◌, get_or, List, [], ◌∷◌, ◌++◌, length, take, drop, min, Bool, true, false, not, ◌&&◌, cond, eqb, Option, Some, None, inl, inr, refl, sym, ap, ◌∙◌, subst, arith, append_assoc, append-nil, drop_of_length-le, length-drop, take-append-drop}
+use Rattle.std.proofs.Common.{◌≡◌, ◌≢◌, ◌⊎◌, ℕ, suc, ◌+◌, ◌-◌, ◌<◌, ◌≤◌, get_or, List, [], ◌∷◌, ◌++◌, length, take, drop, min, Bool, true, false, not, ◌&&◌, cond, eqb, Option, Some, None, Result, inl, inr, refl, sym, ap, ◌∙◌, subst, arith, append_assoc, append-nil, drop_of_length-le, length-drop, take-append-drop}
 use Rattle.std.proofs.Math.Seq.{drop-cons}
-use Rattle.std.specs.Prelude.{codes, is_some, option_map}
+use Rattle.std.specs.Prelude.{option_map}
 use Rattle.std.specs.Str.{bytes_eq}
-use Rattle.std.proofs.lemmas.Bool.{false≢true, and_parts, not-true, cases_lt}
+use Rattle.std.proofs.lemmas.Bool.{and_parts, not-true, cases_lt}
 use Rattle.std.proofs.lemmas.Bool.Decides.{Decides-eqb}
-use Rattle.std.proofs.lemmas.Slice.Eq.{bytes_eq-Decides}
 use Rattle.std.proofs.lemmas.List.{drop-drop, take_all}
+use Rattle.nn_model.specs.Namespace.{Namespace}
+use Rattle.nn_image.specs.Lines.{no_feed}
+use Rattle.nn_image.specs.Loading.{LoadState, at_header, loaded_from, is_first, ends_with, TakesLine}
+use Rattle.nn_image.specs.Reading.{is_end_line, pieces_of, read_image}
 use Rattle.nn_image.specs.Text.{feed}
+use Rattle.nn_image.specs.declared.fault.ImageFault.{ImageFault}
+use Rattle.nn_image.proofs.LoadedLines.{only_piece, piece}
+use Rattle.nn_image.proofs.Round.{some_piece}
 use Rattle.nn_segment.specs.Lines.{newline, is_unbroken}
-use Rattle.serde_json.specs.Data.{Data, Members, object, put}
-use Rattle.serde_json.specs.Find.{get}
-use Rattle.serde_json.proofs.Views.{get_member-put, get_member-put_other}
-use Rattle.nn_image.specs.Reading.{◌>>=◌, object_of, object_only, value_of}
-use Rattle.nn_front.specs.Cut.{Cut, behind_mark, cut_from, divided, has_end, is_end_line, mark, onto, rest_of}
-use Rattle.nn_front.specs.Front.{FrontState, IsAt, IsFront, begun, ended_at, kept, kept_at, line_ended, room}
+use Rattle.nn_front.specs.Cut.{Cut, behind_mark, cut_from, divided, image_read, mark, onto, rest_of}
+use Rattle.nn_front.specs.Front.{FrontState, IsLoaded, IsPassing, IsInImage, IsBehind, IsAt, IsFront, LineEnded, begun, kept, kept_at, room}
 use Rattle.nn_front.specs.declared.front.Place.{Place}
-use Rattle.nn_front.specs.declared.front.Place.TheVariants.{Start, Passing, Header, Rows, Behind}
+use Rattle.nn_front.specs.declared.front.Place.TheVariants.{Start, Passing, Image, Behind}
 
 -- ---- bytes of one line
 
@@ -96,61 +98,79 @@ onto_ended image line cut j =
 
 -- ---- bytes come
 
-bytes_come : (place : Place) (text bytes line image rest : List ℕ) → place ≢ Start → place ≢ Behind → is_unbroken bytes ≡ true → IsAt place text line image rest
-    → IsAt place (text ++ bytes) (kept_at place bytes line) image rest
-bytes_come Start text bytes line image rest started before plain h = absurd (started refl)
-bytes_come Behind text bytes line image rest started before plain h = absurd (before refl)
-bytes_come Passing text bytes line image rest started before plain h = (
-  h.0 ++ bytes,
-  ap (λ l. l ++ take (room (length l) (length bytes)) bytes) h.1 ∙ six h.0 bytes,
-  h.2,
-  h.3,
-  λ more. ap divided (append_assoc text bytes more) ∙ h.4 (bytes ++ more) ∙ ap (option_map (cut_from true [])) (passed h.0 bytes more plain),
-)
-bytes_come Header text bytes line image rest started before plain h = (
-  h.0,
-  λ more.
-      ap divided (append_assoc text bytes more) ∙ h.1 (bytes ++ more) ∙ ap (λ c. Some (onto (image ++ line) c)) (same_line true line bytes more plain)
-      ∙ ap Some (onto_line image line bytes (cut_from true (line ++ bytes) more)),
-)
-bytes_come Rows text bytes line image rest started before plain h = (
-  h.0,
-  λ more.
-      ap divided (append_assoc text bytes more) ∙ h.1 (bytes ++ more) ∙ ap (λ c. Some (onto (image ++ line) c)) (same_line false line bytes more plain)
-      ∙ ap Some (onto_line image line bytes (cut_from false (line ++ bytes) more)),
-)
+no_feed_both : (a b : List ℕ) → no_feed a ≡ true → no_feed b ≡ true → no_feed (a ++ b) ≡ true
+no_feed_both [] b ha hb = hb
+no_feed_both (x ∷ a) b ha hb = let both = and_parts (not (eqb x feed)) (no_feed a) ha in rw (both.0, no_feed_both a b both.1 hb) refl
+
+bytes_come : (place : Place) (text bytes line : List ℕ) (l : LoadState) (rest : List ℕ) → place ≢ Start → place ≢ Behind → is_unbroken bytes ≡ true → IsAt place text line l rest
+    → IsAt place (text ++ bytes) (kept_at place bytes line) l rest
+bytes_come Start text bytes line l rest started before plain h = absurd (started refl)
+bytes_come Behind text bytes line l rest started before plain h = absurd (before refl)
+bytes_come Passing text bytes line l rest started before plain h = record {
+  none = h.none;
+  new = h.new;
+  whole = h.whole ++ bytes;
+  first = ap (λ x. x ++ take (room (length x) (length bytes)) bytes) h.first ∙ six h.whole bytes;
+  cut = λ more. ap divided (append_assoc text bytes more) ∙ h.cut (bytes ++ more) ∙ ap (option_map (cut_from true [])) (passed h.whole bytes more plain);
+}
+bytes_come Image text bytes line l rest started before plain h = record {
+  none = h.none;
+  lines = h.lines;
+  loaded = h.loaded;
+  unbroken = no_feed_both line bytes h.unbroken plain;
+  cut = λ more.
+      ap divided (append_assoc text bytes more) ∙ h.cut (bytes ++ more) ∙ ap (λ c. Some (onto (h.lines ++ line) c)) (same_line (is_first l) line bytes more plain)
+      ∙ ap Some (onto_line h.lines line bytes (cut_from (is_first l) (line ++ bytes) more));
+}
 
 pub keeps : (f : FrontState) (text bytes rest : List ℕ) → f.place ≢ Start → f.place ≢ Behind → is_unbroken bytes ≡ true → IsFront text f rest → IsFront (text ++ bytes) (kept bytes f) rest
-keeps f text bytes rest = bytes_come f.place text bytes f.line f.image rest
+keeps f text bytes rest = bytes_come f.place text bytes f.line f.loading rest
 
 -- ---- a line ends
 
-mark_or_none : (text whole image rest more : List ℕ) (t : Bool) → bytes_eq whole mark ≡ t → divided (text ++ feed ∷ more) ≡ option_map (cut_from true []) (behind_mark whole (feed ∷ more))
+mark_or_none : (text whole more : List ℕ) (t : Bool) → bytes_eq whole mark ≡ t → divided (text ++ feed ∷ more) ≡ option_map (cut_from true []) (behind_mark whole (feed ∷ more))
     → divided (text ++ feed ∷ more) ≡ option_map (cut_from true []) (elim t as (λ _. Option (List ℕ)) [
       | true ↦ Some more
       | false ↦ behind_mark [] more
     ])
-mark_or_none text whole image rest more t e h = rw (← e) h
+mark_or_none text whole more t e h = rw (← e) h
 
-line_ends : (place : Place) (text line image rest : List ℕ) → place ≢ Start → place ≢ Behind → IsAt place text line image rest
-    → IsFront (text ++ feed ∷ []) (ended_at place (record { place = place; line = line; image = image })) rest
-line_ends Start text line image rest started before h = absurd (started refl)
-line_ends Behind text line image rest started before h = absurd (before refl)
-line_ends Passing text line image rest started before h = by (bytes_eq line mark) (sym (ap (λ l. bytes_eq l mark) h.1 ∙ same_mark h.0))
+none_loaded : IsLoaded [] at_header
+unfolding read_image
+none_loaded more = refl
+
+-- one line more is loaded
+one_more : (lines line : List ℕ) (l m : LoadState) → no_feed line ≡ true → TakesLine l m line → IsLoaded lines l → IsLoaded ((lines ++ line) ++ feed ∷ []) m
+one_more lines line l m unbroken takes loaded more =
+    ap read_image (append_assoc (lines ++ line) (feed ∷ []) more ∙ append_assoc lines line (feed ∷ more)) ∙ loaded (line ++ feed ∷ more) ∙ ap (loaded_from l) (piece line more unbroken) ∙ turn (pieces_of more) (some_piece more)
   where
-    by : (t : Bool) → bytes_eq h.0 mark ≡ t → IsAt (cond t Header Passing) (text ++ feed ∷ []) [] image rest
-    by true e = (
-      h.3,
-      λ more.
-          ap divided (append_assoc text (feed ∷ []) more) ∙ mark_or_none text h.0 image rest more true e (h.4 (feed ∷ more))
-          ∙ (λ j. Some (onto (sym h.2 j ++ []) (cut_from true [] more))),
-    )
-    by false e = ([], refl, h.2, h.3, λ more. ap divided (append_assoc text (feed ∷ []) more) ∙ mark_or_none text h.0 image rest more false e (h.4 (feed ∷ more)))
-line_ends Header text line image rest started before h = (
-  h.0,
-  λ more. ap divided (append_assoc text (feed ∷ []) more) ∙ h.1 (feed ∷ more) ∙ ap Some (onto_ended image line (cut_from false [] more)),
-)
-line_ends Rows text line image rest started before h = by (is_end_line line) refl
+    turn : (pieces : List (List ℕ)) → (pieces ≡ [] → ⊥) → loaded_from l (line ∷ pieces) ≡ loaded_from m pieces
+    turn [] some = absurd (some refl)
+    turn (next ∷ pieces) some = takes next pieces
+
+mark_ends : (text line : List ℕ) (l : LoadState) (rest : List ℕ) → IsPassing text line l rest → (p : Place) (m : LoadState) → p ≡ cond (bytes_eq line mark) Image Passing → m ≡ l
+    → IsAt p (text ++ feed ∷ []) [] m rest
+mark_ends text line l rest h p m place same = subst (λ q. IsAt q (text ++ feed ∷ []) [] m rest) (sym place) (subst (λ k. IsAt (cond (bytes_eq line mark) Image Passing) (text ++ feed ∷ []) [] k rest) (sym (same ∙ h.new)) (by (bytes_eq line mark) (sym (ap (λ x. bytes_eq x mark) h.first ∙ same_mark h.whole))))
+  where
+    by : (t : Bool) → bytes_eq h.whole mark ≡ t → IsAt (cond t Image Passing) (text ++ feed ∷ []) [] at_header rest
+    by true e = record {
+      none = h.none;
+      lines = [];
+      loaded = none_loaded;
+      unbroken = refl;
+      cut = λ more. ap divided (append_assoc text (feed ∷ []) more) ∙ mark_or_none text h.whole more true e (h.cut (feed ∷ more));
+    }
+    by false e = record {
+      none = h.none;
+      new = refl;
+      whole = [];
+      first = refl;
+      cut = λ more. ap divided (append_assoc text (feed ∷ []) more) ∙ mark_or_none text h.whole more false e (h.cut (feed ∷ more));
+    }
+
+image_line_ends : (text line : List ℕ) (l : LoadState) (rest : List ℕ) → IsInImage text line l rest → (p : Place) (m : LoadState) → p ≡ cond (ends_with l line) Behind Image → is_first m ≡ false
+    → TakesLine l m line → IsAt p (text ++ feed ∷ []) [] m rest
+image_line_ends text line l rest h p m place later takes = subst (λ q. IsAt q (text ++ feed ∷ []) [] m rest) (sym place) (by (ends_with l line) refl)
   where
     Next : Bool → List ℕ → Cut
     Next t more = elim t as (λ _. Cut) [
@@ -158,43 +178,52 @@ line_ends Rows text line image rest started before h = by (is_end_line line) ref
       | false ↦ onto (feed ∷ []) (cut_from false [] more)
     ]
 
-    by : (t : Bool) → is_end_line line ≡ t → IsAt (cond t Behind Rows) (text ++ feed ∷ []) [] ((image ++ line) ++ feed ∷ []) rest
-    by true e = λ more.
-        ap divided (append_assoc text (feed ∷ []) more) ∙ h.1 (feed ∷ more) ∙ ap (λ t. Some (onto (image ++ line) (Next t more))) e
-        ∙ (λ j. Some (record { image = (image ++ line) ++ feed ∷ []; rest = sym h.0 j ++ more }))
-    by false e = (
-      h.0,
-      λ more.
-          ap divided (append_assoc text (feed ∷ []) more) ∙ h.1 (feed ∷ more) ∙ ap (λ t. Some (onto (image ++ line) (Next t more))) e
-          ∙ ap Some (onto_ended image line (cut_from false [] more)),
-    )
+    by : (t : Bool) → ends_with l line ≡ t → IsAt (cond t Behind Image) (text ++ feed ∷ []) [] m rest
+    by true e = record {
+      lines = (h.lines ++ line) ++ feed ∷ [];
+      loaded = one_more h.lines line l m h.unbroken takes h.loaded;
+      cut = λ more.
+          ap divided (append_assoc text (feed ∷ []) more) ∙ h.cut (feed ∷ more) ∙ ap (λ t. Some (onto (h.lines ++ line) (Next t more))) e
+          ∙ (λ j. Some (record { image = (h.lines ++ line) ++ feed ∷ []; rest = sym h.none j ++ more }));
+    }
+    by false e = record {
+      none = h.none;
+      lines = (h.lines ++ line) ++ feed ∷ [];
+      loaded = one_more h.lines line l m h.unbroken takes h.loaded;
+      unbroken = refl;
+      cut = λ more.
+          ap divided (append_assoc text (feed ∷ []) more) ∙ h.cut (feed ∷ more) ∙ ap (λ t. Some (onto (h.lines ++ line) (Next t more))) e
+          ∙ ap Some (onto_ended h.lines line (cut_from false [] more))
+          ∙ ap (λ t. Some (onto (((h.lines ++ line) ++ feed ∷ []) ++ []) (cut_from t [] more))) (sym later);
+    }
 
-pub ended : (f : FrontState) (text rest : List ℕ) → f.place ≢ Start → f.place ≢ Behind → IsFront text f rest → IsFront (text ++ feed ∷ []) (line_ended f) rest
-ended f text rest = line_ends f.place text f.line f.image rest
+line_ends : (place : Place) (text : List ℕ) (f new : FrontState) (rest : List ℕ) → place ≡ f.place → place ≢ Start → place ≢ Behind → LineEnded f new → IsAt place text f.line f.loading rest → IsFront (text ++ feed ∷ []) new rest
+line_ends Start text f new rest at started before ended h = absurd (started refl)
+line_ends Behind text f new rest at started before ended h = absurd (before refl)
+line_ends Passing text f new rest at started before ended h =
+    let k = ended.passed (sym at) in
+    subst (λ x. IsAt new.place (text ++ feed ∷ []) x new.loading rest) (sym ended.line) (mark_ends text f.line f.loading rest h new.place new.loading k.0 k.1)
+line_ends Image text f new rest at started before ended h =
+    let k = ended.read (sym at) in
+    subst (λ x. IsAt new.place (text ++ feed ∷ []) x new.loading rest) (sym ended.line) (image_line_ends text f.line f.loading rest h new.place new.loading k.0 k.1 k.2)
+
+pub ended : (f new : FrontState) (text rest : List ℕ) → f.place ≢ Start → f.place ≢ Behind → LineEnded f new → IsFront text f rest → IsFront (text ++ feed ∷ []) new rest
+ended f new text rest = line_ends f.place text f new rest refl
 
 -- ---- after the image
 
-behind_it : (place : Place) (text bytes line image rest : List ℕ) → place ≡ Behind → IsAt place text line image rest → IsAt place (text ++ bytes) line image (rest ++ bytes)
-behind_it Start text bytes line image rest is h = absurd (cc)
-behind_it Passing text bytes line image rest is h = absurd (cc)
-behind_it Header text bytes line image rest is h = absurd (cc)
-behind_it Rows text bytes line image rest is h = absurd (cc)
-behind_it Behind text bytes line image rest is h = λ more.
-    ap divided (append_assoc text bytes more) ∙ h (bytes ++ more) ∙ (λ j. Some (record { image = image; rest = sym (append_assoc rest bytes more) j }))
+behind_it : (place : Place) (text bytes line : List ℕ) (l : LoadState) (rest : List ℕ) → place ≡ Behind → IsAt place text line l rest → IsAt place (text ++ bytes) line l (rest ++ bytes)
+behind_it Start text bytes line l rest is h = absurd (cc)
+behind_it Passing text bytes line l rest is h = absurd (cc)
+behind_it Image text bytes line l rest is h = absurd (cc)
+behind_it Behind text bytes line l rest is h = record {
+  lines = h.lines;
+  loaded = h.loaded;
+  cut = λ more. ap divided (append_assoc text bytes more) ∙ h.cut (bytes ++ more) ∙ (λ j. Some (record { image = h.lines; rest = sym (append_assoc rest bytes more) j }));
+}
 
 pub behind : (f : FrontState) (text bytes rest : List ℕ) → f.place ≡ Behind → IsFront text f rest → IsFront (text ++ bytes) f (rest ++ bytes)
-behind f text bytes rest = behind_it f.place text bytes f.line f.image rest
-
--- and before that
-nothing_behind : (place : Place) (text line image rest : List ℕ) → place ≢ Behind → IsAt place text line image rest → rest ≡ []
-nothing_behind Start text line image rest other h = h.3
-nothing_behind Passing text line image rest other h = h.3
-nothing_behind Header text line image rest other h = h.0
-nothing_behind Rows text line image rest other h = h.0
-nothing_behind Behind text line image rest other h = absurd (other refl)
-
-pub none_behind : (f : FrontState) (text rest : List ℕ) → f.place ≢ Behind → IsFront text f rest → rest ≡ []
-none_behind f text rest = nothing_behind f.place text f.line f.image rest
+behind f text bytes rest = behind_it f.place text bytes f.line f.loading rest
 
 -- ---- the first byte
 
@@ -215,34 +244,37 @@ other_line b more no_object no_feed =
       | false ↦ behind_mark (b ∷ []) more
     ])) no_feed
 
-first_of : (place : Place) (b : ℕ) (text line image rest : List ℕ) → place ≡ Start → IsAt place text line image rest
-    → IsFront (text ++ b ∷ []) (begun b (record { place = place; line = line; image = image })) rest
-first_of Passing b text line image rest is h = absurd (cc)
-first_of Header b text line image rest is h = absurd (cc)
-first_of Rows b text line image rest is h = absurd (cc)
-first_of Behind b text line image rest is h = absurd (cc)
-first_of Start b text line image rest is h = by (eqb b 123) refl
+first_of : (place : Place) (b : ℕ) (text line : List ℕ) (l : LoadState) (rest : List ℕ) → place ≡ Start → IsAt place text line l rest
+    → IsFront (text ++ b ∷ []) (begun b (record { place = place; line = line; loading = l })) rest
+first_of Passing b text line l rest is h = absurd (cc)
+first_of Image b text line l rest is h = absurd (cc)
+first_of Behind b text line l rest is h = absurd (cc)
+first_of Start b text line l rest is h = by (eqb b 123) refl
   where
     as_passing : (t : Bool) → eqb b 123 ≡ false → eqb b feed ≡ t
-        → IsFront (text ++ b ∷ []) (cond t (record { place = Passing; line = line; image = image }) (record { place = Passing; line = line ++ b ∷ []; image = image })) rest
+        → IsFront (text ++ b ∷ []) (cond t (record { place = Passing; line = line; loading = l }) (record { place = Passing; line = line ++ b ∷ []; loading = l })) rest
     as_passing true no_object e =
         let is : b ≡ feed = (Decides-eqb b feed).0 e in
-        ([], h.1, h.2, h.3, λ more. (λ j. divided ((h.0 j ++ is j ∷ []) ++ more)) ∙ empty_line more)
-    as_passing false no_object e = (b ∷ [], ap (λ l. l ++ b ∷ []) h.1, h.2, h.3, λ more. (λ j. divided ((h.0 j ++ b ∷ []) ++ more)) ∙ other_line b more no_object e)
+        record { none = h.3; new = h.2; whole = []; first = h.1; cut = λ more. (λ j. divided ((h.0 j ++ is j ∷ []) ++ more)) ∙ empty_line more }
+    as_passing false no_object e =
+        record { none = h.3; new = h.2; whole = b ∷ []; first = ap (λ x. x ++ b ∷ []) h.1; cut = λ more. (λ j. divided ((h.0 j ++ b ∷ []) ++ more)) ∙ other_line b more no_object e }
 
     by : (t : Bool) → eqb b 123 ≡ t
-        → IsFront (text ++ b ∷ []) (cond t (record { place = Header; line = line ++ b ∷ []; image = image }) (cond (eqb b feed) (record { place = Passing; line = line; image = image }) (record { place = Passing; line = line ++ b ∷ []; image = image }))) rest
+        → IsFront (text ++ b ∷ []) (cond t (record { place = Image; line = line ++ b ∷ []; loading = l }) (cond (eqb b feed) (record { place = Passing; line = line; loading = l }) (record { place = Passing; line = line ++ b ∷ []; loading = l }))) rest
     by true e =
-        let is : b ≡ 123 = (Decides-eqb b 123).0 e in (
-          h.3,
-          λ more.
-              (λ j. divided ((h.0 j ++ is j ∷ []) ++ more)) ∙ at_once more
-              ∙ (λ j. Some (onto (sym h.2 j ++ (sym h.1 j ++ sym is j ∷ [])) (cut_from true (sym h.1 j ++ sym is j ∷ []) more))),
-        )
+        let is : b ≡ 123 = (Decides-eqb b 123).0 e in
+        let one : line ++ b ∷ [] ≡ 123 ∷ [] = (λ j. h.1 j ++ is j ∷ []) in
+        record {
+          none = h.3;
+          lines = [];
+          loaded = subst (IsLoaded []) (sym h.2) none_loaded;
+          unbroken = ap no_feed one;
+          cut = λ more. (λ j. divided ((h.0 j ++ is j ∷ []) ++ more)) ∙ at_once more ∙ (λ j. Some (onto (sym one j) (cut_from (is_first (sym h.2 j)) (sym one j) more)));
+        }
     by false e = as_passing (eqb b feed) e refl
 
 pub first : (f : FrontState) (b : ℕ) (text rest : List ℕ) → f.place ≡ Start → IsFront text f rest → IsFront (text ++ b ∷ []) (begun b f) rest
-first f b text rest = first_of f.place b text f.line f.image rest
+first f b text rest = first_of f.place b text f.line f.loading rest
 
 -- ---- the bytes of a chunk
 
@@ -253,12 +285,11 @@ cond_not : (t : Bool) (p q : Place) → p ≢ Start → q ≢ Start → cond t p
 cond_not true p q np nq = np
 cond_not false p q np nq = nq
 
-not_at_start : (place : Place) (line image : List ℕ) → (ended_at place (record { place = place; line = line; image = image })).place ≢ Start
-not_at_start Start line image = λ e. absurd (cc)
-not_at_start Passing line image = cond_not (bytes_eq line mark) Header Passing (λ e. absurd (cc)) (λ e. absurd (cc))
-not_at_start Header line image = λ e. absurd (cc)
-not_at_start Rows line image = cond_not (is_end_line line) Behind Rows (λ e. absurd (cc)) (λ e. absurd (cc))
-not_at_start Behind line image = λ e. absurd (cc)
+not_at_start : (place : Place) (f new : FrontState) → place ≡ f.place → place ≢ Start → place ≢ Behind → LineEnded f new → new.place ≢ Start
+not_at_start Start f new at started before ended = absurd (started refl)
+not_at_start Behind f new at started before ended = absurd (before refl)
+not_at_start Passing f new at started before ended = subst (λ p. p ≢ Start) (sym (ended.passed (sym at)).0) (cond_not (bytes_eq f.line mark) Image Passing (λ e. absurd (cc)) (λ e. absurd (cc)))
+not_at_start Image f new at started before ended = subst (λ p. p ≢ Start) (sym (ended.read (sym at)).0) (cond_not (ends_with f.loading f.line) Behind Image (λ e. absurd (cc)) (λ e. absurd (cc)))
 
 -- so many bytes of a chunk were taken
 pub record HasPushed (old new : FrontState) (bytes : List ℕ) (at : ℕ) : Type 0 where
@@ -298,7 +329,7 @@ module _ (old f line_kept : FrontState) (bytes left : List ℕ) (at end : ℕ) (
       subst (λ t. IsFront t line_kept (rest ++ drop (length bytes) bytes)) same (subst (λ r. IsFront ((text ++ pushed.done) ++ take end left) line_kept r) none (with_bytes text rest h))
 
   -- and over the end of its line
-  pub line_pushed : (new : FrontState) → end < length left → get_or left end 0 ≡ feed → new ≡ line_ended line_kept → HasPushed old new bytes (at + (end + 1))
+  pub line_pushed : (new : FrontState) → end < length left → get_or left end 0 ≡ feed → LineEnded line_kept new → HasPushed old new bytes (at + (end + 1))
   line_pushed new less there is_ended =
       let next : suc end ≡ end + 1 = omega arith in
       let from : drop end left ≡ feed ∷ drop (end + 1) left = drop-cons left end 0 less ∙ ap (λ b. b ∷ drop (suc end) left) there ∙ ap (λ n. feed ∷ drop n left) next in
@@ -306,6 +337,8 @@ module _ (old f line_kept : FrontState) (bytes left : List ℕ) (at end : ℕ) (
       let behind_line : drop (at + (end + 1)) bytes ≡ drop (end + 1) left = sym (drop-drop (end + 1) at bytes) ∙ ap (drop (end + 1)) (sym is_left) in
       let more = length-drop at bytes in
       let long = ap length is_left in
+      let started : line_kept.place ≢ Start = subst (λ p. p ≢ Start) (sym place) pushed.begun in
+      let ahead : line_kept.place ≢ Behind = subst (λ p. p ≢ Behind) (sym place) before in
       record {
         done = (pushed.done ++ take end left) ++ feed ∷ [];
         whole =
@@ -316,14 +349,11 @@ module _ (old f line_kept : FrontState) (bytes left : List ℕ) (at end : ℕ) (
             ∙ ap (λ l. pushed.done ++ l) (take-append-drop end left ∙ is_left)
             ∙ pushed.whole;
         within = omega (arith, less, more, long, pushed.within);
-        begun = subst (λ (g : FrontState). g.place ≢ Start) (sym is_ended) (not_at_start line_kept.place line_kept.line line_kept.image);
+        begun = not_at_start line_kept.place line_kept new refl started ahead is_ended;
         front = λ text rest h.
-            let started : line_kept.place ≢ Start = subst (λ p. p ≢ Start) (sym place) pushed.begun in
-            let ahead : line_kept.place ≢ Behind = subst (λ p. p ≢ Behind) (sym place) before in
             let same : ((text ++ pushed.done) ++ take end left) ++ feed ∷ [] ≡ text ++ ((pushed.done ++ take end left) ++ feed ∷ []) =
             ap (λ l. l ++ feed ∷ []) (append_assoc text pushed.done (take end left)) ∙ append_assoc text (pushed.done ++ take end left) (feed ∷ []) in
-            subst (λ t. IsFront t new rest) same (subst (λ g. IsFront (((text ++ pushed.done) ++ take end left) ++ feed ∷ []) g rest) (sym is_ended)
-            (ended line_kept ((text ++ pushed.done) ++ take end left) rest started ahead (with_bytes text rest h)));
+            subst (λ t. IsFront t new rest) same (ended line_kept new ((text ++ pushed.done) ++ take end left) rest started ahead is_ended (with_bytes text rest h));
       }
 
 pub pushed_behind : (old f : FrontState) (bytes : List ℕ) (at : ℕ) → HasPushed old f bytes at → f.place ≡ Behind → (text rest : List ℕ) → IsFront text old rest
@@ -335,8 +365,7 @@ pushed_behind old f bytes at pushed is text rest h =
 start_or_not : (p : Place) → (p ≡ Start) ⊎ (p ≢ Start)
 start_or_not Start = inl refl
 start_or_not Passing = inr (λ e. absurd (cc))
-start_or_not Header = inr (λ e. absurd (cc))
-start_or_not Rows = inr (λ e. absurd (cc))
+start_or_not Image = inr (λ e. absurd (cc))
 start_or_not Behind = inr (λ e. absurd (cc))
 
 -- the first byte of the input was taken by itself, where it had not come
@@ -346,7 +375,7 @@ Begins old b n new = (old.place ≡ Start → (n ≡ 1) × (new ≡ begun b old)
 begun_place : (b : ℕ) (f : FrontState) → (begun b f).place ≢ Start
 begun_place b f = by (eqb b 123) (eqb b feed)
   where
-    by : (t u : Bool) → (cond t (record f { place = Header; line = f.line ++ b ∷ [] }) (cond u (record f { place = Passing }) (record f { place = Passing; line = f.line ++ b ∷ [] }))).place ≢ Start
+    by : (t u : Bool) → (cond t (record f { place = Image; line = f.line ++ b ∷ [] }) (cond u (record f { place = Passing }) (record f { place = Passing; line = f.line ++ b ∷ [] }))).place ≢ Start
     by true u = λ e. absurd (cc)
     by false true = λ e. absurd (cc)
     by false false = λ e. absurd (cc)
@@ -386,63 +415,50 @@ chunk_pushed f0 f1 f2 b n m (x ∷ bytes) h some is sliced text rest front =
 
 -- ---- the end
 
-pub at_place : (s : FrontState) (place p : Place) (line image text rest : List ℕ) → ◌≡◌ {A = FrontState} (record { place = place; line = line; image = image }) s → place ≡ p
-    → IsFront text s rest → IsAt p text line image rest
-at_place s place p line image text rest view is h =
-    subst (λ q. IsAt q text line image rest) is (subst (λ f. IsFront text f rest) (sym view) h)
+pub at_place : (s : FrontState) (place p : Place) (line : List ℕ) (l : LoadState) (text rest : List ℕ) → ◌≡◌ {A = FrontState} (record { place = place; line = line; loading = l }) s → place ≡ p
+    → IsFront text s rest → IsAt p text line l rest
+at_place s place p line l text rest view is h = subst (λ q. IsAt q text line l rest) is (subst (λ f. IsFront text f rest) (sym view) h)
 
 none_began : divided [] ≡ None
 unfolding divided
 none_began = refl
 
-pub ends_at_start : (text rest image line : List ℕ) → IsAt Start text line image rest → divided text ≡ None
-ends_at_start text rest image line h = ap divided h.0 ∙ none_began
+-- what the image of an input is read as, and what follows it
+abbrev pub Reads : List ℕ → Option (Result (Namespace × ℕ) ImageFault) → List ℕ → Type 0
+Reads text loaded rest = (loaded ≡ image_read (divided text)) × (rest_of (divided text) ≡ rest)
 
-pub ends_passing : (text rest image line : List ℕ) → IsAt Passing text line image rest → divided text ≡ None
-ends_passing text rest image line h = ap divided (sym (append-nil text)) ∙ h.4 []
+none_read : (text rest : List ℕ) → divided text ≡ None → rest ≡ [] → Reads text None rest
+none_read text rest is none = (ap image_read (sym is), ap rest_of is ∙ sym none)
 
-pub ends_in_header : (text rest image line all : List ℕ) → all ≡ image ++ line → IsAt Header text line image rest → divided text ≡ Some (record { image = all; rest = rest })
-ends_in_header text rest image line all is h =
-    ap divided (sym (append-nil text)) ∙ h.1 [] ∙ (λ j. Some (record { image = (append-nil (image ++ line) ∙ sym is) j; rest = sym h.0 j }))
+some_read : (text image rest : List ℕ) (r : Result (Namespace × ℕ) ImageFault) → divided text ≡ Some (record { image = image; rest = rest }) → r ≡ read_image image → Reads text (Some r) rest
+some_read text image rest r is read = (ap Some read ∙ ap image_read (sym is), ap rest_of is)
 
-pub ends_in_rows : (text rest image line all : List ℕ) → all ≡ image ++ line → IsAt Rows text line image rest → divided text ≡ Some (record { image = all; rest = rest })
-ends_in_rows text rest image line all is h =
-    ap divided (sym (append-nil text)) ∙ h.1 [] ∙ (λ j. Some (record { image = (append-nil (image ++ line) ∙ sym is) j; rest = sym h.0 j }))
+pub ends_at_start : (text line : List ℕ) (l : LoadState) (rest : List ℕ) → IsAt Start text line l rest → Reads text None rest
+ends_at_start text line l rest h = none_read text rest (ap divided h.0 ∙ none_began) h.3
 
-pub ends_behind : (text rest image line : List ℕ) → IsAt Behind text line image rest → divided text ≡ Some (record { image = image; rest = rest })
-ends_behind text rest image line h = ap divided (sym (append-nil text)) ∙ h [] ∙ (λ j. Some (record { image = image; rest = append-nil rest j }))
+pub ends_passing : (text line : List ℕ) (l : LoadState) (rest : List ℕ) → IsPassing text line l rest → Reads text None rest
+ends_passing text line l rest h = none_read text rest (ap divided (sym (append-nil text)) ∙ h.cut []) h.none
+
+pub ends_in_image : (text line : List ℕ) (l : LoadState) (rest : List ℕ) (r : Result (Namespace × ℕ) ImageFault) → r ≡ loaded_from l (line ∷ []) → IsInImage text line l rest → Reads text (Some r) rest
+ends_in_image text line l rest r is h =
+    some_read text (h.lines ++ line) rest r
+    (ap divided (sym (append-nil text)) ∙ h.cut [] ∙ (λ j. Some (record { image = append-nil (h.lines ++ line) j; rest = sym h.none j })))
+    (is ∙ ap (loaded_from l) (sym (only_piece line h.unbroken)) ∙ sym (h.loaded line))
+
+pub ends_behind : (text more : List ℕ) (l : LoadState) (rest : List ℕ) (r : Result (Namespace × ℕ) ImageFault) → r ≡ loaded_from l ([] ∷ []) → IsBehind text l rest → Reads (text ++ more) (Some r) (rest ++ more)
+ends_behind text more l rest r is h =
+    some_read (text ++ more) h.lines (rest ++ more) r (h.cut more) (is ∙ ap (loaded_from l) (sym (only_piece [] refl)) ∙ sym (h.loaded []) ∙ ap read_image (append-nil h.lines))
+
+pub ends_here : (text : List ℕ) (l : LoadState) (rest : List ℕ) (r : Result (Namespace × ℕ) ImageFault) → r ≡ loaded_from l ([] ∷ []) → IsBehind text l rest → Reads text (Some r) rest
+ends_here text l rest r is h = subst (λ t. Reads t (Some r) rest) (append-nil text) (subst (λ x. Reads (text ++ []) (Some r) x) (append-nil rest) (ends_behind text [] l rest r is h))
 
 -- ---- what follows the front
 
 pub rest_is : (f : FrontState) (text rest : List ℕ) → IsFront text f rest → rest_of (divided text) ≡ rest
 rest_is f text rest = by f.place
   where
-    by : (place : Place) → IsAt place text f.line f.image rest → rest_of (divided text) ≡ rest
-    by Start h = ap rest_of (ends_at_start text rest f.image f.line h) ∙ sym h.3
-    by Passing h = ap rest_of (ends_passing text rest f.image f.line h) ∙ sym h.3
-    by Header h = ap rest_of (ends_in_header text rest f.image f.line (f.image ++ f.line) refl h)
-    by Rows h = ap rest_of (ends_in_rows text rest f.image f.line (f.image ++ f.line) refl h)
-    by Behind h = ap rest_of (ends_behind text rest f.image f.line h)
-
--- ---- end lines
-
-pub no_end_line : (line : List ℕ) → None ≡ value_of line → false ≡ is_end_line line
-unfolding is_end_line object_of
-no_end_line line e = ap (λ v. has_end (v >>= object_only)) e
-
-pub end_line_of : (line : List ℕ) (d : Data) (b : Bool) → b ≡ has_end (object_only d) → Some d ≡ value_of line → b ≡ is_end_line line
-unfolding is_end_line object_of
-end_line_of line d b is e = is ∙ ap (λ v. has_end (v >>= object_only)) e
-
--- ---- a member that is put to others
-
--- with a member `end`
-pub end_put : (key : List ℕ) (d : Data) (ms : Members) → bytes_eq key (codes "end") ≡ true → true ≡ has_end (Some (object (put key d ms)))
-end_put key d ms same =
-    let is : codes "end" ≡ key = sym ((bytes_eq-Decides key (codes "end")).0 same) in
-    sym (ap (λ (k : List ℕ). is_some (get k (object (put key d ms)))) is ∙ ap is_some (get_member-put key d ms))
-
--- with any other one
-pub end_kept : (key : List ℕ) (d : Data) (ms : Members) → bytes_eq key (codes "end") ≡ false → has_end (Some (object ms)) ≡ has_end (Some (object (put key d ms)))
-end_kept key d ms other =
-    sym (ap is_some (get_member-put_other (codes "end") key d ms (λ (h : codes "end" ≡ key). false≢true (sym other ∙ (bytes_eq-Decides key (codes "end")).1 (sym h)))))
+    by : (place : Place) → IsAt place text f.line f.loading rest → rest_of (divided text) ≡ rest
+    by Start h = (ends_at_start text f.line f.loading rest h).1
+    by Passing h = (ends_passing text f.line f.loading rest h).1
+    by Image h = (ends_in_image text f.line f.loading rest (loaded_from f.loading (f.line ∷ [])) refl h).1
+    by Behind h = (ends_here text f.loading rest (loaded_from f.loading ([] ∷ [])) refl h).1

@@ -1,10 +1,10 @@
 -- An input that begins with an image: what is passed over before it, the image, and what follows it.
-use Rattle.std.specs.Prelude.{ℕ, ◌==◌, ◌&&◌, not, List, [], ◌∷◌, ◌++◌, Bool, true, false, Option, Some, None, is_some, option_map, if◌then◌else◌, codes}
+use Rattle.std.specs.Prelude.{ℕ, ◌==◌, ◌&&◌, not, List, [], ◌∷◌, ◌++◌, Bool, true, false, Option, Some, None, Result, option_map, if◌then◌else◌, codes}
 use Rattle.std.specs.Str.{bytes_eq}
-use Rattle.serde_json.specs.Data.{Data}
-use Rattle.serde_json.specs.Find.{get}
 use Rattle.nn_image.specs.Text.{feed}
-use Rattle.nn_image.specs.Reading.{object_of}
+use Rattle.nn_image.specs.Reading.{is_end_line, read_image}
+use Rattle.nn_image.specs.declared.fault.ImageFault.{ImageFault}
+use Rattle.nn_model.specs.Namespace.{Namespace}
 
 -- ---- Where an image begins.
 
@@ -35,14 +35,6 @@ from_header input = if begins_object input then Some input else behind_mark [] i
 
 -- ---- Where it ends.
 
-abbrev pub has_end : Option Data → Bool
-has_end None = false
-has_end (Some value) = is_some (get (codes "end") value)
-
--- an object with a member `end`
-unfoldable pub is_end_line : List ℕ → Bool
-is_end_line line = has_end (object_of line)
-
 pub record Cut : Type 0 where
   pub image : List ℕ
   pub rest : List ℕ
@@ -71,3 +63,7 @@ rest_of (Some cut) = cut.rest
 -- the image that an input begins with, and what follows it; none where no image begins
 unfoldable pub divided : List ℕ → Option Cut
 divided input = option_map (cut_from true []) (from_header input)
+
+-- what that image is read as
+abbrev pub image_read : Option Cut → Option (Result (Namespace × ℕ) ImageFault)
+image_read cut = option_map (λ c. read_image c.image) cut

@@ -9,8 +9,8 @@ use Rattle.json.specs.Text.{content}
 use Rattle.json.specs.Word.{word, after_number}
 use Rattle.serde_json.specs.Read.{number_of}
 use Rattle.nn_image.specs.Text.{feed}
-use Rattle.nn_image.specs.Reading.{object_of, value_of}
-use Rattle.nn_front.specs.Cut.{divided, is_end_line, rest_of}
+use Rattle.nn_image.specs.Reading.{is_end_line, object_of, value_of}
+use Rattle.nn_front.specs.Cut.{divided, rest_of}
 
 -- lines, each with its line feed
 abbrev lines : List (List ℕ) → List ℕ

@@ -1,12 +1,15 @@
 //! The bytes of an input up to the end of its image.
-ghost use Rattle.std.specs.Prelude.{◌≡◌, ◌≢◌, ◌≤◌, ◌<◌, ◌++◌, [], List, ℕ, None, Some, true, drop, length, option_map, slice_index, IfOk, IfSome, OnOk};
+ghost use Rattle.std.specs.Prelude.{◌≡◌, ◌≢◌, ◌≤◌, ◌<◌, ◌++◌, [], List, ℕ, None, Some, true, drop, length, IfOk, IfSome, OnOk};
 ghost use Rattle.std.specs.Str.{bytes_eq};
+ghost use Rattle.nn_image.specs.Loading.{is_first, ends_with, TakesLine};
 ghost use Rattle.nn_segment.specs.Lines.{is_unbroken};
-ghost use Rattle.nn_front.specs.Cut.{divided, mark};
-ghost use Rattle.nn_front.specs.Front.{IsFront, begun, ends_image, kept, line_ended, room};
+ghost use Rattle.nn_front.specs.Cut.{divided, image_read, mark, rest_of};
+ghost use Rattle.nn_front.specs.Front.{IsFront, LineEnded, begun, kept, room};
 
-use crate::end_line::is_end_line;
+use nn_image::{ImageFault, Loading};
 use nn_segment::line_end;
+use nn_tree::Namespace;
+use nn_types::Txid;
 use std::alloc::{AllocError, Global};
 use std::marker::Model;
 use std::mem;
@@ -24,22 +27,24 @@ enum Place {
     Start,
     /// On a line that is passed over.
     Passing,
-    /// On the first line of the image.
-    Header,
-    /// On a later line of the image.
-    Rows,
+    /// On a line of the image.
+    Image,
     /// Behind the image.
     Behind,
 }
 
-/// The front of an input, whose bytes come in chunks. It keeps the image, and of a line that is passed over six bytes.
+/// What an image is read as: its namespace and its txid, or its first fault.
+pub type Loaded = Result<(Namespace, Txid), ImageFault>;
+
+/// The front of an input, whose bytes come in chunks. It loads the image line by line, and keeps the line in hand, of one
+/// that is passed over six bytes.
 #[derive(Drop)]
 pub struct Front {
     place: Place,
     // the bytes of the line that has not ended
     line: Vec<u8>,
     // the lines of the image that have ended
-    image: Vec<u8>,
+    loading: Loading,
 }
 
 impl Model for Front {
@@ -47,7 +52,7 @@ impl Model for Front {
 
     ghost Value = { FrontState };
 
-    ghost view = { λ f. record { place = f.place; line = f.line.items; image = f.image.items } };
+    ghost view = { λ f. record { place = f.place; line = f.line.items; loading = f.loading } };
 }
 
 impl Front {
@@ -58,13 +63,13 @@ impl Front {
         Front {
             place: Place::Start,
             line: Vec::new(alloc),
-            image: Vec::new(alloc),
+            loading: Loading::new(),
         }
     }
 
     /// The next bytes of the input, however they are cut. The answer is how many of them are of the front; those behind are
-    /// of the scenario. A line of the image is parsed once, to see whether it is the last. Once memory was refused, no more
-    /// can be pushed.
+    /// of the scenario. A line of the image is loaded as it ends, and behind a bad one only parsed, to see whether it is the
+    /// last. Once memory was refused, no more can be pushed.
     pub fn push(&mut self, alloc: Global, bytes: &[u8]) -> Result<usize, AllocError>
         ensures within { IfOk result (λ n. n ≤ length bytes.now) }
         ensures front { IfOk result (λ n. (text rest : List ℕ) → IsFront text self.old rest
@@ -78,33 +83,35 @@ impl Front {
         Ok(begun + taken)
     }
 
-    /// The image of all bytes that came; none where none begins. What follows it did not come through here.
-    pub fn end(self) -> Result<Option<Vec<u8>>, AllocError>
-        ensures { IfOk result (λ image. (text rest : List ℕ) → IsFront text self rest
-            → divided text ≡ option_map (λ v. record { image = v.items; rest = rest }) image) }
+    /// What the image of all bytes that came is read as; none where none begins. What follows it did not come through here.
+    pub fn end(self) -> Option<Loaded>
+        ensures { (text rest : List ℕ) → IsFront text self rest → (result ≡ image_read (divided text)) × (rest_of (divided text) ≡ rest) }
     {
-        let Front { place, line, image } = self;
+        let Front {
+            place,
+            line,
+            loading,
+        } = self;
         match place {
-            Place::Start => Ok(None),
-            Place::Passing => Ok(None),
-            Place::Header => Ok(Some(joined(image, &line)?)),
-            Place::Rows => Ok(Some(joined(image, &line)?)),
-            Place::Behind => Ok(Some(image)),
+            Place::Start => None,
+            Place::Passing => None,
+            Place::Image => Some(loading.end(&line)),
+            Place::Behind => Some(loading.end(&[])),
         }
     }
 
-    /// The image, once it has ended: all bytes that come then are of the scenario. A front of no bytes takes its place. Takes
-    /// no memory.
-    pub fn take_ended(&mut self, alloc: Global) -> Option<Vec<u8>>
-        ensures ended { IfSome result (λ image. (text rest more : List ℕ) → IsFront text self.old rest
-            → divided (text ++ more) ≡ Some (record { image = image.items; rest = rest ++ more })) }
+    /// What the image is read as, once it has ended: all bytes that come then are of the scenario. A front of no bytes takes
+    /// its place. Takes no memory.
+    pub fn take_ended(&mut self, alloc: Global) -> Option<Loaded>
+        ensures ended { IfSome result (λ loaded. (text rest more : List ℕ) → IsFront text self.old rest
+            → (image_read (divided (text ++ more)) ≡ Some loaded) × (rest_of (divided (text ++ more)) ≡ rest ++ more)) }
         ensures not_yet { result ≡ None → (self.new ≡ self.old) × ((text rest : List ℕ) → IsFront text self.old rest → rest ≡ []) }
     {
         if self.place != Place::Behind {
             return None;
         }
-        let Front { image, .. } = mem::replace(self, Front::new(alloc));
-        Some(image)
+        let Front { loading, .. } = mem::replace(self, Front::new(alloc));
+        Some(loading.end(&[]))
     }
 
     // Takes the first byte of the input, which says where the image begins. How many bytes it took.
@@ -116,7 +123,7 @@ impl Front {
             return Ok(0);
         }
         if first == b'{' {
-            self.place = Place::Header;
+            self.place = Place::Image;
             self.line.push(first)?;
             return Ok(1);
         }
@@ -163,40 +170,20 @@ impl Front {
 
     // The line ends here.
     fn end_line(&mut self, alloc: Global) -> Result<(), AllocError>
-        ensures { OnOk result (self.new ≡ line_ended self.old) }
+        requires started { self.old.place ≢ Place.Start }
+        requires before { self.old.place ≢ Place.Behind }
+        ensures { OnOk result (LineEnded self.old self.new) }
     {
         if self.place == Place::Passing {
             if is_mark(&self.line) {
-                self.place = Place::Header;
+                self.place = Place::Image;
             }
-            self.line.clear();
-            return Ok(());
+        } else if self.loading.push(alloc, &self.line)? {
+            self.place = Place::Behind;
         }
-        let ended = self.ends_image(alloc)?;
-        self.image.extend_from_slice(&self.line)?;
-        self.image.push(b'\n')?;
         self.line.clear();
-        self.place = if ended { Place::Behind } else { Place::Rows };
         Ok(())
     }
-
-    // Whether the image ends with the line.
-    fn ends_image(&self, alloc: Global) -> Result<bool, AllocError>
-        ensures { IfOk result (λ b. b ≡ ends_image self.now.place self.now.line) }
-    {
-        if self.place != Place::Rows {
-            return Ok(false);
-        }
-        is_end_line(alloc, &self.line)
-    }
-}
-
-fn joined(image: Vec<u8>, line: &[u8]) -> Result<Vec<u8>, AllocError>
-    ensures { IfOk result (λ v. v.items ≡ image.items ++ line.now) }
-{
-    let mut image = image;
-    image.extend_from_slice(line)?;
-    Ok(image)
 }
 
 // How many bytes more are kept of a line that is passed over.

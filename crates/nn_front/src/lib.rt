@@ -1,7 +1,6 @@
 //! The front of an input that goes on from an image: what is passed over, and the image itself.
 #![tactic(auto)]
 
-mod end_line;
 mod front;
 
-pub use front::Front;
+pub use front::{Front, Loaded};

@@ -46,7 +46,7 @@ pub piece : (line left : List ℕ) → no_feed line ≡ true → pieces_of (line
 unfolding pieces_of
 piece line left plain = slice_split_at (λ b. eqb b feed) line feed left (All-from_recursion _ _ (plain_all line plain)) refl
 
-only_piece : (line : List ℕ) → no_feed line ≡ true → pieces_of line ≡ line ∷ []
+pub only_piece : (line : List ℕ) → no_feed line ≡ true → pieces_of line ≡ line ∷ []
 unfolding pieces_of
 only_piece line plain = slice_split_none (λ b. eqb b feed) line (All-from_recursion _ _ (plain_all line plain))
 

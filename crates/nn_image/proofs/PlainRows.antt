@@ -20,7 +20,7 @@ use Rattle.nn_plain.specs.declared.value.Plain.{Plain}
 use Rattle.nn_plain.specs.declared.value.Plain.TheVariants.{Text, Whole, Truth}
 use Rattle.nn_tree.specs.Restore.{replication_fits}
 use Rattle.nn_image.specs.Plain.{IsRowLine, RowParts, parts_of, key_text, first_named, all_keys, row_key, put_at, file_from, form_from, row_from}
-use Rattle.nn_image.specs.Reading.{◌>>=◌, limited, number_in, text_in, flag_in, array_in, path_in, block_of, gathered, blocks_at, replication_in, file_in, form_of, form_in, row_in, object_only, object_of}
+use Rattle.nn_image.specs.Reading.{◌>>=◌, limited, number_in, text_in, flag_in, array_in, path_in, block_of, gathered, blocks_at, replication_in, file_in, form_of, form_in, row_in, object_only, object_of, has_end, is_end_line}
 use Rattle.nn_image.proofs.ArrayLemmas.{value_of_text}
 use Rattle.nn_image.specs.declared.plain.RowKey.{RowKey}
 use Rattle.nn_image.specs.declared.plain.RowKey.TheVariants as key
@@ -191,3 +191,12 @@ row_line line ms p None text e kept is = tt
 row_line line ms p (Some row) text e kept is =
     let k = row_is (object ms) row (ap row_from (sym kept) ∙ sym is) in
     record { value = object ms; is_object = ap (λ v. v >>= object_only) (value_of_text line (object ms) text e); no_end = k.0; is_row = k.1 }
+
+-- ---- the end line
+
+pub ends_as : (line : List ℕ) (o : Option Data) (b : Bool) → object_of line ≡ o → b ≡ has_end o → b ≡ is_end_line line
+unfolding is_end_line
+ends_as line o b there is = is ∙ ap has_end (sym there)
+
+pub row_is_no_end : (line : List ℕ) (row : Path × Form) → IsRowLine line row → false ≡ is_end_line line
+row_is_no_end line row is = ends_as line (Some is.value) false is.is_object (ap is_some (sym is.no_end))

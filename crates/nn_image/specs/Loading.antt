@@ -1,5 +1,5 @@
 -- What the calls that read an image say of its lines, and of the bytes to come, where those are known.
-use Rattle.std.specs.Prelude.{◌≡◌, ◌<◌, ◌≤◌, ◌+◌, ◌^◌, ℕ, List, true, IsTrue, IfSome, Option, Some, None, Result, Ok, Err, ◌∷◌, if◌then◌else◌}
+use Rattle.std.specs.Prelude.{◌≡◌, ◌<◌, ◌≤◌, ◌+◌, ◌^◌, ℕ, List, true, IsTrue, IfSome, Option, Some, None, Result, Ok, Err, ◌∷◌, if◌then◌else◌, Bool, false, not, ◌&&◌}
 use Rattle.std.specs.Io.KnownBytes.{IsAtEnd}
 use Rattle.std.specs.FinMap.Entries.{is_sorted}
 use Rattle.nn_model.specs.Namespace.{Path, path_cmp, Namespace}
@@ -12,7 +12,7 @@ use Rattle.nn_image.specs.declared.row_line.RowLine.{RowLine}
 use Rattle.nn_image.specs.declared.row_line.RowLine.TheVariants.{Row, End, Bad}
 use Rattle.nn_image.specs.Lawful.{HasPaths}
 use Rattle.nn_image.specs.Outcome.{Fails, IsNoRead}
-use Rattle.nn_image.specs.Reading.{last_path, next_line, with_next, by_value, rows_from, at_end, nothing_more, pieces_of, all_from, read_image, ◌then◌, object_of}
+use Rattle.nn_image.specs.Reading.{last_path, next_line, with_next, by_value, rows_from, at_end, nothing_more, pieces_of, all_from, read_image, ◌then◌, object_of, is_end_line}
 
 -- the known bytes make the definition fail in this way, unless a read failed or memory ran out
 abbrev pub Stops : {X : Type 0} → Option (List ℕ) → ImageFault → (List ℕ → Result X ImageFault) → Type 0
@@ -49,6 +49,16 @@ loaded_from (refused e) pieces = Err e
 abbrev pub TakesLine : LoadState → LoadState → List ℕ → Type 0
 TakesLine old new line = (next : List ℕ) (pieces : List (List ℕ)) → loaded_from old (line ∷ next ∷ pieces) ≡ loaded_from new (next ∷ pieces)
 
+abbrev pub is_first : LoadState → Bool
+is_first at_header = true
+is_first (in_rows n txid) = false
+is_first (behind_end n txid) = false
+is_first (refused e) = false
+
+-- the image ends with the line, which is no header
+abbrev pub ends_with : LoadState → List ℕ → Bool
+ends_with l line = not (is_first l) && is_end_line line
+
 abbrev pub fault_of : LoadState → Option ImageFault
 fault_of at_header = None
 fault_of (in_rows n txid) = None
@@ -68,6 +78,11 @@ abbrev pub HasLimit : RowLine → Type 0
 HasLimit (Row path form) = Unit {0}
 HasLimit (End count) = IfSome count (λ n. n < 2 ^ 63)
 HasLimit Bad = Unit {0}
+
+abbrev pub is_end_row : RowLine → Bool
+is_end_row (Row path form) = false
+is_end_row (End count) = true
+is_end_row Bad = false
 
 abbrev pub IsReadAs : List ℕ → RowLine → Type 0
 IsReadAs line read = (n : Namespace) (pieces : List (List ℕ)) (more : Namespace → Result Namespace ImageFault) → by_value n pieces more (object_of line) ≡ by_read n pieces more read

@@ -1,5 +1,5 @@
 -- The namespace and the txid that a text stands for, or the first fault that applies.
-use Rattle.std.specs.Prelude.{ℕ, ◌+◌, ◌-◌, ◌^◌, List, [], ◌∷◌, ◌++◌, length, Bool, nat_lt, nat_le, ◌&&◌, ◌==◌, ◌||◌, if◌then◌else◌, Option, Some, None, option_and_then, Result, Ok, Err, codes, is_some}
+use Rattle.std.specs.Prelude.{ℕ, ◌+◌, ◌-◌, ◌^◌, List, [], ◌∷◌, ◌++◌, length, Bool, false, nat_lt, nat_le, ◌&&◌, ◌==◌, ◌||◌, if◌then◌else◌, Option, Some, None, option_and_then, Result, Ok, Err, codes, is_some}
 use Rattle.std.specs.Option.{ok_or}
 use Rattle.std.specs.Ordering.{is_lt}
 use Rattle.std.specs.Str.{bytes_eq, is_utf8}
@@ -128,6 +128,14 @@ object_only d = if is_some (as_object d) then Some d else None
 -- the object that a line is
 unfoldable pub object_of : List ℕ → Option Data
 object_of line = value_of line >>= object_only
+
+abbrev pub has_end : Option Data → Bool
+has_end None = false
+has_end (Some value) = is_some (get (codes "end") value)
+
+-- behind the header the image ends with the first object that has a member `end`
+unfoldable pub is_end_line : List ℕ → Bool
+is_end_line line = has_end (object_of line)
 
 -- what the first line says, if it is an object
 abbrev pub of_header : Option Data → Result (Namespace × ℕ) ImageFault

@@ -3,7 +3,7 @@ ghost use Rattle.std.specs.Prelude.{◌≡◌, ◌≤◌, ◌<◌, ◌+◌, ◌^
 ghost use Rattle.std.specs.Ordering.{is_lt};
 ghost use Rattle.nn_model.specs.Namespace.{path_cmp};
 ghost use Rattle.nn_image.specs.Lawful.{HasPaths};
-ghost use Rattle.nn_image.specs.Loading.{at_header, refused, fault_of, loaded_from, state_of, HasLimit, IsBegun, IsLawfulStage, TakesLine, TakesRow};
+ghost use Rattle.nn_image.specs.Loading.{at_header, refused, is_first, ends_with, fault_of, loaded_from, state_of, HasLimit, IsBegun, IsLawfulStage, TakesLine, TakesRow};
 ghost use Rattle.nn_image.specs.Outcome.{IsNoRead};
 ghost use Rattle.nn_image.specs.Reading.{read_image};
 ghost use Rattle.nn_image.specs.Text.{image_text};
@@ -68,22 +68,32 @@ impl Loading {
         }
     }
 
-    /// The next line, without its line feed. Once memory was refused, no more can be pushed; and a count of lines that a `u64`
-    /// does not hold is refused as that. O(names of the path · log children + blocks · log blocks).
-    pub fn push(&mut self, alloc: Global, line: &[u8]) -> Result<(), AllocError>
-        ensures { OnOk result (TakesLine self.old self.new line.now) }
+    /// The next line, without its line feed. The answer is whether the image ends with it, also where a line before it is
+    /// bad. Once memory was refused, no more can be pushed; and a count of lines that a `u64` does not hold is refused as
+    /// that. O(names of the path · log children + blocks · log blocks).
+    pub fn push(&mut self, alloc: Global, line: &[u8]) -> Result<bool, AllocError>
+        ensures taken { OnOk result (TakesLine self.old self.new line.now) }
+        ensures ends { IfOk result (λ b. b ≡ ends_with self.old line.now) }
+        ensures later { OnOk result (is_first self.new ≡ false) }
     {
         match &mut self.stage {
-            Stage::Header => self.stage = behind_header(alloc, line)?,
+            Stage::Header => {
+                self.stage = behind_header(alloc, line)?;
+                Ok(false)
+            }
             Stage::Begun(begun) => {
                 let read = row_line(alloc, line)?;
+                let ends = read.is_end();
                 if let Some(fault) = begun.push(read)? {
                     self.refuse(fault);
                 }
+                Ok(ends)
             }
-            Stage::Refused(_) => {}
+            Stage::Refused(_) => {
+                let read = row_line(alloc, line)?;
+                Ok(read.is_end())
+            }
         }
-        Ok(())
     }
 
     fn refuse(&mut self, fault: ImageFault)
@@ -125,6 +135,7 @@ impl Loading {
 fn behind_header(alloc: Global, line: &[u8]) -> Result<Stage, AllocError>
     ensures taken { IfOk result (λ s. TakesLine at_header (state_of s) line.now) }
     ensures lawful { IfOk result IsLawfulStage }
+    ensures later { IfOk result (λ s. is_first (state_of s) ≡ false) }
 {
     let Some(object) = object_of(alloc, line)? else {
         return Ok(Stage::Refused(ImageFault::NotHeader));

@@ -11,12 +11,13 @@ ghost use Rattle.nn_tailer.specs.Public.{AreNew};
 ghost use Rattle.nn_tailer.specs.Restart.{IsNewAt, point_of};
 
 use super::{Standby, all_delivered};
-use crate::refused::ImageRefused;
+use crate::refused::{ImageRefused, NewFault};
 use nn_device::{Reader, Writer};
 use nn_image::{ImageFault, SaveFault, load, save};
 use nn_lane::LaneEnd;
 use nn_segment::Cursor;
 use nn_shadow::Shadow;
+use nn_tree::Namespace;
 use nn_types::{Settings, Txid};
 use std::alloc::Global;
 use std::io::{Read, Write};
@@ -40,10 +41,43 @@ impl Standby {
         save(alloc, self.shadow.namespace(), last, writer)
     }
 
-    /// A standby over these lanes, of DataNodes 1, 2 and so on, that starts from an image: it passes over the transactions
-    /// up to the image's, and applies those above. The reader is read to its end. After a fault the ends come back.
+    /// A standby over these lanes, of DataNodes 1, 2 and so on, that goes on from a namespace after this transaction: it passes
+    /// over the transactions up to it, and applies those above. Where memory is refused the ends come back.
     ///
     /// No DataNode has reported to it yet. So the end of a full report revokes only what was reported to this standby.
+    pub fn from_namespace(
+        alloc: Global,
+        ends: Vec<LaneEnd>,
+        settings: Settings,
+        namespace: Namespace,
+        txid: Txid,
+    ) -> Result<Standby, NewFault>
+        requires some { 1 ≤ length ends.items }
+        requires few { length ends.items ≤ 256 }
+        requires fresh { AreNew 1 ends.items }
+        ensures point { IfOk result (λ x. point_of x ≡ (namespace, txid)) }
+        ensures new { IfOk result (IsNewAt namespace txid ends.items) }
+        ensures settings { IfOk result (λ x. (x.shadow.table.min ≡ settings.min) × (x.shadow.permille ≡ settings.permille)) }
+        ensures err { IfErr result (λ fault. fault.ends ≡ ends) }
+    {
+        let lanes = ends.len();
+        let Ok(undelivered) = all_delivered(alloc, lanes) else {
+            return Err(NewFault { ends });
+        };
+        let Ok(shadow) = Shadow::from(alloc, namespace, txid.get(), lanes as u16, settings) else {
+            return Err(NewFault { ends });
+        };
+        Ok(Standby {
+            shadow,
+            ends,
+            undelivered,
+            cursor: Cursor::new(alloc),
+            stop: None,
+            active: false,
+        })
+    }
+
+    /// The same from the namespace of an image. The reader is read to its end.
     pub fn from_image<R: Read>(
         alloc: Global,
         ends: Vec<LaneEnd>,
@@ -65,29 +99,12 @@ impl Standby {
             Ok(loaded) => loaded,
             Err(fault) => return Err(ImageRefused { ends, fault }),
         };
-        let lanes = ends.len();
-        let Ok(undelivered) = all_delivered(alloc, lanes) else {
-            return Err(out_of_memory(ends));
-        };
-        let Ok(shadow) = Shadow::from(alloc, namespace, txid.get(), lanes as u16, settings) else {
-            return Err(out_of_memory(ends));
-        };
-        Ok(Standby {
-            shadow,
-            ends,
-            undelivered,
-            cursor: Cursor::new(alloc),
-            stop: None,
-            active: false,
-        })
-    }
-}
-
-fn out_of_memory(ends: Vec<LaneEnd>) -> ImageRefused
-    ensures { (result.ends ≡ ends) × (result.fault ≡ ImageFault.OutOfMemory) }
-{
-    ImageRefused {
-        ends,
-        fault: ImageFault::OutOfMemory,
+        match Standby::from_namespace(alloc, ends, settings, namespace, txid) {
+            Ok(standby) => Ok(standby),
+            Err(NewFault { ends }) => Err(ImageRefused {
+                ends,
+                fault: ImageFault::OutOfMemory,
+            }),
+        }
     }
 }

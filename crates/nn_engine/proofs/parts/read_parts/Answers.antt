@@ -8,13 +8,13 @@ pub returns-clause-whole : goal.returns-clause-whole
 returns-clause-whole g c =
     let w = c.in_ok-read_to_end.ensures.whole in
     let asked : is_some c.read_to_end.new.sink.front ≡ c.args.from_image = c.read_to_end.ensures.same ∙ c.in_ok-parts.ensures.front in
-    subst (λ b. IsReadOfAll b (λ input. IsRead b input c.in_ok-read.read) c.args.input.now c.read_to_end.new.input) asked (record {
+    subst (λ b. IsReadOfAll b (λ input. IsRead b input c.end.result) c.args.input.now c.read_to_end.new.input) asked (record {
       input = w.input;
       taken = w.got;
       counted = w.counted;
       fits = parts_fit c.read_to_end.new.sink w.input c.end.ensures.fits w.taken;
-      is = c.in_ok-read.ensures.read w.input w.taken;
+      is = c.end.ensures.read w.input w.taken;
     })
 
 pub returns-clause-lawful : goal.returns-clause-lawful
-returns-clause-lawful g c = let w = c.in_ok-read_to_end.ensures.whole in c.in_ok-read.ensures.lawful w.input w.taken
+returns-clause-lawful g c = let w = c.in_ok-read_to_end.ensures.whole in c.end.ensures.lawful w.input w.taken

@@ -5,6 +5,6 @@ use Rattle.nn_engine.proofs.pass.begin.Goals as goal
 pub returns-in_ok-lines_from-in-Ok-clause-starts : goal.returns-in_ok-lines_from-in-Ok-clause-starts
 returns-in_ok-lines_from-in-Ok-clause-starts c = (
   Ok (start_of c.in-Ok.begin),
-  λ input there. c.in_ok-begun.ensures.start input there ∙ ap begun c.in-Ok.is,
+  λ input there. c.start_from.ensures input there ∙ ap begun c.in-Ok.is,
   (start_of c.in-Ok.begin, refl, c.in_ok-lines_from-in-Ok.ensures.starts),
 )

@@ -1,6 +1,7 @@
 use Rattle.std.proofs.Common.{true, Ok, map, refl, arith}
 use Rattle.nn_scenario.specs.Steps.{lanes_of}
 use Rattle.nn_segment.specs.Segment.{Segment}
+use Rattle.nn_engine.specs.Input.{start_of}
 use Rattle.nn_engine.specs.Output.{IsHistoryOf}
 use Rattle.nn_engine.specs.Pieces.{faulted}
 use Rattle.nn_engine.specs.Shown.{shown}
@@ -26,9 +27,9 @@ returns-in-Ok g c =
     let settings = options.settings in
     let lanes = lanes_of c.args.steps in
     let segments = c.args.segments.items in
-    λ start is.
+    let start = start_of c.args.begin in
     let p = shown options c.output_of_flushed.result in
-    let a = arrives settings c.args.datanodes lanes c.in_ok-sources.sources.items c.in_ok-sources.ensures c.in_ok-workers.workers.items c.in_ok-workers.ends.items c.in_ok-workers.ensures.own start c.in_ok-standby.standby (c.in_ok-standby.ensures.begun start is) c.in_ok-standby.ensures.settings segments
+    let a = arrives settings c.args.datanodes lanes c.in_ok-sources.sources.items c.in_ok-sources.ensures c.in_ok-workers.workers.items c.in_ok-workers.ends.items c.in_ok-workers.ensures.own start c.in_ok-standby.standby c.in_ok-standby.ensures.begun c.in_ok-standby.ensures.settings segments
     c.in-Ok.shadow c.in-Ok._active c.in-Ok.ensures.ok in
     let happened : IsHistoryOf start true (map (λ (s : Segment). s.txs) segments) c.args.steps c.in-Ok.shadow.history =
     record { lawful = a.lawful; whole = a.whole; one_thread = λ none. absurd (cc) } in
@@ -45,7 +46,7 @@ returns-in_ok-line_of_drive-in-Err g c =
     let lanes = lanes_of c.args.steps in
     let segments = c.args.segments.items in
     let line = faulted c.in_ok-line_of_drive-in-Err.field-0 in
-    λ start is.
+    let start = start_of c.args.begin in
     told_fault start true options c.args.steps (Ok segments) segments line refl
-    (stop_told settings c.args.datanodes lanes c.in_ok-sources.sources.items c.in_ok-sources.ensures c.in_ok-workers.workers.items c.in_ok-workers.ends.items c.in_ok-workers.ensures.own start c.in_ok-standby.standby (c.in_ok-standby.ensures.begun start is) c.in_ok-standby.ensures.settings segments
+    (stop_told settings c.args.datanodes lanes c.in_ok-sources.sources.items c.in_ok-sources.ensures c.in_ok-workers.workers.items c.in_ok-workers.ends.items c.in_ok-workers.ensures.own start c.in_ok-standby.standby c.in_ok-standby.ensures.begun c.in_ok-standby.ensures.settings segments
     options c.in-Err.fault line c.in-Err.ensures.err c.in_ok-line_of_drive-in-Err.ensures)

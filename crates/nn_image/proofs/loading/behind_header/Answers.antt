@@ -15,7 +15,7 @@ returns-in-Err c =
     let d = object_view c.in-Some.object in
     let there : object_of c.args.line.now ≡ Some d = sym c.in_ok-object.ensures ∙ ap (option_map object_view) c.in-Some.is in
     let memory : c.in-Err.fault ≡ OutOfMemory → ⊥ = grind arith in
-    record { taken = bad_header c.args.line.now d there c.in-Err.fault (just_fails c.in-Err.fault _ memory c.in-Err.ensures.own c.in-Err.ensures.fault); lawful = c.in-Err.ensures.own }
+    record { taken = bad_header c.args.line.now d there c.in-Err.fault (just_fails c.in-Err.fault _ memory c.in-Err.ensures.own c.in-Err.ensures.fault); lawful = c.in-Err.ensures.own; later = refl }
 
 pub returns-clause-taken : goal.returns-clause-taken
 returns-clause-taken c =

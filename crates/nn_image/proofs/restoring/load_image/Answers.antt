@@ -35,7 +35,7 @@ returns-in-Some-clause-fault g c =
     let old = c.args.reader.now.left in
     let new = ahead c.next_line.new.window c.next_line.new.reader.left in
     let line = c.next_line.new.line in
-    let takes : TakesLine c.lines.loading c.push.new.self line.text.items = rw c.deref-in-lines.ensures.value at c.in_ok-push.ensures in
+    let takes : TakesLine c.lines.loading c.push.new.self line.text.items = rw c.deref-in-lines.ensures.value at c.in_ok-push.ensures.taken in
     let loaded : HasLoaded old new c.push.new.self = one_more_line old (ahead c.lines.window c.lines.reader.left) new c.lines.loading c.push.new.self line c.lines.invariant.loaded
     c.in_ok-next_line.ensures.ok c.if-not-line.false takes in
     line_stops old new c.push.new.self c.in-Some.fault loaded (sym c.fault.ensures.fault ∙ c.in-Some.is)
@@ -51,7 +51,7 @@ lines-preserved g c =
     let old = c.args.reader.now.left in
     let new = ahead c.next_line.new.window c.next_line.new.reader.left in
     let line = c.next_line.new.line in
-    let takes : TakesLine c.lines.loading c.push.new.self line.text.items = rw c.deref-in-lines.ensures.value at c.in_ok-push.ensures in
+    let takes : TakesLine c.lines.loading c.push.new.self line.text.items = rw c.deref-in-lines.ensures.value at c.in_ok-push.ensures.taken in
     record {
       loaded = one_more_line old (ahead c.lines.window c.lines.reader.left) new c.lines.loading c.push.new.self line c.lines.invariant.loaded c.in_ok-next_line.ensures.ok c.if-not-line.false takes;
       counted = omega (arith, c.lines.invariant.counted, c.in_ok-next_line.ensures.taken c.if-not-line.false);

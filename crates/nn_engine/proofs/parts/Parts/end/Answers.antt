@@ -9,9 +9,9 @@ use Rattle.nn_engine.proofs.parts.Parts.end.Goals as goal
 
 pub returns-clause-read : goal.returns-clause-read
 returns-clause-read c =
-    let r : InputParts = record { image = c.in_ok-image.image; lines = c.scenario_of-lines.result } in
+    let r : InputParts = record { loaded = c.loaded_of-loaded.result; lines = c.scenario_of-lines.result } in
     subst (λ (p : PartsTaken). (input : List ℕ) → HasParts p input → IsRead (is_some p.front) input r) c.self.view_is (λ input h.
-    parts_read _ r input c.in_ok-image.ensures (λ text come. c.scenario_of-lines.ensures nothing_read text (c.end-read.ensures.read nothing_read text come)) h)
+    parts_read _ r input c.loaded_of-loaded.ensures (λ text come. c.scenario_of-lines.ensures nothing_read text (c.end-read.ensures.read nothing_read text come)) h)
 
 pub returns-clause-lawful : goal.returns-clause-lawful
 returns-clause-lawful c =

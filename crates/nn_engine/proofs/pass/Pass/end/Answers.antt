@@ -7,7 +7,7 @@ pub returns-in-Front-clause-ends : goal.returns-in-Front-clause-ends
 returns-in-Front-clause-ends c =
     let p : Passed = record { options = c.self.inside.options; stage = c.self.inside.stage; taken = c.self.inside.taken } in
     subst (λ (p : Passed). (input : List ℕ) → HasPassed p input → IsRunOf p.options input c.end_of_begun.result) c.self.view_is
-    (ends_in_front (λ v. v.items) p c.in-Front.front c.in_ok-image-in-Front.image c.in_ok-begun-in-Front.begun c.end_of_begun.result c.in-Front.is c.in_ok-image-in-Front.ensures
+    (ends_in_front p c.in-Front.front c.end.result c.in_ok-begun-in-Front.begun c.end_of_begun.result c.in-Front.is c.end.ensures
     c.in_ok-begun-in-Front.ensures.starts c.end_of_begun.ensures.ends)
 
 pub returns-clause-ends : goal.returns-clause-ends

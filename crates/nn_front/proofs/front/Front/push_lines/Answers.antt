@@ -1,7 +1,12 @@
-use Rattle.std.proofs.Common.{rules, ◌≢◌, arith}
+use Rattle.std.proofs.Common.{rules, ◌≡◌, ◌≢◌, arith}
 use Rattle.nn_front.specs.declared.front.Place.TheVariants.{Behind}
-use Rattle.nn_front.proofs.Fronts.{all_pushed, line_pushed, slice_from}
+use Rattle.nn_front.proofs.Fronts.{pushed_behind, all_pushed, line_pushed, slice_from}
 use Rattle.nn_front.proofs.front.Front.push_lines.Goals as goal
+
+pub returns-then-eq-clause-front : goal.returns-then-eq-clause-front
+returns-then-eq-clause-front c =
+    let there : c.lines.self.place ≡ Behind = search rules in
+    pushed_behind c.args.self.now c.lines.self c.args.bytes.now c.lines.at c.lines.invariant there
 
 pub returns-then-end-left-clause-front : goal.returns-then-end-left-clause-front
 returns-then-end-left-clause-front c =

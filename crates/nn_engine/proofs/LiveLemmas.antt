@@ -20,7 +20,7 @@ use Rattle.nn_shadow.proofs.Taken.{receives_after, takes_after}
 use Rattle.nn_tailer.proofs.Shadowing.{settings_then}
 use Rattle.nn_segment.specs.LogEnd.{LogEnd, LogStop, disorder, end_of_txs, end_of_log, and_then}
 use Rattle.nn_segment.specs.Segment.{Segment, is_end, first_txid}
-use Rattle.nn_scenario.specs.Checking.{IsCheckOf, AreSegments}
+use Rattle.nn_scenario.specs.Checking.{Check, IsCheckOf, AreSegments}
 use Rattle.nn_scenario.specs.Cut.{EditLine, Part, no_lines, with_line, last_part, segments_from}
 use Rattle.nn_scenario.specs.Reading.{Reading, nothing_read, with_edit_line, with_report_line}
 use Rattle.nn_scenario.specs.Scenario.{scenario_with}
@@ -31,10 +31,27 @@ use Rattle.nn_scenario.proofs.StepLemmas.{lanes_after_edit, lanes_after_message}
 use Rattle.nn_engine.specs.Start.{Start}
 use Rattle.nn_engine.specs.Turns.{line_applied, in_turn}
 use Rattle.nn_engine.specs.Walk.{end_of_parts}
-use Rattle.nn_engine.specs.Following.{without_events, HasFollowed, FollowsEdit, FollowsReport, Lived, IsLive, log_so_far, txs_read, turned, start_at, parts_of, stop_of, txs_of, HasArrived, Stops}
+use Rattle.nn_engine.specs.Following.{Following, without_events, HasFollowed, FollowsEdit, FollowsReport, Lived, IsLive, log_so_far, txs_read, turned, start_at, parts_of, stop_of, txs_of, HasArrived, Stops}
 use Rattle.nn_engine.specs.declared.follower.LogFault.{LogFault}
 use Rattle.nn_engine.proofs.TurnLemmas.{one_more_edit, one_more_message, edits_and_one, edits_and_message, applied_after}
 use Rattle.nn_engine.proofs.Walks.{begins, ends_part, stays_behind, ended, stopped}
+
+-- ---- No line has come.
+
+pub begins_lived : (check : Check) (f : Following) (history : Bool) (s : Contents) → IsCheckOf nothing_read check → f ≡ record { standby = s; messages = 0; stop = None } → standby_of s ≡ fresh s.namespace s.last
+    → StandsBy s.namespace s.last [] no_messages (standby_of s) → (let l : Lived = record { check = check; follower = f; history = history } in IsLive l nothing_read l)
+begins_lived check f history s checked is new stands =
+    let whole = λ (g : Following). (let l : Lived = record { check = check; follower = g; history = history } in IsLive l nothing_read l) in
+    subst whole (sym is) (record {
+      check = checked;
+      past = [];
+      kept = λ h. refl;
+      same = refl;
+      settings = record { datanodes = refl; min = refl; permille = refl };
+      follower = (λ later. refl, stands);
+      edits = refl;
+      turns = λ h. new;
+    })
 
 -- ---- A part is over.
 

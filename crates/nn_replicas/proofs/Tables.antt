@@ -1,11 +1,12 @@
 -- The table and its counts after the entry of one block id changed.
-use Rattle.std.proofs.Common.{◌≡◌, ℕ, ◌+◌, ◌-◌, ◌<◌, ◌≤◌, ◌^◌, Bool, true, false, cond, List, [], length, Option, Some, None, is_some, Result, Ok, Err, OnErr, refl, sym, ap, ◌∙◌, arith, Fits, w64, nat_cmp, add-zero}
+use Rattle.std.proofs.Common.{◌≡◌, ℕ, ◌+◌, ◌-◌, ◌<◌, ◌≤◌, ◌^◌, Bool, true, false, cond, List, [], length, Option, Some, None, is_some, Result, Ok, Err, OnErr, refl, sym, ap, subst, ◌∙◌, arith, Fits, w64, nat_cmp, add-zero}
 use Rattle.std.specs.Prelude.{unwrap_or}
 use Rattle.std.specs.BTreeMap.{insert_entry, is_at}
 use Rattle.std.specs.Map.{keys_of, lookup, set_value}
 use Rattle.std.specs.List.Sorted.{IsStrictlySortedBy}
 use Rattle.std.specs.FinMap.Entries.{find, put, is_sorted}
 use Rattle.std.proofs.lemmas.Bool.{both_ways}
+use Rattle.std.proofs.lemmas.Map.{keys-set_value}
 use Rattle.std.proofs.lemmas.List.Sums.{count_by-le-length}
 use Rattle.nn_replicas.specs.Table.{BlockEntry, Table}
 use Rattle.nn_replicas.specs.Entry.{is_ordered, replicas_in, no_entry, no_cell, has_cell, cell_of, with_cell, cell_erased, with_place, with_erased, is_closed}
@@ -18,6 +19,13 @@ Entries = List (ℕ × BlockEntry)
 
 abbrev pub table : ℕ → Entries → Table
 table min es = record { min = min; entries = es }
+
+-- the entries with w at a block id that has an entry
+abbrev pub set_at : ℕ → Entries → BlockEntry → Entries
+set_at b es w = set_value (is_at (nat_cmp b)) es w
+
+pub sorted_set : (b : ℕ) (es : Entries) (w : BlockEntry) → IsStrictlySortedBy nat_cmp (keys_of es) → IsStrictlySortedBy nat_cmp (keys_of (set_at b es w))
+sorted_set b es w s = subst (IsStrictlySortedBy nat_cmp) (sym (keys-set_value (is_at (nat_cmp b)) es w)) s
 
 -- the entry of a block id, `old` before, is w now
 pub record Becomes (es fs : Entries) (b : ℕ) (old : Option BlockEntry) (w : BlockEntry) : Type 0 where

@@ -5,14 +5,14 @@ ghost use Rattle.nn_replicas.specs.Entry.{rows_in};
 
 use crate::entry::Entry;
 use nn_model::BlockRow;
+use nn_sorted::Entries;
 use nn_types::BlockId;
-use std::collections::btree_map::Iter;
 use std::marker::Model;
 
 /// The rows of the blocks that files hold, each with its block id, by ascending block id.
 #[derive(Drop)]
 pub struct Rows<'a> {
-    entries: Iter<'a, BlockId, Entry>,
+    entries: Entries<'a, BlockId, Entry>,
 }
 
 impl<'a> Model for Rows<'a> {
@@ -26,7 +26,7 @@ impl<'a> Model for Rows<'a> {
 }
 
 impl<'a> Rows<'a> {
-    pub(crate) fn new(entries: Iter<'a, BlockId, Entry>) -> Rows<'a>
+    pub(crate) fn new(entries: Entries<'a, BlockId, Entry>) -> Rows<'a>
         ensures { result ≡ rows_in entries.entry }
     {
         Rows { entries }

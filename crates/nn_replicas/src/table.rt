@@ -8,9 +8,9 @@ use crate::entry::Entry;
 use crate::replicas_of::ReplicasOf;
 use crate::rows::Rows;
 use nn_model::BlockRow;
+use nn_sorted::SortedMap;
 use nn_types::{Block, BlockId, GenerationStamp, Replica, Settings};
 use std::alloc::{AllocError, Global};
-use std::collections::BTreeMap;
 use std::marker::Model;
 
 /// The replicas of blocks, the orders to delete, and the counts that decide on safe mode.
@@ -22,7 +22,7 @@ use std::marker::Model;
 #[derive(Drop)]
 pub struct Replicas {
     min: u16,
-    entries: BTreeMap<BlockId, Entry>,
+    entries: SortedMap<BlockId, Entry>,
     // How many rows are of closed files, and how many of these are safe: kept at each change, so that reading them
     // costs nothing.
     total: u64,
@@ -32,16 +32,17 @@ pub struct Replicas {
 
 impl Model for Replicas {
     ghost use Rattle.std.specs.Prelude.{◌≡◌};
-    ghost use Rattle.std.specs.BTreeMap.{IsOrdered};
+    ghost use Rattle.std.specs.List.Sorted.{IsStrictlySortedBy};
+    ghost use Rattle.std.specs.Map.{keys_of};
     ghost use Rattle.std.specs.Ordering.{nat_cmp};
     ghost use Rattle.nn_replicas.specs.Table.{Table};
     ghost use Rattle.nn_replicas.specs.Calls.{total_of, safe_of};
 
     ghost Value = { Table };
 
-    ghost view = { λ t. record { min = t.min; entries = t.entries.entries } };
+    ghost view = { λ t. record { min = t.min; entries = t.entries } };
 
-    ghost invariant = { λ t. (t.total ≡ total_of (record { min = t.min; entries = t.entries.entries })) × (t.safe ≡ safe_of (record { min = t.min; entries = t.entries.entries })) × IsOrdered nat_cmp t.entries };
+    ghost invariant = { λ t. (t.total ≡ total_of (record { min = t.min; entries = t.entries })) × (t.safe ≡ safe_of (record { min = t.min; entries = t.entries })) × IsStrictlySortedBy nat_cmp (keys_of t.entries) };
 }
 
 impl Replicas {
@@ -51,7 +52,7 @@ impl Replicas {
     {
         Replicas {
             min: settings.min(),
-            entries: BTreeMap::new(alloc),
+            entries: SortedMap::new(alloc),
             total: 0,
             safe: 0,
             alloc,
@@ -262,7 +263,7 @@ impl Replicas {
         ensures order { IfOk result (λ orders. AreAscending orders.items) }
     {
         let mut orders = Vec::new(alloc);
-        for (block, entry) in &self.entries {
+        for (block, entry) in self.entries.iter() {
             entry.push_orders(*block, &mut orders)?;
         }
         Ok(orders)

@@ -1,5 +1,5 @@
 -- A table that is filled with the blocks of a namespace shows it.
-use Rattle.std.proofs.Common.{◌≡◌, ℕ, ◌+◌, ◌≤◌, zero, suc, true, cond, List, [], ◌∷◌, map, replicate, Option, Some, None, refl, sym, ap, subst, ◌∙◌, inl, inr, arith}
+use Rattle.std.proofs.Common.{get_or, ◌≡◌, ℕ, ◌+◌, ◌≤◌, zero, suc, true, cond, List, [], ◌∷◌, map, replicate, Option, Some, None, refl, sym, ap, subst, ◌∙◌, inl, inr, arith}
 use Rattle.std.specs.Prelude.{◌==◌, find, slice_index, is_some, unwrap_or}
 use Rattle.std.specs.Ordering.{nat_cmp}
 use Rattle.std.specs.declared.cmp.Ordering.TheVariants.{Less}
@@ -16,9 +16,14 @@ use Rattle.nn_model.proofs.Members.{blocks_of_rows}
 use Rattle.nn_tree.specs.Blocks.{AreBlocks}
 use Rattle.nn_replicas.specs.Table.{Table}
 use Rattle.nn_replicas.specs.Entry.{no_entry}
-use Rattle.nn_replicas.specs.Calls.{has_entry, empty_table}
+use Rattle.nn_replicas.specs.Calls.{has_entry, has_order, replica_at, empty_table}
 use Rattle.nn_replicas.specs.Effects.{is_named as has_row}
 use Rattle.nn_replicas.proofs.Lookups.{new_in_order}
+use Rattle.nn_model.specs.Items.{Having, nothing_had}
+use Rattle.nn_model.specs.Stands.{StandbyState, fresh}
+use Rattle.nn_types.specs.declared.report.Message.{Message}
+use Rattle.nn_model.specs.History.{History}
+use Rattle.nn_shadow.specs.Contents.{number_in, having_in}
 use Rattle.nn_shadow.specs.Starting.{IsFilling, IsBlank}
 use Rattle.nn_shadow.specs.Steps.{rows_set}
 use Rattle.nn_shadow.proofs.Apart.{rows_there, rows_apart}
@@ -90,3 +95,32 @@ pub no_number : (lanes place : ℕ) → slice_index (replicate lanes 0) place �
 no_number zero place = refl
 no_number (suc lanes) zero = refl
 no_number (suc lanes) (suc place) = no_number lanes place
+
+nothing_here : (lanes place : ℕ) → get_or (replicate lanes nothing_had) place nothing_had ≡ nothing_had
+nothing_here zero place = refl
+nothing_here (suc lanes) zero = refl
+nothing_here (suc lanes) (suc place) = nothing_here lanes place
+
+-- ---- a standby that begins
+
+all_zero : (lanes dn : ℕ) → number_in (replicate lanes 0) dn ≡ 0
+all_zero lanes zero = refl
+all_zero lanes (suc place) = no_number lanes place
+
+all_nothing : (lanes dn : ℕ) → having_in (replicate lanes nothing_had) dn ≡ nothing_had
+all_nothing lanes zero = refl
+all_nothing lanes (suc place) = nothing_here lanes place
+
+-- over a blank table it is the one that did nothing yet
+pub begins_fresh : (n : Namespace) (last min lanes : ℕ) (h : History) (t : Table) (m : List Message) (ks : List ℕ) (hs : List Having) → h ≡ [] → IsBlank n min t → m ≡ [] → ks ≡ replicate lanes 0 → hs ≡ replicate lanes nothing_had
+    → ◌≡◌ {A = StandbyState} (record { namespace = n; last = last; history = h; replica = replica_at t; has_order = has_order t; held = m; last_number = number_in ks; had = having_in hs }) (fresh n last)
+begins_fresh n last min lanes h t m ks hs e blank f k a = λ i. record {
+  namespace = n;
+  last = last;
+  history = e i;
+  replica = λ dn id. blank.replicas dn id i;
+  has_order = λ dn id. blank.orders dn id i;
+  held = f i;
+  last_number = λ dn. (ap (λ ns. number_in ns dn) k ∙ all_zero lanes dn) i;
+  had = λ dn. (ap (λ ns. having_in ns dn) a ∙ all_nothing lanes dn) i;
+}

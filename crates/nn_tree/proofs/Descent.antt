@@ -2,11 +2,8 @@
 use Rattle.std.proofs.Common.{◌≡◌, inl, inr, ℕ, ◌≤◌, Bool, true, false, cond, not, ◌&&◌, length, arith, List, [], ◌∷◌, ◌++◌, append_assoc, append-nil, Option, Some, None, IsSome, refl, sym, ap, subst, ◌∙◌, String, Global, Box}
 use Rattle.std.specs.Bool.{◌==◌}
 use Rattle.std.proofs.lemmas.Bool.{eqb-true}
-use Rattle.std.specs.BTreeMap.{get_by_text, WritesThrough}
-use Rattle.std.specs.Ordering.{nat_cmp}
-use Rattle.std.specs.Cmp.Lexicographic.{slice_cmp}
 use Rattle.std.specs.Str.{bytes_eq}
-use Rattle.std.specs.String.{string_bytes, string_cmp}
+use Rattle.std.specs.String.{string_bytes}
 use Rattle.std.specs.FinMap.Entries.{is_sorted}
 use Rattle.nn_model.specs.declared.form.Form.{Form}
 use Rattle.nn_model.specs.declared.form.Form.TheVariants.{Dir, File}
@@ -21,8 +18,8 @@ use Rattle.nn_tree.specs.declared.tree.Tree.{Tree}
 use Rattle.nn_tree.specs.declared.tree.Node.{Node}
 use Rattle.nn_tree.specs.declared.tree.Node.TheVariants.{Folder, Narrow}
 use Rattle.nn_tree.proofs.InOrder.{stays_sorted}
-use Rattle.nn_tree.proofs.Step.{Map, Becomes, written, one_written, one_found, one_other, is_called, is_called_else, graft_below, same_below}
-use Rattle.nn_tree.proofs.Subtree.{Children, dir_rows, IsDir, at_top, found, opened, opened_narrow, subtree_below, no_child, none_is_some, no_names}
+use Rattle.nn_tree.proofs.Step.{Becomes, written, one_written, one_found, one_other, is_called, is_called_else, graft_below, same_below}
+use Rattle.nn_tree.proofs.Subtree.{Children, child, with_child, dir_rows, IsDir, at_top, found, opened, opened_narrow, subtree_below, no_child, none_is_some, no_names}
 use Rattle.nn_tree.proofs.Walk.{walk_below}
 use Rattle.nn_tree.proofs.Changed.{made_fault}
 use Rattle.nn_tree.proofs.Maps.{mkdir_lawful}
@@ -56,14 +53,14 @@ pub none_found : (es : Rows) (n : List ℕ) (ns ps : Path) (Q : Path → Rows �
 none_found es n ns ps Q e f = inl (no_child es n ns ps e f)
 
 -- a directory that was looked into, and that stays
-pub folder_stays : (es : Rows) (node : Node) (m k : Map) → flat node ≡ es → IsInOrder node × (is_sorted path_cmp (flat node) ≡ true) → node ≡ Folder m → k ≡ m → IsSame es (dir_rows k.entries) × (is_sorted path_cmp (dir_rows k.entries) ≡ true)
-folder_stays es node m k v i e h =
-    let stays : dir_rows k.entries ≡ flat node = ap (λ x. dir_rows x.entries) h ∙ sym (ap flat e) in
+pub folder_stays : (es : Rows) (node : Node) (m : Children) → flat node ≡ es → IsInOrder node × (is_sorted path_cmp (flat node) ≡ true) → node ≡ Folder m → IsSame es (dir_rows m) × (is_sorted path_cmp (dir_rows m) ≡ true)
+folder_stays es node m v i e =
+    let stays : dir_rows m ≡ flat node = sym (ap flat e) in
     ((λ q. ap (λ x. at x q) (stays ∙ v)), ap (is_sorted path_cmp) stays ∙ i.1)
 
 -- in any directory, and in one of one child
-pub folder_other : (es : Rows) (node : Node) (m : Map) (n : List ℕ) → flat node ≡ es → IsInOrder node × (is_sorted path_cmp (flat node) ≡ true) → node ≡ Folder m → None ≡ get_by_text m n → (q : Path) → at es (n ∷ q) ≡ None
-folder_other es node m n v i e g = found es m.entries n None (opened es node m v i.0 e) g
+pub folder_other : (es : Rows) (node : Node) (m : Children) (n : List ℕ) → flat node ≡ es → IsInOrder node × (is_sorted path_cmp (flat node) ≡ true) → node ≡ Folder m → None ≡ child m n → (q : Path) → at es (n ∷ q) ≡ None
+folder_other es node m n v i e g = found es m n None (opened es node m v i.0 e) g
 
 -- a directory of one child has that child alone
 pub same_child : (node : Node) (j k : String Global) (t u : Box Tree Global) → node ≡ Narrow j t → node ≡ Narrow k u → t ≡ u
@@ -99,10 +96,11 @@ dir_step es m k n t w d b f s = record {
   order = λ o. stays_sorted es m k n (Some w) d b s o;
 }
 
-pub folder_step : (es : Rows) (node : Node) (m k : Map) (n : List ℕ) (t w : Tree) → flat node ≡ es → IsInOrder node × (is_sorted path_cmp (flat node) ≡ true) → node ≡ Folder m → Some t ≡ get_by_text m n → WritesThrough string_cmp (λ s. slice_cmp nat_cmp n (string_bytes s)) m w k → IsStep es (dir_rows k.entries) n t w
-folder_step es node m k n t w v i e g h =
+pub folder_step : (es : Rows) (node : Node) (m : Children) (n k : List ℕ) (t w : Tree) → flat node ≡ es → IsInOrder node × (is_sorted path_cmp (flat node) ≡ true) → node ≡ Folder m → Some t ≡ child m k → k ≡ n → IsStep es (dir_rows (with_child m k w)) n t w
+folder_step es node m n k t w v i e g same =
     let d = opened es node m v i.0 e in
-    dir_step es m.entries k.entries n t w d (written m k n t w g h) (found es m.entries n (Some t) d g) (ap (is_sorted path_cmp) (sym v) ∙ i.1)
+    subst (λ x. IsStep es (dir_rows (with_child m k w)) x t w) same
+    (dir_step es m (with_child m k w) k t w d (written m k t w g d.ordered) (found es m k (Some t) d g) (ap (is_sorted path_cmp) (sym v) ∙ i.1))
 
 pub narrow_step : (es : Rows) (node : Node) (k : String Global) (b : Box Tree Global) (a n : List ℕ) (t w : Tree) → flat node ≡ es → is_sorted path_cmp (flat node) ≡ true → node ≡ Narrow k b → a ≡ string_bytes k → false ≡ not (bytes_eq a n) → t ≡ b.value → IsStep es (dir_rows ((k, w) ∷ [])) n t w
 narrow_step es node k b a n t w v o e s c same =

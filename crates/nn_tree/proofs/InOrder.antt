@@ -1,12 +1,11 @@
 -- A tree stays in path order where one child of a directory changes.
-use Rattle.std.proofs.Common.{◌≡◌, ℕ, Bool, true, false, cond, List, [], ◌∷◌, Option, Some, None, refl, sym, ap, ◌∙◌, String, Global}
+use Rattle.std.proofs.Common.{◌≡◌, ℕ, Bool, true, false, cond, List, [], ◌∷◌, Option, Some, None, refl, sym, ap, ◌∙◌}
 use Rattle.std.specs.Prelude.{IfSome}
 use Rattle.std.specs.declared.cmp.Ordering.TheVariants.{Less, Equal, Greater}
 use Rattle.std.specs.Ordering.{is_eq}
 use Rattle.std.specs.Cmp.Lexicographic.{nat_list_cmp_total}
 use Rattle.std.specs.BTreeMap.{is_at}
 use Rattle.std.specs.Map.{keys_of, values_of}
-use Rattle.std.specs.List.{AllByRecursion}
 use Rattle.std.specs.List.Sorted.{IsStrictlySortedBy}
 use Rattle.std.specs.String.{string_bytes, string_cmp}
 use Rattle.std.specs.FinMap.Entries.{is_sorted}
@@ -17,7 +16,8 @@ use Rattle.std.specs.Str.{bytes_eq}
 use Rattle.nn_model.specs.declared.form.Form.{Form}
 use Rattle.nn_model.specs.Namespace.{Path, path_cmp}
 use Rattle.nn_tree.specs.declared.tree.Tree.{Tree}
-use Rattle.nn_tree.proofs.Below.{name_cmp, apart}
+use Rattle.nn_tree.proofs.Below.{name_cmp}
+use Rattle.nn_tree.proofs.ByName.{none_after}
 use Rattle.nn_tree.proofs.Sorted.{AllSorted, sorted_rows, sorted_children, sorted_tail_rows}
 use Rattle.nn_tree.proofs.Subtree.{Children, child, dir_rows, IsDir}
 use Rattle.nn_tree.proofs.Step.{Becomes}
@@ -37,11 +37,6 @@ each_sorted (c ∷ cs) a n t h = first_or (λ g. each_sorted cs a.1 n t g) (is_a
 -- a child of a directory in path order
 pub child_sorted : (es : List (Path × Form)) (m : Children) (n : List ℕ) (t : Tree) → IsDir es m → is_sorted path_cmp es ≡ true → Some t ≡ child m n → is_sorted path_cmp t ≡ true
 child_sorted es m n t d s h = each_sorted m (sorted_children m (sorted_tail_rows m (ap (is_sorted path_cmp) d.is ∙ s))) n t (sym h)
-
--- no later child has the name of the first one
-none_after : (n : List ℕ) (k : String Global) (cs : Children) → name_cmp n (string_bytes k) ≡ Equal → AllByRecursion (λ y. string_cmp k y ≡ Less) (keys_of cs) → child cs n ≡ None
-none_after n k [] h a = refl
-none_after n k (c ∷ cs) h a = ap (λ b. cond b (Some c.1) (child cs n)) (apart n (string_bytes k) (string_bytes c.0) h a.0) ∙ none_after n k cs h a.1
 
 all_sorted : (cs : Children) → IsStrictlySortedBy string_cmp (keys_of cs) → EachSorted cs → AllSorted (values_of cs)
 all_sorted [] s e = tt

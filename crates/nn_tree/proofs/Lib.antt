@@ -1,5 +1,6 @@
 pub mod Below
 pub mod Subtree
+pub mod ByName
 pub mod Step
 pub mod Walk
 pub mod Changed
@@ -35,6 +36,6 @@ pub mod Renewed
 pub mod Spare
 pub mod Blocks
 pub mod Work
-pub mod PutOff
 pub mod InOrder
 pub mod Descent
+pub mod Names

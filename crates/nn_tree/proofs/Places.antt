@@ -1,20 +1,18 @@
 -- The rows of a directory from a place on, child by child.
-use Rattle.std.proofs.Common.{◌≡◌, ℕ, Bool, true, false, cond, ◌&&◌, List, [], ◌∷◌, ◌++◌, length, append-nil, refl, sym, ap, subst, ◌∙◌, String, Global, Option, Some, None, BTreeMap, Box, arith}
-use Rattle.std.specs.Prelude.{bytes_eq, filter}
+use Rattle.std.proofs.Common.{◌≡◌, ℕ, Bool, true, false, cond, List, [], ◌∷◌, ◌++◌, length, append-nil, refl, sym, ap, subst, ◌∙◌, String, Global, Option, Some, None, Box, arith}
+use Rattle.std.specs.Prelude.{bytes_eq}
 use Rattle.std.specs.Map.{keys_of}
 use Rattle.std.specs.List.{AllByRecursion}
 use Rattle.std.specs.List.Sorted.{IsStrictlySortedBy}
 use Rattle.std.specs.declared.cmp.Ordering.{Ordering}
 use Rattle.std.specs.declared.cmp.Ordering.TheVariants.{Less, Equal, Greater}
-use Rattle.std.specs.declared.ops.Bound.TheVariants.{Included, Unbounded}
-use Rattle.std.specs.BTreeMap.Range.{entries_between, range_contains}
-use Rattle.std.specs.Ordering.{is_le, is_lt, ordering_then, ordering_reverse}
+use Rattle.std.specs.Ordering.{is_gt, is_le, is_lt, ordering_then, ordering_reverse}
+use Rattle.nn_sorted.specs.Values.{entries_from}
 use Rattle.std.specs.String.{string_bytes, string_cmp}
 use Rattle.std.specs.Cmp.Lexicographic.{nat_list_cmp_total}
 use Rattle.std.specs.FinMap.{IsAntisymmetric, nat_cmp-IsAntisymmetric, slice_cmp-IsAntisymmetric}
 use Rattle.std.proofs.lemmas.Cmp.{tied_itself}
-use Rattle.std.proofs.lemmas.List.Kept.{IsStrictlySortedBy-filter}
-use Rattle.std.proofs.lemmas.Map.Keys.{sorted_head}
+use Rattle.std.proofs.lemmas.Map.Keys.{sorted_head, sorted_tail}
 use Rattle.nn_model.specs.declared.form.Form.{Form}
 use Rattle.nn_model.specs.declared.form.Form.TheVariants.{Dir}
 use Rattle.nn_model.specs.Namespace.{Path, path_cmp}
@@ -30,11 +28,6 @@ use Rattle.nn_tree.proofs.Below.{name_cmp}
 
 abbrev Rows : Type 0
 Rows = List (Path × Form)
-
--- a range with no bounds is all
-pub all_between : (cs : Entries) → entries_between string_cmp Unbounded Unbounded cs ≡ cs
-all_between [] = refl
-all_between (c ∷ cs) = ap (λ es. c ∷ es) (all_between cs)
 
 pub from_root : (rows : Rows) → rows_from [] rows ≡ rows
 from_root [] = refl
@@ -94,23 +87,6 @@ at_name n k p rows h =
 
 -- ---- Children in order.
 
-abbrev later : String Global → Entries → Entries
-later first cs = entries_between string_cmp (Included first) Unbounded cs
-
-later_from : (first : String Global) (p : Path) (cs : Entries) → rows_from (string_bytes first ∷ p) (below (later first cs)) ≡ rows_from (string_bytes first ∷ p) (below cs)
-later_from first p [] = refl
-later_from first p (c ∷ cs) =
-    let n = string_bytes first in
-    let k = string_bytes c.0 in
-    let more = later first cs in
-    let whole : rows_from (n ∷ p) (below (c ∷ more)) ≡ rows_from (n ∷ p) (below (c ∷ cs)) =
-    from-append (n ∷ p) (under k c.1) (below more) ∙ ap (λ r. rows_from (n ∷ p) (under k c.1) ++ r) (later_from first p cs) ∙ sym (from-append (n ∷ p) (under k c.1) (below cs)) in
-    elim (name_cmp n k) as (λ o. name_cmp n k ≡ o → rows_from (n ∷ p) (below (cond (is_le o && true) (c ∷ more) more)) ≡ rows_from (n ∷ p) (below (c ∷ cs))) [
-      | Less ↦ λ h. whole
-      | Equal ↦ λ h. whole
-      | Greater ↦ λ h. later_from first p cs ∙ sym (from-append (n ∷ p) (under k c.1) (below cs) ∙ ap (λ r. r ++ rows_from (n ∷ p) (below cs)) (place_behind n k p h c.1))
-    ] refl
-
 -- a name below all that follow, and not before the place
 all_behind : (n k : List ℕ) (p : Path) (cs : Entries) → is_le (name_cmp n k) ≡ true → AllByRecursion (λ y. name_cmp k (string_bytes y) ≡ Less) (keys_of cs) → rows_from (n ∷ p) (below cs) ≡ below cs
 all_behind n k p [] h a = refl
@@ -126,38 +102,36 @@ all_behind n k p (c ∷ cs) h a =
           | Greater ↦ λ e w. cc
         ] refl h
 
--- the children from the place on, where the first of them does not come before it
-sorted_from : (n : List ℕ) (p : Path) (children : Option Children) (cs : Entries) → all_entries children ≡ cs → IsStrictlySortedBy string_cmp (keys_of cs) → AllByRecursion (λ y. is_le (name_cmp n (string_bytes y)) ≡ true) (keys_of cs)
-    → rows_from (n ∷ p) (below cs) ≡ from_children n p children
+-- the first child, if there is one, does not come before the place
+abbrev IsFrom : List ℕ → Entries → Type 0
+IsFrom n [] = Unit {0}
+IsFrom n (c ∷ cs) = is_le (name_cmp n (string_bytes c.0)) ≡ true
+
+-- the children from the place on
+sorted_from : (n : List ℕ) (p : Path) (children : Option Children) (cs : Entries) → all_entries children ≡ cs → IsStrictlySortedBy string_cmp (keys_of cs) → IsFrom n cs → rows_from (n ∷ p) (below cs) ≡ from_children n p children
 sorted_from n p None cs e s a = ap (λ es. rows_from (n ∷ p) (below es)) (sym e)
 sorted_from n p (Some children) cs e s a =
     let k = string_bytes children.name.now in
     let more = later_of children.later in
     let sorted = subst (λ es. IsStrictlySortedBy string_cmp (keys_of es)) (sym e) s in
-    let first = (subst (λ es. AllByRecursion (λ y. is_le (name_cmp n (string_bytes y)) ≡ true) (keys_of es)) (sym e) a).0 in
+    let first = subst (IsFrom n) (sym e) a in
     ap (λ es. rows_from (n ∷ p) (below es)) (sym e) ∙ from-append (n ∷ p) (under k children.tree.now) (below more)
     ∙ (λ j. at_name n k p children.tree.now first j ++ all_behind n k p more first (sorted_head string_cmp _ _ sorted) j)
 
-later_all : (first : String Global) (cs : Entries) → AllByRecursion (λ y. is_le (name_cmp (string_bytes first) (string_bytes y)) ≡ true) (keys_of (later first cs))
-later_all first [] = tt
-later_all first (c ∷ cs) =
-    elim (is_le (name_cmp (string_bytes first) (string_bytes c.0))) as (λ b. is_le (name_cmp (string_bytes first) (string_bytes c.0)) ≡ b → AllByRecursion (λ y. is_le (name_cmp (string_bytes first) (string_bytes y)) ≡ true) (keys_of (cond (b && true) (c ∷ later first cs) (later first cs)))) [
-      | true ↦ λ e. (e, later_all first cs)
-      | false ↦ λ e. later_all first cs
-    ] refl
-
-keys_kept : (test : String Global → Bool) (cs : Entries) → keys_of (filter (λ c. test c.0) cs) ≡ filter test (keys_of cs)
-keys_kept test [] = refl
-keys_kept test (c ∷ cs) =
-    elim (test c.0) as (λ b. keys_of (cond b (c ∷ filter (λ c. test c.0) cs) (filter (λ c. test c.0) cs)) ≡ cond b (c.0 ∷ filter test (keys_of cs)) (filter test (keys_of cs))) [
-      | true ↦ ap (λ ks. c.0 ∷ ks) (keys_kept test cs)
-      | false ↦ keys_kept test cs
-    ]
-
-later_in_order : (first : String Global) (cs : Entries) → IsStrictlySortedBy string_cmp (keys_of cs) → IsStrictlySortedBy string_cmp (keys_of (later first cs))
-later_in_order first cs s =
-    let passes = λ (k : String Global). range_contains string_cmp (Included first) Unbounded k in
-    subst (IsStrictlySortedBy string_cmp) (sym (keys_kept passes cs)) (IsStrictlySortedBy-filter string_cmp passes (keys_of cs) s)
+-- and those before it have no rows there
+children_from : (first : String Global) (p : Path) (children : Option Children) (cs : Entries) → all_entries children ≡ entries_from (string_cmp first) cs → IsStrictlySortedBy string_cmp (keys_of cs)
+    → rows_from (string_bytes first ∷ p) (below cs) ≡ from_children (string_bytes first) p children
+children_from first p children [] e s = sorted_from (string_bytes first) p children [] e s tt
+children_from first p children (c ∷ cs) e s =
+    let n = string_bytes first in
+    let k = string_bytes c.0 in
+    elim (name_cmp n k) as (λ o. name_cmp n k ≡ o → all_entries children ≡ cond (is_gt o) (entries_from (string_cmp first) cs) (c ∷ cs) → rows_from (n ∷ p) (below (c ∷ cs)) ≡ from_children n p children) [
+      | Less ↦ λ h g. sorted_from n p children (c ∷ cs) g s (ap is_le h)
+      | Equal ↦ λ h g. sorted_from n p children (c ∷ cs) g s (ap is_le h)
+      | Greater ↦ λ h g.
+          from-append (n ∷ p) (under k c.1) (below cs) ∙ ap (λ r. r ++ rows_from (n ∷ p) (below cs)) (place_behind n k p h c.1)
+          ∙ children_from first p children cs g (sorted_tail string_cmp _ _ s)
+    ] refl e
 
 -- ---- A node from a place on.
 
@@ -165,11 +139,10 @@ later_in_order first cs s =
 dir_from : (n : List ℕ) (p : Path) (es : Rows) (node : Node) (cs : Entries) → flat node ≡ es → flat node ≡ ([], Dir) ∷ below cs → rows_from (n ∷ p) es ≡ rows_from (n ∷ p) (below cs)
 dir_from n p es node cs v e = ap (rows_from (n ∷ p)) (sym v ∙ e)
 
-pub folder_from : (first : String Global) (p : Path) (es : Rows) (node : Node) (m : BTreeMap (String Global) Tree) (children : Option Children) → flat node ≡ es → IsInOrder node → node ≡ Folder m
-    → all_entries children ≡ entries_between string_cmp (Included first) Unbounded m.entries → rows_from (string_bytes first ∷ p) es ≡ from_children (string_bytes first) p children
+pub folder_from : (first : String Global) (p : Path) (es : Rows) (node : Node) (m : List (String Global × Tree)) (children : Option Children) → flat node ≡ es → IsInOrder node → node ≡ Folder m
+    → all_entries children ≡ entries_from (string_cmp first) m → rows_from (string_bytes first ∷ p) es ≡ from_children (string_bytes first) p children
 folder_from first p es node m children v o e is =
-    dir_from (string_bytes first) p es node m.entries v (ap flat e) ∙ sym (later_from first p m.entries)
-    ∙ sorted_from (string_bytes first) p children (later first m.entries) is (later_in_order first m.entries (subst IsInOrder e o)) (later_all first m.entries)
+    dir_from (string_bytes first) p es node m v (ap flat e) ∙ children_from first p children m is (subst IsInOrder e o)
 
 less_of : (o : Ordering) → true ≡ is_lt o → o ≡ Less
 less_of Less h = refl

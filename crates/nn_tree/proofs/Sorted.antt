@@ -1,5 +1,5 @@
 -- The paths of a tree are in path order.
-use Rattle.std.proofs.Common.{◌≡◌, ℕ, true, ◌&&◌, List, [], ◌∷◌, ◌++◌, refl, sym, ap, subst, ◌∙◌, String, Global, BTreeMap, Box}
+use Rattle.std.proofs.Common.{◌≡◌, ℕ, true, ◌&&◌, List, [], ◌∷◌, ◌++◌, refl, sym, ap, subst, ◌∙◌, String, Global, Box}
 use Rattle.std.specs.declared.cmp.Ordering.TheVariants.{Less}
 use Rattle.std.specs.Ordering.{is_lt, ordering_then}
 use Rattle.std.specs.List.{AllByRecursion}
@@ -103,9 +103,9 @@ sorted_children (c ∷ cs) s =
 pub sorted_tail_rows : (cs : List (String Global × List (Path × Form))) → is_sorted path_cmp (([], Dir) ∷ below cs) ≡ true → is_sorted path_cmp (below cs) ≡ true
 sorted_tail_rows cs s = (and_parts (below_all path_cmp [] (below cs)) (is_sorted path_cmp (below cs)) s).1
 
-pub sorted_dir : (es : List (Path × Form)) (node : Node) (m : BTreeMap (String Global) Tree) → flat node ≡ es → IsInOrder node → node ≡ Folder m → AllSorted (values_of m.entries) → is_sorted path_cmp es ≡ true
+pub sorted_dir : (es : List (Path × Form)) (node : Node) (m : List (String Global × Tree)) → flat node ≡ es → IsInOrder node → node ≡ Folder m → AllSorted (values_of m) → is_sorted path_cmp es ≡ true
 sorted_dir es node m v o e a =
-    ap (is_sorted path_cmp) (sym v ∙ ap flat e) ∙ and_from (below_all path_cmp [] (below m.entries)) (is_sorted path_cmp (below m.entries)) (root_below m.entries) (sorted_below m.entries (subst IsInOrder e o) a)
+    ap (is_sorted path_cmp) (sym v ∙ ap flat e) ∙ and_from (below_all path_cmp [] (below m)) (is_sorted path_cmp (below m)) (root_below m) (sorted_below m (subst IsInOrder e o) a)
 
 pub sorted_narrow : (es : List (Path × Form)) (node : Node) (k : String Global) (t : Box Tree Global) → flat node ≡ es → node ≡ Narrow k t → is_sorted path_cmp t.value ≡ true → is_sorted path_cmp es ≡ true
 sorted_narrow es node k t v e a =

@@ -1,20 +1,22 @@
 -- A directory in which one child changes.
-use Rattle.std.proofs.Common.{◌≡◌, Result, Ok, Err, OnOk, OnErr, ℕ, Bool, true, false, cond, List, [], ◌∷◌, ◌++◌, Option, Some, None, IsSome, refl, sym, ap, subst, ◌∙◌, not, String, Global, BTreeMap}
-use Rattle.std.specs.Map.{keys_of}
+use Rattle.std.proofs.Common.{◌≡◌, Result, Ok, Err, OnOk, OnErr, ℕ, Bool, true, false, cond, List, [], ◌∷◌, ◌++◌, Option, Some, None, refl, sym, ap, subst, ◌∙◌, not, String, Global}
+use Rattle.std.specs.Map.{keys_of, remove_entry}
+use Rattle.std.proofs.lemmas.Map.{keys-set_value}
 use Rattle.std.specs.List.Sorted.{IsStrictlySortedBy}
-use Rattle.std.specs.BTreeMap.{get_by_text, IsOrdered, UpdatesBy, WritesThrough}
-use Rattle.std.specs.Ordering.{is_eq, nat_cmp}
-use Rattle.std.specs.Cmp.Lexicographic.{slice_cmp, nat_list_eq_equiv, bytes_decides}
+use Rattle.std.specs.BTreeMap.{insert_entry, is_at}
+use Rattle.std.specs.Ordering.{is_eq}
+use Rattle.std.specs.Cmp.Lexicographic.{nat_list_eq_equiv, bytes_decides}
 use Rattle.std.specs.Str.{bytes_eq}
 use Rattle.std.specs.String.{string_bytes, string_cmp}
-use Rattle.std.proofs.lemmas.Map.Text.{is_eq-slice_cmp, btree_map_updates_text}
+use Rattle.std.proofs.lemmas.Map.Text.{is_eq-slice_cmp, text_cmp}
 use Rattle.nn_model.specs.declared.form.Form.{Form}
 use Rattle.nn_model.specs.Namespace.{Path}
 use Rattle.nn_tree.specs.At.{at, rows, grafted, IsSubtree, IsGrafted, IsSame}
 use Rattle.nn_tree.specs.declared.tree.Tree.{Tree}
 use Rattle.nn_model.proofs.Prefixes.{name_same}
 use Rattle.nn_tree.proofs.Below.{name_cmp, at-below}
-use Rattle.nn_tree.proofs.Subtree.{none_in_order, one_in_order, Children, child, dir_rows, IsDir, at_top, at_child, found}
+use Rattle.nn_tree.proofs.ByName.{child_inserted, child_removed, child_set}
+use Rattle.nn_tree.proofs.Subtree.{none_in_order, one_in_order, Children, child, with_child, dir_rows, IsDir, at_top, at_child, found}
 
 rows_cond : (b : Bool) (o p : Option Tree) (q : Path) → rows (cond b o p) q ≡ cond b (rows o q) (rows p q)
 rows_cond true o p q = refl
@@ -25,16 +27,15 @@ pub record Becomes (m k : Children) (n : List ℕ) (o : Option Tree) : Type 0 wh
   pub updates : (x : List ℕ) → child k x ≡ cond (bytes_eq n x) o (child m x)
   pub ordered : IsStrictlySortedBy string_cmp (keys_of k)
 
-abbrev pub Map : Type 0
-Map = BTreeMap (String Global) Tree
+-- after a child was put in, taken out, or written through `get_mut`
+pub put_in : (m k : Children) (key : String Global) (w : Tree) → k ≡ insert_entry string_cmp m key w → IsStrictlySortedBy string_cmp (keys_of k) → Becomes m k (string_bytes key) (Some w)
+put_in m k key w is s = record { updates = λ x. ap (λ cs. child cs x) is ∙ child_inserted key w m x; ordered = s }
 
--- after a change of a map at one name
-pub changed : (m k : Map) (n : List ℕ) (o : Option Tree) → UpdatesBy string_cmp (λ s. slice_cmp nat_cmp n (string_bytes s)) m k o → IsOrdered string_cmp k → Becomes m.entries k.entries n o
-changed m k n o u s = record { updates = btree_map_updates_text n m k o u; ordered = s }
+pub taken_out : (m k : Children) (n : List ℕ) → k ≡ remove_entry (is_at (text_cmp n)) m → IsStrictlySortedBy string_cmp (keys_of m) → IsStrictlySortedBy string_cmp (keys_of k) → Becomes m k n None
+taken_out m k n is was s = record { updates = λ x. ap (λ cs. child cs x) is ∙ child_removed n m was x; ordered = s }
 
--- after a write through `get_mut`
-pub written : (m k : Map) (n : List ℕ) (t w : Tree) → Some t ≡ get_by_text m n → WritesThrough string_cmp (λ s. slice_cmp nat_cmp n (string_bytes s)) m w k → Becomes m.entries k.entries n (Some w)
-written m k n t w g h = changed m k n (Some w) (h.3 (subst IsSome g refl)) h.4
+pub written : (m : Children) (n : List ℕ) (t w : Tree) → Some t ≡ child m n → IsStrictlySortedBy string_cmp (keys_of m) → Becomes m (with_child m n w) n (Some w)
+written m n t w g s = record { updates = child_set n w t m (sym g); ordered = subst (IsStrictlySortedBy string_cmp) (sym (keys-set_value (is_at (text_cmp n)) m w)) s }
 
 -- a name is another one where that is the first one
 turned : (n x : List ℕ) → is_eq (name_cmp x n) ≡ bytes_eq n x

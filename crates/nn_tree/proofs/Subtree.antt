@@ -1,7 +1,7 @@
 -- What stands below a directory's child.
-use Rattle.std.proofs.Common.{◌≡◌, ℕ, List, [], ◌∷◌, ◌++◌, length, Option, Some, None, IsSome, refl, sym, ap, subst, ◌∙◌, String, Global, arith, BTreeMap, Box}
+use Rattle.std.proofs.Common.{◌≡◌, ℕ, List, [], ◌∷◌, ◌++◌, length, Option, Some, None, IsSome, refl, sym, ap, subst, ◌∙◌, String, Global, arith, Box}
 use Rattle.std.specs.BTreeMap.{is_at}
-use Rattle.std.specs.Map.{lookup, keys_of}
+use Rattle.std.specs.Map.{lookup, keys_of, set_value}
 use Rattle.std.specs.List.Sorted.{IsStrictlySortedBy}
 use Rattle.std.proofs.lemmas.Map.Text.{text_cmp}
 use Rattle.std.specs.String.{string_cmp}
@@ -24,6 +24,10 @@ Children = List (String Global × Tree)
 abbrev pub child : Children → List ℕ → Option Tree
 child cs n = lookup (is_at (text_cmp n)) cs
 
+-- the children, with another tree for the child of the name n
+abbrev pub with_child : Children → List ℕ → Tree → Children
+with_child cs n t = set_value (is_at (text_cmp n)) cs t
+
 -- the rows of a directory with the children cs
 abbrev pub dir_rows : Children → List (Path × Form)
 dir_rows cs = ([], Dir) ∷ below cs
@@ -42,7 +46,7 @@ pub one_in_order : (k : String Global) → IsStrictlySortedBy string_cmp (k ∷ 
 unfolding IsStrictlySortedBy
 one_in_order k = (tt, tt)
 
-pub opened : (es : List (Path × Form)) (node : Node) (m : BTreeMap (String Global) Tree) → flat node ≡ es → IsInOrder node → node ≡ Folder m → IsDir es m.entries
+pub opened : (es : List (Path × Form)) (node : Node) (m : List (String Global × Tree)) → flat node ≡ es → IsInOrder node → node ≡ Folder m → IsDir es m
 opened es node m v i e = record { is = sym (ap flat e) ∙ v; ordered = subst IsInOrder e i }
 
 pub opened_narrow : (es : List (Path × Form)) (node : Node) (k : String Global) (t : Box Tree Global) → flat node ≡ es → node ≡ Narrow k t → IsDir es ((k, t.value) ∷ [])
@@ -79,7 +83,7 @@ pub no_child : (es : List (Path × Form)) (n : List ℕ) (ns ps : Path) → ps �
 no_child es n ns ps e h q = ap (λ p. at es (p ++ q)) e ∙ h (ns ++ q)
 
 -- what is no directory is a file
-pub leaf_of : (node : Node) → ((k : String Global) (t : Box Tree Global) → node ≡ Narrow k t → ⊥) → ((m : BTreeMap (String Global) Tree) → node ≡ Folder m → ⊥) → (f : FileRow) × (node ≡ Leaf f)
+pub leaf_of : (node : Node) → ((k : String Global) (t : Box Tree Global) → node ≡ Narrow k t → ⊥) → ((m : List (String Global × Tree)) → node ≡ Folder m → ⊥) → (f : FileRow) × (node ≡ Leaf f)
 leaf_of (Folder m) h k = absurd (k m refl)
 leaf_of (Narrow n t) h k = absurd (h n t refl)
 leaf_of (Leaf f) h k = (f, refl)

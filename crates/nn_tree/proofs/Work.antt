@@ -1,22 +1,18 @@
 -- What is left of a tree that is taken apart becomes less.
-use Rattle.std.proofs.Common.{inl, inr, ◌≡◌, ℕ, zero, suc, ◌+◌, ◌<◌, ◌≤◌, Bool, true, false, cond, List, [], ◌∷◌, ◌++◌, length, Option, Some, None, nat_lt, ltb-true, refl, sym, ap, subst, ◌∙◌, arith, length-append, append_assoc, String, Global, BTreeMap, Box}
-use Rattle.std.specs.Prelude.{unwrap_or, IfSome}
-use Rattle.std.specs.Option.{option_map}
-use Rattle.std.specs.Map.{values_of, keys_of, lookup}
-use Rattle.std.specs.BTreeMap.{insert_entry, is_at}
+use Rattle.std.proofs.Common.{inl, inr, ◌≡◌, ℕ, zero, suc, ◌+◌, ◌<◌, ◌≤◌, true, List, [], ◌∷◌, ◌++◌, length, Option, Some, None, nat_lt, ltb-true, refl, sym, ap, subst, ◌∙◌, arith, length-append, append_assoc, String, Global, Box}
+use Rattle.std.specs.Prelude.{IfSome}
+use Rattle.std.specs.Map.{values_of, keys_of}
 use Rattle.std.specs.List.Sorted.{IsStrictlySortedBy}
-use Rattle.std.proofs.lemmas.Map.Entries.{sum_by-insert_entry}
 use Rattle.std.specs.List.{sum_by}
 use Rattle.std.proofs.lemmas.Bool.{cases_Bool, ltb-false}
 use Rattle.std.proofs.lemmas.List.Sums.{sum_by-cons}
-use Rattle.std.specs.String.{string_bytes, string_cmp, string_cmp_total}
+use Rattle.std.specs.String.{string_bytes, string_cmp}
 use Rattle.nn_model.specs.declared.form.Form.{Form}
 use Rattle.nn_model.specs.declared.form.FileRow.{FileRow}
 use Rattle.nn_model.specs.Namespace.{Path, path_cmp}
 use Rattle.std.specs.FinMap.Entries.{is_sorted}
-use Rattle.std.proofs.lemmas.List.Elements.{All-from_recursion, recursion_from_All}
-use Rattle.std.proofs.lemmas.Map.Views.{All-values-insert_entry}
 use Rattle.nn_tree.proofs.Sorted.{AllSorted, sorted_below, sorted_children, sorted_left, sorted_tail_rows}
+use Rattle.nn_sorted.specs.Values.{ReplacesFirst}
 use Rattle.nn_tree.specs.Flat.{flat, below, under}
 use Rattle.nn_tree.specs.Falls.{length-under}
 use Rattle.nn_tree.specs.Work.{up_to, work, rows_left}
@@ -59,22 +55,11 @@ below_last p (c ∷ fs) = omega (arith, length-append (under (string_bytes c.0) 
 pub last_rows : (p : String Global × List (Path × Form)) (es fs : List (String Global × List (Path × Form))) → es ≡ fs ++ p ∷ [] → length p.1 + length (below fs) ≡ length (below es)
 last_rows p es fs h = omega (arith, below_last p fs, ap (λ x. length (below x)) h)
 
--- no children
-pub none_below : (es : List (String Global × List (Path × Form))) → length es ≡ 0 → length (below es) ≡ 0
-none_below [] h = refl
-none_below (e ∷ es) h = absurd (omega (arith, h))
-
--- and once another tree stands in the place of one of the children
-pub rows_written : (es : List (String Global × List (Path × Form))) (k : String Global) (old new : List (Path × Form)) → IsStrictlySortedBy string_cmp (keys_of es) → lookup (is_at (string_cmp k)) es ≡ Some old →
-    length (below (insert_entry string_cmp es k new)) + length old ≡ length (below es) + length new
-rows_written es k old new s h =
-    omega (arith, rows_below es, rows_below (insert_entry string_cmp es k new), sum_by-insert_entry length string_cmp_total es k new s, ap (λ o. unwrap_or (option_map length o) 0) h)
-
 -- ---- one top
 
 -- the tree that comes next, and the rest beside it
 abbrev pub Next : Type 0
-Next = Tree × Option (BTreeMap (String Global) Tree)
+Next = Tree × Option (List (String Global × Tree))
 
 -- fewer rows are left
 pub less_left : (o : Option Next) (r here rest : ℕ) → IfSome o (λ p. length p.0 + length (rows_left p.1) ≡ r) → r < here + rest → IfSome o (λ p. work (length p.0) (length (rows_left p.1)) < work here rest)
@@ -84,7 +69,7 @@ less_left (Some p) r here rest h l = work-less here rest (length p.0) (length (r
 pub leaf_rows : (node : Node) (f : FileRow) → node ≡ Leaf f → length (flat node) ≡ 1
 leaf_rows node f e = ap (λ n. length (flat n)) e
 
-pub folder_rows : (node : Node) (m : BTreeMap (String Global) Tree) → node ≡ Folder m → length (flat node) ≡ 1 + length (below m.entries)
+pub folder_rows : (node : Node) (m : List (String Global × Tree)) → node ≡ Folder m → length (flat node) ≡ 1 + length (below m)
 folder_rows node m e = omega (arith, ap (λ n. length (flat n)) e)
 
 pub narrow_rows : (node : Node) (n : String Global) (t : Box Tree Global) → node ≡ Narrow n t → length (flat node) ≡ 1 + length t.value
@@ -92,20 +77,11 @@ narrow_rows node n t e = omega (arith, ap (λ x. length (flat x)) e, first_rows 
 
 -- ---- a directory that takes the rest in
 
--- a child has no more rows than all children
-child_rows : (k : String Global) (cs : List (String Global × List (Path × Form))) (t : List (Path × Form)) → lookup (is_at (string_cmp k)) cs ≡ Some t → length t ≤ length (below cs)
-child_rows k [] t h = cc
-child_rows k (c ∷ cs) t h = cases (λ g. child_rows k cs t g) (is_at (string_cmp k) c.0) h
-  where
-    cases : (lookup (is_at (string_cmp k)) cs ≡ Some t → length t ≤ length (below cs)) → (b : Bool) → cond b (Some c.1) (lookup (is_at (string_cmp k)) cs) ≡ Some t → length t ≤ length (below (c ∷ cs))
-    cases more true g = omega (arith, first_rows c (c ∷ cs) cs refl, ap (λ o. unwrap_or (option_map length o) 0) g)
-    cases more false g = omega (arith, first_rows c (c ∷ cs) cs refl, more g)
-
-pub rest_taken : (k : String Global) (cs fs rs : List (String Global × List (Path × Form))) (next own : List (Path × Form)) → IsStrictlySortedBy string_cmp (keys_of cs) → lookup (is_at (string_cmp k)) cs ≡ Some next →
-    fs ≡ insert_entry string_cmp cs k own → length own ≡ suc (length (below rs)) → work (length next) (length (below fs)) < work (1 + length (below cs)) (length (below rs))
-rest_taken k cs fs rs next own s h f o =
-    work-down (1 + length (below cs)) (length (below rs)) (length next) (length (below fs))
-    (omega (arith, rows_written cs k next own s h, ap (λ x. length (below x)) f, o)) (omega (arith, child_rows k cs next h))
+pub rest_taken : (cs fs rs : List (String Global × List (Path × Form))) (next own : List (Path × Form)) → ReplacesFirst cs next own fs → length own ≡ suc (length (below rs)) → work (length next) (length (below fs)) < work (1 + length (below cs)) (length (below rs))
+rest_taken cs fs rs next own (k, rest, was, is) o =
+    let before = first_rows (k, next) cs rest was in
+    let after = first_rows (k, own) fs rest is in
+    work-down (1 + length (below cs)) (length (below rs)) (length next) (length (below fs)) (omega (arith, before, after, o)) (omega (arith, before))
 
 -- ---- the rest stays in path order
 
@@ -117,14 +93,12 @@ below-append (c ∷ cs) ds = ap (λ r. under (string_bytes c.0) c.1 ++ r) (below
 pub order_popped : (p : String Global × List (Path × Form)) (es fs : List (String Global × List (Path × Form))) → es ≡ fs ++ p ∷ [] → is_sorted path_cmp (below es) ≡ true → is_sorted path_cmp (below fs) ≡ true
 order_popped p es fs h s = sorted_left (below fs) (below (p ∷ [])) (ap (is_sorted path_cmp) (sym (ap (λ cs. below cs) h ∙ below-append fs (p ∷ []))) ∙ s)
 
--- with a rest in place of a child
-pub order_hung : (k : String Global) (cs fs : List (String Global × List (Path × Form))) (own : List (Path × Form)) → IsStrictlySortedBy string_cmp (keys_of fs) → fs ≡ insert_entry string_cmp cs k own
+-- with a rest in place of the first child
+pub order_hung : (cs fs : List (String Global × List (Path × Form))) (next own : List (Path × Form)) → ReplacesFirst cs next own fs → IsStrictlySortedBy string_cmp (keys_of fs)
     → is_sorted path_cmp (below cs) ≡ true → is_sorted path_cmp own ≡ true → is_sorted path_cmp (below fs) ≡ true
-order_hung k cs fs own ordered f s o =
-    let In = λ (t : List (Path × Form)). is_sorted path_cmp t ≡ true in
-    sorted_below fs ordered (subst (λ es. AllSorted (values_of es)) (sym f)
-    (recursion_from_All In _ (All-values-insert_entry string_cmp k own In cs (All-from_recursion In _ (sorted_children cs s)) o)))
+order_hung cs fs next own (k, rest, was, is) ordered s o =
+    sorted_below fs ordered (subst (λ es. AllSorted (values_of es)) (sym is) (o, (subst (λ es. AllSorted (values_of es)) was (sorted_children cs s)).1))
 
 -- of a directory that is opened
-pub order_below : (node : Node) (m : BTreeMap (String Global) Tree) → node ≡ Folder m → is_sorted path_cmp (flat node) ≡ true → is_sorted path_cmp (below m.entries) ≡ true
-order_below node m e s = sorted_tail_rows m.entries (ap (λ n. is_sorted path_cmp (flat n)) (sym e) ∙ s)
+pub order_below : (node : Node) (m : List (String Global × Tree)) → node ≡ Folder m → is_sorted path_cmp (flat node) ≡ true → is_sorted path_cmp (below m) ≡ true
+order_below node m e s = sorted_tail_rows m (ap (λ n. is_sorted path_cmp (flat n)) (sym e) ∙ s)

@@ -21,6 +21,6 @@ most_le-length-below (c ∷ cs) =
     omega (arith, most_le-length-below cs, length-append (under (string_bytes c.0) c.1) (below cs), length-under (string_bytes c.0) c.1)
 
 pub deep_le-length-flat : (n : Node) → max (deep-Node n) 0 ≤ length (flat n)
-deep_le-length-flat (Folder m) = omega (arith, most_le-length-below m.entries)
+deep_le-length-flat (Folder m) = omega (arith, most_le-length-below m)
 deep_le-length-flat (Narrow n t) = omega (arith, most_le-length-below ((n, t.value) ∷ []))
 deep_le-length-flat (Leaf f) = omega arith

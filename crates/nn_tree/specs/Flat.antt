@@ -2,7 +2,8 @@
 use Rattle.std.specs.Prelude.{ℕ, List, [], ◌∷◌, ◌++◌}
 use Rattle.std.specs.String.{string_bytes, string_cmp}
 use Rattle.std.specs.declared.string.String.{String}
-use Rattle.std.specs.BTreeMap.{IsOrdered}
+use Rattle.std.specs.List.Sorted.{IsStrictlySortedBy}
+use Rattle.std.specs.Map.{keys_of}
 use Rattle.nn_model.specs.declared.form.Form.{Form}
 use Rattle.nn_model.specs.Namespace.{Path}
 use Rattle.nn_model.specs.declared.form.Form.TheVariants.{Dir, File}
@@ -26,12 +27,12 @@ below (c ∷ cs) = under (string_bytes c.0) c.1 ++ below cs
 
 -- the paths of a node, itself first
 abbrev pub flat : Node → List (Path × Form)
-flat (Folder m) = ([], Dir) ∷ below m.entries
+flat (Folder m) = ([], Dir) ∷ below m
 flat (Narrow n t) = ([], Dir) ∷ below ((n, t.value) ∷ [])
 flat (Leaf f) = ([], File f) ∷ []
 
 -- the names in a directory are in order
 abbrev pub IsInOrder : Node → Type 0
-IsInOrder (Folder m) = IsOrdered string_cmp m
+IsInOrder (Folder m) = IsStrictlySortedBy string_cmp (keys_of m)
 IsInOrder (Narrow n t) = Unit {0}
 IsInOrder (Leaf f) = Unit {0}

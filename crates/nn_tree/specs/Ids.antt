@@ -11,8 +11,3 @@ row_ids r = map (λ b. b.id) (blocks_of r)
 abbrev pub ids_of : List (Path × Form) → List ℕ
 ids_of [] = []
 ids_of (e ∷ es) = row_ids e.1 ++ ids_of es
-
--- those of some children, one after another
-abbrev pub ids_of_all : List (List (Path × Form)) → List ℕ
-ids_of_all [] = []
-ids_of_all (t ∷ ts) = ids_of t ++ ids_of_all ts

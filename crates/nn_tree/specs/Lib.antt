@@ -14,6 +14,8 @@ pub mod Touched
 pub mod Listing
 pub mod Rows
 pub mod RowsRows
+pub mod Name
+pub mod NameRows
 pub mod Nesting
 pub mod Blocks
 pub mod BlocksRows
@@ -25,5 +27,3 @@ pub mod Entered
 pub mod RestoreRows
 pub mod Work
 pub mod WorkRows
-pub mod PutOff
-pub mod PutOffRows

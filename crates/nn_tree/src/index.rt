@@ -1,6 +1,6 @@
 //! The index of the blocks that files have, by id. It names no path, so that a rename leaves it alone.
 ghost use Rattle.std.specs.Prelude.{◌≡◌, ℕ, None, cond, true, false, map, OnOk, OnErr, IsErrOf};
-ghost use Rattle.std.specs.BTreeMap.{get};
+ghost use Rattle.nn_sorted.specs.Values.{value_at};
 ghost use Rattle.std.specs.Ordering.{nat_cmp};
 ghost use Rattle.nn_model.specs.Apply.{has_id};
 ghost use Rattle.nn_tree.specs.Entered.{entered, are_new};
@@ -8,12 +8,12 @@ ghost use Rattle.nn_tree.specs.View.{renewed, rewritten};
 
 use crate::fault::RestoreFault;
 use nn_model::BlockRow;
+use nn_sorted::SortedMap;
 use nn_types::{Block, BlockId};
-use std::collections::BTreeMap;
 
 // Takes ids out of an index.
-pub(crate) fn forget(index: &mut BTreeMap<BlockId, BlockRow>, ids: &[BlockId])
-    ensures { (q : ℕ) → get nat_cmp index.new q ≡ cond (has_id ids.now q) None (get nat_cmp index.old q) }
+pub(crate) fn forget(index: &mut SortedMap<BlockId, BlockRow>, ids: &[BlockId])
+    ensures { (q : ℕ) → value_at nat_cmp index.new q ≡ cond (has_id ids.now q) None (value_at nat_cmp index.old q) }
 {
     for id in ids {
         let _row = index.remove(id);
@@ -23,16 +23,16 @@ pub(crate) fn forget(index: &mut BTreeMap<BlockId, BlockRow>, ids: &[BlockId])
 // Puts the blocks of a file with these ids into an index. Where one of them stands there already, or twice in the
 // file, the index is as it was.
 pub(crate) fn enter(
-    index: &mut BTreeMap<BlockId, BlockRow>,
+    index: &mut SortedMap<BlockId, BlockRow>,
     blocks: &[Block],
     ids: &[BlockId],
     closed: bool,
 ) -> Result<(), RestoreFault>
     requires { ids.now ≡ map (λ b. b.id) blocks.now }
-    ensures ok { OnOk result ((q : ℕ) → get nat_cmp index.new q ≡ entered (λ id. get nat_cmp index.old id) blocks.now closed q) }
-    ensures lawful { OnOk result (are_new (λ id. get nat_cmp index.old id) blocks.now ≡ true) }
-    ensures refused { IsErrOf result RestoreFault.Refused → are_new (λ id. get nat_cmp index.old id) blocks.now ≡ false }
-    ensures err { OnErr result ((q : ℕ) → get nat_cmp index.new q ≡ get nat_cmp index.old q) }
+    ensures ok { OnOk result ((q : ℕ) → value_at nat_cmp index.new q ≡ entered (λ id. value_at nat_cmp index.old id) blocks.now closed q) }
+    ensures lawful { OnOk result (are_new (λ id. value_at nat_cmp index.old id) blocks.now ≡ true) }
+    ensures refused { IsErrOf result RestoreFault.Refused → are_new (λ id. value_at nat_cmp index.old id) blocks.now ≡ false }
+    ensures err { OnErr result ((q : ℕ) → value_at nat_cmp index.new q ≡ value_at nat_cmp index.old q) }
 {
     let mut done = 0;
     'entering: while done < blocks.len() {
@@ -53,12 +53,12 @@ pub(crate) fn enter(
 
 // Puts a new list of blocks in an index in place of an old one, which has the same ids and perhaps one more.
 pub(crate) fn renew(
-    index: &mut BTreeMap<BlockId, BlockRow>,
+    index: &mut SortedMap<BlockId, BlockRow>,
     old: &[Block],
     new: &[Block],
     closed: bool,
 )
-    ensures { (q : ℕ) → get nat_cmp index.new q ≡ renewed (λ id. get nat_cmp index.old id) old.now new.now closed q }
+    ensures { (q : ℕ) → value_at nat_cmp index.new q ≡ renewed (λ id. value_at nat_cmp index.old id) old.now new.now closed q }
 {
     let both = old.len().min(new.len());
     if let Some(last) = old.get(both) {
@@ -72,8 +72,8 @@ pub(crate) fn renew(
 }
 
 // Writes the row of a block anew, where it has one.
-fn write_row(index: &mut BTreeMap<BlockId, BlockRow>, block: Block, closed: bool)
-    ensures { (q : ℕ) → get nat_cmp index.new q ≡ rewritten (λ id. get nat_cmp index.old id) block closed q }
+fn write_row(index: &mut SortedMap<BlockId, BlockRow>, block: Block, closed: bool)
+    ensures { (q : ℕ) → value_at nat_cmp index.new q ≡ rewritten (λ id. value_at nat_cmp index.old id) block closed q }
 {
     let Some(row) = index.get_mut(&block.id) else {
         return;

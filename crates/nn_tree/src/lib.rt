@@ -7,8 +7,8 @@
 //! Every call takes time in the depth of a path times the logarithm of a directory's width, and in the
 //! logarithm of the number of blocks. A delete and a listing take time in the size of what they go through. However
 //! deep directories nest, no call takes more stack than a walk down a path. A listing goes row by row, and takes
-//! memory for the names of one path and for the directories on its way that have children left. A delete takes some
-//! for the trees that it has still to go through, and dropping a namespace takes none.
+//! memory for the names of one path and for the directories on its way that have children left. A delete goes the same
+//! way, and dropping a namespace takes no memory.
 #![tactic(auto)]
 
 mod fault;
@@ -16,6 +16,7 @@ mod found;
 mod index;
 mod issued;
 mod listing;
+mod name;
 mod namespace;
 mod rows;
 mod touched;

@@ -29,9 +29,9 @@ use crate::touched::Touched;
 use crate::tree::Tree;
 pub use blocks::BlockRows;
 use nn_model::BlockRow;
+use nn_sorted::SortedMap;
 use nn_types::{BlockId, Edit, EditFault, GenerationStamp, Path, Status};
 use std::alloc::{AllocError, Global};
-use std::collections::BTreeMap;
 use std::marker::Model;
 
 /// A namespace. Contracts see it as the definition's own record.
@@ -39,13 +39,13 @@ use std::marker::Model;
 pub struct Namespace {
     root: Tree,
     // The blocks of all files by id. No row names a path, so that a rename changes none.
-    index: BTreeMap<BlockId, BlockRow>,
+    index: SortedMap<BlockId, BlockRow>,
     issued: Issued,
     alloc: Global,
 }
 
 impl Model for Namespace {
-    ghost use Rattle.std.specs.BTreeMap.{get};
+    ghost use Rattle.nn_sorted.specs.Values.{value_at};
     ghost use Rattle.std.specs.Ordering.{nat_cmp};
     ghost use Rattle.nn_model.specs.Namespace.{Namespace as Seen};
     ghost use Rattle.nn_tree.specs.View.{seen, IsKept};
@@ -54,7 +54,7 @@ impl Model for Namespace {
 
     ghost view = { λ a. seen a.root a.issued };
 
-    ghost invariant = { λ a. IsKept (seen a.root a.issued) (λ id. get nat_cmp a.index id) };
+    ghost invariant = { λ a. IsKept (seen a.root a.issued) (λ id. value_at nat_cmp a.index id) };
 }
 
 impl Namespace {
@@ -64,7 +64,7 @@ impl Namespace {
     {
         Namespace {
             root: Tree::new_dir(alloc),
-            index: BTreeMap::new(alloc),
+            index: SortedMap::new(alloc),
             issued: Issued::new(alloc),
             alloc,
         }

@@ -4,10 +4,7 @@ ghost use Rattle.nn_tree.specs.Walks.{file_fault, mkdir_fault, delete_fault, ren
 ghost use Rattle.nn_model.specs.Apply.{walk};
 ghost use Rattle.std.specs.Option.{option_copied};
 ghost use Rattle.nn_model.specs.declared.form.Form.TheVariants.{Dir, File};
-ghost use Rattle.std.specs.List.{sum_by};
-ghost use Rattle.std.specs.BTreeMap.{values};
-ghost use Rattle.nn_tree.specs.Ids.{ids_of, ids_of_all};
-ghost use Rattle.nn_tree.specs.PutOff.{put_off};
+ghost use Rattle.nn_tree.specs.Ids.{ids_of};
 ghost use Rattle.nn_tree.specs.Flat.{flat, below};
 ghost use Rattle.nn_tree.specs.Work.{work, rows_left};
 ghost use Rattle.nn_tree.specs.Found.{form_of};
@@ -21,11 +18,13 @@ pub(crate) mod files;
 mod places;
 
 use crate::found::Found;
+use crate::name::{Name, Wanted};
+use crate::rows::Rows;
 use crate::touched::push_ids;
 use nn_model::FileRow;
+use nn_sorted::SortedMap;
 use nn_types::{BlockId, EditFault, Names};
 use std::alloc::{AllocError, Global};
-use std::collections::BTreeMap;
 use std::marker::Model;
 
 /// Nothing was changed: the edit is refused, or memory ran out. Which of both, and why, `refusal` knows.
@@ -42,8 +41,8 @@ pub(crate) struct Tree {
 #[derive(Drop)]
 enum Node {
     // The children of a directory by their names.
-    Folder(BTreeMap<String, Tree>),
-    // A directory with one child. A map takes a node for 15 entries at once, and most directories of a deep tree have one.
+    Folder(SortedMap<Name, Tree>),
+    // A directory with one child. Most directories of a deep tree have one, and a map takes room for four.
     Narrow(String, Box<Tree>),
     Leaf(FileRow),
 }
@@ -91,7 +90,7 @@ impl Tree {
         ensures { result ≡ ([], Dir) ∷ [] }
     {
         Tree {
-            node: Node::Folder(BTreeMap::new(alloc)),
+            node: Node::Folder(SortedMap::new(alloc)),
         }
     }
 
@@ -158,7 +157,7 @@ impl Tree {
         let Node::Folder(children) = &self.node else {
             return None;
         };
-        children.get(name)
+        children.get(&Wanted::by(name))
     }
 
     /// The fault of making a directory.
@@ -267,8 +266,7 @@ impl Tree {
         Ok(())
     }
 
-    /// Appends the ids of the blocks in the tree, in path order. The trees that it has not come to yet wait in a list:
-    /// a deep tree would run out of stack in a recursion.
+    /// Appends the ids of the blocks in the tree, in path order.
     pub(crate) fn collect_ids(
         &self,
         alloc: Global,
@@ -276,54 +274,22 @@ impl Tree {
     ) -> Result<(), AllocError>
         ensures { OnOk result (out.new.items ≡ out.old.items ++ ids_of self.now) }
     {
-        let mut later = Vec::new(alloc);
-        later.push(self)?;
-        'trees: while let Some(tree) = later.pop() {
-            tree.collect_own(&mut later, out)?;
+        let mut rows = Rows::new(alloc, self);
+        'rows: while let Some(found) = rows.next()? {
+            if let Found::File(file) = found {
+                push_ids(out, file.blocks.as_slice())?;
+            }
         }
         Ok(())
     }
-
-    // Appends the ids of a file, and puts off the children of a directory.
-    fn collect_own<'a>(
-        &'a self,
-        later: &mut Vec<&'a Tree>,
-        out: &mut Vec<BlockId>,
-    ) -> Result<(), AllocError>
-        ensures ids { OnOk result (out.new.items ++ ids_of_all (put_off later.new.items) ≡ out.old.items ++ ids_of_all (self.now ∷ put_off later.old.items)) }
-        ensures fewer { OnOk result (sum_by length (put_off later.new.items) < sum_by length (self.now ∷ put_off later.old.items)) }
-    {
-        match &self.node {
-            Node::Leaf(file) => push_ids(out, file.blocks.as_slice()),
-            Node::Narrow(_, child) => {
-                later.push(child)?;
-                Ok(())
-            }
-            Node::Folder(children) => put_off(children, later),
-        }
-    }
-}
-
-// Puts off the children of a directory. The first one is put off last, and so comes first.
-fn put_off<'a>(
-    children: &'a BTreeMap<String, Tree>,
-    later: &mut Vec<&'a Tree>,
-) -> Result<(), AllocError>
-    ensures { OnOk result (put_off later.new.items ≡ values children.now ++ put_off later.old.items) }
-{
-    let mut rest = children.values();
-    'rest: while let Some(child) = rest.next_back() {
-        later.push(child)?;
-    }
-    Ok(())
 }
 
 // Drops the top of a tree, beside which there is the rest of a directory. Gives the tree that comes next, and the rest
 // that is beside that one.
 fn drop_top(
     node: Node,
-    rest: Option<BTreeMap<String, Tree>>,
-) -> Option<(Tree, Option<BTreeMap<String, Tree>>)>
+    rest: Option<SortedMap<Name, Tree>>,
+) -> Option<(Tree, Option<SortedMap<Name, Tree>>)>
     requires node { is_sorted path_cmp (flat node) ≡ true }
     requires rest { is_sorted path_cmp (rows_left rest) ≡ true }
     ensures less { IfSome result (λ p. work (length p.0) (length (rows_left p.1)) < work (length (flat node)) (length (rows_left rest))) }
@@ -347,9 +313,7 @@ fn drop_top(
 
 // The last child of a directory, and the others. Where it was the only one there is no rest any more, so that no further
 // rest is hung below an empty directory. A rest that hangs in place of the first child comes last.
-fn last_child(
-    rest: Option<BTreeMap<String, Tree>>,
-) -> Option<(Tree, Option<BTreeMap<String, Tree>>)>
+fn last_child(rest: Option<SortedMap<Name, Tree>>) -> Option<(Tree, Option<SortedMap<Name, Tree>>)>
     requires { is_sorted path_cmp (rows_left rest) ≡ true }
     ensures rows { IfSome result (λ p. length p.0 + length (rows_left p.1) ≡ length (rows_left rest)) }
     ensures order { IfSome result (λ p. is_sorted path_cmp (rows_left p.1) ≡ true) }
@@ -370,22 +334,20 @@ fn last_child(
 
 // The first child of a directory, and the others, among which the rest of another directory hangs in its place.
 fn hang_below(
-    mut children: BTreeMap<String, Tree>,
-    rest: BTreeMap<String, Tree>,
-) -> Option<(Tree, Option<BTreeMap<String, Tree>>)>
-    requires children { is_sorted path_cmp (below children.entries) ≡ true }
-    requires rest { is_sorted path_cmp (below rest.entries) ≡ true }
-    ensures less { IfSome result (λ p. work (length p.0) (length (rows_left p.1)) < work (1 + length (below children.entries)) (length (below rest.entries))) }
+    mut children: SortedMap<Name, Tree>,
+    rest: SortedMap<Name, Tree>,
+) -> Option<(Tree, Option<SortedMap<Name, Tree>>)>
+    requires some { 0 < length children }
+    requires children { is_sorted path_cmp (below children) ≡ true }
+    requires rest { is_sorted path_cmp (below rest) ≡ true }
+    ensures less { IfSome result (λ p. work (length p.0) (length (rows_left p.1)) < work (1 + length (below children)) (length (below rest))) }
     ensures order { IfSome result (λ p. is_sorted path_cmp (rows_left p.1) ≡ true) }
 {
-    let Some(mut first) = children.first_entry() else {
-        children.destroy_empty();
-        return last_child(Some(rest));
-    };
+    rest.in_order();
     let own = Tree {
         node: Node::Folder(rest),
     };
-    let next = first.insert(own);
+    let next = children.replace_first(own);
     Some((next, Some(children)))
 }
 

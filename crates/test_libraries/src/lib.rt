@@ -18,4 +18,6 @@ mod shadow;
 #[cfg(test)]
 mod sizes;
 #[cfg(test)]
+mod sorted;
+#[cfg(test)]
 mod values;

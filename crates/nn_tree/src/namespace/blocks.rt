@@ -1,27 +1,27 @@
 //! The blocks of all files, one after another.
 ghost use Rattle.std.specs.Iterator.{YieldsFirst, item_count};
-ghost use Rattle.std.specs.BTreeMap.{values};
 ghost use Rattle.nn_tree.specs.Blocks.{AreBlocks};
 
 use super::Namespace;
 use nn_model::BlockRow;
+use nn_sorted::Entries;
 use nn_types::BlockId;
-use std::collections::btree_map::Values;
 use std::marker::Model;
 
 /// The blocks that files have, each with whether its file is closed, by ascending id.
 #[derive(Drop)]
 pub struct BlockRows<'a> {
-    rows: Values<'a, BlockId, BlockRow>,
+    rows: Entries<'a, BlockId, BlockRow>,
 }
 
 impl<'a> Model for BlockRows<'a> {
     ghost use Rattle.std.specs.Prelude.{List};
+    ghost use Rattle.std.specs.Map.{values_of};
     ghost use Rattle.nn_model.specs.declared.form.BlockRow.{BlockRow};
 
     ghost Value = { List BlockRow };
 
-    ghost view = { λ s. s.rows };
+    ghost view = { λ s. values_of s.rows };
 }
 
 impl<'a> Iterator for BlockRows<'a> {
@@ -32,7 +32,10 @@ impl<'a> Iterator for BlockRows<'a> {
     ghost remaining = { item_count (λ s. s) };
 
     fn next(&mut self) -> Option<BlockRow> {
-        self.rows.next().copied()
+        let Some((_id, row)) = self.rows.next() else {
+            return None;
+        };
+        Some(*row)
     }
 }
 
@@ -42,7 +45,7 @@ impl Namespace {
         ensures { AreBlocks self.now result }
     {
         BlockRows {
-            rows: self.index.values(),
+            rows: self.index.iter(),
         }
     }
 }

@@ -14,9 +14,9 @@ use crate::issued::Issued;
 use crate::touched::push_ids;
 use crate::tree::Tree;
 use nn_model::{FileRow, Form};
+use nn_sorted::SortedMap;
 use nn_types::{Block, BlockId, GenerationStamp, Path, Profile};
 use std::alloc::{AllocError, Global};
-use std::collections::BTreeMap;
 
 impl Namespace {
     /// The root alone, with these numbers and this profile. The ids await.
@@ -37,7 +37,7 @@ impl Namespace {
         let issued = Issued::of(alloc, last_block, last_stamp, awaiting, profile)?;
         Ok(Namespace {
             root: Tree::new_dir(alloc),
-            index: BTreeMap::new(alloc),
+            index: SortedMap::new(alloc),
             issued,
             alloc,
         })

@@ -6,7 +6,8 @@ ghost use Rattle.nn_tree.specs.Flat.{below};
 ghost use Rattle.nn_tree.specs.Rows.{IsRooted, all_entries, entries_of, later_of, rows_from, from_children};
 
 use super::{Node, Tree};
-use std::collections::btree_map::Range;
+use crate::name::{Name, Wanted};
+use nn_sorted::Entries;
 
 /// Children of a directory, in the order of their names: the first one, and those behind it.
 #[derive(Drop)]
@@ -14,7 +15,7 @@ pub(crate) struct Children<'a> {
     pub(crate) name: &'a String,
     pub(crate) tree: &'a Tree,
     // An only child has none.
-    pub(crate) later: Option<Range<'a, String, Tree>>,
+    pub(crate) later: Option<Entries<'a, Name, Tree>>,
 }
 
 impl<'a> Children<'a> {
@@ -39,14 +40,14 @@ impl<'a> Children<'a> {
         let Some((name, tree)) = later.next() else {
             return false;
         };
-        self.name = name;
+        self.name = name.as_string();
         self.tree = tree;
         true
     }
 }
 
 // The first of these children, and those behind it. A look at the top of the first one shows that something stands there.
-fn of<'a>(mut entries: Range<'a, String, Tree>) -> Option<Children<'a>>
+fn of<'a>(mut entries: Entries<'a, Name, Tree>) -> Option<Children<'a>>
     ensures entries { all_entries result ≡ entries.entry }
     ensures rooted { IsRooted result }
 {
@@ -55,7 +56,7 @@ fn of<'a>(mut entries: Range<'a, String, Tree>) -> Option<Children<'a>>
     };
     let _found = tree.top();
     Some(Children {
-        name,
+        name: name.as_string(),
         tree,
         later: Some(entries),
     })
@@ -72,7 +73,7 @@ impl Tree {
                 if children.is_empty() {
                     return None;
                 }
-                of(children.range(..))
+                of(children.iter())
             }
             Node::Narrow(name, tree) => {
                 let _found = tree.top();
@@ -91,7 +92,7 @@ impl Tree {
         ensures { (p : Path) → rows_from (string_bytes name.now ∷ p) self.now ≡ from_children (string_bytes name.now) p result }
     {
         match &self.node {
-            Node::Folder(children) => of(children.range(name..)),
+            Node::Folder(children) => of(children.iter_from(&Wanted::by(name.as_str()))),
             Node::Narrow(own, tree) => {
                 if own.as_str() < name.as_str() {
                     return None;

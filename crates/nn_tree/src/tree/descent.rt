@@ -7,6 +7,7 @@ ghost use Rattle.nn_tree.specs.At.{IsSame};
 ghost use Rattle.nn_tree.specs.Descent.{left, IsChangedAt, IsRefusedAt};
 
 use super::{Node, Tree, Unchanged};
+use crate::name::Wanted;
 use nn_types::Names;
 
 /// A change of the tree that a walk comes to.
@@ -63,7 +64,7 @@ impl Tree {
         let Node::Folder(children) = &mut self.node else {
             return Err(Unchanged);
         };
-        let Some(child) = children.get_mut(first) else {
+        let Some(child) = children.get_mut(&Wanted::by(first)) else {
             return Err(Unchanged);
         };
         child.change_at(&rest, change)

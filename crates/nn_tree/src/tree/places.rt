@@ -6,9 +6,10 @@ ghost use Rattle.nn_tree.specs.Changes.{IsMade, IsTaken};
 
 use super::descent::Change;
 use super::{Node, Tree, Unchanged};
+use crate::name::{Name, Wanted};
+use nn_sorted::SortedMap;
 use nn_types::Names;
 use std::alloc::Global;
-use std::collections::BTreeMap;
 use std::mem;
 
 impl Tree {
@@ -75,14 +76,14 @@ impl Tree {
             self.node = Node::Narrow(key, child);
             return Ok(());
         }
-        let Ok(before) = children.insert(key, tree) else {
+        let Ok(before) = children.insert(Name::of(key), tree) else {
             return Err(Unchanged);
         };
         let Some(before) = before else {
             return Ok(());
         };
         // One search serves where nothing stood. What did stand is put back.
-        let Some(place) = children.get_mut(name) else {
+        let Some(place) = children.get_mut(&Wanted::by(name)) else {
             unreachable!()
         };
         *place = before;
@@ -98,10 +99,10 @@ impl Tree {
         };
         let own = mem::replace(name, String::new(alloc));
         let tree = mem::replace(&mut **child, Tree::new_dir(alloc));
-        let mut children = BTreeMap::new(alloc);
-        if let Err(refused) = children.insert(own, tree) {
+        let mut children = SortedMap::new(alloc);
+        if let Err(refused) = children.insert(Name::of(own), tree) {
             let (own, tree) = refused.value;
-            *name = own;
+            *name = own.into_string();
             **child = tree;
             return Err(Unchanged);
         }
@@ -119,7 +120,7 @@ impl Tree {
             if own.as_str() != name {
                 return Err(Unchanged);
             }
-            let bare = Node::Folder(BTreeMap::new(alloc));
+            let bare = Node::Folder(SortedMap::new(alloc));
             let Node::Narrow(_own, child) = mem::replace(&mut self.node, bare) else {
                 unreachable!()
             };
@@ -128,7 +129,7 @@ impl Tree {
         let Node::Folder(children) = &mut self.node else {
             return Err(Unchanged);
         };
-        let Some(tree) = children.remove(name) else {
+        let Some(tree) = children.remove(&Wanted::by(name)) else {
             return Err(Unchanged);
         };
         Ok(tree)

@@ -1,5 +1,5 @@
 use Rattle.std.proofs.Common.{◌≤◌, ◌-◌, length}
-use Rattle.std.specs.BTreeMap.{get}
+use Rattle.nn_sorted.specs.Values.{value_at}
 use Rattle.std.specs.Ordering.{nat_cmp}
 use Rattle.nn_tree.proofs.Entered.{IsEntering}
 use Rattle.nn_tree.proofs.index.enter.Given as goal
@@ -8,7 +8,7 @@ use Rattle.nn_tree.proofs.index.enter.Given as goal
 abbrev pub invariant-entering : goal.invariant-entering
 invariant-entering l = record {
   within : l.done ≤ length l.blocks;
-  entering : IsEntering (λ id. get nat_cmp l.fn.index id) (λ id. get nat_cmp l.index id) l.blocks l.closed l.done;
+  entering : IsEntering (λ id. value_at nat_cmp l.fn.index id) (λ id. value_at nat_cmp l.index id) l.blocks l.closed l.done;
 }
 
 abbrev pub decreases-entering : goal.decreases-entering

@@ -1,8 +1,8 @@
 use Rattle.std.proofs.Common.{◌≡◌, ℕ, cond, take, None}
-use Rattle.std.specs.BTreeMap.{get}
+use Rattle.nn_sorted.specs.Values.{value_at}
 use Rattle.std.specs.Ordering.{nat_cmp}
 use Rattle.nn_model.specs.Apply.{has_id}
 use Rattle.nn_tree.proofs.index.forget.Given as goal
 
 abbrev pub invariant-loop-id : goal.invariant-loop-id
-invariant-loop-id l = (q : ℕ) → get nat_cmp l.index q ≡ cond (has_id (take l.id-index l.ids) q) None (get nat_cmp l.initial.index q)
+invariant-loop-id l = (q : ℕ) → value_at nat_cmp l.index q ≡ cond (has_id (take l.id-index l.ids) q) None (value_at nat_cmp l.initial.index q)

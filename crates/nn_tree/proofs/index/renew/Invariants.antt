@@ -1,5 +1,5 @@
 use Rattle.std.proofs.Common.{◌≡◌, ℕ, ◌≤◌, drop, length}
-use Rattle.std.specs.BTreeMap.{get}
+use Rattle.nn_sorted.specs.Values.{value_at}
 use Rattle.std.specs.Ordering.{nat_cmp}
 use Rattle.nn_tree.specs.View.{renewed}
 use Rattle.nn_tree.proofs.index.renew.Given as goal
@@ -9,7 +9,7 @@ abbrev pub invariant-left : goal.invariant-left
 invariant-left l = record {
   within_old : l.left ≤ length l.old;
   within_new : l.left ≤ length l.new;
-  done : (q : ℕ) → get nat_cmp l.index q ≡ renewed (λ id. get nat_cmp l.fn.index id) (drop l.left l.old) (drop l.left l.new) l.closed q;
+  done : (q : ℕ) → value_at nat_cmp l.index q ≡ renewed (λ id. value_at nat_cmp l.fn.index id) (drop l.left l.old) (drop l.left l.new) l.closed q;
 }
 
 abbrev pub decreases-left : goal.decreases-left

@@ -19,8 +19,8 @@ returns-in-Narrow-clause-less c =
 
 pub returns-in-Some-clause-less : goal.returns-in-Some-clause-less
 returns-in-Some-clause-less c =
-    let e : work (1 + length (below c.in-Folder.children.entries)) (length (below c.in-Some.rest.entries)) ≡ work (length (flat c.args.node)) (length (rows_left c.args.rest)) =
-    ap (λ n. work n (length (below c.in-Some.rest.entries))) (sym (folder_rows c.args.node c.in-Folder.children c.in-Folder.is)) ∙ ap (λ o. work (length (flat c.args.node)) (length (rows_left o))) (sym c.in-Some.is) in
+    let e : work (1 + length (below c.in-Folder.children)) (length (below c.in-Some.rest)) ≡ work (length (flat c.args.node)) (length (rows_left c.args.rest)) =
+    ap (λ n. work n (length (below c.in-Some.rest))) (sym (folder_rows c.args.node c.in-Folder.children c.in-Folder.is)) ∙ ap (λ o. work (length (flat c.args.node)) (length (rows_left o))) (sym c.in-Some.is) in
     subst (λ w. IfSome c.hang_below.result (λ p. work (length p.0) (length (rows_left p.1)) < w)) e c.hang_below.ensures.less
 
 pub returns-then-is_empty-clause-less : goal.returns-then-is_empty-clause-less

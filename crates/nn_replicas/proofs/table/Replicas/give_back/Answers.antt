@@ -4,16 +4,16 @@ use Rattle.nn_replicas.proofs.GivenBack.{leaves, total_stays, safe_stays, given_
 use Rattle.nn_replicas.proofs.table.Replicas.give_back.Goals as goal
 
 pub returns-in_default : goal.returns-in_default
-returns-in_default c = none_given c.args.self.now c.self.inside.min c.args.block c.self.inside.entries.entries c.self.view_is (sym (ap option_copied c.in_default.is) ∙ c.get.ensures.value)
+returns-in_default c = none_given c.args.self.now c.self.inside.min c.args.block c.self.inside.entries c.self.view_is (sym (ap option_copied c.in_default.is) ∙ c.get.ensures.value)
 
 pub returns-then-not-is_idle : goal.returns-then-not-is_idle
-returns-then-not-is_idle c = not_given c.args.self.now c.self.inside.min c.args.block c.self.inside.entries.entries c.in-Some.entry.now c.self.view_is c.in-Some.ensures.value (sym c.is_idle.ensures ∙ c.if-not-is_idle.true)
+returns-then-not-is_idle c = not_given c.args.self.now c.self.inside.min c.args.block c.self.inside.entries c.in-Some.entry.now c.self.view_is c.in-Some.ensures.value (sym c.is_idle.ensures ∙ c.if-not-is_idle.true)
 
 pub invariant_of-self : goal.invariant_of-self
 invariant_of-self c =
-    let l = leaves c.args.self.now c.self.inside.min c.args.block c.self.inside.entries.entries c.remove-room.new.self.entries c.in-Some.entry.now c.self.view_is c.in-Some.ensures.value (sym c.is_idle.ensures ∙ c.if-not-is_idle.false) c.remove-room.ensures.entries in
+    let l = leaves c.args.self.now c.self.inside.min c.args.block c.self.inside.entries c.remove-room.new.self c.in-Some.entry.now c.self.view_is c.in-Some.ensures.value (sym c.is_idle.ensures ∙ c.if-not-is_idle.false) c.remove-room.ensures.entries in
     (total_stays l c.self.inside.total c.self.invariant.0, safe_stays l c.self.inside.safe c.self.invariant.1, c.remove-room.ensures.ordered)
 
 pub returns : goal.returns
 returns c =
-    given_new (leaves c.args.self.now c.self.inside.min c.args.block c.self.inside.entries.entries c.remove-room.new.self.entries c.in-Some.entry.now c.self.view_is c.in-Some.ensures.value (sym c.is_idle.ensures ∙ c.if-not-is_idle.false) c.remove-room.ensures.entries)
+    given_new (leaves c.args.self.now c.self.inside.min c.args.block c.self.inside.entries c.remove-room.new.self c.in-Some.entry.now c.self.view_is c.in-Some.ensures.value (sym c.is_idle.ensures ∙ c.if-not-is_idle.false) c.remove-room.ensures.entries)

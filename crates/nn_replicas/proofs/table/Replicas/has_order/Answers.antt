@@ -5,8 +5,8 @@ use Rattle.nn_replicas.proofs.table.Replicas.has_order.Goals as goal
 
 pub returns-in_default : goal.returns-in_default
 returns-in_default c =
-    no_order c.args.self.now c.self.inside.min c.args.dn c.args.block c.self.inside.entries.entries c.self.view_is (sym (ap option_copied c.in_default.is) ∙ c.get.ensures.value)
+    no_order c.args.self.now c.self.inside.min c.args.dn c.args.block c.self.inside.entries c.self.view_is (sym (ap option_copied c.in_default.is) ∙ c.get.ensures.value)
 
 pub returns : goal.returns
 returns c =
-    c.has_order.ensures ∙ order_of c.args.self.now c.self.inside.min c.args.dn c.args.block c.self.inside.entries.entries c.in-Some.entry.now c.self.view_is c.in-Some.ensures.value
+    c.has_order.ensures ∙ order_of c.args.self.now c.self.inside.min c.args.dn c.args.block c.self.inside.entries c.in-Some.entry.now c.self.view_is c.in-Some.ensures.value

@@ -1,4 +1,4 @@
-use Rattle.std.proofs.Common.{rules, ◌≡◌, ℕ, map, ap, sym, subst, ◌∙◌}
+use Rattle.std.proofs.Common.{ℕ, ap, sym, subst, ◌∙◌}
 use Rattle.std.proofs.lemmas.List.{map-append}
 use Rattle.std.specs.List.{flat_map}
 use Rattle.std.specs.Map.Iter.{deref_pair}
@@ -17,10 +17,10 @@ loop-block-preserved c =
 
 pub returns-clause-all : goal.returns-clause-all
 returns-clause-all c =
-    let e : map deref_pair c.loop-block.yielded ≡ c.self.inside.entries.entries = search (rules, iter_end) in
-    c.loop-block.invariant.all ∙ ap (flat_map (λ (e : ℕ × BlockEntry). orders_in e.0 e.1.cells)) e ∙ ap orders_of c.self.view_is
+    let e = iter_end deref_pair c.self.inside.entries c.loop-block.yielded c.into_iter-block-iterator.result c.loop-block.block-iterator c.next.new.self c.next.result (c.into_iter-block-iterator.ensures.into_iter_gives ∙ c.iter-block-items.ensures.all) c.loop-block.yielded_by c.in-None.is c.next.ensures.steps in
+    c.loop-block.invariant.all ∙ ap (flat_map (λ (e : ℕ × BlockEntry). orders_in e.0 e.1.cells)) e.0 ∙ ap orders_of c.self.view_is
 
 pub returns-clause-order : goal.returns-clause-order
 returns-clause-order c =
-    let e : map deref_pair c.loop-block.yielded ≡ c.self.inside.entries.entries = search (rules, iter_end) in
-    passed_all c.loop-block.orders.items c.self.inside.entries.entries (subst (Passed c.loop-block.orders.items) e c.loop-block.invariant) (sorted_of c.self.inside.entries.entries c.self.invariant.2)
+    let e = iter_end deref_pair c.self.inside.entries c.loop-block.yielded c.into_iter-block-iterator.result c.loop-block.block-iterator c.next.new.self c.next.result (c.into_iter-block-iterator.ensures.into_iter_gives ∙ c.iter-block-items.ensures.all) c.loop-block.yielded_by c.in-None.is c.next.ensures.steps in
+    passed_all c.loop-block.orders.items c.self.inside.entries (subst (Passed c.loop-block.orders.items) e.0 c.loop-block.invariant) (sorted_of c.self.inside.entries c.self.invariant.2)

@@ -5,8 +5,8 @@ use Rattle.nn_replicas.proofs.table.Replicas.replicas_of.Goals as goal
 
 pub returns-in_default-clause-all : goal.returns-in_default-clause-all
 returns-in_default-clause-all c =
-    c.new.ensures ∙ no_replicas c.args.self.now c.self.inside.min c.args.block c.self.inside.entries.entries c.self.view_is (sym (ap option_copied c.in_default.is) ∙ c.get.ensures.value)
+    c.new.ensures ∙ no_replicas c.args.self.now c.self.inside.min c.args.block c.self.inside.entries c.self.view_is (sym (ap option_copied c.in_default.is) ∙ c.get.ensures.value)
 
 pub returns-clause-all : goal.returns-clause-all
 returns-clause-all c =
-    c.replicas.ensures.all ∙ replicas_there c.args.self.now c.self.inside.min c.args.block c.self.inside.entries.entries c.in-Some.entry.now c.self.view_is c.in-Some.ensures.value
+    c.replicas.ensures.all ∙ replicas_there c.args.self.now c.self.inside.min c.args.block c.self.inside.entries c.in-Some.entry.now c.self.view_is c.in-Some.ensures.value

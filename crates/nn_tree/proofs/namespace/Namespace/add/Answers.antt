@@ -5,7 +5,7 @@ use Rattle.nn_model.specs.declared.form.FileRow.{FileRow}
 use Rattle.nn_model.specs.Namespace.{Namespace, Path}
 use Rattle.nn_model.specs.Apply.{refusal, effect}
 use Rattle.nn_model.specs.declared.form.Form.{Form}
-use Rattle.std.specs.BTreeMap.{get}
+use Rattle.nn_sorted.specs.Values.{value_at}
 use Rattle.std.specs.Ordering.{nat_cmp}
 use Rattle.nn_tree.specs.At.{IsGrafted}
 use Rattle.nn_tree.specs.View.{seen, IsKept}
@@ -32,7 +32,7 @@ invariant_of-self-2 c =
     let ns = c.names.result in
     let lawful : refusal s (edit.Add p c.args.replication) ≡ None = add_applies i.root s p ns c.args.replication refl c.names.ensures.names c.in-Ok.ensures.ok.0 (c.is_replication.ensures ∙ ap not c.if-not-is_replication.false) in
     let is : seen c.make.new.self i.issued ≡ effect s (edit.Add c.args.path.now c.args.replication) = made i.root c.make.new.self i.issued p ns (File (record { replication = c.args.replication; closed = false; blocks = [] })) c.names.ensures.names c.in-Ok.ensures.ok.1 (subst (λ (es : List (Path × Form)). IsGrafted i.root ns (Some es) c.make.new.self) (c.new_file.ensures ∙ ap (λ (x : FileRow). ([], File x) ∷ []) c.empty_file-file.ensures) c.in-Ok.ensures.ok.2) in
-    subst (λ (n : Namespace). IsKept n (λ id. get nat_cmp i.index id)) (sym is) (add_kept s p c.args.replication _ c.requires.lawful lawful c.self.invariant)
+    subst (λ (n : Namespace). IsKept n (λ id. value_at nat_cmp i.index id)) (sym is) (add_kept s p c.args.replication _ c.requires.lawful lawful c.self.invariant)
 
 pub returns : goal.returns
 returns c =

@@ -1,5 +1,5 @@
 use Rattle.std.proofs.Common.{◌≡◌, ℕ, true, false, cond, not, [], ◌∷◌, ◌++◌, Some, None, Option, refl, sym, ap, subst, ◌∙◌}
-use Rattle.std.specs.BTreeMap.{get}
+use Rattle.nn_sorted.specs.Values.{value_at}
 use Rattle.std.specs.Ordering.{nat_cmp, is_eq}
 use Rattle.nn_types.specs.declared.block.Block.{Block}
 use Rattle.nn_types.specs.declared.edit.Edit.TheVariants as edit
@@ -25,11 +25,11 @@ invariant_of-self-in_default-push_block c =
     let s = seen i.root i.issued in
     let waiting : has_id s.issued.awaiting c.args.id ≡ true = sym c.awaits.ensures ∙ c.if-not-awaits.false in
     let row : BlockRow = record { block = new_block c.args.id c.args.stamp; closed = false } in
-    let look : ℕ → Option BlockRow = λ id. get nat_cmp i.index id in
+    let look : ℕ → Option BlockRow = λ id. value_at nat_cmp i.index id in
     kept_looks (seen c.push_block.new.self i.issued) look _
-    (undone c.args.id row look (λ id. get nat_cmp c.insert.new.self id) (λ id. get nat_cmp c.remove-row.new.self id) (not_yet s c.args.id look waiting c.self.invariant)
-    (λ q. c.in-Ok-insert.ensures.updates.0 q ∙ (λ j. cond (is_eq (nat_cmp c.args.id q)) (Some (record { block = c.empty_block.ensures j; closed = false })) (look q)))
-    (λ q. c.remove-row.ensures.updates.0 q))
+    (undone c.args.id row look (λ id. value_at nat_cmp c.insert.new.self id) (λ id. value_at nat_cmp c.remove-row.new.self id) (not_yet s c.args.id look waiting c.self.invariant)
+    (λ q. c.in-Ok-insert.ensures.updates q ∙ (λ j. cond (is_eq (nat_cmp c.args.id q)) (Some (record { block = c.empty_block.ensures j; closed = false })) (look q)))
+    (λ q. c.remove-row.ensures.updates q))
     (still_kept i.root c.push_block.new.self i.issued look c.in_default-push_block.ensures.err c.self.invariant)
 
 pub returns-in_default-push_block : goal.returns-in_default-push_block
@@ -49,14 +49,14 @@ invariant_of-self-2 c =
     let lawful : refusal s (edit.AddBlock p c.args.id c.args.stamp) ≡ None = add_block_applies s p done.0 c.args.id c.args.stamp has done.5.0 (ap not waiting) (c.has_stamp.ensures ∙ ap not c.if-not-has_stamp.false) in
     let was : lookup s p ≡ Some (File done.0) = file_was i.root i.issued p ns done.0 c.names-names.ensures.names done.3 in
     let row : BlockRow = record { block = new_block c.args.id c.args.stamp; closed = false } in
-    let look : ℕ → Option BlockRow = λ id. get nat_cmp i.index id in
+    let look : ℕ → Option BlockRow = λ id. value_at nat_cmp i.index id in
     let is : seen c.push_block.new.self c.give.new.self ≡ effect s (edit.AddBlock p c.args.id c.args.stamp) =
     ap (seen c.push_block.new.self) c.give.ensures ∙
     add_block_seen i.root c.push_block.new.self i.issued p ns c.args.id c.args.stamp done.0 done.1 c.names-names.ensures.names done.3 done.4
     (done.5.1 ∙ ap (λ (b : Block). record { replication = done.0.replication; closed = false; blocks = done.0.blocks ++ b ∷ [] }) c.empty_block-2.ensures) in
-    subst (λ (n : Namespace). IsKept n (λ id. get nat_cmp c.insert.new.self id)) (sym is)
-    (add_block_kept s p c.args.id c.args.stamp done.0 look (λ id. get nat_cmp c.insert.new.self id) c.requires.lawful lawful was
-    (λ q. c.in-Ok-insert.ensures.updates.0 q ∙ (λ j. cond (is_eq (nat_cmp c.args.id q)) (Some (record { block = c.empty_block.ensures j; closed = false })) (look q)) ∙ ap (λ b. cond b (Some row) (look q)) (tie c.args.id q))
+    subst (λ (n : Namespace). IsKept n (λ id. value_at nat_cmp c.insert.new.self id)) (sym is)
+    (add_block_kept s p c.args.id c.args.stamp done.0 look (λ id. value_at nat_cmp c.insert.new.self id) c.requires.lawful lawful was
+    (λ q. c.in-Ok-insert.ensures.updates q ∙ (λ j. cond (is_eq (nat_cmp c.args.id q)) (Some (record { block = c.empty_block.ensures j; closed = false })) (look q)) ∙ ap (λ b. cond b (Some row) (look q)) (tie c.args.id q))
     c.self.invariant)
 
 pub returns : goal.returns

@@ -2,7 +2,7 @@ use Rattle.std.proofs.Common.{◌≡◌, None, sym, ap, subst, ◌∙◌}
 use Rattle.nn_types.specs.declared.edit.Edit.TheVariants as edit
 use Rattle.nn_model.specs.Namespace.{Namespace}
 use Rattle.nn_model.specs.Apply.{refusal}
-use Rattle.std.specs.BTreeMap.{get}
+use Rattle.nn_sorted.specs.Values.{value_at}
 use Rattle.std.specs.Ordering.{nat_cmp}
 use Rattle.nn_tree.specs.View.{seen, IsKept}
 use Rattle.nn_tree.proofs.Changed.{none_at}
@@ -24,7 +24,7 @@ invariant_of-self-2 c =
     let i = c.self.inside in
     let s = seen i.root i.issued in
     let lawful : refusal s (edit.AllocateBlockId c.args.id) ≡ None = subst (λ (n : Namespace). refusal n (edit.AllocateBlockId c.args.id) ≡ None) (sym c.self.view_is) (sym c.allocate_refusal.ensures ∙ none_at _ c.if-is_some.ensures) in
-    subst (λ (n : Namespace). IsKept n (λ id. get nat_cmp i.index id)) (sym (ap (seen i.root) c.in-Ok.ensures.ok)) (allocate_kept s c.args.id _ c.requires.lawful lawful c.self.invariant)
+    subst (λ (n : Namespace). IsKept n (λ id. value_at nat_cmp i.index id)) (sym (ap (seen i.root) c.in-Ok.ensures.ok)) (allocate_kept s c.args.id _ c.requires.lawful lawful c.self.invariant)
 
 pub returns : goal.returns
 returns c =

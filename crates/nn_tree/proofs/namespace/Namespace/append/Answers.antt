@@ -1,5 +1,5 @@
 use Rattle.std.proofs.Common.{◌≡◌, ℕ, false, map, Option, Some, None, refl, sym, ap, subst, ◌∙◌}
-use Rattle.std.specs.BTreeMap.{get}
+use Rattle.nn_sorted.specs.Values.{value_at}
 use Rattle.std.specs.Ordering.{nat_cmp}
 use Rattle.nn_types.specs.declared.edit.Edit.TheVariants as edit
 use Rattle.nn_model.specs.declared.form.Form.TheVariants.{File}
@@ -42,10 +42,10 @@ invariant_of-self-2 c =
     file_seen i.root c.append.new.self i.issued p ns made.0 made.1 c.names-names.ensures.names made.3 made.4
     ∙ ap (λ (f : FileRow). with_row s p (File f)) made.5.1
     ∙ ap (λ (f : FileRow). with_row s p (File (record { replication = f.replication; closed = false; blocks = f.blocks }))) old in
-    let look : ℕ → Option BlockRow = λ id. get nat_cmp i.index id in
+    let look : ℕ → Option BlockRow = λ id. value_at nat_cmp i.index id in
     let listed = c.as_slice-blocks.ensures ∙ made.5.3 ∙ ap (λ (f : FileRow). f.blocks) old in
-    subst (λ (n : Namespace). IsKept n (λ id. get nat_cmp c.renew.new.index id)) (sym is)
-    (append_kept s p made.0 look (λ id. get nat_cmp c.renew.new.index id) c.requires.lawful applies was
+    subst (λ (n : Namespace). IsKept n (λ id. value_at nat_cmp c.renew.new.index id)) (sym is)
+    (append_kept s p made.0 look (λ id. value_at nat_cmp c.renew.new.index id) c.requires.lawful applies was
     (λ q. c.renew.ensures q ∙ (λ j. renewed look (listed j) (listed j) false q)) c.self.invariant)
 
 pub returns : goal.returns

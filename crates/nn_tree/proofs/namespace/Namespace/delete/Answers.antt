@@ -1,5 +1,5 @@
 use Rattle.std.proofs.Common.{◌≡◌, ℕ, cond, List, [], ◌++◌, Some, None, is_some, sym, ap, subst, ◌∙◌, refl}
-use Rattle.std.specs.BTreeMap.{get}
+use Rattle.nn_sorted.specs.Values.{value_at}
 use Rattle.std.specs.Ordering.{nat_cmp}
 use Rattle.std.specs.Option.{option_copied}
 use Rattle.nn_types.specs.declared.edit.Edit.TheVariants as edit
@@ -26,9 +26,9 @@ invariant_of-self c =
     let tree = c.in-Ok-Some.tree.now in
     let sub : IsSubtree i.root ns (Some tree) = subst (λ o. IsSubtree i.root ns (option_copied o)) c.in-Ok-Some.field-0-is c.in-Ok-Some.ensures.found in
     let lawful : refusal s (edit.Delete p) ≡ None = delete_applies i.root s p ns refl c.names-names.ensures.names (not_root c.names-names.result c.if-is_empty.ensures) c.in-Ok-Some.ensures.walked (c.in-Ok-Some.ensures.present ∙ ap is_some c.in-Ok-Some.field-0-is) in
-    delete_kept i.root c.take-gone.new.self tree i.issued c.collect_ids.new.out.items (λ id. get nat_cmp i.index id) (λ id. get nat_cmp c.forget.new.index id) p ns c.names-names.ensures.names c.requires.lawful
+    delete_kept i.root c.take-gone.new.self tree i.issued c.collect_ids.new.out.items (λ id. value_at nat_cmp i.index id) (λ id. value_at nat_cmp c.forget.new.index id) p ns c.names-names.ensures.names c.requires.lawful
     lawful c.take-gone.ensures.gone sub c.in_order.ensures (c.in-Ok.ensures ∙ ap (λ (xs : List ℕ). xs ++ ids_of tree) c.new-ids.ensures.items)
-    (λ id. c.forget.ensures id ∙ ap (λ (xs : List ℕ). cond (has_id xs id) None (get nat_cmp i.index id)) c.deref.ensures.value) c.self.invariant
+    (λ id. c.forget.ensures id ∙ ap (λ (xs : List ℕ). cond (has_id xs id) None (value_at nat_cmp i.index id)) c.deref.ensures.value) c.self.invariant
 
 pub returns : goal.returns
 returns c =

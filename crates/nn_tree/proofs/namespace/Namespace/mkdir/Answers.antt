@@ -4,7 +4,7 @@ use Rattle.nn_model.specs.declared.form.Form.TheVariants.{Dir}
 use Rattle.nn_model.specs.Namespace.{Namespace, Path}
 use Rattle.nn_model.specs.Apply.{refusal, effect}
 use Rattle.nn_model.specs.declared.form.Form.{Form}
-use Rattle.std.specs.BTreeMap.{get}
+use Rattle.nn_sorted.specs.Values.{value_at}
 use Rattle.std.specs.Ordering.{nat_cmp}
 use Rattle.nn_tree.specs.At.{IsGrafted}
 use Rattle.nn_tree.specs.View.{seen, IsKept}
@@ -32,7 +32,7 @@ invariant_of-self-2 c =
     let ns = c.names.result in
     let lawful : refusal s (edit.Mkdir p) ≡ None = sym (λ j. mkdir_fault (looks i.root s refl j) (c.names.ensures.names j)) ∙ c.in-Ok.ensures.ok.0 in
     let is : seen c.make.new.self i.issued ≡ effect s (edit.Mkdir c.args.path.now) = made i.root c.make.new.self i.issued p ns Dir c.names.ensures.names c.in-Ok.ensures.ok.1 (subst (λ (es : List (Path × Form)). IsGrafted i.root ns (Some es) c.make.new.self) c.new_dir.ensures c.in-Ok.ensures.ok.2) in
-    subst (λ (n : Namespace). IsKept n (λ id. get nat_cmp i.index id)) (sym is) (mkdir_kept s p _ c.requires.lawful lawful c.self.invariant)
+    subst (λ (n : Namespace). IsKept n (λ id. value_at nat_cmp i.index id)) (sym is) (mkdir_kept s p _ c.requires.lawful lawful c.self.invariant)
 
 pub returns : goal.returns
 returns c =

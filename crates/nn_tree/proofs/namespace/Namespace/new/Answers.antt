@@ -8,4 +8,4 @@ use Rattle.nn_tree.proofs.namespace.Namespace.new.Goals as goal
 
 pub invariant_of-result : goal.invariant_of-result
 invariant_of-result c =
-    new_kept _ _ (λ j. seen (c.new_dir.ensures j) (c.new-2.ensures j)) (λ id. ap (lookup_by (is_at (nat_cmp id))) c.new.ensures.empty)
+    new_kept _ _ (λ j. seen (c.new_dir.ensures j) (c.new-2.ensures j)) (λ id. ap (lookup_by (is_at (nat_cmp id))) c.new.ensures)

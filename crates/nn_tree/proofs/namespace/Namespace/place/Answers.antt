@@ -1,6 +1,6 @@
 use Rattle.std.proofs.Common.{◌≡◌, ℕ, true, false, Some, None, List, Option, cond, map, sym, ap, subst, ◌∙◌}
 use Rattle.std.specs.List.{list_all}
-use Rattle.std.specs.BTreeMap.{get}
+use Rattle.nn_sorted.specs.Values.{value_at}
 use Rattle.std.specs.Ordering.{nat_cmp}
 use Rattle.nn_types.specs.declared.edit.Edit.TheVariants as edit
 use Rattle.nn_model.specs.declared.form.Form.{Form}
@@ -23,17 +23,17 @@ returns-in-Err-clause-refused c =
     λ refused.
     let i = c.self.inside in
     let s = seen i.root i.issued in
-    let look : ℕ → Option BlockRow = λ id. get nat_cmp i.index id in
+    let look : ℕ → Option BlockRow = λ id. value_at nat_cmp i.index id in
     subst (λ (n : Namespace). can_restore n c.args.path.now (File c.args.file) ≡ false) c.self.view_is
     (file_is_old s c.args.path.now c.args.file look (ap (are_new look) (sym c.as_slice-blocks.ensures) ∙ c.in-Err.ensures.refused refused) c.self.invariant)
 
 pub invariant_of-self-in_default-make : goal.invariant_of-self-in_default-make
 invariant_of-self-in_default-make c =
     let i = c.self.inside in
-    let look : ℕ → Option BlockRow = λ id. get nat_cmp i.index id in
+    let look : ℕ → Option BlockRow = λ id. value_at nat_cmp i.index id in
     let bs = c.as_slice-blocks.result.now in
     let keys = c.requires.ids ∙ ap (map (λ b. b.id)) (sym c.as_slice-blocks.ensures) in
-    kept_looks (seen c.make.new.self i.issued) look (λ id. get nat_cmp c.forget.new.index id)
+    kept_looks (seen c.make.new.self i.issued) look (λ id. value_at nat_cmp c.forget.new.index id)
     (λ q. c.forget.ensures q ∙ (λ j. cond (has_id (keys j) q) None (c.in_default.ensures.ok q j)) ∙ undone look bs c.args.file.closed q c.in_default.ensures.lawful)
     (still_kept i.root c.make.new.self i.issued look c.in_default-make.ensures.err c.self.invariant)
 
@@ -46,7 +46,7 @@ pub invariant_of-self-in-Ok : goal.invariant_of-self-in-Ok
 invariant_of-self-in-Ok c =
     let i = c.self.inside in
     let s = seen i.root i.issued in
-    let look : ℕ → Option BlockRow = λ id. get nat_cmp i.index id in
+    let look : ℕ → Option BlockRow = λ id. value_at nat_cmp i.index id in
     let p = c.args.path.now in
     let ns = c.names-names.result in
     let x = c.args.file in
@@ -55,8 +55,8 @@ invariant_of-self-in-Ok c =
     let listed = c.as_slice-blocks.ensures in
     let applies : refusal s (edit.Add p x.replication) ≡ None = subst (λ (n : Namespace). refusal n (edit.Add p x.replication) ≡ None) (sym c.self.view_is) c.requires.applies in
     let fit : list_all (block_fits s.issued) x.blocks ≡ true = subst (λ (n : Namespace). list_all (block_fits n.issued) x.blocks ≡ true) (sym c.self.view_is) c.requires.fit in
-    subst (λ (n : Namespace). IsKept n (λ id. get nat_cmp c.enter.new.index id)) (sym is)
-    (file_kept s p x look (λ id. get nat_cmp c.enter.new.index id) ((c.names-names.ensures.lawful, c.get.ensures.limit), c.names-names.ensures.utf8) applies fit
+    subst (λ (n : Namespace). IsKept n (λ id. value_at nat_cmp c.enter.new.index id)) (sym is)
+    (file_kept s p x look (λ id. value_at nat_cmp c.enter.new.index id) ((c.names-names.ensures.lawful, c.get.ensures.limit), c.names-names.ensures.utf8) applies fit
     c.lawful.ensures (ap (are_new look) (sym listed) ∙ c.in_default.ensures.lawful)
     (λ q. c.in_default.ensures.ok q ∙ (λ j. entered look (listed j) x.closed q)) c.self.invariant)
 
@@ -73,7 +73,7 @@ pub returns-clause-lawful : goal.returns-clause-lawful
 returns-clause-lawful c =
     let i = c.self.inside in
     let s = seen i.root i.issued in
-    let look : ℕ → Option BlockRow = λ id. get nat_cmp i.index id in
+    let look : ℕ → Option BlockRow = λ id. value_at nat_cmp i.index id in
     let p = c.args.path.now in
     let x = c.args.file in
     let applies : refusal s (edit.Add p x.replication) ≡ None = subst (λ (n : Namespace). refusal n (edit.Add p x.replication) ≡ None) (sym c.self.view_is) c.requires.applies in

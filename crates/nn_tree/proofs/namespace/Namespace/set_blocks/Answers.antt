@@ -1,5 +1,5 @@
 use Rattle.std.proofs.Common.{◌≡◌, ℕ, not, Option, Some, None, refl, sym, ap, subst, ◌∙◌}
-use Rattle.std.specs.BTreeMap.{get}
+use Rattle.nn_sorted.specs.Values.{value_at}
 use Rattle.std.specs.Ordering.{nat_cmp}
 use Rattle.nn_model.specs.declared.form.Form.TheVariants.{File}
 use Rattle.nn_model.specs.declared.form.FileRow.{FileRow}
@@ -40,9 +40,9 @@ invariant_of-self-2 c =
     file_seen i.root c.set_blocks-told.new.self i.issued p ns done.0 done.1 c.names-names.ensures.names done.3 done.4
     ∙ ap (λ (f : FileRow). with_row s p (File f)) done.5.3
     ∙ ap (λ (f : FileRow). with_row s p (File (record { replication = f.replication; closed = c.args.closed; blocks = bs }))) old in
-    let look : ℕ → Option BlockRow = λ id. get nat_cmp i.index id in
-    subst (λ (n : Namespace). IsKept n (λ id. get nat_cmp c.renew.new.index id)) (sym is)
-    (list_kept s p bs c.args.closed done.0 look (λ id. get nat_cmp c.renew.new.index id) c.requires.lawful lawful was
+    let look : ℕ → Option BlockRow = λ id. value_at nat_cmp i.index id in
+    subst (λ (n : Namespace). IsKept n (λ id. value_at nat_cmp c.renew.new.index id)) (sym is)
+    (list_kept s p bs c.args.closed done.0 look (λ id. value_at nat_cmp c.renew.new.index id) c.requires.lawful lawful was
     (λ q. c.renew.ensures q ∙ (λ j. renewed look ((c.as_slice.ensures ∙ done.5.5 ∙ ap (λ (f : FileRow). f.blocks) old) j) (c.as_slice-2.ensures j) c.args.closed q)) c.self.invariant)
 
 pub returns-clause-applies : goal.returns-clause-applies

@@ -4,7 +4,7 @@ use Rattle.nn_model.specs.declared.form.Form.TheVariants.{File}
 use Rattle.nn_model.specs.declared.form.FileRow.{FileRow}
 use Rattle.nn_model.specs.Namespace.{Namespace, lookup, with_row, file_or_none, file_at}
 use Rattle.nn_model.specs.Apply.{refusal, effect}
-use Rattle.std.specs.BTreeMap.{get}
+use Rattle.nn_sorted.specs.Values.{value_at}
 use Rattle.std.specs.Ordering.{nat_cmp}
 use Rattle.nn_tree.specs.View.{seen, IsKept}
 use Rattle.nn_tree.proofs.Applies.{HasFile, has_file, set_replication_applies}
@@ -39,7 +39,7 @@ invariant_of-self-2 c =
     file_seen i.root c.set_replication.new.self i.issued p ns done.0 done.1 c.names-names.ensures.names done.3 done.4
     ∙ ap (λ (f : FileRow). with_row s p (File f)) done.5
     ∙ ap (λ (f : FileRow). with_row s p (File (record { replication = c.args.replication; closed = f.closed; blocks = f.blocks }))) old in
-    subst (λ (n : Namespace). IsKept n (λ id. get nat_cmp i.index id)) (sym is) (set_replication_kept s p c.args.replication done.0 _ c.requires.lawful lawful was c.self.invariant)
+    subst (λ (n : Namespace). IsKept n (λ id. value_at nat_cmp i.index id)) (sym is) (set_replication_kept s p c.args.replication done.0 _ c.requires.lawful lawful was c.self.invariant)
 
 pub returns-in_default-clause-refused : goal.returns-in_default-clause-refused
 returns-in_default-clause-refused c e =

@@ -1,6 +1,6 @@
-use Rattle.std.proofs.Common.{[], ◌∷◌}
+use Rattle.std.proofs.Common.{[], ◌∷◌, ap, ◌∙◌}
 use Rattle.std.specs.Option.{option_copied}
-use Rattle.nn_tree.proofs.Subtree.{opened, opened_narrow, found, at_top, at_file, leaf_of}
+use Rattle.nn_tree.proofs.Subtree.{child, opened, opened_narrow, found, at_top, at_file, leaf_of}
 use Rattle.nn_tree.proofs.Step.{is_called, is_called_else, one_found, one_other}
 use Rattle.nn_tree.proofs.Walk.{if_some}
 use Rattle.nn_tree.proofs.tree.Tree.child.Goals as goal
@@ -8,12 +8,12 @@ use Rattle.nn_tree.proofs.tree.Tree.child.Goals as goal
 pub returns-clause-found : goal.returns-clause-found
 returns-clause-found c =
     let d = opened c.args.self.now c.self.inside.node c.in-Folder.children c.self.view_is c.self.invariant.0 c.in-Folder.is in
-    found c.args.self.now c.in-Folder.children.entries c.args.name.now (option_copied c.get.result) d c.get.ensures.value
+    found c.args.self.now c.in-Folder.children c.args.name.now (option_copied c.get.result) d (c.get.ensures.value ∙ ap (child c.in-Folder.children) c.by.ensures)
 
 pub returns-clause-dir : goal.returns-clause-dir
 returns-clause-dir c =
     let d = opened c.args.self.now c.self.inside.node c.in-Folder.children c.self.view_is c.self.invariant.0 c.in-Folder.is in
-    if_some c.get.result (λ t. at_top c.args.self.now c.in-Folder.children.entries d)
+    if_some c.get.result (λ t. at_top c.args.self.now c.in-Folder.children d)
 
 pub returns-in_default-node : goal.returns-in_default-node
 returns-in_default-node c =

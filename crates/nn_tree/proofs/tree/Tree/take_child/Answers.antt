@@ -3,8 +3,8 @@ use Rattle.std.specs.FinMap.Entries.{is_sorted}
 use Rattle.nn_model.specs.Namespace.{path_cmp}
 use Rattle.nn_tree.specs.At.{at, IsSubtree, IsGrafted}
 use Rattle.nn_tree.specs.Flat.{flat}
-use Rattle.nn_tree.proofs.Subtree.{at_top, opened, opened_narrow, found}
-use Rattle.nn_tree.proofs.Step.{Becomes, changed, graft_here, graft_nothing, is_called, one_found, one_gone}
+use Rattle.nn_tree.proofs.Subtree.{child, at_top, opened, opened_narrow, found}
+use Rattle.nn_tree.proofs.Step.{Becomes, taken_out, graft_here, graft_nothing, is_called, one_found, one_gone}
 use Rattle.nn_tree.proofs.Walk.{walk_last}
 use Rattle.nn_tree.proofs.Descent.{narrow_other, same_child}
 use Rattle.nn_tree.proofs.InOrder.{stays_sorted}
@@ -24,7 +24,7 @@ returns-in-Narrow-clause-ok c =
       walk_last c.args.self.now n (n ∷ []) (λ j. n ∷ []) (at_top c.args.self.now one d),
       one_found c.args.self.now c.in-Narrow.own n c.in-Narrow._child.value c.into_inner.result d called taken,
       subst (λ node. IsGrafted c.args.self.now (n ∷ []) None (flat node)) (sym c.replace.ensures.after)
-          (graft_here c.args.self.now one c.new.result.entries n None d (subst (λ es. Becomes one es n None) (sym c.new.ensures.empty) (one_gone c.in-Narrow.own n c.in-Narrow._child.value called))),
+          (graft_here c.args.self.now one c.new.result n None d (subst (λ es. Becomes one es n None) (sym c.new.ensures) (one_gone c.in-Narrow.own n c.in-Narrow._child.value called))),
     )
 
 -- ---- any directory
@@ -32,24 +32,24 @@ pub returns-in_default-remove : goal.returns-in_default-remove
 returns-in_default-remove c =
     let n = c.args.name.now in
     let d = opened c.args.self.now c.self.inside.node c.in-Folder.children c.self.view_is c.self.invariant.0 c.in-Folder.is in
-    let b = changed c.in-Folder.children c.remove.new.self n None c.in_default-remove.ensures.updates c.in_default-remove.ensures.ordered in
-    let none : IsSubtree c.args.self.now (n ∷ []) None = found c.args.self.now c.in-Folder.children.entries n None d c.in_default-remove.ensures.value in
+    let b = subst (λ x. Becomes c.in-Folder.children c.remove.new.self x None) c.by.ensures (taken_out c.in-Folder.children c.remove.new.self c.by.result c.in_default-remove.ensures.entries d.ordered c.in_default-remove.ensures.ordered) in
+    let none : IsSubtree c.args.self.now (n ∷ []) None = found c.args.self.now c.in-Folder.children n None d (c.in_default-remove.ensures.value ∙ ap (child c.in-Folder.children) c.by.ensures) in
     record {
       ok = tt;
       none = none;
-      same = λ q. graft_here c.args.self.now c.in-Folder.children.entries c.remove.new.self.entries n None d b q ∙ graft_nothing (at c.args.self.now) (n ∷ []) none q;
+      same = λ q. graft_here c.args.self.now c.in-Folder.children c.remove.new.self n None d b q ∙ graft_nothing (at c.args.self.now) (n ∷ []) none q;
     }
 
 pub returns : goal.returns
 returns c =
     let n = c.args.name.now in
     let d = opened c.args.self.now c.self.inside.node c.in-Folder.children c.self.view_is c.self.invariant.0 c.in-Folder.is in
-    let b = changed c.in-Folder.children c.remove.new.self n None c.in-Some.ensures.updates c.in-Some.ensures.ordered in
+    let b = subst (λ x. Becomes c.in-Folder.children c.remove.new.self x None) c.by.ensures (taken_out c.in-Folder.children c.remove.new.self c.by.result c.in-Some.ensures.entries d.ordered c.in-Some.ensures.ordered) in
     record {
       ok = (
-        walk_last c.args.self.now n (n ∷ []) (λ j. n ∷ []) (at_top c.args.self.now c.in-Folder.children.entries d),
-        found c.args.self.now c.in-Folder.children.entries n (Some c.in-Some.tree) d c.in-Some.ensures.value,
-        graft_here c.args.self.now c.in-Folder.children.entries c.remove.new.self.entries n None d b,
+        walk_last c.args.self.now n (n ∷ []) (λ j. n ∷ []) (at_top c.args.self.now c.in-Folder.children d),
+        found c.args.self.now c.in-Folder.children n (Some c.in-Some.tree) d (c.in-Some.ensures.value ∙ ap (child c.in-Folder.children) c.by.ensures),
+        graft_here c.args.self.now c.in-Folder.children c.remove.new.self n None d b,
       );
       none = tt;
       same = tt;
@@ -58,5 +58,11 @@ returns c =
 pub invariant_of-self-2 : goal.invariant_of-self-2
 invariant_of-self-2 c =
     let d = opened c.args.self.now c.self.inside.node c.in-Folder.children c.self.view_is c.self.invariant.0 c.in-Folder.is in
-    let b = changed c.in-Folder.children c.remove.new.self c.args.name.now None c.in-Some.ensures.updates c.in-Some.ensures.ordered in
-    (c.in-Some.ensures.ordered, stays_sorted c.args.self.now c.in-Folder.children.entries c.remove.new.self.entries c.args.name.now None d b (ap (is_sorted path_cmp) (sym c.self.view_is) ∙ c.self.invariant.1) tt)
+    let b = subst (λ x. Becomes c.in-Folder.children c.remove.new.self x None) c.by.ensures (taken_out c.in-Folder.children c.remove.new.self c.by.result c.in-Some.ensures.entries d.ordered c.in-Some.ensures.ordered) in
+    (c.in-Some.ensures.ordered, stays_sorted c.args.self.now c.in-Folder.children c.remove.new.self c.args.name.now None d b (ap (is_sorted path_cmp) (sym c.self.view_is) ∙ c.self.invariant.1) tt)
+
+pub invariant_of-self-in_default-remove : goal.invariant_of-self-in_default-remove
+invariant_of-self-in_default-remove c =
+    let d = opened c.args.self.now c.self.inside.node c.in-Folder.children c.self.view_is c.self.invariant.0 c.in-Folder.is in
+    let b = subst (λ x. Becomes c.in-Folder.children c.remove.new.self x None) c.by.ensures (taken_out c.in-Folder.children c.remove.new.self c.by.result c.in_default-remove.ensures.entries d.ordered c.in_default-remove.ensures.ordered) in
+    (c.in_default-remove.ensures.ordered, stays_sorted c.args.self.now c.in-Folder.children c.remove.new.self c.args.name.now None d b (ap (is_sorted path_cmp) (sym c.self.view_is) ∙ c.self.invariant.1) tt)

@@ -1,0 +1,5 @@
+mod Changes
+mod Lookups
+mod Maps
+mod Places
+pub mod Values

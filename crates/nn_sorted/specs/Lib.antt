@@ -1,0 +1,5 @@
+pub mod Chunks
+pub mod Lends
+pub mod Values
+pub mod ValuesRows
+pub mod formers

@@ -9,13 +9,13 @@ use Rattle.nn_scenario.specs.Reading.{nothing_read}
 use Rattle.nn_scenario.specs.Scenario.{max_input}
 use Rattle.nn_model.specs.Namespace.{Namespace}
 use Rattle.nn_image.specs.declared.fault.ImageFault.{ImageFault}
-use Rattle.nn_front.specs.Cut.{divided, image_read, rest_of}
+use Rattle.nn_front.specs.Cut.{divided, image_read, max_passed, passed_over, rest_of}
 use Rattle.nn_front.specs.Front.{FrontState, IsFront}
 use Rattle.nn_front.proofs.Fronts.{rest_is}
 use Rattle.nn_engine.specs.declared.device.InputFault.{InputFault}
 use Rattle.nn_engine.specs.declared.device.InputFault.TheVariants.{ReadFailed, TooLong, OutOfMemory}
 use Rattle.nn_engine.specs.declared.parts.InputParts.{InputParts}
-use Rattle.nn_engine.specs.Input.{EndsFront, HasParts, HasTaken, IsFrontOf, IsNotTaken, IsRead, IsUnread, PartsTaken}
+use Rattle.nn_engine.specs.Input.{EndsFront, Fits, HasParts, HasTaken, IsFrontOf, IsNotTaken, IsRead, IsUnread, PartsTaken}
 use Rattle.nn_engine.specs.Start.{scenario_in}
 
 -- ---- The reader.
@@ -66,8 +66,9 @@ fits_front (Some front) input rest is = rest_is front input rest is
 
 -- what the end of a front says
 pub ends_front : (front : FrontState) (loaded : Option (Result (Namespace × ℕ) ImageFault))
-    → ((text rest : List ℕ) → IsFront text front rest → (loaded ≡ image_read (divided text)) × (rest_of (divided text) ≡ rest)) → EndsFront (Some front) loaded
-ends_front front loaded ends = λ input rest is. sym (ends input rest is).0
+    → ((text rest : List ℕ) → IsFront text front rest → (loaded ≡ image_read (divided text)) × (rest_of (divided text) ≡ rest))
+    → ((text rest : List ℕ) → IsFront text front rest → passed_over text ≤ max_passed) → EndsFront (Some front) loaded
+ends_front front loaded ends fits = λ input rest is. (sym (ends input rest is).0, fits input rest is)
 
 -- more bytes came than an input may have
 pub too_many : (front front' : Option FrontState) (input rest bytes : List ℕ) (at taken : ℕ) → is_some front' ≡ is_some front → IsFrontOf front' (input ++ bytes) (rest ++ drop at bytes)
@@ -90,9 +91,12 @@ parts_taken p q input bytes at within taken front come h = record {
 pub parts_read : (p : PartsTaken) (r : InputParts) (input : List ℕ) → EndsFront p.front r.loaded
     → ((text : List ℕ) → HasCome (λ _ x reading. reading ≡ x) nothing_read text p.lines → IsReadAs text r.lines) → HasParts p input → IsRead (is_some p.front) input r
 parts_read p r input ends read h = record {
-  loaded = ends input h.rest h.front;
+  loaded = (ends input h.rest h.front).0;
   read = subst (λ t. IsReadAs t r.lines) (sym (fits_front p.front input h.rest h.front)) (read h.rest h.come);
 }
 
-pub parts_fit : (p : PartsTaken) (input : List ℕ) → p.taken ≤ max_input → HasParts p input → length (scenario_in (is_some p.front) input) ≤ max_input
-parts_fit p input fits h = let long = ap length (fits_front p.front input h.rest h.front) in let much = h.much in omega (arith, long, much, fits)
+pub parts_fit : (p : PartsTaken) (loaded : Option (Result (Namespace × ℕ) ImageFault)) (input : List ℕ) → EndsFront p.front loaded → p.taken ≤ max_input → HasParts p input → Fits (is_some p.front) input
+parts_fit p loaded input ends few h = record {
+  front = (ends input h.rest h.front).1;
+  scenario = (let long = ap length (fits_front p.front input h.rest h.front) in let much = h.much in omega (arith, long, much, few));
+}

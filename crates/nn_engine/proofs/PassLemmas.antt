@@ -1,16 +1,17 @@
 -- A pass over an input, some bytes further, and at its end.
-use Rattle.std.proofs.Common.{◌≡◌, ◌+◌, ℕ, true, false, List, [], ◌++◌, length, drop, Option, Some, None, Result, Ok, Err, refl, sym, ap, ◌∙◌, subst, arith, append-nil, append_assoc, length-append}
+use Rattle.std.proofs.Common.{◌≡◌, ◌≤◌, ◌+◌, ℕ, true, false, List, [], ◌++◌, length, drop, Option, Some, None, Result, Ok, Err, refl, sym, ap, ◌∙◌, subst, arith, append-nil, append_assoc, length-append}
 use Rattle.nn_image.specs.declared.fault.ImageFault.{ImageFault}
 use Rattle.nn_model.specs.Namespace.{Namespace}
-use Rattle.nn_front.specs.Cut.{divided, image_read, rest_of}
+use Rattle.nn_front.specs.Cut.{divided, image_read, max_passed, passed_over, rest_of}
 use Rattle.nn_front.specs.Front.{FrontState, IsFront}
 use Rattle.nn_front.proofs.Fronts.{rest_is}
 use Rattle.nn_shadow.specs.Contents.{Contents}
 use Rattle.nn_scenario.specs.Chunks.{Chunks, HasCome}
+use Rattle.nn_scenario.specs.Scenario.{max_input}
 use Rattle.nn_engine.specs.Following.{Lived, IsLive}
-use Rattle.nn_engine.specs.Input.{loaded_in}
+use Rattle.nn_engine.specs.Input.{Fits, loaded_in}
 use Rattle.nn_engine.specs.Pass.{Passed, HasBegun, HasPassed, HasPassedTo, IsAt, IsScenario, IsRunOf, EndsFrom, RunEnds, StartsFrom}
-use Rattle.nn_engine.specs.Start.{Start, start_in, scenario_in}
+use Rattle.nn_engine.specs.Start.{Start, passed_in, start_in, scenario_in}
 use Rattle.nn_engine.specs.declared.engine.Options.{Options}
 use Rattle.nn_engine.specs.declared.live.Halt.{Halt}
 use Rattle.nn_engine.specs.declared.live.Halt.TheVariants as halt
@@ -32,6 +33,7 @@ scenario_begins options begun unasked starts = record {
     start = starts.0;
     starts = λ more. starts.1 more (ap (λ b. loaded_in b more) unasked);
     scenario = λ more. ap (λ b. scenario_in b more) unasked;
+    fits = λ more. let none = ap (λ b. passed_in b more) unasked in omega (arith, none);
     follows = starts.2;
   };
 }
@@ -52,6 +54,7 @@ come_behind p begun input bytes is h =
       start = k.start;
       starts = λ more. ap (start_in p.options.from_image) (append_assoc input bytes more) ∙ k.starts (bytes ++ more);
       scenario = λ more. ap (scenario_in p.options.from_image) (append_assoc input bytes more) ∙ k.scenario (bytes ++ more);
+      fits = λ more. subst (λ t. passed_in p.options.from_image t ≤ max_passed) (sym (append_assoc input bytes more)) (k.fits (bytes ++ more));
       follows = k.follows;
     })
 
@@ -73,8 +76,9 @@ image_goes_on p q front front' input bytes n was is same taken takes not_yet h =
 pub image_ends : (p q : Passed) (front front' : FrontState) (begun : Result (Chunks Lived) ImageFault) (input bytes : List ℕ) (loaded : Result (Namespace × ℕ) ImageFault) (n : ℕ) → p.stage ≡ stage.Front front → q.stage ≡ stage.Begun begun → q.options ≡ p.options
     → q.taken ≡ p.taken → FrontTakes front bytes n front'
     → ((input rest more : List ℕ) → IsFront input front' rest → (image_read (divided (input ++ more)) ≡ Some loaded) × (rest_of (divided (input ++ more)) ≡ rest ++ more))
+    → ((input rest more : List ℕ) → IsFront input front' rest → passed_over (input ++ more) ≤ max_passed)
     → StartsFrom p.options (Some loaded) begun → HasPassed p input → HasPassedTo q (input ++ bytes) (drop n bytes)
-image_ends p q front front' begun input bytes loaded n was is same taken takes ended starts h =
+image_ends p q front front' begun input bytes loaded n was is same taken takes ended few starts h =
     let k = at_stage p (stage.Front front) input [] was h in
     let cut = λ (more : List ℕ). ended (input ++ bytes) (drop n bytes) more (takes input [] k.1) in
     is_at q (stage.Begun begun) (input ++ bytes) [] (drop n bytes) is (ap length (sym k.2) ∙ h.much ∙ sym taken)
@@ -82,6 +86,7 @@ image_ends p q front front' begun input bytes loaded n was is same taken takes e
       start = starts.0;
       starts = λ more. starts.1 ((input ++ bytes) ++ more) (ap (λ b. loaded_in b ((input ++ bytes) ++ more)) k.0 ∙ (cut more).0);
       scenario = λ more. ap (λ b. scenario_in b ((input ++ bytes) ++ more)) k.0 ∙ (cut more).1;
+      fits = λ more. subst (λ b. passed_in b ((input ++ bytes) ++ more) ≤ max_passed) (sym k.0) (few (input ++ bytes) (drop n bytes) more (takes input [] k.1));
       follows = starts.2;
     }))
 
@@ -97,6 +102,7 @@ taken_on options input rest left begun begun' on h = record {
   start = h.start;
   starts = h.starts;
   scenario = λ more. h.scenario more ∙ sym (append_assoc rest left more);
+  fits = h.fits;
   follows = on h.start h.follows;
 }
 
@@ -137,6 +143,24 @@ passed_long p input left h = by p.stage h.at
     by (stage.Begun begun) k =
         let all = ap (λ t. length (scenario_in p.options.from_image t)) (sym (append-nil input)) ∙ ap length (k.scenario []) in
         let much = h.much in omega (arith, all, much, length-append h.rest (left ++ []), length-append left [])
+
+-- no more is passed over, and no more of the scenario came, than may be
+pub front_fits : (p : Passed) (front : FrontState) (input : List ℕ) → p.taken ≤ max_input → p.stage ≡ stage.Front front
+    → ((text rest : List ℕ) → IsFront text front rest → passed_over text ≤ max_passed) → HasPassed p input → Fits p.options.from_image input
+front_fits p front input few is fits h =
+    let k = at_stage p (stage.Front front) input [] is h in
+    record {
+      front = subst (λ b. passed_in b input ≤ max_passed) (sym k.0) (fits input [] k.1);
+      scenario = (let long = passed_long p input [] h in omega (arith, long, few));
+    }
+
+pub begun_fits : (p : Passed) (begun : Result (Chunks Lived) ImageFault) (input : List ℕ) → p.taken ≤ max_input → p.stage ≡ stage.Begun begun → HasPassed p input → Fits p.options.from_image input
+begun_fits p begun input few is h =
+    let k = at_stage p (stage.Begun begun) input [] is h in
+    record {
+      front = subst (λ t. passed_in p.options.from_image t ≤ max_passed) (append-nil input) (k.fits []);
+      scenario = (let long = passed_long p input [] h in omega (arith, long, few));
+    }
 
 -- a run that did not begin with the fault of an image
 pub run_ends : (options : Options) (start : Result Start ImageFault) (text : List ℕ) (r : Result Contents Halt) → EndsFrom options start text r → RunEnds options start text r

@@ -1,5 +1,5 @@
 -- What was read of an input, and why one was not.
-use Rattle.std.specs.Prelude.{◌≡◌, ◌≤◌, ◌<◌, ◌+◌, ℕ, Bool, true, false, is_some, List, length, Option, Some, None, Result, Ok, Err}
+use Rattle.std.specs.Prelude.{◌≡◌, ◌⊎◌, ◌≤◌, ◌<◌, ◌+◌, ℕ, Bool, true, false, is_some, List, length, Option, Some, None, Result, Ok, Err}
 use Rattle.std.specs.Io.KnownBytes.{Consumes}
 use Rattle.nn_device.specs.Device.{Reading}
 use Rattle.nn_scenario.specs.Chunks.{Chunks, HasCome, IsReadAs}
@@ -9,9 +9,11 @@ use Rattle.nn_scenario.specs.declared.scenario.BadLine.{BadLine}
 use Rattle.nn_scenario.specs.declared.scenario.Scenario.{Scenario}
 use Rattle.nn_model.specs.Namespace.{Namespace}
 use Rattle.nn_image.specs.declared.fault.ImageFault.{ImageFault}
-use Rattle.nn_front.specs.Cut.{divided, image_read}
+use Rattle.nn_front.specs.Cut.{divided, image_read, max_passed}
 use Rattle.nn_front.specs.Front.{FrontState, IsFront}
-use Rattle.nn_engine.specs.Start.{Start, scenario_in}
+use Rattle.nn_front.specs.declared.front.FrontFault.{FrontFault}
+use Rattle.nn_front.specs.declared.front.FrontFault.TheVariants as front_fault
+use Rattle.nn_engine.specs.Start.{Start, passed_in, scenario_in}
 use Rattle.nn_engine.specs.declared.start.Begin.{Begin}
 use Rattle.nn_engine.specs.declared.parts.InputParts.{InputParts}
 use Rattle.nn_engine.specs.declared.device.InputFault.{InputFault}
@@ -25,10 +27,19 @@ pub record IsScenarioOfAll (old new : Reading) (lines : Result Scenario BadLine)
   pub fits : length input ≤ max_input
   pub read : IsReadAs input lines
 
--- the reader gave more bytes of a scenario than an input may have, after its image where that is asked for
+-- no more is passed over before an image than may be, where one is asked for, and no more of a scenario comes
+pub record Fits (from_image : Bool) (input : List ℕ) : Type 0 where
+  pub front : passed_in from_image input ≤ max_passed
+  pub scenario : length (scenario_in from_image input) ≤ max_input
+
+-- more is, or comes
+abbrev pub IsTooLong : Bool → List ℕ → Type 0
+IsTooLong from_image input = (max_passed < passed_in from_image input) ⊎ (max_input < length (scenario_in from_image input))
+
+-- the reader gave bytes that no input begins with, for they are too many
 abbrev pub GaveTooMuch : Bool → Reading → Reading → Type 0
 GaveTooMuch from_image old new =
-    (bytes : List ℕ) × (max_input < length (scenario_in from_image bytes)) × Consumes old.left new.left bytes × (new.given ≡ old.given + length bytes)
+    (bytes : List ℕ) × IsTooLong from_image bytes × Consumes old.left new.left bytes × (new.given ≡ old.given + length bytes)
 
 -- what each fault says of the reader: a read failed, or it gave too much, or neither
 abbrev pub IsUnread : Bool → Reading → Reading → InputFault → Type 0
@@ -48,7 +59,7 @@ pub record HasTaken {S : Type 0} (has_taken : S → List ℕ → Type 0) (sink :
 -- why a sink takes no more of an input, of which these bytes came
 abbrev pub IsNotTaken : Bool → List ℕ → InputFault → Type 0
 IsNotTaken from_image input ReadFailed = ⊥
-IsNotTaken from_image input TooLong = max_input < length (scenario_in from_image input)
+IsNotTaken from_image input TooLong = IsTooLong from_image input
 IsNotTaken from_image input OutOfMemory = Unit {0}
 
 -- what the image of an input is read as, where it is asked for and there
@@ -66,7 +77,7 @@ pub record IsReadOfAll (from_image : Bool) (is_read : List ℕ → Type 0) (old 
   pub input : List ℕ
   pub taken : Consumes old.left new.left input
   pub counted : new.given ≡ old.given + length input
-  pub fits : length (scenario_in from_image input) ≤ max_input
+  pub fits : Fits from_image input
   pub is : is_read input
 
 -- what has come of an input: its front, where an image is asked for, the lines of its scenario, and how many bytes these have
@@ -87,9 +98,14 @@ pub record HasParts (p : PartsTaken) (input : List ℕ) : Type 0 where
   pub much : length rest ≡ p.taken
   pub come : HasCome (λ _ x reading. reading ≡ x) nothing_read rest p.lines
 
+abbrev pub fault_of_front : FrontFault → InputFault
+fault_of_front front_fault.TooLong = TooLong
+fault_of_front front_fault.OutOfMemory = OutOfMemory
+
 -- what the end of a front says of its input
 abbrev pub EndsFront : Option FrontState → Option (Result (Namespace × ℕ) ImageFault) → Type 0
-EndsFront front loaded = (input rest : List ℕ) → IsFrontOf front input rest → loaded_in (is_some front) input ≡ loaded
+EndsFront front loaded =
+    (input rest : List ℕ) → IsFrontOf front input rest → (loaded_in (is_some front) input ≡ loaded) × (passed_in (is_some front) input ≤ max_passed)
 
 abbrev pub start_of : Begin → Start
 start_of b = record { namespace = b.namespace; txid = b.txid }

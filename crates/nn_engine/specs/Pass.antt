@@ -1,13 +1,14 @@
 -- What a pass over an input has taken, and what the run comes to. For private clauses.
 use Rattle.std.specs.Prelude.{◌≡◌, ◌≤◌, ℕ, true, List, [], ◌++◌, length, Option, Result, Ok, Err}
 use Rattle.nn_image.specs.declared.fault.ImageFault.{ImageFault}
+use Rattle.nn_front.specs.Cut.{max_passed}
 use Rattle.nn_front.specs.Front.{IsFront}
 use Rattle.nn_model.specs.Namespace.{Namespace}
 use Rattle.nn_shadow.specs.Contents.{Contents}
 use Rattle.nn_scenario.specs.Chunks.{Chunks, HasCome}
 use Rattle.nn_engine.specs.Following.{Lived, IsLive, EndsSo, line_count, start_at}
 use Rattle.nn_engine.specs.Input.{loaded_in}
-use Rattle.nn_engine.specs.Start.{Start, start_in, scenario_in}
+use Rattle.nn_engine.specs.Start.{Start, passed_in, start_in, scenario_in}
 use Rattle.nn_engine.specs.declared.engine.Options.{Options}
 use Rattle.nn_engine.specs.declared.live.Halt.{Halt}
 use Rattle.nn_engine.specs.declared.live.Halt.TheVariants as halt
@@ -60,6 +61,7 @@ pub record IsScenario (options : Options) (input rest left : List ℕ) (begun : 
   pub start : Result Start ImageFault
   pub starts : (more : List ℕ) → start_in options.from_image (input ++ more) ≡ start
   pub scenario : (more : List ℕ) → scenario_in options.from_image (input ++ more) ≡ rest ++ (left ++ more)
+  pub fits : (more : List ℕ) → passed_in options.from_image (input ++ more) ≤ max_passed
   pub follows : HasBegun options start rest begun
 
 abbrev pub IsAt : Options → List ℕ → List ℕ → List ℕ → Stage → Type 0

@@ -1,18 +1,16 @@
 -- What a run wrote, beside what its reader had.
-use Rattle.std.specs.Prelude.{◌≡◌, ◌⊎◌, ◌≤◌, ◌+◌, ◌∷◌, [], ◌++◌, ℕ, Bool, true, List, length, codes}
+use Rattle.std.specs.Prelude.{◌≡◌, ◌⊎◌, ◌+◌, ◌∷◌, [], ◌++◌, ℕ, Bool, true, List, length, codes}
 use Rattle.std.specs.Io.KnownBytes.{Consumes, IsAtEnd}
 use Rattle.nn_device.specs.Device.{Reading, Writing, Took}
 use Rattle.nn_device.specs.Parts.{TookFront}
 use Rattle.nn_device.specs.declared.writer.Unwritten.TheVariants.{WriteFailed}
 use Rattle.nn_listing.specs.Listing.{newline}
-use Rattle.nn_scenario.specs.Scenario.{max_input}
-use Rattle.nn_engine.specs.Input.{GaveTooMuch}
+use Rattle.nn_engine.specs.Input.{Fits, GaveTooMuch}
 use Rattle.nn_engine.specs.declared.device.InputFault.{InputFault}
 use Rattle.nn_engine.specs.declared.device.InputFault.TheVariants.{ReadFailed, TooLong, OutOfMemory}
 use Rattle.nn_engine.specs.declared.engine.Options.{Options}
 use Rattle.nn_engine.specs.declared.output.RunFault.{RunFault}
 use Rattle.nn_engine.specs.Output.{Printed, IsPrinted}
-use Rattle.nn_engine.specs.Start.{scenario_in}
 
 -- one line with a fault's number alone
 abbrev pub fault_alone : List ℕ → Printed
@@ -37,7 +35,7 @@ pub record IsOutputOfAll (given : Given) (p : Printed) : Type 0 where
   pub taken : Consumes given.before.left given.after.left input
   pub counted : given.after.given ≡ given.before.given + length input
   pub whole : IsAtEnd given.after.left
-  pub fits : length (scenario_in given.options.from_image input) ≤ max_input
+  pub fits : Fits given.options.from_image input
   pub is : IsPrinted given.threads given.options input p
 
 -- the input cannot be read: a read failed, or the reader gave more than an input may have

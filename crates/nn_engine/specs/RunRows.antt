@@ -1,11 +1,13 @@
 -- What is printed for an input that is not read, and what a run says of its devices, computed.
-use Rattle.std.specs.Prelude.{◌≡◌, ℕ, ◌+◌, Bool, true, false, List, [], ◌∷◌, ◌++◌, length, map, Some, None, codes, refl}
-use Rattle.std.proofs.Common.{arith, sym, ap, inl, inr, ⊎_elim, true≢false, length-append, ◌∙◌}
+use Rattle.std.specs.Prelude.{◌≡◌, ℕ, ◌+◌, ◌-◌, Bool, true, false, option_map, List, [], ◌∷◌, ◌++◌, length, map, Some, None, codes, refl}
+use Rattle.std.proofs.Common.{zero, suc, arith, sym, ap, inl, inr, ⊎_elim, true≢false, length-append, ◌∙◌}
 use Rattle.nn_device.specs.Device.{Reading, Writing}
 use Rattle.nn_listing.specs.Listing.{newline}
 use Rattle.nn_engine.specs.declared.device.InputFault.TheVariants.{ReadFailed, TooLong, OutOfMemory}
 use Rattle.nn_engine.specs.declared.engine.Options.{Options}
-use Rattle.nn_engine.specs.Input.{IsUnread}
+use Rattle.nn_front.specs.Cut.{behind_mark, bytes_of, cut_from, divided, from_header, passed_over, rest_of}
+use Rattle.nn_engine.specs.Input.{Fits, IsTooLong, IsUnread}
+use Rattle.nn_engine.specs.Start.{scenario_in}
 use Rattle.nn_engine.specs.Output.{Printed}
 use Rattle.nn_engine.specs.Run.{Given, IsOutputOfAll, IsUnreadable, fault_alone, unread_line, NoneFailed, Unfinished, Wrote, WroteFront, running}
 
@@ -31,6 +33,54 @@ not_made_up h = true≢false (sym h)
 -- three bytes are not too many
 not_too_long : IsUnread false (reader false) (record { left = Some []; reads = 1; given = 3; failed = false }) TooLong → ⊥
 not_too_long h = let more = h.0.1 in let many = h.0.3 in omega (arith, more, many)
+
+-- ---- What is too long.
+
+spaces : ℕ → List ℕ
+spaces zero = []
+spaces (suc n) = 32 ∷ spaces n
+
+size : (n : ℕ) → length (spaces n) ≡ n
+unfolding spaces
+size zero = refl
+size (suc n) = ap suc (size n)
+
+no_mark : (n : ℕ) (line : List ℕ) → behind_mark line (spaces n) ≡ None
+unfolding spaces
+no_mark zero line = refl
+no_mark (suc n) line = no_mark n (line ++ 32 ∷ [])
+
+no_image : (n : ℕ) → from_header (spaces n) ≡ None
+unfolding spaces
+no_image zero = refl
+no_image (suc n) = no_mark n (32 ∷ [])
+
+all_passed : (n : ℕ) → passed_over (spaces n) ≡ n
+unfolding passed_over
+all_passed n = omega (arith, ap (λ o. length (spaces n) - length (bytes_of o)) (no_image n), size n)
+
+-- one byte more than may be passed over, where an image is asked for, or than a scenario may have
+too_long_a_front : IsTooLong true (spaces 16777217)
+too_long_a_front = inl (omega (arith, all_passed 16777217))
+
+too_long_a_scenario : IsTooLong false (spaces 16777217)
+too_long_a_scenario = inr (omega (arith, size 16777217))
+
+none_left : (n : ℕ) → length (scenario_in true (spaces n)) ≡ 0
+unfolding divided
+none_left n = ap (λ o. length (rest_of (option_map (cut_from true []) o))) (no_image n)
+
+-- as many as may be
+fits : Fits true (spaces 16777216) × Fits false (spaces 16777216)
+fits = (
+  record {
+    front = omega (arith, all_passed 16777216);
+    scenario = (let none : length (scenario_in true (spaces 16777216)) ≡ 0 = none_left 16777216 in omega (arith, none));
+  },
+  record { front = omega arith; scenario = omega (arith, size 16777216) },
+)
+
+-- ---- What failed.
 
 -- where memory ran out, no read failed
 not_of_a_read : IsUnread false (reader false) (reader true) OutOfMemory → ⊥

@@ -4,7 +4,7 @@ use Rattle.nn_model.specs.Namespace.{Namespace, root_alone}
 use Rattle.nn_image.specs.Reading.{read_image}
 use Rattle.nn_image.specs.declared.fault.ImageFault.{ImageFault}
 use Rattle.nn_image.specs.declared.fault.ImageFault.TheVariants.{NotHeader}
-use Rattle.nn_front.specs.Cut.{Cut, divided, rest_of}
+use Rattle.nn_front.specs.Cut.{Cut, divided, passed_over, rest_of}
 
 -- a namespace, and the txid of its last transaction
 pub record Start : Type 0 where
@@ -32,3 +32,8 @@ start_in true input = from_cut (divided input)
 abbrev pub scenario_in : Bool → List ℕ → List ℕ
 scenario_in false input = input
 scenario_in true input = rest_of (divided input)
+
+-- how many bytes are passed over before its image
+abbrev pub passed_in : Bool → List ℕ → ℕ
+passed_in false input = 0
+passed_in true input = passed_over input

@@ -4,6 +4,7 @@ ghost use Rattle.std.specs.Io.KnownBytes.{IsAtEnd};
 ghost use Rattle.nn_engine.specs.Input.{HasTaken, IsNotTaken, IsUnread};
 
 use nn_device::Reader;
+use nn_front::FrontFault;
 use std::alloc::{AllocError, Global};
 use std::io::Read;
 use thiserror::Error;
@@ -29,6 +30,19 @@ impl From<AllocError> for InputFault {
 
     fn from(_e: AllocError) -> InputFault {
         InputFault::OutOfMemory
+    }
+}
+
+impl From<FrontFault> for InputFault {
+    ghost use Rattle.nn_engine.specs.Input.{fault_of_front};
+
+    ghost from_gives = { λ s e. e ≡ fault_of_front s };
+
+    fn from(e: FrontFault) -> InputFault {
+        match e {
+            FrontFault::TooLong => InputFault::TooLong,
+            FrontFault::OutOfMemory => InputFault::OutOfMemory,
+        }
     }
 }
 

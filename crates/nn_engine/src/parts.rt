@@ -2,7 +2,7 @@
 ghost use Rattle.std.specs.Prelude.{◌≡◌, ◌≤◌, ◌++◌, [], List, ℕ, false, drop, is_some, length, IfOk, IfErr, OnOk};
 ghost use Rattle.std.specs.Io.KnownBytes.{IsAtEnd};
 ghost use Rattle.nn_scenario.specs.Scenario.{seen, IsLawfulScenario};
-ghost use Rattle.nn_engine.specs.Input.{EndsFront, HasParts, IsFrontOf, IsRead, IsReadOfAll, IsScenarioOfAll, IsUnread};
+ghost use Rattle.nn_engine.specs.Input.{EndsFront, Fits, HasParts, IsFrontOf, IsNotTaken, IsRead, IsReadOfAll, IsScenarioOfAll, IsUnread};
 
 use crate::device::{ByteSink, InputFault, read_to_end};
 use nn_device::Reader;
@@ -40,7 +40,8 @@ pub fn read_scenario<R: Read>(
 }
 
 /// Reads an input to the reader's end, with an image before the scenario or without one. The image is loaded as it comes, and
-/// what is passed over before it is not kept. Of what follows the image, `MAX_INPUT` bytes are read at most.
+/// what is passed over before it is not kept, and has at most `MAX_PASSED` bytes. Of what follows the image, `MAX_INPUT` bytes
+/// are read at most.
 pub(crate) fn read_parts<R: Read>(
     alloc: Global,
     from_image: bool,
@@ -124,7 +125,7 @@ impl Parts {
     fn end(self, alloc: Global) -> InputParts
         ensures read { (input : List ℕ) → HasParts self input → IsRead (is_some self.front) input result }
         ensures lawful { (input : List ℕ) → HasParts self input → IfOk result.lines (λ s. IsLawfulScenario (seen s)) }
-        ensures fits { self.taken ≤ 16777216 }
+        ensures fits { (input : List ℕ) → HasParts self input → Fits (is_some self.front) input }
     {
         let Parts {
             front,
@@ -150,13 +151,15 @@ fn loaded_of(front: Option<Front>) -> Option<Loaded>
 }
 
 // Takes the bytes of the front, where an image is asked for. The answer is how many there are.
-fn push_front(front: &mut Option<Front>, alloc: Global, bytes: &[u8]) -> Result<usize, AllocError>
+fn push_front(front: &mut Option<Front>, alloc: Global, bytes: &[u8]) -> Result<usize, InputFault>
     ensures within { IfOk result (λ n. n ≤ length bytes.now) }
     ensures front { IfOk result (λ n. (input rest : List ℕ) → IsFrontOf front.old input rest → IsFrontOf front.new (input ++ bytes.now) (rest ++ drop n bytes.now)) }
     ensures same { is_some front.new ≡ is_some front.old }
+    ensures why { IfErr result (λ e. (input rest : List ℕ) → IsFrontOf front.old input rest → IsNotTaken (is_some front.old) (input ++ bytes.now) e) }
 {
-    match front {
-        Some(front) => front.push(alloc, bytes),
-        None => Ok(0),
-    }
+    let Some(front) = front else {
+        return Ok(0);
+    };
+    let taken = front.push(alloc, bytes)?;
+    Ok(taken)
 }

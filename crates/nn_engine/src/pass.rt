@@ -3,7 +3,7 @@ ghost use Rattle.std.specs.Prelude.{◌≡◌, ◌≤◌, ◌<◌, ◌+◌, ◌^
 ghost use Rattle.std.specs.Io.KnownBytes.{IsAtEnd};
 ghost use Rattle.nn_image.specs.declared.fault.ImageFault.{ImageFault as Fault};
 ghost use Rattle.nn_engine.specs.Following.{serving};
-ghost use Rattle.nn_engine.specs.Input.{loaded_in, start_of, IsReadOfAll, IsUnread};
+ghost use Rattle.nn_engine.specs.Input.{loaded_in, start_of, Fits, IsNotTaken, IsReadOfAll, IsUnread};
 ghost use Rattle.nn_engine.specs.Pass.{HasBegun, HasPassed, HasPassedTo, HasRoom, IsRoomy, RunEnds, IsRunOf, StartsFrom, StartsLines};
 ghost use Rattle.nn_engine.specs.Start.{Start};
 ghost use Rattle.nn_engine.specs.declared.engine.Options.{Options as RunOptions};
@@ -122,10 +122,11 @@ impl Pass {
     }
 
     // Takes the bytes of the image, and answers how many there are. Where the image ends among them, the scenario begins.
-    fn push_front(&mut self, alloc: Global, bytes: &[u8]) -> Result<usize, AllocError>
+    fn push_front(&mut self, alloc: Global, bytes: &[u8]) -> Result<usize, InputFault>
         ensures within { IfOk result (λ n. n ≤ length bytes.now) }
         ensures passed { IfOk result (λ n. (input : List ℕ) → HasPassed self.old input → HasPassedTo self.new (input ++ bytes.now) (drop n bytes.now)) }
         ensures options { self.new.options ≡ self.old.options }
+        ensures why { IfErr result (λ e. (input : List ℕ) → HasPassed self.old input → IsNotTaken self.old.options.from_image (input ++ bytes.now) e) }
     {
         let Stage::Front(front) = &mut self.stage else {
             return Ok(0);
@@ -157,7 +158,7 @@ impl Pass {
     fn end(self, alloc: Global) -> Result<Result<Shadow, Halt>, AllocError>
         ensures ends { IfOk result (λ r. (input : List ℕ) → HasPassed self input → IsRunOf self.options input r) }
         ensures serving { IfOk result (λ r. IfOk r (λ standby. standby.phase ≡ serving)) }
-        ensures fits { self.taken ≤ 16777216 }
+        ensures fits { IfOk result (λ _. (input : List ℕ) → HasPassed self input → Fits self.options.from_image input) }
     {
         let Pass {
             options,

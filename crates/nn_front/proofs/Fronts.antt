@@ -1,5 +1,5 @@
 -- The bytes of a front, one after another.
-use Rattle.std.proofs.Common.{◌≡◌, ◌≢◌, ◌⊎◌, ℕ, suc, ◌+◌, ◌-◌, ◌<◌, ◌≤◌, get_or, List, [], ◌∷◌, ◌++◌, length, take, drop, min, Bool, true, false, not, ◌&&◌, cond, eqb, Option, Some, None, Result, inl, inr, refl, sym, ap, ◌∙◌, subst, arith, append_assoc, append-nil, drop_of_length-le, length-drop, take-append-drop}
+use Rattle.std.proofs.Common.{◌≡◌, ◌≢◌, ◌⊎◌, ℕ, suc, ◌+◌, ◌-◌, ◌<◌, ◌≤◌, get_or, List, [], ◌∷◌, ◌++◌, length, take, drop, min, Bool, true, false, not, ◌&&◌, cond, eqb, Option, Some, None, Result, inl, inr, refl, sym, ap, ◌∙◌, subst, arith, append_assoc, append-nil, drop_of_length-le, length-append, length-drop, take-append-drop}
 use Rattle.std.proofs.Math.Seq.{drop-cons}
 use Rattle.std.specs.Prelude.{option_map}
 use Rattle.std.specs.Str.{bytes_eq}
@@ -15,8 +15,8 @@ use Rattle.nn_image.specs.declared.fault.ImageFault.{ImageFault}
 use Rattle.nn_image.proofs.LoadedLines.{only_piece, piece}
 use Rattle.nn_image.proofs.Round.{some_piece}
 use Rattle.nn_segment.specs.Lines.{newline, is_unbroken}
-use Rattle.nn_front.specs.Cut.{Cut, behind_mark, cut_from, divided, image_read, mark, onto, rest_of}
-use Rattle.nn_front.specs.Front.{FrontState, IsLoaded, IsPassing, IsInImage, IsBehind, IsAt, IsFront, LineEnded, begun, kept, kept_at, room}
+use Rattle.nn_front.specs.Cut.{Cut, behind_mark, bytes_of, cut_from, divided, from_header, image_read, mark, max_passed, onto, passed_over, rest_of}
+use Rattle.nn_front.specs.Front.{ArePassed, FrontState, IsLoaded, IsPassing, IsInImage, IsBehind, IsAt, IsFront, IsTooMuch, LineEnded, begun, kept, kept_at, passed_at, room}
 use Rattle.nn_front.specs.declared.front.Place.{Place}
 use Rattle.nn_front.specs.declared.front.Place.TheVariants.{Start, Passing, Image, Behind}
 
@@ -40,12 +40,12 @@ same_line header line (b ∷ bytes) more plain =
       | false ↦ onto (b ∷ []) (cut_from header (line ++ b ∷ []) (bytes ++ more))
     ]) (not-true (eqb b newline) both.0) ∙ later
 
-passed : (line bytes more : List ℕ) → is_unbroken bytes ≡ true → behind_mark line (bytes ++ more) ≡ behind_mark (line ++ bytes) more
-passed line [] more plain = ap (λ l. behind_mark l more) (sym (append-nil line))
-passed line (b ∷ bytes) more plain =
+passes : (line bytes more : List ℕ) → is_unbroken bytes ≡ true → behind_mark line (bytes ++ more) ≡ behind_mark (line ++ bytes) more
+passes line [] more plain = ap (λ l. behind_mark l more) (sym (append-nil line))
+passes line (b ∷ bytes) more plain =
     let both = and_parts (not (eqb b newline)) (is_unbroken bytes) plain in
     let later : behind_mark (line ++ b ∷ []) (bytes ++ more) ≡ behind_mark (line ++ b ∷ bytes) more =
-    passed (line ++ b ∷ []) bytes more both.1 ∙ ap (λ l. behind_mark l more) (append_assoc line (b ∷ []) bytes) in
+    passes (line ++ b ∷ []) bytes more both.1 ∙ ap (λ l. behind_mark l more) (append_assoc line (b ∷ []) bytes) in
     ap (λ t. elim t as (λ _. Option (List ℕ)) [
       | true ↦ elim (bytes_eq line mark) as (λ _. Option (List ℕ)) [
         | true ↦ Some (bytes ++ more)
@@ -84,6 +84,60 @@ same_mark (a ∷ b ∷ c ∷ d ∷ []) = refl
 same_mark (a ∷ b ∷ c ∷ d ∷ e ∷ []) = refl
 same_mark (a ∷ b ∷ c ∷ d ∷ e ∷ f ∷ whole) = refl
 
+-- ---- what is passed over
+
+divided_by : (input : List ℕ) (found : Option (List ℕ)) → from_header input ≡ found → divided input ≡ option_map (cut_from true []) found
+unfolding divided
+divided_by input found e = ap (option_map (cut_from true [])) e
+
+passed_by : (text more : List ℕ) → from_header (text ++ more) ≡ Some more → passed_over (text ++ more) ≡ length text
+unfolding passed_over
+passed_by text more e = ap (λ o. length (text ++ more) - length (bytes_of o)) e ∙ omega (arith, length-append text more)
+
+-- at most all
+passed_at_most : (text : List ℕ) → passed_over text ≤ length text
+unfolding passed_over
+passed_at_most text = omega arith
+
+none_passed : passed_over [] ≡ 0
+unfolding passed_over
+none_passed = refl
+
+left_at_most : (line bytes : List ℕ) → length (bytes_of (behind_mark line bytes)) ≤ length bytes
+left_at_most line [] = omega arith
+left_at_most line (b ∷ bytes) = by (eqb b feed) (bytes_eq line mark) (left_at_most [] bytes) (left_at_most (line ++ b ∷ []) bytes)
+  where
+    by : (t u : Bool) → length (bytes_of (behind_mark [] bytes)) ≤ length bytes → length (bytes_of (behind_mark (line ++ b ∷ []) bytes)) ≤ length bytes → length (bytes_of (elim t as (λ _. Option (List ℕ)) [
+      | true ↦ elim u as (λ _. Option (List ℕ)) [
+        | true ↦ Some bytes
+        | false ↦ behind_mark [] bytes
+      ]
+      | false ↦ behind_mark (line ++ b ∷ []) bytes
+    ])) ≤ suc (length bytes)
+    by true true fresh on = omega arith
+    by true false fresh on = omega (arith, fresh)
+    by false u fresh on = omega (arith, on)
+
+-- at least what came before the line in hand
+passed_at_least : (text line more : List ℕ) → from_header (text ++ more) ≡ behind_mark line more → length text ≤ passed_over (text ++ more)
+unfolding passed_over
+passed_at_least text line more e =
+    let left : length (bytes_of (from_header (text ++ more))) ≤ length more = subst (λ o. length (bytes_of o) ≤ length more) (sym e) (left_at_most line more) in
+    omega (arith, length-append text more, left)
+
+passed_a_line : (text line more : List ℕ) → from_header (text ++ feed ∷ more) ≡ behind_mark line (feed ∷ more) → length text + 1 ≤ passed_over (text ++ feed ∷ more)
+unfolding passed_over
+passed_a_line text line more e =
+    let left : length (bytes_of (from_header (text ++ feed ∷ more))) ≤ length more = subst (λ o. length (bytes_of o) ≤ length more) (sym e) (by (bytes_eq line mark)) in
+    omega (arith, length-append text (feed ∷ more), left)
+  where
+    by : (u : Bool) → length (bytes_of (elim u as (λ _. Option (List ℕ)) [
+      | true ↦ Some more
+      | false ↦ behind_mark [] more
+    ])) ≤ length more
+    by true = omega arith
+    by false = left_at_most [] more
+
 -- ---- images, put together
 
 joined : (a b c d : List ℕ) → (a ++ b) ++ (c ++ d) ≡ (a ++ (b ++ c)) ++ d
@@ -102,19 +156,21 @@ no_feed_both : (a b : List ℕ) → no_feed a ≡ true → no_feed b ≡ true �
 no_feed_both [] b ha hb = hb
 no_feed_both (x ∷ a) b ha hb = let both = and_parts (not (eqb x feed)) (no_feed a) ha in rw (both.0, no_feed_both a b both.1 hb) refl
 
-bytes_come : (place : Place) (text bytes line : List ℕ) (l : LoadState) (rest : List ℕ) → place ≢ Start → place ≢ Behind → is_unbroken bytes ≡ true → IsAt place text line l rest
-    → IsAt place (text ++ bytes) (kept_at place bytes line) l rest
-bytes_come Start text bytes line l rest started before plain h = absurd (started refl)
-bytes_come Behind text bytes line l rest started before plain h = absurd (before refl)
-bytes_come Passing text bytes line l rest started before plain h = record {
+bytes_come : (place : Place) (text bytes line : List ℕ) (l : LoadState) (n : ℕ) (rest : List ℕ) → place ≢ Start → place ≢ Behind → is_unbroken bytes ≡ true → IsAt place text line l n rest
+    → IsAt place (text ++ bytes) (kept_at place bytes line) l (passed_at place (length bytes) n) rest
+bytes_come Start text bytes line l n rest started before plain h = absurd (started refl)
+bytes_come Behind text bytes line l n rest started before plain h = absurd (before refl)
+bytes_come Passing text bytes line l n rest started before plain h = record {
   none = h.none;
   new = h.new;
   whole = h.whole ++ bytes;
   first = ap (λ x. x ++ take (room (length x) (length bytes)) bytes) h.first ∙ six h.whole bytes;
-  cut = λ more. ap divided (append_assoc text bytes more) ∙ h.cut (bytes ++ more) ∙ ap (option_map (cut_from true [])) (passed h.whole bytes more plain);
+  ahead = λ more. ap from_header (append_assoc text bytes more) ∙ h.ahead (bytes ++ more) ∙ passes h.whole bytes more plain;
+  all = omega (arith, h.all, length-append text bytes);
 }
-bytes_come Image text bytes line l rest started before plain h = record {
+bytes_come Image text bytes line l n rest started before plain h = record {
   none = h.none;
+  before = λ more. ap passed_over (append_assoc text bytes more) ∙ h.before (bytes ++ more);
   lines = h.lines;
   loaded = h.loaded;
   unbroken = no_feed_both line bytes h.unbroken plain;
@@ -124,12 +180,12 @@ bytes_come Image text bytes line l rest started before plain h = record {
 }
 
 pub keeps : (f : FrontState) (text bytes rest : List ℕ) → f.place ≢ Start → f.place ≢ Behind → is_unbroken bytes ≡ true → IsFront text f rest → IsFront (text ++ bytes) (kept bytes f) rest
-keeps f text bytes rest = bytes_come f.place text bytes f.line f.loading rest
+keeps f text bytes rest = bytes_come f.place text bytes f.line f.loading f.passed rest
 
 -- ---- a line ends
 
-mark_or_none : (text whole more : List ℕ) (t : Bool) → bytes_eq whole mark ≡ t → divided (text ++ feed ∷ more) ≡ option_map (cut_from true []) (behind_mark whole (feed ∷ more))
-    → divided (text ++ feed ∷ more) ≡ option_map (cut_from true []) (elim t as (λ _. Option (List ℕ)) [
+mark_or_none : (text whole more : List ℕ) (t : Bool) → bytes_eq whole mark ≡ t → from_header (text ++ feed ∷ more) ≡ behind_mark whole (feed ∷ more)
+    → from_header (text ++ feed ∷ more) ≡ (elim t as (λ _. Option (List ℕ)) [
       | true ↦ Some more
       | false ↦ behind_mark [] more
     ])
@@ -148,29 +204,42 @@ one_more lines line l m unbroken takes loaded more =
     turn [] some = absurd (some refl)
     turn (next ∷ pieces) some = takes next pieces
 
-mark_ends : (text line : List ℕ) (l : LoadState) (rest : List ℕ) → IsPassing text line l rest → (p : Place) (m : LoadState) → p ≡ cond (bytes_eq line mark) Image Passing → m ≡ l
-    → IsAt p (text ++ feed ∷ []) [] m rest
-mark_ends text line l rest h p m place same = subst (λ q. IsAt q (text ++ feed ∷ []) [] m rest) (sym place) (subst (λ k. IsAt (cond (bytes_eq line mark) Image Passing) (text ++ feed ∷ []) [] k rest) (sym (same ∙ h.new)) (by (bytes_eq line mark) (sym (ap (λ x. bytes_eq x mark) h.first ∙ same_mark h.whole))))
+mark_ends : (text line : List ℕ) (l : LoadState) (n : ℕ) (rest : List ℕ) → IsPassing text line l n rest → (p : Place) (m : LoadState) (k : ℕ) → p ≡ cond (bytes_eq line mark) Image Passing → m ≡ l
+    → k ≡ n + 1 → IsAt p (text ++ feed ∷ []) [] m k rest
+mark_ends text line l n rest h p m k place same much =
+    subst (λ q. IsAt q (text ++ feed ∷ []) [] m k rest) (sym place)
+    (subst (λ x. IsAt (cond (bytes_eq line mark) Image Passing) (text ++ feed ∷ []) [] x k rest) (sym (same ∙ h.new)) (by (bytes_eq line mark) (sym (ap (λ x. bytes_eq x mark) h.first ∙ same_mark h.whole))))
   where
-    by : (t : Bool) → bytes_eq h.whole mark ≡ t → IsAt (cond t Image Passing) (text ++ feed ∷ []) [] at_header rest
+    count : k ≡ length (text ++ feed ∷ [])
+    count = omega (arith, much, h.all, length-append text (feed ∷ []))
+
+    found : (t : Bool) → bytes_eq h.whole mark ≡ t → (more : List ℕ) → from_header ((text ++ feed ∷ []) ++ more) ≡ (elim t as (λ _. Option (List ℕ)) [
+      | true ↦ Some more
+      | false ↦ behind_mark [] more
+    ])
+    found t e more = ap from_header (append_assoc text (feed ∷ []) more) ∙ mark_or_none text h.whole more t e (h.ahead (feed ∷ more))
+
+    by : (t : Bool) → bytes_eq h.whole mark ≡ t → IsAt (cond t Image Passing) (text ++ feed ∷ []) [] at_header k rest
     by true e = record {
       none = h.none;
+      before = λ more. passed_by (text ++ feed ∷ []) more (found true e more) ∙ sym count;
       lines = [];
       loaded = none_loaded;
       unbroken = refl;
-      cut = λ more. ap divided (append_assoc text (feed ∷ []) more) ∙ mark_or_none text h.whole more true e (h.cut (feed ∷ more));
+      cut = λ more. divided_by ((text ++ feed ∷ []) ++ more) (Some more) (found true e more);
     }
     by false e = record {
       none = h.none;
       new = refl;
       whole = [];
       first = refl;
-      cut = λ more. ap divided (append_assoc text (feed ∷ []) more) ∙ mark_or_none text h.whole more false e (h.cut (feed ∷ more));
+      ahead = found false e;
+      all = count;
     }
 
-image_line_ends : (text line : List ℕ) (l : LoadState) (rest : List ℕ) → IsInImage text line l rest → (p : Place) (m : LoadState) → p ≡ cond (ends_with l line) Behind Image → is_first m ≡ false
-    → TakesLine l m line → IsAt p (text ++ feed ∷ []) [] m rest
-image_line_ends text line l rest h p m place later takes = subst (λ q. IsAt q (text ++ feed ∷ []) [] m rest) (sym place) (by (ends_with l line) refl)
+image_line_ends : (text line : List ℕ) (l : LoadState) (n : ℕ) (rest : List ℕ) → IsInImage text line l n rest → (p : Place) (m : LoadState) → p ≡ cond (ends_with l line) Behind Image → is_first m ≡ false
+    → TakesLine l m line → IsAt p (text ++ feed ∷ []) [] m n rest
+image_line_ends text line l n rest h p m place later takes = subst (λ q. IsAt q (text ++ feed ∷ []) [] m n rest) (sym place) (by (ends_with l line) refl)
   where
     Next : Bool → List ℕ → Cut
     Next t more = elim t as (λ _. Cut) [
@@ -178,8 +247,12 @@ image_line_ends text line l rest h p m place later takes = subst (λ q. IsAt q (
       | false ↦ onto (feed ∷ []) (cut_from false [] more)
     ]
 
-    by : (t : Bool) → ends_with l line ≡ t → IsAt (cond t Behind Image) (text ++ feed ∷ []) [] m rest
+    still : ArePassed (text ++ feed ∷ []) n
+    still more = ap passed_over (append_assoc text (feed ∷ []) more) ∙ h.before (feed ∷ more)
+
+    by : (t : Bool) → ends_with l line ≡ t → IsAt (cond t Behind Image) (text ++ feed ∷ []) [] m n rest
     by true e = record {
+      before = still;
       lines = (h.lines ++ line) ++ feed ∷ [];
       loaded = one_more h.lines line l m h.unbroken takes h.loaded;
       cut = λ more.
@@ -188,6 +261,7 @@ image_line_ends text line l rest h p m place later takes = subst (λ q. IsAt q (
     }
     by false e = record {
       none = h.none;
+      before = still;
       lines = (h.lines ++ line) ++ feed ∷ [];
       loaded = one_more h.lines line l m h.unbroken takes h.loaded;
       unbroken = refl;
@@ -197,33 +271,37 @@ image_line_ends text line l rest h p m place later takes = subst (λ q. IsAt q (
           ∙ ap (λ t. Some (onto (((h.lines ++ line) ++ feed ∷ []) ++ []) (cut_from t [] more))) (sym later);
     }
 
-line_ends : (place : Place) (text : List ℕ) (f new : FrontState) (rest : List ℕ) → place ≡ f.place → place ≢ Start → place ≢ Behind → LineEnded f new → IsAt place text f.line f.loading rest → IsFront (text ++ feed ∷ []) new rest
+line_ends : (place : Place) (text : List ℕ) (f new : FrontState) (rest : List ℕ) → place ≡ f.place → place ≢ Start → place ≢ Behind → LineEnded f new → IsAt place text f.line f.loading f.passed rest → IsFront (text ++ feed ∷ []) new rest
 line_ends Start text f new rest at started before ended h = absurd (started refl)
 line_ends Behind text f new rest at started before ended h = absurd (before refl)
 line_ends Passing text f new rest at started before ended h =
     let k = ended.passed (sym at) in
-    subst (λ x. IsAt new.place (text ++ feed ∷ []) x new.loading rest) (sym ended.line) (mark_ends text f.line f.loading rest h new.place new.loading k.0 k.1)
+    let much : new.passed ≡ f.passed + 1 = ended.much ∙ ap (λ p. passed_at p 1 f.passed) (sym at) in
+    subst (λ x. IsAt new.place (text ++ feed ∷ []) x new.loading new.passed rest) (sym ended.line) (mark_ends text f.line f.loading f.passed rest h new.place new.loading new.passed k.0 k.1 much)
 line_ends Image text f new rest at started before ended h =
     let k = ended.read (sym at) in
-    subst (λ x. IsAt new.place (text ++ feed ∷ []) x new.loading rest) (sym ended.line) (image_line_ends text f.line f.loading rest h new.place new.loading k.0 k.1 k.2)
+    let much : new.passed ≡ f.passed = ended.much ∙ ap (λ p. passed_at p 1 f.passed) (sym at) in
+    subst (λ n. IsAt new.place (text ++ feed ∷ []) new.line new.loading n rest) (sym much)
+    (subst (λ x. IsAt new.place (text ++ feed ∷ []) x new.loading f.passed rest) (sym ended.line) (image_line_ends text f.line f.loading f.passed rest h new.place new.loading k.0 k.1 k.2))
 
 pub ended : (f new : FrontState) (text rest : List ℕ) → f.place ≢ Start → f.place ≢ Behind → LineEnded f new → IsFront text f rest → IsFront (text ++ feed ∷ []) new rest
 ended f new text rest = line_ends f.place text f new rest refl
 
 -- ---- after the image
 
-behind_it : (place : Place) (text bytes line : List ℕ) (l : LoadState) (rest : List ℕ) → place ≡ Behind → IsAt place text line l rest → IsAt place (text ++ bytes) line l (rest ++ bytes)
-behind_it Start text bytes line l rest is h = absurd (cc)
-behind_it Passing text bytes line l rest is h = absurd (cc)
-behind_it Image text bytes line l rest is h = absurd (cc)
-behind_it Behind text bytes line l rest is h = record {
+behind_it : (place : Place) (text bytes line : List ℕ) (l : LoadState) (n : ℕ) (rest : List ℕ) → place ≡ Behind → IsAt place text line l n rest → IsAt place (text ++ bytes) line l n (rest ++ bytes)
+behind_it Start text bytes line l n rest is h = absurd (cc)
+behind_it Passing text bytes line l n rest is h = absurd (cc)
+behind_it Image text bytes line l n rest is h = absurd (cc)
+behind_it Behind text bytes line l n rest is h = record {
+  before = λ more. ap passed_over (append_assoc text bytes more) ∙ h.before (bytes ++ more);
   lines = h.lines;
   loaded = h.loaded;
   cut = λ more. ap divided (append_assoc text bytes more) ∙ h.cut (bytes ++ more) ∙ (λ j. Some (record { image = h.lines; rest = sym (append_assoc rest bytes more) j }));
 }
 
 pub behind : (f : FrontState) (text bytes rest : List ℕ) → f.place ≡ Behind → IsFront text f rest → IsFront (text ++ bytes) f (rest ++ bytes)
-behind f text bytes rest = behind_it f.place text bytes f.line f.loading rest
+behind f text bytes rest = behind_it f.place text bytes f.line f.loading f.passed rest
 
 -- ---- the first byte
 
@@ -231,41 +309,47 @@ at_once : (more : List ℕ) → divided (123 ∷ more) ≡ Some (onto (123 ∷ [
 unfolding divided
 at_once more = refl
 
-empty_line : (more : List ℕ) → divided (10 ∷ more) ≡ option_map (cut_from true []) (behind_mark [] more)
-unfolding divided
+no_bytes_before : (more : List ℕ) → passed_over (123 ∷ more) ≡ 0
+unfolding passed_over
+no_bytes_before more = omega arith
+
+empty_line : (more : List ℕ) → from_header (10 ∷ more) ≡ behind_mark [] more
 empty_line more = refl
 
-other_line : (b : ℕ) (more : List ℕ) → eqb b 123 ≡ false → eqb b feed ≡ false → divided (b ∷ more) ≡ option_map (cut_from true []) (behind_mark (b ∷ []) more)
-unfolding divided
+other_line : (b : ℕ) (more : List ℕ) → eqb b 123 ≡ false → eqb b feed ≡ false → from_header (b ∷ more) ≡ behind_mark (b ∷ []) more
 other_line b more no_object no_feed =
-    ap (λ t. option_map (cut_from true []) (cond t (Some (b ∷ more)) (behind_mark [] (b ∷ more)))) no_object
-    ∙ ap (λ t. option_map (cut_from true []) (elim t as (λ _. Option (List ℕ)) [
+    ap (λ t. cond t (Some (b ∷ more)) (behind_mark [] (b ∷ more))) no_object
+    ∙ ap (λ t. elim t as (λ _. Option (List ℕ)) [
       | true ↦ behind_mark [] more
       | false ↦ behind_mark (b ∷ []) more
-    ])) no_feed
+    ]) no_feed
 
-first_of : (place : Place) (b : ℕ) (text line : List ℕ) (l : LoadState) (rest : List ℕ) → place ≡ Start → IsAt place text line l rest
-    → IsFront (text ++ b ∷ []) (begun b (record { place = place; line = line; loading = l })) rest
-first_of Passing b text line l rest is h = absurd (cc)
-first_of Image b text line l rest is h = absurd (cc)
-first_of Behind b text line l rest is h = absurd (cc)
-first_of Start b text line l rest is h = by (eqb b 123) refl
+first_of : (place : Place) (b : ℕ) (text line : List ℕ) (l : LoadState) (n : ℕ) (rest : List ℕ) → place ≡ Start → IsAt place text line l n rest
+    → IsFront (text ++ b ∷ []) (begun b (record { place = place; line = line; loading = l; passed = n })) rest
+first_of Passing b text line l n rest is h = absurd (cc)
+first_of Image b text line l n rest is h = absurd (cc)
+first_of Behind b text line l n rest is h = absurd (cc)
+first_of Start b text line l n rest is h = by (eqb b 123) refl
   where
+    one_byte : 1 ≡ length (text ++ b ∷ [])
+    one_byte = ap (λ t. length (t ++ b ∷ [])) (sym h.0)
+
     as_passing : (t : Bool) → eqb b 123 ≡ false → eqb b feed ≡ t
-        → IsFront (text ++ b ∷ []) (cond t (record { place = Passing; line = line; loading = l }) (record { place = Passing; line = line ++ b ∷ []; loading = l })) rest
+        → IsFront (text ++ b ∷ []) (cond t (record { place = Passing; line = line; loading = l; passed = 1 }) (record { place = Passing; line = line ++ b ∷ []; loading = l; passed = 1 })) rest
     as_passing true no_object e =
         let is : b ≡ feed = (Decides-eqb b feed).0 e in
-        record { none = h.3; new = h.2; whole = []; first = h.1; cut = λ more. (λ j. divided ((h.0 j ++ is j ∷ []) ++ more)) ∙ empty_line more }
+        record { none = h.3; new = h.2; whole = []; first = h.1; ahead = λ more. (λ j. from_header ((h.0 j ++ is j ∷ []) ++ more)) ∙ empty_line more; all = one_byte }
     as_passing false no_object e =
-        record { none = h.3; new = h.2; whole = b ∷ []; first = ap (λ x. x ++ b ∷ []) h.1; cut = λ more. (λ j. divided ((h.0 j ++ b ∷ []) ++ more)) ∙ other_line b more no_object e }
+        record { none = h.3; new = h.2; whole = b ∷ []; first = ap (λ x. x ++ b ∷ []) h.1; ahead = λ more. (λ j. from_header ((h.0 j ++ b ∷ []) ++ more)) ∙ other_line b more no_object e; all = one_byte }
 
     by : (t : Bool) → eqb b 123 ≡ t
-        → IsFront (text ++ b ∷ []) (cond t (record { place = Image; line = line ++ b ∷ []; loading = l }) (cond (eqb b feed) (record { place = Passing; line = line; loading = l }) (record { place = Passing; line = line ++ b ∷ []; loading = l }))) rest
+        → IsFront (text ++ b ∷ []) (cond t (record { place = Image; line = line ++ b ∷ []; loading = l; passed = n }) (cond (eqb b feed) (record { place = Passing; line = line; loading = l; passed = 1 }) (record { place = Passing; line = line ++ b ∷ []; loading = l; passed = 1 }))) rest
     by true e =
         let is : b ≡ 123 = (Decides-eqb b 123).0 e in
         let one : line ++ b ∷ [] ≡ 123 ∷ [] = (λ j. h.1 j ++ is j ∷ []) in
         record {
           none = h.3;
+          before = λ more. (λ j. passed_over ((h.0 j ++ is j ∷ []) ++ more)) ∙ no_bytes_before more ∙ sym h.4;
           lines = [];
           loaded = subst (IsLoaded []) (sym h.2) none_loaded;
           unbroken = ap no_feed one;
@@ -274,7 +358,26 @@ first_of Start b text line l rest is h = by (eqb b 123) refl
     by false e = as_passing (eqb b feed) e refl
 
 pub first : (f : FrontState) (b : ℕ) (text rest : List ℕ) → f.place ≡ Start → IsFront text f rest → IsFront (text ++ b ∷ []) (begun b f) rest
-first f b text rest = first_of f.place b text f.line f.loading rest
+first f b text rest = first_of f.place b text f.line f.loading f.passed rest
+
+-- ---- more than may be passed over
+
+passing : (f : FrontState) (text rest : List ℕ) → f.place ≡ Passing → IsFront text f rest → IsPassing text f.line f.loading f.passed rest
+passing f text rest is h = subst (λ p. IsAt p text f.line f.loading f.passed rest) is h
+
+-- where the end of the line in hand is one byte too many
+too_much_at_feed : (f : FrontState) (text more rest : List ℕ) → IsTooMuch f 1 → IsFront text f rest → max_passed < passed_over (text ++ feed ∷ more)
+too_much_at_feed f text more rest much h =
+    let k = passing f text rest much.0 h in
+    omega (arith, much.1, k.all, passed_a_line text k.whole more (k.ahead (feed ∷ more)))
+
+-- or these bytes of it
+too_much_on_a_line : (f : FrontState) (text bytes more rest : List ℕ) → is_unbroken bytes ≡ true → IsTooMuch f (length bytes) → IsFront text f rest → max_passed < passed_over (text ++ (bytes ++ more))
+too_much_on_a_line f text bytes more rest plain much h =
+    let k = passing f text rest much.0 h in
+    let ahead : from_header ((text ++ bytes) ++ more) ≡ behind_mark (k.whole ++ bytes) more = ap from_header (append_assoc text bytes more) ∙ k.ahead (bytes ++ more) ∙ passes k.whole bytes more plain in
+    let same : passed_over ((text ++ bytes) ++ more) ≡ passed_over (text ++ (bytes ++ more)) = ap passed_over (append_assoc text bytes more) in
+    omega (arith, much.1, k.all, length-append text bytes, passed_at_least (text ++ bytes) (k.whole ++ bytes) more ahead, same)
 
 -- ---- the bytes of a chunk
 
@@ -328,6 +431,21 @@ module _ (old f line_kept : FrontState) (bytes left : List ℕ) (at end : ℕ) (
       let none : rest ≡ rest ++ drop (length bytes) bytes = sym (append-nil rest) ∙ ap (λ l. rest ++ l) (sym (drop_of_length-le bytes (omega arith))) in
       subst (λ t. IsFront t line_kept (rest ++ drop (length bytes) bytes)) same (subst (λ r. IsFront ((text ++ pushed.done) ++ take end left) line_kept r) none (with_bytes text rest h))
 
+  -- more than may be passed over
+  pub too_many : IsTooMuch f (length (take end left)) → (text rest : List ℕ) → IsFront text old rest → max_passed < passed_over (text ++ bytes)
+  too_many much text rest h =
+      let same : (text ++ pushed.done) ++ (take end left ++ drop end left) ≡ text ++ bytes =
+      ap (λ l. (text ++ pushed.done) ++ l) (take-append-drop end left ∙ is_left) ∙ append_assoc text pushed.done (drop at bytes) ∙ ap (λ l. text ++ l) pushed.whole in
+      subst (λ t. max_passed < passed_over t) same (too_much_on_a_line f (text ++ pushed.done) (take end left) (drop end left) rest plain much (pushed.front text rest h))
+
+  pub too_many_at_feed : end < length left → get_or left end 0 ≡ feed → IsTooMuch line_kept 1 → (text rest : List ℕ) → IsFront text old rest → max_passed < passed_over (text ++ bytes)
+  too_many_at_feed less there much text rest h =
+      let from : drop end left ≡ feed ∷ drop (suc end) left = drop-cons left end 0 less ∙ ap (λ b. b ∷ drop (suc end) left) there in
+      let same : ((text ++ pushed.done) ++ take end left) ++ feed ∷ drop (suc end) left ≡ text ++ bytes =
+      ap (λ l. ((text ++ pushed.done) ++ take end left) ++ l) (sym from) ∙ append_assoc (text ++ pushed.done) (take end left) (drop end left)
+      ∙ ap (λ l. (text ++ pushed.done) ++ l) (take-append-drop end left ∙ is_left) ∙ append_assoc text pushed.done (drop at bytes) ∙ ap (λ l. text ++ l) pushed.whole in
+      subst (λ t. max_passed < passed_over t) same (too_much_at_feed line_kept ((text ++ pushed.done) ++ take end left) (drop (suc end) left) rest much (with_bytes text rest h))
+
   -- and over the end of its line
   pub line_pushed : (new : FrontState) → end < length left → get_or left end 0 ≡ feed → LineEnded line_kept new → HasPushed old new bytes (at + (end + 1))
   line_pushed new less there is_ended =
@@ -375,7 +493,7 @@ Begins old b n new = (old.place ≡ Start → (n ≡ 1) × (new ≡ begun b old)
 begun_place : (b : ℕ) (f : FrontState) → (begun b f).place ≢ Start
 begun_place b f = by (eqb b 123) (eqb b feed)
   where
-    by : (t u : Bool) → (cond t (record f { place = Image; line = f.line ++ b ∷ [] }) (cond u (record f { place = Passing }) (record f { place = Passing; line = f.line ++ b ∷ [] }))).place ≢ Start
+    by : (t u : Bool) → (cond t (record f { place = Image; line = f.line ++ b ∷ [] }) (cond u (record f { place = Passing; passed = 1 }) (record f { place = Passing; line = f.line ++ b ∷ []; passed = 1 }))).place ≢ Start
     by true u = λ e. absurd (cc)
     by false true = λ e. absurd (cc)
     by false false = λ e. absurd (cc)
@@ -413,11 +531,32 @@ chunk_pushed f0 f1 f2 b n m (x ∷ bytes) h some is sliced text rest front =
           subst (λ t. IsFront t f2 (rest ++ drop (n + m) (x ∷ bytes))) same (subst (λ l. IsFront (text ++ drop n (x ∷ bytes)) f2 (rest ++ l)) left (lines text rest one))
     ]
 
+pub chunk_too_long : (f0 f1 : FrontState) (b n : ℕ) (bytes : List ℕ) → Begins f0 b n f1 → 0 < length bytes → b ≡ get_or bytes 0 0
+    → ((text rest : List ℕ) → IsFront text f1 rest → max_passed < passed_over (text ++ take (length bytes - n) (drop n bytes)))
+    → (text rest : List ℕ) → IsFront text f0 rest → max_passed < passed_over (text ++ bytes)
+chunk_too_long f0 f1 b n [] h some is long text rest front = absurd (omega (arith, some))
+chunk_too_long f0 f1 b n (x ∷ bytes) h some is long text rest front =
+    let whole : (text rest : List ℕ) → IsFront text f1 rest → max_passed < passed_over (text ++ drop n (x ∷ bytes)) =
+    λ text rest k. subst (λ l. max_passed < passed_over (text ++ l)) (slice_from n (x ∷ bytes)) (long text rest k) in
+    elim (start_or_not f0.place) [
+      | inl start ↦
+          let k = h.0 start in
+          let one : IsFront (text ++ b ∷ []) f1 rest = subst (λ g. IsFront (text ++ b ∷ []) g rest) (sym k.1) (first f0 b text rest start front) in
+          let same : (text ++ b ∷ []) ++ drop n (x ∷ bytes) ≡ text ++ x ∷ bytes = (λ j. (text ++ is j ∷ []) ++ drop (k.0 j) (x ∷ bytes)) ∙ append_assoc text (x ∷ []) bytes in
+          subst (λ t. max_passed < passed_over t) same (whole (text ++ b ∷ []) rest one)
+      | inr not ↦
+          let k = h.1 not in
+          let one : IsFront text f1 rest = subst (λ g. IsFront text g rest) (sym k.1) front in
+          let same : text ++ drop n (x ∷ bytes) ≡ text ++ x ∷ bytes = ap (λ z. text ++ drop z (x ∷ bytes)) k.0 in
+          subst (λ t. max_passed < passed_over t) same (whole text rest one)
+    ]
+
 -- ---- the end
 
-pub at_place : (s : FrontState) (place p : Place) (line : List ℕ) (l : LoadState) (text rest : List ℕ) → ◌≡◌ {A = FrontState} (record { place = place; line = line; loading = l }) s → place ≡ p
-    → IsFront text s rest → IsAt p text line l rest
-at_place s place p line l text rest view is h = subst (λ q. IsAt q text line l rest) is (subst (λ f. IsFront text f rest) (sym view) h)
+pub at_place : (s : FrontState) (place p : Place) (line : List ℕ) (l : LoadState) (n : ℕ) (text rest : List ℕ)
+    → ◌≡◌ {A = FrontState} (record { place = place; line = line; loading = l; passed = n }) s → place ≡ p
+    → IsFront text s rest → IsAt p text line l n rest
+at_place s place p line l n text rest view is h = subst (λ q. IsAt q text line l n rest) is (subst (λ f. IsFront text f rest) (sym view) h)
 
 none_began : divided [] ≡ None
 unfolding divided
@@ -433,32 +572,49 @@ none_read text rest is none = (ap image_read (sym is), ap rest_of is ∙ sym non
 some_read : (text image rest : List ℕ) (r : Result (Namespace × ℕ) ImageFault) → divided text ≡ Some (record { image = image; rest = rest }) → r ≡ read_image image → Reads text (Some r) rest
 some_read text image rest r is read = (ap Some read ∙ ap image_read (sym is), ap rest_of is)
 
-pub ends_at_start : (text line : List ℕ) (l : LoadState) (rest : List ℕ) → IsAt Start text line l rest → Reads text None rest
-ends_at_start text line l rest h = none_read text rest (ap divided h.0 ∙ none_began) h.3
+pub ends_at_start : (text line : List ℕ) (l : LoadState) (n : ℕ) (rest : List ℕ) → IsAt Start text line l n rest → Reads text None rest
+ends_at_start text line l n rest h = none_read text rest (ap divided h.0 ∙ none_began) h.3
 
-pub ends_passing : (text line : List ℕ) (l : LoadState) (rest : List ℕ) → IsPassing text line l rest → Reads text None rest
-ends_passing text line l rest h = none_read text rest (ap divided (sym (append-nil text)) ∙ h.cut []) h.none
+pub ends_passing : (text line : List ℕ) (l : LoadState) (n : ℕ) (rest : List ℕ) → IsPassing text line l n rest → Reads text None rest
+ends_passing text line l n rest h = none_read text rest (ap divided (sym (append-nil text)) ∙ divided_by (text ++ []) None (h.ahead [])) h.none
 
-pub ends_in_image : (text line : List ℕ) (l : LoadState) (rest : List ℕ) (r : Result (Namespace × ℕ) ImageFault) → r ≡ loaded_from l (line ∷ []) → IsInImage text line l rest → Reads text (Some r) rest
-ends_in_image text line l rest r is h =
+pub ends_in_image : (text line : List ℕ) (l : LoadState) (n : ℕ) (rest : List ℕ) (r : Result (Namespace × ℕ) ImageFault) → r ≡ loaded_from l (line ∷ []) → IsInImage text line l n rest → Reads text (Some r) rest
+ends_in_image text line l n rest r is h =
     some_read text (h.lines ++ line) rest r
     (ap divided (sym (append-nil text)) ∙ h.cut [] ∙ (λ j. Some (record { image = append-nil (h.lines ++ line) j; rest = sym h.none j })))
     (is ∙ ap (loaded_from l) (sym (only_piece line h.unbroken)) ∙ sym (h.loaded line))
 
-pub ends_behind : (text more : List ℕ) (l : LoadState) (rest : List ℕ) (r : Result (Namespace × ℕ) ImageFault) → r ≡ loaded_from l ([] ∷ []) → IsBehind text l rest → Reads (text ++ more) (Some r) (rest ++ more)
-ends_behind text more l rest r is h =
+pub ends_behind : (text more : List ℕ) (l : LoadState) (n : ℕ) (rest : List ℕ) (r : Result (Namespace × ℕ) ImageFault) → r ≡ loaded_from l ([] ∷ []) → IsBehind text l n rest → Reads (text ++ more) (Some r) (rest ++ more)
+ends_behind text more l n rest r is h =
     some_read (text ++ more) h.lines (rest ++ more) r (h.cut more) (is ∙ ap (loaded_from l) (sym (only_piece [] refl)) ∙ sym (h.loaded []) ∙ ap read_image (append-nil h.lines))
 
-pub ends_here : (text : List ℕ) (l : LoadState) (rest : List ℕ) (r : Result (Namespace × ℕ) ImageFault) → r ≡ loaded_from l ([] ∷ []) → IsBehind text l rest → Reads text (Some r) rest
-ends_here text l rest r is h = subst (λ t. Reads t (Some r) rest) (append-nil text) (subst (λ x. Reads (text ++ []) (Some r) x) (append-nil rest) (ends_behind text [] l rest r is h))
+pub ends_here : (text : List ℕ) (l : LoadState) (n : ℕ) (rest : List ℕ) (r : Result (Namespace × ℕ) ImageFault) → r ≡ loaded_from l ([] ∷ []) → IsBehind text l n rest → Reads text (Some r) rest
+ends_here text l n rest r is h = subst (λ t. Reads t (Some r) rest) (append-nil text) (subst (λ x. Reads (text ++ []) (Some r) x) (append-nil rest) (ends_behind text [] l n rest r is h))
 
 -- ---- what follows the front
 
 pub rest_is : (f : FrontState) (text rest : List ℕ) → IsFront text f rest → rest_of (divided text) ≡ rest
 rest_is f text rest = by f.place
   where
-    by : (place : Place) → IsAt place text f.line f.loading rest → rest_of (divided text) ≡ rest
-    by Start h = (ends_at_start text f.line f.loading rest h).1
-    by Passing h = (ends_passing text f.line f.loading rest h).1
-    by Image h = (ends_in_image text f.line f.loading rest (loaded_from f.loading (f.line ∷ [])) refl h).1
-    by Behind h = (ends_here text f.loading rest (loaded_from f.loading ([] ∷ [])) refl h).1
+    by : (place : Place) → IsAt place text f.line f.loading f.passed rest → rest_of (divided text) ≡ rest
+    by Start h = (ends_at_start text f.line f.loading f.passed rest h).1
+    by Passing h = (ends_passing text f.line f.loading f.passed rest h).1
+    by Image h = (ends_in_image text f.line f.loading f.passed rest (loaded_from f.loading (f.line ∷ [])) refl h).1
+    by Behind h = (ends_here text f.loading f.passed rest (loaded_from f.loading ([] ∷ [])) refl h).1
+
+-- ---- how much is passed over
+
+pub fits : (f : FrontState) (text rest : List ℕ) → f.passed ≤ max_passed → IsFront text f rest → passed_over text ≤ max_passed
+fits f text rest few = by f.place
+  where
+    still : ArePassed text f.passed → passed_over text ≤ max_passed
+    still before = let e : passed_over text ≡ f.passed = ap passed_over (sym (append-nil text)) ∙ before [] in omega (arith, e, few)
+
+    by : (place : Place) → IsAt place text f.line f.loading f.passed rest → passed_over text ≤ max_passed
+    by Start h = let e : passed_over text ≡ 0 = ap passed_over h.0 ∙ none_passed in omega (arith, e)
+    by Passing h = omega (arith, passed_at_most text, h.all, few)
+    by Image h = still h.before
+    by Behind h = still h.before
+
+pub fits_behind : (n : ℕ) (text line more : List ℕ) (l : LoadState) (rest : List ℕ) → n ≤ max_passed → IsBehind text l n rest → passed_over (text ++ more) ≤ max_passed
+fits_behind n text line more l rest few h = omega (arith, h.before more, few)

@@ -1,5 +1,5 @@
 -- An input that begins with an image: what is passed over before it, the image, and what follows it.
-use Rattle.std.specs.Prelude.{ℕ, ◌==◌, ◌&&◌, not, List, [], ◌∷◌, ◌++◌, Bool, true, false, Option, Some, None, Result, option_map, if◌then◌else◌, codes}
+use Rattle.std.specs.Prelude.{ℕ, ◌-◌, ◌==◌, ◌&&◌, not, List, [], ◌∷◌, ◌++◌, length, Bool, true, false, Option, Some, None, Result, option_map, if◌then◌else◌, codes}
 use Rattle.std.specs.Str.{bytes_eq}
 use Rattle.nn_image.specs.Text.{feed}
 use Rattle.nn_image.specs.Reading.{is_end_line, read_image}
@@ -32,6 +32,18 @@ begins_object (b ∷ bytes) = b == 123
 -- an input from its image on: all of it, where its first byte is `{`
 abbrev pub from_header : List ℕ → Option (List ℕ)
 from_header input = if begins_object input then Some input else behind_mark [] input
+
+abbrev pub bytes_of : Option (List ℕ) → List ℕ
+bytes_of None = []
+bytes_of (Some bytes) = bytes
+
+-- how many bytes are passed over before an image: all, where none begins
+unfoldable pub passed_over : List ℕ → ℕ
+passed_over input = length input - length (bytes_of (from_header input))
+
+-- as many as may be
+abbrev pub max_passed : ℕ
+max_passed = 16777216
 
 -- ---- Where it ends.
 

@@ -10,7 +10,7 @@ use Rattle.json.specs.Word.{word, after_number}
 use Rattle.serde_json.specs.Read.{number_of}
 use Rattle.nn_image.specs.Text.{feed}
 use Rattle.nn_image.specs.Reading.{is_end_line, object_of, value_of}
-use Rattle.nn_front.specs.Cut.{divided, rest_of}
+use Rattle.nn_front.specs.Cut.{divided, passed_over, rest_of}
 
 -- lines, each with its line feed
 abbrev lines : List (List ℕ) → List ℕ
@@ -51,3 +51,8 @@ none_begins = refl
 -- nothing follows where no image begins, and else what is behind it
 rests : map rest_of (None ∷ Some (record { image = codes "a"; rest = codes "b" }) ∷ []) ≡ [] ∷ codes "b" ∷ []
 rests = refl
+
+-- what stands before an image is passed over; all, where none begins
+are_passed_over : map passed_over ([] ∷ codes "image" ∷ lines (codes "ab" ∷ codes "image" ∷ codes "{}" ∷ []) ∷ lines (codes "{}" ∷ codes "image" ∷ []) ∷ []) ≡ 0 ∷ 5 ∷ 9 ∷ 0 ∷ []
+unfolding passed_over
+are_passed_over = refl

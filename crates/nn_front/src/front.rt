@@ -1,10 +1,10 @@
 //! The bytes of an input up to the end of its image.
-ghost use Rattle.std.specs.Prelude.{◌≡◌, ◌≢◌, ◌≤◌, ◌<◌, ◌++◌, [], List, ℕ, None, Some, true, drop, length, IfOk, IfSome, OnOk};
+ghost use Rattle.std.specs.Prelude.{◌≡◌, ◌≢◌, ◌≤◌, ◌<◌, ◌+◌, ◌++◌, [], List, ℕ, None, Some, true, drop, length, IfOk, IfSome, OnOk, IsErrOf};
 ghost use Rattle.std.specs.Str.{bytes_eq};
 ghost use Rattle.nn_image.specs.Loading.{is_first, ends_with, TakesLine};
 ghost use Rattle.nn_segment.specs.Lines.{is_unbroken};
-ghost use Rattle.nn_front.specs.Cut.{divided, image_read, mark, rest_of};
-ghost use Rattle.nn_front.specs.Front.{IsFront, LineEnded, begun, kept, room};
+ghost use Rattle.nn_front.specs.Cut.{divided, image_read, mark, max_passed, passed_over, rest_of};
+ghost use Rattle.nn_front.specs.Front.{IsFront, IsTooMuch, LineEnded, begun, kept, passed_at, room};
 
 use nn_image::{ImageFault, Loading};
 use nn_segment::line_end;
@@ -13,12 +13,25 @@ use nn_types::Txid;
 use std::alloc::{AllocError, Global};
 use std::marker::Model;
 use std::mem;
+use thiserror::Error;
 
 /// The line behind which an image begins.
 const MARK: &[u8] = b"image";
 
 /// The bytes that are kept of a line that is passed over: one more than the mark has.
 const MAX_KEPT: usize = 6;
+
+/// How many bytes may be passed over before an image.
+pub const MAX_PASSED: usize = 16_777_216;
+
+/// Why a front takes no more bytes. Discard it then.
+#[derive(Clone, Copy, Debug, PartialEq, Eq, Error)]
+pub enum FrontFault {
+    #[error("more than 16777216 bytes before an image")]
+    TooLong,
+    #[error("out of memory")]
+    OutOfMemory,
+}
 
 /// Where in its front an input is.
 #[derive(Clone, Copy, Debug, PartialEq, Eq)]
@@ -45,14 +58,30 @@ pub struct Front {
     line: Vec<u8>,
     // the lines of the image that have ended
     loading: Loading,
+    // how many bytes were passed over
+    passed: usize,
 }
 
 impl Model for Front {
+    ghost use Rattle.std.specs.Prelude.{◌≤◌};
+    ghost use Rattle.nn_front.specs.Cut.{max_passed};
     ghost use Rattle.nn_front.specs.Front.{FrontState};
 
     ghost Value = { FrontState };
 
-    ghost view = { λ f. record { place = f.place; line = f.line.items; loading = f.loading } };
+    ghost view = { λ f. record { place = f.place; line = f.line.items; loading = f.loading; passed = f.passed } };
+
+    ghost invariant = { λ f. f.passed ≤ max_passed };
+}
+
+impl From<AllocError> for FrontFault {
+    ghost use Rattle.nn_front.specs.declared.front.FrontFault.TheVariants.{OutOfMemory};
+
+    ghost from_gives = { λ _ e. e ≡ OutOfMemory };
+
+    fn from(_e: AllocError) -> FrontFault {
+        FrontFault::OutOfMemory
+    }
 }
 
 impl Front {
@@ -64,14 +93,17 @@ impl Front {
             place: Place::Start,
             line: Vec::new(alloc),
             loading: Loading::new(),
+            passed: 0,
         }
     }
 
     /// The next bytes of the input, however they are cut. The answer is how many of them are of the front; those behind are
     /// of the scenario. A line of the image is loaded as it ends, and behind a bad one only parsed, to see whether it is the
-    /// last. Once memory was refused, no more can be pushed.
-    pub fn push(&mut self, alloc: Global, bytes: &[u8]) -> Result<usize, AllocError>
+    /// last. After a fault no more can be pushed.
+    pub fn push(&mut self, alloc: Global, bytes: &[u8]) -> Result<usize, FrontFault>
         ensures within { IfOk result (λ n. n ≤ length bytes.now) }
+        ensures long { IsErrOf result FrontFault.TooLong → (text rest : List ℕ) → IsFront text self.old rest
+            → max_passed < passed_over (text ++ bytes.now) }
         ensures front { IfOk result (λ n. (text rest : List ℕ) → IsFront text self.old rest
             → IsFront (text ++ bytes.now) self.new (rest ++ drop n bytes.now)) }
     {
@@ -85,12 +117,14 @@ impl Front {
 
     /// What the image of all bytes that came is read as; none where none begins. What follows it did not come through here.
     pub fn end(self) -> Option<Loaded>
-        ensures { (text rest : List ℕ) → IsFront text self rest → (result ≡ image_read (divided text)) × (rest_of (divided text) ≡ rest) }
+        ensures read { (text rest : List ℕ) → IsFront text self rest → (result ≡ image_read (divided text)) × (rest_of (divided text) ≡ rest) }
+        ensures fits { (text rest : List ℕ) → IsFront text self rest → passed_over text ≤ max_passed }
     {
         let Front {
             place,
             line,
             loading,
+            ..
         } = self;
         match place {
             Place::Start => None,
@@ -105,6 +139,7 @@ impl Front {
     pub fn take_ended(&mut self, alloc: Global) -> Option<Loaded>
         ensures ended { IfSome result (λ loaded. (text rest more : List ℕ) → IsFront text self.old rest
             → (image_read (divided (text ++ more)) ≡ Some loaded) × (rest_of (divided (text ++ more)) ≡ rest ++ more)) }
+        ensures fits { IfSome result (λ _. (text rest more : List ℕ) → IsFront text self.old rest → passed_over (text ++ more) ≤ max_passed) }
         ensures not_yet { result ≡ None → (self.new ≡ self.old) × ((text rest : List ℕ) → IsFront text self.old rest → rest ≡ []) }
     {
         if self.place != Place::Behind {
@@ -128,6 +163,7 @@ impl Front {
             return Ok(1);
         }
         self.place = Place::Passing;
+        self.passed = 1;
         if first != b'\n' {
             self.line.push(first)?;
         }
@@ -135,8 +171,10 @@ impl Front {
     }
 
     // Takes the lines of these bytes, of which the first is not the input's first.
-    fn push_lines(&mut self, alloc: Global, bytes: &[u8]) -> Result<usize, AllocError>
+    fn push_lines(&mut self, alloc: Global, bytes: &[u8]) -> Result<usize, FrontFault>
         requires { self.old.place ≢ Place.Start }
+        ensures long { IsErrOf result FrontFault.TooLong → (text rest : List ℕ) → IsFront text self.old rest
+            → max_passed < passed_over (text ++ bytes.now) }
         ensures within { IfOk result (λ n. n ≤ length bytes.now) }
         ensures front { IfOk result (λ n. (text rest : List ℕ) → IsFront text self.old rest
             → IsFront (text ++ bytes.now) self.new (rest ++ drop n bytes.now)) }
@@ -158,23 +196,42 @@ impl Front {
     }
 
     // Takes bytes of the line.
-    fn keep(&mut self, text: &[u8]) -> Result<(), AllocError>
-        ensures { OnOk result (self.new ≡ kept text.now self.old) }
+    fn keep(&mut self, text: &[u8]) -> Result<(), FrontFault>
+        ensures kept { OnOk result (self.new ≡ kept text.now self.old) }
+        ensures long { IsErrOf result FrontFault.TooLong → IsTooMuch self.old (length text.now) }
     {
         if self.place == Place::Passing {
+            self.pass_over(text.len())?;
             let more = room(self.line.len(), text.len());
-            return self.line.extend_from_slice(&text[..more]);
+            self.line.extend_from_slice(&text[..more])?;
+            return Ok(());
         }
-        self.line.extend_from_slice(text)
+        self.line.extend_from_slice(text)?;
+        Ok(())
+    }
+
+    // Passes over so many bytes more.
+    fn pass_over(&mut self, more: usize) -> Result<(), FrontFault>
+        requires { self.old.place ≡ Place.Passing }
+        ensures passed { OnOk result (self.new ≡ record self.old { passed = self.old.passed + more }) }
+        ensures long { IsErrOf result FrontFault.TooLong → IsTooMuch self.old more }
+    {
+        if more > MAX_PASSED - self.passed {
+            return Err(FrontFault::TooLong);
+        }
+        self.passed += more;
+        Ok(())
     }
 
     // The line ends here.
-    fn end_line(&mut self, alloc: Global) -> Result<(), AllocError>
+    fn end_line(&mut self, alloc: Global) -> Result<(), FrontFault>
         requires started { self.old.place ≢ Place.Start }
         requires before { self.old.place ≢ Place.Behind }
-        ensures { OnOk result (LineEnded self.old self.new) }
+        ensures ended { OnOk result (LineEnded self.old self.new) }
+        ensures long { IsErrOf result FrontFault.TooLong → IsTooMuch self.old 1 }
     {
         if self.place == Place::Passing {
+            self.pass_over(1)?;
             if is_mark(&self.line) {
                 self.place = Place::Image;
             }

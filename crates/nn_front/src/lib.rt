@@ -3,4 +3,4 @@
 
 mod front;
 
-pub use front::{Front, Loaded};
+pub use front::{Front, FrontFault, Loaded, MAX_PASSED};

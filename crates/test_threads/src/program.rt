@@ -3,6 +3,7 @@ use crate::values::{Shared, push_edit};
 use nn_command::{NoArguments, serve};
 use nn_device::{Reader, Writer};
 use nn_engine::{Gate, Open, Options, RunFault, ThreadOptions, run, run_threads};
+use nn_front::MAX_PASSED;
 use nn_scenario::MAX_INPUT;
 use nn_types::Settings;
 use std::alloc::Global;
@@ -314,6 +315,27 @@ fn longest_input(rt: HostRuntime) {
     ] {
         let (text, _) = printed(rt.alloc(), &usual_options(), Feeds { left, chunk });
         assert_eq!(rt; text.as_slice(), want.as_bytes(), "at {left} by {chunk}");
+    }
+}
+
+#[test]
+fn longest_front(rt: HostRuntime) {
+    let mut options = usual_options();
+    options.from_image = true;
+    for (left, want) in [
+        (MAX_PASSED, "fault 61 image\n"),
+        (MAX_PASSED + 1, "fault 8\n"),
+        (usize::MAX, "fault 8\n"),
+    ] {
+        let (text, _) = printed(
+            rt.alloc(),
+            &options,
+            Feeds {
+                left,
+                chunk: 65_536,
+            },
+        );
+        assert_eq!(rt; text.as_slice(), want.as_bytes(), "at {left}");
     }
 }
 

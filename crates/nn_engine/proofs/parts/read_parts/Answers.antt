@@ -1,7 +1,6 @@
 use Rattle.std.proofs.Common.{◌≡◌, ◌∙◌, subst}
 use Rattle.std.specs.Prelude.{is_some}
 use Rattle.nn_engine.specs.Input.{IsRead, IsReadOfAll}
-use Rattle.nn_engine.proofs.InputLemmas.{parts_fit}
 use Rattle.nn_engine.proofs.parts.read_parts.Goals as goal
 
 pub returns-clause-whole : goal.returns-clause-whole
@@ -12,7 +11,7 @@ returns-clause-whole g c =
       input = w.input;
       taken = w.got;
       counted = w.counted;
-      fits = parts_fit c.read_to_end.new.sink w.input c.end.ensures.fits w.taken;
+      fits = c.end.ensures.fits w.input w.taken;
       is = c.end.ensures.read w.input w.taken;
     })
 

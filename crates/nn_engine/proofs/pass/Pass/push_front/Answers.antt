@@ -11,5 +11,5 @@ returns-clause-passed c =
     let p : Passed = record { options = c.self.inside.options; stage = c.self.inside.stage; taken = c.self.inside.taken } in
     let q : Passed = record p { stage = stage.Begun c.in_ok-begun.begun } in
     subst (λ (p : Passed). (input : List ℕ) → HasPassed p input → HasPassedTo q (input ++ bytes) (drop n bytes)) c.self.view_is (λ input h.
-    image_ends p q c.in-Front.front c.push.new.self c.in_ok-begun.begun input bytes c.in-Some.loaded n c.in-Front.is refl refl refl c.in_ok-at.ensures.front c.in-Some.ensures.ended
+    image_ends p q c.in-Front.front c.push.new.self c.in_ok-begun.begun input bytes c.in-Some.loaded n c.in-Front.is refl refl refl c.in_ok-at.ensures.front c.in-Some.ensures.ended c.in-Some.ensures.fits
     c.in_ok-begun.ensures.starts h)

@@ -1,4 +1,4 @@
-use Rattle.std.proofs.Common.{◌<◌, ◌++◌, length, drop, subst, ap, arith, length-drop}
+use Rattle.std.proofs.Common.{◌<◌, ◌++◌, inr, length, drop, subst, ap, arith, length-drop}
 use Rattle.nn_scenario.specs.Scenario.{max_input}
 use Rattle.nn_engine.specs.Start.{scenario_in}
 use Rattle.nn_engine.proofs.PassLemmas.{passed_long}
@@ -12,4 +12,4 @@ returns-then-bytes-at-clause-why c = λ first input h.
     let size = length-drop n bytes in
     let taken = ap (λ p. p.taken) c.self.view_is in
     let more : max_input < length (scenario_in c.push_front.new.self.options.from_image (input ++ bytes)) = omega (arith, long, size, taken, c.if-bytes-at.true) in
-    subst (λ o. max_input < length (scenario_in o.from_image (input ++ bytes))) c.push_front.ensures.options more
+    inr (subst (λ o. max_input < length (scenario_in o.from_image (input ++ bytes))) c.push_front.ensures.options more)

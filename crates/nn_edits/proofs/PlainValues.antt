@@ -1,5 +1,5 @@
 -- The blocks of a plain line are those that a line's value has.
-use Rattle.std.proofs.Common.{◌≡◌, ℕ, ◌^◌, List, [], ◌∷◌, true, Option, Some, None, option_and_then, Ok, Err, codes, refl, ap, lt-ltb}
+use Rattle.std.proofs.Common.{◌≡◌, ℕ, ◌^◌, List, [], ◌∷◌, true, Option, Some, None, option_and_then, Ok, Err, codes, refl, sym, ap, lt-ltb}
 use Rattle.std.specs.Prelude.{is_some}
 use Rattle.std.specs.Option.{ok_or}
 use Rattle.serde_json.specs.Data.{Data, Items, no_items, item, array}
@@ -7,11 +7,11 @@ use Rattle.serde_json.specs.Find.{get, as_object}
 use Rattle.nn_types.specs.Number.{IsNumber}
 use Rattle.nn_types.specs.Block.{IsBlock, AreBlocks}
 use Rattle.nn_types.specs.declared.block.Block.{Block}
-use Rattle.nn_plain.specs.Spelling.{Spells, SpellsBlock, SpellsBlocks, whole_of, whole_at}
+use Rattle.nn_plain.specs.Spelling.{spelled_or, Spells, SpellsBlock, SpellsBlocks, whole_of, whole_at}
 use Rattle.nn_plain.specs.declared.value.Plain.{Plain}
 use Rattle.nn_plain.specs.declared.value.Plain.TheVariants.{Text, Whole, Truth}
 use Rattle.nn_edits.specs.Reading.{whole_in, number_in, block_in, items_in}
-use Rattle.nn_edits.specs.Parts.{blocks_of}
+use Rattle.nn_edits.specs.Parts.{blocks_of, scalar_from, scalar_of}
 use Rattle.nn_edits.specs.declared.fault.LineFault.TheVariants.{BadNumber, MissingField}
 
 whole_read : (key : List ℕ) (d : Data) (n : ℕ) → whole_at key d ≡ Some n → whole_in key d ≡ Ok n
@@ -41,6 +41,12 @@ items_read (item d ds) (b ∷ bs) so lawful = rw (block_read d b so.0 lawful.0, 
 
 pub blocks_read : (ds : Items) (bs : List Block) → SpellsBlocks ds bs → AreBlocks bs → blocks_of (array ds) ≡ Ok bs
 blocks_read ds bs so lawful = items_read ds bs so lawful
+
+-- What a plain value is to a key.
+pub plain_member : (d : Data) (v : Plain) → Spells d v → scalar_from (spelled_or (Some v)) ≡ scalar_of d
+plain_member d (Text s) e = ap scalar_of (sym e)
+plain_member d (Whole n) e = ap scalar_of (sym e)
+plain_member d (Truth b) e = ap scalar_of (sym e)
 
 -- No other plain value has blocks.
 pub no_blocks_read : (d : Data) (v : Plain) → Spells d v → blocks_of d ≡ Err MissingField

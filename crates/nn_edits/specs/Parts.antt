@@ -59,6 +59,11 @@ scalar_of (string s) = text s
 scalar_of (array ds) = other
 scalar_of (object ms) = other
 
+-- A plain value there, or any other one.
+abbrev pub scalar_from : Option Data → Scalar
+scalar_from None = other
+scalar_from (Some d) = scalar_of d
+
 -- A value that may be missing.
 abbrev pub scalar_or : Option Data → Scalar
 scalar_or None = missing

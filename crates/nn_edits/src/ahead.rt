@@ -1,207 +1,35 @@
-//! The next value of a line's JSON, read a token at a time and not kept: a text or a whole number is handed out, an
-//! array or object is passed over. The value of a key that no format has goes this way, and still has to be JSON.
-ghost use Rattle.std.specs.Prelude.{◌≡◌, ◌<◌, ◌≤◌, ◌==◌, ◌∷◌, true, false, length, slice_index, IsTrue, IfOk, OnOk, OnErr, IfSome, Some, None, option_map};
-ghost use Rattle.json.specs.Reads.{token_of};
-ghost use Rattle.serde_json.specs.Data.{Data, Members, no_members, unsigned};
-ghost use Rattle.serde_json.specs.Read.{number_of, number_from};
-ghost use Rattle.nn_plain.specs.Ahead.{data_at, members_at};
-ghost use Rattle.nn_edits.specs.Ahead.{PassesItems, LacksItems};
-ghost use Rattle.nn_edits.specs.Parts.{seen, scalar_of, scalar_of_num};
+//! The next member of a line's JSON, and why one was not read.
+ghost use Rattle.std.specs.Prelude.{◌≡◌, ◌<◌, length, IfOk, OnOk, OnErr, Some, None};
+ghost use Rattle.serde_json.specs.Data.{Data};
+ghost use Rattle.nn_plain.specs.Ahead.{data_at};
+ghost use Rattle.nn_edits.specs.Parts.{seen, scalar_of};
 
 use crate::fault::LineFault;
 use crate::member::Member;
-use fast_float::Numeral;
-use json::{Invalid, Reader, Token};
-use std::alloc::AllocError;
+use json::{Invalid, Reader};
+use nn_plain::{ReadFault, read_value};
 
-/// Why a value was not read to its end.
-#[derive(Clone, Copy, Drop)]
-pub(crate) enum TokenFault {
-    /// It is no JSON, nests too deep, or has a number beyond every float.
-    Invalid,
-    OutOfMemory,
-}
-
-impl From<Invalid> for TokenFault {
-    ghost use Rattle.nn_edits.specs.declared.ahead.TokenFault.TheVariants.{Invalid as invalid};
-
-    ghost from_gives = { λ _ e. e ≡ invalid };
-
-    fn from(_e: Invalid) -> TokenFault {
-        TokenFault::Invalid
-    }
-}
-
-impl From<AllocError> for TokenFault {
-    ghost use Rattle.nn_edits.specs.declared.ahead.TokenFault.TheVariants.{OutOfMemory};
-
-    ghost from_gives = { λ _ e. e ≡ OutOfMemory };
-
-    fn from(_e: AllocError) -> TokenFault {
-        TokenFault::OutOfMemory
-    }
-}
-
-impl From<TokenFault> for LineFault {
+impl From<ReadFault> for LineFault {
     ghost use Rattle.nn_edits.specs.Fault.{fault_of_tokens};
 
     ghost from_gives = { λ s e. e ≡ fault_of_tokens s };
 
-    fn from(e: TokenFault) -> LineFault {
+    fn from(e: ReadFault) -> LineFault {
         match e {
-            TokenFault::Invalid => LineFault::NotJson,
-            TokenFault::OutOfMemory => LineFault::OutOfMemory,
+            ReadFault::Invalid => LineFault::NotJson,
+            ReadFault::OutOfMemory => LineFault::OutOfMemory,
         }
     }
 }
 
 /// The next value. Arrays and objects may nest `depth` deep, and are passed over.
-#[cycle(read)]
+#[inline(always)]
 pub(crate) fn read_member<'a>(reader: &mut Reader<'a>, depth: usize) -> Result<Member<'a>, Invalid>
     ensures ok { IfOk result (λ m. (d : Data) × (data_at depth reader.old ≡ Some (d, reader.new))
         × (seen m ≡ scalar_of d)) }
     ensures shorter { OnOk result (length reader.new < length reader.old) }
     ensures err { OnErr result (data_at depth reader.old ≡ None) }
 {
-    let token = reader.next().ok_or(Invalid)?;
-    read_from(reader, token, depth)
-}
-
-/// The value that begins with this token.
-#[cycle(read)]
-#[inline(always)]
-pub(crate) fn read_from<'a>(
-    reader: &mut Reader<'a>,
-    token: Token<'a>,
-    depth: usize,
-) -> Result<Member<'a>, Invalid>
-    ensures ok { IfOk result
-        (λ m. (d : Data) × (data_at depth (token_of token.entry ∷ reader.old) ≡ Some (d, reader.new))
-        × (seen m ≡ scalar_of d)) }
-    ensures shorter { OnOk result (length reader.new ≤ length reader.old) }
-    ensures err { OnErr result (data_at depth (token_of token.entry ∷ reader.old) ≡ None) }
-{
-    match token {
-        Token::String(text) => Ok(Member::Text(text)),
-        Token::Number(text) => number_of(text).ok_or(Invalid),
-        Token::Bool(_) => Ok(Member::Other),
-        Token::Null => Ok(Member::Other),
-        Token::EndObject | Token::EndArray | Token::Key(_) | Token::Bad => Err(Invalid),
-        Token::BeginArray => {
-            if depth == 0 {
-                return Err(Invalid);
-            }
-            skip_items(reader, depth - 1)?;
-            Ok(Member::Other)
-        }
-        Token::BeginObject => {
-            if depth == 0 {
-                return Err(Invalid);
-            }
-            skip_members(reader, depth - 1)?;
-            Ok(Member::Other)
-        }
-    }
-}
-
-/// Passes over the items of an array, and over its end.
-#[cycle(read)]
-#[inline(never)]
-pub(crate) fn skip_items(reader: &mut Reader<'_>, depth: usize) -> Result<(), Invalid>
-    ensures ok { OnOk result (PassesItems depth reader.old reader.new) }
-    ensures shorter { OnOk result (length reader.new < length reader.old) }
-    ensures err { OnErr result (LacksItems depth reader.old) }
-{
-    'items: while !reader.take_end_array() {
-        let _item = read_member(reader, depth)?;
-    }
-    Ok(())
-}
-
-// Passes over the members of an object, and over its end.
-#[cycle(read)]
-#[inline(never)]
-fn skip_members(reader: &mut Reader<'_>, depth: usize) -> Result<(), Invalid>
-    ensures ok { OnOk result ((ms : Members)
-        × (members_at depth (length reader.old) no_members reader.old ≡ Some (ms, reader.new))) }
-    ensures shorter { OnOk result (length reader.new < length reader.old) }
-    ensures err { OnErr result
-        (members_at depth (length reader.old) no_members reader.old ≡ None) }
-{
-    'members: while let Some(_key) = reader.next_key()? {
-        let _member = read_member(reader, depth)?;
-    }
-    Ok(())
-}
-
-// What a number is to its key. A number beyond every float is no JSON, whoever asks for it.
-#[inline(always)]
-fn number_of<'a>(text: &str) -> Option<Member<'a>>
-    ensures { option_map seen result ≡ option_map scalar_of_num (number_of text.now) }
-{
-    let bytes = text.as_bytes();
-    if let Some(n) = whole(bytes) {
-        return Some(Member::Whole(n));
-    }
-    if has_minus(bytes) {
-        below_zero(&Numeral::scan(&bytes[1..]))
-    } else {
-        from_zero(&Numeral::scan(bytes))
-    }
-}
-
-// The number of a text of digits alone, as most of a log are: no numeral has to be taken apart for it.
-#[inline(always)]
-fn whole(bytes: &[u8]) -> Option<u64>
-    ensures { IfSome result (λ n. number_of bytes.now ≡ Some (unsigned n)) }
-{
-    if begins_with_plus(bytes) {
-        return None;
-    }
-    fast_float::parse_u64(bytes).ok()
-}
-
-#[inline(always)]
-fn begins_with_plus(bytes: &[u8]) -> bool
-    ensures { result ≡ (slice_index bytes.now 0 == 43) }
-{
-    !bytes.is_empty() && bytes[0] == b'+'
-}
-
-#[inline(always)]
-fn from_zero<'a>(numeral: &Numeral<'_>) -> Option<Member<'a>>
-    ensures { option_map seen result
-        ≡ option_map scalar_of_num (number_from false numeral.now) }
-{
-    match numeral.to_u64() {
-        Some(n) => Some(Member::Whole(n)),
-        None => if numeral.to_float::<f64>(false).is_finite() {
-            Some(Member::Other)
-        } else {
-            None
-        },
-    }
-}
-
-fn below_zero<'a>(numeral: &Numeral<'_>) -> Option<Member<'a>>
-    ensures { option_map seen result ≡ option_map scalar_of_num (number_from true numeral.now) }
-{
-    if let Some(n) = numeral.to_i64(true) {
-        if n < 0 {
-            return Some(Member::Other);
-        }
-    }
-    if numeral.to_float::<f64>(true).is_finite() {
-        Some(Member::Other)
-    } else {
-        None
-    }
-}
-
-#[inline(always)]
-fn has_minus(bytes: &[u8]) -> bool
-    ensures value { result ≡ (slice_index bytes.now 0 == 45) }
-    ensures len { IsTrue result → 0 < length bytes.now }
-{
-    !bytes.is_empty() && bytes[0] == b'-'
+    let value = read_value(reader, depth)?;
+    Ok(Member::of(value))
 }

@@ -6,10 +6,11 @@ ghost use Rattle.nn_plain.specs.Ahead.{data_at, items_at, members_at};
 ghost use Rattle.nn_edits.specs.Parts.{seen, blocks_of, block_from};
 ghost use Rattle.nn_edits.specs.Reading.{block_in, items_in};
 
-use crate::ahead::{TokenFault, read_from, read_member, skip_items};
+use crate::ahead::read_member;
 use crate::fault::LineFault;
 use crate::member::{Member, block_id_in, length_in, stamp_in};
 use json::{Invalid, Reader, Token};
+use nn_plain::{ReadFault, read_from, skip_items};
 use nn_types::{Block, Blocks};
 use std::alloc::Global;
 
@@ -48,12 +49,12 @@ pub(crate) fn read_blocks(
     alloc: Global,
     reader: &mut Reader<'_>,
     depth: usize,
-) -> Result<Result<Blocks, LineFault>, TokenFault>
+) -> Result<Result<Blocks, LineFault>, ReadFault>
     requires { 1 < depth }
     ensures ok { IfOk result (λ bs. (d : Data) × (data_at depth reader.old ≡ Some (d, reader.new))
         × (bs ≡ blocks_of d)) }
     ensures shorter { OnOk result (length reader.new < length reader.old) }
-    ensures err { result ≡ Err TokenFault.Invalid → data_at depth reader.old ≡ None }
+    ensures err { result ≡ Err ReadFault.Invalid → data_at depth reader.old ≡ None }
 {
     let token = reader.next().ok_or(Invalid)?;
     let Token::BeginArray = token else {
@@ -68,13 +69,13 @@ fn read_items(
     alloc: Global,
     reader: &mut Reader<'_>,
     depth: usize,
-) -> Result<Result<Blocks, LineFault>, TokenFault>
+) -> Result<Result<Blocks, LineFault>, ReadFault>
     requires { 0 < depth }
     ensures ok { IfOk result (λ bs. (ds : Items)
         × (items_at depth (length reader.old) reader.old ≡ Some (ds, reader.new))
         × (bs ≡ items_in ds)) }
     ensures shorter { OnOk result (length reader.new < length reader.old) }
-    ensures err { result ≡ Err TokenFault.Invalid
+    ensures err { result ≡ Err ReadFault.Invalid
         → items_at depth (length reader.old) reader.old ≡ None }
 {
     let mut blocks = Blocks::new(alloc);

@@ -130,7 +130,7 @@ impl<'a> Slots<'a> for Fields<'a> {
     #[inline(always)]
     fn put(&mut self, key: &'a str, value: Plain<'a>) {
         if let Some(slot) = slot_of(key) {
-            self.set(slot, member_of(value));
+            self.set(slot, Member::of(Some(value)));
             return;
         }
         if is_blocks(key) {
@@ -145,18 +145,6 @@ impl<'a> Slots<'a> for Fields<'a> {
             return;
         }
         self.put_member(key, Member::Other);
-    }
-}
-
-// What a plain value is to a key that wants a text or a whole number.
-#[inline(always)]
-fn member_of<'a>(value: Plain<'a>) -> Member<'a>
-    ensures { (d : Data) → Spells d value.entry → seen result ≡ scalar_of d }
-{
-    match value {
-        Plain::Text(text) => Member::Text(text),
-        Plain::Whole(n) => Member::Whole(n),
-        Plain::Truth(_) => Member::Other,
     }
 }
 

@@ -11,14 +11,14 @@ ghost use Rattle.nn_edits.specs.declared.line.Line.{Line as LineData};
 ghost use Rattle.nn_types.specs.declared.tx.Tx.{Tx as TxData};
 ghost use Rattle.nn_types.specs.declared.report.Report.{Report as ReportData};
 
-use crate::ahead::{TokenFault, read_member};
+use crate::ahead::read_member;
 use crate::blocks::read_blocks;
 use crate::fault::LineFault;
 use crate::fields::{Fields, is_blocks};
 use crate::reading::tx_in;
 use crate::report::report_in;
 use json::{Reader, Scratch, Token};
-use nn_plain::read_plain;
+use nn_plain::{ReadFault, read_plain};
 use nn_types::{Report, Tx};
 use simdutf8::basic::from_utf8;
 use std::alloc::Global;
@@ -157,13 +157,13 @@ fn read_fields<'a>(
     reader: &mut Reader<'a>,
     depth: usize,
     fields: &mut Fields<'a>,
-) -> Result<(), TokenFault>
+) -> Result<(), ReadFault>
     requires deep { 1 < depth }
     requires none { seen_fields fields.old ≡ parts_of (object no_members) }
     ensures ok { OnOk result ((ms : Members)
         × (members_at depth (length reader.old) no_members reader.old ≡ Some (ms, reader.new))
         × (seen_fields fields.new ≡ parts_of (object ms))) }
-    ensures err { result ≡ Err TokenFault.Invalid
+    ensures err { result ≡ Err ReadFault.Invalid
         → members_at depth (length reader.old) no_members reader.old ≡ None }
 {
     'members: while let Some(key) = reader.next_key()? {

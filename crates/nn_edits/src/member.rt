@@ -1,9 +1,11 @@
 //! One member of an object, and what each key makes of it.
 ghost use Rattle.std.specs.Prelude.{◌≡◌};
 ghost use Rattle.nn_edits.specs.Outcome.{Gives};
-ghost use Rattle.nn_edits.specs.Parts.{seen, is_there, whole_from, number_from, txid_from, dn_from, path_from, profile_from};
+ghost use Rattle.nn_plain.specs.Spelling.{spelled_or};
+ghost use Rattle.nn_edits.specs.Parts.{seen, scalar_from, is_there, whole_from, number_from, txid_from, dn_from, path_from, profile_from};
 
 use crate::fault::LineFault;
+use nn_plain::Plain;
 use nn_types::{BlockId, GenerationStamp, Length, Path, Profile, Replication, Txid};
 use std::alloc::Global;
 
@@ -23,6 +25,18 @@ pub(crate) enum Member<'a> {
 }
 
 impl<'a> Member<'a> {
+    /// What a value is to such a key.
+    #[inline(always)]
+    pub(crate) fn of(value: Option<Plain<'a>>) -> Member<'a>
+        ensures { seen result ≡ scalar_from (spelled_or value.entry) }
+    {
+        match value {
+            Some(Plain::Text(text)) => Member::Text(text),
+            Some(Plain::Whole(n)) => Member::Whole(n),
+            Some(Plain::Truth(_)) | None => Member::Other,
+        }
+    }
+
     pub(crate) fn is_there(&self) -> bool
         ensures { result ≡ is_there (seen self.now) }
     {

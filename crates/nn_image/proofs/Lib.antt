@@ -16,4 +16,7 @@ pub mod Images
 pub mod PathsRead
 pub mod RowTexts
 pub mod Putting
-pub mod PlainRows
+pub mod PlainReads
+pub mod ItemReads
+pub mod RowReads
+pub mod HeaderReads

@@ -7,13 +7,12 @@ use Rattle.std.proofs.lemmas.List.Splits.{slice_split_at, slice_split_none}
 use Rattle.nn_image.specs.declared.lines.Line.{Line}
 use Rattle.nn_image.specs.Text.{feed}
 use Rattle.nn_image.specs.Lines.{ahead, no_feed, spelled, IsNext}
-use Rattle.nn_image.specs.Reading.{pieces_of, object_of, all_from, rows_from, of_version, number_in, last_path, next_line, at_end, nothing_more, with_next, read_image, ◌then◌}
+use Rattle.nn_image.specs.Reading.{of_header, pieces_of, object_of, all_from, rows_from, last_path, next_line, at_end, nothing_more, with_next, read_image, ◌then◌}
 use Rattle.std.proofs.lemmas.Bool.Decides.{Decides-eqb}
-use Rattle.std.specs.Prelude.{codes, IsTrue, IfOk, IfErr}
+use Rattle.std.specs.Prelude.{IsTrue, IfOk, IfErr}
 use Rattle.std.specs.FinMap.Entries.{is_sorted}
 use Rattle.std.proofs.lemmas.Bool.{false≢true}
 use Rattle.nn_model.specs.Namespace.{path_cmp}
-use Rattle.serde_json.specs.Data.{Data}
 use Rattle.nn_model.specs.declared.form.Form.{Form}
 use Rattle.nn_model.specs.Namespace.{Path, Issued, Namespace}
 use Rattle.nn_image.specs.declared.row_line.RowLine.{RowLine}
@@ -123,18 +122,13 @@ noted_by_none OutOfMemory before after none same = same
 -- ---- the header
 
 module _ (line : List ℕ) where
-  pub no_header : object_of line ≡ None → TakesLine at_header (refused NotHeader) line
+  pub bad_header : (e : ImageFault) → of_header (object_of line) ≡ Err e → TakesLine at_header (refused e) line
   unfolding all_from
-  no_header none next pieces = rw none refl
+  bad_header e is next pieces = rw is refl
 
-  module _ (d : Data) (there : object_of line ≡ Some d) where
-    pub bad_header : (e : ImageFault) → of_version d (number_in (codes "version") d) ≡ Err e → TakesLine at_header (refused e) line
-    unfolding all_from
-    bad_header e is next pieces = rw (there, is) refl
-
-    pub header : (n : Namespace) (txid : ℕ) → of_version d (number_in (codes "version") d) ≡ Ok (n, txid) → TakesLine at_header (in_rows n txid) line
-    unfolding all_from
-    header n txid is next pieces = rw (there, is) refl
+  pub header : (n : Namespace) (txid : ℕ) → of_header (object_of line) ≡ Ok (n, txid) → TakesLine at_header (in_rows n txid) line
+  unfolding all_from
+  header n txid is next pieces = rw is refl
 
 pub bare_begins : (b : Begun) (issued : Issued) → b.namespace ≡ bare issued → b.before ≡ [] → b.number ≡ 2 → b.has_ended ≡ false → IsBegun b
 bare_begins b issued is root two more = record {

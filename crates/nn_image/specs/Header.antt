@@ -2,10 +2,7 @@
 use Rattle.std.specs.Prelude.{ℕ, ◌≡◌, ◌≤◌, true}
 use Rattle.nn_model.specs.Namespace.{Namespace}
 use Rattle.nn_tree.specs.Restore.{bare, awaiting_fits}
-use Rattle.serde_json.specs.Data.{Data}
-use Rattle.serde_json.specs.View.{view}
-use Rattle.nn_image.specs.declared.fields.Header.{Header}
-use Rattle.nn_image.specs.declared.fields.Object.{Object}
+use Rattle.nn_image.specs.declared.header.Header.{Header}
 
 abbrev pub header_value : Header → Namespace × ℕ
 header_value h = (bare (record { last_block = h.last_block; last_stamp = h.last_stamp; awaiting = h.awaiting.items; profile = h.profile }), h.txid)
@@ -13,6 +10,3 @@ header_value h = (bare (record { last_block = h.last_block; last_stamp = h.last_
 -- a namespace may be made with these numbers
 abbrev pub IsLawful : Header → Type 0
 IsLawful h = (1073741824 ≤ h.last_block) × (1000 ≤ h.last_stamp) × (awaiting_fits h.last_block h.awaiting.items ≡ true)
-
-abbrev pub object_view : Object → Data
-object_view o = view o.value

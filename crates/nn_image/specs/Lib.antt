@@ -14,4 +14,6 @@ pub mod ImageRows
 pub mod TextRows
 pub mod DeviceRows
 pub mod RewritingRows
-pub mod Plain
+pub mod Arrays
+pub mod RowParts
+pub mod HeaderParts

@@ -1,17 +1,19 @@
 //! Images of a namespace: written as text in large parts, and read back line by line.
 #![tactic(auto)]
 
+mod arrays;
 mod fault;
-mod fields;
+mod header;
 mod law;
 mod lines;
 mod loading;
-mod plain;
 mod restoring;
 mod rewriting;
 mod row_line;
+mod row_members;
 mod row_text;
 mod saving;
+mod values;
 
 pub use fault::{ImageFault, RewriteFault, SaveFault};
 pub use law::{reading_is_the_image, reads_back, reads_old_back};

@@ -11,7 +11,7 @@ ghost use Rattle.nn_image.specs.declared.loading.Stage.TheVariants as stage;
 ghost use Rattle.nn_image.specs.declared.row_line.RowLine.TheVariants.{Row, End};
 
 use crate::fault::ImageFault;
-use crate::fields::{header_in, object_of};
+use crate::header::read_header;
 use crate::row_line::{RowLine, row_line};
 use nn_model::Form;
 use nn_tree::{Namespace, RestoreFault};
@@ -137,10 +137,7 @@ fn behind_header(alloc: Global, line: &[u8]) -> Result<Stage, AllocError>
     ensures lawful { IfOk result IsLawfulStage }
     ensures later { IfOk result (λ s. is_first (state_of s) ≡ false) }
 {
-    let Some(object) = object_of(alloc, line)? else {
-        return Ok(Stage::Refused(ImageFault::NotHeader));
-    };
-    let header = match header_in(alloc, &object.value) {
+    let header = match read_header(alloc, line) {
         Ok(header) => header,
         Err(ImageFault::OutOfMemory) => return Err(AllocError),
         Err(fault) => return Ok(Stage::Refused(fault)),

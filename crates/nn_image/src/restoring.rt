@@ -18,8 +18,8 @@ use std::io::Read;
 /// Reads an image of version 1 or 2, and gives its namespace and its txid. Version 1 has no profile, and stands for
 /// profile 1. Saved, the two make an image that is read as the same. It reads on to the end, or at most 65,536
 /// bytes after the line of a fault, and never more than 16,777,216 times. Each fault but `ReadFault` and `OutOfMemory` is
-/// the first one of the whole text all the same. Beside the namespace it takes a buffer of 65,536 bytes, and one line, which is
-/// read into a value where it is no plain one.
+/// the first one of the whole text all the same. Beside the namespace it takes a buffer of 65,536 bytes, and one line; where
+/// that is no plain one, as much again, and a block or an id for each that it lists.
 pub fn load<R: Read>(alloc: Global, reader: &mut Reader<R>) -> Result<(Namespace, Txid), ImageFault>
     ensures ok { IfOk result (λ i. Ends reader.old.left reader.new.left read_image i) }
     ensures limit { IfOk result (λ i. i.1 < 2 ^ 63) }

@@ -1,12 +1,15 @@
 //! What a line behind the header says.
 ghost use Rattle.std.specs.Prelude.{◌≡◌, IfOk};
+ghost use Rattle.std.specs.Str.{IsUtf8};
 ghost use Rattle.nn_image.specs.Loading.{is_end_row, HasLimit, IsReadAs};
 ghost use Rattle.nn_image.specs.Reading.{is_end_line};
 
-use crate::fields::{number_of, object_of, row_in};
-use crate::plain::plain_row;
+use crate::row_members::RowMembers;
+use json::Scratch;
 use nn_model::Form;
+use nn_plain::{ReadFault, read_line, read_plain};
 use nn_types::Path;
+use simdutf8::basic::from_utf8;
 use std::alloc::{AllocError, Global};
 
 /// A line behind the header.
@@ -29,31 +32,34 @@ impl RowLine {
     }
 }
 
-/// Reads a line behind the header. One that is plain is read in a pass over its bytes, and any other as a value of JSON.
+/// Reads a line behind the header, in a pass over its bytes. One that is no plain line takes a second pass.
 pub(crate) fn row_line(alloc: Global, line: &[u8]) -> Result<RowLine, AllocError>
     ensures read { IfOk result (IsReadAs line.now) }
     ensures end { IfOk result (λ r. is_end_row r ≡ is_end_line line.now) }
     ensures limit { IfOk result HasLimit }
 {
-    match plain_row(alloc, line)? {
-        Some((path, form)) => Ok(RowLine::Row(path, form)),
-        None => row_line_of_json(alloc, line),
-    }
-}
-
-fn row_line_of_json(alloc: Global, line: &[u8]) -> Result<RowLine, AllocError>
-    ensures read { IfOk result (IsReadAs line.now) }
-    ensures end { IfOk result (λ r. is_end_row r ≡ is_end_line line.now) }
-    ensures limit { IfOk result HasLimit }
-{
-    let Some(object) = object_of(alloc, line)? else {
+    let Ok(text) = from_utf8(line) else {
         return Ok(RowLine::Bad);
     };
-    if let Some(count) = object.value.get("end") {
-        return Ok(RowLine::End(number_of(count)));
+    let mut members = RowMembers::none();
+    if read_plain(alloc, text, &mut members) {
+        return members.line(alloc);
     }
-    match row_in(alloc, &object.value)? {
-        Some((path, form)) => Ok(RowLine::Row(path, form)),
-        None => Ok(RowLine::Bad),
+    row_line_of_json(alloc, text)
+}
+
+// The same, of any text.
+fn row_line_of_json(alloc: Global, text: &str) -> Result<RowLine, AllocError>
+    requires { IsUtf8 text.now }
+    ensures read { IfOk result (IsReadAs text.now) }
+    ensures end { IfOk result (λ r. is_end_row r ≡ is_end_line text.now) }
+    ensures limit { IfOk result HasLimit }
+{
+    let mut scratch = Scratch::new(alloc);
+    let mut members = RowMembers::none();
+    match read_line(alloc, text, &mut scratch, &mut members) {
+        Ok(()) => members.line(alloc),
+        Err(ReadFault::Invalid) => Ok(RowLine::Bad),
+        Err(ReadFault::OutOfMemory) => Err(AllocError),
     }
 }

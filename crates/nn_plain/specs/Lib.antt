@@ -1,3 +1,5 @@
 pub mod Ahead
 pub mod Bytes
 pub mod Spelling
+pub mod Keys
+pub mod SpellingRows

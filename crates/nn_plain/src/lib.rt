@@ -1,4 +1,4 @@
-//! Lines of JSON in the plain spelling, as nearly all lines of a log are.
+//! Lines of JSON, read a member at a time: those in the plain spelling, as nearly all are, and all others.
 //!
 //! A plain line is one object, and no other byte stands before it. Its values are texts of printable ASCII without escapes,
 //! numbers of digits alone, `true` and `false`, and arrays of blocks: objects of these texts, numbers and truth values. Keys
@@ -6,16 +6,21 @@
 //! carriage return.
 //!
 //! `read_plain` needs no index, and looks at each byte few times. It says yes or no, and a no says nothing of the line: the
-//! caller then begins anew with a reader of all of JSON, and that one decides. So each fault is told there.
+//! caller then begins anew with `read_line`, which reads all of JSON, and that one decides. So each fault is told there.
+//! `read_value` hands it plain values, and passes over all others: no tree of values is made.
 #![tactic(auto)]
 
+mod any;
 mod blocks;
 mod line;
 mod number;
+mod object;
 mod text;
 mod tokens;
 mod truth;
 mod value;
 
+pub use any::{read_from, read_value, skip_items};
 pub use line::read_plain;
+pub use object::{ItemSink, MemberSink, ReadFault, read_array, read_line, read_object};
 pub use value::{Plain, Slots};

@@ -1,28 +1,18 @@
-use Rattle.std.proofs.Common.{rules, ◌≡◌, refl, Some, None, sym, ap, ◌∙◌, option_map, arith}
-use Rattle.nn_image.specs.Header.{object_view, header_value}
-use Rattle.nn_image.specs.Reading.{object_of}
+use Rattle.std.proofs.Common.{rules, ◌≡◌, refl, arith}
+use Rattle.nn_image.specs.Header.{header_value}
 use Rattle.nn_image.specs.declared.fault.ImageFault.TheVariants.{OutOfMemory}
-use Rattle.nn_image.proofs.LoadedLines.{no_header, bad_header, header, just_fails, bare_begins}
+use Rattle.nn_image.proofs.LoadedLines.{bad_header, header, just_fails, bare_begins}
 use Rattle.nn_image.proofs.loading.behind_header.Goals as goal
-
-pub returns-in_default-clause-taken : goal.returns-in_default-clause-taken
-returns-in_default-clause-taken c =
-    let there : object_of c.args.line.now ≡ None = sym c.in_ok-object.ensures ∙ ap (option_map object_view) c.in_default.is in
-    no_header c.args.line.now there
 
 pub returns-in-Err : goal.returns-in-Err
 returns-in-Err c =
-    let d = object_view c.in-Some.object in
-    let there : object_of c.args.line.now ≡ Some d = sym c.in_ok-object.ensures ∙ ap (option_map object_view) c.in-Some.is in
     let memory : c.in-Err.fault ≡ OutOfMemory → ⊥ = grind arith in
-    record { taken = bad_header c.args.line.now d there c.in-Err.fault (just_fails c.in-Err.fault _ memory c.in-Err.ensures.own c.in-Err.ensures.fault); lawful = c.in-Err.ensures.own; later = refl }
+    record { taken = bad_header c.args.line.now c.in-Err.fault (just_fails c.in-Err.fault _ memory c.in-Err.ensures.own c.in-Err.ensures.fault); lawful = c.in-Err.ensures.own; later = refl }
 
 pub returns-clause-taken : goal.returns-clause-taken
 returns-clause-taken c =
-    let d = object_view c.in-Some.object in
-    let there : object_of c.args.line.now ≡ Some d = sym c.in_ok-object.ensures ∙ ap (option_map object_view) c.in-Some.is in
     let same : c.in_ok-namespace.namespace ≡ (header_value c.in-Ok.header).0 = search rules in
-    header c.args.line.now d there c.in_ok-namespace.namespace c.in-Ok.header.txid (rw same c.in-Ok.ensures.ok)
+    header c.args.line.now c.in_ok-namespace.namespace c.in-Ok.header.txid (rw same c.in-Ok.ensures.ok)
 
 pub returns-clause-lawful : goal.returns-clause-lawful
 returns-clause-lawful c =

@@ -1,9 +1,31 @@
-use Rattle.std.proofs.Common.{subst, IfSome}
-use Rattle.nn_image.specs.Plain.{IsRowLine}
-use Rattle.nn_image.proofs.PlainRows.{row_is_no_end}
+use Rattle.std.proofs.Common.{refl, sym, ap, ◌∙◌, subst}
+use Rattle.std.proofs.lemmas.Result.{IfOk-weaker}
+use Rattle.serde_json.specs.Read.{read}
+use Rattle.nn_image.specs.Loading.{is_end_row, IsReadAs}
+use Rattle.nn_image.specs.Reading.{is_end_line}
+use Rattle.nn_image.proofs.RowReads.{line_read, ends_as, no_line_read, no_text_there, none_ends}
 use Rattle.nn_image.proofs.row_line.row_line.Goals as goal
 
-pub returns-in-Some-clause-end : goal.returns-in-Some-clause-end
-returns-in-Some-clause-end c =
-    let line = c.args.line.now in
-    row_is_no_end line (c.in-Some.path, c.in-Some.form) (subst (λ o. IfSome o (IsRowLine line)) c.in-Some.is c.in_ok-path.ensures)
+pub returns-in_default-clause-read : goal.returns-in_default-clause-read
+returns-in_default-clause-read c = no_line_read c.args.line.now (no_text_there c.args.line.now c.in_default.ensures)
+
+pub returns-in_default-clause-end : goal.returns-in_default-clause-end
+returns-in_default-clause-end c = none_ends c.args.line.now (no_text_there c.args.line.now c.in_default.ensures)
+
+pub returns-then-read_plain-clause-read : goal.returns-then-read_plain-clause-read
+returns-then-read_plain-clause-read c =
+    let text = c.in-Ok.ensures in
+    let found = c.if-read_plain.ensures refl in
+    IfOk-weaker c.line.result _ _ (λ r is. subst (IsReadAs c.args.line.now) (sym is) (line_read c.args.line.now found.0 _ text.1 (ap read (sym text.0) ∙ found.1) found.2)) c.line.ensures
+
+pub returns-then-read_plain-clause-end : goal.returns-then-read_plain-clause-end
+returns-then-read_plain-clause-end c =
+    let text = c.in-Ok.ensures in
+    let found = c.if-read_plain.ensures refl in
+    IfOk-weaker c.line.result _ _ (λ r is. ap is_end_row is ∙ ends_as c.args.line.now found.0 _ text.1 (ap read (sym text.0) ∙ found.1) found.2) c.line.ensures
+
+pub returns-clause-read : goal.returns-clause-read
+returns-clause-read c = IfOk-weaker c.row_line_of_json.result _ _ (λ r h. subst (λ t. IsReadAs t r) c.in-Ok.ensures.0 h) c.row_line_of_json.ensures.read
+
+pub returns-clause-end : goal.returns-clause-end
+returns-clause-end c = IfOk-weaker c.row_line_of_json.result _ _ (λ r h. h ∙ ap is_end_line c.in-Ok.ensures.0) c.row_line_of_json.ensures.end

@@ -1,24 +1,21 @@
-use Rattle.std.proofs.Common.{◌≡◌, Some, None, true, false, refl, sym, ap, ◌∙◌, option_map}
-use Rattle.std.specs.Prelude.{is_some}
-use Rattle.nn_image.specs.Header.{object_view}
-use Rattle.nn_image.specs.Reading.{object_of}
-use Rattle.nn_image.proofs.PlainRows.{ends_as}
+use Rattle.std.proofs.Common.{arith, sym, ap, ◌∙◌, subst}
+use Rattle.std.proofs.lemmas.Result.{IfOk-weaker}
+use Rattle.nn_image.specs.Loading.{is_end_row, IsReadAs}
+use Rattle.nn_image.proofs.RowReads.{line_read, ends_as, no_line_read, no_object_there, none_ends}
 use Rattle.nn_image.proofs.row_line.row_line_of_json.Goals as goal
 
-pub returns-in_default-clause-end : goal.returns-in_default-clause-end
-returns-in_default-clause-end c = ends_as c.args.line.now None false (sym c.in_ok-object.ensures ∙ ap (option_map object_view) c.in_default.is) refl
+pub returns-in-Ok-clause-read : goal.returns-in-Ok-clause-read
+returns-in-Ok-clause-read c =
+    let found = c.in-Ok.ensures.ok in
+    IfOk-weaker c.line.result _ _ (λ r is. subst (IsReadAs c.args.text.now) (sym is) (line_read c.args.text.now found.0 _ c.requires found.1 found.2)) c.line.ensures
 
-pub returns-in-Some-get-clause-end : goal.returns-in-Some-get-clause-end
-returns-in-Some-get-clause-end c =
-    let there : object_of c.args.line.now ≡ Some (object_view c.in-Some.object) = sym c.in_ok-object.ensures ∙ ap (option_map object_view) c.in-Some.is in
-    ends_as c.args.line.now (Some (object_view c.in-Some.object)) true there (ap is_some c.in-Some-get.ensures)
+pub returns-in-Ok-clause-end : goal.returns-in-Ok-clause-end
+returns-in-Ok-clause-end c =
+    let found = c.in-Ok.ensures.ok in
+    IfOk-weaker c.line.result _ _ (λ r is. ap is_end_row is ∙ ends_as c.args.text.now found.0 _ c.requires found.1 found.2) c.line.ensures
 
-pub returns-in-Some-2-clause-end : goal.returns-in-Some-2-clause-end
-returns-in-Some-2-clause-end c =
-    let there : object_of c.args.line.now ≡ Some (object_view c.in-Some.object) = sym c.in_ok-object.ensures ∙ ap (option_map object_view) c.in-Some.is in
-    ends_as c.args.line.now (Some (object_view c.in-Some.object)) false there (ap is_some c.in_default-get.ensures)
+pub returns-in-Err-Invalid-clause-read : goal.returns-in-Err-Invalid-clause-read
+returns-in-Err-Invalid-clause-read c = no_line_read c.args.text.now (no_object_there c.args.text.now c.requires (c.in-Err-Invalid.ensures.err (grind arith)))
 
-pub returns-clause-end : goal.returns-clause-end
-returns-clause-end c =
-    let there : object_of c.args.line.now ≡ Some (object_view c.in-Some.object) = sym c.in_ok-object.ensures ∙ ap (option_map object_view) c.in-Some.is in
-    ends_as c.args.line.now (Some (object_view c.in-Some.object)) false there (ap is_some c.in_default-get.ensures)
+pub returns-in-Err-Invalid-clause-end : goal.returns-in-Err-Invalid-clause-end
+returns-in-Err-Invalid-clause-end c = none_ends c.args.text.now (no_object_there c.args.text.now c.requires (c.in-Err-Invalid.ensures.err (grind arith)))

@@ -1,8 +1,10 @@
 //! Entries in chunks: where a key stands, and how an entry comes in and goes out.
-ghost use Rattle.std.specs.Prelude.{◌≡◌, ◌+◌, ◌<◌, ◌≤◌, [], ◌∷◌, ◌++◌, length, None, IfOk, IfErr, IfSome, OnOk, OnErr, not};
+ghost use Rattle.std.specs.Prelude.{if◌then◌else◌, is_ok, ◌≡◌, ◌+◌, ◌<◌, ◌≤◌, [], ◌∷◌, ◌++◌, length, None, IfOk, IfErr, IfSome, OnOk, OnErr, not};
 ghost use Rattle.std.specs.Ordering.{is_lt};
 ghost use Rattle.std.specs.List.Sorted.{IsStrictlySortedBy};
+ghost use Rattle.std.specs.List.{insert};
 ghost use Rattle.std.specs.Map.{keys_of};
+ghost use Rattle.std.specs.Vec.{vec_capacity, vec_len};
 ghost use Rattle.nn_sorted.specs.Chunks.{flat, before, after, AreFilled, HasEntries, IsCut, IsFound, IsAbsent, IsAbove, IsAhead, IsBegun, IsBelow, IsHere, to_first};
 
 use crate::seek::Seek;
@@ -14,6 +16,9 @@ const FULL: usize = 64;
 
 // What a full chunk keeps when it is cut in two.
 const HALF: usize = 32;
+
+// The room of a chunk that is begun behind others.
+const BEGUN: usize = 48;
 
 // What two neighbours may have together when they become one chunk.
 const FEW: usize = 48;
@@ -144,7 +149,34 @@ fn put_in<K: Drop, V: Drop>(
     ensures filled { AreFilled chunks.new.items }
     ensures back { IfErr result (λ refused. refused.value ≡ entry) }
 {
-    chunks[chunk].insert(place, entry)
+    insert(&mut chunks[chunk], place, entry)
+}
+
+// Puts an entry at a place of a chunk.
+fn insert<K: Drop, V: Drop>(
+    chunk: &mut Vec<(K, V)>,
+    place: usize,
+    entry: (K, V),
+) -> Result<(), AllocFailed<(K, V)>>
+    requires { place ≤ length chunk.old.items }
+    ensures items { chunk.new.items ≡ (if is_ok result then insert chunk.old.items place entry else chunk.old.items) }
+    ensures back { IfErr result (λ refused. refused.value ≡ entry) }
+{
+    let Ok(()) = grow(chunk) else {
+        return Err(AllocFailed { value: entry });
+    };
+    chunk.insert(place, entry)
+}
+
+// Makes room for an entry where there is none, and for a quarter more: most maps are small, and stay so.
+fn grow<K, V>(chunk: &mut Vec<(K, V)>) -> Result<(), AllocError>
+    ensures items { chunk.new.items ≡ chunk.old.items }
+{
+    let len = chunk.len();
+    if len < chunk.capacity() {
+        return Ok(());
+    }
+    chunk.reserve_exact(len / 4 + 1)
 }
 
 // Begins a chunk behind all others, with this entry.
@@ -159,15 +191,27 @@ pub(crate) fn add<K: Drop, V: Drop>(
     ensures filled { AreFilled chunks.new.items }
     ensures back { IfErr result (λ refused. refused.value ≡ entry) }
 {
-    let Ok(()) = chunks.reserve(1) else {
+    let Ok(()) = make_room(chunks) else {
         return Err(AllocFailed { value: entry });
     };
     let mut chunk = Vec::new(alloc);
-    if let Err(refused) = chunk.push(entry) {
-        return Err(refused);
-    }
+    let Ok(()) = chunk.reserve_exact(if chunks.is_empty() { 1 } else { BEGUN }) else {
+        return Err(AllocFailed { value: entry });
+    };
+    chunk.push_reserved(entry);
     chunks.push_reserved(chunk);
     Ok(())
+}
+
+// Makes room for a chunk: in a new map for one alone.
+fn make_room<K, V>(chunks: &mut Vec<Vec<(K, V)>>) -> Result<(), AllocError>
+    ensures items { chunks.new.items ≡ chunks.old.items }
+    ensures room { OnOk result (vec_len chunks.new + 1 ≤ vec_capacity chunks.new) }
+{
+    if chunks.is_empty() {
+        return chunks.reserve_exact(1);
+    }
+    chunks.reserve(1)
 }
 
 // Cuts a chunk in two.

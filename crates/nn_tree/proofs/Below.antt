@@ -1,24 +1,19 @@
 -- What a directory has at a path is what the child of that path's first name has at the rest.
-use Rattle.std.proofs.Common.{◌≡◌, ℕ, true, false, cond, List, [], ◌∷◌, ◌++◌, Option, Some, None, refl, ap, ◌∙◌, String, Global}
+use Rattle.std.proofs.Common.{◌≡◌, ℕ, true, false, cond, List, [], ◌∷◌, ◌++◌, Option, Some, None, refl, ap, ◌∙◌}
 use Rattle.std.specs.declared.cmp.Ordering.{Ordering}
 use Rattle.std.specs.declared.cmp.Ordering.TheVariants.{Less, Equal, Greater}
-use Rattle.std.specs.Ordering.{is_eq, ordering_then, nat_cmp}
-use Rattle.std.specs.Cmp.Lexicographic.{slice_cmp, nat_list_cmp_total}
+use Rattle.std.specs.Ordering.{is_eq, ordering_then}
+use Rattle.std.specs.Cmp.Lexicographic.{nat_list_cmp_total}
 use Rattle.std.specs.BTreeMap.{is_at}
 use Rattle.std.specs.Map.{lookup, keys_of}
 use Rattle.std.specs.List.{AllByRecursion}
 use Rattle.std.specs.List.Sorted.{IsStrictlySortedBy}
-use Rattle.std.specs.String.{string_bytes, string_cmp}
 use Rattle.std.proofs.lemmas.Map.Keys.{sorted_head, sorted_tail}
-use Rattle.std.proofs.lemmas.Map.Text.{text_cmp}
 use Rattle.nn_model.specs.declared.form.Form.{Form}
 use Rattle.nn_model.specs.Namespace.{Path, path_cmp}
 use Rattle.nn_tree.specs.Flat.{under, below}
 use Rattle.nn_tree.specs.At.{at, rows}
-
--- names by bytes
-abbrev pub name_cmp : List ℕ → List ℕ → Ordering
-name_cmp = slice_cmp nat_cmp
+use Rattle.nn_tree.specs.Name.{name_cmp}
 
 abbrev pub or_else : {X : Type 0} → Option X → Option X → Option X
 or_else None b = b
@@ -50,23 +45,23 @@ at-under-other n k ns (e ∷ es) h =
 pub apart : (n k y : List ℕ) → name_cmp n k ≡ Equal → name_cmp k y ≡ Less → is_eq (name_cmp n y) ≡ false
 apart n k y h l = ap is_eq (nat_list_cmp_total.congr n k y h ∙ l)
 
-none_later : (n : List ℕ) (ns : Path) (k : String Global) (cs : List (String Global × List (Path × Form))) → name_cmp n (string_bytes k) ≡ Equal → AllByRecursion (λ y. string_cmp k y ≡ Less) (keys_of cs) → at (below cs) (n ∷ ns) ≡ None
+none_later : (n : List ℕ) (ns : Path) (k : List ℕ) (cs : List (List ℕ × List (Path × Form))) → name_cmp n k ≡ Equal → AllByRecursion (λ y. name_cmp k y ≡ Less) (keys_of cs) → at (below cs) (n ∷ ns) ≡ None
 none_later n ns k [] h a = refl
 none_later n ns k (c ∷ cs) h a =
-    at-append (under (string_bytes c.0) c.1) (below cs) (n ∷ ns)
-    ∙ ap (λ r. or_else r (at (below cs) (n ∷ ns))) (at-under-other n (string_bytes c.0) ns c.1 (apart n (string_bytes k) (string_bytes c.0) h a.0))
+    at-append (under c.0 c.1) (below cs) (n ∷ ns)
+    ∙ ap (λ r. or_else r (at (below cs) (n ∷ ns))) (at-under-other n c.0 ns c.1 (apart n k c.0 h a.0))
     ∙ none_later n ns k cs h a.1
 
 or_None : {X : Type 0} (o : Option X) → or_else o None ≡ o
 or_None None = refl
 or_None (Some x) = refl
 
-pub at-below : (n : List ℕ) (ns : Path) (cs : List (String Global × List (Path × Form))) → IsStrictlySortedBy string_cmp (keys_of cs) → at (below cs) (n ∷ ns) ≡ rows (lookup (is_at (text_cmp n)) cs) ns
+pub at-below : (n : List ℕ) (ns : Path) (cs : List (List ℕ × List (Path × Form))) → IsStrictlySortedBy name_cmp (keys_of cs) → at (below cs) (n ∷ ns) ≡ rows (lookup (is_at (name_cmp n)) cs) ns
 at-below n ns [] s = refl
 at-below n ns (c ∷ cs) s =
-    at-append (under (string_bytes c.0) c.1) (below cs) (n ∷ ns)
-    ∙ elim (name_cmp n (string_bytes c.0)) as (λ o. name_cmp n (string_bytes c.0) ≡ o → or_else (at (under (string_bytes c.0) c.1) (n ∷ ns)) (at (below cs) (n ∷ ns)) ≡ rows (cond (is_eq o) (Some c.1) (lookup (is_at (text_cmp n)) cs)) ns) [
-      | Less ↦ λ h. ap (λ r. or_else r (at (below cs) (n ∷ ns))) (at-under-other n (string_bytes c.0) ns c.1 (ap is_eq h)) ∙ at-below n ns cs (sorted_tail string_cmp _ _ s)
-      | Equal ↦ λ h. ap (λ r. or_else (at (under (string_bytes c.0) c.1) (n ∷ ns)) r) (none_later n ns c.0 cs h (sorted_head string_cmp _ _ s)) ∙ or_None _ ∙ at-under-same n (string_bytes c.0) ns c.1 h
-      | Greater ↦ λ h. ap (λ r. or_else r (at (below cs) (n ∷ ns))) (at-under-other n (string_bytes c.0) ns c.1 (ap is_eq h)) ∙ at-below n ns cs (sorted_tail string_cmp _ _ s)
+    at-append (under c.0 c.1) (below cs) (n ∷ ns)
+    ∙ elim (name_cmp n c.0) as (λ o. name_cmp n c.0 ≡ o → or_else (at (under c.0 c.1) (n ∷ ns)) (at (below cs) (n ∷ ns)) ≡ rows (cond (is_eq o) (Some c.1) (lookup (is_at (name_cmp n)) cs)) ns) [
+      | Less ↦ λ h. ap (λ r. or_else r (at (below cs) (n ∷ ns))) (at-under-other n c.0 ns c.1 (ap is_eq h)) ∙ at-below n ns cs (sorted_tail name_cmp _ _ s)
+      | Equal ↦ λ h. ap (λ r. or_else (at (under c.0 c.1) (n ∷ ns)) r) (none_later n ns c.0 cs h (sorted_head name_cmp _ _ s)) ∙ or_None _ ∙ at-under-same n c.0 ns c.1 h
+      | Greater ↦ λ h. ap (λ r. or_else r (at (below cs) (n ∷ ns))) (at-under-other n c.0 ns c.1 (ap is_eq h)) ∙ at-below n ns cs (sorted_tail name_cmp _ _ s)
     ] refl

@@ -1,9 +1,8 @@
 -- A change at the end of a walk, a step further up, and what it is in the end.
-use Rattle.std.proofs.Common.{◌≡◌, inl, inr, ℕ, ◌≤◌, Bool, true, false, cond, not, ◌&&◌, length, arith, List, [], ◌∷◌, ◌++◌, append_assoc, append-nil, Option, Some, None, IsSome, refl, sym, ap, subst, ◌∙◌, String, Global, Box}
+use Rattle.std.proofs.Common.{◌≡◌, inl, inr, ℕ, ◌≤◌, Bool, true, false, cond, not, ◌&&◌, length, arith, List, [], ◌∷◌, ◌++◌, append_assoc, append-nil, Option, Some, None, IsSome, refl, sym, ap, subst, ◌∙◌, Global, Box}
 use Rattle.std.specs.Bool.{◌==◌}
 use Rattle.std.proofs.lemmas.Bool.{eqb-true}
 use Rattle.std.specs.Str.{bytes_eq}
-use Rattle.std.specs.String.{string_bytes}
 use Rattle.std.specs.FinMap.Entries.{is_sorted}
 use Rattle.nn_model.specs.declared.form.Form.{Form}
 use Rattle.nn_model.specs.declared.form.Form.TheVariants.{Dir, File}
@@ -63,10 +62,10 @@ pub folder_other : (es : Rows) (node : Node) (m : Children) (n : List ℕ) → f
 folder_other es node m n v i e g = found es m n None (opened es node m v i.0 e) g
 
 -- a directory of one child has that child alone
-pub same_child : (node : Node) (j k : String Global) (t u : Box Tree Global) → node ≡ Narrow j t → node ≡ Narrow k u → t ≡ u
+pub same_child : (node : Node) (j k : List ℕ) (t u : Box Tree Global) → node ≡ Narrow j t → node ≡ Narrow k u → t ≡ u
 same_child node j k t u e f = cc
 
-pub narrow_other : (es : Rows) (node : Node) (k : String Global) (b : Box Tree Global) (a n : List ℕ) → flat node ≡ es → node ≡ Narrow k b → a ≡ string_bytes k → true ≡ not (bytes_eq a n) → (q : Path) → at es (n ∷ q) ≡ None
+pub narrow_other : (es : Rows) (node : Node) (k : List ℕ) (b : Box Tree Global) (a n : List ℕ) → flat node ≡ es → node ≡ Narrow k b → a ≡ k → true ≡ not (bytes_eq a n) → (q : Path) → at es (n ∷ q) ≡ None
 narrow_other es node k b a n v e s c = one_other es k n b.value (opened_narrow es node k b v e) (is_called_else k a n s c)
 
 -- the names that are left
@@ -102,7 +101,7 @@ folder_step es node m n k t w v i e g same =
     subst (λ x. IsStep es (dir_rows (with_child m k w)) x t w) same
     (dir_step es m (with_child m k w) k t w d (written m k t w g d.ordered) (found es m k (Some t) d g) (ap (is_sorted path_cmp) (sym v) ∙ i.1))
 
-pub narrow_step : (es : Rows) (node : Node) (k : String Global) (b : Box Tree Global) (a n : List ℕ) (t w : Tree) → flat node ≡ es → is_sorted path_cmp (flat node) ≡ true → node ≡ Narrow k b → a ≡ string_bytes k → false ≡ not (bytes_eq a n) → t ≡ b.value → IsStep es (dir_rows ((k, w) ∷ [])) n t w
+pub narrow_step : (es : Rows) (node : Node) (k : List ℕ) (b : Box Tree Global) (a n : List ℕ) (t w : Tree) → flat node ≡ es → is_sorted path_cmp (flat node) ≡ true → node ≡ Narrow k b → a ≡ k → false ≡ not (bytes_eq a n) → t ≡ b.value → IsStep es (dir_rows ((k, w) ∷ [])) n t w
 narrow_step es node k b a n t w v o e s c same =
     let d = opened_narrow es node k b v e in
     let called = is_called k a n s c in

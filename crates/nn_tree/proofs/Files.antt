@@ -1,5 +1,5 @@
 -- Files of a tree.
-use Rattle.std.proofs.Common.{◌≡◌, List, [], ◌∷◌, append-nil, Option, Some, None, refl, sym, ap, subst, ◌∙◌, Bor, Box, String, Global}
+use Rattle.std.proofs.Common.{ℕ, ◌≡◌, List, [], ◌∷◌, append-nil, Option, Some, None, refl, sym, ap, subst, ◌∙◌, Bor, Box, Global}
 use Rattle.std.specs.Option.{option_copied}
 use Rattle.nn_model.specs.declared.form.Form.{Form}
 use Rattle.nn_model.specs.Namespace.{Path}
@@ -22,10 +22,10 @@ at_found es t p r h e = ap (at es) (sym (append-nil p)) ∙ h [] ∙ e
 pub at_reached : (es : List (Path × Form)) (p : Path) (o : Option (Bor Tree)) (t : Bor Tree) (r : Option Form) → o ≡ Some t → IsSubtree es p (option_copied o) → at t.now [] ≡ r → at es p ≡ r
 at_reached es p o t r is h e = at_found es t.now p r (subst (λ x. IsSubtree es p (option_copied x)) is h) e
 
-pub top_of_folder : (es : List (Path × Form)) (node : Node) (m : List (String Global × Tree)) → flat node ≡ es → node ≡ Folder m → at es [] ≡ Some Dir
+pub top_of_folder : (es : List (Path × Form)) (node : Node) (m : List (List ℕ × Tree)) → flat node ≡ es → node ≡ Folder m → at es [] ≡ Some Dir
 top_of_folder es node m v e = sym (ap (λ z. at z []) (sym (ap flat e) ∙ v))
 
-pub top_of_narrow : (es : List (Path × Form)) (node : Node) (k : String Global) (t : Box Tree Global) → flat node ≡ es → node ≡ Narrow k t → at es [] ≡ Some Dir
+pub top_of_narrow : (es : List (Path × Form)) (node : Node) (k : List ℕ) (t : Box Tree Global) → flat node ≡ es → node ≡ Narrow k t → at es [] ≡ Some Dir
 top_of_narrow es node k t v e = sym (ap (λ z. at z []) (sym (ap flat e) ∙ v))
 
 -- what is no file is a directory

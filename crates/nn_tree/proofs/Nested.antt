@@ -3,7 +3,6 @@ use Rattle.std.proofs.Common.{◌≡◌, ℕ, suc, ◌+◌, ◌-◌, ◌≤◌, 
 use Rattle.std.specs.Prelude.{IsSome, option_to_list}
 use Rattle.std.specs.List.{slice_get, slice_index_or, slice_set}
 use Rattle.std.specs.Map.Iter.{deref}
-use Rattle.std.specs.String.{string_bytes}
 use Rattle.std.proofs.lemmas.List.{take-append-le, length-take-le, take-append-drop, take_all, take-map, map-append}
 use Rattle.nn_model.specs.declared.form.Form.{Form}
 use Rattle.nn_model.specs.Namespace.{Path}
@@ -87,13 +86,13 @@ module _ (names : Path) (all rest : List OpenDir) (dir : OpenDir) (form : Form) 
   parent = take dir.depth names
 
   abbrev own : Path
-  own = parent ++ string_bytes dir.children.name.now ∷ []
+  own = parent ++ dir.children.name.now ∷ []
 
   -- the row of the child, what lies below it, what lies behind it
   first_rows : all ≡ rest ++ dir ∷ [] → dir.children.tree.now ≡ ([], form) ∷ below (all_entries inside)
       → rows_open names all ≡ (own, form) ∷ (under_all own (below (all_entries inside)) ++ (under_all parent (below (later_of dir.children.later)) ++ rows_open names rest))
   first_rows is tree =
-      let k = string_bytes dir.children.name.now in
+      let k = dir.children.name.now in
       let later = below (later_of dir.children.later) in
       let child : under_all parent (under k dir.children.tree.now) ≡ (own, form) ∷ under_all own (below (all_entries inside)) =
       sym (under_all-push parent k dir.children.tree.now) ∙ ap (under_all own) tree ∙ under_all-cons own form (below (all_entries inside)) in
@@ -102,13 +101,13 @@ module _ (names : Path) (all rest : List OpenDir) (dir : OpenDir) (form : Form) 
       ∙ ap (λ r. (own, form) ∷ r) (append_assoc (under_all own (below (all_entries inside))) (under_all parent later) (rows_open names rest))
 
   length-own : dir.depth ≤ length names → length own ≡ dir.depth + 1
-  length-own h = omega (arith, length-append parent (string_bytes dir.children.name.now ∷ []), length-take-le dir.depth names h)
+  length-own h = omega (arith, length-append parent (dir.children.name.now ∷ []), length-take-le dir.depth names h)
 
   own_taken : take (length own) own ≡ own
   own_taken = take_all (length own) own (omega arith)
 
   parent_taken : dir.depth ≤ length names → take dir.depth own ≡ parent
-  parent_taken h = take_front dir.depth dir.depth names (string_bytes dir.children.name.now ∷ []) (omega arith) h
+  parent_taken h = take_front dir.depth dir.depth names (dir.children.name.now ∷ []) (omega arith) h
 
   module _ (behind : Option Children) (is : all ≡ rest ++ dir ∷ []) (nest : Nest names 0 (length names + 1) all) (later : all_entries behind ≡ later_of dir.children.later) where
     abbrev after : List OpenDir
@@ -121,7 +120,7 @@ module _ (names : Path) (all rest : List OpenDir) (dir : OpenDir) (form : Form) 
         let new : rows_open own after ≡ under_all own (below (all_entries inside)) ++ (under_all parent (below (later_of dir.children.later)) ++ rows_open names rest) =
         rows_opened own (rest ++ opened dir.depth behind) (length own) inside
         ∙ (λ j. under_all (own_taken j) (below (all_entries inside)) ++ rows_opened own rest dir.depth behind j)
-        ∙ (λ j. under_all own (below (all_entries inside)) ++ (under_all (parent_taken deep j) (below (later j)) ++ rows_kept names (string_bytes dir.children.name.now ∷ []) 0 dir.depth rest last.0 deep j)) in
+        ∙ (λ j. under_all own (below (all_entries inside)) ++ (under_all (parent_taken deep j) (below (later j)) ++ rows_kept names (dir.children.name.now ∷ []) 0 dir.depth rest last.0 deep j)) in
         first_rows is tree ∙ ap (λ r. (own, form) ∷ r) (sym new)
 
 pub none_of : {X : Type 0} (o : Option X) → ((x : X) → o ≡ Some x → ⊥) → o ≡ None
@@ -199,7 +198,7 @@ deep_child p k (e ∷ es) more h = omega (arith, ap greatest_depth (under_all-fi
 -- a directory's children have one name more
 deep_inside : (p : Path) (inside : Option Children) → IsRooted inside → length p + length (option_to_list inside) ≤ max (length p) (greatest_depth (under_all p (below (all_entries inside))))
 deep_inside p None h = omega arith
-deep_inside p (Some children) h = omega (arith, deep_child p (string_bytes children.name.now) children.tree.now (below (later_of children.later)) h)
+deep_inside p (Some children) h = omega (arith, deep_child p children.name.now children.tree.now (below (later_of children.later)) h)
 
 pub root_room : (names : Path) (dirs : List OpenDir) (root : Bor Rows) (form : Form) (inside : Option Children) (left : Rows) (room len : ℕ)
     → root_rows (Some root) ++ rows_open names dirs ≡ left → IsAtStart (Some root) names dirs → root.now ≡ ([], form) ∷ below (all_entries inside) → IsRooted inside → len ≡ length dirs
@@ -214,7 +213,7 @@ module _ (names : Path) (all rest : List OpenDir) (dir : OpenDir) (form : Form) 
   child_room is nest tree rooted room h =
       let last = nest_last names 0 (length names + 1) rest dir (subst (Nest names 0 (length names + 1)) is nest) in
       let deep : dir.depth ≤ length names = omega (arith, last.1) in
-      let mine = take dir.depth names ++ string_bytes dir.children.name.now ∷ [] in
+      let mine = take dir.depth names ++ dir.children.name.now ∷ [] in
       let below_it = under_all mine (below (all_entries inside)) in
       let behind = under_all (take dir.depth names) (below (later_of dir.children.later)) ++ rows_open names rest in
       let counted : length all ≤ dir.depth + 1 = omega (arith, ap length is, length-append rest (dir ∷ []), nest_count names 0 dir.depth rest last.0) in
@@ -230,7 +229,7 @@ pub record Step (root : Option (Bor Rows)) (names new_names : Path) (all rest af
   pub split : all ≡ rest ++ dir ∷ []
   pub tree : (form : Form) × (dir.children.tree.now ≡ ([], form) ∷ below (all_entries inside))
   pub behind_it : all_entries behind ≡ later_of dir.children.later
-  pub named : new_names ≡ take dir.depth names ++ string_bytes dir.children.name.now ∷ []
+  pub named : new_names ≡ take dir.depth names ++ dir.children.name.now ∷ []
   pub left : after ≡ (rest ++ opened dir.depth behind) ++ opened (length new_names) inside
 
 module _ (root : Option (Bor Rows)) (names new_names : Path) (all rest after : List OpenDir) (dir : OpenDir) (inside behind : Option Children) (s : Step root names new_names all rest after dir inside behind) where
@@ -244,7 +243,7 @@ module _ (root : Option (Bor Rows)) (names new_names : Path) (all rest after : L
 
   pub step_nested : IsNested root new_names after
   step_nested =
-      let name = string_bytes dir.children.name.now in
+      let name = dir.children.name.now in
       let last = nest_last names 0 (length names + 1) rest dir (subst (Nest names 0 (length names + 1)) s.split s.nest) in
       let deep : dir.depth ≤ length names = omega (arith, last.1) in
       let long : length new_names ≡ dir.depth + 1 = ap length s.named ∙ length-own names all rest dir s.tree.0 inside deep in

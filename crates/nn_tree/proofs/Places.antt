@@ -8,7 +8,6 @@ use Rattle.std.specs.declared.cmp.Ordering.{Ordering}
 use Rattle.std.specs.declared.cmp.Ordering.TheVariants.{Less, Equal, Greater}
 use Rattle.std.specs.Ordering.{is_gt, is_le, is_lt, ordering_then, ordering_reverse}
 use Rattle.nn_sorted.specs.Values.{entries_from}
-use Rattle.std.specs.String.{string_bytes, string_cmp}
 use Rattle.std.specs.Cmp.Lexicographic.{nat_list_cmp_total}
 use Rattle.std.specs.FinMap.{IsAntisymmetric, nat_cmp-IsAntisymmetric, slice_cmp-IsAntisymmetric}
 use Rattle.std.proofs.lemmas.Cmp.{tied_itself}
@@ -24,7 +23,7 @@ use Rattle.nn_tree.specs.declared.tree.children.Children.{Children}
 use Rattle.nn_tree.specs.At.{names_of}
 use Rattle.nn_tree.specs.Flat.{flat, under, below, IsInOrder}
 use Rattle.nn_tree.specs.Rows.{Entries, rows_from, later_of, all_entries, from_children}
-use Rattle.nn_tree.proofs.Below.{name_cmp}
+use Rattle.nn_tree.specs.Name.{name_cmp}
 
 abbrev Rows : Type 0
 Rows = List (Path × Form)
@@ -88,11 +87,11 @@ at_name n k p rows h =
 -- ---- Children in order.
 
 -- a name below all that follow, and not before the place
-all_behind : (n k : List ℕ) (p : Path) (cs : Entries) → is_le (name_cmp n k) ≡ true → AllByRecursion (λ y. name_cmp k (string_bytes y) ≡ Less) (keys_of cs) → rows_from (n ∷ p) (below cs) ≡ below cs
+all_behind : (n k : List ℕ) (p : Path) (cs : Entries) → is_le (name_cmp n k) ≡ true → AllByRecursion (λ y. name_cmp k y ≡ Less) (keys_of cs) → rows_from (n ∷ p) (below cs) ≡ below cs
 all_behind n k p [] h a = refl
 all_behind n k p (c ∷ cs) h a =
-    from-append (n ∷ p) (under (string_bytes c.0) c.1) (below cs)
-    ∙ (λ j. place_before n (string_bytes c.0) p (before n k (string_bytes c.0) h a.0) c.1 j ++ all_behind n k p cs h a.1 j)
+    from-append (n ∷ p) (under c.0 c.1) (below cs)
+    ∙ (λ j. place_before n c.0 p (before n k c.0 h a.0) c.1 j ++ all_behind n k p cs h a.1 j)
   where
     before : (n k m : List ℕ) → is_le (name_cmp n k) ≡ true → name_cmp k m ≡ Less → name_cmp n m ≡ Less
     before n k m h l =
@@ -105,32 +104,32 @@ all_behind n k p (c ∷ cs) h a =
 -- the first child, if there is one, does not come before the place
 abbrev IsFrom : List ℕ → Entries → Type 0
 IsFrom n [] = Unit {0}
-IsFrom n (c ∷ cs) = is_le (name_cmp n (string_bytes c.0)) ≡ true
+IsFrom n (c ∷ cs) = is_le (name_cmp n c.0) ≡ true
 
 -- the children from the place on
-sorted_from : (n : List ℕ) (p : Path) (children : Option Children) (cs : Entries) → all_entries children ≡ cs → IsStrictlySortedBy string_cmp (keys_of cs) → IsFrom n cs → rows_from (n ∷ p) (below cs) ≡ from_children n p children
+sorted_from : (n : List ℕ) (p : Path) (children : Option Children) (cs : Entries) → all_entries children ≡ cs → IsStrictlySortedBy name_cmp (keys_of cs) → IsFrom n cs → rows_from (n ∷ p) (below cs) ≡ from_children n p children
 sorted_from n p None cs e s a = ap (λ es. rows_from (n ∷ p) (below es)) (sym e)
 sorted_from n p (Some children) cs e s a =
-    let k = string_bytes children.name.now in
+    let k = children.name.now in
     let more = later_of children.later in
-    let sorted = subst (λ es. IsStrictlySortedBy string_cmp (keys_of es)) (sym e) s in
+    let sorted = subst (λ es. IsStrictlySortedBy name_cmp (keys_of es)) (sym e) s in
     let first = subst (IsFrom n) (sym e) a in
     ap (λ es. rows_from (n ∷ p) (below es)) (sym e) ∙ from-append (n ∷ p) (under k children.tree.now) (below more)
-    ∙ (λ j. at_name n k p children.tree.now first j ++ all_behind n k p more first (sorted_head string_cmp _ _ sorted) j)
+    ∙ (λ j. at_name n k p children.tree.now first j ++ all_behind n k p more first (sorted_head name_cmp _ _ sorted) j)
 
 -- and those before it have no rows there
-children_from : (first : String Global) (p : Path) (children : Option Children) (cs : Entries) → all_entries children ≡ entries_from (string_cmp first) cs → IsStrictlySortedBy string_cmp (keys_of cs)
-    → rows_from (string_bytes first ∷ p) (below cs) ≡ from_children (string_bytes first) p children
-children_from first p children [] e s = sorted_from (string_bytes first) p children [] e s tt
+children_from : (first : List ℕ) (p : Path) (children : Option Children) (cs : Entries) → all_entries children ≡ entries_from (name_cmp first) cs → IsStrictlySortedBy name_cmp (keys_of cs)
+    → rows_from (first ∷ p) (below cs) ≡ from_children first p children
+children_from first p children [] e s = sorted_from first p children [] e s tt
 children_from first p children (c ∷ cs) e s =
-    let n = string_bytes first in
-    let k = string_bytes c.0 in
-    elim (name_cmp n k) as (λ o. name_cmp n k ≡ o → all_entries children ≡ cond (is_gt o) (entries_from (string_cmp first) cs) (c ∷ cs) → rows_from (n ∷ p) (below (c ∷ cs)) ≡ from_children n p children) [
+    let n = first in
+    let k = c.0 in
+    elim (name_cmp n k) as (λ o. name_cmp n k ≡ o → all_entries children ≡ cond (is_gt o) (entries_from (name_cmp first) cs) (c ∷ cs) → rows_from (n ∷ p) (below (c ∷ cs)) ≡ from_children n p children) [
       | Less ↦ λ h g. sorted_from n p children (c ∷ cs) g s (ap is_le h)
       | Equal ↦ λ h g. sorted_from n p children (c ∷ cs) g s (ap is_le h)
       | Greater ↦ λ h g.
           from-append (n ∷ p) (under k c.1) (below cs) ∙ ap (λ r. r ++ rows_from (n ∷ p) (below cs)) (place_behind n k p h c.1)
-          ∙ children_from first p children cs g (sorted_tail string_cmp _ _ s)
+          ∙ children_from first p children cs g (sorted_tail name_cmp _ _ s)
     ] refl e
 
 -- ---- A node from a place on.
@@ -139,10 +138,10 @@ children_from first p children (c ∷ cs) e s =
 dir_from : (n : List ℕ) (p : Path) (es : Rows) (node : Node) (cs : Entries) → flat node ≡ es → flat node ≡ ([], Dir) ∷ below cs → rows_from (n ∷ p) es ≡ rows_from (n ∷ p) (below cs)
 dir_from n p es node cs v e = ap (rows_from (n ∷ p)) (sym v ∙ e)
 
-pub folder_from : (first : String Global) (p : Path) (es : Rows) (node : Node) (m : List (String Global × Tree)) (children : Option Children) → flat node ≡ es → IsInOrder node → node ≡ Folder m
-    → all_entries children ≡ entries_from (string_cmp first) m → rows_from (string_bytes first ∷ p) es ≡ from_children (string_bytes first) p children
+pub folder_from : (first : List ℕ) (p : Path) (es : Rows) (node : Node) (m : List (List ℕ × Tree)) (children : Option Children) → flat node ≡ es → IsInOrder node → node ≡ Folder m
+    → all_entries children ≡ entries_from (name_cmp first) m → rows_from (first ∷ p) es ≡ from_children first p children
 folder_from first p es node m children v o e is =
-    dir_from (string_bytes first) p es node m v (ap flat e) ∙ children_from first p children m is (subst IsInOrder e o)
+    dir_from first p es node m v (ap flat e) ∙ children_from first p children m is (subst IsInOrder e o)
 
 less_of : (o : Ordering) → true ≡ is_lt o → o ≡ Less
 less_of Less h = refl
@@ -157,21 +156,21 @@ not_less n k h =
       | Greater ↦ λ e w. ap is_le (turned n k Greater e)
     ] refl h
 
-module _ (n : List ℕ) (p : Path) (es : Rows) (node : Node) (k : String Global) (t : Box Tree Global) (own given : List ℕ) (v : flat node ≡ es) (e : node ≡ Narrow k t) (o : own ≡ string_bytes k) (g : given ≡ n) where
-  only_child : rows_from (n ∷ p) es ≡ rows_from (n ∷ p) (under (string_bytes k) t.value)
-  only_child = dir_from n p es node ((k, t.value) ∷ []) v (ap flat e) ∙ ap (rows_from (n ∷ p)) (append-nil (under (string_bytes k) t.value))
+module _ (n : List ℕ) (p : Path) (es : Rows) (node : Node) (k : List ℕ) (t : Box Tree Global) (own given : List ℕ) (v : flat node ≡ es) (e : node ≡ Narrow k t) (o : own ≡ k) (g : given ≡ n) where
+  only_child : rows_from (n ∷ p) es ≡ rows_from (n ∷ p) (under k t.value)
+  only_child = dir_from n p es node ((k, t.value) ∷ []) v (ap flat e) ∙ ap (rows_from (n ∷ p)) (append-nil (under k t.value))
 
   -- an only child before the place
   pub narrow_before : true ≡ is_lt (name_cmp own given) → rows_from (n ∷ p) es ≡ []
   narrow_before h =
-      only_child ∙ place_behind n (string_bytes k) p (turned n (string_bytes k) Less ((λ j. name_cmp (sym o j) (sym g j)) ∙ less_of (name_cmp own given) h)) t.value
+      only_child ∙ place_behind n k p (turned n k Less ((λ j. name_cmp (sym o j) (sym g j)) ∙ less_of (name_cmp own given) h)) t.value
 
   -- and one that is not
-  pub narrow_at : (rows : Rows) → rows ≡ t.value → false ≡ is_lt (name_cmp own given) → rows_from (n ∷ p) es ≡ under (string_bytes k) (cond (bytes_eq n (string_bytes k)) (rows_from p rows) rows) ++ []
+  pub narrow_at : (rows : Rows) → rows ≡ t.value → false ≡ is_lt (name_cmp own given) → rows_from (n ∷ p) es ≡ under k (cond (bytes_eq n k) (rows_from p rows) rows) ++ []
   narrow_at rows is h =
-      only_child ∙ at_name n (string_bytes k) p t.value (not_less n (string_bytes k) (h ∙ (λ j. is_lt (name_cmp (o j) (g j)))))
-      ∙ ap (λ r. under (string_bytes k) (cond (bytes_eq n (string_bytes k)) (rows_from p r) r)) (sym is)
-      ∙ sym (append-nil (under (string_bytes k) (cond (bytes_eq n (string_bytes k)) (rows_from p rows) rows)))
+      only_child ∙ at_name n k p t.value (not_less n k (h ∙ (λ j. is_lt (name_cmp (o j) (g j)))))
+      ∙ ap (λ r. under k (cond (bytes_eq n k) (rows_from p r) r)) (sym is)
+      ∙ sym (append-nil (under k (cond (bytes_eq n k) (rows_from p rows) rows)))
 
 -- the place is that of a child: the child is whole
 pub child_whole : (b : Bool) (k : List ℕ) (rows more : Rows) (rest : List (String Global)) → length rest ≡ 0 → under k (cond b (rows_from (names_of rest) rows) rows) ++ more ≡ under k rows ++ more

@@ -17,10 +17,11 @@ use Rattle.nn_model.specs.Namespace.{Path}
 use Rattle.nn_tree.specs.Flat.{under, under_all}
 use Rattle.nn_tree.specs.At.{at}
 use Rattle.nn_tree.specs.Ids.{ids_of, row_ids}
-use Rattle.nn_tree.proofs.Below.{name_cmp, at-under-same, at-under-other}
+use Rattle.nn_tree.proofs.Below.{at-under-same, at-under-other}
 use Rattle.nn_tree.proofs.Ids.{ids_under}
 use Rattle.nn_model.proofs.Prefixes.{name_same, begins_split}
 use Rattle.nn_tree.proofs.Sorted.{sorted_under}
+use Rattle.nn_tree.specs.Name.{name_cmp}
 
 top_under : (n : List ℕ) (es : List (Path × Form)) → at (under n es) [] ≡ None
 top_under n [] = refl

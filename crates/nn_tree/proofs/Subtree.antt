@@ -1,10 +1,8 @@
 -- What stands below a directory's child.
-use Rattle.std.proofs.Common.{◌≡◌, ℕ, List, [], ◌∷◌, ◌++◌, length, Option, Some, None, IsSome, refl, sym, ap, subst, ◌∙◌, String, Global, arith, Box}
+use Rattle.std.proofs.Common.{◌≡◌, ℕ, List, [], ◌∷◌, ◌++◌, length, Option, Some, None, IsSome, refl, sym, ap, subst, ◌∙◌, Global, arith, Box}
 use Rattle.std.specs.BTreeMap.{is_at}
 use Rattle.std.specs.Map.{lookup, keys_of, set_value}
 use Rattle.std.specs.List.Sorted.{IsStrictlySortedBy}
-use Rattle.std.proofs.lemmas.Map.Text.{text_cmp}
-use Rattle.std.specs.String.{string_cmp}
 use Rattle.nn_model.specs.declared.form.Form.{Form}
 use Rattle.nn_model.specs.Namespace.{Path}
 use Rattle.nn_model.specs.declared.form.Form.TheVariants.{Dir, File}
@@ -15,18 +13,19 @@ use Rattle.nn_tree.specs.declared.tree.Tree.{Tree}
 use Rattle.nn_tree.specs.declared.tree.Node.{Node}
 use Rattle.nn_tree.specs.declared.tree.Node.TheVariants.{Folder, Narrow, Leaf}
 use Rattle.nn_tree.proofs.Below.{at-below}
+use Rattle.nn_tree.specs.Name.{name_cmp}
 
 -- a directory's children by name
 abbrev pub Children : Type 0
-Children = List (String Global × Tree)
+Children = List (List ℕ × Tree)
 
 -- the child of the name n
 abbrev pub child : Children → List ℕ → Option Tree
-child cs n = lookup (is_at (text_cmp n)) cs
+child cs n = lookup (is_at (name_cmp n)) cs
 
 -- the children, with another tree for the child of the name n
 abbrev pub with_child : Children → List ℕ → Tree → Children
-with_child cs n t = set_value (is_at (text_cmp n)) cs t
+with_child cs n t = set_value (is_at (name_cmp n)) cs t
 
 -- the rows of a directory with the children cs
 abbrev pub dir_rows : Children → List (Path × Form)
@@ -35,21 +34,21 @@ dir_rows cs = ([], Dir) ∷ below cs
 -- es are the rows of an opened directory with the children cs
 pub record IsDir (es : List (Path × Form)) (cs : Children) : Type 0 where
   pub is : dir_rows cs ≡ es
-  pub ordered : IsStrictlySortedBy string_cmp (keys_of cs)
+  pub ordered : IsStrictlySortedBy name_cmp (keys_of cs)
 
 -- fewer than two names are in order
-pub none_in_order : IsStrictlySortedBy {K = String Global} string_cmp []
+pub none_in_order : IsStrictlySortedBy {K = List ℕ} name_cmp []
 unfolding IsStrictlySortedBy
 none_in_order = tt
 
-pub one_in_order : (k : String Global) → IsStrictlySortedBy string_cmp (k ∷ [])
+pub one_in_order : (k : List ℕ) → IsStrictlySortedBy name_cmp (k ∷ [])
 unfolding IsStrictlySortedBy
 one_in_order k = (tt, tt)
 
-pub opened : (es : List (Path × Form)) (node : Node) (m : List (String Global × Tree)) → flat node ≡ es → IsInOrder node → node ≡ Folder m → IsDir es m
+pub opened : (es : List (Path × Form)) (node : Node) (m : List (List ℕ × Tree)) → flat node ≡ es → IsInOrder node → node ≡ Folder m → IsDir es m
 opened es node m v i e = record { is = sym (ap flat e) ∙ v; ordered = subst IsInOrder e i }
 
-pub opened_narrow : (es : List (Path × Form)) (node : Node) (k : String Global) (t : Box Tree Global) → flat node ≡ es → node ≡ Narrow k t → IsDir es ((k, t.value) ∷ [])
+pub opened_narrow : (es : List (Path × Form)) (node : Node) (k : List ℕ) (t : Box Tree Global) → flat node ≡ es → node ≡ Narrow k t → IsDir es ((k, t.value) ∷ [])
 opened_narrow es node k t v e = record { is = sym (ap flat e) ∙ v; ordered = one_in_order k }
 
 pub no_names : (ps : Path) → length ps ≡ 0 → ps ≡ []
@@ -83,7 +82,7 @@ pub no_child : (es : List (Path × Form)) (n : List ℕ) (ns ps : Path) → ps �
 no_child es n ns ps e h q = ap (λ p. at es (p ++ q)) e ∙ h (ns ++ q)
 
 -- what is no directory is a file
-pub leaf_of : (node : Node) → ((k : String Global) (t : Box Tree Global) → node ≡ Narrow k t → ⊥) → ((m : List (String Global × Tree)) → node ≡ Folder m → ⊥) → (f : FileRow) × (node ≡ Leaf f)
+pub leaf_of : (node : Node) → ((k : List ℕ) (t : Box Tree Global) → node ≡ Narrow k t → ⊥) → ((m : List (List ℕ × Tree)) → node ≡ Folder m → ⊥) → (f : FileRow) × (node ≡ Leaf f)
 leaf_of (Folder m) h k = absurd (k m refl)
 leaf_of (Narrow n t) h k = absurd (h n t refl)
 leaf_of (Leaf f) h k = (f, refl)

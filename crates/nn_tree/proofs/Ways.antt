@@ -2,7 +2,6 @@
 use Rattle.std.proofs.Common.{◌≡◌, ℕ, ◌+◌, true, cond, List, [], ◌∷◌, ◌++◌, length, take, Option, Some, None, sym, ap, ◌∙◌, subst, append_assoc, length-append, arith, Bor}
 use Rattle.std.specs.Prelude.{bytes_eq}
 use Rattle.std.specs.Map.Iter.{deref}
-use Rattle.std.specs.String.{string_bytes}
 use Rattle.std.proofs.lemmas.List.{take-append-le, take_all, map-append}
 use Rattle.nn_model.specs.declared.form.Form.{Form}
 use Rattle.nn_model.specs.Namespace.{Path}
@@ -55,11 +54,11 @@ module _ (place : Path) (root : Rows) (names : Path) (dirs : List OpenDir) (name
 
   module _ (children : Children) (behind : Option Children) (depth : ℕ) (new : Path) (after : List OpenDir) where
     -- the place lies below the first of them
-    pub down_on : rows_from (name ∷ rest) tree ≡ from_children name rest (Some children) → bytes_eq name (string_bytes children.name.now) ≡ true → all_entries behind ≡ later_of children.later
-        → depth ≡ length names → new ≡ names ++ string_bytes children.name.now ∷ [] → after ≡ dirs ++ opened depth behind
+    pub down_on : rows_from (name ∷ rest) tree ≡ from_children name rest (Some children) → bytes_eq name children.name.now ≡ true → all_entries behind ≡ later_of children.later
+        → depth ≡ length names → new ≡ names ++ children.name.now ∷ [] → after ≡ dirs ++ opened depth behind
         → (next : List ℕ) (others : Path) → rest ≡ next ∷ others → Down place root new after next others children.tree.now
     down_on is same later deep pushed more next others e =
-        let k = string_bytes children.name.now in
+        let k = children.name.now in
         let mine = names ++ k ∷ [] in
         let front : take (length names) mine ≡ names = take-append-le (length names) names (k ∷ []) (omega arith) ∙ own_taken in
         let kept : take (length names) names ++ k ∷ [] ≡ mine = ap (λ p. p ++ k ∷ []) own_taken in

@@ -2,9 +2,6 @@
 use Rattle.std.specs.Prelude.{◌≡◌, ℕ, List, [], ◌∷◌, ◌++◌, Option, Some, None, IsSome, length, max, filter, take, cond, bytes_eq}
 use Rattle.std.specs.Borrow.{Bor}
 use Rattle.std.specs.Ordering.{is_le}
-use Rattle.std.specs.String.{string_bytes}
-use Rattle.std.specs.declared.string.String.{String}
-use Rattle.std.proofs.Common.{Global}
 use Rattle.nn_model.specs.declared.form.Form.{Form}
 use Rattle.nn_model.specs.Namespace.{Path, path_cmp}
 use Rattle.nn_tree.specs.At.{at}
@@ -40,7 +37,7 @@ Resumes rows = (p : Path) (front : List (Path × Form)) (row : Path × Form) (ba
 
 -- each child by its name, and its rows
 abbrev pub Entries : Type 0
-Entries = List (String Global × List (Path × Form))
+Entries = List (List ℕ × List (Path × Form))
 
 abbrev pub later_of : Option Entries → Entries
 later_of None = []
@@ -64,7 +61,7 @@ IsRooted (Some children) = IsSome (at children.tree.now [])
 abbrev pub from_children : List ℕ → Path → Option Children → List (Path × Form)
 from_children n p None = []
 from_children n p (Some children) =
-    let k = string_bytes children.name.now in
+    let k = children.name.now in
     let rows = children.tree.now in
     under k (cond (bytes_eq n k) (rows_from p rows) rows) ++ below (later_of children.later)
 

@@ -1,12 +1,11 @@
 -- How much is left to do of a tree that is taken apart.
 use Rattle.std.specs.Prelude.{ℕ, zero, suc, ◌+◌, List, [], Option, Some, None}
-use Rattle.std.specs.declared.string.String.{String}
 use Rattle.nn_model.specs.declared.form.Form.{Form}
 use Rattle.nn_model.specs.Namespace.{Path}
 use Rattle.nn_tree.specs.Flat.{below}
 
 -- the rows of what is left of a directory
-abbrev pub rows_left : {Y : Type 0} → Option (List (String Y × List (Path × Form))) → List (Path × Form)
+abbrev pub rows_left : Option (List (List ℕ × List (Path × Form))) → List (Path × Form)
 rows_left None = []
 rows_left (Some m) = below m
 

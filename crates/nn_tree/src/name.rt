@@ -1,64 +1,81 @@
-//! The name of a child, with its first bytes as a number.
-ghost use Rattle.std.specs.Prelude.{◌≡◌, ◌<◌, ℕ, string_bytes, slice_index_or};
-ghost use Rattle.std.specs.Ordering.{nat_cmp};
-ghost use Rattle.std.specs.Cmp.Lexicographic.{slice_cmp};
-ghost use Rattle.nn_tree.specs.Name.{front_of};
+//! The name of a child.
+ghost use Rattle.std.specs.Prelude.{◌≡◌, [], IfOk, slice_index_or, Some};
+ghost use Rattle.nn_tree.specs.Name.{front_of, name_cmp};
 
+use arrayvec::ArrayString;
 use nn_sorted::Seek;
+use std::alloc::{AllocError, Global};
 use std::cmp::Ordering;
 use std::marker::Model;
 
-/// The name of a child. Two names whose first eight bytes differ are told apart by these, as one number each.
+/// The name of a child. One of few bytes, as most are, lies in the entry of its directory, and takes no memory of its own.
 #[derive(Drop)]
 pub(crate) struct Name {
-    front: u64,
-    text: String,
+    text: Text,
+}
+
+#[derive(Drop)]
+enum Text {
+    Short(ArrayString<16>),
+    Long(String),
 }
 
 impl Model for Name {
-    ghost use Rattle.std.specs.Prelude.{◌≡◌, string_bytes};
-    ghost use Rattle.std.specs.declared.string.String.{String};
-    ghost use Rattle.std.specs.declared.alloc.Global.{Global};
-    ghost use Rattle.nn_tree.specs.Name.{front_of};
+    ghost use Rattle.std.specs.Prelude.{List, ℕ};
+    ghost use Rattle.nn_tree.specs.Name.{text_of};
 
-    ghost Value = { String Global };
+    ghost Value = { List ℕ };
 
-    ghost view = { λ n. n.text };
-
-    ghost invariant = { λ n. n.front ≡ front_of (string_bytes n.text) };
+    ghost view = { λ n. text_of n.text };
 }
 
 impl Name {
-    /// The name of this text.
-    pub(crate) fn of(text: String) -> Name
-        ensures { result ≡ text }
+    /// A copy of this text.
+    pub(crate) fn of(alloc: Global, text: &str) -> Result<Name, AllocError>
+        ensures { IfOk result (λ n. n ≡ text.now) }
+    {
+        let text = match ArrayString::from(text) {
+            Ok(text) => Text::Short(text),
+            Err(_) => Text::Long(String::from_str(alloc, text)?),
+        };
+        Ok(Name { text })
+    }
+
+    /// No text. Takes no memory.
+    pub(crate) fn empty() -> Name
+        ensures { result ≡ [] }
     {
         Name {
-            front: front_of(text.as_str()),
-            text,
+            text: Text::Short(ArrayString::new()),
         }
     }
 
     /// Its text.
-    pub(crate) fn into_string(self) -> String
-        ensures { result ≡ self }
-    {
-        self.text
-    }
-
-    /// Its text.
-    pub(crate) fn as_string(&self) -> &String
+    pub(crate) fn as_str(&self) -> &str
         ensures { result.now ≡ self.now }
     {
-        &self.text
+        match &self.text {
+            Text::Short(text) => text.as_str(),
+            Text::Long(text) => text.as_str(),
+        }
     }
 }
 
 // The first eight bytes of a text as a number, the first one highest. A shorter text has zeros behind it.
+#[inline(always)]
 fn front_of(text: &str) -> u64
     ensures { result ≡ front_of text.now }
 {
     let bytes = text.as_bytes();
+    if let Some(front) = bytes.first_chunk() {
+        return u64::from_be_bytes(*front);
+    }
+    short_front_of(bytes)
+}
+
+fn short_front_of(bytes: &[u8]) -> u64
+    ensures { result ≡ front_of bytes.now }
+{
     u64::from_be_bytes([
         byte(bytes, 0),
         byte(bytes, 1),
@@ -72,6 +89,7 @@ fn front_of(text: &str) -> u64
 }
 
 // A byte, and zero past the end.
+#[inline(always)]
 fn byte(bytes: &[u8], place: usize) -> u8
     ensures { result ≡ slice_index_or bytes.now place 0 }
 {
@@ -79,10 +97,11 @@ fn byte(bytes: &[u8], place: usize) -> u8
 }
 
 // How two texts compare, of which these are the first bytes.
+#[inline(always)]
 fn compare(front: u64, text: &str, other_front: u64, other: &str) -> Ordering
     requires front { front ≡ front_of text.now }
     requires other { other_front ≡ front_of other.now }
-    ensures { result ≡ slice_cmp nat_cmp text.now other.now }
+    ensures { result ≡ name_cmp text.now other.now }
 {
     if front < other_front {
         return Ordering::Less;
@@ -96,30 +115,29 @@ fn compare(front: u64, text: &str, other_front: u64, other: &str) -> Ordering
 impl PartialEq for Name {
     ghost use Rattle.std.proofs.Common.{rules};
     ghost use Rattle.std.specs.Cmp.Rules.{comparing};
-    ghost use Rattle.std.specs.String.{string_eq};
+    ghost use Rattle.std.specs.Cmp.Lexicographic.{pointwise};
+    ghost use Rattle.std.specs.Bool.{nat_eq};
 
-    ghost eq = { string_eq };
+    ghost eq = { pointwise nat_eq };
 
     ghost laws = { Prim.search (comparing, rules) };
 
     fn eq(&self, other: &Name) -> bool {
-        self.text == other.text
+        self.as_str() == other.as_str()
     }
 }
 
 impl Eq for Name {
-    ghost use Rattle.std.specs.String.{string_eq_equiv};
+    ghost use Rattle.std.specs.Cmp.Lexicographic.{nat_list_eq_equiv};
 
-    ghost laws = { string_eq_equiv };
+    ghost laws = { nat_list_eq_equiv };
 }
 
 impl PartialOrd for Name {
     ghost use Rattle.std.proofs.Common.{rules};
     ghost use Rattle.std.specs.Cmp.Rules.{comparing};
-    ghost use Rattle.std.specs.Prelude.{Some};
-    ghost use Rattle.std.specs.String.{string_cmp};
 
-    ghost partial_cmp = { λ x y. Some (string_cmp x y) };
+    ghost partial_cmp = { λ x y. Some (name_cmp x y) };
 
     ghost laws = { Prim.search (comparing, rules) };
 
@@ -131,9 +149,8 @@ impl PartialOrd for Name {
 impl Ord for Name {
     ghost use Rattle.std.proofs.Common.{rules};
     ghost use Rattle.std.specs.Cmp.Rules.{comparing};
-    ghost use Rattle.std.specs.String.{string_cmp};
 
-    ghost cmp = { string_cmp };
+    ghost cmp = { name_cmp };
 
     ghost total = { Prim.search (comparing, rules) };
 
@@ -142,12 +159,7 @@ impl Ord for Name {
     ghost matches_eq = { Prim.search (comparing, rules) };
 
     fn cmp(&self, other: &Name) -> Ordering {
-        compare(
-            self.front,
-            self.text.as_str(),
-            other.front,
-            other.text.as_str(),
-        )
+        Wanted::by(self.as_str()).against(other)
     }
 }
 
@@ -179,19 +191,27 @@ impl<'a> Wanted<'a> {
             text,
         }
     }
+
+    #[inline(always)]
+    fn against(&self, name: &Name) -> Ordering
+        ensures { result ≡ name_cmp self.now name.now }
+    {
+        let text = name.as_str();
+        compare(self.front, self.text, front_of(text), text)
+    }
 }
 
 impl<'a> Seek<Name> for &Wanted<'a> {
     ghost use Rattle.std.specs.BTreeMap.Comparable.{le_lt_trans};
     ghost use Rattle.std.specs.Cmp.Lexicographic.{nat_list_cmp_total};
 
-    ghost order = { λ w k. slice_cmp nat_cmp w.now (string_bytes k) };
+    ghost order = { λ w k. name_cmp w.now k };
 
-    ghost same = { λ w x y. nat_list_cmp_total.congr w.now (string_bytes x) (string_bytes y) };
+    ghost same = { λ w. nat_list_cmp_total.congr w.now };
 
-    ghost below = { λ w x y. le_lt_trans nat_list_cmp_total w.now (string_bytes x) (string_bytes y) };
+    ghost below = { λ w. le_lt_trans nat_list_cmp_total w.now };
 
     fn compare(&self, key: &Name) -> Ordering {
-        compare(self.front, self.text, key.front, key.text.as_str())
+        self.against(key)
     }
 }

@@ -250,7 +250,7 @@ fn way_on<'p>(
     rest: &'p [String],
 ) -> Option<(&'p String, &'p [String])>
     ensures none { result ≡ None → from_children (string_bytes name.now) (names_of rest.now) (Some children.now) ≡ below (entries_of children.now) }
-    ensures some { IfSome result (λ on. (rest.now ≡ on.0.now ∷ on.1.now) × (bytes_eq (string_bytes name.now) (string_bytes children.now.name.now) ≡ true)) }
+    ensures some { IfSome result (λ on. (rest.now ≡ on.0.now ∷ on.1.now) × (bytes_eq (string_bytes name.now) children.now.name.now ≡ true)) }
 {
     if children.name.as_str() != name.as_str() {
         return None;

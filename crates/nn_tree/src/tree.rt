@@ -42,8 +42,8 @@ pub(crate) struct Tree {
 enum Node {
     // The children of a directory by their names.
     Folder(SortedMap<Name, Tree>),
-    // A directory with one child. Most directories of a deep tree have one, and a map takes room for four.
-    Narrow(String, Box<Tree>),
+    // A directory with one child, as most directories of a deep tree are: it takes no map.
+    Narrow(Name, Box<Tree>),
     Leaf(FileRow),
 }
 

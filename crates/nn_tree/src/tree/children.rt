@@ -12,7 +12,7 @@ use nn_sorted::Entries;
 /// Children of a directory, in the order of their names: the first one, and those behind it.
 #[derive(Drop)]
 pub(crate) struct Children<'a> {
-    pub(crate) name: &'a String,
+    pub(crate) name: &'a Name,
     pub(crate) tree: &'a Tree,
     // An only child has none.
     pub(crate) later: Option<Entries<'a, Name, Tree>>,
@@ -40,7 +40,7 @@ impl<'a> Children<'a> {
         let Some((name, tree)) = later.next() else {
             return false;
         };
-        self.name = name.as_string();
+        self.name = name;
         self.tree = tree;
         true
     }
@@ -56,7 +56,7 @@ fn of<'a>(mut entries: Entries<'a, Name, Tree>) -> Option<Children<'a>>
     };
     let _found = tree.top();
     Some(Children {
-        name: name.as_string(),
+        name,
         tree,
         later: Some(entries),
     })

@@ -66,7 +66,7 @@ impl Tree {
         let Node::Folder(children) = &mut self.node else {
             return Err(Unchanged);
         };
-        let Ok(key) = String::from_str(alloc, name) else {
+        let Ok(key) = Name::of(alloc, name) else {
             return Err(Unchanged);
         };
         if children.is_empty() {
@@ -76,7 +76,7 @@ impl Tree {
             self.node = Node::Narrow(key, child);
             return Ok(());
         }
-        let Ok(before) = children.insert(Name::of(key), tree) else {
+        let Ok(before) = children.insert(key, tree) else {
             return Err(Unchanged);
         };
         let Some(before) = before else {
@@ -97,12 +97,12 @@ impl Tree {
         let Node::Narrow(name, child) = &mut self.node else {
             return Ok(());
         };
-        let own = mem::replace(name, String::new(alloc));
+        let own = mem::replace(name, Name::empty());
         let tree = mem::replace(&mut **child, Tree::new_dir(alloc));
         let mut children = SortedMap::new(alloc);
-        if let Err(refused) = children.insert(Name::of(own), tree) {
+        if let Err(refused) = children.insert(own, tree) {
             let (own, tree) = refused.value;
-            *name = own.into_string();
+            *name = own;
             **child = tree;
             return Err(Unchanged);
         }

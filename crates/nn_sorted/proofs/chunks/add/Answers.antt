@@ -5,4 +5,5 @@ use Rattle.nn_sorted.proofs.chunks.add.Goals as goal
 
 pub returns-clause-ok : goal.returns-clause-ok
 returns-clause-ok g c =
-    ap flat c.push_reserved.ensures.items ∙ flat-append c.reserve.new.self.items (c.push.new.self ∷ []) ∙ (λ i. flat (c.reserve.ensures.items i) ++ append-nil ((c.in_default-push.ensures.items ∙ ap (λ l. l ++ c.args.entry ∷ []) c.new-chunk.ensures.items) i) i)
+    let entry = c.push_reserved.ensures.items ∙ ap (λ l. l ++ c.args.entry ∷ []) (c.reserve_exact.ensures.items ∙ c.new-chunk.ensures.items) in
+    ap flat c.push_reserved-2.ensures.items ∙ flat-append c.make_room.new.chunks.items (c.push_reserved.new.self ∷ []) ∙ (λ i. flat (c.make_room.ensures.items i) ++ append-nil (entry i) i)

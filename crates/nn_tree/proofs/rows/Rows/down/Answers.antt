@@ -34,10 +34,10 @@ returns-in_default-way_on c = c.on_way-in_default-way_on.ensures ∙ (at_place c
 
 pub down-preserved : goal.down-preserved
 down-preserved c =
-    let k = string_bytes c.in-Some.children.name.now in
+    let k = c.in-Some.children.name.now in
     down_on (string_bytes c.args.first.now ∷ names_of c.args.others.now) c.args.root.now (lent_names c.down.names.items) c.down.dirs.items (string_bytes c.down.name.now) (names_of c.down.rest.now) c.down.tree.now
     c.down.invariant c.in-Some.children c.behind.result c.len-depth.result (lent_names c.push.new.self.items) c.add_open-in-down.new.dirs.items
     (c.in-Some.ensures (names_of c.down.rest.now)) c.in-Some-way_on.ensures.some.1 c.behind.ensures
     (c.len-depth.ensures ∙ c.down.names.ok.0 ∙ sym (length-map c.down.names.items deref))
-    (names_pushed c.down.names.items c.push.new.self.items c.as_str.result k c.in-Ok-push.ensures.items c.as_str.ensures.value) c.in-Ok-add_open.ensures
+    (names_pushed c.down.names.items c.push.new.self.items c.as_str.result k c.in-Ok-push.ensures.items c.as_str.ensures) c.in-Ok-add_open.ensures
     (string_bytes c.in-Some-way_on.next.now) (names_of c.in-Some-way_on.below.now) (ap names_of c.in-Some-way_on.ensures.some.0)

@@ -62,7 +62,7 @@ step c =
       tree = c.children-inside-2.ensures.rows;
       behind_it = (past c).1;
       named = names_step c.self.inside.names.items c.push_reserved.new.self.items dir.depth c.as_str.result names
-          ∙ ap (λ n. take dir.depth (lent_names c.self.inside.names.items) ++ n ∷ []) c.as_str.ensures.value;
+          ∙ ap (λ n. take dir.depth (lent_names c.self.inside.names.items) ++ n ∷ []) c.as_str.ensures;
       left = c.push_open-2.ensures.items ∙ (λ j. (past c).2 j ++ opened (long j) c.children-inside-2.result);
     }
 

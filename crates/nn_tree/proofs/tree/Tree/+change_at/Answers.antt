@@ -27,22 +27,22 @@ returns-clause-order g t c =
 
 pub returns-in-Narrow-clause-changed : goal.returns-in-Narrow-clause-changed
 returns-in-Narrow-clause-changed g t c =
-    let s = narrow_step c.args.self.now c.self.inside.node c.in-Narrow.name c.in-Narrow.child c.as_str.result.now c.in-Some.first.now c.deref_mut.result.now c.change_at.new.self c.self.view_is c.self.invariant.1 c.in-Narrow.is c.as_str.ensures.value c.if-ne.ensures c.deref_mut.ensures.value in
+    let s = narrow_step c.args.self.now c.self.inside.node c.in-Narrow.name c.in-Narrow.child c.as_str.result.now c.in-Some.first.now c.deref_mut.result.now c.change_at.new.self c.self.view_is c.self.invariant.1 c.in-Narrow.is c.as_str.ensures c.if-ne.ensures c.deref_mut.ensures.value in
     if_ok c.change_at.result (λ given. changed_further c.args.self.now (dir_rows ((c.in-Narrow.name, c.change_at.new.self) ∷ [])) c.deref_mut.result.now c.change_at.new.self c.in-Some.first.now c.in-Some.rest c.args.names.now (λ rest t w. g.C.Change.changes c.args.change rest t w given) c.in-Some.ensures.some s) c.change_at.ensures.changed
 
 pub returns-in-Narrow-clause-refused : goal.returns-in-Narrow-clause-refused
 returns-in-Narrow-clause-refused g t c =
-    let s = narrow_step c.args.self.now c.self.inside.node c.in-Narrow.name c.in-Narrow.child c.as_str.result.now c.in-Some.first.now c.deref_mut.result.now c.change_at.new.self c.self.view_is c.self.invariant.1 c.in-Narrow.is c.as_str.ensures.value c.if-ne.ensures c.deref_mut.ensures.value in
+    let s = narrow_step c.args.self.now c.self.inside.node c.in-Narrow.name c.in-Narrow.child c.as_str.result.now c.in-Some.first.now c.deref_mut.result.now c.change_at.new.self c.self.view_is c.self.invariant.1 c.in-Narrow.is c.as_str.ensures c.if-ne.ensures c.deref_mut.ensures.value in
     on_err c.change_at.result (refused_further c.args.self.now (dir_rows ((c.in-Narrow.name, c.change_at.new.self) ∷ [])) c.deref_mut.result.now c.change_at.new.self c.in-Some.first.now c.in-Some.rest c.args.names.now (g.C.Change.refuses c.args.change) c.in-Some.ensures.some s) c.change_at.ensures.refused
 
 pub returns-in-Narrow-clause-same : goal.returns-in-Narrow-clause-same
 returns-in-Narrow-clause-same g t c =
-    let s = narrow_step c.args.self.now c.self.inside.node c.in-Narrow.name c.in-Narrow.child c.as_str.result.now c.in-Some.first.now c.deref_mut.result.now c.change_at.new.self c.self.view_is c.self.invariant.1 c.in-Narrow.is c.as_str.ensures.value c.if-ne.ensures c.deref_mut.ensures.value in
+    let s = narrow_step c.args.self.now c.self.inside.node c.in-Narrow.name c.in-Narrow.child c.as_str.result.now c.in-Some.first.now c.deref_mut.result.now c.change_at.new.self c.self.view_is c.self.invariant.1 c.in-Narrow.is c.as_str.ensures c.if-ne.ensures c.deref_mut.ensures.value in
     on_err c.change_at.result s.same c.change_at.ensures.same
 
 pub returns-in-Narrow-clause-order : goal.returns-in-Narrow-clause-order
 returns-in-Narrow-clause-order g t c =
-    let s = narrow_step c.args.self.now c.self.inside.node c.in-Narrow.name c.in-Narrow.child c.as_str.result.now c.in-Some.first.now c.deref_mut.result.now c.change_at.new.self c.self.view_is c.self.invariant.1 c.in-Narrow.is c.as_str.ensures.value c.if-ne.ensures c.deref_mut.ensures.value in
+    let s = narrow_step c.args.self.now c.self.inside.node c.in-Narrow.name c.in-Narrow.child c.as_str.result.now c.in-Some.first.now c.deref_mut.result.now c.change_at.new.self c.self.view_is c.self.invariant.1 c.in-Narrow.is c.as_str.ensures c.if-ne.ensures c.deref_mut.ensures.value in
     s.order c.change_at.ensures.order
 
 -- ---- where the walk ends
@@ -65,7 +65,7 @@ returns-then-ends-clause-refused g t c =
 pub returns-then-ne-clause-refused : goal.returns-then-ne-clause-refused
 returns-then-ne-clause-refused g t c =
     none_found c.args.self.now c.in-Some.first.now c.in-Some.rest c.args.names.now (g.C.Change.refuses c.args.change) c.in-Some.ensures.some
-    (narrow_other c.args.self.now c.self.inside.node c.in-Narrow.name c.in-Narrow.child c.as_str.result.now c.in-Some.first.now c.self.view_is c.in-Narrow.is c.as_str.ensures.value c.if-ne.ensures)
+    (narrow_other c.args.self.now c.self.inside.node c.in-Narrow.name c.in-Narrow.child c.as_str.result.now c.in-Some.first.now c.self.view_is c.in-Narrow.is c.as_str.ensures c.if-ne.ensures)
 
 pub returns-in_default-get_mut : goal.returns-in_default-get_mut
 returns-in_default-get_mut g t c =
@@ -88,7 +88,7 @@ change_at-requires-2 g t c = let fits = more_left g.C.Change.in_parent c.is_in_p
 -- ---- the order of the whole
 pub invariant_of-self-in-Narrow : goal.invariant_of-self-in-Narrow
 invariant_of-self-in-Narrow g t c =
-    let s = narrow_step c.args.self.now c.self.inside.node c.in-Narrow.name c.in-Narrow.child c.as_str.result.now c.in-Some.first.now c.deref_mut.result.now c.change_at.new.self c.self.view_is c.self.invariant.1 c.in-Narrow.is c.as_str.ensures.value c.if-ne.ensures c.deref_mut.ensures.value in
+    let s = narrow_step c.args.self.now c.self.inside.node c.in-Narrow.name c.in-Narrow.child c.as_str.result.now c.in-Some.first.now c.deref_mut.result.now c.change_at.new.self c.self.view_is c.self.invariant.1 c.in-Narrow.is c.as_str.ensures c.if-ne.ensures c.deref_mut.ensures.value in
     (tt, s.order c.change_at.ensures.order)
 
 pub invariant_of-self-2 : goal.invariant_of-self-2

@@ -23,12 +23,12 @@ returns-in_default-node c =
 pub returns-then-ne-clause-found : goal.returns-then-ne-clause-found
 returns-then-ne-clause-found c =
     let d = opened_narrow c.args.self.now c.self.inside.node c.in-Narrow.own c.in-Narrow.child c.self.view_is c.in-Narrow.is in
-    one_other c.args.self.now c.in-Narrow.own c.args.name.now c.in-Narrow.child.value d (is_called_else c.in-Narrow.own c.as_str.result.now c.args.name.now c.as_str.ensures.value c.if-ne.ensures)
+    one_other c.args.self.now c.in-Narrow.own c.args.name.now c.in-Narrow.child.value d (is_called_else c.in-Narrow.own c.as_str.result.now c.args.name.now c.as_str.ensures c.if-ne.ensures)
 
 pub returns-in-Narrow-clause-found : goal.returns-in-Narrow-clause-found
 returns-in-Narrow-clause-found c =
     let d = opened_narrow c.args.self.now c.self.inside.node c.in-Narrow.own c.in-Narrow.child c.self.view_is c.in-Narrow.is in
-    let called = is_called c.in-Narrow.own c.as_str.result.now c.args.name.now c.as_str.ensures.value c.if-ne.ensures in
+    let called = is_called c.in-Narrow.own c.as_str.result.now c.args.name.now c.as_str.ensures c.if-ne.ensures in
     one_found c.args.self.now c.in-Narrow.own c.args.name.now c.in-Narrow.child.value c.deref.result.now d called c.deref.ensures
 
 pub returns-in-Narrow-clause-dir : goal.returns-in-Narrow-clause-dir

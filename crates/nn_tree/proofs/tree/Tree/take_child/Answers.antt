@@ -12,14 +12,14 @@ use Rattle.nn_tree.proofs.tree.Tree.take_child.Goals as goal
 
 -- ---- a directory with one child
 pub returns-then-ne-clause-none : goal.returns-then-ne-clause-none
-returns-then-ne-clause-none c = narrow_other c.args.self.now c.self.inside.node c.in-Narrow.own c.in-Narrow._child c.as_str.result.now c.args.name.now c.self.view_is c.in-Narrow.is c.as_str.ensures.value c.if-ne.ensures
+returns-then-ne-clause-none c = narrow_other c.args.self.now c.self.inside.node c.in-Narrow.own c.in-Narrow._child c.as_str.result.now c.args.name.now c.self.view_is c.in-Narrow.is c.as_str.ensures c.if-ne.ensures
 
 pub returns-in-Narrow-clause-ok : goal.returns-in-Narrow-clause-ok
 returns-in-Narrow-clause-ok c =
     let n = c.args.name.now in
     let one = (c.in-Narrow.own, c.in-Narrow._child.value) ∷ [] in
     let d = opened_narrow c.args.self.now c.self.inside.node c.in-Narrow.own c.in-Narrow._child c.self.view_is c.in-Narrow.is in
-    let called = is_called c.in-Narrow.own c.as_str.result.now n c.as_str.ensures.value c.if-ne.ensures in
+    let called = is_called c.in-Narrow.own c.as_str.result.now n c.as_str.ensures c.if-ne.ensures in
     let taken = c.into_inner.ensures ∙ ap (λ child. child.value) (same_child c.replace.result c.in-Narrow-replace._own c.in-Narrow.own c.in-Narrow-replace.child c.in-Narrow._child c.in-Narrow-replace.is (c.replace.ensures.value ∙ c.in-Narrow.is)) in (
       walk_last c.args.self.now n (n ∷ []) (λ j. n ∷ []) (at_top c.args.self.now one d),
       one_found c.args.self.now c.in-Narrow.own n c.in-Narrow._child.value c.into_inner.result d called taken,

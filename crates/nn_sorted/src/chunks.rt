@@ -168,7 +168,8 @@ fn insert<K: Drop, V: Drop>(
     chunk.insert(place, entry)
 }
 
-// Makes room for an entry where there is none, and for a quarter more: most maps are small, and stay so.
+// Makes room for an entry where there is none, and for a quarter more, but for no more than a chunk may have: most maps are
+// small, and stay so.
 fn grow<K, V>(chunk: &mut Vec<(K, V)>) -> Result<(), AllocError>
     ensures items { chunk.new.items ≡ chunk.old.items }
 {
@@ -176,7 +177,8 @@ fn grow<K, V>(chunk: &mut Vec<(K, V)>) -> Result<(), AllocError>
     if len < chunk.capacity() {
         return Ok(());
     }
-    chunk.reserve_exact(len / 4 + 1)
+    let most = FULL.saturating_sub(len).max(1);
+    chunk.reserve_exact((len / 4 + 1).min(most))
 }
 
 // Begins a chunk behind all others, with this entry.

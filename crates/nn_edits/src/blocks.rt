@@ -1,18 +1,93 @@
 //! The blocks that a line gives, an array of objects: read in passing, block by block.
-ghost use Rattle.std.specs.Prelude.{◌≡◌, ◌<◌, length, codes, if◌then◌else◌, IfOk, OnOk, OnErr, Some, None, Err};
+ghost use Rattle.std.specs.Prelude.{◌≡◌, ◌<◌, length, codes, if◌then◌else◌, IfOk, OnOk, Some, None, Err};
 ghost use Rattle.std.specs.Str.{bytes_eq};
-ghost use Rattle.serde_json.specs.Data.{Data, Items, Members, object, no_members};
-ghost use Rattle.nn_plain.specs.Ahead.{data_at, items_at, members_at};
+ghost use Rattle.serde_json.specs.Data.{Data};
+ghost use Rattle.nn_plain.specs.Ahead.{data_at};
 ghost use Rattle.nn_edits.specs.Parts.{seen, blocks_of, block_from};
-ghost use Rattle.nn_edits.specs.Reading.{block_in, items_in};
+ghost use Rattle.nn_edits.specs.Reading.{block_in};
 
 use crate::ahead::read_member;
 use crate::fault::LineFault;
 use crate::member::{Member, block_id_in, length_in, stamp_in};
-use json::{Invalid, Reader, Token};
-use nn_plain::{ReadFault, read_from, skip_items};
+use json::Reader;
+use nn_plain::{ItemSink, MemberSink, ReadFault, read_array, read_object};
 use nn_types::{Block, Blocks};
 use std::alloc::Global;
+
+/// The next value, read as blocks. Arrays and objects may nest `depth` deep.
+///
+/// The inner result is the blocks or their first fault, for operations that ask for blocks; others don't mind. The outer
+/// one stops the line.
+pub(crate) fn read_blocks(
+    alloc: Global,
+    reader: &mut Reader<'_>,
+    depth: usize,
+) -> Result<Result<Blocks, LineFault>, ReadFault>
+    ensures ok { IfOk result (λ bs. (d : Data) × (data_at depth reader.old ≡ Some (d, reader.new))
+        × (bs ≡ blocks_of d)) }
+    ensures shorter { OnOk result (length reader.new < length reader.old) }
+    ensures err { result ≡ Err ReadFault.Invalid → data_at depth reader.old ≡ None }
+{
+    let mut items = BlockItems {
+        blocks: Ok(Blocks::new(alloc)),
+    };
+    if !read_array(alloc, reader, depth, &mut items)? {
+        return Ok(Err(LineFault::MissingField));
+    }
+    Ok(items.blocks)
+}
+
+// The blocks that the items of an array are, or why the first that is none is none.
+#[derive(Drop)]
+struct BlockItems {
+    blocks: Result<Blocks, LineFault>,
+}
+
+impl ItemSink for BlockItems {
+    ghost use Rattle.std.specs.Prelude.{◌≡◌};
+    ghost use Rattle.nn_edits.specs.Reading.{items_in};
+
+    ghost seen = { λ s ds. s.blocks ≡ items_in ds };
+
+    fn read(
+        &mut self,
+        alloc: Global,
+        reader: &mut Reader<'_>,
+        depth: usize,
+    ) -> Result<(), ReadFault> {
+        let block = read_block(alloc, reader, depth)?;
+        let Ok(blocks) = &mut self.blocks else {
+            return Ok(());
+        };
+        match block {
+            Ok(block) => blocks.push(block)?,
+            Err(fault) => self.blocks = Err(fault),
+        }
+        Ok(())
+    }
+}
+
+// The next value, read as a block.
+fn read_block(
+    alloc: Global,
+    reader: &mut Reader<'_>,
+    depth: usize,
+) -> Result<Result<Block, LineFault>, ReadFault>
+    ensures ok { IfOk result (λ b. (d : Data) × (data_at depth reader.old ≡ Some (d, reader.new))
+        × (b ≡ block_in d)) }
+    ensures shorter { OnOk result (length reader.new < length reader.old) }
+    ensures err { result ≡ Err ReadFault.Invalid → data_at depth reader.old ≡ None }
+{
+    let mut numbers = Numbers {
+        id: Member::Missing,
+        stamp: Member::Missing,
+        len: Member::Missing,
+    };
+    if !read_object(alloc, reader, depth, &mut numbers)? {
+        return Ok(Err(LineFault::MissingField));
+    }
+    Ok(block_of(numbers))
+}
 
 /// The members of a block.
 #[derive(Clone, Copy, Drop)]
@@ -24,7 +99,7 @@ pub(crate) struct Numbers<'a> {
 
 impl<'a> Numbers<'a> {
     #[inline(always)]
-    pub(crate) fn put(&mut self, key: &str, member: Member<'a>)
+    fn put(&mut self, key: &str, member: Member<'a>)
         ensures id { seen self.new.id
             ≡ (if bytes_eq key.now (codes "id") then seen member.entry else seen self.old.id) }
         ensures stamp { seen self.new.stamp
@@ -41,95 +116,30 @@ impl<'a> Numbers<'a> {
     }
 }
 
-/// The next value, read as blocks. Arrays and objects may nest `depth` deep.
-///
-/// The inner result is the blocks or their first fault, for operations that ask for blocks; others don't mind. The outer
-/// one stops the line.
-pub(crate) fn read_blocks(
-    alloc: Global,
-    reader: &mut Reader<'_>,
-    depth: usize,
-) -> Result<Result<Blocks, LineFault>, ReadFault>
-    requires { 1 < depth }
-    ensures ok { IfOk result (λ bs. (d : Data) × (data_at depth reader.old ≡ Some (d, reader.new))
-        × (bs ≡ blocks_of d)) }
-    ensures shorter { OnOk result (length reader.new < length reader.old) }
-    ensures err { result ≡ Err ReadFault.Invalid → data_at depth reader.old ≡ None }
-{
-    let token = reader.next().ok_or(Invalid)?;
-    let Token::BeginArray = token else {
-        let _other = read_from(reader, token, depth)?;
-        return Ok(Err(LineFault::MissingField));
-    };
-    read_items(alloc, reader, depth - 1)
-}
+impl<'a> MemberSink<'a> for Numbers<'a> {
+    ghost use Rattle.std.specs.Prelude.{◌≡◌, codes};
+    ghost use Rattle.serde_json.specs.Data.{object};
+    ghost use Rattle.nn_edits.specs.Parts.{seen, scalar_at};
 
-// The items of an array up to its end. Behind the first fault they are passed over.
-fn read_items(
-    alloc: Global,
-    reader: &mut Reader<'_>,
-    depth: usize,
-) -> Result<Result<Blocks, LineFault>, ReadFault>
-    requires { 0 < depth }
-    ensures ok { IfOk result (λ bs. (ds : Items)
-        × (items_at depth (length reader.old) reader.old ≡ Some (ds, reader.new))
-        × (bs ≡ items_in ds)) }
-    ensures shorter { OnOk result (length reader.new < length reader.old) }
-    ensures err { result ≡ Err ReadFault.Invalid
-        → items_at depth (length reader.old) reader.old ≡ None }
-{
-    let mut blocks = Blocks::new(alloc);
-    'items: while !reader.take_end_array() {
-        match read_block(reader, depth)? {
-            Ok(block) => blocks.push(block)?,
-            Err(fault) => {
-                skip_items(reader, depth)?;
-                return Ok(Err(fault));
-            }
-        }
-    }
-    Ok(Ok(blocks))
-}
+    ghost seen = { λ s ms. (seen s.id ≡ scalar_at (codes "id") (object ms))
+        × (seen s.stamp ≡ scalar_at (codes "gen") (object ms))
+        × (seen s.len ≡ scalar_at (codes "len") (object ms)) };
 
-// The next value, read as a block.
-fn read_block(reader: &mut Reader<'_>, depth: usize) -> Result<Result<Block, LineFault>, Invalid>
-    requires { 0 < depth }
-    ensures ok { IfOk result (λ b. (d : Data) × (data_at depth reader.old ≡ Some (d, reader.new))
-        × (b ≡ block_in d)) }
-    ensures shorter { OnOk result (length reader.new < length reader.old) }
-    ensures err { OnErr result (data_at depth reader.old ≡ None) }
-{
-    let token = reader.next().ok_or(Invalid)?;
-    let Token::BeginObject = token else {
-        let _other = read_from(reader, token, depth)?;
-        return Ok(Err(LineFault::MissingField));
-    };
-    read_numbers(reader, depth - 1)
-}
-
-// The members of an object up to its end, read as those of a block.
-fn read_numbers(reader: &mut Reader<'_>, depth: usize) -> Result<Result<Block, LineFault>, Invalid>
-    ensures ok { IfOk result (λ b. (ms : Members)
-        × (members_at depth (length reader.old) no_members reader.old ≡ Some (ms, reader.new))
-        × (b ≡ block_in (object ms))) }
-    ensures shorter { OnOk result (length reader.new < length reader.old) }
-    ensures err { OnErr result
-        (members_at depth (length reader.old) no_members reader.old ≡ None) }
-{
-    let mut numbers = Numbers {
-        id: Member::Missing,
-        stamp: Member::Missing,
-        len: Member::Missing,
-    };
-    'members: while let Some(key) = reader.next_key()? {
+    fn read(
+        &mut self,
+        _alloc: Global,
+        key: &'a str,
+        reader: &mut Reader<'a>,
+        depth: usize,
+    ) -> Result<(), ReadFault> {
         let member = read_member(reader, depth)?;
-        numbers.put(key, member);
+        self.put(key, member);
+        Ok(())
     }
-    Ok(block_of(numbers))
 }
 
 #[tactic(auto, unfolding(crate::specs::Parts::block_from))]
-pub(crate) fn block_of(numbers: Numbers<'_>) -> Result<Block, LineFault>
+fn block_of(numbers: Numbers<'_>) -> Result<Block, LineFault>
     ensures { result ≡ block_from (seen numbers.entry.id) (seen numbers.entry.stamp) (seen numbers.entry.len) }
 {
     let id = block_id_in(numbers.id)?;

@@ -6,10 +6,14 @@ ghost use Rattle.nn_plain.specs.Spelling.{Spells};
 ghost use Rattle.nn_edits.specs.Parts.{seen, scalar_of, seen_fields, parts_of, slot_of, put_slot, put_if_slot, put_blocks};
 ghost use Rattle.nn_edits.specs.declared.fault.LineFault.TheVariants.{MissingField};
 
+use crate::ahead::read_member;
+use crate::blocks::read_blocks;
 use crate::fault::LineFault;
 use crate::member::Member;
-use nn_plain::{Plain, Slots};
+use json::Reader;
+use nn_plain::{MemberSink, Plain, ReadFault, Slots};
 use nn_types::Blocks;
+use std::alloc::Global;
 use std::mem;
 
 /// The keys whose members are texts or whole numbers, by the names that the code has for them.
@@ -148,9 +152,34 @@ impl<'a> Slots<'a> for Fields<'a> {
     }
 }
 
-/// Whether the key is that of the blocks.
+impl<'a> MemberSink<'a> for Fields<'a> {
+    ghost use Rattle.std.specs.Prelude.{◌≡◌};
+    ghost use Rattle.serde_json.specs.Data.{object};
+    ghost use Rattle.nn_edits.specs.Parts.{seen_fields, parts_of};
+
+    ghost seen = { λ f ms. seen_fields f ≡ parts_of (object ms) };
+
+    fn read(
+        &mut self,
+        alloc: Global,
+        key: &'a str,
+        reader: &mut Reader<'a>,
+        depth: usize,
+    ) -> Result<(), ReadFault> {
+        if is_blocks(key) {
+            let blocks = read_blocks(alloc, reader, depth)?;
+            self.put_blocks(blocks);
+            return Ok(());
+        }
+        let member = read_member(reader, depth)?;
+        self.put_member(key, member);
+        Ok(())
+    }
+}
+
+// Whether the key is that of the blocks.
 #[inline(always)]
-pub(crate) fn is_blocks(key: &str) -> bool
+fn is_blocks(key: &str) -> bool
     ensures { result ≡ bytes_eq key.now (codes "blocks") }
 {
     match key.as_bytes() {

@@ -1,9 +1,8 @@
 //! From the bytes of a line to a transaction or a report.
-ghost use Rattle.std.specs.Prelude.{◌≡◌, ◌<◌, length, Some, None, Ok, Err, IfOk, OnOk};
-ghost use Rattle.serde_json.specs.Data.{Members, object, no_members};
+ghost use Rattle.std.specs.Prelude.{◌≡◌, Ok, IfOk};
+ghost use Rattle.serde_json.specs.Data.{object, no_members};
 ghost use Rattle.nn_edits.specs.Grammar.{IsEditLine, IsReportLine, IsLine, IsLawfulReport, IsLawfulLine};
 ghost use Rattle.nn_types.specs.LawfulEdit.{IsLawfulEdit};
-ghost use Rattle.nn_plain.specs.Ahead.{members_at};
 ghost use Rattle.nn_edits.specs.Outcome.{Gives, GivesSeen};
 ghost use Rattle.nn_edits.specs.Parts.{seen_fields, parts_of, parts_of_line, either_from};
 ghost use Rattle.nn_edits.specs.Reading.{edit_of_line, report_of_line, either_of_line};
@@ -11,23 +10,18 @@ ghost use Rattle.nn_edits.specs.declared.line.Line.{Line as LineData};
 ghost use Rattle.nn_types.specs.declared.tx.Tx.{Tx as TxData};
 ghost use Rattle.nn_types.specs.declared.report.Report.{Report as ReportData};
 
-use crate::ahead::read_member;
-use crate::blocks::read_blocks;
 use crate::fault::LineFault;
-use crate::fields::{Fields, is_blocks};
+use crate::fields::Fields;
 use crate::reading::tx_in;
 use crate::report::report_in;
-use json::{Reader, Scratch, Token};
-use nn_plain::{ReadFault, read_plain};
+use json::Scratch;
+use nn_plain::read_plain;
 use nn_types::{Report, Tx};
 use simdutf8::basic::from_utf8;
 use std::alloc::Global;
 
 /// The bytes that a line may have.
 pub(crate) const MAX_LINE_LEN: usize = 65_536;
-
-/// How deep the members of a line's object may nest. A line may nest 127 deep, and its object is one level of that.
-const MAX_DEPTH: usize = 126;
 
 /// A line of an input that has both transactions and reports.
 #[derive(Drop)]
@@ -137,43 +131,6 @@ fn fields_in<'a>(
         return Ok(());
     }
     *fields = Fields::none();
-    let mut reader = Reader::new(text, scratch)?;
-    let Some(token) = reader.next() else {
-        return Err(LineFault::NotJson);
-    };
-    let Token::BeginObject = token else {
-        return Err(LineFault::NotJson);
-    };
-    read_fields(alloc, &mut reader, MAX_DEPTH, fields)?;
-    if reader.next().is_some() {
-        return Err(LineFault::NotJson);
-    }
-    Ok(())
-}
-
-// Reads the members of an object up to its end. Arrays and objects in it may nest `depth` deep.
-fn read_fields<'a>(
-    alloc: Global,
-    reader: &mut Reader<'a>,
-    depth: usize,
-    fields: &mut Fields<'a>,
-) -> Result<(), ReadFault>
-    requires deep { 1 < depth }
-    requires none { seen_fields fields.old ≡ parts_of (object no_members) }
-    ensures ok { OnOk result ((ms : Members)
-        × (members_at depth (length reader.old) no_members reader.old ≡ Some (ms, reader.new))
-        × (seen_fields fields.new ≡ parts_of (object ms))) }
-    ensures err { result ≡ Err ReadFault.Invalid
-        → members_at depth (length reader.old) no_members reader.old ≡ None }
-{
-    'members: while let Some(key) = reader.next_key()? {
-        if is_blocks(key) {
-            let blocks = read_blocks(alloc, reader, depth)?;
-            fields.put_blocks(blocks);
-        } else {
-            let member = read_member(reader, depth)?;
-            fields.put_member(key, member);
-        }
-    }
+    nn_plain::read_line(alloc, text, scratch, fields)?;
     Ok(())
 }

@@ -28,7 +28,7 @@ pub fn read_value<'a>(reader: &mut Reader<'a>, depth: usize) -> Result<Option<Pl
 /// The value that begins with this token.
 #[cycle(read)]
 #[inline(always)]
-pub fn read_from<'a>(
+pub(crate) fn read_from<'a>(
     reader: &mut Reader<'a>,
     token: Token<'a>,
     depth: usize,
@@ -62,10 +62,10 @@ pub fn read_from<'a>(
     }
 }
 
-/// Passes over the items of an array, and over its end.
+// Passes over the items of an array, and over its end.
 #[cycle(read)]
 #[inline(never)]
-pub fn skip_items(reader: &mut Reader<'_>, depth: usize) -> Result<(), Invalid>
+fn skip_items(reader: &mut Reader<'_>, depth: usize) -> Result<(), Invalid>
     ensures ok { OnOk result (PassesItems depth reader.old reader.new) }
     ensures shorter { OnOk result (length reader.new < length reader.old) }
     ensures err { OnErr result (LacksItems depth reader.old) }

@@ -20,7 +20,7 @@ mod tokens;
 mod truth;
 mod value;
 
-pub use any::{read_from, read_value, skip_items};
+pub use any::read_value;
 pub use line::read_plain;
 pub use object::{ItemSink, MemberSink, ReadFault, read_array, read_line, read_object};
 pub use value::{Plain, Slots};

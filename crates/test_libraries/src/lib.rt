@@ -21,3 +21,5 @@ mod sizes;
 mod sorted;
 #[cfg(test)]
 mod values;
+#[cfg(test)]
+mod words;

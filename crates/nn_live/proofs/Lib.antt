@@ -1,0 +1,5 @@
+pub mod Standing
+pub mod Known
+pub mod Alike
+pub mod Twice
+pub mod WordTexts

@@ -1,0 +1,95 @@
+-- What a standby in service answers: lines of words, each with one space between two words.
+use Rattle.std.specs.Prelude.{ℕ, ◌-◌, Bool, true, false, ◌==◌, nat_le, if◌then◌else◌, List, [], ◌∷◌, ◌++◌, length, take, filter, flat_map, Option, Some, None, codes, decimal}
+use Rattle.nn_types.specs.declared.block.Block.{Block}
+use Rattle.nn_types.specs.declared.report.Message.{Message}
+use Rattle.nn_types.specs.Words.{kind_text}
+use Rattle.nn_model.specs.declared.form.Form.{Form}
+use Rattle.nn_model.specs.Counts.{closed_blocks_of, live_count, safe_mode_of}
+use Rattle.nn_model.specs.Lanes.{Lanes}
+use Rattle.nn_model.specs.Namespace.{Path, Namespace, blocks_of}
+use Rattle.nn_model.specs.Stands.{StandbyState}
+use Rattle.nn_model.specs.Status.{block_at}
+use Rattle.nn_listing.specs.Listing.{newline, path_json, line_of}
+use Rattle.nn_listing.specs.Tables.{datanodes, of_each, replica_text, order_text, blocks_line}
+use Rattle.nn_segment.specs.Segment.{last_txid}
+use Rattle.nn_scenario.specs.Cut.{Part}
+use Rattle.nn_shadow.specs.declared.fault.Stop.{Stop}
+
+-- `KEY VALUE`
+abbrev pub line : List ℕ → List ℕ → List ℕ
+line key value = key ++ codes " " ++ value ++ newline ∷ []
+
+abbrev pub and_number : List ℕ → ℕ → List ℕ
+and_number text n = text ++ codes " " ++ decimal n
+
+-- all lines, or so many of them and `more K`, K being how many more there are
+abbrev pub shown : Option ℕ → List (List ℕ) → List ℕ
+shown None lines = flat_map (λ l. l) lines
+shown (Some most) lines = flat_map (λ l. l) (take most lines) ++ line (codes "more") (decimal (length lines - most))
+
+-- ---- The state.
+
+abbrev pub state_of : Option Stop → Bool → List ℕ
+state_of (Some stop) active = and_number (and_number (codes "stopped") stop.number) stop.txid
+state_of None true = codes "active"
+state_of None false = codes "standby"
+
+-- `datanode D M`, where the DataNode sent messages: how many
+abbrev pub datanode_text : Lanes → ℕ → List ℕ
+datanode_text sent dn = if length (sent dn) == 0 then [] else line (codes "datanode") (and_number (decimal dn) (length (sent dn)))
+
+-- `blocks TOTAL safe S needed K mode on`, or `off`
+abbrev pub counts_text : ℕ → ℕ → StandbyState → List ℕ
+counts_text permille min x = blocks_line (safe_mode_of permille min x.namespace x.replica)
+
+-- `edits N T`: how many edit lines the segment in hand has, and the last txid among them
+abbrev pub in_hand_text : Part → List ℕ
+in_hand_text part = line (codes "edits") (and_number (decimal (length part.txs)) (last_txid part.txs))
+
+-- ---- What waits, and what keeps safe mode on.
+
+-- `held BLOCK DN NUMBER STAMP KIND`
+abbrev pub held_line : Message → List ℕ
+held_line m = line (codes "held") (and_number (and_number (and_number (decimal m.block) m.dn) m.number) m.stamp ++ codes " " ++ kind_text m.kind)
+
+-- `unsafe BLOCK LIVE PATH`, of a block that has fewer live replicas than it has to have
+abbrev pub unsafe_of : ℕ → StandbyState → Path → Block → List (List ℕ)
+unsafe_of min x p b =
+    if nat_le min (live_count x.replica b) then [] else line (codes "unsafe") (and_number (decimal b.id) (live_count x.replica b) ++ codes " " ++ path_json p) ∷ []
+
+-- such blocks of closed files, in path order
+abbrev pub unsafe_lines : ℕ → StandbyState → List (List ℕ)
+unsafe_lines min x = flat_map (λ row. flat_map (unsafe_of min x row.0) (closed_blocks_of row.1)) x.namespace.rows
+
+-- ---- One block, one path.
+
+-- `block BLOCK STAMP LEN PATH`
+abbrev pub block_line : Path → Block → List ℕ
+block_line p b = line (codes "block") (and_number (and_number (decimal b.id) b.stamp) b.len ++ codes " " ++ path_json p)
+
+-- that line for the file that holds the block, if one does
+abbrev pub holder_text : Namespace → ℕ → List ℕ
+holder_text n id = flat_map (λ row. flat_map (block_line row.0) (filter (λ b. b.id == id) (blocks_of row.1))) n.rows
+
+abbrev pub replicas_text : StandbyState → ℕ → List ℕ
+replicas_text x id = flat_map (λ dn. replica_text id (block_at x.namespace id) dn (x.replica dn id)) datanodes
+
+abbrev pub orders_text : StandbyState → ℕ → List ℕ
+orders_text x id = flat_map (λ dn. order_text id dn (x.has_order dn id)) datanodes
+
+-- its file, its replicas, its orders, and what waits for it
+abbrev pub block_text : StandbyState → ℕ → List ℕ
+block_text x id = holder_text x.namespace id ++ replicas_text x id ++ orders_text x id ++ flat_map held_line (filter (λ m. m.block == id) x.held)
+
+-- the line of a path in the tables, if anything is there
+abbrev pub path_text : Path → Option Form → List ℕ
+path_text p None = []
+path_text p (Some form) = line_of p form
+
+-- ---- The tables.
+
+-- all replicas and orders that there are, where these are the items of the messages that were taken
+abbrev pub tables_now : ℕ → ℕ → Lanes → StandbyState → List ℕ
+tables_now permille min lanes x =
+    of_each lanes (λ id dn. replica_text id (block_at x.namespace id) dn (x.replica dn id))
+    ++ of_each lanes (λ id dn. order_text id dn (x.has_order dn id)) ++ counts_text permille min x

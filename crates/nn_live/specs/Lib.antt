@@ -1,0 +1,5 @@
+pub mod Words
+pub mod Answers
+pub mod Live
+pub mod LiveRows
+pub mod Laws

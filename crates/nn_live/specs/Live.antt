@@ -1,0 +1,289 @@
+-- What a standby in service writes for the lines that it has read: a fold over them, with the standby's own functions.
+use Rattle.std.specs.Prelude.{ℕ, ◌+◌, ◌-◌, Bool, true, false, not, ◌==◌, ◌&&◌, ◌||◌, nat_lt, if◌then◌else◌, List, [], ◌∷◌, ◌++◌, length, map, flat_map, max, Option, Some, None, Result, Ok, Err, codes, decimal}
+use Rattle.std.specs.List.{slice_split}
+use Rattle.nn_types.specs.declared.fault.TheConstants.{NOT_JSON, NO_END, DISORDER}
+use Rattle.nn_types.specs.declared.report.Kind.{Kind}
+use Rattle.nn_types.specs.declared.report.Kind.TheVariants.{Begin, Finish}
+use Rattle.nn_types.specs.declared.report.Message.{Message}
+use Rattle.nn_types.specs.declared.report.Report.{Report}
+use Rattle.nn_types.specs.declared.tx.Tx.{Tx}
+use Rattle.nn_edits.specs.Fault.{number_of as line_number_of}
+use Rattle.nn_edits.specs.Reading.{either_of_line}
+use Rattle.nn_edits.specs.declared.fault.LineFault.{LineFault}
+use Rattle.nn_edits.specs.declared.line.Line.{Line}
+use Rattle.nn_edits.specs.declared.line.Line.TheVariants as either
+use Rattle.nn_model.specs.Items.{items}
+use Rattle.nn_model.specs.Lanes.{Lanes, no_messages, followed_by}
+use Rattle.nn_model.specs.Log.{counted}
+use Rattle.nn_model.specs.Namespace.{Namespace, lookup, root_alone}
+use Rattle.nn_model.specs.Stands.{StandbyState, fresh}
+use Rattle.nn_image.specs.Reading.{read_image}
+use Rattle.nn_image.specs.Text.{image_text}
+use Rattle.nn_image.specs.declared.fault.ImageFault.{ImageFault}
+use Rattle.nn_image.specs.declared.fault.ImageFault.TheVariants.{Truncated}
+use Rattle.nn_segment.specs.Fault.{number_of as segment_number_of}
+use Rattle.nn_segment.specs.Lines.{newline, joined_lines}
+use Rattle.nn_segment.specs.Segment.{Segment, is_start, is_end, first_txid}
+use Rattle.nn_segment.specs.declared.fault.SegmentFault.{SegmentFault}
+use Rattle.nn_scenario.specs.Cut.{EditLine, Part, no_lines, with_line, segment_of}
+use Rattle.nn_scenario.specs.Scenario.{is_blank}
+use Rattle.nn_scenario.specs.Steps.{next_message}
+use Rattle.nn_listing.specs.Listing.{listing_text}
+use Rattle.nn_listing.specs.Tables.{datanodes}
+use Rattle.nn_listing.specs.Trail.{history_text}
+use Rattle.nn_shadow.specs.declared.fault.ApplyFault.{ApplyFault}
+use Rattle.nn_shadow.specs.declared.fault.FlushFault.{FlushFault}
+use Rattle.nn_shadow.specs.declared.fault.HandCause.{HandCause}
+use Rattle.nn_shadow.specs.Calls.{applied_to, received, flushed, without_history}
+use Rattle.nn_shadow.specs.Numbers.{number_of_apply, number_of_hand, number_of_flush}
+use Rattle.nn_shadow.specs.Refusals.{Phase, apply_refusal, hand_refusal, flush_refusal, phase_after_apply}
+use Rattle.nn_engine.specs.Output.{image_fault}
+use Rattle.nn_live.specs.Answers.{line, shown, state_of, datanode_text, counts_text, in_hand_text, held_line, unsafe_lines, block_text, path_text, tables_now}
+use Rattle.nn_live.specs.Words.{word_in}
+use Rattle.nn_live.specs.declared.word.Word.{Word}
+use Rattle.nn_live.specs.declared.word.Word.TheVariants as word
+
+-- what the command line asks for, and the program's version
+pub record Asked : Type 0 where
+  pub permille : ℕ
+  pub min : ℕ
+  pub history : Bool
+  pub version : List ℕ
+
+-- a service between two lines
+pub record Service : Type 0 where
+  pub standby : StandbyState  -- its history is empty: what it does is told at once, and not kept
+  pub phase : Phase
+  pub log : List Tx  -- the transactions that were applied
+  pub sent : Lanes  -- the messages that were taken
+  pub in_hand : Part  -- the edits of the segment that has not ended
+  pub known : ℕ  -- the greatest txid of any edit line, and no less than that of its start
+  pub passed : ℕ  -- how many transactions were passed over: they were there already
+  pub segments : ℕ  -- how many have ended
+  pub lines : ℕ  -- how many lines were read
+  pub written : List ℕ  -- all that was written
+
+-- before the first line
+abbrev pub begun : Namespace → ℕ → Service
+begun n txid = record {
+  standby = fresh n txid;
+  phase = record { stopped = None; active = false };
+  log = [];
+  sent = no_messages;
+  in_hand = no_lines;
+  known = txid;
+  passed = 0;
+  segments = 0;
+  lines = 0;
+  written = [];
+}
+
+-- ---- What is written.
+
+abbrev pub says : List ℕ → Service → Service
+says text s = record s { written = s.written ++ text }
+
+-- `fault N line L`, `fault N segment K` or `fault N txid T`
+abbrev pub tells : ℕ → List ℕ → ℕ → Service → Service
+tells number place n s = says (line (codes "fault") (decimal number ++ place ++ decimal n)) s
+
+-- the standby has come to this: what it did is told where it is asked for, and is not kept
+abbrev pub comes_to : Asked → StandbyState → Service → Service
+comes_to asked x s = says (if asked.history then history_text x.history else []) (record s { standby = without_history x })
+
+-- ---- Reports.
+
+-- a message is taken, and the rest follows; or it is refused, and nothing does
+abbrev pub handed : Asked → Message → Option HandCause → (Service → Service) → Service → Service
+handed asked m None rest s = rest (comes_to asked (received s.standby m) (record s { sent = followed_by s.sent m }))
+handed asked m (Some cause) rest s = tells (number_of_hand cause) (codes " line ") s.lines s
+
+-- reports, each the next message of its DataNode, up to the first that is refused
+abbrev pub hands : Asked → List Report → Service → Service
+hands asked [] s = s
+hands asked (r ∷ reports) s =
+    handed asked (next_message s.sent r) (hand_refusal 256 s.phase s.standby (next_message s.sent r)) (λ t. hands asked reports t) s
+
+-- ---- Segments.
+
+-- a transaction is applied, and the rest follows; or it is refused, and nothing does
+abbrev pub applies : Asked → Tx → Option ApplyFault → (Service → Service) → Service → Service
+applies asked tx None rest s = rest (comes_to asked (applied_to s.standby tx) (record s { log = s.log ++ tx ∷ [] }))
+applies asked tx (Some fault) rest s =
+    tells (number_of_apply fault) (codes " txid ") tx.txid (record s { phase = phase_after_apply s.phase tx fault })
+
+-- transactions in order, up to the first that is refused
+abbrev pub follows : Asked → List Tx → Service → Service
+follows asked [] s = s
+follows asked (tx ∷ txs) s = applies asked tx (apply_refusal s.phase s.standby tx) (λ t. follows asked txs t) s
+
+-- of these transactions the new ones are followed, and the others are passed over
+abbrev pub follows_new : Asked → List Tx → List Tx → Service → Service
+follows_new asked txs new s = follows asked new (record s { passed = s.passed + (length txs - length new) })
+
+-- `fault 57 txid N segment K`: the segment begins above N, the next txid
+abbrev pub tells_gap : Service → Service
+tells_gap s = tells DISORDER (codes " txid " ++ decimal (s.standby.last + 1) ++ codes " segment ") s.segments s
+
+-- a segment is followed, or its first fault is told; none of it is followed behind a gap, and it may come again
+abbrev pub follows_segment : Asked → Result Segment SegmentFault → Service → Service
+follows_segment asked (Err fault) s = tells (segment_number_of fault) (codes " segment ") s.segments s
+follows_segment asked (Ok segment) s =
+    if nat_lt (s.standby.last + 1) (first_txid segment.txs)
+    then tells_gap s
+    else follows_new asked segment.txs (counted s.standby.last segment.txs) s
+
+-- the lines in hand are judged as a segment
+abbrev pub ends_segment : Asked → Service → Service
+ends_segment asked s = follows_segment asked (segment_of s.in_hand) (record s { in_hand = no_lines; segments = s.segments + 1 })
+
+abbrev pub is_between : Service → Bool
+is_between s = length s.in_hand.txs == 0
+
+-- a start mark ends what is in hand, and begins anew; an end mark ends its segment
+abbrev pub before_edit : Asked → Tx → Service → Service
+before_edit asked tx s = if is_start tx.edit && not (is_between s) then ends_segment asked s else s
+
+abbrev pub with_edit : EditLine → Service → Service
+with_edit l s = record s { in_hand = with_line (if is_start l.tx.edit then no_lines else s.in_hand) l; known = max s.known l.tx.txid }
+
+abbrev pub behind_edit : Asked → Tx → Service → Service
+behind_edit asked tx s = if is_end tx.edit then ends_segment asked s else s
+
+abbrev pub takes_edit : Asked → EditLine → Service → Service
+takes_edit asked l s = behind_edit asked l.tx (with_edit l (before_edit asked l.tx s))
+
+-- ---- A promotion.
+
+-- what is held is flushed, and edits in hand are given up
+abbrev pub becomes_active : Asked → Service → Service
+becomes_active asked s = comes_to asked (flushed s.standby) (record s { phase = record s.phase { active = true }; in_hand = no_lines })
+
+-- whether the log ends at this txid as far as the service knows, or what it knows above it is given up
+abbrev pub ends_at : ℕ → Bool → Service → Bool
+ends_at txid lost s = s.standby.last == txid && (lost || not (nat_lt txid s.known))
+
+-- a standby that was stopped is not promoted, and neither is one inside a segment, nor at another txid than its last
+abbrev pub promotes : Asked → ℕ → Bool → Option FlushFault → Service → Service
+promotes asked txid lost (Some fault) s = tells (number_of_flush fault) (codes " line ") s.lines s
+promotes asked txid lost None s =
+    if not (lost || is_between s)
+    then tells NO_END (codes " segment ") (s.segments + 1) s
+    else if ends_at txid lost s then becomes_active asked s else tells DISORDER (codes " txid ") (s.standby.last + 1) s
+
+-- ---- Words.
+
+abbrev pub status_text : Asked → Service → List ℕ
+status_text asked s =
+    line (codes "state") (state_of s.phase.stopped s.phase.active) ++ line (codes "version") asked.version
+    ++ line (codes "txid") (decimal s.standby.last) ++ line (codes "known") (decimal s.known) ++ line (codes "passed") (decimal s.passed)
+    ++ line (codes "segments") (decimal s.segments) ++ in_hand_text s.in_hand ++ line (codes "held") (decimal (length s.standby.held))
+    ++ flat_map (datanode_text s.sent) datanodes ++ counts_text asked.permille asked.min s.standby
+
+-- a full report of no blocks: the DataNode has none of those that it had
+abbrev pub mark_of : ℕ → Kind → Report
+mark_of dn kind = record { dn = dn; block = 0; stamp = 0; len = 0; kind = kind }
+
+abbrev pub empty_report : ℕ → List Report
+empty_report dn = mark_of dn Begin ∷ mark_of dn Finish ∷ []
+
+abbrev pub does : Asked → Word → Service → Service
+does asked word.Sync s = s
+does asked word.Status s = says (status_text asked s) s
+does asked (word.Held most) s = says (shown most (map held_line s.standby.held)) s
+does asked (word.Unsafe most) s = says (shown most (unsafe_lines asked.min s.standby)) s
+does asked (word.Block id) s = says (block_text s.standby id) s
+does asked (word.Path p) s = says (path_text p (lookup s.standby.namespace p)) s
+does asked word.Tables s = says (listing_text s.standby.last s.standby.namespace ++ tables_now asked.permille asked.min (items s.sent) s.standby) s
+does asked word.Checkpoint s = says (image_text s.standby.namespace s.standby.last) s
+does asked (word.Gone dn) s = hands asked (empty_report dn) s
+does asked (word.Promote txid) s = promotes asked txid false (flush_refusal s.phase) s
+does asked (word.PromoteLosing txid) s = promotes asked txid true (flush_refusal s.phase) s
+
+-- what a word asks for is done, and then `done LINE` is written
+abbrev pub answers : Asked → Word → Service → Service
+answers asked w s = let t = does asked w s in says (line (codes "done") (decimal t.lines)) t
+
+-- ---- Lines.
+
+abbrev pub takes_read : Asked → List ℕ → Result Line LineFault → Service → Service
+takes_read asked text (Ok (either.Edit tx)) s = takes_edit asked (record { text = text; tx = tx }) s
+takes_read asked text (Ok (either.Report r)) s = hands asked (r ∷ []) s
+takes_read asked text (Err fault) s = tells (line_number_of fault) (codes " line ") s.lines s
+
+abbrev pub takes_word : Asked → List ℕ → Option Word → Service → Service
+takes_word asked text (Some w) s = answers asked w s
+takes_word asked text None s = takes_read asked text (either_of_line text) s
+
+abbrev pub counts_line : Service → Service
+counts_line s = record s { lines = s.lines + 1 }
+
+-- a line is counted; it is blank, or a word, or an edit or a report, or has a fault
+unfoldable pub takes : Asked → List ℕ → Service → Service
+takes asked text s = if is_blank text then counts_line s else takes_word asked text (word_in text) (counts_line s)
+
+-- lines, one after another
+unfoldable pub takes_all : Asked → List (List ℕ) → Service → Service
+takes_all asked [] s = s
+takes_all asked (text ∷ texts) s = takes_all asked texts (takes asked text s)
+
+-- ---- The end of the input.
+
+-- a word whose line feed never came may be a part of another one, and asks for nothing
+abbrev pub tears_word : List ℕ → Option Word → Asked → Service → Service
+tears_word text (Some w) asked s = tells NOT_JSON (codes " line ") s.lines s
+tears_word text None asked s = takes_read asked text (either_of_line text) s
+
+-- the bytes behind the last line feed are a line, if there are any
+unfoldable pub takes_torn : Asked → List ℕ → Service → Service
+takes_torn asked text s =
+    if length text == 0 then s else if is_blank text then counts_line s else tears_word text (word_in text) asked (counts_line s)
+
+-- a segment in hand has no end, and nothing is promoted
+abbrev pub ends : Asked → Service → Service
+ends asked s = if is_between s then s else ends_segment asked s
+
+-- ---- From an image, or from the root alone.
+
+pub data Stage : Type 0 where
+  loading : List (List ℕ) → Stage  -- these are lines of an image that has not ended
+  refused : ImageFault → Stage
+  serving : Service → Stage
+
+-- what the lines so far are, as the image that they are or begin
+abbrev pub loaded : List (List ℕ) → Result (Namespace × ℕ) ImageFault → Stage
+loaded lines (Ok image) = serving (begun image.0 image.1)
+loaded lines (Err Truncated) = loading lines
+loaded lines (Err fault) = refused fault
+
+abbrev pub image_lines : List (List ℕ) → Stage
+image_lines lines = loaded lines (read_image (joined_lines lines))
+
+abbrev pub takes_line : Asked → List ℕ → Stage → Stage
+takes_line asked text (loading lines) = image_lines (lines ++ text ∷ [])
+takes_line asked text (refused fault) = refused fault
+takes_line asked text (serving s) = serving (takes asked text s)
+
+abbrev pub takes_end : Asked → List ℕ → Stage → Stage
+takes_end asked text (loading lines) = refused Truncated
+takes_end asked text (refused fault) = refused fault
+takes_end asked text (serving s) = serving (ends asked (takes_torn asked text s))
+
+-- of the pieces between line feeds each is a line, and the last one is what stands behind the last line feed
+unfoldable pub takes_pieces : Asked → List (List ℕ) → Stage → Stage
+takes_pieces asked [] s = s
+takes_pieces asked (torn ∷ []) s = takes_end asked torn s
+takes_pieces asked (text ∷ next ∷ pieces) s = takes_pieces asked (next ∷ pieces) (takes_line asked text s)
+
+abbrev pub start : Bool → Stage
+start true = loading []
+start false = serving (begun root_alone 0)
+
+abbrev pub written_of : Stage → List ℕ
+written_of (loading lines) = []
+written_of (refused fault) = (image_fault fault).text
+written_of (serving s) = s.written
+
+-- what is written for an input, once it has ended
+abbrev pub live_text : Asked → Bool → List ℕ → List ℕ
+live_text asked from_image input = written_of (takes_pieces asked (slice_split (λ b. b == newline) input) (start from_image))

@@ -1,0 +1,18 @@
+//! A standby in service for any caller: what it writes for the lines that come to it.
+//!
+//! Data is JSON, and talk is words. An edit is kept until the end mark of its segment, which is then followed whole; a report
+//! is handed at once; a word is answered at once, and its answer ends with `done L`. Silence means taken: what is not taken is
+//! told by one line.
+//!
+//! The definition is in `specs/Live`, with the words in `Words` and the texts of the answers in `Answers`. Here are its laws,
+//! each the contract of a function that does nothing.
+#![tactic(auto)]
+
+mod laws;
+mod word;
+
+pub use laws::{
+    a_promotion_gives_up_no_edit, a_promotion_shows_the_picture, a_segment_may_be_sent_twice,
+    a_service_stands_at_its_log,
+};
+pub use word::Word;

@@ -1,0 +1,170 @@
+//! The words by which a caller asks something of a standby in service.
+ghost use Rattle.std.specs.Prelude.{◌≡◌, IfOk, option_map};
+ghost use Rattle.serde_json.specs.Data.{Data};
+ghost use Rattle.serde_json.specs.Find.{as_str};
+ghost use Rattle.nn_plain.specs.Spelling.{plain_of, spelled_or};
+ghost use Rattle.nn_live.specs.Words.{fronted, alone, asking, number_in, path_in, promotion_in, word_in};
+
+use itoa::Buffer;
+use json::{Reader, Scratch};
+use nn_plain::{Plain, read_value};
+use nn_types::{Path, PathFault};
+use simdutf8::basic::from_utf8;
+use std::alloc::{AllocError, Global};
+
+/// The bytes that a line may have.
+const MAX_LINE: usize = 65_536;
+
+/// How deep a line may nest.
+const MAX_DEPTH: usize = 127;
+
+/// The least number that is none of the formats.
+const NUMBERS: u64 = 9_223_372_036_854_775_808;
+
+/// What a caller asks for. Whether there is a block, a path or a DataNode of that name, the answer tells.
+#[derive(Drop)]
+pub enum Word {
+    /// That all before it is done.
+    Sync,
+    Status,
+    /// What waits, at most so many lines.
+    Held(Option<u64>),
+    /// What keeps safe mode on, at most so many lines.
+    Unsafe(Option<u64>),
+    Block(u64),
+    Path(Path),
+    Tables,
+    Checkpoint,
+    /// The DataNode has nothing any more.
+    Gone(u64),
+    /// The log has ended at this txid.
+    Promote(u64),
+    /// It has ended there, and what was read above it is given up.
+    PromoteLosing(u64),
+}
+
+impl Word {
+    /// The word that a line is, if it is one. A line of JSON is none.
+    ///
+    /// `scratch` is the reader's room, which a caller keeps over its lines; what a line left in it has no part in the next.
+    pub fn read(
+        alloc: Global,
+        scratch: &mut Scratch,
+        line: &[u8],
+    ) -> Result<Option<Word>, AllocError>
+        ensures { IfOk result (λ word. word ≡ word_in line.now) }
+    {
+        if line.len() > MAX_LINE {
+            return Ok(None);
+        }
+        let Ok(text) = from_utf8(line) else {
+            return Ok(None);
+        };
+        if let Some(word) = alone(text) {
+            return Ok(Some(word));
+        }
+        let Some(text) = line.strip_prefix(b"path ") else {
+            return Ok(before_number(line));
+        };
+        match path_in(alloc, scratch, text)? {
+            Some(path) => Ok(Some(Word::Path(path))),
+            None => Ok(None),
+        }
+    }
+}
+
+// The word that stands alone in a line.
+#[tactic(auto, unfolding(crate::specs::Words::alone))]
+fn alone(line: &str) -> Option<Word>
+    ensures { result ≡ alone line.now }
+{
+    match line {
+        "sync" => Some(Word::Sync),
+        "status" => Some(Word::Status),
+        "held" => Some(Word::Held(None)),
+        "unsafe" => Some(Word::Unsafe(None)),
+        "tables" => Some(Word::Tables),
+        "checkpoint" => Some(Word::Checkpoint),
+        _ => None,
+    }
+}
+
+// The word that stands before a number.
+fn before_number(line: &[u8]) -> Option<Word>
+    ensures { result ≡ fronted asking line.now }
+{
+    if let Some(text) = line.strip_prefix(b"held ") {
+        return Some(Word::Held(Some(number_in(text)?)));
+    }
+    if let Some(text) = line.strip_prefix(b"unsafe ") {
+        return Some(Word::Unsafe(Some(number_in(text)?)));
+    }
+    if let Some(text) = line.strip_prefix(b"block ") {
+        return Some(Word::Block(number_in(text)?));
+    }
+    if let Some(text) = line.strip_prefix(b"gone ") {
+        return Some(Word::Gone(number_in(text)?));
+    }
+    let text = line.strip_prefix(b"promote ")?;
+    promotion_in(text)
+}
+
+fn promotion_in(text: &[u8]) -> Option<Word>
+    ensures { result ≡ promotion_in text.now }
+{
+    match text.strip_suffix(b" lost") {
+        Some(txid) => Some(Word::PromoteLosing(number_in(txid)?)),
+        None => Some(Word::Promote(number_in(text)?)),
+    }
+}
+
+// The number of the formats that a text is, written as the program writes it.
+fn number_in(text: &[u8]) -> Option<u64>
+    ensures { result ≡ number_in text.now }
+{
+    let Ok(number) = fast_float::parse_u64(text) else {
+        return None;
+    };
+    if number >= NUMBERS {
+        return None;
+    }
+    let mut buffer = Buffer::new();
+    if buffer.format(number).as_bytes() != text {
+        return None;
+    }
+    Some(number)
+}
+
+// The path that a text of JSON spells.
+fn path_in(alloc: Global, scratch: &mut Scratch, text: &[u8]) -> Result<Option<Path>, AllocError>
+    ensures { IfOk result (λ path. path ≡ path_in text.now) }
+{
+    let Ok(text) = from_utf8(text) else {
+        return Ok(None);
+    };
+    let mut reader = Reader::new(text, scratch)?;
+    let Ok(value) = read_value(&mut reader, MAX_DEPTH) else {
+        return Ok(None);
+    };
+    if reader.next().is_some() {
+        return Ok(None);
+    }
+    let Some(path) = text_of(value) else {
+        return Ok(None);
+    };
+    match Path::parse(alloc, path) {
+        Ok(path) => Ok(Some(path)),
+        Err(PathFault::BadPath) => Ok(None),
+        Err(PathFault::OutOfMemory) => Err(AllocError),
+    }
+}
+
+// The text that a value is, if it is one.
+fn text_of<'a>(value: Option<Plain<'a>>) -> Option<&'a str>
+    ensures { (d : Data) → spelled_or value.entry ≡ plain_of d → option_map (λ s. s.now) result ≡ as_str d }
+{
+    match value {
+        Some(Plain::Text(text)) => Some(text),
+        Some(Plain::Whole(_) | Plain::Truth(_)) | None => None,
+    }
+}

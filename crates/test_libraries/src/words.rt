@@ -1,0 +1,52 @@
+//! The words by which a caller asks something of a standby in service.
+use json::Scratch;
+use nn_live::Word;
+use std::test::Fail;
+
+// The words that stand alone in turn, and 100 and more with a number; 0 is no word.
+fn number_of(word: Option<Word>) -> u64 {
+    match word {
+        None => 0,
+        Some(Word::Sync) => 1,
+        Some(Word::Status) => 2,
+        Some(Word::Held(None)) => 3,
+        Some(Word::Unsafe(None)) => 4,
+        Some(Word::Tables) => 5,
+        Some(Word::Checkpoint) => 6,
+        Some(Word::Path(_)) => 7,
+        Some(Word::Held(Some(n))) => 100 + n % 50,
+        Some(Word::Unsafe(Some(n))) => 200 + n % 50,
+        Some(Word::Block(n)) => 300 + n % 50,
+        Some(Word::Gone(n)) => 400 + n % 50,
+        Some(Word::Promote(n)) => 500 + n % 50,
+        Some(Word::PromoteLosing(n)) => 600 + n % 50,
+    }
+}
+
+#[test]
+fn each_word_is_read(rt: HostRuntime) -> Result<(), Fail> {
+    let mut scratch = Scratch::new(rt.alloc());
+    for (line, number) in [
+        ("sync", 1),
+        ("status", 2),
+        ("held", 3),
+        ("unsafe", 4),
+        ("tables", 5),
+        ("checkpoint", 6),
+        ("path \"/a/b\\u0063\"", 7),
+        ("held 0", 100),
+        ("unsafe 1", 201),
+        ("block 1073741825", 325),
+        ("gone 3", 403),
+        ("promote 9223372036854775807", 507),
+        ("promote 4 lost", 604),
+        ("promote 9223372036854775808", 0),
+        ("promote 04", 0),
+        ("path /a", 0),
+        ("", 0),
+    ] {
+        let word = Word::read(rt.alloc(), &mut scratch, line.as_bytes())?;
+        assert_eq!(rt; number_of(word), number);
+    }
+    Ok(())
+}

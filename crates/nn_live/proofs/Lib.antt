@@ -3,3 +3,8 @@ pub mod Known
 pub mod Alike
 pub mod Twice
 pub mod WordTexts
+pub mod Handing
+pub mod Applying
+pub mod Following
+pub mod Segments
+pub mod Promoting

@@ -3,3 +3,4 @@ pub mod Answers
 pub mod Live
 pub mod LiveRows
 pub mod Laws
+pub mod Serving

@@ -125,13 +125,14 @@ follows_new asked txs new s = follows asked new (record s { passed = s.passed + 
 abbrev pub tells_gap : Service → Service
 tells_gap s = tells DISORDER (codes " txid " ++ decimal (s.standby.last + 1) ++ codes " segment ") s.segments s
 
--- a segment is followed, or its first fault is told; none of it is followed behind a gap, and it may come again
+-- a segment of these transactions is followed; behind a gap none of it is, and it may come again
+abbrev pub follows_txs : Asked → List Tx → Service → Service
+follows_txs asked txs s = if nat_lt (s.standby.last + 1) (first_txid txs) then tells_gap s else follows_new asked txs (counted s.standby.last txs) s
+
+-- a segment is followed, or its first fault is told
 abbrev pub follows_segment : Asked → Result Segment SegmentFault → Service → Service
 follows_segment asked (Err fault) s = tells (segment_number_of fault) (codes " segment ") s.segments s
-follows_segment asked (Ok segment) s =
-    if nat_lt (s.standby.last + 1) (first_txid segment.txs)
-    then tells_gap s
-    else follows_new asked segment.txs (counted s.standby.last segment.txs) s
+follows_segment asked (Ok segment) s = follows_txs asked segment.txs s
 
 -- the lines in hand are judged as a segment
 abbrev pub ends_segment : Asked → Service → Service

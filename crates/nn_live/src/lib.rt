@@ -4,15 +4,18 @@
 //! is handed at once; a word is answered at once, and its answer ends with `done L`. Silence means taken: what is not taken is
 //! told by one line.
 //!
-//! The definition is in `specs/Live`, with the words in `Words` and the texts of the answers in `Answers`. Here are its laws,
-//! each the contract of a function that does nothing.
+//! The definition is in `specs/Live`, with the texts of the answers in `Answers`; its laws are functions that do nothing.
+//! `Word::read` reads what a line asks for. A `Service` does what the definition says with reports, segments and promotions:
+//! its caller has read the lines.
 #![tactic(auto)]
 
 mod laws;
+mod service;
 mod word;
 
 pub use laws::{
     a_promotion_gives_up_no_edit, a_promotion_shows_the_picture, a_segment_may_be_sent_twice,
     a_service_stands_at_its_log,
 };
+pub use service::{Service, ServiceFault};
 pub use word::Word;

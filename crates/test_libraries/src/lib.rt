@@ -14,6 +14,8 @@ mod edits;
 #[cfg(test)]
 mod segment;
 #[cfg(test)]
+mod service;
+#[cfg(test)]
 mod shadow;
 #[cfg(test)]
 mod sizes;

@@ -1,0 +1,64 @@
+-- A transaction that the code applied, or was refused, is one that the definition's service applied or told.
+use Rattle.std.proofs.Common.{◌≡◌, ℕ, List, [], ◌++◌, cond, None, Some, codes, sym, subst, ap, ap₂, ◌∙◌}
+use Rattle.nn_listing.specs.Trail.{history_text}
+use Rattle.nn_types.specs.declared.tx.Tx.{Tx}
+use Rattle.nn_model.specs.Stands.{StandbyState}
+use Rattle.nn_shadow.specs.declared.fault.ApplyFault.{ApplyFault}
+use Rattle.nn_shadow.specs.Calls.{applied_to}
+use Rattle.nn_shadow.specs.Contents.{Contents, standby_of, number_in}
+use Rattle.nn_shadow.specs.Numbers.{number_of_apply}
+use Rattle.nn_shadow.specs.Refusals.{Phase, apply_refusal, phase_after_apply}
+use Rattle.nn_live.specs.Live.{Asked, Service, applies}
+use Rattle.nn_live.specs.Serving.{Seen, IsAt, Makes, forgetful, fault_text, takes_tx}
+use Rattle.nn_live.proofs.Handing.{told}
+
+pub same_apply_refusal : (asked : Asked) (x : Seen) (s : Service) (tx : Tx) → IsAt asked x s
+    → apply_refusal x.shadow.phase (standby_of x.shadow) tx ≡ apply_refusal s.phase s.standby tx
+same_apply_refusal asked x s tx i = ap₂ (λ (p : Phase) (y : StandbyState). apply_refusal p y tx) i.phase i.standby
+
+module _ (x : Seen) (z : Contents) (tx : Tx)
+    (is : standby_of z ≡ applied_to (standby_of x.shadow) tx) (phase : z.phase ≡ x.shadow.phase) (numbers : z.numbers ≡ x.shadow.numbers)
+    (fits : apply_refusal x.shadow.phase (standby_of x.shadow) tx ≡ None) where
+  takes : (asked : Asked) (s : Service) → IsAt asked x s → takes_tx tx asked s ≡ applies asked tx None (λ t. t) s
+  takes asked s i = ap (λ o. applies asked tx o (λ t. t) s) (sym (same_apply_refusal asked x s tx i) ∙ fits)
+
+  comes : (asked : Asked) (s : Service) → IsAt asked x s → standby_of z ≡ applied_to s.standby tx
+  comes asked s i = is ∙ ap (λ (y : StandbyState). applied_to y tx) i.standby
+
+  pub applied : Makes (takes_tx tx) x (forgetful (record x { shadow = z })) (told x.history z)
+  applied = record {
+    at = λ asked s i. subst (IsAt asked (forgetful (record x { shadow = z }))) (sym (takes asked s i)) (record {
+      tells = i.tells;
+      standby = ap (λ (c : StandbyState). record c { history = [] }) (comes asked s i);
+      phase = phase ∙ i.phase;
+      sent = λ dn. ap (λ (ns : List ℕ). number_in ns dn) numbers ∙ i.sent dn;
+      known = i.known;
+      passed = i.passed;
+      segments = i.segments;
+      lines = i.lines;
+    });
+    written = λ asked s i. ap (λ (t : Service). t.written) (takes asked s i)
+        ∙ ap₂ (λ b h. s.written ++ cond b (history_text h) []) i.tells (sym (ap (λ (c : StandbyState). c.history) (comes asked s i)));
+  }
+
+module _ (x : Seen) (tx : Tx) (fault : ApplyFault) (is : apply_refusal x.shadow.phase (standby_of x.shadow) tx ≡ Some fault) where
+  abbrev pub stopped_at : Seen
+  stopped_at = record x { shadow = record x.shadow { phase = phase_after_apply x.shadow.phase tx fault } }
+
+  tells : (asked : Asked) (s : Service) → IsAt asked x s → takes_tx tx asked s ≡ applies asked tx (Some fault) (λ t. t) s
+  tells asked s i = ap (λ o. applies asked tx o (λ t. t) s) (sym (same_apply_refusal asked x s tx i) ∙ is)
+
+  pub refused : Makes (takes_tx tx) x stopped_at (fault_text (number_of_apply fault) (codes " txid ") tx.txid)
+  refused = record {
+    at = λ asked s i. subst (IsAt asked stopped_at) (sym (tells asked s i)) (record {
+      tells = i.tells;
+      standby = i.standby;
+      phase = ap (λ (p : Phase). phase_after_apply p tx fault) i.phase;
+      sent = i.sent;
+      known = i.known;
+      passed = i.passed;
+      segments = i.segments;
+      lines = i.lines;
+    });
+    written = λ asked s i. ap (λ (t : Service). t.written) (tells asked s i);
+  }

@@ -1,0 +1,91 @@
+-- A message that the code handed over, or was refused, is one that the definition's service took or told.
+use Rattle.std.proofs.Common.{◌≡◌, ℕ, Bool, ◌+◌, ◌==◌, List, [], ◌∷◌, ◌++◌, cond, true, false, None, Some, length, codes, refl, sym, subst, ap, ap₂, ◌∙◌, length-append}
+use Rattle.std.proofs.lemmas.Bool.{eqb-true}
+use Rattle.nn_listing.specs.Trail.{history_text}
+use Rattle.nn_types.specs.declared.report.Message.{Message}
+use Rattle.nn_types.specs.declared.report.Report.{Report}
+use Rattle.nn_model.specs.Lanes.{followed_by}
+use Rattle.nn_model.specs.Stands.{StandbyState}
+use Rattle.nn_scenario.specs.Steps.{message, next_message}
+use Rattle.nn_shadow.specs.declared.fault.HandCause.{HandCause}
+use Rattle.nn_shadow.specs.Calls.{received}
+use Rattle.nn_shadow.specs.Contents.{Contents, standby_of, number_in}
+use Rattle.nn_shadow.specs.Numbers.{number_of_hand}
+use Rattle.nn_shadow.specs.Refusals.{Phase, hand_refusal}
+use Rattle.nn_live.specs.Live.{Asked, Service, handed, hands}
+use Rattle.nn_live.specs.Serving.{Seen, IsAt, Makes, forgetful, next_of, fault_text}
+
+abbrev one_report : Report → Asked → Service → Service
+one_report r asked s = hands asked (r ∷ []) s
+
+same_message : (asked : Asked) (x : Seen) (s : Service) (r : Report) → IsAt asked x s → next_of x.shadow r ≡ next_message s.sent r
+same_message asked x s r i = ap (λ k. message r (k + 1)) (i.sent r.dn)
+
+same_refusal : (asked : Asked) (x : Seen) (s : Service) (r : Report) → IsAt asked x s
+    → hand_refusal 256 x.shadow.phase (standby_of x.shadow) (next_of x.shadow r) ≡ hand_refusal 256 s.phase s.standby (next_message s.sent r)
+same_refusal asked x s r i =
+    ap (λ (p : Phase). hand_refusal 256 p (standby_of x.shadow) (next_of x.shadow r)) i.phase
+    ∙ ap (λ (y : StandbyState). hand_refusal 256 s.phase y (next_of x.shadow r)) i.standby
+    ∙ ap (λ m. hand_refusal 256 s.phase s.standby m) (same_message asked x s r i)
+
+one_more : (s : Service) (m : Message) (k last dn : ℕ) → last ≡ length (s.sent dn) → (same : Bool) → (dn == m.dn) ≡ same → k ≡ length (s.sent m.dn) + 1
+    → cond same k last ≡ length (cond same (s.sent dn ++ m ∷ []) (s.sent dn))
+one_more s m k last dn e false d n = e
+one_more s m k last dn e true d n =
+    n ∙ ap (λ j. length (s.sent j) + 1) (sym (eqb-true dn m.dn d)) ∙ sym (length-append (s.sent dn) (m ∷ []))
+
+-- what the code told of a standby, and had then forgotten
+abbrev pub told : Bool → Contents → List ℕ
+told history z = cond history (history_text z.history) []
+
+module _ (x : Seen) (z : Contents) (r : Report)
+    (is : standby_of z ≡ received (standby_of x.shadow) (next_of x.shadow r)) (phase : z.phase ≡ x.shadow.phase)
+    (fits : hand_refusal 256 x.shadow.phase (standby_of x.shadow) (next_of x.shadow r) ≡ None) where
+  -- the definition took it, too
+  takes : (asked : Asked) (s : Service) → IsAt asked x s → one_report r asked s ≡ handed asked (next_message s.sent r) None (λ t. t) s
+  takes asked s i = ap (λ o. handed asked (next_message s.sent r) o (λ t. t) s) (sym (same_refusal asked x s r i) ∙ fits)
+
+  comes : (asked : Asked) (s : Service) → IsAt asked x s → standby_of z ≡ received s.standby (next_message s.sent r)
+  comes asked s i = is ∙ ap₂ received i.standby (same_message asked x s r i)
+
+  sent : (asked : Asked) (s : Service) → IsAt asked x s → (dn : ℕ) → number_in z.numbers dn ≡ length (followed_by s.sent (next_message s.sent r) dn)
+  sent asked s i dn =
+      let m = next_message s.sent r in
+      ap (λ (c : StandbyState). c.last_number dn) is
+      ∙ one_more s m (number_in x.shadow.numbers r.dn + 1) (number_in x.shadow.numbers dn) dn (i.sent dn) (dn == m.dn) refl (ap (λ k. k + 1) (i.sent r.dn))
+
+  pub taken : Makes (one_report r) x (forgetful (record x { shadow = z })) (told x.history z)
+  taken = record {
+    at = λ asked s i. subst (IsAt asked (forgetful (record x { shadow = z }))) (sym (takes asked s i)) (record {
+      tells = i.tells;
+      standby = ap (λ (c : StandbyState). record c { history = [] }) (comes asked s i);
+      phase = phase ∙ i.phase;
+      sent = sent asked s i;
+      known = i.known;
+      passed = i.passed;
+      segments = i.segments;
+      lines = i.lines;
+    });
+    written = λ asked s i. ap (λ (t : Service). t.written) (takes asked s i)
+        ∙ ap₂ (λ b h. s.written ++ cond b (history_text h) []) i.tells (sym (ap (λ (c : StandbyState). c.history) (comes asked s i)));
+  }
+
+module _ (x : Seen) (r : Report) (cause : HandCause)
+    (is : hand_refusal 256 x.shadow.phase (standby_of x.shadow) (next_of x.shadow r) ≡ Some cause) where
+  tells : (asked : Asked) (s : Service) → IsAt asked x s → one_report r asked s ≡ handed asked (next_message s.sent r) (Some cause) (λ t. t) s
+  tells asked s i = ap (λ o. handed asked (next_message s.sent r) o (λ t. t) s) (sym (same_refusal asked x s r i) ∙ is)
+
+  pub refused : Makes (one_report r) x x (fault_text (number_of_hand cause) (codes " line ") x.lines)
+  refused = record {
+    at = λ asked s i. subst (IsAt asked x) (sym (tells asked s i)) (record {
+      tells = i.tells;
+      standby = i.standby;
+      phase = i.phase;
+      sent = i.sent;
+      known = i.known;
+      passed = i.passed;
+      segments = i.segments;
+      lines = i.lines;
+    });
+    written = λ asked s i. ap (λ (t : Service). t.written) (tells asked s i) ∙ ap (λ l. s.written ++ fault_text (number_of_hand cause) (codes " line ") l) (sym i.lines);
+  }

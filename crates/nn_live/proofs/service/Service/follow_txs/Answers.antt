@@ -1,0 +1,48 @@
+use Rattle.std.proofs.Common.{◌≡◌, ◌+◌, ◌-◌, ◌<◌, ◌≤◌, ◌++◌, drop, codes, sym, subst, ap, ap₂, ◌∙◌, arith, List}
+use Rattle.std.specs.Prelude.{decimal}
+use Rattle.std.proofs.lemmas.Result.{IfOk-weaker}
+use Rattle.nn_types.specs.declared.fault.TheConstants.{DISORDER}
+use Rattle.nn_types.specs.declared.tx.Tx.{Tx}
+use Rattle.nn_model.specs.Log.{counted}
+use Rattle.nn_segment.specs.Segment.{first_txid}
+use Rattle.nn_live.specs.Live.{follows, follows_txs}
+use Rattle.nn_live.specs.contracts.service.Service.{the_view as seen_of}
+use Rattle.nn_live.specs.Serving.{Seen, Makes, fault_text}
+use Rattle.nn_live.proofs.Promoting.{no_memory_there}
+use Rattle.nn_live.proofs.Segments.{gap_text, behind_a_gap, now_followed, new_ones}
+use Rattle.nn_live.proofs.service.Service.follow_txs.Goals as goal
+
+pub returns-then-next-first : goal.returns-then-next-first
+returns-then-next-first g c =
+    let x = seen_of c.self.inside in
+    let here : x ≡ c.args.self.now = c.self.view_is in
+    let txs = c.args.txs.now in
+    let last = c.last_txid-next.ensures.last in
+    let first : c.args.first ≡ first_txid txs = c.requires.3 ∙ ap (λ (ts : List Tx). first_txid ts) c.requires.2 in
+    let high : x.shadow.last + 1 < first_txid txs = omega (arith, sym first, last, c.if-next-first.true) in
+    let text = fault_text DISORDER (codes " txid " ++ decimal (c.last_txid-next.result + 1) ++ codes " segment ") x.segments in
+    let spelled : gap_text x ≡ text = ap (λ l. fault_text DISORDER (codes " txid " ++ decimal (l + 1) ++ codes " segment ") x.segments) (sym last) in
+    let made = subst (λ t. Makes (λ asked s. follows_txs asked txs s) x x t) spelled (behind_a_gap x txs high) in
+    record { ok = (text, c.put_gap.ensures, subst (λ (v : Seen). Makes (λ asked s. follows_txs asked txs s) v v text) here made); exhausted = λ never. absurd (cc) }
+
+pub returns : goal.returns
+returns g c =
+    let x = seen_of c.self.inside in
+    let here : x ≡ c.args.self.now = c.self.view_is in
+    let txs = c.args.txs.now in
+    let new = c.behind-new.result.now in
+    let last = c.last_txid-next.ensures.last in
+    let first : c.args.first ≡ first_txid txs = c.requires.3 ∙ ap (λ (ts : List Tx). first_txid ts) c.requires.2 in
+    let low : first_txid txs ≤ x.shadow.last + 1 = omega (arith, sym first, last, c.if-next-first.false) in
+    let is : counted x.shadow.last txs ≡ new = new_ones x.shadow.last txs (c.requires.0, c.requires.1, c.requires.2) low
+    ∙ ap₂ (λ l f. drop (l + 1 - f) txs) (sym last) (sym first) ∙ sym c.behind-new.ensures in
+    record {
+      ok = IfOk-weaker c.follow.result _ _ (λ _ step. (
+        step.0,
+        step.1,
+        subst (λ (v : Seen). Makes (λ asked s. follows_txs asked txs s) v c.follow.new.self step.0) here
+            (now_followed x txs new c.follow.new.self step.0 low is
+            (subst (λ p. Makes (λ asked s. follows asked new s) (record x { passed = p }) c.follow.new.self step.0) c.in-Some.ensures.1 step.2)),
+      )) c.follow.ensures.ok;
+      exhausted = λ is. absurd (no_memory_there c.follow.result c.follow.ensures.memory is);
+    }

@@ -1,5 +1,6 @@
 -- A message that the code handed over, or was refused, is one that the definition's service took or told.
-use Rattle.std.proofs.Common.{◌≡◌, ℕ, Bool, ◌+◌, ◌==◌, List, [], ◌∷◌, ◌++◌, cond, true, false, None, Some, length, codes, refl, sym, subst, ap, ap₂, ◌∙◌, length-append}
+use Rattle.std.proofs.Common.{◌≡◌, ℕ, Bool, ◌≤◌, arith, append_assoc, ◌+◌, ◌==◌, List, [], ◌∷◌, ◌++◌, cond, true, false, None, Some, Option, length, codes, refl, sym, subst, ap, ap₂, ◌∙◌, length-append}
+use Rattle.std.specs.Prelude.{is_none}
 use Rattle.std.proofs.lemmas.Bool.{eqb-true}
 use Rattle.nn_listing.specs.Trail.{history_text}
 use Rattle.nn_types.specs.declared.report.Message.{Message}
@@ -89,3 +90,55 @@ module _ (x : Seen) (r : Report) (cause : HandCause)
     });
     written = λ asked s i. ap (λ (t : Service). t.written) (tells asked s i) ∙ ap (λ l. s.written ++ fault_text (number_of_hand cause) (codes " line ") l) (sym i.lines);
   }
+
+-- a message that was taken adds one to the messages of its DataNode
+pub grows : (x : Seen) (z : Contents) (r : Report) → standby_of z ≡ received (standby_of x.shadow) (next_of x.shadow r) → (dn : ℕ) → number_in z.numbers dn ≤ number_in x.shadow.numbers dn + 1
+grows x z r is dn = subst (λ n. n ≤ number_in x.shadow.numbers dn + 1) (sym (ap (λ (c : StandbyState). c.last_number dn) is)) (at (dn == r.dn) refl)
+  where
+    at : (same : Bool) → (dn == r.dn) ≡ same → cond same (number_in x.shadow.numbers r.dn + 1) (number_in x.shadow.numbers dn) ≤ number_in x.shadow.numbers dn + 1
+    at true e = subst (λ j. number_in x.shadow.numbers r.dn + 1 ≤ number_in x.shadow.numbers j + 1) (sym (eqb-true dn r.dn e)) (omega arith)
+    at false e = omega arith
+
+-- ---- A DataNode that is gone.
+
+refusal_none : (o : Option HandCause) → true ≡ is_none o → o ≡ None
+refusal_none None e = refl
+refusal_none (Some f) e = absurd (cc)
+
+refusal_some : (o : Option HandCause) → false ≡ is_none o → (f : HandCause) × (o ≡ Some f)
+refusal_some None e = absurd (cc)
+refusal_some (Some f) e = (f, refl)
+
+abbrev both_reports : Report → Report → Asked → Service → Service
+both_reports r q asked s = hands asked (r ∷ q ∷ []) s
+
+module _ (x y : Seen) (r q : Report) (text : List ℕ) (made : Makes (one_report r) x y text) where
+  at_first : Asked → Service → (Service → Service) → Option HandCause → Service
+  at_first asked s rest o = handed asked (next_message s.sent r) o rest s
+
+  pub both_handed : (z : Seen) (more : List ℕ) → true ≡ is_none (hand_refusal 256 x.shadow.phase (standby_of x.shadow) (next_of x.shadow r)) → Makes (one_report q) y z more
+      → Makes (both_reports r q) x z (text ++ more)
+  unfolding at_first
+  both_handed z more fits later = record {
+    at = λ asked s i. subst (IsAt asked z) (sym (is asked s i)) (later.at asked (one_report r asked s) (made.at asked s i));
+    written = λ asked s i. ap (λ (t : Service). t.written) (is asked s i) ∙ later.written asked (one_report r asked s) (made.at asked s i)
+        ∙ ap (λ w. w ++ more) (made.written asked s i) ∙ append_assoc s.written text more;
+  }
+    where
+      is : (asked : Asked) (s : Service) → IsAt asked x s → both_reports r q asked s ≡ one_report q asked (one_report r asked s)
+      is asked s i =
+          let none = sym (same_refusal asked x s r i) ∙ refusal_none _ fits in
+          ap (at_first asked s (λ t. one_report q asked t)) none ∙ sym (ap (λ o. one_report q asked (at_first asked s (λ t. t) o)) none)
+
+  pub first_refused : false ≡ is_none (hand_refusal 256 x.shadow.phase (standby_of x.shadow) (next_of x.shadow r)) → Makes (both_reports r q) x y text
+  unfolding at_first
+  first_refused refuses = record {
+    at = λ asked s i. subst (IsAt asked y) (sym (is asked s i)) (made.at asked s i);
+    written = λ asked s i. ap (λ (t : Service). t.written) (is asked s i) ∙ made.written asked s i;
+  }
+    where
+      is : (asked : Asked) (s : Service) → IsAt asked x s → both_reports r q asked s ≡ one_report r asked s
+      is asked s i =
+          let some = refusal_some _ refuses in
+          let there = sym (same_refusal asked x s r i) ∙ some.1 in
+          ap (at_first asked s (λ t. one_report q asked t)) there ∙ sym (ap (at_first asked s (λ t. t)) there)

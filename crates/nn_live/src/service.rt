@@ -1,22 +1,26 @@
 //! A standby in service: each report is handed at once, and what it says is told.
-ghost use Rattle.std.specs.Prelude.{◌≡◌, ◌≤◌, ◌<◌, ◌^◌, ◌+◌, ◌++◌, ℕ, List, [], ◌∷◌, length, if◌then◌else◌, drop, max, IfOk, IfSome, OnOk, IfErr, IsErrOf, ◌⊎◌, None, is_none, decimal, codes};
+ghost use Rattle.std.specs.Prelude.{◌≡◌, ◌≤◌, ◌<◌, ◌^◌, ◌+◌, ◌++◌, ℕ, List, [], ◌∷◌, length, if◌then◌else◌, drop, max, IfOk, IfSome, OnOk, IfErr, IsErrOf, IsTrue, ◌⊎◌, None, is_none, decimal, codes};
 ghost use Rattle.nn_types.specs.declared.fault.TheConstants.{DISORDER};
 ghost use Rattle.nn_device.specs.Page.{Puts};
 ghost use Rattle.nn_segment.specs.Segment.{Segment, IsSegment, first_txid};
 ghost use Rattle.nn_listing.specs.Trail.{history_text};
 ghost use Rattle.nn_shadow.specs.Contents.{number_in, standby_of};
-ghost use Rattle.nn_shadow.specs.Refusals.{apply_refusal};
-ghost use Rattle.nn_live.specs.Live.{Asked, begun, counts_line, follows, follows_txs, hands};
+ghost use Rattle.nn_shadow.specs.Refusals.{apply_refusal, hand_refusal};
+ghost use Rattle.nn_live.specs.Live.{Asked, begun, counts_line, does, empty_report, follows, follows_txs, hands, mark_of};
 ghost use Rattle.nn_live.specs.Serving.{IsAt, Makes, MakesBetween, Steps, forgetful, log_ends, next_of, fault_text, hears_of, takes_promotion, takes_segment, takes_tx};
 
+use crate::word::Word;
 use nn_device::{Page, Writer};
+use nn_image::ReadyImage;
 use nn_listing::put_history;
 use nn_segment::Parsed;
 use nn_shadow::{ApplyFault, FromFault, HandCause, Shadow};
 use nn_text::put_number;
 use nn_tree::Namespace;
-use nn_types::{Message, Report, Settings, Tx, fault};
-use std::alloc::Global;
+use nn_types::{
+    BlockId, GenerationStamp, Kind, Length, Message, Report, Settings, Tx, Txid, fault,
+};
+use std::alloc::{AllocError, Global};
 use std::io::Write;
 use std::marker::Model;
 
@@ -120,18 +124,44 @@ impl Service {
         ensures ok { IfOk result (λ _. Steps (λ asked s. hands asked (report ∷ []) s) self.old self.new (λ text. Puts text page.old writer.old page.new writer.new)) }
         ensures exhausted { IsErrOf result ServiceFault.Exhausted → 2 ^ 63 ≤ number_in self.old.shadow.numbers report.dn + 1 }
     {
-        let Some(message) = self.next_message(report) else {
-            return Err(ServiceFault::Exhausted);
-        };
-        match self.shadow.hand(message) {
-            Ok(_) => self.tell_events(page, writer),
-            Err(fault) => {
-                if let HandCause::OutOfMemory = fault.cause {
-                    return Err(ServiceFault::OutOfMemory);
-                }
-                put_fault(page, writer, fault.cause.number(), " line ", self.lines);
-            }
+        self.hand(page, writer, report)?;
+        Ok(())
+    }
+
+    /// A DataNode is gone: it is as if it had sent a full report of no blocks. Where the begin is refused, its end is not
+    /// handed.
+    pub fn gone<W: Write>(
+        &mut self,
+        page: &mut Page,
+        writer: &mut Writer<W>,
+        dn: u16,
+    ) -> Result<(), ServiceFault>
+        ensures ok { IfOk result (λ _. Steps (λ asked s. hands asked (empty_report dn) s) self.old self.new (λ text. Puts text page.old writer.old page.new writer.new)) }
+        ensures exhausted { IsErrOf result ServiceFault.Exhausted → 2 ^ 63 ≤ number_in self.old.shadow.numbers dn + 2 }
+    {
+        if self.hand(page, writer, mark_of(dn, Kind::Begin))? {
+            self.hand(page, writer, mark_of(dn, Kind::Finish))?;
         }
+        Ok(())
+    }
+
+    /// Answers with the image of the namespace, after the last transaction that was applied. What takes memory is done before
+    /// its first byte.
+    pub fn checkpoint<W: Write>(
+        &self,
+        alloc: Global,
+        page: &mut Page,
+        writer: &mut Writer<W>,
+    ) -> Result<(), AllocError>
+        ensures { OnOk result (Steps (λ asked s. does asked Word.Checkpoint s) self.now self.now (λ text. Puts text page.old writer.old page.new writer.new)) }
+    {
+        let namespace = self.shadow.namespace();
+        let extent = namespace.extent()?;
+        let Some(txid) = Txid::new(self.shadow.last_txid()) else {
+            unreachable!();
+        };
+        let image = ReadyImage::of(alloc, namespace, extent, txid)?;
+        image.put(page, writer);
         Ok(())
     }
 
@@ -227,6 +257,36 @@ impl Service {
         };
         self.passed = passed;
         self.follow(page, writer, new)
+    }
+
+    // Hands a report, and says whether it was taken.
+    fn hand<W: Write>(
+        &mut self,
+        page: &mut Page,
+        writer: &mut Writer<W>,
+        report: Report,
+    ) -> Result<bool, ServiceFault>
+        ensures ok { IfOk result (λ _. Steps (λ asked s. hands asked (report ∷ []) s) self.old self.new (λ text. Puts text page.old writer.old page.new writer.new)) }
+        ensures taken { IfOk result (λ taken. taken ≡ is_none (hand_refusal 256 self.old.shadow.phase (standby_of self.old.shadow) (next_of self.old.shadow report))) }
+        ensures numbers { IfOk result (λ taken. IsTrue taken → (dn : ℕ) → number_in self.new.shadow.numbers dn ≤ number_in self.old.shadow.numbers dn + 1) }
+        ensures exhausted { IsErrOf result ServiceFault.Exhausted → 2 ^ 63 ≤ number_in self.old.shadow.numbers report.dn + 1 }
+    {
+        let Some(message) = self.next_message(report) else {
+            return Err(ServiceFault::Exhausted);
+        };
+        match self.shadow.hand(message) {
+            Ok(_) => {
+                self.tell_events(page, writer);
+                Ok(true)
+            }
+            Err(fault) => {
+                if let HandCause::OutOfMemory = fault.cause {
+                    return Err(ServiceFault::OutOfMemory);
+                }
+                put_fault(page, writer, fault.cause.number(), " line ", self.lines);
+                Ok(false)
+            }
+        }
     }
 
     // The report under the number after the last one of its DataNode.
@@ -339,4 +399,24 @@ fn behind(txs: &[Tx], count: u64) -> &[Tx]
         return &[];
     }
     &txs[count as usize..]
+}
+
+// The begin or the end of a full report.
+fn mark_of(dn: u16, kind: Kind) -> Report
+    ensures { result ≡ mark_of dn kind }
+{
+    let (Some(block), Some(stamp), Some(len)) = (
+        BlockId::new(0),
+        GenerationStamp::new(0),
+        Length::new(0),
+    ) else {
+        unreachable!();
+    };
+    Report {
+        dn,
+        block,
+        stamp,
+        len,
+        kind,
+    }
 }

@@ -22,8 +22,12 @@ const TOLD: &str = "fault 57 txid 1 segment 1
 applied 1
 applied 2
 applied 3
+{\"awaiting\":[],\"image\":\"hdfs-standby\",\"last_block\":1073741824,\"last_gen\":1000,\"profile\":1,\"txid\":3,\"version\":2}
+{\"path\":\"/a\",\"type\":\"dir\"}
+{\"end\":1}
 fault 57 txid 4
 processed 1 1 1073741825 flush
+processed 1 3 1073741825 flush
 fault 53 line 1
 fault 53 line 1
 ";
@@ -54,7 +58,7 @@ fn taken(answer: Result<(), ServiceFault>) -> Result<(), Fail> {
     }
 }
 
-// What a service tells of a report, a gap, a segment sent twice, and two promotions, of which the first would lose an edit.
+// What a service tells of a report, its DataNode that is gone, a gap, a segment sent twice, a checkpoint, and two promotions, of which the first would lose an edit.
 fn told(alloc: Global, page: &mut Page, writer: &mut Writer<Vec<u8>>) -> Result<(), Fail> {
     let first = segment(
         alloc,
@@ -72,9 +76,11 @@ fn told(alloc: Global, page: &mut Page, writer: &mut Writer<Vec<u8>>) -> Result<
     };
     taken(service.next_line())?;
     taken(service.report(page, writer, report(1)?))?;
+    taken(service.gone(page, writer, 1))?;
     taken(service.segment(page, writer, &far))?;
     taken(service.segment(page, writer, &first))?;
     taken(service.segment(page, writer, &first))?;
+    service.checkpoint(alloc, page, writer)?;
     taken(service.promote(page, writer, 3, false))?;
     taken(service.promote(page, writer, 3, true))?;
     taken(service.report(page, writer, report(1)?))?;

@@ -1,13 +1,14 @@
-use Rattle.std.proofs.Common.{◌≡◌, [], ◌∷◌, codes, None, Some, inl, inr, sym, subst, ap, ap₂, ◌∙◌}
-use Rattle.nn_shadow.specs.Contents.{Contents, standby_of}
+use Rattle.std.specs.Prelude.{is_none}
+use Rattle.std.proofs.Common.{◌+◌, ◌≤◌, ◌≡◌, [], ◌∷◌, codes, None, Some, inl, inr, sym, subst, ap, ap₂, ◌∙◌}
+use Rattle.nn_shadow.specs.Contents.{Contents, standby_of, number_in}
 use Rattle.nn_shadow.specs.Calls.{received}
 use Rattle.nn_shadow.specs.Numbers.{number_of_hand}
 use Rattle.nn_shadow.specs.Refusals.{hand_refusal}
 use Rattle.nn_live.specs.contracts.service.Service.{the_view as seen_of}
 use Rattle.nn_live.specs.Live.{hands}
 use Rattle.nn_live.specs.Serving.{Seen, Makes, next_of, fault_text}
-use Rattle.nn_live.proofs.Handing.{told, taken, refused}
-use Rattle.nn_live.proofs.service.Service.report.Goals as goal
+use Rattle.nn_live.proofs.Handing.{told, taken, refused, grows}
+use Rattle.nn_live.proofs.service.Service.hand.Goals as goal
 
 pub returns-in-Ok-clause-ok : goal.returns-in-Ok-clause-ok
 returns-in-Ok-clause-ok g c =
@@ -42,5 +43,18 @@ returns-in_default-cause g c =
     let told_it : Makes (λ asked s. hands asked (r ∷ []) s) x y text = subst (λ n. Makes (λ asked s. hands asked (r ∷ []) s) x y (fault_text n (codes " line ") x.lines)) (sym c.number.ensures) made in
     record {
       ok = (text, c.put_fault.ensures, subst (λ (v : Seen). Makes (λ asked s. hands asked (r ∷ []) s) v y text) here told_it);
+      taken = sym (ap (λ (v : Seen). is_none (hand_refusal 256 v.shadow.phase (standby_of v.shadow) (next_of v.shadow r))) (sym here) ∙ ap is_none is);
+      numbers = λ never. absurd (cc);
       exhausted = λ never. absurd (cc);
     }
+
+pub returns-in-Ok-clause-numbers : goal.returns-in-Ok-clause-numbers
+returns-in-Ok-clause-numbers g c =
+    let x = seen_of c.self.inside in
+    let here : x ≡ c.args.self.now = c.self.view_is in
+    let r = c.args.report in
+    let z = c.hand.new.self in
+    let m : c.in-Some.message ≡ next_of x.shadow r = c.in-Some.ensures.some ∙ ap (λ (v : Seen). next_of v.shadow r) (sym here) in
+    let is : standby_of z ≡ received (standby_of x.shadow) (next_of x.shadow r) = c.in-Ok.ensures.ok ∙ ap (received (standby_of x.shadow)) m in
+    λ _ dn. subst (λ (v : Seen). number_in v.shadow.numbers dn ≤ number_in c.args.self.now.shadow.numbers dn + 1) (sym c.tell_events.ensures.left)
+    (subst (λ (v : Seen). number_in z.numbers dn ≤ number_in v.shadow.numbers dn + 1) here (grows x z r is dn))

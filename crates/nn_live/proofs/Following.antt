@@ -8,6 +8,7 @@ use Rattle.nn_shadow.specs.Refusals.{apply_refusal}
 use Rattle.nn_live.specs.Live.{Asked, Service, applies, follows}
 use Rattle.nn_live.specs.Serving.{Seen, IsAt, Makes, takes_tx}
 use Rattle.nn_live.proofs.Applying.{same_apply_refusal}
+use Rattle.nn_live.proofs.Options.{none_if, some_unless}
 
 -- it came from there to here, with this text, and of the transactions these are left
 abbrev pub Came : Seen → Seen → List Tx → List Tx → List ℕ → Type 0
@@ -16,14 +17,6 @@ Came first now txs rest text = (asked : Asked) (s : Service) → IsAt asked firs
 
 pub none_came : (x : Seen) (txs : List Tx) → Came x x txs txs []
 none_came x txs asked s i = (s, i, refl, sym (append-nil s.written))
-
-refusal_none : (o : Option ApplyFault) → true ≡ is_none o → o ≡ None
-refusal_none None e = refl
-refusal_none (Some f) e = absurd (cc)
-
-refusal_some : (o : Option ApplyFault) → false ≡ is_none o → (f : ApplyFault) × (o ≡ Some f)
-refusal_some None e = absurd (cc)
-refusal_some (Some f) e = (f, refl)
 
 module _ (first x y : Seen) (txs later : List Tx) (tx : Tx) (text more : List ℕ) (made : Makes (takes_tx tx) x y more) (came : Came first x txs (tx ∷ later) text) where
   at_tx : Asked → Service → (Service → Service) → Option ApplyFault → Service
@@ -37,7 +30,7 @@ module _ (first x y : Seen) (txs later : List Tx) (tx : Tx) (text more : List �
   one_more fits asked s i =
       let c = came asked s i in
       let t = c.0 in
-      let none : apply_refusal t.phase t.standby tx ≡ None = sym (same_apply_refusal asked x t tx c.1) ∙ refusal_none _ fits in (
+      let none : apply_refusal t.phase t.standby tx ≡ None = sym (same_apply_refusal asked x t tx c.1) ∙ none_if _ fits in (
         takes_tx tx asked t,
         made.at asked t c.1,
         c.2 ∙ ap (at_tx asked t (λ u. follows asked later u)) none ∙ sym (ap (λ o. follows asked later (at_tx asked t (λ u. u) o)) none),
@@ -47,7 +40,7 @@ module _ (first x y : Seen) (txs later : List Tx) (tx : Tx) (text more : List �
   pub last_one : false ≡ is_none (apply_refusal x.shadow.phase (standby_of x.shadow) tx) → Makes (λ asked s. follows asked txs s) first y (text ++ more)
   unfolding at_tx
   last_one refused =
-      let f = refusal_some _ refused in
+      let f = some_unless _ refused in
       let ends : (asked : Asked) (s : Service) (i : IsAt asked first s) → follows asked txs s ≡ takes_tx tx asked (came asked s i).0 = λ asked s i.
       (let c = came asked s i in
       let t = c.0 in

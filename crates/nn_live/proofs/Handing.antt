@@ -15,6 +15,7 @@ use Rattle.nn_shadow.specs.Numbers.{number_of_hand}
 use Rattle.nn_shadow.specs.Refusals.{Phase, hand_refusal}
 use Rattle.nn_live.specs.Live.{Asked, Service, handed, hands}
 use Rattle.nn_live.specs.Serving.{Seen, IsAt, Makes, forgetful, next_of, fault_text}
+use Rattle.nn_live.proofs.Options.{none_if, some_unless}
 
 abbrev one_report : Report → Asked → Service → Service
 one_report r asked s = hands asked (r ∷ []) s
@@ -101,14 +102,6 @@ grows x z r is dn = subst (λ n. n ≤ number_in x.shadow.numbers dn + 1) (sym (
 
 -- ---- A DataNode that is gone.
 
-refusal_none : (o : Option HandCause) → true ≡ is_none o → o ≡ None
-refusal_none None e = refl
-refusal_none (Some f) e = absurd (cc)
-
-refusal_some : (o : Option HandCause) → false ≡ is_none o → (f : HandCause) × (o ≡ Some f)
-refusal_some None e = absurd (cc)
-refusal_some (Some f) e = (f, refl)
-
 abbrev both_reports : Report → Report → Asked → Service → Service
 both_reports r q asked s = hands asked (r ∷ q ∷ []) s
 
@@ -127,7 +120,7 @@ module _ (x y : Seen) (r q : Report) (text : List ℕ) (made : Makes (one_report
     where
       is : (asked : Asked) (s : Service) → IsAt asked x s → both_reports r q asked s ≡ one_report q asked (one_report r asked s)
       is asked s i =
-          let none = sym (same_refusal asked x s r i) ∙ refusal_none _ fits in
+          let none = sym (same_refusal asked x s r i) ∙ none_if _ fits in
           ap (at_first asked s (λ t. one_report q asked t)) none ∙ sym (ap (λ o. one_report q asked (at_first asked s (λ t. t) o)) none)
 
   pub first_refused : false ≡ is_none (hand_refusal 256 x.shadow.phase (standby_of x.shadow) (next_of x.shadow r)) → Makes (both_reports r q) x y text
@@ -139,6 +132,6 @@ module _ (x y : Seen) (r q : Report) (text : List ℕ) (made : Makes (one_report
     where
       is : (asked : Asked) (s : Service) → IsAt asked x s → both_reports r q asked s ≡ one_report r asked s
       is asked s i =
-          let some = refusal_some _ refuses in
+          let some = some_unless _ refuses in
           let there = sym (same_refusal asked x s r i) ∙ some.1 in
           ap (at_first asked s (λ t. one_report q asked t)) there ∙ sym (ap (at_first asked s (λ t. t)) there)

@@ -1,5 +1,6 @@
 pub mod Standing
 pub mod Known
+pub mod Options
 pub mod Alike
 pub mod Twice
 pub mod WordTexts

@@ -1,6 +1,6 @@
 -- A promotion of the code is one of the definition's service.
 use Rattle.std.proofs.Common.{◌≡◌, ℕ, ◌+◌, Bool, List, [], ◌++◌, cond, true, false, not, ◌||◌, None, Some, Option, Result, Ok, Err, length, codes, refl, sym, subst, ap, ap₂, ◌∙◌}
-use Rattle.std.specs.Prelude.{is_some, IfErr, IsErrOf}
+use Rattle.std.specs.Prelude.{IfErr, IsErrOf}
 use Rattle.nn_listing.specs.Trail.{history_text}
 use Rattle.nn_types.specs.declared.fault.TheConstants.{NO_END, DISORDER, STOPPED}
 use Rattle.nn_model.specs.Stands.{StandbyState}
@@ -95,14 +95,6 @@ module _ (x : Seen) (txid : ℕ) (losing : Bool) where
           let none : flush_refusal s.phase ≡ None = sym (refusal_is asked s i) ∙ rw e refl in
           ap (λ o. promotes asked txid losing o s) none ∙ ap₂ (λ inside there. outcome asked s None inside there) b (sym (ends_is asked s i) ∙ ends)
           ∙ ap (λ c. cond c (tells NO_END (codes " segment ") (s.segments + 1) s) (becomes_active asked s)) (between losing)
-
-pub stop_there : (o : Option Stop) → true ≡ is_some o → (stop : Stop) × (o ≡ Some stop)
-stop_there None e = absurd (cc)
-stop_there (Some stop) e = (stop, refl)
-
-pub no_stop : (o : Option Stop) → false ≡ is_some o → o ≡ None
-no_stop None e = refl
-no_stop (Some stop) e = absurd (cc)
 
 -- who lacked memory has not come to the end of a count
 pub no_memory_there : (r : Result (Unit {0}) ServiceFault) → IfErr r (λ fault. fault ≡ service.OutOfMemory) → IsErrOf r service.Exhausted → ⊥

@@ -1,5 +1,5 @@
 -- A message that the code handed over, or was refused, is one that the definition's service took or told.
-use Rattle.std.proofs.Common.{◌≡◌, ℕ, Bool, ◌≤◌, arith, append_assoc, ◌+◌, ◌==◌, List, [], ◌∷◌, ◌++◌, cond, true, false, None, Some, Option, length, codes, refl, sym, subst, ap, ap₂, ◌∙◌, length-append}
+use Rattle.std.proofs.Common.{◌≡◌, ℕ, Bool, ◌≤◌, arith, append_assoc, ◌+◌, ◌==◌, List, [], ◌∷◌, ◌++◌, cond, true, false, None, Some, Option, length, codes, refl, sym, subst, ap, ap₂, ◌∙◌, length-append, append-nil}
 use Rattle.std.specs.Prelude.{is_none}
 use Rattle.std.proofs.lemmas.Bool.{eqb-true}
 use Rattle.nn_listing.specs.Trail.{history_text}
@@ -99,6 +99,22 @@ grows x z r is dn = subst (λ n. n ≤ number_in x.shadow.numbers dn + 1) (sym (
     at : (same : Bool) → (dn == r.dn) ≡ same → cond same (number_in x.shadow.numbers r.dn + 1) (number_in x.shadow.numbers dn) ≤ number_in x.shadow.numbers dn + 1
     at true e = subst (λ j. number_in x.shadow.numbers r.dn + 1 ≤ number_in x.shadow.numbers j + 1) (sym (eqb-true dn r.dn e)) (omega arith)
     at false e = omega arith
+
+-- what lacked memory shows the same standby in the same phase: it is the same service
+pub nothing_made : (x : Seen) (z : Contents) → standby_of z ≡ standby_of x.shadow → z.phase ≡ x.shadow.phase → Makes (λ _ s. s) x (record x { shadow = z }) []
+nothing_made x z same phase = record {
+  at = λ asked s i. record {
+    tells = i.tells;
+    standby = same ∙ i.standby;
+    phase = phase ∙ i.phase;
+    sent = λ dn. ap (λ (c : StandbyState). c.last_number dn) same ∙ i.sent dn;
+    known = i.known;
+    passed = i.passed;
+    segments = i.segments;
+    lines = i.lines;
+  };
+  written = λ asked s i. sym (append-nil s.written);
+}
 
 -- ---- A DataNode that is gone.
 

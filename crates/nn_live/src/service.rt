@@ -98,6 +98,7 @@ impl Service {
     pub fn next_line(&mut self) -> Result<(), ServiceFault>
         ensures ok { OnOk result (Makes (λ _ s. counts_line s) self.old self.new []) }
         ensures exhausted { IsErrOf result ServiceFault.Exhausted → 2 ^ 63 ≤ self.old.lines }
+        ensures left { IfErr result (λ _. self.new ≡ self.old) }
     {
         let Some(lines) = self.lines.checked_add(1) else {
             return Err(ServiceFault::Exhausted);
@@ -123,6 +124,7 @@ impl Service {
     ) -> Result<(), ServiceFault>
         ensures ok { IfOk result (λ _. Steps (λ asked s. hands asked (report ∷ []) s) self.old self.new (λ text. Puts text page.old writer.old page.new writer.new)) }
         ensures exhausted { IsErrOf result ServiceFault.Exhausted → 2 ^ 63 ≤ number_in self.old.shadow.numbers report.dn + 1 }
+        ensures left { IfErr result (λ _. Makes (λ _ s. s) self.old self.new []) }
     {
         self.hand(page, writer, report)?;
         Ok(())
@@ -270,6 +272,7 @@ impl Service {
         ensures taken { IfOk result (λ taken. taken ≡ is_none (hand_refusal 256 self.old.shadow.phase (standby_of self.old.shadow) (next_of self.old.shadow report))) }
         ensures numbers { IfOk result (λ taken. IsTrue taken → (dn : ℕ) → number_in self.new.shadow.numbers dn ≤ number_in self.old.shadow.numbers dn + 1) }
         ensures exhausted { IsErrOf result ServiceFault.Exhausted → 2 ^ 63 ≤ number_in self.old.shadow.numbers report.dn + 1 }
+        ensures left { IfErr result (λ _. Makes (λ _ s. s) self.old self.new []) }
     {
         let Some(message) = self.next_message(report) else {
             return Err(ServiceFault::Exhausted);

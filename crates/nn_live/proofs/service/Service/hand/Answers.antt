@@ -7,7 +7,7 @@ use Rattle.nn_shadow.specs.Refusals.{hand_refusal}
 use Rattle.nn_live.specs.contracts.service.Service.{the_view as seen_of}
 use Rattle.nn_live.specs.Live.{hands}
 use Rattle.nn_live.specs.Serving.{Seen, Makes, next_of, fault_text}
-use Rattle.nn_live.proofs.Handing.{told, taken, refused, grows}
+use Rattle.nn_live.proofs.Handing.{told, taken, refused, grows, nothing_made}
 use Rattle.nn_live.proofs.service.Service.hand.Goals as goal
 
 pub returns-in-Ok-clause-ok : goal.returns-in-Ok-clause-ok
@@ -46,6 +46,7 @@ returns-in_default-cause g c =
       taken = sym (ap (λ (v : Seen). is_none (hand_refusal 256 v.shadow.phase (standby_of v.shadow) (next_of v.shadow r))) (sym here) ∙ ap is_none is);
       numbers = λ never. absurd (cc);
       exhausted = λ never. absurd (cc);
+      left = tt;
     }
 
 pub returns-in-Ok-clause-numbers : goal.returns-in-Ok-clause-numbers
@@ -58,3 +59,10 @@ returns-in-Ok-clause-numbers g c =
     let is : standby_of z ≡ received (standby_of x.shadow) (next_of x.shadow r) = c.in-Ok.ensures.ok ∙ ap (received (standby_of x.shadow)) m in
     λ _ dn. subst (λ (v : Seen). number_in v.shadow.numbers dn ≤ number_in c.args.self.now.shadow.numbers dn + 1) (sym c.tell_events.ensures.left)
     (subst (λ (v : Seen). number_in z.numbers dn ≤ number_in v.shadow.numbers dn + 1) here (grows x z r is dn))
+
+pub returns-in-OutOfMemory-clause-left : goal.returns-in-OutOfMemory-clause-left
+returns-in-OutOfMemory-clause-left g c =
+    let x = seen_of c.self.inside in
+    let here : x ≡ c.args.self.now = c.self.view_is in
+    let z = c.hand.new.self in
+    subst (λ (v : Seen). Makes (λ _ s. s) v (record x { shadow = z }) []) here (nothing_made x z c.in-Err.ensures.left c.hand.ensures.phase)

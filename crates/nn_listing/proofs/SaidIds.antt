@@ -12,7 +12,7 @@ use Rattle.nn_model.specs.Replay.{reported}
 use Rattle.nn_replicas.proofs.Entries.{put_sorted}
 use Rattle.nn_replicas.proofs.Lookups.{find_put}
 use Rattle.nn_model.specs.Items.{with_once, each_once}
-use Rattle.nn_listing.specs.Tables.{datanodes, said_by, said_ids}
+use Rattle.nn_listing.specs.Tables.{datanodes, said_by, said_ids, is_said}
 
 -- the ids as keys
 abbrev pub marked : List ℕ → List (ℕ × ℕ)
@@ -64,11 +64,11 @@ unsaid k (m ∷ ms) h =
     let other : (m.block == k) ≡ false = ne_eqb m.block k (λ e. eqb-false k m.block parts.0 (sym e)) in
     ap (λ b. cond b (m ∷ filter (λ m. m.block == k) ms) (filter (λ m. m.block == k) ms)) other ∙ unsaid k ms parts.1
 
-has_nothing : (lanes : Lanes) (dn k : ℕ) → stands k (said_by lanes dn) ≡ false → has_now lanes dn k ≡ None
+pub has_nothing : (lanes : Lanes) (dn k : ℕ) → is_said lanes dn k ≡ false → has_now lanes dn k ≡ None
 has_nothing lanes dn k h = ap (λ ms. option_and_then reported (last_or None ms)) (unsaid k (lanes dn) h)
 
--- where no DataNode speaks of the block, a text of what they have is none
-pub silent : {A : Type 0} (lanes : Lanes) (k : ℕ) (text : ℕ → List A) → ((dn : ℕ) → has_now lanes dn k ≡ None → text dn ≡ [])
+-- where no DataNode speaks of the block, a text that is none for each of them is none
+pub silent : {A : Type 0} (lanes : Lanes) (k : ℕ) (text : ℕ → List A) → ((dn : ℕ) → is_said lanes dn k ≡ false → text dn ≡ [])
     → find nat_cmp k (marked (said_ids lanes)) ≡ None → flat_map text datanodes ≡ []
 silent lanes k text h none = all_silent datanodes (not_among k (flat_map (said_by lanes) datanodes) none)
   where
@@ -76,4 +76,4 @@ silent lanes k text h none = all_silent datanodes (not_among k (flat_map (said_b
     all_silent [] g = refl
     all_silent (dn ∷ dns) g =
         let parts = in_neither k (said_by lanes dn) (flat_map (said_by lanes) dns) g in
-        ap (λ r. r ++ flat_map text dns) (h dn (has_nothing lanes dn k parts.0)) ∙ all_silent dns parts.1
+        ap (λ r. r ++ flat_map text dns) (h dn parts.0) ∙ all_silent dns parts.1

@@ -1,5 +1,5 @@
--- What a table lists of a picture is the picture's text.
-use Rattle.std.proofs.Common.{◌≡◌, ℕ, ◌+◌, Bool, true, false, cond, List, [], ◌∷◌, ◌++◌, Option, Some, None, is_some, refl, sym, ap, ◌∙◌, arith}
+-- What a table lists is the text of what is looked up in it, and of a picture the picture's text.
+use Rattle.std.proofs.Common.{◌≡◌, ℕ, ◌+◌, Bool, true, false, cond, List, [], ◌∷◌, ◌++◌, Option, Some, None, is_some, refl, sym, ap, ap₂, ◌∙◌, arith}
 use Rattle.std.proofs.Common.{nat_cmp}
 use Rattle.std.specs.Prelude.{flat_map, unwrap_or, option_and_then}
 use Rattle.std.specs.List.{range_with_len}
@@ -20,10 +20,10 @@ use Rattle.nn_replicas.specs.Entry.{is_ordered, no_entry, row_in, replica_in, or
 use Rattle.nn_replicas.specs.Table.{Table}
 use Rattle.nn_model.proofs.Touches.{block_of_row}
 use Rattle.nn_replicas.proofs.Ties.{block_of}
-use Rattle.nn_listing.specs.Tables.{datanodes, said_by, said_ids, replica_line, replica_text, replica_lines, order_line, order_text, order_lines}
-use Rattle.nn_listing.specs.Tables.{blocks_line, lines_of_block, lines_of_replicas, lines_of_orders, IsPicture, tables_text}
+use Rattle.nn_listing.specs.Tables.{datanodes, said_by, said_ids, is_said, replica_line, replica_text, replica_lines, replica_lines_by, order_line, order_text, order_lines, order_lines_by}
+use Rattle.nn_listing.specs.Tables.{blocks_line, lines_of_block, lines_of_replicas, lines_of_orders, IsOfSaid, IsPicture, tables_text}
 use Rattle.nn_listing.proofs.KeyTexts.{given, texts_of_some, texts_of_lists, same_texts, no_texts, Within, bound, below_bound, gathered}
-use Rattle.nn_listing.proofs.SaidIds.{marked, ids_sorted, silent}
+use Rattle.nn_listing.proofs.SaidIds.{marked, ids_sorted, silent, has_nothing}
 
 -- ---- texts over ids
 
@@ -36,9 +36,9 @@ over_marked : {A : Type 0} (text : ℕ → List A) (ids : List ℕ) → flat_map
 over_marked text [] = refl
 over_marked text (id ∷ ids) = ap (λ r. text id ++ r) (over_marked text ids)
 
--- ---- a table that shows the picture
+-- ---- a table that has nothing of which no DataNode spoke
 
-module _ (permille min : ℕ) (n : Namespace) (lanes : Lanes) (t : Table) (mode : SafeMode) (h : IsPicture permille min n lanes t mode)
+module _ (n : Namespace) (lanes : Lanes) (t : Table) (h : IsOfSaid n lanes t)
     (count : ℕ) (count_is : 256 ≡ count) (all : datanodes ≡ range_with_len 1 count) where
   block_shown : (id : ℕ) → block_at n id ≡ option_map block_of (row_at t id)
   block_shown id =
@@ -65,7 +65,7 @@ module _ (permille min : ℕ) (n : Namespace) (lanes : Lanes) (t : Table) (mode 
   over_datanodes text id = flat_map (text id) datanodes
 
   -- the text of each block and each DataNode, over all ids
-  over_ids : (text : ℕ → ℕ → List ℕ) → ((id dn : ℕ) → has_now lanes dn id ≡ None → text id dn ≡ [])
+  over_ids : (text : ℕ → ℕ → List ℕ) → ((id dn : ℕ) → is_said lanes dn id ≡ false → text id dn ≡ [])
       → flat_map (λ id. flat_map (text id) datanodes) (said_ids lanes) ≡ flat_map (λ id. flat_map (text id) datanodes) (range_with_len 0 last)
   over_ids text none =
       sym (over_marked (over_datanodes text) (said_ids lanes))
@@ -103,26 +103,23 @@ module _ (permille min : ℕ) (n : Namespace) (lanes : Lanes) (t : Table) (mode 
   block_replicas id None e = sym (no_texts (λ dn. replica_text id None dn (replica_at t dn id)) datanodes (λ dn. refl))
   block_replicas id (Some row) e = replicas_of_block id row.block
 
-  no_replica : (id dn : ℕ) (o : Option Block) (named : Bool) (r : Option Replica) → r ≡ None → replica_text id o dn (cond named r None) ≡ []
-  no_replica id dn None named r e = refl
-  no_replica id dn (Some b) true r e = ap (replica_text id (Some b) dn) e
-  no_replica id dn (Some b) false r e = refl
+  no_replica : (id dn : ℕ) (o : Option Block) (r : Option Replica) → r ≡ None → replica_text id o dn r ≡ []
+  no_replica id dn None r e = refl
+  no_replica id dn (Some b) r e = ap (replica_text id (Some b) dn) e
 
-  replicas_are : lines_of_replicas t ≡ replica_lines n lanes
+  replicas_are : lines_of_replicas t ≡ replica_lines_by n lanes (replica_at t)
   replicas_are =
       texts_of_some row_text row_in t.entries
       ∙ gathered (λ id o. given row_text (option_map (λ row. (id, row)) (unwrap_or o no_entry).row)) (λ id. refl)
       last 0 t.entries h.shows.in_order.blocks ids_within
-      ∙ same_texts _ _ (range_with_len 0 last) (λ id. block_replicas id (row_at t id) refl ∙ pictured id)
-      ∙ sym (over_ids (λ id dn. replica_text id (block_at n id) dn (picture_replica n lanes dn id))
-      (λ id dn g. no_replica id dn (block_at n id) (is_named n id) (has_now lanes dn id) g))
+      ∙ same_texts _ _ (range_with_len 0 last) (λ id. block_replicas id (row_at t id) refl ∙ shown id)
+      ∙ sym (over_ids (λ id dn. replica_text id (block_at n id) dn (replica_at t dn id))
+      (λ id dn g. no_replica id dn (block_at n id) (replica_at t dn id) (h.replicas dn id g)))
     where
-      pictured : (id : ℕ)
+      shown : (id : ℕ)
           → flat_map (λ dn. replica_text id (option_map block_of (row_at t id)) dn (replica_at t dn id)) datanodes
-          ≡ flat_map (λ dn. replica_text id (block_at n id) dn (picture_replica n lanes dn id)) datanodes
-      pictured id =
-          ap (λ o. flat_map (λ dn. replica_text id o dn (replica_at t dn id)) datanodes) (sym (block_shown id))
-          ∙ same_texts _ _ datanodes (λ dn. ap (replica_text id (block_at n id) dn) (h.replicas dn id))
+          ≡ flat_map (λ dn. replica_text id (block_at n id) dn (replica_at t dn id)) datanodes
+      shown id = ap (λ o. flat_map (λ dn. replica_text id o dn (replica_at t dn id)) datanodes) (sym (block_shown id))
 
   -- ---- orders
 
@@ -142,31 +139,48 @@ module _ (permille min : ℕ) (n : Namespace) (lanes : Lanes) (t : Table) (mode 
       cases dn true = refl
       cases dn false = refl
 
-  no_order : (id dn : ℕ) (named : Bool) (r : Option Replica) → r ≡ None → order_text id dn (cond named false (is_some r)) ≡ []
-  no_order id dn true r e = refl
-  no_order id dn false r e = ap (λ o. order_text id dn (is_some o)) e
-
-  orders_are : lines_of_orders t ≡ order_lines n lanes
+  orders_are : lines_of_orders t ≡ order_lines_by lanes (has_order t)
   orders_are =
       texts_of_lists order_here (λ e. orders_in e.0 e.1.cells) t.entries
       ∙ gathered (λ id o. flat_map order_here (orders_in id (unwrap_or o no_entry).cells)) (λ id. refl)
       last 0 t.entries h.shows.in_order.blocks ids_within
-      ∙ same_texts _ _ (range_with_len 0 last) (λ id. orders_of_block id ∙ same_texts _ _ datanodes (λ dn. ap (order_text id dn) (h.orders dn id)))
-      ∙ sym (over_ids (λ id dn. order_text id dn (picture_order n lanes dn id)) (λ id dn g. no_order id dn (is_named n id) (has_now lanes dn id) g))
-
-  -- ---- all of it
-
-  tables_are : lines_of_replicas t ++ lines_of_orders t ++ blocks_line mode ≡ tables_text permille min n lanes
-  tables_are =
-      ap (λ r. r ++ lines_of_orders t ++ blocks_line mode) replicas_are
-      ∙ ap (λ r. replica_lines n lanes ++ r ++ blocks_line mode) orders_are
-      ∙ ap (λ m. replica_lines n lanes ++ order_lines n lanes ++ blocks_line m)
-      (h.counts ∙ ap (safe_mode_of permille min n) (λ i dn id. h.replicas dn id i))
+      ∙ same_texts _ _ (range_with_len 0 last) (λ id. orders_of_block id)
+      ∙ sym (over_ids (λ id dn. order_text id dn (has_order t dn id)) (λ id dn g. ap (order_text id dn) (h.orders dn id g)))
 
 all_datanodes : datanodes ≡ range_with_len 1 256
 unfolding datanodes
 all_datanodes = refl
 
-pub pictured : (permille min : ℕ) (n : Namespace) (lanes : Lanes) (t : Table) (mode : SafeMode) → IsPicture permille min n lanes t mode
-    → lines_of_replicas t ++ lines_of_orders t ++ blocks_line mode ≡ tables_text permille min n lanes
-pictured permille min n lanes t mode h = tables_are permille min n lanes t mode h 256 refl all_datanodes
+pub of_said : (n : Namespace) (lanes : Lanes) (t : Table) (rest : List ℕ) → IsOfSaid n lanes t
+    → lines_of_replicas t ++ lines_of_orders t ++ rest ≡ replica_lines_by n lanes (replica_at t) ++ order_lines_by lanes (has_order t) ++ rest
+of_said n lanes t rest h = ap₂ (λ a b. a ++ b ++ rest) (replicas_are n lanes t h 256 refl all_datanodes) (orders_are n lanes t h 256 refl all_datanodes)
+
+-- ---- a table that shows the picture
+
+module _ (permille min : ℕ) (n : Namespace) (lanes : Lanes) (t : Table) (mode : SafeMode) (h : IsPicture permille min n lanes t mode) where
+  no_replica_there : (named : Bool) (r : Option Replica) → r ≡ None → cond named r None ≡ None
+  no_replica_there true r e = e
+  no_replica_there false r e = refl
+
+  no_order_there : (named : Bool) (r : Option Replica) → r ≡ None → cond named false (is_some r) ≡ false
+  no_order_there true r e = refl
+  no_order_there false r e = ap is_some e
+
+  is_of_said : IsOfSaid n lanes t
+  is_of_said = record {
+    shows = h.shows;
+    replicas = λ dn id g. h.replicas dn id ∙ no_replica_there (is_named n id) (has_now lanes dn id) (has_nothing lanes dn id g);
+    orders = λ dn id g. h.orders dn id ∙ no_order_there (is_named n id) (has_now lanes dn id) (has_nothing lanes dn id g);
+  }
+
+  same_replicas : replica_at t ≡ picture_replica n lanes
+  same_replicas i dn id = h.replicas dn id i
+
+  same_orders : has_order t ≡ picture_order n lanes
+  same_orders i dn id = h.orders dn id i
+
+  pub pictured : lines_of_replicas t ++ lines_of_orders t ++ blocks_line mode ≡ tables_text permille min n lanes
+  pictured =
+      of_said n lanes t (blocks_line mode) is_of_said
+      ∙ ap₂ (λ f g. replica_lines_by n lanes f ++ order_lines_by lanes g ++ blocks_line mode) same_replicas same_orders
+      ∙ ap (λ m. replica_lines n lanes ++ order_lines n lanes ++ blocks_line m) (h.counts ∙ ap (safe_mode_of permille min n) same_replicas)

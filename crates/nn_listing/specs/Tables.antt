@@ -1,6 +1,6 @@
 -- What the program prints of replicas, orders and counts: told by the namespace, and by what each DataNode said last.
-use Rattle.std.specs.Prelude.{◌≡◌, ℕ, Bool, true, false, List, [], ◌∷◌, ◌++◌, map, flat_map, Option, Some, None, codes, decimal}
-use Rattle.std.specs.List.{range_with_len}
+use Rattle.std.specs.Prelude.{◌≡◌, ◌==◌, ℕ, Bool, true, false, List, [], ◌∷◌, ◌++◌, map, flat_map, Option, Some, None, codes, decimal}
+use Rattle.std.specs.List.{list_any, range_with_len}
 use Rattle.nn_types.specs.declared.block.Block.{Block}
 use Rattle.nn_types.specs.declared.replica.Replica.{Replica}
 use Rattle.nn_types.specs.Words.{kind_text, class_text}
@@ -25,6 +25,10 @@ datanodes = range_with_len 1 256
 abbrev pub said_by : Lanes → ℕ → List ℕ
 said_by lanes dn = map (λ m. m.block) (lanes dn)
 
+-- whether the DataNode speaks of the block
+abbrev pub is_said : Lanes → ℕ → ℕ → Bool
+is_said lanes dn id = list_any (λ k. id == k) (said_by lanes dn)
+
 -- the ids of all blocks that DataNodes speak of. Of another block there is no replica and no order
 abbrev pub said_ids : Lanes → List ℕ
 said_ids lanes = each_once (flat_map (said_by lanes) datanodes)
@@ -47,9 +51,13 @@ replica_text id None dn r = []
 replica_text id (Some b) dn None = []
 replica_text id (Some b) dn (Some r) = replica_line id b dn r
 
+-- the lines of all replicas that are looked up so, of a DataNode and a block
+abbrev pub replica_lines_by : Namespace → Lanes → (ℕ → ℕ → Option Replica) → List ℕ
+replica_lines_by n lanes replica = of_each lanes (λ id dn. replica_text id (block_at n id) dn (replica dn id))
+
 -- the lines of all replicas
 abbrev pub replica_lines : Namespace → Lanes → List ℕ
-replica_lines n lanes = of_each lanes (λ id dn. replica_text id (block_at n id) dn (picture_replica n lanes dn id))
+replica_lines n lanes = replica_lines_by n lanes (picture_replica n lanes)
 
 -- ---- Orders.
 
@@ -62,9 +70,13 @@ abbrev pub order_text : ℕ → ℕ → Bool → List ℕ
 order_text id dn true = order_line id dn
 order_text id dn false = []
 
+-- the lines of all orders that are looked up so
+abbrev pub order_lines_by : Lanes → (ℕ → ℕ → Bool) → List ℕ
+order_lines_by lanes has_order = of_each lanes (λ id dn. order_text id dn (has_order dn id))
+
 -- the lines of all orders
 abbrev pub order_lines : Namespace → Lanes → List ℕ
-order_lines n lanes = of_each lanes (λ id dn. order_text id dn (picture_order n lanes dn id))
+order_lines n lanes = order_lines_by lanes (picture_order n lanes)
 
 -- ---- Counts.
 
@@ -97,6 +109,12 @@ lines_of_replicas t = flat_map (λ row. lines_of_block row.0 row.1.block (replic
 -- the lines of all orders of a table
 abbrev pub lines_of_orders : Table → List ℕ
 lines_of_orders t = flat_map (λ order. order_line order.0 order.1) (orders_of t)
+
+-- the table shows the namespace, and has nothing of a DataNode about a block of which it did not speak
+pub record IsOfSaid (n : Namespace) (lanes : Lanes) (t : Table) : Type 0 where
+  pub shows : Shows n t
+  pub replicas : (dn id : ℕ) → is_said lanes dn id ≡ false → replica_at t dn id ≡ None
+  pub orders : (dn id : ℕ) → is_said lanes dn id ≡ false → has_order t dn id ≡ false
 
 -- the table shows the namespace, its replicas and orders are the picture's, and the mode is the one of its replicas
 pub record IsPicture (permille min : ℕ) (n : Namespace) (lanes : Lanes) (t : Table) (mode : SafeMode) : Type 0 where

@@ -11,5 +11,5 @@ mod paths;
 mod tables;
 
 pub use history::put_history;
-pub use paths::{ReadyListing, write_listing};
-pub use tables::ReadyTables;
+pub use paths::{ReadyListing, put_row, write_listing};
+pub use tables::{ReadyTables, put_block_replicas, put_counts, put_order};

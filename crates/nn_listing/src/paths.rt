@@ -112,12 +112,12 @@ fn put_rows<W: Write>(page: &mut Page, writer: &mut Writer<W>, mut rows: Rows<'_
         let Some(found) = next else {
             return;
         };
-        put_line(page, writer, rows.names(), found);
+        put_row(page, writer, rows.names(), found);
     }
 }
 
-// Puts the line of what is at the path with these names.
-fn put_line<W: Write>(page: &mut Page, writer: &mut Writer<W>, names: &[&str], found: Found<'_>)
+/// Puts the line of what is at the path with these names.
+pub fn put_row<W: Write>(page: &mut Page, writer: &mut Writer<W>, names: &[&str], found: Found<'_>)
     ensures { Puts (line_of (lent_names names.now) (form_of found.entry)) page.old writer.old page.new writer.new }
 {
     match found {

@@ -3,8 +3,9 @@ ghost use Rattle.std.specs.Prelude.{◌≡◌, ◌++◌, ℕ, IfOk, flat_map};
 ghost use Rattle.nn_device.specs.Page.{Puts};
 ghost use Rattle.nn_model.specs.Lanes.{Lanes};
 ghost use Rattle.nn_model.specs.Namespace.{Namespace};
+ghost use Rattle.nn_replicas.specs.Calls.{replica_at, has_order};
 ghost use Rattle.nn_replicas.specs.SafeMode.{counts_of};
-ghost use Rattle.nn_listing.specs.Tables.{mode_text, replica_line, order_line, blocks_line, lines_of_block, lines_of_replicas, lines_of_orders, IsPicture, tables_text};
+ghost use Rattle.nn_listing.specs.Tables.{mode_text, replica_line, order_line, blocks_line, lines_of_block, lines_of_replicas, lines_of_orders, replica_lines_by, order_lines_by, IsOfSaid, IsPicture, tables_text};
 
 use crate::fields::{put_field, put_word};
 use nn_device::{Page, Writer};
@@ -48,6 +49,8 @@ impl<'a> ReadyTables<'a> {
         mode: SafeMode,
     ) -> Result<ReadyTables<'a>, AllocError>
         ensures listed { IfOk result (λ tables. tables ≡ lines_of_replicas table.now ++ lines_of_orders table.now ++ blocks_line (counts_of mode)) }
+        ensures said { (n : Namespace) (lanes : Lanes) → IsOfSaid n lanes table.now
+            → IfOk result (λ tables. tables ≡ replica_lines_by n lanes (replica_at table.now) ++ order_lines_by lanes (has_order table.now) ++ blocks_line (counts_of mode)) }
         ensures pictured { (permille min : ℕ) (n : Namespace) (lanes : Lanes) → IsPicture permille min n lanes table.now (counts_of mode) → IfOk result (λ tables. tables ≡ tables_text permille min n lanes) }
     {
         ReadyTables::listed(alloc, table, mode)
@@ -86,7 +89,8 @@ fn put_replicas<W: Write>(page: &mut Page, writer: &mut Writer<W>, table: &Repli
     }
 }
 
-fn put_block_replicas<W: Write>(
+/// Puts the lines of the replicas of a block that a file holds, by DataNode.
+pub fn put_block_replicas<W: Write>(
     page: &mut Page,
     writer: &mut Writer<W>,
     id: BlockId,
@@ -128,7 +132,8 @@ fn put_orders<W: Write>(page: &mut Page, writer: &mut Writer<W>, orders: &[(Bloc
     }
 }
 
-fn put_order<W: Write>(page: &mut Page, writer: &mut Writer<W>, id: BlockId, dn: u16)
+/// Puts `order BLOCK DN`.
+pub fn put_order<W: Write>(page: &mut Page, writer: &mut Writer<W>, id: BlockId, dn: u16)
     ensures { Puts (order_line id dn) page.old writer.old page.new writer.new }
 {
     page.put(writer, b"order");
@@ -137,7 +142,8 @@ fn put_order<W: Write>(page: &mut Page, writer: &mut Writer<W>, id: BlockId, dn:
     page.put(writer, b"\n");
 }
 
-fn put_counts<W: Write>(page: &mut Page, writer: &mut Writer<W>, mode: SafeMode)
+/// Puts `blocks TOTAL safe S needed K mode on`, or `off`.
+pub fn put_counts<W: Write>(page: &mut Page, writer: &mut Writer<W>, mode: SafeMode)
     ensures { Puts (blocks_line (counts_of mode)) page.old writer.old page.new writer.new }
 {
     let SafeMode {

@@ -7,6 +7,7 @@ ghost use Rattle.nn_model.specs.Stands.{AreByBlock};
 ghost use Rattle.nn_postponed.specs.Queues.{queue, queued, all_queued, is_from, IsNext, HaveIds};
 ghost use Rattle.nn_postponed.specs.Release.{due_at, first_free, without_free, freed};
 
+use crate::held::Held;
 use crate::queue::Queue;
 use crate::waiting::Waiting;
 use nn_types::{BlockId, Message, Status, fault};
@@ -183,6 +184,13 @@ impl Postponed {
             return None;
         };
         Some(queue.messages())
+    }
+
+    /// All messages, lent one after another.
+    pub fn messages(&self) -> Held<'_>
+        ensures { result ≡ self.now }
+    {
+        Held::new(self.queues.iter())
     }
 
     /// How many calls of `release` would give a message, one after another.

@@ -84,6 +84,13 @@ impl SegmentCheck {
         self.lines == 0
     }
 
+    /// Whether the segment in hand has more bytes than one may have, whatever comes.
+    pub fn is_too_long(&self) -> bool
+        ensures { result ≡ (self.now.room == 0) }
+    {
+        self.room == 0
+    }
+
     /// The first segment that has a fault, where no line comes. What is left of the last one is a segment too.
     pub fn into_bad(self) -> Option<BadSegment>
         requires few { self.ended + self.lines < 2 ^ 62 }

@@ -10,11 +10,13 @@ use Rattle.nn_model.specs.Stands.{StandbyState}
 use Rattle.nn_scenario.specs.Steps.{message, next_message}
 use Rattle.nn_shadow.specs.declared.fault.HandCause.{HandCause}
 use Rattle.nn_shadow.specs.Calls.{received}
-use Rattle.nn_shadow.specs.Contents.{Contents, standby_of, number_in}
+use Rattle.nn_shadow.specs.Contents.{Contents, KeepsSettings, standby_of, number_in}
 use Rattle.nn_shadow.specs.Numbers.{number_of_hand}
 use Rattle.nn_shadow.specs.Refusals.{Phase, hand_refusal}
-use Rattle.nn_live.specs.Live.{Asked, Service, handed, hands}
+use Rattle.nn_live.specs.Live.{Asked, Service, handed, hands, says}
 use Rattle.nn_live.specs.Serving.{Seen, IsAt, Makes, forgetful, next_of, fault_text}
+use Rattle.nn_live.proofs.Places.{asks_still, only_tells}
+use Rattle.nn_live.proofs.Standing as standing
 use Rattle.nn_live.proofs.Options.{none_if, some_unless}
 
 abbrev one_report : Report → Asked → Service → Service
@@ -41,7 +43,7 @@ abbrev pub told : Bool → Contents → List ℕ
 told history z = cond history (history_text z.history) []
 
 module _ (x : Seen) (z : Contents) (r : Report)
-    (is : standby_of z ≡ received (standby_of x.shadow) (next_of x.shadow r)) (phase : z.phase ≡ x.shadow.phase)
+    (is : standby_of z ≡ received (standby_of x.shadow) (next_of x.shadow r)) (phase : z.phase ≡ x.shadow.phase) (settings : KeepsSettings x.shadow z)
     (fits : hand_refusal 256 x.shadow.phase (standby_of x.shadow) (next_of x.shadow r) ≡ None) where
   -- the definition took it, too
   takes : (asked : Asked) (s : Service) → IsAt asked x s → one_report r asked s ≡ handed asked (next_message s.sent r) None (λ t. t) s
@@ -59,38 +61,26 @@ module _ (x : Seen) (z : Contents) (r : Report)
   pub taken : Makes (one_report r) x (forgetful (record x { shadow = z })) (told x.history z)
   taken = record {
     at = λ asked s i. subst (IsAt asked (forgetful (record x { shadow = z }))) (sym (takes asked s i)) (record {
-      tells = i.tells;
+      asks = asks_still asked x z settings i.asks;
       standby = ap (λ (c : StandbyState). record c { history = [] }) (comes asked s i);
       phase = phase ∙ i.phase;
       sent = sent asked s i;
+      in_hand = i.in_hand;
       known = i.known;
       passed = i.passed;
       segments = i.segments;
       lines = i.lines;
+      log = (i.log.0, i.log.1, standing.one_report asked i.log.0 i.log.1 (next_message s.sent r) (λ t. t) (λ t j. j) s i.log.2 None (sym (same_refusal asked x s r i) ∙ fits));
     });
     written = λ asked s i. ap (λ (t : Service). t.written) (takes asked s i)
-        ∙ ap₂ (λ b h. s.written ++ cond b (history_text h) []) i.tells (sym (ap (λ (c : StandbyState). c.history) (comes asked s i)));
+        ∙ ap₂ (λ b h. s.written ++ cond b (history_text h) []) (ap (λ (a : Asked). a.history) i.asks) (sym (ap (λ (c : StandbyState). c.history) (comes asked s i)));
   }
 
 module _ (x : Seen) (r : Report) (cause : HandCause)
     (is : hand_refusal 256 x.shadow.phase (standby_of x.shadow) (next_of x.shadow r) ≡ Some cause) where
-  tells : (asked : Asked) (s : Service) → IsAt asked x s → one_report r asked s ≡ handed asked (next_message s.sent r) (Some cause) (λ t. t) s
-  tells asked s i = ap (λ o. handed asked (next_message s.sent r) o (λ t. t) s) (sym (same_refusal asked x s r i) ∙ is)
-
   pub refused : Makes (one_report r) x x (fault_text (number_of_hand cause) (codes " line ") x.lines)
-  refused = record {
-    at = λ asked s i. subst (IsAt asked x) (sym (tells asked s i)) (record {
-      tells = i.tells;
-      standby = i.standby;
-      phase = i.phase;
-      sent = i.sent;
-      known = i.known;
-      passed = i.passed;
-      segments = i.segments;
-      lines = i.lines;
-    });
-    written = λ asked s i. ap (λ (t : Service). t.written) (tells asked s i) ∙ ap (λ l. s.written ++ fault_text (number_of_hand cause) (codes " line ") l) (sym i.lines);
-  }
+  refused = only_tells (one_report r) x _ (λ asked s i.
+      (ap (λ o. handed asked (next_message s.sent r) o (λ t. t) s) (sym (same_refusal asked x s r i) ∙ is) ∙ ap (λ l. says (fault_text (number_of_hand cause) (codes " line ") l) s) (sym i.lines)))
 
 -- a message that was taken adds one to the messages of its DataNode
 pub grows : (x : Seen) (z : Contents) (r : Report) → standby_of z ≡ received (standby_of x.shadow) (next_of x.shadow r) → (dn : ℕ) → number_in z.numbers dn ≤ number_in x.shadow.numbers dn + 1
@@ -101,17 +91,19 @@ grows x z r is dn = subst (λ n. n ≤ number_in x.shadow.numbers dn + 1) (sym (
     at false e = omega arith
 
 -- what lacked memory shows the same standby in the same phase: it is the same service
-pub nothing_made : (x : Seen) (z : Contents) → standby_of z ≡ standby_of x.shadow → z.phase ≡ x.shadow.phase → Makes (λ _ s. s) x (record x { shadow = z }) []
-nothing_made x z same phase = record {
+pub nothing_made : (x : Seen) (z : Contents) → standby_of z ≡ standby_of x.shadow → z.phase ≡ x.shadow.phase → KeepsSettings x.shadow z → Makes (λ _ s. s) x (record x { shadow = z }) []
+nothing_made x z same phase keeps = record {
   at = λ asked s i. record {
-    tells = i.tells;
+    asks = asks_still asked x z keeps i.asks;
     standby = same ∙ i.standby;
     phase = phase ∙ i.phase;
     sent = λ dn. ap (λ (c : StandbyState). c.last_number dn) same ∙ i.sent dn;
+    in_hand = i.in_hand;
     known = i.known;
     passed = i.passed;
     segments = i.segments;
     lines = i.lines;
+    log = i.log;
   };
   written = λ asked s i. sym (append-nil s.written);
 }

@@ -4,8 +4,14 @@ pub mod Options
 pub mod Alike
 pub mod Twice
 pub mod WordTexts
+pub mod Places
+pub mod Pieces
+pub mod InHand
 pub mod Handing
 pub mod Applying
 pub mod Following
 pub mod Segments
+pub mod Editing
+pub mod Reading
 pub mod Promoting
+pub mod Answering

@@ -1,102 +1,101 @@
 -- A promotion of the code is one of the definition's service.
-use Rattle.std.proofs.Common.{◌≡◌, ℕ, ◌+◌, Bool, List, [], ◌++◌, cond, true, false, not, ◌||◌, None, Some, Option, Result, Ok, Err, length, codes, refl, sym, subst, ap, ap₂, ◌∙◌}
-use Rattle.std.specs.Prelude.{IfErr, IsErrOf}
+use Rattle.std.proofs.Common.{◌≡◌, ℕ, ◌+◌, Bool, List, [], ◌++◌, cond, true, false, not, ◌||◌, None, Some, Option, codes, sym, subst, ap, ap₂, ◌∙◌, refl}
+use Rattle.std.specs.Prelude.{◌==◌}
 use Rattle.nn_listing.specs.Trail.{history_text}
 use Rattle.nn_types.specs.declared.fault.TheConstants.{NO_END, DISORDER, STOPPED}
 use Rattle.nn_model.specs.Stands.{StandbyState}
+use Rattle.nn_scenario.specs.Cut.{no_lines}
 use Rattle.nn_shadow.specs.declared.fault.Stop.{Stop}
 use Rattle.nn_shadow.specs.declared.fault.FlushFault.{FlushFault}
 use Rattle.nn_shadow.specs.declared.fault.FlushFault.TheVariants as flush
 use Rattle.nn_shadow.specs.Calls.{flushed}
-use Rattle.nn_shadow.specs.Contents.{Contents, standby_of, number_in}
+use Rattle.nn_shadow.specs.Contents.{Contents, KeepsSettings, standby_of, number_in}
 use Rattle.nn_shadow.specs.Refusals.{Phase, flush_refusal}
-use Rattle.nn_live.specs.declared.service.ServiceFault.{ServiceFault}
-use Rattle.nn_live.specs.declared.service.ServiceFault.TheVariants as service
-use Rattle.nn_live.specs.Live.{Asked, Service, tells, is_between, ends_at, becomes_active, promotes}
-use Rattle.nn_live.specs.Serving.{Seen, IsAt, MakesBetween, forgetful, fault_text, log_ends, takes_promotion}
+use Rattle.nn_live.specs.Live.{Asked, Service, says, tells, ends_at, becomes_active, promotes}
+use Rattle.nn_live.specs.Serving.{Seen, Kept, Keeps, IsAt, Makes, forgetful, fault_text, log_ends, takes_promotion}
 use Rattle.nn_live.proofs.Handing.{told}
+use Rattle.nn_live.proofs.Places.{asks_still, only_tells}
+use Rattle.nn_live.proofs.Standing.{promotion}
 
 module _ (x : Seen) (txid : ℕ) (losing : Bool) where
+  abbrev step : Asked → Service → Service
+  step = takes_promotion txid losing
+
   -- what a promotion comes to
   abbrev outcome : Asked → Service → Option FlushFault → Bool → Bool → Service
-  outcome asked s (Some fault) inside ends = promotes asked txid losing (Some fault) s
-  outcome asked s None inside ends =
-      cond (not (losing || inside)) (tells NO_END (codes " segment ") (s.segments + 1) s) (cond ends (becomes_active asked s) (tells DISORDER (codes " txid ") (s.standby.last + 1) s))
+  outcome asked s (Some fault) between ends = promotes asked txid losing (Some fault) s
+  outcome asked s None between ends =
+      cond (not (losing || between)) (tells NO_END (codes " segment ") (s.segments + 1) s) (cond ends (becomes_active asked s) (tells DISORDER (codes " txid ") (s.standby.last + 1) s))
 
-  between : (losing : Bool) → not (losing || true) ≡ false
-  between true = refl
-  between false = refl
-
-  refusal_is : (asked : Asked) (s : Service) → IsAt asked x s → flush_refusal x.shadow.phase ≡ flush_refusal s.phase
-  refusal_is asked s i = ap flush_refusal i.phase
-
-  ends_is : (asked : Asked) (s : Service) → IsAt asked x s → log_ends x.shadow.last x.known txid losing ≡ ends_at txid losing s
-  ends_is asked s i = ap₂ (λ (y : StandbyState) k. log_ends y.last k txid losing) i.standby i.known
-
-  same_place : (asked : Asked) (s t : Service) → IsAt asked x s → t.standby ≡ s.standby → t.phase ≡ s.phase → t.sent ≡ s.sent → t.known ≡ s.known → t.passed ≡ s.passed → t.segments ≡ s.segments → t.lines ≡ s.lines → IsAt asked x t
-  same_place asked s t i a b c d e f g = record {
-    tells = i.tells;
-    standby = i.standby ∙ sym a;
-    phase = i.phase ∙ sym b;
-    sent = λ dn. i.sent dn ∙ ap (λ v. length (v dn)) (sym c);
-    known = i.known ∙ sym d;
-    passed = i.passed ∙ sym e;
-    segments = i.segments ∙ sym f;
-    lines = i.lines ∙ sym g;
-  }
-
-  pub stopped : (stop : Stop) → x.shadow.phase.stopped ≡ Some stop → MakesBetween (takes_promotion txid losing) x x (fault_text STOPPED (codes " line ") x.lines)
-  stopped stop e = record {
-    at = λ asked s i b. subst (IsAt asked x) (sym (is asked s i)) (same_place asked s _ i refl refl refl refl refl refl refl);
-    written = λ asked s i b. ap (λ (t : Service). t.written) (is asked s i) ∙ ap (λ l. s.written ++ fault_text STOPPED (codes " line ") l) (sym i.lines);
-  }
+  -- as the code sees it
+  seen : (asked : Asked) (s : Service) → IsAt asked x s
+      → step asked s ≡ outcome asked s (flush_refusal x.shadow.phase) (x.in_hand.edits == 0) (log_ends x.shadow.last x.known txid losing)
+  seen asked s i =
+      ap (λ (p : Phase). promotes asked txid losing (flush_refusal p) s) (sym i.phase)
+      ∙ cases (flush_refusal x.shadow.phase)
     where
-      is : (asked : Asked) (s : Service) → IsAt asked x s → takes_promotion txid losing asked s ≡ tells STOPPED (codes " line ") s.lines s
-      is asked s i =
-          let refused : flush_refusal s.phase ≡ Some (flush.Stopped stop) = sym (refusal_is asked s i) ∙ rw e refl in
-          ap (λ o. promotes asked txid losing o s) refused
+      cases : (o : Option FlushFault) → promotes asked txid losing o s ≡ outcome asked s o (x.in_hand.edits == 0) (log_ends x.shadow.last x.known txid losing)
+      cases (Some fault) = refl
+      cases None =
+          ap (λ k. outcome asked s None (k == 0) (ends_at txid losing s)) (sym i.in_hand.edits)
+          ∙ ap₂ (λ (y : StandbyState) k. outcome asked s None (x.in_hand.edits == 0) (log_ends y.last k txid losing)) (sym i.standby) (sym i.known)
 
-  pub not_there : x.shadow.phase.stopped ≡ None → log_ends x.shadow.last x.known txid losing ≡ false
-      → MakesBetween (takes_promotion txid losing) x x (fault_text DISORDER (codes " txid ") (x.shadow.last + 1))
-  not_there e isnt = record {
-    at = λ asked s i b. subst (IsAt asked x) (sym (is asked s i b)) (same_place asked s _ i refl refl refl refl refl refl refl);
-    written = λ asked s i b. ap (λ (t : Service). t.written) (is asked s i b) ∙ ap (λ (y : StandbyState). s.written ++ fault_text DISORDER (codes " txid ") (y.last + 1)) (sym i.standby);
-  }
-    where
-      is : (asked : Asked) (s : Service) → IsAt asked x s → is_between s ≡ true → takes_promotion txid losing asked s ≡ tells DISORDER (codes " txid ") (s.standby.last + 1) s
-      is asked s i b =
-          let none : flush_refusal s.phase ≡ None = sym (refusal_is asked s i) ∙ rw e refl in
-          ap (λ o. promotes asked txid losing o s) none ∙ ap₂ (λ inside there. outcome asked s None inside there) b (sym (ends_is asked s i) ∙ isnt)
-          ∙ ap (λ c. cond c (tells NO_END (codes " segment ") (s.segments + 1) s) (tells DISORDER (codes " txid ") (s.standby.last + 1) s)) (between losing)
+  pub stopped : (stop : Stop) → x.shadow.phase.stopped ≡ Some stop → Makes step x x (fault_text STOPPED (codes " line ") x.lines)
+  stopped stop e = only_tells step x _ (λ asked s i.
+      (let refused : flush_refusal x.shadow.phase ≡ Some (flush.Stopped stop) = rw e refl in
+      seen asked s i ∙ ap (λ o. outcome asked s o (x.in_hand.edits == 0) (log_ends x.shadow.last x.known txid losing)) refused
+      ∙ ap (λ l. says (fault_text STOPPED (codes " line ") l) s) (sym i.lines)))
 
-  pub promoted : (z : Contents) → x.shadow.phase.stopped ≡ None → log_ends x.shadow.last x.known txid losing ≡ true
-      → standby_of z ≡ flushed (standby_of x.shadow) → z.phase ≡ record x.shadow.phase { active = true } → z.numbers ≡ x.shadow.numbers
-      → MakesBetween (takes_promotion txid losing) x (forgetful (record x { shadow = z })) (told x.history z)
-  promoted z e ends done phase numbers = record {
-    at = λ asked s i b. subst (IsAt asked (forgetful (record x { shadow = z }))) (sym (is asked s i b)) (record {
-      tells = i.tells;
-      standby = ap (λ (c : StandbyState). record c { history = [] }) (comes asked s i);
-      phase = phase ∙ ap (λ (p : Phase). record p { active = true }) i.phase;
-      sent = λ dn. ap (λ (ns : List ℕ). number_in ns dn) numbers ∙ i.sent dn;
-      known = i.known;
-      passed = i.passed;
-      segments = i.segments;
-      lines = i.lines;
-    });
-    written = λ asked s i b. ap (λ (t : Service). t.written) (is asked s i b)
-        ∙ ap₂ (λ c h. s.written ++ cond c (history_text h) []) i.tells (sym (ap (λ (c : StandbyState). c.history) (comes asked s i)));
-  }
-    where
-      comes : (asked : Asked) (s : Service) → IsAt asked x s → standby_of z ≡ flushed s.standby
-      comes asked s i = done ∙ ap flushed i.standby
+  module _ (e : x.shadow.phase.stopped ≡ None) where
+    not_stopped : (asked : Asked) (s : Service) → IsAt asked x s → step asked s ≡ outcome asked s None (x.in_hand.edits == 0) (log_ends x.shadow.last x.known txid losing)
+    not_stopped asked s i =
+        let none : flush_refusal x.shadow.phase ≡ None = rw e refl in
+        seen asked s i ∙ ap (λ o. outcome asked s o (x.in_hand.edits == 0) (log_ends x.shadow.last x.known txid losing)) none
 
-      is : (asked : Asked) (s : Service) → IsAt asked x s → is_between s ≡ true → takes_promotion txid losing asked s ≡ becomes_active asked s
-      is asked s i b =
-          let none : flush_refusal s.phase ≡ None = sym (refusal_is asked s i) ∙ rw e refl in
-          ap (λ o. promotes asked txid losing o s) none ∙ ap₂ (λ inside there. outcome asked s None inside there) b (sym (ends_is asked s i) ∙ ends)
-          ∙ ap (λ c. cond c (tells NO_END (codes " segment ") (s.segments + 1) s) (becomes_active asked s)) (between losing)
+    pub inside : (losing || (x.in_hand.edits == 0)) ≡ false → Makes step x x (fault_text NO_END (codes " segment ") (x.segments + 1))
+    inside is = only_tells step x _ (λ asked s i.
+        (not_stopped asked s i
+        ∙ ap (λ b. cond (not b) (tells NO_END (codes " segment ") (s.segments + 1) s) (cond (log_ends x.shadow.last x.known txid losing) (becomes_active asked s) (tells DISORDER (codes " txid ") (s.standby.last + 1) s))) is
+        ∙ ap (λ k. says (fault_text NO_END (codes " segment ") (k + 1)) s) (sym i.segments)))
 
--- who lacked memory has not come to the end of a count
-pub no_memory_there : (r : Result (Unit {0}) ServiceFault) → IfErr r (λ fault. fault ≡ service.OutOfMemory) → IsErrOf r service.Exhausted → ⊥
-no_memory_there (Ok x) memory e = absurd (cc)
-no_memory_there (Err fault) memory e = absurd (cc)
+    module _ (is : (losing || (x.in_hand.edits == 0)) ≡ true) where
+      between : (asked : Asked) (s : Service) → IsAt asked x s
+          → step asked s ≡ cond (log_ends x.shadow.last x.known txid losing) (becomes_active asked s) (tells DISORDER (codes " txid ") (s.standby.last + 1) s)
+      between asked s i = not_stopped asked s i
+          ∙ ap (λ b. cond (not b) (tells NO_END (codes " segment ") (s.segments + 1) s) (cond (log_ends x.shadow.last x.known txid losing) (becomes_active asked s) (tells DISORDER (codes " txid ") (s.standby.last + 1) s))) is
+
+      pub not_there : log_ends x.shadow.last x.known txid losing ≡ false → Makes step x x (fault_text DISORDER (codes " txid ") (x.shadow.last + 1))
+      not_there isnt = only_tells step x _ (λ asked s i.
+          (between asked s i ∙ ap (λ b. cond b (becomes_active asked s) (tells DISORDER (codes " txid ") (s.standby.last + 1) s)) isnt
+          ∙ ap (λ (y : StandbyState). says (fault_text DISORDER (codes " txid ") (y.last + 1)) s) (sym i.standby)))
+
+      pub promoted : (z : Contents) (h : Kept) → log_ends x.shadow.last x.known txid losing ≡ true
+          → standby_of z ≡ flushed (standby_of x.shadow) → z.phase ≡ record x.shadow.phase { active = true } → z.numbers ≡ x.shadow.numbers → KeepsSettings x.shadow z → Keeps no_lines h
+          → Makes step x (forgetful (record x { shadow = z; in_hand = h })) (told x.history z)
+      promoted z h ends done phase numbers settings none = record {
+        at = λ asked s i. subst (IsAt asked (forgetful (record x { shadow = z; in_hand = h }))) (sym (becomes asked s i)) (record {
+          asks = asks_still asked x z settings i.asks;
+          standby = ap (λ (c : StandbyState). record c { history = [] }) (comes asked s i);
+          phase = phase ∙ ap (λ (p : Phase). record p { active = true }) i.phase;
+          sent = λ dn. ap (λ (ns : List ℕ). number_in ns dn) numbers ∙ i.sent dn;
+          in_hand = none;
+          known = i.known;
+          passed = i.passed;
+          segments = i.segments;
+          lines = i.lines;
+          log = (i.log.0, i.log.1, promotion i.log.0 i.log.1 s.log s.standby s.phase.active s.sent i.log.2);
+        });
+        written = λ asked s i. ap (λ (t : Service). t.written) (becomes asked s i)
+            ∙ ap₂ (λ c h. s.written ++ cond c (history_text h) []) (ap (λ (a : Asked). a.history) i.asks) (sym (ap (λ (c : StandbyState). c.history) (comes asked s i)));
+      }
+        where
+          comes : (asked : Asked) (s : Service) → IsAt asked x s → standby_of z ≡ flushed s.standby
+          comes asked s i = done ∙ ap flushed i.standby
+
+          becomes : (asked : Asked) (s : Service) → IsAt asked x s → step asked s ≡ becomes_active asked s
+          becomes asked s i = between asked s i ∙ ap (λ b. cond b (becomes_active asked s) (tells DISORDER (codes " txid ") (s.standby.last + 1) s)) ends
+
+-- what is not false is true
+pub isnt_false : (b : Bool) → false ≡ not b → b ≡ true
+isnt_false true e = refl
+isnt_false false e = absurd (cc)

@@ -1,5 +1,5 @@
 -- Whatever lines came, a service stands at a log and at the messages that it took; and once it is active it shows their picture.
-use Rattle.std.proofs.Common.{◌≡◌, ℕ, Bool, ◌+◌, List, [], ◌∷◌, ◌++◌, cond, true, false, None, Some, Option, Result, Ok, Err, length, refl, sym, subst, ap}
+use Rattle.std.proofs.Common.{◌≡◌, ℕ, Bool, List, [], ◌∷◌, ◌++◌, cond, true, false, None, Some, Option, Result, Ok, Err, refl, sym, subst, ap}
 use Rattle.nn_types.specs.declared.event.Cause.TheVariants.{Flush}
 use Rattle.nn_types.specs.declared.report.Message.{Message}
 use Rattle.nn_types.specs.declared.report.Report.{Report}
@@ -13,7 +13,7 @@ use Rattle.nn_model.specs.Counts.{safe_mode_of}
 use Rattle.nn_model.specs.History.{History}
 use Rattle.nn_model.specs.Items.{items}
 use Rattle.nn_model.specs.Lanes.{Lanes, no_messages, followed_by}
-use Rattle.nn_model.specs.Log.{counted, IsLog, namespace_after}
+use Rattle.nn_model.specs.Log.{counted}
 use Rattle.nn_model.specs.Namespace.{Namespace}
 use Rattle.nn_model.specs.Picture.{ShowsPicture}
 use Rattle.nn_model.specs.Stands.{StandbyState, fresh, tables_of}
@@ -37,21 +37,11 @@ use Rattle.nn_shadow.proofs.Refusing.{no_refusal_applies, no_refusal_hands}
 use Rattle.nn_shadow.proofs.Standings.{begins_standing, applies as applies_standing, receives, flush_shows_picture}
 use Rattle.nn_shadow.proofs.Taken.{applies_after, receives_after, takes_after}
 use Rattle.nn_live.specs.Answers.{tables_now}
-use Rattle.nn_live.specs.Laws.{StandsAtItsLog, AnswersThePicture, served}
+use Rattle.nn_live.specs.Laws.{StandsAt, HasLog, StandsAtItsLog, AnswersThePicture, served}
 use Rattle.nn_live.specs.Live.{Asked, Service, begun, handed, hands, applies, follows, follows_segment, ends_segment, before_edit, with_edit, takes_edit, ends_at, promotes, empty_report, does, takes_read, takes_word, takes, takes_all}
 use Rattle.nn_live.specs.Words.{word_in}
 use Rattle.nn_live.specs.declared.word.Word.{Word}
 use Rattle.nn_live.specs.declared.word.Word.TheVariants as kind
-
--- what holds between two lines
-record Holds (n : Namespace) (base : ℕ) (txs : List Tx) (x : StandbyState) (active : Bool) (sent : Lanes) : Type 0 where
-  log : IsLog n base txs
-  last : x.last ≡ base + length txs
-  namespace : x.namespace ≡ namespace_after n txs
-  told : History
-  stands : active ≡ false → StandsBy n base txs sent (after told x)
-  shows : active ≡ true → ShowsPicture x.namespace (items sent) (tables_of x)
-  flushed : active ≡ true → x.held ≡ []
 
 active_stays : (phase : Phase) (tx : Tx) (fault : ApplyFault) → (phase_after_apply phase tx fault).active ≡ phase.active
 active_stays phase tx (Refused fault) = refl
@@ -67,7 +57,7 @@ shows_again x sent [] e p = p
 shows_again x sent (m ∷ l) e p = absurd (cc)
 
 module _ (n : Namespace) (base : ℕ) where
-  begins : HasWellFormedBlocks n → Holds n base [] (fresh n base) false no_messages
+  begins : HasWellFormedBlocks n → StandsAt n base [] (fresh n base) false no_messages
   begins w =
       let first = begins_standing n base w in
       record {
@@ -82,7 +72,7 @@ module _ (n : Namespace) (base : ℕ) where
 
   -- a standby that stands, and was not promoted, once its history was taken
   now_at : (txs : List Tx) (sent : Lanes) (told : History) (x : StandbyState) (active : Bool) → active ≡ false → StandsBy n base txs sent (after told x)
-      → Holds n base txs (without_history x) active sent
+      → StandsAt n base txs (without_history x) active sent
   now_at txs sent told x active not_active by = record {
     log = by.stands.log;
     last = by.stands.last;
@@ -93,23 +83,23 @@ module _ (n : Namespace) (base : ℕ) where
     flushed = λ a. absurd (cc);
   }
 
-  message : (txs : List Tx) (x : StandbyState) (phase : Phase) (sent : Lanes) (m : Message) → Holds n base txs x phase.active sent → hand_refusal 256 phase x m ≡ None
-      → Holds n base txs (without_history (received x m)) phase.active (followed_by sent m)
+  message : (txs : List Tx) (x : StandbyState) (phase : Phase) (sent : Lanes) (m : Message) → StandsAt n base txs x phase.active sent → hand_refusal 256 phase x m ≡ None
+      → StandsAt n base txs (without_history (received x m)) phase.active (followed_by sent m)
   message txs x phase sent m i e =
       let r = no_refusal_hands 256 phase x m e in
       let a : phase.active ≡ false = r.2.not_active in
       let by = receives n base txs sent (after i.told x) m (i.stands a) r.1 in
       now_at txs (followed_by sent m) i.told (received x m) phase.active a (subst (StandsBy n base txs (followed_by sent m)) (receives_after i.told x m) by)
 
-  transaction : (txs : List Tx) (x : StandbyState) (phase : Phase) (sent : Lanes) (tx : Tx) → Holds n base txs x phase.active sent → apply_refusal phase x tx ≡ None
-      → Holds n base (txs ++ tx ∷ []) (without_history (applied_to x tx)) phase.active sent
+  transaction : (txs : List Tx) (x : StandbyState) (phase : Phase) (sent : Lanes) (tx : Tx) → StandsAt n base txs x phase.active sent → apply_refusal phase x tx ≡ None
+      → StandsAt n base (txs ++ tx ∷ []) (without_history (applied_to x tx)) phase.active sent
   transaction txs x phase sent tx i e =
       let r = no_refusal_applies phase x tx e in
       let a : phase.active ≡ false = r.2.not_active in
       let by = applies_standing n base txs sent (after i.told x) tx (i.stands a) r.0 r.1 in
       now_at (txs ++ tx ∷ []) sent i.told (applied_to x tx) phase.active a (subst (StandsBy n base (txs ++ tx ∷ []) sent) (applies_after i.told x tx) by)
 
-  promotion : (txs : List Tx) (x : StandbyState) (active : Bool) (sent : Lanes) → Holds n base txs x active sent → Holds n base txs (without_history (flushed x)) true sent
+  pub promotion : (txs : List Tx) (x : StandbyState) (active : Bool) (sent : Lanes) → StandsAt n base txs x active sent → StandsAt n base txs (without_history (flushed x)) true sent
   promotion txs x active sent i = record {
     log = i.log;
     last = i.last;
@@ -126,31 +116,31 @@ module _ (n : Namespace) (base : ℕ) where
 
 module _ (asked : Asked) (n : Namespace) (base : ℕ) where
   abbrev Is : Service → Type 0
-  Is s = Holds n base s.log s.standby s.phase.active s.sent
+  Is s = HasLog n base s
 
   either_way : (b : Bool) (s t : Service) → Is s → Is t → Is (cond b s t)
   either_way true s t i j = i
   either_way false s t i j = j
 
-  one_report : (m : Message) (rest : Service → Service) → ((t : Service) → Is t → Is (rest t)) → (s : Service) → Is s
+  pub one_report : (m : Message) (rest : Service → Service) → ((t : Service) → Is t → Is (rest t)) → (s : Service) → Is s
       → (r : Option HandCause) → hand_refusal 256 s.phase s.standby m ≡ r → Is (handed asked m r rest s)
   one_report m rest later s i None e = later _ (message n base s.log s.standby s.phase s.sent m i e)
   one_report m rest later s i (Some cause) e = i
 
-  all_reports : (reports : List Report) (s : Service) → Is s → Is (hands asked reports s)
+  pub all_reports : (reports : List Report) (s : Service) → Is s → Is (hands asked reports s)
   all_reports [] s i = i
   all_reports (r ∷ reports) s i = one_report (next_message s.sent r) (λ t. hands asked reports t) (all_reports reports) s i (hand_refusal 256 s.phase s.standby (next_message s.sent r)) refl
 
-  one_tx : (tx : Tx) (rest : Service → Service) → ((t : Service) → Is t → Is (rest t)) → (s : Service) → Is s
+  pub one_tx : (tx : Tx) (rest : Service → Service) → ((t : Service) → Is t → Is (rest t)) → (s : Service) → Is s
       → (r : Option ApplyFault) → apply_refusal s.phase s.standby tx ≡ r → Is (applies asked tx r rest s)
   one_tx tx rest later s i None e = later _ (transaction n base s.log s.standby s.phase s.sent tx i e)
-  one_tx tx rest later s i (Some fault) e = subst (λ a. Holds n base s.log s.standby a s.sent) (sym (active_stays s.phase tx fault)) i
+  one_tx tx rest later s i (Some fault) e = subst (λ a. StandsAt n base s.log s.standby a s.sent) (sym (active_stays s.phase tx fault)) i
 
   all_txs : (txs : List Tx) (s : Service) → Is s → Is (follows asked txs s)
   all_txs [] s i = i
   all_txs (tx ∷ txs) s i = one_tx tx (λ t. follows asked txs t) (all_txs txs) s i (apply_refusal s.phase s.standby tx) refl
 
-  segment : (r : Result Segment SegmentFault) (s : Service) → Is s → Is (follows_segment asked r s)
+  pub segment : (r : Result Segment SegmentFault) (s : Service) → Is s → Is (follows_segment asked r s)
   segment (Err fault) s i = i
   segment (Ok g) s i = either_way _ _ _ i (all_txs (counted s.standby.last g.txs) _ i)
 
@@ -163,7 +153,7 @@ module _ (asked : Asked) (n : Namespace) (base : ℕ) where
       let j : Is t = either_way _ _ _ (ends s i) i in
       either_way (is_end line.tx.edit) _ _ (ends t j) j
 
-  promoted : (txid : ℕ) (lost : Bool) (r : Option FlushFault) (s : Service) → Is s → Is (promotes asked txid lost r s)
+  pub promoted : (txid : ℕ) (lost : Bool) (r : Option FlushFault) (s : Service) → Is s → Is (promotes asked txid lost r s)
   promoted txid lost (Some fault) s i = i
   promoted txid lost None s i = either_way _ _ _ i (either_way (ends_at txid lost s) _ _ (promotion n base s.log s.standby s.phase.active s.sent i) i)
 
@@ -202,9 +192,7 @@ module _ (asked : Asked) (n : Namespace) (base : ℕ) where
   from_first w texts = all_lines texts (begun n base) (begins n base w)
 
 pub stands_at_its_log : StandsAtItsLog
-stands_at_its_log asked n base texts w =
-    let i = from_first asked n base w texts in
-    record { log = i.log; last = i.last; namespace = i.namespace; told = i.told; stands = i.stands; shows = i.shows }
+stands_at_its_log asked n base texts w = from_first asked n base w texts
 
 -- ---- The tables of a service that was promoted.
 

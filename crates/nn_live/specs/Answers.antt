@@ -4,15 +4,13 @@ use Rattle.nn_types.specs.declared.block.Block.{Block}
 use Rattle.nn_types.specs.declared.report.Message.{Message}
 use Rattle.nn_types.specs.Words.{kind_text}
 use Rattle.nn_model.specs.declared.form.Form.{Form}
-use Rattle.nn_model.specs.Counts.{closed_blocks_of, live_count, safe_mode_of}
+use Rattle.nn_model.specs.Counts.{SafeMode, closed_blocks_of, live_count, safe_mode_of}
 use Rattle.nn_model.specs.Lanes.{Lanes}
 use Rattle.nn_model.specs.Namespace.{Path, Namespace, blocks_of}
 use Rattle.nn_model.specs.Stands.{StandbyState}
 use Rattle.nn_model.specs.Status.{block_at}
 use Rattle.nn_listing.specs.Listing.{newline, path_json, line_of}
 use Rattle.nn_listing.specs.Tables.{datanodes, of_each, replica_text, order_text, blocks_line}
-use Rattle.nn_segment.specs.Segment.{last_txid}
-use Rattle.nn_scenario.specs.Cut.{Part}
 use Rattle.nn_shadow.specs.declared.fault.Stop.{Stop}
 
 -- `KEY VALUE`
@@ -27,7 +25,22 @@ abbrev pub shown : Option ℕ → List (List ℕ) → List ℕ
 shown None lines = flat_map (λ l. l) lines
 shown (Some most) lines = flat_map (λ l. l) (take most lines) ++ line (codes "more") (decimal (length lines - most))
 
--- ---- The state.
+-- ---- The status.
+
+-- what an operator is told first
+pub record Figures : Type 0 where
+  pub stopped : Option Stop
+  pub active : Bool
+  pub version : List ℕ
+  pub txid : ℕ  -- of the last transaction that was applied
+  pub known : ℕ  -- the greatest of any edit line
+  pub passed : ℕ  -- how many transactions were passed over
+  pub segments : ℕ  -- how many have ended
+  pub edits : ℕ  -- how many edits are in hand
+  pub last_edit : ℕ  -- the txid of the last of them, 0 where there is none
+  pub held : ℕ  -- how many items wait
+  pub messages : ℕ → ℕ  -- how many came from each DataNode
+  pub blocks : SafeMode
 
 abbrev pub state_of : Option Stop → Bool → List ℕ
 state_of (Some stop) active = and_number (and_number (codes "stopped") stop.number) stop.txid
@@ -35,22 +48,24 @@ state_of None true = codes "active"
 state_of None false = codes "standby"
 
 -- `datanode D M`, where the DataNode sent messages: how many
-abbrev pub datanode_text : Lanes → ℕ → List ℕ
-datanode_text sent dn = if length (sent dn) == 0 then [] else line (codes "datanode") (and_number (decimal dn) (length (sent dn)))
+abbrev pub datanode_text : ℕ → ℕ → List ℕ
+datanode_text dn messages = if messages == 0 then [] else line (codes "datanode") (and_number (decimal dn) messages)
 
--- `blocks TOTAL safe S needed K mode on`, or `off`
-abbrev pub counts_text : ℕ → ℕ → StandbyState → List ℕ
-counts_text permille min x = blocks_line (safe_mode_of permille min x.namespace x.replica)
-
--- `edits N T`: how many edit lines the segment in hand has, and the last txid among them
-abbrev pub in_hand_text : Part → List ℕ
-in_hand_text part = line (codes "edits") (and_number (decimal (length part.txs)) (last_txid part.txs))
+-- the last line is `blocks TOTAL safe S needed K mode on`, or `off`
+abbrev pub status_lines : Figures → List ℕ
+status_lines f =
+    line (codes "state") (state_of f.stopped f.active) ++ line (codes "version") f.version
+    ++ line (codes "txid") (decimal f.txid) ++ line (codes "known") (decimal f.known) ++ line (codes "passed") (decimal f.passed)
+    ++ line (codes "segments") (decimal f.segments) ++ line (codes "edits") (and_number (decimal f.edits) f.last_edit)
+    ++ line (codes "held") (decimal f.held) ++ flat_map (λ dn. datanode_text dn (f.messages dn)) datanodes ++ blocks_line f.blocks
 
 -- ---- What waits, and what keeps safe mode on.
 
 -- `held BLOCK DN NUMBER STAMP KIND`
 abbrev pub held_line : Message → List ℕ
-held_line m = line (codes "held") (and_number (and_number (and_number (decimal m.block) m.dn) m.number) m.stamp ++ codes " " ++ kind_text m.kind)
+held_line m =
+    codes "held " ++ decimal m.block ++ codes " " ++ decimal m.dn ++ codes " " ++ decimal m.number ++ codes " " ++ decimal m.stamp
+    ++ codes " " ++ kind_text m.kind ++ newline ∷ []
 
 -- `unsafe BLOCK LIVE PATH`, of a block that has fewer live replicas than it has to have
 abbrev pub unsafe_of : ℕ → StandbyState → Path → Block → List (List ℕ)
@@ -92,4 +107,4 @@ path_text p (Some form) = line_of p form
 abbrev pub tables_now : ℕ → ℕ → Lanes → StandbyState → List ℕ
 tables_now permille min lanes x =
     of_each lanes (λ id dn. replica_text id (block_at x.namespace id) dn (x.replica dn id))
-    ++ of_each lanes (λ id dn. order_text id dn (x.has_order dn id)) ++ counts_text permille min x
+    ++ of_each lanes (λ id dn. order_text id dn (x.has_order dn id)) ++ blocks_line (safe_mode_of permille min x.namespace x.replica)

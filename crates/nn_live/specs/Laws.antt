@@ -1,5 +1,5 @@
 -- What holds of every service, whatever lines came. The functions of the crate prove it.
-use Rattle.std.specs.Prelude.{◌≡◌, ◌≤◌, ℕ, ◌+◌, true, false, List, [], ◌∷◌, ◌++◌, length, drop, flat_map, map, None, Ok}
+use Rattle.std.specs.Prelude.{◌≡◌, ◌≤◌, ℕ, ◌+◌, Bool, true, false, List, [], ◌∷◌, ◌++◌, length, drop, flat_map, map, None, Ok}
 use Rattle.std.specs.List.{All}
 use Rattle.nn_types.specs.declared.tx.Tx.{Tx}
 use Rattle.nn_edits.specs.Reading.{either_of_line}
@@ -9,7 +9,8 @@ use Rattle.nn_model.specs.Items.{items}
 use Rattle.nn_model.specs.Log.{IsLog, namespace_after}
 use Rattle.nn_model.specs.Namespace.{Namespace}
 use Rattle.nn_model.specs.Picture.{ShowsPicture}
-use Rattle.nn_model.specs.Stands.{tables_of}
+use Rattle.nn_model.specs.Lanes.{Lanes}
+use Rattle.nn_model.specs.Stands.{StandbyState, tables_of}
 use Rattle.nn_model.specs.WellFormed.{HasWellFormedBlocks}
 use Rattle.nn_listing.specs.Listing.{listing_text}
 use Rattle.nn_listing.specs.Tables.{tables_text}
@@ -31,14 +32,18 @@ served asked n base texts = takes_all asked texts (begun n base)
 
 -- The transactions that were applied are a log, and the namespace is what that log makes of the start. Until the service is promoted, its
 -- standby stands at this log and at the messages that were taken, if what it told is counted as kept. From then on its tables show the
--- picture of both.
-pub record HasLog (n : Namespace) (base : ℕ) (s : Service) : Type 0 where
-  pub log : IsLog n base s.log
-  pub last : s.standby.last ≡ base + length s.log
-  pub namespace : s.standby.namespace ≡ namespace_after n s.log
+-- picture of both, and nothing is held.
+pub record StandsAt (n : Namespace) (base : ℕ) (txs : List Tx) (x : StandbyState) (active : Bool) (sent : Lanes) : Type 0 where
+  pub log : IsLog n base txs
+  pub last : x.last ≡ base + length txs
+  pub namespace : x.namespace ≡ namespace_after n txs
   pub told : History
-  pub stands : s.phase.active ≡ false → StandsBy n base s.log s.sent (after told s.standby)
-  pub shows : s.phase.active ≡ true → ShowsPicture s.standby.namespace (items s.sent) (tables_of s.standby)
+  pub stands : active ≡ false → StandsBy n base txs sent (after told x)
+  pub shows : active ≡ true → ShowsPicture x.namespace (items sent) (tables_of x)
+  pub flushed : active ≡ true → x.held ≡ []
+
+abbrev pub HasLog : Namespace → ℕ → Service → Type 0
+HasLog n base s = StandsAt n base s.log s.standby s.phase.active s.sent
 
 abbrev pub StandsAtItsLog : Type 0
 StandsAtItsLog = (asked : Asked) (n : Namespace) (base : ℕ) (texts : List (List ℕ)) → HasWellFormedBlocks n → HasLog n base (served asked n base texts)

@@ -1,5 +1,5 @@
 -- What a standby in service writes for the lines that it has read: a fold over them, with the standby's own functions.
-use Rattle.std.specs.Prelude.{ℕ, ◌+◌, ◌-◌, Bool, true, false, not, ◌==◌, ◌&&◌, ◌||◌, nat_lt, if◌then◌else◌, List, [], ◌∷◌, ◌++◌, length, map, flat_map, max, Option, Some, None, Result, Ok, Err, codes, decimal}
+use Rattle.std.specs.Prelude.{ℕ, ◌+◌, ◌-◌, Bool, true, false, not, ◌==◌, ◌&&◌, ◌||◌, nat_lt, if◌then◌else◌, List, [], ◌∷◌, ◌++◌, length, map, max, Option, Some, None, Result, Ok, Err, codes, decimal}
 use Rattle.std.specs.List.{slice_split}
 use Rattle.nn_types.specs.declared.fault.TheConstants.{NOT_JSON, NO_END, DISORDER}
 use Rattle.nn_types.specs.declared.report.Kind.{Kind}
@@ -12,6 +12,7 @@ use Rattle.nn_edits.specs.Reading.{either_of_line}
 use Rattle.nn_edits.specs.declared.fault.LineFault.{LineFault}
 use Rattle.nn_edits.specs.declared.line.Line.{Line}
 use Rattle.nn_edits.specs.declared.line.Line.TheVariants as either
+use Rattle.nn_model.specs.Counts.{safe_mode_of}
 use Rattle.nn_model.specs.Items.{items}
 use Rattle.nn_model.specs.Lanes.{Lanes, no_messages, followed_by}
 use Rattle.nn_model.specs.Log.{counted}
@@ -23,13 +24,12 @@ use Rattle.nn_image.specs.declared.fault.ImageFault.{ImageFault}
 use Rattle.nn_image.specs.declared.fault.ImageFault.TheVariants.{Truncated}
 use Rattle.nn_segment.specs.Fault.{number_of as segment_number_of}
 use Rattle.nn_segment.specs.Lines.{newline, joined_lines}
-use Rattle.nn_segment.specs.Segment.{Segment, is_start, is_end, first_txid}
+use Rattle.nn_segment.specs.Segment.{Segment, is_start, is_end, first_txid, last_txid}
 use Rattle.nn_segment.specs.declared.fault.SegmentFault.{SegmentFault}
 use Rattle.nn_scenario.specs.Cut.{EditLine, Part, no_lines, with_line, segment_of}
 use Rattle.nn_scenario.specs.Scenario.{is_blank}
 use Rattle.nn_scenario.specs.Steps.{next_message}
 use Rattle.nn_listing.specs.Listing.{listing_text}
-use Rattle.nn_listing.specs.Tables.{datanodes}
 use Rattle.nn_listing.specs.Trail.{history_text}
 use Rattle.nn_shadow.specs.declared.fault.ApplyFault.{ApplyFault}
 use Rattle.nn_shadow.specs.declared.fault.FlushFault.{FlushFault}
@@ -38,7 +38,7 @@ use Rattle.nn_shadow.specs.Calls.{applied_to, received, flushed, without_history
 use Rattle.nn_shadow.specs.Numbers.{number_of_apply, number_of_hand, number_of_flush}
 use Rattle.nn_shadow.specs.Refusals.{Phase, apply_refusal, hand_refusal, flush_refusal, phase_after_apply}
 use Rattle.nn_engine.specs.Output.{image_fault}
-use Rattle.nn_live.specs.Answers.{line, shown, state_of, datanode_text, counts_text, in_hand_text, held_line, unsafe_lines, block_text, path_text, tables_now}
+use Rattle.nn_live.specs.Answers.{Figures, line, status_lines, shown, held_line, unsafe_lines, block_text, path_text, tables_now}
 use Rattle.nn_live.specs.Words.{word_in}
 use Rattle.nn_live.specs.declared.word.Word.{Word}
 use Rattle.nn_live.specs.declared.word.Word.TheVariants as word
@@ -174,12 +174,21 @@ promotes asked txid lost None s =
 
 -- ---- Words.
 
-abbrev pub status_text : Asked → Service → List ℕ
-status_text asked s =
-    line (codes "state") (state_of s.phase.stopped s.phase.active) ++ line (codes "version") asked.version
-    ++ line (codes "txid") (decimal s.standby.last) ++ line (codes "known") (decimal s.known) ++ line (codes "passed") (decimal s.passed)
-    ++ line (codes "segments") (decimal s.segments) ++ in_hand_text s.in_hand ++ line (codes "held") (decimal (length s.standby.held))
-    ++ flat_map (datanode_text s.sent) datanodes ++ counts_text asked.permille asked.min s.standby
+abbrev pub figures_of : Asked → Service → Figures
+figures_of asked s = record {
+  stopped = s.phase.stopped;
+  active = s.phase.active;
+  version = asked.version;
+  txid = s.standby.last;
+  known = s.known;
+  passed = s.passed;
+  segments = s.segments;
+  edits = length s.in_hand.txs;
+  last_edit = last_txid s.in_hand.txs;
+  held = length s.standby.held;
+  messages = λ dn. length (s.sent dn);
+  blocks = safe_mode_of asked.permille asked.min s.standby.namespace s.standby.replica;
+}
 
 -- a full report of no blocks: the DataNode has none of those that it had
 abbrev pub mark_of : ℕ → Kind → Report
@@ -190,7 +199,7 @@ empty_report dn = mark_of dn Begin ∷ mark_of dn Finish ∷ []
 
 abbrev pub does : Asked → Word → Service → Service
 does asked word.Sync s = s
-does asked word.Status s = says (status_text asked s) s
+does asked word.Status s = says (status_lines (figures_of asked s)) s
 does asked (word.Held most) s = says (shown most (map held_line s.standby.held)) s
 does asked (word.Unsafe most) s = says (shown most (unsafe_lines asked.min s.standby)) s
 does asked (word.Block id) s = says (block_text s.standby id) s

@@ -1,34 +1,99 @@
 -- A service of the code, and the service of the definition that it stands for.
-use Rattle.std.specs.Prelude.{◌≡◌, ℕ, ◌+◌, ◌==◌, ◌&&◌, ◌||◌, not, nat_lt, Bool, true, List, [], ◌++◌, max, length, codes, decimal}
+use Rattle.std.specs.Prelude.{◌≡◌, ◌≤◌, ◌⊎◌, ℕ, ◌+◌, ◌^◌, true, ◌==◌, ◌&&◌, ◌||◌, not, nat_lt, Bool, List, [], ◌∷◌, ◌++◌, max, length, codes, decimal}
 use Rattle.nn_types.specs.declared.report.Message.{Message}
 use Rattle.nn_types.specs.declared.report.Report.{Report}
 use Rattle.nn_types.specs.declared.tx.Tx.{Tx}
-use Rattle.nn_segment.specs.Segment.{Segment, last_txid}
+use Rattle.nn_segment.specs.Segment.{max_bytes, last_txid}
+use Rattle.nn_scenario.specs.Checking.{Check, IsCheckOf}
+use Rattle.nn_scenario.specs.Cut.{EditLine, Part, no_lines, last_part, segment_of, with_line}
+use Rattle.nn_scenario.specs.Reading.{Reading}
 use Rattle.nn_scenario.specs.Steps.{message}
+use Rattle.nn_replicas.specs.Calls.{replica_at}
+use Rattle.nn_model.specs.Counts.{safe_mode_of}
+use Rattle.nn_model.specs.Namespace.{Namespace}
 use Rattle.nn_shadow.specs.Contents.{Contents, standby_of, number_in}
-use Rattle.nn_live.specs.Answers.{line}
+use Rattle.nn_live.specs.Answers.{Figures, line}
 use Rattle.nn_shadow.specs.Refusals.{apply_refusal, flush_refusal}
-use Rattle.nn_live.specs.Live.{Asked, Service, applies, follows_txs, is_between, promotes}
+use Rattle.nn_live.specs.Laws.{HasLog}
+use Rattle.nn_live.specs.Live.{Asked, Service, applies, behind_edit, follows_segment, promotes}
 
--- what the code has
+-- ---- What the code has.
+
+-- of the edits in hand
+pub record Kept : Type 0 where
+  pub check : Check
+  pub txs : List Tx
+  pub edits : ℕ
+  pub last : ℕ  -- the last txid
+
 pub record Seen : Type 0 where
   pub shadow : Contents  -- its history is empty
+  pub in_hand : Kept
   pub history : Bool  -- whether events are told
+  pub version : List ℕ
   pub known : ℕ
   pub passed : ℕ
   pub segments : ℕ
   pub lines : ℕ
 
+-- what the command line asked for
+abbrev pub asked_of : Seen → Asked
+asked_of x = record { permille = x.shadow.permille; min = x.shadow.table.min; history = x.history; version = x.version }
+
+-- what it answers first
+abbrev pub figures_seen : Seen → Figures
+figures_seen x = record {
+  stopped = x.shadow.phase.stopped;
+  active = x.shadow.phase.active;
+  version = x.version;
+  txid = x.shadow.last;
+  known = x.known;
+  passed = x.passed;
+  segments = x.segments;
+  edits = x.in_hand.edits;
+  last_edit = x.in_hand.last;
+  held = length x.shadow.held;
+  messages = number_in x.shadow.numbers;
+  blocks = safe_mode_of x.shadow.permille x.shadow.table.min x.shadow.namespace (replica_at x.shadow.table);
+}
+
+-- ---- It stands for the definition's.
+
+-- This was read, and these are its edits. Where they may be a segment, all their transactions are there.
+pub record HasRead (read : Reading) (part : Part) (x : Kept) : Type 0 where
+  pub check : IsCheckOf read x.check
+  pub whole : length part.bytes ≤ max_bytes → x.txs ≡ part.txs
+  pub edits : x.edits ≡ length part.txs
+  pub last : x.last ≡ last_txid part.txs
+
+-- a part that has not ended, and none before it
+abbrev pub alone : Part → Reading
+alone part = record { parts = []; in_hand = part; steps = [] }
+
+-- the code has the edits of this part, which has not ended
+abbrev pub Keeps : Part → Kept → Type 0
+Keeps part x = HasRead (alone part) part x
+
+-- this part is all that was read, whether it has ended or not
+abbrev pub IsAllOf : Part → Reading → Type 0
+IsAllOf part read = read.parts ++ last_part read.in_hand ≡ part ∷ []
+
+-- the service has a log, as each has that began at a namespace of the code
+abbrev pub HasSomeLog : Service → Type 0
+HasSomeLog s = (n : Namespace) × (base : ℕ) × HasLog n base s
+
 -- It is where the definition's service is. That knows all messages and all that was written, and the code of each DataNode how many messages.
 pub record IsAt (asked : Asked) (x : Seen) (s : Service) : Type 0 where
-  pub tells : asked.history ≡ x.history
+  pub asks : asked ≡ asked_of x
   pub standby : standby_of x.shadow ≡ s.standby
   pub phase : x.shadow.phase ≡ s.phase
   pub sent : (dn : ℕ) → number_in x.shadow.numbers dn ≡ length (s.sent dn)
+  pub in_hand : Keeps s.in_hand x.in_hand
   pub known : x.known ≡ s.known
   pub passed : x.passed ≡ s.passed
   pub segments : x.segments ≡ s.segments
   pub lines : x.lines ≡ s.lines
+  pub log : HasSomeLog s
 
 -- once its history was told
 abbrev pub forgetful : Seen → Seen
@@ -55,27 +120,35 @@ fault_text number place n = line (codes "fault") (decimal number ++ place ++ dec
 abbrev pub takes_tx : Tx → Asked → Service → Service
 takes_tx tx asked s = applies asked tx (apply_refusal s.phase s.standby tx) (λ t. t) s
 
--- one more segment came, which ends at this txid
-abbrev pub with_segment : ℕ → Service → Service
-with_segment last s = record s { segments = s.segments + 1; known = max s.known last }
+-- one more segment came
+abbrev pub one_more_segment : Service → Service
+one_more_segment s = record s { in_hand = no_lines; segments = s.segments + 1 }
 
--- an edit line was read, which has this txid
-abbrev pub hears_of : ℕ → Service → Service
-hears_of txid s = record s { known = max s.known txid }
+-- its edits are these, where none was in hand
+abbrev pub takes_segment : Part → Asked → Service → Service
+takes_segment part asked s = follows_segment asked (segment_of part) (one_more_segment s)
 
--- a segment came whole, where none was in hand
-abbrev pub takes_segment : Segment → Asked → Service → Service
-takes_segment g asked s = follows_txs asked g.txs (with_segment (last_txid g.txs) s)
+-- an edit is put to those in hand
+abbrev pub puts_edit : EditLine → Service → Service
+puts_edit l s = record s { in_hand = with_line s.in_hand l; known = max s.known l.tx.txid }
+
+-- and if it is an end mark, it ends them
+abbrev pub keeps_edit : EditLine → Asked → Service → Service
+keeps_edit l asked s = behind_edit asked l.tx (puts_edit l s)
 
 -- the same of numbers
 abbrev pub log_ends : ℕ → ℕ → ℕ → Bool → Bool
 log_ends last known txid losing = last == txid && (losing || not (nat_lt txid known))
 
--- a promotion where no edit of a segment is in hand
 abbrev pub takes_promotion : ℕ → Bool → Asked → Service → Service
 takes_promotion txid losing asked s = promotes asked txid losing (flush_refusal s.phase) s
 
--- this text is what a step writes between two segments, and the code has made that step
-pub record MakesBetween (step : Asked → Service → Service) (old new : Seen) (text : List ℕ) : Type 0 where
-  pub at : (asked : Asked) (s : Service) → IsAt asked old s → is_between s ≡ true → IsAt asked new (step asked s)
-  pub written : (asked : Asked) (s : Service) → IsAt asked old s → is_between s ≡ true → (step asked s).written ≡ s.written ++ text
+-- ---- Where a call is refused.
+
+-- after a promotion that lacked memory
+abbrev pub closed : Seen → Seen
+closed x = record x { shadow = record x.shadow { phase = record x.shadow.phase { active = true } } }
+
+-- a count of a service has come so far that an edit may be refused
+abbrev pub IsNearEnd : Seen → Type 0
+IsNearEnd x = (2 ^ 62 ≤ x.in_hand.edits + 1) ⊎ (2 ^ 63 ≤ x.segments + 1) ⊎ (2 ^ 63 ≤ x.passed)

@@ -5,12 +5,14 @@
 //! told by one line.
 //!
 //! The definition is in `specs/Live`, with the texts of the answers in `Answers`; its laws are functions that do nothing.
-//! `Word::read` reads what a line asks for. A `Service` does what the definition says with reports, segments and promotions:
-//! its caller has read the lines.
+//! `Word::read` reads what a line asks for. A `Service` takes lines of data, is promoted, and answers `status`, `held` and
+//! `checkpoint`: its caller cuts the lines, and knows which of them are words.
 #![tactic(auto)]
 
+mod in_hand;
 mod laws;
 mod service;
+mod texts;
 mod word;
 
 pub use laws::{

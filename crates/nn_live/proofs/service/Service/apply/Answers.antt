@@ -17,7 +17,7 @@ returns-in-Ok-clause-ok g c =
     let z = c.apply.new.self in
     let y = c.tell_events.new.self in
     let made = subst (λ (v : Seen). Makes (takes_tx tx) x v (told x.history z)) (sym c.tell_events.ensures.left)
-    (applied x z tx c.in-Ok.ensures.ok c.in-Ok.ensures.phase c.apply.ensures.numbers c.in-Ok.ensures.fits) in
+    (applied x z tx c.in-Ok.ensures.ok c.in-Ok.ensures.phase c.apply.ensures.numbers c.apply.ensures.settings c.in-Ok.ensures.fits) in
     (told x.history z, c.tell_events.ensures.put, subst (λ (v : Seen). Makes (takes_tx tx) v y (told x.history z)) here made)
 
 pub returns-in_default : goal.returns-in_default

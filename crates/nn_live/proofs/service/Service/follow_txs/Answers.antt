@@ -1,16 +1,19 @@
-use Rattle.std.proofs.Common.{◌≡◌, ◌+◌, ◌-◌, ◌<◌, ◌≤◌, ◌++◌, drop, codes, sym, subst, ap, ap₂, ◌∙◌, arith, List}
+use Rattle.std.proofs.Common.{◌≡◌, ◌+◌, ◌-◌, ◌<◌, ◌≤◌, ◌++◌, drop, codes, sym, subst, ap, ap₂, ◌∙◌, arith}
 use Rattle.std.specs.Prelude.{decimal}
+use Rattle.std.specs.Option.{option_copied}
 use Rattle.std.proofs.lemmas.Result.{IfOk-weaker}
 use Rattle.nn_types.specs.declared.fault.TheConstants.{DISORDER}
-use Rattle.nn_types.specs.declared.tx.Tx.{Tx}
 use Rattle.nn_model.specs.Log.{counted}
 use Rattle.nn_segment.specs.Segment.{first_txid}
 use Rattle.nn_live.specs.Live.{follows, follows_txs}
 use Rattle.nn_live.specs.contracts.service.Service.{the_view as seen_of}
 use Rattle.nn_live.specs.Serving.{Seen, Makes, fault_text}
-use Rattle.nn_live.proofs.Promoting.{no_memory_there}
-use Rattle.nn_live.proofs.Segments.{gap_text, behind_a_gap, now_followed, new_ones}
+use Rattle.nn_live.proofs.Places.{no_memory_there}
+use Rattle.nn_live.proofs.Segments.{gap_text, behind_a_gap, first_of, has_first, new_ones, now_followed}
 use Rattle.nn_live.proofs.service.Service.follow_txs.Goals as goal
+
+pub unreachable-requires : goal.unreachable-requires
+unreachable-requires g c = has_first c.args.txs.now c.requires (sym c.first.ensures.value ∙ ap option_copied c.in_default.is)
 
 pub returns-then-next-first : goal.returns-then-next-first
 returns-then-next-first g c =
@@ -18,7 +21,7 @@ returns-then-next-first g c =
     let here : x ≡ c.args.self.now = c.self.view_is in
     let txs = c.args.txs.now in
     let last = c.last_txid-next.ensures.last in
-    let first : c.args.first ≡ first_txid txs = c.requires.3 ∙ ap (λ (ts : List Tx). first_txid ts) c.requires.2 in
+    let first : c.get-first.result ≡ first_txid txs = c.get-first.ensures.value ∙ first_of txs c.in-Some.first.now c.in-Some.ensures.value in
     let high : x.shadow.last + 1 < first_txid txs = omega (arith, sym first, last, c.if-next-first.true) in
     let text = fault_text DISORDER (codes " txid " ++ decimal (c.last_txid-next.result + 1) ++ codes " segment ") x.segments in
     let spelled : gap_text x ≡ text = ap (λ l. fault_text DISORDER (codes " txid " ++ decimal (l + 1) ++ codes " segment ") x.segments) (sym last) in
@@ -32,9 +35,9 @@ returns g c =
     let txs = c.args.txs.now in
     let new = c.behind-new.result.now in
     let last = c.last_txid-next.ensures.last in
-    let first : c.args.first ≡ first_txid txs = c.requires.3 ∙ ap (λ (ts : List Tx). first_txid ts) c.requires.2 in
+    let first : c.get-first.result ≡ first_txid txs = c.get-first.ensures.value ∙ first_of txs c.in-Some.first.now c.in-Some.ensures.value in
     let low : first_txid txs ≤ x.shadow.last + 1 = omega (arith, sym first, last, c.if-next-first.false) in
-    let is : counted x.shadow.last txs ≡ new = new_ones x.shadow.last txs (c.requires.0, c.requires.1, c.requires.2) low
+    let is : counted x.shadow.last txs ≡ new = new_ones x.shadow.last txs c.requires low
     ∙ ap₂ (λ l f. drop (l + 1 - f) txs) (sym last) (sym first) ∙ sym c.behind-new.ensures in
     record {
       ok = IfOk-weaker c.follow.result _ _ (λ _ step. (
@@ -42,7 +45,7 @@ returns g c =
         step.1,
         subst (λ (v : Seen). Makes (λ asked s. follows_txs asked txs s) v c.follow.new.self step.0) here
             (now_followed x txs new c.follow.new.self step.0 low is
-            (subst (λ p. Makes (λ asked s. follows asked new s) (record x { passed = p }) c.follow.new.self step.0) c.in-Some.ensures.1 step.2)),
+            (subst (λ p. Makes (λ asked s. follows asked new s) (record x { passed = p }) c.follow.new.self step.0) c.in-Some-checked_add.ensures.1 step.2)),
       )) c.follow.ensures.ok;
       exhausted = λ is. absurd (no_memory_there c.follow.result c.follow.ensures.memory is);
     }

@@ -1,10 +1,11 @@
-use Rattle.std.proofs.Common.{[], ◌∷◌, ◌++◌, sym, subst, ap₂, ◌∙◌, List}
+use Rattle.std.proofs.Common.{[], ◌∷◌, ◌++◌, inr, sym, subst, ap₂, ◌∙◌, List}
 use Rattle.nn_types.specs.declared.report.Kind.TheVariants.{Finish}
 use Rattle.nn_types.specs.declared.report.Report.{Report}
 use Rattle.nn_device.proofs.Pages.{puts_both}
 use Rattle.nn_live.specs.Live.{hands, mark_of}
 use Rattle.nn_live.specs.Serving.{Makes}
 use Rattle.nn_live.proofs.Handing.{both_handed, first_refused}
+use Rattle.nn_live.proofs.Places.{on_err, then_makes}
 use Rattle.nn_live.proofs.service.Service.gone.Goals as goal
 
 pub returns-in_ok-hand-2-clause-ok : goal.returns-in_ok-hand-2-clause-ok
@@ -26,3 +27,12 @@ returns-else-branch-clause-ok g c =
     let refuses = sym c.if-branch.false ∙ c.in_ok-hand.ensures.taken in
     let made = first_refused x c.hand.new.self c.mark_of.result q one.0 one.2 refuses in
     (one.0, one.1, subst (λ (a : Report). Makes (λ asked s. hands asked (a ∷ q ∷ []) s) x c.hand.new.self one.0) c.mark_of.ensures made)
+
+pub returns-in_err-hand-2-clause-cut : goal.returns-in_err-hand-2-clause-cut
+returns-in_err-hand-2-clause-cut g c =
+    let x = c.args.self.now in
+    let one = c.in_ok-hand.ensures.ok in
+    let two = c.in_err-hand-2.ensures.left in
+    let made = then_makes (λ asked s. hands asked (c.mark_of.result ∷ []) s) (λ _ s. s) x c.hand.new.self c.hand-then-branch.new.self one.0 two.0 one.2 two.2 in
+    let spelled = subst (λ (r : Report). Makes (λ asked s. hands asked (r ∷ []) s) x c.hand-then-branch.new.self (one.0 ++ two.0)) c.mark_of.ensures made in
+    on_err _ c.from_residual-in_err-hand-2.result (inr (one.0 ++ two.0, puts_both one.0 two.0 _ _ _ _ _ _ one.1 two.1, spelled))

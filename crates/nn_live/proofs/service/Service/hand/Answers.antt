@@ -1,5 +1,6 @@
 use Rattle.std.specs.Prelude.{is_none}
 use Rattle.std.proofs.Common.{◌+◌, ◌≤◌, ◌≡◌, [], ◌∷◌, codes, None, Some, inl, inr, sym, subst, ap, ap₂, ◌∙◌}
+use Rattle.nn_device.proofs.Pages.{puts_nothing}
 use Rattle.nn_shadow.specs.Contents.{Contents, standby_of, number_in}
 use Rattle.nn_shadow.specs.Calls.{received}
 use Rattle.nn_shadow.specs.Numbers.{number_of_hand}
@@ -20,8 +21,8 @@ returns-in-Ok-clause-ok g c =
     let m : c.in-Some.message ≡ next_of x.shadow r = c.in-Some.ensures.some ∙ ap (λ (v : Seen). next_of v.shadow r) (sym here) in
     let is : standby_of z ≡ received (standby_of x.shadow) (next_of x.shadow r) = c.in-Ok.ensures.ok ∙ ap (received (standby_of x.shadow)) m in
     let fits : hand_refusal 256 x.shadow.phase (standby_of x.shadow) (next_of x.shadow r) ≡ None =
-    ap₂ (λ k n. hand_refusal k x.shadow.phase (standby_of x.shadow) n) (sym c.self.invariant) (sym m) ∙ c.in-Ok.ensures.fits in
-    let made = subst (λ (v : Seen). Makes (λ asked s. hands asked (r ∷ []) s) x v (told x.history z)) (sym c.tell_events.ensures.left) (taken x z r is c.hand.ensures.phase fits) in
+    ap₂ (λ k n. hand_refusal k x.shadow.phase (standby_of x.shadow) n) (sym c.self.invariant.0) (sym m) ∙ c.in-Ok.ensures.fits in
+    let made = subst (λ (v : Seen). Makes (λ asked s. hands asked (r ∷ []) s) x v (told x.history z)) (sym c.tell_events.ensures.left) (taken x z r is c.hand.ensures.phase c.hand.ensures.settings fits) in
     (told x.history z, c.tell_events.ensures.put, subst (λ (v : Seen). Makes (λ asked s. hands asked (r ∷ []) s) v y (told x.history z)) here made)
 
 pub returns-in_default-cause : goal.returns-in_default-cause
@@ -32,7 +33,7 @@ returns-in_default-cause g c =
     let y : Seen = record x { shadow = c.hand.new.self } in
     let cause = c.in-Err.fault.cause in
     let m : c.in-Some.message ≡ next_of x.shadow r = c.in-Some.ensures.some ∙ ap (λ (v : Seen). next_of v.shadow r) (sym here) in
-    let moved = ap₂ (λ k n. hand_refusal k x.shadow.phase (standby_of x.shadow) n) (sym c.self.invariant) (sym m) in
+    let moved = ap₂ (λ k n. hand_refusal k x.shadow.phase (standby_of x.shadow) n) (sym c.self.invariant.0) (sym m) in
     let is : hand_refusal 256 x.shadow.phase (standby_of x.shadow) (next_of x.shadow r) ≡ Some cause = moved ∙ elim c.in-Err.ensures.cause [
       | inl answered ↦ answered
       | inr memory ↦ absurd (c.in_default-cause.not-OutOfMemory memory.1)
@@ -65,4 +66,5 @@ returns-in-OutOfMemory-clause-left g c =
     let x = seen_of c.self.inside in
     let here : x ≡ c.args.self.now = c.self.view_is in
     let z = c.hand.new.self in
-    subst (λ (v : Seen). Makes (λ _ s. s) v (record x { shadow = z }) []) here (nothing_made x z c.in-Err.ensures.left c.hand.ensures.phase)
+    let made = nothing_made x z c.in-Err.ensures.left c.hand.ensures.phase c.hand.ensures.settings in
+    ([], puts_nothing c.args.page.now c.args.writer.now, subst (λ (v : Seen). Makes (λ _ s. s) v (record x { shadow = z }) []) here made)

@@ -1,0 +1,40 @@
+-- Lines that are put piece by piece.
+use Rattle.std.proofs.Common.{◌≡◌, ℕ, zero, suc, ◌+◌, ◌-◌, ◌<◌, List, [], ◌∷◌, ◌++◌, map, take, refl, ap, arith, append_assoc}
+use Rattle.std.specs.Prelude.{codes, flat_map}
+use Rattle.std.specs.List.{range_with_len}
+use Rattle.nn_types.specs.declared.report.Message.{Message}
+use Rattle.nn_listing.specs.Listing.{newline}
+use Rattle.nn_listing.specs.Tables.{datanodes}
+use Rattle.nn_live.specs.Answers.{held_line}
+
+-- a space and a field
+abbrev pub field : List ℕ → List ℕ
+field text = codes " " ++ text
+
+pub held_pieces : (block dn number stamp kind : List ℕ)
+    → codes "held" ++ (field block ++ (field dn ++ (field number ++ (field stamp ++ (codes " " ++ (kind ++ newline ∷ []))))))
+    ≡ codes "held " ++ block ++ codes " " ++ dn ++ codes " " ++ number ++ codes " " ++ stamp ++ codes " " ++ kind ++ newline ∷ []
+held_pieces block dn number stamp kind = simp append_assoc
+
+pub status_pieces : (a b c d e f g h i j : List ℕ) → a ++ (b ++ (c ++ (d ++ (e ++ (f ++ (g ++ (h ++ (i ++ j)))))))) ≡ a ++ b ++ c ++ d ++ e ++ f ++ g ++ h ++ i ++ j
+status_pieces a b c d e f g h i j = simp append_assoc
+
+-- the first of the lines that are left
+pub one_line : (left : ℕ) (m : Message) (messages : List Message) → 0 < left
+    → flat_map (λ line. line) (take left (map held_line (m ∷ messages))) ≡ held_line m ++ flat_map (λ line. line) (take (left - 1) (map held_line messages))
+one_line zero m messages some = absurd (omega (arith, some))
+one_line (suc k) m messages some =
+    let same : k ≡ suc k - 1 = omega arith in
+    ap (λ n. held_line m ++ flat_map (λ line. line) (take n (map held_line messages))) same
+
+-- the first of the DataNodes that are left
+pub one_datanode : (count dn : ℕ) → dn < count → range_with_len (dn + 1) (count - dn) ≡ (dn + 1) ∷ range_with_len (dn + 1 + 1) (count - (dn + 1))
+one_datanode count dn some = at (count - dn) (count - (dn + 1)) (omega (arith, some))
+  where
+    at : (n k : ℕ) → n ≡ k + 1 → range_with_len (dn + 1) n ≡ (dn + 1) ∷ range_with_len (dn + 1 + 1) k
+    at zero k e = absurd (omega (arith, e))
+    at (suc n) k e = let same : n ≡ k = omega (arith, e) in ap (λ j. (dn + 1) ∷ range_with_len (dn + 1 + 1) j) same
+
+pub all_datanodes : datanodes ≡ range_with_len 1 256
+unfolding datanodes
+all_datanodes = refl

@@ -1,0 +1,32 @@
+use Rattle.std.proofs.Common.{◌≡◌, Ok, codes, sym, subst, ap, ap₂, ◌∙◌}
+use Rattle.std.proofs.lemmas.Result.{IfOk-weaker}
+use Rattle.nn_edits.specs.Fault.{number_of}
+use Rattle.nn_edits.specs.Reading.{either_of_line}
+use Rattle.nn_edits.specs.declared.line.Line.{Line}
+use Rattle.nn_scenario.proofs.LineLemmas.{edit_alone}
+use Rattle.nn_live.specs.Live.{Asked, Service, takes_read}
+use Rattle.nn_live.specs.contracts.service.Service.{the_view as seen_of}
+use Rattle.nn_live.specs.Serving.{Seen, Makes, fault_text}
+use Rattle.nn_live.proofs.Reading.{given_fault, edit_read, report_read, fault_read}
+use Rattle.nn_live.proofs.service.Service.data.Goals as goal
+
+pub edit-requires-clause-read : goal.edit-requires-clause-read
+edit-requires-clause-read g c = edit_alone c.args.text.now c.in-Ok-Edit.tx (c.in-Ok-Edit.ensures.exact ∙ ap (λ (l : Line). Ok l) c.in-Ok-Edit.field-0-is)
+
+pub returns-in-Ok-Edit-clause-ok : goal.returns-in-Ok-Edit-clause-ok
+returns-in-Ok-Edit-clause-ok g c = IfOk-weaker c.edit.result _ _ (λ _ step.
+    (step.0, step.1, edit_read c.args.text.now c.args.self.now c.in-Ok-Edit.tx c.edit.new.self step.0 (c.in-Ok-Edit.ensures.exact ∙ ap (λ (l : Line). Ok l) c.in-Ok-Edit.field-0-is) step.2)) c.edit.ensures.ok
+
+pub returns-in-Ok-Report-clause-ok : goal.returns-in-Ok-Report-clause-ok
+returns-in-Ok-Report-clause-ok g c = IfOk-weaker c.report.result _ _ (λ _ step.
+    (step.0, step.1, report_read c.args.text.now c.args.self.now c.in-Ok-Report.report c.report.new.self step.0 (c.in-Ok-Report.ensures.exact ∙ ap (λ (l : Line). Ok l) c.in-Ok-Report.field-0-is) step.2)) c.report.ensures.ok
+
+pub returns-in_default : goal.returns-in_default
+returns-in_default g c =
+    let x = seen_of c.self.inside in
+    let text = fault_text c.number.result (codes " line ") x.lines in
+    let is = given_fault c.in-Err.fault (either_of_line c.args.text.now) c.in-Err.ensures.exact c.in_default.not-OutOfMemory in
+    let made = fault_read c.args.text.now x c.in-Err.fault is in
+    let step : Asked → Service → Service = λ asked s. takes_read asked c.args.text.now (either_of_line c.args.text.now) s in
+    let told = subst (λ n. Makes step x x (fault_text n (codes " line ") x.lines)) (sym c.number.ensures) made in
+    record { ok = (text, c.put_fault.ensures, subst (λ (v : Seen). Makes step v v text) c.self.view_is told); exhausted = λ never. absurd (cc) }

@@ -1,0 +1,68 @@
+//! A promotion: the log has ended.
+ghost use Rattle.std.specs.Prelude.{◌≡◌, ◌==◌, ◌≤◌, ◌^◌, ◌||◌, not, [], IfErr, IsErrOf, OnOk};
+ghost use Rattle.nn_device.specs.Page.{Puts};
+ghost use Rattle.nn_live.specs.Serving.{Steps, closed, log_ends, takes_promotion};
+
+use super::{Service, ServiceFault};
+use crate::in_hand::InHand;
+use crate::texts::put_fault;
+use nn_device::{Page, Writer};
+use nn_types::fault;
+use std::io::Write;
+
+impl Service {
+    /// The log has ended at this txid: what is held is flushed, and nothing comes in any more. It is refused, and told why, where
+    /// the standby was stopped, where a segment is in hand, where its last transaction is another one, and where one above was
+    /// read, unless what lies above the txid is given up. A promotion of an active standby flushes nothing.
+    ///
+    /// Where memory is refused nothing comes in any more either, and the call may be made again.
+    pub fn promote<W: Write>(
+        &mut self,
+        page: &mut Page,
+        writer: &mut Writer<W>,
+        txid: u64,
+        losing: bool,
+    ) -> Result<(), ServiceFault>
+        ensures ok { OnOk result (Steps (takes_promotion txid losing) self.old self.new (λ told. Puts told page.old writer.old page.new writer.new)) }
+        ensures exhausted { IsErrOf result ServiceFault.Exhausted → 2 ^ 63 ≤ self.old.segments }
+        ensures left { IsErrOf result ServiceFault.OutOfMemory → self.new ≡ closed self.old }
+        ensures put { IfErr result (λ _. Puts [] page.old writer.old page.new writer.new) }
+    {
+        if self.shadow.stop().is_some() {
+            put_fault(page, writer, fault::STOPPED, " line ", self.lines);
+            return Ok(());
+        }
+        if self.is_inside(losing) {
+            let Some(segment) = self.segments.checked_add(1) else {
+                return Err(ServiceFault::Exhausted);
+            };
+            put_fault(page, writer, fault::NO_END, " segment ", segment);
+            return Ok(());
+        }
+        if !self.ends_at(txid, losing) {
+            let next = self.shadow.last_txid() + 1;
+            put_fault(page, writer, fault::DISORDER, " txid ", next);
+            return Ok(());
+        }
+        let Ok(_) = self.shadow.flush() else {
+            return Err(ServiceFault::OutOfMemory);
+        };
+        self.in_hand = InHand::none(self.alloc);
+        self.tell_events(page, writer);
+        Ok(())
+    }
+
+    // Whether edits are in hand that are not given up.
+    fn is_inside(&self, losing: bool) -> bool
+        ensures { result ≡ not (losing || (self.now.in_hand.edits == 0)) }
+    {
+        !losing && !self.in_hand.is_empty()
+    }
+
+    // Whether the log ends at this txid, as far as the service knows, or what it knows above it is given up.
+    fn ends_at(&self, txid: u64, losing: bool) -> bool
+        ensures { result ≡ log_ends self.now.shadow.last self.now.known txid losing }
+    {
+        self.shadow.last_txid() == txid && (losing || txid >= self.known)
+    }
+}

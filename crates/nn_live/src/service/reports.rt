@@ -1,0 +1,124 @@
+//! Reports are handed as they come.
+ghost use Rattle.std.specs.Prelude.{◌≡◌, ◌≤◌, ◌^◌, ◌+◌, ℕ, [], ◌∷◌, IfOk, IfSome, IfErr, IsErrOf, IsTrue, None, is_none, ◌⊎◌};
+ghost use Rattle.nn_device.specs.Page.{Puts};
+ghost use Rattle.nn_shadow.specs.Contents.{number_in, standby_of};
+ghost use Rattle.nn_shadow.specs.Refusals.{hand_refusal};
+ghost use Rattle.nn_live.specs.Live.{empty_report, hands, mark_of};
+ghost use Rattle.nn_live.specs.Serving.{Steps, next_of};
+
+use super::{Service, ServiceFault};
+use crate::texts::put_fault;
+use nn_device::{Page, Writer};
+use nn_shadow::HandCause;
+use nn_types::{BlockId, GenerationStamp, Kind, Length, Message, Report};
+use std::io::Write;
+
+/// The least number that is none of the formats.
+const NUMBERS: u64 = 9_223_372_036_854_775_808;
+
+impl Service {
+    /// A report is its DataNode's next message: it is handed, and with the history it is told what that did; or it is told why
+    /// it is refused.
+    pub fn report<W: Write>(
+        &mut self,
+        page: &mut Page,
+        writer: &mut Writer<W>,
+        report: Report,
+    ) -> Result<(), ServiceFault>
+        ensures ok { IfOk result (λ _. Steps (λ asked s. hands asked (report ∷ []) s) self.old self.new (λ text. Puts text page.old writer.old page.new writer.new)) }
+        ensures exhausted { IsErrOf result ServiceFault.Exhausted → 2 ^ 63 ≤ number_in self.old.shadow.numbers report.dn + 1 }
+        ensures left { IfErr result (λ _. Steps (λ _ s. s) self.old self.new (λ text. Puts text page.old writer.old page.new writer.new)) }
+    {
+        self.hand(page, writer, report)?;
+        Ok(())
+    }
+
+    /// A DataNode is gone: it is as if it had sent a full report of no blocks. Where the begin is refused, its end is not
+    /// handed. Where memory is refused, nothing was done, or the begin alone was handed.
+    pub fn gone<W: Write>(
+        &mut self,
+        page: &mut Page,
+        writer: &mut Writer<W>,
+        dn: u16,
+    ) -> Result<(), ServiceFault>
+        ensures ok { IfOk result (λ _. Steps (λ asked s. hands asked (empty_report dn) s) self.old self.new (λ text. Puts text page.old writer.old page.new writer.new)) }
+        ensures exhausted { IsErrOf result ServiceFault.Exhausted → 2 ^ 63 ≤ number_in self.old.shadow.numbers dn + 2 }
+        ensures cut { IfErr result (λ _. Steps (λ _ s. s) self.old self.new (λ text. Puts text page.old writer.old page.new writer.new)
+            ⊎ Steps (λ asked s. hands asked (mark_of dn Kind.Begin ∷ []) s) self.old self.new (λ text. Puts text page.old writer.old page.new writer.new)) }
+    {
+        if self.hand(page, writer, mark_of(dn, Kind::Begin))? {
+            self.hand(page, writer, mark_of(dn, Kind::Finish))?;
+        }
+        Ok(())
+    }
+
+    // Hands a report, and says whether it was taken.
+    fn hand<W: Write>(
+        &mut self,
+        page: &mut Page,
+        writer: &mut Writer<W>,
+        report: Report,
+    ) -> Result<bool, ServiceFault>
+        ensures ok { IfOk result (λ _. Steps (λ asked s. hands asked (report ∷ []) s) self.old self.new (λ text. Puts text page.old writer.old page.new writer.new)) }
+        ensures taken { IfOk result (λ taken. taken ≡ is_none (hand_refusal 256 self.old.shadow.phase (standby_of self.old.shadow) (next_of self.old.shadow report))) }
+        ensures numbers { IfOk result (λ taken. IsTrue taken → (dn : ℕ) → number_in self.new.shadow.numbers dn ≤ number_in self.old.shadow.numbers dn + 1) }
+        ensures exhausted { IsErrOf result ServiceFault.Exhausted → 2 ^ 63 ≤ number_in self.old.shadow.numbers report.dn + 1 }
+        ensures left { IfErr result (λ _. Steps (λ _ s. s) self.old self.new (λ text. Puts text page.old writer.old page.new writer.new)) }
+    {
+        let Some(message) = self.next_message(report) else {
+            return Err(ServiceFault::Exhausted);
+        };
+        match self.shadow.hand(message) {
+            Ok(_) => {
+                self.tell_events(page, writer);
+                Ok(true)
+            }
+            Err(fault) => {
+                if let HandCause::OutOfMemory = fault.cause {
+                    return Err(ServiceFault::OutOfMemory);
+                }
+                put_fault(page, writer, fault.cause.number(), " line ", self.lines);
+                Ok(false)
+            }
+        }
+    }
+
+    // The report under the number after the last one of its DataNode.
+    fn next_message(&self, report: Report) -> Option<Message>
+        ensures some { IfSome result (λ m. m ≡ next_of self.now.shadow report) }
+        ensures none { result ≡ None → 2 ^ 63 ≤ number_in self.now.shadow.numbers report.dn + 1 }
+    {
+        let last = self.shadow.last_number(report.dn);
+        if last >= NUMBERS - 1 {
+            return None;
+        }
+        Some(Message {
+            dn: report.dn,
+            number: last + 1,
+            block: report.block,
+            stamp: report.stamp,
+            len: report.len,
+            kind: report.kind,
+        })
+    }
+}
+
+// The begin or the end of a full report.
+fn mark_of(dn: u16, kind: Kind) -> Report
+    ensures { result ≡ mark_of dn kind }
+{
+    let (Some(block), Some(stamp), Some(len)) = (
+        BlockId::new(0),
+        GenerationStamp::new(0),
+        Length::new(0),
+    ) else {
+        unreachable!();
+    };
+    Report {
+        dn,
+        block,
+        stamp,
+        len,
+        kind,
+    }
+}

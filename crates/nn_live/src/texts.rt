@@ -1,0 +1,139 @@
+//! The lines that a service writes: words and numbers with one space between two of them.
+ghost use Rattle.std.specs.Prelude.{◌≡◌, ◌++◌, ◌==◌, ◌∷◌, [], if◌then◌else◌, codes, decimal};
+ghost use Rattle.nn_types.specs.declared.fault.TheConstants.{DISORDER};
+ghost use Rattle.nn_device.specs.Page.{Puts};
+ghost use Rattle.nn_live.specs.Answers.{and_number, datanode_text, held_line, line, state_of};
+ghost use Rattle.nn_live.specs.Serving.{fault_text};
+
+use nn_device::{Page, Writer};
+use nn_shadow::Stop;
+use nn_text::put_number;
+use nn_types::{Message, fault};
+use std::io::Write;
+
+/// Puts `fault N line L`, or with another place.
+pub(crate) fn put_fault<W: Write>(
+    page: &mut Page,
+    writer: &mut Writer<W>,
+    number: u8,
+    place: &str,
+    n: u64,
+)
+    ensures { Puts (fault_text number place.now n) page.old writer.old page.new writer.new }
+{
+    page.put(writer, b"fault ");
+    put_number(page, writer, u64::from(number));
+    page.put(writer, place.as_bytes());
+    put_number(page, writer, n);
+    page.put(writer, b"\n");
+}
+
+/// Puts `fault 57 txid N segment K`.
+pub(crate) fn put_gap<W: Write>(page: &mut Page, writer: &mut Writer<W>, next: u64, segment: u64)
+    ensures { Puts (fault_text DISORDER (codes " txid " ++ decimal next ++ codes " segment ") segment) page.old writer.old page.new writer.new }
+{
+    page.put(writer, b"fault ");
+    put_number(page, writer, u64::from(fault::DISORDER));
+    page.put(writer, b" txid ");
+    put_number(page, writer, next);
+    page.put(writer, b" segment ");
+    put_number(page, writer, segment);
+    page.put(writer, b"\n");
+}
+
+/// Puts `KEY N`.
+pub(crate) fn put_count<W: Write>(page: &mut Page, writer: &mut Writer<W>, key: &str, number: u64)
+    ensures { Puts (line key.now (decimal number)) page.old writer.old page.new writer.new }
+{
+    page.put(writer, key.as_bytes());
+    put_field(page, writer, number);
+    page.put_byte(writer, b'\n');
+}
+
+/// Puts `KEY N M`.
+pub(crate) fn put_counts_of<W: Write>(
+    page: &mut Page,
+    writer: &mut Writer<W>,
+    key: &str,
+    number: u64,
+    other: u64,
+)
+    ensures { Puts (line key.now (and_number (decimal number) other)) page.old writer.old page.new writer.new }
+{
+    page.put(writer, key.as_bytes());
+    put_field(page, writer, number);
+    put_field(page, writer, other);
+    page.put_byte(writer, b'\n');
+}
+
+/// Puts `KEY TEXT`.
+pub(crate) fn put_text<W: Write>(page: &mut Page, writer: &mut Writer<W>, key: &str, text: &str)
+    ensures { Puts (line key.now text.now) page.old writer.old page.new writer.new }
+{
+    page.put(writer, key.as_bytes());
+    page.put_byte(writer, b' ');
+    page.put(writer, text.as_bytes());
+    page.put_byte(writer, b'\n');
+}
+
+/// Puts `state standby`, `state active`, or `state stopped N T`.
+pub(crate) fn put_state<W: Write>(
+    page: &mut Page,
+    writer: &mut Writer<W>,
+    stop: Option<Stop>,
+    active: bool,
+)
+    ensures { Puts (line (codes "state") (state_of stop active)) page.old writer.old page.new writer.new }
+{
+    match stop {
+        Some(stop) => put_counts_of(
+            page,
+            writer,
+            "state stopped",
+            u64::from(stop.number),
+            stop.txid.get(),
+        ),
+        None => put_text(
+            page,
+            writer,
+            "state",
+            if active { "active" } else { "standby" },
+        ),
+    }
+}
+
+/// Puts `datanode D M`, unless no message came from the DataNode.
+pub(crate) fn put_datanode<W: Write>(
+    page: &mut Page,
+    writer: &mut Writer<W>,
+    dn: u16,
+    messages: u64,
+)
+    ensures { Puts (datanode_text dn messages) page.old writer.old page.new writer.new }
+{
+    if messages > 0 {
+        put_counts_of(page, writer, "datanode", u64::from(dn), messages);
+    }
+}
+
+/// Puts `held BLOCK DN NUMBER STAMP KIND`.
+pub(crate) fn put_held<W: Write>(page: &mut Page, writer: &mut Writer<W>, message: &Message)
+    ensures { Puts (held_line message.now) page.old writer.old page.new writer.new }
+{
+    page.put(writer, b"held");
+    put_field(page, writer, message.block.get());
+    put_field(page, writer, u64::from(message.dn));
+    put_field(page, writer, message.number);
+    put_field(page, writer, message.stamp.get());
+    page.put_byte(writer, b' ');
+    page.put(writer, message.kind.word().as_bytes());
+    page.put_byte(writer, b'\n');
+}
+
+// Puts a space and a number.
+fn put_field<W: Write>(page: &mut Page, writer: &mut Writer<W>, number: u64)
+    ensures { Puts (codes " " ++ decimal number) page.old writer.old page.new writer.new }
+{
+    page.put_byte(writer, b' ');
+    put_number(page, writer, number);
+}

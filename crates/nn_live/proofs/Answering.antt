@@ -1,8 +1,12 @@
 -- What the code answers is what the definition's service answers.
-use Rattle.std.proofs.Common.{◌≡◌, ℕ, length, map, Option, sym, ap}
+use Rattle.std.proofs.Common.{◌≡◌, ℕ, length, map, Option, sym, ap, ap₂, ◌∙◌}
 use Rattle.nn_model.specs.Counts.{safe_mode_of}
+use Rattle.nn_model.specs.Namespace.{Path, lookup}
 use Rattle.nn_model.specs.Stands.{StandbyState}
-use Rattle.nn_live.specs.Answers.{held_line, shown, status_lines}
+use Rattle.nn_model.specs.declared.form.Form.{Form}
+use Rattle.nn_replicas.specs.Calls.{replica_at}
+use Rattle.nn_shadow.specs.Contents.{standby_of}
+use Rattle.nn_live.specs.Answers.{block_text, held_line, path_text, shown, status_lines, unsafe_in}
 use Rattle.nn_live.specs.Live.{Asked, Service, does, figures_of, says}
 use Rattle.nn_live.specs.Serving.{Seen, IsAt, Makes, figures_seen}
 use Rattle.nn_live.specs.declared.word.Word.TheVariants as word
@@ -30,3 +34,14 @@ module _ (x : Seen) where
 
   pub held_told : (most : Option ℕ) → Makes (λ asked s. does asked (word.Held most) s) x x (shown most (map held_line x.shadow.held))
   held_told most = only_tells (λ asked s. does asked (word.Held most) s) x _ (λ asked s i. ap (λ (y : StandbyState). says (shown most (map held_line y.held)) s) (sym i.standby))
+
+  pub path_told : (p : Path) (found : Option Form) → found ≡ lookup x.shadow.namespace p → Makes (λ asked s. does asked (word.Path p) s) x x (path_text p found)
+  path_told p found is = only_tells (λ asked s. does asked (word.Path p) s) x _ (λ asked s i.
+      (sym (ap (λ o. says (path_text p o) s) is ∙ ap (λ (y : StandbyState). says (path_text p (lookup y.namespace p)) s) i.standby)))
+
+  pub unsafe_told : (most : Option ℕ) → Makes (λ asked s. does asked (word.Unsafe most) s) x x (shown most (unsafe_in x.shadow.table.min (replica_at x.shadow.table) x.shadow.namespace.rows))
+  unsafe_told most = only_tells (λ asked s. does asked (word.Unsafe most) s) x _ (λ asked s i.
+      ap₂ (λ (y : StandbyState) (a : Asked). says (shown most (unsafe_in a.min y.replica y.namespace.rows)) s) (sym i.standby) i.asks)
+
+  pub block_told : (id : ℕ) → Makes (λ asked s. does asked (word.Block id) s) x x (block_text (standby_of x.shadow) id)
+  block_told id = only_tells (λ asked s. does asked (word.Block id) s) x _ (λ asked s i. ap (λ (y : StandbyState). says (block_text y id) s) (sym i.standby))

@@ -13,5 +13,9 @@ pub mod Following
 pub mod Segments
 pub mod Editing
 pub mod Reading
+pub mod Tabling
+pub mod Lives
+pub mod Replicas
+pub mod Gone
 pub mod Promoting
 pub mod Answering

@@ -1,6 +1,6 @@
 -- Lines that are put piece by piece.
-use Rattle.std.proofs.Common.{◌≡◌, ℕ, zero, suc, ◌+◌, ◌-◌, ◌<◌, List, [], ◌∷◌, ◌++◌, map, take, refl, ap, arith, append_assoc}
-use Rattle.std.specs.Prelude.{codes, flat_map}
+use Rattle.std.proofs.Common.{◌≡◌, ℕ, zero, suc, ◌+◌, ◌-◌, ◌<◌, Bool, true, cond, List, [], ◌∷◌, ◌++◌, map, take, refl, ap, arith, append_assoc, sym}
+use Rattle.std.specs.Prelude.{codes, filter, flat_map}
 use Rattle.std.specs.List.{range_with_len}
 use Rattle.nn_types.specs.declared.report.Message.{Message}
 use Rattle.nn_listing.specs.Listing.{newline}
@@ -15,6 +15,16 @@ pub held_pieces : (block dn number stamp kind : List ℕ)
     → codes "held" ++ (field block ++ (field dn ++ (field number ++ (field stamp ++ (codes " " ++ (kind ++ newline ∷ []))))))
     ≡ codes "held " ++ block ++ codes " " ++ dn ++ codes " " ++ number ++ codes " " ++ stamp ++ codes " " ++ kind ++ newline ∷ []
 held_pieces block dn number stamp kind = simp append_assoc
+
+pub block_pieces : (block stamp len path : List ℕ)
+    → codes "block" ++ (field block ++ (field stamp ++ (field len ++ (codes " " ++ (path ++ newline ∷ [])))))
+    ≡ codes "block " ++ block ++ codes " " ++ stamp ++ codes " " ++ len ++ codes " " ++ path ++ newline ∷ []
+block_pieces block stamp len path = simp append_assoc
+
+pub unsafe_pieces : (block live path : List ℕ)
+    → codes "unsafe" ++ (field block ++ (field live ++ (codes " " ++ (path ++ newline ∷ []))))
+    ≡ codes "unsafe " ++ block ++ codes " " ++ live ++ codes " " ++ path ++ newline ∷ []
+unsafe_pieces block live path = simp append_assoc
 
 pub status_pieces : (a b c d e f g h i j : List ℕ) → a ++ (b ++ (c ++ (d ++ (e ++ (f ++ (g ++ (h ++ (i ++ j)))))))) ≡ a ++ b ++ c ++ d ++ e ++ f ++ g ++ h ++ i ++ j
 status_pieces a b c d e f g h i j = simp append_assoc
@@ -38,3 +48,7 @@ one_datanode count dn some = at (count - dn) (count - (dn + 1)) (omega (arith, s
 pub all_datanodes : datanodes ≡ range_with_len 1 256
 unfolding datanodes
 all_datanodes = refl
+
+-- the text of the first element that passes
+pub first_kept : {X : Type 0} (p : X → Bool) (f : X → List ℕ) (x : X) (xs : List X) → true ≡ p x → flat_map f (filter p (x ∷ xs)) ≡ f x ++ flat_map f (filter p xs)
+first_kept p f x xs is = ap (λ b. flat_map f (cond b (x ∷ filter p xs) (filter p xs))) (sym is)

@@ -94,8 +94,3 @@ module _ (x : Seen) (txid : ℕ) (losing : Bool) where
 
           becomes : (asked : Asked) (s : Service) → IsAt asked x s → step asked s ≡ becomes_active asked s
           becomes asked s i = between asked s i ∙ ap (λ b. cond b (becomes_active asked s) (tells DISORDER (codes " txid ") (s.standby.last + 1) s)) ends
-
--- what is not false is true
-pub isnt_false : (b : Bool) → false ≡ not b → b ≡ true
-isnt_false true e = refl
-isnt_false false e = absurd (cc)

@@ -1,5 +1,5 @@
 -- A line of data that the code took, or told, is one that the definition's service took or told.
-use Rattle.std.proofs.Common.{◌≡◌, List, ℕ, [], ◌∷◌, Ok, Err, Result, codes, refl, sym, ap, ◌∙◌}
+use Rattle.std.proofs.Common.{◌≡◌, List, ℕ, Bool, true, false, cond, length, ◌==◌, [], ◌∷◌, Option, Some, None, Ok, Err, Result, codes, refl, sym, ap, ap₂, ◌∙◌}
 use Rattle.nn_types.specs.declared.report.Report.{Report}
 use Rattle.nn_types.specs.declared.tx.Tx.{Tx}
 use Rattle.nn_edits.specs.Fault.{number_of}
@@ -9,9 +9,13 @@ use Rattle.nn_edits.specs.declared.fault.LineFault.{LineFault}
 use Rattle.nn_edits.specs.declared.fault.LineFault.TheVariants as fault
 use Rattle.nn_edits.specs.declared.line.Line.{Line}
 use Rattle.nn_edits.specs.declared.line.Line.TheVariants as either
-use Rattle.nn_live.specs.Live.{Asked, Service, hands, says, takes_edit, takes_read}
+use Rattle.nn_live.specs.Live.{Asked, Service, answers, counts_line, hands, says, takes, takes_edit, takes_read, takes_torn, takes_word, tears_word}
+use Rattle.nn_types.specs.declared.fault.TheConstants.{NOT_JSON}
+use Rattle.nn_live.specs.Words.{word_in}
+use Rattle.nn_live.specs.declared.word.Word.{Word}
+use Rattle.nn_scenario.specs.Scenario.{is_blank}
 use Rattle.nn_live.specs.Serving.{Seen, Makes, fault_text}
-use Rattle.nn_live.proofs.Places.{only_tells, same_makes}
+use Rattle.nn_live.proofs.Places.{nothing_done, only_tells, same_makes, then_makes}
 
 -- a fault that is told is the one that is given
 pub given_fault : (e : LineFault) (given : Result Line LineFault) → Fails e given → (e ≡ fault.OutOfMemory → ⊥) → given ≡ Err e
@@ -36,3 +40,59 @@ module _ (text : List ℕ) (x : Seen) where
 
   pub fault_read : (e : LineFault) → either_of_line text ≡ Err e → Makes step x x (fault_text (number_of e) (codes " line ") x.lines)
   fault_read e is = only_tells step x _ (λ asked s i. (ap (λ r. takes_read asked text r s) is ∙ ap (λ l. says (fault_text (number_of e) (codes " line ") l) s) (sym i.lines)))
+
+-- ---- A line of any kind.
+
+module _ (text : List ℕ) where
+  abbrev by_kind : Asked → Bool → Option Word → Service → Service
+  by_kind asked blank word s = cond blank (counts_line s) (takes_word asked text word (counts_line s))
+
+  line_is : (asked : Asked) (s : Service) → takes asked text s ≡ by_kind asked (is_blank text) (word_in text) s
+  unfolding takes
+  line_is asked s = refl
+
+  pub blank_line : (x y : Seen) → is_blank text ≡ true → Makes (λ asked s. counts_line s) x y [] → Makes (λ asked s. takes asked text s) x y []
+  blank_line x y blank made = same_makes (λ asked s. takes asked text s) (λ asked s. counts_line s) x y [] (λ asked s i.
+      (line_is asked s ∙ ap (λ b. by_kind asked b (word_in text) s) blank)) made
+
+  pub word_line : (x y z : Seen) (w : Word) (told : List ℕ) → is_blank text ≡ false → word_in text ≡ Some w → Makes (λ asked s. counts_line s) x y [] → Makes (λ asked s. answers asked w s) y z told
+      → Makes (λ asked s. takes asked text s) x z told
+  word_line x y z w told isnt is made later = same_makes (λ asked s. takes asked text s) (λ asked s. answers asked w (counts_line s)) x z told (λ asked s i.
+      (line_is asked s ∙ ap₂ (λ b o. by_kind asked b o s) isnt is)) (then_makes (λ asked s. counts_line s) (λ asked s. answers asked w s) x y z [] told made later)
+
+  pub data_line : (x y z : Seen) (told : List ℕ) → is_blank text ≡ false → word_in text ≡ None → Makes (λ asked s. counts_line s) x y [] → Makes (λ asked s. takes_read asked text (either_of_line text) s) y z told
+      → Makes (λ asked s. takes asked text s) x z told
+  data_line x y z told isnt is made later = same_makes (λ asked s. takes asked text s) (λ asked s. takes_read asked text (either_of_line text) (counts_line s)) x z told (λ asked s i.
+      (line_is asked s ∙ ap₂ (λ b o. by_kind asked b o s) isnt is)) (then_makes (λ asked s. counts_line s) (λ asked s. takes_read asked text (either_of_line text) s) x y z [] told made later)
+
+  -- ---- The bytes behind the last line feed.
+
+  abbrev torn_by : Asked → Bool → Bool → Option Word → Service → Service
+  torn_by asked none blank word s = cond none s (cond blank (counts_line s) (tears_word text word asked (counts_line s)))
+
+  torn_is : (asked : Asked) (s : Service) → takes_torn asked text s ≡ torn_by asked (length text == 0) (is_blank text) (word_in text) s
+  unfolding takes_torn
+  torn_is asked s = refl
+
+  abbrev torn : Asked → Service → Service
+  torn asked s = takes_torn asked text s
+
+  pub nothing_torn : (x : Seen) → (length text == 0) ≡ true → Makes torn x x []
+  nothing_torn x none = nothing_done torn x (λ asked s i. (torn_is asked s ∙ ap (λ b. torn_by asked b (is_blank text) (word_in text) s) none))
+
+  module _ (some : (length text == 0) ≡ false) where
+    there : (asked : Asked) (s : Service) → takes_torn asked text s ≡ torn_by asked false (is_blank text) (word_in text) s
+    there asked s = torn_is asked s ∙ ap (λ b. torn_by asked b (is_blank text) (word_in text) s) some
+
+    pub blank_torn : (x y : Seen) → is_blank text ≡ true → Makes (λ asked s. counts_line s) x y [] → Makes torn x y []
+    blank_torn x y blank made = same_makes torn (λ asked s. counts_line s) x y [] (λ asked s i. (there asked s ∙ ap (λ b. torn_by asked false b (word_in text) s) blank)) made
+
+    pub word_torn : (x y : Seen) (w : Word) → is_blank text ≡ false → word_in text ≡ Some w → Makes (λ asked s. counts_line s) x y [] → Makes torn x y (fault_text NOT_JSON (codes " line ") y.lines)
+    word_torn x y w isnt is made = same_makes torn (λ asked s. tears_word text (Some w) asked (counts_line s)) x y _ (λ asked s i. (there asked s ∙ ap₂ (λ b o. torn_by asked false b o s) isnt is))
+        (then_makes (λ asked s. counts_line s) (λ asked s. tears_word text (Some w) asked s) x y y [] _ made
+        (only_tells (λ asked s. tears_word text (Some w) asked s) y _ (λ asked s i. ap (λ l. says (fault_text NOT_JSON (codes " line ") l) s) (sym i.lines))))
+
+    pub data_torn : (x y z : Seen) (told : List ℕ) → is_blank text ≡ false → word_in text ≡ None → Makes (λ asked s. counts_line s) x y [] → Makes (λ asked s. takes_read asked text (either_of_line text) s) y z told
+        → Makes torn x z told
+    data_torn x y z told isnt is made later = same_makes torn (λ asked s. takes_read asked text (either_of_line text) (counts_line s)) x z told (λ asked s i.
+        (there asked s ∙ ap₂ (λ b o. torn_by asked false b o s) isnt is)) (then_makes (λ asked s. counts_line s) (λ asked s. takes_read asked text (either_of_line text) s) x y z [] told made later)

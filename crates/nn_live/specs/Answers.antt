@@ -1,6 +1,7 @@
 -- What a standby in service answers: lines of words, each with one space between two words.
 use Rattle.std.specs.Prelude.{ℕ, ◌-◌, Bool, true, false, ◌==◌, nat_le, if◌then◌else◌, List, [], ◌∷◌, ◌++◌, length, take, filter, flat_map, Option, Some, None, codes, decimal}
 use Rattle.nn_types.specs.declared.block.Block.{Block}
+use Rattle.nn_types.specs.declared.replica.Replica.{Replica}
 use Rattle.nn_types.specs.declared.report.Message.{Message}
 use Rattle.nn_types.specs.Words.{kind_text}
 use Rattle.nn_model.specs.declared.form.Form.{Form}
@@ -10,7 +11,7 @@ use Rattle.nn_model.specs.Namespace.{Path, Namespace, blocks_of}
 use Rattle.nn_model.specs.Stands.{StandbyState}
 use Rattle.nn_model.specs.Status.{block_at}
 use Rattle.nn_listing.specs.Listing.{newline, path_json, line_of}
-use Rattle.nn_listing.specs.Tables.{datanodes, of_each, replica_text, order_text, blocks_line}
+use Rattle.nn_listing.specs.Tables.{datanodes, replica_text, replica_lines_by, order_text, order_lines_by, blocks_line}
 use Rattle.nn_shadow.specs.declared.fault.Stop.{Stop}
 
 -- `KEY VALUE`
@@ -68,23 +69,28 @@ held_line m =
     ++ codes " " ++ kind_text m.kind ++ newline ∷ []
 
 -- `unsafe BLOCK LIVE PATH`, of a block that has fewer live replicas than it has to have
-abbrev pub unsafe_of : ℕ → StandbyState → Path → Block → List (List ℕ)
-unsafe_of min x p b =
-    if nat_le min (live_count x.replica b) then [] else line (codes "unsafe") (and_number (decimal b.id) (live_count x.replica b) ++ codes " " ++ path_json p) ∷ []
+abbrev pub unsafe_of : ℕ → (ℕ → ℕ → Option Replica) → Path → Block → List (List ℕ)
+unsafe_of min replica p b =
+    if nat_le min (live_count replica b) then [] else (codes "unsafe " ++ decimal b.id ++ codes " " ++ decimal (live_count replica b) ++ codes " " ++ path_json p ++ newline ∷ []) ∷ []
 
 -- such blocks of closed files, in path order
-abbrev pub unsafe_lines : ℕ → StandbyState → List (List ℕ)
-unsafe_lines min x = flat_map (λ row. flat_map (unsafe_of min x row.0) (closed_blocks_of row.1)) x.namespace.rows
+abbrev pub unsafe_in : ℕ → (ℕ → ℕ → Option Replica) → List (Path × Form) → List (List ℕ)
+unsafe_in min replica rows = flat_map (λ row. flat_map (unsafe_of min replica row.0) (closed_blocks_of row.1)) rows
 
 -- ---- One block, one path.
 
 -- `block BLOCK STAMP LEN PATH`
 abbrev pub block_line : Path → Block → List ℕ
-block_line p b = line (codes "block") (and_number (and_number (decimal b.id) b.stamp) b.len ++ codes " " ++ path_json p)
+block_line p b =
+    codes "block " ++ decimal b.id ++ codes " " ++ decimal b.stamp ++ codes " " ++ decimal b.len ++ codes " " ++ path_json p ++ newline ∷ []
+
+-- of the blocks with this id at a path
+abbrev pub holder_lines : ℕ → Path × Form → List ℕ
+holder_lines id row = flat_map (block_line row.0) (filter (λ b. b.id == id) (blocks_of row.1))
 
 -- that line for the file that holds the block, if one does
 abbrev pub holder_text : Namespace → ℕ → List ℕ
-holder_text n id = flat_map (λ row. flat_map (block_line row.0) (filter (λ b. b.id == id) (blocks_of row.1))) n.rows
+holder_text n id = flat_map (holder_lines id) n.rows
 
 abbrev pub replicas_text : StandbyState → ℕ → List ℕ
 replicas_text x id = flat_map (λ dn. replica_text id (block_at x.namespace id) dn (x.replica dn id)) datanodes
@@ -94,7 +100,7 @@ orders_text x id = flat_map (λ dn. order_text id dn (x.has_order dn id)) datano
 
 -- its file, its replicas, its orders, and what waits for it
 abbrev pub block_text : StandbyState → ℕ → List ℕ
-block_text x id = holder_text x.namespace id ++ replicas_text x id ++ orders_text x id ++ flat_map held_line (filter (λ m. m.block == id) x.held)
+block_text x id = holder_text x.namespace id ++ (replicas_text x id ++ (orders_text x id ++ flat_map held_line (filter (λ m. m.block == id) x.held)))
 
 -- the line of a path in the tables, if anything is there
 abbrev pub path_text : Path → Option Form → List ℕ
@@ -106,5 +112,4 @@ path_text p (Some form) = line_of p form
 -- all replicas and orders that there are, where these are the items of the messages that were taken
 abbrev pub tables_now : ℕ → ℕ → Lanes → StandbyState → List ℕ
 tables_now permille min lanes x =
-    of_each lanes (λ id dn. replica_text id (block_at x.namespace id) dn (x.replica dn id))
-    ++ of_each lanes (λ id dn. order_text id dn (x.has_order dn id)) ++ blocks_line (safe_mode_of permille min x.namespace x.replica)
+    replica_lines_by x.namespace lanes x.replica ++ order_lines_by lanes x.has_order ++ blocks_line (safe_mode_of permille min x.namespace x.replica)

@@ -38,7 +38,7 @@ use Rattle.nn_shadow.specs.Calls.{applied_to, received, flushed, without_history
 use Rattle.nn_shadow.specs.Numbers.{number_of_apply, number_of_hand, number_of_flush}
 use Rattle.nn_shadow.specs.Refusals.{Phase, apply_refusal, hand_refusal, flush_refusal, phase_after_apply}
 use Rattle.nn_engine.specs.Output.{image_fault}
-use Rattle.nn_live.specs.Answers.{Figures, line, status_lines, shown, held_line, unsafe_lines, block_text, path_text, tables_now}
+use Rattle.nn_live.specs.Answers.{Figures, line, status_lines, shown, held_line, unsafe_in, block_text, path_text, tables_now}
 use Rattle.nn_live.specs.Words.{word_in}
 use Rattle.nn_live.specs.declared.word.Word.{Word}
 use Rattle.nn_live.specs.declared.word.Word.TheVariants as word
@@ -201,7 +201,7 @@ abbrev pub does : Asked → Word → Service → Service
 does asked word.Sync s = s
 does asked word.Status s = says (status_lines (figures_of asked s)) s
 does asked (word.Held most) s = says (shown most (map held_line s.standby.held)) s
-does asked (word.Unsafe most) s = says (shown most (unsafe_lines asked.min s.standby)) s
+does asked (word.Unsafe most) s = says (shown most (unsafe_in asked.min s.standby.replica s.standby.namespace.rows)) s
 does asked (word.Block id) s = says (block_text s.standby id) s
 does asked (word.Path p) s = says (path_text p (lookup s.standby.namespace p)) s
 does asked word.Tables s = says (listing_text s.standby.last s.standby.namespace ++ tables_now asked.permille asked.min (items s.sent) s.standby) s

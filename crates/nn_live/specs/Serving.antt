@@ -8,7 +8,9 @@ use Rattle.nn_scenario.specs.Checking.{Check, IsCheckOf}
 use Rattle.nn_scenario.specs.Cut.{EditLine, Part, no_lines, last_part, segment_of, with_line}
 use Rattle.nn_scenario.specs.Reading.{Reading}
 use Rattle.nn_scenario.specs.Steps.{message}
-use Rattle.nn_replicas.specs.Calls.{replica_at}
+use Rattle.nn_replicas.specs.Calls.{replica_at, has_order}
+use Rattle.nn_listing.specs.Tables.{replica_lines_by, order_lines_by, blocks_line}
+use Rattle.nn_model.specs.Lanes.{Lanes}
 use Rattle.nn_model.specs.Counts.{safe_mode_of}
 use Rattle.nn_model.specs.Namespace.{Namespace}
 use Rattle.nn_shadow.specs.Contents.{Contents, standby_of, number_in}
@@ -56,6 +58,12 @@ figures_seen x = record {
   messages = number_in x.shadow.numbers;
   blocks = safe_mode_of x.shadow.permille x.shadow.table.min x.shadow.namespace (replica_at x.shadow.table);
 }
+
+-- the replicas and orders that are looked up in its table, and its counts
+abbrev pub tables_seen : Namespace → Lanes → Seen → List ℕ
+tables_seen n lanes x =
+    replica_lines_by n lanes (replica_at x.shadow.table) ++ order_lines_by lanes (has_order x.shadow.table)
+    ++ blocks_line (safe_mode_of x.shadow.permille x.shadow.table.min x.shadow.namespace (replica_at x.shadow.table))
 
 -- ---- It stands for the definition's.
 
@@ -152,3 +160,7 @@ closed x = record x { shadow = record x.shadow { phase = record x.shadow.phase {
 -- a count of a service has come so far that an edit may be refused
 abbrev pub IsNearEnd : Seen → Type 0
 IsNearEnd x = (2 ^ 62 ≤ x.in_hand.edits + 1) ⊎ (2 ^ 63 ≤ x.segments + 1) ⊎ (2 ^ 63 ≤ x.passed)
+
+-- or a line of any kind
+abbrev pub IsAtEnd : Seen → Type 0
+IsAtEnd x = IsNearEnd x ⊎ (dn : ℕ) × (2 ^ 63 ≤ number_in x.shadow.numbers dn + 2)

@@ -5,12 +5,14 @@
 //! told by one line.
 //!
 //! The definition is in `specs/Live`, with the texts of the answers in `Answers`; its laws are functions that do nothing.
-//! `Word::read` reads what a line asks for. A `Service` takes lines of data, is promoted, and answers `status`, `held` and
-//! `checkpoint`: its caller cuts the lines, and knows which of them are words.
+//! `Word::read` reads what a line asks for. A `Service` takes lines, each when it has ended, and what is left at the end of the
+//! input: it does and tells just what the definition says. Its caller cuts the lines.
 #![tactic(auto)]
 
 mod in_hand;
 mod laws;
+mod one_block;
+mod safety;
 mod service;
 mod texts;
 mod word;

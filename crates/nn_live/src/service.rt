@@ -1,5 +1,5 @@
 //! A standby in service: what it does with each line, and what it tells.
-ghost use Rattle.std.specs.Prelude.{◌≡◌, ◌≤◌, ◌<◌, ◌^◌, [], if◌then◌else◌, IfOk, OnOk, IfErr, IsErrOf};
+ghost use Rattle.std.specs.Prelude.{◌≡◌, ◌≤◌, ◌<◌, ◌+◌, ◌^◌, [], if◌then◌else◌, IfOk, OnOk, IfErr, IsErrOf};
 ghost use Rattle.nn_device.specs.Page.{Puts};
 ghost use Rattle.nn_listing.specs.Trail.{history_text};
 ghost use Rattle.nn_live.specs.Live.{Asked, begun, counts_line};
@@ -40,6 +40,8 @@ pub struct Service {
     // whether events are told
     history: bool,
     version: &'static str,
+    // how many live replicas make a block safe
+    min: u16,
     // the greatest txid of any edit line
     known: u64,
     // how many transactions were passed over, how many segments have ended, how many lines were read
@@ -58,7 +60,7 @@ impl Model for Service {
 
     ghost view = { λ s. record { shadow = s.shadow; in_hand = s.in_hand; history = s.history; version = s.version.now; known = s.known; passed = s.passed; segments = s.segments; lines = s.lines } };
 
-    ghost invariant = { λ s. (length s.shadow.numbers ≡ 256) × ((part : Part) × Keeps part s.in_hand) };
+    ghost invariant = { λ s. (length s.shadow.numbers ≡ 256) × ((part : Part) × Keeps part s.in_hand) × (s.min ≡ s.shadow.table.min) };
 }
 
 impl Service {
@@ -81,6 +83,7 @@ impl Service {
             in_hand: InHand::none(alloc),
             history,
             version,
+            min: settings.min(),
             known: txid,
             passed: 0,
             segments: 0,
@@ -96,9 +99,10 @@ impl Service {
         &self.shadow
     }
 
-    /// One more line came: what is told of it from now on has its number.
-    pub fn next_line(&mut self) -> Result<(), ServiceFault>
+    // One more line came: what is told of it from now on has its number.
+    fn next_line(&mut self) -> Result<(), ServiceFault>
         ensures ok { OnOk result (Makes (λ _ s. counts_line s) self.old self.new []) }
+        ensures counted { OnOk result (self.new ≡ record self.old { lines = self.old.lines + 1 }) }
         ensures exhausted { IsErrOf result ServiceFault.Exhausted → 2 ^ 63 ≤ self.old.lines }
         ensures left { IfErr result (λ _. self.new ≡ self.old) }
     {

@@ -2,13 +2,15 @@
 ghost use Rattle.std.specs.Prelude.{◌≡◌, ◌++◌, ◌==◌, ◌∷◌, [], if◌then◌else◌, codes, decimal};
 ghost use Rattle.nn_types.specs.declared.fault.TheConstants.{DISORDER};
 ghost use Rattle.nn_device.specs.Page.{Puts};
-ghost use Rattle.nn_live.specs.Answers.{and_number, datanode_text, held_line, line, state_of};
+ghost use Rattle.nn_tree.specs.Listing.{lent_names};
+ghost use Rattle.nn_listing.specs.Listing.{newline, path_json};
+ghost use Rattle.nn_live.specs.Answers.{and_number, block_line, datanode_text, held_line, line, state_of};
 ghost use Rattle.nn_live.specs.Serving.{fault_text};
 
 use nn_device::{Page, Writer};
 use nn_shadow::Stop;
-use nn_text::put_number;
-use nn_types::{Message, fault};
+use nn_text::{put_number, put_path};
+use nn_types::{Block, BlockId, Message, fault};
 use std::io::Write;
 
 /// Puts `fault N line L`, or with another place.
@@ -127,6 +129,42 @@ pub(crate) fn put_held<W: Write>(page: &mut Page, writer: &mut Writer<W>, messag
     put_field(page, writer, message.stamp.get());
     page.put_byte(writer, b' ');
     page.put(writer, message.kind.word().as_bytes());
+    page.put_byte(writer, b'\n');
+}
+
+/// Puts `block BLOCK STAMP LEN PATH`, of the path with these names.
+pub(crate) fn put_block<W: Write>(
+    page: &mut Page,
+    writer: &mut Writer<W>,
+    names: &[&str],
+    block: &Block,
+)
+    ensures { Puts (block_line (lent_names names.now) block.now) page.old writer.old page.new writer.new }
+{
+    page.put(writer, b"block");
+    put_field(page, writer, block.id.get());
+    put_field(page, writer, block.stamp.get());
+    put_field(page, writer, block.len.get());
+    page.put_byte(writer, b' ');
+    put_path(page, writer, names);
+    page.put_byte(writer, b'\n');
+}
+
+/// Puts `unsafe BLOCK LIVE PATH`, of the path with these names.
+pub(crate) fn put_unsafe<W: Write>(
+    page: &mut Page,
+    writer: &mut Writer<W>,
+    id: BlockId,
+    live: u64,
+    names: &[&str],
+)
+    ensures { Puts (codes "unsafe " ++ decimal id ++ codes " " ++ decimal live ++ codes " " ++ path_json (lent_names names.now) ++ newline ∷ []) page.old writer.old page.new writer.new }
+{
+    page.put(writer, b"unsafe");
+    put_field(page, writer, id.get());
+    put_field(page, writer, live);
+    page.put_byte(writer, b' ');
+    put_path(page, writer, names);
     page.put_byte(writer, b'\n');
 }
 

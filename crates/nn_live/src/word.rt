@@ -1,5 +1,5 @@
 //! The words by which a caller asks something of a standby in service.
-ghost use Rattle.std.specs.Prelude.{◌≡◌, IfOk, option_map};
+ghost use Rattle.std.specs.Prelude.{◌≡◌, ◌<◌, ◌^◌, IfOk, IfSome, option_map};
 ghost use Rattle.serde_json.specs.Data.{Data};
 ghost use Rattle.serde_json.specs.Find.{as_str};
 ghost use Rattle.nn_plain.specs.Spelling.{plain_of, spelled_or};
@@ -8,7 +8,7 @@ ghost use Rattle.nn_live.specs.Words.{fronted, alone, asking, number_in, path_in
 use itoa::Buffer;
 use json::{Reader, Scratch};
 use nn_plain::{Plain, read_value};
-use nn_types::{Path, PathFault};
+use nn_types::{BlockId, Path, PathFault};
 use simdutf8::basic::from_utf8;
 use std::alloc::{AllocError, Global};
 
@@ -31,7 +31,7 @@ pub enum Word {
     Held(Option<u64>),
     /// What keeps safe mode on, at most so many lines.
     Unsafe(Option<u64>),
-    Block(u64),
+    Block(BlockId),
     Path(Path),
     Tables,
     Checkpoint,
@@ -100,7 +100,7 @@ fn before_number(line: &[u8]) -> Option<Word>
         return Some(Word::Unsafe(Some(number_in(text)?)));
     }
     if let Some(text) = line.strip_prefix(b"block ") {
-        return Some(Word::Block(number_in(text)?));
+        return Some(Word::Block(id_in(text)?));
     }
     if let Some(text) = line.strip_prefix(b"gone ") {
         return Some(Word::Gone(number_in(text)?));
@@ -118,9 +118,21 @@ fn promotion_in(text: &[u8]) -> Option<Word>
     }
 }
 
+// The block id that a text is.
+fn id_in(text: &[u8]) -> Option<BlockId>
+    ensures { result ≡ number_in text.now }
+{
+    let number = number_in(text)?;
+    let Some(id) = BlockId::new(number) else {
+        unreachable!();
+    };
+    Some(id)
+}
+
 // The number of the formats that a text is, written as the program writes it.
 fn number_in(text: &[u8]) -> Option<u64>
-    ensures { result ≡ number_in text.now }
+    ensures number { result ≡ number_in text.now }
+    ensures small { IfSome result (λ n. n < 2 ^ 63) }
 {
     let Ok(number) = fast_float::parse_u64(text) else {
         return None;

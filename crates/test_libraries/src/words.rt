@@ -3,7 +3,7 @@ use json::Scratch;
 use nn_live::Word;
 use std::test::Fail;
 
-// The words that stand alone in turn, and 100 and more with a number; 0 is no word.
+// The words that stand alone in turn, and 100 and more with a number or a block; 0 is no word.
 fn number_of(word: Option<Word>) -> u64 {
     match word {
         None => 0,
@@ -16,7 +16,7 @@ fn number_of(word: Option<Word>) -> u64 {
         Some(Word::Path(_)) => 7,
         Some(Word::Held(Some(n))) => 100 + n % 50,
         Some(Word::Unsafe(Some(n))) => 200 + n % 50,
-        Some(Word::Block(n)) => 300 + n % 50,
+        Some(Word::Block(_)) => 300,
         Some(Word::Gone(n)) => 400 + n % 50,
         Some(Word::Promote(n)) => 500 + n % 50,
         Some(Word::PromoteLosing(n)) => 600 + n % 50,
@@ -36,7 +36,7 @@ fn each_word_is_read(rt: HostRuntime) -> Result<(), Fail> {
         ("path \"/a/b\\u0063\"", 7),
         ("held 0", 100),
         ("unsafe 1", 201),
-        ("block 1073741825", 325),
+        ("block 1073741825", 300),
         ("gone 3", 403),
         ("promote 9223372036854775807", 507),
         ("promote 4 lost", 604),

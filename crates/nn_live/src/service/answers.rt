@@ -1,39 +1,197 @@
 //! What a service answers.
-ghost use Rattle.std.specs.Prelude.{◌≡◌, ◌≤◌, ◌^◌, ◌++◌, [], flat_map, map, take, IfErr, IfOk, OnOk};
+ghost use Rattle.std.specs.Prelude.{◌≡◌, ◌≤◌, ◌^◌, ◌++◌, [], flat_map, map, take, IfErr, IfOk, IsErrOf, OnOk, if◌then◌else◌, nat_le};
 ghost use Rattle.nn_device.specs.Page.{Puts};
 ghost use Rattle.nn_image.specs.Text.{image_text};
-ghost use Rattle.nn_listing.specs.Tables.{datanodes};
+ghost use Rattle.nn_listing.specs.Listing.{listing_text};
+ghost use Rattle.nn_listing.specs.Tables.{IsOfSaid, datanodes};
+ghost use Rattle.nn_model.specs.Lanes.{Lanes};
+ghost use Rattle.nn_model.specs.Namespace.{Namespace};
 ghost use Rattle.nn_shadow.specs.Contents.{number_in};
+ghost use Rattle.nn_tree.specs.Listing.{lent_names};
+ghost use Rattle.nn_tree.specs.Rows.{greatest_depth};
 ghost use Rattle.nn_live.specs.Answers.{datanode_text, held_line, shown, status_lines};
-ghost use Rattle.nn_live.specs.Live.{does};
-ghost use Rattle.nn_live.specs.Serving.{Steps, figures_seen};
+ghost use Rattle.nn_live.specs.Live.{answers, does};
+ghost use Rattle.nn_live.specs.Serving.{IsAtEnd, Steps, figures_seen, tables_seen};
 ghost use Rattle.nn_live.specs.declared.word.Word.TheVariants as word;
 
 use super::{DATANODES, Service, ServiceFault};
+use crate::one_block::{put_held_of, put_holder, put_orders_of, put_replicas_of};
+use crate::safety::put_unsafe_rows;
 use crate::texts::{put_count, put_counts_of, put_datanode, put_held, put_state, put_text};
 use crate::word::Word;
 use nn_device::{Page, Writer};
 use nn_image::ReadyImage;
-use nn_listing::put_counts;
+use nn_listing::{ReadyListing, ReadyTables, put_counts, put_row};
 use nn_postponed::Held;
-use nn_types::Txid;
+use nn_replicas::SafeMode;
+use nn_tree::Rows;
+use nn_types::{BlockId, Path, Txid};
 use std::alloc::{AllocError, Global};
 use std::io::Write;
 
 impl Service {
-    /// Answers with the state, the counts, a line for each DataNode that sent messages, and safe mode.
-    pub fn status<W: Write>(&self, page: &mut Page, writer: &mut Writer<W>)
+    /// What a word asks for is done, and then `done L` is told, where L is the number of the line. Where memory is refused, that line
+    /// is not told.
+    pub(super) fn answer<W: Write>(
+        &mut self,
+        page: &mut Page,
+        writer: &mut Writer<W>,
+        word: &Word,
+    ) -> Result<(), ServiceFault>
+        ensures ok { OnOk result (Steps (λ asked s. answers asked word.now s) self.old self.new (λ text. Puts text page.old writer.old page.new writer.new)) }
+        ensures exhausted { IsErrOf result ServiceFault.Exhausted → IsAtEnd self.old }
+    {
+        self.does(page, writer, word)?;
+        put_count(page, writer, "done", self.lines);
+        Ok(())
+    }
+
+    fn does<W: Write>(
+        &mut self,
+        page: &mut Page,
+        writer: &mut Writer<W>,
+        word: &Word,
+    ) -> Result<(), ServiceFault>
+        ensures ok { OnOk result (Steps (λ asked s. does asked word.now s) self.old self.new (λ text. Puts text page.old writer.old page.new writer.new)) }
+        ensures exhausted { IsErrOf result ServiceFault.Exhausted → IsAtEnd self.old }
+    {
+        match word {
+            Word::Sync => return Ok(()),
+            Word::Status => self.status(page, writer),
+            Word::Held(most) => self.held(page, writer, *most),
+            Word::Unsafe(most) => return self.unsafe_blocks(page, writer, *most),
+            Word::Block(id) => return self.block(page, writer, *id),
+            Word::Path(path) => return self.path(page, writer, path),
+            Word::Tables => return self.tables(page, writer),
+            Word::Checkpoint => return self.checkpoint(page, writer),
+            Word::Gone(dn) => return self.gone(page, writer, lane_of(*dn)),
+            Word::Promote(txid) => return self.promote(page, writer, *txid, false),
+            Word::PromoteLosing(txid) => return self.promote(page, writer, *txid, true),
+        }
+        Ok(())
+    }
+
+    // Answers with the state, the counts, a line for each DataNode that sent messages, and safe mode.
+    fn status<W: Write>(&self, page: &mut Page, writer: &mut Writer<W>)
         ensures { Steps (λ asked s. does asked Word.Status s) self.now self.now (λ text. Puts text page.old writer.old page.new writer.new) }
     {
         self.put_status(page, writer);
     }
 
-    /// Answers with what waits, by block and then in the order of arrival: at most so many lines, and then how many more there
-    /// are.
-    pub fn held<W: Write>(&self, page: &mut Page, writer: &mut Writer<W>, most: Option<u64>)
+    // Answers with what waits, by block and then in the order of arrival: at most so many lines, and then how many more there
+    // are.
+    fn held<W: Write>(&self, page: &mut Page, writer: &mut Writer<W>, most: Option<u64>)
         ensures { Steps (λ asked s. does asked (word.Held most) s) self.now self.now (λ text. Puts text page.old writer.old page.new writer.new) }
     {
         self.put_waiting(page, writer, most);
+    }
+
+    // Answers with the listing of the namespace, and all replicas, orders and counts. What takes memory is done before the first
+    // byte.
+    fn tables<W: Write>(&self, page: &mut Page, writer: &mut Writer<W>) -> Result<(), ServiceFault>
+        ensures ok { OnOk result (Steps (λ asked s. does asked Word.Tables s) self.now self.now (λ text. Puts text page.old writer.old page.new writer.new)) }
+        ensures left { IfErr result (λ fault. (fault ≡ ServiceFault.OutOfMemory) × Puts [] page.old writer.old page.new writer.new) }
+    {
+        self.shadow.consistent();
+        let (Ok(listing), Ok(tables)) = (self.listing(), self.table_lines()) else {
+            return Err(ServiceFault::OutOfMemory);
+        };
+        listing.put(page, writer);
+        tables.put(page, writer);
+        Ok(())
+    }
+
+    fn listing(&self) -> Result<ReadyListing<'_>, AllocError>
+        ensures { IfOk result (λ listing. listing ≡ listing_text self.now.shadow.last self.now.shadow.namespace) }
+    {
+        let namespace = self.shadow.namespace();
+        ReadyListing::of(namespace, namespace.extent()?, self.shadow.last_txid())
+    }
+
+    fn table_lines(&self) -> Result<ReadyTables<'_>, AllocError>
+        ensures { (n : Namespace) (lanes : Lanes) → IsOfSaid n lanes self.now.shadow.table
+            → IfOk result (λ tables. tables ≡ tables_seen n lanes self.now) }
+    {
+        ReadyTables::of(self.alloc, self.shadow.replicas(), self.shadow.safe_mode())
+    }
+
+    // Answers with the blocks of closed files that have fewer live replicas than they have to have, in path order: what keeps safe
+    // mode on. At most so many lines come, and then how many more there are. It goes through the namespace until it has them.
+    fn unsafe_blocks<W: Write>(
+        &self,
+        page: &mut Page,
+        writer: &mut Writer<W>,
+        most: Option<u64>,
+    ) -> Result<(), ServiceFault>
+        ensures ok { OnOk result (Steps (λ asked s. does asked (word.Unsafe most) s) self.now self.now (λ text. Puts text page.old writer.old page.new writer.new)) }
+        ensures left { IfErr result (λ fault. (fault ≡ ServiceFault.OutOfMemory) × Puts [] page.old writer.old page.new writer.new) }
+    {
+        self.shadow.consistent();
+        let Ok(rows) = self.rows() else {
+            return Err(ServiceFault::OutOfMemory);
+        };
+        let SafeMode { total, safe, .. } = self.shadow.safe_mode();
+        let count = total.saturating_sub(safe);
+        let table = self.shadow.replicas();
+        put_unsafe_rows(page, writer, rows, table, self.min, most.unwrap_or(count));
+        if let Some(most) = most {
+            put_count(page, writer, "more", count.saturating_sub(most));
+        }
+        Ok(())
+    }
+
+    // All rows of the namespace, with memory for the deepest.
+    fn rows(&self) -> Result<Rows<'_>, AllocError>
+        ensures left { IfOk result (λ rows. rows.left ≡ self.now.shadow.namespace.rows) }
+        ensures room { IfOk result (λ rows. greatest_depth rows.left ≤ rows.room) }
+    {
+        let namespace = self.shadow.namespace();
+        let extent = namespace.extent()?;
+        namespace.ready_rows(extent.depth)
+    }
+
+    // Answers with the file that holds a block, its replicas, its orders, and what waits for it. It goes through the namespace to
+    // find the file.
+    fn block<W: Write>(
+        &self,
+        page: &mut Page,
+        writer: &mut Writer<W>,
+        id: BlockId,
+    ) -> Result<(), ServiceFault>
+        ensures ok { OnOk result (Steps (λ asked s. does asked (word.Block id) s) self.now self.now (λ text. Puts text page.old writer.old page.new writer.new)) }
+        ensures left { IfErr result (λ fault. (fault ≡ ServiceFault.OutOfMemory) × Puts [] page.old writer.old page.new writer.new) }
+    {
+        self.shadow.consistent();
+        let Ok(rows) = self.rows() else {
+            return Err(ServiceFault::OutOfMemory);
+        };
+        let table = self.shadow.replicas();
+        put_holder(page, writer, rows, id);
+        put_replicas_of(page, writer, self.shadow.namespace(), table, id);
+        put_orders_of(page, writer, table, id);
+        put_held_of(page, writer, self.shadow.held(), id);
+        Ok(())
+    }
+
+    // Answers with the line of what stands at a path, if anything does. To come there takes time in its depth times the logarithm
+    // of a directory's width.
+    fn path<W: Write>(
+        &self,
+        page: &mut Page,
+        writer: &mut Writer<W>,
+        path: &Path,
+    ) -> Result<(), ServiceFault>
+        ensures ok { OnOk result (Steps (λ asked s. does asked (word.Path path.now) s) self.now self.now (λ text. Puts text page.old writer.old page.new writer.new)) }
+        ensures left { IfErr result (λ fault. (fault ≡ ServiceFault.OutOfMemory) × Puts [] page.old writer.old page.new writer.new) }
+    {
+        let Some(found) = self.shadow.namespace().lookup(path) else {
+            return Ok(());
+        };
+        let Ok(names) = names_of(self.alloc, path) else {
+            return Err(ServiceFault::OutOfMemory);
+        };
+        put_row(page, writer, &names, found);
+        Ok(())
     }
 
     // Puts the state, the counts, a line for each DataNode that sent messages, and safe mode.
@@ -80,9 +238,9 @@ impl Service {
         }
     }
 
-    /// Answers with the image of the namespace, after the last transaction that was applied. What takes memory is done before
-    /// its first byte.
-    pub fn checkpoint<W: Write>(
+    // Answers with the image of the namespace, after the last transaction that was applied. What takes memory is done before
+    // its first byte.
+    fn checkpoint<W: Write>(
         &self,
         page: &mut Page,
         writer: &mut Writer<W>,
@@ -107,6 +265,30 @@ impl Service {
         };
         ReadyImage::of(self.alloc, namespace, extent, txid)
     }
+}
+
+// A DataNode that there can be, or 0, which is none.
+fn lane_of(dn: u64) -> u16
+    ensures { result ≡ (if nat_le dn 256 then dn else 0) }
+{
+    if dn <= u64::from(DATANODES) {
+        dn as u16
+    } else {
+        0
+    }
+}
+
+// The names of a path, from the root down.
+fn names_of(alloc: Global, path: &Path) -> Result<Vec<&str>, AllocError>
+    ensures { IfOk result (λ names. lent_names names.items ≡ path.now) }
+{
+    let mut names = Vec::new(alloc);
+    let mut rest = path.names();
+    'names: while let Some((name, later)) = rest.split_first() {
+        names.push(name)?;
+        rest = later;
+    }
+    Ok(names)
 }
 
 // Puts so many of these items.

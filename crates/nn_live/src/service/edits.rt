@@ -45,7 +45,7 @@ impl Service {
     }
 
     /// The edits in hand, if there are any, are a segment without an end: its first fault is told.
-    pub fn end_edits<W: Write>(
+    pub(super) fn end_edits<W: Write>(
         &mut self,
         page: &mut Page,
         writer: &mut Writer<W>,

@@ -1,22 +1,93 @@
-//! Lines of data are taken as they come: edits and reports.
-ghost use Rattle.std.specs.Prelude.{◌≡◌, ◌≤◌, ◌+◌, ◌^◌, ◌⊎◌, ℕ, true, IsErrOf, OnOk};
+//! Lines are taken as they come: words, edits and reports.
+ghost use Rattle.std.specs.Prelude.{◌≡◌, ◌≤◌, ◌^◌, ◌⊎◌, true, IsErrOf, OnOk};
 ghost use Rattle.nn_device.specs.Page.{Puts};
 ghost use Rattle.nn_edits.specs.Reading.{either_of_line};
 ghost use Rattle.nn_segment.specs.Lines.{is_unbroken};
-ghost use Rattle.nn_shadow.specs.Contents.{number_in};
-ghost use Rattle.nn_live.specs.Live.{takes_read};
-ghost use Rattle.nn_live.specs.Serving.{IsNearEnd, Steps};
+ghost use Rattle.nn_scenario.specs.Scenario.{is_blank};
+ghost use Rattle.nn_live.specs.Live.{ends, takes, takes_read, takes_torn};
+ghost use Rattle.nn_live.specs.Serving.{IsAtEnd, Steps};
 
 use super::{Service, ServiceFault};
 use crate::texts::put_fault;
+use crate::word::Word;
 use nn_device::{Page, Writer};
 use nn_edits::{Line, LineFault, Scratch, read_line};
+use nn_types::fault;
 use std::io::Write;
 
 impl Service {
-    /// A line of data, without its line feed: an edit is put to those in hand, a report is handed, and it is told why a line is
-    /// neither. `scratch` is the reader's room, which a caller keeps over its lines.
-    pub fn data<W: Write>(
+    /// One more line, without its line feed: it is blank, or a word, or data. All that it says is told when the call returns.
+    /// `scratch` is the reader's room, which a caller keeps over its lines.
+    pub fn line<W: Write>(
+        &mut self,
+        scratch: &mut Scratch,
+        page: &mut Page,
+        writer: &mut Writer<W>,
+        text: &[u8],
+    ) -> Result<(), ServiceFault>
+        requires { is_unbroken text.now ≡ true }
+        ensures ok { OnOk result (Steps (λ asked s. takes asked text.now s) self.old self.new (λ told. Puts told page.old writer.old page.new writer.new)) }
+        ensures exhausted { IsErrOf result ServiceFault.Exhausted → (2 ^ 63 ≤ self.old.lines) ⊎ IsAtEnd self.old }
+    {
+        self.next_line()?;
+        if is_blank(text) {
+            return Ok(());
+        }
+        let Ok(word) = Word::read(self.alloc, scratch, text) else {
+            return Err(ServiceFault::OutOfMemory);
+        };
+        match word {
+            Some(word) => self.answer(page, writer, &word),
+            None => self.data(scratch, page, writer, text),
+        }
+    }
+
+    /// The input has ended, and these bytes stood behind its last line feed. They are a line, if there are any; but a word whose line
+    /// feed never came may be a part of another one, and asks for nothing. A segment in hand has no end, which is told.
+    pub fn end<W: Write>(
+        &mut self,
+        scratch: &mut Scratch,
+        page: &mut Page,
+        writer: &mut Writer<W>,
+        torn: &[u8],
+    ) -> Result<(), ServiceFault>
+        requires { is_unbroken torn.now ≡ true }
+        ensures ok { OnOk result (Steps (λ asked s. ends asked (takes_torn asked torn.now s)) self.old self.new (λ told. Puts told page.old writer.old page.new writer.new)) }
+    {
+        self.torn_line(scratch, page, writer, torn)?;
+        self.end_edits(page, writer)
+    }
+
+    // The line that the bytes behind the last line feed are, if there are any.
+    fn torn_line<W: Write>(
+        &mut self,
+        scratch: &mut Scratch,
+        page: &mut Page,
+        writer: &mut Writer<W>,
+        text: &[u8],
+    ) -> Result<(), ServiceFault>
+        requires { is_unbroken text.now ≡ true }
+        ensures ok { OnOk result (Steps (λ asked s. takes_torn asked text.now s) self.old self.new (λ told. Puts told page.old writer.old page.new writer.new)) }
+    {
+        if text.is_empty() {
+            return Ok(());
+        }
+        self.next_line()?;
+        if is_blank(text) {
+            return Ok(());
+        }
+        let Ok(word) = Word::read(self.alloc, scratch, text) else {
+            return Err(ServiceFault::OutOfMemory);
+        };
+        if word.is_some() {
+            put_fault(page, writer, fault::NOT_JSON, " line ", self.lines);
+            return Ok(());
+        }
+        self.data(scratch, page, writer, text)
+    }
+
+    // A line of data: an edit is put to those in hand, a report is handed, and it is told why a line is neither.
+    fn data<W: Write>(
         &mut self,
         scratch: &mut Scratch,
         page: &mut Page,
@@ -25,7 +96,7 @@ impl Service {
     ) -> Result<(), ServiceFault>
         requires { is_unbroken text.now ≡ true }
         ensures ok { OnOk result (Steps (λ asked s. takes_read asked text.now (either_of_line text.now) s) self.old self.new (λ told. Puts told page.old writer.old page.new writer.new)) }
-        ensures exhausted { IsErrOf result ServiceFault.Exhausted → IsNearEnd self.old ⊎ (dn : ℕ) × (2 ^ 63 ≤ number_in self.old.shadow.numbers dn + 1) }
+        ensures exhausted { IsErrOf result ServiceFault.Exhausted → IsAtEnd self.old }
     {
         match read_line(self.alloc, scratch, text) {
             Ok(Line::Edit(tx)) => self.edit(page, writer, text, tx),
@@ -39,4 +110,12 @@ impl Service {
             }
         }
     }
+}
+
+// Whether there are only spaces, tabs and carriage returns.
+fn is_blank(text: &[u8]) -> bool
+    ensures { result ≡ is_blank text.now }
+{
+    text.iter()
+        .all(|b| *b == b' ' || *b == b'\t' || *b == b'\r')
 }

@@ -16,7 +16,7 @@ impl Service {
     /// read, unless what lies above the txid is given up. A promotion of an active standby flushes nothing.
     ///
     /// Where memory is refused nothing comes in any more either, and the call may be made again.
-    pub fn promote<W: Write>(
+    pub(super) fn promote<W: Write>(
         &mut self,
         page: &mut Page,
         writer: &mut Writer<W>,

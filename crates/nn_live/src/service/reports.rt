@@ -19,7 +19,7 @@ const NUMBERS: u64 = 9_223_372_036_854_775_808;
 impl Service {
     /// A report is its DataNode's next message: it is handed, and with the history it is told what that did; or it is told why
     /// it is refused.
-    pub fn report<W: Write>(
+    pub(super) fn report<W: Write>(
         &mut self,
         page: &mut Page,
         writer: &mut Writer<W>,
@@ -35,7 +35,7 @@ impl Service {
 
     /// A DataNode is gone: it is as if it had sent a full report of no blocks. Where the begin is refused, its end is not
     /// handed. Where memory is refused, nothing was done, or the begin alone was handed.
-    pub fn gone<W: Write>(
+    pub(super) fn gone<W: Write>(
         &mut self,
         page: &mut Page,
         writer: &mut Writer<W>,

@@ -1,6 +1,5 @@
-use Rattle.std.proofs.Common.{◌≡◌, Ok, codes, sym, subst, ap, ap₂, ◌∙◌}
+use Rattle.std.proofs.Common.{Ok, codes, sym, subst, ap, ◌∙◌}
 use Rattle.std.proofs.lemmas.Result.{IfOk-weaker}
-use Rattle.nn_edits.specs.Fault.{number_of}
 use Rattle.nn_edits.specs.Reading.{either_of_line}
 use Rattle.nn_edits.specs.declared.line.Line.{Line}
 use Rattle.nn_scenario.proofs.LineLemmas.{edit_alone}

@@ -1,12 +1,12 @@
 use Rattle.std.proofs.Common.{◌≡◌, ◌+◌, ◌==◌, ◌||◌, codes, true, false, sym, subst, ap, ◌∙◌}
 use Rattle.std.specs.Prelude.{is_some}
-use Rattle.std.proofs.lemmas.Bool.{not-true}
+use Rattle.std.proofs.lemmas.Bool.{not-false, not-true}
 use Rattle.nn_types.specs.declared.fault.TheConstants.{DISORDER, NO_END, STOPPED}
 use Rattle.nn_live.specs.contracts.service.Service.{the_view as seen_of}
 use Rattle.nn_live.specs.Serving.{Seen, Makes, fault_text, log_ends, takes_promotion}
 use Rattle.nn_live.proofs.Handing.{told}
 use Rattle.nn_live.proofs.Options.{some_if, none_unless}
-use Rattle.nn_live.proofs.Promoting.{stopped, inside, not_there, promoted, isnt_false}
+use Rattle.nn_live.proofs.Promoting.{stopped, inside, not_there, promoted}
 use Rattle.nn_live.proofs.service.Service.promote.Goals as goal
 
 pub returns-then-is_some-clause-ok : goal.returns-then-is_some-clause-ok
@@ -35,7 +35,7 @@ returns-then-not-ends_at-clause-ok g c =
     let here : x ≡ c.args.self.now = c.self.view_is in
     let step = takes_promotion c.args.txid c.args.losing in
     let none = none_unless x.shadow.phase.stopped (c.if-is_some.ensures ∙ ap is_some c.stop.ensures) in
-    let is : (c.args.losing || (x.in_hand.edits == 0)) ≡ true = ap (λ (v : Seen). c.args.losing || (v.in_hand.edits == 0)) here ∙ isnt_false _ c.if-is_inside.ensures in
+    let is : (c.args.losing || (x.in_hand.edits == 0)) ≡ true = ap (λ (v : Seen). c.args.losing || (v.in_hand.edits == 0)) here ∙ not-false _ (sym c.if-is_inside.ensures) in
     let isnt : log_ends x.shadow.last x.known c.args.txid c.args.losing ≡ false = ap (λ (v : Seen). log_ends v.shadow.last v.known c.args.txid c.args.losing) here ∙ sym c.if-not-ends_at.ensures in
     let text = fault_text DISORDER (codes " txid ") (c.last_txid-next.result + 1) in
     let made = subst (λ l. Makes step x x (fault_text DISORDER (codes " txid ") (l + 1))) (sym c.last_txid-next.ensures.last) (not_there x c.args.txid c.args.losing none is isnt) in
@@ -47,7 +47,7 @@ returns-clause-ok g c =
     let here : x ≡ c.args.self.now = c.self.view_is in
     let step = takes_promotion c.args.txid c.args.losing in
     let none = none_unless x.shadow.phase.stopped (c.if-is_some.ensures ∙ ap is_some c.stop.ensures) in
-    let is : (c.args.losing || (x.in_hand.edits == 0)) ≡ true = ap (λ (v : Seen). c.args.losing || (v.in_hand.edits == 0)) here ∙ isnt_false _ c.if-is_inside.ensures in
+    let is : (c.args.losing || (x.in_hand.edits == 0)) ≡ true = ap (λ (v : Seen). c.args.losing || (v.in_hand.edits == 0)) here ∙ not-false _ (sym c.if-is_inside.ensures) in
     let ends : log_ends x.shadow.last x.known c.args.txid c.args.losing ≡ true = ap (λ (v : Seen). log_ends v.shadow.last v.known c.args.txid c.args.losing) here ∙ sym c.if-not-ends_at.ensures in
     let z = c.flush.new.self in
     let y = c.tell_events.new.self in

@@ -1,0 +1,40 @@
+use Rattle.std.proofs.Common.{sym, subst, ap, ◌∙◌}
+use Rattle.std.specs.Prelude.{OnOk}
+use Rattle.std.proofs.lemmas.Result.{IfOk-weaker}
+use Rattle.nn_device.specs.Page.{Puts}
+use Rattle.nn_live.specs.Live.{does, empty_report, hands}
+use Rattle.nn_live.specs.Serving.{Makes, Steps}
+use Rattle.nn_live.specs.declared.word.Word.{Word}
+use Rattle.nn_live.specs.declared.word.Word.TheVariants as word
+use Rattle.nn_live.proofs.Gone.{same_gone}
+use Rattle.nn_live.proofs.Places.{same_makes}
+use Rattle.nn_live.proofs.service.Service.does.Goals as goal
+
+pub returns-in-Block-clause-ok : goal.returns-in-Block-clause-ok
+returns-in-Block-clause-ok g c =
+    subst (λ (w : Word). OnOk c.block.result (Steps (λ asked s. does asked w s) c.args.self.now c.args.self.now (λ text. Puts text c.args.page.now c.args.writer.now c.block.new.page c.block.new.writer))) (sym c.in-Block.is) c.block.ensures.ok
+
+pub returns-in-Path-clause-ok : goal.returns-in-Path-clause-ok
+returns-in-Path-clause-ok g c =
+    subst (λ (w : Word). OnOk c.path.result (Steps (λ asked s. does asked w s) c.args.self.now c.args.self.now (λ text. Puts text c.args.page.now c.args.writer.now c.path.new.page c.path.new.writer))) (sym c.in-Path.is) c.path.ensures.ok
+
+pub returns-in-Tables-clause-ok : goal.returns-in-Tables-clause-ok
+returns-in-Tables-clause-ok g c =
+    subst (λ (w : Word). OnOk c.tables.result (Steps (λ asked s. does asked w s) c.args.self.now c.args.self.now (λ text. Puts text c.args.page.now c.args.writer.now c.tables.new.page c.tables.new.writer))) (sym c.in-Tables.is) c.tables.ensures.ok
+
+pub returns-in-Checkpoint-clause-ok : goal.returns-in-Checkpoint-clause-ok
+returns-in-Checkpoint-clause-ok g c =
+    subst (λ (w : Word). OnOk c.checkpoint.result (Steps (λ asked s. does asked w s) c.args.self.now c.args.self.now (λ text. Puts text c.args.page.now c.args.writer.now c.checkpoint.new.page c.checkpoint.new.writer))) (sym c.in-Checkpoint.is) c.checkpoint.ensures.ok
+
+pub returns-in-Held-clause-ok : goal.returns-in-Held-clause-ok
+returns-in-Held-clause-ok g c =
+    subst (λ (w : Word). Steps (λ asked s. does asked w s) c.args.self.now c.args.self.now (λ text. Puts text c.args.page.now c.args.writer.now c.held.new.page c.held.new.writer)) (sym c.in-Held.is) c.held.ensures
+
+pub returns-in-Gone-clause-ok : goal.returns-in-Gone-clause-ok
+returns-in-Gone-clause-ok g c = IfOk-weaker c.gone.result _ _ (λ _ step. (
+  step.0,
+  step.1,
+  subst (λ (w : Word). Makes (λ asked s. does asked w s) c.args.self.now c.gone.new.self step.0) (sym c.in-Gone.is)
+      (same_makes (λ asked s. does asked (word.Gone c.in-Gone.dn) s) (λ asked s. hands asked (empty_report c.lane_of.result) s) c.args.self.now c.gone.new.self step.0
+      (λ asked s i. (same_gone asked s c.in-Gone.dn ∙ ap (λ dn. hands asked (empty_report dn) s) (sym c.lane_of.ensures))) step.2),
+)) c.gone.ensures.ok

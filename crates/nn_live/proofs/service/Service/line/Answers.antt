@@ -1,0 +1,23 @@
+use Rattle.std.proofs.Common.{[], sym, ◌∙◌}
+use Rattle.std.proofs.lemmas.Result.{IfOk-weaker}
+use Rattle.nn_device.proofs.Pages.{puts_nothing}
+use Rattle.nn_live.proofs.Reading.{blank_line, word_line, data_line}
+use Rattle.nn_live.proofs.service.Service.line.Goals as goal
+
+pub returns-then-is_blank-clause-ok : goal.returns-then-is_blank-clause-ok
+returns-then-is_blank-clause-ok g c =
+    ([], puts_nothing c.args.page.now c.args.writer.now, blank_line c.args.text.now c.args.self.now c.next_line.new.self (sym c.if-is_blank.ensures) c.in_ok-next_line.ensures.ok)
+
+pub returns-in-Some-clause-ok : goal.returns-in-Some-clause-ok
+returns-in-Some-clause-ok g c = IfOk-weaker c.answer.result _ _ (λ _ step. (
+  step.0,
+  step.1,
+  word_line c.args.text.now c.args.self.now c.next_line.new.self c.answer.new.self c.in-Some.word step.0 (sym c.if-is_blank.ensures) (sym c.in-Ok.ensures ∙ c.in-Some.is) c.in_ok-next_line.ensures.ok step.2,
+)) c.answer.ensures.ok
+
+pub returns-in-None-clause-ok : goal.returns-in-None-clause-ok
+returns-in-None-clause-ok g c = IfOk-weaker c.data.result _ _ (λ _ step. (
+  step.0,
+  step.1,
+  data_line c.args.text.now c.args.self.now c.next_line.new.self c.data.new.self step.0 (sym c.if-is_blank.ensures) (sym c.in-Ok.ensures ∙ c.in-None.is) c.in_ok-next_line.ensures.ok step.2,
+)) c.data.ensures.ok

@@ -17,5 +17,6 @@ pub mod Tabling
 pub mod Lives
 pub mod Replicas
 pub mod Gone
+pub mod Cutting
 pub mod Promoting
 pub mod Answering

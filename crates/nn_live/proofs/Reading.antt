@@ -1,5 +1,5 @@
 -- A line of data that the code took, or told, is one that the definition's service took or told.
-use Rattle.std.proofs.Common.{◌≡◌, List, ℕ, Bool, true, false, cond, length, ◌==◌, [], ◌∷◌, Option, Some, None, Ok, Err, Result, codes, refl, sym, ap, ap₂, ◌∙◌}
+use Rattle.std.proofs.Common.{◌≡◌, List, ℕ, Bool, true, false, cond, length, ◌==◌, [], ◌∷◌, Option, Some, None, Ok, Err, Result, codes, refl, sym, ap, ap₂, ◌∙◌, ◌<◌, ◌&&◌, arith}
 use Rattle.nn_types.specs.declared.report.Report.{Report}
 use Rattle.nn_types.specs.declared.tx.Tx.{Tx}
 use Rattle.nn_edits.specs.Fault.{number_of}
@@ -10,8 +10,14 @@ use Rattle.nn_edits.specs.declared.fault.LineFault.TheVariants as fault
 use Rattle.nn_edits.specs.declared.line.Line.{Line}
 use Rattle.nn_edits.specs.declared.line.Line.TheVariants as either
 use Rattle.nn_live.specs.Live.{Asked, Service, answers, counts_line, hands, says, takes, takes_edit, takes_read, takes_torn, takes_word, tears_word}
-use Rattle.nn_types.specs.declared.fault.TheConstants.{NOT_JSON}
-use Rattle.nn_live.specs.Words.{word_in}
+use Rattle.nn_types.specs.declared.fault.TheConstants.{LINE_TOO_LONG, NOT_JSON}
+use Rattle.std.specs.Str.{is_utf8}
+use Rattle.std.specs.Prelude.{option_and_then}
+use Rattle.std.specs.Option.{ok_or}
+use Rattle.std.proofs.lemmas.Bool.{lt-leb, lt-ltb, ne_eqb}
+use Rattle.nn_edits.specs.Outcome.{◌>>=◌}
+use Rattle.nn_edits.specs.Reading.{either_in, object_in, object_only, value_of}
+use Rattle.nn_live.specs.Words.{alone, behind_front, or_else, word_in}
 use Rattle.nn_live.specs.declared.word.Word.{Word}
 use Rattle.nn_scenario.specs.Scenario.{is_blank}
 use Rattle.nn_live.specs.Serving.{Seen, Makes, fault_text}
@@ -96,3 +102,26 @@ module _ (text : List ℕ) where
         → Makes torn x z told
     data_torn x y z told isnt is made later = same_makes torn (λ asked s. takes_read asked text (either_of_line text) (counts_line s)) x z told (λ asked s i.
         (there asked s ∙ ap₂ (λ b o. torn_by asked false b o s) isnt is)) (then_makes (λ asked s. counts_line s) (λ asked s. takes_read asked text (either_of_line text) s) x y z [] told made later)
+
+-- ---- A line of more bytes than one may have.
+
+pub no_long_word : (text : List ℕ) → 65536 < length text → word_in text ≡ None
+unfolding word_in
+no_long_word text long = ap (λ b. cond (b && is_utf8 text) (or_else (alone text) (behind_front text)) None) (lt-leb (length text) 65536 long)
+
+pub long_fault : (text : List ℕ) → 65536 < length text → either_of_line text ≡ Err fault.LineTooLong
+unfolding either_of_line object_in
+long_fault text long = ap (λ b. (cond b (Err fault.LineTooLong) (ok_or (option_and_then object_only (value_of text)) fault.NotJson)) >>= either_in) (lt-ltb 65536 (length text) long)
+
+module _ (text : List ℕ) (long : 65536 < length text) where
+  pub long_told : (x y : Seen) → is_blank text ≡ false → Makes (λ asked s. counts_line s) x y [] → Makes (λ asked s. takes asked text s) x y (fault_text LINE_TOO_LONG (codes " line ") y.lines)
+  long_told x y isnt made = data_line text x y y _ isnt (no_long_word text long) made (fault_read text y fault.LineTooLong (long_fault text long))
+
+  -- at the end of the input it is taken as it is elsewhere
+  pub torn_as_line : (asked : Asked) (s : Service) → takes_torn asked text s ≡ takes asked text s
+  torn_as_line asked s =
+      there text some asked s ∙ ap (λ o. torn_by text asked false (is_blank text) o s) (no_long_word text long)
+      ∙ sym (line_is text asked s ∙ ap (λ o. by_kind text asked (is_blank text) o s) (no_long_word text long))
+    where
+      some : (length text == 0) ≡ false
+      some = ne_eqb (length text) 0 (λ none. absurd (omega (arith, none, long)))

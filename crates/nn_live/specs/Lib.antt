@@ -4,3 +4,4 @@ pub mod Live
 pub mod LiveRows
 pub mod Laws
 pub mod Serving
+pub mod Taking

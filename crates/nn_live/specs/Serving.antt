@@ -1,5 +1,5 @@
 -- A service of the code, and the service of the definition that it stands for.
-use Rattle.std.specs.Prelude.{◌≡◌, ◌≤◌, ◌⊎◌, ℕ, ◌+◌, ◌^◌, true, ◌==◌, ◌&&◌, ◌||◌, not, nat_lt, Bool, List, [], ◌∷◌, ◌++◌, max, length, codes, decimal}
+use Rattle.std.specs.Prelude.{◌≡◌, ◌≤◌, ◌<◌, ◌⊎◌, ℕ, ◌+◌, ◌^◌, true, ◌==◌, ◌&&◌, ◌||◌, not, nat_lt, Bool, List, [], ◌∷◌, ◌++◌, max, length, codes, decimal}
 use Rattle.nn_types.specs.declared.report.Message.{Message}
 use Rattle.nn_types.specs.declared.report.Report.{Report}
 use Rattle.nn_types.specs.declared.tx.Tx.{Tx}
@@ -7,6 +7,7 @@ use Rattle.nn_segment.specs.Segment.{max_bytes, last_txid}
 use Rattle.nn_scenario.specs.Checking.{Check, IsCheckOf}
 use Rattle.nn_scenario.specs.Cut.{EditLine, Part, no_lines, last_part, segment_of, with_line}
 use Rattle.nn_scenario.specs.Reading.{Reading}
+use Rattle.nn_scenario.specs.Scenario.{is_blank}
 use Rattle.nn_scenario.specs.Steps.{message}
 use Rattle.nn_replicas.specs.Calls.{replica_at, has_order}
 use Rattle.nn_listing.specs.Tables.{replica_lines_by, order_lines_by, blocks_line}
@@ -143,6 +144,11 @@ puts_edit l s = record s { in_hand = with_line s.in_hand l; known = max s.known 
 -- and if it is an end mark, it ends them
 abbrev pub keeps_edit : EditLine → Asked → Service → Service
 keeps_edit l asked s = behind_edit asked l.tx (puts_edit l s)
+
+-- a line that has more bytes than one may have, and may be blank
+pub record IsLong (text : List ℕ) (blank : Bool) : Type 0 where
+  pub long : 65536 < length text
+  pub all : is_blank text ≡ blank
 
 -- the same of numbers
 abbrev pub log_ends : ℕ → ℕ → ℕ → Bool → Bool

@@ -11,15 +11,18 @@
 
 mod in_hand;
 mod laws;
+mod live;
 mod one_block;
 mod safety;
 mod service;
 mod texts;
+mod torn;
 mod word;
 
 pub use laws::{
     a_promotion_gives_up_no_edit, a_promotion_shows_the_picture, a_segment_may_be_sent_twice,
-    a_service_stands_at_its_log,
+    a_service_stands_at_its_log, an_input_may_be_cut,
 };
+pub use live::Live;
 pub use service::{Service, ServiceFault};
 pub use word::Word;

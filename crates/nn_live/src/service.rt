@@ -12,6 +12,7 @@ mod promotion;
 mod reports;
 
 use crate::in_hand::InHand;
+pub(crate) use lines::is_blank;
 use nn_device::{Page, Writer};
 use nn_listing::put_history;
 use nn_shadow::{FromFault, Shadow};

@@ -1,11 +1,44 @@
-//! A standby in service, which tells what it does and what it refuses.
+//! A standby in service, which tells what it does and what it refuses, however its input is cut.
+ghost use Rattle.std.specs.Prelude.{◌<◌};
+
 use crate::values::settings;
 use nn_device::{Page, Writer};
-use nn_edits::Scratch;
-use nn_live::{Service, ServiceFault};
+use nn_live::{Live, Service, ServiceFault};
 use nn_tree::Namespace;
 use std::alloc::Global;
 use std::test::Fail;
+
+// A report, and its DataNode that is gone. A segment with a gap, one that a second start mark ends, that one whole, and a third
+// time, and a line that is nothing. An image, a promotion that would lose an edit, and questions in the midst of a segment. A
+// promotion inside it, and one that gives it up. Then nothing comes in any more; the last bytes are a word without a line feed.
+const INPUT: &str = "  
+{\"dn\":1,\"block\":1073741825,\"gen\":1001,\"len\":5,\"kind\":\"received\"}
+gone 1
+{\"op\":\"OP_START_LOG_SEGMENT\",\"txid\":6}
+{\"op\":\"OP_END_LOG_SEGMENT\",\"txid\":7}
+{\"op\":\"OP_START_LOG_SEGMENT\",\"txid\":1}
+{\"op\":\"OP_MKDIR\",\"txid\":2,\"path\":\"/a\"}
+{\"op\":\"OP_START_LOG_SEGMENT\",\"txid\":1}
+{\"op\":\"OP_MKDIR\",\"txid\":2,\"path\":\"/a\"}
+{\"op\":\"OP_END_LOG_SEGMENT\",\"txid\":3}
+{\"op\":\"OP_START_LOG_SEGMENT\",\"txid\":1}
+{\"op\":\"OP_MKDIR\",\"txid\":2,\"path\":\"/a\"}
+{\"op\":\"OP_END_LOG_SEGMENT\",\"txid\":3}
+nothing
+checkpoint
+promote 3
+held 1
+{\"op\":\"OP_START_LOG_SEGMENT\",\"txid\":4}
+status
+path \"/a\"
+block 1073741825
+unsafe 5
+promote 3
+promote 3 lost
+{\"dn\":1,\"block\":1073741825,\"gen\":1001,\"len\":5,\"kind\":\"received\"}
+tables
+gone 1
+sync";
 
 const TOLD: &str = "done 3
 fault 57 txid 1 segment 1
@@ -66,155 +99,50 @@ fn taken(answer: Result<(), ServiceFault>) -> Result<(), Fail> {
     }
 }
 
-// A blank line, a report, and its DataNode that is gone.
-fn send_reports(
-    service: &mut Service,
-    scratch: &mut Scratch,
-    page: &mut Page,
-    writer: &mut Out,
-) -> Result<(), Fail> {
-    taken(service.line(scratch, page, writer, b"  "))?;
-    taken(service.line(
-        scratch,
-        page,
-        writer,
-        b"{\"dn\":1,\"block\":1073741825,\"gen\":1001,\"len\":5,\"kind\":\"received\"}",
-    ))?;
-    taken(service.line(scratch, page, writer, b"gone 1"))?;
-    taken(service.line(
-        scratch,
-        page,
-        writer,
-        b"{\"op\":\"OP_START_LOG_SEGMENT\",\"txid\":6}",
-    ))?;
-    taken(service.line(
-        scratch,
-        page,
-        writer,
-        b"{\"op\":\"OP_END_LOG_SEGMENT\",\"txid\":7}",
-    ))
-}
-
-// A segment that a second start mark ends, that segment once more, and a third time, and a line that is nothing.
-fn send_segments(
-    service: &mut Service,
-    scratch: &mut Scratch,
-    page: &mut Page,
-    writer: &mut Out,
-) -> Result<(), Fail> {
-    taken(service.line(
-        scratch,
-        page,
-        writer,
-        b"{\"op\":\"OP_START_LOG_SEGMENT\",\"txid\":1}",
-    ))?;
-    taken(service.line(
-        scratch,
-        page,
-        writer,
-        b"{\"op\":\"OP_MKDIR\",\"txid\":2,\"path\":\"/a\"}",
-    ))?;
-    taken(service.line(
-        scratch,
-        page,
-        writer,
-        b"{\"op\":\"OP_START_LOG_SEGMENT\",\"txid\":1}",
-    ))?;
-    taken(service.line(
-        scratch,
-        page,
-        writer,
-        b"{\"op\":\"OP_MKDIR\",\"txid\":2,\"path\":\"/a\"}",
-    ))?;
-    taken(service.line(
-        scratch,
-        page,
-        writer,
-        b"{\"op\":\"OP_END_LOG_SEGMENT\",\"txid\":3}",
-    ))?;
-    taken(service.line(
-        scratch,
-        page,
-        writer,
-        b"{\"op\":\"OP_START_LOG_SEGMENT\",\"txid\":1}",
-    ))?;
-    taken(service.line(
-        scratch,
-        page,
-        writer,
-        b"{\"op\":\"OP_MKDIR\",\"txid\":2,\"path\":\"/a\"}",
-    ))?;
-    taken(service.line(
-        scratch,
-        page,
-        writer,
-        b"{\"op\":\"OP_END_LOG_SEGMENT\",\"txid\":3}",
-    ))?;
-    taken(service.line(scratch, page, writer, b"nothing"))
-}
-
-// An image, a promotion that would lose an edit, and what waits.
-fn ask(
-    service: &mut Service,
-    scratch: &mut Scratch,
-    page: &mut Page,
-    writer: &mut Out,
-) -> Result<(), Fail> {
-    taken(service.line(scratch, page, writer, b"checkpoint"))?;
-    taken(service.line(scratch, page, writer, b"promote 3"))?;
-    taken(service.line(scratch, page, writer, b"held 1"))?;
-    taken(service.line(
-        scratch,
-        page,
-        writer,
-        b"{\"op\":\"OP_START_LOG_SEGMENT\",\"txid\":4}",
-    ))?;
-    taken(service.line(scratch, page, writer, b"status"))?;
-    taken(service.line(scratch, page, writer, b"path \"/a\""))?;
-    taken(service.line(scratch, page, writer, b"block 1073741825"))?;
-    taken(service.line(scratch, page, writer, b"unsafe 5"))
-}
-
-// A promotion inside a segment, and one that gives it up. Then nothing comes in any more.
-fn promote(
-    service: &mut Service,
-    scratch: &mut Scratch,
-    page: &mut Page,
-    writer: &mut Out,
-) -> Result<(), Fail> {
-    taken(service.line(scratch, page, writer, b"promote 3"))?;
-    taken(service.line(scratch, page, writer, b"promote 3 lost"))?;
-    taken(service.line(
-        scratch,
-        page,
-        writer,
-        b"{\"dn\":1,\"block\":1073741825,\"gen\":1001,\"len\":5,\"kind\":\"received\"}",
-    ))?;
-    taken(service.line(scratch, page, writer, b"tables"))?;
-    taken(service.line(scratch, page, writer, b"gone 1"))
-}
-
-// All that is told of them. Its last bytes are a word that has no line feed.
-fn told(alloc: Global, page: &mut Page, writer: &mut Out) -> Result<(), Fail> {
-    let mut scratch = Scratch::new(alloc);
-    let scratch = &mut scratch;
+fn begun(alloc: Global) -> Result<Live, Fail> {
     let namespace = Namespace::new(alloc);
-    let Ok(mut service) = Service::begin(alloc, namespace, 0, settings(999, 1)?, true, "0.1") else {
+    let Ok(service) = Service::begin(alloc, namespace, 0, settings(999, 1)?, true, "0.1") else {
         return Err(Fail::new("memory is refused"));
     };
-    send_reports(&mut service, scratch, page, writer)?;
-    send_segments(&mut service, scratch, page, writer)?;
-    ask(&mut service, scratch, page, writer)?;
-    promote(&mut service, scratch, page, writer)?;
-    taken(service.end(scratch, page, writer, b"sync"))
+    Ok(Live::of(alloc, service))
+}
+
+// What is told of these bytes, in chunks of so many.
+fn told(alloc: Global, bytes: &[u8], size: usize) -> Result<Vec<u8>, Fail>
+    requires { 0 < size }
+{
+    let mut page = Page::new(alloc);
+    let mut writer: Out = Writer::new(Vec::new(alloc));
+    let mut live = begun(alloc)?;
+    for chunk in bytes.chunks(size) {
+        taken(live.push(&mut page, &mut writer, chunk))?;
+    }
+    taken(live.end(&mut page, &mut writer))?;
+    if page.end(&mut writer).is_err() {
+        return Err(Fail::new("a write to memory failed"));
+    }
+    Ok(writer.into_inner())
 }
 
 #[test]
 fn a_service_tells(rt: HostRuntime) -> Result<(), Fail> {
-    let mut page = Page::new(rt.alloc());
-    let mut writer = Writer::new(Vec::new(rt.alloc()));
-    told(rt.alloc(), &mut page, &mut writer)?;
-    assert!(rt; page.end(&mut writer).is_ok());
-    assert!(rt; writer.into_inner().as_slice() == TOLD.as_bytes());
+    for size in [1, 7, 64, 4096] {
+        let text = told(rt.alloc(), INPUT.as_bytes(), size)?;
+        assert!(rt; text.as_slice() == TOLD.as_bytes());
+    }
+    Ok(())
+}
+
+// A line of 70,000 bytes is told, whatever it holds; one that is blank is not.
+#[test]
+fn long_lines(rt: HostRuntime) -> Result<(), Fail> {
+    for (byte, wanted) in [(b'x', "fault 6 line 1\nfault 6 line 2\n"), (b' ', "")] {
+        let mut input = Vec::new(rt.alloc());
+        for at in 0..140_001usize {
+            input.push(if at == 70_000 { b'\n' } else { byte })?;
+        }
+        let text = told(rt.alloc(), &input, 4096)?;
+        assert!(rt; text.as_slice() == wanted.as_bytes());
+    }
     Ok(())
 }

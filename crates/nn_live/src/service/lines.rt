@@ -1,11 +1,11 @@
 //! Lines are taken as they come: words, edits and reports.
-ghost use Rattle.std.specs.Prelude.{◌≡◌, ◌≤◌, ◌^◌, ◌⊎◌, true, IsErrOf, OnOk};
+ghost use Rattle.std.specs.Prelude.{◌≡◌, ◌≤◌, ◌^◌, ◌⊎◌, List, ℕ, true, IsErrOf, OnOk};
 ghost use Rattle.nn_device.specs.Page.{Puts};
 ghost use Rattle.nn_edits.specs.Reading.{either_of_line};
 ghost use Rattle.nn_segment.specs.Lines.{is_unbroken};
 ghost use Rattle.nn_scenario.specs.Scenario.{is_blank};
 ghost use Rattle.nn_live.specs.Live.{ends, takes, takes_read, takes_torn};
-ghost use Rattle.nn_live.specs.Serving.{IsAtEnd, Steps};
+ghost use Rattle.nn_live.specs.Serving.{IsAtEnd, IsLong, Makes, Steps};
 
 use super::{Service, ServiceFault};
 use crate::texts::put_fault;
@@ -55,6 +55,38 @@ impl Service {
         ensures ok { OnOk result (Steps (λ asked s. ends asked (takes_torn asked torn.now s)) self.old self.new (λ told. Puts told page.old writer.old page.new writer.new)) }
     {
         self.torn_line(scratch, page, writer, torn)?;
+        self.end_edits(page, writer)
+    }
+
+    /// One more line, of more bytes than one may have: it is blank, or told.
+    pub(crate) fn long_line<W: Write>(
+        &mut self,
+        page: &mut Page,
+        writer: &mut Writer<W>,
+        blank: bool,
+    ) -> Result<(), ServiceFault>
+        ensures ok { OnOk result ((told : List ℕ) × Puts told page.old writer.old page.new writer.new
+            × ((text : List ℕ) → IsLong text blank → Makes (λ asked s. takes asked text s) self.old self.new told)) }
+    {
+        self.next_line()?;
+        if blank {
+            return Ok(());
+        }
+        put_fault(page, writer, fault::LINE_TOO_LONG, " line ", self.lines);
+        Ok(())
+    }
+
+    /// The same of the bytes behind the last line feed, at the end of the input.
+    pub(crate) fn end_long<W: Write>(
+        &mut self,
+        page: &mut Page,
+        writer: &mut Writer<W>,
+        blank: bool,
+    ) -> Result<(), ServiceFault>
+        ensures ok { OnOk result ((told : List ℕ) × Puts told page.old writer.old page.new writer.new
+            × ((torn : List ℕ) → IsLong torn blank → Makes (λ asked s. ends asked (takes_torn asked torn s)) self.old self.new told)) }
+    {
+        self.long_line(page, writer, blank)?;
         self.end_edits(page, writer)
     }
 
@@ -112,8 +144,8 @@ impl Service {
     }
 }
 
-// Whether there are only spaces, tabs and carriage returns.
-fn is_blank(text: &[u8]) -> bool
+/// Whether there are only spaces, tabs and carriage returns.
+pub(crate) fn is_blank(text: &[u8]) -> bool
     ensures { result ≡ is_blank text.now }
 {
     text.iter()

@@ -1,0 +1,32 @@
+use Rattle.std.proofs.Common.{subst, sym, ◌∙◌}
+use Rattle.std.proofs.lemmas.Result.{IfOk-weaker}
+use Rattle.nn_live.specs.Live.{ends, takes_torn}
+use Rattle.nn_live.specs.Serving.{Makes}
+use Rattle.nn_live.specs.Taking.{Taking, Finishes}
+use Rattle.nn_live.proofs.Cutting.{finishes, is_long, is_whole}
+use Rattle.nn_live.proofs.live.Live.end.Goals as goal
+
+pub returns-then-is_too_long : goal.returns-then-is_too_long
+returns-then-is_too_long g c =
+    let old = c.self.inside in
+    record {
+      ok = IfOk-weaker c.end_long.result _ _ (λ _ step. (
+        step.0,
+        step.1,
+        subst (λ (x : Taking). Finishes x (record { service = c.end_long.new.self; torn = old.torn }) step.0) c.self.view_is
+            (finishes old.service c.end_long.new.self old.torn old.torn step.0 (λ torn there. step.2 torn (is_long torn old.torn c.is_blank.result there (sym c.if-is_too_long.ensures) c.is_blank.ensures))),
+      )) c.end_long.ensures.ok;
+    }
+
+pub returns : goal.returns
+returns g c =
+    let old = c.self.inside in
+    record {
+      ok = IfOk-weaker c.end.result _ _ (λ _ step. (
+        step.0,
+        step.1,
+        subst (λ (x : Taking). Finishes x (record { service = c.end.new.self; torn = old.torn }) step.0) c.self.view_is
+            (finishes old.service c.end.new.self old.torn old.torn step.0 (λ torn there.
+            subst (λ t. Makes (λ asked s. ends asked (takes_torn asked t s)) old.service c.end.new.self step.0) (c.as_slice-torn.ensures.kept ∙ is_whole torn old.torn there (sym c.if-is_too_long.ensures)) step.2)),
+      )) c.end.ensures.ok;
+    }

@@ -1,0 +1,43 @@
+use Rattle.std.proofs.Common.{◌++◌, ◌∷◌, [], subst, sym, refl, append-nil}
+use Rattle.std.proofs.lemmas.Result.{IfOk-weaker}
+use Rattle.nn_device.proofs.Pages.{puts_both, puts_nothing}
+use Rattle.nn_segment.specs.Lines.{newline}
+use Rattle.nn_live.specs.Taking.{Taking, Takes, Pushes}
+use Rattle.nn_live.proofs.Cutting.{front_cut, none_cut, kept, none_taken, then_takes}
+use Rattle.nn_live.proofs.live.Live.push.Goals as goal
+
+pub lines-init : goal.lines-init
+lines-init g c = ([], puts_nothing c.args.page.now c.args.writer.now, none_taken c.args.bytes.now c.args.self.now)
+
+pub returns-in_default : goal.returns-in_default
+returns-in_default g c =
+    let was = c.lines.invariant in
+    let bytes = c.args.bytes.now in
+    let text = c.split_at.result.0.now in
+    let old = c.args.self.now in
+    let mid : Taking = record { service = c.self.inside.service; torn = c.self.inside.torn } in
+    let new : Taking = record { service = c.self.inside.service; torn = c.push.new.self } in
+    let cut = none_cut c.lines.rest.now text c.split_at.result.1.now c.line_end.result c.split_at.ensures.front c.split_at.ensures.back c.in_default.ensures.cases in
+    let first : Takes bytes (text ++ []) old mid was.0 =
+    subst (λ (x : Taking). Takes bytes (text ++ []) old x was.0) (sym c.self.view_is) (subst (λ r. Takes bytes r old c.lines.self was.0) cut was.2) in
+    record {
+      ok = IfOk-weaker c.push.result _ _ (λ _ has. (
+        was.0,
+        was.1,
+        subst (λ t. Pushes bytes old new t) (append-nil was.0) (then_takes bytes text [] was.0 [] old mid new first (kept text mid new refl has)),
+      )) c.push.ensures.ok;
+    }
+
+pub lines-preserved : goal.lines-preserved
+lines-preserved g c =
+    let was = c.lines.invariant in
+    let line = c.in_ok-end_line.ensures.ok in
+    let bytes = c.args.bytes.now in
+    let text = c.split_at.result.0.now in
+    let after = c.in-Some.after.now in
+    let old = c.args.self.now in
+    let cut = front_cut c.lines.rest.now text c.split_at.result.1.now after c.in-Some.field-0-0.now c.line_end.result c.split_at.ensures.front c.split_at.ensures.back c.in-Some.ensures.cases.0 c.line_end.ensures.there in (
+      was.0 ++ line.0,
+      puts_both was.0 line.0 _ _ _ _ _ _ was.1 line.1,
+      then_takes bytes (text ++ newline ∷ []) after was.0 line.0 old c.lines.self c.end_line.new.self (subst (λ r. Takes bytes r old c.lines.self was.0) cut was.2) line.2,
+    )

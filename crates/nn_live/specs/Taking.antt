@@ -1,0 +1,60 @@
+-- A service and the bytes behind the last line feed.
+use Rattle.std.specs.Prelude.{◌≡◌, ◌==◌, ℕ, Bool, true, List, [], ◌∷◌, ◌++◌, flat_map, take}
+use Rattle.std.specs.List.{slice_split}
+use Rattle.nn_segment.specs.Lines.{newline, is_unbroken}
+use Rattle.nn_scenario.specs.Scenario.{is_blank}
+use Rattle.nn_live.specs.Live.{Asked, Service, Stage, ends, serving, takes_pieces, takes_torn, written_of}
+use Rattle.nn_live.specs.Serving.{Seen, IsAt}
+
+-- what the code has of the bytes behind the last line feed
+pub record Left : Type 0 where
+  pub kept : List ℕ
+  pub blank : Bool
+
+pub record Taking : Type 0 where
+  pub service : Seen
+  pub torn : Left
+
+-- of these bytes it has the first 65,537, and knows whether all are blank
+pub record HasTorn (torn : List ℕ) (x : Left) : Type 0 where
+  pub kept : x.kept ≡ take 65537 torn
+  pub blank : x.blank ≡ is_blank torn
+  pub unbroken : is_unbroken torn ≡ true
+
+-- what the definition comes to, where it has taken the lines before these bytes
+abbrev pub goes_on : Asked → Service → List ℕ → Stage
+goes_on asked s bytes = takes_pieces asked (slice_split (λ b. b == newline) bytes) (serving s)
+
+-- Of these bytes the code has taken all but the rest, and put this text. It is at a service of the definition, which goes on with what the
+-- code has of the last line, and with the rest, as it does with all.
+pub record CameTo (asked : Asked) (s : Service) (bytes rest text : List ℕ) (x : Taking) : Type 0 where
+  pub now : Service
+  pub torn : List ℕ
+  pub at : IsAt asked x.service now
+  pub has : HasTorn torn x.torn
+  pub written : now.written ≡ s.written ++ text
+  pub same : (more : List ℕ) → goes_on asked s (bytes ++ more) ≡ goes_on asked now (torn ++ (rest ++ more))
+
+abbrev pub Takes : List ℕ → List ℕ → Taking → Taking → List ℕ → Type 0
+Takes bytes rest old new text =
+    (asked : Asked) (s : Service) (torn : List ℕ) → IsAt asked old.service s → HasTorn torn old.torn → CameTo asked s (torn ++ bytes) rest text new
+
+-- these bytes came, and this text was put: just what the lines that ended say, as no line feed is left
+abbrev pub Pushes : List ℕ → Taking → Taking → List ℕ → Type 0
+Pushes bytes old new text = Takes bytes [] old new text
+
+-- the input ended, and this text was put
+pub record Finishes (old new : Taking) (text : List ℕ) : Type 0 where
+  pub at : (asked : Asked) (s : Service) (torn : List ℕ) → IsAt asked old.service s → HasTorn torn old.torn → IsAt asked new.service (ends asked (takes_torn asked torn s))
+  pub written : (asked : Asked) (s : Service) (torn : List ℕ) → IsAt asked old.service s → HasTorn torn old.torn → (ends asked (takes_torn asked torn s)).written ≡ s.written ++ text
+
+-- these chunks came, one after another, and this text was put
+unfoldable pub Comes : List (List ℕ) → Taking → Taking → List ℕ → Type 0
+Comes [] x y told = (x ≡ y) × (told ≡ [])
+Comes (bytes ∷ chunks) x y told = (mid : Taking) × (first : List ℕ) × (later : List ℕ) × Pushes bytes x mid first × Comes chunks mid y later × (told ≡ first ++ later)
+
+-- An input that came in chunks and ended is told as the definition tells it whole.
+abbrev pub MayBeCut : Type 0
+MayBeCut =
+    (asked : Asked) (s : Service) (chunks : List (List ℕ)) (x y z : Taking) (told last : List ℕ) → IsAt asked x.service s → HasTorn [] x.torn → Comes chunks x y told → Finishes y z last
+    → written_of (goes_on asked s (flat_map (λ bytes. bytes) chunks)) ≡ s.written ++ (told ++ last)

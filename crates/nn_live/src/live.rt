@@ -1,0 +1,118 @@
+//! A standby in service whose input comes in chunks.
+ghost use Rattle.std.specs.Prelude.{◌≡◌, ◌∷◌, ◌++◌, [], List, ℕ, true, OnOk};
+ghost use Rattle.nn_device.specs.Page.{Puts};
+ghost use Rattle.nn_segment.specs.Lines.{newline, is_unbroken};
+ghost use Rattle.nn_live.specs.Live.{takes};
+ghost use Rattle.nn_live.specs.Serving.{Makes};
+ghost use Rattle.nn_live.specs.Taking.{Finishes, HasTorn, Pushes};
+
+use crate::service::{Service, ServiceFault};
+use crate::torn::Torn;
+use nn_device::{Page, Writer};
+use nn_edits::Scratch;
+use nn_segment::line_end;
+use std::alloc::Global;
+use std::io::Write;
+use std::marker::Model;
+
+/// A service, and the bytes behind the last line feed. Of a line without end 65,537 bytes are kept.
+#[derive(Drop)]
+pub struct Live {
+    service: Service,
+    torn: Torn,
+    scratch: Scratch,
+}
+
+impl Model for Live {
+    ghost use Rattle.nn_live.specs.Taking.{Taking};
+
+    ghost Value = { Taking };
+
+    ghost view = { λ l. record { service = l.service; torn = l.torn } };
+}
+
+impl Live {
+    /// No bytes have come to this service.
+    pub fn of(alloc: Global, service: Service) -> Live
+        ensures service { result.service ≡ service }
+        ensures torn { HasTorn [] result.torn }
+    {
+        Live {
+            service,
+            torn: Torn::none(alloc),
+            scratch: Scratch::new(alloc),
+        }
+    }
+
+    /// The next bytes of the input, however they are cut. What the lines that end in them say is done and told when the call
+    /// returns. After a fault it takes no more: discard it. O(bytes), and what the lines ask for.
+    pub fn push<W: Write>(
+        &mut self,
+        page: &mut Page,
+        writer: &mut Writer<W>,
+        bytes: &[u8],
+    ) -> Result<(), ServiceFault>
+        ensures ok { OnOk result ((told : List ℕ) × Puts told page.old writer.old page.new writer.new × Pushes bytes.now self.old self.new told) }
+    {
+        let mut rest = bytes;
+        'lines: loop {
+            let (text, more) = rest.split_at(line_end(rest));
+            let Some((_, after)) = more.split_first() else {
+                return self.torn.push(text);
+            };
+            self.end_line(page, writer, text)?;
+            rest = after;
+        }
+    }
+
+    /// The input has ended. The bytes behind the last line feed are a line, but no word; and a segment in hand has no end.
+    pub fn end<W: Write>(
+        &mut self,
+        page: &mut Page,
+        writer: &mut Writer<W>,
+    ) -> Result<(), ServiceFault>
+        ensures ok { OnOk result ((told : List ℕ) × Puts told page.old writer.old page.new writer.new × Finishes self.old self.new told) }
+    {
+        if self.torn.is_too_long() {
+            return self.service.end_long(page, writer, self.torn.is_blank());
+        }
+        let torn = self.torn.as_slice();
+        self.service.end(&mut self.scratch, page, writer, torn)
+    }
+
+    // The line that ends with this text.
+    fn end_line<W: Write>(
+        &mut self,
+        page: &mut Page,
+        writer: &mut Writer<W>,
+        text: &[u8],
+    ) -> Result<(), ServiceFault>
+        requires { is_unbroken text.now ≡ true }
+        ensures ok { OnOk result ((told : List ℕ) × Puts told page.old writer.old page.new writer.new × Pushes (text.now ++ newline ∷ []) self.old self.new told) }
+    {
+        if self.torn.is_empty() {
+            return self.service.line(&mut self.scratch, page, writer, text);
+        }
+        self.torn.push(text)?;
+        self.kept_line(page, writer)?;
+        self.torn.clear();
+        Ok(())
+    }
+
+    // The line that is kept, whole or as far as a line may go.
+    fn kept_line<W: Write>(
+        &mut self,
+        page: &mut Page,
+        writer: &mut Writer<W>,
+    ) -> Result<(), ServiceFault>
+        ensures ok { OnOk result ((told : List ℕ) × Puts told page.old writer.old page.new writer.new
+            × ((torn : List ℕ) → HasTorn torn self.old.torn → Makes (λ asked s. takes asked torn s) self.old.service self.new.service told)) }
+        ensures torn { self.new.torn ≡ self.old.torn }
+    {
+        if self.torn.is_too_long() {
+            return self.service.long_line(page, writer, self.torn.is_blank());
+        }
+        let text = self.torn.as_slice();
+        self.service.line(&mut self.scratch, page, writer, text)
+    }
+}

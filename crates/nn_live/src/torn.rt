@@ -1,0 +1,103 @@
+//! The bytes behind the last line feed.
+ghost use Rattle.std.specs.Prelude.{◌≡◌, ◌==◌, ◌++◌, [], List, ℕ, length, nat_lt, take, true, OnOk, IfErr};
+ghost use Rattle.nn_segment.specs.Lines.{is_unbroken};
+ghost use Rattle.nn_live.specs.Taking.{HasTorn};
+
+use crate::service::{ServiceFault, is_blank};
+use std::alloc::Global;
+use std::marker::Model;
+
+/// The bytes that a line may have, and one.
+const MAX_KEPT: usize = 65_537;
+
+/// The bytes behind the last line feed. Of a line without end only the first 65,537 are kept, and whether all are blank.
+#[derive(Drop)]
+pub(crate) struct Torn {
+    kept: Vec<u8>,
+    blank: bool,
+}
+
+impl Model for Torn {
+    ghost use Rattle.std.specs.Prelude.{◌≡◌, ◌≤◌, true, length};
+    ghost use Rattle.nn_segment.specs.Lines.{is_unbroken};
+    ghost use Rattle.nn_live.specs.Taking.{Left};
+
+    ghost Value = { Left };
+
+    ghost view = { λ t. record { kept = t.kept.items; blank = t.blank } };
+
+    ghost invariant = { λ t. (is_unbroken t.kept.items ≡ true) × (length t.kept.items ≤ 65537) };
+}
+
+impl Torn {
+    /// No bytes. Takes no memory.
+    pub(crate) fn none(alloc: Global) -> Torn
+        ensures { HasTorn [] result }
+    {
+        Torn {
+            kept: Vec::new(alloc),
+            blank: true,
+        }
+    }
+
+    /// Whether there are none.
+    pub(crate) fn is_empty(&self) -> bool
+        ensures { result ≡ (length self.now.kept == 0) }
+    {
+        self.kept.is_empty()
+    }
+
+    /// Whether there are more than a line may have.
+    pub(crate) fn is_too_long(&self) -> bool
+        ensures { result ≡ nat_lt 65536 (length self.now.kept) }
+    {
+        self.kept.len() >= MAX_KEPT
+    }
+
+    /// Whether all are blank.
+    pub(crate) fn is_blank(&self) -> bool
+        ensures { result ≡ self.now.blank }
+    {
+        self.blank
+    }
+
+    /// Those that are kept.
+    pub(crate) fn as_slice(&self) -> &[u8]
+        ensures kept { result.now ≡ self.now.kept }
+        ensures unbroken { is_unbroken result.now ≡ true }
+    {
+        &self.kept
+    }
+
+    /// Adds more, among which is no line feed.
+    pub(crate) fn push(&mut self, bytes: &[u8]) -> Result<(), ServiceFault>
+        requires { is_unbroken bytes.now ≡ true }
+        ensures ok { OnOk result ((torn : List ℕ) → HasTorn torn self.old → HasTorn (torn ++ bytes.now) self.new) }
+        ensures left { IfErr result (λ fault. (fault ≡ ServiceFault.OutOfMemory) × (self.new ≡ self.old)) }
+    {
+        let room = MAX_KEPT - self.kept.len();
+        if let Err(_) = self.kept.extend_from_slice(front(bytes, room)) {
+            return Err(ServiceFault::OutOfMemory);
+        }
+        self.blank &= is_blank(bytes);
+        Ok(())
+    }
+
+    /// Lets them go.
+    pub(crate) fn clear(&mut self)
+        ensures { HasTorn [] self.new }
+    {
+        self.kept.clear();
+        self.blank = true;
+    }
+}
+
+// At most so many of these bytes.
+fn front(bytes: &[u8], most: usize) -> &[u8]
+    ensures { result.now ≡ take most bytes.now }
+{
+    if most >= bytes.len() {
+        return bytes;
+    }
+    &bytes[..most]
+}

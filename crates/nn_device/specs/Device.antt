@@ -2,7 +2,7 @@
 use Rattle.std.specs.Prelude.{◌≡◌, ◌⊎◌, ℕ, ◌+◌, ◌<◌, ◌^◌, Bool, true, false, List, length, take, Option}
 use Rattle.std.specs.Io.KnownBytes.{Appends}
 
--- A reader: the bytes that it has left, where they are known; how many reads were made, and how many bytes they gave;
+-- A reader: the bytes that it has left, where they are known; how many reads were counted, and how many bytes all reads gave;
 -- whether a read failed.
 pub record Reading : Type 0 where
   pub left : Option (List ℕ)
@@ -28,6 +28,19 @@ pub record Gave (old new : Reading) (n : ℕ) : Type 0 where
 pub record FailedToRead (old new : Reading) : Type 0 where
   pub noted : new.failed ≡ true
   pub read : (new.reads ≡ old.reads) ⊎ ((new.reads ≡ old.reads + 1) × (old.failed ≡ false))
+  pub counted : new.given ≡ old.given
+
+-- The same of a read that is not counted.
+pub record GaveOn (old new : Reading) (n : ℕ) : Type 0 where
+  pub open_before : old.failed ≡ false
+  pub open_after : new.failed ≡ false
+  pub read : new.reads ≡ old.reads
+  pub counted : new.given ≡ old.given + n
+  pub bounded : old.given < 2 ^ 62
+
+pub record FailedToReadOn (old new : Reading) : Type 0 where
+  pub noted : new.failed ≡ true
+  pub read : new.reads ≡ old.reads
   pub counted : new.given ≡ old.given
 
 -- The writer took all of the text, and no write failed.

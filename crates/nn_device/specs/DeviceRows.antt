@@ -1,7 +1,7 @@
 -- Reads and writes of devices whose bytes are known.
 use Rattle.std.specs.Prelude.{◌≡◌, ◌<◌, ◌⊎◌, ℕ, true, false, Some, codes, refl}
 use Rattle.std.proofs.Common.{sym, inl, inr, true≢false, arith}
-use Rattle.nn_device.specs.Device.{Reading, Writing, Gave, FailedToRead, Took, FailedToWrite}
+use Rattle.nn_device.specs.Device.{Reading, Writing, Gave, FailedToRead, GaveOn, FailedToReadOn, Took, FailedToWrite}
 
 abbrev unread : Reading
 unread = record { left = Some (codes "abc"); reads = 0; given = 0; failed = false }
@@ -59,6 +59,37 @@ read_again h = neither h.read where
 -- an end is no failed read
 end_is_no_failure : FailedToRead half_read half_read → ⊥
 end_is_no_failure h = true≢false (sym h.noted)
+
+-- a read that is not counted gave two bytes, or failed
+gave_two_on : GaveOn unread (record half_read { reads = 0 }) 2
+gave_two_on = record { open_before = refl; open_after = refl; read = refl; counted = refl; bounded = omega arith }
+
+failed_on : FailedToReadOn half_read failed_reader
+failed_on = record { noted = refl; read = refl; counted = refl }
+
+-- however many there are, they give no reader up
+none_is_counted : GaveOn unread half_read 2 → ⊥
+none_is_counted h = let e : 1 ≡ 0 = h.read in omega (arith, e)
+
+no_failed_one_is : FailedToReadOn half_read (record failed_reader { reads = 2 }) → ⊥
+no_failed_one_is h = let e : 2 ≡ 1 = h.read in omega (arith, e)
+
+-- but its bytes are
+one_too_few_on : GaveOn unread (record half_read { reads = 0; given = 1 }) 2 → ⊥
+one_too_few_on h = let e : 1 ≡ 2 = h.counted in omega (arith, e)
+
+-- a failure is noted, and gives nothing
+fails_for_good_on : GaveOn failed_reader failed_reader 0 → ⊥
+fails_for_good_on h = true≢false h.open_before
+
+no_failure_noted_on : GaveOn unread (record failed_reader { reads = 0 }) 2 → ⊥
+no_failure_noted_on h = true≢false h.open_after
+
+end_is_no_failure_on : FailedToReadOn half_read half_read → ⊥
+end_is_no_failure_on h = true≢false (sym h.noted)
+
+failure_gives_nothing : FailedToReadOn half_read (record failed_reader { given = 3 }) → ⊥
+failure_gives_nothing h = let e : 3 ≡ 2 = h.counted in omega (arith, e)
 
 -- the whole text was taken
 took_all : Took unwritten written (codes "abc")

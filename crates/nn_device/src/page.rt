@@ -53,7 +53,7 @@ impl Page {
             return;
         }
         if let Err(_) = self.gathered.extend_from_slice(piece) {
-            self.write(writer);
+            self.flush(writer);
             self.write_piece(writer, piece);
         }
     }
@@ -66,7 +66,7 @@ impl Page {
             return;
         }
         if let Err(_) = self.gathered.push(byte) {
-            self.write(writer);
+            self.flush(writer);
             self.write_piece(writer, &[byte]);
         }
     }
@@ -76,6 +76,22 @@ impl Page {
         ensures { result ≡ self.now.lost }
     {
         self.lost
+    }
+
+    /// Writes what was gathered: the writer has all that was put then, unless a write failed.
+    pub fn flush<W: Write>(&mut self, writer: &mut Writer<W>)
+        ensures same { Puts [] self.old writer.old self.new writer.new }
+        ensures none { self.new.left ≡ [] }
+    {
+        if self.lost {
+            self.gathered.clear();
+            return;
+        }
+        let written = writer.write_part(&self.gathered);
+        self.gathered.clear();
+        if let Err(_) = written {
+            self.lost = true;
+        }
     }
 
     /// Writes the rest of the text.
@@ -99,23 +115,7 @@ impl Page {
         ensures { Puts [] self.old writer.old self.new writer.new }
     {
         if self.gathered.len() >= PART {
-            self.write(writer);
-        }
-    }
-
-    // Writes what was gathered.
-    fn write<W: Write>(&mut self, writer: &mut Writer<W>)
-        ensures same { Puts [] self.old writer.old self.new writer.new }
-        ensures none { self.new.left ≡ [] }
-    {
-        if self.lost {
-            self.gathered.clear();
-            return;
-        }
-        let written = writer.write_part(&self.gathered);
-        self.gathered.clear();
-        if let Err(_) = written {
-            self.lost = true;
+            self.flush(writer);
         }
     }
 

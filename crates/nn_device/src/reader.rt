@@ -2,7 +2,7 @@
 ghost use Rattle.std.specs.Prelude.{◌≡◌, ◌+◌, ◌<◌, ◌≤◌, ◌^◌, false, IfOk, OnErr};
 ghost use Rattle.std.specs.Io.{ReadsAtMost};
 ghost use Rattle.std.specs.Io.KnownBytes.{ReadConsumes};
-ghost use Rattle.nn_device.specs.Device.{Gave, FailedToRead};
+ghost use Rattle.nn_device.specs.Device.{Gave, FailedToRead, GaveOn, FailedToReadOn};
 
 use crate::MOST_BYTES;
 use std::io::Read;
@@ -12,8 +12,8 @@ use thiserror::Error;
 /// The reads after which a reader is given up that has not ended: 2^24.
 const MOST_READS: u32 = 16_777_216;
 
-/// A reader, how often it was read, how many bytes it gave, and whether one of its reads failed. Only `read` notes that, so
-/// no user of a reader can make a failed read up.
+/// A reader, how many reads of it were counted, how many bytes it gave, and whether one of its reads failed. Only its own reads
+/// note that, so no user of a reader can make a failed read up.
 #[derive(Drop)]
 pub struct Reader<R: Read> {
     reader: R,
@@ -60,11 +60,26 @@ impl<R: Read> Reader<R> {
         ensures ok { IfOk result (Gave self.old self.new) }
         ensures err { OnErr result (FailedToRead self.old self.new) }
     {
-        if self.failed || self.reads >= MOST_READS || self.given >= MOST_BYTES {
+        if self.failed || self.reads >= MOST_READS {
             self.failed = true;
             return Err(ReadFailed);
         }
         self.reads += 1;
+        self.read_on(buffer)
+    }
+
+    /// One read of an input that may go on for years: it is not counted, so that no number of reads gives the reader up. The
+    /// end of 2^62 bytes does. In all else as `read`.
+    pub fn read_on(&mut self, buffer: &mut [u8]) -> Result<usize, ReadFailed>
+        ensures bound { ReadsAtMost result buffer.new }
+        ensures bytes { ReadConsumes self.old.left self.new.left result buffer.new }
+        ensures ok { IfOk result (GaveOn self.old self.new) }
+        ensures err { OnErr result (FailedToReadOn self.old self.new) }
+    {
+        if self.failed || self.given >= MOST_BYTES {
+            self.failed = true;
+            return Err(ReadFailed);
+        }
         let Ok(n) = self.reader.read(buffer) else {
             self.failed = true;
             return Err(ReadFailed);
@@ -73,7 +88,7 @@ impl<R: Read> Reader<R> {
         Ok(n)
     }
 
-    /// How many reads were made, at most 16,777,216.
+    /// How many reads were counted, at most 16,777,216.
     pub fn reads(&self) -> u32
         ensures reads { result ≡ self.now.reads }
         ensures bounded { self.now.reads ≤ 2 ^ 24 }

@@ -87,8 +87,9 @@ pub(crate) fn read_to_end<R: Read, S: ByteSink>(
     }
 }
 
+/// A buffer of so many bytes.
 // The size is a parameter so that no proof has to look at the buffer's cells one by one.
-fn new_buffer(alloc: Global, size: usize) -> Result<Vec<u8>, AllocError>
+pub fn new_buffer(alloc: Global, size: usize) -> Result<Vec<u8>, AllocError>
     ensures { IfOk result (λ v. length v.items ≡ size) }
 {
     vec![in alloc; 0u8; size]

@@ -86,8 +86,8 @@ pub fn run<R: Read, W: Write>(
     }
 }
 
-// The line of an input that was not read.
-pub(crate) fn unread_line(fault: InputFault) -> &'static [u8]
+/// The line of an input that was not read: `fault 8`, or `fault 55` where memory was refused.
+pub fn unread_line(fault: InputFault) -> &'static [u8]
     ensures { result.now ≡ unread_line fault }
 {
     match fault {

@@ -123,3 +123,10 @@ impl FaultLine {
         page.put(writer, b"\n");
     }
 }
+
+/// Puts the line of an image's fault, `fault N image` or `fault N image line L`. It takes no memory.
+pub fn put_image_fault<W: Write>(page: &mut Page, writer: &mut Writer<W>, fault: ImageFault)
+    ensures { Puts (image_fault fault).text page.old writer.old page.new writer.new }
+{
+    FaultLine::of_image(fault).put(page, writer);
+}

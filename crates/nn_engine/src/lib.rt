@@ -17,8 +17,9 @@ mod segments;
 mod start;
 mod threads;
 
-pub use device::InputFault;
-pub use engine::{Options, run};
+pub use device::{InputFault, new_buffer};
+pub use engine::{Options, run, unread_line};
+pub use fault_line::put_image_fault;
 pub use gate::{Gate, Open};
 pub use law::a_checkpoint_prints_the_same;
 pub use output::{RunEnd, RunFault};

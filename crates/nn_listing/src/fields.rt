@@ -7,7 +7,7 @@ use nn_text::put_number;
 use std::io::Write;
 
 /// Puts a space and a number.
-pub(crate) fn put_field<W: Write>(page: &mut Page, writer: &mut Writer<W>, number: u64)
+pub fn put_field<W: Write>(page: &mut Page, writer: &mut Writer<W>, number: u64)
     ensures { Puts (codes " " ++ decimal number) page.old writer.old page.new writer.new }
 {
     page.put_byte(writer, b' ');

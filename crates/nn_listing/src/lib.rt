@@ -10,6 +10,7 @@ mod history;
 mod paths;
 mod tables;
 
+pub use fields::put_field;
 pub use history::put_history;
 pub use paths::{ReadyListing, put_row, write_listing};
 pub use tables::{ReadyTables, put_block_replicas, put_counts, put_order};

@@ -12,7 +12,7 @@ mod step_list;
 mod steps;
 
 pub use checking::SegmentCheck;
-pub use lines::{LineSink, Lines};
+pub use lines::{LineSink, Lines, is_blank};
 pub use scenario::{BadLine, MAX_INPUT, Reading, Scenario, read_lines, scenario_of};
 pub use segments::{BadSegment, Part, read_segments};
 pub use step_list::{StepList, StepsLeft};

@@ -211,7 +211,8 @@ fn hand_line<S: LineSink>(
     sink.line(alloc, text, read).map_err(|_| no_memory(line))
 }
 
-fn is_blank(text: &[u8]) -> bool
+/// Whether there are only spaces, tabs and carriage returns: such a line counts, and says nothing.
+pub fn is_blank(text: &[u8]) -> bool
     ensures { result ≡ is_blank text.now }
 {
     text.iter()

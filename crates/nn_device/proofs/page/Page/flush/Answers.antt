@@ -1,7 +1,7 @@
 use Rattle.std.proofs.Common.{◌≡◌, false, sym, ap, ◌∙◌, subst}
 use Rattle.nn_device.specs.Parts.{TookFront}
 use Rattle.nn_device.proofs.Pages.{part_lost}
-use Rattle.nn_device.proofs.page.Page.write.Goals as goal
+use Rattle.nn_device.proofs.page.Page.flush.Goals as goal
 
 pub returns-in-Err-clause-same : goal.returns-in-Err-clause-same
 returns-in-Err-clause-same g c =

@@ -1,6 +1,6 @@
 -- An input that is cut into its lines as it comes.
 use Rattle.std.proofs.Common.{◌≡◌, ℕ, flat_map, ◌+◌, ◌-◌, ◌<◌, ◌≤◌, ◌==◌, Bool, true, false, cond, not, List, [], ◌∷◌, ◌++◌, length, length-drop, take, drop, get_or, refl, sym, subst, ap, ap₂, ◌∙◌, arith, append_assoc, append-nil, length-append, zero, suc, ◌&&◌}
-use Rattle.std.specs.List.{onto_first, slice_split}
+use Rattle.std.specs.List.{onto_first}
 use Rattle.std.specs.Prelude.{nat_lt}
 use Rattle.std.proofs.lemmas.Bool.{and_parts, and_from, not-true, ltb-true, ltb-false}
 use Rattle.std.proofs.Math.Seq.{drop-cons}
@@ -8,13 +8,9 @@ use Rattle.std.proofs.lemmas.List.{nil_from_length, take-append-drop}
 use Rattle.std.proofs.lemmas.List.Folds.{list_all-append}
 use Rattle.nn_segment.specs.Lines.{newline, is_unbroken}
 use Rattle.nn_scenario.specs.Scenario.{is_blank, is_blank_byte}
-use Rattle.nn_live.specs.Live.{Asked, Service, ends, serving, takes, takes_pieces, takes_torn, written_of}
-use Rattle.nn_live.specs.Serving.{Seen, IsAt, IsLong, Makes}
-use Rattle.nn_live.specs.Taking.{Left, Taking, HasTorn, goes_on, Comes, MayBeCut, Takes, Pushes, Finishes}
-
--- the lines of a text, and what stands behind its last line feed
-abbrev pieces : List ℕ → List (List ℕ)
-pieces text = slice_split (λ b. b == newline) text
+use Rattle.nn_live.specs.Live.{Asked, Service, Stage, ends, pieces, serving, takes, takes_end, takes_pieces, takes_torn, written_of}
+use Rattle.nn_live.specs.Serving.{Seen, IsAt, Makes}
+use Rattle.nn_live.specs.Taking.{IsLong, Left, Taking, HasTorn, goes_on, Comes, MayBeCut, Takes, Pushes, Finishes}
 
 cut_first : (line more : List ℕ) → is_unbroken line ≡ true → pieces (line ++ newline ∷ more) ≡ line ∷ pieces more
 cut_first [] more whole = refl
@@ -24,7 +20,7 @@ cut_first (b ∷ line) more whole =
     ∙ ap (onto_first b) (cut_first line more both.1)
 
 -- there is always one
-some_piece : (text : List ℕ) → (p : List ℕ) × (ps : List (List ℕ)) × (pieces text ≡ p ∷ ps)
+pub some_piece : (text : List ℕ) → (p : List ℕ) × (ps : List (List ℕ)) × (pieces text ≡ p ∷ ps)
 some_piece [] = ([], [], refl)
 some_piece (b ∷ text) = at (b == newline) (some_piece text)
   where
@@ -234,13 +230,13 @@ all_came (bytes ∷ chunks) x y told (mid, first, later, one, others, is) =
     subst (λ t. Pushes (bytes ++ rest) x y t) (sym is)
     (then_takes (bytes ++ rest) rest [] first later x mid y (subst (λ r. Takes (bytes ++ rest) r x mid first) (sym (append-nil rest)) (some_came bytes rest first x mid one)) (all_came chunks mid y later others))
 
-one_piece : (torn : List ℕ) → is_unbroken torn ≡ true → pieces torn ≡ torn ∷ []
+pub one_piece : (torn : List ℕ) → is_unbroken torn ≡ true → pieces torn ≡ torn ∷ []
 one_piece [] whole = refl
 one_piece (b ∷ torn) whole =
     let both = and_parts (not (b == newline)) (is_unbroken torn) whole in
     ap (λ t. cond t ([] ∷ pieces torn) (onto_first b (pieces torn))) (not-true (b == newline) both.0) ∙ ap (onto_first b) (one_piece torn both.1)
 
-ended : (asked : Asked) (s : Service) (torn : List ℕ) → is_unbroken torn ≡ true → goes_on asked s torn ≡ serving (ends asked (takes_torn asked torn s))
+pub ended : (asked : Asked) (s : Service) (torn : List ℕ) → is_unbroken torn ≡ true → goes_on asked s torn ≡ (serving s, torn)
 unfolding takes_pieces
 ended asked s torn whole = ap (λ ps. takes_pieces asked ps (serving s)) (one_piece torn whole)
 
@@ -248,5 +244,6 @@ pub may_be_cut : MayBeCut
 may_be_cut asked s chunks x y z told last at has came fin =
     let bytes = flat_map (λ b. b) chunks in
     let a = all_came chunks x y told came asked s [] at has in
-    ap written_of (ap (goes_on asked s) (sym (append-nil bytes)) ∙ a.same [] ∙ ap (goes_on asked a.now) (append-nil a.torn) ∙ ended asked a.now a.torn a.has.unbroken)
+    ap (λ (r : Stage × List ℕ). written_of (takes_end asked r.1 r.0))
+    (ap (goes_on asked s) (sym (append-nil bytes)) ∙ a.same [] ∙ ap (goes_on asked a.now) (append-nil a.torn) ∙ ended asked a.now a.torn a.has.unbroken)
     ∙ fin.written asked a.now a.torn a.at a.has ∙ ap (λ w. w ++ last) a.written ∙ append_assoc s.written told last

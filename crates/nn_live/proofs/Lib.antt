@@ -5,6 +5,8 @@ pub mod Alike
 pub mod Twice
 pub mod WordTexts
 pub mod Places
+pub mod Growing
+pub mod Breaking
 pub mod Pieces
 pub mod InHand
 pub mod Handing
@@ -13,10 +15,16 @@ pub mod Following
 pub mod Segments
 pub mod Editing
 pub mod Reading
+pub mod BrokenEdits
+pub mod BrokenLines
 pub mod Tabling
 pub mod Lives
 pub mod Replicas
 pub mod Gone
 pub mod Cutting
+pub mod BrokenPushes
+pub mod Opens
+pub mod Running
+pub mod Serves
 pub mod Promoting
 pub mod Answering

@@ -50,10 +50,10 @@ module _ (text : List ℕ) (x : Seen) where
 -- ---- A line of any kind.
 
 module _ (text : List ℕ) where
-  abbrev by_kind : Asked → Bool → Option Word → Service → Service
+  abbrev pub by_kind : Asked → Bool → Option Word → Service → Service
   by_kind asked blank word s = cond blank (counts_line s) (takes_word asked text word (counts_line s))
 
-  line_is : (asked : Asked) (s : Service) → takes asked text s ≡ by_kind asked (is_blank text) (word_in text) s
+  pub line_is : (asked : Asked) (s : Service) → takes asked text s ≡ by_kind asked (is_blank text) (word_in text) s
   unfolding takes
   line_is asked s = refl
 
@@ -73,10 +73,10 @@ module _ (text : List ℕ) where
 
   -- ---- The bytes behind the last line feed.
 
-  abbrev torn_by : Asked → Bool → Bool → Option Word → Service → Service
+  abbrev pub torn_by : Asked → Bool → Bool → Option Word → Service → Service
   torn_by asked none blank word s = cond none s (cond blank (counts_line s) (tears_word text word asked (counts_line s)))
 
-  torn_is : (asked : Asked) (s : Service) → takes_torn asked text s ≡ torn_by asked (length text == 0) (is_blank text) (word_in text) s
+  pub torn_is : (asked : Asked) (s : Service) → takes_torn asked text s ≡ torn_by asked (length text == 0) (is_blank text) (word_in text) s
   unfolding takes_torn
   torn_is asked s = refl
 

@@ -1,10 +1,11 @@
 -- Numbers as they are written, and paths as JSON spells them.
-use Rattle.std.proofs.Common.{◌≡◌, ℕ, ◌<◌, ◌≤◌, ◌^◌, length, ltb, leb, ◌&&◌, List, [], ◌∷◌, Bool, true, false, cond, bytes_eq, Option, Some, None, Result, Ok, refl, ap, ◌∙◌, ltb-true, arith}
+use Rattle.std.proofs.Common.{◌≡◌, ℕ, ◌<◌, ◌≤◌, ◌==◌, ◌^◌, length, ltb, leb, ◌&&◌, List, [], ◌∷◌, Bool, true, false, cond, bytes_eq, Option, Some, None, Result, Ok, refl, sym, ap, ◌∙◌, ltb-true, arith}
 use Rattle.std.specs.Prelude.{is_some, MatchOption, option_and_then}
+use Rattle.std.specs.List.{slice_get}
 use Rattle.std.specs.Fmt.{decimal}
 use Rattle.std.specs.Str.{IsUtf8, is_utf8}
 use Rattle.std.specs.Str.Parse.{digits_value, ParsesUnsigned}
-use Rattle.std.proofs.lemmas.Bool.{lt-ltb, lt-leb, le-leb}
+use Rattle.std.proofs.lemmas.Bool.{lt-ltb, lt-leb, le-leb, ne_eqb}
 use Rattle.std.proofs.lemmas.Fmt.{parse-decimal, decimal_is_IsNumeral}
 use Rattle.std.proofs.lemmas.Slice.Eq.{bytes_eq-Decides}
 use Rattle.std.proofs.lemmas.Str.{IsUtf8-from_is_utf8, is_utf8-from_IsUtf8}
@@ -21,7 +22,7 @@ use Rattle.nn_plain.specs.Ahead.{data_at}
 use Rattle.nn_plain.proofs.Turns.{whole_read, whole_and_more, whole_refused}
 use Rattle.nn_edits.specs.Reading.{value_of}
 use Rattle.nn_edits.proofs.JsonLines.{value_of_text}
-use Rattle.nn_live.specs.Words.{number_in, path_in, alone, behind_front, or_else, word_in}
+use Rattle.nn_live.specs.Words.{number_in, path_in, alone, behind_front, is_text, or_else, word_in}
 
 pub written : (text : List ℕ) (n : ℕ) → n < 2 ^ 63 → text ≡ decimal n → number_in text ≡ Some n
 written text n small is =
@@ -83,6 +84,22 @@ no_token (Some t) old new e h = absurd (cc)
 pub long_line : (line : List ℕ) → 65536 < length line → word_in line ≡ None
 unfolding word_in
 long_line line long = rw (lt-leb (length line) 65536 long) refl
+
+pub begins : (line : List ℕ) (b : ℕ) → Some b ≡ slice_get line 0 → (rest : List ℕ) × (line ≡ b ∷ rest)
+begins [] b is = absurd (cc)
+begins (x ∷ line) b is = let same : b ≡ x = cc in (line, ap (λ y. y ∷ line) (sym same))
+
+-- a line that begins above all letters
+pub no_word : (line : List ℕ) (b : ℕ) (rest : List ℕ) → line ≡ b ∷ rest → 122 < b → word_in line ≡ None
+unfolding word_in alone
+no_word line b rest is above = ap (λ l. cond (is_text l) (or_else (alone l) (behind_front l)) None) is ∙ none (is_text (b ∷ rest))
+  where
+    isnt : (x : ℕ) → x ≤ 122 → (b == x) ≡ false
+    isnt x low = ne_eqb b x (λ same. absurd (omega (arith, same, low, above)))
+
+    none : (t : Bool) → cond t (or_else (alone (b ∷ rest)) (behind_front (b ∷ rest))) None ≡ None
+    none true = rw (isnt 115 (omega arith), isnt 104 (omega arith), isnt 117 (omega arith), isnt 116 (omega arith), isnt 99 (omega arith), isnt 112 (omega arith), isnt 98 (omega arith), isnt 103 (omega arith)) refl
+    none false = refl
 
 pub no_text : (line : List ℕ) → (IsUtf8 line → ⊥) → word_in line ≡ None
 unfolding word_in

@@ -5,3 +5,6 @@ pub mod LiveRows
 pub mod Laws
 pub mod Serving
 pub mod Taking
+pub mod Opening
+pub mod Running
+pub mod RunningRows

@@ -1,5 +1,5 @@
 -- What a standby in service writes for the lines that it has read: a fold over them, with the standby's own functions.
-use Rattle.std.specs.Prelude.{ℕ, ◌+◌, ◌-◌, Bool, true, false, not, ◌==◌, ◌&&◌, ◌||◌, nat_lt, if◌then◌else◌, List, [], ◌∷◌, ◌++◌, length, map, max, Option, Some, None, Result, Ok, Err, codes, decimal}
+use Rattle.std.specs.Prelude.{ℕ, ◌+◌, ◌-◌, Bool, true, false, not, ◌==◌, ◌&&◌, ◌||◌, nat_lt, if◌then◌else◌, List, [], ◌∷◌, ◌++◌, length, map, max, Option, Some, None, Result, Ok, Err, codes, decimal, is_some}
 use Rattle.std.specs.List.{slice_split}
 use Rattle.nn_types.specs.declared.fault.TheConstants.{NOT_JSON, NO_END, DISORDER}
 use Rattle.nn_types.specs.declared.report.Kind.{Kind}
@@ -210,9 +210,13 @@ does asked (word.Gone dn) s = hands asked (empty_report dn) s
 does asked (word.Promote txid) s = promotes asked txid false (flush_refusal s.phase) s
 does asked (word.PromoteLosing txid) s = promotes asked txid true (flush_refusal s.phase) s
 
--- what a word asks for is done, and then `done LINE` is written
+-- `done LINE` ends an answer
+abbrev pub says_done : Service → Service
+says_done s = says (line (codes "done") (decimal s.lines)) s
+
+-- what a word asks for is done, and then that is written
 abbrev pub answers : Asked → Word → Service → Service
-answers asked w s = let t = does asked w s in says (line (codes "done") (decimal t.lines)) t
+answers asked w s = says_done (does asked w s)
 
 -- ---- Lines.
 
@@ -279,10 +283,11 @@ takes_end asked text (loading lines) = refused Truncated
 takes_end asked text (refused fault) = refused fault
 takes_end asked text (serving s) = serving (ends asked (takes_torn asked text s))
 
--- of the pieces between line feeds each is a line, and the last one is what stands behind the last line feed
-unfoldable pub takes_pieces : Asked → List (List ℕ) → Stage → Stage
-takes_pieces asked [] s = s
-takes_pieces asked (torn ∷ []) s = takes_end asked torn s
+-- Of the pieces between line feeds each is a line, but the last one: that stands behind the last line feed. What the lines come to, and
+-- that piece.
+unfoldable pub takes_pieces : Asked → List (List ℕ) → Stage → Stage × List ℕ
+takes_pieces asked [] s = (s, [])
+takes_pieces asked (torn ∷ []) s = (s, torn)
 takes_pieces asked (text ∷ next ∷ pieces) s = takes_pieces asked (next ∷ pieces) (takes_line asked text s)
 
 abbrev pub start : Bool → Stage
@@ -294,6 +299,30 @@ written_of (loading lines) = []
 written_of (refused fault) = (image_fault fault).text
 written_of (serving s) = s.written
 
--- what is written for an input, once it has ended
+-- 1 behind an image that is refused, or where the standby was stopped
+abbrev pub status_of : Stage → ℕ
+status_of (loading lines) = 1
+status_of (refused fault) = 1
+status_of (serving s) = if is_some s.phase.stopped then 1 else 0
+
+-- what stands between the line feeds
+abbrev pub pieces : List ℕ → List (List ℕ)
+pieces input = slice_split (λ b. b == newline) input
+
+-- What the lines so far of an input come to, and what stands behind its last line feed.
+abbrev pub so_far : Asked → Bool → List ℕ → Stage × List ℕ
+so_far asked from_image input = takes_pieces asked (pieces input) (start from_image)
+
+-- what was written for them, before the input has ended
+abbrev pub told_so_far : Asked → Bool → List ℕ → List ℕ
+told_so_far asked from_image input = written_of (so_far asked from_image input).0
+
+-- and once it has ended
+abbrev pub ended : Asked → Stage × List ℕ → Stage
+ended asked x = takes_end asked x.1 x.0
+
+abbrev pub at_end : Asked → Bool → List ℕ → Stage
+at_end asked from_image input = ended asked (so_far asked from_image input)
+
 abbrev pub live_text : Asked → Bool → List ℕ → List ℕ
-live_text asked from_image input = written_of (takes_pieces asked (slice_split (λ b. b == newline) input) (start from_image))
+live_text asked from_image input = written_of (at_end asked from_image input)

@@ -7,7 +7,6 @@ use Rattle.nn_segment.specs.Segment.{max_bytes, last_txid}
 use Rattle.nn_scenario.specs.Checking.{Check, IsCheckOf}
 use Rattle.nn_scenario.specs.Cut.{EditLine, Part, no_lines, last_part, segment_of, with_line}
 use Rattle.nn_scenario.specs.Reading.{Reading}
-use Rattle.nn_scenario.specs.Scenario.{is_blank}
 use Rattle.nn_scenario.specs.Steps.{message}
 use Rattle.nn_replicas.specs.Calls.{replica_at, has_order}
 use Rattle.nn_listing.specs.Tables.{replica_lines_by, order_lines_by, blocks_line}
@@ -117,6 +116,18 @@ pub record Makes (step : Asked → Service → Service) (old new : Seen) (text :
 abbrev pub Steps : (Asked → Service → Service) → Seen → Seen → (List ℕ → Type 0) → Type 0
 Steps step old new puts = (text : List ℕ) × puts text × Makes step old new text
 
+-- a text begins with this one
+abbrev pub IsFrontOf : List ℕ → List ℕ → Type 0
+IsFrontOf front text = (rest : List ℕ) × (text ≡ front ++ rest)
+
+-- a step was not made whole, but what was told is a front of what it tells
+abbrev pub Breaks : (Asked → Service → Service) → Seen → List ℕ → Type 0
+Breaks step old told = (asked : Asked) (s : Service) → IsAt asked old s → IsFrontOf (s.written ++ told) (step asked s).written
+
+-- and that text was put
+abbrev pub BreaksOff : (Asked → Service → Service) → Seen → (List ℕ → Type 0) → Type 0
+BreaksOff step old puts = (told : List ℕ) × puts told × Breaks step old told
+
 -- the message that a report is
 abbrev pub next_of : Contents → Report → Message
 next_of x r = message r (number_in x.numbers r.dn + 1)
@@ -145,12 +156,7 @@ puts_edit l s = record s { in_hand = with_line s.in_hand l; known = max s.known 
 abbrev pub keeps_edit : EditLine → Asked → Service → Service
 keeps_edit l asked s = behind_edit asked l.tx (puts_edit l s)
 
--- a line that has more bytes than one may have, and may be blank
-pub record IsLong (text : List ℕ) (blank : Bool) : Type 0 where
-  pub long : 65536 < length text
-  pub all : is_blank text ≡ blank
-
--- the same of numbers
+-- whether the log has ended at this txid, as far as these numbers tell
 abbrev pub log_ends : ℕ → ℕ → ℕ → Bool → Bool
 log_ends last known txid losing = last == txid && (losing || not (nat_lt txid known))
 

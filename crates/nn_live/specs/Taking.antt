@@ -1,10 +1,9 @@
 -- A service and the bytes behind the last line feed.
-use Rattle.std.specs.Prelude.{◌≡◌, ◌==◌, ℕ, Bool, true, List, [], ◌∷◌, ◌++◌, flat_map, take}
-use Rattle.std.specs.List.{slice_split}
-use Rattle.nn_segment.specs.Lines.{newline, is_unbroken}
+use Rattle.std.specs.Prelude.{◌≡◌, ◌<◌, ℕ, Bool, true, List, [], ◌∷◌, ◌++◌, flat_map, length, take}
+use Rattle.nn_segment.specs.Lines.{is_unbroken}
 use Rattle.nn_scenario.specs.Scenario.{is_blank}
-use Rattle.nn_live.specs.Live.{Asked, Service, Stage, ends, serving, takes_pieces, takes_torn, written_of}
-use Rattle.nn_live.specs.Serving.{Seen, IsAt}
+use Rattle.nn_live.specs.Live.{Asked, Service, Stage, ended, ends, pieces, serving, takes_pieces, takes_torn, written_of}
+use Rattle.nn_live.specs.Serving.{Seen, IsAt, IsFrontOf}
 
 -- what the code has of the bytes behind the last line feed
 pub record Left : Type 0 where
@@ -21,9 +20,14 @@ pub record HasTorn (torn : List ℕ) (x : Left) : Type 0 where
   pub blank : x.blank ≡ is_blank torn
   pub unbroken : is_unbroken torn ≡ true
 
+-- a line that has more bytes than one may have, and may be blank
+pub record IsLong (text : List ℕ) (blank : Bool) : Type 0 where
+  pub long : 65536 < length text
+  pub all : is_blank text ≡ blank
+
 -- what the definition comes to, where it has taken the lines before these bytes
-abbrev pub goes_on : Asked → Service → List ℕ → Stage
-goes_on asked s bytes = takes_pieces asked (slice_split (λ b. b == newline) bytes) (serving s)
+abbrev pub goes_on : Asked → Service → List ℕ → Stage × List ℕ
+goes_on asked s bytes = takes_pieces asked (pieces bytes) (serving s)
 
 -- Of these bytes the code has taken all but the rest, and put this text. It is at a service of the definition, which goes on with what the
 -- code has of the last line, and with the rest, as it does with all.
@@ -43,6 +47,17 @@ Takes bytes rest old new text =
 abbrev pub Pushes : List ℕ → Taking → Taking → List ℕ → Type 0
 Pushes bytes old new text = Takes bytes [] old new text
 
+-- not all lines of these bytes were taken, but what was told is a front of what they say
+abbrev pub BreaksPush : List ℕ → Taking → List ℕ → Type 0
+BreaksPush bytes old told =
+    (asked : Asked) (s : Service) (torn : List ℕ) → IsAt asked old.service s → HasTorn torn old.torn
+    → IsFrontOf (s.written ++ told) (written_of (goes_on asked s (torn ++ bytes)).0)
+
+-- and so at the end of the input
+abbrev pub BreaksEnd : Taking → List ℕ → Type 0
+BreaksEnd old told =
+    (asked : Asked) (s : Service) (torn : List ℕ) → IsAt asked old.service s → HasTorn torn old.torn → IsFrontOf (s.written ++ told) (ends asked (takes_torn asked torn s)).written
+
 -- the input ended, and this text was put
 pub record Finishes (old new : Taking) (text : List ℕ) : Type 0 where
   pub at : (asked : Asked) (s : Service) (torn : List ℕ) → IsAt asked old.service s → HasTorn torn old.torn → IsAt asked new.service (ends asked (takes_torn asked torn s))
@@ -53,8 +68,8 @@ unfoldable pub Comes : List (List ℕ) → Taking → Taking → List ℕ → Ty
 Comes [] x y told = (x ≡ y) × (told ≡ [])
 Comes (bytes ∷ chunks) x y told = (mid : Taking) × (first : List ℕ) × (later : List ℕ) × Pushes bytes x mid first × Comes chunks mid y later × (told ≡ first ++ later)
 
--- An input that came in chunks and ended is told as the definition tells it whole.
+-- An input may come in chunks: what is told of them, and of its end, is what the definition tells of the whole.
 abbrev pub MayBeCut : Type 0
 MayBeCut =
     (asked : Asked) (s : Service) (chunks : List (List ℕ)) (x y z : Taking) (told last : List ℕ) → IsAt asked x.service s → HasTorn [] x.torn → Comes chunks x y told → Finishes y z last
-    → written_of (goes_on asked s (flat_map (λ bytes. bytes) chunks)) ≡ s.written ++ (told ++ last)
+    → written_of (ended asked (goes_on asked s (flat_map (λ bytes. bytes) chunks))) ≡ s.written ++ (told ++ last)

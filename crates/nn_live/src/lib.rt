@@ -6,13 +6,16 @@
 //!
 //! The definition is in `specs/Live`, with the texts of the answers in `Answers`; its laws are functions that do nothing.
 //! `Word::read` reads what a line asks for. A `Service` takes lines, each when it has ended, and what is left at the end of the
-//! input: it does and tells just what the definition says. Its caller cuts the lines.
+//! input: it does and tells just what the definition says. A `Live` is a service that takes the input as it comes, in chunks.
+//! `run_live` serves a reader's bytes to their end, behind an image where one is asked for.
 #![tactic(auto)]
 
 mod in_hand;
 mod laws;
 mod live;
 mod one_block;
+mod opening;
+mod run;
 mod safety;
 mod service;
 mod texts;
@@ -24,5 +27,6 @@ pub use laws::{
     a_service_stands_at_its_log, an_input_may_be_cut,
 };
 pub use live::Live;
+pub use run::{LiveOptions, run_live};
 pub use service::{Service, ServiceFault};
 pub use word::Word;

@@ -1,10 +1,10 @@
 //! A standby in service whose input comes in chunks.
-ghost use Rattle.std.specs.Prelude.{◌≡◌, ◌∷◌, ◌++◌, [], List, ℕ, true, OnOk};
+ghost use Rattle.std.specs.Prelude.{◌≡◌, ◌∷◌, ◌++◌, [], List, ℕ, true, IfErr, OnOk, if◌then◌else◌, is_some};
 ghost use Rattle.nn_device.specs.Page.{Puts};
 ghost use Rattle.nn_segment.specs.Lines.{newline, is_unbroken};
 ghost use Rattle.nn_live.specs.Live.{takes};
-ghost use Rattle.nn_live.specs.Serving.{Makes};
-ghost use Rattle.nn_live.specs.Taking.{Finishes, HasTorn, Pushes};
+ghost use Rattle.nn_live.specs.Serving.{Breaks, Makes};
+ghost use Rattle.nn_live.specs.Taking.{BreaksEnd, BreaksPush, Finishes, HasTorn, Pushes};
 
 use crate::service::{Service, ServiceFault};
 use crate::torn::Torn;
@@ -44,6 +44,16 @@ impl Live {
         }
     }
 
+    /// The status that a process ends with: 1 where the log was stopped.
+    pub(crate) fn status(&self) -> u8
+        ensures { result ≡ (if is_some self.now.service.shadow.phase.stopped then 1 else 0) }
+    {
+        match self.service.standby().stop() {
+            Some(_) => 1,
+            None => 0,
+        }
+    }
+
     /// The next bytes of the input, however they are cut. What the lines that end in them say is done and told when the call
     /// returns. After a fault it takes no more: discard it. O(bytes), and what the lines ask for.
     pub fn push<W: Write>(
@@ -53,6 +63,7 @@ impl Live {
         bytes: &[u8],
     ) -> Result<(), ServiceFault>
         ensures ok { OnOk result ((told : List ℕ) × Puts told page.old writer.old page.new writer.new × Pushes bytes.now self.old self.new told) }
+        ensures front { IfErr result (λ _. (told : List ℕ) × Puts told page.old writer.old page.new writer.new × BreaksPush bytes.now self.old told) }
     {
         let mut rest = bytes;
         'lines: loop {
@@ -72,6 +83,7 @@ impl Live {
         writer: &mut Writer<W>,
     ) -> Result<(), ServiceFault>
         ensures ok { OnOk result ((told : List ℕ) × Puts told page.old writer.old page.new writer.new × Finishes self.old self.new told) }
+        ensures front { IfErr result (λ _. (told : List ℕ) × Puts told page.old writer.old page.new writer.new × BreaksEnd self.old told) }
     {
         if self.torn.is_too_long() {
             return self.service.end_long(page, writer, self.torn.is_blank());
@@ -89,6 +101,7 @@ impl Live {
     ) -> Result<(), ServiceFault>
         requires { is_unbroken text.now ≡ true }
         ensures ok { OnOk result ((told : List ℕ) × Puts told page.old writer.old page.new writer.new × Pushes (text.now ++ newline ∷ []) self.old self.new told) }
+        ensures front { IfErr result (λ _. (told : List ℕ) × Puts told page.old writer.old page.new writer.new × BreaksPush (text.now ++ newline ∷ []) self.old told) }
     {
         if self.torn.is_empty() {
             return self.service.line(&mut self.scratch, page, writer, text);
@@ -108,6 +121,8 @@ impl Live {
         ensures ok { OnOk result ((told : List ℕ) × Puts told page.old writer.old page.new writer.new
             × ((torn : List ℕ) → HasTorn torn self.old.torn → Makes (λ asked s. takes asked torn s) self.old.service self.new.service told)) }
         ensures torn { self.new.torn ≡ self.old.torn }
+        ensures front { IfErr result (λ _. (told : List ℕ) × Puts told page.old writer.old page.new writer.new
+            × ((torn : List ℕ) → HasTorn torn self.old.torn → Breaks (λ asked s. takes asked torn s) self.old.service told)) }
     {
         if self.torn.is_too_long() {
             return self.service.long_line(page, writer, self.torn.is_blank());

@@ -121,8 +121,8 @@ fn put_unsafe_block<W: Write>(
     most - 1
 }
 
-/// How many live replicas a block has.
-pub(crate) fn live_count(table: &Replicas, block: &Block) -> u64
+// How many live replicas a block has.
+fn live_count(table: &Replicas, block: &Block) -> u64
     requires shows { (n : Namespace) × Shows n table.now }
     ensures { result ≡ live_count (replica_at table.now) block.now }
 {

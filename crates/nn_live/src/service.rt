@@ -12,7 +12,6 @@ mod promotion;
 mod reports;
 
 use crate::in_hand::InHand;
-pub(crate) use lines::is_blank;
 use nn_device::{Page, Writer};
 use nn_listing::put_history;
 use nn_shadow::{FromFault, Shadow};
@@ -23,7 +22,7 @@ use std::io::Write;
 use std::marker::Model;
 
 /// DataNodes are 1 to 256.
-const DATANODES: u16 = 256;
+pub(crate) const DATANODES: u16 = 256;
 
 /// Why a line was not taken, and was not told either.
 #[derive(Clone, Copy, Debug, PartialEq, Eq)]

@@ -8,6 +8,7 @@ ghost use Rattle.nn_live.specs.Answers.{and_number, block_line, datanode_text, h
 ghost use Rattle.nn_live.specs.Serving.{fault_text};
 
 use nn_device::{Page, Writer};
+use nn_listing::put_field;
 use nn_shadow::Stop;
 use nn_text::{put_number, put_path};
 use nn_types::{Block, BlockId, Message, fault};
@@ -166,12 +167,4 @@ pub(crate) fn put_unsafe<W: Write>(
     page.put_byte(writer, b' ');
     put_path(page, writer, names);
     page.put_byte(writer, b'\n');
-}
-
-// Puts a space and a number.
-fn put_field<W: Write>(page: &mut Page, writer: &mut Writer<W>, number: u64)
-    ensures { Puts (codes " " ++ decimal number) page.old writer.old page.new writer.new }
-{
-    page.put_byte(writer, b' ');
-    put_number(page, writer, number);
 }

@@ -3,7 +3,8 @@ ghost use Rattle.std.specs.Prelude.{◌≡◌, ◌==◌, ◌++◌, [], List, ℕ
 ghost use Rattle.nn_segment.specs.Lines.{is_unbroken};
 ghost use Rattle.nn_live.specs.Taking.{HasTorn};
 
-use crate::service::{ServiceFault, is_blank};
+use crate::service::ServiceFault;
+use nn_scenario::is_blank;
 use std::alloc::Global;
 use std::marker::Model;
 

@@ -1,5 +1,5 @@
 //! The words by which a caller asks something of a standby in service.
-ghost use Rattle.std.specs.Prelude.{◌≡◌, ◌<◌, ◌^◌, IfOk, IfSome, option_map};
+ghost use Rattle.std.specs.Prelude.{◌≡◌, ◌<◌, ◌^◌, None, IfOk, IfSome, IsTrue, option_map};
 ghost use Rattle.serde_json.specs.Data.{Data};
 ghost use Rattle.serde_json.specs.Find.{as_str};
 ghost use Rattle.nn_plain.specs.Spelling.{plain_of, spelled_or};
@@ -19,7 +19,7 @@ const MAX_LINE: usize = 65_536;
 const MAX_DEPTH: usize = 127;
 
 /// The least number that is none of the formats.
-const NUMBERS: u64 = 9_223_372_036_854_775_808;
+pub(crate) const NUMBERS: u64 = 9_223_372_036_854_775_808;
 
 /// What a caller asks for. Whether there is a block, a path or a DataNode of that name, the answer tells.
 #[derive(Drop)]
@@ -54,6 +54,9 @@ impl Word {
     ) -> Result<Option<Word>, AllocError>
         ensures { IfOk result (λ word. word ≡ word_in line.now) }
     {
+        if is_object(line) {
+            return Ok(None);
+        }
         if line.len() > MAX_LINE {
             return Ok(None);
         }
@@ -70,6 +73,16 @@ impl Word {
             Some(path) => Ok(Some(Word::Path(path))),
             None => Ok(None),
         }
+    }
+}
+
+// Whether a line begins above all letters, as an object of JSON does: then it is no word.
+fn is_object(line: &[u8]) -> bool
+    ensures { IsTrue result → word_in line.now ≡ None }
+{
+    match line.first() {
+        Some(first) => *first > b'z',
+        None => false,
     }
 }
 

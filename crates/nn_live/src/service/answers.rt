@@ -11,7 +11,7 @@ ghost use Rattle.nn_tree.specs.Listing.{lent_names};
 ghost use Rattle.nn_tree.specs.Rows.{greatest_depth};
 ghost use Rattle.nn_live.specs.Answers.{datanode_text, held_line, shown, status_lines};
 ghost use Rattle.nn_live.specs.Live.{answers, does};
-ghost use Rattle.nn_live.specs.Serving.{IsAtEnd, Steps, figures_seen, tables_seen};
+ghost use Rattle.nn_live.specs.Serving.{BreaksOff, IsAtEnd, Steps, figures_seen, tables_seen};
 ghost use Rattle.nn_live.specs.declared.word.Word.TheVariants as word;
 
 use super::{DATANODES, Service, ServiceFault};
@@ -40,6 +40,7 @@ impl Service {
     ) -> Result<(), ServiceFault>
         ensures ok { OnOk result (Steps (λ asked s. answers asked word.now s) self.old self.new (λ text. Puts text page.old writer.old page.new writer.new)) }
         ensures exhausted { IsErrOf result ServiceFault.Exhausted → IsAtEnd self.old }
+        ensures front { IfErr result (λ _. BreaksOff (λ asked s. answers asked word.now s) self.old (λ told. Puts told page.old writer.old page.new writer.new)) }
     {
         self.does(page, writer, word)?;
         put_count(page, writer, "done", self.lines);
@@ -54,6 +55,7 @@ impl Service {
     ) -> Result<(), ServiceFault>
         ensures ok { OnOk result (Steps (λ asked s. does asked word.now s) self.old self.new (λ text. Puts text page.old writer.old page.new writer.new)) }
         ensures exhausted { IsErrOf result ServiceFault.Exhausted → IsAtEnd self.old }
+        ensures front { IfErr result (λ _. BreaksOff (λ asked s. does asked word.now s) self.old (λ told. Puts told page.old writer.old page.new writer.new)) }
     {
         match word {
             Word::Sync => return Ok(()),

@@ -9,7 +9,7 @@ ghost use Rattle.nn_scenario.specs.Reading.{Reading};
 ghost use Rattle.nn_shadow.specs.Contents.{standby_of};
 ghost use Rattle.nn_shadow.specs.Refusals.{apply_refusal};
 ghost use Rattle.nn_live.specs.Live.{ends, follows, follows_txs, takes_edit};
-ghost use Rattle.nn_live.specs.Serving.{HasRead, IsAllOf, IsNearEnd, Keeps, Makes, Steps, keeps_edit, takes_segment, takes_tx};
+ghost use Rattle.nn_live.specs.Serving.{Breaks, BreaksOff, HasRead, IsAllOf, IsNearEnd, Keeps, Makes, Steps, keeps_edit, takes_segment, takes_tx};
 
 use super::{Service, ServiceFault};
 use crate::in_hand::InHand;
@@ -36,6 +36,7 @@ impl Service {
         requires from_one { 1 ≤ tx.txid }
         ensures ok { OnOk result (Steps (λ asked s. takes_edit asked (record { text = text.now; tx = tx }) s) self.old self.new (λ told. Puts told page.old writer.old page.new writer.new)) }
         ensures exhausted { IsErrOf result ServiceFault.Exhausted → IsNearEnd self.old }
+        ensures front { IfErr result (λ _. BreaksOff (λ asked s. takes_edit asked (record { text = text.now; tx = tx }) s) self.old (λ told. Puts told page.old writer.old page.new writer.new)) }
     {
         if !is_start(&tx.edit) {
             return self.keep_edit(page, writer, text, tx);
@@ -55,6 +56,7 @@ impl Service {
         ensures counts { OnOk result ((self.new.segments ≤ self.old.segments + 1) × (self.new.passed ≡ self.old.passed)) }
         ensures exhausted { IfErr result (λ fault. (fault ≡ ServiceFault.Exhausted) × (2 ^ 63 ≤ self.old.segments)) }
         ensures left { IfErr result (λ _. self.new ≡ self.old) }
+        ensures put { IfErr result (λ _. Puts [] page.old writer.old page.new writer.new) }
     {
         if self.in_hand.is_empty() {
             return Ok(());
@@ -79,6 +81,7 @@ impl Service {
         requires from_one { 1 ≤ tx.txid }
         ensures ok { OnOk result (Steps (keeps_edit (record { text = text.now; tx = tx })) self.old self.new (λ told. Puts told page.old writer.old page.new writer.new)) }
         ensures exhausted { IsErrOf result ServiceFault.Exhausted → (2 ^ 62 ≤ self.old.in_hand.edits + 1) ⊎ (2 ^ 63 ≤ self.old.segments) ⊎ (2 ^ 63 ≤ self.old.passed) }
+        ensures front { IfErr result (λ _. BreaksOff (keeps_edit (record { text = text.now; tx = tx })) self.old (λ told. Puts told page.old writer.old page.new writer.new)) }
     {
         let txid = tx.txid.get();
         let ends = is_end(&tx.edit);
@@ -103,6 +106,8 @@ impl Service {
         ensures ok { OnOk result ((told : List ℕ) × Puts told page.old writer.old page.new writer.new
             × ((read : Reading) (part : Part) → HasRead read part in_hand → IsAllOf part read → Makes (takes_segment part) self.old self.new told)) }
         ensures exhausted { IsErrOf result ServiceFault.Exhausted → (2 ^ 63 ≤ self.old.segments) ⊎ (2 ^ 63 ≤ self.old.passed) }
+        ensures front { IfErr result (λ _. (told : List ℕ) × Puts told page.old writer.old page.new writer.new
+            × ((read : Reading) (part : Part) → HasRead read part in_hand → IsAllOf part read → Breaks (takes_segment part) self.old told)) }
     {
         self.count_segment()?;
         match in_hand.into_txs() {
@@ -137,6 +142,7 @@ impl Service {
         requires { (g : Segment) × IsSegment g × (g.txs ≡ txs.now) }
         ensures ok { OnOk result (Steps (λ asked s. follows_txs asked txs.now s) self.old self.new (λ told. Puts told page.old writer.old page.new writer.new)) }
         ensures exhausted { IsErrOf result ServiceFault.Exhausted → 2 ^ 63 ≤ self.old.passed }
+        ensures front { IfErr result (λ _. BreaksOff (λ asked s. follows_txs asked txs.now s) self.old (λ told. Puts told page.old writer.old page.new writer.new)) }
     {
         self.shadow.consistent();
         let Some(first) = txs.first() else {
@@ -166,6 +172,7 @@ impl Service {
     ) -> Result<bool, ServiceFault>
         ensures ok { IfOk result (λ _. Steps (takes_tx tx.now) self.old self.new (λ text. Puts text page.old writer.old page.new writer.new)) }
         ensures memory { IfErr result (λ fault. fault ≡ ServiceFault.OutOfMemory) }
+        ensures put { IfErr result (λ _. Puts [] page.old writer.old page.new writer.new) }
         ensures applied { IfOk result (λ applied. applied ≡ is_none (apply_refusal self.old.shadow.phase (standby_of self.old.shadow) tx.now)) }
     {
         match self.shadow.apply(tx) {
@@ -192,6 +199,7 @@ impl Service {
     ) -> Result<(), ServiceFault>
         ensures ok { IfOk result (λ _. Steps (λ asked s. follows asked txs.now s) self.old self.new (λ text. Puts text page.old writer.old page.new writer.new)) }
         ensures memory { IfErr result (λ fault. fault ≡ ServiceFault.OutOfMemory) }
+        ensures front { IfErr result (λ _. BreaksOff (λ asked s. follows asked txs.now s) self.old (λ told. Puts told page.old writer.old page.new writer.new)) }
     {
         let mut rest = txs;
         'txs: while let Some((tx, later)) = rest.split_first() {

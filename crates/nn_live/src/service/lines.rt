@@ -1,17 +1,19 @@
 //! Lines are taken as they come: words, edits and reports.
-ghost use Rattle.std.specs.Prelude.{◌≡◌, ◌≤◌, ◌^◌, ◌⊎◌, List, ℕ, true, IsErrOf, OnOk};
+ghost use Rattle.std.specs.Prelude.{◌≡◌, ◌≤◌, ◌^◌, ◌⊎◌, List, ℕ, [], true, IfErr, IsErrOf, OnOk};
 ghost use Rattle.nn_device.specs.Page.{Puts};
 ghost use Rattle.nn_edits.specs.Reading.{either_of_line};
 ghost use Rattle.nn_segment.specs.Lines.{is_unbroken};
 ghost use Rattle.nn_scenario.specs.Scenario.{is_blank};
 ghost use Rattle.nn_live.specs.Live.{ends, takes, takes_read, takes_torn};
-ghost use Rattle.nn_live.specs.Serving.{IsAtEnd, IsLong, Makes, Steps};
+ghost use Rattle.nn_live.specs.Serving.{Breaks, BreaksOff, IsAtEnd, Makes, Steps};
+ghost use Rattle.nn_live.specs.Taking.{IsLong};
 
 use super::{Service, ServiceFault};
 use crate::texts::put_fault;
 use crate::word::Word;
 use nn_device::{Page, Writer};
 use nn_edits::{Line, LineFault, Scratch, read_line};
+use nn_scenario::is_blank;
 use nn_types::fault;
 use std::io::Write;
 
@@ -28,6 +30,7 @@ impl Service {
         requires { is_unbroken text.now ≡ true }
         ensures ok { OnOk result (Steps (λ asked s. takes asked text.now s) self.old self.new (λ told. Puts told page.old writer.old page.new writer.new)) }
         ensures exhausted { IsErrOf result ServiceFault.Exhausted → (2 ^ 63 ≤ self.old.lines) ⊎ IsAtEnd self.old }
+        ensures front { IfErr result (λ _. BreaksOff (λ asked s. takes asked text.now s) self.old (λ told. Puts told page.old writer.old page.new writer.new)) }
     {
         self.next_line()?;
         if is_blank(text) {
@@ -53,6 +56,7 @@ impl Service {
     ) -> Result<(), ServiceFault>
         requires { is_unbroken torn.now ≡ true }
         ensures ok { OnOk result (Steps (λ asked s. ends asked (takes_torn asked torn.now s)) self.old self.new (λ told. Puts told page.old writer.old page.new writer.new)) }
+        ensures front { IfErr result (λ _. BreaksOff (λ asked s. ends asked (takes_torn asked torn.now s)) self.old (λ told. Puts told page.old writer.old page.new writer.new)) }
     {
         self.torn_line(scratch, page, writer, torn)?;
         self.end_edits(page, writer)
@@ -67,6 +71,7 @@ impl Service {
     ) -> Result<(), ServiceFault>
         ensures ok { OnOk result ((told : List ℕ) × Puts told page.old writer.old page.new writer.new
             × ((text : List ℕ) → IsLong text blank → Makes (λ asked s. takes asked text s) self.old self.new told)) }
+        ensures put { IfErr result (λ _. Puts [] page.old writer.old page.new writer.new) }
     {
         self.next_line()?;
         if blank {
@@ -85,6 +90,8 @@ impl Service {
     ) -> Result<(), ServiceFault>
         ensures ok { OnOk result ((told : List ℕ) × Puts told page.old writer.old page.new writer.new
             × ((torn : List ℕ) → IsLong torn blank → Makes (λ asked s. ends asked (takes_torn asked torn s)) self.old self.new told)) }
+        ensures front { IfErr result (λ _. (told : List ℕ) × Puts told page.old writer.old page.new writer.new
+            × ((torn : List ℕ) → IsLong torn blank → Breaks (λ asked s. ends asked (takes_torn asked torn s)) self.old told)) }
     {
         self.long_line(page, writer, blank)?;
         self.end_edits(page, writer)
@@ -100,6 +107,7 @@ impl Service {
     ) -> Result<(), ServiceFault>
         requires { is_unbroken text.now ≡ true }
         ensures ok { OnOk result (Steps (λ asked s. takes_torn asked text.now s) self.old self.new (λ told. Puts told page.old writer.old page.new writer.new)) }
+        ensures front { IfErr result (λ _. BreaksOff (λ asked s. takes_torn asked text.now s) self.old (λ told. Puts told page.old writer.old page.new writer.new)) }
     {
         if text.is_empty() {
             return Ok(());
@@ -129,6 +137,7 @@ impl Service {
         requires { is_unbroken text.now ≡ true }
         ensures ok { OnOk result (Steps (λ asked s. takes_read asked text.now (either_of_line text.now) s) self.old self.new (λ told. Puts told page.old writer.old page.new writer.new)) }
         ensures exhausted { IsErrOf result ServiceFault.Exhausted → IsAtEnd self.old }
+        ensures front { IfErr result (λ _. BreaksOff (λ asked s. takes_read asked text.now (either_of_line text.now) s) self.old (λ told. Puts told page.old writer.old page.new writer.new)) }
     {
         match read_line(self.alloc, scratch, text) {
             Ok(Line::Edit(tx)) => self.edit(page, writer, text, tx),
@@ -142,12 +151,4 @@ impl Service {
             }
         }
     }
-}
-
-/// Whether there are only spaces, tabs and carriage returns.
-pub(crate) fn is_blank(text: &[u8]) -> bool
-    ensures { result ≡ is_blank text.now }
-{
-    text.iter()
-        .all(|b| *b == b' ' || *b == b'\t' || *b == b'\r')
 }

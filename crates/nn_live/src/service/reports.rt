@@ -8,13 +8,11 @@ ghost use Rattle.nn_live.specs.Serving.{Steps, next_of};
 
 use super::{Service, ServiceFault};
 use crate::texts::put_fault;
+use crate::word::NUMBERS;
 use nn_device::{Page, Writer};
 use nn_shadow::HandCause;
 use nn_types::{BlockId, GenerationStamp, Kind, Length, Message, Report};
 use std::io::Write;
-
-/// The least number that is none of the formats.
-const NUMBERS: u64 = 9_223_372_036_854_775_808;
 
 impl Service {
     /// A report is its DataNode's next message: it is handed, and with the history it is told what that did; or it is told why

@@ -1,8 +1,8 @@
 use Rattle.std.proofs.Common.{subst, sym, ◌∙◌}
-use Rattle.std.proofs.lemmas.Result.{IfOk-weaker}
+use Rattle.std.proofs.lemmas.Result.{IfOk-weaker, IfErr-weaker}
 use Rattle.nn_live.specs.Live.{ends, takes_torn}
-use Rattle.nn_live.specs.Serving.{Makes}
-use Rattle.nn_live.specs.Taking.{Taking, Finishes}
+use Rattle.nn_live.specs.Serving.{Breaks, Makes}
+use Rattle.nn_live.specs.Taking.{BreaksEnd, Taking, Finishes}
 use Rattle.nn_live.proofs.Cutting.{finishes, is_long, is_whole}
 use Rattle.nn_live.proofs.live.Live.end.Goals as goal
 
@@ -16,6 +16,12 @@ returns-then-is_too_long g c =
         subst (λ (x : Taking). Finishes x (record { service = c.end_long.new.self; torn = old.torn }) step.0) c.self.view_is
             (finishes old.service c.end_long.new.self old.torn old.torn step.0 (λ torn there. step.2 torn (is_long torn old.torn c.is_blank.result there (sym c.if-is_too_long.ensures) c.is_blank.ensures))),
       )) c.end_long.ensures.ok;
+      front = IfErr-weaker c.end_long.result _ _ (λ _ front. (
+        front.0,
+        front.1,
+        subst (λ (x : Taking). BreaksEnd x front.0) c.self.view_is
+            (λ asked s torn at there. front.2 torn (is_long torn old.torn c.is_blank.result there (sym c.if-is_too_long.ensures) c.is_blank.ensures) asked s at),
+      )) c.end_long.ensures.front;
     }
 
 pub returns : goal.returns
@@ -29,4 +35,11 @@ returns g c =
             (finishes old.service c.end.new.self old.torn old.torn step.0 (λ torn there.
             subst (λ t. Makes (λ asked s. ends asked (takes_torn asked t s)) old.service c.end.new.self step.0) (c.as_slice-torn.ensures.kept ∙ is_whole torn old.torn there (sym c.if-is_too_long.ensures)) step.2)),
       )) c.end.ensures.ok;
+      front = IfErr-weaker c.end.result _ _ (λ _ front. (
+        front.0,
+        front.1,
+        subst (λ (x : Taking). BreaksEnd x front.0) c.self.view_is
+            (λ asked s torn at there.
+            subst (λ t. Breaks (λ asked s. ends asked (takes_torn asked t s)) old.service front.0) (c.as_slice-torn.ensures.kept ∙ is_whole torn old.torn there (sym c.if-is_too_long.ensures)) front.2 asked s at),
+      )) c.end.ensures.front;
     }

@@ -1,11 +1,14 @@
 use Rattle.std.proofs.Common.{◌++◌, ◌∷◌, [], List, ℕ, subst, sym}
-use Rattle.std.proofs.lemmas.Result.{IfOk-weaker}
+use Rattle.std.proofs.lemmas.Result.{IfOk-weaker, IfErr-weaker}
 use Rattle.std.proofs.lemmas.Bool.{eqb-true}
 use Rattle.nn_segment.specs.Lines.{newline}
 use Rattle.nn_live.specs.Live.{takes}
-use Rattle.nn_live.specs.Serving.{Makes}
-use Rattle.nn_live.specs.Taking.{Taking, HasTorn, Pushes}
-use Rattle.nn_live.proofs.Cutting.{line_alone, line_ended}
+use Rattle.nn_device.proofs.Pages.{puts_nothing}
+use Rattle.nn_live.specs.Serving.{Breaks, Makes}
+use Rattle.nn_live.specs.Taking.{BreaksPush, Taking, HasTorn, Pushes}
+use Rattle.nn_live.proofs.BrokenPushes.{alone_broke, line_broke, nothing_pushed}
+use Rattle.nn_live.proofs.Cutting.{line_alone, line_ended, none_torn}
+use Rattle.nn_live.proofs.Places.{on_err}
 use Rattle.nn_live.proofs.live.Live.end_line.Goals as goal
 
 pub returns-then-is_empty : goal.returns-then-is_empty
@@ -16,6 +19,12 @@ returns-then-is_empty g c = record {
     subst (λ (x : Taking). Pushes (c.args.text.now ++ newline ∷ []) x (record { service = c.line.new.self; torn = c.self.inside.torn }) step.0) c.self.view_is
         (line_alone c.args.text.now step.0 c.self.inside.service c.line.new.self c.self.inside.torn c.requires (eqb-true _ _ (sym c.if-is_empty.ensures)) step.2),
   )) c.line.ensures.ok;
+  front = IfErr-weaker c.line.result _ _ (λ _ front. (
+    front.0,
+    front.1,
+    subst (λ (x : Taking). BreaksPush (c.args.text.now ++ newline ∷ []) x front.0) c.self.view_is
+        (alone_broke c.args.text.now front.0 c.self.inside.service c.self.inside.torn c.requires (λ torn there. none_torn torn c.self.inside.torn there (eqb-true _ _ (sym c.if-is_empty.ensures))) front.2),
+  )) c.line.ensures.front;
 }
 
 pub returns : goal.returns
@@ -32,4 +41,21 @@ returns g c =
         subst (λ (x : Taking). Pushes (text ++ newline ∷ []) x new one.0) c.self.view_is
             (line_ended text one.0 (record { service = c.self.inside.service; torn = c.self.inside.torn }) new c.requires (λ torn there. c.clear.ensures) made),
       );
+      front = tt;
     }
+
+pub returns-in_err-push-clause-front : goal.returns-in_err-push-clause-front
+returns-in_err-push-clause-front g c =
+    on_err _ c.from_residual.result ([], puts_nothing c.args.page.now c.args.writer.now, nothing_pushed (c.args.text.now ++ newline ∷ []) c.args.self.now)
+
+pub returns-in_err-kept_line-clause-front : goal.returns-in_err-kept_line-clause-front
+returns-in_err-kept_line-clause-front g c =
+    let front = c.in_err-kept_line.ensures.front in
+    let text = c.args.text.now in
+    let broke : (torn : List ℕ) → HasTorn torn c.self.inside.torn → Breaks (λ asked s. takes asked (torn ++ text) s) c.self.inside.service front.0 = λ torn there.
+    front.2 (torn ++ text) (c.in_ok-push.ensures.ok torn there) in
+    on_err _ c.from_residual-in_err-kept_line.result (
+      front.0,
+      front.1,
+      subst (λ (x : Taking). BreaksPush (text ++ newline ∷ []) x front.0) c.self.view_is (line_broke text front.0 (record { service = c.self.inside.service; torn = c.self.inside.torn }) c.requires broke),
+    )

@@ -1,8 +1,10 @@
-use Rattle.std.proofs.Common.{◌++◌, ◌∷◌, [], subst, sym, refl, append-nil}
+use Rattle.std.proofs.Common.{◌≡◌, ◌++◌, ◌∷◌, [], true, ap, ◌∙◌, subst, sym, refl, append-nil}
 use Rattle.std.proofs.lemmas.Result.{IfOk-weaker}
 use Rattle.nn_device.proofs.Pages.{puts_both, puts_nothing}
-use Rattle.nn_segment.specs.Lines.{newline}
+use Rattle.nn_segment.specs.Lines.{is_unbroken, newline}
 use Rattle.nn_live.specs.Taking.{Taking, Takes, Pushes}
+use Rattle.nn_live.proofs.BrokenPushes.{rest_untaken, then_line_broke}
+use Rattle.nn_live.proofs.Places.{on_err}
 use Rattle.nn_live.proofs.Cutting.{front_cut, none_cut, kept, none_taken, then_takes}
 use Rattle.nn_live.proofs.live.Live.push.Goals as goal
 
@@ -26,6 +28,7 @@ returns-in_default g c =
         was.1,
         subst (λ t. Pushes bytes old new t) (append-nil was.0) (then_takes bytes text [] was.0 [] old mid new first (kept text mid new refl has)),
       )) c.push.ensures.ok;
+      front = on_err _ c.push.result (was.0, was.1, rest_untaken bytes c.lines.rest.now was.0 old c.lines.self was.2);
     }
 
 pub lines-preserved : goal.lines-preserved
@@ -40,4 +43,18 @@ lines-preserved g c =
       was.0 ++ line.0,
       puts_both was.0 line.0 _ _ _ _ _ _ was.1 line.1,
       then_takes bytes (text ++ newline ∷ []) after was.0 line.0 old c.lines.self c.end_line.new.self (subst (λ r. Takes bytes r old c.lines.self was.0) cut was.2) line.2,
+    )
+
+pub returns-in_err-end_line-clause-front : goal.returns-in_err-end_line-clause-front
+returns-in_err-end_line-clause-front g c =
+    let was = c.lines.invariant in
+    let front = c.in_err-end_line.ensures.front in
+    let text = c.split_at.result.0.now in
+    let after = c.in-Some.after.now in
+    let whole : is_unbroken text ≡ true = ap is_unbroken c.split_at.ensures.front ∙ c.line_end.ensures.unbroken in
+    let cut = front_cut c.lines.rest.now text c.split_at.result.1.now after c.in-Some.field-0-0.now c.line_end.result c.split_at.ensures.front c.split_at.ensures.back c.in-Some.ensures.cases.0 c.line_end.ensures.there in
+    on_err _ c.from_residual.result (
+      was.0 ++ front.0,
+      puts_both was.0 front.0 _ _ _ _ _ _ was.1 front.1,
+      then_line_broke c.args.bytes.now text after was.0 front.0 c.args.self.now c.lines.self whole (subst (λ r. Takes c.args.bytes.now r c.args.self.now c.lines.self was.0) cut was.2) front.2,
     )

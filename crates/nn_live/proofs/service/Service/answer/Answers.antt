@@ -3,9 +3,11 @@ use Rattle.std.specs.Prelude.{decimal}
 use Rattle.nn_device.specs.Page.{Puts}
 use Rattle.nn_device.proofs.Pages.{puts_both}
 use Rattle.nn_live.specs.Answers.{line}
-use Rattle.nn_live.specs.Live.{Service, does, says}
+use Rattle.nn_live.specs.Live.{Service, does, says, says_done}
 use Rattle.nn_live.specs.Serving.{Seen}
-use Rattle.nn_live.proofs.Places.{only_tells, then_makes}
+use Rattle.nn_live.proofs.Breaking.{first_breaks}
+use Rattle.nn_live.proofs.Growing.{front_and}
+use Rattle.nn_live.proofs.Places.{on_err, only_tells, then_makes}
 use Rattle.nn_live.proofs.service.Service.answer.Goals as goal
 
 pub returns-clause-ok : goal.returns-clause-ok
@@ -18,3 +20,9 @@ returns-clause-ok g c =
     let both = then_makes (λ asked s. does asked c.args.word.now s) (λ asked s. done s.lines s) c.args.self.now y y one.0 text one.2 last in
     let put = subst (λ (v : Seen). Puts (line (codes "done") (decimal v.lines)) c.does.new.page c.does.new.writer c.put_count.new.page c.put_count.new.writer) c.self.view_is c.put_count.ensures in
     (one.0 ++ text, puts_both one.0 text _ _ _ _ _ _ one.1 put, both)
+
+pub returns-in_err-does-clause-front : goal.returns-in_err-does-clause-front
+returns-in_err-does-clause-front g c =
+    let front = c.in_err-does.ensures.front in
+    let breaks = first_breaks (λ asked s. does asked c.args.word.now s) (λ asked s. says_done s) c.args.self.now front.0 (λ asked s. front_and s.written (line (codes "done") (decimal s.lines))) front.2 in
+    on_err _ c.from_residual.result (front.0, front.1, breaks)

@@ -39,5 +39,6 @@ returns-in_default g c =
     record {
       ok = (text, c.put_fault.ensures, subst (λ (v : Seen). Makes (takes_tx tx) v y text) here told_it);
       memory = tt;
+      put = tt;
       applied = sym (ap (λ (v : Seen). is_none (apply_refusal v.shadow.phase (standby_of v.shadow) tx)) (sym here) ∙ ap is_none is);
     }

@@ -1,14 +1,20 @@
-use Rattle.std.proofs.Common.{sym, subst, ap, ◌∙◌}
+use Rattle.std.proofs.Common.{[], inl, inr, sym, subst, ap, ◌∙◌}
 use Rattle.std.specs.Prelude.{OnOk}
-use Rattle.std.proofs.lemmas.Result.{IfOk-weaker}
+use Rattle.std.proofs.lemmas.Result.{IfOk-weaker, IfErr-weaker}
 use Rattle.nn_device.specs.Page.{Puts}
-use Rattle.nn_live.specs.Live.{does, empty_report, hands}
-use Rattle.nn_live.specs.Serving.{Makes, Steps}
+use Rattle.nn_live.specs.Live.{Asked, Service, does, empty_report, hands}
+use Rattle.nn_live.specs.Serving.{Breaks, Makes, Steps}
 use Rattle.nn_live.specs.declared.word.Word.{Word}
 use Rattle.nn_live.specs.declared.word.Word.TheVariants as word
+use Rattle.nn_live.proofs.Breaking.{begin_handed, none_done, none_told, same_breaks}
+use Rattle.nn_live.proofs.Growing.{does_grow}
 use Rattle.nn_live.proofs.Gone.{same_gone}
 use Rattle.nn_live.proofs.Places.{same_makes}
 use Rattle.nn_live.proofs.service.Service.does.Goals as goal
+
+-- what a word does
+abbrev doing : Word → Asked → Service → Service
+doing w asked s = does asked w s
 
 pub returns-in-Block-clause-ok : goal.returns-in-Block-clause-ok
 returns-in-Block-clause-ok g c =
@@ -38,3 +44,36 @@ returns-in-Gone-clause-ok g c = IfOk-weaker c.gone.result _ _ (λ _ step. (
       (same_makes (λ asked s. does asked (word.Gone c.in-Gone.dn) s) (λ asked s. hands asked (empty_report c.lane_of.result) s) c.args.self.now c.gone.new.self step.0
       (λ asked s i. (same_gone asked s c.in-Gone.dn ∙ ap (λ dn. hands asked (empty_report dn) s) (sym c.lane_of.ensures))) step.2),
 )) c.gone.ensures.ok
+
+pub returns-in-Unsafe-clause-front : goal.returns-in-Unsafe-clause-front
+returns-in-Unsafe-clause-front g c = IfErr-weaker c.unsafe_blocks.result _ _ (λ _ left. ([], left.1, none_told (doing c.args.word.now) c.args.self.now (λ asked s. does_grow asked c.args.word.now s))) c.unsafe_blocks.ensures.left
+
+pub returns-in-Block-clause-front : goal.returns-in-Block-clause-front
+returns-in-Block-clause-front g c = IfErr-weaker c.block.result _ _ (λ _ left. ([], left.1, none_told (doing c.args.word.now) c.args.self.now (λ asked s. does_grow asked c.args.word.now s))) c.block.ensures.left
+
+pub returns-in-Path-clause-front : goal.returns-in-Path-clause-front
+returns-in-Path-clause-front g c = IfErr-weaker c.path.result _ _ (λ _ left. ([], left.1, none_told (doing c.args.word.now) c.args.self.now (λ asked s. does_grow asked c.args.word.now s))) c.path.ensures.left
+
+pub returns-in-Tables-clause-front : goal.returns-in-Tables-clause-front
+returns-in-Tables-clause-front g c = IfErr-weaker c.tables.result _ _ (λ _ left. ([], left.1, none_told (doing c.args.word.now) c.args.self.now (λ asked s. does_grow asked c.args.word.now s))) c.tables.ensures.left
+
+pub returns-in-Checkpoint-clause-front : goal.returns-in-Checkpoint-clause-front
+returns-in-Checkpoint-clause-front g c = IfErr-weaker c.checkpoint.result _ _ (λ _ left. ([], left.1, none_told (doing c.args.word.now) c.args.self.now (λ asked s. does_grow asked c.args.word.now s))) c.checkpoint.ensures.left
+
+pub returns-in-Promote-clause-front : goal.returns-in-Promote-clause-front
+returns-in-Promote-clause-front g c = IfErr-weaker c.promote.result _ _ (λ _ put. ([], put, none_told (doing c.args.word.now) c.args.self.now (λ asked s. does_grow asked c.args.word.now s))) c.promote.ensures.put
+
+pub returns-in-PromoteLosing-clause-front : goal.returns-in-PromoteLosing-clause-front
+returns-in-PromoteLosing-clause-front g c = IfErr-weaker c.promote-in-PromoteLosing.result _ _ (λ _ put. ([], put, none_told (doing c.args.word.now) c.args.self.now (λ asked s. does_grow asked c.args.word.now s))) c.promote-in-PromoteLosing.ensures.put
+
+pub returns-in-Gone-clause-front : goal.returns-in-Gone-clause-front
+returns-in-Gone-clause-front g c = IfErr-weaker c.gone.result _ _ (λ _ cut. elim cut [
+  | inl none ↦ (none.0, none.1, none_done (doing c.args.word.now) c.args.self.now c.gone.new.self none.0 (λ asked s. does_grow asked c.args.word.now s) none.2)
+  | inr begun ↦ (
+    begun.0,
+    begun.1,
+    subst (λ (w : Word). Breaks (doing w) c.args.self.now begun.0) (sym c.in-Gone.is)
+        (same_breaks (doing (word.Gone c.in-Gone.dn)) (λ asked s. hands asked (empty_report c.lane_of.result) s) c.args.self.now begun.0
+        (λ asked s i. (same_gone asked s c.in-Gone.dn ∙ ap (λ dn. hands asked (empty_report dn) s) (sym c.lane_of.ensures))) (begin_handed c.args.self.now c.gone.new.self c.lane_of.result begun.0 begun.2)),
+  )
+]) c.gone.ensures.cut

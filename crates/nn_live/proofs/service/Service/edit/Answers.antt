@@ -1,7 +1,12 @@
-use Rattle.std.proofs.Common.{◌++◌, inl, inr, sym, arith}
-use Rattle.std.proofs.lemmas.Result.{IfOk-weaker}
+use Rattle.std.proofs.Common.{[], ◌++◌, inl, inr, sym, arith}
+use Rattle.std.proofs.lemmas.Result.{IfOk-weaker, IfErr-weaker}
 use Rattle.nn_device.proofs.Pages.{puts_both}
 use Rattle.nn_scenario.specs.Cut.{EditLine}
+use Rattle.nn_live.specs.Live.{takes_edit}
+use Rattle.nn_live.proofs.Breaking.{none_told}
+use Rattle.nn_live.proofs.BrokenEdits.{going_on_breaks, begun_breaks}
+use Rattle.nn_live.proofs.Growing.{edit_grows}
+use Rattle.nn_live.proofs.Places.{on_err}
 use Rattle.nn_live.proofs.Editing.{goes_on, begins}
 use Rattle.nn_live.proofs.service.Service.edit.Goals as goal
 
@@ -27,3 +32,22 @@ returns-clause-exhausted g c = λ is. elim (c.keep_edit-2.ensures.exhausted is) 
     | inr passed ↦ inr (inr (omega (arith, passed, c.in_ok-end_edits.ensures.counts.1)))
   ]
 ]
+
+pub returns-then-not-is_start-clause-front : goal.returns-then-not-is_start-clause-front
+returns-then-not-is_start-clause-front g c = IfErr-weaker c.keep_edit.result _ _ (λ _ front.
+    (let line : EditLine = record { text = c.args.text.now; tx = c.args.tx } in
+    (front.0, front.1, going_on_breaks line c.args.self.now front.0 (sym c.if-not-is_start.ensures) front.2))) c.keep_edit.ensures.front
+
+pub returns-in_err-end_edits-clause-front : goal.returns-in_err-end_edits-clause-front
+returns-in_err-end_edits-clause-front g c =
+    let line : EditLine = record { text = c.args.text.now; tx = c.args.tx } in
+    on_err _ c.from_residual.result ([], c.in_err-end_edits.ensures.put, none_told (λ asked s. takes_edit asked line s) c.args.self.now (λ asked s. edit_grows asked line s))
+
+pub returns-clause-front : goal.returns-clause-front
+returns-clause-front g c = IfErr-weaker c.keep_edit-2.result _ _ (λ _ front.
+    (let line : EditLine = record { text = c.args.text.now; tx = c.args.tx } in
+    let first = c.in_ok-end_edits.ensures.ok in (
+      first.0 ++ front.0,
+      puts_both first.0 front.0 _ _ _ _ _ _ first.1 front.1,
+      begun_breaks line c.args.self.now c.end_edits.new.self first.0 front.0 (sym c.if-not-is_start.ensures) first.2 c.in_ok-end_edits.ensures.none front.2,
+    ))) c.keep_edit-2.ensures.front

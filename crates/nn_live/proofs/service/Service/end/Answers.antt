@@ -1,8 +1,10 @@
-use Rattle.std.proofs.Common.{◌++◌}
-use Rattle.std.proofs.lemmas.Result.{IfOk-weaker}
+use Rattle.std.proofs.Common.{[], ◌++◌}
+use Rattle.std.proofs.lemmas.Result.{IfOk-weaker, IfErr-weaker}
 use Rattle.nn_device.proofs.Pages.{puts_both}
 use Rattle.nn_live.specs.Live.{ends, takes_torn}
-use Rattle.nn_live.proofs.Places.{then_makes}
+use Rattle.nn_live.proofs.Breaking.{first_breaks, then_none}
+use Rattle.nn_live.proofs.Growing.{ends_grow}
+use Rattle.nn_live.proofs.Places.{on_err, then_makes}
 use Rattle.nn_live.proofs.service.Service.end.Goals as goal
 
 pub returns : goal.returns
@@ -14,4 +16,14 @@ returns g c =
         puts_both one.0 step.0 _ _ _ _ _ _ one.1 step.1,
         then_makes (λ asked s. takes_torn asked c.args.torn.now s) (λ asked s. ends asked s) c.args.self.now c.torn_line.new.self c.end_edits.new.self one.0 step.0 one.2 step.2,
       )) c.end_edits.ensures.ok;
+      front = IfErr-weaker c.end_edits.result _ _ (λ _ put. (
+        one.0 ++ [],
+        puts_both one.0 [] _ _ _ _ _ _ one.1 put,
+        then_none (λ asked s. takes_torn asked c.args.torn.now s) (λ asked s. ends asked s) c.args.self.now c.torn_line.new.self one.0 ends_grow one.2,
+      )) c.end_edits.ensures.put;
     }
+
+pub returns-in_err-torn_line-clause-front : goal.returns-in_err-torn_line-clause-front
+returns-in_err-torn_line-clause-front g c =
+    let front = c.in_err-torn_line.ensures.front in
+    on_err _ c.from_residual.result (front.0, front.1, first_breaks (λ asked s. takes_torn asked c.args.torn.now s) (λ asked s. ends asked s) c.args.self.now front.0 ends_grow front.2)

@@ -1,8 +1,10 @@
-use Rattle.std.proofs.Common.{◌++◌}
-use Rattle.std.proofs.lemmas.Result.{IfOk-weaker}
+use Rattle.std.proofs.Common.{[], ◌++◌}
+use Rattle.std.proofs.lemmas.Result.{IfOk-weaker, IfErr-weaker}
 use Rattle.nn_device.proofs.Pages.{puts_both}
 use Rattle.nn_live.specs.Live.{ends, takes, takes_torn}
-use Rattle.nn_live.proofs.Places.{same_makes, then_makes}
+use Rattle.nn_live.proofs.Breaking.{none_told, then_none}
+use Rattle.nn_live.proofs.Growing.{end_grows, ends_grow}
+use Rattle.nn_live.proofs.Places.{on_err, same_makes, then_makes}
 use Rattle.nn_live.proofs.Reading.{torn_as_line}
 use Rattle.nn_live.proofs.service.Service.end_long.Goals as goal
 
@@ -18,4 +20,14 @@ returns g c =
         λ torn is. then_makes (λ asked s. takes_torn asked torn s) (λ asked s. ends asked s) x y c.end_edits.new.self one.0 step.0
             (same_makes (λ asked s. takes_torn asked torn s) (λ asked s. takes asked torn s) x y one.0 (λ asked s i. torn_as_line torn is.long asked s) (one.2 torn is)) step.2,
       )) c.end_edits.ensures.ok;
+      front = IfErr-weaker c.end_edits.result _ _ (λ _ put. (
+        one.0 ++ [],
+        puts_both one.0 [] _ _ _ _ _ _ one.1 put,
+        λ torn is. then_none (λ asked s. takes_torn asked torn s) (λ asked s. ends asked s) x y one.0 ends_grow
+            (same_makes (λ asked s. takes_torn asked torn s) (λ asked s. takes asked torn s) x y one.0 (λ asked s i. torn_as_line torn is.long asked s) (one.2 torn is)),
+      )) c.end_edits.ensures.put;
     }
+
+pub returns-in_err-long_line-clause-front : goal.returns-in_err-long_line-clause-front
+returns-in_err-long_line-clause-front g c =
+    on_err _ c.from_residual.result ([], c.in_err-long_line.ensures.put, λ torn is. none_told (λ asked s. ends asked (takes_torn asked torn s)) c.args.self.now (λ asked s. end_grows asked torn s))

@@ -1,9 +1,14 @@
-use Rattle.std.proofs.Common.{◌≡◌, ◌+◌, codes, sym, subst, ap, ap₂, ◌∙◌}
-use Rattle.std.proofs.lemmas.Result.{IfOk-weaker}
+use Rattle.std.proofs.Common.{◌≡◌, [], ◌+◌, codes, sym, subst, ap, ap₂, ◌∙◌}
+use Rattle.std.proofs.lemmas.Result.{IfOk-weaker, IfErr-weaker}
 use Rattle.nn_segment.specs.Fault.{number_of}
 use Rattle.nn_live.specs.Live.{follows_txs}
 use Rattle.nn_live.specs.contracts.service.Service.{the_view as seen_of}
-use Rattle.nn_live.specs.Serving.{Seen, Makes, fault_text, takes_segment}
+use Rattle.nn_live.specs.Serving.{Breaks, Seen, Makes, fault_text, takes_segment}
+use Rattle.nn_device.proofs.Pages.{puts_nothing}
+use Rattle.nn_live.proofs.Breaking.{none_told}
+use Rattle.nn_live.proofs.BrokenEdits.{segment_breaks}
+use Rattle.nn_live.proofs.Growing.{part_grows}
+use Rattle.nn_live.proofs.Places.{on_err}
 use Rattle.nn_live.proofs.Editing.{segment_followed, segment_refused}
 use Rattle.nn_live.proofs.service.Service.end_segment.Goals as goal
 
@@ -34,3 +39,17 @@ returns-in-Err-clause-ok g c =
           let told = subst (λ t. Makes (takes_segment part) x (record x { segments = x.segments + 1 }) t) spelled (segment_refused x part c.requires.none c.in-Err.fault (c.in-Err.ensures read part has all)) in
           subst (λ (v : Seen). Makes (takes_segment part) x v text) (sym c.in_ok-count_segment.ensures.ok) told,
     )
+
+pub returns-in_err-count_segment-clause-front : goal.returns-in_err-count_segment-clause-front
+returns-in_err-count_segment-clause-front g c =
+    on_err _ c.from_residual.result ([], puts_nothing c.args.page.now c.args.writer.now, λ read part has all. none_told (takes_segment part) c.args.self.now (λ asked s. part_grows part asked s))
+
+pub returns-in-Ok-clause-front : goal.returns-in-Ok-clause-front
+returns-in-Ok-clause-front g c = IfErr-weaker c.follow_txs.result _ _ (λ _ front. (
+  front.0,
+  front.1,
+  λ read part has all.
+      let found = c.in-Ok.ensures read part has all in
+      segment_breaks c.args.self.now part c.requires.none found.0 c.deref.result.now front.0 found.1 (found.3 ∙ sym c.deref.ensures.value)
+      (subst (λ (v : Seen). Breaks (λ asked s. follows_txs asked c.deref.result.now s) v front.0) c.in_ok-count_segment.ensures.ok front.2),
+)) c.follow_txs.ensures.front

@@ -4,7 +4,11 @@ use Rattle.std.proofs.lemmas.List.{nil_from_length}
 use Rattle.nn_device.proofs.Pages.{puts_both, puts_nothing}
 use Rattle.nn_shadow.specs.Contents.{standby_of}
 use Rattle.nn_shadow.specs.Refusals.{apply_refusal}
+use Rattle.nn_live.proofs.Breaking.{none_more}
+use Rattle.nn_live.proofs.BrokenEdits.{some_followed}
+use Rattle.nn_live.proofs.Places.{on_err}
 use Rattle.nn_live.proofs.Following.{Came, none_came, one_more, last_one, all_came}
+use Rattle.nn_live.specs.Live.{follows}
 use Rattle.nn_live.proofs.service.Service.follow.Goals as goal
 
 pub txs-init : goal.txs-init
@@ -24,6 +28,7 @@ returns-then-not-branch g c =
         last_one c.args.self.now c.txs.self c.apply.new.self c.args.txs.now c.in-Some.later.now c.in-Some.tx.now held.0 step.0 step.2 came refused,
       );
       memory = tt;
+      front = tt;
     }
 
 pub txs-preserved : goal.txs-preserved
@@ -45,4 +50,12 @@ returns g c =
     record {
       ok = (held.0, held.1, all_came c.args.self.now c.txs.self c.args.txs.now held.0 (subst (λ rest. Came c.args.self.now c.txs.self c.args.txs.now rest held.0) over held.2));
       memory = tt;
+      front = tt;
     }
+
+pub returns-in_err-apply-clause-front : goal.returns-in_err-apply-clause-front
+returns-in_err-apply-clause-front g c =
+    let held = c.txs.invariant in
+    let some = some_followed c.args.self.now c.txs.self c.args.txs.now c.txs.rest.now held.0 held.2 in
+    let more = none_more (λ asked s. follows asked c.args.txs.now s) c.args.self.now held.0 some in
+    on_err _ c.from_residual.result (held.0 ++ [], puts_both held.0 [] _ _ _ _ _ _ held.1 c.in_err-apply.ensures.put, more)

@@ -1,13 +1,17 @@
-use Rattle.std.proofs.Common.{◌≡◌, ◌+◌, ◌-◌, ◌<◌, ◌≤◌, ◌++◌, drop, codes, sym, subst, ap, ap₂, ◌∙◌, arith}
+use Rattle.std.proofs.Common.{◌≡◌, [], ◌+◌, ◌-◌, ◌<◌, ◌≤◌, ◌++◌, drop, codes, sym, subst, ap, ap₂, ◌∙◌, arith}
 use Rattle.std.specs.Prelude.{decimal}
 use Rattle.std.specs.Option.{option_copied}
-use Rattle.std.proofs.lemmas.Result.{IfOk-weaker}
+use Rattle.std.proofs.lemmas.Result.{IfOk-weaker, IfErr-weaker}
 use Rattle.nn_types.specs.declared.fault.TheConstants.{DISORDER}
 use Rattle.nn_model.specs.Log.{counted}
 use Rattle.nn_segment.specs.Segment.{first_txid}
 use Rattle.nn_live.specs.Live.{follows, follows_txs}
 use Rattle.nn_live.specs.contracts.service.Service.{the_view as seen_of}
-use Rattle.nn_live.specs.Serving.{Seen, Makes, fault_text}
+use Rattle.nn_live.specs.Serving.{Breaks, Seen, Makes, fault_text}
+use Rattle.nn_device.proofs.Pages.{puts_nothing}
+use Rattle.nn_live.proofs.Breaking.{none_told}
+use Rattle.nn_live.proofs.BrokenEdits.{some_new}
+use Rattle.nn_live.proofs.Growing.{follows_txs_grow}
 use Rattle.nn_live.proofs.Places.{no_memory_there}
 use Rattle.nn_live.proofs.Segments.{gap_text, behind_a_gap, first_of, has_first, new_ones, now_followed}
 use Rattle.nn_live.proofs.service.Service.follow_txs.Goals as goal
@@ -26,7 +30,7 @@ returns-then-next-first g c =
     let text = fault_text DISORDER (codes " txid " ++ decimal (c.last_txid-next.result + 1) ++ codes " segment ") x.segments in
     let spelled : gap_text x ≡ text = ap (λ l. fault_text DISORDER (codes " txid " ++ decimal (l + 1) ++ codes " segment ") x.segments) (sym last) in
     let made = subst (λ t. Makes (λ asked s. follows_txs asked txs s) x x t) spelled (behind_a_gap x txs high) in
-    record { ok = (text, c.put_gap.ensures, subst (λ (v : Seen). Makes (λ asked s. follows_txs asked txs s) v v text) here made); exhausted = λ never. absurd (cc) }
+    record { ok = (text, c.put_gap.ensures, subst (λ (v : Seen). Makes (λ asked s. follows_txs asked txs s) v v text) here made); exhausted = λ never. absurd (cc); front = tt }
 
 pub returns : goal.returns
 returns g c =
@@ -48,4 +52,15 @@ returns g c =
             (subst (λ p. Makes (λ asked s. follows asked new s) (record x { passed = p }) c.follow.new.self step.0) c.in-Some-checked_add.ensures.1 step.2)),
       )) c.follow.ensures.ok;
       exhausted = λ is. absurd (no_memory_there c.follow.result c.follow.ensures.memory is);
+      front = IfErr-weaker c.follow.result _ _ (λ _ part. (
+        part.0,
+        part.1,
+        subst (λ (v : Seen). Breaks (λ asked s. follows_txs asked txs s) v part.0) here
+            (some_new x txs new part.0 low is (subst (λ p. Breaks (λ asked s. follows asked new s) (record x { passed = p }) part.0) c.in-Some-checked_add.ensures.1 part.2)),
+      )) c.follow.ensures.front;
     }
+
+pub returns-in_default-checked_add-clause-front : goal.returns-in_default-checked_add-clause-front
+returns-in_default-checked_add-clause-front g c =
+    let txs = c.args.txs.now in
+    ([], puts_nothing c.args.page.now c.args.writer.now, none_told (λ asked s. follows_txs asked txs s) c.args.self.now (λ asked s. follows_txs_grow asked txs s))

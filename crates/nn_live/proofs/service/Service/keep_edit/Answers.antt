@@ -1,9 +1,13 @@
 use Rattle.std.proofs.Common.{◌≡◌, ◌+◌, ◌≤◌, ◌^◌, [], inl, max, sym, subst, ap, ap₂, ◌∙◌, arith}
-use Rattle.std.proofs.lemmas.Result.{IfOk-weaker}
+use Rattle.std.proofs.lemmas.Result.{IfOk-weaker, IfErr-weaker}
 use Rattle.nn_device.proofs.Pages.{puts_nothing}
 use Rattle.nn_scenario.specs.Cut.{EditLine, with_line}
 use Rattle.nn_live.specs.contracts.service.Service.{the_view as seen_of}
-use Rattle.nn_live.specs.Serving.{Seen, Kept, HasRead, Makes, keeps_edit, takes_segment}
+use Rattle.nn_live.specs.Serving.{Breaks, Seen, Kept, HasRead, Makes, keeps_edit, takes_segment}
+use Rattle.nn_live.proofs.Breaking.{none_told}
+use Rattle.nn_live.proofs.BrokenEdits.{ended_breaks}
+use Rattle.nn_live.proofs.Growing.{kept_grows}
+use Rattle.nn_live.proofs.Places.{on_err}
 use Rattle.nn_live.proofs.Editing.{kept_open, kept_ended}
 use Rattle.nn_live.proofs.InHand.{still_open}
 use Rattle.nn_live.proofs.service.Service.keep_edit.Goals as goal
@@ -37,3 +41,20 @@ returns-clause-ok g c = IfOk-weaker c.end_segment.result _ _ (λ _ step.
     subst (λ (v : Seen). Makes (takes_segment part) v c.end_segment.new.self step.0) start
     (step.2 read part (subst (HasRead read part) (sym c.replace-in_hand.ensures.value) has) all)) in
     (step.0, step.1, subst (λ (v : Seen). Makes (keeps_edit line) v c.end_segment.new.self step.0) c.self.view_is made))) c.end_segment.ensures.ok
+
+pub returns-in_err-push-clause-front : goal.returns-in_err-push-clause-front
+returns-in_err-push-clause-front g c =
+    let line : EditLine = record { text = c.args.text.now; tx = c.args.tx } in
+    on_err _ c.from_residual.result ([], puts_nothing c.args.page.now c.args.writer.now, none_told (keeps_edit line) c.args.self.now (λ asked s. kept_grows asked line s))
+
+pub returns-clause-front : goal.returns-clause-front
+returns-clause-front g c = IfErr-weaker c.end_segment.result _ _ (λ _ front.
+    (let line : EditLine = record { text = c.args.text.now; tx = c.args.tx } in
+    let x = seen_of c.self.inside in
+    let known : c.max-self-inside.result ≡ max x.known c.args.tx.txid = c.max-self-inside.ensures ∙ ap (λ k. max x.known k) c.get-txid.ensures.value in
+    let start : record x { in_hand = c.replace-in_hand.new.dest; known = c.max-self-inside.result } ≡ record x { in_hand = c.none.result; known = max x.known c.args.tx.txid } =
+    ap₂ (λ (h : Kept) k. record x { in_hand = h; known = k }) c.replace-in_hand.ensures.after known in
+    let breaks = ended_breaks x line c.push.new.self c.in_ok-push.ensures.ok c.none.result front.0 c.none.ensures (sym c.if-not-ends.ensures) (λ read part has all.
+    subst (λ (v : Seen). Breaks (takes_segment part) v front.0) start
+    (front.2 read part (subst (HasRead read part) (sym c.replace-in_hand.ensures.value) has) all)) in
+    (front.0, front.1, subst (λ (v : Seen). Breaks (keeps_edit line) v front.0) c.self.view_is breaks))) c.end_segment.ensures.front

@@ -1,6 +1,11 @@
 use Rattle.std.proofs.Common.{[], sym, ◌∙◌}
-use Rattle.std.proofs.lemmas.Result.{IfOk-weaker}
+use Rattle.std.proofs.lemmas.Result.{IfOk-weaker, IfErr-weaker}
 use Rattle.nn_device.proofs.Pages.{puts_nothing}
+use Rattle.nn_live.specs.Live.{takes}
+use Rattle.nn_live.proofs.Breaking.{none_told}
+use Rattle.nn_live.proofs.BrokenLines.{word_breaks, data_breaks}
+use Rattle.nn_live.proofs.Growing.{line_grows}
+use Rattle.nn_live.proofs.Places.{on_err}
 use Rattle.nn_live.proofs.Reading.{blank_line, word_line, data_line}
 use Rattle.nn_live.proofs.service.Service.line.Goals as goal
 
@@ -21,3 +26,27 @@ returns-in-None-clause-ok g c = IfOk-weaker c.data.result _ _ (λ _ step. (
   step.1,
   data_line c.args.text.now c.args.self.now c.next_line.new.self c.data.new.self step.0 (sym c.if-is_blank.ensures) (sym c.in-Ok.ensures ∙ c.in-None.is) c.in_ok-next_line.ensures.ok step.2,
 )) c.data.ensures.ok
+
+pub returns-in_err-next_line-clause-front : goal.returns-in_err-next_line-clause-front
+returns-in_err-next_line-clause-front g c =
+    let text = c.args.text.now in
+    on_err _ c.from_residual.result ([], puts_nothing c.args.page.now c.args.writer.now, none_told (λ asked s. takes asked text s) c.args.self.now (λ asked s. line_grows asked text s))
+
+pub returns-in_default-clause-front : goal.returns-in_default-clause-front
+returns-in_default-clause-front g c =
+    let text = c.args.text.now in
+    ([], puts_nothing c.args.page.now c.args.writer.now, none_told (λ asked s. takes asked text s) c.args.self.now (λ asked s. line_grows asked text s))
+
+pub returns-in-Some-clause-front : goal.returns-in-Some-clause-front
+returns-in-Some-clause-front g c = IfErr-weaker c.answer.result _ _ (λ _ front. (
+  front.0,
+  front.1,
+  word_breaks c.args.text.now c.args.self.now c.next_line.new.self front.0 (sym c.if-is_blank.ensures) c.in_ok-next_line.ensures.ok c.in-Some.word (sym c.in-Ok.ensures ∙ c.in-Some.is) front.2,
+)) c.answer.ensures.front
+
+pub returns-in-None-clause-front : goal.returns-in-None-clause-front
+returns-in-None-clause-front g c = IfErr-weaker c.data.result _ _ (λ _ front. (
+  front.0,
+  front.1,
+  data_breaks c.args.text.now c.args.self.now c.next_line.new.self front.0 (sym c.if-is_blank.ensures) c.in_ok-next_line.ensures.ok (sym c.in-Ok.ensures ∙ c.in-None.is) front.2,
+)) c.data.ensures.front

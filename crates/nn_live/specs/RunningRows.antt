@@ -1,0 +1,158 @@
+-- What a service wrote beside what its reader gave, on small examples.
+use Rattle.std.specs.Prelude.{◌≡◌, ℕ, ◌+◌, Bool, true, false, List, [], ◌∷◌, ◌++◌, length, Some, codes, refl}
+use Rattle.std.proofs.Common.{arith, ap, append-nil, get_or, inl, inr, sym, true≢false, ◌∙◌}
+use Rattle.std.specs.Fmt.{digits}
+use Rattle.std.specs.Str.{is_utf8, chars}
+use lib.Utf8.{encode}
+use Rattle.nn_device.specs.Device.{Reading, Writing}
+use Rattle.nn_listing.specs.Listing.{newline}
+use Rattle.nn_engine.specs.Output.{Printed}
+use Rattle.nn_live.specs.Live.{takes, takes_pieces, takes_torn, told_so_far}
+use Rattle.nn_live.specs.Running.{IsOfFailedRead, IsOfNoMemory, IsOfRefused, IsOfWhole, IsSoFar, Wrote, WroteFront, asked_by, live_output, serving_by}
+use Rattle.nn_live.specs.Serving.{IsFrontOf}
+use Rattle.nn_live.specs.Words.{alone, word_in}
+use Rattle.nn_live.specs.declared.run.LiveOptions.{LiveOptions}
+
+abbrev sync : List ℕ
+sync = codes "sync" ++ newline ∷ []
+
+abbrev done : List ℕ
+done = codes "done 1" ++ newline ∷ []
+
+-- a reader that has these bytes, of five
+abbrev reader : List ℕ → ℕ → Bool → Reading
+reader left given failed = record { left = Some left; reads = 0; given = given; failed = failed }
+
+abbrev unread : Reading
+unread = reader sync 0 false
+
+abbrev at_its_end : Reading
+at_its_end = reader [] 5 false
+
+abbrev printed : List ℕ → ℕ → Printed
+printed text status = record { text = text; status = status }
+
+module _ (o : LiveOptions) where
+  -- it begins with the root alone
+  abbrev root : LiveOptions
+  root = record o { from_image = false }
+
+  -- ---- The text of an input, before and behind its end.
+
+  one_answer : live_output root sync ≡ printed done 0
+  unfolding takes takes_pieces takes_torn word_in alone is_utf8 chars encode digits
+  one_answer = refl
+
+  -- a line that has not ended says nothing
+  nothing_yet : told_so_far (asked_by root) false (codes "sync") ≡ []
+  unfolding takes_pieces
+  nothing_yet = refl
+
+  told_yet : told_so_far (asked_by root) false sync ≡ done
+  unfolding takes takes_pieces word_in alone is_utf8 chars encode digits
+  told_yet = refl
+
+  -- ---- Its output.
+
+  whole : IsOfWhole (serving_by root unread at_its_end) (printed done 0)
+  whole = record { input = sync; gave = record { taken = refl; counted = refl }; whole = refl; none_failed = refl; is = sym one_answer }
+
+  not_of_a_part : (p : Printed) → IsOfWhole (serving_by root unread (reader (codes "c") 4 false)) p → ⊥
+  not_of_a_part p h = let e : codes "c" ≡ [] = h.whole in absurd (cc)
+
+  not_behind_a_failed_read : (p : Printed) → IsOfWhole (serving_by root unread (reader [] 5 true)) p → ⊥
+  not_behind_a_failed_read p h = true≢false h.none_failed
+
+  not_of_other_bytes : (p : Printed) (h : IsOfWhole (serving_by root unread at_its_end) p) → length h.input ≡ 4 → ⊥
+  not_of_other_bytes p h four = let e : 5 ≡ 0 + length h.input = h.gave.counted in omega (arith, e, four)
+
+  input_is : (p : Printed) (h : IsOfWhole (serving_by root unread at_its_end) p) → h.input ≡ sync
+  input_is p h = sym (h.gave.taken ∙ append-nil h.input)
+
+  not_with_another_status : IsOfWhole (serving_by root unread at_its_end) (printed done 1) → ⊥
+  not_with_another_status h =
+      let e : 1 ≡ 0 = ap (λ (p : Printed). p.status) (h.is ∙ ap (live_output root) (input_is (printed done 1) h) ∙ one_answer) in
+      omega (arith, e)
+
+  not_with_another_text : IsOfWhole (serving_by root unread at_its_end) (printed [] 0) → ⊥
+  not_with_another_text h =
+      let e : [] ≡ done = ap (λ (p : Printed). p.text) (h.is ∙ ap (live_output root) (input_is (printed [] 0) h) ∙ one_answer) in
+      absurd (cc)
+
+  -- what would say more of a longer input is no refusal
+  not_refused : (p : Printed) → IsOfRefused (serving_by root (reader [] 0 false) (reader [] 0 false)) p → ⊥
+  unfolding takes_pieces takes_torn
+  not_refused p h =
+      let none : h.bytes ≡ [] = sym (h.gave.taken ∙ append-nil h.bytes) in
+      let short : p ≡ live_output root [] = h.is [] ∙ ap (λ b. live_output root (b ++ [])) none in
+      let long : p ≡ live_output root sync = h.is sync ∙ ap (λ b. live_output root (b ++ sync)) none in
+      let e : [] ≡ done = ap (λ (q : Printed). q.text) (sym short ∙ long ∙ one_answer) in
+      absurd (cc)
+
+  -- behind a failed read comes what was told, and that
+  failed_read : IsOfFailedRead (serving_by root unread (reader [] 5 true)) (printed (done ++ (codes "fault 8" ++ newline ∷ [])) 1)
+  failed_read = record { bytes = sync; gave = record { taken = refl; counted = refl }; failed = refl; is = ap (λ t. printed (t ++ (codes "fault 8" ++ newline ∷ [])) 1) (sym told_yet) }
+
+  not_where_none_failed : (p : Printed) → IsOfFailedRead (serving_by root unread at_its_end) p → ⊥
+  not_where_none_failed p h = true≢false (sym h.failed)
+
+  -- where memory is refused, a front of it
+  nothing_told : IsOfNoMemory (serving_by root unread at_its_end) (printed (codes "fault 55" ++ newline ∷ []) 1)
+  nothing_told = record {
+    bytes = sync;
+    gave = record { taken = refl; counted = refl };
+    none_failed = refl;
+    told = [];
+    front = (done, ap (λ (p : Printed). p.text) one_answer);
+    is = refl;
+  }
+
+  all_told : IsOfNoMemory (serving_by root unread at_its_end) (printed (done ++ (codes "fault 55" ++ newline ∷ [])) 1)
+  all_told = record {
+    bytes = sync;
+    gave = record { taken = refl; counted = refl };
+    none_failed = refl;
+    told = done;
+    front = ([], ap (λ (p : Printed). p.text) one_answer ∙ sym (append-nil done));
+    is = refl;
+  }
+
+  not_after_a_failed_read : (p : Printed) → IsOfNoMemory (serving_by root unread (reader [] 5 true)) p → ⊥
+  not_after_a_failed_read p h = true≢false h.none_failed
+
+  -- ---- What a writer has.
+
+  abbrev unwritten : Writing
+  unwritten = record { contents = Some []; taken = 0; failed = false }
+
+  abbrev written : List ℕ → Bool → Writing
+  written text failed = record { contents = Some text; taken = length text; failed = failed }
+
+  wrote : Wrote (serving_by root unread at_its_end) unwritten (written done false) 0
+  wrote = record { output = printed done 0; right = inl whole; took = record { bytes = refl; counted = refl; unfailed = refl }; ends = refl }
+
+  not_with_a_failed_write : (ended : ℕ) → Wrote (serving_by root unread at_its_end) unwritten (written done true) ended → ⊥
+  not_with_a_failed_write ended h = true≢false h.took.unfailed
+
+  so_far : IsSoFar (serving_by root unread (reader [] 5 false)) done
+  so_far = record { bytes = sync; gave = record { taken = refl; counted = refl }; is = sym told_yet }
+
+  wrote_a_front : WroteFront (serving_by root unread at_its_end) unwritten (written (codes "done") true) (record { written = 4 })
+  wrote_a_front = record {
+    text = done;
+    right = inr so_far;
+    front = record {
+      took = record { front = codes "done"; rest = codes " 1" ++ newline ∷ []; whole = refl; short = omega arith; bytes = refl; counted = refl; caused = refl };
+      told = refl;
+    };
+  }
+
+  not_told_of_another_count : WroteFront (serving_by root unread at_its_end) unwritten (written (codes "done") true) (record { written = 3 }) → ⊥
+  not_told_of_another_count h = let e : 4 ≡ 0 + length h.front.took.front = h.front.took.counted in omega (arith, e, h.front.told)
+
+-- a front of a text, and no front of it
+front : IsFrontOf (codes "do") (codes "done")
+front = (codes "ne", refl)
+
+no_front : IsFrontOf (codes "x") (codes "done") → ⊥
+no_front h = let e : 100 ≡ 120 = ap (λ t. get_or t 0 0) h.1 in omega (arith, e)

@@ -1,11 +1,11 @@
 -- What is told of an error is what the arguments ask for.
-use Rattle.std.proofs.Common.{◌≡◌, ◌≢◌, ◌⊎◌, ℕ, List, Option, Some, None, MatchOption, sym, subst, ◌∙◌, inl, inr}
+use Rattle.std.proofs.Common.{◌≡◌, ◌≢◌, ◌⊎◌, ℕ, false, List, Option, Some, None, MatchOption, sym, subst, ◌∙◌, inl, inr}
 use Rattle.nn_device.specs.Device.{Reading, Writing}
 use Rattle.clap.specs.Words.{Text, IsAmong, fault_of}
 use Rattle.clap.specs.declared.error.kind.ErrorKind.{ErrorKind}
 use Rattle.clap.specs.declared.error.kind.ErrorKind.TheVariants.{DisplayHelp, DisplayVersion, OutOfMemory}
 use Rattle.nn_command.specs.declared.options.Request.{Request}
-use Rattle.nn_command.specs.Options.{command_line, AskAs}
+use Rattle.nn_command.specs.Options.{command_line, AskAs, is_contradictory}
 use Rattle.nn_command.specs.Program.{Serves, Streams, TellsOf, WhyNot, AreTaken, AskForHelp, AskForVersion, AskForNothing, Explains, LacksMemory, Runs, no_reader, streams}
 
 memory_is_no_help : OutOfMemory ≡ DisplayHelp → ⊥
@@ -47,19 +47,20 @@ explains_unread number before after output output' errors errors' ended kept (in
 explains_unread number before after output output' errors errors' ended kept (inr none) = inr (none.0, (none.1.0, none.1.1, none.1.2, kept))
 
 pub explained_serves : (arguments : List Text) (r : Request) (number : ℕ) (before after : Reading) (output output' errors errors' : Writing) (ended : ℕ) →
-    r.explain ≡ Some number → AreTaken arguments r.options.settings → AskAs arguments r → after ≡ before →
+    r.explain ≡ Some number → AreTaken arguments r.options.settings → AskAs arguments r → is_contradictory r ≡ false → after ≡ before →
     Explains number (streams no_reader no_reader output output' errors errors') ended ⊎ LacksMemory (streams no_reader no_reader output output' errors errors') ended →
     Serves arguments (streams before after output output' errors errors') ended
-explained_serves arguments r number before after output output' errors errors' ended asked taken as_asked kept (inl told) =
+explained_serves arguments r number before after output output' errors errors' ended asked taken as_asked clear kept (inl told) =
     let s = streams before after output output' errors errors' in
     inl (
       r,
       taken,
       as_asked,
-      subst (λ (o : Option ℕ). MatchOption o (Runs r.options r.threads s ended) (λ n. Explains n s ended)) (sym asked)
+      clear,
+      subst (λ (o : Option ℕ). MatchOption o (Runs r s ended) (λ n. Explains n s ended)) (sym asked)
           (explains_unread number before after output output' errors errors' ended kept told),
     )
-explained_serves arguments r number before after output output' errors errors' ended asked taken as_asked kept (inr memory) =
+explained_serves arguments r number before after output output' errors errors' ended asked taken as_asked clear kept (inr memory) =
     inr (inr (inr (inr (memory.0, memory.1, kept))))
 
 is_none : (o : Option ℕ) → ((n : ℕ) → o ≡ Some n → ⊥) → o ≡ None
@@ -67,6 +68,6 @@ is_none None other = cc
 is_none (Some n) other = absurd (other n (cc))
 
 pub run_serves : (arguments : List Text) (r : Request) (s : Streams) (ended : ℕ) → ((n : ℕ) → r.explain ≡ Some n → ⊥) →
-    AreTaken arguments r.options.settings → AskAs arguments r → Runs r.options r.threads s ended → Serves arguments s ended
-run_serves arguments r s ended other taken as_asked ran =
-    inl (r, taken, as_asked, subst (λ (o : Option ℕ). MatchOption o (Runs r.options r.threads s ended) (λ n. Explains n s ended)) (sym (is_none r.explain other)) ran)
+    AreTaken arguments r.options.settings → AskAs arguments r → is_contradictory r ≡ false → Runs r s ended → Serves arguments s ended
+run_serves arguments r s ended other taken as_asked clear ran =
+    inl (r, taken, as_asked, clear, subst (λ (o : Option ℕ). MatchOption o (Runs r s ended) (λ n. Explains n s ended)) (sym (is_none r.explain other)) ran)

@@ -1,5 +1,5 @@
 -- The command line, and what its arguments ask for.
-use Rattle.std.specs.Prelude.{◌≡◌, ◌<◌, ◌≤◌, ◌^◌, ℕ, Bool, true, false, pos, List, [], ◌∷◌, Option, Some, None, codes}
+use Rattle.std.specs.Prelude.{◌≡◌, ◌<◌, ◌≤◌, ◌^◌, ℕ, Bool, true, false, pos, List, [], ◌∷◌, Option, Some, None, codes, is_some, ◌&&◌, ◌||◌}
 use Rattle.std.specs.Str.Parse.{IsNumeral, digits_value, without_leading_plus}
 use Rattle.clap.specs.Simple.{on_top}
 use Rattle.clap.specs.Words.{App, Rule, Text, matches_of, new_app, new_rule, one_of, with_rule}
@@ -17,9 +17,9 @@ value_rule name parser default = record (new_rule name) { long = Some name; acti
 abbrev pub flag_rule : Text → Rule
 flag_rule name = record (new_rule name) { long = Some name; action = Some SetTrue }
 
--- `--explain` with a number from 0 to 255, which may be left out
-abbrev pub explain_rule : Rule
-explain_rule = record (new_rule (codes "explain")) { long = Some (codes "explain"); action = Some Set; parser = Some (Signed (pos 0) (pos 255)) }
+-- `--NAME VALUE`, which may be left out
+abbrev pub optional_rule : Text → ValueParser → Rule
+optional_rule name parser = record (new_rule name) { long = Some name; action = Some Set; parser = Some parser }
 
 -- the program, which has a version
 abbrev pub the_program : App
@@ -31,13 +31,15 @@ settings_line =
     with_rule (with_rule the_program (value_rule (codes "permille") (Signed (pos 0) (pos 1000)) (codes "999")))
     (value_rule (codes "min") (Signed (pos 1) (pos 512)) (codes "1"))
 
--- and `--capacity` with a number from 1 to 1024, and `--threads`
+-- and `--capacity`, which may be left out, with a number from 1 to 1024, and `--threads`
 unfoldable pub lanes_line : App
-lanes_line = with_rule (with_rule settings_line (value_rule (codes "capacity") (Signed (pos 1) (pos 1024)) (codes "64"))) (flag_rule (codes "threads"))
+lanes_line = with_rule (with_rule settings_line (optional_rule (codes "capacity") (Signed (pos 1) (pos 1024)))) (flag_rule (codes "threads"))
 
--- and `--history`, `--image`, `--from-image` and `--explain`
+-- and `--history`, `--image`, `--from-image` and `--live`, and `--explain`, which may be left out, with a number from 0 to 255
 unfoldable pub command_line : App
-command_line = with_rule (with_rule (with_rule (with_rule lanes_line (flag_rule (codes "history"))) (flag_rule (codes "image"))) (flag_rule (codes "from-image"))) explain_rule
+command_line =
+    with_rule (with_rule (with_rule (with_rule (with_rule lanes_line (flag_rule (codes "history"))) (flag_rule (codes "image"))) (flag_rule (codes "from-image"))) (flag_rule (codes "live")))
+    (optional_rule (codes "explain") (Signed (pos 0) (pos 255)))
 
 -- the text is there, and reads as this number
 abbrev pub ReadsAs : Option Text → ℕ → Type 0
@@ -49,16 +51,19 @@ abbrev pub IsNumberOf : ℕ → Option Text → Option ℕ → Type 0
 IsNumberOf bits text (Some n) = ReadsAs text n
 IsNumberOf bits text None = (n : ℕ) → n < 2 ^ bits → ReadsAs text n → ⊥
 
--- the text is this number of reports
-abbrev pub IsCapacity : Option Text → ℕ → Type 0
-IsCapacity text n = ReadsAs text n × (1 ≤ n) × (n ≤ 1024)
+-- the text is this number of reports, where it is there
+abbrev pub IsCapacity : Option Text → Option ℕ → Type 0
+IsCapacity None None = Unit {0}
+IsCapacity None (Some n) = ⊥
+IsCapacity (Some text) None = ⊥
+IsCapacity (Some text) (Some n) = ReadsAs (Some text) n × (1 ≤ n) × (n ≤ 1024)
 
 -- the texts of the options with numbers, `--permille` first, are these settings, and a capacity
 pub record AreReadAs (first second third : Option Text) (settings : Threshold) : Type 0 where
   pub permille : ReadsAs first settings.permille
   pub min : ReadsAs second settings.min
   pub lawful : AreSettings settings.permille settings.min
-  pub capacity : (n : ℕ) × IsCapacity third n
+  pub capacity : (n : Option ℕ) × IsCapacity third n
 
 -- the arguments ask for these settings, by the texts after the names or by their defaults
 abbrev pub AskFor : List Text → Threshold → Type 0
@@ -73,6 +78,7 @@ IsFlag (Some text) set = (text ≡ codes "true" → set ≡ true) × (text ≡ c
 pub record IsRequest (text_of : Text → Option Text) (r : Request) : Type 0 where
   pub places : IsCapacity (text_of (codes "capacity")) r.capacity
   pub by_threads : IsFlag (text_of (codes "threads")) r.threads
+  pub by_lines : IsFlag (text_of (codes "live")) r.live
   pub with_history : IsFlag (text_of (codes "history")) r.options.history
   pub with_image : IsFlag (text_of (codes "image")) r.options.image
   pub on_from_image : IsFlag (text_of (codes "from-image")) r.options.from_image
@@ -81,3 +87,7 @@ pub record IsRequest (text_of : Text → Option Text) (r : Request) : Type 0 whe
 -- the arguments ask for this request
 abbrev pub AskAs : List Text → Request → Type 0
 AskAs arguments = IsRequest (λ name. one_of name (matches_of command_line arguments))
+
+-- a service has no threads, and prints no image at its end
+abbrev pub is_contradictory : Request → Bool
+is_contradictory r = r.live && (r.threads || r.options.image || is_some r.capacity)

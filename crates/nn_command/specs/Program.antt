@@ -1,5 +1,5 @@
 -- What the program does for its arguments, and the status that it ends with.
-use Rattle.std.specs.Prelude.{◌≡◌, ◌≢◌, ◌⊎◌, ◌∷◌, [], ◌++◌, ℕ, Bool, false, List, codes, decimal, Some, None, MatchOption}
+use Rattle.std.specs.Prelude.{◌≡◌, ◌≢◌, ◌⊎◌, ◌∷◌, [], ◌++◌, ℕ, Bool, true, false, List, codes, decimal, Some, None, MatchOption}
 use Rattle.nn_device.specs.Device.{Reading, Writing, Took, FailedToWrite}
 use Rattle.clap.specs.Words.{Text, IsAmong, fault_of}
 use Rattle.clap.specs.declared.error.kind.ErrorKind.{ErrorKind}
@@ -15,7 +15,9 @@ use Rattle.nn_command.specs.declared.program.NoArguments.{NoArguments}
 use Rattle.nn_command.specs.declared.program.NoArguments.TheVariants.{NotText, OutOfMemory}
 use Rattle.nn_command.specs.declared.options.Request.{Request}
 use Rattle.nn_command.specs.declared.options.TheConstants.{VERSION}
-use Rattle.nn_command.specs.Options.{command_line, AskAs, AskFor}
+use Rattle.nn_live.specs.Running.{asked_by, serving_by, Wrote as Served, WroteFront as ServedFront}
+use Rattle.nn_live.specs.declared.run.LiveOptions.{LiveOptions}
+use Rattle.nn_command.specs.Options.{command_line, AskAs, AskFor, is_contradictory}
 
 -- ---- What the arguments ask for.
 
@@ -31,10 +33,15 @@ AskForHelp arguments = IsAmong DisplayHelp (fault_of command_line arguments)
 abbrev pub AskForVersion : List Text → Type 0
 AskForVersion arguments = IsAmong DisplayVersion (fault_of command_line arguments)
 
--- they are refused: the parser finds a fault, or they give no settings
+-- they ask for what does not go together
+abbrev pub Contradict : List Text → Type 0
+Contradict arguments = (r : Request) × AskAs arguments r × (is_contradictory r ≡ true)
+
+-- they are refused: the parser finds a fault, or they give no settings, or ask for what does not go together
 abbrev pub AskForNothing : List Text → Type 0
 AskForNothing arguments =
-    ((kind : ErrorKind) × IsAmong kind (fault_of command_line arguments) × (kind ≢ DisplayHelp) × (kind ≢ DisplayVersion)) ⊎ ((settings : Threshold) → AskFor arguments settings → ⊥)
+    ((kind : ErrorKind) × IsAmong kind (fault_of command_line arguments) × (kind ≢ DisplayHelp) × (kind ≢ DisplayVersion))
+    ⊎ (((settings : Threshold) → AskFor arguments settings → ⊥) ⊎ Contradict arguments)
 
 -- ---- What the program did.
 
@@ -73,9 +80,29 @@ memory_line = codes "fault 55" ++ newline ∷ []
 abbrev pub EndsWith : Given → Writing → Writing → ℕ → Type 0
 EndsWith given output output' ended = Wrote given output output' ended ⊎ ((fault : RunFault) × WroteFront given output output' fault × (ended ≡ 1))
 
--- a run with these options, and with threads or without
-abbrev pub Runs : RunOptions → Bool → Streams → ℕ → Type 0
-Runs options threads s ended = EndsWith (running options threads s.before s.after) s.output s.output' ended × (s.errors' ≡ s.errors)
+-- a service is asked for what these options say, and has the version of the program
+pub record AsksFor (options : RunOptions) (o : LiveOptions) : Type 0 where
+  pub asked : asked_by o ≡ record { permille = options.settings.permille; min = options.settings.min; history = options.history; version = VERSION.now }
+  pub from_image : o.from_image ≡ options.from_image
+
+-- an output of a service, and the status that goes with it; or a prefix of one, and the status 1
+abbrev pub EndsServing : LiveOptions → Reading → Reading → Writing → Writing → ℕ → Type 0
+EndsServing o before after output output' ended =
+    Served (serving_by o before after) output output' ended ⊎ ((fault : RunFault) × ServedFront (serving_by o before after) output output' fault × (ended ≡ 1))
+
+abbrev pub EndsService : RunOptions → Reading → Reading → Writing → Writing → ℕ → Type 0
+EndsService options before after output output' ended = (o : LiveOptions) × AsksFor options o × EndsServing o before after output output' ended
+
+-- a service where one is asked for, else a run, with threads or without
+abbrev pub EndsSo : Bool → RunOptions → Bool → Reading → Reading → Writing → Writing → ℕ → Type 0
+EndsSo true options threads before after output output' ended = EndsService options before after output output' ended
+EndsSo false options threads before after output output' ended = EndsWith (running options threads before after) output output' ended
+
+abbrev pub EndsAsAsked : Request → Reading → Reading → Writing → Writing → ℕ → Type 0
+EndsAsAsked r before after output output' ended = EndsSo r.live r.options r.threads before after output output' ended
+
+abbrev pub Runs : Request → Streams → ℕ → Type 0
+Runs r s ended = EndsAsAsked r s.before s.after s.output s.output' ended × (s.errors' ≡ s.errors)
 
 -- a text on the output, and nothing was read
 abbrev pub Tells : List ℕ → Streams → ℕ → Type 0
@@ -107,14 +134,14 @@ abbrev pub Explains : ℕ → Streams → ℕ → Type 0
 Explains number s ended =
     ((text : List ℕ) × (name_of number ≡ Some (name_in text)) × Tells (explanation_line number text) s ended) ⊎ ((name_of number ≡ None) × Refuses s ended)
 
--- what is asked for: a run, or in its place what a fault means
+-- what is asked for: a run or a service, or in its place what a fault means
 abbrev pub Answers : Request → Streams → ℕ → Type 0
-Answers r s ended = MatchOption r.explain (Runs r.options r.threads s ended) (λ number. Explains number s ended)
+Answers r s ended = MatchOption r.explain (Runs r s ended) (λ number. Explains number s ended)
 
 -- what it does for its arguments, of which the first is its name
 abbrev pub Serves : List Text → Streams → ℕ → Type 0
 Serves arguments s ended =
-    ((r : Request) × AreTaken arguments r.options.settings × AskAs arguments r × Answers r s ended)
+    ((r : Request) × AreTaken arguments r.options.settings × AskAs arguments r × (is_contradictory r ≡ false) × Answers r s ended)
     ⊎ ((AskForHelp arguments × Helps s ended) ⊎ ((AskForVersion arguments × Tells version_line s ended) ⊎ ((AskForNothing arguments × Refuses s ended) ⊎ LacksMemory s ended)))
 
 -- and where there are none
@@ -127,7 +154,7 @@ ServesNone OutOfMemory s ended = LacksMemory s ended
 -- memory ran out, or the arguments ask for help or the version or are refused, as the kind says
 abbrev pub WhyNot : List Text → ErrorKind → Type 0
 WhyNot arguments kind =
-    (kind ≡ why.OutOfMemory) ⊎ (IsAmong kind (fault_of command_line arguments) ⊎ ((kind ≢ DisplayHelp) × (kind ≢ DisplayVersion) × ((settings : Threshold) → AskFor arguments settings → ⊥)))
+    (kind ≡ why.OutOfMemory) ⊎ (IsAmong kind (fault_of command_line arguments) ⊎ ((kind ≢ DisplayHelp) × (kind ≢ DisplayVersion) × (((settings : Threshold) → AskFor arguments settings → ⊥) ⊎ Contradict arguments)))
 
 -- what is told of an error of this kind
 abbrev pub TellsOf : ErrorKind → Streams → ℕ → Type 0

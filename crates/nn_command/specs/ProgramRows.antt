@@ -9,13 +9,12 @@ use Rattle.nn_types.specs.Fault.{name_of}
 use Rattle.nn_types.specs.Settings.{Threshold}
 use Rattle.nn_scenario.specs.Cut.{segments_from, cut_from}
 use Rattle.nn_scenario.specs.Scenario.{Scenario, scenario_of, scenario_with, lines_from}
-use Rattle.nn_engine.specs.declared.engine.Options.{Options as RunOptions}
 use Rattle.nn_engine.specs.Output.{Printed, AreEventsOf, output_of, with_history}
 use Rattle.nn_engine.specs.Start.{from_root}
 use Rattle.nn_listing.specs.Listing.{newline}
 use Rattle.nn_command.specs.declared.program.NoArguments.TheVariants.{NotText, OutOfMemory}
 use Rattle.nn_command.specs.declared.options.Request.{Request}
-use Rattle.nn_command.specs.Options.{settings_line, lanes_line, command_line, ReadsAs, IsNumberOf, IsCapacity, AreReadAs, IsFlag, IsRequest, AskAs}
+use Rattle.nn_command.specs.Options.{settings_line, lanes_line, command_line, ReadsAs, IsNumberOf, IsCapacity, AreReadAs, IsFlag, IsRequest, AskAs, is_contradictory}
 use Rattle.nn_command.specs.Program.{Streams, Serves, AreTaken, Writes, Runs, Helps, Refuses, Explains, LacksMemory, ServesNone, TellsOf, explanation_line, memory_line, version_line}
 
 -- ---- Texts as numbers and flags.
@@ -43,24 +42,34 @@ none_where_nothing_stands n few h = h
 not_none_where_one_stands : IsNumberOf 16 (Some (codes "64")) None → ⊥
 not_none_where_one_stands h = h 64 (lit< tt) sixty_four
 
-most_reports : IsCapacity (Some (codes "64")) 64
+most_reports : IsCapacity (Some (codes "64")) (Some 64)
 most_reports = (sixty_four, omega arith, omega arith)
 
-not_no_reports : (text : Option Text) → IsCapacity text 0 → ⊥
+not_no_reports : (text : Text) → IsCapacity (Some text) (Some 0) → ⊥
 not_no_reports text h = let e : 1 ≤ 0 = h.1 in omega (arith, e)
 
-not_more_reports : (text : Option Text) → IsCapacity text 1025 → ⊥
+not_more_reports : (text : Text) → IsCapacity (Some text) (Some 1025) → ⊥
 not_more_reports text h = let e : 1025 ≤ 1024 = h.2 in omega (arith, e)
+
+-- it may be left out, and then none is said
+none_said : IsCapacity None None
+none_said = tt
+
+not_some_where_none_is_said : IsCapacity None (Some 64) → ⊥
+not_some_where_none_is_said h = h
+
+not_none_where_some_are_said : IsCapacity (Some (codes "64")) None → ⊥
+not_none_where_some_are_said h = h
 
 abbrev usual : Threshold
 usual = record { permille = 999; min = 1 }
 
-as_settings : AreReadAs (Some (codes "999")) (Some (codes "1")) (Some (codes "64")) usual
-as_settings = record {
+as_settings : (third : Option Text) (n : Option ℕ) → IsCapacity third n → AreReadAs (Some (codes "999")) (Some (codes "1")) third usual
+as_settings third n is = record {
   permille = ((omega arith, (lit< tt, (lit< tt, (lit< tt, tt)))), refl);
   min = ((omega arith, (lit< tt, tt)), refl);
   lawful = record { most = omega arith; from_one = omega arith; to_limit = omega arith };
-  capacity = (64, most_reports);
+  capacity = (n, is);
 }
 
 not_the_other_way_round : AreReadAs (Some (codes "1")) (Some (codes "999")) (Some (codes "64")) usual → ⊥
@@ -69,8 +78,11 @@ not_the_other_way_round h = let e : 1 ≡ 999 = h.permille.1 in omega (arith, e)
 not_another_min : AreReadAs (Some (codes "999")) (Some (codes "2")) (Some (codes "64")) usual → ⊥
 not_another_min h = let e : 2 ≡ 1 = h.min.1 in omega (arith, e)
 
-not_without_a_capacity : AreReadAs (Some (codes "999")) (Some (codes "1")) None usual → ⊥
-not_without_a_capacity h = h.capacity.1.0
+not_with_no_capacity_of_a_text : AreReadAs (Some (codes "999")) (Some (codes "1")) (Some []) usual → ⊥
+not_with_no_capacity_of_a_text h = none h.capacity.0 h.capacity.1 where
+  none : (n : Option ℕ) → IsCapacity (Some []) n → ⊥
+  none None h = h
+  none (Some n) h = let e : 0 < 0 = h.0.0.0 in omega (arith, e)
 
 set_and_unset : IsFlag (Some (codes "true")) true
 set_and_unset = ((λ e. refl), (λ e. absurd (cc)))
@@ -91,6 +103,9 @@ nothing_stands name = None
 not_by_threads : (r : Request) → IsRequest nothing_stands (record r { threads = true }) → ⊥
 not_by_threads r h = true≢false h.by_threads
 
+not_by_lines : (r : Request) → IsRequest nothing_stands (record r { live = true }) → ⊥
+not_by_lines r h = true≢false h.by_lines
+
 not_with_a_history : (r : Request) → IsRequest nothing_stands (record r { options = record r.options { history = true } }) → ⊥
 not_with_a_history r h = true≢false h.with_history
 
@@ -100,8 +115,33 @@ not_with_an_image r h = true≢false h.with_image
 not_from_an_image : (r : Request) → IsRequest nothing_stands (record r { options = record r.options { from_image = true } }) → ⊥
 not_from_an_image r h = true≢false h.on_from_image
 
-not_without_places : (r : Request) → IsRequest nothing_stands r → ⊥
-not_without_places r h = h.places.0
+not_with_places : (r : Request) → IsRequest nothing_stands (record r { capacity = Some 64 }) → ⊥
+not_with_places r h = h.places
+
+-- what goes together, and what does not
+abbrev asked_for : Bool → Bool → Bool → Option ℕ → Request
+asked_for live threads image capacity = record {
+  options = record { settings = usual; history = false; image = image; from_image = false; leave_memory = true };
+  threads = threads;
+  live = live;
+  capacity = capacity;
+  explain = None;
+}
+
+a_service_alone : is_contradictory (asked_for true false false None) ≡ false
+a_service_alone = refl
+
+no_service_with_threads : is_contradictory (asked_for true true false None) ≡ true
+no_service_with_threads = refl
+
+no_service_with_an_image : is_contradictory (asked_for true false true None) ≡ true
+no_service_with_an_image = refl
+
+no_service_with_a_capacity : is_contradictory (asked_for true false false (Some 64)) ≡ true
+no_service_with_a_capacity = refl
+
+a_run_with_all_three : is_contradictory (asked_for false true true (Some 64)) ≡ false
+a_run_with_all_three = refl
 
 -- ---- Streams.
 
@@ -179,8 +219,8 @@ not_told_after_a_read : (output : Writing) → LacksMemory (all 3 output nothing
 not_told_after_a_read output h = let e : 3 ≡ 0 = ap (λ (r : Reading). r.given) h.2 in omega (arith, e)
 
 -- a run tells nothing on errors
-not_run_with_errors : (options : RunOptions) (threads : Bool) (output : Writing) (ended : ℕ) → Runs options threads (all 0 output (writer text false)) ended → ⊥
-not_run_with_errors options threads output ended h = let e : 3 ≡ 0 = ap (λ (w : Writing). w.taken) h.1 in omega (arith, e)
+not_run_with_errors : (r : Request) (output : Writing) (ended : ℕ) → Runs r (all 0 output (writer text false)) ended → ⊥
+not_run_with_errors r output ended h = let e : 3 ≡ 0 = ap (λ (w : Writing). w.taken) h.1 in omega (arith, e)
 
 -- ---- Where there are no arguments, and where they ask for none.
 
@@ -224,23 +264,18 @@ abbrev program_alone : List Text
 program_alone = codes "nn_standby" ∷ []
 
 abbrev usual_request : Request
-usual_request = record {
-  options = record { settings = usual; history = false; image = false; from_image = false; leave_memory = true };
-  threads = false;
-  capacity = 64;
-  explain = None;
-}
+usual_request = asked_for false false false None
 
 usual_settings : AreTaken program_alone usual
 unfolding clap_on_literals settings_line lanes_line command_line
-usual_settings = (refl, as_settings)
+usual_settings = (refl, as_settings None None none_said)
 
 unset : IsFlag (Some (codes "false")) false
 unset = ((λ e. absurd (cc)), (λ e. refl))
 
 usual_asked : AskAs program_alone usual_request
 unfolding clap_on_literals settings_line lanes_line command_line
-usual_asked = record { places = most_reports; by_threads = unset; with_history = unset; with_image = unset; on_from_image = unset; explains = λ n few h. h }
+usual_asked = record { places = none_said; by_threads = unset; by_lines = unset; with_history = unset; with_image = unset; on_from_image = unset; explains = λ n few h. h }
 
 -- the input gives no scenario lines, and its standby has no history
 abbrev printed_for_nothing : Printed
@@ -284,6 +319,7 @@ serves_a_run = inl (
   usual_request,
   usual_settings,
   usual_asked,
+  refl,
   (
     inl (record {
       output = printed_for_nothing;

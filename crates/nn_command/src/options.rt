@@ -1,8 +1,8 @@
 //! What the command line asks for.
-ghost use Rattle.std.specs.Prelude.{◌≡◌, ◌≤◌, ◌⊎◌, ℕ, false, IfOk, IfErr, IfSome, IfNone, codes, map, string_bytes};
+ghost use Rattle.std.specs.Prelude.{◌≡◌, ◌≤◌, ◌⊎◌, ℕ, false, Option, IfOk, IfErr, IfSome, IfNone, codes, map, string_bytes};
 ghost use Rattle.clap.specs.Words.{app_of, found_of, kind_of, one_text, rule_of};
 ghost use Rattle.nn_types.specs.Settings.{Threshold};
-ghost use Rattle.nn_command.specs.Options.{value_rule, flag_rule, explain_rule, settings_line, lanes_line, command_line, IsNumberOf, IsCapacity, AreReadAs, IsRequest, AskAs};
+ghost use Rattle.nn_command.specs.Options.{value_rule, flag_rule, optional_rule, settings_line, lanes_line, command_line, IsNumberOf, IsCapacity, AreReadAs, IsRequest, AskAs, is_contradictory};
 ghost use Rattle.nn_command.specs.Program.{AreTaken, WhyNot};
 
 use clap::builder::ValueParser;
@@ -36,9 +36,15 @@ const HISTORY: &str =
 const IMAGE: &str = "Prints the image of the namespace too, after the tables.";
 
 const FROM_IMAGE: &str =
-    "Goes on from the image that standard input begins with, or that stands there after a line image.";
+    "Goes on from the image that standard input begins with, or that stands there after a line image (not with --live).";
 
-const CAPACITY: &str = "How many reports of a DataNode wait at a time with --threads, 1 to 1024.";
+const CAPACITY: &str =
+    "How many reports of a DataNode wait at a time with --threads, 1 to 1024; 64 where it is left out.";
+
+const LIVE: &str =
+    "Serves: takes lines and answers words as they come, until the input ends. Not with --threads, --capacity or --image.";
+
+const CONTRADICTORY: &str = "--live goes with neither --threads, --capacity nor --image";
 
 const EXPLAIN: &str =
     "Prints what the fault with this number means and what can be done, and reads no input.";
@@ -49,8 +55,10 @@ pub struct Request {
     pub options: Options,
     /// Whether each DataNode reports from a thread of its own.
     pub threads: bool,
-    /// How many reports a lane holds at a time, 1 to 1024.
-    pub capacity: u16,
+    /// Whether lines are taken as they come, and words are answered, until the input ends.
+    pub live: bool,
+    /// How many reports a lane holds at a time, 1 to 1024, where that is said.
+    pub capacity: Option<u16>,
     /// The number of the fault that is to be explained, instead of a run.
     pub explain: Option<u8>,
 }
@@ -59,7 +67,8 @@ pub struct Request {
 pub fn parse<'a>(alloc: Global, arguments: &'a [String]) -> Result<Request, Error>
     ensures ok { IfOk result (λ request. AreTaken (map string_bytes arguments.entry.now) request.options.settings) }
     ensures asked { IfOk result (λ request. AskAs (map string_bytes arguments.entry.now) request) }
-    ensures capacity { IfOk result (λ request. (1 ≤ request.capacity) × (request.capacity ≤ 1024)) }
+    ensures capacity { IfOk result (λ request. IfSome request.capacity (λ n. (1 ≤ n) × (n ≤ 1024))) }
+    ensures clear { IfOk result (λ request. is_contradictory request ≡ false) }
     ensures err { IfErr result (λ error. WhyNot (map string_bytes arguments.entry.now) (kind_of error)) }
 {
     let Ok(line) = command(alloc) else {
@@ -72,17 +81,40 @@ pub fn parse<'a>(alloc: Global, arguments: &'a [String]) -> Result<Request, Erro
     let Some(request) = matched(&matches) else {
         return Err(out_of_range(alloc));
     };
+    if is_contradictory(&request) {
+        return Err(contradictory(alloc));
+    }
     Ok(request)
 }
 
-// A number is out of its range. The parsers of the two options refuse such arguments before.
+// Whether options stand together that do not go together: a service has no threads, and prints no image at its end.
+fn is_contradictory(request: &Request) -> bool
+    ensures { result ≡ is_contradictory request.now }
+{
+    request.live && (request.threads || request.options.image || request.capacity.is_some())
+}
+
+fn contradictory(alloc: Global) -> Error
+    ensures { (kind_of result ≡ ErrorKind.ArgumentConflict) ⊎ (kind_of result ≡ ErrorKind.OutOfMemory) }
+{
+    refused_as(alloc, ErrorKind::ArgumentConflict, CONTRADICTORY)
+}
+
+// A number is out of its range. The parsers of the options refuse such arguments before.
 fn out_of_range(alloc: Global) -> Error
     ensures { (kind_of result ≡ ErrorKind.InvalidValue) ⊎ (kind_of result ≡ ErrorKind.OutOfMemory) }
+{
+    refused_as(alloc, ErrorKind::InvalidValue, "a number is out of range")
+}
+
+// The arguments are refused for a reason that the parser does not know.
+fn refused_as(alloc: Global, kind: ErrorKind, why: &str) -> Error
+    ensures { (kind_of result ≡ kind) ⊎ (kind_of result ≡ ErrorKind.OutOfMemory) }
 {
     let Ok(mut line) = command(alloc) else {
         return Error::from(AllocError);
     };
-    let Ok(error) = line.error(ErrorKind::InvalidValue, "a number is out of range") else {
+    let Ok(error) = line.error(kind, why) else {
         return Error::from(AllocError);
     };
     error
@@ -96,7 +128,8 @@ fn command<'a>(alloc: Global) -> Result<Command<'a>, Error>
         .arg(flag(alloc, "history", HISTORY))?
         .arg(flag(alloc, "image", IMAGE))?
         .arg(flag(alloc, "from-image", FROM_IMAGE))?
-        .arg(explain(alloc))?;
+        .arg(flag(alloc, "live", LIVE))?
+        .arg(optional(alloc, "explain", value_parser!(u8), EXPLAIN))?;
     Ok(command)
 }
 
@@ -106,7 +139,7 @@ fn lanes_command<'a>(alloc: Global) -> Result<Command<'a>, Error>
 {
     let capacity = value_parser!(u16).range(1..=1024);
     let command = settings_command(alloc)?
-        .arg(valued(alloc, "capacity", capacity, "64", CAPACITY))?
+        .arg(optional(alloc, "capacity", capacity, CAPACITY))?
         .arg(flag(alloc, "threads", THREADS))?;
     Ok(command)
 }
@@ -156,23 +189,23 @@ fn valued<'a>(
         .help(help)
 }
 
-// `--explain N`.
-fn explain<'a>(alloc: Global) -> Arg<'a>
-    ensures rule { rule_of result ≡ explain_rule }
+// `--NAME VALUE`, which may be left out.
+fn optional<'a>(alloc: Global, name: &'a str, parser: ValueParser<'a>, help: &'a str) -> Arg<'a>
+    ensures rule { rule_of result ≡ optional_rule name.entry.now parser.entry }
     ensures own { result.global ≡ false }
 {
-    Arg::new(alloc, "explain")
-        .long("explain")
+    Arg::new(alloc, name)
+        .long(name)
         .action(ArgAction::Set)
-        .value_parser(value_parser!(u8))
-        .help(EXPLAIN)
+        .value_parser(parser)
+        .help(help)
 }
 
 // What was matched, where the numbers are in range.
 fn matched(matches: &ArgMatches<'_>) -> Option<Request>
     ensures some { IfSome result (λ request. AreReadAs (one_text (found_of matches.now) (codes "permille")) (one_text (found_of matches.now) (codes "min")) (one_text (found_of matches.now) (codes "capacity")) request.options.settings) }
     ensures asked { IfSome result (λ request. IsRequest (one_text (found_of matches.now)) request) }
-    ensures capacity { IfSome result (λ request. (1 ≤ request.capacity) × (request.capacity ≤ 1024)) }
+    ensures capacity { IfSome result (λ request. IfSome request.capacity (λ n. (1 ≤ n) × (n ≤ 1024))) }
     ensures none { IfNone result ((settings : Threshold) → AreReadAs (one_text (found_of matches.now) (codes "permille")) (one_text (found_of matches.now) (codes "min")) (one_text (found_of matches.now) (codes "capacity")) settings → ⊥) }
 {
     let permille = number(matches, "permille")?;
@@ -188,21 +221,25 @@ fn matched(matches: &ArgMatches<'_>) -> Option<Request>
             leave_memory: true,
         },
         threads: matches.get_flag("threads"),
+        live: matches.get_flag("live"),
         capacity,
         explain: fault_number(matches),
     })
 }
 
-// The number under `--capacity`.
-fn capacity(matches: &ArgMatches<'_>) -> Option<u16>
+// The number under `--capacity`, where it is there.
+fn capacity(matches: &ArgMatches<'_>) -> Option<Option<u16>>
     ensures some { IfSome result (λ n. IsCapacity (one_text (found_of matches.now) (codes "capacity")) n) }
-    ensures none { IfNone result ((n : ℕ) → IsCapacity (one_text (found_of matches.now) (codes "capacity")) n → ⊥) }
+    ensures none { IfNone result ((n : Option ℕ) → IsCapacity (one_text (found_of matches.now) (codes "capacity")) n → ⊥) }
 {
+    if matches.get_str("capacity").is_none() {
+        return Some(None);
+    }
     let n = number(matches, "capacity")?;
     if n < 1 || n > 1024 {
         return None;
     }
-    Some(n)
+    Some(Some(n))
 }
 
 // The number under `--explain`, if it is there.

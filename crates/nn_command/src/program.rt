@@ -1,15 +1,16 @@
 //! What the program does for its arguments, over any reader and writers.
-ghost use Rattle.std.specs.Prelude.{◌≡◌, ◌≤◌, ◌⊎◌, ℕ, List, false, IfOk, IfErr, map, string_bytes};
+ghost use Rattle.std.specs.Prelude.{◌≡◌, ◌≤◌, ◌⊎◌, ℕ, List, false, IfOk, IfErr, IfSome, map, string_bytes};
 ghost use Rattle.nn_device.specs.Device.{Took, FailedToWrite};
 ghost use Rattle.clap.specs.Words.{kind_of};
 ghost use Rattle.nn_engine.specs.Run.{running};
-ghost use Rattle.nn_command.specs.Program.{EndsWith, Explains, LacksMemory, Serves, ServesNone, TellsOf, Writes, explanation_line, memory_line, no_reader, streams, version_line};
+ghost use Rattle.nn_command.specs.Program.{EndsAsAsked, EndsService, EndsWith, Explains, LacksMemory, Serves, ServesNone, TellsOf, Writes, explanation_line, memory_line, no_reader, streams, version_line};
 
 use crate::options;
 use crate::options::{Request, VERSION};
 use clap::error::ErrorKind;
 use nn_device::{Reader, Writer};
 use nn_engine::{Gate, Options, ThreadOptions, run, run_threads};
+use nn_live::{LiveOptions, run_live};
 use nn_types::fault::explanation;
 use std::alloc::{AllocError, Global};
 use std::io::{Read, Write};
@@ -18,6 +19,9 @@ use std::thread::Threads;
 
 /// The status after a fault line, and after a write that failed.
 const FAILED: u8 = 1;
+
+/// How many reports of a DataNode wait at a time, where that is not said.
+const CAPACITY: u16 = 64;
 
 /// The status after arguments that are refused.
 const MISUSED: u8 = 2;
@@ -38,6 +42,9 @@ pub enum NoArguments {
 ///
 /// Answers the status that the process is to end with: 0 after a listing, the help, the version or the meaning of a
 /// fault; 1 after a fault line or a failed write; 2 where the arguments are refused, with a message on `errors`.
+///
+/// With `--live` it serves: it takes lines and answers words as they come. The status is 0 at the end of its input, or 1 where the
+/// log was stopped.
 ///
 /// With `--threads` each DataNode reports from a thread of its own, which passes the gate first: it waits for as long as
 /// the gate does. What is printed is the same, except that a history has the order of its own run.
@@ -95,7 +102,7 @@ fn explained(alloc: Global, number: u8, text: &str) -> Result<String, AllocError
     format!(in alloc; "{number} {text}\n")
 }
 
-// A run, with threads or without.
+// A run, with threads or without, or a service.
 fn run_as_asked<R: Read, W: Write, G: Gate + Send + Sync + Drop, T: Threads + Wait + Sync>(
     rt: &T,
     alloc: Global,
@@ -104,18 +111,42 @@ fn run_as_asked<R: Read, W: Write, G: Gate + Send + Sync + Drop, T: Threads + Wa
     output: &mut Writer<W>,
     gate: Arc<G, Global>,
 ) -> u8
-    requires { (1 ≤ request.now.capacity) × (request.now.capacity ≤ 1024) }
-    ensures { EndsWith (running request.now.options request.now.threads input.old input.new) output.old output.new result }
+    requires { IfSome request.now.capacity (λ n. (1 ≤ n) × (n ≤ 1024)) }
+    ensures { EndsAsAsked request.now input.old input.new output.old output.new result }
 {
+    if request.live {
+        return run_service(alloc, &request.options, input, output);
+    }
     if !request.threads {
         return run_plain(alloc, &request.options, input, output);
     }
     let asked = ThreadOptions {
         options: request.options,
-        capacity: usize::from(request.capacity),
+        capacity: usize::from(request.capacity.unwrap_or(CAPACITY)),
         gate,
     };
     match run_threads(rt, alloc, &asked, input, output) {
+        Ok(end) => end.status,
+        Err(_) => FAILED,
+    }
+}
+
+// A service, which takes lines as they come.
+fn run_service<R: Read, W: Write>(
+    alloc: Global,
+    options: &Options,
+    input: &mut Reader<R>,
+    output: &mut Writer<W>,
+) -> u8
+    ensures { EndsService options.now input.old input.new output.old output.new result }
+{
+    let asked = LiveOptions {
+        settings: options.settings,
+        history: options.history,
+        from_image: options.from_image,
+        version: VERSION,
+    };
+    match run_live(alloc, &asked, input, output) {
         Ok(end) => end.status,
         Err(_) => FAILED,
     }

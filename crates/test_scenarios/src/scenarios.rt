@@ -58,7 +58,7 @@ struct Worked {
 }
 
 // Whether the program does what it should, and does it once more with threads. There a history has the order of its run,
-// and the capacity is given once.
+// the capacity is given once, and a service has none.
 fn plays_twice<T: Threads + Wait + Sync>(
     threads: &T,
     alloc: Global,
@@ -71,6 +71,7 @@ fn plays_twice<T: Threads + Wait + Sync>(
     if arguments.contains("--threads")
         || arguments.contains("--history")
         || arguments.contains("--capacity")
+        || arguments.contains("--live")
     {
         return Ok(true);
     }

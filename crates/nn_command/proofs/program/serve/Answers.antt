@@ -9,8 +9,8 @@ returns-in-Err-clause-some g c =
 
 pub returns-in-Some-clause-some : goal.returns-in-Some-clause-some
 returns-in-Some-clause-some g c =
-    rw c.in-Ok.is (explained_serves (map string_bytes c.in-Ok.arguments.now) c.in-Ok-parse.request c.in-Some.number _ _ _ _ _ _ _ c.in-Some.is c.in-Ok-parse.ensures.ok c.in-Ok-parse.ensures.asked refl c.explain.ensures)
+    rw c.in-Ok.is (explained_serves (map string_bytes c.in-Ok.arguments.now) c.in-Ok-parse.request c.in-Some.number _ _ _ _ _ _ _ c.in-Some.is c.in-Ok-parse.ensures.ok c.in-Ok-parse.ensures.asked c.in-Ok-parse.ensures.clear refl c.explain.ensures)
 
 pub returns-clause-some : goal.returns-clause-some
 returns-clause-some g c =
-    rw c.in-Ok.is (run_serves (map string_bytes c.in-Ok.arguments.now) c.in-Ok-parse.request _ _ c.in_default.not-Some c.in-Ok-parse.ensures.ok c.in-Ok-parse.ensures.asked (c.run_as_asked.ensures, refl))
+    rw c.in-Ok.is (run_serves (map string_bytes c.in-Ok.arguments.now) c.in-Ok-parse.request _ _ c.in_default.not-Some c.in-Ok-parse.ensures.ok c.in-Ok-parse.ensures.asked c.in-Ok-parse.ensures.clear (c.run_as_asked.ensures, refl))

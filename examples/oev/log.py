@@ -29,19 +29,19 @@ class Log:
             self.give(end_mark())
         lines = self.lines_of(edits)
         size = sum(map(len, lines))
-        if self.output.is_cut and self.segment_bytes + size + MARK_BYTES > PART_BYTES:
+        if self.output.most is not None and self.segment_bytes + size + MARK_BYTES > self.output.most:
             self.give(end_mark() + start_mark())
             lines = self.lines_of(edits)
         for edit, line in zip(edits, lines):
             self.put(edit, line, txid)
 
     def leave_out(self, txid):
-        self.numbers.write(f"{txid} -\n")
+        self.numbers.leave_out(txid)
 
     def give(self, marks):
         """Writes marks that no record stands for."""
         for mark, line in zip(marks, self.lines_of(marks)):
-            self.put(mark, line, "-")
+            self.put(mark, line, None)
             self.given[mark["op"]] += 1
 
     def finish(self):
@@ -64,7 +64,7 @@ class Log:
 
     def put(self, edit, line, txid):
         self.number += 1
-        self.numbers.write(f"{txid} {self.number}\n")
+        self.numbers.put(txid, self.number)
         self.output.write(line)
         self.segment_bytes += len(line)
         self.inside = [edit] != end_mark()
@@ -73,10 +73,23 @@ class Log:
             self.output.end_segment()
 
 
+class Map:
+    """Writes the TXID and the number of each line to a file. `-` stands where there is none."""
+
+    def __init__(self, file):
+        self.file = file
+
+    def put(self, txid, number):
+        self.file.write(f"{'-' if txid is None else txid} {number}\n")
+
+    def leave_out(self, txid):
+        self.file.write(f"{txid} -\n")
+
+
 class Whole:
     """Lines that go to one file."""
 
-    is_cut = False
+    most = None
 
     def __init__(self, file):
         self.write = file.write
@@ -89,7 +102,7 @@ class Whole:
 class Parts:
     """Lines that go to files of at most PART_BYTES in a directory. Each of them has whole segments."""
 
-    is_cut = True
+    most = PART_BYTES
 
     def __init__(self, directory):
         self.directory = directory

@@ -1,7 +1,7 @@
 //! A text that goes to a writer in large parts as it grows.
 //!
 //! The library's `BufWriter` would do, but its contract says nothing of what a failed write has left in the writer.
-ghost use Rattle.std.specs.Prelude.{◌≡◌, [], ◌∷◌, ℕ, List, false, true, OnOk, IfErr};
+ghost use Rattle.std.specs.Prelude.{◌≡◌, [], ◌∷◌, ℕ, List, length, false, true, OnOk, IfErr};
 ghost use Rattle.nn_device.specs.Device.{Writing, Took};
 ghost use Rattle.nn_device.specs.Page.{HasPut, Puts};
 ghost use Rattle.nn_device.specs.Parts.{TookFront};
@@ -76,6 +76,13 @@ impl Page {
         ensures { result ≡ self.now.lost }
     {
         self.lost
+    }
+
+    /// How many bytes were put that are not written yet.
+    pub fn pending(&self) -> usize
+        ensures { result ≡ length self.now.left }
+    {
+        self.gathered.len()
     }
 
     /// Writes what was gathered: the writer has all that was put then, unless a write failed.

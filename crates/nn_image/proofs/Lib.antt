@@ -20,3 +20,4 @@ pub mod PlainReads
 pub mod ItemReads
 pub mod RowReads
 pub mod HeaderReads
+pub mod InParts

@@ -17,3 +17,5 @@ pub mod RewritingRows
 pub mod Arrays
 pub mod RowParts
 pub mod HeaderParts
+pub mod InParts
+pub mod InPartsRows

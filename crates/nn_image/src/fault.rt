@@ -65,7 +65,7 @@ impl<T: Drop> From<AllocFailed<T>> for ImageFault {
     }
 }
 
-/// Why an image was not saved. The writer got a prefix of it: none of it where memory was refused.
+/// Why an image was not saved. The writer got a prefix of it; of `save` none of it where memory was refused.
 #[derive(Clone, Copy, Debug, PartialEq, Eq, Error)]
 pub enum SaveFault {
     #[error("a write failed after {written} bytes")]

@@ -20,4 +20,4 @@ pub use law::{reading_is_the_image, reads_back, reads_old_back};
 pub use loading::Loading;
 pub use restoring::load;
 pub use rewriting::rewrite;
-pub use saving::{ReadyImage, image_name, save};
+pub use saving::{ReadyImage, Saving, image_name, save};

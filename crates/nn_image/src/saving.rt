@@ -9,12 +9,15 @@ ghost use Rattle.nn_image.specs.Text.{line_of, number_items, header_data, head_d
 ghost use Rattle.nn_image.specs.Lawful.{IsReadBack};
 ghost use Rattle.nn_image.specs.Saving.{WroteFront};
 
+mod parts;
+
 use crate::fault::SaveFault;
 use crate::row_text::put_row;
 use nn_device::{Page, Writer};
 use nn_text::put_number;
 use nn_tree::{Extent, Namespace, Rows};
 use nn_types::{BlockId, GenerationStamp, Txid};
+pub use parts::Saving;
 use serde_json::{Value, json};
 use std::alloc::{AllocError, Global};
 use std::io::Write;

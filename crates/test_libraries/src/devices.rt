@@ -51,17 +51,17 @@ impl Read for Slow<'_> {
 // A writer that takes at most `width` bytes a time, and fails or takes nothing at its write `stop_at`, counted from 0.
 // After that one it counts its writes: a write that was refused is not to be tried again.
 #[derive(Drop)]
-struct Stopping {
-    got: Vec<u8>,
+pub struct Stopping {
+    pub got: Vec<u8>,
     width: usize,
     writes: u64,
-    stop_at: u64,
+    pub stop_at: u64,
     fails: bool,
-    later: u64,
+    pub later: u64,
 }
 
 impl Stopping {
-    fn new(alloc: Global, width: usize, stop_at: u64, fails: bool) -> Stopping {
+    pub fn new(alloc: Global, width: usize, stop_at: u64, fails: bool) -> Stopping {
         Stopping {
             got: Vec::new(alloc),
             width,

@@ -12,6 +12,8 @@ mod devices;
 #[cfg(test)]
 mod edits;
 #[cfg(test)]
+mod parts;
+#[cfg(test)]
 mod segment;
 #[cfg(test)]
 mod service;

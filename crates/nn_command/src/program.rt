@@ -145,6 +145,7 @@ fn run_service<R: Read, W: Write>(
         history: options.history,
         from_image: options.from_image,
         version: VERSION,
+        leave_memory: options.leave_memory,
     };
     match run_live(alloc, &asked, input, output) {
         Ok(end) => end.status,

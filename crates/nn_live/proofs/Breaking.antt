@@ -5,7 +5,7 @@ use Rattle.nn_live.specs.Live.{Asked, Service, empty_report, hands, mark_of}
 use Rattle.nn_live.specs.Serving.{Breaks, IsAt, IsFrontOf, Makes, Seen}
 use Rattle.nn_live.proofs.Growing.{first_handed, then_front}
 
--- a step takes back nothing
+-- a step leaves what was told, and may tell more
 abbrev pub Grow : (Asked → Service → Service) → Type 0
 Grow step = (asked : Asked) (s : Service) → IsFrontOf s.written (step asked s).written
 

@@ -1,28 +1,19 @@
 -- A service whose input comes from a reader.
-use Rattle.std.proofs.Common.{◌≡◌, ℕ, ◌+◌, Bool, true, false, cond, is_some, List, [], ◌∷◌, ◌++◌, length, Result, Ok, Err, refl, sym, subst, ap, ap₂, ◌∙◌, append-nil, append_assoc, arith, inl, inr}
+use Rattle.std.proofs.Common.{◌≡◌, ℕ, ◌+◌, true, cond, is_some, List, [], ◌++◌, Result, Ok, Err, refl, sym, subst, ap, ap₂, ◌∙◌, append-nil, append_assoc}
 use Rattle.std.specs.Prelude.{IfErr}
 use Rattle.std.specs.Result.{IsErrAnd}
-use Rattle.std.specs.Io.KnownBytes.{Consumes, IsAtEnd}
-use Rattle.nn_device.specs.Device.{Reading, Writing, Took}
-use Rattle.nn_device.specs.Parts.{TookFront}
-use Rattle.nn_engine.specs.Output.{Printed, image_fault}
-use Rattle.nn_engine.specs.Run.{Unfinished, unread_line}
-use Rattle.nn_engine.specs.declared.device.InputFault.TheVariants.{ReadFailed, OutOfMemory}
-use Rattle.nn_image.specs.declared.fault.ImageFault.{ImageFault}
+use Rattle.nn_engine.specs.Output.{image_fault}
 use Rattle.nn_image.specs.declared.fault.ImageFault.TheVariants.{Truncated}
-use Rattle.nn_model.specs.Namespace.{Namespace, root_alone}
-use Rattle.nn_live.specs.Live.{Asked, Service, Stage, at_end, begun, ends, live_text, loading, pieces, refused, serving, so_far, start, status_of, takes_end, takes_pieces, takes_torn, told_so_far, written_of}
-use Rattle.nn_live.specs.Opening.{IsOpening, OpeningState, OpensTo}
-use Rattle.nn_live.specs.Running.{IsHalt, IsServing, IsStage, asked_by, live_output}
-use Rattle.nn_live.specs.Serving.{IsAt, IsFrontOf, Seen}
-use Rattle.nn_live.specs.Taking.{BreaksEnd, BreaksPush, Finishes, HasTorn, Left, Pushes, Taking, goes_on}
-use Rattle.nn_live.specs.declared.opening.Opened.TheVariants as opened
+use Rattle.nn_model.specs.Namespace.{Namespace}
+use Rattle.nn_live.specs.Live.{Asked, Stage, at_end, begun, ends, live_text, loading, pieces, refused, serving, so_far, status_of, takes_end, takes_pieces, takes_torn, told_so_far, written_of}
+use Rattle.nn_live.specs.Opening.{IsOpening, OpeningState}
+use Rattle.nn_live.specs.Running.{IsServing, asked_by, live_output}
+use Rattle.nn_live.specs.Serving.{IsAt, IsFrontOf}
+use Rattle.nn_live.specs.Taking.{BreaksEnd, BreaksPush, Finishes, HasTorn, Pushes, Taking, goes_on}
 use Rattle.nn_live.specs.declared.run.Halt.{Halt}
-use Rattle.nn_live.specs.declared.run.Halt.TheVariants as halt
 use Rattle.nn_live.specs.declared.run.LiveOptions.{LiveOptions}
-use Rattle.nn_live.specs.declared.run.Stage.TheVariants as stage
 use Rattle.nn_live.proofs.Cutting.{ended, one_piece}
-use Rattle.nn_live.proofs.Growing.{end_grows, front_and, then_front, whole_front}
+use Rattle.nn_live.proofs.Growing.{end_grows, then_front, whole_front}
 
 -- ---- What is told before the end is a front of what is told behind it.
 
@@ -54,18 +45,6 @@ module _ (o : LiveOptions) where
 
   told_front : (told : List ℕ) (x : Stage × List ℕ) → IsFrontOf told (written_of x.0) → IsFrontOf told (text_of x)
   told_front told x front = then_front told (written_of x.0) (text_of x) front (end_told asked x.1 x.0)
-
-  -- ---- It begins.
-
-  pub from_root : (live : Taking) → o.from_image ≡ false → IsAt asked live.service (begun root_alone 0) → HasTorn [] live.torn → IsServing o [] [] live
-  from_root live none at has = record {
-    now = begun root_alone 0;
-    torn = [];
-    at = at;
-    has = has;
-    written = refl;
-    same = λ more. ap (λ b. takes_pieces asked (pieces more) (start b)) none;
-  }
 
   -- ---- Bytes come.
 

@@ -27,5 +27,5 @@ returns-clause-ok g c =
     let done = c.in_ok-end-in-Serving.ensures.ok in (
       done.0,
       done.1,
-      λ o input told is. service_ended o input told done.0 c.in-Serving.live c.end.new.self c.status.result done.2 c.status.ensures (subst (λ (s : Stage). IsStage o input told s) c.in-Serving.is is),
+      λ o input told is. service_ended o input told done.0 c.in-Serving.live c.end.new.self c.status-status.result done.2 c.status-status.ensures (subst (λ (s : Stage). IsStage o input told s) c.in-Serving.is is),
     )

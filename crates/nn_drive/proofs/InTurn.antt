@@ -1,19 +1,19 @@
 -- What an operator is shown, in turn, while its standby goes on; and what it wished is done.
-use Rattle.std.specs.Prelude.{◌≢◌, if◌then◌else◌}
-use Rattle.std.proofs.Common.{◌≡◌, ℕ, ◌≤◌, Bool, true, false, List, [], ◌∷◌, ◌++◌, refl, sym, ap, ◌∙◌, subst, arith, append_assoc, append-nil}
+use Rattle.std.specs.Prelude.{◌≢◌}
+use Rattle.std.proofs.Common.{◌≡◌, ℕ, ◌≤◌, List, [], ◌∷◌, ◌++◌, refl, sym, ap, ◌∙◌, subst, arith, append_assoc, append-nil}
 use Rattle.nn_feed.specs.Ends.{GivesWhatIsFed}
 use Rattle.nn_feed.specs.declared.ends.FeedEnd.{FeedEnd}
 use Rattle.nn_model.specs.History.{History}
 use Rattle.nn_segment.specs.Source.{Answer}
 use Rattle.nn_segment.proofs.Asks.{asked_append}
-use Rattle.nn_tailer.specs.Tailing.{Tailer, without_history, after}
+use Rattle.nn_tailer.specs.Tailing.{Tailer, after}
 use Rattle.nn_drive.specs.Driven.{Goes, Went}
 use Rattle.nn_drive.specs.Feeding.{failures_of}
 use Rattle.nn_drive.specs.Rounds.{IsRound}
 use Rattle.nn_drive.specs.Served.{Rotates}
-use Rattle.nn_drive.specs.Serving.{Shown, forgotten, answered, last_shown, left_of, IsNext, AreInTurn, Heeds, GoesOn, WasShown, WishesAt}
+use Rattle.nn_drive.specs.Serving.{KeepsNamespace, Shown, forgotten, forgotten_by, answered, last_shown, left_by, left_of, IsNext, AreInTurn, GoesOn, WasShown, WishesAt}
 use Rattle.nn_drive.specs.declared.operator.Wish.{Wish}
-use Rattle.nn_drive.specs.declared.operator.Wish.TheVariants.{GoOn, Forget, Promote}
+use Rattle.nn_drive.specs.declared.operator.Wish.TheVariants.{GoOn, Forget, Hold, Promote}
 use Rattle.nn_drive.proofs.Kept.{goes_after}
 use Rattle.nn_drive.proofs.Steps.{goes_nowhere, goes_then}
 
@@ -38,31 +38,31 @@ module _ {O : Type 0} (asks : O → Tailer → ℕ → Wish → O → Type 0) wh
   IsShownNext workers old o x q shown answers = IsNext old shown x × WasShown asks workers old o shown answers x q
 
   -- the standby is what was left of the last that it was shown
-  abbrev IsLeft : List Shown → Tailer → Type 0
-  IsLeft [] y = ⊥
-  IsLeft (last ∷ shown) y = y ≡ left_of last
+  abbrev IsLeft : Wish → List Shown → Tailer → Type 0
+  IsLeft w [] y = ⊥
+  IsLeft w (last ∷ shown) y = (y ≡ left_of last) × (last.wish ≡ w)
 
-  abbrev WasAsked : ℕ → Tailer → O → Tailer → O → List Shown → List Answer → Type 0
-  WasAsked workers old o y p shown answers = IsLeft shown y × WasShown asks workers old o shown answers y p
+  abbrev WasAsked : ℕ → Tailer → O → Wish → Tailer → O → List Shown → List Answer → Type 0
+  WasAsked workers old o w y p shown answers = IsLeft w shown y × WasShown asks workers old o shown answers y p
 
   pub rotates_none : {T : Type 0} (gives : T → Answer → T → Type 0) (failures : T → ℕ) (workers : ℕ) (s : T) (x : Tailer) (o : O) → Rotates gives failures s x s x (IsShownNext workers x o x o)
   rotates_none gives failures workers s x o = record { shown = []; went = ([], refl, goes_nowhere x, omega arith); was = (refl, none_shown workers x o) }
 
   module _ {T : Type 0} (gives : T → Answer → T → Type 0) (failures : T → ℕ) (workers : ℕ) (s t : T) (old x : Tailer) (o q p : O) where
     -- it was asked about the standby, and left this
-    asked_once : (y : Tailer) (running : ℕ) (b : Bool) → running ≤ workers → asks q x running (if b then Forget else GoOn) p
-        → y ≡ (if b then without_history x else x) → ((past : History) → after (past ++ (if b then x.shadow.history else [])) y ≡ after past x)
-        → Rotates gives failures s old t x (IsShownNext workers old o x q) → Rotates gives failures s old t y (WasAsked workers old o y p)
-    asked_once y running b few a left e r =
+    asked_once : (y : Tailer) (running : ℕ) (w : Wish) → running ≤ workers → (w ≢ Promote) → asks q x running w p
+        → y ≡ left_by w x → ((past : History) → after (past ++ forgotten_by w x.shadow.history) y ≡ after past x)
+        → Rotates gives failures s old t x (IsShownNext workers old o x q) → Rotates gives failures s old t y (WasAsked workers old o w y p)
+    asked_once y running w few other a left e r =
         let was = r.was.1 in
-        let one : Shown = record { answers = was.since; standby = x; running = running; forgets = b } in
+        let one : Shown = record { answers = was.since; standby = x; running = running; wish = w } in
         let same = sym (e (forgotten r.shown)) in record {
           shown = one ∷ r.shown;
           went = (r.went.0, r.went.1, subst (λ z. Goes old r.went.0 z) same r.went.2, r.went.3);
           was = (
-            left,
+            (left, refl),
             record {
-              goes_on = (q, was.goes_on, a);
+              goes_on = (q, was.goes_on, other, a);
               in_turn = (was.in_turn, r.was.0, was.goes, few);
               since = [];
               are = was.are ∙ sym (append-nil (answered r.shown ++ was.since));
@@ -72,11 +72,12 @@ module _ {O : Type 0} (asks : O → Tailer → ℕ → Wish → O → Type 0) wh
         }
 
     -- what it wished was done
-    pub obeys : (y : Tailer) (running : ℕ) → running ≤ workers → (w : Wish) → (w ≡ Promote → ⊥) → asks q x running w p → Heeds w x y
-        → Rotates gives failures s old t x (IsShownNext workers old o x q) → Rotates gives failures s old t y (WasAsked workers old o y p)
-    obeys y running few GoOn other a left r = asked_once y running false few a left (λ past. ap (λ (h : History). after h y) (append-nil past) ∙ ap (after past) left) r
+    pub obeys : (y : Tailer) (running : ℕ) → running ≤ workers → (w : Wish) → (w ≡ Promote → ⊥) → asks q x running w p → y ≡ left_by w x
+        → Rotates gives failures s old t x (IsShownNext workers old o x q) → Rotates gives failures s old t y (WasAsked workers old o w y p)
+    obeys y running few GoOn other a left r = asked_once y running GoOn few other a left (λ past. ap (λ (h : History). after h y) (append-nil past) ∙ ap (after past) left) r
+    obeys y running few Hold other a left r = asked_once y running Hold few other a left (λ past. ap (λ (h : History). after h y) (append-nil past) ∙ ap (after past) left) r
     obeys y running few Forget other a left r =
-        asked_once y running true few a left (λ past. ap (after (past ++ x.shadow.history)) left ∙ ap (λ (h : History). record x { shadow = record x.shadow { history = h } }) (append-nil (past ++ x.shadow.history))) r
+        asked_once y running Forget few other a left (λ past. ap (after (past ++ x.shadow.history)) left ∙ ap (λ (h : History). record x { shadow = record x.shadow { history = h } }) (append-nil (past ++ x.shadow.history))) r
     obeys y running few Promote other a left r = absurd (other refl)
 
     -- it wished a promotion
@@ -88,8 +89,8 @@ module _ {O : Type 0} (asks : O → Tailer → ℕ → Wish → O → Type 0) wh
       was = (q, running, few, r.was.0, r.was.1, subst (λ (z : Wish). asks q x running z p) e a);
     }
 
-  module _ {T : Type 0} (gives : T → Answer → T → Type 0) (failures : T → ℕ) (workers : ℕ) (s t u : T) (old y z : Tailer) (o p : O)
-      (r : Rotates gives failures s old t y (WasAsked workers old o y p)) (w : Went gives failures t y u z) where
+  module _ {T : Type 0} (gives : T → Answer → T → Type 0) (failures : T → ℕ) (workers : ℕ) (s t u : T) (old y z : Tailer) (o p : O) (wish : Wish)
+      (r : Rotates gives failures s old t y (WasAsked workers old o wish y p)) (w : Went gives failures t y u z) where
     abbrev went_round : Went gives failures s old u (after (forgotten r.shown) z)
     went_round = (
       r.went.0 ++ w.0,
@@ -111,28 +112,31 @@ module _ {O : Type 0} (asks : O → Tailer → ℕ → Wish → O → Type 0) wh
     pub goes_round : Rotates gives failures s old u z (λ shown answers. WasShown asks workers old o shown answers z p)
     goes_round = record { shown = r.shown; went = went_round; was = shown_round }
 
-    is_next : (shown : List Shown) → IsLeft shown y → IsRound y z → IsNext old shown z
-    is_next [] left round = absurd left
-    is_next (last ∷ shown) left round = subst (λ v. IsRound v z) left round
+    -- where the log was held, nothing was forgotten
+    left_held : (last : Shown) → last.wish ≡ Hold → left_of last ≡ last.standby
+    left_held last held = ap (λ w. left_by w last.standby) held
+
+    is_next : (shown : List Shown) → IsLeft wish shown y → IsRound y z → (wish ≡ Hold → KeepsNamespace y z) → IsNext old shown z
+    is_next [] left round held = absurd left
+    is_next (last ∷ shown) left round held = (
+      subst (λ v. IsRound v z) left.0 round,
+      λ hold. subst (λ v. KeepsNamespace v z) (left.0 ∙ left_held last hold) (held (sym left.1 ∙ hold)),
+    )
 
     -- a rotation more
-    pub next_round : IsRound y z → Rotates gives failures s old u z (IsShownNext workers old o z p)
-    next_round round = record { shown = r.shown; went = went_round; was = (is_next r.shown r.was.0 round, shown_round) }
+    pub next_round : IsRound y z → (wish ≡ Hold → KeepsNamespace y z) → Rotates gives failures s old u z (IsShownNext workers old o z p)
+    next_round round held = record { shown = r.shown; went = went_round; was = (is_next r.shown r.was.0 round held, shown_round) }
 
 -- ---- An operator that never wishes that a history be forgotten.
 
 -- what `Unattended` is asked
 abbrev pub Unasked : {O : Type 0} → O → Tailer → ℕ → Wish → O → Type 0
-Unasked o x n w p = (w ≡ Promote → n ≡ 0) × (n ≡ 0 → w ≡ Promote) × (w ≢ Forget)
-
-never : {O : Type 0} (o p : O) (x : Tailer) (n : ℕ) (b : Bool) → Unasked o x n (if b then Forget else GoOn) p → b ≡ false
-never o p x n true a = absurd (a.2 refl)
-never o p x n false a = refl
+Unasked o x n w p = (w ≡ Promote → n ≡ 0) × (n ≡ 0 → w ≡ Promote) × (w ≢ Promote → w ≡ GoOn)
 
 none_forgotten : {O : Type 0} (o p : O) (shown : List Shown) → GoesOn Unasked o shown p → forgotten shown ≡ []
 none_forgotten o p [] h = refl
 none_forgotten o p (x ∷ shown) h =
-    ap (λ b. forgotten shown ++ (if b then x.standby.shadow.history else [])) (never h.0 p x.standby x.running x.forgets h.2) ∙ append-nil (forgotten shown) ∙ none_forgotten o h.0 shown h.1
+    ap (λ w. forgotten shown ++ forgotten_by w x.standby.shadow.history) (h.3.2 h.2) ∙ append-nil (forgotten shown) ∙ none_forgotten o h.0 shown h.1
 
 -- its standby keeps the whole history
 pub went_whole : {O R : Type 0} (workers : ℕ) (s t : FeedEnd R) (x y : Tailer) (o p : O)

@@ -1,13 +1,19 @@
 -- Steps after steps, up to a rotation.
-use Rattle.std.proofs.Common.{ℕ, ◌+◌, ◌<◌, List, [], ◌∷◌, ◌++◌, Ok, refl, sym, subst, arith, inl, inr}
+use Rattle.std.proofs.Common.{ℕ, ◌+◌, ◌<◌, List, [], ◌∷◌, ◌++◌, Ok, refl, sym, ap, subst, ◌∙◌, arith, inl, inr}
 use Rattle.std.proofs.Math.Nat.{eq-or-lt_of_le}
 use Rattle.nn_segment.specs.Source.{Answer}
+use Rattle.nn_model.specs.Stands.{StandbyState}
+use Rattle.nn_shadow.specs.Contents.{Contents, standby_of}
+use Rattle.nn_shadow.proofs.ItemsTaken.{received_stays}
+use Rattle.nn_tailer.specs.LaneSteps.{LaneMoves}
 use Rattle.nn_tailer.specs.Public.{Steps}
 use Rattle.nn_tailer.specs.Tailing.{Tailer}
 use Rattle.nn_tailer.specs.declared.standby.Choice.{Choice}
 use Rattle.nn_tailer.specs.declared.standby.Choice.TheVariants.{Lane}
 use Rattle.nn_tailer.specs.declared.standby.Stepped.{Stepped}
+use Rattle.nn_tailer.specs.declared.standby.Stepped.TheVariants as stepped
 use Rattle.nn_drive.specs.Rounds.{Makes, HasMade, Tries, HasStepped, HasTried, HasVisited}
+use Rattle.nn_drive.specs.Serving.{KeepsNamespace}
 
 pub makes : {T : Type 0} (gives : T → Answer → T → Type 0) (s t : T) (x y : Tailer) (choice : Choice) (stepped : Stepped) → Steps gives s x choice t y (Ok stepped) → Makes x choice y
 makes gives s t x y choice stepped h = (h.0, stepped, h.5, h.8, record { carries = h.2; same_ends = h.3; begun = h.4; active = h.7; settings = h.6 })
@@ -62,3 +68,23 @@ one_visited x y z w lanes f g h = (
 
 pub visited_then : (x y z : Tailer) (lanes : ℕ) → HasStepped x y → HasVisited y lanes z → HasVisited x lanes z
 visited_then x y z lanes f g = (g.0 ++ f.0, made_then x y z f.0 g.0 f.1 g.1, λ i few. tries_then f.0 g.0 (i + 1) (g.2 i few))
+
+-- ---- The namespace under the steps of lanes.
+
+pub keeps_same : (x : Tailer) → KeepsNamespace x x
+keeps_same x = record { namespace = refl; last = refl }
+
+pub keeps_then : (x y z : Tailer) → KeepsNamespace x y → KeepsNamespace y z → KeepsNamespace x z
+keeps_then x y z f g = record { namespace = g.namespace ∙ f.namespace; last = g.last ∙ f.last }
+
+lane_moved : (x y : Tailer) (i : ℕ) (s : Stepped) → LaneMoves x i y (Ok s) → KeepsNamespace x y
+lane_moved x y i (stepped.Handed processed held) m =
+    let stays = received_stays (standby_of x.shadow) m.message in
+    record { namespace = ap (λ (z : StandbyState). z.namespace) m.standby ∙ stays.0; last = ap (λ (z : StandbyState). z.last) m.standby ∙ stays.1 }
+lane_moved x y i (stepped.Empty n) m = record { namespace = ap (λ (z : Contents). z.namespace) m.0; last = ap (λ (z : Contents). z.last) m.0 }
+lane_moved x y i (stepped.Applied txid) m = absurd m
+lane_moved x y i stepped.Passed m = absurd m
+lane_moved x y i stepped.LogEnded m = absurd m
+
+pub lane_keeps : (x y z : Tailer) (dn : ℕ) → KeepsNamespace x y → Makes y (Lane dn) z → KeepsNamespace x z
+lane_keeps x y z dn f m = keeps_then x y z f (lane_moved y z m.2.1.0 m.1 m.2.1.2)

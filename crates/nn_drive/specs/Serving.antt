@@ -1,5 +1,5 @@
 -- What an operator is asked, and when a standby in service is promoted.
-use Rattle.std.specs.Prelude.{◌≡◌, ℕ, ◌≤◌, Bool, true, List, [], ◌∷◌, ◌++◌, length, map, Ok, if◌then◌else◌}
+use Rattle.std.specs.Prelude.{◌≡◌, ◌≢◌, ℕ, ◌≤◌, true, List, [], ◌∷◌, ◌++◌, length, map, Ok}
 use Rattle.std.specs.List.{All}
 use Rattle.std.specs.declared.thread.PromisedHandle.{PromisedHandle}
 use Rattle.nn_lane.specs.Ends.{Taking, got_of, counted}
@@ -21,30 +21,43 @@ use Rattle.nn_drive.specs.Rounds.{IsRound}
 use Rattle.nn_drive.specs.declared.driving.WorkerPromise.{WorkerPromise}
 use Rattle.nn_drive.specs.declared.driving.WorkerExit.{WorkerExit}
 use Rattle.nn_drive.specs.declared.operator.Wish.{Wish}
-use Rattle.nn_drive.specs.declared.operator.Wish.TheVariants.{GoOn, Forget, Promote}
+use Rattle.nn_drive.specs.declared.operator.Wish.TheVariants.{GoOn, Forget, Hold, Promote}
 
--- An operator was shown this standby, and wished that it goes on, with its history or without. The log's source gave these answers since it
--- was shown the one before
+-- An operator was shown this standby, and this is what it wished. The log's source gave these answers since it was shown the one before
 pub record Shown : Type 0 where
   pub answers : List Answer
   pub standby : Tailer
   pub running : ℕ
-  pub forgets : Bool
+  pub wish : Wish
 
--- what it wished to be forgotten of this one
-abbrev pub forgotten_of : Shown → History
-forgotten_of x = if x.forgets then x.standby.shadow.history else []
+-- what is forgotten of a history by a wish
+abbrev pub forgotten_by : Wish → History → History
+forgotten_by GoOn history = []
+forgotten_by Forget history = history
+forgotten_by Hold history = []
+forgotten_by Promote history = []
 
--- what was left of it
+-- what is left of a standby
+abbrev pub left_by : Wish → Tailer → Tailer
+left_by GoOn x = x
+left_by Forget x = without_history x
+left_by Hold x = x
+left_by Promote x = x
+
 abbrev pub left_of : Shown → Tailer
-left_of x = if x.forgets then without_history x.standby else x.standby
+left_of x = left_by x.wish x.standby
+
+-- the namespace is the same, and so is the last transaction
+pub record KeepsNamespace (old new : Tailer) : Type 0 where
+  pub namespace : new.shadow.namespace ≡ old.shadow.namespace
+  pub last : new.shadow.last ≡ old.shadow.last
 
 -- ---- What an operator was shown, the last first.
 
 -- what it wished to be forgotten, in order
 abbrev pub forgotten : List Shown → History
 forgotten [] = []
-forgotten (x ∷ shown) = forgotten shown ++ forgotten_of x
+forgotten (x ∷ shown) = forgotten shown ++ forgotten_by x.wish x.standby.shadow.history
 
 -- what the log's source gave up to the last one
 abbrev pub answered : List Shown → List Answer
@@ -56,10 +69,11 @@ abbrev pub last_shown : Tailer → List Shown → Tailer
 last_shown old [] = old
 last_shown old (x ∷ shown) = after (forgotten shown) x.standby
 
--- what it is shown next: the standby that was handed in, and then what was left of the last one, after a rotation
+-- What it is shown next: the standby that was handed in, and then what was left of the last one, after a rotation. Where it wished that the
+-- log be held, the namespace is that of the last one
 abbrev pub IsNext : Tailer → List Shown → Tailer → Type 0
 IsNext old [] x = x ≡ old
-IsNext old (last ∷ shown) x = IsRound (left_of last) x
+IsNext old (last ∷ shown) x = IsRound (left_of last) x × (last.wish ≡ Hold → KeepsNamespace last.standby x)
 
 -- Each was shown in its turn, and goes on from the one before as if it had kept what was forgotten. At most so many workers were counted as
 -- running
@@ -68,17 +82,10 @@ AreInTurn workers old [] = Unit {0}
 AreInTurn workers old (x ∷ shown) =
     AreInTurn workers old shown × IsNext old shown x.standby × Goes (last_shown old shown) x.answers (after (forgotten shown) x.standby) × (x.running ≤ workers)
 
--- a wish was heeded: the history was forgotten, or nothing was done
-abbrev pub Heeds : Wish → Tailer → Tailer → Type 0
-Heeds GoOn old new = new ≡ old
-Heeds Forget old new = new ≡ without_history old
-Heeds Promote old new = new ≡ old
-
--- it was asked about these in turn, each time with so many workers, and wished each time that the standby goes on, with its history or
--- without
+-- it was asked about these in turn, each time with so many workers, and wished a promotion at none
 abbrev pub GoesOn : {O : Type 0} → (O → Tailer → ℕ → Wish → O → Type 0) → O → List Shown → O → Type 0
 GoesOn asks o [] p = p ≡ o
-GoesOn {O} asks o (x ∷ shown) p = (q : O) × GoesOn asks o shown q × asks q x.standby x.running (if x.forgets then Forget else GoOn) p
+GoesOn {O} asks o (x ∷ shown) p = (q : O) × GoesOn asks o shown q × (x.wish ≢ Promote) × asks q x.standby x.running x.wish p
 
 -- so it did, and the standby went on from the last that it was shown to this one. The log's source gave these answers in all
 pub record WasShown {O : Type 0} (asks : O → Tailer → ℕ → Wish → O → Type 0) (workers : ℕ) (old : Tailer) (o : O) (shown : List Shown) (answers : List Answer) (new : Tailer) (p : O) : Type 0 where

@@ -1,10 +1,10 @@
 -- When an operator has wished a promotion, and which lanes are dry, computed.
-use Rattle.std.specs.Prelude.{◌≡◌, ℕ, ◌+◌, Bool, zero, suc, ◌<◌, ◌≤◌, true, false, Option, Some, None, Err, List, [], ◌∷◌, ◌++◌, length, drop, slice_index_or, refl}
+use Rattle.std.specs.Prelude.{◌≡◌, ℕ, ◌+◌, zero, suc, ◌<◌, ◌≤◌, true, false, Option, Some, None, Err, List, [], ◌∷◌, ◌++◌, length, drop, slice_index_or, refl}
 use Rattle.std.proofs.Common.{arith, true≢false, sym, ap, ◌∙◌, subst, inl, inr}
 use Rattle.nn_lane.specs.Ends.{LaneId, Reporting, Taking}
 use Rattle.nn_types.specs.declared.event.Event.TheVariants.{Applied}
 use Rattle.nn_types.specs.declared.event.Cause.TheVariants.{Flush}
-use Rattle.nn_model.specs.Namespace.{root_alone}
+use Rattle.nn_model.specs.Namespace.{Namespace, root_alone}
 use Rattle.nn_model.specs.History.{processed}
 use Rattle.nn_model.specs.WellFormed.{Has}
 use Rattle.nn_model.specs.MessageRowsLater.{unnamed_report}
@@ -17,10 +17,10 @@ use Rattle.nn_tailer.proofs.Carried.{carries_same}
 use Rattle.nn_tailer.proofs.LaneSteps.{ends_same}
 use Rattle.nn_tailer.proofs.Shadowing.{settings_same}
 use Rattle.nn_drive.specs.Driven.{Goes}
-use Rattle.nn_drive.specs.Serving.{Shown, forgotten, AreInTurn, GoesOn, WishesAt, IsDry, IsPromotedAt}
+use Rattle.nn_drive.specs.Serving.{Shown, forgotten, AreInTurn, GoesOn, IsNext, WishesAt, IsDry, IsPromotedAt}
 use Rattle.nn_drive.specs.Served.{AreStarted, IsUntouched, IsRefused}
 use Rattle.nn_drive.specs.declared.operator.Wish.{Wish}
-use Rattle.nn_drive.specs.declared.operator.Wish.TheVariants.{GoOn, Forget, Promote}
+use Rattle.nn_drive.specs.declared.operator.Wish.TheVariants.{GoOn, Forget, Hold, Promote}
 use Rattle.nn_drive.specs.declared.serving.Unserved.{Unserved}
 
 -- an operator that counts its rotations down, wishes the history to be forgotten at the last one, and a promotion at none
@@ -29,26 +29,29 @@ counts zero x n w p = (w ≡ Promote) × (p ≡ 0)
 counts (suc zero) x n w p = (w ≡ Forget) × (p ≡ 0)
 counts (suc (suc k)) x n w p = (w ≡ GoOn) × (p ≡ suc k)
 
-abbrev show : Tailer → ℕ → Bool → Shown
-show x n forgets = record { answers = []; standby = x; running = n; forgets = forgets }
+abbrev show : Tailer → ℕ → Wish → Shown
+show x n wish = record { answers = []; standby = x; running = n; wish = wish }
 
 -- the first history stays, and the second one is forgotten
-two_rotations : (x y : Tailer) → GoesOn counts 2 (show y 7 true ∷ show x 8 false ∷ []) 0
-two_rotations x y = (1, (2, refl, (refl, refl)), (refl, refl))
+two_rotations : (x y : Tailer) → GoesOn counts 2 (show y 7 Forget ∷ show x 8 GoOn ∷ []) 0
+two_rotations x y = (1, (2, refl, (λ e. cc), (refl, refl)), (λ e. cc), (refl, refl))
 
-the_second_is_forgotten : (x y : Tailer) → forgotten (show y 7 true ∷ show x 8 false ∷ []) ≡ y.shadow.history
+the_second_is_forgotten : (x y : Tailer) → forgotten (show y 7 Forget ∷ show x 8 GoOn ∷ []) ≡ y.shadow.history
 the_second_is_forgotten x y = refl
 
-forgotten_in_order : (x y : Tailer) → forgotten (show y 7 true ∷ show x 8 true ∷ []) ≡ x.shadow.history ++ y.shadow.history
+forgotten_in_order : (x y : Tailer) → forgotten (show y 7 Forget ∷ show x 8 Forget ∷ []) ≡ x.shadow.history ++ y.shadow.history
 forgotten_in_order x y = refl
+
+nothing_is_forgotten_while_the_log_is_held : (x : Tailer) → forgotten (show x 8 Hold ∷ []) ≡ []
+nothing_is_forgotten_while_the_log_is_held x = refl
 
 -- it does not wish it before
 not_at_once : (x : Tailer) (p : ℕ) → counts 1 x 8 Promote p → ⊥
 not_at_once x p h = let e : Promote ≡ Forget = h.0 in cc
 
 -- nor is it asked on behind its wish
-not_after_its_wish : (x : Tailer) (p : ℕ) → GoesOn counts 0 (show x 8 false ∷ []) p → ⊥
-not_after_its_wish x p h = let a = subst (λ q. counts q x 8 GoOn p) h.1 h.2 in let e : GoOn ≡ Promote = a.0 in cc
+not_after_its_wish : (x : Tailer) (p : ℕ) → GoesOn counts 0 (show x 8 GoOn ∷ []) p → ⊥
+not_after_its_wish x p h = let a = subst (λ q. counts q x 8 GoOn p) h.1 h.3 in let e : GoOn ≡ Promote = a.0 in cc
 
 -- ---- What is shown goes on from what was shown before.
 
@@ -65,11 +68,18 @@ wished_at_once x = (0, 8, omega arith, refl, record { goes_on = refl; in_turn = 
 not_wished_at_another : (x : Tailer) (p : ℕ) (answers : List Answer) → WishesAt counts 8 x 0 [] answers (with_other_settings x) p → ⊥
 not_wished_at_another x p answers h = let e : x.shadow.permille + 1 ≡ x.shadow.permille = ap (λ (z : Tailer). z.shadow.permille) h.3 in omega (arith, e)
 
-not_with_more_running : (x y : Tailer) → AreInTurn 1 x (show y 2 false ∷ []) → ⊥
+not_with_more_running : (x y : Tailer) → AreInTurn 1 x (show y 2 GoOn ∷ []) → ⊥
 not_with_more_running x y h = omega (arith, h.3)
 
-not_another_standby : (x : Tailer) → AreInTurn 8 x (show (with_other_settings x) 8 false ∷ []) → ⊥
+not_another_standby : (x : Tailer) → AreInTurn 8 x (show (with_other_settings x) 8 GoOn ∷ []) → ⊥
 not_another_standby x h = let e : x.shadow.permille + 1 ≡ x.shadow.permille = h.2.settings.permille in omega (arith, e)
+
+-- where the log is held, the next one has the same namespace and the same last transaction
+not_with_another_namespace : (x : Tailer) (n : Namespace) → IsNext x (show x 8 Hold ∷ []) (record x { shadow = record x.shadow { namespace = n } }) → n ≡ x.shadow.namespace
+not_with_another_namespace x n h = (h.1 refl).namespace
+
+not_with_a_transaction_more : (x : Tailer) → IsNext x (show x 8 Hold ∷ []) (record x { shadow = record x.shadow { last = x.shadow.last + 1 } }) → ⊥
+not_with_a_transaction_more x h = omega (arith, (h.1 refl).last)
 
 -- ---- What comes back of a service that is refused.
 

@@ -12,6 +12,9 @@ pub enum Wish {
     GoOn,
     /// That it goes on, and forgets the history that it showed: its operator has done with it.
     Forget,
+    /// That it goes on with messages alone: no step of the log is made until the operator is asked again. So the namespace stays
+    /// as it is over a checkpoint that is written in parts (`Saving` of nn_image), and no message waits for that.
+    Hold,
     /// That it is promoted now.
     Promote,
 }
@@ -31,15 +34,15 @@ pub trait Operator {
         ensures { asks self.old standby.now running result self.new };
 }
 
-/// Wishes a promotion once no worker runs any more, and never that a history be forgotten.
+/// Wishes a promotion once no worker runs any more, and never that a history be forgotten or the log be held.
 #[derive(Clone, Copy)]
 pub struct Unattended;
 
 impl Operator for Unattended {
     ghost use Rattle.std.specs.Prelude.{◌≡◌, ◌≢◌};
-    ghost use Rattle.nn_drive.specs.declared.operator.Wish.TheVariants.{Forget, Promote};
+    ghost use Rattle.nn_drive.specs.declared.operator.Wish.TheVariants.{GoOn, Promote};
 
-    ghost asks = { λ o x n w p. (w ≡ Promote → n ≡ 0) × (n ≡ 0 → w ≡ Promote) × (w ≢ Forget) };
+    ghost asks = { λ o x n w p. (w ≡ Promote → n ≡ 0) × (n ≡ 0 → w ≡ Promote) × (w ≢ Promote → w ≡ GoOn) };
 
     fn ask(&mut self, _standby: &Standby, running: usize) -> Wish {
         if running == 0 {

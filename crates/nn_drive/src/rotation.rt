@@ -4,12 +4,13 @@ ghost use Rattle.nn_feed.specs.Ends.{GivesWhatIsFed};
 ghost use Rattle.nn_tailer.specs.Refusals.{has_place};
 ghost use Rattle.nn_tailer.specs.Tailing.{has_begun};
 ghost use Rattle.nn_tailer.specs.declared.standby.Choice.TheVariants.{Lane};
+ghost use Rattle.nn_drive.specs.declared.operator.Wish.TheVariants.{Hold};
 ghost use Rattle.nn_drive.specs.Driven.{Went, WentUntil};
 ghost use Rattle.nn_drive.specs.Feeding.{failures_of};
 ghost use Rattle.nn_drive.specs.Refusals.{MayCome, IsSameFault};
 ghost use Rattle.nn_drive.specs.Rounds.{Makes, HasStepped, HasTried, IsRound};
 ghost use Rattle.nn_drive.specs.Served.{Rotates};
-ghost use Rattle.nn_drive.specs.Serving.{Heeds, WasShown, WishesAt};
+ghost use Rattle.nn_drive.specs.Serving.{KeepsNamespace, WasShown, WishesAt, left_by};
 
 use crate::driving::DriveFault;
 use crate::operator::{Operator, Wish};
@@ -73,6 +74,7 @@ fn take_messages<T: SegmentSource>(
     requires some { 1 ≤ most }
     ensures went { Went T.gives T.failures source.old standby.old source.new standby.new }
     ensures tried { IfOk result (λ _. HasTried standby.old dn standby.new) }
+    ensures kept { IfOk result (λ _. KeepsNamespace standby.old standby.new) }
     ensures until { IfErr result (λ fault. WentUntil T.gives T.failures source.old standby.old source.new fault) }
 {
     for taken in 0..most {
@@ -112,15 +114,36 @@ fn take_edits<'a, R: Wait>(
     Ok(most)
 }
 
+// The same, unless it is wished that the log be held.
+fn take_log<'a, R: Wait>(
+    standby: &mut Standby,
+    end: &mut FeedEnd<'a, R>,
+    wish: Wish,
+    most: usize,
+) -> Result<usize, DriveFault>
+    requires { has_begun standby.old ≡ false }
+    ensures went { Went GivesWhatIsFed failures_of end.old standby.old end.new standby.new }
+    ensures stepped { IfOk result (λ _. HasStepped standby.old standby.new) }
+    ensures held { IfOk result (λ _. wish ≡ Hold → KeepsNamespace standby.old standby.new) }
+    ensures until { IfErr result (λ fault. WentUntil GivesWhatIsFed failures_of end.old standby.old end.new fault) }
+{
+    if let Wish::Hold = wish {
+        return Ok(0);
+    }
+    take_edits(standby, end, most)
+}
+
 // Each lane in turn, and behind it as many steps of the log, at most, as the lane gave messages. Answers how many messages
 // came.
 fn take_lanes<'a, R: Wait>(
     standby: &mut Standby,
     end: &mut FeedEnd<'a, R>,
+    wish: Wish,
 ) -> Result<usize, DriveFault>
     requires { has_begun standby.old ≡ false }
     ensures went { Went GivesWhatIsFed failures_of end.old standby.old end.new standby.new }
     ensures visited { IfOk result (λ _. IsRound standby.old standby.new) }
+    ensures held { IfOk result (λ _. wish ≡ Hold → KeepsNamespace standby.old standby.new) }
     ensures until { IfErr result (λ fault. WentUntil GivesWhatIsFed failures_of end.old standby.old end.new fault) }
 {
     let lanes = standby.lanes();
@@ -128,7 +151,7 @@ fn take_lanes<'a, R: Wait>(
     for i in 0..lanes {
         let most = standby.ends()[i].capacity().max(1);
         let taken = take_messages(standby, end, (i + 1) as u16, most)?;
-        take_edits(standby, end, taken)?;
+        take_log(standby, end, wish, taken)?;
         came = came.saturating_add(taken);
     }
     Ok(came)
@@ -138,15 +161,17 @@ fn take_lanes<'a, R: Wait>(
 fn take_round<'a, R: Wait>(
     standby: &mut Standby,
     end: &mut FeedEnd<'a, R>,
+    wish: Wish,
 ) -> Result<bool, DriveFault>
     requires { has_begun standby.old ≡ false }
     ensures went { Went GivesWhatIsFed failures_of end.old standby.old end.new standby.new }
     ensures visited { IfOk result (λ _. IsRound standby.old standby.new) }
+    ensures held { IfOk result (λ _. wish ≡ Hold → KeepsNamespace standby.old standby.new) }
     ensures until { IfErr result (λ fault. WentUntil GivesWhatIsFed failures_of end.old standby.old end.new fault) }
 {
     let lanes = standby.lanes();
-    let edits = take_edits(standby, end, lanes)?;
-    let messages = take_lanes(standby, end)?;
+    let edits = take_log(standby, end, wish, lanes)?;
+    let messages = take_lanes(standby, end, wish)?;
     Ok(edits.max(messages) > 0)
 }
 
@@ -160,7 +185,7 @@ fn still_running(started: usize, ended: &AtomicU64) -> usize
 
 // Forgets the history, where that was wished.
 fn forget_wished(standby: &mut Standby, wish: Wish)
-    ensures { Heeds wish standby.old standby.new }
+    ensures { standby.new ≡ left_by wish standby.old }
 {
     if let Wish::Forget = wish {
         standby.forget_history();
@@ -174,7 +199,8 @@ fn forget_wished(standby: &mut Standby, wish: Wish)
 /// until it is empty or gave as many messages as it holds; and after each lane it makes at most as many steps of the log as
 /// the lane gave messages. So a lane that is never empty keeps back neither the log nor another lane, and a log that is
 /// always ready keeps back no lane. The log is left alone while no transaction is in hand and nothing lies in its feed: a
-/// slow source keeps back no message. Where a whole rotation brought nothing, it waits, and longer each time.
+/// slow source keeps back no message; and so it is where the operator wished that it be held. Where a whole rotation brought
+/// nothing, it waits, and longer each time.
 pub(crate) fn rotate<'a, O: Operator, R: Wait>(
     rt: &R,
     standby: &mut Standby,
@@ -196,7 +222,7 @@ pub(crate) fn rotate<'a, O: Operator, R: Wait>(
             return Ok(());
         }
         forget_wished(standby, wish);
-        let has_come = take_round(standby, end)?;
+        let has_come = take_round(standby, end, wish)?;
         waiting.wait_unless(rt, has_come);
     }
     unreachable!()

@@ -7,6 +7,8 @@ mod drive;
 #[cfg(test)]
 mod feed;
 #[cfg(test)]
+mod hold;
+#[cfg(test)]
 mod idle;
 #[cfg(test)]
 mod lane;

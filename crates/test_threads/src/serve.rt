@@ -57,7 +57,7 @@ const MOST_BLOCKS: usize = 1_000_000;
 
 // A DataNode that gives one report again and again, so often, and then none.
 #[derive(Drop)]
-struct DataNode {
+pub struct DataNode {
     shared: Arc<Shared, Global>,
     report: Report,
     left: u64,
@@ -94,9 +94,9 @@ impl ReportSource for DataNode {
 // thread waited in vain. It shows the sources how far the log has come, or how many messages each DataNode has sent, and in
 // the end that it wished.
 #[derive(Drop)]
-struct Until {
+pub struct Until {
     shared: Arc<Shared, Global>,
-    nodes: u16,
+    pub nodes: u16,
     messages: u64,
     txid: u64,
     shows_messages: bool,
@@ -144,7 +144,7 @@ impl Operator for Saving {
 }
 
 // How many messages each of the first DataNodes has sent at least.
-fn least_sent(standby: &Standby, nodes: u16) -> u64 {
+pub fn least_sent(standby: &Standby, nodes: u16) -> u64 {
     let mut least = u64::MAX;
     for i in 0..nodes {
         least = least.min(standby.shadow().last_number(i.saturating_add(1)));
@@ -216,7 +216,7 @@ impl Hoarding {
 
 // A standby in service, and what comes of it.
 #[derive(Clone, Copy)]
-struct Service {
+pub struct Service {
     name: &'static str,
     nodes: u16,
     // How many reports each DataNode has, or the first one if it has others; and whether it stays in its last call until it
@@ -246,7 +246,7 @@ struct Service {
 
 // Two DataNodes that never end. Each segment is held back until the one before it was applied: so a lane that is never
 // empty keeps back no log.
-const ENDLESS: Service = Service {
+pub const ENDLESS: Service = Service {
     name: "endless",
     nodes: 2,
     reports: u64::MAX,
@@ -552,7 +552,7 @@ fn is_whole<R: Wait>(service: &Service, unserved: &Unserved<'_, Watched, DataNod
     started == 0 && back == nodes && unserved.source.is_some()
 }
 
-fn operator_of(service: &Service, shared: &Arc<Shared, Global>) -> Option<Until> {
+pub fn operator_of(service: &Service, shared: &Arc<Shared, Global>) -> Option<Until> {
     Some(Until {
         shared: Arc::try_clone(shared).ok()?,
         nodes: service.nodes,
@@ -563,7 +563,7 @@ fn operator_of(service: &Service, shared: &Arc<Shared, Global>) -> Option<Until>
 }
 
 // The answer of `serve`, over a new standby or one that starts from this image. The standby is made last.
-fn served<'a, O: Operator, R: Threads + Wait + Copy + Send + Drop + 'static>(
+pub fn served<'a, O: Operator, R: Threads + Wait + Copy + Send + Drop + 'static>(
     rt: &'a R,
     alloc: Global,
     service: &Service,

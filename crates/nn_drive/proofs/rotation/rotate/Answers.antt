@@ -27,7 +27,7 @@ returns-in_err-has_come-clause-gone g c =
     let k = obeys g.O.Operator.asks GivesWhatIsFed failures_of c.args.started c.args.end.now c.loop.end c.args.standby.now c.loop.standby c.args.operator.now c.loop.operator c.ask-wish.new.self c.forget_wished.new.standby c.still_running-running.result c.still_running-running.ensures
     c.ask-wish.result c.in_default.not-Promote c.ask-wish.ensures c.forget_wished.ensures c.loop.invariant in
     let is : c.from_residual.result ≡ Err c.in_err-has_come.field-0.0 = grind arith in
-    rw is (goes_round g.O.Operator.asks GivesWhatIsFed failures_of c.args.started c.args.end.now c.loop.end c.take_round.new.end c.args.standby.now c.forget_wished.new.standby c.take_round.new.standby c.args.operator.now c.ask-wish.new.self k c.take_round.ensures.went)
+    rw is (goes_round g.O.Operator.asks GivesWhatIsFed failures_of c.args.started c.args.end.now c.loop.end c.take_round.new.end c.args.standby.now c.forget_wished.new.standby c.take_round.new.standby c.args.operator.now c.ask-wish.new.self c.ask-wish.result k c.take_round.ensures.went)
 
 pub returns-in_err-has_come-clause-until : goal.returns-in_err-has_come-clause-until
 returns-in_err-has_come-clause-until g c =
@@ -42,4 +42,4 @@ pub loop-preserved : goal.loop-preserved
 loop-preserved g c =
     let k = obeys g.O.Operator.asks GivesWhatIsFed failures_of c.args.started c.args.end.now c.loop.end c.args.standby.now c.loop.standby c.args.operator.now c.loop.operator c.ask-wish.new.self c.forget_wished.new.standby c.still_running-running.result c.still_running-running.ensures
     c.ask-wish.result c.in_default.not-Promote c.ask-wish.ensures c.forget_wished.ensures c.loop.invariant in
-    next_round g.O.Operator.asks GivesWhatIsFed failures_of c.args.started c.args.end.now c.loop.end c.take_round.new.end c.args.standby.now c.forget_wished.new.standby c.take_round.new.standby c.args.operator.now c.ask-wish.new.self k c.take_round.ensures.went c.in_ok-has_come.ensures.visited
+    next_round g.O.Operator.asks GivesWhatIsFed failures_of c.args.started c.args.end.now c.loop.end c.take_round.new.end c.args.standby.now c.forget_wished.new.standby c.take_round.new.standby c.args.operator.now c.ask-wish.new.self c.ask-wish.result k c.take_round.ensures.went c.in_ok-has_come.ensures.visited c.in_ok-has_come.ensures.held

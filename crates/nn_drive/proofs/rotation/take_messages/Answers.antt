@@ -1,10 +1,10 @@
 use Rattle.std.proofs.Common.{◌∙◌, ◌≡◌, Err, arith}
-use Rattle.nn_drive.proofs.Rounds.{none_stepped, one_tried, tried_steps}
+use Rattle.nn_drive.proofs.Rounds.{keeps_same, lane_keeps, none_stepped, one_tried, tried_steps}
 use Rattle.nn_drive.proofs.Steps.{went_nowhere, went_on, went_until, still_place}
 use Rattle.nn_drive.proofs.rotation.take_messages.Goals as goal
 
 pub loop-taken-init : goal.loop-taken-init
-loop-taken-init g c = (went_nowhere g.T.SegmentSource.gives g.T.SegmentSource.failures c.args.source.now c.args.standby.now, none_stepped c.args.standby.now, λ some. absurd (omega (arith, some)))
+loop-taken-init g c = (went_nowhere g.T.SegmentSource.gives g.T.SegmentSource.failures c.args.source.now c.args.standby.now, none_stepped c.args.standby.now, λ some. absurd (omega (arith, some)), keeps_same c.args.standby.now)
 
 pub take_step-requires-clause-serving : goal.take_step-requires-clause-serving
 take_step-requires-clause-serving g c = c.loop-taken.invariant.0.2.begun ∙ c.requires.serving
@@ -30,6 +30,12 @@ pub returns-then-not-has_come-clause-tried : goal.returns-then-not-has_come-clau
 returns-then-not-has_come-clause-tried g c =
     one_tried c.args.standby.now c.loop-taken.standby c.take_step.new.standby c.args.dn c.loop-taken.invariant.1 c.in_ok-has_come.ensures.made
 
+pub returns-then-not-has_come-clause-kept : goal.returns-then-not-has_come-clause-kept
+returns-then-not-has_come-clause-kept g c = lane_keeps c.args.standby.now c.loop-taken.standby c.take_step.new.standby c.args.dn c.loop-taken.invariant.3 c.in_ok-has_come.ensures.made
+
+pub returns-clause-kept : goal.returns-clause-kept
+returns-clause-kept g c = c.loop-taken.invariant.3
+
 pub returns-clause-tried : goal.returns-clause-tried
 returns-clause-tried g c = c.loop-taken.invariant.2 (omega (arith, c.requires.some, c.loop-taken-test.false))
 
@@ -39,4 +45,5 @@ loop-taken-preserved g c =
       went_on g.T.SegmentSource.gives g.T.SegmentSource.failures c.args.source.now c.loop-taken.source c.take_step.new.source c.args.standby.now c.loop-taken.standby c.take_step.new.standby c.loop-taken.invariant.0 c.take_step.ensures.went,
       tried_steps c.args.standby.now c.take_step.new.standby c.args.dn t,
       λ _. t,
+      lane_keeps c.args.standby.now c.loop-taken.standby c.take_step.new.standby c.args.dn c.loop-taken.invariant.3 c.in_ok-has_come.ensures.made,
     )

@@ -1,14 +1,15 @@
 //! A standby in service. Two DataNodes report from threads of their own, for as long as they run, and the log of the active
 //! NameNode comes from one more. An operator writes the history into a journal and a checkpoint after each segment, and takes
-//! over at transaction 11.
+//! over at transaction 11. A checkpoint is written in parts: it holds the log, and no report waits for it.
 ghost use Rattle.std.specs.Prelude.{◌≤◌, length, IfSome};
 
 use nn_device::{Page, Writer};
 use nn_drive::{Operator, ReportSource, Served, Wish, serve, with_lanes};
+use nn_image::Saving;
 use nn_listing::put_history;
 use nn_segment::{Item, MemorySource, Parsed, SegmentSource, SourceFault};
 use nn_tailer::Standby;
-use nn_types::{BlockId, Event, GenerationStamp, Kind, Length, Report, Settings};
+use nn_types::{BlockId, Event, GenerationStamp, Kind, Length, Report, Settings, Txid};
 use std::alloc::Global;
 use std::sync::atomic::{AtomicBool, AtomicU64, Ordering};
 use std::sync::{Arc, Wait};
@@ -17,6 +18,9 @@ use std::thread::Threads;
 
 /// The transaction at which the standby takes over.
 const TAKEOVER: u64 = 11;
+
+/// The paths of a part of a checkpoint. 1,000 of them take half a millisecond.
+const PART: usize = 1000;
 
 // The segments of the log: the name of each, and its text.
 const LOG: &[(&str, &str)] = &[
@@ -112,6 +116,14 @@ impl ReportSource for DataNode {
     }
 }
 
+/// A checkpoint of which a part was written.
+#[derive(Drop)]
+struct Checkpoint {
+    last: u64,
+    saving: Saving,
+    image: Writer<Vec<u8>>,
+}
+
 /// Writes the history into a journal, and a checkpoint after each segment. Takes over at the transaction, once enough blocks
 /// are safe: it fences the active NameNode, which ends the log, and asks for the promotion.
 #[derive(Drop)]
@@ -119,6 +131,7 @@ pub struct Failover {
     alloc: Global,
     told: Arc<Told, Global>,
     saved: u64,
+    checkpoint: Option<Checkpoint>,
     /// The last txid and the image of each checkpoint.
     pub checkpoints: Vec<(u64, Vec<u8>)>,
     /// The history so far, a line for each event.
@@ -137,8 +150,13 @@ impl Operator for Failover {
             self.told.fenced.store(true, Ordering::SeqCst);
             return Wish::Promote;
         }
-        if last > self.saved && last < TAKEOVER && standby.in_hand() == 0 {
-            self.save(standby, last);
+        if let Some(begun) = self.checkpoint.take() {
+            self.write_part(standby, begun);
+        } else if last > self.saved && last < TAKEOVER && standby.in_hand() == 0 {
+            self.begin(standby, last);
+        }
+        if self.checkpoint.is_some() {
+            return Wish::Hold;
         }
         if !self.record(standby.shadow().history()) {
             return Wish::GoOn;
@@ -157,6 +175,7 @@ impl Failover {
             alloc,
             told: Arc::new(alloc, told).ok()?,
             saved: 0,
+            checkpoint: None,
             checkpoints: Vec::new(alloc),
             journal: Writer::new(Vec::new(alloc)),
         })
@@ -170,12 +189,45 @@ impl Failover {
     }
 
     // Where memory is refused, the next rotation tries again.
-    fn save(&mut self, standby: &Standby, last: u64) {
-        let mut image = Writer::new(Vec::new(self.alloc));
-        let Ok(()) = standby.checkpoint(self.alloc, &mut image) else {
+    fn begin(&mut self, standby: &Standby, last: u64) {
+        let Some(txid) = Txid::new(last) else {
             return;
         };
-        let Ok(()) = self.checkpoints.push((last, image.into_inner())) else {
+        let namespace = standby.shadow().namespace();
+        let mut image = Writer::new(Vec::new(self.alloc));
+        let Ok(saving) = Saving::begin(self.alloc, namespace, txid, &mut image) else {
+            return;
+        };
+        self.checkpoint = Some(Checkpoint {
+            last,
+            saving,
+            image,
+        });
+    }
+
+    // The log was held since the part before, so the namespace is the same.
+    fn write_part(&mut self, standby: &Standby, begun: Checkpoint) {
+        let Checkpoint {
+            last,
+            saving,
+            mut image,
+        } = begun;
+        let namespace = standby.shadow().namespace();
+        match saving.write_some(self.alloc, namespace, &mut image, PART) {
+            Ok(Some(saving)) => {
+                self.checkpoint = Some(Checkpoint {
+                    last,
+                    saving,
+                    image,
+                });
+            }
+            Ok(None) => self.keep(last, image.into_inner()),
+            Err(_) => {}
+        }
+    }
+
+    fn keep(&mut self, last: u64, image: Vec<u8>) {
+        let Ok(()) = self.checkpoints.push((last, image)) else {
             return;
         };
         self.saved = last;

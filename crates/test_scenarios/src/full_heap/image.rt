@@ -1,18 +1,21 @@
-//! `save`, `load` and `rewrite`.
+//! `save`, an image in parts, `load` and `rewrite`.
 use crate::full_heap::heap::Heap;
 use crate::full_heap::lines::Lines;
 use crate::full_heap::namespace;
 use crate::full_heap::scenario::{Halt, Scenario};
 use crate::full_heap::trial::{Answer, Changing, Fate, change};
 use nn_device::{Reader, Writer};
-use nn_image::{ImageFault, RewriteFault, SaveFault, load, rewrite, save};
+use nn_image::{ImageFault, RewriteFault, SaveFault, Saving, load, rewrite, save};
 use nn_tree::Namespace;
 use nn_types::Txid;
 use std::alloc::Global;
 use std::mem;
 
 // What is printed for each call.
-const NAMES: [&str; 3] = ["save", "load", "rewrite"];
+const NAMES: [&str; 4] = ["save", "save in parts", "load", "rewrite"];
+
+// More parts than the image has.
+const PARTS: usize = 1_000;
 
 // Room for the image.
 const ROOM: usize = 65_536;
@@ -32,11 +35,54 @@ impl Changing for Save<'_> {
         let mut writer = Writer::new(mem::replace(image, Vec::new(self.alloc)));
         let saved = save(self.alloc, self.namespace, self.txid, &mut writer);
         *image = writer.into_inner();
-        match saved {
-            Ok(()) => Answer::Done,
-            Err(SaveFault::OutOfMemory) => Answer::OutOfMemory,
-            Err(_) => Answer::Other,
+        answer_of(saved)
+    }
+
+    // What was written is a prefix of the whole image.
+    fn is_unchanged(&self, image: &Vec<u8>, whole: &Vec<u8>) -> bool {
+        whole.starts_with(image)
+    }
+}
+
+fn answer_of(saved: Result<(), SaveFault>) -> Answer {
+    match saved {
+        Ok(()) => Answer::Done,
+        Err(SaveFault::OutOfMemory) => Answer::OutOfMemory,
+        Err(SaveFault::WriteFault { .. }) => Answer::Other,
+    }
+}
+
+// The same, a path a part.
+#[derive(Clone, Copy)]
+struct SaveInParts<'a>(Save<'a>);
+
+impl SaveInParts<'_> {
+    fn save(&self, writer: &mut Writer<Vec<u8>>) -> Result<(), SaveFault> {
+        let Save {
+            alloc,
+            namespace,
+            txid,
+        } = self.0;
+        let mut saving = Saving::begin(alloc, namespace, txid, writer)?;
+        for _ in 0..PARTS {
+            let Some(next) = saving.write_some(alloc, namespace, writer, 1)? else {
+                return Ok(());
+            };
+            saving = next;
         }
+        Ok(())
+    }
+}
+
+impl Changing for SaveInParts<'_> {
+    type Subject = Vec<u8>;
+
+    fn call(&self, image: &mut Vec<u8>) -> Answer {
+        image.clear();
+        let mut writer = Writer::new(mem::replace(image, Vec::new(self.0.alloc)));
+        let saved = self.save(&mut writer);
+        *image = writer.into_inner();
+        answer_of(saved)
     }
 
     // What was written is a prefix of the whole image.
@@ -141,14 +187,14 @@ pub fn save_and_load(
     lines: &mut Lines,
 ) -> Result<(), Halt> {
     let whole = image_of(alloc, scenario)?;
-    let saved = save_again(alloc, is_ample, scenario, &whole)?;
+    let (saved, in_parts) = save_again(alloc, is_ample, scenario, &whole)?;
     let loaded = load_whole(alloc, is_ample, scenario, &whole)?;
     let rewrite = Rewrite {
         alloc,
         image: &whole,
     };
     let rewritten = write_again(alloc, is_ample, &rewrite, &whole)?;
-    lines.push(&NAMES, &[saved, loaded, rewritten])
+    lines.push(&NAMES, &[saved, in_parts, loaded, rewritten])
 }
 
 fn save_again(
@@ -156,7 +202,7 @@ fn save_again(
     is_ample: bool,
     scenario: &Scenario,
     whole: &Vec<u8>,
-) -> Result<Fate, Halt> {
+) -> Result<(Fate, Fate), Halt> {
     let namespace = scenario.after_the_first(alloc)?;
     let save = Save {
         alloc,
@@ -164,8 +210,9 @@ fn save_again(
         txid: scenario.image_txid()?,
     };
     let saved = write_again(alloc, is_ample, &save, whole);
+    let in_parts = write_again(alloc, is_ample, &SaveInParts(save), whole);
     drop(namespace);
-    saved
+    Ok((saved?, in_parts?))
 }
 
 /// Makes a call that writes the whole image.

@@ -65,7 +65,8 @@ impl Model for Service {
 
 impl Service {
     /// A service that begins at a namespace, of which this was the last transaction (0 where none was). No DataNode has sent
-    /// anything. With `history` it tells what it does as it happens. The version is the program's.
+    /// anything. With `history` it tells what it does as it happens. The version is the program's. Where memory is refused the
+    /// namespace comes back.
     pub fn begin(
         alloc: Global,
         namespace: Namespace,
@@ -75,7 +76,8 @@ impl Service {
         version: &'static str,
     ) -> Result<Service, FromFault>
         requires { txid < 2 ^ 63 }
-        ensures { IfOk result (λ service. IsAt (record { permille = settings.permille; min = settings.min; history = history; version = version.now }) service (begun namespace txid)) }
+        ensures ok { IfOk result (λ service. IsAt (record { permille = settings.permille; min = settings.min; history = history; version = version.now }) service (begun namespace txid)) }
+        ensures back { IfErr result (λ fault. fault.namespace ≡ namespace) }
     {
         let shadow = Shadow::from(alloc, namespace, txid, DATANODES, settings)?;
         Ok(Service {

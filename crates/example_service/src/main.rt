@@ -93,10 +93,7 @@ fn serve_to_failover<R: Print + Threads + Wait + Copy + Send + Drop + 'static>(
     let Some(settings) = Settings::new(1000, 2) else {
         bail!("no settings");
     };
-    let Some(mut operator) = Failover::new(alloc) else {
-        bail!("out of memory");
-    };
-    let Some(served) = promoted(rt, alloc, settings, &mut operator) else {
+    let Some((served, operator)) = promoted(rt, alloc, settings) else {
         bail!("the standby was not promoted");
     };
     show_failover(rt, alloc, operator, served)

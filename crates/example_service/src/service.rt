@@ -4,12 +4,14 @@
 ghost use Rattle.std.specs.Prelude.{◌≤◌, length, IfSome};
 
 use nn_device::{Page, Writer};
-use nn_drive::{Operator, ReportSource, Served, Wish, serve, with_lanes};
-use nn_image::Saving;
+use nn_drive::{
+    CheckpointOperator, CheckpointOutcome, Checkpointing, EndedCheckpoint, Operator, ReportSource,
+    Served, Wish, serve, with_lanes,
+};
 use nn_listing::put_history;
 use nn_segment::{Item, MemorySource, Parsed, SegmentSource, SourceFault};
 use nn_tailer::Standby;
-use nn_types::{BlockId, Event, GenerationStamp, Kind, Length, Report, Settings, Txid};
+use nn_types::{BlockId, Event, GenerationStamp, Kind, Length, Report, Settings};
 use std::alloc::Global;
 use std::sync::atomic::{AtomicBool, AtomicU64, Ordering};
 use std::sync::{Arc, Wait};
@@ -116,22 +118,13 @@ impl ReportSource for DataNode {
     }
 }
 
-/// A checkpoint of which a part was written.
-#[derive(Drop)]
-struct Checkpoint {
-    last: u64,
-    saving: Saving,
-    image: Writer<Vec<u8>>,
-}
-
-/// Writes the history into a journal, and a checkpoint after each segment. Takes over at the transaction, once enough blocks
-/// are safe: it fences the active NameNode, which ends the log, and asks for the promotion.
+/// Writes the history into a journal, and wants a checkpoint after each segment. Takes over at the transaction, once enough
+/// blocks are safe: it fences the active NameNode, which ends the log, and asks for the promotion.
 #[derive(Drop)]
 pub struct Failover {
     alloc: Global,
     told: Arc<Told, Global>,
     saved: u64,
-    checkpoint: Option<Checkpoint>,
     /// The last txid and the image of each checkpoint.
     pub checkpoints: Vec<(u64, Vec<u8>)>,
     /// The history so far, a line for each event.
@@ -145,23 +138,38 @@ impl Operator for Failover {
     ghost asks = { λ o x n w p. w ≡ Promote → 11 ≤ x.shadow.last };
 
     fn ask(&mut self, standby: &Standby, _running: usize) -> Wish {
-        let last = standby.shadow().last_txid();
-        if last >= TAKEOVER && !standby.shadow().safe_mode().on {
+        let shadow = standby.shadow();
+        if shadow.last_txid() >= TAKEOVER && !shadow.safe_mode().on {
             self.told.fenced.store(true, Ordering::SeqCst);
             return Wish::Promote;
         }
-        if let Some(begun) = self.checkpoint.take() {
-            self.write_part(standby, begun);
-        } else if last > self.saved && last < TAKEOVER && standby.in_hand() == 0 {
-            self.begin(standby, last);
-        }
-        if self.checkpoint.is_some() {
-            return Wish::Hold;
-        }
-        if !self.record(standby.shadow().history()) {
+        if !self.record(shadow.history()) {
             return Wish::GoOn;
         }
         Wish::Forget
+    }
+}
+
+impl CheckpointOperator<Vec<u8>> for Failover {
+    ghost use Rattle.std.specs.Prelude.{⊤};
+
+    ghost wants = { λ o x w p. ⊤ };
+
+    ghost hears = { λ o w e p. ⊤ };
+
+    fn due(&mut self, standby: &Standby) -> Option<Vec<u8>> {
+        let last = standby.shadow().last_txid();
+        if last <= self.saved || last >= TAKEOVER || standby.in_hand() > 0 {
+            return None;
+        }
+        Some(Vec::new(self.alloc))
+    }
+
+    // One that was not written is due again at the next rotation.
+    fn ended(&mut self, image: Vec<u8>, checkpoint: EndedCheckpoint) {
+        if checkpoint.outcome == CheckpointOutcome::Written {
+            self.keep(checkpoint.txid.get(), image);
+        }
     }
 }
 
@@ -175,7 +183,6 @@ impl Failover {
             alloc,
             told: Arc::new(alloc, told).ok()?,
             saved: 0,
-            checkpoint: None,
             checkpoints: Vec::new(alloc),
             journal: Writer::new(Vec::new(alloc)),
         })
@@ -188,44 +195,6 @@ impl Failover {
         page.end(&mut self.journal).is_ok()
     }
 
-    // Where memory is refused, the next rotation tries again.
-    fn begin(&mut self, standby: &Standby, last: u64) {
-        let Some(txid) = Txid::new(last) else {
-            return;
-        };
-        let namespace = standby.shadow().namespace();
-        let mut image = Writer::new(Vec::new(self.alloc));
-        let Ok(saving) = Saving::begin(self.alloc, namespace, txid, &mut image) else {
-            return;
-        };
-        self.checkpoint = Some(Checkpoint {
-            last,
-            saving,
-            image,
-        });
-    }
-
-    // The log was held since the part before, so the namespace is the same.
-    fn write_part(&mut self, standby: &Standby, begun: Checkpoint) {
-        let Checkpoint {
-            last,
-            saving,
-            mut image,
-        } = begun;
-        let namespace = standby.shadow().namespace();
-        match saving.write_some(self.alloc, namespace, &mut image, PART) {
-            Ok(Some(saving)) => {
-                self.checkpoint = Some(Checkpoint {
-                    last,
-                    saving,
-                    image,
-                });
-            }
-            Ok(None) => self.keep(last, image.into_inner()),
-            Err(_) => {}
-        }
-    }
-
     fn keep(&mut self, last: u64, image: Vec<u8>) {
         let Ok(()) = self.checkpoints.push((last, image)) else {
             return;
@@ -235,13 +204,13 @@ impl Failover {
     }
 }
 
-/// A standby in service, up to its promotion.
+/// A standby in service, up to its promotion, and its operator then.
 pub fn promoted<R: Threads + Wait + Copy + Send + Drop + 'static>(
     rt: &R,
     alloc: Global,
     settings: Settings,
-    operator: &mut Failover,
-) -> Option<Served<DataNode>> {
+) -> Option<(Served<DataNode>, Failover)> {
+    let failover = Failover::new(alloc)?;
     let Ok((workers, ends)) = with_lanes(alloc, data_nodes(alloc)?, 64) else {
         return None;
     };
@@ -251,8 +220,10 @@ pub fn promoted<R: Threads + Wait + Copy + Send + Drop + 'static>(
     let Ok(standby) = Standby::new(alloc, ends, settings) else {
         return None;
     };
-    let log = active_log(alloc, &operator.told)?;
-    serve(rt, alloc, standby, log, workers, operator).ok()
+    let log = active_log(alloc, &failover.told)?;
+    let mut operator = Checkpointing::new(alloc, failover, PART);
+    let served = serve(rt, alloc, standby, log, workers, &mut operator).ok()?;
+    Some((served, operator.into_operator()))
 }
 
 fn active_log(alloc: Global, told: &Arc<Told, Global>) -> Option<ActiveLog> {

@@ -1,5 +1,5 @@
 -- What an operator is shown, in turn, while its standby goes on; and what it wished is done.
-use Rattle.std.specs.Prelude.{◌≢◌}
+use Rattle.std.specs.Prelude.{◌≢◌, true}
 use Rattle.std.proofs.Common.{◌≡◌, ℕ, ◌≤◌, List, [], ◌∷◌, ◌++◌, refl, sym, ap, ◌∙◌, subst, arith, append_assoc, append-nil}
 use Rattle.nn_feed.specs.Ends.{GivesWhatIsFed}
 use Rattle.nn_feed.specs.declared.ends.FeedEnd.{FeedEnd}
@@ -11,9 +11,9 @@ use Rattle.nn_drive.specs.Driven.{Goes, Went}
 use Rattle.nn_drive.specs.Feeding.{failures_of}
 use Rattle.nn_drive.specs.Rounds.{IsRound}
 use Rattle.nn_drive.specs.Served.{Rotates}
-use Rattle.nn_drive.specs.Serving.{KeepsNamespace, Shown, forgotten, forgotten_by, answered, last_shown, left_by, left_of, IsNext, AreInTurn, GoesOn, WasShown, WishesAt}
+use Rattle.nn_drive.specs.Serving.{KeepsNamespace, Shown, forgotten, forgotten_by, answered, last_shown, left_by, left_of, holds, IsNext, AreInTurn, GoesOn, WasShown, WishesAt}
 use Rattle.nn_drive.specs.declared.operator.Wish.{Wish}
-use Rattle.nn_drive.specs.declared.operator.Wish.TheVariants.{GoOn, Forget, Hold, Promote}
+use Rattle.nn_drive.specs.declared.operator.Wish.TheVariants.{GoOn, Forget, Hold, ForgetAndHold, Promote}
 use Rattle.nn_drive.proofs.Kept.{goes_after}
 use Rattle.nn_drive.proofs.Steps.{goes_nowhere, goes_then}
 
@@ -78,6 +78,8 @@ module _ {O : Type 0} (asks : O → Tailer → ℕ → Wish → O → Type 0) wh
     obeys y running few Hold other a left r = asked_once y running Hold few other a left (λ past. ap (λ (h : History). after h y) (append-nil past) ∙ ap (after past) left) r
     obeys y running few Forget other a left r =
         asked_once y running Forget few other a left (λ past. ap (after (past ++ x.shadow.history)) left ∙ ap (λ (h : History). record x { shadow = record x.shadow { history = h } }) (append-nil (past ++ x.shadow.history))) r
+    obeys y running few ForgetAndHold other a left r =
+        asked_once y running ForgetAndHold few other a left (λ past. ap (after (past ++ x.shadow.history)) left ∙ ap (λ (h : History). record x { shadow = record x.shadow { history = h } }) (append-nil (past ++ x.shadow.history))) r
     obeys y running few Promote other a left r = absurd (other refl)
 
     -- it wished a promotion
@@ -112,19 +114,23 @@ module _ {O : Type 0} (asks : O → Tailer → ℕ → Wish → O → Type 0) wh
     pub goes_round : Rotates gives failures s old u z (λ shown answers. WasShown asks workers old o shown answers z p)
     goes_round = record { shown = r.shown; went = went_round; was = shown_round }
 
-    -- where the log was held, nothing was forgotten
-    left_held : (last : Shown) → last.wish ≡ Hold → left_of last ≡ last.standby
-    left_held last held = ap (λ w. left_by w last.standby) held
+    -- what is forgotten of a history is no part of a namespace
+    keeps_left : (w : Wish) (x v : Tailer) → KeepsNamespace (left_by w x) v → KeepsNamespace x v
+    keeps_left GoOn x v k = k
+    keeps_left Forget x v k = record { namespace = k.namespace; last = k.last }
+    keeps_left Hold x v k = k
+    keeps_left ForgetAndHold x v k = record { namespace = k.namespace; last = k.last }
+    keeps_left Promote x v k = k
 
-    is_next : (shown : List Shown) → IsLeft wish shown y → IsRound y z → (wish ≡ Hold → KeepsNamespace y z) → IsNext old shown z
+    is_next : (shown : List Shown) → IsLeft wish shown y → IsRound y z → (holds wish ≡ true → KeepsNamespace y z) → IsNext old shown z
     is_next [] left round held = absurd left
     is_next (last ∷ shown) left round held = (
       subst (λ v. IsRound v z) left.0 round,
-      λ hold. subst (λ v. KeepsNamespace v z) (left.0 ∙ left_held last hold) (held (sym left.1 ∙ hold)),
+      λ hold. keeps_left last.wish last.standby z (subst (λ v. KeepsNamespace v z) left.0 (held (ap holds (sym left.1) ∙ hold))),
     )
 
     -- a rotation more
-    pub next_round : IsRound y z → (wish ≡ Hold → KeepsNamespace y z) → Rotates gives failures s old u z (IsShownNext workers old o z p)
+    pub next_round : IsRound y z → (holds wish ≡ true → KeepsNamespace y z) → Rotates gives failures s old u z (IsShownNext workers old o z p)
     next_round round held = record { shown = r.shown; went = went_round; was = (is_next r.shown r.was.0 round held, shown_round) }
 
 -- ---- An operator that never wishes that a history be forgotten.

@@ -12,8 +12,10 @@ pub mod DriveLaws
 pub mod LawRows
 pub mod Rounds
 pub mod Serving
+pub mod Checkpoints
 pub mod Served
 pub mod ServeLaws
 pub mod RoundRows
 pub mod ServingRows
+pub mod CheckpointRows
 pub mod ServedRows

@@ -1,8 +1,7 @@
 -- What a standby in service hands back, and for each clause an example that breaks it.
-use Rattle.std.specs.Prelude.{◌≡◌, ℕ, zero, suc, ◌+◌, ◌<◌, ◌≤◌, true, false, Option, Some, None, Result, Ok, Err, IfSome, MatchOption, MatchResult, List, [], ◌∷◌, ◌++◌, length, map, count_by, refl}
+use Rattle.std.specs.Prelude.{◌≡◌, ℕ, ◌<◌, true, false, Option, Some, None, Result, Ok, Err, IfSome, MatchOption, MatchResult, List, [], ◌∷◌, ◌++◌, length, map, count_by, refl}
 use Rattle.std.specs.Iterator.{YieldsThen}
 use Rattle.std.specs.List.{list_all}
-use Rattle.std.specs.declared.thread.PromisedHandle.{PromisedHandle}
 use Rattle.std.proofs.Common.{arith, sym, ap, subst, ◌∙◌, inl, inr, append-nil, length-append, true≢false}
 use Rattle.nn_types.specs.declared.report.Report.{Report}
 use Rattle.nn_lane.specs.Ends.{LaneId, Reporting, Taking, lane_of}
@@ -18,14 +17,13 @@ use Rattle.nn_tailer.proofs.LaneSteps.{ends_same}
 use Rattle.nn_tailer.proofs.Carried.{carries_same}
 use Rattle.nn_tailer.proofs.Shadowing.{settings_same}
 use Rattle.nn_drive.specs.LaneRows.{reporting, taking}
-use Rattle.nn_drive.specs.ReportRows.{report, message}
-use Rattle.nn_drive.specs.Driven.{HasReported, IsPromised, Goes, NotDriven}
+use Rattle.nn_drive.specs.ReportRows.{message}
+use Rattle.nn_drive.specs.Driven.{HasReported, IsPromised, Goes}
 use Rattle.nn_drive.specs.Reports.{sent_after, message_of, TakesNoMore}
 use Rattle.nn_drive.specs.Serving.{Shown, WasWished}
 use Rattle.nn_drive.specs.Served.{ArePaired, StillRun, HasLeft, Rotates, PromotesOver, IsServed, GoesWith, OpenOrWished, ComesBack, IsStopped, IsUnserved}
 use Rattle.nn_drive.specs.ServeLaws.{WasAllTaken}
 use Rattle.nn_drive.specs.declared.driving.DriveFault.TheVariants as drive
-use Rattle.nn_drive.specs.declared.driving.WorkerPromise.{WorkerPromise}
 use Rattle.nn_drive.specs.declared.driving.WorkerExit.{WorkerExit}
 use Rattle.nn_drive.specs.declared.operator.Wish.{Wish}
 use Rattle.nn_drive.specs.declared.operator.Wish.TheVariants.{GoOn, Promote}

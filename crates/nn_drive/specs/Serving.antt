@@ -1,5 +1,5 @@
 -- What an operator is asked, and when a standby in service is promoted.
-use Rattle.std.specs.Prelude.{◌≡◌, ◌≢◌, ℕ, ◌≤◌, true, List, [], ◌∷◌, ◌++◌, length, map, Ok}
+use Rattle.std.specs.Prelude.{◌≡◌, ◌≢◌, ℕ, ◌≤◌, Bool, true, false, List, [], ◌∷◌, ◌++◌, length, map, Ok}
 use Rattle.std.specs.List.{All}
 use Rattle.std.specs.declared.thread.PromisedHandle.{PromisedHandle}
 use Rattle.nn_lane.specs.Ends.{Taking, got_of, counted}
@@ -21,7 +21,7 @@ use Rattle.nn_drive.specs.Rounds.{IsRound}
 use Rattle.nn_drive.specs.declared.driving.WorkerPromise.{WorkerPromise}
 use Rattle.nn_drive.specs.declared.driving.WorkerExit.{WorkerExit}
 use Rattle.nn_drive.specs.declared.operator.Wish.{Wish}
-use Rattle.nn_drive.specs.declared.operator.Wish.TheVariants.{GoOn, Forget, Hold, Promote}
+use Rattle.nn_drive.specs.declared.operator.Wish.TheVariants.{GoOn, Forget, Hold, ForgetAndHold, Promote}
 
 -- An operator was shown this standby, and this is what it wished. The log's source gave these answers since it was shown the one before
 pub record Shown : Type 0 where
@@ -35,6 +35,7 @@ abbrev pub forgotten_by : Wish → History → History
 forgotten_by GoOn history = []
 forgotten_by Forget history = history
 forgotten_by Hold history = []
+forgotten_by ForgetAndHold history = history
 forgotten_by Promote history = []
 
 -- what is left of a standby
@@ -42,10 +43,19 @@ abbrev pub left_by : Wish → Tailer → Tailer
 left_by GoOn x = x
 left_by Forget x = without_history x
 left_by Hold x = x
+left_by ForgetAndHold x = without_history x
 left_by Promote x = x
 
 abbrev pub left_of : Shown → Tailer
 left_of x = left_by x.wish x.standby
+
+-- whether the log is held by a wish
+abbrev pub holds : Wish → Bool
+holds GoOn = false
+holds Forget = false
+holds Hold = true
+holds ForgetAndHold = true
+holds Promote = false
 
 -- the namespace is the same, and so is the last transaction
 pub record KeepsNamespace (old new : Tailer) : Type 0 where
@@ -73,7 +83,7 @@ last_shown old (x ∷ shown) = after (forgotten shown) x.standby
 -- log be held, the namespace is that of the last one
 abbrev pub IsNext : Tailer → List Shown → Tailer → Type 0
 IsNext old [] x = x ≡ old
-IsNext old (last ∷ shown) x = IsRound (left_of last) x × (last.wish ≡ Hold → KeepsNamespace last.standby x)
+IsNext old (last ∷ shown) x = IsRound (left_of last) x × (holds last.wish ≡ true → KeepsNamespace last.standby x)
 
 -- Each was shown in its turn, and goes on from the one before as if it had kept what was forgotten. At most so many workers were counted as
 -- running

@@ -20,7 +20,7 @@ use Rattle.nn_drive.specs.Driven.{Goes}
 use Rattle.nn_drive.specs.Serving.{Shown, forgotten, AreInTurn, GoesOn, IsNext, WishesAt, IsDry, IsPromotedAt}
 use Rattle.nn_drive.specs.Served.{AreStarted, IsUntouched, IsRefused}
 use Rattle.nn_drive.specs.declared.operator.Wish.{Wish}
-use Rattle.nn_drive.specs.declared.operator.Wish.TheVariants.{GoOn, Forget, Hold, Promote}
+use Rattle.nn_drive.specs.declared.operator.Wish.TheVariants.{GoOn, Forget, Hold, ForgetAndHold, Promote}
 use Rattle.nn_drive.specs.declared.serving.Unserved.{Unserved}
 
 -- an operator that counts its rotations down, wishes the history to be forgotten at the last one, and a promotion at none
@@ -44,6 +44,10 @@ forgotten_in_order x y = refl
 
 nothing_is_forgotten_while_the_log_is_held : (x : Tailer) → forgotten (show x 8 Hold ∷ []) ≡ []
 nothing_is_forgotten_while_the_log_is_held x = refl
+
+-- unless both were wished
+forgotten_while_the_log_is_held : (x : Tailer) → forgotten (show x 8 ForgetAndHold ∷ []) ≡ x.shadow.history
+forgotten_while_the_log_is_held x = refl
 
 -- it does not wish it before
 not_at_once : (x : Tailer) (p : ℕ) → counts 1 x 8 Promote p → ⊥
@@ -80,6 +84,9 @@ not_with_another_namespace x n h = (h.1 refl).namespace
 
 not_with_a_transaction_more : (x : Tailer) → IsNext x (show x 8 Hold ∷ []) (record x { shadow = record x.shadow { last = x.shadow.last + 1 } }) → ⊥
 not_with_a_transaction_more x h = omega (arith, (h.1 refl).last)
+
+not_with_a_transaction_more_where_it_forgets : (x : Tailer) → IsNext x (show x 8 ForgetAndHold ∷ []) (record x { shadow = record x.shadow { last = x.shadow.last + 1 } }) → ⊥
+not_with_a_transaction_more_where_it_forgets x h = omega (arith, (h.1 refl).last)
 
 -- ---- What comes back of a service that is refused.
 

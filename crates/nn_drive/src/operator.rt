@@ -13,8 +13,10 @@ pub enum Wish {
     /// That it goes on, and forgets the history that it showed: its operator has done with it.
     Forget,
     /// That it goes on with messages alone: no step of the log is made until the operator is asked again. So the namespace stays
-    /// as it is over a checkpoint that is written in parts (`Saving` of nn_image), and no message waits for that.
+    /// as it is over a checkpoint that is written in parts, and no message waits for that. `Checkpointing` wishes so.
     Hold,
+    /// Both: that it forgets the history, and that the log is held.
+    ForgetAndHold,
     /// That it is promoted now.
     Promote,
 }

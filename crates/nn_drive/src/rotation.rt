@@ -4,13 +4,12 @@ ghost use Rattle.nn_feed.specs.Ends.{GivesWhatIsFed};
 ghost use Rattle.nn_tailer.specs.Refusals.{has_place};
 ghost use Rattle.nn_tailer.specs.Tailing.{has_begun};
 ghost use Rattle.nn_tailer.specs.declared.standby.Choice.TheVariants.{Lane};
-ghost use Rattle.nn_drive.specs.declared.operator.Wish.TheVariants.{Hold};
 ghost use Rattle.nn_drive.specs.Driven.{Went, WentUntil};
 ghost use Rattle.nn_drive.specs.Feeding.{failures_of};
 ghost use Rattle.nn_drive.specs.Refusals.{MayCome, IsSameFault};
 ghost use Rattle.nn_drive.specs.Rounds.{Makes, HasStepped, HasTried, IsRound};
 ghost use Rattle.nn_drive.specs.Served.{Rotates};
-ghost use Rattle.nn_drive.specs.Serving.{KeepsNamespace, WasShown, WishesAt, left_by};
+ghost use Rattle.nn_drive.specs.Serving.{KeepsNamespace, WasShown, WishesAt, holds, left_by};
 
 use crate::driving::DriveFault;
 use crate::operator::{Operator, Wish};
@@ -124,13 +123,13 @@ fn take_log<'a, R: Wait>(
     requires { has_begun standby.old ≡ false }
     ensures went { Went GivesWhatIsFed failures_of end.old standby.old end.new standby.new }
     ensures stepped { IfOk result (λ _. HasStepped standby.old standby.new) }
-    ensures held { IfOk result (λ _. wish ≡ Hold → KeepsNamespace standby.old standby.new) }
+    ensures held { IfOk result (λ _. holds wish ≡ true → KeepsNamespace standby.old standby.new) }
     ensures until { IfErr result (λ fault. WentUntil GivesWhatIsFed failures_of end.old standby.old end.new fault) }
 {
-    if let Wish::Hold = wish {
-        return Ok(0);
+    match wish {
+        Wish::Hold | Wish::ForgetAndHold => Ok(0),
+        Wish::GoOn | Wish::Forget | Wish::Promote => take_edits(standby, end, most),
     }
-    take_edits(standby, end, most)
 }
 
 // Each lane in turn, and behind it as many steps of the log, at most, as the lane gave messages. Answers how many messages
@@ -143,7 +142,7 @@ fn take_lanes<'a, R: Wait>(
     requires { has_begun standby.old ≡ false }
     ensures went { Went GivesWhatIsFed failures_of end.old standby.old end.new standby.new }
     ensures visited { IfOk result (λ _. IsRound standby.old standby.new) }
-    ensures held { IfOk result (λ _. wish ≡ Hold → KeepsNamespace standby.old standby.new) }
+    ensures held { IfOk result (λ _. holds wish ≡ true → KeepsNamespace standby.old standby.new) }
     ensures until { IfErr result (λ fault. WentUntil GivesWhatIsFed failures_of end.old standby.old end.new fault) }
 {
     let lanes = standby.lanes();
@@ -166,7 +165,7 @@ fn take_round<'a, R: Wait>(
     requires { has_begun standby.old ≡ false }
     ensures went { Went GivesWhatIsFed failures_of end.old standby.old end.new standby.new }
     ensures visited { IfOk result (λ _. IsRound standby.old standby.new) }
-    ensures held { IfOk result (λ _. wish ≡ Hold → KeepsNamespace standby.old standby.new) }
+    ensures held { IfOk result (λ _. holds wish ≡ true → KeepsNamespace standby.old standby.new) }
     ensures until { IfErr result (λ fault. WentUntil GivesWhatIsFed failures_of end.old standby.old end.new fault) }
 {
     let lanes = standby.lanes();
@@ -187,8 +186,9 @@ fn still_running(started: usize, ended: &AtomicU64) -> usize
 fn forget_wished(standby: &mut Standby, wish: Wish)
     ensures { standby.new ≡ left_by wish standby.old }
 {
-    if let Wish::Forget = wish {
-        standby.forget_history();
+    match wish {
+        Wish::Forget | Wish::ForgetAndHold => standby.forget_history(),
+        Wish::GoOn | Wish::Hold | Wish::Promote => {}
     }
 }
 

@@ -270,6 +270,14 @@ pub const ENDLESS: Service = Service {
     later: None,
 };
 
+/// Its operator asks for a promotion at once.
+pub const AT_ONCE: Service = Service {
+    name: "at once",
+    messages: 0,
+    txid: 0,
+    ..ENDLESS
+};
+
 // A log that is always ready keeps back no lane: its segments are passed over again and again.
 const ALWAYS_READY: Service = Service {
     name: "a log that is always ready",

@@ -1,10 +1,10 @@
 -- Where the code could not go on with a line, what it told is a front of what the definition's service tells.
-use Rattle.std.proofs.Common.{◌≡◌, List, ℕ, Bool, false, cond, length, ◌==◌, [], Option, Some, None, Ok, refl, ap, ap₂, ◌∙◌}
+use Rattle.std.proofs.Common.{◌≡◌, List, ℕ, false, length, ◌==◌, [], Some, None, Ok, ap, ap₂, ◌∙◌}
 use Rattle.nn_types.specs.declared.tx.Tx.{Tx}
 use Rattle.nn_edits.specs.Reading.{either_of_line}
 use Rattle.nn_edits.specs.declared.line.Line.TheVariants as either
 use Rattle.nn_scenario.specs.Scenario.{is_blank}
-use Rattle.nn_live.specs.Live.{Asked, Service, answers, counts_line, takes, takes_edit, takes_read, takes_torn, takes_word, tears_word}
+use Rattle.nn_live.specs.Live.{Asked, Service, answers, counts_line, takes, takes_edit, takes_read, takes_torn}
 use Rattle.nn_live.specs.Serving.{Breaks, Makes, Seen}
 use Rattle.nn_live.specs.Words.{word_in}
 use Rattle.nn_live.specs.declared.word.Word.{Word}

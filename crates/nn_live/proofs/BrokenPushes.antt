@@ -2,9 +2,9 @@
 use Rattle.std.proofs.Common.{◌≡◌, ℕ, true, List, [], ◌∷◌, ◌++◌, refl, sym, subst, ap, ◌∙◌, append_assoc, append-nil}
 use Rattle.nn_segment.specs.Lines.{newline, is_unbroken}
 use Rattle.nn_live.specs.Live.{Asked, Service, Stage, pieces, serving, takes, written_of}
-use Rattle.nn_live.specs.Serving.{Breaks, IsAt, IsFrontOf, Seen}
+use Rattle.nn_live.specs.Serving.{Breaks, IsFrontOf, Seen}
 use Rattle.nn_live.specs.Taking.{BreaksPush, CameTo, HasTorn, Left, Taking, Takes, goes_on}
-use Rattle.nn_live.proofs.Cutting.{ended, line_goes_on, none_torn, unbroken_both}
+use Rattle.nn_live.proofs.Cutting.{ended, line_goes_on, unbroken_both}
 use Rattle.nn_live.proofs.Growing.{pieces_grow, then_front}
 
 -- what the lines of these bytes make it write

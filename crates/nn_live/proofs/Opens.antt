@@ -1,5 +1,5 @@
 -- An image whose lines come one after another, in front of a service's.
-use Rattle.std.proofs.Common.{◌≡◌, ℕ, ◌+◌, ◌-◌, ◌==◌, ◌||◌, Bool, true, false, cond, not, ◌&&◌, length, List, [], ◌∷◌, ◌++◌, Option, Some, None, Result, Ok, Err, is_some, refl, sym, subst, ap, ◌∙◌, append-nil, append_assoc, codes}
+use Rattle.std.proofs.Common.{◌≡◌, ℕ, ◌-◌, ◌==◌, ◌||◌, Bool, true, false, cond, length, List, [], ◌∷◌, ◌++◌, Option, Some, None, Result, Ok, Err, is_some, refl, sym, ap, ◌∙◌, append-nil, append_assoc, codes}
 use Rattle.std.specs.Option.{ok_or}
 use Rattle.std.specs.Str.{is_utf8, chars}
 use Rattle.serde_json.specs.Data.{Data}
@@ -9,12 +9,12 @@ use Rattle.nn_tree.specs.Restore.{row_fits}
 use Rattle.std.specs.Ordering.{is_lt}
 use Rattle.nn_model.specs.declared.form.Form.{Form}
 use Rattle.nn_segment.specs.Lines.{newline, is_unbroken, joined_lines}
-use Rattle.nn_image.specs.Loading.{LoadState, TakesLine, at_header, behind_end, ends_with, fault_of, in_rows, is_first, loaded_from, refused as bad, with_txid}
+use Rattle.nn_image.specs.Loading.{LoadState, TakesLine, at_header, behind_end, ends_with, fault_of, in_rows, is_first, loaded_from, refused as bad}
 use Rattle.nn_image.specs.Reading.{all_from, at_end, by_key, by_value, fields_in, has_end, is_end_line, last_path, next_line, nothing_more, number_in, number_of, object_of, of_header, of_version, pieces_of, read_image, row_in, rows_from, value_of, with_next, with_rows, ◌then◌}
 use Rattle.nn_image.specs.declared.fault.ImageFault.{ImageFault}
 use Rattle.nn_image.specs.declared.fault.ImageFault.TheVariants.{NotHeader, BadLine, WrongOrder, CountMismatch, Truncated, BadVersion, ReadFault, OutOfMemory}
 use Rattle.nn_image.proofs.LoadedLines.{piece}
-use Rattle.nn_live.specs.Live.{Asked, Stage, begun, image_lines, loaded, loading, pieces, refused, serving, so_far, takes_line, takes_pieces}
+use Rattle.nn_live.specs.Live.{Asked, Stage, begun, image_lines, loaded, loading, pieces, refused, so_far, takes_line, takes_pieces}
 use Rattle.nn_live.specs.Opening.{IsEnded, IsOpening, OpeningState, OpensTo, loads_on}
 use Rattle.nn_live.specs.Taking.{goes_on}
 use Rattle.nn_live.specs.declared.opening.Opened.{Opened}

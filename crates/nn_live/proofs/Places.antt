@@ -59,6 +59,14 @@ pub no_memory_there : (r : Result (Unit {0}) ServiceFault) → IfErr r (λ fault
 no_memory_there (Ok x) memory e = absurd (cc)
 no_memory_there (Err fault) memory e = absurd (cc)
 
+-- what holds of the fault
+pub of_err : {T E : Type 0} (r : Result T E) (P : E → Type 0) (e : E) → r ≡ Err e → IfErr r P → P e
+of_err r P e is h = subst (λ r. IfErr r P) is h
+
+-- where memory was refused, no count had reached its end
+pub not_memory : {T : Type 0} (P : Type 0) {r : Result T ServiceFault} → r ≡ Err service.Exhausted → IfErr r (λ fault. (fault ≡ service.OutOfMemory) × P) → ⊥
+not_memory {T} P {r} is h = let memory : service.Exhausted ≡ service.OutOfMemory = (of_err r (λ fault. (fault ≡ service.OutOfMemory) × P) service.Exhausted is h).0 in cc
+
 -- what holds of each fault
 pub on_err : {T E : Type 0} (P : Type 0) (r : Result T E) → P → IfErr r (λ _. P)
 on_err P (Ok x) p = tt

@@ -1,5 +1,5 @@
 -- A service whose input comes from a reader.
-use Rattle.std.proofs.Common.{◌≡◌, ℕ, ◌+◌, true, cond, is_some, List, [], ◌++◌, Result, Ok, Err, refl, sym, subst, ap, ap₂, ◌∙◌, append-nil, append_assoc}
+use Rattle.std.proofs.Common.{◌≡◌, ℕ, true, cond, is_some, List, [], ◌++◌, Result, Ok, Err, refl, sym, subst, ap, ap₂, ◌∙◌, append-nil, append_assoc}
 use Rattle.std.specs.Prelude.{IfErr}
 use Rattle.std.specs.Result.{IsErrAnd}
 use Rattle.nn_engine.specs.Output.{image_fault}

@@ -1,17 +1,17 @@
 -- A service that is fed by a reader: what it was given, and what it wrote.
-use Rattle.std.proofs.Common.{◌≡◌, ◌⊎◌, ℕ, ◌+◌, ◌<◌, ◌≤◌, Bool, true, false, List, [], ◌∷◌, ◌++◌, length, take, Option, Some, None, refl, sym, subst, ap, ◌∙◌, append-nil, arith, inl, inr, length-append}
-use Rattle.std.specs.Io.KnownBytes.{Consumes, IsAtEnd, Keeps}
+use Rattle.std.proofs.Common.{◌≡◌, ℕ, ◌+◌, ◌≤◌, Bool, true, false, List, [], ◌∷◌, ◌++◌, length, take, Option, Some, None, refl, sym, subst, ap, ◌∙◌, append-nil, arith, inl, inr, length-append}
+use Rattle.std.specs.Io.KnownBytes.{Consumes, Keeps}
 use Rattle.std.proofs.KnownBytes.{Consumes-nil, Consumes-trans}
 use Rattle.std.proofs.lemmas.List.{length-take}
-use Rattle.nn_device.specs.Device.{Reading, Writing, GaveOn}
+use Rattle.nn_device.specs.Device.{Reading, Writing}
 use Rattle.nn_device.specs.Page.{Gathered, HasGone, HasPut}
 use Rattle.nn_device.specs.Parts.{TookFront}
 use Rattle.nn_device.specs.declared.writer.Unwritten.{Unwritten}
 use Rattle.nn_device.specs.declared.writer.Unwritten.TheVariants.{WriteFailed}
-use Rattle.nn_engine.specs.Output.{Printed, image_fault}
+use Rattle.nn_engine.specs.Output.{image_fault}
 use Rattle.nn_image.specs.declared.fault.ImageFault.{ImageFault}
-use Rattle.nn_live.specs.Live.{Stage, ended, refused, so_far, status_of, told_so_far, written_of}
-use Rattle.nn_live.specs.Running.{Ends, Gave, Halts, IsHalt, IsOfLines, IsOutput, IsReader, IsStage, Run, asked_by, halt_text, live_output, serving_by}
+use Rattle.nn_live.specs.Live.{ended, refused, so_far, status_of, told_so_far, written_of}
+use Rattle.nn_live.specs.Running.{Ends, Gave, Halts, IsOfLines, IsOutput, IsReader, IsStage, Run, asked_by, halt_text, live_output, serving_by}
 use Rattle.nn_live.specs.declared.run.Halt.{Halt}
 use Rattle.nn_live.specs.declared.run.Halt.TheVariants as halt
 use Rattle.nn_live.specs.declared.run.LiveOptions.{LiveOptions}

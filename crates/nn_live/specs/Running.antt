@@ -6,7 +6,6 @@ use Rattle.nn_engine.specs.Output.{Printed, image_fault}
 use Rattle.nn_engine.specs.Run.{Unfinished, unread_line}
 use Rattle.nn_engine.specs.declared.device.InputFault.TheVariants.{ReadFailed, OutOfMemory}
 use Rattle.nn_engine.specs.declared.output.RunFault.{RunFault}
-use Rattle.nn_image.specs.declared.fault.ImageFault.{ImageFault}
 use Rattle.nn_live.specs.Live.{Asked, Service, at_end, live_text, refused, so_far, status_of, told_so_far}
 use Rattle.nn_live.specs.Opening.{IsOpening}
 use Rattle.nn_live.specs.Serving.{IsAt, IsFrontOf}

@@ -1,5 +1,5 @@
 -- A service of the code, and the service of the definition that it stands for.
-use Rattle.std.specs.Prelude.{◌≡◌, ◌≤◌, ◌<◌, ◌⊎◌, ℕ, ◌+◌, ◌^◌, true, ◌==◌, ◌&&◌, ◌||◌, not, nat_lt, Bool, List, [], ◌∷◌, ◌++◌, max, length, codes, decimal}
+use Rattle.std.specs.Prelude.{◌≡◌, ◌≤◌, ◌⊎◌, ℕ, ◌+◌, ◌^◌, true, ◌==◌, ◌&&◌, ◌||◌, not, nat_lt, Bool, List, [], ◌∷◌, ◌++◌, max, length, codes, decimal}
 use Rattle.nn_types.specs.declared.report.Message.{Message}
 use Rattle.nn_types.specs.declared.report.Report.{Report}
 use Rattle.nn_types.specs.declared.tx.Tx.{Tx}
@@ -17,7 +17,7 @@ use Rattle.nn_shadow.specs.Contents.{Contents, standby_of, number_in}
 use Rattle.nn_live.specs.Answers.{Figures, line}
 use Rattle.nn_shadow.specs.Refusals.{apply_refusal, flush_refusal}
 use Rattle.nn_live.specs.Laws.{HasLog}
-use Rattle.nn_live.specs.Live.{Asked, Service, applies, behind_edit, follows_segment, promotes}
+use Rattle.nn_live.specs.Live.{Asked, Service, applies, behind_edit, follows_segment, promotes, takes_torn}
 
 -- ---- What the code has.
 
@@ -176,3 +176,11 @@ IsNearEnd x = (2 ^ 62 ≤ x.in_hand.edits + 1) ⊎ (2 ^ 63 ≤ x.segments + 1) �
 -- or a line of any kind
 abbrev pub IsAtEnd : Seen → Type 0
 IsAtEnd x = IsNearEnd x ⊎ (dn : ℕ) × (2 ^ 63 ≤ number_in x.shadow.numbers dn + 2)
+
+-- or lines have: it takes no more of them
+abbrev pub HasRunOut : Seen → Type 0
+HasRunOut x = (2 ^ 63 ≤ x.lines) ⊎ IsAtEnd x
+
+-- so it has before this last line, or its segments have behind it
+abbrev pub RunsOutBehind : List ℕ → Seen → Type 0
+RunsOutBehind torn old = HasRunOut old ⊎ (mid : Seen) × (told : List ℕ) × Makes (λ asked s. takes_torn asked torn s) old mid told × (2 ^ 63 ≤ mid.segments)

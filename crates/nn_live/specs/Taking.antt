@@ -3,7 +3,7 @@ use Rattle.std.specs.Prelude.{◌≡◌, ◌<◌, ℕ, Bool, true, List, [], ◌
 use Rattle.nn_segment.specs.Lines.{is_unbroken}
 use Rattle.nn_scenario.specs.Scenario.{is_blank}
 use Rattle.nn_live.specs.Live.{Asked, Service, Stage, ended, ends, pieces, serving, takes_pieces, takes_torn, written_of}
-use Rattle.nn_live.specs.Serving.{Seen, IsAt, IsFrontOf}
+use Rattle.nn_live.specs.Serving.{Seen, IsAt, IsFrontOf, HasRunOut, RunsOutBehind}
 
 -- what the code has of the bytes behind the last line feed
 pub record Left : Type 0 where
@@ -57,6 +57,14 @@ BreaksPush bytes old told =
 abbrev pub BreaksEnd : Taking → List ℕ → Type 0
 BreaksEnd old told =
     (asked : Asked) (s : Service) (torn : List ℕ) → IsAt asked old.service s → HasTorn torn old.torn → IsFrontOf (s.written ++ told) (ends asked (takes_torn asked torn s)).written
+
+-- a count had reached its end when some of the lines of these bytes were taken
+abbrev pub RunsOut : List ℕ → Taking → Type 0
+RunsOut bytes old = (mid : Taking) × (rest : List ℕ) × (told : List ℕ) × Takes bytes rest old mid told × HasRunOut mid.service
+
+-- and so at the end of the input
+abbrev pub RunsOutAtEnd : Taking → Type 0
+RunsOutAtEnd old = (torn : List ℕ) → HasTorn torn old.torn → RunsOutBehind torn old.service
 
 -- the input ended, and this text was put
 pub record Finishes (old new : Taking) (text : List ℕ) : Type 0 where

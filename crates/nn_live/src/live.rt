@@ -1,10 +1,10 @@
 //! A standby in service whose input comes in chunks.
-ghost use Rattle.std.specs.Prelude.{◌≡◌, ◌∷◌, ◌++◌, [], List, ℕ, true, IfErr, OnOk, if◌then◌else◌, is_some};
+ghost use Rattle.std.specs.Prelude.{◌≡◌, ◌∷◌, ◌++◌, [], List, ℕ, true, IfErr, IsErrOf, OnOk, if◌then◌else◌, is_some};
 ghost use Rattle.nn_device.specs.Page.{Puts};
 ghost use Rattle.nn_segment.specs.Lines.{newline, is_unbroken};
 ghost use Rattle.nn_live.specs.Live.{takes};
-ghost use Rattle.nn_live.specs.Serving.{Breaks, Makes};
-ghost use Rattle.nn_live.specs.Taking.{BreaksEnd, BreaksPush, Finishes, HasTorn, Pushes};
+ghost use Rattle.nn_live.specs.Serving.{Breaks, HasRunOut, Makes};
+ghost use Rattle.nn_live.specs.Taking.{BreaksEnd, BreaksPush, Finishes, HasTorn, Pushes, RunsOut, RunsOutAtEnd};
 
 use crate::service::{Service, ServiceFault};
 use crate::torn::Torn;
@@ -63,6 +63,7 @@ impl Live {
         bytes: &[u8],
     ) -> Result<(), ServiceFault>
         ensures ok { OnOk result ((told : List ℕ) × Puts told page.old writer.old page.new writer.new × Pushes bytes.now self.old self.new told) }
+        ensures exhausted { IsErrOf result ServiceFault.Exhausted → RunsOut bytes.now self.old }
         ensures front { IfErr result (λ _. (told : List ℕ) × Puts told page.old writer.old page.new writer.new × BreaksPush bytes.now self.old told) }
     {
         let mut rest = bytes;
@@ -83,6 +84,7 @@ impl Live {
         writer: &mut Writer<W>,
     ) -> Result<(), ServiceFault>
         ensures ok { OnOk result ((told : List ℕ) × Puts told page.old writer.old page.new writer.new × Finishes self.old self.new told) }
+        ensures exhausted { IsErrOf result ServiceFault.Exhausted → RunsOutAtEnd self.old }
         ensures front { IfErr result (λ _. (told : List ℕ) × Puts told page.old writer.old page.new writer.new × BreaksEnd self.old told) }
     {
         if self.torn.is_too_long() {
@@ -101,6 +103,7 @@ impl Live {
     ) -> Result<(), ServiceFault>
         requires { is_unbroken text.now ≡ true }
         ensures ok { OnOk result ((told : List ℕ) × Puts told page.old writer.old page.new writer.new × Pushes (text.now ++ newline ∷ []) self.old self.new told) }
+        ensures exhausted { IsErrOf result ServiceFault.Exhausted → HasRunOut self.old.service }
         ensures front { IfErr result (λ _. (told : List ℕ) × Puts told page.old writer.old page.new writer.new × BreaksPush (text.now ++ newline ∷ []) self.old told) }
     {
         if self.torn.is_empty() {
@@ -121,6 +124,7 @@ impl Live {
         ensures ok { OnOk result ((told : List ℕ) × Puts told page.old writer.old page.new writer.new
             × ((torn : List ℕ) → HasTorn torn self.old.torn → Makes (λ asked s. takes asked torn s) self.old.service self.new.service told)) }
         ensures torn { self.new.torn ≡ self.old.torn }
+        ensures exhausted { IsErrOf result ServiceFault.Exhausted → HasRunOut self.old.service }
         ensures front { IfErr result (λ _. (told : List ℕ) × Puts told page.old writer.old page.new writer.new
             × ((torn : List ℕ) → HasTorn torn self.old.torn → Breaks (λ asked s. takes asked torn s) self.old.service told)) }
     {

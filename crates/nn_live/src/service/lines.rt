@@ -1,11 +1,11 @@
 //! Lines are taken as they come: words, edits and reports.
-ghost use Rattle.std.specs.Prelude.{◌≡◌, ◌≤◌, ◌^◌, ◌⊎◌, List, ℕ, [], true, IfErr, IsErrOf, OnOk};
+ghost use Rattle.std.specs.Prelude.{◌≡◌, List, ℕ, [], true, IfErr, IsErrOf, OnOk};
 ghost use Rattle.nn_device.specs.Page.{Puts};
 ghost use Rattle.nn_edits.specs.Reading.{either_of_line};
 ghost use Rattle.nn_segment.specs.Lines.{is_unbroken};
 ghost use Rattle.nn_scenario.specs.Scenario.{is_blank};
 ghost use Rattle.nn_live.specs.Live.{ends, takes, takes_read, takes_torn};
-ghost use Rattle.nn_live.specs.Serving.{Breaks, BreaksOff, IsAtEnd, Makes, Steps};
+ghost use Rattle.nn_live.specs.Serving.{Breaks, BreaksOff, HasRunOut, IsAtEnd, Makes, RunsOutBehind, Steps};
 ghost use Rattle.nn_live.specs.Taking.{IsLong};
 
 use super::{Service, ServiceFault};
@@ -29,7 +29,7 @@ impl Service {
     ) -> Result<(), ServiceFault>
         requires { is_unbroken text.now ≡ true }
         ensures ok { OnOk result (Steps (λ asked s. takes asked text.now s) self.old self.new (λ told. Puts told page.old writer.old page.new writer.new)) }
-        ensures exhausted { IsErrOf result ServiceFault.Exhausted → (2 ^ 63 ≤ self.old.lines) ⊎ IsAtEnd self.old }
+        ensures exhausted { IsErrOf result ServiceFault.Exhausted → HasRunOut self.old }
         ensures front { IfErr result (λ _. BreaksOff (λ asked s. takes asked text.now s) self.old (λ told. Puts told page.old writer.old page.new writer.new)) }
     {
         self.next_line()?;
@@ -56,6 +56,7 @@ impl Service {
     ) -> Result<(), ServiceFault>
         requires { is_unbroken torn.now ≡ true }
         ensures ok { OnOk result (Steps (λ asked s. ends asked (takes_torn asked torn.now s)) self.old self.new (λ told. Puts told page.old writer.old page.new writer.new)) }
+        ensures exhausted { IsErrOf result ServiceFault.Exhausted → RunsOutBehind torn.now self.old }
         ensures front { IfErr result (λ _. BreaksOff (λ asked s. ends asked (takes_torn asked torn.now s)) self.old (λ told. Puts told page.old writer.old page.new writer.new)) }
     {
         self.torn_line(scratch, page, writer, torn)?;
@@ -71,6 +72,7 @@ impl Service {
     ) -> Result<(), ServiceFault>
         ensures ok { OnOk result ((told : List ℕ) × Puts told page.old writer.old page.new writer.new
             × ((text : List ℕ) → IsLong text blank → Makes (λ asked s. takes asked text s) self.old self.new told)) }
+        ensures exhausted { IsErrOf result ServiceFault.Exhausted → HasRunOut self.old }
         ensures put { IfErr result (λ _. Puts [] page.old writer.old page.new writer.new) }
     {
         self.next_line()?;
@@ -90,6 +92,7 @@ impl Service {
     ) -> Result<(), ServiceFault>
         ensures ok { OnOk result ((told : List ℕ) × Puts told page.old writer.old page.new writer.new
             × ((torn : List ℕ) → IsLong torn blank → Makes (λ asked s. ends asked (takes_torn asked torn s)) self.old self.new told)) }
+        ensures exhausted { IsErrOf result ServiceFault.Exhausted → (torn : List ℕ) → IsLong torn blank → RunsOutBehind torn self.old }
         ensures front { IfErr result (λ _. (told : List ℕ) × Puts told page.old writer.old page.new writer.new
             × ((torn : List ℕ) → IsLong torn blank → Breaks (λ asked s. ends asked (takes_torn asked torn s)) self.old told)) }
     {
@@ -107,6 +110,7 @@ impl Service {
     ) -> Result<(), ServiceFault>
         requires { is_unbroken text.now ≡ true }
         ensures ok { OnOk result (Steps (λ asked s. takes_torn asked text.now s) self.old self.new (λ told. Puts told page.old writer.old page.new writer.new)) }
+        ensures exhausted { IsErrOf result ServiceFault.Exhausted → HasRunOut self.old }
         ensures front { IfErr result (λ _. BreaksOff (λ asked s. takes_torn asked text.now s) self.old (λ told. Puts told page.old writer.old page.new writer.new)) }
     {
         if text.is_empty() {

@@ -1,18 +1,18 @@
-use Rattle.std.proofs.Common.{◌≡◌, ◌++◌, ◌∷◌, [], true, ap, ◌∙◌, subst, sym, refl, append-nil}
+use Rattle.std.proofs.Common.{◌≡◌, arith, Err, ◌++◌, ◌∷◌, [], true, ap, ◌∙◌, subst, sym, refl, append-nil}
 use Rattle.std.proofs.lemmas.Result.{IfOk-weaker}
 use Rattle.nn_device.proofs.Pages.{puts_both, puts_nothing}
 use Rattle.nn_segment.specs.Lines.{is_unbroken, newline}
 use Rattle.nn_live.specs.Taking.{Taking, Takes, Pushes}
 use Rattle.nn_live.proofs.BrokenPushes.{rest_untaken, then_line_broke}
-use Rattle.nn_live.proofs.Places.{on_err}
+use Rattle.nn_live.proofs.Places.{not_memory, on_err}
 use Rattle.nn_live.proofs.Cutting.{front_cut, none_cut, kept, none_taken, then_takes}
 use Rattle.nn_live.proofs.live.Live.push.Goals as goal
 
 pub lines-init : goal.lines-init
 lines-init g c = ([], puts_nothing c.args.page.now c.args.writer.now, none_taken c.args.bytes.now c.args.self.now)
 
-pub returns-in_default : goal.returns-in_default
-returns-in_default g c =
+pub returns-in_default-clause-ok : goal.returns-in_default-clause-ok
+returns-in_default-clause-ok g c =
     let was = c.lines.invariant in
     let bytes = c.args.bytes.now in
     let text = c.split_at.result.0.now in
@@ -22,14 +22,25 @@ returns-in_default g c =
     let cut = none_cut c.lines.rest.now text c.split_at.result.1.now c.line_end.result c.split_at.ensures.front c.split_at.ensures.back c.in_default.ensures.cases in
     let first : Takes bytes (text ++ []) old mid was.0 =
     subst (λ (x : Taking). Takes bytes (text ++ []) old x was.0) (sym c.self.view_is) (subst (λ r. Takes bytes r old c.lines.self was.0) cut was.2) in
-    record {
-      ok = IfOk-weaker c.push.result _ _ (λ _ has. (
-        was.0,
-        was.1,
-        subst (λ t. Pushes bytes old new t) (append-nil was.0) (then_takes bytes text [] was.0 [] old mid new first (kept text mid new refl has)),
-      )) c.push.ensures.ok;
-      front = on_err _ c.push.result (was.0, was.1, rest_untaken bytes c.lines.rest.now was.0 old c.lines.self was.2);
-    }
+    IfOk-weaker c.push.result _ _ (λ _ has. (
+      was.0,
+      was.1,
+      subst (λ t. Pushes bytes old new t) (append-nil was.0) (then_takes bytes text [] was.0 [] old mid new first (kept text mid new refl has)),
+    )) c.push.ensures.ok
+
+pub returns-in_default-clause-exhausted : goal.returns-in_default-clause-exhausted
+returns-in_default-clause-exhausted g c is = absurd (not_memory _ is c.push.ensures.left)
+
+pub returns-in_default-clause-front : goal.returns-in_default-clause-front
+returns-in_default-clause-front g c =
+    let was = c.lines.invariant in
+    on_err _ c.push.result (was.0, was.1, rest_untaken c.args.bytes.now c.lines.rest.now was.0 c.args.self.now c.lines.self was.2)
+
+pub returns-in_err-end_line-clause-exhausted : goal.returns-in_err-end_line-clause-exhausted
+returns-in_err-end_line-clause-exhausted g c is =
+    let was = c.lines.invariant in
+    let told : c.from_residual.result ≡ Err c.in_err-end_line.field-0.0 = grind arith in
+    (c.lines.self, c.lines.rest.now, was.0, was.2, c.end_line.ensures.exhausted (c.in_err-end_line.was ∙ sym told ∙ is))
 
 pub lines-preserved : goal.lines-preserved
 lines-preserved g c =

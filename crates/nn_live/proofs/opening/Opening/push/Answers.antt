@@ -1,7 +1,7 @@
 use Rattle.std.proofs.Common.{◌≡◌, ◌++◌, ◌∷◌, [], true, false, refl, append-nil, append_assoc, sym, subst, ap, ◌∙◌}
 use Rattle.nn_image.specs.Loading.{TakesLine, ends_with}
 use Rattle.nn_segment.specs.Lines.{is_unbroken, newline}
-use Rattle.nn_live.specs.Live.{refused, so_far}
+use Rattle.nn_live.specs.Live.{so_far}
 use Rattle.nn_live.specs.Opening.{IsOpening, OpeningState, OpensTo}
 use Rattle.nn_live.proofs.Cutting.{front_cut, none_cut}
 use Rattle.nn_live.proofs.Opens.{line_bad, line_came_to, line_ends, line_kept, line_loads}

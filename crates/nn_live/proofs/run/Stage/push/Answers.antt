@@ -1,4 +1,4 @@
-use Rattle.std.proofs.Common.{◌≡◌, ◌++◌, [], refl, sym, subst, ap, ◌∙◌, append-nil}
+use Rattle.std.proofs.Common.{◌++◌, [], sym, subst, ap, ◌∙◌, append-nil}
 use Rattle.nn_device.proofs.Pages.{puts_nothing}
 use Rattle.nn_live.specs.Live.{begun, live_text, so_far}
 use Rattle.nn_live.specs.Opening.{OpensTo}

@@ -13,34 +13,34 @@ use Rattle.nn_live.proofs.Options.{some_if, none_unless}
 use Rattle.nn_live.proofs.Reading.{nothing_torn, blank_torn, word_torn, data_torn}
 use Rattle.nn_live.proofs.service.Service.torn_line.Goals as goal
 
-pub returns-then-is_empty : goal.returns-then-is_empty
-returns-then-is_empty g c = record { ok = ([], puts_nothing c.args.page.now c.args.writer.now, nothing_torn c.args.text.now c.args.self.now (sym c.if-is_empty.ensures)); front = tt }
+pub returns-then-is_empty-clause-ok : goal.returns-then-is_empty-clause-ok
+returns-then-is_empty-clause-ok g c = ([], puts_nothing c.args.page.now c.args.writer.now, nothing_torn c.args.text.now c.args.self.now (sym c.if-is_empty.ensures))
 
-pub returns-then-is_blank : goal.returns-then-is_blank
-returns-then-is_blank g c =
-    record { ok = ([], puts_nothing c.args.page.now c.args.writer.now, blank_torn c.args.text.now (sym c.if-is_empty.ensures) c.args.self.now c.next_line.new.self (sym c.if-is_blank.ensures) c.in_ok-next_line.ensures.ok); front = tt }
+pub returns-then-is_blank-clause-ok : goal.returns-then-is_blank-clause-ok
+returns-then-is_blank-clause-ok g c =
+    ([], puts_nothing c.args.page.now c.args.writer.now, blank_torn c.args.text.now (sym c.if-is_empty.ensures) c.args.self.now c.next_line.new.self (sym c.if-is_blank.ensures) c.in_ok-next_line.ensures.ok)
 
-pub returns-then-is_some : goal.returns-then-is_some
-returns-then-is_some g c =
+pub returns-then-is_some-clause-ok : goal.returns-then-is_some-clause-ok
+returns-then-is_some-clause-ok g c =
     let y = c.next_line.new.self in
     let text = fault_text NOT_JSON (codes " line ") y.lines in
     let some = some_if c.in-Ok.word c.if-is_some.ensures in
     let put = subst (λ (v : Seen). Puts (fault_text NOT_JSON (codes " line ") v.lines) c.args.page.now c.args.writer.now c.put_fault.new.page c.put_fault.new.writer) c.self.view_is c.put_fault.ensures in
-    record { ok = (text, put, word_torn c.args.text.now (sym c.if-is_empty.ensures) c.args.self.now y some.0 (sym c.if-is_blank.ensures) (sym c.in-Ok.ensures ∙ some.1) c.in_ok-next_line.ensures.ok); front = tt }
+    (text, put, word_torn c.args.text.now (sym c.if-is_empty.ensures) c.args.self.now y some.0 (sym c.if-is_blank.ensures) (sym c.in-Ok.ensures ∙ some.1) c.in_ok-next_line.ensures.ok)
 
-pub returns : goal.returns
-returns g c = record {
-  ok = IfOk-weaker c.data.result _ _ (λ _ step. (
-    step.0,
-    step.1,
-    data_torn c.args.text.now (sym c.if-is_empty.ensures) c.args.self.now c.next_line.new.self c.data.new.self step.0 (sym c.if-is_blank.ensures) (sym c.in-Ok.ensures ∙ none_unless c.in-Ok.word c.if-is_some.ensures) c.in_ok-next_line.ensures.ok step.2,
-  )) c.data.ensures.ok;
-  front = IfErr-weaker c.data.result _ _ (λ _ front. (
-    front.0,
-    front.1,
-    torn_breaks c.args.text.now c.args.self.now c.next_line.new.self front.0 (sym c.if-is_blank.ensures) c.in_ok-next_line.ensures.ok (sym c.if-is_empty.ensures) (sym c.in-Ok.ensures ∙ none_unless c.in-Ok.word c.if-is_some.ensures) front.2,
-  )) c.data.ensures.front;
-}
+pub returns-clause-ok : goal.returns-clause-ok
+returns-clause-ok g c = IfOk-weaker c.data.result _ _ (λ _ step. (
+  step.0,
+  step.1,
+  data_torn c.args.text.now (sym c.if-is_empty.ensures) c.args.self.now c.next_line.new.self c.data.new.self step.0 (sym c.if-is_blank.ensures) (sym c.in-Ok.ensures ∙ none_unless c.in-Ok.word c.if-is_some.ensures) c.in_ok-next_line.ensures.ok step.2,
+)) c.data.ensures.ok
+
+pub returns-clause-front : goal.returns-clause-front
+returns-clause-front g c = IfErr-weaker c.data.result _ _ (λ _ front. (
+  front.0,
+  front.1,
+  torn_breaks c.args.text.now c.args.self.now c.next_line.new.self front.0 (sym c.if-is_blank.ensures) c.in_ok-next_line.ensures.ok (sym c.if-is_empty.ensures) (sym c.in-Ok.ensures ∙ none_unless c.in-Ok.word c.if-is_some.ensures) front.2,
+)) c.data.ensures.front
 
 pub returns-in_err-next_line-clause-front : goal.returns-in_err-next_line-clause-front
 returns-in_err-next_line-clause-front g c =

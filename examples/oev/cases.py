@@ -1,6 +1,8 @@
 """What `check` tries: small dumps, each with what the converter has to make of it."""
 
 FIRST_ID = 1_073_741_825
+LAYOUT = -66
+LAYOUTS = range(-67, -62)
 
 
 def member(name, value):
@@ -12,8 +14,9 @@ def record(opcode, txid, *members):
     return f"<RECORD>{member('OPCODE', opcode)}{member('DATA', data)}</RECORD>"
 
 
-def document(*records):
-    return f"<?xml version='1.0' encoding='UTF-8'?><EDITS><EDITS_VERSION>-66</EDITS_VERSION>{''.join(records)}</EDITS>"
+def document(*records, layout=LAYOUT):
+    version = member("EDITS_VERSION", layout)
+    return f"<?xml version='1.0' encoding='UTF-8'?><EDITS>{version}{''.join(records)}</EDITS>"
 
 
 def path(text):
@@ -315,92 +318,9 @@ NO_DUMPS = [
     ),
     ("an entity of parameters", '<!DOCTYPE EDITS [<!ENTITY % a SYSTEM "a.dtd">%a;]><EDITS/>', "a document type"),
     ("an external document type", '<!DOCTYPE EDITS SYSTEM "a.dtd"><EDITS/>', "a document type"),
-]
-
-
-def inode(inode_id, kind, name, *members):
-    return member("inode", member("id", inode_id) + member("type", kind) + member("name", name) + "".join(members))
-
-
-def directory(parent, *children, reference="child"):
-    return member("directory", member("parent", parent) + "".join(member(reference, child) for child in children))
-
-
-def image(inodes, directories, *sections, last_block=FIRST_ID):
-    numbers = member("genstampV2", 1001) + member("lastAllocatedBlockId", last_block) + member("txid", 7)
-    return member(
-        "fsimage",
-        member("NameSection", numbers)
-        + member("INodeSection", "".join(inodes))
-        + "".join(sections)
-        + member("INodeDirectorySection", "".join(directories)),
-    )
-
-
-def image_block(block_id):
-    return member("blocks", member("block", member("id", block_id) + member("genstamp", 1001) + member("numBytes", 5)))
-
-
-ROOT = inode(16385, "DIRECTORY", "")
-FILE = member("replication", 3)
-
-# A name, a dump of an image, and what the reason has in it.
-REFUSED_IMAGES = [
-    ("a symbolic link", image([ROOT, inode(16386, "SYMLINK", "l")], []), "inode 16386: its type is 'SYMLINK'"),
-    (
-        "a striped file",
-        image([ROOT, inode(16386, "FILE", "f", member("erasureCodingPolicyId", 1))], []),
-        "inode 16386: the file is striped",
-    ),
-    (
-        "a file of block groups",
-        image([ROOT, inode(16386, "FILE", "f", FILE, member("blockType", "STRIPED"))], []),
-        "the file is striped",
-    ),
-    ("a child of a snapshot", image([ROOT], [directory(16385, 0, reference="refChild")]), "refChild"),
-    ("a snapshot", image([ROOT], [], member("SnapshotSection", member("numSnapshots", 1))), "no snapshots"),
-    (
-        "a negative block id",
-        image([ROOT, inode(16386, "FILE", "f", FILE, image_block(-5))], []),
-        "the negative block id -5",
-    ),
-    (
-        "a block id of old layouts",
-        image([ROOT, inode(16386, "FILE", "f", FILE, image_block(77))], [directory(16385, 16386)]),
-        "block id 77",
-    ),
-    (
-        "a block id that was not issued",
-        image([ROOT, inode(16386, "FILE", "f", FILE, image_block(FIRST_ID + 1))], [directory(16385, 16386)]),
-        "block id",
-    ),
-    ("a name with a colon", image([ROOT, inode(16386, "DIRECTORY", "a:b")], []), "inode 16386: the name"),
-    ("a name that is empty", image([ROOT, inode(16386, "DIRECTORY", "")], []), "inode 16386: a name of 0 bytes"),
-    ("an inode in no directory", image([ROOT, inode(16386, "DIRECTORY", "d")], []), "inode 16386 is in no directory"),
-    ("a directory without its inode", image([ROOT], [directory(16386, 16387)]), "inode 16386 is in no directory"),
-    (
-        "an inode in two directories",
-        image([ROOT, inode(16386, "DIRECTORY", "d")], [directory(16385, 16386, 16386)]),
-        "in two directories",
-    ),
-    (
-        "a directory in itself",
-        image([ROOT], [directory(16385, 16385)]),
-        "inode 16385 is missing, or in two directories",
-    ),
-    ("a child that is missing", image([ROOT], [directory(16385, 16386)]), "inode 16386 is missing"),
-    (
-        "a child of a file",
-        image(
-            [ROOT, inode(16386, "FILE", "f", FILE), inode(16387, "FILE", "g", FILE)],
-            [directory(16385, 16386), directory(16386, 16387)],
-        ),
-        "a file with children",
-    ),
-    ("an inode twice", image([ROOT, ROOT], []), "inode 16385 comes twice"),
-    ("no root", image([], []), "inode 16385 is missing"),
-    ("no NameSection", "<fsimage></fsimage>", "no NameSection"),
-    ("a dump of edits", document(), "the document's element is 'EDITS'"),
-    ("an image that ends in the middle", image([ROOT], [])[:-9], "ends in the middle"),
-    ("an entity", f"<!DOCTYPE fsimage [<!ENTITY a 'a'>]>{image([ROOT], [])}", "a document type"),
+    ("a layout before Hadoop 2.7", document(start(1), layout=-62), "EDITS_VERSION is '-62', and -63 to -67 are known"),
+    ("a layout of the future", document(start(1), layout=-68), "EDITS_VERSION is '-68', and -63 to -67 are known"),
+    ("a layout that is no number", document(start(1), layout="x"), "EDITS_VERSION is 'x', and -63 to -67 are known"),
+    ("no layout", f"<EDITS>{start(1)}</EDITS>", "no EDITS_VERSION before its first RECORD"),
+    ("neither layout nor record", "<EDITS></EDITS>", "no EDITS_VERSION before its first RECORD"),
 ]

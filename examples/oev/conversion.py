@@ -2,18 +2,23 @@
 from collections import Counter
 from typing import NamedTuple
 
-from dumps import Element, elements
+from dumps import Element, check_layout, elements, is_same
 from edits import edits_of, start_mark
 from formats import Refused
 
 # A file has 10,000 blocks at most, unless a NameNode is told otherwise. Its record has some 2,000,000 bytes.
 RECORD_BYTES = 4_194_304
 
+LAYOUT = ("EDITS_VERSION",)
+RECORD = ("RECORD",)
+
 
 class Record(NamedTuple):
     opcode: str
     txid: int
     data: Element
+    # The name of its file.
+    dump: str
 
 
 class Conversion:
@@ -26,7 +31,10 @@ class Conversion:
         # The TXID that the first record has to have, if any, and what helps where it has another.
         self.first = None
         self.advice = ""
-        # The last TXID that was taken, or None before the first.
+        # The TXID that the log has to reach, if any.
+        self.reaches = None
+        # The last record of the dumps, and the last TXID that was taken. Both are None before the first.
+        self.previous = None
         self.last = None
         # Whether the next record may lie in the middle of a segment.
         self.may_be_inside = False
@@ -40,11 +48,15 @@ class Conversion:
         self.advice = advice
 
     def begin_after(self, txid):
+        self.reaches = txid
         self.last = txid
         self.may_be_inside = True
 
     def take(self, record):
-        """Takes the next record of the dumps."""
+        """Takes the next record of the dumps. Those of one TXID come one after another."""
+        if self.previous is not None:
+            check_order(self.previous, record)
+        self.previous = record
         if self.last is None and self.first not in (None, record.txid):
             raise Refused(f"the log begins at TXID {record.txid}, and TXID {self.first} is next: {self.advice}")
         if self.last is not None and record.txid <= self.last:
@@ -77,6 +89,8 @@ class Conversion:
 
     def finish(self):
         """Ends the log, and answers the lines of the summary."""
+        if self.reaches is not None:
+            self.check_end(self.reaches)
         ends_inside = self.log.finish()
         summary = [
             counted("records kept", self.kept),
@@ -88,19 +102,59 @@ class Conversion:
         ]
         return summary + ["the dump ends inside a segment, which was given an end mark"] * ends_inside
 
+    def check_end(self, txid):
+        """Refuses a log that ends before a TXID: nothing is known of what lies between."""
+        if self.previous is None:
+            raise Refused(f"the log has no record, and is to go on behind TXID {txid}")
+        if self.previous.txid < txid:
+            raise Refused(f"the log ends at TXID {self.previous.txid}, and is to go on behind TXID {txid}")
+
+
+def check_order(previous, record):
+    """Refuses a record that goes back, and one that is another than the one before it at the same TXID."""
+    if record.txid < previous.txid:
+        raise Refused(f"{record.dump}: {record.opcode}, TXID {record.txid}, comes behind TXID {previous.txid}")
+    if record.txid == previous.txid and not is_repeated(previous, record):
+        one, other = f"{previous.opcode} in {previous.dump}", f"{record.opcode} in {record.dump}"
+        raise Refused(f"TXID {record.txid} is two records that differ: {one}, {other}")
+
+
+def is_repeated(previous, record):
+    return previous.opcode == record.opcode and is_same(previous.data, record.data)
+
 
 def counted(title, counter):
     """The line of the summary about what was counted by opcode."""
     opcodes = ", ".join(f"{opcode} {count:,}" for opcode, count in sorted(counter.items()))
-    return f"{title}: {counter.total():,}" + (f" ({opcodes})" if opcodes else "")
+    return f"{title}: {sum(counter.values()):,}" + (f" ({opcodes})" if opcodes else "")
 
 
 def records_of(file):
     """The records of a dump, in its order."""
-    for _, element in elements(file, "EDITS", {("RECORD",)}, RECORD_BYTES):
-        opcode = element.string("OPCODE")
-        try:
-            data = element.get("DATA")
-            yield Record(opcode, data.number("TXID"), data)
-        except Refused as refused:
-            raise Refused(f"{file.name}: {opcode} without a TXID: {refused}") from None
+    has_layout = False
+    for place, element in elements(file, "EDITS", {LAYOUT, RECORD}, RECORD_BYTES):
+        if place == LAYOUT:
+            check_layout_of(file, element)
+            has_layout = True
+        elif has_layout:
+            yield record_of(file, element)
+        else:
+            break
+    if not has_layout:
+        raise Refused(f"{file.name}: no EDITS_VERSION before its first RECORD")
+
+
+def check_layout_of(file, element):
+    try:
+        check_layout(element)
+    except Refused as refused:
+        raise Refused(f"{file.name}: {refused}") from None
+
+
+def record_of(file, element):
+    opcode = element.string("OPCODE")
+    try:
+        data = element.get("DATA")
+        return Record(opcode, data.number("TXID"), data, file.name)
+    except Refused as refused:
+        raise Refused(f"{file.name}: {opcode} without a TXID: {refused}") from None

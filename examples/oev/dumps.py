@@ -11,6 +11,9 @@ from formats import Block, Refused, number
 CHUNK_BYTES = 65_536
 DEPTH = 32
 
+# The layouts of Hadoop 2.7 to 3.4.
+LAYOUTS = range(-67, -62)
+
 # What XML can't hold, and the backslash, stand as a backslash, four hex digits and a semicolon.
 ESCAPE = re.compile(r"\\(?:([0-9a-fA-F]{4});)?")
 
@@ -76,6 +79,19 @@ class Element:
         """The block whose id, generation stamp and length have these names."""
         block_id = self.block_id(id_name)
         return Block(self.number(stamp_name), block_id, self.number(length_name))
+
+
+def is_same(one, other):
+    """Whether two elements have the same names and texts in the same order."""
+    if (one.name, one.text, len(one.children)) != (other.name, other.text, len(other.children)):
+        return False
+    return all(map(is_same, one.children, other.children))
+
+
+def check_layout(element):
+    """Refuses a layout that may have other members than those that are read here."""
+    if element.text not in map(str, LAYOUTS):
+        raise Refused(f"{element.name} is {element.text[:40]!r}, and {LAYOUTS[-1]} to {LAYOUTS[0]} are known")
 
 
 def unescaped(name, text):

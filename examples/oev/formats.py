@@ -73,9 +73,9 @@ def line_of(edit, txid):
     return line + b"\n"
 
 
-def image_header(last_block, last_gen, txid):
-    """The first line of an image of profile 1 in which no id awaits."""
-    header = {"awaiting": [], "image": "hdfs-standby", "last_block": last_block, "last_gen": last_gen}
+def image_header(last_block, last_gen, awaiting, txid):
+    """The first line of an image of profile 1. The ids that await were issued, and no file has them yet."""
+    header = {"awaiting": awaiting, "image": "hdfs-standby", "last_block": last_block, "last_gen": last_gen}
     return image_line({**header, "profile": 1, "txid": txid, "version": 2})
 
 

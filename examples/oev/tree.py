@@ -1,6 +1,8 @@
 """The names that exist: what an image has, and what the log made of it since."""
 from formats import Block
 
+CHANGES_OF_FILES = {"OP_ADD_BLOCK", "OP_UPDATE_BLOCKS", "OP_CLOSE", "OP_APPEND"}
+
 
 class File:
     """Whether a file is closed, and the list of its blocks."""
@@ -59,19 +61,19 @@ class Tree:
 
     def apply(self, edit):
         """Follows an edit, which is a dictionary of a line's members."""
-        match edit["op"]:
-            case "OP_MKDIR":
-                self.put(edit["path"], {})
-            case "OP_ADD":
-                self.put(edit["path"], File(False, []))
-            case "OP_DELETE":
-                self.remove(edit["path"])
-            case "OP_RENAME":
-                self.rename(edit["src"], edit["dst"])
-            case "OP_ADD_BLOCK" | "OP_UPDATE_BLOCKS" | "OP_CLOSE" | "OP_APPEND":
-                file = self.find_file(edit["path"])
-                if file is not None:
-                    apply_to_file(file, edit)
+        op = edit["op"]
+        if op == "OP_MKDIR":
+            self.put(edit["path"], {})
+        elif op == "OP_ADD":
+            self.put(edit["path"], File(False, []))
+        elif op == "OP_DELETE":
+            self.remove(edit["path"])
+        elif op == "OP_RENAME":
+            self.rename(edit["src"], edit["dst"])
+        elif op in CHANGES_OF_FILES:
+            file = self.find_file(edit["path"])
+            if file is not None:
+                apply_to_file(file, edit)
 
 
 def apply_to_file(file, edit):

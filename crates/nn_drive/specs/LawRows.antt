@@ -57,7 +57,7 @@ too_long = record { stamp = 1001; len = 6; kind = Received }
 abbrev having_one : Contents → Contents
 having_one x = record x {
   namespace = one_block;
-  table = record { min = 1; entries = (7, record { row = None; cells = (1, record { replica = Some too_long; ordered = false }) ∷ [] }) ∷ [] };
+  table = record { min = 1; entries = (7, record { row = None; replication = 0; cells = (1, record { replica = Some too_long; ordered = false }) ∷ [] }) ∷ [] };
   permille = 0;
 }
 
@@ -65,7 +65,7 @@ having_one x = record x {
 abbrev having_an_order : Contents → Contents
 having_an_order x = record x {
   namespace = one_block;
-  table = record { min = 1; entries = (7, record { row = None; cells = (1, record { replica = None; ordered = true }) ∷ [] }) ∷ [] };
+  table = record { min = 1; entries = (7, record { row = None; replication = 0; cells = (1, record { replica = None; ordered = true }) ∷ [] }) ∷ [] };
   permille = 0;
 }
 

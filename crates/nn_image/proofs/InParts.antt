@@ -22,7 +22,7 @@ use Rattle.nn_tree.specs.At.{names_of}
 use Rattle.nn_tree.specs.Rows.{rows_from, Resumes as ResumesRows}
 use Rattle.nn_image.specs.declared.fault.SaveFault.{SaveFault}
 use Rattle.nn_image.specs.declared.saving.parts.Part.{Part}
-use Rattle.nn_image.specs.InParts.{Begin, Begins, IsPart, IsRest, IsSaving, IsSavedBy, Place, Resumes, WrotePart, behind_part, fault_of, first_place, part_at, part_of, paths_from, rest_text}
+use Rattle.nn_image.specs.InParts.{Begin, Begins, IsPart, IsRest, IsSaving, IsSavedBy, Place, Resumes, WrotePart, behind_part, fault_of, first_place, last_line, part_at, part_of, paths_from, rest_text}
 use Rattle.nn_image.specs.Saving.{WroteFront, cause_of}
 use Rattle.nn_image.specs.Text.{feed, line_of, header_data, row_data, row_lines, end_data, image_text}
 use Rattle.nn_image.proofs.Rows.{Rows, T_of, root_first}
@@ -406,6 +406,15 @@ module _ (n : Namespace) (rows : ℕ) (s : Place) where
     pub rest_written : part.next ≡ None → (count : ℕ) → count ≡ s.count + part.lines → (w0 w1 : Writing) → Took w0 w1 (row_lines (part_at rows s n) ++ line_of (end_data count)) → IsRest n rows s w0 w1
     rest_written is count counted w0 w1 took = record { took = subst (Took w0 w1) (all_text is count counted) took; none_left = none_behind is }
 
-    pub rest_front : part.next ≡ None → (count : ℕ) → count ≡ s.count + part.lines → (w0 w1 : Writing) (e : Unwritten) → TookFront w0 w1 (row_lines (part_at rows s n) ++ line_of (end_data count)) e
+    rest_front : part.next ≡ None → (count : ℕ) → count ≡ s.count + part.lines → (w0 w1 : Writing) (e : Unwritten) → TookFront w0 w1 (row_lines (part_at rows s n) ++ line_of (end_data count)) e
         → TookFront w0 w1 (rest_text s n) e
     rest_front is count counted w0 w1 e front = subst (λ t. TookFront w0 w1 t e) (all_text is count counted) front
+
+    -- a prefix of the part and of the last line, where that comes, is a prefix of what is left
+    pub end_front : (count : ℕ) → count ≡ s.count + part.lines → (w0 w1 : Writing) (e : Unwritten) → TookFront w0 w1 (row_lines (part_at rows s n) ++ last_line part.next count) e → TookFront w0 w1 (rest_text s n) e
+    end_front count counted w0 w1 e front =
+        let text = row_lines (part_at rows s n) in
+        elim part.next as (λ o. part.next ≡ o → TookFront w0 w1 (text ++ last_line o count) e → TookFront w0 w1 (rest_text s n) e) [
+          | None ↦ λ is f. rest_front is count counted w0 w1 e f
+          | Some next ↦ λ is f. part_front w0 w1 e (subst (λ t. TookFront w0 w1 t e) (append-nil text) f)
+        ] refl front

@@ -40,6 +40,11 @@ behind_part rows s n = drop (length (part_at rows s n)) (paths_from s.path n)
 abbrev pub rest_text : Place → Namespace → List ℕ
 rest_text s n = row_lines (paths_from s.path n) ++ line_of (end_data (s.count + length (paths_from s.path n)))
 
+-- the last line of an image of so many paths, where none is left
+abbrev pub last_line : {A : Type 0} → Option A → ℕ → List ℕ
+last_line None paths = line_of (end_data paths)
+last_line (Some next) paths = []
+
 -- before the first path
 abbrev pub first_place : Place
 first_place = record { path = []; count = 0 }

@@ -1,13 +1,14 @@
 -- Parts of an image, on small examples.
-use Rattle.std.specs.Prelude.{◌≡◌, ℕ, List, [], ◌∷◌, map, length, codes, refl}
+use Rattle.std.specs.Prelude.{◌≡◌, ℕ, List, [], ◌∷◌, ◌++◌, Some, None, map, length, codes, refl}
+use Rattle.std.specs.Fmt.{digits}
 use Rattle.std.proofs.Common.{ap, arith}
 use Rattle.json.specs.Print.{escape_byte}
 use Rattle.nn_device.specs.Device.{Writing}
 use Rattle.nn_model.specs.declared.form.Form.{Form}
 use Rattle.nn_model.specs.declared.form.Form.TheVariants.{Dir}
 use Rattle.nn_model.specs.Namespace.{Path, Namespace, root_alone}
-use Rattle.nn_image.specs.InParts.{Begins, IsRest, Place, WrotePart, first_place, part_of, paths_from}
-use Rattle.nn_image.specs.Text.{form_data}
+use Rattle.nn_image.specs.InParts.{Begins, IsRest, Place, WrotePart, first_place, last_line, part_of, paths_from}
+use Rattle.nn_image.specs.Text.{end_data, form_data}
 
 abbrev a : Path
 a = codes "a" ∷ []
@@ -32,6 +33,11 @@ all_but_the_root = refl
 
 from_the_second : names (paths_from b n) ≡ b ∷ c ∷ []
 from_the_second = refl
+
+-- the last line has the number of paths, and stands behind the last path alone
+last_lines : (last_line {A = Path} None 3 ≡ codes "{\"end\":3}" ++ 10 ∷ []) × (last_line (Some b) 3 ≡ [])
+unfolding end_data digits escape_byte
+last_lines = (refl, refl)
 
 -- ---- The rows of a part.
 

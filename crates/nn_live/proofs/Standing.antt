@@ -57,18 +57,16 @@ shows_again x sent [] e p = p
 shows_again x sent (m ∷ l) e p = absurd (cc)
 
 module _ (n : Namespace) (base : ℕ) where
-  begins : HasWellFormedBlocks n → StandsAt n base [] (fresh n base) false no_messages
-  begins w =
-      let first = begins_standing n base w in
-      record {
-        log = first.stands.log;
-        last = first.stands.last;
-        namespace = refl;
-        told = [];
-        stands = λ a. first;
-        shows = λ a. absurd (cc);
-        flushed = λ a. absurd (cc);
-      }
+  pub begins : StandsBy n base [] no_messages (fresh n base) → StandsAt n base [] (fresh n base) false no_messages
+  begins first = record {
+    log = first.stands.log;
+    last = first.stands.last;
+    namespace = refl;
+    told = [];
+    stands = λ a. first;
+    shows = λ a. absurd (cc);
+    flushed = λ a. absurd (cc);
+  }
 
   -- a standby that stands, and was not promoted, once its history was taken
   now_at : (txs : List Tx) (sent : Lanes) (told : History) (x : StandbyState) (active : Bool) → active ≡ false → StandsBy n base txs sent (after told x)
@@ -189,7 +187,7 @@ module _ (asked : Asked) (n : Namespace) (base : ℕ) where
   all_lines (text ∷ texts) s i = all_lines texts (takes asked text s) (line text s i)
 
   from_first : HasWellFormedBlocks n → (texts : List (List ℕ)) → Is (served asked n base texts)
-  from_first w texts = all_lines texts (begun n base) (begins n base w)
+  from_first w texts = all_lines texts (begun n base) (begins n base (begins_standing n base w))
 
 pub stands_at_its_log : StandsAtItsLog
 stands_at_its_log asked n base texts w = from_first asked n base w texts

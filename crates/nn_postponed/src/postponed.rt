@@ -4,9 +4,10 @@ ghost use Rattle.std.specs.List.{list_any};
 ghost use Rattle.nn_types.specs.declared.report.Message.{Message};
 ghost use Rattle.nn_types.specs.declared.fault.TheConstants.{MEMORY};
 ghost use Rattle.nn_model.specs.Stands.{AreByBlock};
-ghost use Rattle.nn_postponed.specs.Queues.{queue, queued, all_queued, is_from, IsNext, HaveIds};
+ghost use Rattle.nn_postponed.specs.Queues.{queue, queued, all_queued, is_from, held_from, IsNext, HaveIds};
 ghost use Rattle.nn_postponed.specs.Release.{due_at, first_free, without_free, freed};
 
+use crate::counts::Counts;
 use crate::held::Held;
 use crate::queue::Queue;
 use crate::waiting::Waiting;
@@ -41,11 +42,15 @@ const LIMIT: usize = 9223372036854775807;
 /// mean over all calls where it takes a message: from time to time the messages that are left close up in one pass, and
 /// what comes next of its DataNode is looked for, past each message once for each DataNode. `due_count`, and `queue` to its
 /// end, are one pass over the block's queue each. A queue that has become empty leaves the map.
+///
+/// The messages of each DataNode are counted, in eight bytes for each DataNode up to the highest from which one was held.
 #[derive(Drop)]
 pub struct Postponed {
     queues: BTreeMap<BlockId, Queue>,
     // how many messages there are in all queues
     count: usize,
+    // and how many of them are from each DataNode
+    counts: Counts,
     alloc: Global,
 }
 
@@ -55,12 +60,13 @@ impl Model for Postponed {
     ghost use Rattle.std.specs.Ordering.{nat_cmp};
     ghost use Rattle.nn_types.specs.declared.report.Message.{Message};
     ghost use Rattle.nn_postponed.specs.Flat.{flat, AreOwn};
+    ghost use Rattle.nn_postponed.specs.Counts.{AreCounted};
 
     ghost Value = { List Message };
 
     ghost view = { λ p. flat p.queues.entries };
 
-    ghost invariant = { λ p. IsOrdered nat_cmp p.queues × AreOwn p.queues.entries × (p.count ≡ length (flat p.queues.entries)) × (p.count < 2 ^ 63) };
+    ghost invariant = { λ p. IsOrdered nat_cmp p.queues × AreOwn p.queues.entries × (p.count ≡ length (flat p.queues.entries)) × (p.count < 2 ^ 63) × AreCounted p.counts (flat p.queues.entries) };
 }
 
 impl Postponed {
@@ -71,6 +77,7 @@ impl Postponed {
         Postponed {
             queues: BTreeMap::new(alloc),
             count: 0,
+            counts: Counts::new(alloc),
             alloc,
         }
     }
@@ -112,6 +119,9 @@ impl Postponed {
         if self.count >= LIMIT {
             return Err(AllocError);
         }
+        let Ok(()) = self.counts.reserve(message.dn) else {
+            return Err(AllocError);
+        };
         let Some(queue) = self.queues.get_mut(&message.block) else {
             // That a block id is in its range is known once it is read.
             let _id = message.block.get();
@@ -123,12 +133,14 @@ impl Postponed {
                 return Err(AllocError);
             };
             self.count += 1;
+            self.counts.more(message.dn);
             return Ok(());
         };
         let Ok(()) = queue.push(message) else {
             return Err(AllocError);
         };
         self.count += 1;
+        self.counts.more(message.dn);
         Ok(())
     }
 
@@ -161,6 +173,7 @@ impl Postponed {
             let _ = self.queues.remove(&block);
         }
         self.count -= 1;
+        self.counts.fewer(message.dn);
         Some(message)
     }
 
@@ -219,6 +232,7 @@ impl Postponed {
             let _ = self.queues.remove(&block);
         }
         self.count -= 1;
+        self.counts.fewer(message.dn);
         Some(message)
     }
 
@@ -255,6 +269,7 @@ impl Postponed {
             let _ = self.queues.remove(&block);
         }
         self.count -= 1;
+        self.counts.fewer(message.dn);
         Some(message)
     }
 
@@ -266,6 +281,13 @@ impl Postponed {
         ensures order { AreByBlock self.now }
     {
         self.count
+    }
+
+    /// How many of the held messages are from this DataNode: O(1).
+    pub fn count_from(&self, dn: u16) -> usize
+        ensures { result ≡ held_from dn self.now }
+    {
+        self.counts.of(dn)
     }
 
     /// Whether no message is held.

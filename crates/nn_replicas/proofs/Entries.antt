@@ -1,12 +1,12 @@
 -- Entries in the order of their keys: writes in two words of std, and what is counted.
-use Rattle.std.proofs.Common.{◌≡◌, ℕ, ◌+◌, ◌≤◌, Bool, true, false, cond, ◌&&◌, List, [], ◌∷◌, Option, Some, None, count_by, refl, sym, ap, subst, ◌∙◌, arith, T, nat_cmp}
+use Rattle.std.proofs.Common.{◌≡◌, ℕ, ◌+◌, ◌≤◌, Bool, true, false, cond, ◌&&◌, List, [], ◌∷◌, Option, Some, None, is_some, length, count_by, refl, sym, ap, subst, ◌∙◌, arith, T, nat_cmp}
 use Rattle.std.specs.declared.cmp.Ordering.{Ordering}
 use Rattle.std.specs.declared.cmp.Ordering.TheVariants.{Less, Equal, Greater}
 use Rattle.std.specs.Ordering.{is_eq, is_lt, match_ordering}
 use Rattle.std.specs.Cmp.{nat_cmp_total}
 use Rattle.std.specs.BTreeMap.{insert_entry, is_at}
 use Rattle.std.specs.Map.{keys_of, lookup, set_value}
-use Rattle.std.specs.List.{AllByRecursion}
+use Rattle.std.specs.List.{AllByRecursion, sum_by}
 use Rattle.std.specs.List.Sorted.{IsStrictlySortedBy}
 use Rattle.std.specs.FinMap.Entries.{by_order, find, put, below_all, is_sorted, is_sorted-put}
 use Rattle.std.proofs.lemmas.List.Sums.{sum_by-cons}
@@ -27,10 +27,14 @@ is_less Greater h = cc
 pub same_some : {X : Type 0} (x y : X) → Some x ≡ Some y → x ≡ y
 same_some x y e = cc
 
+-- the weight of what is there, 0 where nothing is
+abbrev pub share : {X : Type 0} → (X → ℕ) → Option X → ℕ
+share f None = 0
+share f (Some x) = f x
+
 -- 1 where the test passes, and where there is nothing to test 0
 abbrev pub weight : {X : Type 0} → (X → Bool) → Option X → ℕ
-weight p None = 0
-weight p (Some x) = cond (p x) 1 0
+weight p o = share (λ x. cond (p x) 1 0) o
 
 module _ {X : Type 0} where
   below_less : (k j : ℕ) (es : List (ℕ × X)) → nat_cmp k j ≡ Less → below_all nat_cmp j es ≡ true → below_all nat_cmp k es ≡ true
@@ -99,27 +103,52 @@ module _ {X : Type 0} where
         | Greater ↦ λ l g. ap (λ r. e ∷ r) (put_same k v es g (tail_sorted e es s))
       ] refl h
 
+  -- the sum of the weights
+  abbrev pub summed : (X → ℕ) → List (ℕ × X) → ℕ
+  summed f es = sum_by (λ e. f e.1) es
+
+  pub summed_cons : (f : X → ℕ) (e : ℕ × X) (es : List (ℕ × X)) → summed f (e ∷ es) ≡ f e.1 + summed f es
+  summed_cons f e es = sum_by-cons (λ (x : ℕ × X). f x.1) e es
+
+  -- what is there is in the sum
+  pub summed_there : (f : X → ℕ) (k : ℕ) (es : List (ℕ × X)) → share f (find nat_cmp k es) ≤ summed f es
+  summed_there f k [] = omega arith
+  summed_there f k (e ∷ es) =
+      elim (is_eq (nat_cmp k e.0)) as (λ b. share f (cond b (Some e.1) (find nat_cmp k es)) ≤ summed f (e ∷ es)) [
+        | true ↦ omega (arith, summed_cons f e es)
+        | false ↦ omega (arith, summed_cons f e es, summed_there f k es)
+      ]
+
+  -- the sum after a write
+  pub summed_put : (f : X → ℕ) (k : ℕ) (v : X) (es : List (ℕ × X)) → is_sorted nat_cmp es ≡ true → summed f (put nat_cmp k v es) + share f (find nat_cmp k es) ≡ summed f es + f v
+  summed_put f k v [] s = omega (arith, summed_cons f (k, v) [])
+  summed_put f k v (e ∷ es) s =
+      elim (nat_cmp k e.0) as (λ o. nat_cmp k e.0 ≡ o → summed f (by_order o ((k, v) ∷ e ∷ es) ((e.0, v) ∷ es) (e ∷ put nat_cmp k v es)) + share f (cond (is_eq o) (Some e.1) (find nat_cmp k es)) ≡ summed f (e ∷ es) + f v) [
+        | Less ↦ λ l. omega (arith, summed_cons f (k, v) (e ∷ es), ap (share f) (absent k e es l s))
+        | Equal ↦ λ l. omega (arith, summed_cons f (e.0, v) es, summed_cons f e es)
+        | Greater ↦ λ l. omega (arith, summed_cons f e (put nat_cmp k v es), summed_cons f e es, summed_put f k v es (tail_sorted e es s))
+      ] refl
+
+  -- no weight is above that of another kind, nor the sum
+  pub summed_below : (f g : X → ℕ) → ((x : X) → f x ≤ g x) → (es : List (ℕ × X)) → summed f es ≤ summed g es
+  summed_below f g h [] = omega arith
+  summed_below f g h (e ∷ es) = omega (arith, summed_cons f e es, summed_cons g e es, h e.1, summed_below f g h es)
+
+  -- how many there are
+  pub length_put : (k : ℕ) (v : X) (es : List (ℕ × X)) → is_sorted nat_cmp es ≡ true → length (put nat_cmp k v es) + cond (is_some (find nat_cmp k es)) 1 0 ≡ length es + 1
+  length_put k v [] s = refl
+  length_put k v (e ∷ es) s =
+      elim (nat_cmp k e.0) as (λ o. nat_cmp k e.0 ≡ o → length (by_order o ((k, v) ∷ e ∷ es) ((e.0, v) ∷ es) (e ∷ put nat_cmp k v es)) + cond (is_some (cond (is_eq o) (Some e.1) (find nat_cmp k es))) 1 0 ≡ length (e ∷ es) + 1) [
+        | Less ↦ λ l. (let none : cond {A = ℕ} (is_some (find nat_cmp k es)) 1 0 ≡ 0 = ap (λ o. cond (is_some o) 1 0) (absent k e es l s) in omega (arith, none))
+        | Equal ↦ λ l. omega arith
+        | Greater ↦ λ l. omega (arith, length_put k v es (tail_sorted e es s))
+      ] refl
+
   abbrev pub counted : (X → Bool) → List (ℕ × X) → ℕ
   counted p es = count_by (λ e. p e.1) es
 
   pub counted_cons : (p : X → Bool) (e : ℕ × X) (es : List (ℕ × X)) → counted p (e ∷ es) ≡ cond (p e.1) 1 0 + counted p es
-  counted_cons p e es = sum_by-cons (λ (x : ℕ × X). cond (p x.1) 1 0) e es
+  counted_cons p e es = summed_cons (λ x. cond (p x) 1 0) e es
 
-  -- one that is there is counted
-  pub counted_there : (p : X → Bool) (k : ℕ) (es : List (ℕ × X)) → weight p (find nat_cmp k es) ≤ counted p es
-  counted_there p k [] = omega arith
-  counted_there p k (e ∷ es) =
-      elim (is_eq (nat_cmp k e.0)) as (λ b. weight p (cond b (Some e.1) (find nat_cmp k es)) ≤ counted p (e ∷ es)) [
-        | true ↦ omega (arith, counted_cons p e es)
-        | false ↦ omega (arith, counted_cons p e es, counted_there p k es)
-      ]
-
-  -- a count after a write
   pub counted_put : (p : X → Bool) (k : ℕ) (v : X) (es : List (ℕ × X)) → is_sorted nat_cmp es ≡ true → counted p (put nat_cmp k v es) + weight p (find nat_cmp k es) ≡ counted p es + cond (p v) 1 0
-  counted_put p k v [] s = omega (arith, counted_cons p (k, v) [])
-  counted_put p k v (e ∷ es) s =
-      elim (nat_cmp k e.0) as (λ o. nat_cmp k e.0 ≡ o → counted p (by_order o ((k, v) ∷ e ∷ es) ((e.0, v) ∷ es) (e ∷ put nat_cmp k v es)) + weight p (cond (is_eq o) (Some e.1) (find nat_cmp k es)) ≡ counted p (e ∷ es) + cond (p v) 1 0) [
-        | Less ↦ λ l. omega (arith, counted_cons p (k, v) (e ∷ es), ap (weight p) (absent k e es l s))
-        | Equal ↦ λ l. omega (arith, counted_cons p (e.0, v) es, counted_cons p e es)
-        | Greater ↦ λ l. omega (arith, counted_cons p e (put nat_cmp k v es), counted_cons p e es, counted_put p k v es (tail_sorted e es s))
-      ] refl
+  counted_put p k v es s = summed_put (λ x. cond (p x) 1 0) k v es s

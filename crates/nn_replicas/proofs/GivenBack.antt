@@ -9,14 +9,15 @@ use Rattle.std.specs.Ordering.{is_eq, is_lt}
 use Rattle.std.specs.FinMap.Entries.{find, below_all, is_sorted}
 use Rattle.nn_replicas.specs.declared.entry.Cell.{Cell}
 use Rattle.nn_replicas.specs.Table.{BlockEntry, Table}
-use Rattle.nn_replicas.specs.Entry.{is_ordered, no_entry, is_idle, is_idle_cell, is_closed, is_closed_row, is_safe, is_safe_row}
+use Rattle.nn_replicas.specs.Entry.{is_ordered, no_entry, is_idle, is_idle_cell, replication_in}
 use Rattle.nn_replicas.specs.Calls.{entry_at, entry_or_none, has_entry, row_at, replica_at, has_order, is_placed, without_entry, is_idle_at, room_given_back}
 use Rattle.nn_replicas.specs.Order.{IsInOrder}
 use Rattle.nn_replicas.specs.Effects.{GivesBack}
-use Rattle.nn_replicas.proofs.Entries.{halves, find_below, tail_sorted, weight, counted, counted_cons}
+use Rattle.nn_replicas.proofs.Entries.{halves, find_below, tail_sorted, share, summed, summed_cons, summed_there}
 use Rattle.nn_replicas.proofs.Lookups.{eq_is}
 use Rattle.nn_replicas.proofs.Entries.{lookup_is_find}
 use Rattle.nn_replicas.proofs.Tables.{Entries, table}
+use Rattle.nn_replicas.proofs.Figured.{Moves}
 
 -- ---- entries without one
 
@@ -74,13 +75,13 @@ module _ {X : Type 0} where
         | false ↦ ap (λ b. b && is_sorted nat_cmp (remove_entry (is_at (nat_cmp k)) es)) (below_removed e.0 k es parts.0) ∙ removed_sorted k es parts.1
       ]
 
-  -- a count without it
-  pub counted_removed : (p : X → Bool) (k : ℕ) (es : List (ℕ × X)) → counted p (remove_entry (is_at (nat_cmp k)) es) + weight p (find nat_cmp k es) ≡ counted p es
-  counted_removed p k [] = refl
-  counted_removed p k (e ∷ es) =
-      elim (is_eq (nat_cmp k e.0)) as (λ b. counted p (cond b es (e ∷ remove_entry (is_at (nat_cmp k)) es)) + weight p (cond b (Some e.1) (find nat_cmp k es)) ≡ counted p (e ∷ es)) [
-        | true ↦ omega (arith, counted_cons p e es)
-        | false ↦ omega (arith, counted_cons p e es, counted_cons p e (remove_entry (is_at (nat_cmp k)) es), counted_removed p k es)
+  -- the sum without it
+  pub summed_removed : (f : X → ℕ) (k : ℕ) (es : List (ℕ × X)) → summed f (remove_entry (is_at (nat_cmp k)) es) + share f (find nat_cmp k es) ≡ summed f es
+  summed_removed f k [] = refl
+  summed_removed f k (e ∷ es) =
+      elim (is_eq (nat_cmp k e.0)) as (λ b. summed f (cond b es (e ∷ remove_entry (is_at (nat_cmp k)) es)) + share f (cond b (Some e.1) (find nat_cmp k es)) ≡ summed f (e ∷ es)) [
+        | true ↦ omega (arith, summed_cons f e es)
+        | false ↦ omega (arith, summed_cons f e es, summed_cons f e (remove_entry (is_at (nat_cmp k)) es), summed_removed f k es)
       ]
 
 -- ---- what is known of a block that is idle
@@ -146,6 +147,7 @@ module _ (t : Table) (id : ℕ) (s : is_sorted nat_cmp t.entries ≡ true) (idle
   taken_gives : GivesBack t id (without_entry t id)
   taken_gives = record {
     rows = λ b. stays (λ e. e.row) idle_row b;
+    replications = λ b. stays replication_in (ap (λ r. replication_in (record (entry_or_none t id) { row = r })) idle_row) b;
     replicas = λ d b. stays (λ e. option_and_then (λ (c : Cell). c.replica) (find nat_cmp d e.cells)) (sym (found d).0) b;
     orders = λ d b. stays (λ e. is_ordered (find nat_cmp d e.cells)) (sym (found d).1) b;
     room = λ d b. gone d b ∙ ap (λ i. not ((b == id) && i) && is_placed t d b) (sym idle);
@@ -155,6 +157,7 @@ module _ (t : Table) (id : ℕ) (s : is_sorted nat_cmp t.entries ≡ true) (idle
 nothing_given : (t : Table) (id : ℕ) → is_idle_at t id ≡ false → GivesBack t id t
 nothing_given t id h = record {
   rows = λ b. refl;
+  replications = λ b. refl;
   replicas = λ d b. refl;
   orders = λ d b. refl;
   room = λ d b. sym (ap (λ i. not ((b == id) && i) && is_placed t d b) h ∙ same (b == id) (is_placed t d b));
@@ -188,12 +191,6 @@ give_back_in_order t id o = cases (is_idle_at t id) refl
 
 -- ---- the code's table
 
-is_closed_idle : (e : BlockEntry) → is_idle e ≡ true → is_closed e ≡ false
-is_closed_idle e h = ap is_closed_row (no_row e h)
-
-is_safe_idle : (min : ℕ) (e : BlockEntry) → is_idle e ≡ true → is_safe min e ≡ false
-is_safe_idle min e h = ap (λ r. is_safe_row min r e.cells) (no_row e h)
-
 -- the entry of a block id, which is idle, was taken out
 pub record Leaves (t : Table) (min b : ℕ) (es fs : Entries) (v : BlockEntry) : Type 0 where
   pub all : table min es ≡ t
@@ -204,15 +201,11 @@ pub record Leaves (t : Table) (min b : ℕ) (es fs : Entries) (v : BlockEntry) :
 pub leaves : (t : Table) (min b : ℕ) (es fs : Entries) (v : BlockEntry) → table min es ≡ t → Some v ≡ lookup (is_at (nat_cmp b)) es → is_idle v ≡ true → fs ≡ remove_entry (is_at (nat_cmp b)) es → Leaves t min b es fs v
 leaves t min b es fs v e h i g = record { all = e; found = sym (lookup_is_find b es) ∙ sym h; idle = i; gone = g }
 
-count_stays : (p : BlockEntry → Bool) {t : Table} {min b : ℕ} {es fs : Entries} {v : BlockEntry} → Leaves t min b es fs v → p v ≡ false → (n : ℕ) → n ≡ counted p es → n ≡ counted p fs
-count_stays p {t} {min} {b} {es} {fs} {v} l h n e =
-    omega (arith, e, counted_removed p b es, ap (weight p) l.found, ap {B = ℕ} (λ x. cond x 1 0) h, ap (counted p) l.gone)
-
-pub total_stays : {t : Table} {min b : ℕ} {es fs : Entries} {v : BlockEntry} → Leaves t min b es fs v → (n : ℕ) → n ≡ counted is_closed es → n ≡ counted is_closed fs
-total_stays {t} {min} {b} {es} {fs} {v} l n e = count_stays is_closed l (is_closed_idle v l.idle) n e
-
-pub safe_stays : {t : Table} {min b : ℕ} {es fs : Entries} {v : BlockEntry} → Leaves t min b es fs v → (n : ℕ) → n ≡ counted (is_safe min) es → n ≡ counted (is_safe min) fs
-safe_stays {t} {min} {b} {es} {fs} {v} l n e = count_stays (is_safe min) l (is_safe_idle min v l.idle) n e
+pub went : {t : Table} {min b : ℕ} {es fs : Entries} {v : BlockEntry} → Leaves t min b es fs v → Moves es fs (Some v) None
+went {t} {min} {b} {es} {fs} {v} l = record {
+  there = λ f. (let k = ap (share f) l.found in omega (arith, k, summed_there f b es));
+  sums = λ f. (let k = ap (share f) l.found in let g = ap (summed f) l.gone in omega (arith, k, g, summed_removed f b es));
+}
 
 pub given_new : {t : Table} {min b : ℕ} {es fs : Entries} {v : BlockEntry} → Leaves t min b es fs v → table min fs ≡ room_given_back t b
 given_new {t} {min} {b} {es} {fs} {v} l =

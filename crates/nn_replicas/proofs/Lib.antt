@@ -2,6 +2,8 @@ pub mod Entries
 pub mod Scanned
 pub mod Written
 pub mod Tables
+pub mod Figured
+pub mod Classed
 pub mod Listed
 pub mod Lookups
 pub mod Told

@@ -11,8 +11,8 @@ use Rattle.nn_types.specs.declared.replica.Replica.{Replica}
 use Rattle.nn_model.specs.declared.form.BlockRow.{BlockRow}
 use Rattle.nn_replicas.specs.declared.entry.Cell.{Cell}
 use Rattle.nn_replicas.specs.Table.{BlockEntry, Table}
-use Rattle.nn_replicas.specs.Entry.{is_ordered, no_cell, no_entry, cell_put, cell_erased, cell_retired, cell_of, has_cell, with_row, with_cell, with_place, with_put, with_erased, retired}
-use Rattle.nn_replicas.specs.Calls.{entry_at, entry_or_none, row_at, cell_at, replica_at, has_order, is_placed, with_entry, changed_from, changed_at, has_entry, empty_table, room_made, block_set, pair_placed, replica_put, replica_erased, block_retired}
+use Rattle.nn_replicas.specs.Entry.{is_ordered, no_cell, no_entry, cell_put, cell_erased, cell_retired, cell_of, has_cell, with_row, with_cell, with_place, with_put, with_erased, retired, replication_in}
+use Rattle.nn_replicas.specs.Calls.{entry_at, entry_or_none, row_at, replication_at, cell_at, replica_at, has_order, is_placed, with_entry, changed_from, changed_at, has_entry, empty_table, room_made, block_set, pair_placed, replica_put, replica_erased, block_retired}
 use Rattle.nn_replicas.specs.Order.{IsInOrder}
 use Rattle.nn_replicas.proofs.Entries.{put_sorted}
 use Rattle.nn_replicas.proofs.Written.{sorted_retired}
@@ -134,6 +134,13 @@ row_after_retire t id b = cases (entry_at t id) refl
     cases None e = sym (itself (row_at t) id b) ∙ ap (λ o. cond (b == id) (unwrap_or o no_entry).row (row_at t b)) e
     cases (Some v) e = asked (λ x. x.row) t id (retired v) b
 
+replication_after_retire : (t : Table) (id b : ℕ) → replication_at (block_retired t id) b ≡ cond (b == id) 0 (replication_at t b)
+replication_after_retire t id b = cases (entry_at t id) refl
+  where
+    cases : (o : Option BlockEntry) → entry_at t id ≡ o → replication_at (changed_from t id retired o) b ≡ cond (b == id) 0 (replication_at t b)
+    cases None e = sym (itself (replication_at t) id b) ∙ ap (λ o. cond (b == id) (replication_in (unwrap_or o no_entry)) (replication_at t b)) e
+    cases (Some v) e = asked replication_in t id (retired v) b
+
 -- ---- what a cell answers
 
 abbrev replica_of : Option Cell → Option Replica
@@ -211,6 +218,13 @@ placed_row e dn = elim (has_cell e dn) as (λ b. (cond b e (with_cell e dn no_ce
 erased_row : (e : BlockEntry) (dn : ℕ) → (with_erased e dn).row ≡ e.row
 erased_row e dn = elim (has_cell e dn) as (λ b. (cond b (with_cell e dn (cell_erased (is_some e.row) (cell_of e dn))) e).row ≡ e.row) [ true ↦ refl | false ↦ refl ]
 
+placed_replication : (e : BlockEntry) (dn : ℕ) → replication_in (with_place e dn) ≡ replication_in e
+placed_replication e dn = elim (has_cell e dn) as (λ b. replication_in (cond b e (with_cell e dn no_cell)) ≡ replication_in e) [ true ↦ refl | false ↦ refl ]
+
+erased_replication : (e : BlockEntry) (dn : ℕ) → replication_in (with_erased e dn) ≡ replication_in e
+erased_replication e dn =
+    elim (has_cell e dn) as (λ b. replication_in (cond b (with_cell e dn (cell_erased (is_some e.row) (cell_of e dn))) e) ≡ replication_in e) [ true ↦ refl | false ↦ refl ]
+
 -- ---- the laws
 
 -- there is an entry of the block id that was set
@@ -223,19 +237,21 @@ make_room_makes t id =
     let cells = λ (d b : ℕ). kept (λ x. find nat_cmp d x.cells) t id e refl b in
     record {
       rows = λ b. kept (λ x. x.row) t id e refl b;
+      replications = λ b. kept replication_in t id e refl b;
       replicas = λ d b. ap replica_of (cells d b);
       orders = λ d b. ap is_ordered (cells d b);
       room = λ d b. ap is_some (cells d b);
       entries = λ b. entry_set t id e b;
     }
 
-pub set_block_names : (t : Table) (block : Block) (closed : Bool) → Names t block closed (block_set t block closed)
-set_block_names t block closed =
+pub set_block_names : (t : Table) (block : Block) (closed : Bool) (replication : ℕ) → Names t block closed replication (block_set t block closed replication)
+set_block_names t block closed replication =
     let row : BlockRow = record { block = block; closed = closed } in
-    let e = with_row (entry_or_none t block.id) row in
+    let e = with_row (entry_or_none t block.id) row replication in
     let cells = λ (d b : ℕ). kept (λ x. find nat_cmp d x.cells) t block.id e refl b in
     record {
       rows = λ b. asked (λ x. x.row) t block.id e b;
+      replications = λ b. asked replication_in t block.id e b;
       replicas = λ d b. ap replica_of (cells d b);
       orders = λ d b. ap is_ordered (cells d b);
       room = λ d b. ap is_some (cells d b);
@@ -246,6 +262,7 @@ place_places t dn id =
     let o = cell_at t dn id in
     record {
       rows = λ b. kept (λ x. x.row) t id (with_place (entry_or_none t id) dn) (placed_row (entry_or_none t id) dn) b;
+      replications = λ b. kept replication_in t id (with_place (entry_or_none t id) dn) (placed_replication (entry_or_none t id) dn) b;
       replicas = λ d b.
           ap replica_of (cell_after_place t dn id d b) ∙ through replica_of (is_pair dn id d b) (Some (unwrap_or o no_cell)) (cell_at t d b)
           ∙ ap (λ r. cond (is_pair dn id d b) r (replica_at t d b)) (filled_replica o) ∙ both_itself (replica_at t) dn id d b;
@@ -264,6 +281,7 @@ put_writes t dn id r =
     let w = cell_put (is_named t id) r c in
     record {
       rows = λ b. kept (λ x. x.row) t id (with_put (entry_or_none t id) dn r) refl b;
+      replications = λ b. kept replication_in t id (with_put (entry_or_none t id) dn r) refl b;
       replicas = λ d b.
           ap replica_of (cell_after_put t dn id r d b) ∙ through replica_of (is_pair dn id d b) (Some w) (cell_at t d b)
           ∙ ap (λ x. cond (is_pair dn id d b) x (replica_at t d b)) (put_replica (is_named t id) r c ∙ ap (cond (is_named t id) (Some r)) (filled_replica o))
@@ -283,6 +301,7 @@ erase_writes t dn id =
     let w = option_map (cell_erased (is_named t id)) o in
     record {
       rows = λ b. kept_change (λ x. x.row) t id (λ e. with_erased e dn) (λ e. erased_row e dn) b;
+      replications = λ b. kept_change replication_in t id (λ e. with_erased e dn) (λ e. erased_replication e dn) b;
       replicas = λ d b.
           ap replica_of (cell_after_erase t dn id d b) ∙ through replica_of (is_pair dn id d b) w (cell_at t d b)
           ∙ ap (λ x. cond (is_pair dn id d b) x (replica_at t d b)) (erased_replica (is_named t id) o)
@@ -300,6 +319,7 @@ erase_writes t dn id =
 pub retire_retires : (t : Table) (id : ℕ) → Retires t id (block_retired t id)
 retire_retires t id = record {
   rows = λ b. row_after_retire t id b;
+  replications = λ b. replication_after_retire t id b;
   replicas = λ d b.
       ap replica_of (cell_after_retire t id d b) ∙ through replica_of (b == id) (option_map cell_retired (cell_at t d id)) (cell_at t d b)
       ∙ ap (λ x. cond (b == id) x (replica_at t d b)) (retired_replica (cell_at t d id));
@@ -340,8 +360,8 @@ new_in_order min = record { blocks = refl; datanodes = λ id. refl }
 pub make_room_in_order : (t : Table) (id : ℕ) → IsInOrder t → IsInOrder (room_made t id)
 make_room_in_order t id h = cells_sorted_with t id (entry_or_none t id) h (h.datanodes id)
 
-pub set_block_in_order : (t : Table) (block : Block) (closed : Bool) → IsInOrder t → IsInOrder (block_set t block closed)
-set_block_in_order t block closed h = cells_sorted_with t block.id _ h (h.datanodes block.id)
+pub set_block_in_order : (t : Table) (block : Block) (closed : Bool) (replication : ℕ) → IsInOrder t → IsInOrder (block_set t block closed replication)
+set_block_in_order t block closed replication h = cells_sorted_with t block.id _ h (h.datanodes block.id)
 
 pub place_in_order : (t : Table) (dn id : ℕ) → IsInOrder t → IsInOrder (pair_placed t dn id)
 place_in_order t dn id h = cells_sorted_with t id (with_place (entry_or_none t id) dn) h (cases (has_cell (entry_or_none t id) dn))

@@ -1,5 +1,5 @@
 -- Where the cell of a DataNode stands, and where a new one goes.
-use Rattle.std.proofs.Common.{◌≡◌, ℕ, suc, ◌<◌, ◌≤◌, Bool, true, false, cond, List, [], ◌∷◌, length, get_or, set, Some, None, refl, sym, ap, ◌∙◌, arith, nat_lt, nat_eq, nat_cmp, ltb-true, ltb-false, eqb-true}
+use Rattle.std.proofs.Common.{◌≡◌, ℕ, suc, ◌<◌, ◌≤◌, Bool, true, false, cond, List, [], ◌∷◌, length, get_or, set, Some, None, is_some, refl, sym, ap, ◌∙◌, arith, nat_lt, nat_eq, nat_cmp, ltb-true, ltb-false, eqb-true}
 use Rattle.std.proofs.lemmas.Bool.{eqb-false}
 use Rattle.std.specs.List.{insert}
 use Rattle.std.specs.declared.cmp.Ordering.{Ordering}
@@ -8,6 +8,7 @@ use Rattle.std.specs.Ordering.{is_eq, MatchOrdering}
 use Rattle.std.specs.Cmp.{nat_cmp_is}
 use Rattle.std.specs.FinMap.Entries.{by_order, find, put, is_sorted}
 use Rattle.nn_replicas.specs.declared.entry.Cell.{Cell}
+use Rattle.nn_replicas.specs.Entry.{no_cell}
 use Rattle.nn_replicas.specs.Scan.{place, is_here}
 use Rattle.nn_replicas.proofs.Entries.{absent, tail_sorted}
 
@@ -107,3 +108,11 @@ find_gone dn (x ∷ xs) s h =
           let less : nat_cmp dn x.0 ≡ Less = tested_by dn x.0 ∙ ap (λ b. tested b (nat_eq x.0 dn)) l ∙ ap (tested false) g in
           ap (λ e. cond e (Some x.1) (find nat_cmp dn xs)) g ∙ absent dn x xs less s
     ] refl h
+
+-- it is here where it is found
+pub here_found : (dn : ℕ) (xs : List (ℕ × Cell)) → is_sorted nat_cmp xs ≡ true → is_here dn xs ≡ is_some (find nat_cmp dn xs)
+here_found dn xs s = cases (is_here dn xs) refl
+  where
+    cases : (b : Bool) → is_here dn xs ≡ b → is_here dn xs ≡ is_some (find nat_cmp dn xs)
+    cases true h = h ∙ sym (ap is_some (find_here dn xs (dn, no_cell) h))
+    cases false h = h ∙ sym (ap is_some (find_gone dn xs s h))

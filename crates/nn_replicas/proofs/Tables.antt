@@ -1,5 +1,5 @@
 -- The table and its counts after the entry of one block id changed.
-use Rattle.std.proofs.Common.{◌≡◌, ℕ, ◌+◌, ◌-◌, ◌<◌, ◌≤◌, ◌^◌, Bool, true, false, cond, List, [], length, Option, Some, None, is_some, Result, Ok, Err, OnErr, refl, sym, ap, subst, ◌∙◌, arith, Fits, w64, nat_cmp, add-zero}
+use Rattle.std.proofs.Common.{◌≡◌, ℕ, true, false, List, [], Option, Some, None, is_some, Result, Ok, Err, OnErr, sym, ap, subst, ◌∙◌, nat_cmp}
 use Rattle.std.specs.Prelude.{unwrap_or}
 use Rattle.std.specs.BTreeMap.{insert_entry, is_at}
 use Rattle.std.specs.Map.{keys_of, lookup, set_value}
@@ -7,12 +7,10 @@ use Rattle.std.specs.List.Sorted.{IsStrictlySortedBy}
 use Rattle.std.specs.FinMap.Entries.{find, put, is_sorted}
 use Rattle.std.proofs.lemmas.Bool.{both_ways}
 use Rattle.std.proofs.lemmas.Map.{keys-set_value}
-use Rattle.std.proofs.lemmas.List.Sums.{count_by-le-length}
 use Rattle.nn_replicas.specs.Table.{BlockEntry, Table}
-use Rattle.nn_replicas.specs.Entry.{is_ordered, replicas_in, no_entry, no_cell, has_cell, cell_of, with_cell, cell_erased, with_place, with_erased, is_closed}
-use Rattle.nn_replicas.specs.Calls.{entry_or_none, replicas_at, has_order, is_placed, has_entry, with_entry, changed_from, changed_at}
-use Rattle.nn_replicas.proofs.Entries.{weight, counted, counted_there, counted_put, sorted_of, lookup_is_find, insert_is_put, set_is_put, put_same}
-use mir.Val.{bool_byte}
+use Rattle.nn_replicas.specs.Entry.{is_ordered, replicas_in, no_entry}
+use Rattle.nn_replicas.specs.Calls.{entry_at, entry_or_none, replicas_at, has_order, is_placed, has_entry, with_entry, changed_from, changed_at}
+use Rattle.nn_replicas.proofs.Entries.{sorted_of, lookup_is_find, insert_is_put, set_is_put, put_same}
 
 abbrev pub Entries : Type 0
 Entries = List (ℕ × BlockEntry)
@@ -42,42 +40,6 @@ written es fs b v w h s f =
 pub added : (es fs : Entries) (b : ℕ) (w : BlockEntry) → None ≡ lookup (is_at (nat_cmp b)) es → IsStrictlySortedBy nat_cmp (keys_of es) → fs ≡ insert_entry nat_cmp es b w → Becomes es fs b None w
 added es fs b w h s f = record { sorted = sorted_of es s; found = sym (lookup_is_find b es) ∙ sym h; put = f ∙ insert_is_put b w es }
 
--- ---- the counts
-
-one_le : (b : Bool) → cond b 1 0 ≤ 1
-one_le true = omega arith
-one_le false = omega arith
-
-pub byte_one : (n : ℕ) (b : Bool) → n ≡ bool_byte b → n ≡ cond b 1 0
-byte_one n true h = h
-byte_one n false h = h
-
-module _ (p : BlockEntry → Bool) where
-  -- what counted is counted
-  pub was_counted : {es fs : Entries} {b : ℕ} {old : Option BlockEntry} {w : BlockEntry} → Becomes es fs b old w → (n a : ℕ) → n ≡ counted p es → a ≡ weight p old → a ≤ n
-  was_counted {es} {fs} {b} {old} {w} h n a e i = omega (arith, e, i, counted_there p b es, ap (weight p) h.found)
-
-  pub count_now : {es fs : Entries} {b : ℕ} {old : Option BlockEntry} {w : BlockEntry} → Becomes es fs b old w → (n a z : ℕ) → n ≡ counted p es → a ≡ weight p old → z ≡ cond (p w) 1 0 → (n - a) + z ≡ counted p fs
-  count_now {es} {fs} {b} {old} {w} h n a z e i j =
-      omega (arith, e, i, j, was_counted h n a e i, counted_put p b w es h.sorted, ap (weight p) h.found, ap (counted p) h.put)
-
-  pub count_more : {es fs : Entries} {b : ℕ} {w : BlockEntry} → Becomes es fs b None w → (n z : ℕ) → n ≡ counted p es → z ≡ cond (p w) 1 0 → n + z ≡ counted p fs
-  count_more {es} {fs} {b} {w} h n z e j = omega (arith, e, j, counted_put p b w es h.sorted, ap (weight p) h.found, ap (counted p) h.put)
-
-  pub count_less : {es fs : Entries} {b : ℕ} {old : Option BlockEntry} {w : BlockEntry} → Becomes es fs b old w → (n a : ℕ) → n ≡ counted p es → a ≡ weight p old → p w ≡ false → n - a ≡ counted p fs
-  count_less {es} {fs} {b} {old} {w} h n a e i j = sym (add-zero (n - a)) ∙ count_now h n a 0 e i (sym (ap (λ b. cond b 1 0) j))
-
-  pub count_kept : {es fs : Entries} {b : ℕ} {old : Option BlockEntry} {w : BlockEntry} → Becomes es fs b old w → (n : ℕ) → n ≡ counted p es → weight p old ≡ cond (p w) 1 0 → n ≡ counted p fs
-  count_kept {es} {fs} {b} {old} {w} h n e i =
-      omega (arith, e, i, counted_put p b w es h.sorted, ap (weight p) h.found, ap (counted p) h.put)
-
-  -- no more are counted than there are
-  pub count_fits : (es : Entries) (n a z : ℕ) (b : Bool) → n ≡ counted p es → length es < 2 ^ 63 → z ≡ cond b 1 0 → Fits w64 ((n - a) + z)
-  count_fits es n a z b e h j = omega (arith, e, count_by-le-length (λ (x : ℕ × BlockEntry). p x.1) es, one_le b, j)
-
-  pub count_fits_more : (es : Entries) (n z : ℕ) (b : Bool) → n ≡ counted p es → length es < 2 ^ 63 → z ≡ cond b 1 0 → Fits w64 (n + z)
-  count_fits_more es n z b e h j = omega (arith, e, count_by-le-length (λ (x : ℕ × BlockEntry). p x.1) es, one_le b, j)
-
 -- ---- the table
 
 pub with_new : {es fs : Entries} {b : ℕ} {old : Option BlockEntry} {w : BlockEntry} → Becomes es fs b old w → (t : Table) (min : ℕ) (g : BlockEntry → BlockEntry) → table min es ≡ t → w ≡ g (unwrap_or old no_entry) → table min fs ≡ with_entry t b (g (entry_or_none t b))
@@ -97,6 +59,13 @@ pub same_new : {es fs : Entries} {b : ℕ} {v w : BlockEntry} → Becomes es fs 
 same_new {es} {fs} {b} {v} {w} h t min e m = ap (table min) (h.put ∙ ap (λ x. put nat_cmp b x es) m ∙ put_same b v es h.found h.sorted) ∙ e
 
 -- ---- what stands at a block id
+
+pub none_there : (t : Table) (min b : ℕ) (es : Entries) → table min es ≡ t → None ≡ lookup (is_at (nat_cmp b)) es → entry_at t b ≡ None
+none_there t min b es e h = ap (λ x. entry_at x b) (sym e) ∙ sym (lookup_is_find b es) ∙ sym h
+
+-- an entry where there was none
+pub add_new : (t : Table) (b : ℕ) (g : BlockEntry → BlockEntry) (w : BlockEntry) → entry_at t b ≡ None → w ≡ g no_entry → with_entry t b w ≡ with_entry t b (g (entry_or_none t b))
+add_new t b g w none m = ap (with_entry t b) (m ∙ ap (λ o. g (unwrap_or o no_entry)) (sym none))
 
 pub no_entry_there : {P : Type 0} (t : Table) (min b : ℕ) (es : Entries) → table min es ≡ t → None ≡ lookup (is_at (nat_cmp b)) es → has_entry t b ≡ true → P
 no_entry_there t min b es e h has =
@@ -123,15 +92,6 @@ no_replicas t min b es e h = ap (λ o. replicas_in (unwrap_or o no_entry).cells)
 
 pub replicas_there : (t : Table) (min b : ℕ) (es : Entries) (v : BlockEntry) → table min es ≡ t → Some v ≡ lookup (is_at (nat_cmp b)) es → replicas_in v.cells ≡ replicas_at t b
 replicas_there t min b es v e h = ap (λ o. replicas_in (unwrap_or o no_entry).cells) (h ∙ lookup_is_find b es) ∙ ap (λ x. replicas_at x b) e
-
--- ---- what leaves the row
-
-pub closed_placed : (e : BlockEntry) (dn : ℕ) → is_closed (with_place e dn) ≡ is_closed e
-closed_placed e dn = elim (has_cell e dn) as (λ b. is_closed (cond b e (with_cell e dn no_cell)) ≡ is_closed e) [ true ↦ refl | false ↦ refl ]
-
-pub closed_erased : (e : BlockEntry) (dn : ℕ) → is_closed (with_erased e dn) ≡ is_closed e
-closed_erased e dn =
-    elim (has_cell e dn) as (λ b. is_closed (cond b (with_cell e dn (cell_erased (is_some e.row) (cell_of e dn))) e) ≡ is_closed e) [ true ↦ refl | false ↦ refl ]
 
 pub on_err_any : {X E P : Type 0} (r : Result X E) → P → OnErr r P
 on_err_any (Ok x) p = tt

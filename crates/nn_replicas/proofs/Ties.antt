@@ -1,150 +1,126 @@
--- The counts of a table that shows a namespace.
-use Rattle.std.proofs.Common.{◌≡◌, ℕ, zero, suc, ◌+◌, ◌<◌, ◌≤◌, Bool, true, false, cond, List, [], ◌∷◌, ◌++◌, map, length, Option, Some, None, is_some, refl, sym, ap, subst, ◌∙◌, arith, nat_cmp, nat_le, eqb-true, eq-eqb}
-use Rattle.std.specs.Prelude.{◌&&◌, ◌||◌, ◌==◌, unwrap_or, option_and_then, flat_map, filter}
+-- The figures of a table that shows a namespace.
+use Rattle.std.proofs.Common.{◌≡◌, ℕ, zero, suc, ◌+◌, ◌<◌, ◌≤◌, Bool, true, false, cond, List, [], ◌∷◌, ◌++◌, map, length, Option, Some, None, is_some, refl, sym, ap, subst, ◌∙◌, inl, inr, arith, nat_cmp, nat_le, nat_lt, eqb-true, eq-eqb}
+use Rattle.std.specs.Prelude.{◌&&◌, ◌||◌, ◌==◌, unwrap_or, option_and_then, flat_map, filter, count_by}
 use Rattle.std.specs.Prelude as std
-use Rattle.std.specs.List.{list_any}
+use Rattle.std.specs.List.{sum_by}
+use Rattle.std.specs.Option.{option_map}
 use Rattle.std.specs.FinMap.Entries.{find, put, is_sorted, below_all}
-use Rattle.std.proofs.lemmas.Bool.{both_ways, ne_eqb, eqb-false}
+use Rattle.std.proofs.lemmas.Bool.{ne_eqb, eqb-false}
+use Rattle.std.proofs.lemmas.List.{length-append}
+use Rattle.std.proofs.lemmas.List.Elements.{filter-append}
+use Rattle.std.proofs.lemmas.List.Sums.{sum_by-cons, length-filter}
 use Rattle.nn_types.specs.declared.block.Block.{Block}
 use Rattle.nn_types.specs.declared.replica.Replica.{Replica}
+use Rattle.nn_types.specs.declared.replica.Class.{Class}
+use Rattle.nn_types.specs.declared.replica.Class.TheVariants.{Stale, Ahead, WrongLength}
 use Rattle.nn_model.specs.declared.form.Form.{Form}
 use Rattle.nn_model.specs.declared.form.Form.TheVariants.{Dir, File}
 use Rattle.nn_model.specs.declared.form.BlockRow.{BlockRow}
-use Rattle.nn_model.specs.Namespace.{Path, Namespace}
+use Rattle.nn_model.specs.Namespace.{Path, Namespace, all_blocks}
 use Rattle.nn_model.specs.Blocks.{block_row, rows_of, block_rows}
-use Rattle.nn_model.specs.WellFormed.{times, HasWellFormedBlocks}
-use Rattle.nn_model.specs.Counts.{is_live, live_up_to, live_count, closed_blocks_of, closed_blocks}
+use Rattle.nn_model.specs.WellFormed.{Has, times, HasWellFormedBlocks}
+use Rattle.nn_model.specs.Counts.{class_of, is_live, live_up_to, live_count, closed_blocks_of, closed_blocks}
+use Rattle.nn_model.proofs.InRows.{all_in, has_left, has_right}
 use Rattle.nn_model.proofs.Members.{rows_in, blocks_of_all}
 use Rattle.nn_replicas.specs.declared.entry.Cell.{Cell}
 use Rattle.nn_replicas.specs.Table.{BlockEntry, Table}
-use Rattle.nn_replicas.specs.Entry.{no_entry, is_closed, is_closed_row, is_safe, is_safe_row, live_cells}
-use Rattle.nn_replicas.specs.Agreement.{Shows, HasCounts, CountsAgree}
-use Rattle.nn_replicas.specs.Calls.{entry_or_none, replica_at}
-use Rattle.nn_replicas.proofs.Entries.{weight, counted, counted_put, counted_cons, tail_sorted, put_sorted, find_below, halves, same_some}
+use Rattle.nn_replicas.specs.Entry.{no_entry, is_closed, is_closed_row, is_safe, is_safe_row, live_cells, replication_in}
+use Rattle.nn_replicas.specs.Figures.{is_class, cells_of, replicas_of, live_of, one_if}
+use Rattle.nn_replicas.specs.Agreement.{replications_of, Shows, class_up_to, class_count, passing_in, passing, HasCounts, CountsAgree}
+use Rattle.nn_replicas.specs.Calls.{entry_or_none, replica_at, replication_at}
+use Rattle.nn_replicas.proofs.Entries.{share, summed, summed_put, summed_cons, counted_cons, tail_sorted, put_sorted, find_below, halves, same_some}
 use Rattle.nn_replicas.proofs.Lookups.{find_put, eq_is}
-
-abbrev pub has_block : ℕ → List Block → Bool
-has_block id bs = list_any (λ b. b.id == id) bs
-
-not_same : (x y : ℕ) → (x == y) ≡ false → (y == x) ≡ false
-not_same x y h = ne_eqb y x (λ e. eqb-false x y h (sym e))
-
-none_times : (id : ℕ) (bs : List Block) → times id bs ≤ 0 → has_block id bs ≡ false
-none_times id [] h = refl
-none_times id (b ∷ bs) h = cases (none_times id bs) (b.id == id) refl h
-  where
-    cases : (times id bs ≤ 0 → has_block id bs ≡ false) → (same : Bool) → (b.id == id) ≡ same → cond same 1 0 + times id bs ≤ 0 → (same || has_block id bs) ≡ false
-    cases next true e g = absurd (omega (arith, g))
-    cases next false e g = next (omega (arith, g))
-
--- ---- a count over entries, by the ids of what is counted
-
-module _ (p : BlockEntry → Bool) (none : p no_entry ≡ false) where
-  weight_there : (o : Option BlockEntry) → p (unwrap_or o no_entry) ≡ true → weight p o ≡ 1
-  weight_there None h = absurd (both_ways _ none h)
-  weight_there (Some e) h = ap (λ b. cond b 1 0) h
-
-  counts_none : (es : List (ℕ × BlockEntry)) → is_sorted nat_cmp es ≡ true → ((id : ℕ) → p (unwrap_or (find nat_cmp id es) no_entry) ≡ false) → counted p es ≡ 0
-  counts_none [] s h = refl
-  counts_none (e ∷ es) s h =
-      let first : p e.1 ≡ false = ap (λ x. p (unwrap_or (cond x (Some e.1) (find nat_cmp e.0 es)) no_entry)) (sym (eq_is e.0 e.0 ∙ eq-eqb e.0 e.0 refl)) ∙ h e.0 in
-      let one : cond {A = ℕ} (p e.1) 1 0 ≡ 0 = ap (λ x. cond x 1 0) first in
-      omega (arith, one, counted_cons p e es, counts_none es (tail_sorted e es s) (λ id. rest id (id == e.0) refl (h id)))
-    where
-      rest : (id : ℕ) (same : Bool) → (id == e.0) ≡ same → p (unwrap_or (find nat_cmp id (e ∷ es)) no_entry) ≡ false → p (unwrap_or (find nat_cmp id es) no_entry) ≡ false
-      rest id true q g =
-          ap (λ o. p (unwrap_or o no_entry)) (ap (λ k. find nat_cmp k es) (eqb-true id e.0 q) ∙ find_below e.0 es (halves (below_all nat_cmp e.0 es) (is_sorted nat_cmp es) s).0) ∙ none
-      rest id false q g = ap (λ x. p (unwrap_or (cond x (Some e.1) (find nat_cmp id es)) no_entry)) (sym (eq_is id e.0 ∙ q)) ∙ g
-
-  pub counts_ids : (bs : List Block) (es : List (ℕ × BlockEntry)) → is_sorted nat_cmp es ≡ true → ((id : ℕ) → times id bs ≤ 1) → ((id : ℕ) → p (unwrap_or (find nat_cmp id es) no_entry) ≡ has_block id bs) → counted p es ≡ length bs
-  counts_ids [] es s o h = counts_none es s h
-  counts_ids (b ∷ bs) es s o h =
-      let fs = put nat_cmp b.id no_entry es in
-      let there : p (unwrap_or (find nat_cmp b.id es) no_entry) ≡ true = h b.id ∙ ap (λ x. x || has_block b.id bs) (eq-eqb b.id b.id refl) in
-      let later : counted p fs ≡ length bs = counts_ids bs fs (put_sorted b.id no_entry es s) (λ id. fewer id (o id)) (λ id. ap (λ x. p (unwrap_or x no_entry)) (find_put id b.id no_entry es) ∙ rest id (id == b.id) refl) in
-      let nothing : cond {A = ℕ} (p no_entry) 1 0 ≡ 0 = ap (λ x. cond x 1 0) none in
-      omega (arith, later, counted_put p b.id no_entry es s, weight_there (find nat_cmp b.id es) there, nothing)
-    where
-      fewer : (id : ℕ) → cond (b.id == id) 1 0 + times id bs ≤ 1 → times id bs ≤ 1
-      fewer id g = omega (arith, g)
-
-      gone : (id : ℕ) → (b.id == id) ≡ true → cond (b.id == id) 1 0 + times id bs ≤ 1 → times id bs ≤ 0
-      gone id e g = (let k : cond {A = ℕ} (b.id == id) 1 0 ≡ 1 = ap (λ x. cond x 1 0) e in omega (arith, g, k))
-
-      rest : (id : ℕ) (same : Bool) → (id == b.id) ≡ same → p (unwrap_or (cond same (Some no_entry) (find nat_cmp id es)) no_entry) ≡ has_block id bs
-      rest id true e = none ∙ sym (none_times id bs (gone id (eq-eqb b.id id (sym (eqb-true id b.id e))) (o id)))
-      rest id false e = h id ∙ ap (λ x. x || has_block id bs) (not_same id b.id e)
-
--- ---- the rows of a namespace
 
 abbrev pub block_of : BlockRow → Block
 block_of r = r.block
 
-abbrev pub chosen : (BlockRow → Bool) → Option BlockRow → Bool
-chosen q None = false
-chosen q (Some r) = q r
+not_same : (x y : ℕ) → (x == y) ≡ false → (y == x) ≡ false
+not_same x y h = ne_eqb y x (λ e. eqb-false x y h (sym e))
 
-absent_row : (q : BlockRow → Bool) (id : ℕ) (rs : List BlockRow) → times id (map block_of rs) ≤ 0 → has_block id (map block_of (filter q rs)) ≡ false
-absent_row q id [] h = refl
-absent_row q id (r ∷ rs) h = cases (absent_row q id rs) (r.block.id == id) refl (q r) h
+-- ---- a sum over entries, by the rows of what is summed
+
+abbrev row_at : ℕ → List BlockRow → Option BlockRow
+row_at id rs = std.find (λ r. r.block.id == id) rs
+
+abbrev by_row : (BlockRow → ℕ) → Option BlockRow → ℕ
+by_row v None = 0
+by_row v (Some r) = v r
+
+abbrev row_sum : (BlockRow → ℕ) → List BlockRow → ℕ
+row_sum v [] = 0
+row_sum v (r ∷ rs) = v r + row_sum v rs
+
+none_left : (id : ℕ) (rs : List BlockRow) → times id (map block_of rs) ≤ 0 → row_at id rs ≡ None
+none_left id [] h = refl
+none_left id (r ∷ rs) h = cases (none_left id rs) (r.block.id == id) refl h
   where
-    cases : (times id (map block_of rs) ≤ 0 → has_block id (map block_of (filter q rs)) ≡ false) → (same : Bool) → (r.block.id == id) ≡ same → (b : Bool) → cond same 1 0 + times id (map block_of rs) ≤ 0 → has_block id (map block_of (cond b (r ∷ filter q rs) (filter q rs))) ≡ false
-    cases next true e b g = absurd (omega (arith, g))
-    cases next false e true g = ap (λ x. x || has_block id (map block_of (filter q rs))) e ∙ next (omega (arith, g))
-    cases next false e false g = next (omega (arith, g))
+    cases : (times id (map block_of rs) ≤ 0 → row_at id rs ≡ None) → (same : Bool) → (r.block.id == id) ≡ same → cond same 1 0 + times id (map block_of rs) ≤ 0 → cond same (Some r) (row_at id rs) ≡ None
+    cases next true e g = absurd (omega (arith, g))
+    cases next false e g = next (omega (arith, g))
 
--- the first row with an id is chosen where one of the chosen ones has the id
-pub chosen_has : (q : BlockRow → Bool) (id : ℕ) (rs : List BlockRow) → times id (map block_of rs) ≤ 1 → chosen q (std.find (λ r. r.block.id == id) rs) ≡ has_block id (map block_of (filter q rs))
-chosen_has q id [] h = refl
-chosen_has q id (r ∷ rs) h = cases (chosen_has q id rs) (r.block.id == id) refl (q r) refl h
-  where
-    cases : (times id (map block_of rs) ≤ 1 → chosen q (std.find (λ r. r.block.id == id) rs) ≡ has_block id (map block_of (filter q rs))) → (same : Bool) → (r.block.id == id) ≡ same → (b : Bool) → q r ≡ b → cond same 1 0 + times id (map block_of rs) ≤ 1
-        → chosen q (cond same (Some r) (std.find (λ r. r.block.id == id) rs)) ≡ has_block id (map block_of (cond b (r ∷ filter q rs) (filter q rs)))
-    cases next true e true f g = f ∙ sym (ap (λ x. x || has_block id (map block_of (filter q rs))) e)
-    cases next true e false f g = f ∙ sym (absent_row q id rs (omega (arith, g)))
-    cases next false e true f g = next (omega (arith, g)) ∙ sym (ap (λ x. x || has_block id (map block_of (filter q rs))) e)
-    cases next false e false f g = next (omega (arith, g))
+module _ (w : BlockEntry → ℕ) (none : w no_entry ≡ 0) where
+  share_there : (o : Option BlockEntry) → share w o ≡ w (unwrap_or o no_entry)
+  share_there None = sym none
+  share_there (Some e) = refl
 
--- no id stands more often among the chosen ones
-pub chosen_once : (q : BlockRow → Bool) (id : ℕ) (rs : List BlockRow) → times id (map block_of (filter q rs)) ≤ times id (map block_of rs)
-chosen_once q id [] = omega arith
-chosen_once q id (r ∷ rs) = cases (chosen_once q id rs) (q r)
-  where
-    cases : times id (map block_of (filter q rs)) ≤ times id (map block_of rs) → (b : Bool) → times id (map block_of (cond b (r ∷ filter q rs) (filter q rs))) ≤ cond (r.block.id == id) 1 0 + times id (map block_of rs)
-    cases next true = omega (arith, next)
-    cases next false = omega (arith, next)
+  sums_none : (es : List (ℕ × BlockEntry)) → is_sorted nat_cmp es ≡ true → ((id : ℕ) → w (unwrap_or (find nat_cmp id es) no_entry) ≡ 0) → summed w es ≡ 0
+  sums_none [] s h = refl
+  sums_none (e ∷ es) s h =
+      let first : w e.1 ≡ 0 = ap (λ x. w (unwrap_or (cond x (Some e.1) (find nat_cmp e.0 es)) no_entry)) (sym (eq_is e.0 e.0 ∙ eq-eqb e.0 e.0 refl)) ∙ h e.0 in
+      omega (arith, first, summed_cons w e es, sums_none es (tail_sorted e es s) (λ id. rest id (id == e.0) refl (h id)))
+    where
+      rest : (id : ℕ) (same : Bool) → (id == e.0) ≡ same → w (unwrap_or (find nat_cmp id (e ∷ es)) no_entry) ≡ 0 → w (unwrap_or (find nat_cmp id es) no_entry) ≡ 0
+      rest id true q g =
+          ap (λ o. w (unwrap_or o no_entry)) (ap (λ k. find nat_cmp k es) (eqb-true id e.0 q) ∙ find_below e.0 es (halves (below_all nat_cmp e.0 es) (is_sorted nat_cmp es) s).0) ∙ none
+      rest id false q g = ap (λ x. w (unwrap_or (cond x (Some e.1) (find nat_cmp id es)) no_entry)) (sym (eq_is id e.0 ∙ q)) ∙ g
 
--- the blocks of closed files that pass, as chosen rows
-module _ (p : Block → Bool) where
-  abbrev passing : BlockRow → Bool
-  passing r = r.closed && p r.block
+  -- where each id stands once
+  sums_rows : (v : BlockRow → ℕ) (rs : List BlockRow) (es : List (ℕ × BlockEntry)) → is_sorted nat_cmp es ≡ true → ((id : ℕ) → times id (map block_of rs) ≤ 1)
+      → ((id : ℕ) → w (unwrap_or (find nat_cmp id es) no_entry) ≡ by_row v (row_at id rs)) → summed w es ≡ row_sum v rs
+  sums_rows v [] es s o h = sums_none es s h
+  sums_rows v (r ∷ rs) es s o h =
+      let id = r.block.id in
+      let fs = put nat_cmp id no_entry es in
+      let here : w (unwrap_or (find nat_cmp id es) no_entry) ≡ v r = h id ∙ ap (λ x. by_row v (cond x (Some r) (row_at id rs))) (eq-eqb id id refl) in
+      let later : summed w fs ≡ row_sum v rs = sums_rows v rs fs (put_sorted id no_entry es s) (λ i. fewer i (o i))
+      (λ i. ap (λ x. w (unwrap_or x no_entry)) (find_put i id no_entry es) ∙ rest i (i == id) refl) in
+      omega (arith, later, summed_put w id no_entry es s, share_there (find nat_cmp id es), here, none)
+    where
+      fewer : (i : ℕ) → cond (r.block.id == i) 1 0 + times i (map block_of rs) ≤ 1 → times i (map block_of rs) ≤ 1
+      fewer i g = omega (arith, g)
 
-  file_chosen : (closed : Bool) (bs : List Block) (rs : List BlockRow) → map block_of (filter passing (map (block_row closed) bs ++ rs)) ≡ filter p (cond closed bs []) ++ map block_of (filter passing rs)
-  file_chosen true [] rs = refl
-  file_chosen true (b ∷ bs) rs =
-      let left = filter passing (map (block_row true) bs ++ rs) in
-      elim (p b) as (λ x. map block_of (cond x (block_row true b ∷ left) left) ≡ cond x (b ∷ filter p bs) (filter p bs) ++ map block_of (filter passing rs)) [
-        | true ↦ ap (λ z. b ∷ z) (file_chosen true bs rs)
-        | false ↦ file_chosen true bs rs
-      ]
-  file_chosen false [] rs = refl
-  file_chosen false (b ∷ bs) rs = file_chosen false bs rs
+      gone : (i : ℕ) → (r.block.id == i) ≡ true → cond (r.block.id == i) 1 0 + times i (map block_of rs) ≤ 1 → times i (map block_of rs) ≤ 0
+      gone i e g = (let k : cond {A = ℕ} (r.block.id == i) 1 0 ≡ 1 = ap (λ x. cond x 1 0) e in omega (arith, g, k))
 
-  filter_over : (xs ys : List Block) → filter p (xs ++ ys) ≡ filter p xs ++ filter p ys
-  filter_over [] ys = refl
-  filter_over (x ∷ xs) ys = elim (p x) as (λ b. cond b (x ∷ filter p (xs ++ ys)) (filter p (xs ++ ys)) ≡ cond b (x ∷ filter p xs) (filter p xs) ++ filter p ys) [ true ↦ ap (λ r. x ∷ r) (filter_over xs ys) | false ↦ filter_over xs ys ]
+      rest : (i : ℕ) (same : Bool) → (i == r.block.id) ≡ same → w (unwrap_or (cond same (Some no_entry) (find nat_cmp i es)) no_entry) ≡ by_row v (row_at i rs)
+      rest i true e = none ∙ sym (ap (by_row v) (none_left i rs (gone i (eq-eqb r.block.id i (sym (eqb-true i r.block.id e))) (o i))))
+      rest i false e = h i ∙ ap (λ x. by_row v (cond x (Some r) (row_at i rs))) (not_same i r.block.id e)
 
-  form_chosen : (f : Form) (rs : List BlockRow) → map block_of (filter passing (rows_of f ++ rs)) ≡ filter p (closed_blocks_of f) ++ map block_of (filter passing rs)
-  form_chosen Dir rs = refl
-  form_chosen (File file) rs = file_chosen file.closed file.blocks rs
+-- ---- a sum over the rows of files
 
-  pub rows_chosen : (rows : List (Path × Form)) → map block_of (filter passing (rows_in rows)) ≡ filter p (flat_map (λ row. closed_blocks_of row.1) rows)
-  rows_chosen [] = refl
-  rows_chosen (row ∷ rows) =
-      form_chosen row.1 (rows_in rows) ∙ ap (λ r. filter p (closed_blocks_of row.1) ++ r) (rows_chosen rows)
-      ∙ sym (filter_over (closed_blocks_of row.1) (flat_map (λ row. closed_blocks_of row.1) rows))
+row_sum_over : (v : BlockRow → ℕ) (xs ys : List BlockRow) → row_sum v (xs ++ ys) ≡ row_sum v xs + row_sum v ys
+row_sum_over v [] ys = omega arith
+row_sum_over v (x ∷ xs) ys = omega (arith, row_sum_over v xs ys)
 
--- ---- live replicas, by DataNode and by cell
+-- of each file, where that is known of what stands there
+file_sums : (v : BlockRow → ℕ) (f : Form → ℕ) (rows : List (Path × Form)) → ((form : Form) → ((x : Block × ℕ) → Has (replications_of form) x → Has (all_in replications_of rows) x) → row_sum v (rows_of form) ≡ f form)
+    → row_sum v (rows_in rows) ≡ sum_by (λ row. f row.1) rows
+file_sums v f [] h = refl
+file_sums v f (row ∷ rows) h =
+    omega (
+      arith,
+      row_sum_over v (rows_of row.1) (rows_in rows),
+      sum_by-cons (λ (r : Path × Form). f r.1) row rows,
+      h row.1 (λ x here. has_left (replications_of row.1) (all_in replications_of rows) x here),
+      file_sums v f rows (λ form within. h form (λ x here. has_right (replications_of row.1) (all_in replications_of rows) x (within x here))),
+    )
+
+-- of each block
+block_sums : (g : Block → ℕ) (rs : List BlockRow) → row_sum (λ r. g r.block) rs ≡ sum_by g (map block_of rs)
+block_sums g [] = refl
+block_sums g (r ∷ rs) = omega (arith, sum_by-cons g r.block (map block_of rs), block_sums g rs)
+
+-- ---- replicas that pass a test, by DataNode and by cell
 
 abbrev pub of_cells : List (ℕ × Cell) → ℕ → ℕ → Option Replica
 of_cells xs dn id = option_and_then (λ c. c.replica) (find nat_cmp dn xs)
@@ -152,60 +128,88 @@ of_cells xs dn id = option_and_then (λ c. c.replica) (find nat_cmp dn xs)
 find_cons : (dn : ℕ) (x : ℕ × Cell) (xs : List (ℕ × Cell)) → find nat_cmp dn (x ∷ xs) ≡ cond (dn == x.0) (Some x.1) (find nat_cmp dn xs)
 find_cons dn x xs = ap (λ b. cond b (Some x.1) (find nat_cmp dn xs)) (eq_is dn x.0)
 
-module _ (b : Block) where
-  abbrev lives : Option Cell → ℕ
-  lives o = cond (is_live (option_and_then (λ c. c.replica) o) b) 1 0
+module _ (p : Option Replica → Bool) (nothing : p None ≡ false) where
+  abbrev passes : Option Cell → ℕ
+  passes o = cond (p (option_and_then (λ c. c.replica) o)) 1 0
 
-  none_live : (n : ℕ) → live_up_to n (of_cells []) b ≡ 0
-  none_live zero = refl
-  none_live (suc n) = omega (arith, none_live n)
+  -- of the DataNodes from 1 to this one
+  abbrev up_to : ℕ → List (ℕ × Cell) → ℕ
+  up_to zero xs = 0
+  up_to (suc dn) xs = passes (find nat_cmp (suc dn) xs) + up_to dn xs
 
-  live_above : (n : ℕ) (x : ℕ × Cell) (xs : List (ℕ × Cell)) → n < x.0 → live_up_to n (of_cells (x ∷ xs)) b ≡ live_up_to n (of_cells xs) b
-  live_above zero x xs h = refl
-  live_above (suc n) x xs h =
+  none_pass : (n : ℕ) → up_to n [] ≡ 0
+  none_pass zero = refl
+  none_pass (suc n) = (let no = ap {B = ℕ} (λ b. cond b 1 0) nothing in omega (arith, no, none_pass n))
+
+  pass_above : (n : ℕ) (x : ℕ × Cell) (xs : List (ℕ × Cell)) → n < x.0 → up_to n (x ∷ xs) ≡ up_to n xs
+  pass_above zero x xs h = refl
+  pass_above (suc n) x xs h =
       let other = ne_eqb (suc n) x.0 (λ e. omega (arith, e, h)) in
-      let same = ap lives (find_cons (suc n) x xs ∙ ap (λ c. cond c (Some x.1) (find nat_cmp (suc n) xs)) other) in
-      omega (arith, same, live_above n x xs (omega (arith, h)))
+      let same = ap passes (find_cons (suc n) x xs ∙ ap (λ c. cond c (Some x.1) (find nat_cmp (suc n) xs)) other) in
+      omega (arith, same, pass_above n x xs (omega (arith, h)))
 
-  live_within : (n : ℕ) (x : ℕ × Cell) (xs : List (ℕ × Cell)) → find nat_cmp x.0 xs ≡ None → 1 ≤ x.0 → x.0 ≤ n → live_up_to n (of_cells (x ∷ xs)) b ≡ live_up_to n (of_cells xs) b + lives (Some x.1)
-  live_within zero x xs none low high = absurd (omega (arith, low, high))
-  live_within (suc n) x xs none low high = cases (λ h. live_within n x xs none low h) (suc n == x.0) refl
+  pass_within : (n : ℕ) (x : ℕ × Cell) (xs : List (ℕ × Cell)) → find nat_cmp x.0 xs ≡ None → 1 ≤ x.0 → x.0 ≤ n → up_to n (x ∷ xs) ≡ up_to n xs + passes (Some x.1)
+  pass_within zero x xs none low high = absurd (omega (arith, low, high))
+  pass_within (suc n) x xs none low high = cases (λ h. pass_within n x xs none low h) (suc n == x.0) refl
     where
-      cases : (x.0 ≤ n → live_up_to n (of_cells (x ∷ xs)) b ≡ live_up_to n (of_cells xs) b + lives (Some x.1)) → (same : Bool) → (suc n == x.0) ≡ same
-          → lives (find nat_cmp (suc n) (x ∷ xs)) + live_up_to n (of_cells (x ∷ xs)) b ≡ (lives (find nat_cmp (suc n) xs) + live_up_to n (of_cells xs) b) + lives (Some x.1)
+      cases : (x.0 ≤ n → up_to n (x ∷ xs) ≡ up_to n xs + passes (Some x.1)) → (same : Bool) → (suc n == x.0) ≡ same
+          → passes (find nat_cmp (suc n) (x ∷ xs)) + up_to n (x ∷ xs) ≡ (passes (find nat_cmp (suc n) xs) + up_to n xs) + passes (Some x.1)
       cases next true e =
           let here = eqb-true (suc n) x.0 e in
-          let new = ap lives (find_cons (suc n) x xs ∙ ap (λ c. cond c (Some x.1) (find nat_cmp (suc n) xs)) e) in
-          let old = ap lives (ap (λ k. find nat_cmp k xs) here ∙ none) in
-          omega (arith, new, old, live_above n x xs (omega (arith, here)))
+          let new = ap passes (find_cons (suc n) x xs ∙ ap (λ c. cond c (Some x.1) (find nat_cmp (suc n) xs)) e) in
+          let old = ap passes (ap (λ k. find nat_cmp k xs) here ∙ none) in
+          let no = ap {B = ℕ} (λ b. cond b 1 0) nothing in
+          omega (arith, new, old, no, pass_above n x xs (omega (arith, here)))
       cases next false e =
           let other = eqb-false (suc n) x.0 e in
-          let same = ap lives (find_cons (suc n) x xs ∙ ap (λ c. cond c (Some x.1) (find nat_cmp (suc n) xs)) e) in
+          let same = ap passes (find_cons (suc n) x xs ∙ ap (λ c. cond c (Some x.1) (find nat_cmp (suc n) xs)) e) in
           omega (arith, same, next (omega (arith, other, high)))
 
-  pub cells_live : (n : ℕ) (xs : List (ℕ × Cell)) → is_sorted nat_cmp xs ≡ true → ((dn : ℕ) → is_some (find nat_cmp dn xs) ≡ true → (1 ≤ dn) × (dn ≤ n)) → live_cells b xs ≡ live_up_to n (of_cells xs) b
-  cells_live n [] s h = sym (none_live n)
-  cells_live n (x ∷ xs) s h =
+  cells_pass : (n : ℕ) (xs : List (ℕ × Cell)) → is_sorted nat_cmp xs ≡ true → ((dn : ℕ) → is_some (find nat_cmp dn xs) ≡ true → (1 ≤ dn) × (dn ≤ n)) → count_by (λ (c : ℕ × Cell). p c.1.replica) xs ≡ up_to n xs
+  cells_pass n [] s h = sym (none_pass n)
+  cells_pass n (x ∷ xs) s h =
       let none = find_below x.0 xs (halves (below_all nat_cmp x.0 xs) (is_sorted nat_cmp xs) s).0 in
       let range = h x.0 (ap is_some (find_cons x.0 x xs ∙ ap (λ c. cond c (Some x.1) (find nat_cmp x.0 xs)) (eq-eqb x.0 x.0 refl))) in
-      let later = cells_live n xs (tail_sorted x xs s) (λ dn g. h dn (ap is_some (find_cons dn x xs) ∙ either dn (dn == x.0) g)) in
-      omega (arith, later, counted_cons (λ c. is_live c.replica b) x xs, live_within n x xs none range.0 range.1)
+      let later = cells_pass n xs (tail_sorted x xs s) (λ dn g. h dn (ap is_some (find_cons dn x xs) ∙ either dn (dn == x.0) g)) in
+      omega (arith, later, counted_cons (λ (c : Cell). p c.replica) x xs, pass_within n x xs none range.0 range.1)
     where
       either : (dn : ℕ) (same : Bool) → is_some (find nat_cmp dn xs) ≡ true → is_some (cond same (Some x.1) (find nat_cmp dn xs)) ≡ true
       either dn true g = refl
       either dn false g = g
 
+abbrev is_of : Class → Block → Option Replica → Bool
+is_of class b o = is_class class (option_map (λ (r : Replica). class_of r b) o)
+
+module _ (b : Block) where
+  pub cells_live : (n : ℕ) (xs : List (ℕ × Cell)) → is_sorted nat_cmp xs ≡ true → ((dn : ℕ) → is_some (find nat_cmp dn xs) ≡ true → (1 ≤ dn) × (dn ≤ n)) → live_cells b xs ≡ live_up_to n (of_cells xs) b
+  cells_live n xs s h = cells_pass (λ o. is_live o b) refl n xs s h ∙ as_live n
+    where
+      as_live : (n : ℕ) → up_to (λ o. is_live o b) refl n xs ≡ live_up_to n (of_cells xs) b
+      as_live zero = refl
+      as_live (suc n) = ap (λ k. cond (is_live (of_cells xs (suc n) b.id) b) 1 0 + k) (as_live n)
+
   pub same_live : (n : ℕ) (f g : ℕ → ℕ → Option Replica) → ((dn : ℕ) → f dn b.id ≡ g dn b.id) → live_up_to n f b ≡ live_up_to n g b
   same_live zero f g h = refl
   same_live (suc n) f g h = λ i. cond (is_live (h (suc n) i) b) 1 0 + same_live n f g h i
 
--- ---- the counts
+  cells_in : (class : Class) (n : ℕ) (xs : List (ℕ × Cell)) → is_sorted nat_cmp xs ≡ true → ((dn : ℕ) → is_some (find nat_cmp dn xs) ≡ true → (1 ≤ dn) × (dn ≤ n)) → cells_of class b xs ≡ class_up_to class n (of_cells xs) b
+  cells_in class n xs s h = cells_pass (is_of class b) refl n xs s h ∙ as_class n
+    where
+      as_class : (n : ℕ) → up_to (is_of class b) refl n xs ≡ class_up_to class n (of_cells xs) b
+      as_class zero = refl
+      as_class (suc n) = ap (λ k. one_if (is_of class b (of_cells xs (suc n) b.id)) + k) (as_class n)
 
-found_id : (id : ℕ) (rs : List BlockRow) (r : BlockRow) → std.find (λ row. row.block.id == id) rs ≡ Some r → (r.block.id == id) ≡ true
+  same_in : (class : Class) (n : ℕ) (f g : ℕ → ℕ → Option Replica) → ((dn : ℕ) → f dn b.id ≡ g dn b.id) → class_up_to class n f b ≡ class_up_to class n g b
+  same_in class zero f g h = refl
+  same_in class (suc n) f g h = λ i. one_if (is_of class b (h (suc n) i)) + same_in class n f g h i
+
+-- ---- the figures
+
+found_id : (id : ℕ) (rs : List BlockRow) (r : BlockRow) → row_at id rs ≡ Some r → (r.block.id == id) ≡ true
 found_id id [] r h = cc
 found_id id (x ∷ rs) r h = cases (found_id id rs r) (x.block.id == id) refl h
   where
-    cases : (std.find (λ row. row.block.id == id) rs ≡ Some r → (r.block.id == id) ≡ true) → (same : Bool) → (x.block.id == id) ≡ same → cond same (Some x) (std.find (λ row. row.block.id == id) rs) ≡ Some r → (r.block.id == id) ≡ true
+    cases : (row_at id rs ≡ Some r → (r.block.id == id) ≡ true) → (same : Bool) → (x.block.id == id) ≡ same → cond same (Some x) (row_at id rs) ≡ Some r → (r.block.id == id) ≡ true
     cases next true e g = ap (λ y. y.block.id == id) (sym (same_some x r g)) ∙ e
     cases next false e g = next g
 
@@ -213,43 +217,146 @@ and_true : (b : Bool) → (b && true) ≡ b
 and_true true = refl
 and_true false = refl
 
-closed_chosen : (o : Option BlockRow) → is_closed_row o ≡ chosen (λ r. r.closed && true) o
-closed_chosen None = refl
-closed_chosen (Some r) = sym (and_true r.closed)
-
 all_pass : (bs : List Block) → filter (λ b. true) bs ≡ bs
 all_pass [] = refl
 all_pass (b ∷ bs) = ap (λ r. b ∷ r) (all_pass bs)
 
+all_ones : (bs : List Block) → sum_by (λ (b : Block). 1) bs ≡ length bs
+all_ones [] = refl
+all_ones (b ∷ bs) = omega (arith, sum_by-cons (λ (x : Block). 1) b bs, all_ones bs)
+
+-- tests that agree on all blocks count as many
+count_alike : (p q : Block → Bool) (bs : List Block) → ((b : Block) → Has bs b → p b ≡ q b) → count_by p bs ≡ count_by q bs
+count_alike p q [] h = refl
+count_alike p q (b ∷ bs) h =
+    let one = ap {B = ℕ} (λ x. cond x 1 0) (h b (inl refl)) in
+    omega (arith, one, sum_by-cons (λ (x : Block). cond (p x) 1 0) b bs, sum_by-cons (λ (x : Block). cond (q x) 1 0) b bs, count_alike p q bs (λ x here. h x (inr here)))
+
+-- each block of a file has its replication
+pub with_number : (bs : List Block) (k : ℕ) (b : Block) → Has bs b → Has {A = Block × ℕ} (map (λ (a : Block). (a, k)) bs) (b, k)
+with_number [] k b here = here
+with_number (a ∷ bs) k b (inl same) = inl (ap (λ (x : Block). (x, k)) same)
+with_number (a ∷ bs) k b (inr later) = inr (with_number bs k b later)
+
+-- the blocks of closed files that pass a test
+abbrev closed_that : (Block → Bool) → BlockRow → ℕ
+closed_that p r = one_if (r.closed && p r.block)
+
+closed_in_file : (p : Block → Bool) (closed : Bool) (bs : List Block) → row_sum (closed_that p) (map (λ (b : Block). block_row closed b) bs) ≡ cond closed (count_by p bs) 0
+closed_in_file p true [] = refl
+closed_in_file p true (b ∷ bs) = omega (arith, sum_by-cons (λ (x : Block). cond (p x) 1 0) b bs, closed_in_file p true bs)
+closed_in_file p false [] = refl
+closed_in_file p false (b ∷ bs) = omega (arith, closed_in_file p false bs)
+
+-- and their number, as a list has it
+listed_in : (p : Block → Bool) (rows : List (Path × Form)) → sum_by (λ (row : Path × Form). length (filter p (closed_blocks_of row.1))) rows ≡ length (filter p (flat_map (λ row. closed_blocks_of row.1) rows))
+listed_in p [] = refl
+listed_in p (row ∷ rows) =
+    omega (
+      arith,
+      sum_by-cons (λ (r : Path × Form). length (filter p (closed_blocks_of r.1))) row rows,
+      listed_in p rows,
+      ap length (filter-append p (closed_blocks_of row.1) (flat_map (λ r. closed_blocks_of r.1) rows)),
+      length-append (filter p (closed_blocks_of row.1)) (filter p (flat_map (λ r. closed_blocks_of r.1) rows)),
+    )
+
+listed_form : (p : Block → Bool) (form : Form) → row_sum (closed_that p) (rows_of form) ≡ length (filter p (closed_blocks_of form))
+listed_form p Dir = refl
+listed_form p (File file) = closed_in_file p file.closed file.blocks ∙ by_closed file.closed
+  where
+    by_closed : (closed : Bool) → cond closed (count_by p file.blocks) 0 ≡ length (filter p (cond closed file.blocks []))
+    by_closed true = sym (length-filter p file.blocks)
+    by_closed false = refl
+
 module _ (n : Namespace) (t : Table) (well : HasWellFormedBlocks n) (shows : Shows n t) where
-  once : (id : ℕ) → times id (map block_of (block_rows n)) ≤ 1
-  once id = subst (λ bs. times id bs ≤ 1) (sym (blocks_of_all n.rows)) (well.once id)
+  abbrev live : Block → ℕ
+  live b = live_count (replica_at t) b
 
-  count_chosen : (p : BlockEntry → Bool) → p no_entry ≡ false → (q : BlockRow → Bool) → ((id : ℕ) → p (entry_or_none t id) ≡ chosen q (std.find (λ row. row.block.id == id) (block_rows n)))
-      → counted p t.entries ≡ length (map block_of (filter q (block_rows n)))
-  count_chosen p none q h =
-      counts_ids p none (map block_of (filter q (block_rows n))) t.entries shows.in_order.blocks
-      (λ id. (let a = once id in omega (arith, a, chosen_once q id (block_rows n)))) (λ id. h id ∙ chosen_has q id (block_rows n) (once id))
+  shown_sum : (w : BlockEntry → ℕ) → w no_entry ≡ 0 → (v : BlockRow → ℕ) → ((id : ℕ) → w (entry_or_none t id) ≡ by_row v (row_at id (block_rows n))) → summed w t.entries ≡ row_sum v (block_rows n)
+  shown_sum w none v h = sums_rows w none v (block_rows n) t.entries shows.in_order.blocks (λ id. subst (λ bs. times id bs ≤ 1) (sym (blocks_of_all n.rows)) (well.once id)) h
 
-  live_here : (id : ℕ) (b : Block) → b.id ≡ id → live_cells b (entry_or_none t id).cells ≡ live_count (replica_at t) b
+  live_here : (id : ℕ) (b : Block) → b.id ≡ id → live_cells b (entry_or_none t id).cells ≡ live b
   live_here id b e =
       cells_live b 256 (entry_or_none t id).cells (shows.in_order.datanodes id) (λ dn h. shows.datanodes dn id h)
       ∙ same_live b 256 (of_cells (entry_or_none t id).cells) (replica_at t) (λ dn. ap (replica_at t dn) (sym e))
 
-  safe_row : (id : ℕ) (o : Option BlockRow) → std.find (λ row. row.block.id == id) (block_rows n) ≡ o
-      → is_safe_row t.min o (entry_or_none t id).cells ≡ chosen (λ r. r.closed && nat_le t.min (live_count (replica_at t) r.block)) o
-  safe_row id None e = refl
-  safe_row id (Some r) e = ap (λ k. r.closed && nat_le t.min k) (live_here id r.block (eqb-true r.block.id id (found_id id (block_rows n) r e)))
+  class_here : (class : Class) (id : ℕ) (b : Block) → b.id ≡ id → cells_of class b (entry_or_none t id).cells ≡ class_count class (replica_at t) b
+  class_here class id b e =
+      cells_in b class 256 (entry_or_none t id).cells (shows.in_order.datanodes id) (λ dn h. shows.datanodes dn id h)
+      ∙ same_in b class 256 (of_cells (entry_or_none t id).cells) (replica_at t) (λ dn. ap (replica_at t dn) (sym e))
+
+  -- an entry by its row, which is the namespace's
+  by_its_row : (w : BlockEntry → ℕ) (v : BlockRow → ℕ) → ((e : BlockEntry) → e.row ≡ None → w e ≡ 0) → ((id : ℕ) (r : BlockRow) → (entry_or_none t id).row ≡ Some r → r.block.id ≡ id → w (entry_or_none t id) ≡ v r)
+      → (id : ℕ) → w (entry_or_none t id) ≡ by_row v (row_at id (block_rows n))
+  by_its_row w v without with id = cases (row_at id (block_rows n)) refl
+    where
+      cases : (o : Option BlockRow) → row_at id (block_rows n) ≡ o → w (entry_or_none t id) ≡ by_row v (row_at id (block_rows n))
+      cases None e = without (entry_or_none t id) (shows.rows id ∙ e) ∙ ap (by_row v) (sym e)
+      cases (Some r) e = with id r (shows.rows id ∙ e) (eqb-true r.block.id id (found_id id (block_rows n) r e)) ∙ ap (by_row v) (sym e)
+
+  -- blocks of closed files that pass a test of replication and live replicas
+  module _ (test : ℕ → ℕ → Bool) where
+    abbrev tested : BlockRow → ℕ
+    tested r = closed_that (λ b. test (replication_at t b.id) (live b)) r
+
+    tested_here : (id : ℕ) → one_if (is_closed (entry_or_none t id) && test (entry_or_none t id).replication (live_of (entry_or_none t id))) ≡ by_row tested (row_at id (block_rows n))
+    tested_here = by_its_row (λ e. one_if (is_closed e && test e.replication (live_of e))) tested
+        (λ e none. ap (λ o. one_if (is_closed (record e { row = o }) && test e.replication (live_of (record e { row = o })))) none)
+        (λ id r is at.
+        let e = entry_or_none t id in
+        let own : e.replication ≡ replication_at t r.block.id = sym (ap (λ o. replication_in (record e { row = o })) is) ∙ ap (replication_at t) (sym at) in
+        ap (λ o. one_if (is_closed (record e { row = o }) && test e.replication (live_of (record e { row = o })))) is
+        ∙ ap (λ l. one_if (r.closed && test e.replication l)) (live_here id r.block at)
+        ∙ ap (λ k. one_if (r.closed && test k (live r.block))) own)
+
+    tested_form : (form : Form) → ((x : Block × ℕ) → Has (replications_of form) x → Has (all_in replications_of n.rows) x) → row_sum tested (rows_of form) ≡ passing_in test (replica_at t) form
+    tested_form Dir within = refl
+    tested_form (File file) within =
+        closed_in_file (λ b. test (replication_at t b.id) (live b)) file.closed file.blocks
+        ∙ ap (λ k. cond file.closed k 0) (count_alike (λ b. test (replication_at t b.id) (live b)) (λ b. test file.replication (live b)) file.blocks
+        (λ b here. ap (λ k. test k (live b)) (shows.replications (b, file.replication) (within (b, file.replication) (with_number file.blocks file.replication b here)))))
+
+    passed : summed (λ e. one_if (is_closed e && test e.replication (live_of e))) t.entries ≡ passing test n (replica_at t)
+    passed =
+        shown_sum (λ e. one_if (is_closed e && test e.replication (live_of e))) refl tested tested_here
+        ∙ file_sums tested (passing_in test (replica_at t)) n.rows tested_form
+
+  -- replicas of a class
+  classed : (class : Class) → summed (λ e. replicas_of class e) t.entries ≡ sum_by (λ b. class_count class (replica_at t) b) (all_blocks n)
+  classed class =
+      let count = λ (b : Block). class_count class (replica_at t) b in
+      shown_sum (λ e. replicas_of class e) refl (λ r. count r.block)
+      (by_its_row (λ e. replicas_of class e) (λ r. count r.block) (λ e none. ap (λ o. replicas_of class (record e { row = o })) none)
+      (λ id r is at. ap (λ o. replicas_of class (record (entry_or_none t id) { row = o })) is ∙ class_here class id r.block at))
+      ∙ block_sums count (block_rows n) ∙ ap (sum_by count) (blocks_of_all n.rows)
+
+  -- blocks of closed files
+  closed_sum : (w : BlockEntry → ℕ) (p : Block → Bool) → w no_entry ≡ 0 → ((id : ℕ) → w (entry_or_none t id) ≡ by_row (closed_that p) (row_at id (block_rows n))) → summed w t.entries ≡ length (filter p (closed_blocks n))
+  closed_sum w p none h =
+      shown_sum w none (closed_that p) h
+      ∙ file_sums (closed_that p) (λ form. length (filter p (closed_blocks_of form))) n.rows (λ form within. listed_form p form)
+      ∙ listed_in p n.rows
 
   pub counts : HasCounts n t
   counts = record {
     total =
-        count_chosen is_closed refl (λ r. r.closed && true) (λ id. ap is_closed_row (shows.rows id) ∙ closed_chosen (std.find (λ row. row.block.id == id) (block_rows n)))
-        ∙ ap length (rows_chosen (λ b. true) n.rows ∙ all_pass (closed_blocks n));
-    safe =
-        count_chosen (is_safe t.min) refl (λ r. r.closed && nat_le t.min (live_count (replica_at t) r.block))
-        (λ id. ap (λ o. is_safe_row t.min o (entry_or_none t id).cells) (shows.rows id) ∙ safe_row id (std.find (λ row. row.block.id == id) (block_rows n)) refl)
-        ∙ ap length (rows_chosen (λ b. nat_le t.min (live_count (replica_at t) b)) n.rows);
+        closed_sum (λ e. one_if (is_closed e)) (λ b. true) refl
+        (by_its_row (λ e. one_if (is_closed e)) (closed_that (λ b. true)) (λ e none. ap (λ o. one_if (is_closed_row o)) none) (λ id r is at. ap (λ o. one_if (is_closed_row o)) is ∙ ap one_if (sym (and_true r.closed))))
+        ∙ ap length (all_pass (closed_blocks n));
+    safe = closed_sum (λ e. one_if (is_safe t.min e)) (λ b. nat_le t.min (live b)) refl
+        (by_its_row (λ e. one_if (is_safe t.min e)) (closed_that (λ b. nat_le t.min (live b))) (λ e none. ap (λ o. one_if (is_safe_row t.min o e.cells)) none)
+        (λ id r is at. ap (λ o. one_if (is_safe_row t.min o (entry_or_none t id).cells)) is ∙ ap (λ l. one_if (r.closed && nat_le t.min l)) (live_here id r.block at)));
+    blocks =
+        shown_sum (λ e. one_if (is_some e.row)) refl (λ r. 1)
+        (by_its_row (λ e. one_if (is_some e.row)) (λ r. 1) (λ e none. ap (λ o. one_if (is_some o)) none) (λ id r is at. ap (λ o. one_if (is_some o)) is))
+        ∙ block_sums (λ b. 1) (block_rows n) ∙ ap (sum_by (λ (b : Block). 1)) (blocks_of_all n.rows) ∙ all_ones (all_blocks n);
+    missing = passed (λ replication l. l == 0);
+    missing_of_one = passed (λ replication l. (l == 0) && (replication == 1));
+    under_replicated = passed (λ replication l. nat_lt l replication);
+    over_replicated = passed (λ replication l. nat_lt replication l);
+    stale = classed Stale;
+    ahead = classed Ahead;
+    wrong_length = classed WrongLength;
   }
 
 pub counts_agree : CountsAgree

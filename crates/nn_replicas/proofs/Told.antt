@@ -1,5 +1,5 @@
 -- Room first, and then what is told: in one write of the entry.
-use Rattle.std.proofs.Common.{◌≡◌, ℕ, true, false, cond, List, [], ◌∷◌, Option, Some, None, is_some, refl, sym, ap, subst, ◌∙◌, nat_cmp, eq-eqb}
+use Rattle.std.proofs.Common.{◌≡◌, ℕ, Bool, true, false, cond, List, [], ◌∷◌, Option, Some, None, is_some, refl, sym, ap, subst, ◌∙◌, nat_cmp, eq-eqb}
 use Rattle.std.specs.Prelude.{unwrap_or}
 use Rattle.std.specs.declared.cmp.Ordering.TheVariants.{Less, Equal, Greater}
 use Rattle.std.specs.Cmp.{nat_cmp_is}
@@ -9,13 +9,13 @@ use Rattle.std.specs.FinMap.Entries.{by_order, find, put}
 use Rattle.nn_types.specs.declared.replica.Replica.{Replica}
 use Rattle.nn_replicas.specs.declared.entry.Cell.{Cell}
 use Rattle.nn_replicas.specs.Table.{BlockEntry, Table}
-use Rattle.nn_replicas.specs.Entry.{no_entry, no_cell, cell_put, cell_of, with_cell, with_place, with_put, with_erased, with_told, stamp_in, is_closed}
-use Rattle.nn_replicas.specs.Calls.{entry_at, entry_or_none, stamp_at, reaches, with_entry, changed_from, pair_placed, pair_told, pair_told_if, due_told}
+use Rattle.nn_replicas.specs.Entry.{no_entry, no_cell, cell_put, cell_of, with_cell, with_place, with_put, with_erased, with_told, stamp_in}
+use Rattle.nn_replicas.specs.Calls.{entry_at, entry_or_none, stamp_at, reaches, with_entry, changed_from, with_due, pair_placed, pair_told, pair_told_if, due_told}
 use Rattle.nn_replicas.specs.Effects.{Places, Writes}
 use Rattle.nn_replicas.specs.Order.{IsInOrder}
 use Rattle.nn_replicas.proofs.Lookups.{find_put, place_places, put_writes, erase_writes, place_in_order, put_in_order, erase_in_order}
 use Rattle.nn_replicas.proofs.Entries.{lookup_is_find}
-use Rattle.nn_replicas.proofs.Tables.{Entries, table, closed_placed, closed_erased}
+use Rattle.nn_replicas.proofs.Tables.{Entries, table}
 
 pub itself_cmp : (k : ℕ) → nat_cmp k k ≡ Equal
 itself_cmp k = sym (nat_cmp_is k k Equal refl)
@@ -45,11 +45,6 @@ put_places e dn r = sym (cases (find nat_cmp dn e.cells) refl)
         ∙ ap {B = BlockEntry} (λ xs. record e { cells = xs }) (put_twice dn no_cell (cell_put (is_some e.row) r (cell_of e dn)) e.cells)
     cases (Some c) h = refl
 
--- what is told leaves the row
-pub closed_told : (e : BlockEntry) (dn : ℕ) (r : Option Replica) → is_closed (with_told e dn r) ≡ is_closed e
-closed_told e dn (Some r) = refl
-closed_told e dn None = closed_erased (with_place e dn) dn ∙ closed_placed e dn
-
 entry_twice : (t : Table) (id : ℕ) (x y : BlockEntry) → with_entry (with_entry t id x) id y ≡ with_entry t id y
 entry_twice t id x y = ap {B = Table} (λ es. record t { entries = es }) (put_twice id x y t.entries)
 
@@ -71,6 +66,19 @@ due_unreached t dn id stamp r h = ap (λ b. pair_told_if b (pair_placed t dn id)
 
 pub due_reached : (t : Table) (dn id stamp : ℕ) (r : Option Replica) → reaches (stamp_at t id) stamp ≡ true → pair_told (pair_placed t dn id) dn id r ≡ due_told t dn id stamp r
 due_reached t dn id stamp r h = ap (λ b. pair_told_if b (pair_placed t dn id) dn id r) (sym h)
+
+-- the same of one look-up
+pub told_due : (t : Table) (dn id stamp : ℕ) (r : Option Replica) → with_entry t id (with_due (entry_or_none t id) dn stamp r) ≡ due_told t dn id stamp r
+told_due t dn id stamp r = cases (reaches (stamp_at t id) stamp) refl
+  where
+    cases : (b : Bool) → reaches (stamp_at t id) stamp ≡ b → with_entry t id (with_due (entry_or_none t id) dn stamp r) ≡ due_told t dn id stamp r
+    cases true h =
+        ap (λ b. with_entry t id (cond b (with_told (entry_or_none t id) dn r) (with_place (entry_or_none t id) dn))) h ∙ told_at_once t dn id r ∙ due_reached t dn id stamp r h
+    cases false h = ap (λ b. with_entry t id (cond b (with_told (entry_or_none t id) dn r) (with_place (entry_or_none t id) dn))) h ∙ due_unreached t dn id stamp r h
+
+-- where nothing is known of the block
+pub early_due : (t : Table) (dn id stamp : ℕ) (r : Option Replica) → entry_at t id ≡ None → pair_placed t dn id ≡ due_told t dn id stamp r
+early_due t dn id stamp r none = due_unreached t dn id stamp r (ap (λ o. reaches (stamp_in (unwrap_or o no_entry).row) stamp) none)
 
 -- ---- What telling changes.
 

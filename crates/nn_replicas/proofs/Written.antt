@@ -1,6 +1,6 @@
 -- An entry after one of its cells was written, or a new one inserted.
-use Rattle.std.proofs.Common.{◌≡◌, ℕ, ◌<◌, ◌≤◌, ◌+◌, Bool, true, false, cond, List, [], ◌∷◌, ◌++◌, map, take, drop, length, get_or, set, Option, is_some, refl, sym, ap, subst, ◌∙◌, nat_cmp, nat_eq}
-use Rattle.std.specs.Prelude.{unwrap_or, ◌&&◌}
+use Rattle.std.proofs.Common.{◌≡◌, arith, ℕ, ◌<◌, ◌≤◌, ◌+◌, Bool, true, false, cond, List, [], ◌∷◌, ◌++◌, map, take, drop, length, get_or, set, Option, Some, None, is_some, refl, sym, ap, subst, ◌∙◌, nat_cmp, nat_eq}
+use Rattle.std.specs.Prelude.{unwrap_or, ◌&&◌, not}
 use Rattle.std.specs.List.{insert, refill}
 use Rattle.std.proofs.Math.Seq.{take-append_seam}
 use Rattle.std.proofs.lemmas.List.{length-map}
@@ -8,19 +8,24 @@ use Rattle.std.specs.FinMap.Entries.{find, put, below_all, is_sorted}
 use Rattle.std.specs.Ordering.{is_lt}
 use Rattle.std.proofs.lemmas.List.Edits.{map_over_more}
 use Rattle.std.proofs.lemmas.Bool.{both_ways}
-use Rattle.nn_model.specs.declared.form.BlockRow.{BlockRow}
 use Rattle.nn_replicas.specs.declared.entry.Cell.{Cell}
+use Rattle.nn_replicas.specs.declared.entry.FileBlock.{FileBlock}
 use Rattle.nn_replicas.specs.Table.{BlockEntry}
-use Rattle.nn_replicas.specs.Entry.{is_ordered, no_cell, cell_erased, cell_retired, cell_of, has_cell, with_cell, with_place, with_erased}
+use Rattle.nn_replicas.specs.Entry.{row_of, replication_of, is_ordered, no_cell, cell_erased, cell_retired, cell_of, has_cell, with_cell, with_place, with_erased}
+use Rattle.nn_replicas.specs.Figures.{one_if, grown}
 use Rattle.nn_replicas.specs.Scan.{place, is_here}
-use Rattle.nn_replicas.proofs.Entries.{put_sorted}
+use Rattle.nn_replicas.proofs.Entries.{put_sorted, length_put}
 use Rattle.nn_replicas.proofs.Scanned.{put_here, put_new, find_here, find_gone, here_at, not_here}
 
 abbrev pub Cells : Type 0
 Cells = List (ℕ × Cell)
 
-abbrev pub entry : Option BlockRow → Cells → BlockEntry
-entry row xs = record { row = row; cells = xs }
+abbrev pub entry : Option FileBlock → Cells → BlockEntry
+entry file xs = record { row = row_of file; replication = replication_of file; cells = xs }
+
+pub named_file : (file : Option FileBlock) → is_some (row_of file) ≡ is_some file
+named_file None = refl
+named_file (Some file) = refl
 
 -- ---- the cells stay in order
 
@@ -43,32 +48,32 @@ sorted_retired (x ∷ xs) = ap (λ b. b && is_sorted nat_cmp (map (λ c. (c.0, c
 -- ---- a cell that stands is written
 
 -- what f makes of the DataNode's cell
-pub wrote_here : (e : BlockEntry) (row : Option BlockRow) (xs : Cells) (dn k : ℕ) (named : Bool) (x z : ℕ × Cell) (f : Bool → Cell → Cell)
-    → entry row xs ≡ e → k ≡ place dn xs → is_here dn xs ≡ true → x ≡ get_or xs k x → named ≡ is_some row → z ≡ (x.0, f named x.1)
-    → entry row (set xs k z) ≡ with_cell e dn (f (is_some e.row) (cell_of e dn))
-wrote_here e row xs dn k named x z f v p h g n m =
+pub wrote_here : (e : BlockEntry) (file : Option FileBlock) (xs : Cells) (dn k : ℕ) (named : Bool) (x z : ℕ × Cell) (f : Bool → Cell → Cell)
+    → entry file xs ≡ e → k ≡ place dn xs → is_here dn xs ≡ true → x ≡ get_or xs k x → named ≡ is_some file → z ≡ (x.0, f named x.1)
+    → entry file (set xs k z) ≡ with_cell e dn (f (is_some e.row) (cell_of e dn))
+wrote_here e file xs dn k named x z f v p h g n m =
     let w = f named x.1 in
-    let cell : w ≡ f (is_some row) (unwrap_or (find nat_cmp dn xs) no_cell) =
-    ap (λ b. f b x.1) n ∙ ap (λ (y : ℕ × Cell). f (is_some row) y.1) g ∙ ap (λ j. f (is_some row) (get_or xs j x).1) p ∙ ap (λ o. f (is_some row) (unwrap_or o no_cell)) (sym (find_here dn xs x h)) in
-    ap (λ y. entry row (set xs k y)) m ∙ ap (λ y. entry row (set xs k (y.0, w))) g ∙ ap (λ j. entry row (set xs j ((get_or xs j x).0, w))) p ∙ ap (entry row) (sym (put_here dn w xs x h))
-    ∙ ap (λ c. entry row (put nat_cmp dn c xs)) cell ∙ ap (λ y. with_cell y dn (f (is_some y.row) (cell_of y dn))) v
+    let cell : w ≡ f (is_some (row_of file)) (unwrap_or (find nat_cmp dn xs) no_cell) =
+    ap (λ b. f b x.1) (n ∙ sym (named_file file)) ∙ ap (λ (y : ℕ × Cell). f (is_some (row_of file)) y.1) g ∙ ap (λ j. f (is_some (row_of file)) (get_or xs j x).1) p ∙ ap (λ o. f (is_some (row_of file)) (unwrap_or o no_cell)) (sym (find_here dn xs x h)) in
+    ap (λ y. entry file (set xs k y)) m ∙ ap (λ y. entry file (set xs k (y.0, w))) g ∙ ap (λ j. entry file (set xs j ((get_or xs j x).0, w))) p ∙ ap (entry file) (sym (put_here dn w xs x h))
+    ∙ ap (λ c. entry file (put nat_cmp dn c xs)) cell ∙ ap (λ y. with_cell y dn (f (is_some y.row) (cell_of y dn))) v
 
-pub wrote_new : (e : BlockEntry) (row : Option BlockRow) (xs fs : Cells) (dn k : ℕ) (named : Bool) (z : ℕ × Cell) (f : Bool → Cell → Cell)
-    → entry row xs ≡ e → is_sorted nat_cmp xs ≡ true → k ≡ place dn xs → is_here dn xs ≡ false → fs ≡ insert xs k z → named ≡ is_some row → z ≡ (dn, f named no_cell)
-    → entry row fs ≡ with_cell e dn (f (is_some e.row) (cell_of e dn))
-wrote_new e row xs fs dn k named z f v s p h g n m =
+pub wrote_new : (e : BlockEntry) (file : Option FileBlock) (xs fs : Cells) (dn k : ℕ) (named : Bool) (z : ℕ × Cell) (f : Bool → Cell → Cell)
+    → entry file xs ≡ e → is_sorted nat_cmp xs ≡ true → k ≡ place dn xs → is_here dn xs ≡ false → fs ≡ insert xs k z → named ≡ is_some file → z ≡ (dn, f named no_cell)
+    → entry file fs ≡ with_cell e dn (f (is_some e.row) (cell_of e dn))
+wrote_new e file xs fs dn k named z f v s p h g n m =
     let w = f named no_cell in
-    let cell : w ≡ f (is_some row) (unwrap_or (find nat_cmp dn xs) no_cell) = ap (λ b. f b no_cell) n ∙ ap (λ o. f (is_some row) (unwrap_or o no_cell)) (sym (find_gone dn xs s h)) in
-    ap (entry row) g ∙ ap (λ y. entry row (insert xs k y)) m ∙ ap (λ j. entry row (insert xs j (dn, w))) p ∙ ap (entry row) (sym (put_new dn w xs h))
-    ∙ ap (λ c. entry row (put nat_cmp dn c xs)) cell ∙ ap (λ y. with_cell y dn (f (is_some y.row) (cell_of y dn))) v
+    let cell : w ≡ f (is_some (row_of file)) (unwrap_or (find nat_cmp dn xs) no_cell) = ap (λ b. f b no_cell) (n ∙ sym (named_file file)) ∙ ap (λ o. f (is_some (row_of file)) (unwrap_or o no_cell)) (sym (find_gone dn xs s h)) in
+    ap (entry file) g ∙ ap (λ y. entry file (insert xs k y)) m ∙ ap (λ j. entry file (insert xs j (dn, w))) p ∙ ap (entry file) (sym (put_new dn w xs h))
+    ∙ ap (λ c. entry file (put nat_cmp dn c xs)) cell ∙ ap (λ y. with_cell y dn (f (is_some y.row) (cell_of y dn))) v
 
 -- ---- whether there is a cell
 
-pub there : (e : BlockEntry) (row : Option BlockRow) (xs : Cells) (dn : ℕ) → entry row xs ≡ e → is_here dn xs ≡ true → has_cell e dn ≡ true
-there e row xs dn v h = ap (λ y. has_cell y dn) (sym v) ∙ ap is_some (find_here dn xs (dn, no_cell) h)
+pub there : (e : BlockEntry) (file : Option FileBlock) (xs : Cells) (dn : ℕ) → entry file xs ≡ e → is_here dn xs ≡ true → has_cell e dn ≡ true
+there e file xs dn v h = ap (λ y. has_cell y dn) (sym v) ∙ ap is_some (find_here dn xs (dn, no_cell) h)
 
-pub not_there : (e : BlockEntry) (row : Option BlockRow) (xs : Cells) (dn : ℕ) → entry row xs ≡ e → is_sorted nat_cmp xs ≡ true → is_here dn xs ≡ false → has_cell e dn ≡ false
-not_there e row xs dn v s h = ap (λ y. has_cell y dn) (sym v) ∙ ap is_some (find_gone dn xs s h)
+pub not_there : (e : BlockEntry) (file : Option FileBlock) (xs : Cells) (dn : ℕ) → entry file xs ≡ e → is_sorted nat_cmp xs ≡ true → is_here dn xs ≡ false → has_cell e dn ≡ false
+not_there e file xs dn v s h = ap (λ y. has_cell y dn) (sym v) ∙ ap is_some (find_gone dn xs s h)
 
 pub placed_there : (e : BlockEntry) (dn : ℕ) → has_cell e dn ≡ true → e ≡ with_place e dn
 placed_there e dn h = ap (λ b. cond b e (with_cell e dn no_cell)) (sym h)
@@ -81,6 +86,37 @@ erased_there e dn h = ap (λ b. cond b (with_cell e dn (cell_erased (is_some e.r
 
 pub erased_not : (e : BlockEntry) (dn : ℕ) → has_cell e dn ≡ false → e ≡ with_erased e dn
 erased_not e dn h = ap (λ b. cond b (with_cell e dn (cell_erased (is_some e.row) (cell_of e dn))) e) (sym h)
+
+-- ---- how many cells there are
+
+pub cells_put : (e : BlockEntry) (dn : ℕ) (c : Cell) → is_sorted nat_cmp e.cells ≡ true → length (with_cell e dn c).cells ≡ grown e dn
+cells_put e dn c s = cases (has_cell e dn) refl
+  where
+    cases : (b : Bool) → has_cell e dn ≡ b → length (put nat_cmp dn c e.cells) ≡ length e.cells + one_if (not (has_cell e dn))
+    cases b h =
+        let was = ap {B = ℕ} (λ x. cond x 1 0) h in
+        let new = ap (λ x. one_if (not x)) h in
+        elim b as (λ b. cond {A = ℕ} (has_cell e dn) 1 0 ≡ cond b 1 0 → one_if (not (has_cell e dn)) ≡ one_if (not b) → length (put nat_cmp dn c e.cells) ≡ length e.cells + one_if (not (has_cell e dn))) [
+          | true ↦ λ w n. omega (arith, w, n, length_put dn c e.cells s)
+          | false ↦ λ w n. omega (arith, w, n, length_put dn c e.cells s)
+        ] was new
+
+pub cells_there : (e : BlockEntry) (dn : ℕ) → has_cell e dn ≡ true → grown e dn ≡ length e.cells
+cells_there e dn h = (let k = ap (λ x. one_if (not x)) h in omega (arith, k))
+
+pub cells_placed : (e : BlockEntry) (dn : ℕ) → is_sorted nat_cmp e.cells ≡ true → length (with_place e dn).cells ≡ grown e dn
+cells_placed e dn s = cases (has_cell e dn) refl
+  where
+    cases : (b : Bool) → has_cell e dn ≡ b → length (cond b e (with_cell e dn no_cell)).cells ≡ grown e dn
+    cases true h = sym (cells_there e dn h)
+    cases false h = cells_put e dn no_cell s
+
+pub cells_erased : (e : BlockEntry) (dn : ℕ) → is_sorted nat_cmp e.cells ≡ true → length (with_erased e dn).cells ≡ length e.cells
+cells_erased e dn s = cases (has_cell e dn) refl
+  where
+    cases : (b : Bool) → has_cell e dn ≡ b → length (cond b (with_cell e dn (cell_erased (is_some e.row) (cell_of e dn))) e).cells ≡ length e.cells
+    cases true h = cells_put e dn (cell_erased (is_some e.row) (cell_of e dn)) s ∙ cells_there e dn h
+    cases false h = refl
 
 -- ---- one more cell is retired
 
@@ -103,13 +139,13 @@ sorted_refilled xs ws s h = ap (is_sorted nat_cmp) (refilled xs ws h) ∙ sorted
 
 -- ---- whether the DataNode is to delete what it has
 
-pub order_none : (e : BlockEntry) (row : Option BlockRow) (xs : Cells) (dn k : ℕ) → entry row xs ≡ e → is_sorted nat_cmp xs ≡ true → k ≡ place dn xs → length xs ≤ k → false ≡ is_ordered (find nat_cmp dn e.cells)
-order_none e row xs dn k v s p l =
+pub order_none : (e : BlockEntry) (file : Option FileBlock) (xs : Cells) (dn k : ℕ) → entry file xs ≡ e → is_sorted nat_cmp xs ≡ true → k ≡ place dn xs → length xs ≤ k → false ≡ is_ordered (find nat_cmp dn e.cells)
+order_none e file xs dn k v s p l =
     sym (ap is_ordered (find_gone dn xs s (not_here dn xs (subst (λ (n : ℕ). length xs ≤ n) p l)))) ∙ ap (λ y. is_ordered (find nat_cmp dn y.cells)) v
 
-pub order_there : (e : BlockEntry) (row : Option BlockRow) (xs : Cells) (dn k : ℕ) (x : ℕ × Cell) (same : Bool) → entry row xs ≡ e → is_sorted nat_cmp xs ≡ true → k ≡ place dn xs → k < length xs → x ≡ get_or xs k x → nat_eq x.0 dn ≡ same
+pub order_there : (e : BlockEntry) (file : Option FileBlock) (xs : Cells) (dn k : ℕ) (x : ℕ × Cell) (same : Bool) → entry file xs ≡ e → is_sorted nat_cmp xs ≡ true → k ≡ place dn xs → k < length xs → x ≡ get_or xs k x → nat_eq x.0 dn ≡ same
     → cond same x.1.ordered false ≡ is_ordered (find nat_cmp dn e.cells)
-order_there e row xs dn k x same v s p l g q =
+order_there e file xs dn k x same v s p l g q =
     let at : x ≡ get_or xs (place dn xs) x = g ∙ ap (λ j. get_or xs j x) p in
     let here : is_here dn xs ≡ same = sym (here_at dn xs x (subst (λ (n : ℕ). n < length xs) p l)) ∙ ap (λ (y : ℕ × Cell). nat_eq y.0 dn) (sym at) ∙ q in
     cases same at here ∙ ap (λ y. is_ordered (find nat_cmp dn y.cells)) v

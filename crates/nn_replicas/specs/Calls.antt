@@ -13,7 +13,7 @@ use Rattle.nn_types.specs.declared.replica.Replica.{Replica}
 use Rattle.nn_model.specs.declared.form.BlockRow.{BlockRow}
 use Rattle.nn_replicas.specs.declared.entry.Cell.{Cell}
 use Rattle.nn_replicas.specs.Table.{BlockEntry, Table}
-use Rattle.nn_replicas.specs.Entry.{is_ordered, no_entry, with_row, with_place, with_put, with_erased, retired, stamp_in, rows_in, replicas_in, orders_in}
+use Rattle.nn_replicas.specs.Entry.{is_ordered, no_entry, with_row, with_place, with_put, with_erased, with_told, retired, stamp_in, replication_in, rows_in, replicas_in, orders_in}
 use Rattle.nn_replicas.specs.Entry.{is_closed, is_safe, is_idle}
 
 -- ---- What it answers.
@@ -28,6 +28,10 @@ entry_or_none t id = unwrap_or (entry_at t id) no_entry
 -- the row of a block, where a file holds it
 abbrev pub row_at : Table → ℕ → Option BlockRow
 row_at t id = (entry_or_none t id).row
+
+-- the replication of the file that holds the block, 0 where none does
+abbrev pub replication_at : Table → ℕ → ℕ
+replication_at t id = replication_in (entry_or_none t id)
 
 -- the generation stamp of the row
 abbrev pub stamp_at : Table → ℕ → Option ℕ
@@ -112,9 +116,9 @@ changed_at t id change = changed_from t id change (entry_at t id)
 abbrev pub room_made : Table → ℕ → Table
 room_made t id = with_entry t id (entry_or_none t id)
 
--- a file holds the block
-abbrev pub block_set : Table → Block → Bool → Table
-block_set t block closed = with_entry t block.id (with_row (entry_or_none t block.id) (record { block = block; closed = closed }))
+-- a file of this replication holds the block
+abbrev pub block_set : Table → Block → Bool → ℕ → Table
+block_set t block closed replication = with_entry t block.id (with_row (entry_or_none t block.id) (record { block = block; closed = closed }) replication)
 
 -- there is room for what the DataNode says of the block
 abbrev pub pair_placed : Table → ℕ → ℕ → Table
@@ -132,6 +136,10 @@ replica_erased t dn id = changed_at t id (λ e. with_erased e dn)
 abbrev pub pair_told : Table → ℕ → ℕ → Option Replica → Table
 pair_told t dn id (Some r) = replica_put t dn id r
 pair_told t dn id None = replica_erased t dn id
+
+-- of an entry: there is room for what the DataNode says of the block, and it is told where the row has at least this stamp
+abbrev pub with_due : BlockEntry → ℕ → ℕ → Option Replica → BlockEntry
+with_due e dn stamp replica = if reaches (stamp_in e.row) stamp then with_told e dn replica else with_place e dn
 
 abbrev pub pair_told_if : Bool → Table → ℕ → ℕ → Option Replica → Table
 pair_told_if reached t dn id replica = if reached then pair_told t dn id replica else t

@@ -10,6 +10,7 @@ use Rattle.nn_types.specs.declared.replica.Replica.{Replica}
 use Rattle.nn_model.specs.Counts.{is_live}
 use Rattle.nn_model.specs.declared.form.BlockRow.{BlockRow}
 use Rattle.nn_replicas.specs.declared.entry.Cell.{Cell}
+use Rattle.nn_replicas.specs.declared.entry.FileBlock.{FileBlock}
 use Rattle.nn_replicas.specs.Table.{BlockEntry}
 
 -- ---- One cell.
@@ -35,13 +36,21 @@ cell_retired c = record { replica = None; ordered = c.ordered || is_some c.repli
 
 -- ---- One block id.
 
+-- what the code keeps of the file that holds the block
+abbrev pub row_of : Option FileBlock → Option BlockRow
+row_of file = option_map (λ (f : FileBlock). record { block = f.block; closed = f.closed }) file
+
+abbrev pub replication_of : Option FileBlock → ℕ
+replication_of None = 0
+replication_of (Some file) = file.replication
+
 -- nothing is known of a block id
 abbrev pub no_entry : BlockEntry
-no_entry = record { row = None; cells = [] }
+no_entry = record { row = None; replication = 0; cells = [] }
 
--- the block is named
-abbrev pub with_row : BlockEntry → BlockRow → BlockEntry
-with_row e row = record e { row = Some row }
+-- the block is named, by a file of this replication
+abbrev pub with_row : BlockEntry → BlockRow → ℕ → BlockEntry
+with_row e row replication = record e { row = Some row; replication = replication }
 
 abbrev pub cell_of : BlockEntry → ℕ → Cell
 cell_of e dn = unwrap_or (find nat_cmp dn e.cells) no_cell
@@ -71,7 +80,7 @@ with_told e dn None = with_erased (with_place e dn) dn
 
 -- the block leaves its file
 abbrev pub retired : BlockEntry → BlockEntry
-retired e = record { row = None; cells = map (λ c. (c.0, cell_retired c.1)) e.cells }
+retired e = record { row = None; replication = 0; cells = map (λ c. (c.0, cell_retired c.1)) e.cells }
 
 -- ---- What is room alone.
 
@@ -88,6 +97,14 @@ is_idle e = not (is_some e.row) && list_all (λ c. is_idle_cell c.1) e.cells
 -- the generation stamp of the row
 abbrev pub stamp_in : Option BlockRow → Option ℕ
 stamp_in row = option_map (λ (r : BlockRow). r.block.stamp) row
+
+abbrev replication_by_row : Option BlockRow → ℕ → ℕ
+replication_by_row None replication = 0
+replication_by_row (Some row) replication = replication
+
+-- the replication of the file that holds the block, 0 where none does
+abbrev pub replication_in : BlockEntry → ℕ
+replication_in e = replication_by_row e.row e.replication
 
 abbrev pub replica_in : ℕ × Cell → Option (ℕ × Replica)
 replica_in c = option_map (λ r. (c.0, r)) c.1.replica

@@ -3,7 +3,9 @@ pub mod Entry
 pub mod Scan
 pub mod Calls
 pub mod Effects
+pub mod Figures
 pub mod Order
 pub mod Agreement
 pub mod SafeMode
 pub mod TableRows
+pub mod FiguresRows

@@ -6,6 +6,7 @@ use Rattle.nn_replicas.specs.declared.entry.Cell.{Cell}
 -- what is known of a block id
 pub record BlockEntry : Type 0 where
   pub row : Option BlockRow  -- where a file holds the block
+  pub replication : ℕ  -- that file's, 0 where none holds it
   pub cells : List (ℕ × Cell)  -- by DataNode, in order
 
 pub record Table : Type 0 where

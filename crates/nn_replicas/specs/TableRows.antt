@@ -10,29 +10,29 @@ use Rattle.nn_replicas.specs.Calls.{stamp_at, block_set, pair_placed, replica_pu
 
 -- ---- The blocks b and c, and reports of b by DataNodes 1, 2 and 3.
 
-abbrev b : ℕ
+abbrev pub b : ℕ
 b = 1073741825
 
-abbrev c : ℕ
+abbrev pub c : ℕ
 c = 1073741826
 
-abbrev block_b : ℕ → Block
+abbrev pub block_b : ℕ → Block
 block_b stamp = record { id = b; stamp = stamp; len = 5 }
 
-abbrev replica : Kind → ℕ → ℕ → Replica
+abbrev pub replica : Kind → ℕ → ℕ → Replica
 replica kind stamp len = record { stamp = stamp; len = len; kind = kind }
 
-abbrev named : Table
-named = replica_put (block_set (empty_table 1) (block_b 1001) true) 1 b (replica Received 1001 5)
+abbrev pub named : Table
+named = replica_put (block_set (empty_table 1) (block_b 1001) true 1) 1 b (replica Received 1001 5)
 
 -- the generation stamp is raised, and then DataNode 1 reports again
-abbrev raised : Table
-raised = block_set (replica_put named 2 b (replica Receiving 1001 5)) (block_b 1002) true
+abbrev pub raised : Table
+raised = block_set (replica_put named 2 b (replica Receiving 1001 5)) (block_b 1002) true 3
 
-abbrev reported : ℕ → Table
+abbrev pub reported : ℕ → Table
 reported len = replica_put raised 1 b (replica Received 1002 len)
 
-abbrev gone : Table
+abbrev pub gone : Table
 gone = block_retired (replica_put (reported 5) 3 b (replica Receiving 9223372036854775807 0)) b
 
 totals : map total_of (empty_table 1 ∷ named ∷ raised ∷ reported 5 ∷ gone ∷ []) ≡ 0 ∷ 1 ∷ 1 ∷ 1 ∷ 0 ∷ []
@@ -42,7 +42,7 @@ safe_counts : map safe_of (empty_table 1 ∷ named ∷ raised ∷ reported 4 ∷
 safe_counts = refl
 
 -- a block of an open file does not count, however many have it
-open_files : map (λ t. total_of (block_set t (block_b 1001) false)) (empty_table 1 ∷ named ∷ []) ≡ 0 ∷ 0 ∷ []
+open_files : map (λ t. total_of (block_set t (block_b 1001) false 1)) (empty_table 1 ∷ named ∷ []) ≡ 0 ∷ 0 ∷ []
 open_files = refl
 
 replicas : replicas_at raised b ≡ (1, replica Received 1001 5) ∷ (2, replica Receiving 1001 5) ∷ []
@@ -52,14 +52,14 @@ orders : (orders_of raised ≡ []) × (orders_of gone ≡ (b, 1) ∷ (b, 2) ∷ 
 orders = (refl, refl, refl, refl)
 
 -- what no file holds is ordered to be deleted, until it is
-abbrev stray : Table
+abbrev pub stray : Table
 stray = replica_put gone 3 c (replica Received 1001 0)
 
 strays : (has_order stray 3 c ≡ true) × (replica_at stray 3 c ≡ None) × (has_order (replica_erased stray 3 c) 3 c ≡ false) × (orders_of (replica_erased stray 3 c) ≡ orders_of gone)
 strays = (refl, refl, refl, refl)
 
 -- room alone is neither a replica nor an order, and stays until it is given back
-abbrev placed : Table
+abbrev pub placed : Table
 placed = pair_placed gone 4 b
 
 rooms : (orders_of placed ≡ orders_of gone) × (map (λ t. is_placed t 4 b) (gone ∷ placed ∷ replica_erased placed 4 b ∷ block_retired placed b ∷ []) ≡ false ∷ true ∷ true ∷ true ∷ [])
@@ -67,7 +67,7 @@ rooms = (refl, refl)
 
 -- room is given back, and with it the entry, once there is no row, no replica and no order: here the orders are done, one
 -- after another
-abbrev done : Table
+abbrev pub done : Table
 done = replica_erased (replica_erased (replica_erased placed 1 b) 2 b) 3 b
 
 abbrev idle_blocks : Table → List Bool
@@ -91,12 +91,12 @@ given_back = (refl, refl, refl)
 
 -- an order, a row, or a row with a replica: nothing is given back
 not_given_back : (room_given_back placed b ≡ placed)
-    × (room_given_back (block_set (empty_table 1) (block_b 1001) false) b ≡ block_set (empty_table 1) (block_b 1001) false) × (room_given_back raised b ≡ raised)
+    × (room_given_back (block_set (empty_table 1) (block_b 1001) false 1) b ≡ block_set (empty_table 1) (block_b 1001) false 1) × (room_given_back raised b ≡ raised)
 not_given_back = (refl, refl, refl)
 
 -- nor where a replica stands without a row
 abbrev replica_alone : Table
-replica_alone = record { min = 1; entries = (b, record { row = None; cells = (1, record { replica = Some (replica Received 1001 5); ordered = false }) ∷ [] }) ∷ [] }
+replica_alone = record { min = 1; entries = (b, record { row = None; replication = 0; cells = (1, record { replica = Some (replica Received 1001 5); ordered = false }) ∷ [] }) ∷ [] }
 
 not_given_back_alone : room_given_back replica_alone b ≡ replica_alone
 not_given_back_alone = refl
@@ -113,14 +113,14 @@ stamps : map (λ t. stamp_at t b) (empty_table 1 ∷ raised ∷ gone ∷ []) ≡
 stamps = refl
 
 -- a block that is named again has its orders still, and no replicas
-again : let t = block_set gone (block_b 1003) true in (orders_of t ≡ orders_of gone) × (replicas_at t b ≡ []) × (replica_at (replica_put t 1 b (replica Received 1003 5)) 1 b ≡ Some (replica Received 1003 5))
+again : let t = block_set gone (block_b 1003) true 1 in (orders_of t ≡ orders_of gone) × (replicas_at t b ≡ []) × (replica_at (replica_put t 1 b (replica Received 1003 5)) 1 b ≡ Some (replica Received 1003 5))
 again = (refl, refl, refl)
 
-abbrev block : ℕ → ℕ → Block
+abbrev pub block : ℕ → ℕ → Block
 block id len = record { id = id; stamp = 1001; len = len }
 
 -- rows by ascending block id, of the blocks that files hold
-rows : let t = block_set (block_set stray (block 1073741828 7) false) (block 1073741827 6) true in
+rows : let t = block_set (block_set stray (block 1073741828 7) false 1) (block 1073741827 6) true 1 in
     (rows_of t ≡ (1073741827, record { block = block 1073741827 6; closed = true }) ∷ (1073741828, record { block = block 1073741828 7; closed = false }) ∷ [])
     × (rows_of stray ≡ [])
 rows = (refl, refl)

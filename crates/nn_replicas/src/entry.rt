@@ -1,13 +1,17 @@
 //! What is known of one block id: its row, and a cell for each DataNode that was placed.
-ghost use Rattle.std.specs.Prelude.{◌≡◌, ℕ, IsOk, OnOk, OnErr, is_some, true, map, ◌++◌, IsTrue};
+ghost use Rattle.std.specs.Prelude.{◌≡◌, IsOk, OnOk, OnErr, is_some, true, map, ◌++◌, IsTrue, length, count_by};
 ghost use Rattle.std.specs.List.{list_all};
 ghost use Rattle.std.specs.FinMap.Entries.{find, is_sorted};
 ghost use Rattle.std.specs.Ordering.{nat_cmp};
-ghost use Rattle.nn_model.specs.Counts.{is_live, is_live_class};
+ghost use Rattle.std.specs.Option.{option_map};
+ghost use Rattle.nn_model.specs.Counts.{class_of};
 ghost use Rattle.nn_replicas.specs.Scan.{place, is_here};
-ghost use Rattle.nn_replicas.specs.Entry.{replicas_in, orders_in, is_ordered, cell_retired, no_entry, is_idle, is_idle_cell, with_row, with_place, with_put, with_erased, with_told, retired, stamp_in, is_closed, is_safe};
+ghost use Rattle.nn_replicas.specs.Entry.{replicas_in, orders_in, is_ordered, cell_retired, no_entry, is_idle, is_idle_cell, has_cell, with_row, with_place, with_put, with_erased, with_told, retired, stamp_in};
+ghost use Rattle.nn_replicas.specs.Calls.{reaches, with_due};
+ghost use Rattle.nn_replicas.specs.Figures.{classes_in, is_class, figures_in, too_few, one_if, grown};
 
 use crate::classes::class;
+use crate::figures::Figures;
 use crate::replicas_of::ReplicasOf;
 use crate::slot::Slot;
 use nn_model::BlockRow;
@@ -25,12 +29,20 @@ pub struct Cell {
     pub ordered: bool,
 }
 
+// A block as a file holds it. The replication is the file's.
+#[derive(Clone, Copy)]
+pub struct FileBlock {
+    block: Block,
+    closed: bool,
+    replication: u16,
+}
+
 // A cell stands for a DataNode that was placed, and stays as long as the entry: so a later report or a retirement is
 // written in place and takes no memory. Up to three cells lie in the entry itself.
 #[derive(Drop)]
 pub struct Entry {
-    // Where a file holds the block. Blocks of open files do not count.
-    row: Option<BlockRow>,
+    // Where a file holds the block.
+    file: Option<FileBlock>,
     cells: SmallVec<Slot, 3>,
 }
 
@@ -39,10 +51,11 @@ impl Model for Entry {
     ghost use Rattle.std.specs.FinMap.Entries.{is_sorted};
     ghost use Rattle.std.specs.Ordering.{nat_cmp};
     ghost use Rattle.nn_replicas.specs.Table.{BlockEntry};
+    ghost use Rattle.nn_replicas.specs.Entry.{row_of, replication_of};
 
     ghost Value = { BlockEntry };
 
-    ghost view = { λ e. record { row = e.row; cells = e.cells.items } };
+    ghost view = { λ e. record { row = row_of e.file; replication = replication_of e.file; cells = e.cells.items } };
 
     ghost invariant = { λ e. IsTrue (is_sorted nat_cmp e.cells.items) };
 }
@@ -52,52 +65,92 @@ impl Entry {
         ensures { result ≡ no_entry }
     {
         Entry {
-            row: None,
+            file: None,
             cells: SmallVec::new(alloc),
         }
     }
 
-    pub fn set_row(&mut self, row: BlockRow)
-        ensures { self.new ≡ with_row self.old row }
+    pub fn set_row(&mut self, row: BlockRow, replication: u16)
+        ensures { self.new ≡ with_row self.old row replication }
     {
-        self.row = Some(row);
+        self.file = Some(FileBlock {
+            block: row.block,
+            closed: row.closed,
+            replication,
+        });
     }
 
     pub fn row(&self) -> Option<BlockRow>
         ensures { result ≡ self.now.row }
     {
-        self.row
+        let Some(file) = self.file else {
+            return None;
+        };
+        Some(BlockRow {
+            block: file.block,
+            closed: file.closed,
+        })
     }
 
-    pub fn is_closed(&self) -> bool
-        ensures { result ≡ is_closed self.now }
+    // What the block adds to the figures of the table.
+    pub fn figures(&self, min: u16) -> Figures
+        ensures { result ≡ figures_in min self.now }
     {
-        match self.row {
-            None => false,
-            Some(row) => row.closed,
+        let cells = self.cells.as_slice();
+        let orders = ordered(cells);
+        let places = cells.len() as u64;
+        let Some(file) = self.file else {
+            return Figures {
+                orders,
+                places,
+                ..Figures::none()
+            };
+        };
+        let classes = classes_of(cells, &file.block);
+        let replication = u64::from(file.replication);
+        let none = classes.live == 0;
+        Figures {
+            blocks: 1,
+            total: u64::from(file.closed),
+            safe: u64::from(file.closed & (u64::from(min) <= classes.live)),
+            missing: u64::from(file.closed & none),
+            missing_of_one: u64::from(file.closed & (none & (replication == 1))),
+            under_replicated: u64::from(file.closed & (classes.live < replication)),
+            over_replicated: u64::from(file.closed & (replication < classes.live)),
+            stale: classes.stale,
+            ahead: classes.ahead,
+            wrong_length: classes.wrong_length,
+            orders,
+            places,
         }
     }
 
-    pub fn is_safe(&self, min: u16) -> bool
-        ensures { result ≡ is_safe min self.now }
+    // How many live replicas the block has, where a closed file holds it and these do not make it safe.
+    pub fn too_few(&self, min: u16) -> Option<u64>
+        ensures { result ≡ too_few min self.now }
     {
-        let Some(row) = self.row else {
-            return false;
+        let Some(file) = self.file else {
+            return None;
         };
-        let live = self
-            .cells
-            .as_slice()
-            .iter()
-            .filter(|slot| is_live(&row.block, slot))
-            .count();
-        row.closed && usize::from(min) <= live
+        let live = classes_of(self.cells.as_slice(), &file.block).live;
+        if file.closed & (live < u64::from(min)) {
+            return Some(live);
+        }
+        None
+    }
+
+    // Whether the DataNode has a cell.
+    pub fn has_cell(&self, dn: u16) -> bool
+        ensures { result ≡ has_cell self.now dn }
+    {
+        let place = place_of(self.cells.as_slice(), dn);
+        has_cell(self.cells.as_slice(), place, dn)
     }
 
     // Makes room for the DataNode, which stays.
     pub fn place(&mut self, dn: u16) -> Result<(), AllocError>
         ensures ok { OnOk result (self.new ≡ with_place self.old dn) }
-        ensures row { self.new.row ≡ self.old.row }
-        ensures safe { (min : ℕ) → is_safe min self.new ≡ is_safe min self.old }
+        ensures places { OnOk result (length self.new.cells ≡ grown self.old dn) }
         ensures err { OnErr result (self.new ≡ self.old) }
         ensures room { is_some (find nat_cmp dn self.old.cells) ≡ true → IsOk result }
     {
@@ -112,10 +165,11 @@ impl Entry {
     // Sets a replica where the block has a row, an order where it has none.
     pub fn put(&mut self, dn: u16, replica: Replica) -> Result<(), AllocError>
         ensures ok { OnOk result (self.new ≡ with_put self.old dn replica) }
+        ensures places { OnOk result (length self.new.cells ≡ grown self.old dn) }
         ensures err { OnErr result (self.new ≡ self.old) }
         ensures room { is_some (find nat_cmp dn self.old.cells) ≡ true → IsOk result }
     {
-        let named = self.row.is_some();
+        let named = self.file.is_some();
         let place = place_of(self.cells.as_slice(), dn);
         if has_cell(self.cells.as_slice(), place, dn) {
             let Some(slot) = self.cells.get_mut(place) else {
@@ -132,9 +186,10 @@ impl Entry {
 
     // Takes away the replica where the block has a row, the order where it has none.
     pub fn erase(&mut self, dn: u16)
-        ensures { self.new ≡ with_erased self.old dn }
+        ensures erased { self.new ≡ with_erased self.old dn }
+        ensures places { length self.new.cells ≡ length self.old.cells }
     {
-        let named = self.row.is_some();
+        let named = self.file.is_some();
         let place = place_of(self.cells.as_slice(), dn);
         if has_cell(self.cells.as_slice(), place, dn) {
             let Some(slot) = self.cells.get_mut(place) else {
@@ -147,6 +202,7 @@ impl Entry {
     // As `place`, and then `put` of the replica, or `erase` where there is none.
     pub fn tell(&mut self, dn: u16, replica: Option<Replica>) -> Result<(), AllocError>
         ensures ok { OnOk result (self.new ≡ with_told self.old dn replica) }
+        ensures places { OnOk result (length self.new.cells ≡ grown self.old dn) }
         ensures err { OnErr result (self.new ≡ self.old) }
         ensures room { is_some (find nat_cmp dn self.old.cells) ≡ true → IsOk result }
     {
@@ -163,14 +219,38 @@ impl Entry {
         Ok(())
     }
 
+    // As `place`, and as `tell` where the row has at least this generation stamp.
+    pub fn tell_due(
+        &mut self,
+        dn: u16,
+        stamp: GenerationStamp,
+        replica: Option<Replica>,
+    ) -> Result<(), AllocError>
+        ensures ok { OnOk result (self.new ≡ with_due self.old dn stamp replica) }
+        ensures places { OnOk result (length self.new.cells ≡ grown self.old dn) }
+        ensures err { OnErr result (self.new ≡ self.old) }
+        ensures room { is_some (find nat_cmp dn self.old.cells) ≡ true → IsOk result }
+    {
+        if !reaches(&self.stamp(), stamp) {
+            let Ok(()) = self.place(dn) else {
+                return Err(AllocError);
+            };
+            return Ok(());
+        }
+        let Ok(()) = self.tell(dn, replica) else {
+            return Err(AllocError);
+        };
+        Ok(())
+    }
+
     // The generation stamp of the row.
     pub fn stamp(&self) -> Option<GenerationStamp>
         ensures { result ≡ stamp_in self.now.row }
     {
-        let Some(row) = self.row else {
+        let Some(file) = self.file else {
             return None;
         };
-        Some(row.block.stamp)
+        Some(file.block.stamp)
     }
 
     // Whether the DataNode is to delete what it has.
@@ -216,7 +296,7 @@ impl Entry {
     pub fn is_idle(&self) -> bool
         ensures { result ≡ is_idle self.now }
     {
-        if self.row.is_some() {
+        if self.file.is_some() {
             return false;
         }
         are_idle(self.cells.as_slice())
@@ -224,11 +304,22 @@ impl Entry {
 
     // Drops the row, and turns the replicas into orders.
     pub fn retire(&mut self)
-        ensures { self.new ≡ retired self.old }
+        ensures retired { self.new ≡ retired self.old }
+        ensures places { length self.new.cells ≡ length self.old.cells }
     {
-        self.row = None;
+        self.file = None;
         retire_slots(self.cells.as_mut_slice());
     }
+}
+
+// Whether there is a stamp that is at least this one.
+fn reaches(named: &Option<GenerationStamp>, stamp: GenerationStamp) -> bool
+    ensures { result ≡ reaches named.now stamp }
+{
+    let Some(named) = *named else {
+        return false;
+    };
+    named >= stamp
 }
 
 // Where the DataNode's cell is, or would be.
@@ -283,17 +374,56 @@ fn is_idle_slot(slot: &Slot) -> bool
     cell.replica.is_none()
 }
 
-fn is_live(block: &Block, slot: &Slot) -> bool
-    ensures { result ≡ is_live slot.now.1.replica block.now }
+// How many replicas of a block are of each class that is counted.
+#[derive(Clone, Copy)]
+pub struct Classes {
+    live: u64,
+    stale: u64,
+    ahead: u64,
+    wrong_length: u64,
+}
+
+fn classes_of(cells: &[Slot], block: &Block) -> Classes
+    ensures { result ≡ classes_in block.now cells.now }
 {
-    match slot.cell().replica {
+    let mut classes = Classes {
+        live: 0,
+        stale: 0,
+        ahead: 0,
+        wrong_length: 0,
+    };
+    for slot in cells {
+        let class = class_in(slot, block);
+        classes.live += u64::from(is_class(class, Class::Live));
+        classes.stale += u64::from(is_class(class, Class::Stale));
+        classes.ahead += u64::from(is_class(class, Class::Ahead));
+        classes.wrong_length += u64::from(is_class(class, Class::WrongLength));
+    }
+    classes
+}
+
+// The class of what a DataNode has of a block, if it has any.
+fn class_in(slot: &Slot, block: &Block) -> Option<Class>
+    ensures { result ≡ option_map (λ r. class_of r block.now) slot.now.1.replica }
+{
+    let Some(replica) = slot.cell().replica else {
+        return None;
+    };
+    Some(class(replica, *block))
+}
+
+fn is_class(found: Option<Class>, class: Class) -> bool
+    ensures { result ≡ is_class class found }
+{
+    match found {
         None => false,
-        Some(replica) => is_live_class(class(replica, *block)),
+        Some(found) => found == class,
     }
 }
 
-fn is_live_class(class: Class) -> bool
-    ensures { result ≡ is_live_class class }
+// How many DataNodes are to delete what they have.
+fn ordered(cells: &[Slot]) -> u64
+    ensures { result ≡ count_by (λ c. c.1.ordered) cells.now }
 {
-    class == Class::Live
+    cells.iter().filter(|slot| slot.cell().ordered).count() as u64
 }

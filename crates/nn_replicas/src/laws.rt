@@ -12,7 +12,7 @@ ghost use Rattle.nn_replicas.specs.Order.{IsInOrder};
 /// room.
 pub fn each_call_changes()
     ensures make_room { (t : Table) (id : ℕ) → MakesRoom t id (room_made t id) }
-    ensures set_block { (t : Table) (block : Block) (closed : Bool) → Names t block closed (block_set t block closed) }
+    ensures set_block { (t : Table) (block : Block) (closed : Bool) (replication : ℕ) → Names t block closed replication (block_set t block closed replication) }
     ensures place { (t : Table) (dn id : ℕ) → Places t dn id (pair_placed t dn id) }
     ensures put { (t : Table) (dn id : ℕ) (r : Replica) → Writes t dn id (Some r) (replica_put t dn id r) }
     ensures erase { (t : Table) (dn id : ℕ) → Writes t dn id None (replica_erased t dn id) }
@@ -26,7 +26,7 @@ pub fn each_call_changes()
 pub fn tables_are_in_order()
     ensures new { (min : ℕ) → IsInOrder (empty_table min) }
     ensures make_room { (t : Table) (id : ℕ) → IsInOrder t → IsInOrder (room_made t id) }
-    ensures set_block { (t : Table) (block : Block) (closed : Bool) → IsInOrder t → IsInOrder (block_set t block closed) }
+    ensures set_block { (t : Table) (block : Block) (closed : Bool) (replication : ℕ) → IsInOrder t → IsInOrder (block_set t block closed replication) }
     ensures place { (t : Table) (dn id : ℕ) → IsInOrder t → IsInOrder (pair_placed t dn id) }
     ensures put { (t : Table) (dn id : ℕ) (r : Replica) → IsInOrder t → IsInOrder (replica_put t dn id r) }
     ensures erase { (t : Table) (dn id : ℕ) → IsInOrder t → IsInOrder (replica_erased t dn id) }

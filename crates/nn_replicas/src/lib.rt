@@ -4,18 +4,22 @@
 
 mod classes;
 mod entry;
+mod figures;
 mod laws;
 mod replicas_of;
 mod rows;
 mod safe_mode;
 mod slot;
 mod table;
+mod unsafe_blocks;
 
 pub use classes::class;
 pub use entry::Cell;
+pub use figures::Figures;
 pub use laws::{counts_are_the_namespaces, each_call_changes, tables_are_in_order};
 pub use nn_model::BlockRow;
 pub use replicas_of::ReplicasOf;
 pub use rows::Rows;
 pub use safe_mode::SafeMode;
 pub use table::Replicas;
+pub use unsafe_blocks::UnsafeBlocks;

@@ -1,12 +1,16 @@
 //! The replica table.
-ghost use Rattle.std.specs.Prelude.{◌≡◌, IsOk, OnOk, OnErr, IfOk, IfSome, IsTrue};
+ghost use Rattle.std.specs.Prelude.{◌≡◌, ◌≤◌, ◌<◌, ◌+◌, ◌^◌, length, None, true, IsOk, OnOk, OnErr, IfOk, IfSome, IsTrue};
 ghost use Rattle.std.specs.FinMap.Entries.{is_sorted};
 ghost use Rattle.std.specs.Ordering.{nat_cmp};
-ghost use Rattle.nn_replicas.specs.Calls.{rows_of, replicas_at, orders_of, AreAscending, has_order, is_placed, has_entry, is_kept, total_of, safe_of, empty_table, room_made, block_set, pair_placed, replica_put, replica_erased, stamp_at, reaches, due_told, block_retired, room_given_back};
+ghost use Rattle.nn_replicas.specs.Calls.{rows_of, replicas_at, orders_of, AreAscending, has_order, is_placed, entry_at, has_entry, is_kept, with_entry, empty_table, room_made, block_set, pair_placed, replica_put, replica_erased, stamp_at, due_told, block_retired, room_given_back};
+ghost use Rattle.nn_replicas.specs.Entry.{has_cell};
+ghost use Rattle.nn_replicas.specs.Figures.{figures_of, unsafe_from, grown};
 
 use crate::entry::Entry;
+use crate::figures::Figures;
 use crate::replicas_of::ReplicasOf;
 use crate::rows::Rows;
+use crate::unsafe_blocks::UnsafeBlocks;
 use nn_model::BlockRow;
 use nn_sorted::SortedMap;
 use nn_types::{Block, BlockId, GenerationStamp, Replica, Settings};
@@ -23,10 +27,8 @@ use std::marker::Model;
 pub struct Replicas {
     min: u16,
     entries: SortedMap<BlockId, Entry>,
-    // How many rows are of closed files, and how many of these are safe: kept at each change, so that reading them
-    // costs nothing.
-    total: u64,
-    safe: u64,
+    // Kept at each change, so that reading them costs nothing.
+    figures: Figures,
     alloc: Global,
 }
 
@@ -36,13 +38,13 @@ impl Model for Replicas {
     ghost use Rattle.std.specs.Map.{keys_of};
     ghost use Rattle.std.specs.Ordering.{nat_cmp};
     ghost use Rattle.nn_replicas.specs.Table.{Table};
-    ghost use Rattle.nn_replicas.specs.Calls.{total_of, safe_of};
+    ghost use Rattle.nn_replicas.specs.Figures.{figures_of};
 
     ghost Value = { Table };
 
     ghost view = { λ t. record { min = t.min; entries = t.entries } };
 
-    ghost invariant = { λ t. (t.total ≡ total_of (record { min = t.min; entries = t.entries })) × (t.safe ≡ safe_of (record { min = t.min; entries = t.entries })) × IsStrictlySortedBy nat_cmp (keys_of t.entries) };
+    ghost invariant = { λ t. (t.figures ≡ figures_of (record { min = t.min; entries = t.entries })) × IsStrictlySortedBy nat_cmp (keys_of t.entries) };
 }
 
 impl Replicas {
@@ -53,8 +55,7 @@ impl Replicas {
         Replicas {
             min: settings.min(),
             entries: SortedMap::new(alloc),
-            total: 0,
-            safe: 0,
+            figures: Figures::none(),
             alloc,
         }
     }
@@ -68,38 +69,57 @@ impl Replicas {
         ensures err { OnErr result (self.new ≡ self.old) }
     {
         let Some(_entry) = self.entries.get(&block) else {
-            self.entries.insert(block, Entry::new(self.alloc))?;
+            self.add(block, Entry::new(self.alloc))?;
             return Ok(());
         };
         Ok(())
     }
 
-    /// Names a block of a file, or changes its row. It takes no memory where the block has an entry: a row, a placed DataNode or
-    /// room.
+    /// Names a block of a file with this replication, or changes its row. It takes no memory where the block has an entry: a row,
+    /// a placed DataNode or room.
     ///
     /// If memory runs out, the table is as it was. O(log blocks + replicas of the block).
-    pub fn set_block(&mut self, block: Block, closed: bool) -> Result<(), AllocError>
-        ensures ok { OnOk result (self.new ≡ block_set self.old block closed) }
+    pub fn set_block(
+        &mut self,
+        block: Block,
+        closed: bool,
+        replication: u16,
+    ) -> Result<(), AllocError>
+        ensures ok { OnOk result (self.new ≡ block_set self.old block closed replication) }
         ensures err { OnErr result (self.new ≡ self.old) }
         ensures room { IsTrue (has_entry self.old block.id) → IsOk result }
     {
-        // Fewer blocks than 2^63 fit in memory, so the counters do not overflow.
+        // Fewer blocks than 2^63 fit in memory, so the figures do not overflow.
         let _count = self.entries.len();
         let row = BlockRow { block, closed };
         let Some(entry) = self.entries.get_mut(&block.id) else {
             let mut entry = Entry::new(self.alloc);
-            entry.set_row(row);
-            let safe = entry.is_safe(self.min);
-            self.entries.insert(block.id, entry)?;
-            self.total += u64::from(closed);
-            self.safe += u64::from(safe);
+            entry.set_row(row, replication);
+            self.add(block.id, entry)?;
             return Ok(());
         };
-        let (was_closed, was_safe) = (entry.is_closed(), entry.is_safe(self.min));
-        entry.set_row(row);
-        let safe = entry.is_safe(self.min);
-        self.total = self.total - u64::from(was_closed) + u64::from(closed);
-        self.safe = self.safe - u64::from(was_safe) + u64::from(safe);
+        let was = entry.figures(self.min);
+        entry.set_row(row, replication);
+        let is = entry.figures(self.min);
+        self.figures = self.figures.replaced(&was, &is);
+        Ok(())
+    }
+
+    // Puts the entry of a block that has none.
+    fn add(&mut self, block: BlockId, entry: Entry) -> Result<(), AllocError>
+        requires none { entry_at self.old block ≡ None }
+        requires cells { length entry.cells ≤ 1 }
+        ensures ok { OnOk result (self.new ≡ with_entry self.old block entry) }
+        ensures err { OnErr result (self.new ≡ self.old) }
+    {
+        // Fewer blocks than 2^63 fit in memory, so the figures do not overflow.
+        let _count = self.entries.len();
+        if self.figures.places == u64::MAX {
+            return Err(AllocError);
+        }
+        let is = entry.figures(self.min);
+        self.entries.insert(block, entry)?;
+        self.figures = self.figures.replaced(&Figures::none(), &is);
         Ok(())
     }
 
@@ -110,13 +130,21 @@ impl Replicas {
         ensures ok { OnOk result (self.new ≡ pair_placed self.old dn block) }
         ensures err { OnErr result (self.new ≡ self.old) }
     {
+        // Fewer blocks than 2^63 fit in memory, so the figures do not overflow.
+        let _count = self.entries.len();
         let Some(entry) = self.entries.get_mut(&block) else {
             let mut entry = Entry::new(self.alloc);
             entry.place(dn)?;
-            self.entries.insert(block, entry)?;
+            self.add(block, entry)?;
             return Ok(());
         };
+        if !has_room(&self.figures, entry, dn) {
+            return Err(AllocError);
+        }
+        let was = entry.figures(self.min);
         entry.place(dn)?;
+        let is = entry.figures(self.min);
+        self.figures = self.figures.replaced(&was, &is);
         Ok(())
     }
 
@@ -130,18 +158,21 @@ impl Replicas {
         ensures err { OnErr result (self.new ≡ self.old) }
         ensures room { IsTrue (is_placed self.old dn block) → IsOk result }
     {
-        // Fewer blocks than 2^63 fit in memory, so the counters do not overflow.
+        // Fewer blocks than 2^63 fit in memory, so the figures do not overflow.
         let _count = self.entries.len();
         let Some(entry) = self.entries.get_mut(&block) else {
             let mut entry = Entry::new(self.alloc);
             entry.put(dn, replica)?;
-            self.entries.insert(block, entry)?;
+            self.add(block, entry)?;
             return Ok(());
         };
-        let was_safe = entry.is_safe(self.min);
+        if !has_room(&self.figures, entry, dn) {
+            return Err(AllocError);
+        }
+        let was = entry.figures(self.min);
         entry.put(dn, replica)?;
-        let safe = entry.is_safe(self.min);
-        self.safe = self.safe - u64::from(was_safe) + u64::from(safe);
+        let is = entry.figures(self.min);
+        self.figures = self.figures.replaced(&was, &is);
         Ok(())
     }
 
@@ -149,15 +180,15 @@ impl Replicas {
     pub fn erase(&mut self, dn: u16, block: BlockId)
         ensures { self.new ≡ replica_erased self.old dn block }
     {
-        // Fewer blocks than 2^63 fit in memory, so the counters do not overflow.
+        // Fewer blocks than 2^63 fit in memory, so the figures do not overflow.
         let _count = self.entries.len();
         let Some(entry) = self.entries.get_mut(&block) else {
             return;
         };
-        let was_safe = entry.is_safe(self.min);
+        let was = entry.figures(self.min);
         entry.erase(dn);
-        let safe = entry.is_safe(self.min);
-        self.safe = self.safe - u64::from(was_safe) + u64::from(safe);
+        let is = entry.figures(self.min);
+        self.figures = self.figures.replaced(&was, &is);
     }
 
     /// Makes room for what a DataNode says of a block, as `place` does. Where a file holds the block with at least this
@@ -178,23 +209,22 @@ impl Replicas {
         ensures err { OnErr result (self.new ≡ self.old) }
         ensures room { IsTrue (is_placed self.old dn block) → IsOk result }
     {
-        // Fewer blocks than 2^63 fit in memory, so the counters do not overflow.
+        // Fewer blocks than 2^63 fit in memory, so the figures do not overflow.
         let _count = self.entries.len();
         let Some(entry) = self.entries.get_mut(&block) else {
             let mut entry = Entry::new(self.alloc);
             entry.place(dn)?;
-            self.entries.insert(block, entry)?;
+            self.add(block, entry)?;
             return Ok(None);
         };
-        let named = entry.stamp();
-        if !reaches(&named, stamp) {
-            entry.place(dn)?;
-            return Ok(named);
+        if !has_room(&self.figures, entry, dn) {
+            return Err(AllocError);
         }
-        let was_safe = entry.is_safe(self.min);
-        entry.tell(dn, replica)?;
-        let safe = entry.is_safe(self.min);
-        self.safe = self.safe - u64::from(was_safe) + u64::from(safe);
+        let was = entry.figures(self.min);
+        let named = entry.stamp();
+        entry.tell_due(dn, stamp, replica)?;
+        let is = entry.figures(self.min);
+        self.figures = self.figures.replaced(&was, &is);
         Ok(named)
     }
 
@@ -202,13 +232,15 @@ impl Replicas {
     pub fn retire(&mut self, block: BlockId)
         ensures { self.new ≡ block_retired self.old block }
     {
+        // Fewer blocks than 2^63 fit in memory, so the figures do not overflow.
+        let _count = self.entries.len();
         let Some(entry) = self.entries.get_mut(&block) else {
             return;
         };
-        let (was_closed, was_safe) = (entry.is_closed(), entry.is_safe(self.min));
+        let was = entry.figures(self.min);
         entry.retire();
-        self.total -= u64::from(was_closed);
-        self.safe -= u64::from(was_safe);
+        let is = entry.figures(self.min);
+        self.figures = self.figures.replaced(&was, &is);
     }
 
     /// Gives back the room of a block that has no row, no replica and no order. Of any other block nothing changes. It is
@@ -219,13 +251,17 @@ impl Replicas {
     pub fn give_back(&mut self, block: BlockId)
         ensures { self.new ≡ room_given_back self.old block }
     {
+        // Fewer blocks than 2^63 fit in memory, so the figures do not overflow.
+        let _count = self.entries.len();
         let Some(entry) = self.entries.get(&block) else {
             return;
         };
         if !entry.is_idle() {
             return;
         }
+        let was = entry.figures(self.min);
         let _room = self.entries.remove(&block);
+        self.figures = self.figures.replaced(&was, &Figures::none());
     }
 
     /// Whether a DataNode is ordered to delete what it has of a block.
@@ -257,6 +293,14 @@ impl Replicas {
         Rows::new(self.entries.iter())
     }
 
+    /// The blocks from an id on, one after another, each with how many live replicas it has where these are too few. O(log blocks),
+    /// and then O(replicas of the block) for each.
+    pub fn unsafe_blocks(&self, from: BlockId) -> UnsafeBlocks<'_>
+        ensures { result ≡ unsafe_from self.now from }
+    {
+        UnsafeBlocks::new(self.min, self.entries.iter_from(&from))
+    }
+
     /// All orders, by ascending block id and then by DataNode. The list is made in the given allocator.
     pub fn orders(&self, alloc: Global) -> Result<Vec<(BlockId, u16)>, AllocError>
         ensures all { IfOk result (λ orders. orders.items ≡ orders_of self.now) }
@@ -269,27 +313,21 @@ impl Replicas {
         Ok(orders)
     }
 
-    /// How many blocks closed files have. O(1).
-    pub fn total(&self) -> u64
-        ensures { result ≡ total_of self.now }
+    /// How many blocks, replicas and orders of each kind there are. O(1).
+    pub fn figures(&self) -> Figures
+        ensures { result ≡ figures_of self.now }
     {
-        self.total
-    }
-
-    /// How many of them have enough live replicas. O(1).
-    pub fn safe_count(&self) -> u64
-        ensures { result ≡ safe_of self.now }
-    {
-        self.safe
+        self.figures
     }
 }
 
-// Whether there is a stamp that is at least this one.
-fn reaches(named: &Option<GenerationStamp>, stamp: GenerationStamp) -> bool
-    ensures { result ≡ reaches named.now stamp }
+// Whether one more cell of this DataNode can be counted, or it has one.
+fn has_room(figures: &Figures, entry: &Entry, dn: u16) -> bool
+    ensures fits { IsTrue result → figures.now.places + grown entry.now dn < 2 ^ 64 + length entry.now.cells }
+    ensures room { has_cell entry.now dn ≡ true → IsTrue result }
 {
-    let Some(named) = *named else {
-        return false;
-    };
-    named >= stamp
+    if figures.places < u64::MAX {
+        return true;
+    }
+    entry.has_cell(dn)
 }

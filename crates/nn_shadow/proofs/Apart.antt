@@ -61,14 +61,14 @@ places_apart t (m ∷ ms) b none =
 
 -- ---- edits
 
-abbrev row_ids : List BlockRow → List ℕ
+abbrev pub row_ids : List BlockRow → List ℕ
 row_ids rows = ids_of (map (λ row. row.block) rows)
 
-pub rows_apart : (t : Table) (rows : List BlockRow) (b : ℕ) → has_id (row_ids rows) b ≡ false → entry_at (rows_set t rows) b ≡ entry_at t b
-rows_apart t [] b none = refl
-rows_apart t (row ∷ rows) b none =
+pub rows_apart : (t : Table) (rows : List BlockRow) (r : ℕ) (b : ℕ) → has_id (row_ids rows) b ≡ false → entry_at (rows_set t rows r) b ≡ entry_at t b
+rows_apart t [] r b none = refl
+rows_apart t (row ∷ rows) r b none =
     let parts = or_parts (row.block.id == b) (has_id (row_ids rows) b) none in
-    rows_apart (block_set t row.block row.closed) rows b parts.1 ∙ with_apart t row.block.id _ b (eq_swap b row.block.id ∙ parts.0)
+    rows_apart (block_set t row.block row.closed r) rows r b parts.1 ∙ with_apart t row.block.id _ b (eq_swap b row.block.id ∙ parts.0)
 
 pub retired_apart : (t : Table) (ids : List ℕ) (b : ℕ) → has_id ids b ≡ false → entry_at (blocks_retired t ids) b ≡ entry_at t b
 retired_apart t [] b none = refl
@@ -93,15 +93,15 @@ made_apart n t (SetGenstamp stamp) b none = refl
 
 -- ---- rows
 
-all_stay : (t : Table) (rows : List BlockRow) (b : ℕ) → has_row t b ≡ true → has_row (rows_set t rows) b ≡ true
-all_stay t [] b here = here
-all_stay t (row ∷ rows) b here = all_stay (block_set t row.block row.closed) rows b (row_stays t row.block row.closed b here)
+all_stay : (t : Table) (rows : List BlockRow) (r : ℕ) (b : ℕ) → has_row t b ≡ true → has_row (rows_set t rows r) b ≡ true
+all_stay t [] r b here = here
+all_stay t (row ∷ rows) r b here = all_stay (block_set t row.block row.closed r) rows r b (row_stays t row.block row.closed r b here)
 
-pub rows_there : (t : Table) (rows : List BlockRow) (b : ℕ) → has_id (row_ids rows) b ≡ true → has_row (rows_set t rows) b ≡ true
-rows_there t (row ∷ rows) b has = elim (or_cases (row.block.id == b) (has_id (row_ids rows) b) has) [
-  | inl own ↦ all_stay (block_set t row.block row.closed) rows b
-      (ap is_some ((set_block_names t row.block row.closed).rows b)
+pub rows_there : (t : Table) (rows : List BlockRow) (r : ℕ) (b : ℕ) → has_id (row_ids rows) b ≡ true → has_row (rows_set t rows r) b ≡ true
+rows_there t (row ∷ rows) r b has = elim (or_cases (row.block.id == b) (has_id (row_ids rows) b) has) [
+  | inl own ↦ all_stay (block_set t row.block row.closed r) rows r b
+      (ap is_some ((set_block_names t row.block row.closed r).rows b)
       ∙ ap (λ s. is_some (cond s (Some (record { block = row.block; closed = row.closed })) (row_at t b))) (eq_swap b row.block.id ∙ own))
-  | inr later ↦ rows_there (block_set t row.block row.closed) rows b later
+  | inr later ↦ rows_there (block_set t row.block row.closed r) rows r b later
 ]
-rows_there t [] b none = cc
+rows_there t [] r b none = cc

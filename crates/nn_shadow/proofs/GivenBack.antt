@@ -183,6 +183,7 @@ room_stays x id c none =
         shows = record {
           in_order = give_back_in_order x.table id c.shows.in_order;
           rows = λ b. g.rows b ∙ c.shows.rows b;
+          replications = λ a here. g.replications a.0.id ∙ c.shows.replications a here;
           datanodes = λ dn b here. c.shows.datanodes dn b (and_parts (not ((b == id) && is_idle_at x.table id)) (is_placed x.table dn b) (sym (g.room dn b) ∙ here)).1;
         };
         unnamed = λ dn b off. g.replicas dn b ∙ c.unnamed dn b off;

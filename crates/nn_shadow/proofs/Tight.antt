@@ -7,8 +7,11 @@ use Rattle.nn_types.specs.declared.report.Message.{Message}
 use Rattle.nn_types.specs.declared.event.Cause.{Cause}
 use Rattle.nn_types.specs.declared.event.Cause.TheVariants.{Due}
 use Rattle.nn_types.specs.declared.edit.Edit.{Edit}
+use Rattle.nn_types.specs.declared.edit.Edit.TheVariants.{StartSegment, EndSegment, Mkdir, Add, AddBlock, UpdateBlocks, Close, Append, Rename, Delete}
+use Rattle.nn_types.specs.declared.edit.Edit.TheVariants.{SetReplication, AllocateBlockId, SetGenstamp}
+use Rattle.nn_model.specs.declared.form.BlockRow.{BlockRow}
 use Rattle.nn_model.specs.Namespace.{Namespace}
-use Rattle.nn_model.specs.Apply.{has_id}
+use Rattle.nn_model.specs.Apply.{has_id, effect}
 use Rattle.nn_model.specs.History.{History, processed}
 use Rattle.nn_model.specs.Touched.{Touched, touched, changed_ids, is_within, is_touched}
 use Rattle.nn_replicas.specs.Table.{Table}
@@ -20,9 +23,9 @@ use Rattle.nn_postponed.specs.Release.{same_source, must_wait, first_free, freed
 use Rattle.nn_postponed.proofs.Orders.{any_all}
 use Rattle.nn_shadow.specs.Items.{TakesItems, LeavesItems, free_of, stuck_of}
 use Rattle.nn_shadow.specs.Room.{is_waited_for, IsNeeded, IsTight, all_given_back, item_blocks, processed_blocks, skipped_blocks, given_back_after}
-use Rattle.nn_shadow.specs.Steps.{messages_taken, all_placed, room_made_for, rows_set, followed}
+use Rattle.nn_shadow.specs.Steps.{messages_taken, all_placed, room_made_for, rows_set, rows_after, file_after, followed}
 use Rattle.nn_shadow.specs.Touching.{due_untouched, IsQuiet}
-use Rattle.nn_shadow.proofs.Apart.{messages_apart, places_apart, rows_apart, retired_apart, made_apart, rows_there}
+use Rattle.nn_shadow.proofs.Apart.{messages_apart, places_apart, rows_apart, retired_apart, made_apart, rows_there, row_ids}
 use Rattle.nn_shadow.proofs.GivenBack.{needed_alike, needed_row, all_given_in_order, all_needed_stays, all_needed_given}
 use Rattle.nn_shadow.proofs.Lists.{first_waits}
 
@@ -134,22 +137,38 @@ skipped_told : (range : Option (ℕ × ℕ)) (events : History) (b : ℕ) → is
 skipped_told None events b within has = cc
 skipped_told (Some range) events b within has = has
 
--- a block that an edit changed has a row, one that it retired is given back, and one that it passed over too, where an item about
+-- a block whose row is not set is none that the edit changed
+unchanged : (n : Namespace) (edit : Edit) (b : ℕ) → has_id (row_ids (rows_after (effect n edit) edit (touched n edit))) b ≡ false → has_id (changed_ids (touched n edit)) b ≡ false
+unchanged n (StartSegment profile) b h = h
+unchanged n EndSegment b h = h
+unchanged n (Mkdir p) b h = h
+unchanged n (Add p r) b h = h
+unchanged n (AddBlock p i stamp) b h = h
+unchanged n (UpdateBlocks p bs) b h = h
+unchanged n (Close p bs) b h = h
+unchanged n (Append p) b h = h
+unchanged n (Rename s d) b h = h
+unchanged n (Delete p) b h = h
+unchanged n (SetReplication p r) b h = refl
+unchanged n (AllocateBlockId i) b h = h
+unchanged n (SetGenstamp stamp) b h = h
+
+-- a block whose row an edit set has a row, one that it retired is given back, and one that it passed over too, where an item about
 -- it was set free. Of any other block nothing changed.
 pub edit_tight : (n : Namespace) (t : Table) (edit : Edit) (due : Message → Bool) (held : List Message) →
-    IsQuiet (touched n edit) due held → IsInOrder (messages_taken (followed (room_made_for t edit) (touched n edit)) (freed due [] held)) →
-    ((b : ℕ) → row_at (messages_taken (followed (room_made_for t edit) (touched n edit)) (freed due [] held)) b ≡ row_at (followed (room_made_for t edit) (touched n edit)) b) →
+    IsQuiet (touched n edit) due held → IsInOrder (messages_taken (followed (effect n edit) edit (room_made_for t edit) (touched n edit)) (freed due [] held)) →
+    ((b : ℕ) → row_at (messages_taken (followed (effect n edit) edit (room_made_for t edit) (touched n edit)) (freed due [] held)) b ≡ row_at (followed (effect n edit) edit (room_made_for t edit) (touched n edit)) b) →
     IsTight held t →
     IsTight (kept due [] held)
-    (given_back_after (kept due [] held) (messages_taken (followed (room_made_for t edit) (touched n edit)) (freed due [] held)) (touched n edit) (map (processed Due) (freed due [] held)))
+    (given_back_after (kept due [] held) (messages_taken (followed (effect n edit) edit (room_made_for t edit) (touched n edit)) (freed due [] held)) (touched n edit) (map (processed Due) (freed due [] held)))
 edit_tight n t edit due held quiet o rows tight b = elim (cases_Bool (has_id what.retired b)) [
   | inl gone ↦ needed_more (all_needed_given now taken what.retired b o gone)
-  | inr stays ↦ elim (cases_Bool (has_id (changed_ids what) b)) [
+  | inr stays ↦ elim (cases_Bool (has_id (row_ids set) b)) [
     | inl changed ↦ needed_all (needed_row now taken b (ap is_some (rows b) ∙ row_now changed stays))
-    | inr other ↦ elim (cases_Bool (is_waited_for out b)) [
+    | inr apart ↦ let other = unchanged n edit b apart in elim (cases_Bool (is_waited_for out b)) [
       | inl about ↦ all_needed_given now given skipped b given_o (skipped_told what.skipped events b (within other stays about) (told_are Due out b ∙ about))
       | inr none ↦ needed_all (needed_alike held now t taken b
-          (messages_apart made out b none ∙ followed_apart other stays)
+          (messages_apart made out b none ∙ followed_apart apart stays)
           (λ w. sym (still_waited due [] held b none) ∙ w) (tight b))
     ]
   ]
@@ -168,7 +187,7 @@ edit_tight n t edit due held quiet o rows tight b = elim (cases_Bool (has_id wha
     events = map (processed Due) out
 
     made : Table
-    made = followed (room_made_for t edit) what
+    made = followed (effect n edit) edit (room_made_for t edit) what
 
     taken : Table
     taken = messages_taken made out
@@ -188,13 +207,19 @@ edit_tight n t edit due held quiet o rows tight b = elim (cases_Bool (has_id wha
     needed_all : IsNeeded now taken b → IsNeeded now (all_given_back now given skipped) b
     needed_all needed = needed_more (all_needed_stays now taken what.retired b o needed)
 
-    row_now : has_id (changed_ids what) b ≡ true → has_id what.retired b ≡ false → has_row made b ≡ true
-    row_now changed stays = ap (λ o. is_some (unwrap_or o no_entry).row) (retired_apart (rows_set (room_made_for t edit) what.changed) what.retired b stays) ∙ rows_there (room_made_for t edit) what.changed b changed
+    set : List BlockRow
+    set = rows_after (effect n edit) edit what
 
-    followed_apart : has_id (changed_ids what) b ≡ false → has_id what.retired b ≡ false → entry_at made b ≡ entry_at t b
-    followed_apart other stays =
-        retired_apart (rows_set (room_made_for t edit) what.changed) what.retired b stays
-        ∙ rows_apart (room_made_for t edit) what.changed b other ∙ made_apart n t edit b other
+    r : ℕ
+    r = (file_after (effect n edit) edit).replication
+
+    row_now : has_id (row_ids set) b ≡ true → has_id what.retired b ≡ false → has_row made b ≡ true
+    row_now changed stays = ap (λ o. is_some (unwrap_or o no_entry).row) (retired_apart (rows_set (room_made_for t edit) set r) what.retired b stays) ∙ rows_there (room_made_for t edit) set r b changed
+
+    followed_apart : has_id (row_ids set) b ≡ false → has_id what.retired b ≡ false → entry_at made b ≡ entry_at t b
+    followed_apart apart stays =
+        retired_apart (rows_set (room_made_for t edit) set r) what.retired b stays
+        ∙ rows_apart (room_made_for t edit) set r b apart ∙ made_apart n t edit b (unchanged n edit b apart)
 
     within : has_id (changed_ids what) b ≡ false → has_id what.retired b ≡ false → is_waited_for out b ≡ true → is_within what.skipped b ≡ true
     within other stays about = elim (or_cases (has_id (changed_ids what) b || has_id what.retired b) (is_within what.skipped b) (freed_touched what due held b quiet about)) [

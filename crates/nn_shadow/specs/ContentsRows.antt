@@ -61,6 +61,7 @@ root_is_shown : Shows root_alone at_b
 root_is_shown = record {
   in_order = place_in_order (empty_table 1) 1 b (new_in_order 1);
   rows = (place_places (empty_table 1) 1 b).rows;
+  replications = λ x none. absurd none;
   datanodes = has_datanodes;
 }
 
@@ -135,7 +136,7 @@ it_stopped_later : IsConsistent (record waiting { phase = record { stopped = Som
 it_stopped_later x = omega (arith, x.stopped.next)
 
 -- the table has the row of a block that no file holds
-a_row_is_left : IsConsistent (record waiting { table = block_set at_b (block b 1001 5) false }) → ⊥
+a_row_is_left : IsConsistent (record waiting { table = block_set at_b (block b 1001 5) false 1 }) → ⊥
 a_row_is_left x = none-some _ (sym (x.shows.rows b))
 
 a_replica_is_left : IsConsistent (record waiting { table = with_entry at_b b (with_cell entry 1 (record { replica = Some (received 1001 5); ordered = false })) }) → ⊥

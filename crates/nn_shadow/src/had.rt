@@ -87,6 +87,13 @@ impl Had {
         }
     }
 
+    /// The number of the begin of the full report that is open.
+    pub fn begun(&self) -> Option<u64>
+        ensures { result ≡ self.now.having.begun }
+    {
+        self.begun
+    }
+
     /// The items of the end of a full report, by ascending block: O(blocks that the DataNode has). All notes are sorted in
     /// before.
     pub fn left_out(&mut self, alloc: Global, finish: &Message) -> Result<Vec<Message>, AllocError>

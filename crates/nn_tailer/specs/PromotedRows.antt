@@ -219,7 +219,7 @@ held_shadow = record {
   namespace = root_alone;
   last = 2;
   history = Applied 1 ∷ Applied 2 ∷ [];
-  table = record { min = 1; entries = (b, record { row = None; cells = (1, record { replica = None; ordered = false }) ∷ [] }) ∷ [] };
+  table = record { min = 1; entries = (b, record { row = None; replication = 0; cells = (1, record { replica = None; ordered = false }) ∷ [] }) ∷ [] };
   held = unnamed_report ∷ [];
   numbers = 1 ∷ [];
   had = record { has = (b, 1) ∷ []; begun = None } ∷ [];
@@ -298,7 +298,7 @@ closed_stands l = let own : lanes_of (closed l) ≡ sent = λ i dn. sent_by_node
 abbrev pub promoted_shadow : Contents
 promoted_shadow = record held_shadow {
   history = unnamed_history;
-  table = record { min = 1; entries = (b, record { row = None; cells = (1, record { replica = None; ordered = true }) ∷ [] }) ∷ [] };
+  table = record { min = 1; entries = (b, record { row = None; replication = 0; cells = (1, record { replica = None; ordered = true }) ∷ [] }) ∷ [] };
   held = [];
   phase = record { stopped = None; active = true };
 }

@@ -22,7 +22,8 @@ use Rattle.nn_tree.specs.At.{at, IsSubtree, IsGrafted, IsSame}
 use Rattle.nn_tree.specs.Walks.{rename_fault, moved_rows, IsRenamed}
 use Rattle.nn_model.specs.declared.form.BlockRow.{BlockRow}
 use Rattle.nn_tree.specs.Issued.{AreBelow}
-use Rattle.nn_tree.specs.View.{seen, InRow, Stands, IsIndex, IsKept}
+use Rattle.nn_tree.specs.View.{seen, InRow, Stands, IsIndex, IsKept, Holds}
+use Rattle.nn_tree.specs.declared.sizes.Sizes.{Sizes}
 use Rattle.nn_model.proofs.Prefixes.{same, same_self}
 use Rattle.nn_tree.proofs.Prefix.{can_move}
 use Rattle.nn_tree.proofs.Renamed.{moved_there}
@@ -57,8 +58,8 @@ new_kept n look e none = record {
 pub still_seen : (es new : List (Path × Form)) (issued : Issued) → IsSame es new → seen new issued ≡ seen es issued
 still_seen es new issued h = ap (λ r. record { rows = r; issued = issued }) (same_there es new h)
 
-pub still_kept : (es new : List (Path × Form)) (issued : Issued) (look : ℕ → Option BlockRow) → IsSame es new → IsKept (seen es issued) look → IsKept (seen new issued) look
-still_kept es new issued look h k = subst (λ n. IsKept n look) (sym (still_seen es new issued h)) k
+pub still_held : (es new : List (Path × Form)) (issued : Issued) (look : ℕ → Option BlockRow) (sizes : Sizes) → IsSame es new → Holds (seen es issued) look sizes → Holds (seen new issued) look sizes
+still_held es new issued look sizes h k = subst (λ n. Holds n look sizes) (sym (still_seen es new issued h)) k
 
 -- ---- a row instead of another
 pub put_seen : (es new : List (Path × Form)) (issued : Issued) (p : Path) (r : Form) → ((q : Path) → at new q ≡ cond (same q p) (Some r) (at es q)) → seen new issued ≡ with_row (seen es issued) p r

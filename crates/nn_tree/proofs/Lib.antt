@@ -24,6 +24,7 @@ pub mod Named
 pub mod Memory
 pub mod Ascending
 pub mod Retired
+pub mod Tallies
 pub mod Listings
 pub mod Nested
 pub mod Places

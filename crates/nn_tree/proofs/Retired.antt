@@ -57,7 +57,8 @@ ids_are : (es : List (Path × Form)) → touched.ids_of (flat_map (λ row. block
 ids_are [] = refl
 ids_are (e ∷ es) = map-append (λ b. b.id) (blocks_of e.1) (flat_map (λ row. blocks_of row.1) es) ∙ ap (λ ids. row_ids e.1 ++ ids) (ids_are es)
 
-rows_below : (n : Namespace) (p : Path) (t : List (Path × Form)) → is_sorted path_cmp n.rows ≡ true → is_sorted path_cmp t ≡ true → ((q : Path) → lookup n (p ++ q) ≡ at t q) →
+-- the rows at p and below are those of the tree there
+pub rows_below : (n : Namespace) (p : Path) (t : List (Path × Form)) → is_sorted path_cmp n.rows ≡ true → is_sorted path_cmp t ≡ true → ((q : Path) → lookup n (p ++ q) ≡ at t q) →
     filter (λ row. begins_with p row.0) n.rows ≡ under_all p t
 rows_below n p t rows_sorted sorted sub =
     same_rows (filter (λ row. begins_with p row.0) n.rows) (under_all p t) (is_sorted-where_key path_cmp (λ q. begins_with p q) n.rows (to_T _ rows_sorted)) (to_T _ (sorted_under_all p t ∙ sorted))

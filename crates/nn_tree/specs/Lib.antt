@@ -21,6 +21,8 @@ pub mod Blocks
 pub mod BlocksRows
 pub mod Memory
 pub mod MemoryRows
+pub mod Sizes
+pub mod SizesRows
 pub mod Restore
 pub mod RestoreFault
 pub mod Entered

@@ -7,6 +7,8 @@ use Rattle.nn_model.specs.Namespace.{Path, Issued, Namespace, lookup, blocks_of}
 use Rattle.nn_model.specs.Apply.{in_path_order}
 use Rattle.nn_model.specs.WellFormed.{Has, IsWellFormed, HasUtf8Names}
 use Rattle.nn_model.specs.declared.form.BlockRow.{BlockRow}
+use Rattle.nn_tree.specs.declared.sizes.Sizes.{Sizes}
+use Rattle.nn_tree.specs.Sizes.{sizes_of}
 
 -- the namespace of a tree's paths, and of what was issued
 abbrev pub seen : List (Path × Form) → Issued → Namespace
@@ -30,11 +32,15 @@ pub record IsIndex (f : Path → Option Form) (look : ℕ → Option BlockRow) :
   pub sound : (id : ℕ) (b : BlockRow) → look id ≡ Some b → (b.block.id ≡ id) × Stands f b
   pub complete : (b : BlockRow) → Stands f b → look b.block.id ≡ Some b
 
--- what holds between two calls: the namespace is well formed, its names are UTF-8, and the index is its own
+-- what each edit keeps: the namespace is well formed, its names are UTF-8, and the index is its own
 pub record IsKept (n : Namespace) (look : ℕ → Option BlockRow) : Type 0 where
   pub well : IsWellFormed n
   pub utf8 : HasUtf8Names n
   pub index : IsIndex (lookup n) look
+
+-- what holds between two calls: that, and these are how many files and directories there are
+abbrev pub Holds : Namespace → (ℕ → Option BlockRow) → Sizes → Type 0
+Holds n look sizes = IsKept n look × (sizes ≡ sizes_of n.rows)
 
 -- the index after the row of a block was written anew, if there is one
 abbrev pub rewritten : (ℕ → Option BlockRow) → Block → Bool → ℕ → Option BlockRow

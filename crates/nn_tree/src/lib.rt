@@ -8,7 +8,7 @@
 //! logarithm of the number of blocks. A delete and a listing take time in the size of what they go through. However
 //! deep directories nest, no call takes more stack than a walk down a path. A listing goes row by row, and takes
 //! memory for the names of one path and for the directories on its way that have children left. A delete goes the same
-//! way, and dropping a namespace takes no memory.
+//! way, and dropping a namespace takes no memory. How many files and directories there are is kept, and not counted.
 #![tactic(auto)]
 
 mod fault;
@@ -19,12 +19,13 @@ mod listing;
 mod name;
 mod namespace;
 mod rows;
+mod sizes;
 mod touched;
 mod tree;
 
 pub use fault::RestoreFault;
 pub use found::Found;
-pub use listing::PathRow;
+pub use listing::{PathRow, copied_names};
 pub use namespace::{BlockRows, Namespace};
 pub use nn_model::{BlockRow, FileRow, Form};
 pub use nn_types::EditFault;

@@ -56,12 +56,14 @@ fn path_row(alloc: Global, names: &[&str], found: Found<'_>) -> Result<PathRow, 
     ensures names { IfOk result (λ row. names_of row.names.items ≡ lent_names names.now) }
     ensures form { IfOk result (λ row. row.form ≡ form_of found.entry) }
 {
-    let names = copied(alloc, names)?;
+    let names = copied_names(alloc, names)?;
     let form = form(found)?;
     Ok(PathRow { names, form })
 }
 
-fn copied(alloc: Global, names: &[&str]) -> Result<Vec<String>, AllocError>
+/// A copy of names that are lent, as those that a walk lends until its next row. It takes memory for each of them, and gives all of
+/// it back where one gets none.
+pub fn copied_names(alloc: Global, names: &[&str]) -> Result<Vec<String>, AllocError>
     ensures { IfOk result (λ copy. names_of copy.items ≡ lent_names names.now) }
 {
     let mut copy = Vec::new(alloc);

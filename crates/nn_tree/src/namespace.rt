@@ -11,6 +11,7 @@ ghost use Rattle.nn_tree.specs.Found.{form_of};
 ghost use Rattle.nn_tree.specs.At.{names_of};
 ghost use Rattle.nn_tree.specs.Listing.{rows_of};
 ghost use Rattle.nn_tree.specs.Rows.{extent_of, rows_from, Resumes};
+ghost use Rattle.nn_tree.specs.Sizes.{files_of, directories_of};
 ghost use Rattle.nn_model.specs.WellFormed.{IsWellFormed, HasUtf8Names};
 ghost use Rattle.nn_tree.specs.Blocks.{IsInFile};
 ghost use Rattle.nn_tree.specs.Memory.{takes_memory};
@@ -25,6 +26,7 @@ use crate::found::Found;
 use crate::issued::Issued;
 use crate::listing::{PathRow, copies};
 use crate::rows::{Extent, Rows};
+use crate::sizes::Sizes;
 use crate::touched::Touched;
 use crate::tree::Tree;
 pub use blocks::BlockRows;
@@ -41,6 +43,8 @@ pub struct Namespace {
     // The blocks of all files by id. No row names a path, so that a rename changes none.
     index: SortedMap<BlockId, BlockRow>,
     issued: Issued,
+    // Those of all rows.
+    sizes: Sizes,
     alloc: Global,
 }
 
@@ -48,13 +52,13 @@ impl Model for Namespace {
     ghost use Rattle.nn_sorted.specs.Values.{value_at};
     ghost use Rattle.std.specs.Ordering.{nat_cmp};
     ghost use Rattle.nn_model.specs.Namespace.{Namespace as Seen};
-    ghost use Rattle.nn_tree.specs.View.{seen, IsKept};
+    ghost use Rattle.nn_tree.specs.View.{seen, Holds};
 
     ghost Value = { Seen };
 
     ghost view = { λ a. seen a.root a.issued };
 
-    ghost invariant = { λ a. IsKept (seen a.root a.issued) (λ id. value_at nat_cmp a.index id) };
+    ghost invariant = { λ a. Holds (seen a.root a.issued) (λ id. value_at nat_cmp a.index id) a.sizes };
 }
 
 impl Namespace {
@@ -66,6 +70,7 @@ impl Namespace {
             root: Tree::new_dir(alloc),
             index: SortedMap::new(alloc),
             issued: Issued::new(alloc),
+            sizes: Sizes::of_root(),
             alloc,
         }
     }
@@ -159,6 +164,20 @@ impl Namespace {
         ensures { IfOk result (λ extent. extent ≡ extent_of self.now.rows) }
     {
         self.rows().extent()
+    }
+
+    /// How many files there are, closed and open. It is one look, however many there are.
+    pub fn files(&self) -> u64
+        ensures { result ≡ files_of self.now }
+    {
+        self.sizes.files
+    }
+
+    /// How many directories there are, the root among them. It is one look, however many there are.
+    pub fn directories(&self) -> u64
+        ensures { result ≡ directories_of self.now }
+    {
+        self.sizes.directories
     }
 
     /// All rows in path order, with memory for paths of so many names: where none is deeper, their `next` is not refused any.

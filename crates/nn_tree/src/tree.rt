@@ -1,5 +1,5 @@
 //! A directory tree, seen as the list of its paths with what stands there. It knows no ids and no index.
-ghost use Rattle.std.specs.Prelude.{◌≡◌, [], ◌∷◌, ◌++◌, ◌&&◌, nat_lt, OnOk, OnErr, ◌+◌, ◌<◌, length, is_some, Some, None, true, MatchResult, IfOk, IfErr, IfSome};
+ghost use Rattle.std.specs.Prelude.{◌≡◌, [], ◌∷◌, ◌++◌, ◌&&◌, nat_lt, OnOk, OnErr, ◌+◌, ◌<◌, ◌≤◌, length, is_some, Some, None, true, MatchResult, IfOk, IfErr, IfSome};
 ghost use Rattle.nn_tree.specs.Walks.{file_fault, mkdir_fault, delete_fault, rename_fault, IsRenamed};
 ghost use Rattle.nn_model.specs.Apply.{walk};
 ghost use Rattle.std.specs.Option.{option_copied};
@@ -8,6 +8,7 @@ ghost use Rattle.nn_tree.specs.Ids.{ids_of};
 ghost use Rattle.nn_tree.specs.Flat.{flat, below};
 ghost use Rattle.nn_tree.specs.Work.{work, rows_left};
 ghost use Rattle.nn_tree.specs.Found.{form_of};
+ghost use Rattle.nn_tree.specs.Sizes.{sizes_of, plus};
 ghost use Rattle.std.specs.FinMap.Entries.{is_sorted};
 ghost use Rattle.nn_model.specs.Namespace.{path_cmp, begins_with};
 ghost use Rattle.nn_tree.specs.At.{at, IsSubtree, IsSame};
@@ -20,6 +21,7 @@ mod places;
 use crate::found::Found;
 use crate::name::{Name, Wanted};
 use crate::rows::Rows;
+use crate::sizes::Sizes;
 use crate::touched::push_ids;
 use nn_model::FileRow;
 use nn_sorted::SortedMap;
@@ -266,21 +268,31 @@ impl Tree {
         Ok(())
     }
 
-    /// Appends the ids of the blocks in the tree, in path order.
+    /// Appends the ids of the blocks in the tree, in path order. Of so many files and directories, it gives those that are not
+    /// in the tree.
     pub(crate) fn collect_ids(
         &self,
         alloc: Global,
         out: &mut Vec<BlockId>,
-    ) -> Result<(), AllocError>
-        ensures { OnOk result (out.new.items ≡ out.old.items ++ ids_of self.now) }
+        all: Sizes,
+    ) -> Result<Sizes, AllocError>
+        requires files { (sizes_of self.now).files ≤ all.files }
+        requires directories { (sizes_of self.now).directories ≤ all.directories }
+        ensures ids { OnOk result (out.new.items ≡ out.old.items ++ ids_of self.now) }
+        ensures sizes { IfOk result (λ others. all ≡ plus (sizes_of self.now) others) }
     {
+        let mut others = all;
         let mut rows = Rows::new(alloc, self);
         'rows: while let Some(found) = rows.next()? {
-            if let Found::File(file) = found {
-                push_ids(out, file.blocks.as_slice())?;
+            match found {
+                Found::Dir => others.directories -= 1,
+                Found::File(file) => {
+                    others.files -= 1;
+                    push_ids(out, file.blocks.as_slice())?;
+                }
             }
         }
-        Ok(())
+        Ok(others)
     }
 }
 

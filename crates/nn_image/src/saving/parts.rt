@@ -1,11 +1,10 @@
 //! An image that is written in parts, with time for something else between two of them.
 ghost use Rattle.std.specs.Prelude.{◌≡◌, ◌<◌, ◌≤◌, ◌+◌, ◌-◌, ◌++◌, ◌↔◌, [], ℕ, List, None, IsTrue, false, length, IfOk, IfErr, IfSome};
 ghost use Rattle.nn_device.specs.Device.{Writing};
-ghost use Rattle.nn_device.specs.Page.{HasPut};
+ghost use Rattle.nn_device.specs.Page.{HasPut, Puts};
 ghost use Rattle.nn_device.specs.Parts.{TookFront};
 ghost use Rattle.nn_tree.specs.At.{names_of};
-ghost use Rattle.nn_tree.specs.Listing.{lent_names};
-ghost use Rattle.nn_image.specs.InParts.{Begins, IsPart, IsRest, IsSaving, IsSavedBy, Resumes, WrotePart, fault_of, part_of, paths_from, rest_text};
+ghost use Rattle.nn_image.specs.InParts.{Begins, IsPart, IsRest, IsSaving, IsSavedBy, Resumes, WrotePart, fault_of, last_line, part_of, paths_from, rest_text};
 ghost use Rattle.nn_image.specs.Saving.{WroteFront};
 ghost use Rattle.nn_image.specs.Text.{image_text, row_lines};
 
@@ -13,7 +12,7 @@ use super::{head_line, put_end};
 use crate::fault::SaveFault;
 use crate::row_text::put_row;
 use nn_device::{Page, Unwritten, Writer};
-use nn_tree::{Namespace, Rows};
+use nn_tree::{Namespace, Rows, copied_names};
 use nn_types::Txid;
 use std::alloc::{AllocError, Global};
 use std::io::Write;
@@ -119,12 +118,11 @@ impl Saving {
         let Some(count) = count.checked_add(part.lines as u64) else {
             return Err(Unwritten::OutOfMemory);
         };
+        put_last(&mut page, writer, &part, count);
+        page.end(writer)?;
         let Some(place) = part.next else {
-            put_end(&mut page, writer, count);
-            page.end(writer)?;
             return Ok(None);
         };
-        page.end(writer)?;
         Ok(Some(Saving { place, count }))
     }
 }
@@ -192,7 +190,7 @@ fn put_part<W: Write>(
             return Ok(Part { lines, next: None });
         };
         if lines >= rows || has_put(page, writer, before, bytes) {
-            let Ok(place) = copied(alloc, walk.names()) else {
+            let Ok(place) = copied_names(alloc, walk.names()) else {
                 return Err(Unwritten::OutOfMemory);
             };
             return Ok(Part {
@@ -205,20 +203,19 @@ fn put_part<W: Write>(
     }
 }
 
+// Puts the last line of an image of so many paths, if none is left behind the part.
+fn put_last<W: Write>(page: &mut Page, writer: &mut Writer<W>, part: &Part, paths: u64)
+    ensures { Puts (last_line part.now.next paths) page.old writer.old page.new writer.new }
+{
+    if part.next.is_none() {
+        put_end(page, writer, paths);
+    }
+}
+
 // Whether so many bytes were put, where the writer had taken so many before.
 fn has_put<W: Write>(page: &Page, writer: &Writer<W>, before: u64, bytes: u64) -> bool
     ensures { IsTrue result ↔ (bytes ≤ (writer.now.taken - before) + length page.now.left) }
 {
     let written = writer.taken().saturating_sub(before);
     written >= bytes.saturating_sub(page.pending() as u64)
-}
-
-fn copied(alloc: Global, names: &[&str]) -> Result<Vec<String>, AllocError>
-    ensures { IfOk result (λ copy. names_of copy.items ≡ lent_names names.now) }
-{
-    let mut copy = Vec::new(alloc);
-    for name in names {
-        copy.push(String::from_str(alloc, name)?)?;
-    }
-    Ok(copy)
 }

@@ -58,12 +58,16 @@ impl Namespace {
         requires lawful { IsTypedEdit (edit.Mkdir path.now) }
         ensures { Does (edit.Mkdir path.now) self.old result self.new }
     {
+        let Some(sizes) = self.sizes.with_directory() else {
+            return Err(Unchanged);
+        };
         let Ok(()) = self
             .root
             .make(self.alloc, &path.names(), Tree::new_dir(self.alloc))
         else {
             return Err(Unchanged);
         };
+        self.sizes = sizes;
         Ok(Touched::nothing(self.alloc))
     }
 
@@ -74,6 +78,9 @@ impl Namespace {
         if !is_replication(replication) {
             return Err(Unchanged);
         }
+        let Some(sizes) = self.sizes.with_file() else {
+            return Err(Unchanged);
+        };
         let file = empty_file(self.alloc, replication);
         let Ok(()) = self
             .root
@@ -81,6 +88,7 @@ impl Namespace {
         else {
             return Err(Unchanged);
         };
+        self.sizes = sizes;
         Ok(Touched::nothing(self.alloc))
     }
 
@@ -203,10 +211,11 @@ impl Namespace {
         };
         tree.in_order();
         let mut ids = Vec::new(self.alloc);
-        let Ok(()) = tree.collect_ids(self.alloc, &mut ids) else {
+        let Ok(others) = tree.collect_ids(self.alloc, &mut ids, self.sizes) else {
             return Err(Unchanged);
         };
         let _gone = self.root.take(self.alloc, &names);
+        self.sizes = others;
         forget(&mut self.index, &ids);
         ids.sort_unstable();
         Ok(Touched::deleted(self.alloc, ids))

@@ -11,6 +11,7 @@ use super::Namespace;
 use crate::fault::RestoreFault;
 use crate::index::{enter, forget};
 use crate::issued::Issued;
+use crate::sizes::Sizes;
 use crate::touched::push_ids;
 use crate::tree::Tree;
 use nn_model::{FileRow, Form};
@@ -39,6 +40,7 @@ impl Namespace {
             root: Tree::new_dir(alloc),
             index: SortedMap::new(alloc),
             issued,
+            sizes: Sizes::of_root(),
             alloc,
         })
     }
@@ -109,6 +111,9 @@ impl Namespace {
         let names = path.names();
         file.replication.get();
         file.blocks.lawful();
+        let Some(sizes) = self.sizes.with_file() else {
+            return Err(RestoreFault::OutOfMemory);
+        };
         let blocks = file.blocks.as_slice();
         if let Err(fault) = enter(&mut self.index, blocks, ids, file.closed) {
             return Err(fault);
@@ -117,6 +122,7 @@ impl Namespace {
             forget(&mut self.index, ids);
             return Err(RestoreFault::OutOfMemory);
         };
+        self.sizes = sizes;
         Ok(())
     }
 

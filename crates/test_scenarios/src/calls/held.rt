@@ -34,6 +34,9 @@ fn read(held: &Postponed, call: &mut Call<'_>) -> bool {
     } else if call.is("holds") {
         let holds = held.holds(call.datanode(1), call.id(2));
         call.show(&holds);
+    } else if call.is("held_from") {
+        let count = held.count_from(call.datanode(1));
+        call.show(&count);
     } else if call.is("next_held") {
         if let Some(id) = held.next_held(call.id(1)) {
             call.show(&id.get());

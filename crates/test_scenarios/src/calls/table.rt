@@ -3,7 +3,7 @@ ghost use Rattle.std.specs.Prelude.{IsTrue};
 ghost use Rattle.nn_replicas.specs.Calls.{is_kept};
 
 use crate::calls::call::Call;
-use nn_replicas::{Replicas, class};
+use nn_replicas::{Figures, Replicas, class};
 use nn_types::{Block, Kind, Replica, Settings};
 
 /// Calls that change the table. Whether this was one.
@@ -36,7 +36,13 @@ fn empty(table: &mut Replicas, call: &mut Call<'_>) {
 
 fn set(table: &mut Replicas, call: &mut Call<'_>) {
     let closed = call.word(4) == "closed";
-    call.failed = table.set_block(call.block(), closed).is_err() || call.failed;
+    let replication = if call.words.len() > 5 {
+        call.datanode(5)
+    } else {
+        1
+    };
+    let set = table.set_block(call.block(), closed, replication);
+    call.failed = set.is_err() || call.failed;
 }
 
 fn put(table: &mut Replicas, call: &mut Call<'_>) {
@@ -63,9 +69,14 @@ fn replica(call: &mut Call<'_>) -> Replica
 // Calls that change nothing.
 fn read(table: &Replicas, call: &mut Call<'_>) -> bool {
     if call.is("safe") {
-        call.show(&table.safe_count());
+        let figures = table.figures();
+        call.show(&figures.safe);
         call.say("of");
-        call.show(&table.total());
+        call.show(&figures.total);
+    } else if call.is("figures") {
+        show_figures(&table.figures(), call);
+    } else if call.is("unsafe") {
+        show_unsafe(table, call);
     } else if call.is("ordered") {
         let ordered = table.has_order(call.datanode(1), call.id(2));
         call.show(&ordered);
@@ -82,6 +93,34 @@ fn read(table: &Replicas, call: &mut Call<'_>) -> bool {
     }
     call.none();
     true
+}
+
+// Figures of blocks, and behind `and` those of replicas, orders and places.
+fn show_figures(figures: &Figures, call: &mut Call<'_>) {
+    call.show(&figures.blocks);
+    call.show(&figures.total);
+    call.show(&figures.safe);
+    call.show(&figures.missing);
+    call.show(&figures.missing_of_one);
+    call.show(&figures.under_replicated);
+    call.show(&figures.over_replicated);
+    call.say("and");
+    call.show(&figures.stale);
+    call.show(&figures.ahead);
+    call.show(&figures.wrong_length);
+    call.show(&figures.orders);
+    call.show(&figures.places);
+}
+
+// The blocks from an id on that have too few live replicas, each with how many.
+fn show_unsafe(table: &Replicas, call: &mut Call<'_>) {
+    let from = call.id(1);
+    for (block, live) in table.unsafe_blocks(from) {
+        if let Some(live) = live {
+            call.show(&block.get());
+            call.show(&live);
+        }
+    }
 }
 
 // The replicas of a block, each as its DataNode and its class.

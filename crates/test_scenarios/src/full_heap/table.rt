@@ -39,7 +39,7 @@ impl Changing for SetBlock {
     type Subject = Replicas;
 
     fn call(&self, table: &mut Replicas) -> Answer {
-        answer_of(table.set_block(self.block, true).is_ok())
+        answer_of(table.set_block(self.block, true, 3).is_ok())
     }
 
     fn is_unchanged(&self, table: &Replicas, twin: &Replicas) -> bool {
@@ -141,8 +141,7 @@ fn block_of(n: u64) -> Block
 
 // Whether two tables show the same.
 fn are_alike(table: &Replicas, twin: &Replicas) -> bool {
-    table.total() == twin.total()
-        && table.safe_count() == twin.safe_count()
+    table.figures() == twin.figures()
         && (0..2 * BLOCKS).all(|n| match BlockId::new(n) {
             Some(block) => are_alike_at(table, twin, block),
             None => false,

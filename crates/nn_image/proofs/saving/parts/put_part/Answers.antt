@@ -12,8 +12,8 @@ returns-in_default-clause-front g c tail some =
     let well : c.rows.page.lost ≡ false = sym c.has_failed.ensures ∙ c.if-has_failed.false in
     unlost_front c.args.writer.now c.args.rows c.args.bytes c.args.walk.left c.rows.lines c.rows.walk.left c.rows.page c.rows.writer c.rows.invariant.1 tail some well
 
-pub returns-in_default-copied-clause-front : goal.returns-in_default-copied-clause-front
-returns-in_default-copied-clause-front g c tail some =
+pub returns-in_default-copied_names-clause-front : goal.returns-in_default-copied_names-clause-front
+returns-in_default-copied_names-clause-front g c tail some =
     let well : c.rows.page.lost ≡ false = sym c.has_failed.ensures ∙ c.if-has_failed.false in
     unlost_front c.args.writer.now c.args.rows c.args.bytes c.args.walk.left c.rows.lines c.rows.walk.left c.rows.page c.rows.writer c.rows.invariant.1 tail some well
 
@@ -25,8 +25,8 @@ returns-then-lines-rows-clause-part g c =
       | then-lines-rows-via-then-lines-rows w ↦ inl w.if-lines-rows.true
       | then-lines-rows-via-else-lines-rows+then-has_put w ↦ inr (omega (arith, w.if-has_put.ensures.0 refl, c.taken-before.ensures))
     ] in
-    full_part start c.args.rows c.args.bytes c.args.walk.left c.rows.lines c.rows.walk.left c.rows.page c.rows.writer c.rows.invariant.1 well full c.in-Ok-copied.place
-    (c.next.new.self.names, form_of c.in-Some.found) c.next.new.self.left (search rules) (c.in-Ok-copied.ensures ∙ c.names.ensures)
+    full_part start c.args.rows c.args.bytes c.args.walk.left c.rows.lines c.rows.walk.left c.rows.page c.rows.writer c.rows.invariant.1 well full c.in-Ok-copied_names.place
+    (c.next.new.self.names, form_of c.in-Some.found) c.next.new.self.left (search rules) (c.in-Ok-copied_names.ensures ∙ c.names.ensures)
 
 pub rows-preserved : goal.rows-preserved
 rows-preserved g c =

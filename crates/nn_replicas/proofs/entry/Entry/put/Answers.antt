@@ -1,8 +1,9 @@
-use Rattle.std.proofs.Common.{sym, ap, ◌∙◌, arith}
+use Rattle.std.proofs.Common.{length, sym, ap, ◌∙◌, arith, nat_cmp}
+use Rattle.std.specs.FinMap.Entries.{is_sorted}
 use Rattle.nn_replicas.specs.Entry.{cell_put}
 use Rattle.nn_replicas.specs.Scan.{place, is_here}
 use Rattle.nn_replicas.proofs.Scanned.{here_below, place_le}
-use Rattle.nn_replicas.proofs.Written.{sorted_here, sorted_new, wrote_here, wrote_new, not_there, is_not_here}
+use Rattle.nn_replicas.proofs.Written.{sorted_here, sorted_new, wrote_here, wrote_new, not_there, is_not_here, cells_put}
 use Rattle.nn_replicas.proofs.entry.Entry.put.Goals as goal
 
 pub unreachable-requires : goal.unreachable-requires
@@ -21,7 +22,7 @@ pub returns-then-has_cell-clause-ok : goal.returns-then-has_cell-clause-ok
 returns-then-has_cell-clause-ok c =
     let k = c.place_of-place.ensures ∙ ap (place c.args.dn) c.as_slice.ensures in
     let h = sym (c.if-has_cell.ensures ∙ ap (is_here c.args.dn) c.as_slice-2.ensures) in
-    wrote_here c.args.self.now c.self.inside.row c.self.inside.cells.items c.args.dn c.place_of-place.result c.is_some-named.result c.in-Some.slot.now c.put.new.self (λ b x. cell_put b c.args.replica x)
+    wrote_here c.args.self.now c.self.inside.file c.self.inside.cells.items c.args.dn c.place_of-place.result c.is_some-named.result c.in-Some.slot.now c.put.new.self (λ b x. cell_put b c.args.replica x)
     c.self.view_is k h c.in-Some.ensures.value c.is_some-named.ensures c.put.ensures
 
 pub insert-requires : goal.insert-requires
@@ -32,7 +33,7 @@ insert-requires c =
 pub returns-in_err-insert-clause-room : goal.returns-in_err-insert-clause-room
 returns-in_err-insert-clause-room c =
     let h = sym (c.if-has_cell.ensures ∙ ap (is_here c.args.dn) c.as_slice-2.ensures) in
-    is_not_here (not_there c.args.self.now c.self.inside.row c.self.inside.cells.items c.args.dn c.self.view_is c.self.invariant h)
+    is_not_here (not_there c.args.self.now c.self.inside.file c.self.inside.cells.items c.args.dn c.self.view_is c.self.invariant h)
 
 pub invariant_of-self-2 : goal.invariant_of-self-2
 invariant_of-self-2 c =
@@ -46,5 +47,15 @@ returns-clause-ok c =
     let k = c.place_of-place.ensures ∙ ap (place c.args.dn) c.as_slice.ensures in
     let h = sym (c.if-has_cell.ensures ∙ ap (is_here c.args.dn) c.as_slice-2.ensures) in
     let new = c.put-2.ensures ∙ ap (λ s. (s.0, cell_put c.is_some-named.result c.args.replica s.1)) c.new-slot.ensures in
-    wrote_new c.args.self.now c.self.inside.row c.self.inside.cells.items _ c.args.dn c.place_of-place.result c.is_some-named.result c.put-2.new.self (λ b x. cell_put b c.args.replica x)
+    wrote_new c.args.self.now c.self.inside.file c.self.inside.cells.items _ c.args.dn c.place_of-place.result c.is_some-named.result c.put-2.new.self (λ b x. cell_put b c.args.replica x)
     c.self.view_is c.self.invariant k h c.in_ok-insert.ensures.ok c.is_some-named.ensures new
+
+pub returns-then-has_cell-clause-places : goal.returns-then-has_cell-clause-places
+returns-then-has_cell-clause-places c =
+    let s = ap (λ e. is_sorted nat_cmp e.cells) (sym c.self.view_is) ∙ c.self.invariant in
+    ap (λ e. length e.cells) (returns-then-has_cell-clause-ok c) ∙ cells_put c.args.self.now c.args.dn _ s
+
+pub returns-clause-places : goal.returns-clause-places
+returns-clause-places c =
+    let s = ap (λ e. is_sorted nat_cmp e.cells) (sym c.self.view_is) ∙ c.self.invariant in
+    ap (λ e. length e.cells) (returns-clause-ok c) ∙ cells_put c.args.self.now c.args.dn _ s

@@ -23,4 +23,4 @@ returns-clause-all c =
 pub returns-clause-order : goal.returns-clause-order
 returns-clause-order c =
     let e = iter_end deref_pair c.self.inside.entries c.loop-block.yielded c.into_iter-block-iterator.result c.loop-block.block-iterator c.next.new.self c.next.result (c.into_iter-block-iterator.ensures.into_iter_gives ∙ c.iter-block-items.ensures.all) c.loop-block.yielded_by c.in-None.is c.next.ensures.steps in
-    passed_all c.loop-block.orders.items c.self.inside.entries (subst (Passed c.loop-block.orders.items) e.0 c.loop-block.invariant) (sorted_of c.self.inside.entries c.self.invariant.2)
+    passed_all c.loop-block.orders.items c.self.inside.entries (subst (Passed c.loop-block.orders.items) e.0 c.loop-block.invariant) (sorted_of c.self.inside.entries c.self.invariant.1)

@@ -4,7 +4,7 @@ use Rattle.nn_model.specs.Namespace.{Namespace}
 use Rattle.nn_model.specs.Apply.{refusal}
 use Rattle.nn_sorted.specs.Values.{value_at}
 use Rattle.std.specs.Ordering.{nat_cmp}
-use Rattle.nn_tree.specs.View.{seen, IsKept}
+use Rattle.nn_tree.specs.View.{seen, Holds}
 use Rattle.nn_tree.proofs.Changed.{none_at}
 use Rattle.nn_tree.proofs.Kept.{below_next, allocate_kept}
 use Rattle.nn_tree.proofs.Does.{done}
@@ -17,14 +17,14 @@ allocate-requires c =
     let i = c.self.inside in
     let s = seen i.root i.issued in
     let lawful : refusal s (edit.AllocateBlockId c.args.id) ≡ None = subst (λ (n : Namespace). refusal n (edit.AllocateBlockId c.args.id) ≡ None) (sym c.self.view_is) (sym c.allocate_refusal.ensures ∙ none_at _ c.if-is_some.ensures) in
-    below_next s c.args.id c.self.invariant.well.blocks lawful
+    below_next s c.args.id c.self.invariant.0.well.blocks lawful
 
 pub invariant_of-self-2 : goal.invariant_of-self-2
 invariant_of-self-2 c =
     let i = c.self.inside in
     let s = seen i.root i.issued in
     let lawful : refusal s (edit.AllocateBlockId c.args.id) ≡ None = subst (λ (n : Namespace). refusal n (edit.AllocateBlockId c.args.id) ≡ None) (sym c.self.view_is) (sym c.allocate_refusal.ensures ∙ none_at _ c.if-is_some.ensures) in
-    subst (λ (n : Namespace). IsKept n (λ id. value_at nat_cmp i.index id)) (sym (ap (seen i.root) c.in-Ok.ensures.ok)) (allocate_kept s c.args.id _ c.requires.lawful lawful c.self.invariant)
+    subst (λ (n : Namespace). Holds n (λ id. value_at nat_cmp i.index id) i.sizes) (sym (ap (seen i.root) c.in-Ok.ensures.ok)) (allocate_kept s c.args.id _ c.requires.lawful lawful c.self.invariant.0, c.self.invariant.1)
 
 pub returns : goal.returns
 returns c =

@@ -9,18 +9,19 @@ use Rattle.nn_model.specs.Namespace.{Namespace, lookup, with_row, file_or_none, 
 use Rattle.nn_model.specs.Apply.{refusal, effect}
 use Rattle.nn_model.specs.Blocks.{block_row}
 use Rattle.nn_model.specs.Touched.{nothing}
-use Rattle.nn_tree.specs.View.{seen, IsKept, renewed}
+use Rattle.nn_tree.specs.View.{seen, Holds, renewed}
 use Rattle.nn_tree.proofs.Applies.{HasFile, has_file, append_applies}
 use Rattle.nn_tree.proofs.Does.{done}
-use Rattle.nn_tree.proofs.Kept.{still_seen, still_kept, file_was, file_seen}
+use Rattle.nn_tree.proofs.Kept.{still_seen, still_held, file_was, file_seen}
 use Rattle.nn_tree.proofs.Listed.{append_kept}
 use Rattle.nn_tree.proofs.Maps.{not_root}
+use Rattle.nn_tree.proofs.Tallies.{sizes_set}
 use Rattle.nn_tree.proofs.namespace.Namespace.append.Goals as goal
 
 pub invariant_of-self : goal.invariant_of-self
 invariant_of-self c =
     let i = c.self.inside in
-    still_kept i.root c.append.new.self i.issued _ c.in_default.ensures.err c.self.invariant
+    still_held i.root c.append.new.self i.issued _ _ c.in_default.ensures.err c.self.invariant
 
 pub returns-in_default : goal.returns-in_default
 returns-in_default c =
@@ -44,9 +45,11 @@ invariant_of-self-2 c =
     ∙ ap (λ (f : FileRow). with_row s p (File (record { replication = f.replication; closed = false; blocks = f.blocks }))) old in
     let look : ℕ → Option BlockRow = λ id. value_at nat_cmp i.index id in
     let listed = c.as_slice-blocks.ensures ∙ made.5.3 ∙ ap (λ (f : FileRow). f.blocks) old in
-    subst (λ (n : Namespace). IsKept n (λ id. value_at nat_cmp c.renew.new.index id)) (sym is)
-    (append_kept s p made.0 look (λ id. value_at nat_cmp c.renew.new.index id) c.requires.lawful applies was
-    (λ q. c.renew.ensures q ∙ (λ j. renewed look (listed j) (listed j) false q)) c.self.invariant)
+    subst (λ (n : Namespace). Holds n (λ id. value_at nat_cmp c.renew.new.index id) i.sizes) (sym is) (
+      append_kept s p made.0 look (λ id. value_at nat_cmp c.renew.new.index id) c.requires.lawful applies was
+          (λ q. c.renew.ensures q ∙ (λ j. renewed look (listed j) (listed j) false q)) c.self.invariant.0,
+      c.self.invariant.1 ∙ sizes_set s p made.0 (record { replication = (file_at s p).replication; closed = false; blocks = (file_at s p).blocks }) c.self.invariant.0.well.blocks.in_order was,
+    )
 
 pub returns : goal.returns
 returns c =

@@ -13,11 +13,11 @@ pub returns-clause-block : goal.returns-clause-block
 returns-clause-block c =
     let i = c.self.inside in
     ap (option_map (λ row. row.block)) (c.copied.ensures ∙ c.get.ensures.value)
-    ∙ block_known (seen i.root i.issued) (λ id. value_at nat_cmp i.index id) c.args.id c.self.invariant ∙ ap (λ (n : Namespace). block_at n c.args.id) c.self.view_is
+    ∙ block_known (seen i.root i.issued) (λ id. value_at nat_cmp i.index id) c.args.id c.self.invariant.0 ∙ ap (λ (n : Namespace). block_at n c.args.id) c.self.view_is
 
 pub returns-clause-file : goal.returns-clause-file
 returns-clause-file c =
     let i = c.self.inside in
     let s = seen i.root i.issued in
     subst (λ (n : Namespace). IfSome c.copied.result (IsInFile n)) c.self.view_is
-    (row_in_file s (λ id. value_at nat_cmp i.index id) c.copied.result c.args.id c.self.invariant (c.copied.ensures ∙ c.get.ensures.value))
+    (row_in_file s (λ id. value_at nat_cmp i.index id) c.copied.result c.args.id c.self.invariant.0 (c.copied.ensures ∙ c.get.ensures.value))

@@ -11,4 +11,4 @@ returns c =
     let i = c.self.inside in
     subst (λ (n : Namespace). AreBlocks n (values_of c.iter.result)) c.self.view_is
     (subst (AreBlocks (seen i.root i.issued)) (sym (ap values_of c.iter.ensures.all))
-    (are_blocks (seen i.root i.issued) i.index c.iter.ensures.ordered c.self.invariant))
+    (are_blocks (seen i.root i.issued) i.index c.iter.ensures.ordered c.self.invariant.0))

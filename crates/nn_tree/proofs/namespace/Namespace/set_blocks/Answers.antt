@@ -7,17 +7,18 @@ use Rattle.nn_model.specs.Namespace.{Namespace, lookup, with_row, file_or_none, 
 use Rattle.nn_model.specs.Apply.{first, keeps_stamps, list_checks, with_blocks}
 use Rattle.nn_model.specs.Touched.{listed}
 use Rattle.nn_model.specs.declared.form.BlockRow.{BlockRow}
-use Rattle.nn_tree.specs.View.{seen, IsKept, renewed}
+use Rattle.nn_tree.specs.View.{seen, Holds, renewed}
 use Rattle.nn_tree.proofs.Applies.{HasFile, has_file, list_applies}
-use Rattle.nn_tree.proofs.Kept.{still_seen, still_kept, file_was, file_seen}
+use Rattle.nn_tree.proofs.Kept.{still_seen, still_held, file_was, file_seen}
 use Rattle.nn_tree.proofs.Listed.{list_kept, list_touched}
 use Rattle.nn_tree.proofs.Maps.{not_root}
+use Rattle.nn_tree.proofs.Tallies.{sizes_set}
 use Rattle.nn_tree.proofs.namespace.Namespace.set_blocks.Goals as goal
 
 pub invariant_of-self : goal.invariant_of-self
 invariant_of-self c =
     let i = c.self.inside in
-    still_kept i.root c.set_blocks-told.new.self i.issued _ c.in_default.ensures.err c.self.invariant
+    still_held i.root c.set_blocks-told.new.self i.issued _ _ c.in_default.ensures.err c.self.invariant
 
 pub returns-in_default-clause-err : goal.returns-in_default-clause-err
 returns-in_default-clause-err c =
@@ -41,9 +42,11 @@ invariant_of-self-2 c =
     ∙ ap (λ (f : FileRow). with_row s p (File f)) done.5.3
     ∙ ap (λ (f : FileRow). with_row s p (File (record { replication = f.replication; closed = c.args.closed; blocks = bs }))) old in
     let look : ℕ → Option BlockRow = λ id. value_at nat_cmp i.index id in
-    subst (λ (n : Namespace). IsKept n (λ id. value_at nat_cmp c.renew.new.index id)) (sym is)
-    (list_kept s p bs c.args.closed done.0 look (λ id. value_at nat_cmp c.renew.new.index id) c.requires.lawful lawful was
-    (λ q. c.renew.ensures q ∙ (λ j. renewed look ((c.as_slice.ensures ∙ done.5.5 ∙ ap (λ (f : FileRow). f.blocks) old) j) (c.as_slice-2.ensures j) c.args.closed q)) c.self.invariant)
+    subst (λ (n : Namespace). Holds n (λ id. value_at nat_cmp c.renew.new.index id) i.sizes) (sym is) (
+      list_kept s p bs c.args.closed done.0 look (λ id. value_at nat_cmp c.renew.new.index id) c.requires.lawful lawful was
+          (λ q. c.renew.ensures q ∙ (λ j. renewed look ((c.as_slice.ensures ∙ done.5.5 ∙ ap (λ (f : FileRow). f.blocks) old) j) (c.as_slice-2.ensures j) c.args.closed q)) c.self.invariant.0,
+      c.self.invariant.1 ∙ sizes_set s p done.0 (record { replication = (file_at s p).replication; closed = c.args.closed; blocks = bs }) c.self.invariant.0.well.blocks.in_order was,
+    )
 
 pub returns-clause-applies : goal.returns-clause-applies
 returns-clause-applies c =

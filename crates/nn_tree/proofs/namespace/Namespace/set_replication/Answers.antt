@@ -6,18 +6,19 @@ use Rattle.nn_model.specs.Namespace.{Namespace, lookup, with_row, file_or_none, 
 use Rattle.nn_model.specs.Apply.{refusal, effect}
 use Rattle.nn_sorted.specs.Values.{value_at}
 use Rattle.std.specs.Ordering.{nat_cmp}
-use Rattle.nn_tree.specs.View.{seen, IsKept}
+use Rattle.nn_tree.specs.View.{seen, Holds}
 use Rattle.nn_tree.proofs.Applies.{HasFile, has_file, set_replication_applies}
-use Rattle.nn_tree.proofs.Kept.{still_seen, still_kept, file_was, file_seen, set_replication_kept}
+use Rattle.nn_tree.proofs.Kept.{still_seen, still_held, file_was, file_seen, set_replication_kept}
 use Rattle.nn_tree.proofs.Maps.{not_root}
 use Rattle.nn_tree.proofs.Spare.{no_file_refused}
 use Rattle.nn_tree.proofs.Does.{done}
+use Rattle.nn_tree.proofs.Tallies.{sizes_set}
 use Rattle.nn_tree.proofs.namespace.Namespace.set_replication.Goals as goal
 
 pub invariant_of-self : goal.invariant_of-self
 invariant_of-self c =
     let i = c.self.inside in
-    still_kept i.root c.set_replication.new.self i.issued _ c.in_default.ensures.err c.self.invariant
+    still_held i.root c.set_replication.new.self i.issued _ _ c.in_default.ensures.err c.self.invariant
 
 pub returns-in_default-clause-does : goal.returns-in_default-clause-does
 returns-in_default-clause-does c =
@@ -39,7 +40,8 @@ invariant_of-self-2 c =
     file_seen i.root c.set_replication.new.self i.issued p ns done.0 done.1 c.names-names.ensures.names done.3 done.4
     ∙ ap (λ (f : FileRow). with_row s p (File f)) done.5
     ∙ ap (λ (f : FileRow). with_row s p (File (record { replication = c.args.replication; closed = f.closed; blocks = f.blocks }))) old in
-    subst (λ (n : Namespace). IsKept n (λ id. value_at nat_cmp i.index id)) (sym is) (set_replication_kept s p c.args.replication done.0 _ c.requires.lawful lawful was c.self.invariant)
+    subst (λ (n : Namespace). Holds n (λ id. value_at nat_cmp i.index id) i.sizes) (sym is)
+    (set_replication_kept s p c.args.replication done.0 _ c.requires.lawful lawful was c.self.invariant.0, c.self.invariant.1 ∙ sizes_set s p done.0 (record { replication = c.args.replication; closed = (file_at s p).closed; blocks = (file_at s p).blocks }) c.self.invariant.0.well.blocks.in_order was)
 
 pub returns-in_default-clause-refused : goal.returns-in_default-clause-refused
 returns-in_default-clause-refused c e =

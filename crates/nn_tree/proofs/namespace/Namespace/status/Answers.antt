@@ -14,11 +14,11 @@ returns-in-Some c =
     let i = c.self.inside in
     let s = seen i.root i.issued in
     subst (λ (n : Namespace). Named c.in-Some.row.now.block.stamp ≡ status_of n c.args.id) c.self.view_is
-    (status_named s c.args.id c.in-Some.row.now.block (sym (block_known s (λ id. value_at nat_cmp i.index id) c.args.id c.self.invariant) ∙ ap (option_map (λ row. row.block)) (sym c.in-Some.ensures.value)))
+    (status_named s c.args.id c.in-Some.row.now.block (sym (block_known s (λ id. value_at nat_cmp i.index id) c.args.id c.self.invariant.0) ∙ ap (option_map (λ row. row.block)) (sym c.in-Some.ensures.value)))
 
 pub returns : goal.returns
 returns c =
     let i = c.self.inside in
     let s = seen i.root i.issued in
-    let none : block_at s c.args.id ≡ None = sym (block_known s (λ id. value_at nat_cmp i.index id) c.args.id c.self.invariant) ∙ ap (option_map (λ row. row.block)) (sym c.in_default.ensures.value) in
+    let none : block_at s c.args.id ≡ None = sym (block_known s (λ id. value_at nat_cmp i.index id) c.args.id c.self.invariant.0) ∙ ap (option_map (λ row. row.block)) (sym c.in_default.ensures.value) in
     c.unheld_status.ensures ∙ subst (λ (n : Namespace). status_unheld n c.args.id ≡ status_of n c.args.id) c.self.view_is (status_other s c.args.id none)

@@ -1,0 +1,90 @@
+//! What an operator reads of a table.
+ghost use Rattle.std.specs.Prelude.{◌≡◌, ◌+◌, ◌-◌};
+ghost use Rattle.nn_replicas.specs.Figures.{no_figures, replaced, Changes, MayReplace};
+
+/// How many blocks, replicas and orders of each kind a table has.
+#[derive(Clone, Copy, Debug, PartialEq, Eq)]
+pub struct Figures {
+    /// Blocks that files hold, closed or open.
+    pub blocks: u64,
+    /// Blocks of closed files. The figures down to `over_replicated` are of these.
+    pub total: u64,
+    /// Those with as many live replicas as make a block safe.
+    pub safe: u64,
+    /// Those without a live replica.
+    pub missing: u64,
+    /// Those without a live replica whose file has replication 1.
+    pub missing_of_one: u64,
+    /// Those with fewer live replicas than their file's replication, the missing ones among them.
+    pub under_replicated: u64,
+    /// Those with more live replicas than their file's replication.
+    pub over_replicated: u64,
+    /// Replicas whose generation stamp is lower than their block's.
+    pub stale: u64,
+    /// Replicas whose generation stamp is higher than their block's.
+    pub ahead: u64,
+    /// Complete replicas that are not as long as their block.
+    pub wrong_length: u64,
+    /// Orders to delete.
+    pub orders: u64,
+    /// Pairs of a DataNode and a block for which there is room.
+    pub places: u64,
+}
+
+impl Figures {
+    // Those of no block.
+    pub(crate) fn none() -> Figures
+        ensures { result ≡ no_figures }
+    {
+        Figures {
+            blocks: 0,
+            total: 0,
+            safe: 0,
+            missing: 0,
+            missing_of_one: 0,
+            under_replicated: 0,
+            over_replicated: 0,
+            stale: 0,
+            ahead: 0,
+            wrong_length: 0,
+            orders: 0,
+            places: 0,
+        }
+    }
+
+    // The same once a block that added `was` adds `is`.
+    pub(crate) fn replaced(&self, was: &Figures, is: &Figures) -> Figures
+        requires { MayReplace self.now was.now is.now }
+        ensures { result ≡ replaced self.now was.now is.now }
+    {
+        Figures {
+            blocks: changed(self.blocks, was.blocks, is.blocks),
+            total: changed(self.total, was.total, is.total),
+            safe: changed(self.safe, was.safe, is.safe),
+            missing: changed(self.missing, was.missing, is.missing),
+            missing_of_one: changed(self.missing_of_one, was.missing_of_one, is.missing_of_one),
+            under_replicated: changed(
+                self.under_replicated,
+                was.under_replicated,
+                is.under_replicated,
+            ),
+            over_replicated: changed(
+                self.over_replicated,
+                was.over_replicated,
+                is.over_replicated,
+            ),
+            stale: changed(self.stale, was.stale, is.stale),
+            ahead: changed(self.ahead, was.ahead, is.ahead),
+            wrong_length: changed(self.wrong_length, was.wrong_length, is.wrong_length),
+            orders: changed(self.orders, was.orders, is.orders),
+            places: changed(self.places, was.places, is.places),
+        }
+    }
+}
+
+fn changed(all: u64, was: u64, is: u64) -> u64
+    requires { Changes all was is }
+    ensures { result ≡ (all - was) + is }
+{
+    all - was + is
+}

@@ -26,7 +26,7 @@ class DataNodes:
         self.gone.add(dn)
         self.full.discard(dn)
 
-    def figures(self, dn, messages):
+    def figures(self, dn, messages, held):
         silence = round(time.monotonic() - self.heard[dn], 1) if dn in self.heard else None
-        told = {"datanode": dn, "messages": messages, "silent_seconds": silence}
+        told = {"datanode": dn, "messages": messages, "held": held, "silent_seconds": silence}
         return {**told, "gone": dn in self.gone, "full_report": dn in self.full}

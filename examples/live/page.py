@@ -1,6 +1,8 @@
 """What a browser and Prometheus are shown: the status as a page and as metrics."""
 from html import escape
 
+from counts import COUNTS
+
 STYLE = "body{font-family:sans-serif;margin:2em}td,th{padding:.2em 1.2em .2em 0;text-align:left}"
 
 
@@ -17,7 +19,8 @@ def metrics(figures):
         ("checkpoint_txid", "gauge", "The TXID of the last checkpoint.", figures["checkpoint"]),
         ("held_items", "gauge", "How many items of reports wait for the log.", figures["held"]),
         ("blocks", "gauge", "How many blocks closed files have.", figures["blocks"]["total"]),
-        ("missing_blocks", "gauge", "How many of them have too few live replicas.", figures["missing"]),
+        ("safe_blocks", "gauge", "How many of them have enough live replicas to be safe.", figures["blocks"]["safe"]),
+        *((name, "gauge", meaning, figures[name]) for name, meaning in COUNTS.items()),
         ("safe_mode", "gauge", "Whether safe mode is on.", int(figures["safe_mode"])),
         ("datanodes", "gauge", "How many DataNodes sent reports and are not gone.", len(figures["datanodes"]) - gone),
         ("gone_datanodes", "gauge", "How many DataNodes are called gone.", gone),
@@ -44,6 +47,7 @@ def page(figures):
         ("Lag", f"{figures['lag']:,} transactions"),
         ("Safe mode", "on" if figures["safe_mode"] else "off"),
         ("Blocks", f"{blocks['total']:,}, safe {blocks['safe']:,}, needed {blocks['needed']:,}"),
+        ("Missing", f"{figures['missing']:,}, under-replicated {figures['under_replicated']:,}"),
         ("Held", f"{figures['held']:,}"),
         ("Last checkpoint", f"TXID {figures['checkpoint']:,}"),
         ("The log waits", figures["waits"] or "no"),
@@ -54,7 +58,7 @@ def page(figures):
         '<!doctype html><html lang="en"><head><meta charset="utf-8"><meta http-equiv="refresh" content="5">'
         f"<title>Standby</title><style>{STYLE}</style></head><body><h1>Standby NameNode</h1>"
         f"<table>{''.join(table_row(*row) for row in rows)}</table><h2>DataNodes</h2>"
-        "<table><tr><th>DataNode</th><th>messages</th><th>state</th><th>full report</th></tr>"
+        "<table><tr><th>DataNode</th><th>messages</th><th>held</th><th>state</th><th>full report</th></tr>"
         f"{''.join(datanodes)}</table><h2>Told last</h2><ul>{told}</ul></body></html>\n"
     )
 
@@ -67,4 +71,4 @@ def datanode_cells(datanode):
     silent = datanode["silent_seconds"]
     heard = "not heard" if silent is None else f"heard {silent:.0f} s ago"
     full = "yes" if datanode["full_report"] else "no"
-    return f"{datanode['messages']:,}", "gone" if datanode["gone"] else heard, full
+    return f"{datanode['messages']:,}", f"{datanode['held']:,}", "gone" if datanode["gone"] else heard, full

@@ -6,6 +6,7 @@ import sys
 import threading
 from collections import Counter, deque
 
+from counts import COUNTS
 from datanodes import DataNodes
 from pairs import Pair
 from service import Ended
@@ -106,7 +107,7 @@ class Standby:
             answer = self.service.ask(b"", 0, "status")
             self.take_status(answer)
             words = words_of(answer.lines)
-            messages = {int(line[1]): int(line[2]) for line in map(bytes.split, answer.lines) if line[0] == b"datanode"}
+            senders = [line.split() for line in answer.lines if line.startswith(b"datanode ")]
             txid, greatest = self.pairs.reached.txid, self.source.seen.greatest
             total, safe, needed = (int(words["blocks"][place]) for place in (0, 2, 4))
             return {
@@ -120,9 +121,9 @@ class Standby:
                 "segments": int(words["segments"][0]),
                 "held": int(words["held"][0]),
                 "blocks": {"total": total, "safe": safe, "needed": needed},
-                "missing": total - safe,
+                **{name: int(words[name][0]) for name in COUNTS},
                 "safe_mode": words["blocks"][6] == "on",
-                "datanodes": [self.datanodes.figures(*row) for row in sorted(messages.items())],
+                "datanodes": [self.datanodes.figures(int(line[1]), int(line[2]), int(line[4])) for line in senders],
                 "faults": dict(sorted(self.faults.items(), key=lambda item: int(item[0]))),
                 "told": list(self.teller.lines),
             }

@@ -57,7 +57,8 @@ fn show(rt: &HostRuntime, standby: &Shadow) -> Result<()> {
     )?;
     let text = String::from_utf8(listing.into_inner())?;
     let held = standby.held_count();
-    println!(rt; "{text}held {held}")?;
+    let missing = standby.figures().missing;
+    println!(rt; "{text}held {held}, missing {missing}")?;
     Ok(())
 }
 

@@ -2,3 +2,4 @@ pub mod KeyTexts
 pub mod SaidIds
 pub mod TableLines
 pub mod Pieces
+pub mod Summaries

@@ -1,10 +1,12 @@
 -- What a table lists is the text of what is looked up in it, and of a picture the picture's text.
-use Rattle.std.proofs.Common.{◌≡◌, ℕ, ◌+◌, Bool, true, false, cond, List, [], ◌∷◌, ◌++◌, Option, Some, None, is_some, refl, sym, ap, ap₂, ◌∙◌, arith}
+use Rattle.std.proofs.Common.{◌≡◌, ℕ, ◌+◌, Bool, true, false, cond, List, [], ◌∷◌, ◌++◌, Option, Some, None, is_some, length, refl, sym, ap, ap₂, ◌∙◌, arith}
 use Rattle.std.proofs.Common.{nat_cmp}
-use Rattle.std.specs.Prelude.{flat_map, unwrap_or, option_and_then}
-use Rattle.std.specs.List.{range_with_len}
+use Rattle.std.specs.Prelude.{flat_map, unwrap_or, option_and_then, count_by}
+use Rattle.std.specs.List.{range_with_len, cons_option, sum_by}
 use Rattle.std.specs.Option.{option_map}
 use Rattle.std.specs.FinMap.Entries.{find}
+use Rattle.std.proofs.lemmas.List.Concat.{length-flat_map}
+use Rattle.std.proofs.lemmas.List.Sums.{sum_by-cons}
 use Rattle.nn_types.specs.declared.block.Block.{Block}
 use Rattle.nn_types.specs.declared.replica.Replica.{Replica}
 use Rattle.nn_model.specs.declared.form.BlockRow.{BlockRow}
@@ -15,13 +17,15 @@ use Rattle.nn_model.specs.Picture.{has_now, picture_replica, picture_order}
 use Rattle.nn_model.specs.Replay.{is_named}
 use Rattle.nn_model.specs.Status.{block_at}
 use Rattle.nn_replicas.specs.declared.entry.Cell.{Cell}
-use Rattle.nn_replicas.specs.Calls.{row_at, replica_at, has_order, entry_or_none, replicas_at}
+use Rattle.nn_replicas.specs.Calls.{row_at, replica_at, has_order, entry_or_none, replicas_at, orders_of}
 use Rattle.nn_replicas.specs.Entry.{is_ordered, no_entry, row_in, replica_in, order_in, orders_in}
-use Rattle.nn_replicas.specs.Table.{Table}
+use Rattle.nn_replicas.specs.Figures.{figures_of}
+use Rattle.nn_replicas.specs.Table.{BlockEntry, Table}
 use Rattle.nn_model.proofs.Touches.{block_of_row}
 use Rattle.nn_replicas.proofs.Ties.{block_of}
-use Rattle.nn_listing.specs.Tables.{datanodes, said_by, said_ids, is_said, replica_line, replica_text, replica_lines, replica_lines_by, order_line, order_text, order_lines, order_lines_by}
+use Rattle.nn_listing.specs.Tables.{datanodes, said_by, said_ids, is_said, of_each, replica_line, replica_text, replica_lines, replica_lines_by, order_line, order_text, order_lines, order_lines_by}
 use Rattle.nn_listing.specs.Tables.{blocks_line, lines_of_block, lines_of_replicas, lines_of_orders, IsOfSaid, IsPicture, tables_text}
+use Rattle.nn_listing.specs.Summary.{order_count}
 use Rattle.nn_listing.proofs.KeyTexts.{given, texts_of_some, texts_of_lists, same_texts, no_texts, Within, bound, below_bound, gathered}
 use Rattle.nn_listing.proofs.SaidIds.{marked, ids_sorted, silent, has_nothing}
 
@@ -123,29 +127,40 @@ module _ (n : Namespace) (lanes : Lanes) (t : Table) (h : IsOfSaid n lanes t)
 
   -- ---- orders
 
-  abbrev order_here : ℕ × ℕ → List ℕ
-  order_here order = order_line order.0 order.1
+  -- a text for each order
+  module _ (text : ℕ → ℕ → List ℕ) where
+    abbrev order_here : ℕ × ℕ → List ℕ
+    order_here order = text order.0 order.1
 
-  orders_of_block : (id : ℕ)
-      → flat_map order_here (orders_in id (entry_or_none t id).cells) ≡ flat_map (λ dn. order_text id dn (has_order t dn id)) datanodes
-  orders_of_block id =
-      texts_of_some order_here (order_in id) (cells_of id)
-      ∙ gathered (λ dn o. given order_here (cond (is_ordered o) (Some (id, dn)) None)) (λ dn. refl)
-      count 1 (cells_of id) (h.shows.in_order.datanodes id) (cells_within id)
-      ∙ same_texts _ _ (range_with_len 1 count) (λ dn. cases dn (has_order t dn id))
-      ∙ ap (flat_map (λ dn. order_text id dn (has_order t dn id))) (sym all)
-    where
-      cases : (dn : ℕ) (b : Bool) → given order_here (cond b (Some (id, dn)) None) ≡ order_text id dn b
-      cases dn true = refl
-      cases dn false = refl
+    abbrev where_ordered : ℕ → ℕ → List ℕ
+    where_ordered id dn = cond (has_order t dn id) (text id dn) []
+
+    orders_of_block : (id : ℕ) → flat_map order_here (orders_in id (entry_or_none t id).cells) ≡ flat_map (where_ordered id) datanodes
+    orders_of_block id =
+        texts_of_some order_here (order_in id) (cells_of id)
+        ∙ gathered (λ dn o. given order_here (cond (is_ordered o) (Some (id, dn)) None)) (λ dn. refl)
+        count 1 (cells_of id) (h.shows.in_order.datanodes id) (cells_within id)
+        ∙ same_texts _ _ (range_with_len 1 count) (λ dn. cases dn (has_order t dn id))
+        ∙ ap (flat_map (where_ordered id)) (sym all)
+      where
+        cases : (dn : ℕ) (b : Bool) → given order_here (cond b (Some (id, dn)) None) ≡ cond b (text id dn) []
+        cases dn true = refl
+        cases dn false = refl
+
+    texts_of_orders : flat_map order_here (orders_of t) ≡ of_each lanes where_ordered
+    texts_of_orders =
+        texts_of_lists order_here (λ e. orders_in e.0 e.1.cells) t.entries
+        ∙ gathered (λ id o. flat_map order_here (orders_in id (unwrap_or o no_entry).cells)) (λ id. refl)
+        last 0 t.entries h.shows.in_order.blocks ids_within
+        ∙ same_texts _ _ (range_with_len 0 last) (λ id. orders_of_block id)
+        ∙ sym (over_ids where_ordered (λ id dn g. ap (λ b. cond b (text id dn) []) (h.orders dn id g)))
 
   orders_are : lines_of_orders t ≡ order_lines_by lanes (has_order t)
-  orders_are =
-      texts_of_lists order_here (λ e. orders_in e.0 e.1.cells) t.entries
-      ∙ gathered (λ id o. flat_map order_here (orders_in id (unwrap_or o no_entry).cells)) (λ id. refl)
-      last 0 t.entries h.shows.in_order.blocks ids_within
-      ∙ same_texts _ _ (range_with_len 0 last) (λ id. orders_of_block id)
-      ∙ sym (over_ids (λ id dn. order_text id dn (has_order t dn id)) (λ id dn g. ap (order_text id dn) (h.orders dn id g)))
+  orders_are = texts_of_orders order_line ∙ ap (of_each lanes) (λ i id dn. by_order id dn (has_order t dn id) i)
+    where
+      by_order : (id dn : ℕ) (b : Bool) → cond b (order_line id dn) [] ≡ order_text id dn b
+      by_order id dn true = refl
+      by_order id dn false = refl
 
 all_datanodes : datanodes ≡ range_with_len 1 256
 unfolding datanodes
@@ -184,3 +199,34 @@ module _ (permille min : ℕ) (n : Namespace) (lanes : Lanes) (t : Table) (mode 
       of_said n lanes t (blocks_line mode) is_of_said
       ∙ ap₂ (λ f g. replica_lines_by n lanes f ++ order_lines_by lanes g ++ blocks_line mode) same_replicas same_orders
       ∙ ap (λ m. replica_lines n lanes ++ order_lines n lanes ++ blocks_line m) (h.counts ∙ ap (safe_mode_of permille min n) same_replicas)
+
+-- ---- how many orders there are
+
+ordered_in : (id : ℕ) (cells : List (ℕ × Cell)) → length (orders_in id cells) ≡ count_by (λ (c : ℕ × Cell). c.1.ordered) cells
+ordered_in id [] = refl
+ordered_in id (c ∷ cells) =
+    elim c.1.ordered as (λ b. count_by (λ (x : ℕ × Cell). x.1.ordered) (c ∷ cells) ≡ cond b 1 0 + count_by (λ (x : ℕ × Cell). x.1.ordered) cells
+    → length (cons_option (cond b (Some (id, c.0)) None) (orders_in id cells)) ≡ count_by (λ (x : ℕ × Cell). x.1.ordered) (c ∷ cells)) [
+      | true ↦ λ more. omega (arith, more, ordered_in id cells)
+      | false ↦ λ more. omega (arith, more, ordered_in id cells)
+    ] (sum_by-cons (λ (x : ℕ × Cell). cond x.1.ordered 1 0) c cells)
+
+one_each : {A : Type 0} (xs : List A) → sum_by (λ (x : A). 1) xs ≡ length xs
+one_each [] = refl
+one_each {A} (x ∷ xs) = omega (arith, sum_by-cons (λ (y : A). 1) x xs, one_each xs)
+
+one_where : (b : Bool) → length {A = ℕ} (cond b (1 ∷ []) []) ≡ cond b 1 0
+one_where true = refl
+one_where false = refl
+
+-- a table that has nothing of which no DataNode spoke counts the orders of what they spoke of
+pub orders_counted : (n : Namespace) (lanes : Lanes) (t : Table) → IsOfSaid n lanes t → (figures_of t).orders ≡ order_count lanes (has_order t)
+orders_counted n lanes t h =
+    let one : ℕ → ℕ → List ℕ = λ id dn. 1 ∷ [] in
+    let counted : (figures_of t).orders ≡ length (orders_of t) =
+    (λ i. sum_by (λ (e : ℕ × BlockEntry). sym (ordered_in e.0 e.1.cells) i) t.entries) ∙ sym (length-flat_map (λ (e : ℕ × BlockEntry). orders_in e.0 e.1.cells) t.entries) in
+    let listed : length (orders_of t) ≡ length (flat_map (λ (o : ℕ × ℕ). one o.0 o.1) (orders_of t)) =
+    sym (length-flat_map (λ (o : ℕ × ℕ). one o.0 o.1) (orders_of t) ∙ one_each (orders_of t)) in
+    counted ∙ listed ∙ ap length (texts_of_orders n lanes t h 256 refl all_datanodes one)
+    ∙ length-flat_map (λ id. flat_map (λ dn. cond (has_order t dn id) (1 ∷ []) []) datanodes) (said_ids lanes)
+    ∙ (λ i. sum_by (λ id. (length-flat_map (λ dn. cond (has_order t dn id) (1 ∷ []) []) datanodes ∙ (λ j. sum_by (λ dn. one_where (has_order t dn id) j) datanodes)) i) (said_ids lanes))

@@ -4,3 +4,6 @@ pub mod Tables
 pub mod TablesRows
 pub mod Trail
 pub mod TrailRows
+pub mod Summary
+pub mod Counted
+pub mod SummaryRows

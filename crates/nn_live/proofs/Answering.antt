@@ -1,11 +1,15 @@
 -- What the code answers is what the definition's service answers.
-use Rattle.std.proofs.Common.{◌≡◌, ℕ, length, map, Option, sym, ap, ap₂, ◌∙◌}
-use Rattle.nn_model.specs.Counts.{safe_mode_of}
+use Rattle.std.proofs.Common.{◌≡◌, ℕ, map, Option, sym, ap, ap₂, ◌∙◌}
 use Rattle.nn_model.specs.Namespace.{Path, lookup}
 use Rattle.nn_model.specs.Stands.{StandbyState}
 use Rattle.nn_model.specs.declared.form.Form.{Form}
 use Rattle.nn_replicas.specs.Calls.{replica_at}
 use Rattle.nn_shadow.specs.Contents.{standby_of}
+use Rattle.nn_model.specs.Items.{items}
+use Rattle.nn_shadow.specs.Contents.{IsConsistent}
+use Rattle.nn_listing.specs.Summary.{summary_of}
+use Rattle.nn_listing.proofs.Summaries.{summary_is}
+use Rattle.nn_live.proofs.Tabling.{of_said}
 use Rattle.nn_live.specs.Answers.{block_text, held_line, path_text, shown, status_lines, unsafe_in}
 use Rattle.nn_live.specs.Live.{Asked, Service, does, figures_of, says}
 use Rattle.nn_live.specs.Serving.{Seen, IsAt, Makes, figures_seen}
@@ -13,24 +17,22 @@ use Rattle.nn_live.specs.declared.word.Word.TheVariants as word
 use Rattle.nn_live.proofs.Places.{only_tells}
 
 module _ (x : Seen) where
-  figures_are : (asked : Asked) (s : Service) → IsAt asked x s → figures_seen x ≡ figures_of asked s
-  figures_are asked s i = λ j. record {
+  figures_are : IsConsistent x.shadow → (asked : Asked) (s : Service) → IsAt asked x s → figures_seen x ≡ figures_of asked s
+  figures_are c asked s i = λ j. record {
     stopped = (i.phase j).stopped;
     active = (i.phase j).active;
     version = (sym i.asks j).version;
-    txid = (i.standby j).last;
     known = i.known j;
     passed = i.passed j;
     segments = i.segments j;
     edits = i.in_hand.edits j;
     last_edit = i.in_hand.last j;
-    held = length (i.standby j).held;
-    messages = λ dn. i.sent dn j;
-    blocks = safe_mode_of (sym i.asks j).permille (sym i.asks j).min (i.standby j).namespace (i.standby j).replica;
+    standby = (summary_is x.shadow (items s.sent) c (of_said x c.shows asked s i)
+        ∙ (λ k. summary_of (sym i.asks k).permille (sym i.asks k).min (items s.sent) (i.standby k))) j;
   }
 
-  pub status_told : Makes (λ asked s. does asked word.Status s) x x (status_lines (figures_seen x))
-  status_told = only_tells (λ asked s. does asked word.Status s) x _ (λ asked s i. ap (λ f. says (status_lines f) s) (sym (figures_are asked s i)))
+  pub status_told : IsConsistent x.shadow → Makes (λ asked s. does asked word.Status s) x x (status_lines (figures_seen x))
+  status_told c = only_tells (λ asked s. does asked word.Status s) x _ (λ asked s i. ap (λ f. says (status_lines f) s) (sym (figures_are c asked s i)))
 
   pub held_told : (most : Option ℕ) → Makes (λ asked s. does asked (word.Held most) s) x x (shown most (map held_line x.shadow.held))
   held_told most = only_tells (λ asked s. does asked (word.Held most) s) x _ (λ asked s i. ap (λ (y : StandbyState). says (shown most (map held_line y.held)) s) (sym i.standby))

@@ -1,10 +1,8 @@
 -- Lines that are put piece by piece.
-use Rattle.std.proofs.Common.{◌≡◌, ℕ, zero, suc, ◌+◌, ◌-◌, ◌<◌, Bool, true, cond, List, [], ◌∷◌, ◌++◌, map, take, refl, ap, arith, append_assoc, sym}
+use Rattle.std.proofs.Common.{◌≡◌, ℕ, zero, suc, ◌-◌, ◌<◌, Bool, true, cond, List, [], ◌∷◌, ◌++◌, map, take, ap, arith, append_assoc, sym}
 use Rattle.std.specs.Prelude.{codes, filter, flat_map}
-use Rattle.std.specs.List.{range_with_len}
 use Rattle.nn_types.specs.declared.report.Message.{Message}
 use Rattle.nn_listing.specs.Listing.{newline}
-use Rattle.nn_listing.specs.Tables.{datanodes}
 use Rattle.nn_live.specs.Answers.{held_line}
 
 -- a space and a field
@@ -26,8 +24,8 @@ pub unsafe_pieces : (block live path : List ℕ)
     ≡ codes "unsafe " ++ block ++ codes " " ++ live ++ codes " " ++ path ++ newline ∷ []
 unsafe_pieces block live path = simp append_assoc
 
-pub status_pieces : (a b c d e f g h i j : List ℕ) → a ++ (b ++ (c ++ (d ++ (e ++ (f ++ (g ++ (h ++ (i ++ j)))))))) ≡ a ++ b ++ c ++ d ++ e ++ f ++ g ++ h ++ i ++ j
-status_pieces a b c d e f g h i j = simp append_assoc
+pub status_pieces : (a b c d e f g : List ℕ) → a ++ (b ++ (c ++ (d ++ (e ++ (f ++ g))))) ≡ a ++ b ++ c ++ d ++ e ++ f ++ g
+status_pieces a b c d e f g = simp append_assoc
 
 -- the first of the lines that are left
 pub one_line : (left : ℕ) (m : Message) (messages : List Message) → 0 < left
@@ -36,18 +34,6 @@ one_line zero m messages some = absurd (omega (arith, some))
 one_line (suc k) m messages some =
     let same : k ≡ suc k - 1 = omega arith in
     ap (λ n. held_line m ++ flat_map (λ line. line) (take n (map held_line messages))) same
-
--- the first of the DataNodes that are left
-pub one_datanode : (count dn : ℕ) → dn < count → range_with_len (dn + 1) (count - dn) ≡ (dn + 1) ∷ range_with_len (dn + 1 + 1) (count - (dn + 1))
-one_datanode count dn some = at (count - dn) (count - (dn + 1)) (omega (arith, some))
-  where
-    at : (n k : ℕ) → n ≡ k + 1 → range_with_len (dn + 1) n ≡ (dn + 1) ∷ range_with_len (dn + 1 + 1) k
-    at zero k e = absurd (omega (arith, e))
-    at (suc n) k e = let same : n ≡ k = omega (arith, e) in ap (λ j. (dn + 1) ∷ range_with_len (dn + 1 + 1) j) same
-
-pub all_datanodes : datanodes ≡ range_with_len 1 256
-unfolding datanodes
-all_datanodes = refl
 
 -- the text of the first element that passes
 pub first_kept : {X : Type 0} (p : X → Bool) (f : X → List ℕ) (x : X) (xs : List X) → true ≡ p x → flat_map f (filter p (x ∷ xs)) ≡ f x ++ flat_map f (filter p xs)

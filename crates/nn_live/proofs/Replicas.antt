@@ -13,7 +13,7 @@ use Rattle.nn_replicas.specs.Table.{Table}
 use Rattle.nn_replicas.specs.declared.entry.Cell.{Cell}
 use Rattle.nn_listing.specs.Tables.{datanodes, lines_of_block, replica_line, replica_text}
 use Rattle.nn_listing.proofs.KeyTexts.{given, gathered, no_texts, same_texts, texts_of_some, Within}
-use Rattle.nn_live.proofs.Pieces.{all_datanodes}
+use Rattle.nn_listing.proofs.Summaries.{all_datanodes}
 
 module _ (n : Namespace) (t : Table) (shows : Shows n t) (count : ℕ) (count_is : 256 ≡ count) (all : datanodes ≡ range_with_len 1 count) (id : ℕ) (b : Block) where
   abbrev cells : List (ℕ × Cell)

@@ -66,7 +66,7 @@ not_there n base s l dn id unsaid = at s.phase.active refl
 -- ---- So the table lists just what is looked up in it.
 
 module _ (x : Seen) (shows : Shows x.shadow.namespace x.shadow.table) where
-  of_said : (asked : Asked) (s : Service) → IsAt asked x s → IsOfSaid x.shadow.namespace (items s.sent) x.shadow.table
+  pub of_said : (asked : Asked) (s : Service) → IsAt asked x s → IsOfSaid x.shadow.namespace (items s.sent) x.shadow.table
   of_said asked s i = record {
     shows = shows;
     replicas = λ dn id unsaid. ap (λ (y : StandbyState). y.replica dn id) i.standby ∙ (not_there i.log.0 i.log.1 s i.log.2 dn id unsaid).0;

@@ -5,18 +5,15 @@ use Rattle.nn_types.specs.declared.replica.Replica.{Replica}
 use Rattle.nn_types.specs.declared.report.Message.{Message}
 use Rattle.nn_types.specs.Words.{kind_text}
 use Rattle.nn_model.specs.declared.form.Form.{Form}
-use Rattle.nn_model.specs.Counts.{SafeMode, closed_blocks_of, live_count, safe_mode_of}
+use Rattle.nn_model.specs.Counts.{closed_blocks_of, live_count, safe_mode_of}
 use Rattle.nn_model.specs.Lanes.{Lanes}
 use Rattle.nn_model.specs.Namespace.{Path, Namespace, blocks_of}
 use Rattle.nn_model.specs.Stands.{StandbyState}
 use Rattle.nn_model.specs.Status.{block_at}
 use Rattle.nn_listing.specs.Listing.{newline, path_json, line_of}
+use Rattle.nn_listing.specs.Summary.{Summary, line, summary_text}
 use Rattle.nn_listing.specs.Tables.{datanodes, replica_text, replica_lines_by, order_text, order_lines_by, blocks_line}
 use Rattle.nn_shadow.specs.declared.fault.Stop.{Stop}
-
--- `KEY VALUE`
-abbrev pub line : List ℕ → List ℕ → List ℕ
-line key value = key ++ codes " " ++ value ++ newline ∷ []
 
 abbrev pub and_number : List ℕ → ℕ → List ℕ
 and_number text n = text ++ codes " " ++ decimal n
@@ -28,37 +25,29 @@ shown (Some most) lines = flat_map (λ l. l) (take most lines) ++ line (codes "m
 
 -- ---- The status.
 
--- what an operator is told first
+-- what an operator is told: of the service, and of its standby
 pub record Figures : Type 0 where
   pub stopped : Option Stop
   pub active : Bool
   pub version : List ℕ
-  pub txid : ℕ  -- of the last transaction that was applied
-  pub known : ℕ  -- the greatest of any edit line
+  pub known : ℕ  -- the greatest txid of any edit line
   pub passed : ℕ  -- how many transactions were passed over
   pub segments : ℕ  -- how many have ended
   pub edits : ℕ  -- how many edits are in hand
   pub last_edit : ℕ  -- the txid of the last of them, 0 where there is none
-  pub held : ℕ  -- how many items wait
-  pub messages : ℕ → ℕ  -- how many came from each DataNode
-  pub blocks : SafeMode
+  pub standby : Summary
 
 abbrev pub state_of : Option Stop → Bool → List ℕ
 state_of (Some stop) active = and_number (and_number (codes "stopped") stop.number) stop.txid
 state_of None true = codes "active"
 state_of None false = codes "standby"
 
--- `datanode D M`, where the DataNode sent messages: how many
-abbrev pub datanode_text : ℕ → ℕ → List ℕ
-datanode_text dn messages = if messages == 0 then [] else line (codes "datanode") (and_number (decimal dn) messages)
-
--- the last line is `blocks TOTAL safe S needed K mode on`, or `off`
+-- the last lines are the standby's summary
 abbrev pub status_lines : Figures → List ℕ
 status_lines f =
     line (codes "state") (state_of f.stopped f.active) ++ line (codes "version") f.version
-    ++ line (codes "txid") (decimal f.txid) ++ line (codes "known") (decimal f.known) ++ line (codes "passed") (decimal f.passed)
-    ++ line (codes "segments") (decimal f.segments) ++ line (codes "edits") (and_number (decimal f.edits) f.last_edit)
-    ++ line (codes "held") (decimal f.held) ++ flat_map (λ dn. datanode_text dn (f.messages dn)) datanodes ++ blocks_line f.blocks
+    ++ line (codes "known") (decimal f.known) ++ line (codes "passed") (decimal f.passed) ++ line (codes "segments") (decimal f.segments)
+    ++ line (codes "edits") (and_number (decimal f.edits) f.last_edit) ++ summary_text f.standby
 
 -- ---- What waits, and what keeps safe mode on.
 

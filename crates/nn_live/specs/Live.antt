@@ -12,7 +12,6 @@ use Rattle.nn_edits.specs.Reading.{either_of_line}
 use Rattle.nn_edits.specs.declared.fault.LineFault.{LineFault}
 use Rattle.nn_edits.specs.declared.line.Line.{Line}
 use Rattle.nn_edits.specs.declared.line.Line.TheVariants as either
-use Rattle.nn_model.specs.Counts.{safe_mode_of}
 use Rattle.nn_model.specs.Items.{items}
 use Rattle.nn_model.specs.Lanes.{Lanes, no_messages, followed_by}
 use Rattle.nn_model.specs.Log.{counted}
@@ -38,7 +37,8 @@ use Rattle.nn_shadow.specs.Calls.{applied_to, received, flushed, without_history
 use Rattle.nn_shadow.specs.Numbers.{number_of_apply, number_of_hand, number_of_flush}
 use Rattle.nn_shadow.specs.Refusals.{Phase, apply_refusal, hand_refusal, flush_refusal, phase_after_apply}
 use Rattle.nn_engine.specs.Output.{image_fault}
-use Rattle.nn_live.specs.Answers.{Figures, line, status_lines, shown, held_line, unsafe_in, block_text, path_text, tables_now}
+use Rattle.nn_listing.specs.Summary.{line, summary_of}
+use Rattle.nn_live.specs.Answers.{Figures, status_lines, shown, held_line, unsafe_in, block_text, path_text, tables_now}
 use Rattle.nn_live.specs.Words.{word_in}
 use Rattle.nn_live.specs.declared.word.Word.{Word}
 use Rattle.nn_live.specs.declared.word.Word.TheVariants as word
@@ -179,15 +179,12 @@ figures_of asked s = record {
   stopped = s.phase.stopped;
   active = s.phase.active;
   version = asked.version;
-  txid = s.standby.last;
   known = s.known;
   passed = s.passed;
   segments = s.segments;
   edits = length s.in_hand.txs;
   last_edit = last_txid s.in_hand.txs;
-  held = length s.standby.held;
-  messages = λ dn. length (s.sent dn);
-  blocks = safe_mode_of asked.permille asked.min s.standby.namespace s.standby.replica;
+  standby = summary_of asked.permille asked.min (items s.sent) s.standby;
 }
 
 -- a full report of no blocks: the DataNode has none of those that it had

@@ -16,6 +16,7 @@ use Rattle.nn_segment.specs.Lines.{reads_of}
 use Rattle.nn_segment.specs.Name.{txids_of, name_text, digits as name_digits}
 use Rattle.nn_segment.specs.Reading.{read_segment, fault_of}
 use Rattle.nn_listing.specs.Listing.{newline}
+use Rattle.nn_listing.specs.Summary.{counts_text, summary_text}
 use Rattle.nn_listing.specs.Tables.{datanodes}
 use Rattle.nn_image.specs.Reading.{is_end_line, read_image, all_from, rows_from, pieces_of, object_of, value_of as image_value, number_in as image_number, text_in, flag_in, array_in, path_in as image_path, block_of, gathered, blocks_at, numbers_at, replication_in, file_in, form_of, form_in, row_in, profile_in as image_profile, fields_in}
 use Rattle.nn_image.specs.Text.{image_text, head_data, form_data, end_data}
@@ -164,13 +165,20 @@ behind_what_it_knows : live (
 unfolding takes takes_all takes_torn takes_pieces word_in alone read_segment fault_of txids_of name_text name_digits reads_of edit_of_line digits escape_byte datanodes either_of_line either_in report_in dn_in kind_in kind_of object_in value_of tx_in op_in op_of txid_in whole_in number_in path_in profile_in edit_in blocks_in items_in block_in is_utf8 chars encode value punctuate lex content word after_number number_of scan_numeral image_text head_data form_data end_data
 behind_what_it_knows = refl
 
+-- what is counted of the root alone
+abbrev counts_of_the_root : List (List ℕ)
+counts_of_the_root =
+    codes "files 0" ∷ codes "directories 1" ∷ codes "file_blocks 0" ∷ codes "missing 0" ∷ codes "missing_of_one 0" ∷ codes "under_replicated 0" ∷ codes "over_replicated 0"
+    ∷ codes "stale 0" ∷ codes "ahead 0" ∷ codes "wrong_length 0" ∷ codes "orders 0" ∷ []
+
 -- then those of the segment in hand are given up, too
 given_up_in_hand : live (
     codes "{\"op\":\"OP_START_LOG_SEGMENT\",\"txid\":1}"
     ∷ codes "promote 0 lost"
     ∷ codes "status" ∷ [])
-    ≡ lines (codes "done 2" ∷ codes "state active" ∷ codes "version 1.2.3" ∷ codes "txid 0" ∷ codes "known 1" ∷ codes "passed 0" ∷ codes "segments 0" ∷ codes "edits 0 0" ∷ codes "held 0" ∷ codes "blocks 0 safe 0 needed 0 mode off" ∷ codes "done 3" ∷ [])
-unfolding takes takes_all takes_torn takes_pieces word_in alone read_segment fault_of txids_of name_text name_digits reads_of edit_of_line digits escape_byte datanodes either_of_line either_in report_in dn_in kind_in kind_of object_in value_of tx_in op_in op_of txid_in whole_in number_in path_in profile_in edit_in blocks_in items_in block_in is_utf8 chars encode value punctuate lex content word after_number number_of scan_numeral image_text head_data form_data end_data
+    ≡ lines ((codes "done 2" ∷ codes "state active" ∷ codes "version 1.2.3" ∷ codes "known 1" ∷ codes "passed 0" ∷ codes "segments 0" ∷ codes "edits 0 0" ∷ codes "txid 0" ∷ codes "held 0" ∷ [])
+    ++ counts_of_the_root ++ codes "blocks 0 safe 0 needed 0 mode off" ∷ codes "done 3" ∷ [])
+unfolding counts_text summary_text takes takes_all takes_torn takes_pieces word_in alone read_segment fault_of txids_of name_text name_digits reads_of edit_of_line digits escape_byte datanodes either_of_line either_in report_in dn_in kind_in kind_of object_in value_of tx_in op_in op_of txid_in whole_in number_in path_in profile_in edit_in blocks_in items_in block_in is_utf8 chars encode value punctuate lex content word after_number number_of scan_numeral image_text head_data form_data end_data
 given_up_in_hand = refl
 
 -- ---- Words.
@@ -184,8 +192,9 @@ status_of_a_service : live (
     ∷ codes "{\"op\":\"OP_START_LOG_SEGMENT\",\"txid\":1}"
     ∷ codes "{\"dn\":3,\"block\":1073741825,\"gen\":1001,\"len\":0,\"kind\":\"received\"}"
     ∷ codes "status" ∷ [])
-    ≡ lines (codes "state standby" ∷ codes "version 1.2.3" ∷ codes "txid 2" ∷ codes "known 2" ∷ codes "passed 2" ∷ codes "segments 2" ∷ codes "edits 1 1" ∷ codes "held 1" ∷ codes "datanode 3 1" ∷ codes "blocks 0 safe 0 needed 0 mode off" ∷ codes "done 7" ∷ codes "fault 13 segment 3" ∷ [])
-unfolding takes takes_all takes_torn takes_pieces word_in alone read_segment fault_of txids_of name_text name_digits reads_of edit_of_line digits escape_byte datanodes either_of_line either_in report_in dn_in kind_in kind_of object_in value_of tx_in op_in op_of txid_in whole_in number_in path_in profile_in edit_in blocks_in items_in block_in is_utf8 chars encode value punctuate lex content word after_number number_of scan_numeral image_text head_data form_data end_data
+    ≡ lines ((codes "state standby" ∷ codes "version 1.2.3" ∷ codes "known 2" ∷ codes "passed 2" ∷ codes "segments 2" ∷ codes "edits 1 1" ∷ codes "txid 2" ∷ codes "held 1" ∷ codes "datanode 3 1 held 1" ∷ [])
+    ++ counts_of_the_root ++ codes "blocks 0 safe 0 needed 0 mode off" ∷ codes "done 7" ∷ codes "fault 13 segment 3" ∷ [])
+unfolding counts_text summary_text takes takes_all takes_torn takes_pieces word_in alone read_segment fault_of txids_of name_text name_digits reads_of edit_of_line digits escape_byte datanodes either_of_line either_in report_in dn_in kind_in kind_of object_in value_of tx_in op_in op_of txid_in whole_in number_in path_in profile_in edit_in blocks_in items_in block_in is_utf8 chars encode value punctuate lex content word after_number number_of scan_numeral image_text head_data form_data end_data
 status_of_a_service = refl
 
 -- so many lines, and how many more

@@ -14,7 +14,9 @@ use Rattle.nn_model.specs.Lanes.{Lanes}
 use Rattle.nn_model.specs.Counts.{safe_mode_of}
 use Rattle.nn_model.specs.Namespace.{Namespace}
 use Rattle.nn_shadow.specs.Contents.{Contents, standby_of, number_in}
-use Rattle.nn_live.specs.Answers.{Figures, line}
+use Rattle.nn_listing.specs.Counted.{summary_seen}
+use Rattle.nn_listing.specs.Summary.{line}
+use Rattle.nn_live.specs.Answers.{Figures}
 use Rattle.nn_shadow.specs.Refusals.{apply_refusal, flush_refusal}
 use Rattle.nn_live.specs.Laws.{HasLog}
 use Rattle.nn_live.specs.Live.{Asked, Service, applies, behind_edit, follows_segment, promotes, takes_torn}
@@ -48,15 +50,12 @@ figures_seen x = record {
   stopped = x.shadow.phase.stopped;
   active = x.shadow.phase.active;
   version = x.version;
-  txid = x.shadow.last;
   known = x.known;
   passed = x.passed;
   segments = x.segments;
   edits = x.in_hand.edits;
   last_edit = x.in_hand.last;
-  held = length x.shadow.held;
-  messages = number_in x.shadow.numbers;
-  blocks = safe_mode_of x.shadow.permille x.shadow.table.min x.shadow.namespace (replica_at x.shadow.table);
+  standby = summary_seen x.shadow;
 }
 
 -- the replicas and orders that are looked up in its table, and its counts

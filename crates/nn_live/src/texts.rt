@@ -4,7 +4,8 @@ ghost use Rattle.nn_types.specs.declared.fault.TheConstants.{DISORDER};
 ghost use Rattle.nn_device.specs.Page.{Puts};
 ghost use Rattle.nn_tree.specs.Listing.{lent_names};
 ghost use Rattle.nn_listing.specs.Listing.{newline, path_json};
-ghost use Rattle.nn_live.specs.Answers.{and_number, block_line, datanode_text, held_line, line, state_of};
+ghost use Rattle.nn_listing.specs.Summary.{line};
+ghost use Rattle.nn_live.specs.Answers.{and_number, block_line, held_line, state_of};
 ghost use Rattle.nn_live.specs.Serving.{fault_text};
 
 use nn_device::{Page, Writer};
@@ -42,15 +43,6 @@ pub(crate) fn put_gap<W: Write>(page: &mut Page, writer: &mut Writer<W>, next: u
     page.put(writer, b" segment ");
     put_number(page, writer, segment);
     page.put(writer, b"\n");
-}
-
-/// Puts `KEY N`.
-pub(crate) fn put_count<W: Write>(page: &mut Page, writer: &mut Writer<W>, key: &str, number: u64)
-    ensures { Puts (line key.now (decimal number)) page.old writer.old page.new writer.new }
-{
-    page.put(writer, key.as_bytes());
-    put_field(page, writer, number);
-    page.put_byte(writer, b'\n');
 }
 
 /// Puts `KEY N M`.
@@ -102,20 +94,6 @@ pub(crate) fn put_state<W: Write>(
             "state",
             if active { "active" } else { "standby" },
         ),
-    }
-}
-
-/// Puts `datanode D M`, unless no message came from the DataNode.
-pub(crate) fn put_datanode<W: Write>(
-    page: &mut Page,
-    writer: &mut Writer<W>,
-    dn: u16,
-    messages: u64,
-)
-    ensures { Puts (datanode_text dn messages) page.old writer.old page.new writer.new }
-{
-    if messages > 0 {
-        put_counts_of(page, writer, "datanode", u64::from(dn), messages);
     }
 }
 

@@ -58,13 +58,24 @@ more 1
 done 17
 state standby
 version 0.1
-txid 3
 known 7
 passed 3
 segments 4
 edits 1 4
+txid 3
 held 2
-datanode 1 3
+datanode 1 3 held 2
+files 0
+directories 2
+file_blocks 0
+missing 0
+missing_of_one 0
+under_replicated 0
+over_replicated 0
+stale 0
+ahead 0
+wrong_length 0
+orders 0
 blocks 0 safe 0 needed 0 mode off
 done 19
 dir \"/a\"

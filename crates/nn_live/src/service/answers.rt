@@ -3,13 +3,13 @@ ghost use Rattle.std.specs.Prelude.{◌≡◌, ◌≤◌, ◌^◌, ◌++◌, [],
 ghost use Rattle.nn_device.specs.Page.{Puts};
 ghost use Rattle.nn_image.specs.Text.{image_text};
 ghost use Rattle.nn_listing.specs.Listing.{listing_text};
-ghost use Rattle.nn_listing.specs.Tables.{IsOfSaid, datanodes};
+ghost use Rattle.nn_listing.specs.Tables.{IsOfSaid};
 ghost use Rattle.nn_model.specs.Lanes.{Lanes};
 ghost use Rattle.nn_model.specs.Namespace.{Namespace};
-ghost use Rattle.nn_shadow.specs.Contents.{number_in};
+ghost use Rattle.nn_shadow.specs.Contents.{IsConsistent};
 ghost use Rattle.nn_tree.specs.Listing.{lent_names};
 ghost use Rattle.nn_tree.specs.Rows.{greatest_depth};
-ghost use Rattle.nn_live.specs.Answers.{datanode_text, held_line, shown, status_lines};
+ghost use Rattle.nn_live.specs.Answers.{held_line, shown, status_lines};
 ghost use Rattle.nn_live.specs.Live.{answers, does};
 ghost use Rattle.nn_live.specs.Serving.{BreaksOff, IsAtEnd, Steps, figures_seen, tables_seen};
 ghost use Rattle.nn_live.specs.declared.word.Word.TheVariants as word;
@@ -17,11 +17,11 @@ ghost use Rattle.nn_live.specs.declared.word.Word.TheVariants as word;
 use super::{DATANODES, Service, ServiceFault};
 use crate::one_block::{put_held_of, put_holder, put_orders_of, put_replicas_of};
 use crate::safety::put_unsafe_rows;
-use crate::texts::{put_count, put_counts_of, put_datanode, put_held, put_state, put_text};
+use crate::texts::{put_counts_of, put_held, put_state, put_text};
 use crate::word::Word;
 use nn_device::{Page, Writer};
 use nn_image::ReadyImage;
-use nn_listing::{ReadyListing, ReadyTables, put_counts, put_row};
+use nn_listing::{ReadyListing, ReadyTables, put_count, put_row, put_summary};
 use nn_postponed::Held;
 use nn_replicas::SafeMode;
 use nn_tree::Rows;
@@ -73,7 +73,7 @@ impl Service {
         Ok(())
     }
 
-    // Answers with the state, the counts, a line for each DataNode that sent messages, and safe mode.
+    // Answers with the state, the counts, and the standby's summary.
     fn status<W: Write>(&self, page: &mut Page, writer: &mut Writer<W>)
         ensures { Steps (λ asked s. does asked Word.Status s) self.now self.now (λ text. Puts text page.old writer.old page.new writer.new) }
     {
@@ -196,13 +196,14 @@ impl Service {
         Ok(())
     }
 
-    // Puts the state, the counts, a line for each DataNode that sent messages, and safe mode.
+    // Puts the state, the counts of the service, and the standby's summary.
     fn put_status<W: Write>(&self, page: &mut Page, writer: &mut Writer<W>)
-        ensures { Puts (status_lines (figures_seen self.now)) page.old writer.old page.new writer.new }
+        ensures put { Puts (status_lines (figures_seen self.now)) page.old writer.old page.new writer.new }
+        ensures consistent { IsConsistent self.now.shadow }
     {
+        self.shadow.consistent();
         put_state(page, writer, self.shadow.stop(), self.shadow.is_active());
         put_text(page, writer, "version", self.version);
-        put_count(page, writer, "txid", self.shadow.last_txid());
         put_count(page, writer, "known", self.known);
         put_count(page, writer, "passed", self.passed);
         put_count(page, writer, "segments", self.segments);
@@ -213,20 +214,7 @@ impl Service {
             self.in_hand.len(),
             self.in_hand.last_txid(),
         );
-        put_count(page, writer, "held", self.shadow.held_count() as u64);
-        self.put_datanodes(page, writer);
-        put_counts(page, writer, self.shadow.safe_mode());
-    }
-
-    // Puts `datanode D M` for each DataNode that sent M messages.
-    fn put_datanodes<W: Write>(&self, page: &mut Page, writer: &mut Writer<W>)
-        ensures { Puts (flat_map (λ dn. datanode_text dn (number_in self.now.shadow.numbers dn)) datanodes) page.old writer.old page.new writer.new }
-    {
-        let mut dn = 0;
-        'datanodes: while dn < DATANODES {
-            dn += 1;
-            put_datanode(page, writer, dn, self.shadow.last_number(dn));
-        }
+        put_summary(page, writer, &self.shadow);
     }
 
     // Puts what waits, at most so many lines, and then how many more there are.

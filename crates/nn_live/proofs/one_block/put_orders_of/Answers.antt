@@ -6,7 +6,7 @@ use Rattle.nn_device.proofs.Pages.{none_of, one_more}
 use Rattle.nn_listing.specs.Tables.{datanodes, order_text}
 use Rattle.nn_replicas.specs.Calls.{has_order}
 use Rattle.nn_replicas.specs.Table.{Table}
-use Rattle.nn_live.proofs.Pieces.{all_datanodes, one_datanode}
+use Rattle.nn_listing.proofs.Summaries.{all_datanodes, one_datanode}
 use Rattle.nn_live.proofs.one_block.put_orders_of.Goals as goal
 
 -- the orders to these DataNodes

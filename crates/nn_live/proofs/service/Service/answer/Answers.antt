@@ -2,7 +2,7 @@ use Rattle.std.proofs.Common.{ℕ, ◌++◌, codes, sym, subst, ap}
 use Rattle.std.specs.Prelude.{decimal}
 use Rattle.nn_device.specs.Page.{Puts}
 use Rattle.nn_device.proofs.Pages.{puts_both}
-use Rattle.nn_live.specs.Answers.{line}
+use Rattle.nn_listing.specs.Summary.{line}
 use Rattle.nn_live.specs.Live.{Service, does, says, says_done}
 use Rattle.nn_live.specs.Serving.{Seen}
 use Rattle.nn_live.proofs.Breaking.{first_breaks}

@@ -4,4 +4,4 @@ use Rattle.nn_live.proofs.Answering.{status_told}
 use Rattle.nn_live.proofs.service.Service.status.Goals as goal
 
 pub returns : goal.returns
-returns g c = (status_lines (figures_seen c.args.self.now), c.put_status.ensures, status_told c.args.self.now)
+returns g c = (status_lines (figures_seen c.args.self.now), c.put_status.ensures.put, status_told c.args.self.now c.put_status.ensures.consistent)

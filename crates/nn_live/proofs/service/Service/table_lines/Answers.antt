@@ -12,7 +12,7 @@ pub returns : goal.returns
 returns c = λ n lanes said.
     let x = c.args.self.now in
     let table : c.replicas.result.now ≡ x.shadow.table = c.replicas.ensures ∙ ap (λ (v : Seen). v.shadow.table) c.self.view_is in
-    let mode = c.safe_mode.ensures ∙ ap (λ (v : Seen). (figures_seen v).blocks) c.self.view_is in
+    let mode = c.safe_mode.ensures ∙ ap (λ (v : Seen). (figures_seen v).standby.mode) c.self.view_is in
     IfOk-weaker c.of.result _ _ (λ tables is.
     (is
     ∙ ap (λ (t : Table). replica_lines_by n lanes (replica_at t) ++ order_lines_by lanes (has_order t) ++ blocks_line (counts_of c.safe_mode.result)) table

@@ -7,7 +7,8 @@ use Rattle.nn_model.specs.declared.form.Form.{Form}
 use Rattle.nn_replicas.specs.Calls.{replica_at}
 use Rattle.nn_replicas.specs.SafeMode.{counts_of}
 use Rattle.nn_replicas.specs.Table.{Table}
-use Rattle.nn_live.specs.Answers.{line, shown, unsafe_in}
+use Rattle.nn_listing.specs.Summary.{line}
+use Rattle.nn_live.specs.Answers.{shown, unsafe_in}
 use Rattle.nn_live.specs.Serving.{Seen, figures_seen}
 use Rattle.nn_live.proofs.Answering.{unsafe_told}
 use Rattle.nn_live.proofs.Lives.{all_lines, joined, unsafe_count}
@@ -26,7 +27,7 @@ returns-in-Some-clause-ok g c =
     let min = c.self.invariant.2 ∙ ap (λ (v : Seen). v.shadow.table.min) c.self.view_is in
     let table = c.replicas-table.ensures ∙ ap (λ (v : Seen). v.shadow.table) c.self.view_is in
     let same = same_lines x c.self.inside.min c.replicas-table.result.now c.in-Ok.rows.left min table c.in-Ok.ensures.left in
-    let mode = c.safe_mode-total.ensures ∙ ap (λ (v : Seen). (figures_seen v).blocks) c.self.view_is in
+    let mode = c.safe_mode-total.ensures ∙ ap (λ (v : Seen). (figures_seen v).standby.mode) c.self.view_is in
     let count : c.saturating_sub-count.result ≡ length (lines_of x) = c.saturating_sub-count.ensures ∙ unsafe_count x.shadow.permille x.shadow.table.min x.shadow.namespace (replica_at x.shadow.table) (counts_of c.safe_mode-total.result) mode in
     let most : c.unwrap_or.result ≡ c.in-Some.most = c.unwrap_or.ensures ∙ ap (λ (o : Option ℕ). unwrap_or o c.saturating_sub-count.result) c.in-Some.is in
     let first = subst (λ n. Puts (joined (take n (lines_of x))) c.args.page.now c.args.writer.now c.put_unsafe_rows.new.page c.put_unsafe_rows.new.writer) most
@@ -43,7 +44,7 @@ returns-in_default-most-clause-ok g c =
     let min = c.self.invariant.2 ∙ ap (λ (v : Seen). v.shadow.table.min) c.self.view_is in
     let table = c.replicas-table.ensures ∙ ap (λ (v : Seen). v.shadow.table) c.self.view_is in
     let same = same_lines x c.self.inside.min c.replicas-table.result.now c.in-Ok.rows.left min table c.in-Ok.ensures.left in
-    let mode = c.safe_mode-total.ensures ∙ ap (λ (v : Seen). (figures_seen v).blocks) c.self.view_is in
+    let mode = c.safe_mode-total.ensures ∙ ap (λ (v : Seen). (figures_seen v).standby.mode) c.self.view_is in
     let count : c.saturating_sub-count.result ≡ length (lines_of x) = c.saturating_sub-count.ensures ∙ unsafe_count x.shadow.permille x.shadow.table.min x.shadow.namespace (replica_at x.shadow.table) (counts_of c.safe_mode-total.result) mode in
     let most : c.unwrap_or.result ≡ length (lines_of x) = c.unwrap_or.ensures ∙ ap (λ (o : Option ℕ). unwrap_or o c.saturating_sub-count.result) c.in_default-most.is ∙ count in
     let all = subst (λ text. Puts text c.args.page.now c.args.writer.now c.put_unsafe_rows.new.page c.put_unsafe_rows.new.writer) (all_lines c.unwrap_or.result (lines_of x) most)

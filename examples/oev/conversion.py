@@ -24,8 +24,9 @@ class Record(NamedTuple):
 class Conversion:
     """Takes records one after another. A transaction has a TXID in the dumps and a number in the lines."""
 
-    def __init__(self, tree, log, skipped_opcodes):
+    def __init__(self, tree, log, skipped_opcodes, edits_of=edits_of):
         self.tree = tree
+        self.edits_of = edits_of
         self.log = log
         self.skipped_opcodes = skipped_opcodes
         # The TXID that the first record has to have, if any, and what helps where it has another.
@@ -69,12 +70,12 @@ class Conversion:
             self.convert(record)
         except Refused as refused:
             if record.opcode not in self.skipped_opcodes:
-                raise Refused(f"{record.opcode}, TXID {record.txid}: {refused}") from None
+                raise type(refused)(f"{record.opcode}, TXID {record.txid}: {refused}") from None
             self.log.leave_out(record.txid)
             self.skipped[record.opcode] += 1
 
     def convert(self, record):
-        edits = edits_of(record, self.tree)
+        edits = self.edits_of(record, self.tree)
         if not edits:
             self.log.leave_out(record.txid)
             self.left_out[record.opcode] += 1

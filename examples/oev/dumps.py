@@ -4,6 +4,7 @@ A dump is read as a stream, and only one element of it is held at a time. It may
 refused, so there are no entities and no references to follow, and tags, texts and depth are bounded.
 """
 import re
+from collections import Counter
 from xml.parsers import expat
 
 from formats import Block, Refused, number
@@ -33,10 +34,13 @@ class Element:
 
     def find(self, name):
         """The element of this name, or None."""
-        found = self.all(name)
-        if len(found) > 1:
-            raise Refused(f"{name} comes {len(found)} times")
-        return found[0] if found else None
+        found = None
+        for child in self.children:
+            if child.name == name:
+                if found is not None:
+                    raise Refused(f"{name} comes {len(self.all(name))} times")
+                found = child
+        return found
 
     def get(self, name):
         found = self.find(name)
@@ -111,13 +115,13 @@ def unescaped(name, text):
         raise Refused(f"{name} has half of a surrogate pair, which no path may have") from None
 
 
-def elements(file, root, wanted, most):
+def elements(file, root, wanted, most, passed=None):
     """Yields the elements of a document whose place is wanted, one after another, each with its place.
 
     A place is the tuple of the names that lead to an element, without that of the root. No element may have more than
-    `most` bytes in the document.
+    `most` bytes in the document. `passed` counts what stands beside the wanted elements, by the two names of its place.
     """
-    reading = Reading(root, wanted, most)
+    reading = Reading(root, wanted, most, Counter() if passed is None else passed)
     ended = False
     while not ended:
         chunk = file.read(CHUNK_BYTES)
@@ -131,10 +135,11 @@ def elements(file, root, wanted, most):
 class Reading:
     """Builds the wanted elements of a document while expat reads it."""
 
-    def __init__(self, root, wanted, most):
+    def __init__(self, root, wanted, most, passed):
         self.root = root
         self.wanted = wanted
         self.most = most
+        self.passed = passed
         # The names of all open elements, and those of the open elements that are built.
         self.place = []
         self.built = []
@@ -183,6 +188,8 @@ class Reading:
         elif tuple(self.place[1:]) in self.wanted:
             self.built.append(Element(name))
             self.begun = self.parser.CurrentByteIndex
+        elif len(self.place) == 3:
+            self.passed["/".join(self.place[1:])] += 1
         self.text = []
 
     def characters(self, text):

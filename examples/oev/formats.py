@@ -10,6 +10,10 @@ PATH_BYTES = 8_000
 PATH_NAMES = 1_000
 
 FIRST_BLOCK_ID = 1_073_741_825
+FIRST_GEN = 1_001
+
+# The blocks of a file that is taken without them, because they can't be held here.
+NO_BLOCKS = ()
 
 DIGITS = re.compile("[0-9]{1,19}")
 
@@ -18,6 +22,10 @@ to_json = json.JSONEncoder(ensure_ascii=False, separators=(",", ":"), sort_keys=
 
 class Refused(Exception):
     """Something that can't be converted. The text is the reason."""
+
+
+class DoesNotApply(Refused):
+    """A record that can't be followed, because of what the log before it made."""
 
 
 class Block(NamedTuple):

@@ -3,6 +3,7 @@
 A dump is refused where it can't be read, or has something that nothing here stands for. It is inconsistent where it
 contradicts itself, which an image of a sound NameNode never does.
 """
+from collections import Counter
 from typing import NamedTuple, Optional
 
 import formats
@@ -44,7 +45,7 @@ class Inode(NamedTuple):
 class Dump:
     """What a dump says. Inodes are known by their ids, which tie its sections together."""
 
-    def __init__(self, file):
+    def __init__(self):
         self.numbers = None
         self.has_layout = False
         # How many inodes the image says that it has.
@@ -52,8 +53,12 @@ class Dump:
         # An inode becomes None once a directory has it.
         self.inodes = {}
         self.children = {}
+        # The greatest id and the greatest stamp of a block.
         self.greatest_block = 0
-        readers = {
+        self.greatest_gen = 0
+        # How often each element came that is not taken.
+        self.passed = Counter()
+        self.readers = {
             LAYOUT: self.layout,
             NUMBERS: self.take_numbers,
             COUNT: self.take_count,
@@ -61,12 +66,13 @@ class Dump:
             DIRECTORY: self.directory,
             SNAPSHOTS: self.snapshots,
         }
-        for place, element in elements(file, "fsimage", set(readers), SECTION_BYTES):
-            readers[place](element)
+
+    def read(self, file):
+        """Reads a dump, and answers this."""
+        for place, element in elements(file, "fsimage", set(self.readers), SECTION_BYTES, self.passed):
+            self.readers[place](element)
         self.check_whole()
-        self.last_block = self.numbers.number("lastAllocatedBlockId")
-        self.last_gen = self.numbers.number("genstampV2")
-        self.txid = self.numbers.number("txid")
+        return self
 
     def layout(self, element):
         check_layout(element)
@@ -74,6 +80,9 @@ class Dump:
 
     def take_numbers(self, section):
         self.numbers = section
+        self.last_block = section.number("lastAllocatedBlockId")
+        self.last_gen = section.number("genstampV2")
+        self.txid = section.number("txid")
 
     def take_count(self, element):
         self.count = element.value()
@@ -83,14 +92,30 @@ class Dump:
         if inode_id in self.inodes:
             raise Inconsistent(f"inode {inode_id} comes twice")
         try:
-            inode = Inode(element.string("name"), file_of(element))
+            inode = Inode(element.string("name"), self.file_of(element))
             if inode_id != ROOT:
                 formats.check_name(inode.name)
         except Refused as refused:
             raise Refused(f"inode {inode_id}: {refused}") from None
         self.inodes[inode_id] = inode
-        if inode.file is not None:
-            self.greatest_block = max(self.greatest_block, *(block.id for block in inode.file.blocks), 0)
+        for block in inode.file.blocks if inode.file else ():
+            self.greatest_block = max(self.greatest_block, block.id)
+            self.greatest_gen = max(self.greatest_gen, block.gen)
+
+    def file_of(self, inode):
+        """The file that an inode is, or None for a directory."""
+        kind = inode.string("type")
+        if kind == "DIRECTORY":
+            return None
+        if kind != "FILE":
+            raise Refused(f"its type is {kind[:40]!r}, and there are no symbolic links here")
+        return self.file_with_blocks(inode)
+
+    def file_with_blocks(self, inode):
+        if is_striped(inode):
+            raise Refused("the file is striped")
+        blocks = [block.block("id", "genstamp", "numBytes") for block in blocks_in(inode)]
+        return File(inode.number("replication"), is_closed(inode), blocks)
 
     def directory(self, element):
         if element.all("refChild"):
@@ -133,23 +158,21 @@ class Dump:
                 yield path, file
             if file and inode_id in self.children:
                 raise Inconsistent(f"inode {inode_id} is a file with children")
-            below = self.below(path, self.children.pop(inode_id, []))
+            below = self.below(path or "/", inode_id)
             ahead += [(f"{path}/{name}", child) for name, child in reversed(below)]
         self.check_all_taken()
 
-    def below(self, path, inode_ids):
-        """The names and ids of a directory's children, in path order. A NameNode has to find each by its name."""
-        children = [(self.known(inode_id).name, inode_id) for inode_id in inode_ids]
-        last = None
-        for name, _ in children:
-            key = name.encode().translate(SIGNED)
-            if last is not None and key <= last[0]:
-                place = to_json(path or "/")
-                if key == last[0]:
-                    raise Inconsistent(f"{place}: two children have the name {to_json(name)}")
-                raise Inconsistent(f"{place}: the child {to_json(name)} is behind {to_json(last[1])}, out of order")
-            last = key, name
-        return sorted(children, key=lambda child: child[0].encode())
+    def below(self, path, inode_id):
+        """The names and ids of a directory's children, in path order."""
+        listed = [(self.known(child).name, child) for child in self.children.pop(inode_id, ())]
+        check_order(path, [name for name, _ in listed])
+        below = sorted(listed + self.referred(inode_id), key=lambda child: child[0].encode())
+        check_different(path, below)
+        return below
+
+    def referred(self, _inode_id):
+        """The names and ids of the children that a directory refers to, because a snapshot has them too."""
+        return []
 
     def known(self, inode_id):
         """An inode that no directory has yet."""
@@ -173,19 +196,56 @@ class Dump:
         for inode_id in self.children:
             raise Inconsistent(f"inode {inode_id} is missing")
 
+    def rows(self):
+        """Each path with its file, as an image of this project has them, or None for a directory."""
+        for path, file in self.paths():
+            yield path, file and self.row(path, file)
 
-def file_of(inode):
-    """The file that an inode is, or None for a directory."""
-    kind = inode.string("type")
-    if kind == "DIRECTORY":
-        return None
-    if kind != "FILE":
-        raise Refused(f"its type is {kind[:40]!r}, and there are no symbolic links here")
-    if is_striped(inode):
-        raise Refused("the file is striped")
+    def row(self, path, file):
+        """The file at a path. Its blocks have to have ids that were issued."""
+        for block in file.blocks:
+            if block.id < formats.FIRST_BLOCK_ID:
+                raise Refused(f"{path} has the block id {block.id}, of an old layout")
+            if block.id > self.last_block:
+                raise Inconsistent(f"{path} has the block id {block.id}, above the last one, {self.last_block}")
+        return file
+
+
+def check_order(path, names):
+    """Refuses children that are not in the order by which a NameNode searches them."""
+    last = b"", ""
+    for name in names:
+        least, most = keys_of(name)
+        if most < last[0]:
+            told = f"the child {to_json(name)} is behind {to_json(last[1])}, out of order"
+            raise Inconsistent(f"{to_json(path)}: {told}")
+        last = max(last, (least, name))
+
+
+def keys_of(name):
+    """The least and the most that a name may be in that order. A line feed here may be a carriage return there."""
+    key = name.encode().translate(SIGNED)
+    before, line_feed, _ = name.partition("\n")
+    return key, f"{before}\r".encode().translate(SIGNED) + b"\xff" if line_feed else key
+
+
+def check_different(path, children):
+    """Refuses two children of one name, which stand side by side."""
+    for (name, inode_id), (other, other_id) in zip(children, children[1:]):
+        if inode_id == other_id:
+            raise Inconsistent(f"{to_json(path)}: inode {inode_id} is there twice")
+        if name == other:
+            told = f"{to_json(path)}: two children have the name {to_json(name)}"
+            raise Refused(f"{told}, or have a carriage return there") if "\n" in name else Inconsistent(told)
+
+
+def blocks_in(inode):
     listed = inode.find("blocks")
-    blocks = [block.block("id", "genstamp", "numBytes") for block in listed.all("block")] if listed else []
-    return File(inode.number("replication"), inode.find("file-under-construction") is None, blocks)
+    return listed.all("block") if listed else []
+
+
+def is_closed(inode):
+    return inode.find("file-under-construction") is None
 
 
 def is_striped(inode):
@@ -196,23 +256,10 @@ def is_striped(inode):
     return kind is not None and kind.text == "STRIPED" or policy is not None and policy.value() != 0
 
 
-def image_lines(dump, txid):
-    """The lines of the image that a dump stands for, with this number."""
-    yield formats.image_header(dump.last_block, dump.last_gen, dump.awaiting(), txid)
+def image_lines(dump, last_block, last_gen, txid):
+    """The lines of the image that a dump stands for, with this last id, this last stamp and this number."""
+    yield formats.image_header(last_block, last_gen, dump.awaiting(), txid)
     count = 0
-    for count, (path, file) in enumerate(dump.paths(), 1):
-        if file is None:
-            yield formats.image_directory(path)
-        else:
-            check_blocks(path, file, dump.last_block)
-            yield formats.image_file(path, *file)
+    for count, (path, file) in enumerate(dump.rows(), 1):
+        yield formats.image_directory(path) if file is None else formats.image_file(path, *file)
     yield formats.image_end(count)
-
-
-def check_blocks(path, file, last_block):
-    """Refuses the block ids of old layouts, and those that were never issued."""
-    for block in file.blocks:
-        if block.id < formats.FIRST_BLOCK_ID:
-            raise Refused(f"{path} has the block id {block.id}, of an old layout")
-        if block.id > last_block:
-            raise Inconsistent(f"{path} has the block id {block.id}, above the last one, {last_block}")

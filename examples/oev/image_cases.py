@@ -92,6 +92,11 @@ CONVERTED_IMAGES = [
         children_image("é", "\U0001f600", "a"),
         children_lines("a", "é", "\U0001f600"),
     ),
+    (
+        "a name with a carriage return, which XML reads as a line feed",
+        children_image("a\\000b;", "a\r", "b"),
+        children_lines("a\\n", "a\\u000b", "b"),
+    ),
     *(
         (
             f"the layout {layout}",
@@ -156,7 +161,22 @@ REFUSED_IMAGES = [
         ),
         '"/d": the child "a" is behind "b", out of order',
     ),
+    (
+        "children out of order, one of which may have a carriage return",
+        children_image("a", "b\n", "a\n"),
+        '"/": the child "a\\n" is behind "b\\n", out of order',
+    ),
     ("two children of one name", children_image("a", "a"), '"/": two children have the name "a"'),
+    (
+        "two children of one name, or of two with a carriage return",
+        children_image("a\n", "a\n"),
+        '"/": two children have the name "a\\n", or have a carriage return there',
+    ),
+    (
+        "an inode twice in a directory",
+        image([ROOT, inode(16386, "DIRECTORY", "d")], [directory(16385, 16386, 16386)]),
+        '"/": inode 16386 is there twice',
+    ),
     ("an inode twice", image([ROOT, ROOT], []), "inode 16385 comes twice"),
     ("no root", image([], []), "inode 16385 is missing"),
     ("fewer inodes than it says", image([ROOT], [], count=2), "numInodes is 2, and the inodes are 1"),

@@ -86,12 +86,18 @@ class Map:
         self.file.write(f"{txid} -\n")
 
 
+def pairs_in(name):
+    """What a map has: the TXID of each record and the number of each line, as texts."""
+    with open(name) as lines:
+        for line in lines:
+            yield line.split()
+
+
 class Whole:
-    """Lines that go to one file."""
+    """Lines that go to one file. A segment has at most so many bytes, if that is said."""
 
-    most = None
-
-    def __init__(self, file):
+    def __init__(self, file, most=None):
+        self.most = most
         self.write = file.write
         self.close = file.close
 

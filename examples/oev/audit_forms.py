@@ -1,0 +1,180 @@
+"""Forms of real clusters that the trials of audits try one by one. Each is a cluster, and the TXIDs of two images."""
+from typing import NamedTuple
+
+from cases import member
+from cluster import FIRST_ID, FULL, Cluster, block_member, named
+
+
+class Form(NamedTuple):
+    name: str
+    cluster: Cluster
+    first: int
+    # What is said of it, and whether the images are what the log makes.
+    said: str = ""
+    is_same: bool = True
+
+
+def begun(is_late=False):
+    """A cluster with a directory that has a closed file and an open one, each with a block."""
+    cluster = Cluster(is_late)
+    cluster.begin_segment()
+    directory = cluster.make_directory(cluster.root, "d")
+    files = [cluster.create(directory, name) for name in ("closed", "open")]
+    for file in files:
+        cluster.add_block(file)
+    cluster.close(files[0], 100)
+    return cluster, directory, files
+
+
+def stamps():
+    """A standby learns of a stamp when a block comes with it."""
+    cluster, _, (closed, opened) = begun(is_late=True)
+    first = cluster.txid
+    cluster.begin_recovery(opened)
+    yield Form("a stamp that no block has at the second image", cluster, first, "1002 in the image, 1003 in the log")
+
+    cluster, _, (closed, opened) = begun(is_late=True)
+    cluster.begin_recovery(opened)
+    first = cluster.txid
+    cluster.close(opened, 7)
+    yield Form("a stamp that no block has at the first image", cluster, first, ", 1002, is taken as 1003: ")
+
+    cluster, _, (closed, opened) = begun(is_late=True)
+    cluster.begin_recovery(opened)
+    first = cluster.txid
+    cluster.append(closed)
+    cluster.close(opened, 7)
+    yield Form("such a stamp behind another one", cluster, first, ", 1002, is taken as 1003: ")
+
+    cluster, _, (closed, opened) = begun()
+    first = cluster.txid
+    cluster.append(closed)
+    opened.recovery = 1009
+    cluster.close(opened, 7)
+    yield Form("a stamp that was never issued", cluster, first, f"fault TXID {cluster.txid}: ", is_same=False)
+
+
+def truncates():
+    for length, what in ((40, "inside a block"), (100, "between two blocks"), (0, "to nothing")):
+        cluster, _, (closed, _) = begun()
+        cluster.append(closed)
+        cluster.add_block(closed, 100)
+        cluster.close(closed, 60)
+        first = cluster.txid
+        cluster.truncate(closed, length)
+        yield Form(f"a truncate {what}", cluster, first)
+
+    cluster, directory, (closed, _) = begun()
+    cluster.create_snapshot(directory)
+    first = cluster.txid
+    cluster.truncate(closed, 40)
+    yield Form("a truncate of a block that a snapshot has", cluster, first)
+    assert closed.blocks[0][0] != FIRST_ID and closed.blocks[0][2] == 40
+
+    cluster, _, (closed, _) = begun()
+    first = cluster.txid
+    cluster.truncate(closed, 70)
+    cluster.images[first] = cluster.images[first].replace("<numBytes>100<", "<numBytes>50<")
+    said = f'fault OP_TRUNCATE, TXID {cluster.txid}: the file "/d/closed" has 50 bytes, and is cut to 70\n'
+    yield Form("a truncate of a file that was shorter", cluster, first, said, is_same=False)
+
+
+ONE_BARE = "not compared, files whose blocks can't be held here: 1\n"
+
+
+def old_layouts():
+    for name, block, limit in (
+        ("a file of an old layout", [77, 5, 10], 0),
+        ("a file of an old layout with a negative id", [-77, 5, 10], 0),
+        ("a file of an old layout with a great id", [2**40, 500, 10], 1000),
+    ):
+        cluster, directory, (closed, _) = begun()
+        closed.blocks, cluster.stamp_limit = [block], limit
+        cluster.last_stamp = cluster.seen_stamp = 3000
+        first = cluster.txid
+        cluster.set_replication(closed, 2)
+        cluster.append(closed)
+        cluster.add_block(closed, 20)
+        cluster.close(closed, 30)
+        cluster.rename(closed, cluster.root, "moved")
+        yield Form(name, cluster, first, ONE_BARE)
+
+
+def bare_files():
+    """Other files whose blocks can't be held here."""
+    cluster, directory, _ = begun()
+    striped = cluster.create(directory, "striped", policy=1)
+    first = cluster.txid
+    cluster.add_block(striped)
+    cluster.close(striped, 7)
+    cluster.set_replication(striped, 2)
+    cluster.create(directory, "closed", policy=1)
+    yield Form("a striped file, and one over another file", cluster, first, ONE_BARE.replace("1", "2"))
+
+    cluster, _, (_, opened) = begun()
+    ids = range(cluster.last_block + 1, cluster.last_block + 1501)
+    opened.blocks = [*opened.blocks, *([block_id, 1002, FULL] for block_id in ids)]
+    cluster.last_block = ids[-1]
+    first = cluster.txid
+    for _ in range(20):
+        cluster.add_block(opened, FULL - 1)
+    cluster.close(opened, 9)
+    yield Form("a file that outgrows a line", cluster, first, ONE_BARE)
+
+    cluster, directory, (closed, _) = begun()
+    other = cluster.create(directory, "other")
+    cluster.add_block(other)
+    cluster.close(other, 5)
+    first = cluster.txid
+    cluster.concat(closed, [other])
+    cluster.set_replication(closed, 2)
+    yield Form("a concat", cluster, first, ONE_BARE)
+
+
+def no_files():
+    """Records that name a directory, or nothing, where a file has to be."""
+    old, many = block_member([77, 5, 10]), [block_member([FIRST_ID, 1001, FULL])] * 2000
+    sources = member("SOURCES", named("SOURCE1", "/d")), member("SOURCES", named("SOURCE1", "/d/closed"))
+    for name, opcode, *members in (
+        ("a block of an old layout for a directory", "OP_CLOSE", named("PATH", "/d"), old),
+        ("more blocks than a line holds for a directory", "OP_CLOSE", named("PATH", "/d"), *many),
+        ("a concat of a directory", "OP_CONCAT_DELETE", named("TRG", "/d/closed"), sources[0]),
+        ("a concat to a directory", "OP_CONCAT_DELETE", named("TRG", "/d"), sources[1]),
+        ("a truncate of nothing", "OP_TRUNCATE", named("SRC", "/d/nothing"), member("NEWLENGTH", 0)),
+    ):
+        cluster, _, _ = begun()
+        first = cluster.txid
+        cluster.log(opcode, *members)
+        yield Form(name, cluster, first, f"fault TXID {cluster.txid}: ", is_same=False)
+
+
+def names():
+    cluster, directory, (closed, _) = begun()
+    cluster.rename(closed, directory, "a\rb")
+    first = cluster.txid
+    cluster.rename(closed, directory, "a\r\nb")
+    cluster.set_replication(closed, 2)
+    yield Form("a carriage return in a name", cluster, first, "in a name, taken as a line feed: 2\n")
+
+
+def snapshots():
+    cluster, directory, (closed, opened) = begun()
+    first = cluster.txid
+    cluster.create_snapshot(directory)
+    cluster.rename(closed, cluster.root, "moved")
+    cluster.delete(opened)
+    yield Form("a snapshot", cluster, first, "not compared, inodes that only snapshots hold: 1\n")
+    first = cluster.txid
+    cluster.rename(closed, cluster.root, "again")
+    cluster.delete(closed)
+    yield Form("an image with a snapshot", cluster, first, "not compared, inodes that only snapshots hold: 2\n")
+
+
+def issued():
+    cluster, _, (_, opened) = begun()
+    first = cluster.txid + 1
+    cluster.add_block(opened)
+    yield Form("an image between an id and its block", cluster, first)
+
+
+FORMS = (stamps, truncates, old_layouts, bare_files, no_files, names, snapshots, issued)

@@ -1,0 +1,266 @@
+"""Trials of `audit`: damages, lost edits, forms of real clusters, programs that fail, chains, clusters at random."""
+import contextlib
+import io
+import os
+import random
+import re
+import tempfile
+from types import SimpleNamespace
+
+from at_random import cluster_at_random
+from audit_damages import BLOCKS, DAMAGES, LOST, in_inode, replaced, several, story
+from audit_forms import FORMS
+from auditing import Audit
+from cases import document, record
+from formats import Refused
+from proved import Program
+
+CLUSTERS = 30
+STEPS = 80
+AUDITS_OF_A_CLUSTER = 12
+# Of so many clusters each TXID is that of the first image once, and that of the second.
+WHOLE_CLUSTERS = 2
+
+# A name, a program, and what the reason has in it. The status is 2.
+FAILING = [
+    ("a program that is killed", "#!/bin/sh\nkill -9 $$\n", "the program was killed by signal 9"),
+    ("a program without memory", "#!/bin/sh\necho fault 55\nexit 1\n", "the program told fault 55: "),
+    ("a program that can't read", "#!/bin/sh\ncat > /dev/null\necho fault 8\nexit 1\n", "the program told fault 8: "),
+    ("a program that prints nothing", "#!/bin/sh\ncat > /dev/null\n", "printed no whole image"),
+    ("a program that prints half an image", "#!/bin/sh\ncat > /dev/null\nprintf '{}'\n", "printed no whole image"),
+    ("a program that fails", "#!/bin/sh\ncat > /dev/null\nexit 3\n", "status 3 and printed no whole image"),
+    (
+        "a program that prints another image",
+        "#!/bin/sh\ncat > /dev/null\nprintf '{}\\n{\"end\":0}\\ndone 1\\n'\n",
+        "because of a defect of this script",
+    ),
+]
+
+
+class Trials:
+    """The files of the story, and a command that audits them."""
+
+    def __init__(self, check):
+        self.check = check
+        self.cluster, self.first, self.second = story()
+        self.images = self.cluster.images
+        self.last = self.cluster.txid
+        self.records = [text for _, text in self.cluster.records]
+        self.whole = check.file(document(*self.records))
+
+    def image(self, txid, damage=lambda text: text):
+        return self.check.file(damage(self.images[txid]))
+
+    def log(self, *records):
+        return self.check.file(document(*records))
+
+    def run(self, *arguments):
+        return self.check.run("audit", "--program", self.check.program, *arguments)
+
+    def audited(self, name, status, begin, *arguments):
+        """An audit has to end with this status, and its first line has to begin so."""
+        got, output, errors = self.run(*arguments)
+        told = (got, output.startswith(begin), errors) == (status, True, "")
+        self.check.holds(f"an audit: {name}", told, f"{got}\n{output}{errors}\nwanted {status} {begin}")
+        return output
+
+    def refused(self, name, reason, *arguments):
+        """Nothing can be said of something, for this reason."""
+        status, output, errors = self.run(*arguments)
+        told = (status, output) == (2, "") and errors.startswith("audit: nothing can be said") and reason in errors
+        self.check.holds(f"no audit: {name}", told, f"{status}\n{output}{errors}\nwanted {reason}")
+
+
+def check_audits(check):
+    """Each damage is found, and nothing is said where nothing can be."""
+    trials = Trials(check)
+    for part in PARTS:
+        part(trials)
+
+
+def check_same(trials):
+    """The images of the story are what its log makes."""
+    between = trials.image(trials.first), trials.image(trials.last)
+    output = trials.audited("the story", 0, "alike: ", "--from", between[0], "--to", between[1], trials.whole)
+    ended = f"the same: the image of TXID {trials.last} is what the log makes of the image of TXID {trials.first}\n"
+    trials.check.holds("the verdict on the story", output.endswith(ended), output)
+    members = "4 (INODEID 1, NEWBLOCK 2, TIMESTAMP 1)"
+    for said in ("inode/mtime 10", "1 (OP_TIMES 1)", members, "files whose blocks can't be held here: 1\n"):
+        trials.check.contains("what is not compared", output, said)
+
+
+def check_damages(trials):
+    first = trials.image(trials.first)
+    for name, damage, begin in DAMAGES:
+        second = trials.image(trials.last, damage)
+        trials.audited(name, 1, begin, "--from", first, "--to", second, trials.whole)
+    length = replaced("<numBytes>41<", "<numBytes>40<")
+    damage = several(length, in_inode("spare", "<replication>2<", "<replication>3<"))
+    arguments = "--most", "1", "--from", first, "--to", trials.image(trials.last, damage), trials.whole
+    output = trials.audited("two damages, of which one is told", 1, 'block "/data/notes"', *arguments)
+    trials.check.contains("how many are left", output, "\n.. and 1 more\nalike: ")
+    trials.check.contains("how many there are", output, "image of TXID 18: block 1, replication 1\n")
+
+
+def check_lost(trials):
+    """An edit is lost, and a record without effect stands in its place."""
+    images = "--from", trials.image(trials.first), "--to", trials.image(trials.last)
+    for opcode, txid, begin in LOST:
+        lost = trials.records[txid - 1]
+        trials.check.contains(f"the record of TXID {txid}", lost, f"<OPCODE>{opcode}<")
+        records = [*trials.records[: txid - 1], record("OP_TIMES", txid), *trials.records[txid:]]
+        trials.audited(f"a lost {opcode}", int(not begin.startswith("alike")), begin, *images, trials.log(*records))
+
+
+def check_forms(trials):
+    """Real clusters have more than a standby here can hold. It is taken, and it is said how."""
+    for form in (form for forms in FORMS for form in forms()):
+        cluster = form.cluster
+        cluster.keep_image()
+        first, last = (trials.check.file(cluster.images[txid]) for txid in (form.first, cluster.txid))
+        log = trials.log(*(text for _, text in cluster.records))
+        begin = "alike: " if form.is_same else form.said
+        output = trials.audited(form.name, int(not form.is_same), begin, "--from", first, "--to", last, log)
+        trials.check.contains(f"what is said of {form.name}", output, form.said)
+
+
+def check_layouts(trials):
+    """The images and the log may have different layouts, and an image of an older oiv is named as such."""
+    layouts = replaced("layoutVersion>-66<", "layoutVersion>-63<"), replaced("layoutVersion>-66<", "layoutVersion>-67<")
+    first, last = trials.image(trials.first, layouts[0]), trials.image(trials.last, layouts[1])
+    log = trials.check.file(document(*trials.records, layout=-64))
+    trials.audited("three layouts", 0, "alike: ", "--from", first, "--to", last, log)
+    old = trials.image(trials.last, lambda text: re.sub("<(version|namespaceId)>.*?</\\1>", "", text))
+    trials.refused("an image of an older oiv", "an oiv of before Hadoop 2.8", "--from", first, "--to", old, log)
+
+
+def check_nothing_said(trials):
+    first, last, whole = trials.image(trials.first), trials.image(trials.last), trials.whole
+    torn = trials.image(trials.last, lambda text: text[: len(text) // 2])
+    other = trials.image(trials.last, replaced("<namespaceId>1523048716<", "<namespaceId>7<"))
+    twice = trials.image(trials.first, in_inode("spare", ">spare<", ">old<"))
+    block = trials.image(trials.first, replaced(f"<id>{BLOCKS[2]}<", f"<id>{BLOCKS[1]}<"))
+    low = trials.image(trials.first, replaced("V2>1003<", "V2>1002<"))
+    ends = trials.log(*trials.records[:-1])
+    gap = trials.log(*trials.records[:30], *trials.records[31:])
+    symlink = trials.log(*trials.records[:32], record("OP_SYMLINK", 33), *trials.records[33:])
+    later = trials.log(*trials.records[20:])
+    for name, reason, arguments in (
+        ("a torn image", "ends in the middle", ["--from", first, "--to", torn, whole]),
+        ("a torn first image", "ends in the middle", ["--from", torn, "--to", last, whole]),
+        ("a torn log", "ends in the middle", ["--from", first, "--to", last, trials.check.file("<EDITS>")]),
+        ("two clusters", "two clusters: namespaceId 1523048716, and 7", ["--from", first, "--to", other, whole]),
+        ("an image before the first", "log goes on behind TXID 58", ["--from", last, "--to", first, whole]),
+        ("an image twice", "the log goes on behind TXID 18", ["--from", first, "--to", first, whole]),
+        ("a first image with a name twice", 'itself: "/data": two', ["--from", twice, "--to", last, whole]),
+        ("a first image with a block in two files", "itself: {", ["--from", block, "--to", last, whole]),
+        ("a first image with a low stamp", "1002, below that of a block, 1003", ["--from", low, "--to", last, whole]),
+        ("a gap", "TXID 32: a gap, since TXID 31 is next", ["--from", first, "--to", last, gap]),
+        ("a gap behind the image", "TXID 21: a gap, since TXID 19 is next", ["--from", first, "--to", last, later]),
+        ("a log that ends too soon", "the log ends at TXID 57, and", ["--from", first, "--to", last, ends]),
+        ("a record that is refused", "OP_SYMLINK, TXID 33: ", ["--from", first, "--to", last, symlink]),
+        ("no first image", "--from FROM has to name", ["--to", last, whole]),
+        ("no file", "No such file", ["--from", "nothing", "--to", last, whole]),
+        ("no program", "there is no program", ["--from", first, "--to", last, whole, "--program", "nothing"]),
+    ):
+        trials.refused(name, reason, *arguments)
+    trials.check.same("an audit without arguments", trials.check.run("audit")[0], 2)
+
+
+def check_failing(trials):
+    arguments = "--from", trials.image(trials.first), "--to", trials.image(trials.last), trials.whole
+    for name, text, reason in FAILING:
+        program = trials.check.file(text)
+        os.chmod(program, 0o755)
+        trials.refused(name, reason, *arguments, "--program", program)
+
+
+def check_chain(trials):
+    """A chain goes on from what the program had, so that a wrong image is not what the next one is compared with."""
+    state = os.path.join(trials.check.folder, "chain")
+    first, second, last = map(trials.image, (trials.first, trials.second, trials.last))
+    wrong = trials.image(trials.second, in_inode("spare", "<replication>2<", "<replication>3<"))
+    later = trials.log(*trials.records[trials.second :])
+    begin = 'replication "/data/spare" 2 3'
+    output = trials.audited("a chain", 1, begin, "--state", state, "--from", first, "--to", wrong, trials.whole)
+    trials.check.contains("where it stands", output, "chain: TXID 18 (first image) .. 34, 1 audits\n")
+    check_kept(trials, first)
+    for name, reason, arguments in (
+        ("an image of before", "and the log goes on behind TXID 34", ["--to", second, trials.whole]),
+        ("a gap behind the chain", "TXID 36: a gap", ["--to", last, trials.log(*trials.records[trials.second + 1 :])]),
+        ("a first image for a chain that stands", "goes on from TXID 34", ["--from", first, "--to", last, later]),
+    ):
+        trials.refused(name, reason, "--state", state, *arguments)
+    damaged = trials.image(trials.last, in_inode("spare", "<replication>2<", "<replication>3<"))
+    copy = os.path.join(trials.check.folder, "copy")
+    os.makedirs(copy)
+    with open(os.path.join(state, "state"), "rb") as one, open(os.path.join(copy, "state"), "wb") as other:
+        other.write(one.read())
+    trials.audited("a chain in which an image stays wrong", 1, begin, "--state", copy, "--to", damaged, later)
+    output = trials.audited("a chain that goes on", 0, "alike: ", "--state", state, "--to", last, later)
+    stands = f"chain: TXID {trials.first} (first image) .. {trials.last}, 2 audits\n"
+    trials.check.contains("where it stands then", output, stands)
+    with open(os.path.join(copy, "state"), "w") as file:
+        file.write("{}")
+    trials.refused("a chain that is torn", "is no state of an audit", "--state", copy, "--to", last, later)
+
+
+def check_kept(trials, first):
+    """A file is bare in a chain only if the log or the first image has it so, and not because a wrong image has."""
+    state = os.path.join(trials.check.folder, "kept")
+    striped = in_inode("spare", "<replication>", "<blockType>STRIPED</blockType><replication>")
+    second, begin = trials.image(trials.second, striped), 'replication "/data/spare" 2 1'
+    trials.audited("a chain", 1, begin, "--state", state, "--from", first, "--to", second, trials.whole)
+    with open(os.path.join(state, "state")) as file:
+        trials.check.contains("the bare files of a chain", file.readline(), '"bare":[]')
+
+
+def check_random(trials):
+    """What a cluster does at random is what its log makes, from any TXID to any later one, and on in a chain."""
+    program = Program(trials.check.program)
+    for seed in range(CLUSTERS):
+        cluster, chance = cluster_at_random(seed, STEPS), random.Random(seed)
+        for first, last in pairs_of(cluster, chance, seed < WHOLE_CLUSTERS):
+            at_once(trials.check, program, cluster, first, last, f"cluster {seed}")
+        state = os.path.join(trials.check.folder, f"chain-{seed}")
+        links = sorted(chance.sample(range(1, cluster.txid + 1), 4))
+        for first, last in zip(links, links[1:]):
+            at_once(trials.check, program, cluster, first, last, f"chain of cluster {seed}", state)
+
+
+def pairs_of(cluster, chance, is_whole):
+    """The TXIDs of two images."""
+    firsts = range(1, cluster.txid) if is_whole else chance.sample(range(1, cluster.txid), AUDITS_OF_A_CLUSTER)
+    pairs = [(first, chance.randrange(first + 1, cluster.txid + 1)) for first in firsts]
+    return pairs + [(chance.randrange(1, last), last) for last in range(2, cluster.txid + 1) if is_whole]
+
+
+def at_once(check, program, cluster, first, last, name, state=None):
+    """Audits an undamaged image in this process."""
+    names = [os.path.join(check.folder, name) for name in ("first", "last", "log")]
+    records = [text for txid, text in cluster.records if first - 2 < txid < last + 3]
+    for path, text in zip(names, (cluster.images[first], cluster.images[last], document(*records))):
+        with open(path, "w", encoding="utf-8", newline="") as file:
+            file.write(text)
+    start = None if state and os.path.exists(state) else names[0]
+    options = SimpleNamespace(start=start, to=names[1], files=names[2:], state=state, most=20)
+    output = io.StringIO()
+    with contextlib.redirect_stdout(output), tempfile.TemporaryDirectory() as folder:
+        try:
+            is_same = Audit(program, folder, options).run()
+        except Refused as refused:
+            is_same = print(f"refused: {refused}")
+    check.holds(f"{name} from TXID {first} to {last}", is_same, output.getvalue())
+
+
+PARTS = (
+    check_same,
+    check_damages,
+    check_lost,
+    check_forms,
+    check_layouts,
+    check_nothing_said,
+    check_failing,
+    check_chain,
+    check_random,
+)

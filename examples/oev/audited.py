@@ -1,0 +1,201 @@
+"""What becomes of each record in an audit, where only namespaces are compared.
+
+Real clusters do more than a standby here can follow. Records of snapshots change no live name, and are left out. A
+truncate becomes edits of the file. A file whose blocks can't be held here is bare from then on. Nothing of this is for
+a standby that has reports: it would order blocks to be deleted that a snapshot holds.
+"""
+import copy
+import re
+from collections import Counter
+
+import edits
+from bare import has_old_block, is_bare, made_bare, new_bare
+from edits import blocks_in, path_in
+from formats import GREATEST_NUMBER, Block, DoesNotApply, Refused, line_of, to_json
+
+SNAPSHOTS = {"OP_CREATE_SNAPSHOT", "OP_DELETE_SNAPSHOT", "OP_RENAME_SNAPSHOT"}
+
+# The records of one file, with the member that names it.
+OF_FILES = {
+    "OP_ADD_BLOCK": "PATH",
+    "OP_UPDATE_BLOCKS": "PATH",
+    "OP_CLOSE": "PATH",
+    "OP_APPEND": "PATH",
+    "OP_SET_REPLICATION": "PATH",
+    "OP_TRUNCATE": "SRC",
+}
+
+NAMES = {"PATH", "SRC", "DST", "TRG", "SOURCES"}
+
+# What is taken of the records that are kept.
+NUMBERS = {"TXID", "BLOCK", "BLOCK_ID", "ERASURE_CODING_POLICY_ID", "GENSTAMPV2", "NEWLENGTH", "REPLICATION"}
+TAKEN = NAMES | NUMBERS | {"OPTIONS", "OVERWRITE"}
+
+CARRIAGE_RETURN = re.compile(r"(?:\r|\\000[dD];)\n?")
+
+# A line has room for so many blocks, whatever its path.
+FEW_BLOCKS = 100
+
+
+class Audited:
+    """Makes edits of records, and keeps what is to be said of them."""
+
+    def __init__(self, last_gen):
+        # The last stamp of the image, the first that the log issues, and those that it gives before that.
+        self.last_gen = last_gen
+        self.first_issued = None
+        self.given = set()
+        # How many records have a carriage return in a name.
+        self.carriage_returns = 0
+        # How often each member of a record that is kept was not taken.
+        self.passed = Counter()
+
+    def edits_of(self, record, tree):
+        """The edits that a record stands for. There are none where it is left out."""
+        made = self.converted(self.without_returns(record), tree)
+        self.note_stamps(record)
+        if made:
+            self.passed.update(child.name for child in record.data.children if child.name not in TAKEN)
+        return made
+
+    def converted(self, record, tree):
+        if record.opcode in SNAPSHOTS:
+            return []
+        if record.opcode in OF_FILES:
+            return self.of_file(record, tree)
+        if record.opcode == "OP_ADD":
+            return add(record, tree)
+        if record.opcode == "OP_CONCAT_DELETE":
+            return concat(record.data, tree)
+        if record.opcode == "OP_ALLOCATE_BLOCK_ID" and record.data.string("BLOCK_ID").startswith("-"):
+            return []
+        return edits.edits_of(record, tree)
+
+    def of_file(self, record, tree):
+        path = path_in(record.data, OF_FILES[record.opcode])
+        file = tree.find_file(path)
+        if file is not None and is_bare(file):
+            return []
+        if not has_old_block(record.data.all("BLOCK"), "BLOCK_ID", "GENSTAMP"):
+            made = truncate(record.data, file) if record.opcode == "OP_TRUNCATE" else edits.edits_of(record, tree)
+            if all(map(fits_a_line, made)):
+                return made
+        return no_file(path) if file is None else made_bare(path)
+
+    def without_returns(self, record):
+        """The record as an image has its names: a dump of an image has a line feed for a carriage return in a name."""
+        if not any(map(has_return, record.data.children)):
+            return record
+        self.carriage_returns += 1
+        data = copy.deepcopy(record.data)
+        for element in named(data):
+            element.text = CARRIAGE_RETURN.sub("\n", element.text)
+        return record._replace(data=data)
+
+    def note_stamps(self, record):
+        """Notes which stamps a record issues or gives to blocks, bare files' blocks among them."""
+        if record.opcode == "OP_SET_GENSTAMP_V2" and self.first_issued is None:
+            self.first_issued = record.data.number("GENSTAMPV2")
+        for block in record.data.all("BLOCK"):
+            gen = block.number("GENSTAMP")
+            if gen > self.last_gen and (self.first_issued is None or gen < self.first_issued):
+                self.given.add(gen)
+
+    def issued_before(self):
+        """The greatest stamp that was issued before the image, if that is above the image's last one; or else None.
+
+        A standby may learn of a stamp only when a block comes with it, and save a lower one until then.
+        """
+        return max((gen for gen in self.given if self.first_issued is None or gen < self.first_issued), default=None)
+
+
+def named(data):
+    """The elements of a record that have names."""
+    for child in data.children:
+        if child.name in NAMES:
+            yield from child.children or [child]
+
+
+def has_return(element):
+    return element.name in NAMES and any(CARRIAGE_RETURN.search(part.text) for part in element.children or [element])
+
+
+def fits_a_line(edit):
+    """Whether a line has room for an edit's blocks."""
+    if len(edit.get("blocks", ())) <= FEW_BLOCKS:
+        return True
+    try:
+        line_of(edit, GREATEST_NUMBER)
+    except Refused:
+        return False
+    return True
+
+
+def add(record, tree):
+    """A new file. A striped one is bare, and may have the replication 0."""
+    policy = record.data.find("ERASURE_CODING_POLICY_ID")
+    if policy is None or policy.value() == 0:
+        return edits.edits_of(record, tree)
+    path = path_in(record.data, "PATH")
+    if not tree.find_file(path):
+        return new_bare(path)
+    if not record.data.boolean("OVERWRITE"):
+        raise Refused(f"the file {path} exists and is not overwritten: an append of old layouts")
+    return made_bare(path)
+
+
+def concat(data, tree):
+    """Blocks move from other files, which are deleted, to the end of a file, which is bare from then on."""
+    sources, target = data.get("SOURCES"), path_in(data, "TRG")
+    made = []
+    for path in (path_in(sources, source.name) for source in sources.children):
+        made += [{"op": "OP_DELETE", "path": path}] if tree.find_file(path) else no_file(path)
+    file = tree.find_file(target)
+    if file is None:
+        return made + no_file(target)
+    return made if is_bare(file) else made + made_bare(target)
+
+
+def no_file(path):
+    """An edit of a file where there is none. The program says why not."""
+    return [{"op": "OP_APPEND", "path": path}]
+
+
+def truncate(data, file):
+    """A file loses bytes from its end. Its blocks behind the new end leave it, one after another.
+
+    Where the new end lies inside a block, the file stays open until an OP_CLOSE has the block's new stamp and length. A
+    block that a snapshot has too is copied: the record's BLOCK has another id, and the length behind the cut.
+    """
+    path, length = path_in(data, "SRC"), data.number("NEWLENGTH")
+    opened = {"op": "OP_APPEND", "path": path}
+    if file is None or not file.closed:
+        # The program says why it can't be opened.
+        return [opened]
+    kept, size = 0, 0
+    while kept < len(file.blocks) and size < length:
+        size += file.blocks[kept].len
+        kept += 1
+    if size < length:
+        raise DoesNotApply(f"the file {to_json(path)} has {size} bytes, and is cut to {length}")
+    last = new_last(blocks_in(data), file.blocks[:kept], size - length)
+    left = kept - len(last)
+    lists = [file.blocks[:count] for count in range(len(file.blocks) - 1, left - 1, -1)]
+    made = [opened, *(update(path, blocks) for blocks in lists)]
+    if size == length:
+        return [*made, {"op": "OP_CLOSE", "path": path, "blocks": file.blocks[:kept]}]
+    for block in last:
+        made.append({"op": "OP_ADD_BLOCK", "path": path, "id": block.id, "gen": block.gen})
+        made.append(update(path, [*file.blocks[:left], block]))
+    return made
+
+
+def new_last(named_blocks, blocks, cut):
+    """In a list of one, the block that takes the last one's place. There is none where that is cut in place."""
+    if not cut or not named_blocks or named_blocks[0].id == blocks[-1].id:
+        return []
+    return [Block(named_blocks[0].gen, named_blocks[0].id, blocks[-1].len - cut)]
+
+
+def update(path, blocks):
+    return {"op": "OP_UPDATE_BLOCKS", "path": path, "blocks": blocks}

@@ -1,0 +1,181 @@
+"""An audit: reads two images and the log between them, runs the proved program on them, and tells what it finds.
+
+What can't be read leaves nothing to be said, and is Refused. A second image that contradicts itself is a finding.
+"""
+import io
+import json
+import os
+
+from between import Converted
+from chain import Chain, Link, Start
+from checkpoint import low_number, read_image, write_image
+from comparison import Differences, alike_texts, compare
+from conversion import counted
+from formats import Refused, image_line
+
+
+class Audit:
+    """One audit, by its options, with the program and a folder for its files."""
+
+    def __init__(self, program, folder, options):
+        self.program = program
+        self.folder = folder
+        self.options = options
+        self.differences = Differences(options.most)
+        self.notes = []
+
+    def run(self):
+        """Tells what is found. Answers whether the second image is what the log makes of the first."""
+        chain = Chain(self.options.state) if self.options.state else None
+        start = self.start(chain)
+        theirs, contradiction = read_image(self.options.to)
+        self.check_pair(start.link, theirs, contradiction)
+        log = Converted(start, theirs.txid, self.options.files, self.folder)
+        theirs.bare_paths = set(log.bare)
+        if contradiction is None:
+            contradiction = write_image(theirs, self.options.to, self.file("theirs.given"))
+        applies = self.apply(start, log)
+        if contradiction is None and applies:
+            contradiction = self.judge(theirs)
+        alike = None
+        if contradiction is not None:
+            self.differences.tell("inconsistent", contradiction)
+        elif applies:
+            alike = self.compare(theirs)
+        self.tell_rest(alike, theirs, log)
+        if chain is not None:
+            print(self.advance(chain, start.link, theirs, log) if applies else start.link)
+        return self.verdict(start.link.txid, theirs.txid, applies)
+
+    def file(self, name):
+        return os.path.join(self.folder, name)
+
+    def start(self, chain):
+        """The end of the chain, or else the first image."""
+        link, place = chain.found() if chain else (None, 0)
+        if link is not None:
+            if self.options.start:
+                raise Refused(f"{chain.name} goes on from TXID {link.txid}, and --from is for the first audit alone")
+            return Start(link, chain.name, place)
+        if not self.options.start:
+            raise Refused("--from FROM has to name the image that the log goes on from")
+        name = self.file("ours.given")
+        dump, contradiction = read_image(self.options.start)
+        contradiction = contradiction or low_number(dump) or write_image(dump, self.options.start, name)
+        if contradiction is not None:
+            raise Refused(f"{self.options.start} contradicts itself: {contradiction}")
+        return Start(Link(dump.txid, dump.txid, 0, dump.cluster, sorted(dump.bare_paths)), name, 0)
+
+    def check_pair(self, link, theirs, contradiction):
+        """Refuses a second image of another cluster, and one that is not behind the first."""
+        if theirs.numbers is None:
+            raise Refused(f"{self.options.to} contradicts itself: {contradiction}")
+        if theirs.cluster != link.cluster:
+            raise Refused(f"two clusters: namespaceId {link.cluster}, and {theirs.cluster} in {self.options.to}")
+        if theirs.txid <= link.txid:
+            raise Refused(f"{self.options.to} is of TXID {theirs.txid}, and the log goes on behind TXID {link.txid}")
+
+    def apply(self, start, log):
+        """Lets the program follow the log. Answers whether it applies to the image that it goes on from."""
+        if log.fault is not None:
+            self.differences.tell("fault", log.fault)
+            return False
+        header = start.header()
+        raised = log.edits.issued_before()
+        if raised is not None:
+            last = f"the last stamp of the image of TXID {start.link.txid}, {header['last_gen']}"
+            self.notes.append(f"{last}, is taken as {raised}: the log gives this one, and did not issue it")
+            header["last_gen"] = raised
+        with start.open() as image, open(log.name, "rb") as lines:
+            image.readline()
+            fault = self.program.image_after([io.BytesIO(image_line(header)), image, lines], self.file("ours"))
+        if fault is None:
+            return True
+        if fault.line is not None:
+            with start.open() as image:
+                raise Refused(f"the image of TXID {start.link.txid} contradicts itself: {told_of(fault, image)}")
+        self.differences.tell("fault", f"TXID {log.txid_of(fault)}: {fault.meaning}")
+        return False
+
+    def judge(self, theirs):
+        """Lets the program read and print the second image. Answers how that contradicts itself, or None."""
+        with open(self.file("theirs.given"), "rb") as image:
+            fault = self.program.image_after([image], self.file("theirs"))
+            if fault is None:
+                return None
+            image.seek(0)
+            return told_of(fault, image)
+
+    def compare(self, theirs):
+        """Answers how many directories, files and blocks are alike, and tells what differs."""
+        with open(self.file("ours"), "rb") as ours, open(self.file("theirs"), "rb") as other:
+            header = json.loads(ours.readline())
+            other.readline()
+            self.compare_numbers(header, theirs)
+            places = ours.tell(), other.tell()
+            alike = alike_texts(ours, other)
+            if alike is None:
+                ours.seek(places[0])
+                other.seek(places[1])
+                alike = compare(ours, other, self.differences)
+            return alike
+
+    def compare_numbers(self, header, theirs):
+        """Compares the last block id, and the last stamp.
+
+        A standby may save a lower stamp than the log issued, until a block comes with it.
+        """
+        if header["last_block"] != theirs.last_block:
+            self.differences.tell("last_block", header["last_block"], theirs.last_block)
+        if not theirs.greatest_gen <= theirs.last_gen <= header["last_gen"]:
+            self.differences.tell("last_gen", header["last_gen"], theirs.last_gen)
+        elif theirs.last_gen != header["last_gen"]:
+            note = f"{theirs.last_gen} in the image, {header['last_gen']} in the log"
+            self.notes.append(f"not compared, the last stamp: {note}, with which no block has come")
+
+    def tell_rest(self, alike, theirs, log):
+        """Tells what is alike, and what was not compared."""
+        if self.differences.left():
+            print(f".. and {self.differences.left():,} more")
+        if alike is None:
+            return
+        count = {name: f"{alike[name]:,}" for name in ("directories", "files", "blocks")}
+        print(f"alike: {count['directories']} directories, {count['files']} files with {count['blocks']} blocks")
+        print(counted("not compared, of the image", theirs.passed))
+        print(counted("not compared, records of the log", log.conversion.left_out))
+        print(counted("not compared, members of other records", log.edits.passed))
+        for what, number in (
+            ("inodes that only snapshots hold", theirs.only_in_snapshots),
+            ("files whose blocks can't be held here", len(theirs.bare_paths)),
+            ("records with a carriage return in a name, taken as a line feed", log.edits.carriage_returns),
+            ("names of the image with a line feed, which may be a carriage return", theirs.with_line_feeds),
+        ):
+            if number:
+                print(f"not compared, {what}: {number:,}")
+        for note in self.notes:
+            print(note)
+
+    def advance(self, chain, link, theirs, log):
+        """Keeps what the program has at the second image's TXID, be that image right or wrong."""
+        link = Link(link.first, theirs.txid, link.audits + 1, link.cluster, sorted(log.bare))
+        with open(self.file("ours"), "rb") as image:
+            chain.keep(link, image)
+        return link
+
+    def verdict(self, before, txid, applies):
+        found = self.differences.summary()
+        if not found:
+            print(f"the same: the image of TXID {txid} is what the log makes of the image of TXID {before}")
+        elif not applies:
+            print(f"differs: the log does not apply to the image of TXID {before}")
+        else:
+            print(f"differs: the image of TXID {txid} is not what the log makes of the image of TXID {before}: {found}")
+        return not found
+
+
+def told_of(fault, image):
+    """The line of an image that a fault is about, and what the fault means."""
+    for number, line in enumerate(image, 1):
+        if number == fault.line:
+            return f"{line[:300].decode('utf-8', 'replace').strip()}: {fault.meaning}"
+    return fault.meaning

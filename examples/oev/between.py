@@ -1,0 +1,63 @@
+"""The log between two images, as lines that the program reads."""
+import contextlib
+import json
+import os
+
+from audited import Audited
+from bare import bare_paths
+from conversion import Conversion
+from formats import DoesNotApply, Refused
+from log import Log, Map, Whole, pairs_in
+from overlap import merged
+
+# The program holds a segment until it has ended.
+SEGMENT_BYTES = 4_000_000
+
+
+class Converted:
+    """The lines, in a file, with what is to be said of them."""
+
+    def __init__(self, start, until, files, folder):
+        self.name = os.path.join(folder, "lines")
+        self.map = os.path.join(folder, "map")
+        header = start.header()
+        self.edits = Audited(header["last_gen"])
+        self.tree = start.tree()
+        # How the log can't be followed, or None.
+        self.fault = None
+        with open(self.name, "wb") as lines, open(self.map, "w") as numbers:
+            # The program's number of a transaction is not its TXID, once the log has been followed.
+            log = Log(Whole(lines, SEGMENT_BYTES), header["txid"], 2, Map(numbers))
+            self.conversion = Conversion(self.tree, log, (), self.edits.edits_of)
+            self.conversion.begin_after(start.link.txid)
+            try:
+                self.take(files, until)
+            except DoesNotApply as found:
+                self.fault = str(found)
+        self.bare = bare_paths(self.tree)
+
+    def take(self, files, until):
+        """Converts the records up to a TXID, which the log has to reach."""
+        with contextlib.closing(merged(files)) as records:
+            for record in records:
+                if record.txid > until:
+                    break
+                self.conversion.take(record)
+        self.conversion.finish()
+        if self.conversion.last < until:
+            raise Refused(f"the log ends at TXID {self.conversion.last}, and the second image is of TXID {until}")
+
+    def txid_of(self, fault):
+        """The cluster's TXID of what a fault is about: a transaction, or the first one of a segment."""
+        number = fault.txid or self.number_of(fault.segment)
+        return next((txid for txid, new in pairs_in(self.map) if new == str(number)), "unknown")
+
+    def number_of(self, segment):
+        """The number of the first line of a segment. Segments are counted from 1, by their end marks."""
+        ended = 0
+        with open(self.name, "rb") as lines:
+            for line in lines:
+                if ended == segment - 1:
+                    return json.loads(line)["txid"]
+                ended += json.loads(line)["op"] == "OP_END_LOG_SEGMENT"
+        return None

@@ -1,0 +1,145 @@
+"""An image as an audit takes it: with snapshots, bare files and names with carriage returns, which real clusters have.
+
+Snapshots change no live name. What only they hold is counted, and so is every element that nothing here stands for, by
+the name that it has in the dump: an element of a later Hadoop shows itself.
+"""
+from bare import BARE, has_old_block, is_bare
+from formats import FIRST_BLOCK_ID, FIRST_GEN, Refused
+from fsimage import Dump, Inconsistent, blocks_in, image_lines, is_striped
+
+REFERENCE = ("INodeReferenceSection", "ref")
+
+# What is taken of each element.
+TAKEN = {
+    "NameSection": {"genstampV1Limit", "genstampV2", "lastAllocatedBlockId", "namespaceId", "txid"},
+    "inode": {"blocks", "file-under-construction", "id", "name", "replication", "type"},
+    "blocks": {"block"},
+    "block": {"genstamp", "id", "numBytes"},
+    "file-under-construction": set(),
+    "directory": {"child", "parent", "refChild"},
+    "ref": {"referredId"},
+}
+
+
+class Checkpoint(Dump):
+    """An image of a real cluster. `bare_paths` are the files that are bare in the log, to which it adds its own."""
+
+    def __init__(self):
+        super().__init__()
+        self.cluster = None
+        self.bare_paths = set()
+        # The inode that each reference stands for, in the order of the dump, and the references of each directory.
+        self.references = []
+        self.referring = {}
+        self.snapshots_count = 0
+        self.only_in_snapshots = 0
+        self.with_line_feeds = 0
+        self.first_gen = 0
+        self.readers[REFERENCE] = self.reference
+
+    def take_numbers(self, section):
+        super().take_numbers(section)
+        self.cluster = section.number("namespaceId") if section.find("namespaceId") else None
+        # Blocks of layouts before this limit have stamps below it.
+        self.first_gen = section.number("genstampV1Limit") if section.find("genstampV1Limit") else 0
+        self.pass_over(section)
+
+    def check_whole(self):
+        super().check_whole()
+        if self.cluster is None:
+            raise Refused("namespaceId is missing")
+
+    def pass_over(self, element):
+        """Counts what is not taken of an element."""
+        for child in element.children:
+            if child.name not in TAKEN[element.name]:
+                self.passed[f"{element.name}/{child.name}"] += 1
+
+    def inode(self, element):
+        super().inode(element)
+        self.pass_over(element)
+        self.with_line_feeds += "\n" in element.get("name").text
+
+    def file_with_blocks(self, inode):
+        blocks = blocks_in(inode)
+        for element in (*inode.all("blocks"), *inode.all("file-under-construction"), *blocks):
+            self.pass_over(element)
+        if is_striped(inode) or has_old_block(blocks, "id", "genstamp", self.first_gen):
+            return BARE
+        return super().file_with_blocks(inode)
+
+    def snapshots(self, count):
+        self.snapshots_count = count.value()
+
+    def reference(self, element):
+        self.references.append(element.number("referredId"))
+        self.pass_over(element)
+
+    def directory(self, element):
+        self.children.setdefault(element.number("parent"), []).extend(element.numbers("child"))
+        self.pass_over(element)
+        places = element.numbers("refChild")
+        if places:
+            self.referring.setdefault(element.number("parent"), []).extend(places)
+
+    def referred(self, inode_id):
+        children = []
+        for place in self.referring.pop(inode_id, ()):
+            if place >= len(self.references):
+                told = f"inode {inode_id} has the refChild {place}, and the references are {len(self.references)}"
+                raise Inconsistent(told)
+            child = self.references[place]
+            children.append((self.known(child).name, child))
+        return children
+
+    def check_all_taken(self):
+        """What the root does not lead to is held by snapshots alone, if there are any."""
+        if not self.snapshots_count:
+            super().check_all_taken()
+        self.only_in_snapshots = sum(inode is not None for inode in self.inodes.values())
+        for inode_id in (*self.children, *self.referring):
+            if inode_id not in self.inodes:
+                raise Inconsistent(f"inode {inode_id} is missing")
+
+    def row(self, path, file):
+        if is_bare(file) or path in self.bare_paths:
+            self.bare_paths.add(path)
+            return BARE
+        return super().row(path, file)
+
+
+def read_image(name):
+    """An image, and how it contradicts itself, or None."""
+    dump = Checkpoint()
+    try:
+        with open(name, "rb") as file:
+            dump.read(file)
+    except Inconsistent as found:
+        return dump, str(found)
+    except Refused as refused:
+        raise Refused(f"{name}: {refused}") from None
+    return dump, None
+
+
+def low_number(dump):
+    """How an image contradicts itself if its last stamp is below that of a block, or what no NameNode has; or None."""
+    if dump.last_gen < max(dump.greatest_gen, FIRST_GEN - 1):
+        return f"its last stamp is {dump.last_gen}, below that of a block, {dump.greatest_gen}, or the least"
+    if dump.last_block < FIRST_BLOCK_ID - 1:
+        return f"its last id is {dump.last_block}, below the least"
+    return None
+
+
+def write_image(dump, name, output):
+    """Writes an image as this project has it. Answers how it contradicts itself, or None."""
+    # The program takes no image with such a last id or stamp. What is wrong with it is told beside what else differs.
+    last_block = max(dump.last_block, FIRST_BLOCK_ID - 1)
+    last_gen = max(dump.last_gen, dump.greatest_gen, FIRST_GEN - 1)
+    try:
+        with open(output, "wb") as file:
+            file.writelines(image_lines(dump, last_block, last_gen, dump.txid))
+    except Inconsistent as found:
+        return str(found)
+    except Refused as refused:
+        raise Refused(f"{name}: {refused}") from None
+    return None

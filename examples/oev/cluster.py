@@ -1,0 +1,323 @@
+"""A NameNode for the trials of audits. It makes the records of a log, and the image that a standby has at each TXID.
+
+It does with each record what Hadoop's loader does, and shares no code with the converters but the elements of dumps.
+"""
+from xml.sax.saxutils import escape
+
+from cases import member, record
+
+CLUSTER = 1_523_048_716
+ROOT_ID = 16_385
+FIRST_ID = 1_073_741_825
+FIRST_STAMP = 1_001
+FULL = 134_217_728
+
+
+class Inode:
+    def __init__(self, inode_id, name, parent):
+        self.id = inode_id
+        self.name = name
+        self.parent = parent
+        # Whether a snapshot has it, and whether it has it under another name, so that its directory refers to it.
+        self.in_snapshot = False
+        self.is_referred = False
+
+    def path(self):
+        return "" if self.parent is None else f"{self.parent.path()}/{self.name}"
+
+
+class Directory(Inode):
+    def __init__(self, *inode):
+        super().__init__(*inode)
+        self.children = {}
+
+
+class File(Inode):
+    def __init__(self, *inode):
+        super().__init__(*inode)
+        self.replication = 3
+        self.closed = False
+        self.policy = 0
+        # Each block is a list of its id, stamp and length.
+        self.blocks = []
+        # The stamp of a recovery that was begun, and the length that it will give the last block.
+        self.recovery = None
+
+
+def escaped(text):
+    """A name as `hdfs oiv` prints it: a carriage return stands there as such."""
+    return escape(text.replace("\\", "\\005c;"))
+
+
+def named(name, text):
+    """A member that has a path, as `hdfs oev` prints it."""
+    return member(name, escaped(text).replace("\r", "&#13;"))
+
+
+class Cluster:
+    """The namespace, with its records and its images so far. `is_late` is a standby that learns of stamps by blocks."""
+
+    def __init__(self, is_late=False):
+        self.is_late = is_late
+        self.txid = 0
+        self.root = Directory(ROOT_ID, "", None)
+        self.last_inode = ROOT_ID
+        self.last_block = FIRST_ID - 1
+        self.last_stamp = FIRST_STAMP - 1
+        self.seen_stamp = FIRST_STAMP - 1
+        self.snapshots = 0
+        # Inodes that only snapshots hold.
+        self.deleted = []
+        # Blocks of old layouts have stamps below this one.
+        self.stamp_limit = 0
+        self.records = []
+        self.images = {}
+
+    def log(self, opcode, *members):
+        """Writes a record. The image at the TXID before it is what was made by then."""
+        self.keep_image()
+        self.txid += 1
+        self.records.append((self.txid, record(opcode, self.txid, *members)))
+
+    def keep_image(self):
+        if self.txid:
+            self.images[self.txid] = self.image()
+
+    def log_path(self, opcode, node, *members):
+        self.log(opcode, named("PATH", node.path() or "/"), *members)
+
+    def begin_segment(self):
+        self.log("OP_START_LOG_SEGMENT")
+
+    def end_segment(self):
+        self.log("OP_END_LOG_SEGMENT")
+
+    def new_id(self):
+        self.last_inode += 1
+        return self.last_inode
+
+    def make_directory(self, parent, name):
+        node = Directory(self.new_id(), name, parent)
+        self.log_path("OP_MKDIR", node, member("TIMESTAMP", 1), member("INODEID", node.id))
+        parent.children[name] = node
+        return node
+
+    def create(self, parent, name, replication=3, policy=0):
+        node = File(self.new_id(), name, parent)
+        node.replication, node.policy = replication, policy
+        members = member("REPLICATION", 0 if policy else replication), member("OVERWRITE", "true")
+        self.log_path("OP_ADD", node, *members, member("ERASURE_CODING_POLICY_ID", policy))
+        if name in parent.children:
+            self.forget(parent.children[name])
+        parent.children[name] = node
+        return node
+
+    def new_stamp(self):
+        self.log("OP_SET_GENSTAMP_V2", member("GENSTAMPV2", self.last_stamp + 1))
+        self.last_stamp += 1
+        return self.last_stamp
+
+    def new_block_id(self, is_striped=False):
+        if is_striped:
+            group = -(2**63) + 16 * self.txid
+            self.log("OP_ALLOCATE_BLOCK_ID", member("BLOCK_ID", group))
+            return group
+        self.log("OP_ALLOCATE_BLOCK_ID", member("BLOCK_ID", self.last_block + 1))
+        self.last_block += 1
+        return self.last_block
+
+    def give(self, *blocks):
+        """A standby learns of the stamps of blocks."""
+        self.seen_stamp = max([self.seen_stamp, *(stamp for _, stamp, _ in blocks)])
+
+    def add_block(self, file, length_before=FULL):
+        """A new last block. The one before it gets its length."""
+        block_id = self.new_block_id(bool(file.policy))
+        new = [block_id, self.new_stamp(), 0]
+        before = [[block_id, stamp, length_before] for block_id, stamp, _ in file.blocks[-1:]]
+        self.log_path("OP_ADD_BLOCK", file, *map(block_member, [*before, new]))
+        file.blocks[-1:] = [*before, new]
+        self.give(new)
+
+    def close(self, file, length):
+        """The last block gets its length, and the stamp of a recovery where one was begun."""
+        blocks = [list(block) for block in file.blocks]
+        if blocks:
+            stamp = file.recovery or blocks[-1][1]
+            blocks[-1] = [blocks[-1][0], stamp, length]
+        self.log_path("OP_CLOSE", file, *map(block_member, blocks))
+        file.blocks, file.closed, file.recovery = blocks, True, None
+        self.give(*blocks)
+
+    def append(self, file):
+        self.log_path("OP_APPEND", file, member("NEWBLOCK", "false"))
+        file.closed = False
+        if file.blocks:
+            self.update(file)
+
+    def update(self, file):
+        """A pipeline begins anew: the last block gets a new stamp, one of old layouts if the block is of one."""
+        block_id, stamp, length = file.blocks[-1]
+        if stamp < self.stamp_limit:
+            self.log("OP_SET_GENSTAMP_V1", member("GENSTAMP", stamp + 1))
+        blocks = [*file.blocks[:-1], [block_id, stamp + 1 if stamp < self.stamp_limit else self.new_stamp(), length]]
+        self.log_path("OP_UPDATE_BLOCKS", file, *map(block_member, blocks))
+        file.blocks = blocks
+        self.give(*blocks)
+
+    def begin_recovery(self, file):
+        """The lease of a file is recovered: a stamp is issued, and comes with the block when the file is closed."""
+        file.recovery = self.new_stamp()
+
+    def truncate(self, file, length):
+        """A file is cut. Inside a block it stays open, until a DataNode has cut the block."""
+        kept, size = 0, 0
+        while size < length:
+            size += file.blocks[kept][2]
+            kept += 1
+        names = named("SRC", file.path()), member("NEWLENGTH", length)
+        if size == length:
+            self.log("OP_TRUNCATE", *names)
+            file.blocks = file.blocks[:kept]
+            return
+        last = file.blocks[kept - 1]
+        block_id = self.new_block_id() if file.in_snapshot else last[0]
+        new = [block_id, self.new_stamp(), last[2] - (size - length)]
+        self.log("OP_TRUNCATE", *names, block_member([*new[:2], 0 if file.in_snapshot else last[2]]))
+        file.closed = False
+        if file.in_snapshot:
+            file.blocks = [*file.blocks[: kept - 1], new]
+            self.give(new)
+        else:
+            file.blocks = file.blocks[:kept]
+            file.recovery = new[1]
+
+    def concat(self, target, sources):
+        names = "".join(named(f"SOURCE{place}", file.path()) for place, file in enumerate(sources, 1))
+        self.log("OP_CONCAT_DELETE", named("TRG", target.path()), member("SOURCES", names))
+        for source in sources:
+            target.blocks += source.blocks
+            del source.parent.children[source.name]
+
+    def rename(self, node, parent, name, options=None):
+        names = named("SRC", node.path()), named("DST", f"{parent.path()}/{name}")
+        if options is None:
+            self.log("OP_RENAME_OLD", *names)
+        else:
+            self.log("OP_RENAME", *names, member("OPTIONS", options))
+        node.is_referred = node.in_snapshot
+        if name in parent.children:
+            self.forget(parent.children[name])
+        del node.parent.children[node.name]
+        node.parent, node.name = parent, name
+        parent.children[name] = node
+
+    def delete(self, node):
+        self.log_path("OP_DELETE", node)
+        self.forget(node)
+
+    def forget(self, node):
+        """A node leaves the live names. A snapshot may hold it, or what lies below it."""
+        self.hold(node)
+        del node.parent.children[node.name]
+
+    def hold(self, node):
+        if node.in_snapshot:
+            self.deleted.append(node)
+        else:
+            for child in getattr(node, "children", {}).values():
+                self.hold(child)
+
+    def set_replication(self, file, replication):
+        self.log_path("OP_SET_REPLICATION", file, member("REPLICATION", replication))
+        file.replication = replication
+
+    def create_snapshot(self, directory):
+        self.log("OP_ALLOW_SNAPSHOT", named("SNAPSHOTROOT", directory.path()))
+        self.log("OP_CREATE_SNAPSHOT", named("SNAPSHOTROOT", directory.path()), member("SNAPSHOTNAME", "s"))
+        self.snapshots += 1
+        for node in below(directory):
+            node.in_snapshot = True
+
+    def touch(self, node):
+        """A record that changes nothing here."""
+        self.log_path("OP_TIMES", node, member("MTIME", 1), member("ATIME", 1))
+
+    def image(self):
+        return Dump(self).text()
+
+
+class Dump:
+    """An image as `hdfs oiv -p XML` prints it."""
+
+    def __init__(self, cluster):
+        self.cluster = cluster
+        live = [cluster.root, *below(cluster.root)]
+        self.nodes = live + [node for top in cluster.deleted for node in (top, *below(top))]
+        self.referred = [node for node in self.nodes if node.is_referred]
+
+    def text(self):
+        stamp = self.cluster.seen_stamp if self.cluster.is_late else self.cluster.last_stamp
+        numbers = member("namespaceId", CLUSTER) + member("genstampV1", 1000) + member("genstampV2", stamp)
+        numbers += member("genstampV1Limit", self.cluster.stamp_limit)
+        numbers += member("lastAllocatedBlockId", self.cluster.last_block)
+        inodes = "\n".join(map(inode_member, self.nodes))
+        head = member("lastInodeId", self.cluster.last_inode) + member("numInodes", len(self.nodes))
+        parts = (
+            member("version", member("layoutVersion", -66) + member("onDiskVersion", 1)),
+            member("NameSection", numbers + member("txid", self.cluster.txid)),
+            member("INodeSection", head + inodes),
+            member("INodeReferenceSection", "".join(map(self.references_of, self.referred))),
+            member("SnapshotSection", member("snapshotCounter", 9) + member("numSnapshots", self.cluster.snapshots)),
+            member("INodeDirectorySection", "\n".join(filter(None, map(self.directory, self.nodes)))),
+            member("SecretManagerSection", member("currentId", 0) + member("numTokens", 0)),
+        )
+        return member("fsimage", "\n".join(parts))
+
+    @staticmethod
+    def references_of(node):
+        """A snapshot refers to an inode by the name that it has there, and the directory that has it now without."""
+        return member("ref", member("referredId", node.id) + member("name", "x")) + member(
+            "ref", member("referredId", node.id) + member("dstSnapshotId", 1)
+        )
+
+    def directory(self, node):
+        if not isinstance(node, Directory) or not node.children:
+            return ""
+        # A NameNode compares the bytes of names as signed.
+        names = sorted(node.children, key=lambda name: [(byte + 128) % 256 for byte in name.encode()])
+        children = [node.children[name] for name in names]
+        listed = "".join(member("child", child.id) for child in children if not child.is_referred)
+        referred = [2 * self.referred.index(child) + 1 for child in children if child.is_referred]
+        listed += "".join(member("refChild", place) for place in referred)
+        return member("directory", member("parent", node.id) + listed)
+
+
+def below(directory):
+    """All that lies below a directory, each behind the directory that has it."""
+    for child in getattr(directory, "children", {}).values():
+        yield child
+        yield from below(child)
+
+
+def block_member(block):
+    block_id, stamp, length = block
+    return member("BLOCK", member("BLOCK_ID", block_id) + member("NUM_BYTES", length) + member("GENSTAMP", stamp))
+
+
+def inode_member(node):
+    head = member("id", node.id) + member("type", type(node).__name__.upper()) + member("name", escaped(node.name))
+    head += member("mtime", 1) + member("permission", "hdfs:supergroup:0755")
+    if isinstance(node, Directory):
+        return member("inode", head + member("nsquota", -1) + member("dsquota", -1))
+    members = head + member("replication", 0 if node.policy else node.replication)
+    blocks = "".join(
+        member("block", member("id", block_id) + member("genstamp", stamp) + member("numBytes", length))
+        for block_id, stamp, length in node.blocks
+    )
+    members += member("blocks", blocks) if blocks else ""
+    if node.policy:
+        members += member("erasureCodingPolicyId", node.policy) + member("blockType", "STRIPED")
+    if not node.closed:
+        members += member("file-under-construction", member("clientName", "c"))
+    return member("inode", members)

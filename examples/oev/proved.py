@@ -1,0 +1,88 @@
+"""Runs the proved program on an image and the lines of a log, and takes the image that it prints of what it has then.
+
+The program runs once, as a service: it is given the image, the lines and the word `checkpoint`. What it tells may be a
+finding, of an image or of a log. Whatever else keeps it from an image leaves nothing to be said, and is Refused.
+"""
+import os
+import subprocess
+import shutil
+from typing import NamedTuple, Optional
+
+from formats import Refused
+
+ANSWER_BYTES = 65_536
+
+# A line of the image has no JSON, or more than it may have in a namespace: its paths, its blocks, their order.
+OF_IMAGES = {"62", "63"}
+
+
+class Fault(NamedTuple):
+    """What the program told of an image or a log, and what it means."""
+
+    meaning: str
+    # What it is about: the line of an image, or the number of a transaction of a log, or one of its segments.
+    line: Optional[int] = None
+    txid: Optional[int] = None
+    segment: Optional[int] = None
+
+
+class Program:
+    """The program, by the name of its file."""
+
+    def __init__(self, name):
+        self.name = os.path.abspath(name)
+        if not os.access(self.name, os.X_OK):
+            raise Refused(f"there is no program {name}: build it by `rt run < /dev/null` in crates/nn_standby")
+
+    def image_after(self, pieces, printed):
+        """Gives the program these files, each from where it is read, and prints its image to a file.
+
+        Answers the fault of an image or of a log, or None where the image is whole.
+        """
+        with open(printed, "wb") as output:
+            child = subprocess.Popen([self.name, "--live", "--from-image"], stdin=subprocess.PIPE, stdout=output)
+            feed(child, pieces)
+            status = child.wait()
+        if status < 0:
+            raise Refused(f"the program was killed by signal {-status}")
+        with open(printed, "rb") as answer:
+            first = answer.readline(ANSWER_BYTES)
+            if first.startswith(b"fault "):
+                return self.fault(first.decode("ascii", "replace").split())
+            if status or not first.startswith(b"{") or not is_whole(answer):
+                raise Refused(f"the program ended with status {status} and printed no whole image")
+        return None
+
+    def fault(self, words):
+        number, place = words[1], words[2:]
+        meaning = self.explained(number)
+        if number in OF_IMAGES and place[:2] == ["image", "line"]:
+            return Fault(meaning, line=int(place[2]))
+        if place[:1] == ["txid"]:
+            return Fault(meaning, txid=int(place[1]))
+        if place[:1] == ["segment"]:
+            return Fault(meaning, segment=int(place[1]))
+        raise Refused(f"the program told {' '.join(words)}: {meaning}")
+
+    def explained(self, number):
+        told = subprocess.run([self.name, "--explain", number], stdout=subprocess.PIPE, stderr=subprocess.PIPE)
+        return told.stdout.decode().strip() or f"{number}, which it does not explain"
+
+
+def feed(child, pieces):
+    """Writes files to the program. It may end before it has read them all, and its answer says why."""
+    try:
+        with child.stdin as given:
+            for piece in pieces:
+                shutil.copyfileobj(piece, given)
+            given.write(b"checkpoint\n")
+    except BrokenPipeError:
+        pass
+
+
+def is_whole(answer):
+    """Whether an answer ends with the end of an image and the end of an answer."""
+    size = answer.seek(0, os.SEEK_END)
+    answer.seek(max(0, size - 200))
+    lines = answer.read().split(b"\n")
+    return len(lines) > 2 and lines[-3].startswith(b'{"end":') and lines[-2].startswith(b"done ") and not lines[-1]

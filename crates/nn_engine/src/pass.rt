@@ -18,12 +18,10 @@ use nn_front::{Front, Loaded};
 use nn_image::ImageFault;
 use nn_scenario::{Lines, MAX_INPUT};
 use nn_shadow::Shadow;
+use nn_types::DATANODES;
 use std::alloc::{AllocError, Global};
 use std::io::Read;
 use std::marker::Model;
-
-/// The lanes of a run without threads: one for each DataNode that there can be.
-const DATANODES: u16 = 256;
 
 /// Follows an input to the reader's end. The answer is the standby at the end of its log, or why there is none. It reads on
 /// after a fault, since an input that can't be read is told first. No line is kept, and none of an image.
@@ -193,6 +191,7 @@ fn lines_from(alloc: Global, options: &Options, begin: Begin) -> Result<Lines<Li
     ensures room { IfOk result (λ lines. IsRoomy 0 (Ok lines)) }
 {
     let Begin { namespace, txid } = begin;
+    // One lane for each DataNode that there can be.
     let Ok(shadow) = Shadow::from(alloc, namespace, txid.get(), DATANODES, options.settings) else {
         return Err(AllocError);
     };

@@ -12,9 +12,8 @@ use crate::tables::put_counts;
 use nn_device::{Page, Writer};
 use nn_replicas::Figures;
 use nn_shadow::Shadow;
+use nn_types::DATANODES;
 use std::io::Write;
-
-const DATANODES: u16 = 256;
 
 /// Puts what an operator reads of a standby: `txid T` and `held H`, a line for each DataNode that sent messages, one for each
 /// count, and safe mode. It takes no memory, and a time that does not grow with the standby.

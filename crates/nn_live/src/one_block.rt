@@ -11,14 +11,13 @@ ghost use Rattle.nn_tree.specs.Listing.{lent_names};
 ghost use Rattle.nn_tree.specs.Rows.{greatest_depth};
 ghost use Rattle.nn_live.specs.Answers.{block_line, held_line, holder_lines};
 
-use crate::service::DATANODES;
 use crate::texts::{put_block, put_held};
 use nn_device::{Page, Writer};
 use nn_listing::{put_block_replicas, put_order};
 use nn_postponed::Held;
 use nn_replicas::Replicas;
 use nn_tree::{Found, Namespace, Rows};
-use nn_types::{Block, BlockId};
+use nn_types::{Block, BlockId, DATANODES};
 use std::io::Write;
 
 /// Puts the line of the file that holds the block, if one does.

@@ -16,13 +16,10 @@ use nn_device::{Page, Writer};
 use nn_listing::put_history;
 use nn_shadow::{FromFault, Shadow};
 use nn_tree::Namespace;
-use nn_types::Settings;
+use nn_types::{DATANODES, Settings};
 use std::alloc::Global;
 use std::io::Write;
 use std::marker::Model;
-
-/// DataNodes are 1 to 256.
-pub(crate) const DATANODES: u16 = 256;
 
 /// Why a line was not taken, and was not told either.
 #[derive(Clone, Copy, Debug, PartialEq, Eq)]

@@ -28,7 +28,7 @@ pub use number::{BlockId, GenerationStamp, Length, Replication, Txid};
 pub use path::{Path, PathFault, one_spelling};
 pub use profile::Profile;
 pub use replica::{Class, Replica};
-pub use report::{Kind, Message, Report};
+pub use report::{DATANODES, Kind, Message, Report};
 pub use settings::Settings;
 pub use status::{Status, due};
 pub use tx::Tx;

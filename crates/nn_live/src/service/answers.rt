@@ -14,7 +14,7 @@ ghost use Rattle.nn_live.specs.Live.{answers, does};
 ghost use Rattle.nn_live.specs.Serving.{BreaksOff, IsAtEnd, Steps, figures_seen, tables_seen};
 ghost use Rattle.nn_live.specs.declared.word.Word.TheVariants as word;
 
-use super::{DATANODES, Service, ServiceFault};
+use super::{Service, ServiceFault};
 use crate::one_block::{put_held_of, put_holder, put_orders_of, put_replicas_of};
 use crate::safety::put_unsafe_rows;
 use crate::texts::{put_counts_of, put_held, put_state, put_text};
@@ -25,7 +25,7 @@ use nn_listing::{ReadyListing, ReadyTables, put_count, put_row, put_summary};
 use nn_postponed::Held;
 use nn_replicas::SafeMode;
 use nn_tree::Rows;
-use nn_types::{BlockId, Path, Txid};
+use nn_types::{BlockId, DATANODES, Path, Txid};
 use std::alloc::{AllocError, Global};
 use std::io::Write;
 

@@ -1,5 +1,5 @@
 -- Replicas counted by class, one cell after another.
-use Rattle.std.proofs.Common.{◌≡◌, ℕ, ◌+◌, ◌<◌, ◌≤◌, Fits, w64, Bool, true, false, List, [], ◌∷◌, ◌++◌, take, length, get_or, Option, Some, None, count_by, refl, sym, ap, ◌∙◌, arith}
+use Rattle.std.proofs.Common.{◌≡◌, ℕ, ◌+◌, ◌<◌, ◌^◌, Fits, w64, Bool, true, false, List, [], ◌∷◌, ◌++◌, take, length, get_or, Option, Some, None, count_by, refl, sym, ap, ◌∙◌, arith}
 use Rattle.std.specs.Option.{option_map}
 use Rattle.std.proofs.lemmas.List.{take_more, length-take-le}
 use Rattle.std.proofs.lemmas.List.Sums.{sum_by_push, count_by-le-length}
@@ -21,12 +21,12 @@ byte_if n true h = h
 byte_if n false h = h
 
 -- one more cell
-pub one_more : (class : Class) (b : Block) (xs : List (ℕ × Cell)) (i : ℕ) (x : ℕ × Cell) (n z : ℕ) → n ≡ cells_of class b (take i xs) → i < length xs → x ≡ get_or xs i x
-    → z ≡ bool_byte (is_class class (class_at b x)) → n + z ≡ cells_of class b (take (i + 1) xs)
-one_more class b xs i x n z h l g m =
+pub one_more : (class : Class) (b : Block) (xs : List (ℕ × Cell)) (i : ℕ) (x : ℕ × Cell) (n : ℕ) → n ≡ cells_of class b (take i xs) → i < length xs → x ≡ get_or xs i x
+    → n + one_if (is_class class (class_at b x)) ≡ cells_of class b (take (i + 1) xs)
+one_more class b xs i x n h l g =
     let push : cells_of class b (take i xs ++ x ∷ []) ≡ cells_of class b (take i xs) + one_if (is_class class (class_at b x)) = sum_by_push (λ (c : ℕ × Cell). one_if (is_class class (class_at b c))) (take i xs) x in
     let taken : cells_of class b (take i xs ++ x ∷ []) ≡ cells_of class b (take (i + 1) xs) = ap (λ y. cells_of class b (take i xs ++ y ∷ [])) g ∙ ap (cells_of class b) (sym (take_more xs i x l)) in
-    omega (arith, h, push, taken, byte_if z (is_class class (class_at b x)) m)
+    omega (arith, h, push, taken)
 
 live_class : (class : Class) → is_class Live (Some class) ≡ is_live_class class
 live_class Live = refl
@@ -44,12 +44,8 @@ pub live_are : (b : Block) (cells : List (ℕ × Cell)) → cells_of Live b cell
 live_are b cells = λ i. count_by (λ (c : ℕ × Cell). live_replica b c.1.replica i) cells
 
 -- no more are counted than cells were looked at
-pub one_fits : (class : Class) (b : Block) (xs : List (ℕ × Cell)) (i n z : ℕ) (test : Bool) → n ≡ cells_of class b (take i xs) → i < length xs → Fits w64 (length xs) → z ≡ bool_byte test → Fits w64 (n + z)
-one_fits class b xs i n z test h l few m =
+pub one_fits : (class : Class) (b : Block) (xs : List (ℕ × Cell)) (i n : ℕ) → n ≡ cells_of class b (take i xs) → i < length xs → Fits w64 (length xs) → n + 1 < 2 ^ 64
+one_fits class b xs i n h l few =
     let most = count_by-le-length (λ (c : ℕ × Cell). is_class class (class_at b c)) (take i xs) in
     let taken = length-take-le i xs (omega (arith, l)) in
-    omega (arith, h, most, taken, l, few, m, one_byte test)
-  where
-    one_byte : (b : Bool) → bool_byte b ≤ 1
-    one_byte true = omega arith
-    one_byte false = omega arith
+    omega (arith, h, most, taken, l, few)

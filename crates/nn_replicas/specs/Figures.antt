@@ -16,6 +16,9 @@ use Rattle.nn_replicas.specs.Table.{BlockEntry, Table}
 use Rattle.nn_replicas.specs.Entry.{live_cells, has_cell, is_closed, is_safe}
 use Rattle.nn_replicas.specs.Calls.{total_of, safe_of}
 
+abbrev pub one_if : Bool → ℕ
+one_if b = if b then 1 else 0
+
 -- ---- Replicas by class.
 
 abbrev class_number : Class → ℕ
@@ -40,6 +43,25 @@ of_row class (Some row) cells = cells_of class row.block cells
 -- how many replicas of a block that a file holds are of this class
 abbrev pub replicas_of : Class → BlockEntry → ℕ
 replicas_of class e = of_row class e.row e.cells
+
+abbrev pub no_classes : Classes
+no_classes = record { live = 0; stale = 0; ahead = 0; wrong_length = 0 }
+
+-- with one replica more, if it is of a class
+abbrev pub with_class : Classes → Option Class → Classes
+with_class c class = record {
+  live = c.live + one_if (is_class Live class);
+  stale = c.stale + one_if (is_class Stale class);
+  ahead = c.ahead + one_if (is_class Ahead class);
+  wrong_length = c.wrong_length + one_if (is_class WrongLength class);
+}
+
+-- one replica more can be counted
+pub record HaveRoom (c : Classes) : Type 0 where
+  pub live : c.live + 1 < 2 ^ 64
+  pub stale : c.stale + 1 < 2 ^ 64
+  pub ahead : c.ahead + 1 < 2 ^ 64
+  pub wrong_length : c.wrong_length + 1 < 2 ^ 64
 
 abbrev pub classes_in : Block → List (ℕ × Cell) → Classes
 classes_in b cells = record { live = cells_of Live b cells; stale = cells_of Stale b cells; ahead = cells_of Ahead b cells; wrong_length = cells_of WrongLength b cells }
@@ -106,9 +128,6 @@ abbrev pub unsafe_from : Table → ℕ → List (ℕ × Option ℕ)
 unsafe_from t from = map (looked_at t.min) (entries_from (nat_cmp from) t.entries)
 
 -- ---- What one block adds, as the code counts it.
-
-abbrev pub one_if : Bool → ℕ
-one_if b = if b then 1 else 0
 
 abbrev pub figures_in : ℕ → BlockEntry → Figures
 figures_in min e = record {

@@ -8,7 +8,7 @@ ghost use Rattle.nn_model.specs.Counts.{class_of};
 ghost use Rattle.nn_replicas.specs.Scan.{place, is_here};
 ghost use Rattle.nn_replicas.specs.Entry.{replicas_in, orders_in, is_ordered, cell_retired, no_entry, is_idle, is_idle_cell, has_cell, with_row, with_place, with_put, with_erased, with_told, retired, stamp_in};
 ghost use Rattle.nn_replicas.specs.Calls.{reaches, with_due};
-ghost use Rattle.nn_replicas.specs.Figures.{classes_in, is_class, figures_in, too_few, one_if, grown};
+ghost use Rattle.nn_replicas.specs.Figures.{classes_in, no_classes, with_class, HaveRoom, figures_in, too_few, one_if, grown};
 
 use crate::classes::class;
 use crate::figures::Figures;
@@ -383,21 +383,51 @@ pub struct Classes {
     wrong_length: u64,
 }
 
+impl Classes {
+    fn none() -> Classes
+        ensures { result ≡ no_classes }
+    {
+        Classes {
+            live: 0,
+            stale: 0,
+            ahead: 0,
+            wrong_length: 0,
+        }
+    }
+
+    // The same with one replica more, if there is one.
+    fn with(self, class: Option<Class>) -> Classes
+        requires { HaveRoom self }
+        ensures { result ≡ with_class self class }
+    {
+        match class {
+            None | Some(Class::Building) => self,
+            Some(Class::Live) => Classes {
+                live: self.live + 1,
+                ..self
+            },
+            Some(Class::Stale) => Classes {
+                stale: self.stale + 1,
+                ..self
+            },
+            Some(Class::Ahead) => Classes {
+                ahead: self.ahead + 1,
+                ..self
+            },
+            Some(Class::WrongLength) => Classes {
+                wrong_length: self.wrong_length + 1,
+                ..self
+            },
+        }
+    }
+}
+
 fn classes_of(cells: &[Slot], block: &Block) -> Classes
     ensures { result ≡ classes_in block.now cells.now }
 {
-    let mut classes = Classes {
-        live: 0,
-        stale: 0,
-        ahead: 0,
-        wrong_length: 0,
-    };
+    let mut classes = Classes::none();
     for slot in cells {
-        let class = class_in(slot, block);
-        classes.live += u64::from(is_class(class, Class::Live));
-        classes.stale += u64::from(is_class(class, Class::Stale));
-        classes.ahead += u64::from(is_class(class, Class::Ahead));
-        classes.wrong_length += u64::from(is_class(class, Class::WrongLength));
+        classes = classes.with(class_in(slot, block));
     }
     classes
 }
@@ -410,15 +440,6 @@ fn class_in(slot: &Slot, block: &Block) -> Option<Class>
         return None;
     };
     Some(class(replica, *block))
-}
-
-fn is_class(found: Option<Class>, class: Class) -> bool
-    ensures { result ≡ is_class class found }
-{
-    match found {
-        None => false,
-        Some(found) => found == class,
-    }
 }
 
 // How many DataNodes are to delete what they have.

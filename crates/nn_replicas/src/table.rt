@@ -313,6 +313,13 @@ impl Replicas {
         Ok(orders)
     }
 
+    /// How many live replicas make a block safe.
+    pub fn min(&self) -> u16
+        ensures { result ≡ self.now.min }
+    {
+        self.min
+    }
+
     /// How many blocks, replicas and orders of each kind there are. O(1).
     pub fn figures(&self) -> Figures
         ensures { result ≡ figures_of self.now }

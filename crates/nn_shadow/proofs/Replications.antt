@@ -27,12 +27,9 @@ use Rattle.nn_model.proofs.Prefixes.{same, same_true, same_self}
 use Rattle.nn_model.proofs.Touches.{ids_has}
 use Rattle.nn_model.proofs.Wells.{not_below, blocks_stay_well_formed}
 use Rattle.nn_replicas.specs.Agreement.{replications_of, block_replications}
+use Rattle.nn_tree.proofs.Does.{file_put}
 use Rattle.nn_shadow.specs.Steps.{file_rows, file_after, rows_after}
 use Rattle.nn_shadow.proofs.Edits.{block_of_id, leaves_are_retired, named_by}
-
--- the file that an edit puts at a path
-pub file_put : (n : Namespace) (p : Path) (file : FileRow) → file_at (with_row n p (File file)) p ≡ file
-file_put n p file = ap file_or_none (lookup_put n p p (File file) ∙ ap (λ b. cond b (Some (File file)) (lookup n p)) (same_self p))
 
 -- ---- rows of a namespace
 

@@ -29,23 +29,24 @@ IsFileChanged old p new R =
 abbrev pub FileBecomes : (FileRow → FileRow → Type 0) → Path → List (Path × Form) → List (Path × Form) → Type 0
 FileBecomes R rest t w = (x : FileRow) × (y : FileRow) × (rest ≡ []) × (t ≡ ([], File x) ∷ []) × (w ≡ ([], File y) ∷ []) × R x y
 
--- the open file x got the block b at its end
-abbrev pub GetsBlock : Block → FileRow → FileRow → Type 0
-GetsBlock b x y = (x.closed ≡ false) × (y ≡ record { replication = x.replication; closed = false; blocks = x.blocks ++ b ∷ [] })
+-- the open file x got the block b at its end, and its replication is told
+abbrev pub GetsBlock : Block → ℕ → FileRow → FileRow → Type 0
+GetsBlock b replication x y = (replication ≡ x.replication) × (x.closed ≡ false) × (y ≡ record { replication = x.replication; closed = false; blocks = x.blocks ++ b ∷ [] })
 
--- The open file x got the list bs, which keeps its ids and stamps, and is closed or open now. Told are what that touched, and the list before.
+-- The open file x got the list bs, which keeps its ids and stamps, and is closed or open now. Told are what that touched, its replication with it, and the list before.
 abbrev pub GetsList : List Block → Bool → ℕ → Told × List Block → FileRow → FileRow → Type 0
 GetsList bs closed last told x y =
     (x.closed ≡ false) × (keeps_ids x.blocks bs ≡ true) × (keeps_stamps last x.blocks bs ≡ true)
     × (y ≡ record { replication = x.replication; closed = closed; blocks = bs })
     × (seen told.0 ≡ record { changed = map (λ b. block_row closed b) bs; retired = map (λ b. b.id) (drop (length bs) x.blocks); skipped = None })
-    × (told.1 ≡ x.blocks)
+    × (told.0.replication ≡ x.replication) × (told.1 ≡ x.blocks)
 
--- The closed file x was opened. Told are what that touched, and its blocks.
+-- The closed file x was opened. Told are what that touched, its replication with it, and its blocks.
 abbrev pub Opens : Told × List Block → FileRow → FileRow → Type 0
 Opens told x y =
     (x.closed ≡ true) × (y ≡ record { replication = x.replication; closed = false; blocks = x.blocks })
-    × (seen told.0 ≡ record { changed = map (λ b. block_row false b) x.blocks; retired = []; skipped = None }) × (told.1 ≡ x.blocks)
+    × (seen told.0 ≡ record { changed = map (λ b. block_row false b) x.blocks; retired = []; skipped = None })
+    × (told.0.replication ≡ x.replication) × (told.1 ≡ x.blocks)
 
 -- the file x got another replication
 abbrev pub GetsReplication : ℕ → FileRow → FileRow → Type 0

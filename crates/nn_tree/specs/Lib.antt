@@ -11,6 +11,7 @@ pub mod Issued
 pub mod View
 pub mod Found
 pub mod Touched
+mod TouchedRows
 pub mod Listing
 pub mod Rows
 pub mod RowsRows

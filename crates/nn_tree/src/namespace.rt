@@ -15,7 +15,7 @@ ghost use Rattle.nn_tree.specs.Sizes.{files_of, directories_of};
 ghost use Rattle.nn_model.specs.WellFormed.{IsWellFormed, HasUtf8Names};
 ghost use Rattle.nn_tree.specs.Blocks.{IsInFile};
 ghost use Rattle.nn_tree.specs.Memory.{takes_memory};
-ghost use Rattle.nn_tree.specs.Touched.{seen};
+ghost use Rattle.nn_tree.specs.Touched.{seen, file_replication};
 
 mod blocks;
 mod checks;
@@ -80,6 +80,7 @@ impl Namespace {
     pub fn apply(&mut self, edit: &Edit) -> Result<Touched, EditFault>
         ensures ok { OnOk result (applied self.old edit.now ≡ Ok self.new) }
         ensures touched { IfOk result (λ t. seen t ≡ touched self.old edit.now) }
+        ensures replication { IfOk result (λ t. t.replication ≡ file_replication self.new edit.now) }
         ensures fault { IfErr result (λ fault. IsFault fault (refusal self.old edit.now)) }
         ensures memory { IsErrOf result EditFault.OutOfMemory → refusal self.old edit.now ≡ None }
         ensures spare { IsErrOf result EditFault.OutOfMemory → takes_memory edit.now ≡ true }

@@ -6,7 +6,7 @@ ghost use Rattle.nn_model.specs.Touched.{nothing};
 ghost use Rattle.nn_tree.specs.Touched.{seen};
 
 use nn_model::BlockRow;
-use nn_types::{Block, BlockId, GenerationStamp, Length};
+use nn_types::{Block, BlockId, GenerationStamp, Length, Replication};
 use std::alloc::{AllocError, Global};
 
 /// What an edit touched: all that a table of replicas has to follow.
@@ -14,6 +14,8 @@ use std::alloc::{AllocError, Global};
 pub struct Touched {
     /// The blocks that the edit added or wrote anew, in file order, each with whether its file is closed now.
     pub changed: Vec<BlockRow>,
+    /// The replication of their file. Of an edit that writes no blocks it is 0.
+    pub replication: Replication,
     /// The ids of the blocks that left the namespace, ascending.
     pub retired: Vec<BlockId>,
     /// The first and the last of the ids that the issue of a higher one passed over.
@@ -23,16 +25,18 @@ pub struct Touched {
 impl Touched {
     /// Nothing, which takes no memory.
     pub(crate) fn nothing(alloc: Global) -> Touched
-        ensures { seen result ≡ nothing }
+        ensures touched { seen result ≡ nothing }
+        ensures replication { result.replication ≡ 0 }
     {
         Touched {
             changed: Vec::new(alloc),
+            replication: Replication::new(0).unwrap(),
             retired: Vec::new(alloc),
             skipped: None,
         }
     }
 
-    /// One block that is new.
+    /// One block that is new. Its file has still to be found.
     pub(crate) fn added(
         alloc: Global,
         id: BlockId,
@@ -47,8 +51,7 @@ impl Touched {
         })?;
         Ok(Touched {
             changed,
-            retired: Vec::new(alloc),
-            skipped: None,
+            ..Touched::nothing(alloc)
         })
     }
 
@@ -58,9 +61,11 @@ impl Touched {
         old: &[Block],
         new: &[Block],
         closed: bool,
+        replication: Replication,
     ) -> Result<Touched, AllocError>
-        ensures { IfOk result (λ t. seen t
+        ensures touched { IfOk result (λ t. seen t
             ≡ record { changed = map (λ b. block_row closed b) new.now; retired = map (λ b. b.id) (drop (length new.now) old.now); skipped = None }) }
+        ensures replication { IfOk result (λ t. t.replication ≡ replication) }
     {
         let mut changed = Vec::with_capacity(alloc, new.len())?;
         push_rows(&mut changed, new, closed)?;
@@ -68,43 +73,49 @@ impl Touched {
         push_ids(&mut retired, past(old, new))?;
         Ok(Touched {
             changed,
+            replication,
             retired,
             skipped: None,
         })
     }
 
     /// The blocks of a file that is open again.
-    pub(crate) fn opened(alloc: Global, blocks: &[Block]) -> Result<Touched, AllocError>
-        ensures { IfOk result (λ t. seen t ≡ record nothing { changed = map (λ b. block_row false b) blocks.now }) }
+    pub(crate) fn opened(
+        alloc: Global,
+        blocks: &[Block],
+        replication: Replication,
+    ) -> Result<Touched, AllocError>
+        ensures touched { IfOk result (λ t. seen t ≡ record nothing { changed = map (λ b. block_row false b) blocks.now }) }
+        ensures replication { IfOk result (λ t. t.replication ≡ replication) }
     {
         let mut changed = Vec::with_capacity(alloc, blocks.len())?;
         push_rows(&mut changed, blocks, false)?;
         Ok(Touched {
             changed,
-            retired: Vec::new(alloc),
-            skipped: None,
+            replication,
+            ..Touched::nothing(alloc)
         })
     }
 
     /// Ids that left the namespace.
     pub(crate) fn deleted(alloc: Global, retired: Vec<BlockId>) -> Touched
-        ensures { seen result ≡ record nothing { retired = retired.items } }
+        ensures touched { seen result ≡ record nothing { retired = retired.items } }
+        ensures replication { result.replication ≡ 0 }
     {
         Touched {
-            changed: Vec::new(alloc),
             retired,
-            skipped: None,
+            ..Touched::nothing(alloc)
         }
     }
 
     /// The ids between the last one that was issued and a higher one.
     pub(crate) fn issued(alloc: Global, last: BlockId, id: BlockId) -> Touched
-        ensures { seen result ≡ record nothing { skipped = if nat_lt (last + 1) id then Some (last + 1, id - 1) else None } }
+        ensures touched { seen result ≡ record nothing { skipped = if nat_lt (last + 1) id then Some (last + 1, id - 1) else None } }
+        ensures replication { result.replication ≡ 0 }
     {
         Touched {
-            changed: Vec::new(alloc),
-            retired: Vec::new(alloc),
             skipped: between(last, id),
+            ..Touched::nothing(alloc)
         }
     }
 }

@@ -3,6 +3,7 @@
 ghost use Rattle.std.specs.Prelude.{◌≡◌, ◌≢◌, None, OnOk, OnErr, IfOk, false, []};
 ghost use Rattle.nn_types.specs.declared.edit.Edit.TheVariants as edit;
 ghost use Rattle.nn_types.specs.LawfulEdit.{IsTypedEdit};
+ghost use Rattle.nn_model.specs.Namespace.{file_at};
 ghost use Rattle.nn_model.specs.Apply.{refusal, first, list_checks, with_blocks};
 ghost use Rattle.nn_model.specs.Touched.{listed};
 ghost use Rattle.nn_tree.specs.Does.{Does};
@@ -115,16 +116,17 @@ impl Namespace {
             block: empty_block(id, stamp),
             closed: false,
         };
-        let Ok(touched) = Touched::added(self.alloc, id, stamp) else {
+        let Ok(mut touched) = Touched::added(self.alloc, id, stamp) else {
             return Err(Unchanged);
         };
         let Ok(_none) = self.index.insert(id, row) else {
             return Err(Unchanged);
         };
-        let Ok(()) = self.root.push_block(&names, empty_block(id, stamp)) else {
+        let Ok(replication) = self.root.push_block(&names, empty_block(id, stamp)) else {
             let _row = self.index.remove(&id);
             return Err(Unchanged);
         };
+        touched.replication = replication;
         self.issued.give(id);
         Ok(touched)
     }
@@ -154,6 +156,7 @@ impl Namespace {
         ensures applies { OnOk result (first (list_checks self.old path.now blocks.now) ≡ None) }
         ensures ok { OnOk result (self.new ≡ with_blocks self.old path.now blocks.now closed) }
         ensures touched { IfOk result (λ t. seen t ≡ listed self.old path.now blocks.now closed) }
+        ensures replication { IfOk result (λ t. t.replication ≡ (file_at self.new path.now).replication) }
         ensures err { OnErr result (self.new ≡ self.old) }
     {
         let names = path.names();

@@ -14,9 +14,13 @@ use std::alloc::Global;
 use std::mem;
 
 impl Tree {
-    /// Adds a block at the end of an open file.
-    pub(crate) fn push_block(&mut self, names: &Names<'_>, block: Block) -> Result<(), Unchanged>
-        ensures ok { IfOk result (λ done. IsFileChanged self.old names.now self.new (GetsBlock block)) }
+    /// Adds a block at the end of an open file, and tells the file's replication.
+    pub(crate) fn push_block(
+        &mut self,
+        names: &Names<'_>,
+        block: Block,
+    ) -> Result<Replication, Unchanged>
+        ensures ok { IfOk result (λ replication. IsFileChanged self.old names.now self.new (GetsBlock block replication)) }
         ensures err { OnErr result (IsSame self.old self.new) }
     {
         self.change_at(names, PushBlock { block })
@@ -76,11 +80,11 @@ struct PushBlock {
 }
 
 impl Change for PushBlock {
-    type Gives = ();
+    type Gives = Replication;
 
     ghost in_parent = { false };
 
-    ghost changes = { λ c rest t w given. FileBecomes (GetsBlock c.block) rest t w };
+    ghost changes = { λ c rest t w given. FileBecomes (GetsBlock c.block given) rest t w };
 
     ghost refuses = { λ c rest t. ⊤ };
 
@@ -88,7 +92,7 @@ impl Change for PushBlock {
         false
     }
 
-    fn change(self, tree: &mut Tree, _last: Option<&str>) -> Result<(), Unchanged> {
+    fn change(self, tree: &mut Tree, _last: Option<&str>) -> Result<Replication, Unchanged> {
         let Node::Leaf(file) = &mut tree.node else {
             return Err(Unchanged);
         };
@@ -183,9 +187,9 @@ impl Change for SetReplication {
     }
 }
 
-// Adds a block at the end of a file that is open.
-fn push_open(file: &mut FileRow, block: Block) -> Result<(), Unchanged>
-    ensures ok { OnOk result (GetsBlock block file.old file.new) }
+// Adds a block at the end of a file that is open, and tells the file's replication.
+fn push_open(file: &mut FileRow, block: Block) -> Result<Replication, Unchanged>
+    ensures ok { IfOk result (λ replication. GetsBlock block replication file.old file.new) }
     ensures err { OnErr result (file.new ≡ file.old) }
 {
     if file.closed {
@@ -194,7 +198,7 @@ fn push_open(file: &mut FileRow, block: Block) -> Result<(), Unchanged>
     let Ok(()) = file.blocks.push(block) else {
         return Err(Unchanged);
     };
-    Ok(())
+    Ok(file.replication)
 }
 
 // Gives a file that is open another list. Growth comes before change.
@@ -219,7 +223,7 @@ fn list_open(
     if !keeps_stamps(last_stamp, old, new) {
         return Err(Unchanged);
     }
-    let Ok(touched) = Touched::listed(alloc, old, new, closed) else {
+    let Ok(touched) = Touched::listed(alloc, old, new, closed, file.replication) else {
         return Err(Unchanged);
     };
     let Ok(copy) = blocks.copied() else {
@@ -238,7 +242,7 @@ fn open_closed(alloc: Global, file: &mut FileRow) -> Result<(Touched, Blocks), U
     if !file.closed {
         return Err(Unchanged);
     }
-    let Ok(touched) = Touched::opened(alloc, file.blocks.as_slice()) else {
+    let Ok(touched) = Touched::opened(alloc, file.blocks.as_slice(), file.replication) else {
         return Err(Unchanged);
     };
     let Ok(copy) = file.blocks.copied() else {

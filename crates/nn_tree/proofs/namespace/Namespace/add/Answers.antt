@@ -46,4 +46,4 @@ returns c =
     let ns = c.names.result in
     let lawful : refusal s (edit.Add p c.args.replication) ≡ None = add_applies i.root s p ns c.args.replication refl c.names.ensures.names c.in-Ok.ensures.ok.0 (c.is_replication.ensures ∙ ap not c.if-not-is_replication.false) in
     let is : seen c.make.new.self i.issued ≡ effect s (edit.Add p c.args.replication) = made i.root c.make.new.self i.issued p ns (File (record { replication = c.args.replication; closed = false; blocks = [] })) c.names.ensures.names c.in-Ok.ensures.ok.1 (subst (λ (es : List (Path × Form)). IsGrafted i.root ns (Some es) c.make.new.self) (c.new_file.ensures ∙ ap (λ (x : FileRow). ([], File x) ∷ []) c.empty_file-file.ensures) c.in-Ok.ensures.ok.2) in
-    done (edit.Add p c.args.replication) c.self.view_is lawful is c.nothing.ensures
+    done (edit.Add p c.args.replication) c.self.view_is lawful is c.nothing.ensures.touched c.nothing.ensures.replication

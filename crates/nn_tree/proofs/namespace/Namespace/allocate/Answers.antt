@@ -32,4 +32,5 @@ returns c =
     let s = seen i.root i.issued in
     let lawful : refusal s (edit.AllocateBlockId c.args.id) ≡ None = subst (λ (n : Namespace). refusal n (edit.AllocateBlockId c.args.id) ≡ None) (sym c.self.view_is) (sym c.allocate_refusal.ensures ∙ none_at _ c.if-is_some.ensures) in
     done (edit.AllocateBlockId c.args.id) c.self.view_is lawful (ap (seen i.root) c.in-Ok.ensures.ok)
-    (c.issued-touched.ensures ∙ ap (λ (last : ℕ). record { changed = []; retired = []; skipped = if nat_lt (last + 1) c.args.id then Some (last + 1, c.args.id - 1) else None }) c.last_block.ensures)
+    (c.issued-touched.ensures.touched ∙ ap (λ (last : ℕ). record { changed = []; retired = []; skipped = if nat_lt (last + 1) c.args.id then Some (last + 1, c.args.id - 1) else None }) c.last_block.ensures)
+    c.issued-touched.ensures.replication

@@ -44,7 +44,7 @@ invariant_of-self-2 c =
     ∙ ap (λ (f : FileRow). with_row s p (File f)) made.5.1
     ∙ ap (λ (f : FileRow). with_row s p (File (record { replication = f.replication; closed = false; blocks = f.blocks }))) old in
     let look : ℕ → Option BlockRow = λ id. value_at nat_cmp i.index id in
-    let listed = c.as_slice-blocks.ensures ∙ made.5.3 ∙ ap (λ (f : FileRow). f.blocks) old in
+    let listed = c.as_slice-blocks.ensures ∙ made.5.4 ∙ ap (λ (f : FileRow). f.blocks) old in
     subst (λ (n : Namespace). Holds n (λ id. value_at nat_cmp c.renew.new.index id) i.sizes) (sym is) (
       append_kept s p made.0 look (λ id. value_at nat_cmp c.renew.new.index id) c.requires.lawful applies was
           (λ q. c.renew.ensures q ∙ (λ j. renewed look (listed j) (listed j) false q)) c.self.invariant.0,
@@ -68,3 +68,4 @@ returns c =
     ∙ ap (λ (f : FileRow). with_row s p (File (record { replication = f.replication; closed = false; blocks = f.blocks }))) old in
     done (edit.Append p) c.self.view_is applies is
     (made.5.2 ∙ ap (λ (f : FileRow). record nothing { changed = map (λ b. block_row false b) f.blocks }) old)
+    (made.5.3 ∙ ap (λ (f : FileRow). f.replication) old)

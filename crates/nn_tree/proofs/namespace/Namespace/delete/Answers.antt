@@ -51,8 +51,9 @@ returns c =
     let ids : c.collect_ids.new.out.items ≡ ids_below s p =
     c.in-Ok.ensures.ids ∙ ap (λ (xs : List ℕ). xs ++ ids_of tree) c.new-ids.ensures.items
     ∙ ids_collected s p tree c.self.invariant.0.well.blocks.in_order c.in_order.ensures (λ q. sym (λ j. looks i.root s refl j (c.names-names.ensures.names j ++ q)) ∙ sub q) in
-    done (edit.Delete p) c.self.view_is lawful is (c.deleted.ensures
+    done (edit.Delete p) c.self.view_is lawful is (c.deleted.ensures.touched
     ∙ (λ j. record { changed = []; retired = (sorted_is c.collect_ids.new.out.items c.sort_unstable.new.self.items c.sort_unstable.ensures.permutation c.sort_unstable.ensures.sorted ∙ ap ascending ids) j; skipped = None }))
+    c.deleted.ensures.replication
 
 pub collect_ids-requires-clause-files : goal.collect_ids-requires-clause-files
 collect_ids-requires-clause-files c =

@@ -45,4 +45,4 @@ returns c =
     let ns = c.names.result in
     let lawful : refusal s (edit.Mkdir p) ≡ None = sym (λ j. mkdir_fault (looks i.root s refl j) (c.names.ensures.names j)) ∙ c.in-Ok.ensures.ok.0 in
     let is : seen c.make.new.self i.issued ≡ effect s (edit.Mkdir p) = made i.root c.make.new.self i.issued p ns Dir c.names.ensures.names c.in-Ok.ensures.ok.1 (subst (λ (es : List (Path × Form)). IsGrafted i.root ns (Some es) c.make.new.self) c.new_dir.ensures c.in-Ok.ensures.ok.2) in
-    done (edit.Mkdir p) c.self.view_is lawful is c.nothing.ensures
+    done (edit.Mkdir p) c.self.view_is lawful is c.nothing.ensures.touched c.nothing.ensures.replication

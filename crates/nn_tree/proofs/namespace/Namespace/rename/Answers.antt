@@ -47,4 +47,4 @@ returns c =
     let ds = c.names-2.result in
     let lawful : refusal s (edit.Rename a d) ≡ None = sym (λ j. rename_fault (looks i.root s refl j) (c.names.ensures.names j) (c.names-2.ensures.names j)) ∙ c.in-Ok.ensures.applies in
     let is : seen c.rename.new.self i.issued ≡ effect s (edit.Rename a d) = renamed_seen i.root c.rename.new.self i.issued a d ss ds c.names.ensures.names c.names-2.ensures.names c.in-Ok.ensures.free c.in-Ok.ensures.ok in
-    done (edit.Rename a d) c.self.view_is lawful is c.nothing.ensures
+    done (edit.Rename a d) c.self.view_is lawful is c.nothing.ensures.touched c.nothing.ensures.replication

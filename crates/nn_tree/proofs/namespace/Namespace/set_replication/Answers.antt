@@ -65,4 +65,4 @@ returns-clause-does c =
     file_seen i.root c.set_replication.new.self i.issued p ns made.0 made.1 c.names-names.ensures.names made.3 made.4
     ∙ ap (λ (f : FileRow). with_row s p (File f)) made.5
     ∙ ap (λ (f : FileRow). with_row s p (File (record { replication = c.args.replication; closed = f.closed; blocks = f.blocks }))) old in
-    done (edit.SetReplication p c.args.replication) c.self.view_is lawful is c.nothing.ensures
+    done (edit.SetReplication p c.args.replication) c.self.view_is lawful is c.nothing.ensures.touched c.nothing.ensures.replication

@@ -182,13 +182,6 @@ impl<W: Write + Drop, O: CheckpointOperator<W>> Checkpointing<W, O> {
         }
     }
 
-    /// The operator within.
-    pub fn operator(&self) -> &O
-        ensures { result.now ≡ self.now.operator }
-    {
-        &self.operator
-    }
-
     /// The operator within. It is told first that the checkpoint in hand, if there is one, is called off.
     pub fn into_operator(self) -> O
         ensures { (heard : Option (Heard W)) × CallsOff W.contents O.hears self.in_hand self.operator heard (record { operator = result; rows = self.rows; in_hand = None }) }

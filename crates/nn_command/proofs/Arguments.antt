@@ -1,6 +1,6 @@
 -- What the parser of the command line says of arguments.
 use Rattle.std.proofs.Common.{◌≡◌, List, ap, arith, true, refl, sym, subst, ◌∙◌, inl, inr}
-use Rattle.std.specs.Prelude.{◌⊎◌, ◌≤◌, ◌<◌, ◌^◌, ℕ, false, codes, is_some, IfNone, Option, Some, None, option_and_then, option_map}
+use Rattle.std.specs.Prelude.{◌⊎◌, ◌≤◌, ◌<◌, ◌^◌, ℕ, codes, is_some, IfNone, Option, Some, None, option_and_then, option_map}
 use Rattle.std.specs.List.{slice_get}
 use Rattle.clap.specs.Words.{App, Text, HasKind, IsAmong, fault_of, first_value, is_simple, is_simple_and_free, kind_of, matched_of, matches_of, one_of, one_text, rows_of}
 use Rattle.clap.specs.Values.{read_as}
@@ -38,6 +38,8 @@ asked_so arguments found r rows read =
       by_lines = subst (λ (o : Option Text). IsFlag o r.live) (at (codes "live")) read.by_lines;
       by_threads = subst (λ (o : Option Text). IsFlag o r.threads) (at (codes "threads")) read.by_threads;
       with_history = subst (λ (o : Option Text). IsFlag o r.options.history) (at (codes "history")) read.with_history;
+      with_summary = subst (λ (o : Option Text). IsFlag o r.options.summary) (at (codes "summary")) read.with_summary;
+      with_unsafe = subst (λ (o : Option Text). IsFlag o r.options.unsafe_blocks) (at (codes "unsafe")) read.with_unsafe;
       with_image = subst (λ (o : Option Text). IsFlag o r.options.image) (at (codes "image")) read.with_image;
       on_from_image = subst (λ (o : Option Text). IsFlag o r.options.from_image) (at (codes "from-image")) read.on_from_image;
       explains = subst (λ (o : Option Text). IsNumberOf 8 o r.explain) (at (codes "explain")) read.explains;

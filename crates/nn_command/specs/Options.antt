@@ -35,10 +35,11 @@ settings_line =
 unfoldable pub lanes_line : App
 lanes_line = with_rule (with_rule settings_line (optional_rule (codes "capacity") (Signed (pos 1) (pos 1024)))) (flag_rule (codes "threads"))
 
--- and `--history`, `--image`, `--from-image` and `--live`, and `--explain`, which may be left out, with a number from 0 to 255
+-- and `--history`, `--summary`, `--unsafe`, `--image`, `--from-image` and `--live`, and `--explain`, which may be left out, with a number from 0 to 255
 unfoldable pub command_line : App
 command_line =
-    with_rule (with_rule (with_rule (with_rule (with_rule lanes_line (flag_rule (codes "history"))) (flag_rule (codes "image"))) (flag_rule (codes "from-image"))) (flag_rule (codes "live")))
+    with_rule (with_rule (with_rule (with_rule (with_rule (with_rule (with_rule lanes_line (flag_rule (codes "history"))) (flag_rule (codes "summary"))) (flag_rule (codes "unsafe")))
+    (flag_rule (codes "image"))) (flag_rule (codes "from-image"))) (flag_rule (codes "live")))
     (optional_rule (codes "explain") (Signed (pos 0) (pos 255)))
 
 -- the text is there, and reads as this number
@@ -80,6 +81,8 @@ pub record IsRequest (text_of : Text → Option Text) (r : Request) : Type 0 whe
   pub by_threads : IsFlag (text_of (codes "threads")) r.threads
   pub by_lines : IsFlag (text_of (codes "live")) r.live
   pub with_history : IsFlag (text_of (codes "history")) r.options.history
+  pub with_summary : IsFlag (text_of (codes "summary")) r.options.summary
+  pub with_unsafe : IsFlag (text_of (codes "unsafe")) r.options.unsafe_blocks
   pub with_image : IsFlag (text_of (codes "image")) r.options.image
   pub on_from_image : IsFlag (text_of (codes "from-image")) r.options.from_image
   pub explains : IsNumberOf 8 (text_of (codes "explain")) r.explain
@@ -88,6 +91,6 @@ pub record IsRequest (text_of : Text → Option Text) (r : Request) : Type 0 whe
 abbrev pub AskAs : List Text → Request → Type 0
 AskAs arguments = IsRequest (λ name. one_of name (matches_of command_line arguments))
 
--- a service has no threads, and prints no image at its end
+-- a service has no threads, and prints nothing more at its end
 abbrev pub is_contradictory : Request → Bool
-is_contradictory r = r.live && (r.threads || r.options.image || is_some r.capacity)
+is_contradictory r = r.live && (r.threads || r.options.summary || r.options.unsafe_blocks || r.options.image || is_some r.capacity)

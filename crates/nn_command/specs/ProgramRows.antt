@@ -109,6 +109,12 @@ not_by_lines r h = true≢false h.by_lines
 not_with_a_history : (r : Request) → IsRequest nothing_stands (record r { options = record r.options { history = true } }) → ⊥
 not_with_a_history r h = true≢false h.with_history
 
+not_with_a_summary : (r : Request) → IsRequest nothing_stands (record r { options = record r.options { summary = true } }) → ⊥
+not_with_a_summary r h = true≢false h.with_summary
+
+not_with_unsafe_blocks : (r : Request) → IsRequest nothing_stands (record r { options = record r.options { unsafe_blocks = true } }) → ⊥
+not_with_unsafe_blocks r h = true≢false h.with_unsafe
+
 not_with_an_image : (r : Request) → IsRequest nothing_stands (record r { options = record r.options { image = true } }) → ⊥
 not_with_an_image r h = true≢false h.with_image
 
@@ -121,7 +127,7 @@ not_with_places r h = h.places
 -- what goes together, and what does not
 abbrev asked_for : Bool → Bool → Bool → Option ℕ → Request
 asked_for live threads image capacity = record {
-  options = record { settings = usual; history = false; image = image; from_image = false; leave_memory = true };
+  options = record { settings = usual; history = false; summary = false; unsafe_blocks = false; image = image; from_image = false; leave_memory = true };
   threads = threads;
   live = live;
   capacity = capacity;
@@ -136,6 +142,12 @@ no_service_with_threads = refl
 
 no_service_with_an_image : is_contradictory (asked_for true false true None) ≡ true
 no_service_with_an_image = refl
+
+no_service_with_a_summary : (r : Request) → is_contradictory (record r { live = true; threads = false; options = record r.options { summary = true } }) ≡ true
+no_service_with_a_summary r = refl
+
+no_service_with_unsafe_blocks : (r : Request) → is_contradictory (record r { live = true; threads = false; options = record r.options { summary = false; unsafe_blocks = true } }) ≡ true
+no_service_with_unsafe_blocks r = refl
 
 no_service_with_a_capacity : is_contradictory (asked_for true false false (Some 64)) ≡ true
 no_service_with_a_capacity = refl
@@ -275,7 +287,7 @@ unset = ((λ e. absurd (cc)), (λ e. refl))
 
 usual_asked : AskAs program_alone usual_request
 unfolding clap_on_literals settings_line lanes_line command_line
-usual_asked = record { places = none_said; by_threads = unset; by_lines = unset; with_history = unset; with_image = unset; on_from_image = unset; explains = λ n few h. h }
+usual_asked = record { places = none_said; by_threads = unset; by_lines = unset; with_history = unset; with_summary = unset; with_unsafe = unset; with_image = unset; on_from_image = unset; explains = λ n few h. h }
 
 -- the input gives no scenario lines, and its standby has no history
 abbrev printed_for_nothing : Printed

@@ -33,7 +33,12 @@ const THREADS: &str =
 const HISTORY: &str =
     "Prints the history of the standby first: each transaction and each message, as it was taken.";
 
-const IMAGE: &str = "Prints the image of the namespace too, after the tables.";
+const SUMMARY: &str =
+    "Prints what an operator reads of the standby too, after the tables: a line for each figure.";
+
+const UNSAFE: &str = "Prints the blocks that keep safe mode on too, after the tables.";
+
+const IMAGE: &str = "Prints the image of the namespace too, at the end.";
 
 const FROM_IMAGE: &str =
     "Goes on from the image that standard input begins with, or that stands there after a line image (not with --live).";
@@ -42,9 +47,10 @@ const CAPACITY: &str =
     "How many reports of a DataNode wait at a time with --threads, 1 to 1024; 64 where it is left out.";
 
 const LIVE: &str =
-    "Serves: takes lines and answers words as they come, until the input ends. Not with --threads, --capacity or --image.";
+    "Serves: takes lines and answers words as they come, until the input ends. Not with --threads, --capacity, --summary, --unsafe or --image.";
 
-const CONTRADICTORY: &str = "--live goes with neither --threads, --capacity nor --image";
+const CONTRADICTORY: &str =
+    "--live goes with neither --threads, --capacity, --summary, --unsafe nor --image";
 
 const EXPLAIN: &str =
     "Prints what the fault with this number means and what can be done, and reads no input.";
@@ -87,11 +93,16 @@ pub fn parse<'a>(alloc: Global, arguments: &'a [String]) -> Result<Request, Erro
     Ok(request)
 }
 
-// Whether options stand together that do not go together: a service has no threads, and prints no image at its end.
+// Whether options stand together that do not go together: a service has no threads, and prints nothing more at its end.
 fn is_contradictory(request: &Request) -> bool
     ensures { result ≡ is_contradictory request.now }
 {
-    request.live && (request.threads || request.options.image || request.capacity.is_some())
+    request.live
+        && (request.threads
+            || request.options.summary
+            || request.options.unsafe_blocks
+            || request.options.image
+            || request.capacity.is_some())
 }
 
 fn contradictory(alloc: Global) -> Error
@@ -126,6 +137,8 @@ fn command<'a>(alloc: Global) -> Result<Command<'a>, Error>
 {
     let command = lanes_command(alloc)?
         .arg(flag(alloc, "history", HISTORY))?
+        .arg(flag(alloc, "summary", SUMMARY))?
+        .arg(flag(alloc, "unsafe", UNSAFE))?
         .arg(flag(alloc, "image", IMAGE))?
         .arg(flag(alloc, "from-image", FROM_IMAGE))?
         .arg(flag(alloc, "live", LIVE))?
@@ -216,6 +229,8 @@ fn matched(matches: &ArgMatches<'_>) -> Option<Request>
         options: Options {
             settings,
             history: matches.get_flag("history"),
+            summary: matches.get_flag("summary"),
+            unsafe_blocks: matches.get_flag("unsafe"),
             image: matches.get_flag("image"),
             from_image: matches.get_flag("from-image"),
             leave_memory: true,

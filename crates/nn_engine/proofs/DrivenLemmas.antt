@@ -10,8 +10,6 @@ use Rattle.nn_model.specs.Lanes.{Lanes}
 use Rattle.nn_model.specs.Items.{items}
 use Rattle.nn_model.specs.Lawful.{IsLawful, IsWhole}
 use Rattle.nn_model.specs.Log.{log_of}
-use Rattle.nn_model.specs.Picture.{ShowsPicture}
-use Rattle.nn_model.specs.Stands.{tables_of}
 use Rattle.nn_lane.specs.Ends.{Reporting, Taking, got_of}
 use Rattle.nn_lane.specs.declared.fault.Refusal.{Refusal}
 use Rattle.nn_lane.specs.declared.fault.Refusal.TheVariants.{Closed, Exhausted, Full}
@@ -35,7 +33,7 @@ use Rattle.nn_engine.specs.Start.{Start}
 use Rattle.nn_engine.specs.declared.engine.Options.{Options}
 use Rattle.nn_engine.specs.Output.{Printed, after_log, fault_at, with_history}
 use Rattle.nn_engine.proofs.ToldLemmas.{is_fault}
-use Rattle.nn_engine.specs.Shown.{IsFaultOf, with_settings}
+use Rattle.nn_engine.specs.Shown.{HasFlushed, IsFaultOf, with_settings}
 
 -- ---- What a source in memory gave.
 
@@ -169,7 +167,7 @@ pub record Arrives (start : Start) (settings : Threshold) (lanes : Lanes) (segme
   pub log_end : end_of_log start.txid start.namespace segments ≡ Ok (record { last = x.last; namespace = x.namespace })
   pub lawful : IsLawful start.namespace (log_of start.txid (map (λ (s : Segment). s.txs) segments)) (items lanes) x.history
   pub whole : IsWhole start.namespace (log_of start.txid (map (λ (s : Segment). s.txs) segments)) (items lanes) x.history
-  pub picture : ShowsPicture x.namespace (items lanes) (tables_of (standby_of x))
+  pub flushed : HasFlushed lanes (standby_of x)
   pub min : x.table.min ≡ settings.min
   pub permille : x.permille ≡ settings.permille
 
@@ -186,7 +184,7 @@ module _ (settings : Threshold) (count : ℕ) (lanes : Lanes) (sources : List (L
         log_end = promoted_at_end start.namespace start.txid segments d.0 order (record { last = x.last; namespace = x.namespace }) p.ended p.log_end;
         lawful = subst (λ log. IsLawful start.namespace log (items lanes) x.history) log (subst (λ ls. IsLawful start.namespace (log_in start.txid d.0) (items ls) x.history) same p.stands.lawful);
         whole = subst (λ log. IsWhole start.namespace log (items lanes) x.history) log (subst (λ ls. IsWhole start.namespace (log_in start.txid d.0) (items ls) x.history) same p.whole);
-        picture = subst (λ ls. ShowsPicture x.namespace (items ls) (tables_of (standby_of x))) same p.picture;
+        flushed = subst (λ ls. HasFlushed ls (standby_of x)) same (record { picture = p.picture; none_held = p.none_held; last_numbers = p.stands.last_numbers; had = p.stands.had });
         min = d.7.min ∙ kept.0;
         permille = d.7.permille ∙ kept.1;
       }
@@ -203,7 +201,7 @@ module _ (settings : Threshold) (count : ℕ) (lanes : Lanes) (sources : List (L
 -- what is printed of a standby that was promoted
 abbrev pub TellsAll : Options → Contents → Printed → Type 0
 TellsAll options x p =
-    (lanes : Lanes) → ShowsPicture x.namespace (items lanes) (tables_of (standby_of x))
+    (lanes : Lanes) → HasFlushed lanes (standby_of x)
     → p ≡ with_history options.history x.history (after_log (with_settings options x.permille x.table.min) lanes (Ok (record { last = x.last; namespace = x.namespace })))
 
 -- what is told of it is the output of the log and the lanes
@@ -211,6 +209,6 @@ pub tells : (start : Start) (options : Options) (lanes : Lanes) (segments : List
     → TellsAll options x p
     → p ≡ with_history options.history x.history (after_log options lanes (end_of_log start.txid start.namespace segments))
 tells start options lanes segments x p a told =
-    told lanes a.picture
+    told lanes a.flushed
     ∙ (λ j. with_history options.history x.history (after_log (with_settings options (a.permille j) (a.min j)) lanes (Ok (record { last = x.last; namespace = x.namespace }))))
     ∙ ap (λ w. with_history options.history x.history (after_log options lanes w)) (sym a.log_end)

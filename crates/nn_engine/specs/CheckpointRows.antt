@@ -62,7 +62,7 @@ a_gap_behind_it h = let first : 6 ≤ 5 = h.1.0 in omega (arith, first)
 -- ---- What is printed.
 
 abbrev usual : Options
-usual = record { settings = record { permille = 999; min = 1 }; history = false; image = false; from_image = false; leave_memory = false }
+usual = record { settings = record { permille = 999; min = 1 }; history = false; summary = false; unsafe_blocks = false; image = false; from_image = false; leave_memory = false }
 
 abbrev printed : ℕ → List (List ℕ) → Printed
 printed status each = record { text = flat_map (λ l. l ++ newline ∷ []) each; status = status }

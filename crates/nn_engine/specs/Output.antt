@@ -1,12 +1,14 @@
 -- What the program prints for a scenario.
-use Rattle.std.specs.Prelude.{◌≡◌, ℕ, Bool, true, false, ◌&&◌, ◌==◌, if◌then◌else◌, List, [], ◌∷◌, ◌++◌, flat_map, map, Result, Ok, Err, MatchResult, codes, decimal}
+use Rattle.std.specs.Prelude.{◌≡◌, ℕ, Bool, true, false, ◌&&◌, ◌==◌, if◌then◌else◌, List, [], ◌∷◌, ◌++◌, flat_map, map, length, Result, Ok, Err, MatchResult, codes, decimal}
 use Rattle.nn_edits.specs.Fault.{number_of as line_number_of}
 use Rattle.nn_types.specs.declared.tx.Tx.{Tx}
 use Rattle.nn_model.specs.History.{History}
-use Rattle.nn_model.specs.Items.{items}
+use Rattle.nn_model.specs.Items.{items, having, had_by}
 use Rattle.nn_model.specs.Lanes.{Lanes}
 use Rattle.nn_model.specs.Lawful.{IsLawful, IsWhole}
 use Rattle.nn_model.specs.Log.{log_of}
+use Rattle.nn_model.specs.Picture.{picture_replica, picture_order}
+use Rattle.nn_model.specs.Stands.{StandbyState}
 use Rattle.nn_image.specs.Text.{image_text}
 use Rattle.nn_image.specs.Fault.{number_of as image_number_of}
 use Rattle.nn_image.specs.declared.fault.ImageFault.{ImageFault}
@@ -18,6 +20,8 @@ use Rattle.nn_listing.specs.Listing.{newline, listing_text}
 use Rattle.nn_segment.specs.LogEnd.{LogStop, stop_number, LogEnd, end_of_log}
 use Rattle.nn_scenario.specs.Scenario.{Scenario, scenario_of}
 use Rattle.nn_scenario.specs.Steps.{lanes_of}
+use Rattle.nn_listing.specs.Safety.{unsafe_text}
+use Rattle.nn_listing.specs.Summary.{summary_of, summary_text}
 use Rattle.nn_listing.specs.Tables.{tables_text}
 use Rattle.nn_listing.specs.Trail.{history_text}
 use Rattle.nn_scenario.specs.declared.steps.Step.{Step}
@@ -41,10 +45,33 @@ abbrev pub image_part : Bool → LogEnd → List ℕ
 image_part false end = []
 image_part true end = codes "image" ++ newline ∷ image_text end.namespace end.last
 
--- after the log: the namespace, the tables that it and the items of these lanes make, and its image
+-- the standby that followed the log to this end, took these messages, and flushed. Its history is no part of a summary
+abbrev pub at_end : Lanes → LogEnd → StandbyState
+at_end lanes end = record {
+  namespace = end.namespace;
+  last = end.last;
+  history = [];
+  replica = picture_replica end.namespace (items lanes);
+  has_order = picture_order end.namespace (items lanes);
+  held = [];
+  last_number = λ dn. length (lanes dn);
+  had = λ dn. having (had_by (lanes dn));
+}
+
+-- where it is asked for: what an operator reads of that standby
+abbrev pub summary_part : Options → Lanes → LogEnd → List ℕ
+summary_part options lanes end = if options.summary then summary_text (summary_of options.settings.permille options.settings.min (items lanes) (at_end lanes end)) else []
+
+-- where they are asked for: the blocks that keep safe mode on
+abbrev pub unsafe_part : Options → Lanes → LogEnd → List ℕ
+unsafe_part options lanes end = if options.unsafe_blocks then unsafe_text options.settings.min (picture_replica end.namespace (items lanes)) end.namespace.rows else []
+
+-- after the log: the namespace, the tables that it and the items of these lanes make, and what more is asked for
 abbrev pub after_log : Options → Lanes → Result LogEnd LogStop → Printed
 after_log options lanes (Ok end) = record {
-  text = (listing_text end.last end.namespace ++ tables_text options.settings.permille options.settings.min end.namespace (items lanes)) ++ image_part options.image end;
+  text =
+      (listing_text end.last end.namespace ++ tables_text options.settings.permille options.settings.min end.namespace (items lanes))
+      ++ (summary_part options lanes end ++ (unsafe_part options lanes end ++ image_part options.image end));
   status = 0;
 }
 after_log options lanes (Err stop) = fault_at (codes " txid ") (stop_number stop.cause) stop.txid
@@ -58,7 +85,7 @@ after_lines start options (Ok scenario) = after_segments start options (lanes_of
 after_lines start options (Err bad) = fault_at (codes " line ") (line_number_of bad.fault) bad.line
 
 -- what is printed for a scenario from a start: the first bad line, or the first bad segment, or the first transaction that is missing or
--- refused, or the namespace, the tables and the image. It tells of no standby: neither of what it held, nor in which order it did things.
+-- refused, or the namespace, the tables and what more is asked for. It tells of no standby: neither of what it held, nor in which order it did things.
 unfoldable pub output_of : Start → Options → List ℕ → Printed
 output_of start options text = after_lines start options (scenario_of text)
 

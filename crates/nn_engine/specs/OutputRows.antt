@@ -18,6 +18,7 @@ use Rattle.nn_segment.specs.Reading.{read_segment, fault_of}
 use Rattle.nn_scenario.specs.Cut.{segments_from, cut_from}
 use Rattle.nn_scenario.specs.Scenario.{scenario_of, lines_from}
 use Rattle.nn_listing.specs.Listing.{newline}
+use Rattle.nn_listing.specs.Summary.{summary_text, counts_text}
 use Rattle.nn_listing.specs.Tables.{datanodes}
 use Rattle.nn_image.specs.Text.{image_text, head_data, form_data, end_data}
 use Rattle.nn_engine.specs.declared.engine.Options.{Options}
@@ -26,7 +27,7 @@ use Rattle.nn_engine.specs.Start.{from_root}
 
 -- what is asked for where the command line has no words
 abbrev usual : Options
-usual = record { settings = record { permille = 999; min = 1 }; history = false; image = false; from_image = false; leave_memory = false }
+usual = record { settings = record { permille = 999; min = 1 }; history = false; summary = false; unsafe_blocks = false; image = false; from_image = false; leave_memory = false }
 
 -- lines, each with its line feed
 abbrev lines : List (List ℕ) → List ℕ
@@ -105,6 +106,29 @@ two_are_wanted : output_of from_root (record usual { settings = record { permill
     ∷ codes "blocks 1 safe 0 needed 1 mode on" ∷ [])
 unfolding output_of read_segment fault_of txids_of name_text name_digits reads_of edit_of_line end_of_txs scenario_of lines_from segments_from cut_from end_of_log digits escape_byte datanodes either_of_line either_in report_in dn_in kind_in kind_of object_in value_of tx_in op_in op_of txid_in whole_in number_in path_in profile_in edit_in blocks_in items_in block_in is_utf8 chars encode value punctuate lex content word after_number number_of scan_numeral
 two_are_wanted = refl
+
+-- The same, with a summary and the blocks that keep safe mode on, behind the tables.
+what_an_operator_reads : output_of from_root (record usual { settings = record { permille = 1000; min = 2 }; summary = true; unsafe_blocks = true }) (lines (
+    codes "{\"op\":\"OP_START_LOG_SEGMENT\",\"txid\":1}"
+    ∷ codes "{\"op\":\"OP_SET_GENSTAMP_V2\",\"gen\":1001,\"txid\":2}"
+    ∷ codes "{\"op\":\"OP_ALLOCATE_BLOCK_ID\",\"id\":1073741825,\"txid\":3}"
+    ∷ codes "{\"op\":\"OP_ADD\",\"path\":\"/f\",\"replication\":3,\"txid\":4}"
+    ∷ codes "{\"dn\":1,\"block\":1073741825,\"gen\":1001,\"len\":5,\"kind\":\"received\"}"
+    ∷ codes "{\"op\":\"OP_ADD_BLOCK\",\"gen\":1001,\"id\":1073741825,\"path\":\"/f\",\"txid\":5}"
+    ∷ codes "{\"op\":\"OP_CLOSE\",\"blocks\":[{\"gen\":1001,\"id\":1073741825,\"len\":5}],\"path\":\"/f\",\"txid\":6}"
+    ∷ codes "{\"op\":\"OP_END_LOG_SEGMENT\",\"txid\":7}" ∷ []))
+    ≡ printed 0 (codes "txid 7"
+    ∷ codes "dir \"/\""
+    ∷ codes "file \"/f\" 3 closed 1073741825:1001:5"
+    ∷ codes "replica 1073741825 1 1001 5 received live"
+    ∷ codes "blocks 1 safe 0 needed 1 mode on"
+    ∷ codes "txid 7" ∷ codes "held 0" ∷ codes "datanode 1 1 held 0"
+    ∷ codes "files 1" ∷ codes "directories 1" ∷ codes "file_blocks 1" ∷ codes "missing 0" ∷ codes "missing_of_one 0" ∷ codes "under_replicated 1" ∷ codes "over_replicated 0"
+    ∷ codes "stale 0" ∷ codes "ahead 0" ∷ codes "wrong_length 0" ∷ codes "orders 0"
+    ∷ codes "blocks 1 safe 0 needed 1 mode on"
+    ∷ codes "unsafe 1073741825 1 \"/f\"" ∷ [])
+unfolding output_of read_segment fault_of txids_of name_text name_digits reads_of edit_of_line end_of_txs scenario_of lines_from segments_from cut_from end_of_log digits escape_byte datanodes either_of_line either_in report_in dn_in kind_in kind_of object_in value_of tx_in op_in op_of txid_in whole_in number_in path_in profile_in edit_in blocks_in items_in block_in is_utf8 chars encode value punctuate lex content word after_number number_of scan_numeral summary_text counts_text
+what_an_operator_reads = refl
 
 -- With an image, of a file whose block was issued and never added.
 with_an_image : output_of from_root (record usual { image = true }) (lines (

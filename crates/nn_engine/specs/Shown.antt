@@ -1,14 +1,20 @@
 -- What the outputs of the code print, what was written of them, and options. For private clauses.
-use Rattle.std.specs.Prelude.{◌≡◌, ◌⊎◌, ℕ, Bool, true, false, List, [], ◌++◌, Result, Ok, codes}
+use Rattle.std.specs.Prelude.{◌≡◌, ◌⊎◌, ℕ, Bool, true, false, if◌then◌else◌, List, [], ◌++◌, length, Result, Ok, codes}
 use Rattle.nn_device.specs.Device.{Writing, Took}
 use Rattle.nn_model.specs.History.{History}
 use Rattle.nn_model.specs.Counts.{safe_mode_of}
+use Rattle.nn_model.specs.Items.{items, having, had_by}
 use Rattle.nn_model.specs.Lanes.{Lanes}
+use Rattle.nn_model.specs.Picture.{ShowsPicture}
+use Rattle.nn_model.specs.Stands.{StandbyState, tables_of}
 use Rattle.nn_segment.specs.LogEnd.{LogEnd, LogStop}
 use Rattle.nn_segment.specs.Segment.{Segment}
 use Rattle.nn_replicas.specs.Calls.{replica_at}
 use Rattle.nn_shadow.specs.Contents.{Contents}
 use Rattle.nn_listing.specs.Listing.{listing_text}
+use Rattle.nn_listing.specs.Counted.{summary_seen}
+use Rattle.nn_listing.specs.Safety.{unsafe_text}
+use Rattle.nn_listing.specs.Summary.{summary_text}
 use Rattle.nn_listing.specs.Tables.{blocks_line, lines_of_orders, lines_of_replicas}
 use Rattle.nn_listing.specs.Trail.{history_text}
 use Rattle.nn_scenario.specs.Steps.{lanes_of}
@@ -34,9 +40,27 @@ abbrev pub history_part : Bool → History → List ℕ
 history_part false events = []
 history_part true events = history_text events
 
+-- a standby's summary, where it is asked for
+abbrev pub summary_shown : Bool → Contents → List ℕ
+summary_shown asked s = if asked then summary_text (summary_seen s) else []
+
+-- the lines of the blocks that keep its safe mode on, where they are asked for
+abbrev pub unsafe_shown : Bool → Contents → List ℕ
+unsafe_shown asked s = if asked then unsafe_text s.table.min (replica_at s.table) s.namespace.rows else []
+
 -- the listing of a standby that has flushed, as it is asked for
 abbrev pub listed_text : Options → Contents → List ℕ
-listed_text options s = history_part options.history s.history ++ ((listing_text s.last s.namespace ++ held_tables s) ++ image_part options.image (record { last = s.last; namespace = s.namespace }))
+listed_text options s =
+    history_part options.history s.history
+    ++ ((listing_text s.last s.namespace ++ held_tables s)
+    ++ (summary_shown options.summary s ++ (unsafe_shown options.unsafe_blocks s ++ image_part options.image (record { last = s.last; namespace = s.namespace }))))
+
+-- the standby took the messages of these lanes and has flushed: it holds nothing, and shows the picture
+pub record HasFlushed (lanes : Lanes) (x : StandbyState) : Type 0 where
+  pub picture : ShowsPicture x.namespace (items lanes) (tables_of x)
+  pub none_held : x.held ≡ []
+  pub last_numbers : (dn : ℕ) → x.last_number dn ≡ length (lanes dn)
+  pub had : (dn : ℕ) → x.had dn ≡ having (had_by (lanes dn))
 
 abbrev pub shown : Options → Output → Printed
 shown options (output.Flushed s) = record { text = listed_text options s; status = 0 }

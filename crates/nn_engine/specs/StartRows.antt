@@ -83,7 +83,7 @@ image_faults = refl
 -- ---- What is printed.
 
 abbrev goes_on : Options
-goes_on = record { settings = record { permille = 999; min = 1 }; history = false; image = false; from_image = true; leave_memory = false }
+goes_on = record { settings = record { permille = 999; min = 1 }; history = false; summary = false; unsafe_blocks = false; image = false; from_image = true; leave_memory = false }
 
 abbrev usual : Options
 usual = record goes_on { from_image = false }

@@ -1,11 +1,8 @@
 //! A run: from a reader's bytes to a writer's.
 ghost use Rattle.std.specs.Prelude.{◌≡◌, ◌≤◌, ◌^◌, ℕ, List, false, Ok, Err, IfOk, IfErr};
 ghost use Rattle.nn_model.specs.History.{History};
-ghost use Rattle.nn_model.specs.Items.{items};
 ghost use Rattle.nn_model.specs.Lanes.{Lanes};
 ghost use Rattle.nn_model.specs.Namespace.{Namespace as Paths};
-ghost use Rattle.nn_model.specs.Picture.{ShowsPicture};
-ghost use Rattle.nn_model.specs.Stands.{tables_of};
 ghost use Rattle.nn_shadow.specs.Calls.{after, flushed};
 ghost use Rattle.nn_shadow.specs.Contents.{standby_of};
 ghost use Rattle.nn_shadow.specs.Laws.{StandsBy};
@@ -16,7 +13,7 @@ ghost use Rattle.nn_engine.specs.Output.{after_log, with_history, IsPrinted};
 ghost use Rattle.nn_engine.specs.Pass.{IsRunOf};
 ghost use Rattle.nn_engine.specs.Run.{Wrote, WroteFront, running, unread_line};
 ghost use Rattle.nn_engine.specs.Pieces.{faulted};
-ghost use Rattle.nn_engine.specs.Shown.{shown, with_settings};
+ghost use Rattle.nn_engine.specs.Shown.{HasFlushed, shown, with_settings};
 
 use crate::device::InputFault;
 use crate::fault_line::FaultLine;
@@ -36,7 +33,11 @@ pub struct Options {
     pub settings: Settings,
     /// Whether the standby's history is printed before the tables.
     pub history: bool,
-    /// Whether the image of the namespace is printed after the tables.
+    /// Whether what an operator reads of the standby is printed after the tables.
+    pub summary: bool,
+    /// Whether the blocks that keep safe mode on are printed behind that.
+    pub unsafe_blocks: bool,
+    /// Whether the image of the namespace is printed at the end.
     pub image: bool,
     /// Whether the input begins with an image, from which the run goes on.
     pub from_image: bool,
@@ -135,9 +136,9 @@ fn output_of_standby(standby: Shadow) -> Result<Output, AllocError>
     Ok(output_of_flushed(standby))
 }
 
-// The history, the listing, the tables and the image of a standby that has flushed.
+// The history, the listing, the tables and what more is asked for of a standby that has flushed.
 pub(crate) fn output_of_flushed(standby: Shadow) -> Output
-    ensures { (options : RunOptions) (lanes : Lanes) → ShowsPicture standby.namespace (items lanes) (tables_of (standby_of standby))
+    ensures { (options : RunOptions) (lanes : Lanes) → HasFlushed lanes (standby_of standby)
         → shown options result ≡ with_history options.history standby.history (after_log (with_settings options standby.permille standby.table.min) lanes (Ok (record { last = standby.last; namespace = standby.namespace }))) }
 {
     standby.consistent();

@@ -1,19 +1,20 @@
 //! An output that is ready to be put: all memory that it wants is had.
 ghost use Rattle.std.specs.Prelude.{◌≡◌, ◌++◌, IfOk, option_map};
+ghost use Rattle.std.specs.Option.{option_copied};
 ghost use Rattle.nn_device.specs.Page.{Puts};
 ghost use Rattle.nn_tree.specs.Rows.{extent_of};
 ghost use Rattle.nn_image.specs.Text.{image_text};
 ghost use Rattle.nn_listing.specs.Trail.{history_text};
 ghost use Rattle.nn_engine.specs.Output.{image_part};
-ghost use Rattle.nn_engine.specs.Pieces.{image_after};
-ghost use Rattle.nn_engine.specs.Shown.{history_part, listed_text, printed_of, shown};
+ghost use Rattle.nn_engine.specs.Pieces.{image_after, summary_after, text_after};
+ghost use Rattle.nn_engine.specs.Shown.{history_part, listed_text, printed_of, shown, summary_shown, unsafe_shown};
 
 use crate::engine::Options;
 use crate::fault_line::FaultLine;
 use crate::output::Output;
 use nn_device::{Page, Writer};
 use nn_image::ReadyImage;
-use nn_listing::{ReadyListing, ReadyTables, put_history};
+use nn_listing::{ReadyListing, ReadyTables, ReadyUnsafe, put_history, put_summary};
 use nn_shadow::Shadow;
 use nn_tree::Extent;
 use nn_types::{Event, Txid};
@@ -35,18 +36,21 @@ pub(crate) struct ReadyParts<'a> {
     events: &'a [Event],
     listing: ReadyListing<'a>,
     tables: ReadyTables<'a>,
-    // none where none is asked for
+    // none of these three where it is not asked for
+    summary: Option<&'a Shadow>,
+    unsafe_blocks: Option<ReadyUnsafe<'a>>,
     image: Option<ReadyImage<'a>>,
 }
 
 impl<'a> Model for ReadyParts<'a> {
     ghost use Rattle.std.specs.Prelude.{List, ℕ, ◌++◌};
+    ghost use Rattle.std.specs.Option.{option_copied};
     ghost use Rattle.nn_listing.specs.Trail.{history_text};
-    ghost use Rattle.nn_engine.specs.Pieces.{image_after};
+    ghost use Rattle.nn_engine.specs.Pieces.{image_after, summary_after, text_after};
 
     ghost Value = { List ℕ };
 
-    ghost view = { λ p. history_text p.events.now ++ ((p.listing ++ p.tables) ++ image_after p.image) };
+    ghost view = { λ p. history_text p.events.now ++ ((p.listing ++ p.tables) ++ (summary_after (option_copied p.summary) ++ (text_after p.unsafe_blocks ++ image_after p.image))) };
 }
 
 impl<'a> Ready<'a> {
@@ -102,6 +106,8 @@ impl<'a> ReadyParts<'a> {
             events: asked_history(options.history, standby),
             listing: ReadyListing::of(namespace, extent, standby.last_txid())?,
             tables: ReadyTables::of(alloc, standby.replicas(), standby.safe_mode())?,
+            summary: asked_summary(options.summary, standby),
+            unsafe_blocks: asked_unsafe(options.unsafe_blocks, standby, extent)?,
             image,
         })
     }
@@ -113,17 +119,49 @@ impl<'a> ReadyParts<'a> {
             events,
             listing,
             tables,
+            summary,
+            unsafe_blocks,
             image,
         } = self;
         put_history(page, writer, events);
         listing.put(page, writer);
         tables.put(page, writer);
-        let Some(image) = image else {
-            return;
-        };
-        page.put(writer, b"image\n");
-        image.put(page, writer);
+        put_asked_summary(page, writer, summary);
+        put_asked_unsafe(page, writer, unsafe_blocks);
+        put_asked_image(page, writer, image);
     }
+}
+
+fn put_asked_summary<W: Write>(page: &mut Page, writer: &mut Writer<W>, summary: Option<&Shadow>)
+    ensures { Puts (summary_after (option_copied summary.entry)) page.old writer.old page.new writer.new }
+{
+    let Some(standby) = summary else {
+        return;
+    };
+    put_summary(page, writer, standby);
+}
+
+fn put_asked_unsafe<W: Write>(
+    page: &mut Page,
+    writer: &mut Writer<W>,
+    lines: Option<ReadyUnsafe<'_>>,
+)
+    ensures { Puts (text_after lines.entry) page.old writer.old page.new writer.new }
+{
+    let Some(lines) = lines else {
+        return;
+    };
+    lines.put(page, writer);
+}
+
+fn put_asked_image<W: Write>(page: &mut Page, writer: &mut Writer<W>, image: Option<ReadyImage<'_>>)
+    ensures { Puts (image_after image.entry) page.old writer.old page.new writer.new }
+{
+    let Some(image) = image else {
+        return;
+    };
+    page.put(writer, b"image\n");
+    image.put(page, writer);
 }
 
 // The history, where it is asked for.
@@ -131,6 +169,28 @@ fn asked_history(asked: bool, standby: &Shadow) -> &[Event]
     ensures { history_text result.now ≡ history_part asked standby.now.history }
 {
     if asked { standby.history() } else { &[] }
+}
+
+// The standby, where its summary is asked for.
+fn asked_summary(asked: bool, standby: &Shadow) -> Option<&Shadow>
+    ensures { summary_after (option_copied result) ≡ summary_shown asked standby.now }
+{
+    if asked { Some(standby) } else { None }
+}
+
+// The blocks that keep safe mode on, where they are asked for.
+fn asked_unsafe(
+    asked: bool,
+    standby: &Shadow,
+    extent: Extent,
+) -> Result<Option<ReadyUnsafe<'_>>, AllocError>
+    requires { extent ≡ extent_of standby.now.namespace.rows }
+    ensures { IfOk result (λ lines. text_after lines ≡ unsafe_shown asked standby.now) }
+{
+    if asked {
+        return Ok(Some(ReadyUnsafe::of(standby, extent)?));
+    }
+    Ok(None)
 }
 
 // The image, where it is asked for.

@@ -2,4 +2,5 @@ pub mod KeyTexts
 pub mod SaidIds
 pub mod TableLines
 pub mod Pieces
+pub mod Lives
 pub mod Summaries

@@ -20,6 +20,11 @@ pub file_pieces : (path replication state blocks : List ℕ)
     ≡ codes "file " ++ path ++ codes " " ++ replication ++ codes " " ++ state ++ blocks ++ newline ∷ []
 file_pieces path replication state blocks = simp append_assoc
 
+pub unsafe_pieces : (block live path : List ℕ)
+    → codes "unsafe" ++ (field block ++ (field live ++ (codes " " ++ (path ++ newline ∷ []))))
+    ≡ codes "unsafe " ++ block ++ codes " " ++ live ++ codes " " ++ path ++ newline ∷ []
+unsafe_pieces block live path = simp append_assoc
+
 pub replica_pieces : (id dn stamp len kind class : List ℕ)
     → codes "replica" ++ (field id ++ (field dn ++ (field stamp ++ (field len ++ (field kind ++ (field class ++ newline ∷ []))))))
     ≡ codes "replica " ++ id ++ codes " " ++ dn ++ codes " " ++ stamp ++ codes " " ++ len ++ codes " " ++ kind ++ codes " " ++ class ++ newline ∷ []

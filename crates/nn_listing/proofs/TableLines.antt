@@ -181,7 +181,7 @@ module _ (permille min : ℕ) (n : Namespace) (lanes : Lanes) (t : Table) (mode 
   no_order_there true r e = refl
   no_order_there false r e = ap is_some e
 
-  is_of_said : IsOfSaid n lanes t
+  pub is_of_said : IsOfSaid n lanes t
   is_of_said = record {
     shows = h.shows;
     replicas = λ dn id g. h.replicas dn id ∙ no_replica_there (is_named n id) (has_now lanes dn id) (has_nothing lanes dn id g);

@@ -4,6 +4,8 @@ pub mod Tables
 pub mod TablesRows
 pub mod Trail
 pub mod TrailRows
+pub mod Safety
+pub mod SafetyRows
 pub mod Summary
 pub mod Counted
 pub mod SummaryRows

@@ -8,11 +8,13 @@
 mod fields;
 mod history;
 mod paths;
+mod safety;
 mod summary;
 mod tables;
 
 pub use fields::put_field;
 pub use history::put_history;
 pub use paths::{ReadyListing, put_row, write_listing};
+pub use safety::{ReadyUnsafe, put_unsafe_rows};
 pub use summary::{put_count, put_summary};
 pub use tables::{ReadyTables, put_block_replicas, put_counts, put_order};

@@ -10,7 +10,8 @@ use Rattle.nn_shadow.specs.Contents.{IsConsistent}
 use Rattle.nn_listing.specs.Summary.{summary_of}
 use Rattle.nn_listing.proofs.Summaries.{summary_is}
 use Rattle.nn_live.proofs.Tabling.{of_said}
-use Rattle.nn_live.specs.Answers.{block_text, held_line, path_text, shown, status_lines, unsafe_in}
+use Rattle.nn_live.specs.Answers.{block_text, held_line, path_text, shown, status_lines}
+use Rattle.nn_listing.specs.Safety.{unsafe_in}
 use Rattle.nn_live.specs.Live.{Asked, Service, does, figures_of, says}
 use Rattle.nn_live.specs.Serving.{Seen, IsAt, Makes, figures_seen}
 use Rattle.nn_live.specs.declared.word.Word.TheVariants as word

@@ -18,7 +18,6 @@ pub mod Reading
 pub mod BrokenEdits
 pub mod BrokenLines
 pub mod Tabling
-pub mod Lives
 pub mod Replicas
 pub mod Gone
 pub mod Cutting

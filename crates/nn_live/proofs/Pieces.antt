@@ -19,11 +19,6 @@ pub block_pieces : (block stamp len path : List ℕ)
     ≡ codes "block " ++ block ++ codes " " ++ stamp ++ codes " " ++ len ++ codes " " ++ path ++ newline ∷ []
 block_pieces block stamp len path = simp append_assoc
 
-pub unsafe_pieces : (block live path : List ℕ)
-    → codes "unsafe" ++ (field block ++ (field live ++ (codes " " ++ (path ++ newline ∷ []))))
-    ≡ codes "unsafe " ++ block ++ codes " " ++ live ++ codes " " ++ path ++ newline ∷ []
-unsafe_pieces block live path = simp append_assoc
-
 pub status_pieces : (a b c d e f g : List ℕ) → a ++ (b ++ (c ++ (d ++ (e ++ (f ++ g))))) ≡ a ++ b ++ c ++ d ++ e ++ f ++ g
 status_pieces a b c d e f g = simp append_assoc
 

@@ -1,11 +1,10 @@
 -- What a standby in service answers: lines of words, each with one space between two words.
-use Rattle.std.specs.Prelude.{ℕ, ◌-◌, Bool, true, false, ◌==◌, nat_le, if◌then◌else◌, List, [], ◌∷◌, ◌++◌, length, take, filter, flat_map, Option, Some, None, codes, decimal}
+use Rattle.std.specs.Prelude.{ℕ, ◌-◌, Bool, true, false, ◌==◌, List, [], ◌∷◌, ◌++◌, length, take, filter, flat_map, Option, Some, None, codes, decimal}
 use Rattle.nn_types.specs.declared.block.Block.{Block}
-use Rattle.nn_types.specs.declared.replica.Replica.{Replica}
 use Rattle.nn_types.specs.declared.report.Message.{Message}
 use Rattle.nn_types.specs.Words.{kind_text}
 use Rattle.nn_model.specs.declared.form.Form.{Form}
-use Rattle.nn_model.specs.Counts.{closed_blocks_of, live_count, safe_mode_of}
+use Rattle.nn_model.specs.Counts.{safe_mode_of}
 use Rattle.nn_model.specs.Lanes.{Lanes}
 use Rattle.nn_model.specs.Namespace.{Path, Namespace, blocks_of}
 use Rattle.nn_model.specs.Stands.{StandbyState}
@@ -49,22 +48,13 @@ status_lines f =
     ++ line (codes "known") (decimal f.known) ++ line (codes "passed") (decimal f.passed) ++ line (codes "segments") (decimal f.segments)
     ++ line (codes "edits") (and_number (decimal f.edits) f.last_edit) ++ summary_text f.standby
 
--- ---- What waits, and what keeps safe mode on.
+-- ---- What waits.
 
 -- `held BLOCK DN NUMBER STAMP KIND`
 abbrev pub held_line : Message → List ℕ
 held_line m =
     codes "held " ++ decimal m.block ++ codes " " ++ decimal m.dn ++ codes " " ++ decimal m.number ++ codes " " ++ decimal m.stamp
     ++ codes " " ++ kind_text m.kind ++ newline ∷ []
-
--- `unsafe BLOCK LIVE PATH`, of a block that has fewer live replicas than it has to have
-abbrev pub unsafe_of : ℕ → (ℕ → ℕ → Option Replica) → Path → Block → List (List ℕ)
-unsafe_of min replica p b =
-    if nat_le min (live_count replica b) then [] else (codes "unsafe " ++ decimal b.id ++ codes " " ++ decimal (live_count replica b) ++ codes " " ++ path_json p ++ newline ∷ []) ∷ []
-
--- such blocks of closed files, in path order
-abbrev pub unsafe_in : ℕ → (ℕ → ℕ → Option Replica) → List (Path × Form) → List (List ℕ)
-unsafe_in min replica rows = flat_map (λ row. flat_map (unsafe_of min replica row.0) (closed_blocks_of row.1)) rows
 
 -- ---- One block, one path.
 

@@ -38,7 +38,8 @@ use Rattle.nn_shadow.specs.Numbers.{number_of_apply, number_of_hand, number_of_f
 use Rattle.nn_shadow.specs.Refusals.{Phase, apply_refusal, hand_refusal, flush_refusal, phase_after_apply}
 use Rattle.nn_engine.specs.Output.{image_fault}
 use Rattle.nn_listing.specs.Summary.{line, summary_of}
-use Rattle.nn_live.specs.Answers.{Figures, status_lines, shown, held_line, unsafe_in, block_text, path_text, tables_now}
+use Rattle.nn_listing.specs.Safety.{unsafe_in}
+use Rattle.nn_live.specs.Answers.{Figures, status_lines, shown, held_line, block_text, path_text, tables_now}
 use Rattle.nn_live.specs.Words.{word_in}
 use Rattle.nn_live.specs.declared.word.Word.{Word}
 use Rattle.nn_live.specs.declared.word.Word.TheVariants as word

@@ -16,7 +16,6 @@ mod live;
 mod one_block;
 mod opening;
 mod run;
-mod safety;
 mod service;
 mod texts;
 mod torn;

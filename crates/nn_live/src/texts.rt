@@ -128,21 +128,3 @@ pub(crate) fn put_block<W: Write>(
     put_path(page, writer, names);
     page.put_byte(writer, b'\n');
 }
-
-/// Puts `unsafe BLOCK LIVE PATH`, of the path with these names.
-pub(crate) fn put_unsafe<W: Write>(
-    page: &mut Page,
-    writer: &mut Writer<W>,
-    id: BlockId,
-    live: u64,
-    names: &[&str],
-)
-    ensures { Puts (codes "unsafe " ++ decimal id ++ codes " " ++ decimal live ++ codes " " ++ path_json (lent_names names.now) ++ newline ∷ []) page.old writer.old page.new writer.new }
-{
-    page.put(writer, b"unsafe");
-    put_field(page, writer, id.get());
-    put_field(page, writer, live);
-    page.put_byte(writer, b' ');
-    put_path(page, writer, names);
-    page.put_byte(writer, b'\n');
-}

@@ -20,6 +20,8 @@ fn usual_options() -> Options {
         Some(settings) => Options {
             settings,
             history: false,
+            summary: false,
+            unsafe_blocks: false,
             image: false,
             from_image: false,
             leave_memory: false,

@@ -6,7 +6,6 @@ ghost use Rattle.nn_listing.specs.Listing.{listing_text};
 ghost use Rattle.nn_listing.specs.Tables.{IsOfSaid};
 ghost use Rattle.nn_model.specs.Lanes.{Lanes};
 ghost use Rattle.nn_model.specs.Namespace.{Namespace};
-ghost use Rattle.nn_shadow.specs.Contents.{IsConsistent};
 ghost use Rattle.nn_tree.specs.Listing.{lent_names};
 ghost use Rattle.nn_tree.specs.Rows.{greatest_depth};
 ghost use Rattle.nn_live.specs.Answers.{held_line, shown, status_lines};
@@ -16,12 +15,11 @@ ghost use Rattle.nn_live.specs.declared.word.Word.TheVariants as word;
 
 use super::{Service, ServiceFault};
 use crate::one_block::{put_held_of, put_holder, put_orders_of, put_replicas_of};
-use crate::safety::put_unsafe_rows;
 use crate::texts::{put_counts_of, put_held, put_state, put_text};
 use crate::word::Word;
 use nn_device::{Page, Writer};
 use nn_image::ReadyImage;
-use nn_listing::{ReadyListing, ReadyTables, put_count, put_row, put_summary};
+use nn_listing::{ReadyListing, ReadyTables, put_count, put_row, put_summary, put_unsafe_rows};
 use nn_postponed::Held;
 use nn_replicas::SafeMode;
 use nn_tree::Rows;
@@ -77,6 +75,7 @@ impl Service {
     fn status<W: Write>(&self, page: &mut Page, writer: &mut Writer<W>)
         ensures { Steps (λ asked s. does asked Word.Status s) self.now self.now (λ text. Puts text page.old writer.old page.new writer.new) }
     {
+        self.shadow.consistent();
         self.put_status(page, writer);
     }
 
@@ -198,10 +197,8 @@ impl Service {
 
     // Puts the state, the counts of the service, and the standby's summary.
     fn put_status<W: Write>(&self, page: &mut Page, writer: &mut Writer<W>)
-        ensures put { Puts (status_lines (figures_seen self.now)) page.old writer.old page.new writer.new }
-        ensures consistent { IsConsistent self.now.shadow }
+        ensures { Puts (status_lines (figures_seen self.now)) page.old writer.old page.new writer.new }
     {
-        self.shadow.consistent();
         put_state(page, writer, self.shadow.stop(), self.shadow.is_active());
         put_text(page, writer, "version", self.version);
         put_count(page, writer, "known", self.known);

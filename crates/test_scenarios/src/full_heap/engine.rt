@@ -92,6 +92,8 @@ pub fn run_scenario(
         options: Options {
             settings,
             history: true,
+            summary: true,
+            unsafe_blocks: true,
             image: true,
             from_image: false,
             leave_memory: false,

@@ -2,7 +2,6 @@ use Rattle.std.proofs.Common.{◌≡◌, subst, ◌∙◌, ap}
 use Rattle.std.specs.Prelude.{codes, decimal}
 use Rattle.nn_device.specs.Page.{Puts}
 use Rattle.nn_device.proofs.Pages.{puts_both}
-use Rattle.nn_shadow.specs.Contents.{IsConsistent}
 use Rattle.nn_listing.specs.Summary.{line, summary_text}
 use Rattle.nn_live.specs.Answers.{Figures, and_number, state_of, status_lines}
 use Rattle.nn_live.specs.Serving.{Seen, figures_seen}
@@ -10,8 +9,8 @@ use Rattle.nn_live.specs.contracts.service.Service.{the_view as seen_of}
 use Rattle.nn_live.proofs.Pieces.{status_pieces}
 use Rattle.nn_live.proofs.service.Service.put_status.Goals as goal
 
-pub returns-clause-put : goal.returns-clause-put
-returns-clause-put g c =
+pub returns : goal.returns
+returns g c =
     let x = seen_of c.self.inside in
     let told : Figures = record {
       stopped = c.stop.result;
@@ -43,6 +42,3 @@ returns-clause-put g c =
       standby = (figures_seen (c.self.view_is i)).standby;
     } in
     subst (λ f. Puts (status_lines f) c.args.page.now c.args.writer.now c.put_summary.new.page c.put_summary.new.writer) same put
-
-pub returns-clause-consistent : goal.returns-clause-consistent
-returns-clause-consistent g c = subst (λ (v : Seen). IsConsistent v.shadow) c.self.view_is c.consistent.ensures

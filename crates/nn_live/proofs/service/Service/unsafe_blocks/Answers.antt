@@ -8,10 +8,11 @@ use Rattle.nn_replicas.specs.Calls.{replica_at}
 use Rattle.nn_replicas.specs.SafeMode.{counts_of}
 use Rattle.nn_replicas.specs.Table.{Table}
 use Rattle.nn_listing.specs.Summary.{line}
-use Rattle.nn_live.specs.Answers.{shown, unsafe_in}
+use Rattle.nn_listing.specs.Safety.{unsafe_in}
+use Rattle.nn_live.specs.Answers.{shown}
 use Rattle.nn_live.specs.Serving.{Seen, figures_seen}
 use Rattle.nn_live.proofs.Answering.{unsafe_told}
-use Rattle.nn_live.proofs.Lives.{all_lines, joined, unsafe_count}
+use Rattle.nn_listing.proofs.Lives.{all_lines, joined, unsafe_count}
 use Rattle.nn_live.proofs.service.Service.unsafe_blocks.Goals as goal
 
 -- all lines that there are

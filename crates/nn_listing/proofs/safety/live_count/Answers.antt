@@ -1,7 +1,7 @@
 use Rattle.std.proofs.Common.{◌≡◌, ◌+◌, ap, ◌∙◌, arith, ℕ}
 use Rattle.nn_replicas.specs.Calls.{replicas_at}
-use Rattle.nn_live.proofs.Lives.{lives, one_fits, counted_live, passed_over, all_counted}
-use Rattle.nn_live.proofs.safety.live_count.Goals as goal
+use Rattle.nn_listing.proofs.Lives.{lives, one_fits, counted_live, passed_over, all_counted}
+use Rattle.nn_listing.proofs.safety.live_count.Goals as goal
 
 pub overflow_add-live : goal.overflow_add-live
 overflow_add-live c = omega (arith, one_fits c.requires.shows.0 c.args.table.now c.args.block.now c.replicas.live (lives c.args.block.now c.replicas.replicas) c.requires.shows.1 c.replicas.invariant)

@@ -3,8 +3,8 @@ use Rattle.std.specs.Prelude.{flat_map}
 use Rattle.nn_device.specs.Page.{PutsAllBut}
 use Rattle.nn_replicas.specs.Calls.{replica_at}
 use Rattle.nn_tree.specs.Listing.{lent_names}
-use Rattle.nn_live.specs.Answers.{unsafe_of}
-use Rattle.nn_live.proofs.safety.put_unsafe_blocks.Given as goal
+use Rattle.nn_listing.specs.Safety.{unsafe_of}
+use Rattle.nn_listing.proofs.safety.put_unsafe_blocks.Given as goal
 
 -- the lines of the blocks that are left are to be put
 abbrev pub invariant-rest : goal.invariant-rest

@@ -1,5 +1,5 @@
 //! What keeps safe mode on: the blocks that have too few live replicas.
-ghost use Rattle.std.specs.Prelude.{◌≡◌, ◌≤◌, ◌-◌, take, length, flat_map, Some};
+ghost use Rattle.std.specs.Prelude.{◌≡◌, ◌≤◌, ◌-◌, ◌++◌, ◌∷◌, [], take, length, flat_map, Some, IfOk, codes, decimal};
 ghost use Rattle.nn_device.specs.Page.{Puts};
 ghost use Rattle.nn_model.specs.Counts.{closed_blocks_of, is_live, live_count};
 ghost use Rattle.nn_model.specs.Namespace.{Namespace};
@@ -7,18 +7,78 @@ ghost use Rattle.nn_replicas.specs.Agreement.{Shows};
 ghost use Rattle.nn_replicas.specs.Calls.{replica_at};
 ghost use Rattle.nn_tree.specs.Found.{form_of};
 ghost use Rattle.nn_tree.specs.Listing.{lent_names};
-ghost use Rattle.nn_tree.specs.Rows.{greatest_depth};
-ghost use Rattle.nn_live.specs.Answers.{unsafe_in, unsafe_of};
+ghost use Rattle.nn_tree.specs.Rows.{extent_of, greatest_depth};
+ghost use Rattle.nn_listing.specs.Listing.{newline, path_json};
+ghost use Rattle.nn_listing.specs.Safety.{unsafe_in, unsafe_of, unsafe_text};
 
-use crate::texts::put_unsafe;
+use crate::fields::put_field;
 use nn_device::{Page, Writer};
-use nn_replicas::{Replicas, class};
-use nn_tree::{Found, Rows};
-use nn_types::{Block, Class, Replica};
+use nn_replicas::{Replicas, SafeMode, class};
+use nn_shadow::Shadow;
+use nn_text::put_path;
+use nn_tree::{Extent, Found, Rows};
+use nn_types::{Block, BlockId, Class, Replica};
+use std::alloc::AllocError;
 use std::io::Write;
+use std::marker::Model;
 
-/// Puts so many of the lines of blocks that have fewer than `min` live replicas.
-pub(crate) fn put_unsafe_rows<W: Write>(
+/// The lines of the blocks that keep safe mode on, ready to be put: all memory that they want is had.
+///
+/// ```text
+/// unsafe 1073741825 0 "/f"
+/// ```
+///
+/// They come in path order, and the blocks of a file in file order.
+#[derive(Drop)]
+pub struct ReadyUnsafe<'a> {
+    rows: Rows<'a>,
+    table: &'a Replicas,
+    count: u64,
+}
+
+impl<'a> Model for ReadyUnsafe<'a> {
+    ghost use Rattle.std.specs.Prelude.{◌≡◌, ◌≤◌, List, ℕ, length};
+    ghost use Rattle.nn_model.specs.Namespace.{Namespace};
+    ghost use Rattle.nn_replicas.specs.Agreement.{Shows};
+    ghost use Rattle.nn_replicas.specs.Calls.{replica_at};
+    ghost use Rattle.nn_tree.specs.Rows.{greatest_depth};
+    ghost use Rattle.nn_listing.specs.Safety.{unsafe_in, unsafe_text};
+
+    ghost Value = { List ℕ };
+
+    ghost view = { λ u. unsafe_text u.table.now.min (replica_at u.table.now) u.rows.left };
+
+    ghost invariant = { λ u. (greatest_depth u.rows.left ≤ u.rows.room) × ((n : Namespace) × Shows n u.table.now)
+        × (u.count ≡ length (unsafe_in u.table.now.min (replica_at u.table.now) u.rows.left)) };
+}
+
+impl<'a> ReadyUnsafe<'a> {
+    /// Those of a standby. The extent is that of its namespace.
+    pub fn of(standby: &'a Shadow, extent: Extent) -> Result<ReadyUnsafe<'a>, AllocError>
+        requires { extent ≡ extent_of standby.now.namespace.rows }
+        ensures { IfOk result (λ lines. lines ≡ unsafe_text standby.now.table.min (replica_at standby.now.table) standby.now.namespace.rows) }
+    {
+        standby.consistent();
+        let rows = standby.namespace().ready_rows(extent.depth)?;
+        let SafeMode { total, safe, .. } = standby.safe_mode();
+        Ok(ReadyUnsafe {
+            rows,
+            table: standby.replicas(),
+            count: total.saturating_sub(safe),
+        })
+    }
+
+    /// Puts the lines, by one walk of the namespace. It takes no memory.
+    pub fn put<W: Write>(self, page: &mut Page, writer: &mut Writer<W>)
+        ensures { Puts self.entry page.old writer.old page.new writer.new }
+    {
+        let min = self.table.min();
+        put_unsafe_rows(page, writer, self.rows, self.table, min, self.count);
+    }
+}
+
+/// Puts so many of the lines of blocks that have fewer than `min` live replicas, in path order. It goes on until it has them.
+pub fn put_unsafe_rows<W: Write>(
     page: &mut Page,
     writer: &mut Writer<W>,
     mut rows: Rows<'_>,
@@ -143,4 +203,22 @@ fn is_live(replica: Replica, block: Block) -> bool
         Class::Live => true,
         Class::Stale | Class::Ahead | Class::Building | Class::WrongLength => false,
     }
+}
+
+// Puts `unsafe BLOCK LIVE PATH`, of the path with these names.
+fn put_unsafe<W: Write>(
+    page: &mut Page,
+    writer: &mut Writer<W>,
+    id: BlockId,
+    live: u64,
+    names: &[&str],
+)
+    ensures { Puts (codes "unsafe " ++ decimal id ++ codes " " ++ decimal live ++ codes " " ++ path_json (lent_names names.now) ++ newline ∷ []) page.old writer.old page.new writer.new }
+{
+    page.put(writer, b"unsafe");
+    put_field(page, writer, id.get());
+    put_field(page, writer, live);
+    page.put_byte(writer, b' ');
+    put_path(page, writer, names);
+    page.put_byte(writer, b'\n');
 }

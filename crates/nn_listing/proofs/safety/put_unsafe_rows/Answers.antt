@@ -7,9 +7,9 @@ use Rattle.nn_model.specs.declared.form.Form.{Form}
 use Rattle.nn_replicas.specs.Calls.{replica_at}
 use Rattle.nn_tree.specs.Found.{form_of}
 use Rattle.nn_tree.specs.Rows.{greatest_depth}
-use Rattle.nn_live.specs.Answers.{unsafe_in, unsafe_of}
-use Rattle.nn_live.proofs.Lives.{first_put, joined}
-use Rattle.nn_live.proofs.safety.put_unsafe_rows.Goals as goal
+use Rattle.nn_listing.specs.Safety.{unsafe_in, unsafe_of}
+use Rattle.nn_listing.proofs.Lives.{first_put, joined}
+use Rattle.nn_listing.proofs.safety.put_unsafe_rows.Goals as goal
 
 pub rows-preserved : goal.rows-preserved
 rows-preserved g c =

@@ -3,8 +3,8 @@ use Rattle.std.specs.Prelude.{flat_map}
 use Rattle.nn_device.specs.Page.{PutsAllBut}
 use Rattle.nn_replicas.specs.Calls.{replica_at}
 use Rattle.nn_tree.specs.Rows.{greatest_depth}
-use Rattle.nn_live.specs.Answers.{unsafe_in}
-use Rattle.nn_live.proofs.safety.put_unsafe_rows.Given as goal
+use Rattle.nn_listing.specs.Safety.{unsafe_in}
+use Rattle.nn_listing.proofs.safety.put_unsafe_rows.Given as goal
 
 -- the lines of the rows that are left are to be put, and there is room for these rows
 abbrev pub invariant-rows : goal.invariant-rows

@@ -1,7 +1,7 @@
 use Rattle.std.proofs.Common.{◌≡◌, ◌+◌, length}
 use Rattle.nn_replicas.specs.Calls.{replicas_at}
-use Rattle.nn_live.proofs.Lives.{lives}
-use Rattle.nn_live.proofs.safety.live_count.Given as goal
+use Rattle.nn_listing.proofs.Lives.{lives}
+use Rattle.nn_listing.proofs.safety.live_count.Given as goal
 
 -- the replicas that are left are to be counted
 abbrev pub invariant-replicas : goal.invariant-replicas

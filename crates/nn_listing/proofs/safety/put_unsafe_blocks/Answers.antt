@@ -3,9 +3,9 @@ use Rattle.std.specs.Prelude.{flat_map}
 use Rattle.nn_types.specs.declared.block.Block.{Block}
 use Rattle.nn_replicas.specs.Calls.{replica_at}
 use Rattle.nn_tree.specs.Listing.{lent_names}
-use Rattle.nn_live.specs.Answers.{unsafe_of}
-use Rattle.nn_live.proofs.Lives.{first_put, fewer_left}
-use Rattle.nn_live.proofs.safety.put_unsafe_blocks.Goals as goal
+use Rattle.nn_listing.specs.Safety.{unsafe_of}
+use Rattle.nn_listing.proofs.Lives.{first_put, fewer_left}
+use Rattle.nn_listing.proofs.safety.put_unsafe_blocks.Goals as goal
 
 pub rest-preserved : goal.rest-preserved
 rest-preserved g c =

@@ -1,8 +1,8 @@
 use Rattle.std.proofs.Common.{subst}
 use Rattle.nn_device.specs.Page.{Puts}
 use Rattle.nn_device.proofs.Pages.{puts_both}
-use Rattle.nn_live.proofs.Pieces.{unsafe_pieces}
-use Rattle.nn_live.proofs.texts.put_unsafe.Goals as goal
+use Rattle.nn_listing.proofs.Pieces.{unsafe_pieces}
+use Rattle.nn_listing.proofs.safety.put_unsafe.Goals as goal
 
 pub returns : goal.returns
 returns g c =

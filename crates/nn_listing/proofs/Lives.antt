@@ -10,7 +10,7 @@ use Rattle.nn_model.specs.Counts.{SafeMode, closed_blocks_of, is_live, live_coun
 use Rattle.nn_model.specs.Namespace.{Namespace, Path}
 use Rattle.nn_model.specs.declared.form.Form.{Form}
 use Rattle.nn_listing.specs.Listing.{newline, path_json}
-use Rattle.nn_live.specs.Answers.{unsafe_in, unsafe_of}
+use Rattle.nn_listing.specs.Safety.{unsafe_in, unsafe_of}
 use Rattle.nn_replicas.specs.Agreement.{Shows}
 use Rattle.nn_replicas.specs.Calls.{entry_or_none, replica_at, replicas_at}
 use Rattle.nn_replicas.specs.Entry.{live_cells, replicas_in}

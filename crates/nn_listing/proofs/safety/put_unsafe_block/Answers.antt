@@ -6,9 +6,9 @@ use Rattle.nn_model.specs.Counts.{live_count}
 use Rattle.nn_replicas.specs.Calls.{replica_at}
 use Rattle.nn_tree.specs.Listing.{lent_names}
 use Rattle.nn_listing.specs.Listing.{newline, path_json}
-use Rattle.nn_live.specs.Answers.{unsafe_of}
-use Rattle.nn_live.proofs.Lives.{above_zero, none_of_safe, one_of_unsafe, no_room}
-use Rattle.nn_live.proofs.safety.put_unsafe_block.Goals as goal
+use Rattle.nn_listing.specs.Safety.{unsafe_of}
+use Rattle.nn_listing.proofs.Lives.{above_zero, none_of_safe, one_of_unsafe, no_room}
+use Rattle.nn_listing.proofs.safety.put_unsafe_block.Goals as goal
 
 pub returns-then-from-live : goal.returns-then-from-live
 returns-then-from-live g c =

@@ -4,14 +4,16 @@ Real clusters do more than a standby here can follow. Records of snapshots chang
 truncate becomes edits of the file. A file whose blocks can't be held here is bare from then on. Nothing of this is for
 a standby that has reports: it would order blocks to be deleted that a snapshot holds.
 """
-import copy
 import re
 from collections import Counter
 
 import edits
 from bare import has_old_block, is_bare, made_bare, new_bare
+from dumps import Element
 from edits import blocks_in, path_in
 from formats import GREATEST_NUMBER, Block, DoesNotApply, Refused, line_of, to_json
+from shapes import children_of
+from tree import File, is_directory
 
 SNAPSHOTS = {"OP_CREATE_SNAPSHOT", "OP_DELETE_SNAPSHOT", "OP_RENAME_SNAPSHOT"}
 
@@ -55,7 +57,8 @@ class Audited:
         made = self.converted(self.without_returns(record), tree)
         self.note_stamps(record)
         if made:
-            self.passed.update(child.name for child in record.data.children if child.name not in TAKEN)
+            for name in record.data.shape.of(names_passed):
+                self.passed[name] += 1
         return made
 
     def converted(self, record, tree):
@@ -73,24 +76,28 @@ class Audited:
 
     def of_file(self, record, tree):
         path = path_in(record.data, OF_FILES[record.opcode])
-        file = tree.find_file(path)
-        if file is not None and is_bare(file):
+        node = tree.find(path)
+        # A packed file is not bare.
+        if isinstance(node, File) and is_bare(node):
             return []
         if not has_old_block(record.data.all("BLOCK"), "BLOCK_ID", "GENSTAMP"):
-            made = truncate(record.data, file) if record.opcode == "OP_TRUNCATE" else edits.edits_of(record, tree)
+            is_truncate = record.opcode == "OP_TRUNCATE"
+            made = truncate(record.data, tree.find_file(path)) if is_truncate else edits.edits_of(record, tree)
             if all(map(fits_a_line, made)):
                 return made
-        return no_file(path) if file is None else made_bare(path)
+        return no_file(path) if node is None or is_directory(node) else made_bare(path)
 
     def without_returns(self, record):
         """The record as an image has its names: a dump of an image has a line feed for a carriage return in a name."""
-        if not any(map(has_return, record.data.children)):
+        shape, texts = record.data.shape, record.data.texts
+        places = [place for place in shape.of(places_of_names) if CARRIAGE_RETURN.search(texts[place])]
+        if not places:
             return record
         self.carriage_returns += 1
-        data = copy.deepcopy(record.data)
-        for element in named(data):
-            element.text = CARRIAGE_RETURN.sub("\n", element.text)
-        return record._replace(data=data)
+        texts = list(texts)
+        for place in places:
+            texts[place] = CARRIAGE_RETURN.sub("\n", texts[place])
+        return record._replace(data=Element(shape, texts))
 
     def note_stamps(self, record):
         """Notes which stamps a record issues or gives to blocks, bare files' blocks among them."""
@@ -109,15 +116,16 @@ class Audited:
         return max((gen for gen in self.given if self.first_issued is None or gen < self.first_issued), default=None)
 
 
-def named(data):
-    """The elements of a record that have names."""
-    for child in data.children:
-        if child.name in NAMES:
-            yield from child.children or [child]
+def names_passed(shape):
+    """The names of the members that are not taken, in the shape of a record's members."""
+    return [child.name for child in shape.of(children_of) if child.name not in TAKEN]
 
 
-def has_return(element):
-    return element.name in NAMES and any(CARRIAGE_RETURN.search(part.text) for part in element.children or [element])
+def places_of_names(shape):
+    """The places of the texts that are names, in the shape of a record's members."""
+    members = [child for child in shape.of(children_of) if child.name in NAMES]
+    parts = [part for member in members for part in member.of(children_of) or [member]]
+    return [part.first for part in parts if not part.tags]
 
 
 def fits_a_line(edit):

@@ -142,7 +142,7 @@ class Audit:
         count = {name: f"{alike[name]:,}" for name in ("directories", "files", "blocks")}
         print(f"alike: {count['directories']} directories, {count['files']} files with {count['blocks']} blocks")
         print(counted("not compared, of the image", theirs.passed))
-        print(counted("not compared, records of the log", log.conversion.left_out))
+        print(counted("not compared, records of the log", log.left_out))
         print(counted("not compared, members of other records", log.edits.passed))
         for what, number in (
             ("inodes that only snapshots hold", theirs.only_in_snapshots),

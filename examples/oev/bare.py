@@ -4,7 +4,7 @@ They are striped, of an old layout, of more blocks than a line holds, or were jo
 their names, and that they are files. Their paths are kept, so that they are bare in both images and in the log.
 """
 from formats import FIRST_BLOCK_ID, NO_BLOCKS
-from fsimage import File
+from inodes import File
 
 BARE = File(1, True, NO_BLOCKS)
 
@@ -16,7 +16,7 @@ def is_bare(file):
 def has_old_block(blocks, id_name, stamp_name, first_gen=0):
     """Whether one of these blocks is of a striped file or of an old layout, by its id or by a stamp below the first."""
     for block in blocks:
-        if block.get(id_name).text.startswith("-") or block.number(id_name) < FIRST_BLOCK_ID:
+        if block.text_of(id_name).startswith("-") or block.number(id_name) < FIRST_BLOCK_ID:
             return True
         if block.number(stamp_name) < first_gen:
             return True
@@ -35,13 +35,14 @@ def made_bare(path):
 
 
 def bare_paths(tree):
-    """The paths of all bare files in a tree."""
+    """The paths of all bare files in a tree. A packed file is not one."""
     ahead = [("", tree.root)]
     found = set()
     while ahead:
-        path, node = ahead.pop()
-        if isinstance(node, dict):
-            ahead += [(f"{path}/{name}", below) for name, below in node.items()]
-        elif is_bare(node):
-            found.add(path)
+        path, directory = ahead.pop()
+        for name, node in directory.items():
+            if isinstance(node, dict):
+                ahead.append((f"{path}/{name}", node))
+            elif not isinstance(node, bytes) and is_bare(node):
+                found.add(f"{path}/{name}")
     return found

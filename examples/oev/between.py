@@ -22,30 +22,20 @@ class Converted:
         self.map = os.path.join(folder, "map")
         header = start.header()
         self.edits = Audited(header["last_gen"])
-        self.tree = start.tree()
         # How the log can't be followed, or None.
         self.fault = None
         with open(self.name, "wb") as lines, open(self.map, "w") as numbers:
             # The program's number of a transaction is not its TXID, once the log has been followed.
             log = Log(Whole(lines, SEGMENT_BYTES), header["txid"], 2, Map(numbers))
-            self.conversion = Conversion(self.tree, log, (), self.edits.edits_of)
-            self.conversion.begin_after(start.link.txid)
+            conversion = Conversion(start.tree(), log, (), self.edits.edits_of)
+            conversion.begin_after(start.link.txid)
             try:
-                self.take(files, until)
+                take(conversion, files, until)
             except DoesNotApply as found:
                 self.fault = str(found)
-        self.bare = bare_paths(self.tree)
-
-    def take(self, files, until):
-        """Converts the records up to a TXID, which the log has to reach."""
-        with contextlib.closing(merged(files)) as records:
-            for record in records:
-                if record.txid > until:
-                    break
-                self.conversion.take(record)
-        self.conversion.finish()
-        if self.conversion.last < until:
-            raise Refused(f"the log ends at TXID {self.conversion.last}, and the second image is of TXID {until}")
+        # The tree takes much memory, and is let go here.
+        self.bare = bare_paths(conversion.tree)
+        self.left_out = conversion.left_out
 
     def txid_of(self, fault):
         """The cluster's TXID of what a fault is about: a transaction, or the first one of a segment."""
@@ -61,3 +51,15 @@ class Converted:
                     return json.loads(line)["txid"]
                 ended += json.loads(line)["op"] == "OP_END_LOG_SEGMENT"
         return None
+
+
+def take(conversion, files, until):
+    """Converts the records up to a TXID, which the log has to reach."""
+    with contextlib.closing(merged(files)) as records:
+        for record in records:
+            if record.txid > until:
+                break
+            conversion.take(record)
+    conversion.finish()
+    if conversion.last < until:
+        raise Refused(f"the log ends at TXID {conversion.last}, and the second image is of TXID {until}")

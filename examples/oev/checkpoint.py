@@ -3,9 +3,14 @@
 Snapshots change no live name. What only they hold is counted, and so is every element that nothing here stands for, by
 the name that it has in the dump: an element of a later Hadoop shows itself.
 """
+from array import array
+
 from bare import BARE, has_old_block, is_bare
+
 from formats import FIRST_BLOCK_ID, FIRST_GEN, Refused
-from fsimage import Dump, Inconsistent, blocks_in, image_lines, is_striped
+from fsimage import Dump, Inconsistent, blocks_in, blocks_of, image_lines, is_striped
+from inodes import NONE, Lists
+from shapes import children_of, named
 
 REFERENCE = ("INodeReferenceSection", "ref")
 
@@ -29,13 +34,14 @@ class Checkpoint(Dump):
         self.cluster = None
         self.bare_paths = set()
         # The inode that each reference stands for, in the order of the dump, and the references of each directory.
-        self.references = []
-        self.referring = {}
+        self.references = array("q")
+        self.referring = Lists()
         self.snapshots_count = 0
         self.only_in_snapshots = 0
         self.with_line_feeds = 0
-        self.first_gen = 0
-        self.readers[REFERENCE] = self.reference
+
+    def readers(self):
+        return {**super().readers(), REFERENCE: self.reference}
 
     def take_numbers(self, section):
         super().take_numbers(section)
@@ -49,14 +55,19 @@ class Checkpoint(Dump):
         if self.cluster is None:
             raise Refused("namespaceId is missing")
 
-    def pass_over(self, element):
+    def pass_over(self, element, keys=None):
         """Counts what is not taken of an element."""
-        for child in element.children:
-            if child.name not in TAKEN[element.name]:
-                self.passed[f"{element.name}/{child.name}"] += 1
+        for key in element.shape.of(keys or keys_beside):
+            self.passed[key] += 1
 
-    def inode(self, element):
-        super().inode(element)
+    def add_plain(self, element):
+        is_added = super().add_plain(element)
+        if is_added:
+            self.pass_over(element, keys_in_file)
+        return is_added
+
+    def add(self, element):
+        super().add(element)
         self.pass_over(element)
         self.with_line_feeds += "\n" in element.get("name").text
 
@@ -75,37 +86,59 @@ class Checkpoint(Dump):
         self.references.append(element.number("referredId"))
         self.pass_over(element)
 
-    def directory(self, element):
-        self.children.setdefault(element.number("parent"), []).extend(element.numbers("child"))
+    def list(self, element):
+        owner = element.number("parent")
+        self.children.add(owner, element.numbers("child"))
         self.pass_over(element)
         places = element.numbers("refChild")
         if places:
-            self.referring.setdefault(element.number("parent"), []).extend(places)
+            self.referring.add(owner, places)
 
-    def referred(self, inode_id):
+    def finish(self):
+        self.referring.finish(self.inodes)
+        self.reference_rows = self.inodes.rows_of(self.references)
+        super().finish()
+
+    def refers(self, row):
+        return self.referring.first[row] != NONE
+
+    def referred(self, row):
         children = []
-        for place in self.referring.pop(inode_id, ()):
+        for at in self.referring.places(row):
+            place = self.referring.numbers[at]
             if place >= len(self.references):
-                told = f"inode {inode_id} has the refChild {place}, and the references are {len(self.references)}"
-                raise Inconsistent(told)
-            child = self.references[place]
-            children.append((self.known(child).name, child))
+                told = f"inode {self.inodes.ids[row]} has the refChild {place}"
+                raise Inconsistent(f"{told}, and the references are {len(self.references)}")
+            child = self.known(self.reference_rows[place], self.references[place])
+            children.append((self.inodes.name(child).decode(), child))
         return children
 
     def check_all_taken(self):
         """What the root does not lead to is held by snapshots alone, if there are any."""
         if not self.snapshots_count:
             super().check_all_taken()
-        self.only_in_snapshots = sum(inode is not None for inode in self.inodes.values())
-        for inode_id in (*self.children, *self.referring):
-            if inode_id not in self.inodes:
-                raise Inconsistent(f"inode {inode_id} is missing")
+        self.only_in_snapshots = self.is_taken.count(False)
+        for lists in (self.children, self.referring):
+            if lists.missing is not None:
+                raise Inconsistent(f"inode {lists.missing} is missing")
 
     def row(self, path, file):
         if is_bare(file) or path in self.bare_paths:
             self.bare_paths.add(path)
             return BARE
         return super().row(path, file)
+
+
+def keys_beside(shape):
+    """The keys of what is not taken of an element of this shape."""
+    return [f"{shape.name}/{child.name}" for child in shape.of(children_of) if child.name not in TAKEN[shape.name]]
+
+
+def keys_in_file(shape):
+    """The keys of what is not taken of an inode, if it is a file or has nothing that only files have."""
+    members = shape.of(named)
+    parts = [shape, *members.get("blocks", ()), *members.get("file-under-construction", ()), *blocks_of(shape)]
+    return [key for part in parts for key in keys_beside(part)]
 
 
 def read_image(name):

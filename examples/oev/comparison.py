@@ -5,25 +5,31 @@ no other code of this project has to be trusted for it. Only where they differ a
 """
 import json
 from collections import Counter
+from functools import cached_property
 from itertools import zip_longest
-from typing import NamedTuple
 
-from formats import to_json
+from formats import row_of, to_json
 
-DIRECTORY = "directory"
-FILE = "file"
+END = b'{"end":'
+DIRECTORY_ENDS = b'"type":"dir"}\n'
+FILE_ENDS = b'"type":"file"}\n'
+BLOCK_BEGINS = b'{"gen":'
 
 
-class Row(NamedTuple):
-    path: str
-    kind: str
-    replication: int
-    closed: bool
-    # Each block as ID:GEN:LEN.
-    blocks: list
+class Line:
+    """A line of a text. It is read only where the other text has another one."""
 
+    def __init__(self, text):
+        self.text = text
+
+    @cached_property
+    def row(self):
+        return row_of(json.loads(self.text))
+
+    @cached_property
     def key(self):
-        return self.path.encode().split(b"/")
+        """What path order goes by: the names, each by its bytes without a sign, as the program prints them."""
+        return self.row.path.encode().split(b"/")
 
 
 class Differences:
@@ -54,35 +60,36 @@ def alike_texts(ours, theirs):
             return alike
         if line != other:
             return None
-        if line.endswith(b'"type":"dir"}\n'):
-            alike["directories"] += 1
-        elif line.endswith(b'"type":"file"}\n'):
-            alike["files"] += 1
-            alike["blocks"] += line.count(b'{"gen":')
+        count(line, alike)
     return None
 
 
-def rows_of(file):
-    """The rows of an image, whose header has been read."""
+def count(line, alike):
+    """Counts a line that both texts have. The line that ends an image counts as nothing."""
+    if line.endswith(DIRECTORY_ENDS):
+        alike["directories"] += 1
+    elif line.endswith(FILE_ENDS):
+        alike["files"] += 1
+        alike["blocks"] += line.count(BLOCK_BEGINS)
+
+
+def lines_of(file):
+    """The lines of an image, whose header has been read."""
     for line in file:
-        members = json.loads(line)
-        if "end" in members:
+        if line.startswith(END):
             return
-        if members["type"] == "dir":
-            yield Row(members["path"], DIRECTORY, 0, True, [])
-        else:
-            blocks = [f"{block['id']}:{block['gen']}:{block['len']}" for block in members["blocks"]]
-            yield Row(members["path"], FILE, members["replication"], members["closed"], blocks)
+        yield Line(line)
 
 
 def merged(ours, theirs):
-    """Pairs of the rows that both have at each path, in path order. None stands for nothing."""
+    """Pairs of the lines that both have at each path, in path order. None stands for nothing."""
     one, other = next(ours, None), next(theirs, None)
     while one or other:
-        if other is None or one and one.key() < other.key():
+        is_same = one and other and one.text == other.text
+        if not is_same and (other is None or one and one.key < other.key):
             yield one, None
             one = next(ours, None)
-        elif one is None or other.key() < one.key():
+        elif not is_same and (one is None or other.key < one.key):
             yield None, other
             other = next(theirs, None)
         else:
@@ -103,7 +110,7 @@ class Alone:
 
     def take(self, row):
         if row.blocks:
-            self.files[row.blocks[0].partition(":")[0]] = row.path
+            self.files[row.blocks[0].id] = row.path
         if self.top is not None and row.path.startswith(f"{self.top.path}/"):
             self.below += 1
             return
@@ -113,7 +120,7 @@ class Alone:
     def flush(self):
         if self.top is not None:
             words = [f"and {self.below:,} below"] if self.below else []
-            self.differences.tell(self.kind, to_json(self.top.path), self.top.kind, *words)
+            self.differences.tell(self.kind, to_json(self.top.path), kind_of(self.top), *words)
         self.top, self.below = None, 0
 
 
@@ -121,21 +128,21 @@ def compare(ours, theirs, differences):
     """Tells how two texts differ, path by path. Answers how many directories, files and blocks are alike."""
     alike = Counter()
     missing, extra = Alone("missing", differences), Alone("extra", differences)
-    for one, other in merged(rows_of(ours), rows_of(theirs)):
+    for one, other in merged(lines_of(ours), lines_of(theirs)):
         if other is None:
-            missing.take(one)
+            missing.take(one.row)
         elif one is None:
-            extra.take(other)
+            extra.take(other.row)
         else:
             missing.flush()
             extra.flush()
-            tell_row(one, other, differences)
-            if one == other:
-                alike["directories" if one.kind == DIRECTORY else "files"] += 1
-                alike["blocks"] += len(one.blocks)
+            if one.text == other.text:
+                count(one.text, alike)
+            else:
+                tell_row(one.row, other.row, differences)
     missing.flush()
     extra.flush()
-    for block in sorted(missing.files.keys() & extra.files.keys(), key=int):
+    for block in sorted(missing.files.keys() & extra.files.keys()):
         differences.tell("moved", to_json(missing.files[block]), to_json(extra.files[block]))
     return alike
 
@@ -143,13 +150,23 @@ def compare(ours, theirs, differences):
 def tell_row(one, other, differences):
     """Tells how what both have at a path differs: first what the log makes of it, then what the image has."""
     path = to_json(one.path)
-    if one.kind != other.kind:
-        differences.tell("kind", path, one.kind, other.kind)
+    if kind_of(one) != kind_of(other):
+        differences.tell("kind", path, kind_of(one), kind_of(other))
         return
     if one.replication != other.replication:
         differences.tell("replication", path, one.replication, other.replication)
     if one.closed != other.closed:
         differences.tell("state", path, *("closed" if row.closed else "open" for row in (one, other)))
-    for place, (block, found) in enumerate(zip_longest(one.blocks, other.blocks, fillvalue="-")):
+    blocks = map(words_of_blocks, (one, other))
+    for place, (block, found) in enumerate(zip_longest(*blocks, fillvalue="-")):
         if block != found:
             differences.tell("block", path, place, block, found)
+
+
+def kind_of(row):
+    return "directory" if row.blocks is None else "file"
+
+
+def words_of_blocks(row):
+    """Each block of a file as ID:GEN:LEN."""
+    return [f"{block.id}:{block.gen}:{block.len}" for block in row.blocks]

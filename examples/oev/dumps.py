@@ -5,12 +5,12 @@ refused, so there are no entities and no references to follow, and tags, texts a
 """
 import re
 from collections import Counter
-from xml.parsers import expat
 
 from formats import Block, Refused, number
+from reading import Reading
+from shapes import children_of, named, only_places
 
 CHUNK_BYTES = 65_536
-DEPTH = 32
 
 # The layouts of Hadoop 2.7 to 3.4.
 LAYOUTS = range(-67, -62)
@@ -22,25 +22,35 @@ ESCAPE = re.compile(r"\\(?:([0-9a-fA-F]{4});)?")
 class Element:
     """An element of a dump: its name, the text of one that has no elements in it, and the elements in it."""
 
-    __slots__ = ("name", "text", "children")
+    __slots__ = ("shape", "texts")
 
-    def __init__(self, name):
-        self.name = name
-        self.text = ""
-        self.children = []
+    def __init__(self, shape, texts):
+        self.shape = shape
+        self.texts = texts
+
+    @property
+    def name(self):
+        return self.shape.name
+
+    @property
+    def text(self):
+        return "" if self.shape.tags else self.texts[self.shape.first]
+
+    @property
+    def children(self):
+        return [Element(child, self.texts) for child in self.shape.of(children_of)]
 
     def all(self, name):
-        return [child for child in self.children if child.name == name]
+        return [Element(child, self.texts) for child in self.shape.of(named).get(name, ())]
 
     def find(self, name):
         """The element of this name, or None."""
-        found = None
-        for child in self.children:
-            if child.name == name:
-                if found is not None:
-                    raise Refused(f"{name} comes {len(self.all(name))} times")
-                found = child
-        return found
+        found = self.shape.of(named).get(name)
+        if found is None:
+            return None
+        if len(found) > 1:
+            raise Refused(f"{name} comes {len(found)} times")
+        return Element(found[0], self.texts)
 
     def get(self, name):
         found = self.find(name)
@@ -48,29 +58,36 @@ class Element:
             raise Refused(f"{name} is missing")
         return found
 
+    def text_of(self, name):
+        """The text of the element of this name."""
+        place = self.shape.of(only_places).get(name)
+        return self.get(name).text if place is None else self.texts[place]
+
     def string(self, name):
         """The text of the element of this name, with its escapes read back. Nothing is stripped."""
-        return unescaped(name, self.get(name).text)
+        return unescaped(name, self.text_of(name))
 
     def number(self, name):
         """The number in the element of this name."""
-        return self.get(name).value()
+        return number_of(name, self.text_of(name))
+
+    def leaves(self):
+        """The names of the elements in it, or None if one of them has elements in it."""
+        names = self.shape.tags[0::2]
+        return None if None in names or any(self.shape.tags[1::2]) else names
 
     def numbers(self, name):
         """The numbers in all elements of this name."""
         return [child.value() for child in self.all(name)]
 
     def value(self):
-        try:
-            return number(self.text)
-        except ValueError as error:
-            raise Refused(f"{self.name}: {error}") from None
+        return number_of(self.name, self.text)
 
     def block_id(self, name):
-        text = self.get(name).text
+        text = self.text_of(name)
         if text.startswith("-"):
             raise Refused(f"the negative block id {text[:40]}, of a striped file or of an old layout")
-        return self.number(name)
+        return number_of(name, text)
 
     def boolean(self, name):
         """Whether the element of this name says true. A missing one says false."""
@@ -83,6 +100,22 @@ class Element:
         """The block whose id, generation stamp and length have these names."""
         block_id = self.block_id(id_name)
         return Block(self.number(stamp_name), block_id, self.number(length_name))
+
+
+def number_of(name, text):
+    """The number that the element of a name spells."""
+    try:
+        return number(text)
+    except ValueError as error:
+        raise Refused(f"{name}: {error}") from None
+
+
+def plain_numbers(texts):
+    """The numbers that texts spell, or None where one of them is no number, or may be too great for a line."""
+    digits = "".join(texts)
+    if not (digits.isascii() and digits.isdigit()) or "" in texts or len(max(texts, key=len)) > 18:
+        return None
+    return list(map(int, texts))
 
 
 def is_same(one, other):
@@ -126,85 +159,8 @@ def elements(file, root, wanted, most, passed=None):
     while not ended:
         chunk = file.read(CHUNK_BYTES)
         ended = not chunk
-        fault = reading.feed(chunk)
-        yield from reading.taken()
+        fault = reading.end_document() if ended else reading.feed(chunk)
+        for place, shape, texts in reading.taken():
+            yield place, Element(shape, texts)
         if fault is not None:
-            raise Refused(f"{file.name}, line {reading.parser.CurrentLineNumber}: {fault}")
-
-
-class Reading:
-    """Builds the wanted elements of a document while expat reads it."""
-
-    def __init__(self, root, wanted, most, passed):
-        self.root = root
-        self.wanted = wanted
-        self.most = most
-        self.passed = passed
-        # The names of all open elements, and those of the open elements that are built.
-        self.place = []
-        self.built = []
-        # The text since the last element began. It is that element's own if no other is in it.
-        self.text = []
-        # Where in the document the outermost element that is built begins, and what was read of the document.
-        self.begun = 0
-        self.fed = 0
-        self.done = []
-        self.parser = expat.ParserCreate("UTF-8")
-        self.parser.buffer_text = True
-        self.parser.StartElementHandler = self.start
-        self.parser.EndElementHandler = self.end
-        self.parser.CharacterDataHandler = self.characters
-        self.parser.StartDoctypeDeclHandler = refuse_document_type
-
-    def feed(self, chunk):
-        """Reads a chunk, or the end of the document where the chunk is empty. Answers what is wrong, or None."""
-        try:
-            self.parser.Parse(chunk, not chunk)
-        except Refused as refused:
-            return refused
-        except expat.ExpatError as error:
-            what = "this is no XML" if chunk else "the document ends in the middle"
-            return f"{what} ({expat.ErrorString(error.code)})"
-        self.fed += len(chunk)
-        if self.fed - (self.begun if self.built else self.parser.CurrentByteIndex) > self.most:
-            return f"an element, a tag or a comment has more than {self.most:,} bytes"
-        return None
-
-    def taken(self):
-        """The wanted elements that ended since this was asked before."""
-        done, self.done = self.done, []
-        return done
-
-    def start(self, name, _attributes):
-        if len(self.place) == DEPTH:
-            raise Refused(f"elements nest deeper than {DEPTH}")
-        if not self.place and name != self.root:
-            raise Refused(f"the document's element is {name[:40]!r}, and not {self.root!r}")
-        self.place.append(name)
-        if self.built:
-            element = Element(name)
-            self.built[-1].children.append(element)
-            self.built.append(element)
-        elif tuple(self.place[1:]) in self.wanted:
-            self.built.append(Element(name))
-            self.begun = self.parser.CurrentByteIndex
-        elif len(self.place) == 3:
-            self.passed["/".join(self.place[1:])] += 1
-        self.text = []
-
-    def characters(self, text):
-        if self.built:
-            self.text.append(text)
-
-    def end(self, _name):
-        if self.built:
-            element = self.built.pop()
-            if not element.children:
-                element.text = "".join(self.text)
-            if not self.built:
-                self.done.append((tuple(self.place[1:]), element))
-        self.place.pop()
-
-
-def refuse_document_type(*_declared):
-    raise Refused("a document type: a dump has none, and no entity is followed")
+            raise Refused(f"{file.name}, line {reading.line()}: {fault}")

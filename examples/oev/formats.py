@@ -1,7 +1,8 @@
 """Paths, numbers, lines and images of this project, as docs/FORMATS.md defines them."""
 import json
 import re
-from typing import NamedTuple
+from json.encoder import encode_basestring
+from typing import NamedTuple, Optional
 
 GREATEST_NUMBER = 2**63 - 1
 LINE_BYTES = 65_536
@@ -16,6 +17,10 @@ FIRST_GEN = 1_001
 NO_BLOCKS = ()
 
 DIGITS = re.compile("[0-9]{1,19}")
+
+# A path, if its characters are bytes, and if there are few enough; and a name, if its characters are bytes.
+PLAIN_PATH = re.compile(rf"(?:/(?!\.\.?(?:/|\Z))[^/:]{{1,{NAME_BYTES}}})+")
+PLAIN_NAME = re.compile(rf"(?!\.\.?\Z)[^/:\\\n]{{1,{NAME_BYTES}}}")
 
 to_json = json.JSONEncoder(ensure_ascii=False, separators=(",", ":"), sort_keys=True).encode
 
@@ -38,6 +43,8 @@ class Block(NamedTuple):
 
 def number(text):
     """The number that a text spells in digits. A ValueError says that a line can't have it."""
+    if len(text) < 19 and text.isascii() and text.isdigit():
+        return int(text)
     spelled = int(text) if DIGITS.fullmatch(text) else GREATEST_NUMBER + 1
     if spelled > GREATEST_NUMBER:
         raise ValueError(f"{text[:40]!r} is not a number from 0 to {GREATEST_NUMBER}")
@@ -46,16 +53,21 @@ def number(text):
 
 def check_name(name):
     """Refuses a name that no path may have."""
-    size = len(name.encode())
+    size = len(name) if name.isascii() else len(name.encode())
     if not 1 <= size <= NAME_BYTES:
         raise Refused(f"a name of {size} bytes, where 1 to {NAME_BYTES} are allowed")
     if "/" in name or ":" in name or name in (".", ".."):
         raise Refused(f"the name {to_json(name)}, which no path may have")
 
 
+def is_plain_name(text):
+    """Whether a text of a dump is at once seen to be a name, without escapes and line feeds."""
+    return text.isascii() and PLAIN_NAME.fullmatch(text) is not None
+
+
 def check_path(path):
     """Refuses a text that is no path."""
-    if path == "/":
+    if path == "/" or path.isascii() and len(path) <= PATH_NAMES and PLAIN_PATH.fullmatch(path):
         return
     if not path.startswith("/"):
         raise Refused(f"the path {to_json(path)}, which does not begin with a slash")
@@ -71,14 +83,19 @@ def line_of(edit, txid):
     """The line of an edit, with its line feed. An edit is a dictionary of the line's members without the number."""
     if txid > GREATEST_NUMBER:
         raise Refused(f"there is no number above {GREATEST_NUMBER}")
-    members = {**edit, "txid": txid}
-    if "blocks" in edit:
-        members["blocks"] = [block._asdict() for block in edit["blocks"]]
-    line = to_json(members).encode()
+    members = [f'"{name}":{text_of(value)}' for name, value in sorted({**edit, "txid": txid}.items())]
+    line = f"{{{','.join(members)}}}".encode()
     if len(line) > LINE_BYTES:
         blocks = f": {to_json(edit['path'])} has {len(edit['blocks']):,} blocks" if "blocks" in edit else ""
         raise Refused(f"its line would have {len(line):,} bytes, and {LINE_BYTES:,} are allowed{blocks}")
     return line + b"\n"
+
+
+def text_of(value):
+    """The JSON of what a member of an edit may be: a number, a text or blocks."""
+    if isinstance(value, str):
+        return encode_basestring(value)
+    return str(value) if isinstance(value, int) else f"[{blocks_text(value)}]"
 
 
 def image_header(last_block, last_gen, awaiting, txid):
@@ -88,12 +105,18 @@ def image_header(last_block, last_gen, awaiting, txid):
 
 
 def image_directory(path):
-    return image_line({"path": path, "type": "dir"})
+    return f'{{"path":{encode_basestring(path)},"type":"dir"}}\n'.encode()
 
 
 def image_file(path, replication, closed, blocks):
-    listed = [block._asdict() for block in blocks]
-    return image_line({"blocks": listed, "closed": closed, "path": path, "replication": replication, "type": "file"})
+    listed = blocks_text(blocks)
+    state = "true" if closed else "false"
+    members = f'"closed":{state},"path":{encode_basestring(path)},"replication":{replication},"type":"file"'
+    return f'{{"blocks":[{listed}],{members}}}\n'.encode()
+
+
+def blocks_text(blocks):
+    return ",".join([f'{{"gen":{gen},"id":{block_id},"len":{length}}}' for gen, block_id, length in blocks])
 
 
 def image_end(paths):
@@ -102,6 +125,22 @@ def image_end(paths):
 
 def image_line(members):
     return to_json(members).encode() + b"\n"
+
+
+class Row(NamedTuple):
+    """What a line of an image has of a path. A directory has no blocks, None."""
+
+    path: str
+    replication: Optional[int]
+    closed: bool
+    blocks: Optional[list]
+
+
+def row_of(members):
+    if members["type"] == "dir":
+        return Row(members["path"], None, True, None)
+    blocks = [Block(block["gen"], block["id"], block["len"]) for block in members["blocks"]]
+    return Row(members["path"], members.get("replication"), members["closed"], blocks)
 
 
 class Image:
@@ -140,22 +179,14 @@ class Image:
         return members
 
     def rows(self):
-        """Each path, with None for a directory, or the file's state (closed or not) and its blocks."""
+        """The row of each path, which has to be one that a path may be."""
         paths = 0
         while "end" not in (members := self.members(self.file.readline())):
             paths += 1
             try:
-                yield self.row(members)
+                check_path(members["path"])
+                yield row_of(members)
             except (KeyError, TypeError, AttributeError):
                 raise Refused(f"line {self.number} of the image is no directory and no file") from None
         if members["end"] != paths:
             raise Refused(f"the image ends with another count than its {paths} paths")
-
-    @staticmethod
-    def row(members):
-        path = members["path"]
-        check_path(path)
-        if members["type"] == "dir":
-            return path, None
-        blocks = [Block(block["gen"], block["id"], block["len"]) for block in members["blocks"]]
-        return path, (members["closed"], blocks)

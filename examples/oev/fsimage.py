@@ -3,12 +3,16 @@
 A dump is refused where it can't be read, or has something that nothing here stands for. It is inconsistent where it
 contradicts itself, which an image of a sound NameNode never does.
 """
+from array import array
 from collections import Counter
-from typing import NamedTuple, Optional
+from operator import lt
+from typing import NamedTuple
 
 import formats
-from dumps import check_layout, elements
-from formats import Refused, to_json
+from dumps import check_layout, elements, plain_numbers
+from formats import Refused, is_plain_name, to_json
+from inodes import CLOSED, DIRECTORY, NONE, OPEN, File, Inodes, Lists
+from shapes import named, only_places
 
 ROOT = 16385
 
@@ -16,13 +20,22 @@ LAYOUT = ("version", "layoutVersion")
 NUMBERS = ("NameSection",)
 COUNT = ("INodeSection", "numInodes")
 INODE = ("INodeSection", "inode")
-DIRECTORY = ("INodeDirectorySection", "directory")
+LIST = ("INodeDirectorySection", "directory")
 SNAPSHOTS = ("SnapshotSection", "numSnapshots")
 
 # A directory has 1,048,576 children at most, unless a NameNode is told otherwise. They have some 26,000,000 bytes.
 SECTION_BYTES = 67_108_864
 
-# A NameNode compares names by their bytes as Java has them, from -128 to 127. This turns them into bytes in that order.
+# What only files have, and how often it comes in the form of an inode.
+OF_FILES = {"blockType": 0, "blocks": 1, "erasureCodingPolicyId": 0, "file-under-construction": 1, "replication": 1}
+
+# A path of so few characters has neither too many bytes nor too many names.
+SHORT_PATH = formats.PATH_BYTES // 4
+
+# Names have two orders, which differ where a name is not ASCII. A NameNode searches the children of a directory by
+# comparing bytes as Java has them, signed, from -128 to 127. So a dump has them in that order, and it is looked at. An
+# image of this project has paths by their bytes without a sign, from 0 to 255. So children are sorted anew. This turns
+# bytes into those whose order without a sign is that of the first ones with a sign.
 SIGNED = bytes(byte ^ 0x80 for byte in range(256))
 
 
@@ -30,16 +43,38 @@ class Inconsistent(Refused):
     """An image that contradicts itself."""
 
 
-class File(NamedTuple):
-    replication: int
+class Form(NamedTuple):
+    """Where most inodes of a shape have what is taken of them: the places of texts."""
+
+    kind: str
     closed: bool
-    blocks: list
+    type: int
+    name: int
+    # The id, then the replication of a file, and of each of its blocks the stamp, the id and the length.
+    numbers: list
 
 
-class Inode(NamedTuple):
-    name: str
-    # None for a directory.
-    file: Optional[File]
+def form_of(shape):
+    """The form of a shape, or False where something is missing or comes twice, or may tell of a striped file."""
+    members, places = shape.of(named), shape.of(only_places)
+    numbers = [places.get("id")]
+    if OF_FILES.keys() & members.keys():
+        kind = "FILE"
+        numbers.append(places.get("replication"))
+        for block in blocks_of(shape):
+            numbers += map(block.of(only_places).get, ("genstamp", "id", "numBytes"))
+    else:
+        kind = "DIRECTORY"
+    of_type, of_name = places.get("type"), places.get("name")
+    is_common = all(len(members.get(name, ())) <= most for name, most in OF_FILES.items())
+    if None in (of_type, of_name, *numbers) or not is_common:
+        return False
+    return Form(kind, "file-under-construction" not in members, of_type, of_name, numbers)
+
+
+def blocks_of(shape):
+    """The shapes of the blocks in that of an inode."""
+    return [block for listed in shape.of(named).get("blocks", ()) for block in listed.of(named).get("block", ())]
 
 
 class Dump:
@@ -50,29 +85,44 @@ class Dump:
         self.has_layout = False
         # How many inodes the image says that it has.
         self.count = None
-        # An inode becomes None once a directory has it.
-        self.inodes = {}
-        self.children = {}
+        self.inodes = Inodes()
+        # The ids that each directory lists.
+        self.children = Lists()
+        # Blocks of layouts before this stamp have stamps below it, if it is known.
+        self.first_gen = 0
         # The greatest id and the greatest stamp of a block.
         self.greatest_block = 0
         self.greatest_gen = 0
         # How often each element came that is not taken.
         self.passed = Counter()
-        self.readers = {
+
+    def readers(self):
+        """What reads the elements that are wanted, by their places."""
+        return {
             LAYOUT: self.layout,
             NUMBERS: self.take_numbers,
             COUNT: self.take_count,
             INODE: self.inode,
-            DIRECTORY: self.directory,
+            LIST: self.directory,
             SNAPSHOTS: self.snapshots,
         }
 
     def read(self, file):
         """Reads a dump, and answers this."""
-        for place, element in elements(file, "fsimage", set(self.readers), SECTION_BYTES, self.passed):
-            self.readers[place](element)
+        readers = self.readers()
+        for place, element in elements(file, "fsimage", set(readers), SECTION_BYTES, self.passed):
+            readers[place](element)
         self.check_whole()
+        self.finish()
         return self
+
+    def finish(self):
+        """Finds the inodes of all ids. An inode is taken once a directory has it."""
+        self.children.finish(self.inodes)
+        self.child_rows = self.inodes.rows_of(self.children.numbers)
+        self.is_taken = bytearray(len(self.inodes))
+        self.root = self.inodes.rows_of([ROOT])[0]
+        self.inodes.finish()
 
     def layout(self, element):
         check_layout(element)
@@ -88,17 +138,47 @@ class Dump:
         self.count = element.value()
 
     def inode(self, element):
+        if not self.add_plain(element):
+            self.add(element)
+
+    def add_plain(self, element):
+        """Adds an inode if it is such as most are. Answers whether it was: what is wrong is for `add` to tell."""
+        form, texts = element.shape.of(form_of), element.texts
+        if not form or texts[form.type] != form.kind or not is_plain_name(texts[form.name]):
+            return False
+        numbers = plain_numbers([texts[place] for place in form.numbers])
+        if numbers is None or numbers[0] in self.inodes:
+            return False
+        if form.kind == "DIRECTORY":
+            self.inodes.add(numbers[0], texts[form.name].encode(), DIRECTORY)
+            return True
+        inode_id, replication, *blocks = numbers
+        stamps, ids = blocks[0::3], blocks[1::3]
+        if blocks:
+            if min(ids) < formats.FIRST_BLOCK_ID or min(stamps) < self.first_gen:
+                return False
+            self.greatest_block = max(self.greatest_block, *ids)
+            self.greatest_gen = max(self.greatest_gen, *stamps)
+        self.inodes.add(inode_id, texts[form.name].encode(), CLOSED if form.closed else OPEN, replication, blocks)
+        return True
+
+    def add(self, element):
         inode_id = element.number("id")
         if inode_id in self.inodes:
             raise Inconsistent(f"inode {inode_id} comes twice")
         try:
-            inode = Inode(element.string("name"), self.file_of(element))
+            name, file = element.string("name"), self.file_of(element)
             if inode_id != ROOT:
-                formats.check_name(inode.name)
+                formats.check_name(name)
         except Refused as refused:
             raise Refused(f"inode {inode_id}: {refused}") from None
-        self.inodes[inode_id] = inode
-        for block in inode.file.blocks if inode.file else ():
+        # No path has the name of the root.
+        name = b"" if inode_id == ROOT else name.encode()
+        if file is None:
+            self.inodes.add(inode_id, name, DIRECTORY)
+            return
+        self.inodes.add_file(inode_id, name, file)
+        for block in file.blocks:
             self.greatest_block = max(self.greatest_block, block.id)
             self.greatest_gen = max(self.greatest_gen, block.gen)
 
@@ -118,9 +198,22 @@ class Dump:
         return File(inode.number("replication"), is_closed(inode), blocks)
 
     def directory(self, element):
+        if not self.list_plain(element):
+            self.list(element)
+
+    def list_plain(self, element):
+        """Takes the children of a directory that lists nothing else. Answers whether that was seen at once."""
+        names = element.leaves()
+        is_plain = names and names[0] == "parent" and names.count("child") == len(names) - 1
+        numbers = plain_numbers(element.texts) if is_plain else None
+        if numbers is not None:
+            self.children.add(numbers[0], numbers[1:])
+        return numbers is not None
+
+    def list(self, element):
         if element.all("refChild"):
             raise Refused("a directory has a refChild, and there are no snapshots here")
-        self.children.setdefault(element.number("parent"), []).extend(element.numbers("child"))
+        self.children.add(element.number("parent"), element.numbers("child"))
 
     @staticmethod
     def snapshots(count):
@@ -149,52 +242,70 @@ class Dump:
 
     def paths(self):
         """Each path except the root, in path order, with its file, or None for a directory. To be asked once."""
-        ahead = [("", ROOT)]
+        self.take(self.root, ROOT)
+        # For each directory that is open: its path, and the rows in it that are ahead.
+        ahead = [("", self.rows_below("", self.root))] if self.children.first[self.root] != NONE else []
         while ahead:
-            path, inode_id = ahead.pop()
-            file = self.taken(inode_id).file
-            if path:
+            above, rows = ahead[-1]
+            row = next(rows, None)
+            if row is None:
+                ahead.pop()
+                continue
+            self.take(row, self.inodes.ids[row])
+            path = f"{above}/{self.inodes.name(row).decode()}"
+            # Its names were looked at, so that a shorter path is one: a character has four bytes at most.
+            if len(path) > SHORT_PATH:
                 formats.check_path(path)
-                yield path, file
-            if file and inode_id in self.children:
-                raise Inconsistent(f"inode {inode_id} is a file with children")
-            below = self.below(path or "/", inode_id)
-            ahead += [(f"{path}/{name}", child) for name, child in reversed(below)]
+            yield path, self.inodes.file(row)
+            if self.children.first[row] != NONE:
+                ahead.append((path, self.rows_below(path, row)))
         self.check_all_taken()
 
-    def below(self, path, inode_id):
-        """The names and ids of a directory's children, in path order."""
-        listed = [(self.known(child).name, child) for child in self.children.pop(inode_id, ())]
-        check_order(path, [name for name, _ in listed])
-        below = sorted(listed + self.referred(inode_id), key=lambda child: child[0].encode())
-        check_different(path, below)
-        return below
+    def rows_below(self, path, row):
+        """The rows of what a directory has, in path order."""
+        if self.inodes.file(row):
+            raise Inconsistent(f"inode {self.inodes.ids[row]} is a file with children")
+        places = self.children.places(row)
+        rows = [self.known(self.child_rows[place], self.children.numbers[place]) for place in places]
+        names = list(map(self.inodes.name, rows))
+        if not (is_in_any_order(names) and is_ascending(names)) or self.refers(row):
+            rows = self.sorted_below(path or "/", row, rows)
+        return iter(array("i", rows))
 
-    def referred(self, _inode_id):
-        """The names and ids of the children that a directory refers to, because a snapshot has them too."""
+    def sorted_below(self, path, row, rows):
+        """What a directory has, in path order, where that is not seen at once."""
+        listed = [(self.inodes.name(row).decode(), row) for row in rows]
+        check_order(path, [name for name, _ in listed])
+        below = sorted(listed + self.referred(row), key=lambda child: child[0].encode())
+        check_different(path, [(name, self.inodes.ids[row]) for name, row in below])
+        return [row for _, row in below]
+
+    def refers(self, _row):
+        """Whether a directory refers to children, because a snapshot has them too."""
+        return False
+
+    def referred(self, _row):
+        """The names and rows of the children that a directory refers to."""
         return []
 
-    def known(self, inode_id):
-        """An inode that no directory has yet."""
-        if inode_id not in self.inodes:
+    def known(self, row, inode_id):
+        """The row of an inode that no directory has yet."""
+        if row == NONE:
             raise Inconsistent(f"inode {inode_id} is missing")
-        inode = self.inodes[inode_id]
-        if inode is None:
+        if self.is_taken[row]:
             raise Inconsistent(f"inode {inode_id} is in two directories")
-        return inode
+        return row
 
-    def taken(self, inode_id):
-        inode = self.known(inode_id)
-        self.inodes[inode_id] = None
-        return inode
+    def take(self, row, inode_id):
+        self.is_taken[self.known(row, inode_id)] = True
 
     def check_all_taken(self):
         """Refuses what the root does not lead to."""
-        for inode_id, inode in self.inodes.items():
-            if inode is not None:
-                raise Inconsistent(f"inode {inode_id} is in no directory")
-        for inode_id in self.children:
-            raise Inconsistent(f"inode {inode_id} is missing")
+        row = self.is_taken.find(False)
+        if row != NONE:
+            raise Inconsistent(f"inode {self.inodes.ids[row]} is in no directory")
+        if self.children.missing is not None:
+            raise Inconsistent(f"inode {self.children.missing} is missing")
 
     def rows(self):
         """Each path with its file, as an image of this project has them, or None for a directory."""
@@ -209,6 +320,16 @@ class Dump:
             if block.id > self.last_block:
                 raise Inconsistent(f"{path} has the block id {block.id}, above the last one, {self.last_block}")
         return file
+
+
+def is_in_any_order(names):
+    """Whether it makes no difference for names if their bytes are signed, and if a line feed is a carriage return."""
+    text = b"".join(names)
+    return text.isascii() and b"\n" not in text
+
+
+def is_ascending(names):
+    return all(map(lt, names, names[1:]))
 
 
 def check_order(path, names):

@@ -1,4 +1,6 @@
 """What `check` tries of images: small dumps, each with what the converter has to make of it."""
+import re
+
 from cases import FIRST_ID, LAYOUT, LAYOUTS, document, member
 
 
@@ -62,8 +64,70 @@ def children_lines(*names):
     return lines(*(f'{{"path":"/{name}","type":"dir"}}\n' for name in names), last_block=NO_ID)
 
 
+# So many inodes that a dump of them is read in several pieces, each in its own line, and the image of them.
+MANY = [f"d{number:04}" for number in range(3000)]
+MANY_LINES = children_lines(*MANY)
+SOME_PLACES = (9, 2000, 2001, 2900)
+
+
+def many_image(words):
+    """A dump of many directories. Those at some places stand in other words."""
+    inodes = [inode(number, "DIRECTORY", name, member("mtime", number)) for number, name in enumerate(MANY, 16386)]
+    for place, text in words.items():
+        inodes[place] = text(inodes[place])
+    below = directory(16385, *range(16386, 16386 + len(MANY)))
+    return image([f"{text}\n" for text in [ROOT, *inodes]], [below], last_block=NO_ID)
+
+
+# Other words for an inode that mean the same.
+OTHER_WORDS = [
+    lambda text: text.replace("<name>", "<name><!-- > -->"),
+    lambda text: text.replace("<name>d", "<name>&#100;"),
+    lambda text: text.replace("<name>d", "<name>\\0064;"),
+    lambda text: text.replace("<name>d", "<name><![CDATA[d]]>"),
+    lambda text: text.replace("<inode>", "<inode a='>'>"),
+    lambda text: text.replace("</id>", "</id >\n\t"),
+    lambda text: text.replace("</name>", "</name><name2>a > b</name2>"),
+    lambda text: text.replace("</name>", "</name><mtime/><é>é</é>"),
+    lambda text: f"<!-- {inode(16385, 'FILE', 'a')} -->{text}",
+    lambda text: f"<other>{inode(16385, 'FILE', 'a')}</other>{text}",
+    lambda text: f"<![CDATA[{inode(16385, 'FILE', 'a')}]]>{text}",
+    lambda text: f"<?p {inode(16385, 'FILE', 'a')}?>{text}",
+]
+
+
+def sections(text):
+    """The sections of a dump, in its order."""
+    names = "version|NameSection|INodeSection|SnapshotSection|INodeDirectorySection"
+    return [found[0] for found in re.finditer(rf"<({names})>.*?</\1>", text)]
+
+
 # A name, a dump of an image, and the image.
 CONVERTED_IMAGES = [
+    ("many inodes", many_image({}), MANY_LINES),
+    *(
+        (f"many inodes, some in other words, {number}", many_image(dict.fromkeys(SOME_PLACES, text)), MANY_LINES)
+        for number, text in enumerate(OTHER_WORDS, 1)
+    ),
+    (
+        "many inodes in other words, one behind another",
+        many_image({300 + place: OTHER_WORDS[place % len(OTHER_WORDS)] for place in range(2600)}),
+        MANY_LINES,
+    ),
+    (
+        "sections in another order",
+        member("fsimage", "".join(reversed(sections(file_image(image_block(FIRST_ID)))))),
+        file_lines(FIRST_ID),
+    ),
+    (
+        "children in two lists of a directory, of which one is before the inodes",
+        image(
+            [inode(16390, "DIRECTORY", "c"), inode(16386, "DIRECTORY", "a"), ROOT],
+            [directory(16385, 16390), directory(16386)],
+            last_block=NO_ID,
+        ).replace("<INodeSection>", f"{member('INodeDirectorySection', directory(16385, 16386))}<INodeSection>"),
+        children_lines("a", "c"),
+    ),
     ("no id was issued", image([ROOT], [], last_block=NO_ID), lines(last_block=NO_ID)),
     ("an id that was issued, and no file has it", image([ROOT], []), lines(awaiting=FIRST_ID)),
     ("an id that was issued, and a file has it", file_image(image_block(FIRST_ID)), file_lines(FIRST_ID)),
@@ -107,8 +171,25 @@ CONVERTED_IMAGES = [
     ),
 ]
 
+# What is wrong with an inode far behind, and the reason.
+WRONG = [
+    ("an inode twice", lambda text: text + ROOT, "inode 16385 comes twice"),
+    ("an id that is no number", lambda text: text.replace("<id>", "<id> "), "id: ' 18386' is not a number"),
+    ("a name that no path may have", lambda text: text.replace("d2000", ".."), 'inode 18386: the name ".."'),
+    ("a name of 256 bytes", lambda text: text.replace("d2000", "n" * 256), "inode 18386: a name of 256 bytes"),
+    ("an inode without a name", lambda text: text.replace("name", "other"), "inode 18386: name is missing"),
+    ("two names", lambda text: text.replace("<mtime>", "<name/><mtime>"), "inode 18386: name comes 2 times"),
+    ("a name out of order", lambda text: text.replace("d2000", "d3"), 'the child "d2001" is behind "d3", out of order'),
+    ("tags that do not match", lambda text: text.replace("</id>", "</ie>"), "line 2002: this is no XML (mismatched"),
+    ("a sign of a tag", lambda text: text.replace("d2000", "d<2000"), "line 2002: this is no XML (not well"),
+    ("the end of a section", lambda text: text.replace("d2000", "d]]>"), "line 2002: this is no XML (not well"),
+    ("a byte that no text has", lambda text: text.replace("d2000", "d\x01"), "line 2002: this is no XML (not well"),
+    ("a deep nest of tags", lambda text: text.replace("<name>", "<a>" * 40), "line 2002: elements nest deeper than 32"),
+]
+
 # A name, a dump of an image, and what the reason has in it.
 REFUSED_IMAGES = [
+    *((f"{name} among many", many_image({2000: text}), reason) for name, text, reason in WRONG),
     ("a symbolic link", image([ROOT, inode(16386, "SYMLINK", "l")], []), "inode 16386: its type is 'SYMLINK'"),
     ("a striped file", file_image(member("erasureCodingPolicyId", 1)), "inode 16386: the file is striped"),
     ("a file of block groups", file_image(member("blockType", "STRIPED")), "the file is striped"),
@@ -191,3 +272,31 @@ REFUSED_IMAGES = [
     ("an image that ends in the middle", image([ROOT], [])[:-9], "ends in the middle"),
     ("an entity", f"<!DOCTYPE fsimage [<!ENTITY a 'a'>]>{image([ROOT], [])}", "a document type"),
 ]
+
+
+def too_long():
+    """Elements of more than 64 MB: of each its name, and the text of a dump."""
+    begin = f"<fsimage><INodeSection>{ROOT}<inode>"
+    yield "an inode of long tags", begin + 6_800 * f"<a b='{'c' * 10_000}'/>"
+    yield "an inode of a long text", begin + 68_000_000 * "a"
+
+
+def files_image(count):
+    """A dump of an image with so many files in one directory, each with a block, in pieces."""
+    below = directory(16385, *range(16386, 16386 + count))
+    begin, end = image([ROOT, "|"], [below], last_block=NO_ID + count).split("|")
+    yield begin.replace("numInodes>2<", f"numInodes>{count + 1}<")
+    for place in range(count):
+        members = FILE, member("mtime", 1_699_990_300_000 + place), image_block(FIRST_ID + place)
+        yield inode(16386 + place, "FILE", f"part-{place:07}", *members)
+    yield end
+
+
+def files_lines(count):
+    """The lines of that image."""
+    header, end = lines(last_block=NO_ID + count).splitlines(True)
+    yield header
+    for place in range(count):
+        blocks = f'[{{"gen":1001,"id":{FIRST_ID + place},"len":5}}]'
+        yield f'{{"blocks":{blocks},"closed":true,"path":"/part-{place:07}","replication":3,"type":"file"}}\n'
+    yield end.replace("0", str(count))

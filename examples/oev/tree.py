@@ -1,4 +1,7 @@
 """The names that exist: what an image has, and what the log made of it since."""
+from array import array
+from itertools import chain
+
 from formats import Block
 
 CHANGES_OF_FILES = {"OP_ADD_BLOCK", "OP_UPDATE_BLOCKS", "OP_CLOSE", "OP_APPEND"}
@@ -17,14 +20,15 @@ class File:
 class Tree:
     """A directory is a dictionary from names to what they name, and anything else is a file.
 
-    The tree follows edits and judges none: one that does not apply leaves it as it is, and the program refuses it.
+    A file of an image is packed into bytes until it is looked for, since a log names few of them. The tree follows
+    edits and judges none: one that does not apply leaves it as it is, and the program refuses it.
     """
 
     def __init__(self):
         self.root = {}
 
     def find(self, path):
-        """The directory or file at a path, or None."""
+        """The directory or file at a path, which may be packed, or None."""
         node = self.root
         for name in path[1:].split("/") if path != "/" else ():
             node = node.get(name) if is_directory(node) else None
@@ -33,6 +37,9 @@ class Tree:
     def find_file(self, path):
         """The file at a path, or None."""
         node = self.find(path)
+        if isinstance(node, bytes):
+            directory, name = self.place(path)
+            node = directory[name] = unpacked(node)
         return node if isinstance(node, File) else None
 
     def place(self, path):
@@ -85,6 +92,22 @@ def apply_to_file(file, edit):
         file.closed = edit["op"] == "OP_CLOSE"
 
 
+def packed(closed, blocks):
+    """A file in few bytes, or as such where a line of an image has other values than a program writes."""
+    try:
+        numbers = array("q", chain.from_iterable(blocks))
+    except (TypeError, OverflowError):
+        return File(closed, blocks)
+    return bytes((closed,)) + numbers.tobytes() if type(closed) is bool else File(closed, blocks)
+
+
+def unpacked(file):
+    numbers = array("q")
+    numbers.frombytes(file[1:])
+    numbers = iter(numbers)
+    return File(file[0] == 1, list(map(Block, numbers, numbers, numbers)))
+
+
 def is_directory(node):
     return isinstance(node, dict)
 
@@ -92,6 +115,6 @@ def is_directory(node):
 def tree_of(image):
     """The tree of the names in an image."""
     tree = Tree()
-    for path, file in image.rows():
-        tree.put(path, {} if file is None else File(*file))
+    for row in image.rows():
+        tree.put(row.path, {} if row.blocks is None else packed(row.closed, row.blocks))
     return tree

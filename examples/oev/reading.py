@@ -1,0 +1,281 @@
+"""Reads a dump as a stream, and notes the elements in it that are wanted.
+
+Expat reads the document. Where an element has ended and another one of its name follows, there is a short way: if
+its tags are the same bytes as those of one that expat has read, they mean the same, and only its texts are taken.
+"""
+from operator import itemgetter
+from xml.parsers import expat
+
+from formats import Refused
+from shapes import Shape
+
+DEPTH = 32
+TOO_DEEP = f"elements nest deeper than {DEPTH}"
+
+# So many shapes are kept for the elements that are to come, and only those with so few tags.
+SHAPES = 500
+SHAPE_TAGS = 500
+
+# So many bytes of an element that has not ended wait for the rest.
+HELD_BYTES = 65_536
+
+# What the short way takes beside the signs of tags. Such characters mean what they are.
+PLAIN = b"\n" + bytes(set(range(0x20, 0x7F)) - set(b"&<>"))
+
+
+class Reading:
+    """Notes the wanted elements of a document while expat reads it."""
+
+    def __init__(self, root, wanted, most, passed):
+        self.root = root
+        self.wanted = wanted
+        self.most = most
+        self.passed = passed
+        # The names of the open elements outside of a wanted one and of that itself, and how many elements are open.
+        self.place = []
+        self.depth = 0
+        # The place of the wanted element, what is in it, as its shape has it, and the texts there.
+        self.wanted_place = None
+        self.tags = []
+        self.texts = []
+        # The text since the last element began. It is that element's own if no other is in it.
+        self.text = []
+        # Where the wanted element begins, or None outside of one. What expat was fed before the last piece, and that.
+        self.begun = None
+        self.fed = 0
+        self.piece = b""
+        self.done = []
+        self.shapes = {}
+        self.repeats = Repeats()
+        # The tags of the wanted element that ended last, and whether that was the last that expat read.
+        self.start_tag = self.end_tag = b""
+        self.is_between = False
+        # What waits to be read, and the lines that expat was not fed.
+        self.held = b""
+        self.lines_passed = 0
+        self.parser = expat.ParserCreate("UTF-8")
+        self.parser.buffer_text = True
+        self.parser.StartElementHandler = self.start_outside
+        self.parser.EndElementHandler = self.end_outside
+        self.parser.CharacterDataHandler = self.text.append
+        self.parser.StartDoctypeDeclHandler = refuse_document_type
+
+    def line(self):
+        """The line that was reached."""
+        return self.parser.CurrentLineNumber + self.lines_passed
+
+    def taken(self):
+        """The wanted elements that ended since this was asked before: of each its place, its shape and its texts."""
+        done, self.done = self.done, []
+        return done
+
+    def feed(self, chunk):
+        """Reads a chunk. Answers what is wrong, or None."""
+        try:
+            self.read(chunk)
+        except Refused as refused:
+            return refused
+        except expat.ExpatError as error:
+            return f"this is no XML ({expat.ErrorString(error.code)})"
+        if self.fed - (self.parser.CurrentByteIndex if self.begun is None else self.begun) > self.most:
+            return f"an element, a tag or a comment has more than {self.most:,} bytes"
+        if self.begun is None:
+            self.text.clear()
+        return None
+
+    def end_document(self):
+        """The document ends. Answers what is wrong, or None."""
+        fault = self.feed(b"")
+        if fault is not None:
+            return fault
+        try:
+            self.parser.Parse(b"", True)
+        except Refused as refused:
+            return refused
+        except expat.ExpatError as error:
+            return f"the document ends in the middle ({expat.ErrorString(error.code)})"
+        return None
+
+    def read(self, chunk):
+        """Reads what is held, and a chunk. The beginning of an element that may repeat another one is held."""
+        data, at = self.held + chunk, 0
+        self.held = b""
+        if not self.is_between and self.end_tag:
+            at = self.parse_element(data, at)
+        while self.is_between:
+            at = self.read_repeats(data, at)
+            behind = self.parse_element(data, at)
+            if behind == at:
+                break
+            at = behind
+        if self.is_between and chunk and len(data) - at <= HELD_BYTES:
+            self.held = data[at:]
+        else:
+            self.parse(data[at:])
+
+    def parse_element(self, data, at):
+        """Parses up to where the next element of the last name ends. Answers that place, or `at` if there is none."""
+        end = data.find(self.end_tag, at)
+        if end < 0:
+            return at
+        end += len(self.end_tag)
+        self.parse(data[at:end])
+        return end
+
+    def parse(self, piece):
+        """Lets expat read a piece. `is_between` says then whether a wanted element ends with it."""
+        self.is_between = False
+        self.piece = piece
+        self.parser.Parse(piece, False)
+        self.fed += len(piece)
+
+    def read_repeats(self, data, at):
+        """Reads the elements that repeat others. Answers the place behind them."""
+        while True:
+            begin = data.find(b"<", at)
+            if not data.startswith(self.start_tag, begin) or data[at:begin].strip(b"\n "):
+                return at
+            end = data.find(self.end_tag, begin)
+            found = self.repeats.find(data[begin:end]) if end > 0 else None
+            if found is None:
+                return at
+            self.done.append((self.wanted_place, *found))
+            end += len(self.end_tag)
+            self.lines_passed += data.count(b"\n", at, end)
+            at = end
+
+    def start_outside(self, name, _attributes):
+        if self.depth == DEPTH:
+            raise Refused(TOO_DEEP)
+        if not self.place and name != self.root:
+            raise Refused(f"the document's element is {name[:40]!r}, and not {self.root!r}")
+        self.depth += 1
+        self.place.append(name)
+        place = tuple(self.place[1:])
+        if place in self.wanted:
+            self.begin(place)
+        elif len(place) == 2:
+            self.passed["/".join(place)] += 1
+
+    def end_outside(self, _name):
+        self.depth -= 1
+        self.place.pop()
+
+    def begin(self, place):
+        """A wanted element begins."""
+        self.begun = self.parser.CurrentByteIndex
+        self.wanted_place = place
+        self.tags = []
+        self.texts = []
+        self.text.clear()
+        self.parser.StartElementHandler = self.start
+        self.parser.EndElementHandler = self.end
+
+    def start(self, name, _attributes):
+        if self.depth == DEPTH:
+            raise Refused(TOO_DEEP)
+        self.depth += 1
+        self.tags.append(name)
+        if self.text:
+            self.text.clear()
+
+    def end(self, _name):
+        tags = self.tags
+        # An element without elements ends right behind its beginning.
+        if not tags or tags[-1] is not None:
+            self.texts.append("".join(self.text))
+        self.depth -= 1
+        if self.depth >= len(self.place):
+            tags.append(None)
+        else:
+            self.finish()
+
+    def finish(self):
+        """A wanted element ends."""
+        name, shape = self.place.pop(), self.shape()
+        self.done.append((self.wanted_place, shape, self.texts))
+        ends = self.parser.CurrentByteIndex
+        if self.begun >= self.fed:
+            self.repeats.learn(self.piece[self.begun - self.fed : ends - self.fed], shape)
+        self.start_tag, self.end_tag = f"<{name}>".encode(), f"</{name}>".encode()
+        self.is_between = ends + len(self.end_tag) == self.fed + len(self.piece)
+        self.begun = None
+        self.parser.StartElementHandler = self.start_outside
+        self.parser.EndElementHandler = self.end_outside
+
+    def shape(self):
+        """The shape of the wanted element. Small ones are kept, but not very many."""
+        name, tags = self.wanted_place[-1], self.tags
+        if len(tags) > SHAPE_TAGS:
+            return Shape(name, tags)
+        return kept(self.shapes, (name, *tags), lambda: Shape(name, tags))
+
+
+def kept(shapes, key, make):
+    """What is kept under a key, or is made and kept now."""
+    if key not in shapes:
+        if len(shapes) == SHAPES:
+            shapes.clear()
+        shapes[key] = make()
+    return shapes[key]
+
+
+class Repeats:
+    """The tags of elements that were read, each with their shape and the places of their texts."""
+
+    def __init__(self):
+        self.known = {}
+
+    def learn(self, element, shape):
+        """Takes the bytes of an element, up to its end tag, with the shape that expat found."""
+        parts = parts_of(element) if len(shape.tags) <= SHAPE_TAGS else None
+        places = parts and places_of_texts(parts[3::2], shape.tags)
+        if places and parts[1] == shape.name:
+            kept(self.known, tuple(parts[1::2]), lambda: (shape, picker(places)))
+
+    def find(self, element):
+        """The shape and the texts of an element, by its bytes up to its end tag, or None if no such one was read."""
+        parts = parts_of(element)
+        found = self.known.get(tuple(parts[1::2])) if parts else None
+        return found and (found[0], found[1](parts))
+
+
+def parts_of(element):
+    """What stands before the first tag of an element, that tag, what stands between it and the next one, and so on.
+
+    There are none, None, where a text has more than plain characters.
+    """
+    signs = element.translate(None, PLAIN)
+    if signs != b"<>" * (len(signs) // 2):
+        return None
+    return element.decode("ascii").replace(">", "<").split("<")
+
+
+def places_of_texts(tags, wanted):
+    """The places of the texts among the parts of an element, or None if expat found other tags than these in it."""
+    found, places = [], []
+    for place, tag in enumerate(tags, 1):
+        if tag.startswith("/"):
+            if found and found[-1] is not None:
+                places.append(2 * place)
+            found.append(None)
+        elif tag.endswith("/"):
+            # No text is in it, and none is before all tags.
+            found += tag[:-1], None
+            places.append(0)
+        else:
+            found.append(tag)
+    if found != wanted:
+        return None
+    return places or [2]
+
+
+def picker(places):
+    """A function that answers the parts at these places."""
+    if len(places) > 1:
+        return itemgetter(*places)
+    return lambda parts: [parts[place] for place in places]
+
+
+def refuse_document_type(*_declared):
+    raise Refused("a document type: a dump has none, and no entity is followed")

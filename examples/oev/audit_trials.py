@@ -4,6 +4,7 @@ import io
 import os
 import random
 import re
+import subprocess
 import tempfile
 from types import SimpleNamespace
 
@@ -14,6 +15,8 @@ from auditing import Audit
 from cases import document, record
 from formats import Refused
 from proved import Program
+
+HERE = os.path.dirname(os.path.realpath(__file__))
 
 CLUSTERS = 30
 STEPS = 80
@@ -87,6 +90,15 @@ def check_same(trials):
     members = "4 (INODEID 1, NEWBLOCK 2, TIMESTAMP 1)"
     for said in ("inode/mtime 10", "1 (OP_TIMES 1)", members, "files whose blocks can't be held here: 1\n"):
         trials.check.contains("what is not compared", output, said)
+
+
+def check_unwritten(trials):
+    """An output that can't be written is one of which nothing was said, also where nobody hears why."""
+    words = [os.path.join(HERE, "audit"), "--program", trials.check.program, "--from", trials.image(trials.first)]
+    words += ["--to", trials.image(trials.last), trials.whole]
+    with open("/dev/full", "wb") as full:
+        for errors in (subprocess.PIPE, full):
+            trials.check.same("an output that is full", subprocess.run(words, stdout=full, stderr=errors).returncode, 2)
 
 
 def check_damages(trials):
@@ -255,6 +267,7 @@ def at_once(check, program, cluster, first, last, name, state=None):
 
 PARTS = (
     check_same,
+    check_unwritten,
     check_damages,
     check_lost,
     check_forms,

@@ -30,6 +30,9 @@ use std::thread;
 use std::thread::{Promise, PromisedHandle, Scope, Threads};
 use thiserror::Error;
 
+// How many steps of the log a rotation of a drive begins with, at most. A log that falls behind its reports leaves them waiting.
+const AHEAD: usize = 32_768;
+
 /// What a worker's thread gives back.
 #[derive(Drop)]
 pub struct WorkerExit<S> {
@@ -269,7 +272,7 @@ fn run<'s, 'a, E, S: ReportSource + Send + Drop + 's, R: Threads + Wait + Sync>(
         return Err(give_up(rt, standby, end, handles, fault));
     }
     let mut operator = Unattended;
-    if let Err(fault) = rotate(rt, &mut standby, end, &mut operator, ended, started) {
+    if let Err(fault) = rotate(rt, &mut standby, end, &mut operator, ended, started, AHEAD) {
         return Err(give_up(rt, standby, end, handles, fault));
     }
     let (reporters, told) = join_all(rt, standby.ends(), handles, reporters);

@@ -20,6 +20,9 @@ use nn_tailer::{Choice, Standby, StepFault, Stepped};
 use std::sync::Wait;
 use std::sync::atomic::{AtomicU64, Ordering};
 
+// How many messages a visit of a lane takes at most: so each lane has its turn soon, however many places lanes have.
+const MESSAGES_OF_A_VISIT: usize = 64;
+
 // The fault of a standby that serves, at a lane that it has.
 pub(crate) fn fault_of(fault: StepFault) -> DriveFault
     requires { MayCome fault }
@@ -132,8 +135,8 @@ fn take_log<'a, R: Wait>(
     }
 }
 
-// Each lane in turn, and behind it as many steps of the log, at most, as the lane gave messages. Answers how many messages
-// came.
+// Each lane in turn: at most as many messages as it has places, or as a visit takes, and behind it at most as many steps of the
+// log as came messages. Answers how many messages came.
 fn take_lanes<'a, R: Wait>(
     standby: &mut Standby,
     end: &mut FeedEnd<'a, R>,
@@ -148,7 +151,7 @@ fn take_lanes<'a, R: Wait>(
     let lanes = standby.lanes();
     let mut came = 0usize;
     for i in 0..lanes {
-        let most = standby.ends()[i].capacity().max(1);
+        let most = standby.ends()[i].capacity().min(MESSAGES_OF_A_VISIT).max(1);
         let taken = take_messages(standby, end, (i + 1) as u16, most)?;
         take_log(standby, end, wish, taken)?;
         came = came.saturating_add(taken);
@@ -156,11 +159,13 @@ fn take_lanes<'a, R: Wait>(
     Ok(came)
 }
 
-// One rotation: a step of the log for each lane, at most, and then the lanes. Answers whether anything came.
+// One rotation: a step of the log for each lane, at most, or so many where these are more; and then the lanes. Answers whether
+// anything came.
 fn take_round<'a, R: Wait>(
     standby: &mut Standby,
     end: &mut FeedEnd<'a, R>,
     wish: Wish,
+    ahead: usize,
 ) -> Result<bool, DriveFault>
     requires { has_begun standby.old ≡ false }
     ensures went { Went GivesWhatIsFed failures_of end.old standby.old end.new standby.new }
@@ -168,8 +173,8 @@ fn take_round<'a, R: Wait>(
     ensures held { IfOk result (λ _. holds wish ≡ true → KeepsNamespace standby.old standby.new) }
     ensures until { IfErr result (λ fault. WentUntil GivesWhatIsFed failures_of end.old standby.old end.new fault) }
 {
-    let lanes = standby.lanes();
-    let edits = take_log(standby, end, wish, lanes)?;
+    let most = standby.lanes().max(ahead);
+    let edits = take_log(standby, end, wish, most)?;
     let messages = take_lanes(standby, end, wish)?;
     Ok(edits.max(messages) > 0)
 }
@@ -195,9 +200,9 @@ fn forget_wished(standby: &mut Standby, wish: Wish)
 /// Rotations, until the operator wishes a promotion. It is asked before each one, and what it wishes to be forgotten of the
 /// history is forgotten then.
 ///
-/// A rotation begins with at most as many steps of the log as there are lanes. Then it visits each lane, and takes from it
-/// until it is empty or gave as many messages as it holds; and after each lane it makes at most as many steps of the log as
-/// the lane gave messages. So a lane that is never empty keeps back neither the log nor another lane, and a log that is
+/// A rotation begins with at most as many steps of the log as there are lanes, or `ahead` where that is more. Then it visits each
+/// lane, and takes from it until it is empty, gave as many messages as it holds, or gave 64; and after each lane it makes at most
+/// as many steps of the log as the lane gave messages. So a lane that is never empty keeps back neither the log nor another lane, and a log that is
 /// always ready keeps back no lane. The log is left alone while no transaction is in hand and nothing lies in its feed: a
 /// slow source keeps back no message; and so it is where the operator wished that it be held. Where a whole rotation brought
 /// nothing, it waits, and longer each time.
@@ -208,6 +213,7 @@ pub(crate) fn rotate<'a, O: Operator, R: Wait>(
     operator: &mut O,
     ended: &AtomicU64,
     started: usize,
+    ahead: usize,
 ) -> Result<(), DriveFault>
     requires { has_begun standby.old ≡ false }
     ensures wished { IfOk result (λ _. Rotates GivesWhatIsFed failures_of end.old standby.old end.new standby.new (λ shown answers. WishesAt O.asks started standby.old operator.old shown answers standby.new operator.new)) }
@@ -222,7 +228,7 @@ pub(crate) fn rotate<'a, O: Operator, R: Wait>(
             return Ok(());
         }
         forget_wished(standby, wish);
-        let has_come = take_round(standby, end, wish)?;
+        let has_come = take_round(standby, end, wish, ahead)?;
         waiting.wait_unless(rt, has_come);
     }
     unreachable!()

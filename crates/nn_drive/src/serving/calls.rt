@@ -163,7 +163,8 @@ fn serve_over<'a, O: Operator, R: Wait>(
     if !all_started(started, workers) {
         return Err(DriveFault::OutOfMemory);
     }
-    if let Err(fault) = rotate(rt, standby, end, operator, ended, started) {
+    // No report waits for the log: a rotation has no more of it than its lanes allow.
+    if let Err(fault) = rotate(rt, standby, end, operator, ended, started, 0) {
         return Err(told_fault(end, fault));
     }
     standby.close_intake();

@@ -21,7 +21,6 @@ use Rattle.nn_model.specs.WellFormed.{Has, times, IsWellFormed}
 use Rattle.nn_model.specs.Replay.{is_named}
 use Rattle.nn_model.proofs.Dues.{blocks_in, stands_times}
 use Rattle.nn_model.proofs.InRows.{all_in, all_at, has_left, has_right, has_either, put_has, put_from, filter_from, order_from, moved_from, at_path}
-use Rattle.nn_model.proofs.Lookups.{lookup_put}
 use Rattle.nn_model.proofs.Members.{rows_in, blocks_of_rows, just_blocks}
 use Rattle.nn_model.proofs.Prefixes.{same, same_true, same_self}
 use Rattle.nn_model.proofs.Touches.{ids_has}

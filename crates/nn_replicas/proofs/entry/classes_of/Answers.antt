@@ -1,4 +1,4 @@
-use Rattle.std.proofs.Common.{◌≡◌, take, length, refl, sym, ap, ◌∙◌, arith}
+use Rattle.std.proofs.Common.{◌≡◌, take, length, ap, ◌∙◌, arith}
 use Rattle.std.proofs.Math.Seq.{take-length}
 use Rattle.nn_types.specs.declared.replica.Class.TheVariants.{Stale, Ahead, Live, WrongLength}
 use Rattle.nn_replicas.specs.Figures.{classes_in, with_class}

@@ -3,11 +3,8 @@
 A service takes input of any length. So nothing is cut into slices: the image and the log are given once, and all
 reports stand behind the last line of the log. None of them waits for an edit that a later part would bring.
 """
-import subprocess
-
 from formats import Refused
-
-CHUNK_BYTES = 1 << 20
+from proved import chunks_of
 
 # What is asked, in this order. What waits for the log is asked before the promotion, which processes it.
 HELD, PROMOTED, TABLES, UNSAFE, STATUS = range(5)
@@ -18,26 +15,36 @@ class Answers:
 
     def __init__(self, program, arguments, name):
         self.program = program
-        self.arguments = arguments + ["--live"]
+        self.arguments = arguments
         self.name = name
+        # How many lines the program was given behind the image.
+        self.lines = 0
         # Where each answer begins.
         self.begins = [0]
 
     def ask(self, namespace, reports, most):
         """Gives the program all lines, and then the words. It has to judge each replica."""
         words = "held", f"promote {namespace.number}", "tables", f"unsafe {most}", "status"
-        arguments = [self.program.name, *self.arguments, *(["--from-image"] if namespace.image else [])]
-        with open(self.name, "wb") as printed:
-            child = subprocess.Popen(arguments, stdin=subprocess.PIPE, stdout=printed)
-            lines = feed(child, namespace, reports.messages(), "".join(f"{word}\n" for word in words).encode())
-            status = child.wait()
-        if status < 0:
-            raise Refused(f"the program was killed by signal {-status}")
+        arguments = [*self.arguments, *(["--from-image"] if namespace.image else [])]
+        status = self.program.serve(arguments, self.given(namespace, reports, words), self.name)
         judged, last = self.find_answers(namespace)
-        if status or len(self.begins) != len(words) + 1 or last != b"done %d\n" % lines:
+        if status or len(self.begins) != len(words) + 1 or last != b"done %d\n" % self.lines:
             raise Refused(f"the program ended with status {status} and did not answer all")
         if judged != reports.count:
             raise Refused(f"the program was told {reports.count:,} replicas, and judged {judged:,}")
+
+    def given(self, namespace, reports, words):
+        """What the program is given: the image, the log, the reports and the words. Counts the lines behind the image."""
+        for name in namespace.files():
+            with open(name, "rb") as piece:
+                for chunk in chunks_of(piece):
+                    self.lines += chunk.count(b"\n") if name != namespace.image else 0
+                    yield chunk
+        for message in reports.messages():
+            self.lines += 1
+            yield message
+        self.lines += len(words)
+        yield "".join(f"{word}\n" for word in words).encode()
 
     def find_answers(self, namespace):
         """Finds where each answer begins. Answers how many replicas are judged, and the last line.
@@ -78,25 +85,3 @@ class Answers:
             printed.seek(self.begins[STATUS])
             rows = [line.decode().split() for line in printed]
         return {row[0]: int(row[1]) for row in rows if len(row) == 2 and row[1].isdigit()}
-
-
-def feed(child, namespace, messages, words):
-    """Writes all lines to the program, and answers how many there are behind the image.
-
-    The program may end before it has read them all, and what it printed says why.
-    """
-    lines = words.count(b"\n")
-    try:
-        with child.stdin as given:
-            for name in namespace.files():
-                with open(name, "rb") as piece:
-                    while chunk := piece.read(CHUNK_BYTES):
-                        given.write(chunk)
-                        lines += chunk.count(b"\n") if name != namespace.image else 0
-            for message in messages:
-                given.write(message)
-                lines += 1
-            given.write(words)
-    except BrokenPipeError:
-        pass
-    return lines

@@ -1,5 +1,13 @@
 """What the commands here have in common."""
 import argparse
+import contextlib
+import os
+import sys
+import traceback
+
+from formats import Refused
+
+NOTHING_SAID = 2
 
 
 class Parser(argparse.ArgumentParser):
@@ -12,3 +20,25 @@ class Parser(argparse.ArgumentParser):
 
     def format_help(self):
         return f"{self.about}\n\n{super().format_help()}"
+
+
+def judged(name, judge):
+    """Runs a command that judges something, and answers its status: 0 where `judge` answers that all is the same, else 1.
+
+    It is 2 where nothing can be said, for whatever reason, and standard error says why.
+    """
+    # As the program prints, whatever the surroundings are.
+    sys.stdout.reconfigure(encoding="utf-8")
+    try:
+        is_same = judge()
+        sys.stdout.flush()
+        return 0 if is_same else 1
+    except (Refused, OSError) as reason:
+        told = f"{name}: nothing can be said: {reason}"
+    except Exception:
+        told = f"{name}: nothing can be said, because of a defect of this script:\n{traceback.format_exc()}"
+    # The status is the same where nobody reads what is told, or what is left of the output.
+    with contextlib.suppress(OSError):
+        print(told.rstrip("\n"), file=sys.stderr)
+    os.dup2(os.open(os.devnull, os.O_WRONLY), sys.stdout.fileno())
+    return NOTHING_SAID

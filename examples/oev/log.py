@@ -141,3 +141,16 @@ class Parts:
             self.end_segment()
         if self.file is not None:
             self.file.close()
+
+
+def words_for_parts(options, image, before, folder, numbers):
+    """What from_oev is asked, to cut a log into parts in a folder. It goes on from an image of this TXID, or from nothing."""
+    # A later part of a log, applied to nothing, would give another namespace.
+    begin = ["--image", image, "--after", str(before)] if image else ["--first", "1"]
+    skipped = [word for opcode in options.skip for word in ("--skip", opcode)]
+    return ["--split", folder, "--map", numbers, *begin, *skipped, "--", *options.files]
+
+
+def parts_in(folder):
+    """The parts that from_oev left, in order."""
+    return [os.path.join(folder, name) for name in sorted(os.listdir(folder))]

@@ -6,7 +6,7 @@ from bare import is_bare
 from checkpoint import Checkpoint, low_number, write_image
 from formats import FIRST_BLOCK_ID, Refused
 from fsimage import blocks_in
-from log import pairs_in
+from log import pairs_in, parts_in, words_for_parts
 
 HERE = os.path.dirname(os.path.realpath(__file__))
 
@@ -63,15 +63,13 @@ class Namespace:
 
     def convert_log(self, options, folder):
         """Makes lines of the log, in parts of whole segments that are no longer than a segment may be."""
-        # A later part of a log, applied to nothing, would give another namespace.
-        arguments = ["--image", self.image, "--after", str(self.txid)] if self.image else ["--first", "1"]
-        arguments += [argument for opcode in options.skip for argument in ("--skip", opcode)]
-        command = [os.path.join(HERE, "from_oev"), "--split", folder, "--map", self.map, *arguments, "--"]
-        done = subprocess.run([*command, *options.files], stdout=subprocess.DEVNULL, stderr=subprocess.PIPE)
+        words = words_for_parts(options, self.image, self.txid, folder, self.map)
+        command = [os.path.join(HERE, "from_oev"), *words]
+        done = subprocess.run(command, stdout=subprocess.DEVNULL, stderr=subprocess.PIPE)
         if done.returncode != 0:
             told = done.stderr.decode("utf-8", "replace").strip()
             raise Refused(told or f"from_oev ended with status {done.returncode}")
-        self.parts = [os.path.join(folder, name) for name in sorted(os.listdir(folder))]
+        self.parts = parts_in(folder)
         for txid, number in pairs_in(self.map):
             self.txid = self.txid if txid == "-" else int(txid)
             self.number = self.number if number == "-" else int(number)

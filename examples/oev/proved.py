@@ -3,14 +3,18 @@
 The program runs once, as a service: it is given the image, the lines and the word `checkpoint`. What it tells may be a
 finding, of an image or of a log. Whatever else keeps it from an image leaves nothing to be said, and is Refused.
 """
+import contextlib
 import os
 import subprocess
-import shutil
 from typing import NamedTuple, Optional
 
 from formats import Refused
 
+HERE = os.path.dirname(os.path.realpath(__file__))
+PROGRAM = os.path.join(HERE, "..", "..", "crates", "nn_standby", "out", "nn_standby")
+
 ANSWER_BYTES = 65_536
+CHUNK_BYTES = 1 << 20
 
 # A line of the image has no JSON, or more than it may have in a namespace: its paths, its blocks, their order.
 OF_IMAGES = {"62", "63"}
@@ -39,12 +43,7 @@ class Program:
 
         Answers the fault of an image or of a log, or None where the image is whole.
         """
-        with open(printed, "wb") as output:
-            child = subprocess.Popen([self.name, "--live", "--from-image"], stdin=subprocess.PIPE, stdout=output)
-            feed(child, pieces)
-            status = child.wait()
-        if status < 0:
-            raise Refused(f"the program was killed by signal {-status}")
+        status = self.serve(["--from-image"], pieces_and_checkpoint(pieces), printed)
         with open(printed, "rb") as answer:
             first = answer.readline(ANSWER_BYTES)
             if first.startswith(b"fault "):
@@ -52,6 +51,21 @@ class Program:
             if status or not first.startswith(b"{") or not is_whole(answer):
                 raise Refused(f"the program ended with status {status} and printed no whole image")
         return None
+
+    def serve(self, arguments, given, printed):
+        """Runs the program as a service: writes it these texts, and what it prints to a file. Answers its status.
+
+        It may end before it has read them all, and its answer says why.
+        """
+        with open(printed, "wb") as output:
+            child = subprocess.Popen([self.name, "--live", *arguments], stdin=subprocess.PIPE, stdout=output)
+            with contextlib.suppress(BrokenPipeError), child.stdin as pipe:
+                for text in given:
+                    pipe.write(text)
+            status = child.wait()
+        if status < 0:
+            raise Refused(f"the program was killed by signal {-status}")
+        return status
 
     def fault(self, words):
         number, place = words[1], words[2:]
@@ -69,15 +83,15 @@ class Program:
         return told.stdout.decode().strip() or f"{number}, which it does not explain"
 
 
-def feed(child, pieces):
-    """Writes files to the program. It may end before it has read them all, and its answer says why."""
-    try:
-        with child.stdin as given:
-            for piece in pieces:
-                shutil.copyfileobj(piece, given)
-            given.write(b"checkpoint\n")
-    except BrokenPipeError:
-        pass
+def pieces_and_checkpoint(pieces):
+    for piece in pieces:
+        yield from chunks_of(piece)
+    yield b"checkpoint\n"
+
+
+def chunks_of(file):
+    while chunk := file.read(CHUNK_BYTES):
+        yield chunk
 
 
 def is_whole(answer):

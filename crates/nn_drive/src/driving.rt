@@ -11,9 +11,10 @@ ghost use Rattle.nn_feed.specs.Feeds.{has_last};
 ghost use Rattle.nn_drive.specs.Feeding.{FailsOver, GotMore, IsDrivenOver, IsKnown};
 ghost use Rattle.nn_drive.specs.declared.driving.DriveFault.{DriveFault as Why};
 
+use crate::bells::Bells;
 use crate::feeding::{drop_feed, end_feed, start_feed, told_fault};
 use crate::operator::Unattended;
-use crate::reporting::{ReportSource, report_all};
+use crate::reporting::{ReportSource, report_all, report_all_at};
 use crate::rotation::{fault_of, rotate};
 use crate::serving::Feeding;
 use nn_feed::FeedEnd;
@@ -25,7 +26,6 @@ use nn_types::fault;
 use std::alloc::Global;
 use std::snapshot::Snapshot;
 use std::sync::Wait;
-use std::sync::atomic::{AtomicU64, Ordering};
 use std::thread;
 use std::thread::{Promise, PromisedHandle, Scope, Threads};
 use thiserror::Error;
@@ -81,19 +81,24 @@ impl DriveFault {
     }
 }
 
-// What a worker's thread runs.
+// What the thread of this worker runs.
 pub(crate) fn work<S: ReportSource, R: Wait>(
     rt: &R,
     source: S,
     reporter: Reporter,
-    ended: &AtomicU64,
+    bells: &Bells,
+    worker: usize,
 ) -> WorkerExit<S>
     ensures { HasReported S.gives source reporter result }
 {
     let mut source = source;
     let mut reporter = reporter;
-    let outcome = report_all(rt, &mut source, &mut reporter);
-    ended.fetch_add(1, Ordering::SeqCst);
+    let outcome = match bells.place(worker) {
+        Some(place) => report_all_at(rt, &mut source, &mut reporter, place),
+        // Each worker has one.
+        None => report_all(rt, &mut source, &mut reporter),
+    };
+    bells.end();
     WorkerExit {
         source,
         reporter,
@@ -107,14 +112,15 @@ fn start<'s, E, S: ReportSource + Send + Drop + 's, R: Wait + Sync>(
     rt: &'s R,
     source: S,
     reporter: Reporter,
-    ended: &'s AtomicU64,
+    bells: &'s Bells,
+    worker: usize,
 ) -> Option<PromisedHandle<WorkerExit<S>, WorkerPromise<S>>>
     ensures { IfSome result (λ h. (h.promise.0.value ≡ source) × (h.promise.1.value ≡ reporter)) }
 {
     let promise = WorkerPromise(Snapshot::of(&source), Snapshot::of(&reporter));
     let run = move || -> WorkerExit<S>
         ensures { HasReported S.gives source reporter result }
-    { work(rt, source, reporter, ended) };
+    { work(rt, source, reporter, bells, worker) };
     scope.spawn_with(promise, run).ok()
 }
 
@@ -124,7 +130,7 @@ fn start_all<'s, E, S: ReportSource + Send + Drop + 's, R: Wait + Sync>(
     rt: &'s R,
     alloc: Global,
     workers: Vec<(S, Reporter)>,
-    ended: &'s AtomicU64,
+    bells: &'s Bells,
 ) -> Vec<PromisedHandle<WorkerExit<S>, WorkerPromise<S>>>
     ensures { ArePromised workers.items result.items }
 {
@@ -132,7 +138,8 @@ fn start_all<'s, E, S: ReportSource + Send + Drop + 's, R: Wait + Sync>(
         return Vec::new(alloc);
     };
     for (source, reporter) in workers {
-        let Some(handle) = start(scope, rt, source, reporter, ended) else {
+        let worker = handles.len();
+        let Some(handle) = start(scope, rt, source, reporter, bells, worker) else {
             return handles;
         };
         handles.push_reserved(handle);
@@ -184,13 +191,14 @@ fn join_all<S: ReportSource + Drop, R: Threads>(
     (reporters, told)
 }
 
-// Gives a standby up for a fault: its lanes are closed, of which each worker learns by its next report; what the feed still
-// brings is dropped, and the workers are joined. Answers what a drive answers for the fault.
+// Gives a standby up for a fault: its lanes are closed, of which each worker learns by its next report, and all are woken for
+// it; what the feed still brings is dropped, and the workers are joined. Answers what a drive answers for the fault.
 fn give_up<'a, S: ReportSource + Drop, R: Threads + Wait>(
     rt: &R,
     standby: Standby,
     end: &mut FeedEnd<'a, R>,
     handles: Vec<PromisedHandle<WorkerExit<S>, WorkerPromise<S>>>,
+    bells: &Bells,
     fault: DriveFault,
 ) -> DriveFault
     ensures same { IsSameEnd end.old end.new }
@@ -201,6 +209,7 @@ fn give_up<'a, S: ReportSource + Drop, R: Threads + Wait>(
     let mut standby = standby;
     standby.close_intake();
     drop(standby);
+    bells.wake_all();
     drop_feed(rt, end);
     for handle in handles {
         drop(handle.join(rt));
@@ -253,7 +262,7 @@ fn run<'s, 'a, E, S: ReportSource + Send + Drop + 's, R: Threads + Wait + Sync>(
     end: &mut FeedEnd<'a, R>,
     workers: Vec<(S, Reporter)>,
     reporters: Vec<Reporter>,
-    ended: &'s AtomicU64,
+    bells: &'s Bells,
 ) -> Result<(Shadow, Active), DriveFault>
     requires serving { has_begun standby ≡ false }
     requires lanes { AreLanes workers.items standby.ends }
@@ -265,15 +274,15 @@ fn run<'s, 'a, E, S: ReportSource + Send + Drop + 's, R: Threads + Wait + Sync>(
 {
     let mut standby = standby;
     let count = workers.len();
-    let handles = start_all(scope, rt, alloc, workers, ended);
+    let handles = start_all(scope, rt, alloc, workers, bells);
     let started = handles.len();
     if !all_started(started, count) {
         let fault = DriveFault::OutOfMemory;
-        return Err(give_up(rt, standby, end, handles, fault));
+        return Err(give_up(rt, standby, end, handles, bells, fault));
     }
     let mut operator = Unattended;
-    if let Err(fault) = rotate(rt, &mut standby, end, &mut operator, ended, started, AHEAD) {
-        return Err(give_up(rt, standby, end, handles, fault));
+    if let Err(fault) = rotate(rt, &mut standby, end, &mut operator, bells, started, AHEAD) {
+        return Err(give_up(rt, standby, end, handles, bells, fault));
     }
     let (reporters, told) = join_all(rt, standby.ends(), handles, reporters);
     if told {
@@ -287,7 +296,7 @@ fn run<'s, 'a, E, S: ReportSource + Send + Drop + 's, R: Threads + Wait + Sync>(
         Ok(active) => active,
         Err(fault) => {
             let joined = Vec::new(alloc);
-            return Err(give_up::<S, R>(rt, standby, end, joined, fault));
+            return Err(give_up::<S, R>(rt, standby, end, joined, bells, fault));
         }
     };
     let (shadow, ends) = standby.into_parts();
@@ -306,7 +315,7 @@ pub(crate) fn refusal(standby: &Standby) -> Option<DriveFault>
     Some(DriveFault::Stopped(stop))
 }
 
-// The whole of `drive`, inside its scope.
+// The rest of `drive`, inside its scope.
 fn drive_in<
     's,
     E,
@@ -320,29 +329,29 @@ fn drive_in<
     standby: Standby,
     source: T,
     workers: Vec<(S, Reporter)>,
-    ended: &'s AtomicU64,
+    bells: &'s Bells,
 ) -> Result<(Shadow, Active), DriveFault>
-    requires { AreLanes workers.items standby.ends }
-    ensures refused { (fault : Why) → drive_refusal standby ≡ Some fault → result ≡ Err fault }
+    requires serving { has_begun standby ≡ false }
+    requires lanes { AreLanes workers.items standby.ends }
     ensures ok { IfOk result (λ r. IsDriven T.gives T.failures S.gives standby source workers.items r.0 r.1) }
     ensures err { IfErr result (λ fault. NotDriven T.gives T.failures standby source fault) }
 {
     // What is owned is dropped by name. That is cheaper to prove than to leave it to each exit.
-    if let Some(fault) = refusal(&standby) {
-        drop(standby);
-        return Err(fault);
-    }
     let Ok(reporters) = Vec::with_capacity(alloc, workers.len()) else {
         drop(standby);
         return Err(DriveFault::OutOfMemory);
     };
-    let Some(feeding) = start_feed(scope, rt, alloc, source) else {
+    let Ok(bell) = bells.of_standby() else {
+        drop(standby);
+        return Err(DriveFault::OutOfMemory);
+    };
+    let Some(feeding) = start_feed(scope, rt, alloc, source, bell) else {
         drop(standby);
         return Err(DriveFault::OutOfMemory);
     };
     let Feeding { mut end, handle } = feeding;
     let outcome = run(
-        scope, rt, alloc, standby, &mut end, workers, reporters, ended,
+        scope, rt, alloc, standby, &mut end, workers, reporters, bells,
     );
     if !end_feed(rt, end, handle) {
         drop(outcome);
@@ -381,16 +390,21 @@ pub fn drive<
     ensures ok { IfOk result (λ r. IsDriven T.gives T.failures S.gives standby source workers.items r.0 r.1) }
     ensures err { IfErr result (λ fault. NotDriven T.gives T.failures standby source fault) }
 {
-    let counter = AtomicU64::new(0);
-    let ended = &counter;
+    if let Some(fault) = refusal(&standby) {
+        return Err(fault);
+    }
+    let Ok(made) = Bells::new(alloc, workers.len()) else {
+        return Err(DriveFault::OutOfMemory);
+    };
+    let bells = &made;
     thread::scope(
         thread::scope_env(),
         rt,
         move |scope| -> Result<(Shadow, Active), DriveFault>
-            requires { AreLanes workers.items standby.ends }
-            ensures refused { (fault : Why) → drive_refusal standby ≡ Some fault → result ≡ Err fault }
+            requires serving { has_begun standby ≡ false }
+            requires lanes { AreLanes workers.items standby.ends }
             ensures ok { IfOk result (λ r. IsDriven T.gives T.failures S.gives standby source workers.items r.0 r.1) }
             ensures err { IfErr result (λ fault. NotDriven T.gives T.failures standby source fault) }
-        { drive_in(scope, rt, alloc, standby, source, workers, ended) },
+        { drive_in(scope, rt, alloc, standby, source, workers, bells) },
     )
 }

@@ -7,25 +7,28 @@ ghost use Rattle.nn_drive.specs.Feeding.{GotMore, HasAnswered, IsKnown};
 
 use crate::driving::DriveFault;
 use crate::serving::Feeding;
-use nn_feed::{Delivered, FeedEnd, Feeder, FeederExit, FeederPromise, feed, meet, run_thread};
+use nn_feed::{
+    Bell, Delivered, FeedEnd, Feeder, FeederExit, FeederPromise, feed, meet, run_thread,
+};
 use nn_segment::{Item, SegmentSource};
 use std::alloc::Global;
 use std::snapshot::Snapshot;
-use std::sync::Wait;
+use std::sync::{Arc, Wait};
 use std::thread;
 use std::thread::{PromisedHandle, Scope, Threads};
 
-// A feed of this source, and its feeder on a thread of the scope.
+// A feed of this source, which rings this bell, and its feeder on a thread of the scope.
 pub(crate) fn start_feed<'s, E, T: SegmentSource + Send + Drop + 's, R: Wait + Sync>(
     scope: &Scope<'s, E>,
     rt: &'s R,
     alloc: Global,
     source: T,
+    bell: Arc<Bell, Global>,
 ) -> Option<Feeding<'s, T, R>>
     ensures source { IfSome result (λ f. f.handle.promise.0.value ≡ source) }
     ensures empty { IfSome result (λ f. got_by f.end ≡ []) }
 {
-    let (feeder, end) = feed(rt, alloc).ok()?;
+    let (feeder, end) = feed(rt, alloc, bell).ok()?;
     let handle = start_feeder(scope, rt, source, feeder)?;
     Some(Feeding { end, handle })
 }
@@ -36,12 +39,17 @@ pub(crate) fn start_feed_alone<
     'a,
     T: SegmentSource + Send + Drop + 'static,
     R: Threads + Wait + Copy + Send + Drop + 'static,
->(rt: &'a R, alloc: Global, source: T) -> Result<Feeding<'a, T, R>, Option<T>>
+>(
+    rt: &'a R,
+    alloc: Global,
+    source: T,
+    bell: Arc<Bell, Global>,
+) -> Result<Feeding<'a, T, R>, Option<T>>
     ensures source { IfOk result (λ f. f.handle.promise.0.value ≡ source) }
     ensures empty { IfOk result (λ f. got_by f.end ≡ []) }
     ensures back { IfErr result (λ back. IfSome back (λ s. s ≡ source)) }
 {
-    let Ok((feeder, end)) = feed(rt, alloc) else {
+    let Ok((feeder, end)) = feed(rt, alloc, bell) else {
         return Err(Some(source));
     };
     let Some(handle) = start_feeder_alone(rt, source, feeder) else {

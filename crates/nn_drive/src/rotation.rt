@@ -11,16 +11,15 @@ ghost use Rattle.nn_drive.specs.Rounds.{Makes, HasStepped, HasTried, IsRound};
 ghost use Rattle.nn_drive.specs.Served.{Rotates};
 ghost use Rattle.nn_drive.specs.Serving.{KeepsNamespace, WasShown, WishesAt, holds, left_by};
 
+use crate::bells::Bells;
 use crate::driving::DriveFault;
 use crate::operator::{Operator, Wish};
-use crate::waiting::Waiting;
 use nn_feed::FeedEnd;
 use nn_segment::SegmentSource;
 use nn_tailer::{Choice, Standby, StepFault, Stepped};
 use std::sync::Wait;
-use std::sync::atomic::{AtomicU64, Ordering};
 
-// How many messages a visit of a lane takes at most: so each lane has its turn soon, however many places lanes have.
+// How many messages a visit of a lane takes at most: so each lane has its turn soon, however fast its worker reports.
 const MESSAGES_OF_A_VISIT: usize = 64;
 
 // The fault of a standby that serves, at a lane that it has.
@@ -88,9 +87,10 @@ fn take_messages<T: SegmentSource>(
     Ok(most)
 }
 
-// Whether a step of the log would not wait for its source.
+// Whether a step of the log would bring something, or tell of a fault, and not wait for its source. At its end a feed is ready
+// for ever, and brings nothing.
 fn is_at_hand<'a, R: Wait>(standby: &Standby, end: &FeedEnd<'a, R>) -> bool {
-    standby.in_hand() > 0 || end.is_ready()
+    standby.in_hand() > 0 || (end.is_ready() && !end.is_at_end())
 }
 
 // Makes so many steps of the log at most, while they need not wait for its source. Answers how many brought something.
@@ -116,6 +116,16 @@ fn take_edits<'a, R: Wait>(
     Ok(most)
 }
 
+// Whether it is wished that the log be held.
+fn is_holding(wish: Wish) -> bool
+    ensures { result ≡ holds wish }
+{
+    match wish {
+        Wish::Hold | Wish::ForgetAndHold => true,
+        Wish::GoOn | Wish::Forget | Wish::Promote => false,
+    }
+}
+
 // The same, unless it is wished that the log be held.
 fn take_log<'a, R: Wait>(
     standby: &mut Standby,
@@ -129,19 +139,20 @@ fn take_log<'a, R: Wait>(
     ensures held { IfOk result (λ _. holds wish ≡ true → KeepsNamespace standby.old standby.new) }
     ensures until { IfErr result (λ fault. WentUntil GivesWhatIsFed failures_of end.old standby.old end.new fault) }
 {
-    match wish {
-        Wish::Hold | Wish::ForgetAndHold => Ok(0),
-        Wish::GoOn | Wish::Forget | Wish::Promote => take_edits(standby, end, most),
+    if is_holding(wish) {
+        return Ok(0);
     }
+    take_edits(standby, end, most)
 }
 
-// Each lane in turn: at most as many messages as it has places, or as a visit takes, and behind it at most as many steps of the
-// log as came messages. Answers how many messages came.
+// Each lane in turn: at most as many messages as a visit takes, and behind it at most as many steps of the log as came messages.
+// Its worker is woken in between. Answers whether a lane gave all that a visit takes.
 fn take_lanes<'a, R: Wait>(
     standby: &mut Standby,
     end: &mut FeedEnd<'a, R>,
     wish: Wish,
-) -> Result<usize, DriveFault>
+    bells: &Bells,
+) -> Result<bool, DriveFault>
     requires { has_begun standby.old ≡ false }
     ensures went { Went GivesWhatIsFed failures_of end.old standby.old end.new standby.new }
     ensures visited { IfOk result (λ _. IsRound standby.old standby.new) }
@@ -149,22 +160,25 @@ fn take_lanes<'a, R: Wait>(
     ensures until { IfErr result (λ fault. WentUntil GivesWhatIsFed failures_of end.old standby.old end.new fault) }
 {
     let lanes = standby.lanes();
-    let mut came = 0usize;
+    let mut is_left = false;
     for i in 0..lanes {
-        let most = standby.ends()[i].capacity().min(MESSAGES_OF_A_VISIT).max(1);
-        let taken = take_messages(standby, end, (i + 1) as u16, most)?;
+        let taken = take_messages(standby, end, (i + 1) as u16, MESSAGES_OF_A_VISIT)?;
+        if taken > 0 {
+            bells.wake(i);
+        }
         take_log(standby, end, wish, taken)?;
-        came = came.saturating_add(taken);
+        is_left |= taken == MESSAGES_OF_A_VISIT;
     }
-    Ok(came)
+    Ok(is_left)
 }
 
 // One rotation: a step of the log for each lane, at most, or so many where these are more; and then the lanes. Answers whether
-// anything came.
+// a lane gave all that a visit takes.
 fn take_round<'a, R: Wait>(
     standby: &mut Standby,
     end: &mut FeedEnd<'a, R>,
     wish: Wish,
+    bells: &Bells,
     ahead: usize,
 ) -> Result<bool, DriveFault>
     requires { has_begun standby.old ≡ false }
@@ -174,17 +188,15 @@ fn take_round<'a, R: Wait>(
     ensures until { IfErr result (λ fault. WentUntil GivesWhatIsFed failures_of end.old standby.old end.new fault) }
 {
     let most = standby.lanes().max(ahead);
-    let edits = take_log(standby, end, wish, most)?;
-    let messages = take_lanes(standby, end, wish)?;
-    Ok(edits.max(messages) > 0)
+    take_log(standby, end, wish, most)?;
+    take_lanes(standby, end, wish, bells)
 }
 
 // How many workers were not yet seen to have ended.
-fn still_running(started: usize, ended: &AtomicU64) -> usize
+fn still_running(started: usize, bells: &Bells) -> usize
     ensures { result ≤ started }
 {
-    let ended = ended.load(Ordering::SeqCst) as usize;
-    started.saturating_sub(ended)
+    started.saturating_sub(bells.ended())
 }
 
 // Forgets the history, where that was wished.
@@ -197,21 +209,42 @@ fn forget_wished(standby: &mut Standby, wish: Wish)
     }
 }
 
+// Sleeps until something is brought, unless it has come since the last rotation: a report, something of a log that is not held,
+// or the end of a worker.
+fn rest<'a, R: Wait>(
+    rt: &R,
+    standby: &Standby,
+    end: &FeedEnd<'a, R>,
+    wish: Wish,
+    bells: &Bells,
+    running: usize,
+    started: usize,
+) {
+    let is_holding = is_holding(wish);
+    bells.doze();
+    let has_log = !is_holding && is_at_hand(standby, end);
+    let has_ended = still_running(started, bells) != running;
+    bells.rest(rt, has_log || has_ended, is_holding);
+}
+
 /// Rotations, until the operator wishes a promotion. It is asked before each one, and what it wishes to be forgotten of the
 /// history is forgotten then.
 ///
 /// A rotation begins with at most as many steps of the log as there are lanes, or `ahead` where that is more. Then it visits each
-/// lane, and takes from it until it is empty, gave as many messages as it holds, or gave 64; and after each lane it makes at most
-/// as many steps of the log as the lane gave messages. So a lane that is never empty keeps back neither the log nor another lane, and a log that is
+/// lane, and takes from it until it is empty, or gave 64 messages; and after each lane it makes at most as many steps of the log
+/// as the lane gave messages. So a lane that is never empty keeps back neither the log nor another lane, and a log that is
 /// always ready keeps back no lane. The log is left alone while no transaction is in hand and nothing lies in its feed: a
-/// slow source keeps back no message; and so it is where the operator wished that it be held. Where a whole rotation brought
-/// nothing, it waits, and longer each time.
+/// slow source keeps back no message; and so it is where the operator wished that it be held.
+///
+/// Once the operator was asked, and no more is known to be there, it sleeps: until a report, the log or the end of a worker wakes
+/// it, and for 10 milliseconds at most. So the operator sees at once what came. While the log is held it sleeps a tenth of a
+/// millisecond at most, for the operator has work of its own.
 pub(crate) fn rotate<'a, O: Operator, R: Wait>(
     rt: &R,
     standby: &mut Standby,
     end: &mut FeedEnd<'a, R>,
     operator: &mut O,
-    ended: &AtomicU64,
+    bells: &Bells,
     started: usize,
     ahead: usize,
 ) -> Result<(), DriveFault>
@@ -220,16 +253,19 @@ pub(crate) fn rotate<'a, O: Operator, R: Wait>(
     ensures gone { IfErr result (λ _. Rotates GivesWhatIsFed failures_of end.old standby.old end.new standby.new (λ shown answers. WasShown O.asks started standby.old operator.old shown answers standby.new operator.new)) }
     ensures until { IfErr result (λ fault. WentUntil GivesWhatIsFed failures_of end.old standby.old end.new fault) }
 {
-    let mut waiting = Waiting::new();
+    let mut is_left = true;
     for _ in rt.forever() {
-        let running = still_running(started, ended);
+        let running = still_running(started, bells);
         let wish = operator.ask(standby, running);
         if let Wish::Promote = wish {
             return Ok(());
         }
         forget_wished(standby, wish);
-        let has_come = take_round(standby, end, wish, ahead)?;
-        waiting.wait_unless(rt, has_come);
+        if !is_left {
+            rest(rt, standby, end, wish, bells, running, started);
+        }
+        bells.clear();
+        is_left = take_round(standby, end, wish, bells, ahead)?;
     }
     unreachable!()
 }

@@ -1,64 +1,81 @@
-//! How a thread waits for another one.
-use crossbeam_utils::Backoff;
+//! How a worker waits while its lane is full.
+use crate::bells::Bells;
+use nn_feed::Bell;
 use std::sync::Wait;
-use std::sync::atomic::AtomicU64;
 use std::time::Duration;
 
-// The shortest sleep and the longest, in microseconds.
-const SHORTEST: u64 = 20;
-
-const LONGEST: u64 = 1000;
-
-/// A thread that waits for another one: a worker at a full lane, a rotation that brought nothing, a shutdown.
-///
-/// At first it spins, which costs least where the other thread works. Then it yields, and then it sleeps, each time for
-/// twice as long: 20 microseconds at first, and a millisecond at most. Nothing wakes it, not even a report. So it is late by
-/// about a millisecond, and a long wait costs next to nothing.
-///
-/// Once something came it begins anew: with the shortest sleep, and with spins only where something came twice in a row. So
-/// a report now and then is not followed by many looks in vain.
-#[derive(Drop)]
-pub(crate) struct Waiting {
-    backoff: Backoff,
-    // How long the next sleep is, in microseconds.
-    micros: u64,
-    // Whether something came the last time.
-    has_come: bool,
-    // It sleeps while this is 0, which it stays: only time ends a sleep.
-    word: AtomicU64,
+/// Where a worker sleeps while its lane is full, and whom it tells of its reports.
+#[derive(Clone, Copy)]
+pub(crate) struct Place<'b> {
+    bell: &'b Bell,
+    // None tells nobody, and nobody rings.
+    among: Option<(&'b Bells, usize)>,
 }
 
-impl Waiting {
-    pub(crate) fn new() -> Waiting {
+impl<'b> Place<'b> {
+    /// The place of this worker among the bells.
+    pub(crate) fn among(bell: &'b Bell, bells: &'b Bells, worker: usize) -> Place<'b> {
+        Place {
+            bell,
+            among: Some((bells, worker)),
+        }
+    }
+
+    /// A place at which nobody hears of anybody.
+    pub(crate) fn alone(bell: &'b Bell) -> Place<'b> {
+        Place { bell, among: None }
+    }
+
+    /// Something was reported.
+    pub(crate) fn report(self) {
+        if let Some((bells, worker)) = self.among {
+            bells.report(worker);
+        }
+    }
+
+    /// The lane is full. A worker that is rung sleeps for 10 milliseconds at first, and for 80 at most: a rotation over full
+    /// lanes takes longer than the first. Another one sleeps for 20 microseconds, and for a millisecond at most.
+    pub(crate) fn waiting(self) -> Waiting<'b> {
+        let (micros, longest) = match self.among {
+            Some(_) => (10_000, 80_000),
+            None => (20, 1_000),
+        };
         Waiting {
-            backoff: Backoff::new(),
-            micros: SHORTEST,
-            has_come: false,
-            word: AtomicU64::new(0),
+            bell: self.bell,
+            is_dozing: false,
+            micros,
+            longest,
         }
     }
+}
 
-    /// Waits a little, longer than the time before. To be called again and again, as long as there is nothing to do.
+/// A worker at a full lane. It says that it dozes and looks once more, and only then does it sleep: until its bell is rung,
+/// and for a time at most that doubles.
+#[derive(Drop)]
+pub(crate) struct Waiting<'b> {
+    bell: &'b Bell,
+    is_dozing: bool,
+    // How long the next sleep is at most, and any, in microseconds.
+    micros: u64,
+    longest: u64,
+}
+
+impl<'b> Waiting<'b> {
+    /// Dozes, or sleeps where it dozed before. To be called again and again, as long as the lane is full.
     pub(crate) fn wait<R: Wait>(&mut self, rt: &R) {
-        if !self.backoff.is_completed() {
-            self.backoff.snooze();
-            return;
+        if self.is_dozing {
+            self.bell.sleep(rt, Duration::from_micros(self.micros));
+            self.micros = self.micros.saturating_mul(2).min(self.longest);
+        } else {
+            self.bell.doze();
         }
-        let sleep = Duration::from_micros(self.micros);
-        self.word.park_timeout(rt, 0, sleep);
-        self.micros = self.micros.saturating_mul(2).min(LONGEST);
+        self.is_dozing = !self.is_dozing;
     }
 
-    /// Waits a little where nothing came; else the next wait begins anew.
-    pub(crate) fn wait_unless<R: Wait>(&mut self, rt: &R, has_come: bool) {
-        if has_come {
-            if self.has_come {
-                self.backoff.reset();
-            }
-            self.micros = SHORTEST;
-        } else {
-            self.wait(rt);
+    /// The lane is full no more.
+    pub(crate) fn end(&self) {
+        if self.is_dozing {
+            self.bell.get_up();
         }
-        self.has_come = has_come;
     }
 }

@@ -6,6 +6,7 @@ ghost use Rattle.crossbeam_channel.specs.Ends.{sends_on, receives_on};
 ghost use Rattle.nn_feed.specs.Feeds.{has_last};
 ghost use Rattle.nn_feed.specs.Passes.{put_in, got_in, MayPut, MayGet, ending_in};
 
+use crate::bell::Bell;
 use crate::rule::{InOrder, Log, Placed};
 use crossbeam_channel::{Pass, RuledReceiver, RuledSender};
 use nn_segment::SourceFault;
@@ -20,6 +21,8 @@ pub struct Feeder {
     pub(crate) pass: Pass<Placed, Log>,
     pub(crate) count: u64,
     pub(crate) ended: bool,
+    // Rung behind each answer that was put.
+    pub(crate) bell: Arc<Bell, Global>,
     // How many answers were put, for the other end to look at. It is the last field: once it is gone, so is the sender.
     pub(crate) shown: Arc<AtomicU64, Global>,
     ghost seat: { IsSeatAt (sends_on sender) pass },

@@ -4,6 +4,7 @@
 //! answers, so a source reads no further ahead. Each answer carries its place, and nothing follows End or a fault.
 #![tactic(auto)]
 
+mod bell;
 mod ends;
 mod fault;
 mod laws;
@@ -11,6 +12,7 @@ mod rule;
 mod running;
 mod send;
 
+pub use bell::Bell;
 pub use ends::{FeedEnd, Feeder, feed, meet};
 pub use fault::{FeedFault, Refusal};
 pub use laws::a_feed_gives_what_its_source_gave;

@@ -1,16 +1,29 @@
 //! What no clause of a feed says: it goes on, it is full at four, and a feeder that is gone tells the other end.
+ghost use Rattle.std.specs.Prelude.{◌≡◌, [], IfOk};
+ghost use Rattle.nn_feed.specs.Ends.{AreOfOneFeed, got_by, put_by};
+
 use crate::sources::{AT_ANY_TIME, FailsOnce, Pace, new_watched};
 use crate::values::{Shared, TWO_MARKS, Text, log_of, marks, reaches};
 use nn_feed::{
-    Delivered, FeedFault, Feeder, FeederExit, Refusal, feed, meet, run_feeder, run_thread,
+    Bell, Delivered, FeedEnd, FeedFault, Feeder, FeederExit, Refusal, feed, meet, run_feeder,
+    run_thread,
 };
 use nn_segment::{Item, Parsed, SegmentSource, SourceFault};
-use std::alloc::Global;
+use std::alloc::{AllocError, Global};
 use std::process::Abort;
 use std::sync::atomic::{AtomicU64, Ordering};
 use std::sync::{Arc, Wait};
 use std::thread;
 use std::thread::{Threads, join};
+
+// A feed whose bell nobody hears.
+fn new_feed<'a, R: Wait>(rt: &'a R, alloc: Global) -> Result<(Feeder, FeedEnd<'a, R>), AllocError>
+    ensures one_feed { IfOk result (λ ends. AreOfOneFeed ends.0 ends.1) }
+    ensures empty { IfOk result (λ ends. (put_by ends.0 ≡ []) × (got_by ends.1 ≡ [])) }
+{
+    let bell = Arc::new(alloc, Bell::new())?;
+    feed(rt, alloc, bell)
+}
 
 // ---- A feed between two threads.
 
@@ -152,7 +165,7 @@ fn put_and_got<R: Threads + Wait + Sync>(
     shared: &Arc<Shared, Global>,
 ) -> Option<(Result<u64, u8>, (u64, u64))> {
     let source = new_watched(alloc, shared, fed.log, fed.fails_at, fed.pace)?;
-    let Ok((feeder, end)) = feed(rt, alloc) else {
+    let Ok((feeder, end)) = new_feed(rt, alloc) else {
         return None;
     };
     let gets = fed.gets;
@@ -263,7 +276,7 @@ fn put_and_followed<R: Threads + Wait + Sync>(
     alloc: Global,
 ) -> Option<(Result<u64, u8>, u64)> {
     let source = FailsOnce::new(marks(alloc, SEGMENTS)?, u64::MAX);
-    let Ok((feeder, end)) = feed(rt, alloc) else {
+    let Ok((feeder, end)) = new_feed(rt, alloc) else {
         return None;
     };
     Some(join(
@@ -343,7 +356,7 @@ fn is_segment(answer: &Result<Item, SourceFault>) -> bool {
 // After End nothing is put, and End comes again and again.
 #[test]
 fn after_end(rt: HostRuntime) {
-    let Ok((mut feeder, mut end)) = feed(&rt, rt.alloc()) else {
+    let Ok((mut feeder, mut end)) = new_feed(&rt, rt.alloc()) else {
         assert!(rt; false, "out of memory");
         return;
     };
@@ -365,7 +378,7 @@ fn ends_meet(rt: HostRuntime) {
 }
 
 fn meets(rt: &impl Wait, alloc: Global) -> bool {
-    let Ok((mut feeder, mut end)) = feed(rt, alloc) else {
+    let Ok((mut feeder, mut end)) = new_feed(rt, alloc) else {
         return false;
     };
     let put = feeder.put(rt, Item::End).is_ok();
@@ -382,7 +395,7 @@ fn is_end(end: &mut (impl SegmentSource + Drop)) -> bool {
 #[test]
 fn after_a_fault(rt: HostRuntime) {
     let zero = AtomicU64::new(0);
-    let Ok((mut feeder, end)) = feed(&rt, rt.alloc()) else {
+    let Ok((mut feeder, end)) = new_feed(&rt, rt.alloc()) else {
         assert!(rt; false, "out of memory");
         return;
     };
@@ -414,7 +427,7 @@ fn other_end_gone(rt: HostRuntime) {
 }
 
 fn put_for_nobody(rt: &impl Wait, alloc: Global) -> Option<u8> {
-    let Ok((mut feeder, end)) = feed(rt, alloc) else {
+    let Ok((mut feeder, end)) = new_feed(rt, alloc) else {
         return None;
     };
     drop(end);
@@ -424,7 +437,7 @@ fn put_for_nobody(rt: &impl Wait, alloc: Global) -> Option<u8> {
 // Whether a segment came back, and no fault.
 fn run_for_nobody(rt: &impl Wait, alloc: Global, fails_at: u64) -> Option<bool> {
     let source = one_segment(alloc, fails_at)?;
-    let Ok((feeder, end)) = feed(rt, alloc) else {
+    let Ok((feeder, end)) = new_feed(rt, alloc) else {
         return None;
     };
     drop(end);
@@ -446,7 +459,7 @@ fn looks_without_taking(rt: HostRuntime) {
 // Before a segment was put, after that, once it was got, and once End was got.
 fn looks(rt: &impl Wait, alloc: Global) -> Option<(bool, bool, bool, bool)> {
     let segment = a_segment(alloc)?;
-    let Ok((mut feeder, mut end)) = feed(rt, alloc) else {
+    let Ok((mut feeder, mut end)) = new_feed(rt, alloc) else {
         return None;
     };
     let before = end.is_ready();
@@ -466,7 +479,7 @@ fn looks(rt: &impl Wait, alloc: Global) -> Option<(bool, bool, bool, bool)> {
 }
 
 fn looks_for_nobody(rt: &impl Wait, alloc: Global) -> Option<bool> {
-    let Ok((feeder, end)) = feed(rt, alloc) else {
+    let Ok((feeder, end)) = new_feed(rt, alloc) else {
         return None;
     };
     drop(feeder);
@@ -481,7 +494,7 @@ fn feeder_gone(rt: HostRuntime) {
         assert!(rt; false, "out of memory");
         return;
     };
-    let Ok((mut feeder, end)) = feed(&rt, rt.alloc()) else {
+    let Ok((mut feeder, end)) = new_feed(&rt, rt.alloc()) else {
         assert!(rt; false, "out of memory");
         return;
     };

@@ -11,18 +11,18 @@ ghost use Rattle.nn_drive.specs.Serving.{IsOf};
 ghost use Rattle.nn_drive.specs.declared.driving.DriveFault.{DriveFault as Why};
 
 use super::{Feeding, Left, Running, Served, Unfed, Unserved};
+use crate::bells::Bells;
 use crate::driving::{DriveFault, WorkerExit, WorkerPromise, all_started, promote, refusal, work};
 use crate::feeding::{drop_feed, end_feed, start_feed_alone, told_fault};
 use crate::operator::Operator;
 use crate::reporting::ReportSource;
 use crate::rotation::rotate;
-use nn_feed::FeedEnd;
+use nn_feed::{Bell, FeedEnd};
 use nn_lane::{LaneEnd, Reporter, meet};
 use nn_segment::SegmentSource;
 use nn_tailer::{Active, Standby};
-use std::alloc::Global;
+use std::alloc::{AllocError, Global};
 use std::snapshot::Snapshot;
-use std::sync::atomic::AtomicU64;
 use std::sync::{Arc, Wait};
 use std::thread;
 use std::thread::{PromisedHandle, Threads};
@@ -56,7 +56,8 @@ fn start_alone<
     rt: &R,
     source: S,
     reporter: Reporter,
-    ended: Arc<AtomicU64, Global>,
+    bells: Arc<Bells, Global>,
+    worker: usize,
 ) -> Option<PromisedHandle<WorkerExit<S>, WorkerPromise<S>>>
     ensures { IfSome result (λ h. (h.promise.0.value ≡ source) × (h.promise.1.value ≡ reporter)) }
 {
@@ -64,7 +65,7 @@ fn start_alone<
     let own = *rt;
     let run = move || -> WorkerExit<S>
         ensures { HasReported S.gives source reporter result }
-    { work(&own, source, reporter, &ended) };
+    { work(&own, source, reporter, &bells, worker) };
     thread::spawn_with(rt, promise, run).ok()
 }
 
@@ -77,18 +78,19 @@ fn start_from_the_last<
     rt: &R,
     workers: &mut Vec<(S, Reporter)>,
     room: Vec<PromisedHandle<WorkerExit<S>, WorkerPromise<S>>>,
-    ended: &Arc<AtomicU64, Global>,
+    bells: &Arc<Bells, Global>,
 ) -> Vec<PromisedHandle<WorkerExit<S>, WorkerPromise<S>>>
     requires none { room.items ≡ [] }
     requires room { length workers.old.items ≤ vec_capacity room }
     ensures { AreStarted (reverse workers.old.items) result.items (reverse workers.new.items) }
 {
     let mut handles = room;
-    while let Ok(counter) = Arc::try_clone(ended) {
+    while let Ok(own) = Arc::try_clone(bells) {
         let Some((source, reporter)) = workers.pop() else {
             return handles;
         };
-        let Some(handle) = start_alone(rt, source, reporter, counter) else {
+        let worker = handles.len();
+        let Some(handle) = start_alone(rt, source, reporter, own, worker) else {
             return handles;
         };
         handles.push_reserved(handle);
@@ -105,7 +107,7 @@ fn start_all_alone<
     rt: &R,
     alloc: Global,
     workers: &mut Vec<(S, Reporter)>,
-    ended: &Arc<AtomicU64, Global>,
+    bells: &Arc<Bells, Global>,
 ) -> Vec<PromisedHandle<WorkerExit<S>, WorkerPromise<S>>>
     ensures { AreStarted workers.old.items result.items workers.new.items }
 {
@@ -114,7 +116,7 @@ fn start_all_alone<
     };
     // Turned round, the first one is taken from the end.
     workers.reverse();
-    let handles = start_from_the_last(rt, workers, room, ended);
+    let handles = start_from_the_last(rt, workers, room, bells);
     workers.reverse();
     handles
 }
@@ -148,7 +150,7 @@ fn serve_over<'a, O: Operator, R: Wait>(
     standby: &mut Standby,
     end: &mut FeedEnd<'a, R>,
     operator: &mut O,
-    ended: &AtomicU64,
+    bells: &Bells,
     started: usize,
     workers: usize,
 ) -> Result<Active, DriveFault>
@@ -164,10 +166,11 @@ fn serve_over<'a, O: Operator, R: Wait>(
         return Err(DriveFault::OutOfMemory);
     }
     // No report waits for the log: a rotation has no more of it than its lanes allow.
-    if let Err(fault) = rotate(rt, standby, end, operator, ended, started, 0) {
+    if let Err(fault) = rotate(rt, standby, end, operator, bells, started, 0) {
         return Err(told_fault(end, fault));
     }
     standby.close_intake();
+    bells.wake_all();
     match promote(standby, end) {
         Ok(active) => Ok(active),
         Err(fault) => Err(told_fault(end, fault)),
@@ -188,7 +191,7 @@ fn serve_with<
     feeding: Feeding<'a, T, R>,
     workers: Vec<(S, Reporter)>,
     room: Vec<Running<S>>,
-    ended: &Arc<AtomicU64, Global>,
+    bells: &Arc<Bells, Global>,
     operator: &mut O,
 ) -> Result<Served<S>, Unserved<'a, T, S, R>>
     requires serving { has_begun standby ≡ false }
@@ -203,9 +206,9 @@ fn serve_with<
     let mut workers = workers;
     let Feeding { mut end, handle } = feeding;
     let count = workers.len();
-    let handles = start_all_alone(rt, alloc, &mut workers, ended);
+    let handles = start_all_alone(rt, alloc, &mut workers, bells);
     let started = handles.len();
-    let active = match serve_over(rt, &mut standby, &mut end, operator, ended, started, count) {
+    let active = match serve_over(rt, &mut standby, &mut end, operator, bells, started, count) {
         Ok(active) => active,
         Err(fault) => {
             return Err(Unserved {
@@ -306,6 +309,16 @@ fn refused<'a, T: SegmentSource, S: ReportSource, R: Wait>(
     }
 }
 
+// The bells for so many workers, and the standby's, for its feed to ring.
+fn shared_bells(
+    alloc: Global,
+    count: usize,
+) -> Result<(Arc<Bells, Global>, Arc<Bell, Global>), AllocError> {
+    let bells = Bells::new(alloc, count)?;
+    let bell = bells.of_standby()?;
+    Ok((Arc::new(alloc, bells)?, bell))
+}
+
 /// Runs the source of segments and each worker on a thread of its own, and the standby on this one, until the operator
 /// wishes a promotion. Then it closes its lanes, reads the log to its end, and promotes itself. It waits for no worker:
 /// those that still run are told by their next report, and come back to be joined. It waits for the source to give its
@@ -343,16 +356,17 @@ pub fn serve<
         let fault = DriveFault::OutOfMemory;
         return Err(refused(alloc, standby, Some(source), workers, fault));
     };
-    let Ok(ended) = Arc::new(alloc, AtomicU64::new(0)) else {
+    // Before any thread is started, so that one which is refused has begun nothing.
+    let Ok((bells, bell)) = shared_bells(alloc, workers.len()) else {
         let fault = DriveFault::OutOfMemory;
         return Err(refused(alloc, standby, Some(source), workers, fault));
     };
-    let feeding = match start_feed_alone(rt, alloc, source) {
+    let feeding = match start_feed_alone(rt, alloc, source, bell) {
         Ok(feeding) => feeding,
         Err(back) => {
             let fault = DriveFault::OutOfMemory;
             return Err(refused(alloc, standby, back, workers, fault));
         }
     };
-    serve_with(rt, alloc, standby, feeding, workers, room, &ended, operator)
+    serve_with(rt, alloc, standby, feeding, workers, room, &bells, operator)
 }

@@ -5,6 +5,7 @@ ghost use Rattle.nn_feed.specs.Feeds.{has_last, is_last};
 ghost use Rattle.nn_feed.specs.Passes.{ended_by, as_answer};
 
 use super::{Ending, FeedEnd, Feeder};
+use crate::bell::Bell;
 use crate::fault::Refusal;
 use crate::rule::{Gets, InOrder, Log, Placed, Roles, Whole};
 use crate::send::send;
@@ -22,7 +23,13 @@ const CAPACITY: usize = 4;
 const MAX_SEGMENTS: u64 = 1 << 60;
 
 /// The two ends of a new feed, which holds at most four answers at a time. No other call takes memory. It waits for nothing.
-pub fn feed<'a, R: Wait>(rt: &'a R, alloc: Global) -> Result<(Feeder, FeedEnd<'a, R>), AllocError>
+///
+/// The bell is rung behind each answer that is put. So whoever looks with `is_ready` can sleep on it in between.
+pub fn feed<'a, R: Wait>(
+    rt: &'a R,
+    alloc: Global,
+    bell: Arc<Bell, Global>,
+) -> Result<(Feeder, FeedEnd<'a, R>), AllocError>
     ensures one_feed { IfOk result (λ ends. AreOfOneFeed ends.0 ends.1) }
     ensures empty { IfOk result (λ ends. (put_by ends.0 ≡ []) × (got_by ends.1 ≡ [])) }
 {
@@ -37,6 +44,7 @@ pub fn feed<'a, R: Wait>(rt: &'a R, alloc: Global) -> Result<(Feeder, FeedEnd<'a
         pass,
         count: 0,
         ended: false,
+        bell,
         shown: theirs,
     };
     let end = FeedEnd {
@@ -122,6 +130,7 @@ impl Feeder {
                 self.count += 1;
                 self.ended = last;
                 self.shown.store(self.count, Ordering::SeqCst);
+                self.bell.ring();
                 Ok(())
             }
             Err((back, failed)) => {
@@ -224,6 +233,7 @@ pub fn meet<'a, R: Wait>(feeder: Feeder, end: FeedEnd<'a, R>)
         mut pass,
         count: _,
         ended: _,
+        bell: _,
         shown: _,
     } = feeder;
     let FeedEnd {

@@ -22,24 +22,24 @@ take_round-requires g c =
     c.ask-wish.result c.in_default.not-Promote c.ask-wish.ensures c.forget_wished.ensures c.loop.invariant in
     k.went.2.begun ∙ c.requires
 
-pub returns-in_err-has_come-clause-gone : goal.returns-in_err-has_come-clause-gone
-returns-in_err-has_come-clause-gone g c =
+pub returns-in_err-is_left-clause-gone : goal.returns-in_err-is_left-clause-gone
+returns-in_err-is_left-clause-gone g c =
     let k = obeys g.O.Operator.asks GivesWhatIsFed failures_of c.args.started c.args.end.now c.loop.end c.args.standby.now c.loop.standby c.args.operator.now c.loop.operator c.ask-wish.new.self c.forget_wished.new.standby c.still_running-running.result c.still_running-running.ensures
     c.ask-wish.result c.in_default.not-Promote c.ask-wish.ensures c.forget_wished.ensures c.loop.invariant in
-    let is : c.from_residual.result ≡ Err c.in_err-has_come.field-0.0 = grind arith in
+    let is : c.from_residual.result ≡ Err c.in_err-is_left.field-0.0 = grind arith in
     rw is (goes_round g.O.Operator.asks GivesWhatIsFed failures_of c.args.started c.args.end.now c.loop.end c.take_round.new.end c.args.standby.now c.forget_wished.new.standby c.take_round.new.standby c.args.operator.now c.ask-wish.new.self c.ask-wish.result k c.take_round.ensures.went)
 
-pub returns-in_err-has_come-clause-until : goal.returns-in_err-has_come-clause-until
-returns-in_err-has_come-clause-until g c =
+pub returns-in_err-is_left-clause-until : goal.returns-in_err-is_left-clause-until
+returns-in_err-is_left-clause-until g c =
     let k = obeys g.O.Operator.asks GivesWhatIsFed failures_of c.args.started c.args.end.now c.loop.end c.args.standby.now c.loop.standby c.args.operator.now c.loop.operator c.ask-wish.new.self c.forget_wished.new.standby c.still_running-running.result c.still_running-running.ensures
     c.ask-wish.result c.in_default.not-Promote c.ask-wish.ensures c.forget_wished.ensures c.loop.invariant in
-    let fault = c.in_err-has_come.field-0.0 in
+    let fault = c.in_err-is_left.field-0.0 in
     let is : c.from_residual.result ≡ Err fault = grind arith in
     rw is (went_until GivesWhatIsFed failures_of c.args.end.now c.loop.end c.take_round.new.end c.args.standby.now (after (forgotten k.shown) c.forget_wished.new.standby) fault c.requires k.went
-    (until_after GivesWhatIsFed failures_of (forgotten k.shown) c.loop.end c.take_round.new.end c.forget_wished.new.standby fault c.in_err-has_come.ensures.until))
+    (until_after GivesWhatIsFed failures_of (forgotten k.shown) c.loop.end c.take_round.new.end c.forget_wished.new.standby fault c.in_err-is_left.ensures.until))
 
 pub loop-preserved : goal.loop-preserved
 loop-preserved g c =
     let k = obeys g.O.Operator.asks GivesWhatIsFed failures_of c.args.started c.args.end.now c.loop.end c.args.standby.now c.loop.standby c.args.operator.now c.loop.operator c.ask-wish.new.self c.forget_wished.new.standby c.still_running-running.result c.still_running-running.ensures
     c.ask-wish.result c.in_default.not-Promote c.ask-wish.ensures c.forget_wished.ensures c.loop.invariant in
-    next_round g.O.Operator.asks GivesWhatIsFed failures_of c.args.started c.args.end.now c.loop.end c.take_round.new.end c.args.standby.now c.forget_wished.new.standby c.take_round.new.standby c.args.operator.now c.ask-wish.new.self c.ask-wish.result k c.take_round.ensures.went c.in_ok-has_come.ensures.visited c.in_ok-has_come.ensures.held
+    next_round g.O.Operator.asks GivesWhatIsFed failures_of c.args.started c.args.end.now c.loop.end c.take_round.new.end c.args.standby.now c.forget_wished.new.standby c.take_round.new.standby c.args.operator.now c.ask-wish.new.self c.ask-wish.result k c.take_round.ensures.went c.in_ok-is_left.ensures.visited c.in_ok-is_left.ensures.held

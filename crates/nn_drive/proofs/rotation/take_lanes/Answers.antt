@@ -1,6 +1,4 @@
-use Rattle.std.proofs.Common.{◌<◌, List, length, arith, subst, sym, ◌∙◌, ◌≡◌, Err}
-use Rattle.nn_lane.specs.Ends.{Taking}
-use Rattle.nn_tailer.proofs.Drained.{same_length}
+use Rattle.std.proofs.Common.{arith, ◌∙◌, ◌≡◌, Err}
 use Rattle.nn_feed.specs.Ends.{GivesWhatIsFed}
 use Rattle.nn_drive.specs.Feeding.{failures_of}
 use Rattle.nn_drive.proofs.Rounds.{keeps_same, keeps_then, none_visited, one_visited}
@@ -9,11 +7,6 @@ use Rattle.nn_drive.proofs.rotation.take_lanes.Goals as goal
 
 pub loop-i-init : goal.loop-i-init
 loop-i-init g c = (went_nowhere GivesWhatIsFed failures_of c.args.end.now c.args.standby.now, none_visited c.args.standby.now, λ _. keeps_same c.args.standby.now)
-
-pub bounds-ends-i : goal.bounds-ends-i
-bounds-ends-i g c =
-    let few : c.loop-i.i < length c.loop-i.standby.ends = omega (arith, c.loop-i-test.true, c.lanes-lanes.ensures.lanes, same_length c.args.standby.now.ends c.loop-i.standby.ends c.loop-i.invariant.0.2.same_ends) in
-    subst (λ (es : List Taking). c.loop-i.i < length es) (sym c.ends.ensures) few
 
 pub take_messages-requires-clause-serving : goal.take_messages-requires-clause-serving
 take_messages-requires-clause-serving g c = c.loop-i.invariant.0.2.begun ∙ c.requires

@@ -14,9 +14,9 @@ pub returns-in_default-with_capacity-clause-err : goal.returns-in_default-with_c
 returns-in_default-with_capacity-clause-err g c =
     is_refused g.O.Operator.asks g.T.SegmentSource.gives g.T.SegmentSource.failures c.args.workers.items c.args.operator.now c.args.operator.now c.refused-in_default-with_capacity.result c.args.standby c.args.source (Some c.args.source) (drive.OutOfMemory) c.refused-in_default-with_capacity.ensures.fault c.refused-in_default-with_capacity.ensures.rest refl (c.args.source, nothing_yet g.T.SegmentSource.gives g.T.SegmentSource.failures c.args.source c.args.standby)
 
-pub returns-in_default-new-clause-err : goal.returns-in_default-new-clause-err
-returns-in_default-new-clause-err g c =
-    is_refused g.O.Operator.asks g.T.SegmentSource.gives g.T.SegmentSource.failures c.args.workers.items c.args.operator.now c.args.operator.now c.refused-in_default-new.result c.args.standby c.args.source (Some c.args.source) (drive.OutOfMemory) c.refused-in_default-new.ensures.fault c.refused-in_default-new.ensures.rest refl (c.args.source, nothing_yet g.T.SegmentSource.gives g.T.SegmentSource.failures c.args.source c.args.standby)
+pub returns-in_default-shared_bells-clause-err : goal.returns-in_default-shared_bells-clause-err
+returns-in_default-shared_bells-clause-err g c =
+    is_refused g.O.Operator.asks g.T.SegmentSource.gives g.T.SegmentSource.failures c.args.workers.items c.args.operator.now c.args.operator.now c.refused-in_default-shared_bells.result c.args.standby c.args.source (Some c.args.source) (drive.OutOfMemory) c.refused-in_default-shared_bells.ensures.fault c.refused-in_default-shared_bells.ensures.rest refl (c.args.source, nothing_yet g.T.SegmentSource.gives g.T.SegmentSource.failures c.args.source c.args.standby)
 
 pub returns-in-Err-clause-err : goal.returns-in-Err-clause-err
 returns-in-Err-clause-err g c =

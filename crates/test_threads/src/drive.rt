@@ -21,8 +21,8 @@ use std::thread::Threads;
 
 // A drive, and what comes of it.
 #[derive(Clone, Copy)]
-struct Driven {
-    name: &'static str,
+pub struct Driven {
+    pub name: &'static str,
     // How often it is tried.
     times: u64,
     // So many sources with so many reports each, which wait until so many came, and are counted as come or not.
@@ -30,6 +30,8 @@ struct Driven {
     reports: u64,
     wanted: u64,
     counts: u64,
+    // How many reports a lane holds.
+    capacity: usize,
     // The log that the standby was promoted over before, or stopped by; and whether the lanes are closed when it begins.
     before: &'static [Text],
     closed: bool,
@@ -52,6 +54,7 @@ const PLAIN: Driven = Driven {
     reports: 1,
     wanted: 0,
     counts: 0,
+    capacity: 2,
     before: &[],
     closed: false,
     image: None,
@@ -198,6 +201,36 @@ const CLOSED_BEFORE: Driven = Driven {
     ..PLAIN
 };
 
+// Lanes that are full: one of one place, and as many as there can be.
+const ONE_FULL_LANE: Driven = Driven {
+    name: "one full lane",
+    sources: 1,
+    reports: 2000,
+    capacity: 1,
+    end: Ok((2, 2000)),
+    ..PLAIN
+};
+
+const FULL_LANES_16: Driven = Driven {
+    name: "16 full lanes",
+    sources: 16,
+    reports: 200,
+    capacity: 2,
+    end: Ok((2, 3200)),
+    ..PLAIN
+};
+
+const FULL_LANES_256: Driven = Driven {
+    name: "256 full lanes",
+    sources: 256,
+    reports: 50,
+    capacity: 1,
+    end: Ok((2, 12_800)),
+    ..PLAIN
+};
+
+pub const FULL_LANES: &[Driven] = &[ONE_FULL_LANE, FULL_LANES_16, FULL_LANES_256];
+
 const DRIVES: &[Driven] = &[
     AT_ONCE,
     SLOW_LOG,
@@ -223,8 +256,8 @@ fn drives(rt: HostRuntime) {
     }
 }
 
-// The drive ends as it should, nothing waits in vain, and no thread is left.
-fn ends<R: Abort + Threads + Wait + Sync>(rt: &R, alloc: Global, driven: &Driven) {
+/// The drive ends as it should, nothing waits in vain, and no thread is left.
+pub fn ends<R: Abort + Threads + Wait + Sync>(rt: &R, alloc: Global, driven: &Driven) {
     let name = driven.name;
     let Some(shared) = Shared::new(alloc) else {
         assert!(rt; false, "out of memory");
@@ -239,8 +272,7 @@ fn ends<R: Abort + Threads + Wait + Sync>(rt: &R, alloc: Global, driven: &Driven
     assert_eq!(rt; (came, vain, held), (driven.came, 0, 1), "{name}");
 }
 
-// What a drive comes to. A lane holds two reports. The standby is made last: each exit that drops one costs the proof
-// seconds.
+// What a drive comes to. The standby is made last: each exit that drops one costs the proof seconds.
 fn end_of<R: Threads + Wait + Sync>(
     rt: &R,
     alloc: Global,
@@ -249,7 +281,13 @@ fn end_of<R: Threads + Wait + Sync>(
 ) -> Option<Result<(u64, u64), u8>> {
     let sources = sources_of(alloc, driven, shared)?;
     let log = new_watched(alloc, shared, driven.log, driven.fails_at, driven.pace)?;
-    let (workers, mut standby) = laned(alloc, sources, 2, driven.image, driven.before)?;
+    let (workers, mut standby) = laned(
+        alloc,
+        sources,
+        driven.capacity,
+        driven.image,
+        driven.before,
+    )?;
     begin(&workers, &mut standby, driven.closed);
     Some(end_over(rt, alloc, workers, standby, log))
 }

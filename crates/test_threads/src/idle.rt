@@ -1,8 +1,8 @@
-//! Services that have nothing to do: they look for it often, and find soon what comes.
+//! Drives and services that have nothing to do: they ask often, find soon what comes, and take no processor time.
 use crate::drive::laned;
 use crate::sources::FailsOnce;
 use crate::values::{FIRST, Shared, TWO_MARKS, log_of, report_of};
-use nn_drive::{Operator, ReportSource, Served, Wish, serve};
+use nn_drive::{Operator, ReportSource, Served, Wish, drive, serve};
 use nn_tailer::Standby;
 use nn_types::Report;
 use std::alloc::Global;
@@ -10,7 +10,7 @@ use std::sync::atomic::Ordering;
 use std::sync::{Arc, Wait};
 use std::thread;
 use std::thread::Threads;
-use std::time::{Clock, Duration, Instant};
+use std::time::{Clock, CpuClock, Duration, Instant};
 
 // A DataNode that is silent for a while, notes when it ends that, and gives its report, or none.
 #[derive(Drop)]
@@ -78,22 +78,34 @@ fn joined<R: Threads + Clock + Drop>(rt: &R, promoted: Served<Silent<R>>) -> Opt
     spoke
 }
 
-// ---- How often a service looks.
+// ---- How often a service asks, and how much processor time it takes.
 
 // Times are in milliseconds.
 const BEGIN: u64 = 300;
 
 const END: u64 = 600;
 
-// Counts how often it is asked from the begin to the end, and then wishes a promotion.
+// The most that a thread that sleeps may take of 300 milliseconds. One that does not sleep takes them all.
+const USED: u64 = 30;
+
+// Counts how often it is asked from the begin to the end, and the processor time of the standby's thread. Then it wishes a
+// promotion.
 #[derive(Drop)]
-struct Counting<'a, R: Clock> {
+struct Counting<'a, R: Clock + CpuClock> {
     rt: &'a R,
     start: Instant,
     count: u64,
+    begun: Option<Duration>,
+    used: Option<Duration>,
 }
 
-impl<R: Clock> Operator for Counting<'_, R> {
+// The processor time that this thread took since it had taken so much.
+fn used_since<R: CpuClock>(rt: &R, begun: Duration) -> Option<Duration> {
+    let used = rt.thread_cpu_time().ok()?;
+    Some(used.saturating_sub(begun))
+}
+
+impl<R: Clock + CpuClock> Operator for Counting<'_, R> {
     ghost use Rattle.std.specs.Prelude.{⊤};
 
     ghost asks = { λ o x n w p. ⊤ };
@@ -103,35 +115,121 @@ impl<R: Clock> Operator for Counting<'_, R> {
             return Wish::Promote;
         };
         if since >= Duration::from_millis(END) {
+            if let Some(begun) = self.begun {
+                self.used = used_since(self.rt, begun);
+            }
             return Wish::Promote;
         }
         if since >= Duration::from_millis(BEGIN) {
+            if self.begun.is_none() {
+                self.begun = self.rt.thread_cpu_time().ok();
+            }
             self.count = self.count.saturating_add(1);
         }
         Wish::GoOn
     }
 }
 
-// A service that was idle for 300 milliseconds asks its operator at least 10 times in the next 300: a wait has a longest
-// sleep.
+// A service that was idle for 300 milliseconds, and whose log has ended, asks its operator at least 10 times in the next 300: a
+// sleep has a longest time. It asks 60 times at most, and so it does while its DataNode is silent.
 #[test]
 fn asks_while_idle(rt: HostRuntime) {
-    let asked = count_asked(&rt, rt.alloc()).unwrap_or(0);
-    assert!(rt; asked >= 10, "asked {asked} times");
+    for silence in [0, END] {
+        let (asked, used) = count_asked(&rt, rt.alloc(), silence).unwrap_or((0, None));
+        assert!(rt; asked >= 10 && asked <= 60, "asked {asked} times");
+        assert!(rt; is_little(used), "it does not sleep");
+    }
 }
 
-fn count_asked<R: Threads + Wait + Clock + Copy + Send + Drop + 'static>(
+fn is_little(used: Option<Duration>) -> bool {
+    used.is_some_and(|used| used <= Duration::from_millis(USED))
+}
+
+fn count_asked<R: Threads + Wait + Clock + CpuClock + Copy + Send + Drop + 'static>(
     rt: &R,
     alloc: Global,
-) -> Option<u64> {
-    let node = data_node(rt, &Shared::new(alloc)?, 0, None)?;
+    silence: u64,
+) -> Option<(u64, Option<Duration>)> {
+    let node = data_node(rt, &Shared::new(alloc)?, silence, None)?;
     let mut operator = Counting {
         rt,
         start: Instant::now(rt).ok()?,
         count: 0,
+        begun: None,
+        used: None,
     };
     let _spoke = served(rt, alloc, node, &mut operator)?;
-    Some(operator.count)
+    Some((operator.count, operator.used))
+}
+
+// The standby of a drive, whose log has ended, sleeps as long as its DataNode is silent.
+#[test]
+fn sleeps_while_a_drive_waits(rt: HostRuntime) {
+    let used = used_by_a_drive(&rt, rt.alloc());
+    assert!(rt; is_little(used), "it does not sleep");
+}
+
+fn used_by_a_drive<R: Threads + Wait + Clock + CpuClock + Copy + Send + Sync + Drop>(
+    rt: &R,
+    alloc: Global,
+) -> Option<Duration> {
+    let shared = Shared::new(alloc)?;
+    let log = FailsOnce::new(log_of(alloc, &[TWO_MARKS])?, u64::MAX);
+    let mut nodes = Vec::new(alloc);
+    let Ok(()) = nodes.push(data_node(rt, &shared, BEGIN, None)?) else {
+        return None;
+    };
+    let begun = rt.thread_cpu_time().ok()?;
+    let (workers, standby) = laned(alloc, nodes, 4, None, &[])?;
+    let is_driven = drive(rt, alloc, standby, log, workers).is_ok();
+    if !is_driven {
+        return None;
+    }
+    used_since(rt, begun)
+}
+
+// ---- How often a service asks whose operator holds its log.
+
+const HELD: u64 = 500;
+
+// Within so many milliseconds it is asked as often as that. With the sleeps of a log that is not held it would take 5,000.
+const HELD_FOR: u64 = 2000;
+
+// Holds the log so often, and then wishes a promotion.
+#[derive(Clone, Copy)]
+struct Holds {
+    left: u64,
+}
+
+impl Operator for Holds {
+    ghost use Rattle.std.specs.Prelude.{⊤};
+
+    ghost asks = { λ o x n w p. ⊤ };
+
+    fn ask(&mut self, _standby: &Standby, _running: usize) -> Wish {
+        if self.left == 0 {
+            return Wish::Promote;
+        }
+        self.left -= 1;
+        Wish::Hold
+    }
+}
+
+// An operator that holds the log has work of its own, and is asked the more often.
+#[test]
+fn asks_often_while_the_log_is_held(rt: HostRuntime) {
+    let passed = held_for(&rt, rt.alloc()).unwrap_or(Duration::MAX);
+    assert!(rt; passed <= Duration::from_millis(HELD_FOR), "{passed:?}");
+}
+
+fn held_for<R: Threads + Wait + Clock + Copy + Send + Drop + 'static>(
+    rt: &R,
+    alloc: Global,
+) -> Option<Duration> {
+    let node = data_node(rt, &Shared::new(alloc)?, 0, None)?;
+    let start = Instant::now(rt).ok()?;
+    let _spoke = served(rt, alloc, node, &mut Holds { left: HELD })?;
+    start.elapsed(rt).ok()
 }
 
 fn data_node<R: Clock + Copy + Drop>(
@@ -151,21 +249,27 @@ fn data_node<R: Clock + Copy + Drop>(
 
 // ---- How soon it finds what comes.
 
-const SILENCE: u64 = 3000;
+const SILENCE: u64 = 1000;
 
-const SOON: u64 = 500;
+// Within how many milliseconds the operator sees a report that comes; and within how many it is asked when nothing does: within
+// the longest sleep of a standby, and some on a busy machine.
+const SOON: u64 = 2;
+
+const SOON_ASKED: u64 = 20;
 
 // A machine that is busy may be late a few times.
 const TRIES: u8 = 5;
 
-// Wishes a promotion once the DataNode spoke and so many messages of it were processed.
+// Wishes a promotion once the DataNode spoke and so many messages of it were processed, and notes when that was.
 #[derive(Drop)]
-struct OnceHeard {
+struct OnceHeard<'a, R: Clock> {
+    rt: &'a R,
     shared: Arc<Shared, Global>,
     messages: u64,
+    heard: Option<Instant>,
 }
 
-impl Operator for OnceHeard {
+impl<R: Clock> Operator for OnceHeard<'_, R> {
     ghost use Rattle.std.specs.Prelude.{⊤};
 
     ghost asks = { λ o x n w p. ⊤ };
@@ -173,34 +277,37 @@ impl Operator for OnceHeard {
     fn ask(&mut self, standby: &Standby, _running: usize) -> Wish {
         let spoke = self.shared.came.load(Ordering::SeqCst) > 0;
         if spoke && standby.shadow().last_number(1) >= self.messages {
+            self.heard = Instant::now(self.rt).ok();
             return Wish::Promote;
         }
         Wish::GoOn
     }
 }
 
-// After three idle seconds a report is processed, or a promotion is begun that is wished then.
+// After an idle second a report is processed, or a promotion is begun that is wished then.
 #[test]
 fn finds_soon_what_comes(rt: HostRuntime) {
-    assert!(rt; finds_soon(&rt, rt.alloc(), 1), "a report");
-    assert!(rt; finds_soon(&rt, rt.alloc(), 0), "a wish");
+    assert!(rt; finds_soon(&rt, rt.alloc(), 1, SOON), "a report");
+    assert!(rt; finds_soon(&rt, rt.alloc(), 0, SOON_ASKED), "a wish");
 }
 
-// Whether the service was promoted soon after the silence, in one try at least.
+// Whether the promotion was wished so many milliseconds after the silence at most, in one try at least.
 fn finds_soon<R: Threads + Wait + Clock + Copy + Send + Drop + 'static>(
     rt: &R,
     alloc: Global,
     messages: u64,
+    millis: u64,
 ) -> bool {
     for _ in 0..TRIES {
-        if late_by(rt, alloc, messages).is_some_and(|late| late <= Duration::from_millis(SOON)) {
+        let late = late_by(rt, alloc, messages);
+        if late.is_some_and(|late| late <= Duration::from_millis(millis)) {
             return true;
         }
     }
     false
 }
 
-// How long after the silence the promotion was done: of a service that waits for so many messages, 1 or none.
+// How long after the silence it was wished: by an operator that waits for so many messages, 1 or none.
 fn late_by<R: Threads + Wait + Clock + Copy + Send + Drop + 'static>(
     rt: &R,
     alloc: Global,
@@ -213,7 +320,12 @@ fn late_by<R: Threads + Wait + Clock + Copy + Send + Drop + 'static>(
     };
     let shared = Shared::new(alloc)?;
     let node = data_node(rt, &shared, SILENCE, report)?;
-    let mut operator = OnceHeard { shared, messages };
+    let mut operator = OnceHeard {
+        rt,
+        shared,
+        messages,
+        heard: None,
+    };
     let spoke = served(rt, alloc, node, &mut operator)?;
-    spoke.elapsed(rt).ok()
+    Some(operator.heard?.duration_since(spoke))
 }

@@ -3,11 +3,19 @@
 #![tactic(auto)]
 
 #[cfg(test)]
+mod bell;
+#[cfg(test)]
 mod checkpoints;
+#[cfg(test)]
+mod closing;
+#[cfg(test)]
+mod delays;
 #[cfg(test)]
 mod drive;
 #[cfg(test)]
 mod feed;
+#[cfg(test)]
+mod handing;
 #[cfg(test)]
 mod hold;
 #[cfg(test)]
@@ -24,3 +32,5 @@ mod sources;
 mod steps;
 #[cfg(test)]
 mod values;
+#[cfg(test)]
+mod wake;

@@ -5,6 +5,7 @@ use std::alloc::Global;
 use std::sync::Arc;
 use std::sync::atomic::{AtomicU64, Ordering};
 use std::thread;
+use std::time::{Clock, Instant};
 
 /// The first block id that a log issues.
 pub const FIRST: u64 = 1073741825;
@@ -170,4 +171,27 @@ pub fn reaches(number: &AtomicU64, wanted: u64) -> bool {
         thread::yield_now();
     }
     false
+}
+
+/// How many microseconds have passed.
+pub fn micros_since<R: Clock>(rt: &R, start: Instant) -> u64 {
+    let Ok(passed) = start.elapsed(rt) else {
+        return u64::MAX;
+    };
+    u64::try_from(passed.as_micros()).unwrap_or(u64::MAX)
+}
+
+/// Numbers without order, from a counter: the same in each run.
+#[derive(Clone, Copy)]
+pub struct Dice {
+    pub count: u64,
+}
+
+impl Dice {
+    pub fn roll(&mut self) -> u64 {
+        self.count = self.count.wrapping_add(0x9E37_79B9_7F4A_7C15);
+        let first = (self.count ^ (self.count >> 30)).wrapping_mul(0xBF58_476D_1CE4_E5B9);
+        let second = (first ^ (first >> 27)).wrapping_mul(0x94D0_49BB_1331_11EB);
+        second ^ (second >> 31)
+    }
 }

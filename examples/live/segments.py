@@ -131,7 +131,7 @@ class LineReader:
     """Reads segments of this project's lines."""
 
     suffix = ""
-    # Whether a segment of which the program took the front can be read anew.
+    # Whether a segment of which the program took a prefix can be read anew.
     goes_on_inside = True
 
     def pieces(self, file, segment, reached):

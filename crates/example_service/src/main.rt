@@ -11,6 +11,7 @@ use nn_drive::{Running, Served};
 use nn_edits::{Line, Scratch, read_line};
 use nn_listing::{ReadyListing, ReadyTables, write_listing};
 use nn_shadow::Shadow;
+use nn_types::limits::MAX_DATANODES;
 use nn_types::{Message, Report, Settings};
 use service::{DataNode, Failover, promoted};
 use std::alloc::Global;
@@ -26,44 +27,44 @@ fn line_by_line(rt: &HostRuntime) -> Result<()> {
     let Some(settings) = Settings::new(999, 1) else {
         bail!("no settings");
     };
-    let mut standby = Shadow::new(rt.alloc(), 256, settings)?;
-    follow(rt, &mut standby)
+    let mut shadow = Shadow::new(rt.alloc(), MAX_DATANODES, settings)?;
+    follow(rt, &mut shadow)
 }
 
 // Takes all edits and reports of standard input, and shows the standby then.
-fn follow(rt: &HostRuntime, standby: &mut Shadow) -> Result<()> {
+fn follow(rt: &HostRuntime, shadow: &mut Shadow) -> Result<()> {
     let mut scratch = Scratch::new(rt.alloc());
     for line in rt.lines(rt.alloc()) {
-        take(rt.alloc(), &mut scratch, line?.as_bytes(), standby)?;
+        take(rt.alloc(), &mut scratch, line?.as_bytes(), shadow)?;
     }
-    show(rt, standby)
+    show(rt, shadow)
 }
 
-fn take(alloc: Global, scratch: &mut Scratch, line: &[u8], standby: &mut Shadow) -> Result<()> {
+fn take(alloc: Global, scratch: &mut Scratch, line: &[u8], shadow: &mut Shadow) -> Result<()> {
     match read_line(alloc, scratch, line)? {
-        Line::Edit(tx) => standby.apply(&tx)?,
-        Line::Report(report) => hand(standby, report)?,
+        Line::Edit(tx) => shadow.apply(&tx)?,
+        Line::Report(report) => hand(shadow, report)?,
     }
     Ok(())
 }
 
-fn show(rt: &HostRuntime, standby: &Shadow) -> Result<()> {
+fn show(rt: &HostRuntime, shadow: &Shadow) -> Result<()> {
     let mut listing = Writer::new(Vec::new(rt.alloc()));
     write_listing(
         rt.alloc(),
-        standby.namespace(),
-        standby.last_txid(),
+        shadow.namespace(),
+        shadow.last_txid(),
         &mut listing,
     )?;
     let text = String::from_utf8(listing.into_inner())?;
-    let held = standby.held_count();
-    let missing = standby.figures().missing;
+    let held = shadow.held_count();
+    let missing = shadow.figures().missing;
     println!(rt; "{text}held {held}, missing {missing}")?;
     Ok(())
 }
 
 // Hands over the report as its DataNode's next message.
-fn hand(standby: &mut Shadow, report: Report) -> Result<()> {
+fn hand(shadow: &mut Shadow, report: Report) -> Result<()> {
     let Report {
         dn,
         block,
@@ -71,7 +72,7 @@ fn hand(standby: &mut Shadow, report: Report) -> Result<()> {
         len,
         kind,
     } = report;
-    let number = standby.last_number(dn).saturating_add(1);
+    let number = shadow.last_number(dn).saturating_add(1);
     let message = Message {
         dn,
         number,
@@ -80,7 +81,7 @@ fn hand(standby: &mut Shadow, report: Report) -> Result<()> {
         len,
         kind,
     };
-    if standby.hand(message).is_err() {
+    if shadow.hand(message).is_err() {
         bail!("a report of DataNode {dn} is refused");
     }
     Ok(())

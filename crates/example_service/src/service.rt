@@ -2,15 +2,17 @@
 //! NameNode comes from one more. An operator writes the history into a journal and a checkpoint after each segment, and takes
 //! over at transaction 11. A checkpoint is written in parts: it holds the log, and no report waits for it.
 ghost use Rattle.std.specs.Prelude.{◌≤◌, length, IfSome};
+ghost use Rattle.nn_types.specs.Limits.{max_datanodes};
 
 use nn_device::{Page, Writer};
 use nn_drive::{
     CheckpointOperator, CheckpointOutcome, Checkpointing, EndedCheckpoint, Operator, ReportSource,
-    Served, Wish, serve, with_lanes,
+    Request, Served, serve, with_lanes,
 };
+use nn_lane_standby::Standby;
 use nn_listing::put_history;
 use nn_segment::{Item, MemorySource, Parsed, SegmentSource, SourceFault};
-use nn_tailer::Standby;
+use nn_types::limits::MAX_DATANODES;
 use nn_types::{BlockId, Event, GenerationStamp, Kind, Length, Report, Settings};
 use std::alloc::Global;
 use std::sync::atomic::{AtomicBool, AtomicU64, Ordering};
@@ -133,20 +135,20 @@ pub struct Failover {
 
 impl Operator for Failover {
     ghost use Rattle.std.specs.Prelude.{◌≡◌, ◌≤◌};
-    ghost use Rattle.nn_drive.specs.declared.operator.Wish.TheVariants.{Promote};
+    ghost use Rattle.nn_drive.specs.declared.operator.Request.TheVariants.{Promote};
 
     ghost asks = { λ o x n w p. w ≡ Promote → 11 ≤ x.shadow.last };
 
-    fn ask(&mut self, standby: &Standby, _running: usize) -> Wish {
+    fn ask(&mut self, standby: &Standby, _running: usize) -> Request {
         let shadow = standby.shadow();
         if shadow.last_txid() >= TAKEOVER && !shadow.safe_mode().on {
             self.told.fenced.store(true, Ordering::SeqCst);
-            return Wish::Promote;
+            return Request::Promote;
         }
         if !self.record(shadow.history()) {
-            return Wish::GoOn;
+            return Request::GoOn;
         }
-        Wish::Forget
+        Request::Forget
     }
 }
 
@@ -214,7 +216,7 @@ pub fn promoted<R: Threads + Wait + Copy + Send + Drop + 'static>(
     let Ok((workers, ends)) = with_lanes(alloc, data_nodes(alloc)?, 64) else {
         return None;
     };
-    if ends.is_empty() || ends.len() > 256 {
+    if ends.is_empty() || ends.len() > usize::from(MAX_DATANODES) {
         return None;
     }
     let Ok(standby) = Standby::new(alloc, ends, settings) else {
@@ -248,7 +250,7 @@ fn add_segment(alloc: Global, segments: &mut Vec<Parsed>, name: &str, text: &str
 
 // Two DataNodes that received the block.
 fn data_nodes(alloc: Global) -> Option<Vec<DataNode>>
-    ensures { IfSome result (λ nodes. length nodes.items ≤ 256) }
+    ensures { IfSome result (λ nodes. length nodes.items ≤ max_datanodes) }
 {
     let first = DataNode {
         replica: replica()?,

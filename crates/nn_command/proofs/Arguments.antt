@@ -9,7 +9,7 @@ use Rattle.clap.specs.declared.error.kind.ErrorKind.TheVariants.{ArgumentConflic
 use Rattle.clap.specs.declared.parser.matches.Found.{Found}
 use Rattle.clap.proofs.OnLiterals.{clap_on_literals}
 use Rattle.clap.proofs.WalkLemmas.{one_text-rows}
-use Rattle.nn_types.specs.Settings.{Threshold}
+use Rattle.nn_types.specs.Settings.{Settings}
 use Rattle.nn_command.specs.Options.{settings_line, lanes_line, command_line, AreReadAs, AskAs, AskFor, IsCapacity, IsFlag, IsNumberOf, IsRequest, is_contradictory}
 use Rattle.nn_command.specs.Program.{WhyNot}
 use Rattle.nn_command.specs.declared.options.Request.{Request}
@@ -23,7 +23,7 @@ unfolding clap_on_literals settings_line lanes_line command_line
 line_is_free = refl
 
 -- the texts that were found under the names are those that the arguments have there
-pub asked_as_found : (arguments : List Text) (found : Found) (settings : Threshold) → rows_of found ≡ matches_of command_line arguments →
+pub asked_as_found : (arguments : List Text) (found : Found) (settings : Settings) → rows_of found ≡ matches_of command_line arguments →
     AreReadAs (one_text found (codes "permille")) (one_text found (codes "min")) (one_text found (codes "capacity")) settings → AskFor arguments settings
 asked_as_found arguments found settings rows read =
     let at : (name : Text) → one_text found name ≡ one_of name (matches_of command_line arguments) = λ name. one_text-rows found name ∙ ap (one_of name) rows in
@@ -45,7 +45,7 @@ asked_so arguments found r rows read =
       explains = subst (λ (o : Option Text). IsNumberOf 8 o r.explain) (at (codes "explain")) read.explains;
     }
 
-pub found_as_asked : (arguments : List Text) (found : Found) (settings : Threshold) → rows_of found ≡ matches_of command_line arguments →
+pub found_as_asked : (arguments : List Text) (found : Found) (settings : Settings) → rows_of found ≡ matches_of command_line arguments →
     AskFor arguments settings → AreReadAs (one_text found (codes "permille")) (one_text found (codes "min")) (one_text found (codes "capacity")) settings
 found_as_asked arguments found settings rows asked =
     let at : (name : Text) → one_of name (matches_of command_line arguments) ≡ one_text found name = λ name. sym (one_text-rows found name ∙ ap (one_of name) rows) in
@@ -64,7 +64,7 @@ no_version : InvalidValue ≡ DisplayVersion → ⊥
 no_version e = absurd (cc)
 
 pub out_of_range : (arguments : List Text) (found : Found) (e : Error) → rows_of found ≡ matches_of command_line arguments →
-    ((settings : Threshold) → AreReadAs (one_text found (codes "permille")) (one_text found (codes "min")) (one_text found (codes "capacity")) settings → ⊥) →
+    ((settings : Settings) → AreReadAs (one_text found (codes "permille")) (one_text found (codes "min")) (one_text found (codes "capacity")) settings → ⊥) →
     (kind_of e ≡ InvalidValue) ⊎ (kind_of e ≡ OutOfMemory) → WhyNot arguments (kind_of e)
 out_of_range arguments found e rows none (inl invalid) =
     inr (inr ((λ help. no_help (sym invalid ∙ help)), (λ version. no_version (sym invalid ∙ version)), inl (λ settings asked. none settings (found_as_asked arguments found settings rows asked))))

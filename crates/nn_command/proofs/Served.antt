@@ -1,12 +1,12 @@
 -- What is told of an error is what the arguments ask for.
 use Rattle.std.proofs.Common.{◌≡◌, ◌≢◌, ◌⊎◌, ℕ, false, List, Option, Some, None, MatchOption, sym, subst, ◌∙◌, inl, inr}
-use Rattle.nn_device.specs.Device.{Reading, Writing}
+use Rattle.nn_device.specs.Device.{Reader, Writer}
 use Rattle.clap.specs.Words.{Text, IsAmong, fault_of}
 use Rattle.clap.specs.declared.error.kind.ErrorKind.{ErrorKind}
 use Rattle.clap.specs.declared.error.kind.ErrorKind.TheVariants.{DisplayHelp, DisplayVersion, OutOfMemory}
 use Rattle.nn_command.specs.declared.options.Request.{Request}
 use Rattle.nn_command.specs.Options.{command_line, AskAs, is_contradictory}
-use Rattle.nn_command.specs.Program.{Serves, Streams, TellsOf, WhyNot, AreTaken, AskForHelp, AskForVersion, AskForNothing, Explains, LacksMemory, Runs, no_reader, streams}
+use Rattle.nn_command.specs.Program.{Serves, Streams, TellsOf, WhyNot, AreTaken, AskForHelp, AskForVersion, AskForNothing, Explains, LacksMemory, RunsAsAsked, no_reader, streams}
 
 memory_is_no_help : OutOfMemory ≡ DisplayHelp → ⊥
 memory_is_no_help e = absurd (cc)
@@ -29,7 +29,7 @@ asks_for_nothing arguments kind no_help no_version no_memory (inl memory) = absu
 asks_for_nothing arguments kind no_help no_version no_memory (inr (inl among)) = inl (kind, among, no_help, no_version)
 asks_for_nothing arguments kind no_help no_version no_memory (inr (inr other)) = inr other.2
 
-pub told_serves : (arguments : List Text) (kind : ErrorKind) (before after : Reading) (output output' errors errors' : Writing) (ended : ℕ) →
+pub told_serves : (arguments : List Text) (kind : ErrorKind) (before after : Reader) (output output' errors errors' : Writer) (ended : ℕ) →
     WhyNot arguments kind → after ≡ before → TellsOf kind (streams no_reader no_reader output output' errors errors') ended →
     Serves arguments (streams before after output output' errors errors') ended
 told_serves arguments kind before after output output' errors errors' ended why kept (inl memory) = inr (inr (inr (inr (memory.0, memory.1, kept))))
@@ -41,12 +41,12 @@ told_serves arguments kind before after output output' errors errors' ended why 
     inr (inr (inr (inl (asks_for_nothing arguments kind other.0 other.1 other.2 why, (other.3.0, other.3.1, other.3.2, kept)))))
 
 -- with no reader, and so with any that was not read
-explains_unread : (number : ℕ) (before after : Reading) (output output' errors errors' : Writing) (ended : ℕ) → after ≡ before →
+explains_unread : (number : ℕ) (before after : Reader) (output output' errors errors' : Writer) (ended : ℕ) → after ≡ before →
     Explains number (streams no_reader no_reader output output' errors errors') ended → Explains number (streams before after output output' errors errors') ended
 explains_unread number before after output output' errors errors' ended kept (inl named) = inl (named.0, named.1, (named.2.0, named.2.1, kept))
 explains_unread number before after output output' errors errors' ended kept (inr none) = inr (none.0, (none.1.0, none.1.1, none.1.2, kept))
 
-pub explained_serves : (arguments : List Text) (r : Request) (number : ℕ) (before after : Reading) (output output' errors errors' : Writing) (ended : ℕ) →
+pub explained_serves : (arguments : List Text) (r : Request) (number : ℕ) (before after : Reader) (output output' errors errors' : Writer) (ended : ℕ) →
     r.explain ≡ Some number → AreTaken arguments r.options.settings → AskAs arguments r → is_contradictory r ≡ false → after ≡ before →
     Explains number (streams no_reader no_reader output output' errors errors') ended ⊎ LacksMemory (streams no_reader no_reader output output' errors errors') ended →
     Serves arguments (streams before after output output' errors errors') ended
@@ -57,7 +57,7 @@ explained_serves arguments r number before after output output' errors errors' e
       taken,
       as_asked,
       clear,
-      subst (λ (o : Option ℕ). MatchOption o (Runs r s ended) (λ n. Explains n s ended)) (sym asked)
+      subst (λ (o : Option ℕ). MatchOption o (RunsAsAsked r s ended) (λ n. Explains n s ended)) (sym asked)
           (explains_unread number before after output output' errors errors' ended kept told),
     )
 explained_serves arguments r number before after output output' errors errors' ended asked taken as_asked clear kept (inr memory) =
@@ -68,6 +68,6 @@ is_none None other = cc
 is_none (Some n) other = absurd (other n (cc))
 
 pub run_serves : (arguments : List Text) (r : Request) (s : Streams) (ended : ℕ) → ((n : ℕ) → r.explain ≡ Some n → ⊥) →
-    AreTaken arguments r.options.settings → AskAs arguments r → is_contradictory r ≡ false → Runs r s ended → Serves arguments s ended
+    AreTaken arguments r.options.settings → AskAs arguments r → is_contradictory r ≡ false → RunsAsAsked r s ended → Serves arguments s ended
 run_serves arguments r s ended other taken as_asked clear ran =
-    inl (r, taken, as_asked, clear, subst (λ (o : Option ℕ). MatchOption o (Runs r s ended) (λ n. Explains n s ended)) (sym (is_none r.explain other)) ran)
+    inl (r, taken, as_asked, clear, subst (λ (o : Option ℕ). MatchOption o (RunsAsAsked r s ended) (λ n. Explains n s ended)) (sym (is_none r.explain other)) ran)

@@ -6,7 +6,8 @@ use Rattle.clap.specs.Words.{App, Rule, Text, matches_of, new_app, new_rule, one
 use Rattle.clap.specs.declared.builder.action.ArgAction.TheVariants.{Set, SetTrue}
 use Rattle.clap.specs.declared.builder.value_parser.ValueParser.{ValueParser}
 use Rattle.clap.specs.declared.builder.value_parser.ValueParser.TheVariants.{Signed}
-use Rattle.nn_types.specs.Settings.{Threshold, AreSettings}
+use Rattle.nn_types.specs.Settings.{Settings, AreSettings}
+use Rattle.nn_types.specs.Limits.{max_replication, max_capacity}
 use Rattle.nn_command.specs.declared.options.Request.{Request}
 
 -- `--NAME VALUE`, and the value where the name is not there
@@ -29,11 +30,11 @@ the_program = on_top (λ s. record s { has_version = true }) (new_app (codes "nn
 unfoldable pub settings_line : App
 settings_line =
     with_rule (with_rule the_program (value_rule (codes "permille") (Signed (pos 0) (pos 1000)) (codes "999")))
-    (value_rule (codes "min") (Signed (pos 1) (pos 512)) (codes "1"))
+    (value_rule (codes "min") (Signed (pos 1) (pos max_replication)) (codes "1"))
 
 -- and `--capacity`, which may be left out, with a number from 1 to 1024, and `--threads`
 unfoldable pub lanes_line : App
-lanes_line = with_rule (with_rule settings_line (optional_rule (codes "capacity") (Signed (pos 1) (pos 1024)))) (flag_rule (codes "threads"))
+lanes_line = with_rule (with_rule settings_line (optional_rule (codes "capacity") (Signed (pos 1) (pos max_capacity)))) (flag_rule (codes "threads"))
 
 -- and `--history`, `--summary`, `--unsafe`, `--image`, `--from-image` and `--live`, and `--explain`, which may be left out, with a number from 0 to 255
 unfoldable pub command_line : App
@@ -57,17 +58,17 @@ abbrev pub IsCapacity : Option Text → Option ℕ → Type 0
 IsCapacity None None = Unit {0}
 IsCapacity None (Some n) = ⊥
 IsCapacity (Some text) None = ⊥
-IsCapacity (Some text) (Some n) = ReadsAs (Some text) n × (1 ≤ n) × (n ≤ 1024)
+IsCapacity (Some text) (Some n) = ReadsAs (Some text) n × (1 ≤ n) × (n ≤ max_capacity)
 
 -- the texts of the options with numbers, `--permille` first, are these settings, and a capacity
-pub record AreReadAs (first second third : Option Text) (settings : Threshold) : Type 0 where
+pub record AreReadAs (first second third : Option Text) (settings : Settings) : Type 0 where
   pub permille : ReadsAs first settings.permille
   pub min : ReadsAs second settings.min
   pub lawful : AreSettings settings.permille settings.min
   pub capacity : (n : Option ℕ) × IsCapacity third n
 
 -- the arguments ask for these settings, by the texts after the names or by their defaults
-abbrev pub AskFor : List Text → Threshold → Type 0
+abbrev pub AskFor : List Text → Settings → Type 0
 AskFor arguments = AreReadAs (one_of (codes "permille") (matches_of command_line arguments)) (one_of (codes "min") (matches_of command_line arguments)) (one_of (codes "capacity") (matches_of command_line arguments))
 
 -- whether a flag is set: its text is `true`, or it is `false` or not there

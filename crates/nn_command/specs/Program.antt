@@ -1,28 +1,28 @@
 -- What the program does for its arguments, and the status that it ends with.
 use Rattle.std.specs.Prelude.{◌≡◌, ◌≢◌, ◌⊎◌, ◌∷◌, [], ◌++◌, ℕ, Bool, true, false, List, codes, decimal, Some, None, MatchOption}
-use Rattle.nn_device.specs.Device.{Reading, Writing, Took, FailedToWrite}
+use Rattle.nn_device.specs.Device.{Reader, Writer, Took, FailedToWrite}
 use Rattle.clap.specs.Words.{Text, IsAmong, fault_of}
 use Rattle.clap.specs.declared.error.kind.ErrorKind.{ErrorKind}
 use Rattle.clap.specs.declared.error.kind.ErrorKind.TheVariants.{DisplayHelp, DisplayVersion}
 use Rattle.clap.specs.declared.error.kind.ErrorKind.TheVariants as why
-use Rattle.nn_types.specs.Fault.{name_in, name_of}
-use Rattle.nn_types.specs.Settings.{Threshold}
+use Rattle.nn_bytes.specs.Lines.{line_feed}
+use Rattle.nn_types.specs.Fault.{name_in, fault_name}
+use Rattle.nn_types.specs.Settings.{Settings}
 use Rattle.nn_engine.specs.declared.engine.Options.{Options as RunOptions}
 use Rattle.nn_engine.specs.declared.output.RunFault.{RunFault}
-use Rattle.nn_listing.specs.Listing.{newline}
-use Rattle.nn_engine.specs.Run.{Given, Wrote, WroteFront, running}
-use Rattle.nn_command.specs.declared.program.NoArguments.{NoArguments}
-use Rattle.nn_command.specs.declared.program.NoArguments.TheVariants.{NotText, OutOfMemory}
+use Rattle.nn_engine.specs.Run.{Given, WroteOutput, WroteOutputPrefix, running}
+use Rattle.nn_command.specs.declared.program.ArgumentsFault.{ArgumentsFault}
+use Rattle.nn_command.specs.declared.program.ArgumentsFault.TheVariants.{NotText, OutOfMemory}
 use Rattle.nn_command.specs.declared.options.Request.{Request}
 use Rattle.nn_command.specs.declared.options.TheConstants.{VERSION}
-use Rattle.nn_live.specs.Running.{asked_by, serving_by, Wrote as Served, WroteFront as ServedFront}
+use Rattle.nn_live.specs.Running.{asked_by, serving_by, WroteLive, WroteLivePrefix}
 use Rattle.nn_live.specs.declared.run.LiveOptions.{LiveOptions}
 use Rattle.nn_command.specs.Options.{command_line, AskAs, AskFor, is_contradictory}
 
 -- ---- What the arguments ask for.
 
 -- the parser has no fault to find, and these are the settings
-abbrev pub AreTaken : List Text → Threshold → Type 0
+abbrev pub AreTaken : List Text → Settings → Type 0
 AreTaken arguments settings = (fault_of command_line arguments ≡ []) × AskFor arguments settings
 
 -- the help text
@@ -41,20 +41,20 @@ Contradict arguments = (r : Request) × AskAs arguments r × (is_contradictory r
 abbrev pub AskForNothing : List Text → Type 0
 AskForNothing arguments =
     ((kind : ErrorKind) × IsAmong kind (fault_of command_line arguments) × (kind ≢ DisplayHelp) × (kind ≢ DisplayVersion))
-    ⊎ (((settings : Threshold) → AskFor arguments settings → ⊥) ⊎ Contradict arguments)
+    ⊎ (((settings : Settings) → AskFor arguments settings → ⊥) ⊎ Contradict arguments)
 
 -- ---- What the program did.
 
 -- its reader and its two writers, before and after
 pub record Streams : Type 0 where
-  pub before : Reading
-  pub after : Reading
-  pub output : Writing
-  pub output' : Writing
-  pub errors : Writing
-  pub errors' : Writing
+  pub before : Reader
+  pub after : Reader
+  pub output : Writer
+  pub output' : Writer
+  pub errors : Writer
+  pub errors' : Writer
 
-abbrev pub streams : Reading → Reading → Writing → Writing → Writing → Writing → Streams
+abbrev pub streams : Reader → Reader → Writer → Writer → Writer → Writer → Streams
 streams before after output output' errors errors' = record {
   before = before;
   after = after;
@@ -65,20 +65,20 @@ streams before after output output' errors errors' = record {
 }
 
 -- a reader of which nothing is known, for what is done without one
-abbrev pub no_reader : Reading
+abbrev pub no_reader : Reader
 no_reader = record { left = None; reads = 0; given = 0; failed = false }
 
 -- the writer got the text, and the status is this one; or a write failed before it got all, and the status is 1
-abbrev pub Writes : Writing → Writing → List ℕ → ℕ → ℕ → Type 0
-Writes old new text status ended = (Took old new text × (ended ≡ status)) ⊎ ((n : ℕ) × FailedToWrite old new text n × (ended ≡ 1))
+abbrev pub WritesText : Writer → Writer → List ℕ → ℕ → ℕ → Type 0
+WritesText old new text status ended = (Took old new text × (ended ≡ status)) ⊎ ((n : ℕ) × FailedToWrite old new text n × (ended ≡ 1))
 
 -- the line that memory ran out
 abbrev pub memory_line : List ℕ
-memory_line = codes "fault 55" ++ newline ∷ []
+memory_line = codes "fault 55" ++ line_feed ∷ []
 
 -- the output, and the status that goes with it; or a prefix of it, and the status 1
-abbrev pub EndsWith : Given → Writing → Writing → ℕ → Type 0
-EndsWith given output output' ended = Wrote given output output' ended ⊎ ((fault : RunFault) × WroteFront given output output' fault × (ended ≡ 1))
+abbrev pub WritesOutput : Given → Writer → Writer → ℕ → Type 0
+WritesOutput given output output' ended = WroteOutput given output output' ended ⊎ ((fault : RunFault) × WroteOutputPrefix given output output' fault × (ended ≡ 1))
 
 -- a service is asked for what these options say, and has the version of the program
 pub record AsksFor (options : RunOptions) (o : LiveOptions) : Type 0 where
@@ -86,67 +86,67 @@ pub record AsksFor (options : RunOptions) (o : LiveOptions) : Type 0 where
   pub from_image : o.from_image ≡ options.from_image
 
 -- an output of a service, and the status that goes with it; or a prefix of one, and the status 1
-abbrev pub EndsServing : LiveOptions → Reading → Reading → Writing → Writing → ℕ → Type 0
+abbrev pub EndsServing : LiveOptions → Reader → Reader → Writer → Writer → ℕ → Type 0
 EndsServing o before after output output' ended =
-    Served (serving_by o before after) output output' ended ⊎ ((fault : RunFault) × ServedFront (serving_by o before after) output output' fault × (ended ≡ 1))
+    WroteLive (serving_by o before after) output output' ended ⊎ ((fault : RunFault) × WroteLivePrefix (serving_by o before after) output output' fault × (ended ≡ 1))
 
-abbrev pub EndsService : RunOptions → Reading → Reading → Writing → Writing → ℕ → Type 0
+abbrev pub EndsService : RunOptions → Reader → Reader → Writer → Writer → ℕ → Type 0
 EndsService options before after output output' ended = (o : LiveOptions) × AsksFor options o × EndsServing o before after output output' ended
 
 -- a service where one is asked for, else a run, with threads or without
-abbrev pub EndsSo : Bool → RunOptions → Bool → Reading → Reading → Writing → Writing → ℕ → Type 0
+abbrev pub EndsSo : Bool → RunOptions → Bool → Reader → Reader → Writer → Writer → ℕ → Type 0
 EndsSo true options threads before after output output' ended = EndsService options before after output output' ended
-EndsSo false options threads before after output output' ended = EndsWith (running options threads before after) output output' ended
+EndsSo false options threads before after output output' ended = WritesOutput (running options threads before after) output output' ended
 
-abbrev pub EndsAsAsked : Request → Reading → Reading → Writing → Writing → ℕ → Type 0
+abbrev pub EndsAsAsked : Request → Reader → Reader → Writer → Writer → ℕ → Type 0
 EndsAsAsked r before after output output' ended = EndsSo r.live r.options r.threads before after output output' ended
 
-abbrev pub Runs : Request → Streams → ℕ → Type 0
-Runs r s ended = EndsAsAsked r s.before s.after s.output s.output' ended × (s.errors' ≡ s.errors)
+abbrev pub RunsAsAsked : Request → Streams → ℕ → Type 0
+RunsAsAsked r s ended = EndsAsAsked r s.before s.after s.output s.output' ended × (s.errors' ≡ s.errors)
 
 -- a text on the output, and nothing was read
-abbrev pub Tells : List ℕ → Streams → ℕ → Type 0
-Tells text s ended = Writes s.output s.output' text 0 ended × (s.errors' ≡ s.errors) × (s.after ≡ s.before)
+abbrev pub PrintsText : List ℕ → Streams → ℕ → Type 0
+PrintsText text s ended = WritesText s.output s.output' text 0 ended × (s.errors' ≡ s.errors) × (s.after ≡ s.before)
 
 -- the help text
 abbrev pub Helps : Streams → ℕ → Type 0
-Helps s ended = (text : List ℕ) × Tells text s ended
+Helps s ended = (text : List ℕ) × PrintsText text s ended
 
 -- the program's name and its version
 abbrev pub version_line : List ℕ
-version_line = codes "nn_standby " ++ VERSION.now ++ newline ∷ []
+version_line = codes "nn_standby " ++ VERSION.now ++ line_feed ∷ []
 
 -- a message beside the output, all of it or a prefix, and nothing was read
-abbrev pub Refuses : Streams → ℕ → Type 0
-Refuses s ended =
+abbrev pub RefusesCommand : Streams → ℕ → Type 0
+RefusesCommand s ended =
     ((text : List ℕ) × (Took s.errors s.errors' text ⊎ ((n : ℕ) × FailedToWrite s.errors s.errors' text n))) × (ended ≡ 2) × (s.output' ≡ s.output) × (s.after ≡ s.before)
 
 -- the line that memory ran out, and nothing was read
 abbrev pub LacksMemory : Streams → ℕ → Type 0
-LacksMemory s ended = Writes s.output s.output' memory_line 1 ended × (s.errors' ≡ s.errors) × (s.after ≡ s.before)
+LacksMemory s ended = WritesText s.output s.output' memory_line 1 ended × (s.errors' ≡ s.errors) × (s.after ≡ s.before)
 
 -- the number of a fault, and the text about it
 abbrev pub explanation_line : ℕ → List ℕ → List ℕ
-explanation_line number text = decimal number ++ codes " " ++ text ++ newline ∷ []
+explanation_line number text = decimal number ++ codes " " ++ text ++ line_feed ∷ []
 
 -- a text that begins with the name of the fault with this number; and a message where no fault has it
 abbrev pub Explains : ℕ → Streams → ℕ → Type 0
 Explains number s ended =
-    ((text : List ℕ) × (name_of number ≡ Some (name_in text)) × Tells (explanation_line number text) s ended) ⊎ ((name_of number ≡ None) × Refuses s ended)
+    ((text : List ℕ) × (fault_name number ≡ Some (name_in text)) × PrintsText (explanation_line number text) s ended) ⊎ ((fault_name number ≡ None) × RefusesCommand s ended)
 
 -- what is asked for: a run or a service, or in its place what a fault means
 abbrev pub Answers : Request → Streams → ℕ → Type 0
-Answers r s ended = MatchOption r.explain (Runs r s ended) (λ number. Explains number s ended)
+Answers r s ended = MatchOption r.explain (RunsAsAsked r s ended) (λ number. Explains number s ended)
 
 -- what it does for its arguments, of which the first is its name
 abbrev pub Serves : List Text → Streams → ℕ → Type 0
 Serves arguments s ended =
     ((r : Request) × AreTaken arguments r.options.settings × AskAs arguments r × (is_contradictory r ≡ false) × Answers r s ended)
-    ⊎ ((AskForHelp arguments × Helps s ended) ⊎ ((AskForVersion arguments × Tells version_line s ended) ⊎ ((AskForNothing arguments × Refuses s ended) ⊎ LacksMemory s ended)))
+    ⊎ ((AskForHelp arguments × Helps s ended) ⊎ ((AskForVersion arguments × PrintsText version_line s ended) ⊎ ((AskForNothing arguments × RefusesCommand s ended) ⊎ LacksMemory s ended)))
 
 -- and where there are none
-abbrev pub ServesNone : NoArguments → Streams → ℕ → Type 0
-ServesNone NotText s ended = Refuses s ended
+abbrev pub ServesNone : ArgumentsFault → Streams → ℕ → Type 0
+ServesNone NotText s ended = RefusesCommand s ended
 ServesNone OutOfMemory s ended = LacksMemory s ended
 
 -- ---- Why the parser of the arguments gave no settings.
@@ -154,11 +154,11 @@ ServesNone OutOfMemory s ended = LacksMemory s ended
 -- memory ran out, or the arguments ask for help or the version or are refused, as the kind says
 abbrev pub WhyNot : List Text → ErrorKind → Type 0
 WhyNot arguments kind =
-    (kind ≡ why.OutOfMemory) ⊎ (IsAmong kind (fault_of command_line arguments) ⊎ ((kind ≢ DisplayHelp) × (kind ≢ DisplayVersion) × (((settings : Threshold) → AskFor arguments settings → ⊥) ⊎ Contradict arguments)))
+    (kind ≡ why.OutOfMemory) ⊎ (IsAmong kind (fault_of command_line arguments) ⊎ ((kind ≢ DisplayHelp) × (kind ≢ DisplayVersion) × (((settings : Settings) → AskFor arguments settings → ⊥) ⊎ Contradict arguments)))
 
 -- what is told of an error of this kind
 abbrev pub TellsOf : ErrorKind → Streams → ℕ → Type 0
 TellsOf kind s ended =
     LacksMemory s ended
-    ⊎ (((kind ≡ DisplayHelp) × Helps s ended) ⊎ (((kind ≡ DisplayVersion) × Tells version_line s ended)
-    ⊎ ((kind ≢ DisplayHelp) × (kind ≢ DisplayVersion) × (kind ≢ why.OutOfMemory) × Refuses s ended)))
+    ⊎ (((kind ≡ DisplayHelp) × Helps s ended) ⊎ (((kind ≡ DisplayVersion) × PrintsText version_line s ended)
+    ⊎ ((kind ≢ DisplayHelp) × (kind ≢ DisplayVersion) × (kind ≢ why.OutOfMemory) × RefusesCommand s ended)))

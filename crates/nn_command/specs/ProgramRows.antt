@@ -1,21 +1,21 @@
 -- What texts are read as, and what the program did to its streams, on small examples.
 use Rattle.std.specs.Prelude.{◌≡◌, ◌<◌, ◌≤◌, ◌∷◌, [], ◌++◌, ℕ, Bool, true, false, List, length, Option, Some, None, Ok, codes, refl}
 use Rattle.std.proofs.Common.{arith, sym, ap, subst, inl, inr, lit<, ⊎_elim, true≢false}
-use Rattle.nn_device.specs.Device.{Reading, Writing}
+use Rattle.nn_device.specs.Device.{Reader, Writer}
 use Rattle.clap.proofs.OnLiterals.{clap_on_literals}
 use Rattle.clap.specs.Words.{Text}
 use Rattle.clap.specs.declared.error.kind.ErrorKind.TheVariants.{DisplayHelp, DisplayVersion, InvalidValue}
-use Rattle.nn_types.specs.Fault.{name_of}
-use Rattle.nn_types.specs.Settings.{Threshold}
-use Rattle.nn_scenario.specs.Cut.{segments_from, cut_from}
+use Rattle.nn_bytes.specs.Lines.{line_feed}
+use Rattle.nn_types.specs.Fault.{fault_name}
+use Rattle.nn_types.specs.Settings.{Settings}
+use Rattle.nn_scenario.specs.Cut.{segments_from, parts_from}
 use Rattle.nn_scenario.specs.Scenario.{Scenario, scenario_of, scenario_with, lines_from}
 use Rattle.nn_engine.specs.Output.{Printed, AreEventsOf, output_of, with_history}
 use Rattle.nn_engine.specs.Start.{from_root}
-use Rattle.nn_listing.specs.Listing.{newline}
-use Rattle.nn_command.specs.declared.program.NoArguments.TheVariants.{NotText, OutOfMemory}
+use Rattle.nn_command.specs.declared.program.ArgumentsFault.TheVariants.{NotText, OutOfMemory}
 use Rattle.nn_command.specs.declared.options.Request.{Request}
 use Rattle.nn_command.specs.Options.{settings_line, lanes_line, command_line, ReadsAs, IsNumberOf, IsCapacity, AreReadAs, IsFlag, IsRequest, AskAs, is_contradictory}
-use Rattle.nn_command.specs.Program.{Streams, Serves, AreTaken, Writes, Runs, Helps, Refuses, Explains, LacksMemory, ServesNone, TellsOf, explanation_line, memory_line, version_line}
+use Rattle.nn_command.specs.Program.{Streams, Serves, AreTaken, WritesText, RunsAsAsked, Helps, RefusesCommand, Explains, LacksMemory, ServesNone, TellsOf, explanation_line, memory_line, version_line}
 
 -- ---- Texts as numbers and flags.
 
@@ -61,7 +61,7 @@ not_some_where_none_is_said h = h
 not_none_where_some_are_said : IsCapacity (Some (codes "64")) None → ⊥
 not_none_where_some_are_said h = h
 
-abbrev usual : Threshold
+abbrev usual : Settings
 usual = record { permille = 999; min = 1 }
 
 as_settings : (third : Option Text) (n : Option ℕ) → IsCapacity third n → AreReadAs (Some (codes "999")) (Some (codes "1")) third usual
@@ -158,33 +158,33 @@ a_run_with_all_three = refl
 -- ---- Streams.
 
 -- a reader with so many bytes given, of three
-abbrev reader : ℕ → Reading
+abbrev reader : ℕ → Reader
 reader given = record { left = None; reads = 0; given = given; failed = false }
 
-abbrev writer : List ℕ → Bool → Writing
+abbrev writer : List ℕ → Bool → Writer
 writer got failed = record { contents = Some got; taken = length got; failed = failed }
 
-abbrev nothing : Writing
+abbrev nothing : Writer
 nothing = writer [] false
 
 abbrev text : List ℕ
 text = codes "abc"
 
-wrote_all : Writes nothing (writer text false) text 0 0
+wrote_all : WritesText nothing (writer text false) text 0 0
 wrote_all = inl (record { bytes = refl; counted = refl; unfailed = refl }, refl)
 
 -- a write that failed makes the status 1
-wrote_a_front : Writes nothing (writer (codes "ab") true) text 0 1
-wrote_a_front = inr (2, record { short = omega arith; bytes = refl; counted = refl; noted = refl }, refl)
+wrote_a_prefix : WritesText nothing (writer (codes "ab") true) text 0 1
+wrote_a_prefix = inr (2, record { short = omega arith; bytes = refl; counted = refl; noted = refl }, refl)
 
-not_another_status : (old new : Writing) → Writes old new text 0 2 → ⊥
+not_another_status : (old new : Writer) → WritesText old new text 0 2 → ⊥
 not_another_status old new h = ⊎_elim (λ k. let e : 2 ≡ 0 = k.1 in omega (arith, e)) (λ k. let e : 2 ≡ 1 = k.2 in omega (arith, e)) h
 
 -- a prefix with status 0 is a failed write that nobody hears of
-not_a_front_alone : Writes nothing (writer (codes "ab") false) text 0 0 → ⊥
-not_a_front_alone h = ⊎_elim (λ k. let e : 2 ≡ 3 = k.0.counted in omega (arith, e)) (λ k. let e : 0 ≡ 1 = k.2 in omega (arith, e)) h
+not_a_prefix_alone : WritesText nothing (writer (codes "ab") false) text 0 0 → ⊥
+not_a_prefix_alone h = ⊎_elim (λ k. let e : 2 ≡ 3 = k.0.counted in omega (arith, e)) (λ k. let e : 0 ≡ 1 = k.2 in omega (arith, e)) h
 
-abbrev all : ℕ → Writing → Writing → Streams
+abbrev all : ℕ → Writer → Writer → Streams
 all given output errors = record {
   before = reader 0;
   after = reader given;
@@ -198,48 +198,48 @@ helps : Helps (all 0 (writer text false) nothing) 0
 helps = (text, (wrote_all, refl, refl))
 
 not_helped_on_errors : Helps (all 0 nothing (writer text false)) 0 → ⊥
-not_helped_on_errors h = let e : 3 ≡ 0 = ap (λ (w : Writing). w.taken) h.1.1 in omega (arith, e)
+not_helped_on_errors h = let e : 3 ≡ 0 = ap (λ (w : Writer). w.taken) h.1.1 in omega (arith, e)
 
-not_helped_after_a_read : (output : Writing) → Helps (all 3 output nothing) 0 → ⊥
-not_helped_after_a_read output h = let e : 3 ≡ 0 = ap (λ (r : Reading). r.given) h.1.2 in omega (arith, e)
+not_helped_after_a_read : (output : Writer) → Helps (all 3 output nothing) 0 → ⊥
+not_helped_after_a_read output h = let e : 3 ≡ 0 = ap (λ (r : Reader). r.given) h.1.2 in omega (arith, e)
 
-refuses : Refuses (all 0 nothing (writer text false)) 2
+refuses : RefusesCommand (all 0 nothing (writer text false)) 2
 refuses = ((text, inl (record { bytes = refl; counted = refl; unfailed = refl })), refl, refl, refl)
 
-not_refused_as_a_fault : (s : Streams) → Refuses s 1 → ⊥
+not_refused_as_a_fault : (s : Streams) → RefusesCommand s 1 → ⊥
 not_refused_as_a_fault s h = let e : 1 ≡ 2 = h.1 in omega (arith, e)
 
-not_refused_on_the_output : (errors : Writing) → Refuses (all 0 (writer text false) errors) 2 → ⊥
-not_refused_on_the_output errors h = let e : 3 ≡ 0 = ap (λ (w : Writing). w.taken) h.2 in omega (arith, e)
+not_refused_on_the_output : (errors : Writer) → RefusesCommand (all 0 (writer text false) errors) 2 → ⊥
+not_refused_on_the_output errors h = let e : 3 ≡ 0 = ap (λ (w : Writer). w.taken) h.2 in omega (arith, e)
 
-not_refused_after_a_read : (errors : Writing) → Refuses (all 3 nothing errors) 2 → ⊥
-not_refused_after_a_read errors h = let e : 3 ≡ 0 = ap (λ (r : Reading). r.given) h.3 in omega (arith, e)
+not_refused_after_a_read : (errors : Writer) → RefusesCommand (all 3 nothing errors) 2 → ⊥
+not_refused_after_a_read errors h = let e : 3 ≡ 0 = ap (λ (r : Reader). r.given) h.3 in omega (arith, e)
 
-told_of_memory : memory_line ≡ codes "fault 55" ++ newline ∷ []
+told_of_memory : memory_line ≡ codes "fault 55" ++ line_feed ∷ []
 told_of_memory = refl
 
-lacks_memory : LacksMemory (all 0 (writer (codes "fault 55" ++ newline ∷ []) false) nothing) 1
+lacks_memory : LacksMemory (all 0 (writer (codes "fault 55" ++ line_feed ∷ []) false) nothing) 1
 lacks_memory = (inl (record { bytes = refl; counted = refl; unfailed = refl }, refl), refl, refl)
 
 not_a_success : (s : Streams) → LacksMemory s 0 → ⊥
 not_a_success s h = ⊎_elim (λ k. let e : 0 ≡ 1 = k.1 in omega (arith, e)) (λ k. let e : 0 ≡ 1 = k.2 in omega (arith, e)) h.0
 
-not_told_on_errors : (output : Writing) → LacksMemory (all 0 output (writer text false)) 1 → ⊥
-not_told_on_errors output h = let e : 3 ≡ 0 = ap (λ (w : Writing). w.taken) h.1 in omega (arith, e)
+not_told_on_errors : (output : Writer) → LacksMemory (all 0 output (writer text false)) 1 → ⊥
+not_told_on_errors output h = let e : 3 ≡ 0 = ap (λ (w : Writer). w.taken) h.1 in omega (arith, e)
 
-not_told_after_a_read : (output : Writing) → LacksMemory (all 3 output nothing) 1 → ⊥
-not_told_after_a_read output h = let e : 3 ≡ 0 = ap (λ (r : Reading). r.given) h.2 in omega (arith, e)
+not_told_after_a_read : (output : Writer) → LacksMemory (all 3 output nothing) 1 → ⊥
+not_told_after_a_read output h = let e : 3 ≡ 0 = ap (λ (r : Reader). r.given) h.2 in omega (arith, e)
 
 -- a run tells nothing on errors
-not_run_with_errors : (r : Request) (output : Writing) (ended : ℕ) → Runs r (all 0 output (writer text false)) ended → ⊥
-not_run_with_errors r output ended h = let e : 3 ≡ 0 = ap (λ (w : Writing). w.taken) h.1 in omega (arith, e)
+not_run_with_errors : (r : Request) (output : Writer) (ended : ℕ) → RunsAsAsked r (all 0 output (writer text false)) ended → ⊥
+not_run_with_errors r output ended h = let e : 3 ≡ 0 = ap (λ (w : Writer). w.taken) h.1 in omega (arith, e)
 
 -- ---- Where there are no arguments, and where they ask for none.
 
 no_arguments_refused : ServesNone NotText (all 0 nothing (writer text false)) 2
 no_arguments_refused = refuses
 
-no_memory_for_arguments : ServesNone OutOfMemory (all 0 (writer (codes "fault 55" ++ newline ∷ []) false) nothing) 1
+no_memory_for_arguments : ServesNone OutOfMemory (all 0 (writer (codes "fault 55" ++ line_feed ∷ []) false) nothing) 1
 no_memory_for_arguments = lacks_memory
 
 help_told : TellsOf DisplayHelp (all 0 (writer text false) nothing) 0
@@ -254,20 +254,20 @@ misuse_told = inr (inr (inr ((λ e. absurd (cc)), (λ e. absurd (cc)), (λ e. ab
 -- the help is no misuse
 not_told_as_misuse : TellsOf DisplayHelp (all 0 nothing (writer text false)) 2 → ⊥
 not_told_as_misuse h =
-    ⊎_elim (λ k. let e : 3 ≡ 0 = ap (λ (w : Writing). w.taken) k.1 in omega (arith, e))
+    ⊎_elim (λ k. let e : 3 ≡ 0 = ap (λ (w : Writer). w.taken) k.1 in omega (arith, e))
     (λ k. ⊎_elim (λ m. not_helped_on_errors_with_2 m.1) (λ m. ⊎_elim (λ v. absurd (let e = v.0 in cc)) (λ v. v.0 refl) m) k) h
   where
     not_helped_on_errors_with_2 : Helps (all 0 nothing (writer text false)) 2 → ⊥
-    not_helped_on_errors_with_2 k = let e : 3 ≡ 0 = ap (λ (w : Writing). w.taken) k.1.1 in omega (arith, e)
+    not_helped_on_errors_with_2 k = let e : 3 ≡ 0 = ap (λ (w : Writer). w.taken) k.1.1 in omega (arith, e)
 
 -- ---- What a fault means.
 
 explained : Explains 29 (all 0 (writer (explanation_line 29 (codes "BadGeneration: a stamp is wrong.")) false) nothing) 0
-unfolding name_of
+unfolding fault_name
 explained = inl (codes "BadGeneration: a stamp is wrong.", refl, (inl (record { bytes = refl; counted = omega arith; unfailed = refl }, refl), refl, refl))
 
 no_fault_refused : Explains 34 (all 0 nothing (writer text false)) 2
-unfolding name_of
+unfolding fault_name
 no_fault_refused = inr (refl, refuses)
 
 -- ---- A run with no words on the command line, over an empty input.
@@ -310,10 +310,10 @@ nothing_happens segments last e f = let none : [] ≡ segments = cc in rw (sym n
 })
 
 nothing_read : (scenario : Scenario) → scenario_of [] ≡ Ok scenario → AreEventsOf from_root false scenario.steps (segments_from 1 scenario.parts) []
-unfolding scenario_of lines_from cut_from
+unfolding scenario_of lines_from parts_from
 nothing_read scenario e = let same : scenario_with [] [] ≡ scenario = cc in subst (λ (s : Scenario). AreEventsOf from_root false s.steps (segments_from 1 s.parts) []) same nothing_happens
 
-abbrev at_its_end : Reading
+abbrev at_its_end : Reader
 at_its_end = record { left = Some []; reads = 0; given = 0; failed = false }
 
 abbrev run_over_nothing : Streams

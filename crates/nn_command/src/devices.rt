@@ -1,6 +1,6 @@
 //! The program on the devices of its process.
 use crate::program;
-use crate::program::{NoArguments, serve};
+use crate::program::{ArgumentsFault, serve};
 use nn_device::{Reader, Writer};
 use nn_engine::Open;
 use std::alloc::Global;
@@ -43,16 +43,16 @@ fn on_devices<T: Threads + Wait + Sync>(rt: &HostRuntime, threads: &T) -> u8 {
 }
 
 // The arguments of the process, its name first.
-fn arguments(rt: &HostRuntime) -> Result<Vec<String>, NoArguments> {
+fn arguments(rt: &HostRuntime) -> Result<Vec<String>, ArgumentsFault> {
     let arguments = match env::args(&LooselyNamed { rt }) {
         Ok(arguments) => arguments,
         Err(error) if error.kind() == io::ErrorKind::InvalidData => return Err(
-            NoArguments::NotText,
+            ArgumentsFault::NotText,
         ),
-        Err(_) => return Err(NoArguments::OutOfMemory),
+        Err(_) => return Err(ArgumentsFault::OutOfMemory),
     };
     let Ok(arguments) = arguments.collect(rt.alloc()) else {
-        return Err(NoArguments::OutOfMemory);
+        return Err(ArgumentsFault::OutOfMemory);
     };
     Ok(arguments)
 }

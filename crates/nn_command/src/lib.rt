@@ -7,4 +7,4 @@ mod program;
 
 pub use devices::start;
 pub use options::{Request, parse};
-pub use program::{NoArguments, serve};
+pub use program::{ArgumentsFault, serve};

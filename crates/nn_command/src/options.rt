@@ -1,7 +1,8 @@
 //! What the command line asks for.
 ghost use Rattle.std.specs.Prelude.{◌≡◌, ◌≤◌, ◌⊎◌, ℕ, false, Option, IfOk, IfErr, IfSome, IfNone, codes, map, string_bytes};
 ghost use Rattle.clap.specs.Words.{app_of, found_of, kind_of, one_text, rule_of};
-ghost use Rattle.nn_types.specs.Settings.{Threshold};
+ghost use Rattle.nn_types.specs.Settings.{Settings};
+ghost use Rattle.nn_types.specs.Limits.{max_capacity};
 ghost use Rattle.nn_command.specs.Options.{value_rule, flag_rule, optional_rule, settings_line, lanes_line, command_line, IsNumberOf, IsCapacity, AreReadAs, IsRequest, AskAs, is_contradictory};
 ghost use Rattle.nn_command.specs.Program.{AreTaken, WhyNot};
 
@@ -10,10 +11,17 @@ use clap::error::ErrorKind;
 use clap::{Arg, ArgAction, ArgMatches, Command, Error, value_parser};
 use nn_engine::Options;
 use nn_types::Settings;
+use nn_types::limits::{MAX_CAPACITY, MAX_REPLICATION};
 use std::alloc::{AllocError, Global};
 
 /// The version of the program, which README.md names too.
 pub const VERSION: &str = "0.3.0";
+
+/// The greatest value of `--capacity`, as clap takes it.
+const GREATEST_CAPACITY: i64 = MAX_CAPACITY as i64;
+
+/// The greatest value of `--min`, as clap takes it.
+const GREATEST_MIN: i64 = MAX_REPLICATION as i64;
 
 const ABOUT: &str =
     "Reads a scenario of edit lines and messages, one JSON object a line, from standard input, and \
@@ -73,7 +81,7 @@ pub struct Request {
 pub fn parse<'a>(alloc: Global, arguments: &'a [String]) -> Result<Request, Error>
     ensures ok { IfOk result (λ request. AreTaken (map string_bytes arguments.entry.now) request.options.settings) }
     ensures asked { IfOk result (λ request. AskAs (map string_bytes arguments.entry.now) request) }
-    ensures capacity { IfOk result (λ request. IfSome request.capacity (λ n. (1 ≤ n) × (n ≤ 1024))) }
+    ensures capacity { IfOk result (λ request. IfSome request.capacity (λ n. (1 ≤ n) × (n ≤ max_capacity))) }
     ensures clear { IfOk result (λ request. is_contradictory request ≡ false) }
     ensures err { IfErr result (λ error. WhyNot (map string_bytes arguments.entry.now) (kind_of error)) }
 {
@@ -150,7 +158,7 @@ fn command<'a>(alloc: Global) -> Result<Command<'a>, Error>
 fn lanes_command<'a>(alloc: Global) -> Result<Command<'a>, Error>
     ensures { IfOk result (λ command. app_of command ≡ lanes_line) }
 {
-    let capacity = value_parser!(u16).range(1..=1024);
+    let capacity = value_parser!(u16).range(1..=GREATEST_CAPACITY);
     let command = settings_command(alloc)?
         .arg(optional(alloc, "capacity", capacity, CAPACITY))?
         .arg(flag(alloc, "threads", THREADS))?;
@@ -162,7 +170,7 @@ fn settings_command<'a>(alloc: Global) -> Result<Command<'a>, Error>
     ensures { IfOk result (λ command. app_of command ≡ settings_line) }
 {
     let permille = value_parser!(u16).range(0..=1000);
-    let min = value_parser!(u16).range(1..=512);
+    let min = value_parser!(u16).range(1..=GREATEST_MIN);
     let command = Command::new(alloc, "nn_standby")
         .version(VERSION)
         .about(ABOUT)
@@ -218,8 +226,8 @@ fn optional<'a>(alloc: Global, name: &'a str, parser: ValueParser<'a>, help: &'a
 fn matched(matches: &ArgMatches<'_>) -> Option<Request>
     ensures some { IfSome result (λ request. AreReadAs (one_text (found_of matches.now) (codes "permille")) (one_text (found_of matches.now) (codes "min")) (one_text (found_of matches.now) (codes "capacity")) request.options.settings) }
     ensures asked { IfSome result (λ request. IsRequest (one_text (found_of matches.now)) request) }
-    ensures capacity { IfSome result (λ request. IfSome request.capacity (λ n. (1 ≤ n) × (n ≤ 1024))) }
-    ensures none { IfNone result ((settings : Threshold) → AreReadAs (one_text (found_of matches.now) (codes "permille")) (one_text (found_of matches.now) (codes "min")) (one_text (found_of matches.now) (codes "capacity")) settings → ⊥) }
+    ensures capacity { IfSome result (λ request. IfSome request.capacity (λ n. (1 ≤ n) × (n ≤ max_capacity))) }
+    ensures none { IfNone result ((settings : Settings) → AreReadAs (one_text (found_of matches.now) (codes "permille")) (one_text (found_of matches.now) (codes "min")) (one_text (found_of matches.now) (codes "capacity")) settings → ⊥) }
 {
     let permille = number(matches, "permille")?;
     let min = number(matches, "min")?;
@@ -251,7 +259,7 @@ fn capacity(matches: &ArgMatches<'_>) -> Option<Option<u16>>
         return Some(None);
     }
     let n = number(matches, "capacity")?;
-    if n < 1 || n > 1024 {
+    if n < 1 || n > MAX_CAPACITY {
         return None;
     }
     Some(Some(n))

@@ -3,7 +3,8 @@ ghost use Rattle.std.specs.Prelude.{◌≡◌, ◌≤◌, ◌⊎◌, ℕ, List, 
 ghost use Rattle.nn_device.specs.Device.{Took, FailedToWrite};
 ghost use Rattle.clap.specs.Words.{kind_of};
 ghost use Rattle.nn_engine.specs.Run.{running};
-ghost use Rattle.nn_command.specs.Program.{EndsAsAsked, EndsService, EndsWith, Explains, LacksMemory, Serves, ServesNone, TellsOf, Writes, explanation_line, memory_line, no_reader, streams, version_line};
+ghost use Rattle.nn_command.specs.Program.{EndsAsAsked, EndsService, WritesOutput, Explains, LacksMemory, Serves, ServesNone, TellsOf, WritesText, explanation_line, memory_line, no_reader, streams, version_line};
+ghost use Rattle.nn_types.specs.Limits.{max_capacity};
 
 use crate::options;
 use crate::options::{Request, VERSION};
@@ -32,7 +33,7 @@ const NO_FAULT: &[u8] = b"error: no fault has the number after --explain\n";
 
 /// Why the arguments could not be had.
 #[derive(Clone, Copy, Debug, PartialEq, Eq)]
-pub enum NoArguments {
+pub enum ArgumentsFault {
     /// An argument is not UTF-8.
     NotText,
     OutOfMemory,
@@ -51,7 +52,7 @@ pub enum NoArguments {
 pub fn serve<R: Read, W: Write, E: Write, G: Gate + Send + Sync + Drop, T: Threads + Wait + Sync>(
     rt: &T,
     alloc: Global,
-    arguments: Result<&[String], NoArguments>,
+    arguments: Result<&[String], ArgumentsFault>,
     input: &mut Reader<R>,
     output: &mut Writer<W>,
     errors: &mut Writer<E>,
@@ -64,8 +65,8 @@ pub fn serve<R: Read, W: Write, E: Write, G: Gate + Send + Sync + Drop, T: Threa
 {
     let arguments = match arguments {
         Ok(arguments) => arguments,
-        Err(NoArguments::NotText) => return refuse(errors, NOT_TEXT),
-        Err(NoArguments::OutOfMemory) => return out_of_memory(output),
+        Err(ArgumentsFault::NotText) => return refuse(errors, NOT_TEXT),
+        Err(ArgumentsFault::OutOfMemory) => return out_of_memory(output),
     };
     let request = match options::parse(alloc, arguments) {
         Ok(request) => request,
@@ -111,7 +112,7 @@ fn run_as_asked<R: Read, W: Write, G: Gate + Send + Sync + Drop, T: Threads + Wa
     output: &mut Writer<W>,
     gate: Arc<G, Global>,
 ) -> u8
-    requires { IfSome request.now.capacity (λ n. (1 ≤ n) × (n ≤ 1024)) }
+    requires { IfSome request.now.capacity (λ n. (1 ≤ n) × (n ≤ max_capacity)) }
     ensures { EndsAsAsked request.now input.old input.new output.old output.new result }
 {
     if request.live {
@@ -159,7 +160,7 @@ fn run_plain<R: Read, W: Write>(
     input: &mut Reader<R>,
     output: &mut Writer<W>,
 ) -> u8
-    ensures { EndsWith (running options.now false input.old input.new) output.old output.new result }
+    ensures { WritesOutput (running options.now false input.old input.new) output.old output.new result }
 {
     match run(alloc, options, input, output) {
         Ok(run_end) => run_end.status,
@@ -194,7 +195,7 @@ fn tell<W: Write, E: Write>(
 
 // The program's name and its version.
 fn show_version<W: Write>(alloc: Global, output: &mut Writer<W>) -> u8
-    ensures { Writes output.old output.new version_line 0 result ⊎ Writes output.old output.new memory_line 1 result }
+    ensures { WritesText output.old output.new version_line 0 result ⊎ WritesText output.old output.new memory_line 1 result }
 {
     let Ok(line) = version(alloc) else {
         return out_of_memory(output);
@@ -219,14 +220,14 @@ fn refuse<E: Write>(errors: &mut Writer<E>, text: &[u8]) -> u8
 
 // The line that memory ran out.
 pub(crate) fn out_of_memory<W: Write>(output: &mut Writer<W>) -> u8
-    ensures { Writes output.old output.new memory_line 1 result }
+    ensures { WritesText output.old output.new memory_line 1 result }
 {
     write_or_fail(output, b"fault 55\n", FAILED)
 }
 
 // Writes a text that goes with a status.
 fn write_or_fail<W: Write>(output: &mut Writer<W>, text: &[u8], status: u8) -> u8
-    ensures { Writes output.old output.new text.now status result }
+    ensures { WritesText output.old output.new text.now status result }
 {
     match output.write_all(text) {
         Ok(()) => status,

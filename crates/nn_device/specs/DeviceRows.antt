@@ -1,24 +1,24 @@
 -- Reads and writes of devices whose bytes are known.
 use Rattle.std.specs.Prelude.{◌≡◌, ◌<◌, ◌⊎◌, ℕ, true, false, Some, codes, refl}
 use Rattle.std.proofs.Common.{sym, inl, inr, true≢false, arith}
-use Rattle.nn_device.specs.Device.{Reading, Writing, Gave, FailedToRead, GaveOn, FailedToReadOn, Took, FailedToWrite}
+use Rattle.nn_device.specs.Device.{Reader, Writer, Gave, FailedToRead, GaveOn, FailedToReadOn, Took, FailedToWrite}
 
-abbrev unread : Reading
+abbrev unread : Reader
 unread = record { left = Some (codes "abc"); reads = 0; given = 0; failed = false }
 
-abbrev half_read : Reading
+abbrev half_read : Reader
 half_read = record { left = Some (codes "c"); reads = 1; given = 2; failed = false }
 
-abbrev failed_reader : Reading
+abbrev failed_reader : Reader
 failed_reader = record { left = Some (codes "c"); reads = 1; given = 2; failed = true }
 
-abbrev unwritten : Writing
+abbrev unwritten : Writer
 unwritten = record { contents = Some (codes "x"); taken = 7; failed = false }
 
-abbrev written : Writing
+abbrev written : Writer
 written = record { contents = Some (codes "xabc"); taken = 10; failed = false }
 
-abbrev torn : Writing
+abbrev torn : Writer
 torn = record { contents = Some (codes "xab"); taken = 9; failed = true }
 
 -- two bytes were given

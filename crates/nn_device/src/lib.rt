@@ -8,7 +8,7 @@ mod writer;
 
 pub use page::Page;
 pub use reader::{ReadFailed, Reader};
-pub use writer::{Unwritten, WriteFailed, Writer};
+pub use writer::{OutputFault, WriteFailed, Writer};
 
 /// The bytes after which a device is given up: 2^62. None comes to that.
-const MOST_BYTES: u64 = 4_611_686_018_427_387_904;
+const MAX_BYTES: u64 = 4_611_686_018_427_387_904;

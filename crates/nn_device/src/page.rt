@@ -2,12 +2,12 @@
 //!
 //! The library's `BufWriter` would do, but its contract says nothing of what a failed write has left in the writer.
 ghost use Rattle.std.specs.Prelude.{◌≡◌, [], ◌∷◌, ℕ, List, length, false, true, OnOk, IfErr};
-ghost use Rattle.nn_device.specs.Device.{Writing, Took};
-ghost use Rattle.nn_device.specs.Page.{HasPut, Puts};
-ghost use Rattle.nn_device.specs.Parts.{TookFront};
-ghost use Rattle.nn_device.specs.declared.writer.Unwritten.TheVariants.{WriteFailed};
+ghost use Rattle.nn_device.specs.Device.{Writer as WriterView, Took};
+ghost use Rattle.nn_device.specs.Page.{HasPut, PutsPiece};
+ghost use Rattle.nn_device.specs.Parts.{TookPrefix};
+ghost use Rattle.nn_device.specs.declared.writer.OutputFault.TheVariants.{WriteFailed};
 
-use crate::writer::{Unwritten, Writer};
+use crate::writer::{OutputFault, Writer};
 use std::alloc::Global;
 use std::io::Write;
 use std::marker::Model;
@@ -17,7 +17,7 @@ const PART: usize = 65_536;
 
 /// Gathers a text piece by piece, and writes it in parts of some 65,536 bytes. No piece is refused: one for which there is no
 /// memory is written at once, and what comes behind a failed write is let go. `end` tells of that write, and so does `has_failed` before the end.
-#[derive(Drop)]
+#[derive(Debug, Drop)]
 pub struct Page {
     // what is to be written
     gathered: Vec<u8>,
@@ -26,9 +26,9 @@ pub struct Page {
 }
 
 impl Model for Page {
-    ghost use Rattle.nn_device.specs.Page.{Gathered};
+    ghost use Rattle.nn_device.specs.Page.{Page};
 
-    ghost Value = { Gathered };
+    ghost Value = { Page };
 
     ghost view = { λ p. record { left = p.gathered.items; lost = p.lost } };
 }
@@ -36,7 +36,7 @@ impl Model for Page {
 impl Page {
     /// No text yet. Takes no memory.
     pub fn new(alloc: Global) -> Page
-        ensures { (start : Writing) → HasPut start [] result start }
+        ensures { (start : WriterView) → HasPut start [] result start }
     {
         Page {
             gathered: Vec::new(alloc),
@@ -46,7 +46,7 @@ impl Page {
 
     /// The next piece of the text. The whole of a text has to go to one writer.
     pub fn put<W: Write>(&mut self, writer: &mut Writer<W>, piece: &[u8])
-        ensures { Puts piece.now self.old writer.old self.new writer.new }
+        ensures { PutsPiece piece.now self.old writer.old self.new writer.new }
     {
         self.write_full(writer);
         if self.lost {
@@ -60,7 +60,7 @@ impl Page {
 
     /// The next byte of the text, in fewer steps than a piece of one byte. It is written with a later piece, or at the end.
     pub fn put_byte<W: Write>(&mut self, writer: &mut Writer<W>, byte: u8)
-        ensures { Puts (byte ∷ []) self.old writer.old self.new writer.new }
+        ensures { PutsPiece (byte ∷ []) self.old writer.old self.new writer.new }
     {
         if self.lost {
             return;
@@ -87,7 +87,7 @@ impl Page {
 
     /// Writes what was gathered: the writer has all that was put then, unless a write failed.
     pub fn flush<W: Write>(&mut self, writer: &mut Writer<W>)
-        ensures same { Puts [] self.old writer.old self.new writer.new }
+        ensures same { PutsPiece [] self.old writer.old self.new writer.new }
         ensures none { self.new.left ≡ [] }
     {
         if self.lost {
@@ -102,24 +102,24 @@ impl Page {
     }
 
     /// Writes the rest of the text.
-    pub fn end<W: Write>(self, writer: &mut Writer<W>) -> Result<(), Unwritten>
-        ensures ok { OnOk result ((start : Writing) (text : List ℕ) → HasPut start text self writer.old → Took start writer.new text) }
-        ensures front { IfErr result (λ cause. (start : Writing) (text : List ℕ) → HasPut start text self writer.old → TookFront start writer.new text cause) }
+    pub fn end<W: Write>(self, writer: &mut Writer<W>) -> Result<(), OutputFault>
+        ensures ok { OnOk result ((start : WriterView) (text : List ℕ) → HasPut start text self writer.old → Took start writer.new text) }
+        ensures prefix { IfErr result (λ cause. (start : WriterView) (text : List ℕ) → HasPut start text self writer.old → TookPrefix start writer.new text cause) }
         ensures cause { IfErr result (λ cause. cause ≡ WriteFailed) }
     {
         let Page { gathered, lost } = self;
         if lost {
-            return Err(Unwritten::WriteFailed);
+            return Err(OutputFault::WriteFailed);
         }
         match writer.write_part(&gathered) {
             Ok(()) => Ok(()),
-            Err(_) => Err(Unwritten::WriteFailed),
+            Err(_) => Err(OutputFault::WriteFailed),
         }
     }
 
     // Writes what was gathered, if that is a part.
     fn write_full<W: Write>(&mut self, writer: &mut Writer<W>)
-        ensures { Puts [] self.old writer.old self.new writer.new }
+        ensures { PutsPiece [] self.old writer.old self.new writer.new }
     {
         if self.gathered.len() >= PART {
             self.flush(writer);
@@ -129,7 +129,7 @@ impl Page {
     // Writes a piece behind what was written.
     fn write_piece<W: Write>(&mut self, writer: &mut Writer<W>, piece: &[u8])
         requires { self.old.left ≡ [] }
-        ensures { Puts piece.now self.old writer.old self.new writer.new }
+        ensures { PutsPiece piece.now self.old writer.old self.new writer.new }
     {
         if self.lost {
             return;

@@ -4,17 +4,17 @@ ghost use Rattle.std.specs.Io.{ReadsAtMost};
 ghost use Rattle.std.specs.Io.KnownBytes.{ReadConsumes};
 ghost use Rattle.nn_device.specs.Device.{Gave, FailedToRead, GaveOn, FailedToReadOn};
 
-use crate::MOST_BYTES;
+use crate::MAX_BYTES;
 use std::io::Read;
 use std::marker::Model;
 use thiserror::Error;
 
 /// The reads after which a reader is given up that has not ended: 2^24.
-const MOST_READS: u32 = 16_777_216;
+const MAX_READS: u32 = 16_777_216;
 
 /// A reader, how many reads of it were counted, how many bytes it gave, and whether one of its reads failed. Only its own reads
 /// note that, so no user of a reader can make a failed read up.
-#[derive(Drop)]
+#[derive(Debug, Drop)]
 pub struct Reader<R: Read> {
     reader: R,
     reads: u32,
@@ -24,9 +24,9 @@ pub struct Reader<R: Read> {
 
 impl<R: Read> Model for Reader<R> {
     ghost use Rattle.std.specs.Prelude.{◌<◌, ◌≤◌, ◌+◌, ◌^◌};
-    ghost use Rattle.nn_device.specs.Device.{Reading};
+    ghost use Rattle.nn_device.specs.Device.{Reader};
 
-    ghost Value = { Reading };
+    ghost Value = { Reader };
 
     ghost view = { λ i. record { left = R.remaining i.reader; reads = i.reads; given = i.given; failed = i.failed } };
 
@@ -60,7 +60,7 @@ impl<R: Read> Reader<R> {
         ensures ok { IfOk result (Gave self.old self.new) }
         ensures err { OnErr result (FailedToRead self.old self.new) }
     {
-        if self.failed || self.reads >= MOST_READS {
+        if self.failed || self.reads >= MAX_READS {
             self.failed = true;
             return Err(ReadFailed);
         }
@@ -76,7 +76,7 @@ impl<R: Read> Reader<R> {
         ensures ok { IfOk result (GaveOn self.old self.new) }
         ensures err { OnErr result (FailedToReadOn self.old self.new) }
     {
-        if self.failed || self.given >= MOST_BYTES {
+        if self.failed || self.given >= MAX_BYTES {
             self.failed = true;
             return Err(ReadFailed);
         }

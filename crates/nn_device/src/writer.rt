@@ -1,17 +1,17 @@
 //! A writer that notes a failed write.
 ghost use Rattle.std.specs.Prelude.{◌≡◌, ◌<◌, false, length, IfErr, OnOk};
 ghost use Rattle.nn_device.specs.Device.{Took, FailedToWrite};
-ghost use Rattle.nn_device.specs.Parts.{TookFront};
-ghost use Rattle.nn_device.specs.declared.writer.Unwritten.TheVariants as unwritten;
+ghost use Rattle.nn_device.specs.Parts.{TookPrefix};
+ghost use Rattle.nn_device.specs.declared.writer.OutputFault.TheVariants as unwritten;
 
-use crate::MOST_BYTES;
+use crate::MAX_BYTES;
 use std::io::Write;
 use std::marker::Model;
 use thiserror::Error;
 
 /// A writer, how many bytes it took, and whether one of its writes failed. Only its own writes note that, so no user of a
 /// writer can make a failed write up.
-#[derive(Drop)]
+#[derive(Debug, Drop)]
 pub struct Writer<W: Write> {
     writer: W,
     taken: u64,
@@ -19,9 +19,9 @@ pub struct Writer<W: Write> {
 }
 
 impl<W: Write> Model for Writer<W> {
-    ghost use Rattle.nn_device.specs.Device.{Writing};
+    ghost use Rattle.nn_device.specs.Device.{Writer};
 
-    ghost Value = { Writing };
+    ghost Value = { Writer };
 
     ghost view = { λ o. record { contents = W.contents o.writer; taken = o.taken; failed = o.failed } };
 }
@@ -35,7 +35,7 @@ pub struct WriteFailed {
 
 /// Why not all of a text was written that is made in parts.
 #[derive(Clone, Copy, Debug, PartialEq, Eq, Error)]
-pub enum Unwritten {
+pub enum OutputFault {
     #[error("a write failed")]
     WriteFailed,
     #[error("out of memory")]
@@ -64,7 +64,7 @@ impl<W: Write> Writer<W> {
     {
         let mut written = 0;
         'writes: while written < text.len() {
-            if self.failed || self.taken >= MOST_BYTES {
+            if self.failed || self.taken >= MAX_BYTES {
                 self.failed = true;
                 return Err(WriteFailed { written });
             }
@@ -84,14 +84,14 @@ impl<W: Write> Writer<W> {
 
     /// Writes a part of a longer text as `write_all` does. How much of the whole was written is told by `taken`, and so the
     /// fault has no number. It takes no memory.
-    pub fn write_part(&mut self, part: &[u8]) -> Result<(), Unwritten>
+    pub fn write_part(&mut self, part: &[u8]) -> Result<(), OutputFault>
         ensures ok { OnOk result (Took self.old self.new part.now) }
-        ensures front { IfErr result (TookFront self.old self.new part.now) }
+        ensures prefix { IfErr result (TookPrefix self.old self.new part.now) }
         ensures cause { IfErr result (λ e. e ≡ unwritten.WriteFailed) }
     {
         match self.write_all(part) {
             Ok(()) => Ok(()),
-            Err(_) => Err(Unwritten::WriteFailed),
+            Err(_) => Err(OutputFault::WriteFailed),
         }
     }
 

@@ -11,17 +11,17 @@ use Rattle.nn_model.specs.Lanes.{Lanes}
 use Rattle.nn_model.specs.Picture.{picture_replica, picture_order}
 use Rattle.nn_model.specs.Replay.{Sequential}
 use Rattle.nn_model.specs.Stands.{tables_of}
-use Rattle.nn_lane.specs.Ends.{Reporting, Taking, got_of}
+use Rattle.nn_lane.specs.Ends.{Reporter, LaneEnd, got_of}
 use Rattle.nn_lane.specs.declared.fault.Refusal.{Refusal}
 use Rattle.nn_lane.specs.declared.fault.Refusal.TheVariants.{Closed, Exhausted, Full}
 use Rattle.nn_segment.specs.Segment.{Segment}
 use Rattle.nn_segment.specs.Source.{Answer, Asked, given, end}
-use Rattle.nn_shadow.specs.Contents.{Contents, standby_of}
-use Rattle.nn_tailer.specs.Tailing.{by_node}
-use Rattle.nn_tailer.specs.Shadows.{shadow_after}
+use Rattle.nn_shadow.specs.Contents.{Shadow, standby_of}
+use Rattle.nn_lane_standby.specs.Tailing.{by_node}
+use Rattle.nn_lane_standby.specs.Shadows.{shadow_with_past}
 use Rattle.nn_drive.specs.declared.driving.WorkerExit.{WorkerExit}
-use Rattle.nn_drive.specs.Reports.{message_of, sent_after, TakesNoMore, Reported}
-use Rattle.nn_drive.specs.Driven.{AreLanes, IsTold, IsTaken, IsPromoted}
+use Rattle.nn_drive.specs.Reports.{message_of_report, sent_after, TakesNoMore, Reported}
+use Rattle.nn_drive.specs.Driven.{HaveReporters, IsTold, IsLaneTaken, IsPromotedAtEnd}
 use Rattle.nn_drive.proofs.Sends.{sent_long}
 use Rattle.nn_drive.specs.DriveLaws.{AnswersByFunction, AreOpen, DrivesEndAlike}
 
@@ -71,26 +71,26 @@ module _ {S : Type 0} (gives : S → Option Report → S → Type 0) (fixed : An
       (alike q.1.0 t u xs ys last last' (p.0, subst (λ z. Yields gives z xs p.0) both.1 p.1.2, p.2) (q.0, q.1.2, q.2))
 
 -- a report that was not sent, of a lane that was not closed: the lane has carried all that it can
-full_of : (u : Reporting) (f : Report → Message) (last : Option Report) (size : ℕ) (z : Report) (answer : Result ℕ Refusal) → last ≡ Some z → (IsTold answer → ⊥)
+full_of : (u : Reporter) (f : Report → Message) (last : Option Report) (size : ℕ) (z : Report) (answer : Result ℕ Refusal) → last ≡ Some z → (IsTold answer → ⊥)
     → MatchResult answer (λ n. (last ≡ None) × (n ≡ size)) (λ e. MatchOption last ⊥ (λ x. TakesNoMore u (f x) e)) → length u.sent ≡ 2 ^ 62
 full_of u f last size z (Ok _) some open_ h = absurd (let e : None ≡ Some z = sym h.0 ∙ some in cc)
 full_of u f last size z (Err (Closed m n)) some open_ h = absurd (open_ tt)
 full_of u f last size z (Err (Exhausted m)) some open_ h = (subst (λ (o : Option Report). MatchOption o ⊥ (λ x. TakesNoMore u (f x) (Exhausted m))) some h).1
 full_of u f last size z (Err (Full m n)) some open_ h = absurd (subst (λ (o : Option Report). MatchOption o ⊥ (λ x. TakesNoMore u (f x) (Full m n))) some h)
 
-module _ {S : Type 0} (gives : S → Option Report → S → Type 0) (fixed : AnswersByFunction gives) (s : S) (r : Reporting) (v w : WorkerExit S)
+module _ {S : Type 0} (gives : S → Option Report → S → Type 0) (fixed : AnswersByFunction gives) (s : S) (r : Reporter) (v w : WorkerExit S)
     (p : Reported gives s r v.source v.reporter v.outcome) (q : Reported gives s r w.source w.reporter w.outcome) (not_told : IsTold v.outcome → ⊥) (not_told' : IsTold w.outcome → ⊥) where
   same_sent : v.reporter.sent ≡ w.reporter.sent
   same_sent = elim (alike gives fixed s v.source w.source p.0 q.0 p.1 q.1 p.2 q.2) [
     | inl same ↦ p.3 ∙ ap (sent_after r.lane.node r.sent) same ∙ sym q.3
     | inr other ↦ elim other [
       | inl more ↦
-          let all = full_of v.reporter (message_of r.lane.node v.reporter.sent) p.1 (length p.0) more.0 v.outcome more.3 not_told p.4 in
+          let all = full_of v.reporter (message_of_report r.lane.node v.reporter.sent) p.1 (length p.0) more.0 v.outcome more.3 not_told p.4 in
           let longer = ap length more.2 ∙ length-append p.0 (more.0 ∷ more.1) in
           let few = q.5 (omega (arith, longer)) in
           absurd (omega (arith, all, longer, few, ap length p.3, ap length q.3, sent_long r.lane.node r.sent p.0, sent_long r.lane.node r.sent q.0))
       | inr more ↦
-          let all = full_of w.reporter (message_of r.lane.node w.reporter.sent) q.1 (length q.0) more.0 w.outcome more.3 not_told' q.4 in
+          let all = full_of w.reporter (message_of_report r.lane.node w.reporter.sent) q.1 (length q.0) more.0 w.outcome more.3 not_told' q.4 in
           let longer = ap length more.2 ∙ length-append q.0 (more.0 ∷ more.1) in
           let few = p.5 (omega (arith, longer)) in
           absurd (omega (arith, all, longer, few, ap length p.3, ap length q.3, sent_long r.lane.node r.sent p.0, sent_long r.lane.node r.sent q.0))
@@ -99,12 +99,12 @@ module _ {S : Type 0} (gives : S → Option Report → S → Type 0) (fixed : An
 
 -- ---- All lanes.
 
-open_at : (es : List Taking) (i : ℕ) (d : Taking) → i < length es → AreOpen es → (get_or es i d).closed ≡ false
+open_at : (es : List LaneEnd) (i : ℕ) (d : LaneEnd) → i < length es → AreOpen es → (get_or es i d).closed ≡ false
 open_at [] i d l h = absurd (omega (arith, l))
 open_at (e ∷ es) zero d l h = h.0
 open_at (e ∷ es) (suc i) d l h = open_at es i d (omega (arith, l)) h.1
 
-same_got : (es es' : List Taking) → length es ≡ length es' → ((i : ℕ) (d d' : Taking) → i < length es → (get_or es i d).got ≡ (get_or es' i d').got) → map got_of es ≡ map got_of es'
+same_got : (es es' : List LaneEnd) → length es ≡ length es' → ((i : ℕ) (d d' : LaneEnd) → i < length es → (get_or es i d).got ≡ (get_or es' i d').got) → map got_of es ≡ map got_of es'
 same_got [] [] l h = refl
 same_got [] (e ∷ es') l h = absurd (omega (arith, l))
 same_got (e ∷ es) [] l h = absurd (omega (arith, l))
@@ -117,10 +117,10 @@ some_of : {A : Type 0} (xs : List A) (i : ℕ) → i < length xs → A
 some_of [] i l = absurd (omega (arith, l))
 some_of (x ∷ xs) i l = x
 
-module _ {S : Type 0} (gives : S → Option Report → S → Type 0) (fixed : AnswersByFunction gives) (workers : List (S × Reporting)) (before : List Taking) (lanes : AreLanes workers before) (are_open : AreOpen before) where
-  same_lanes : (es es' : List Taking) → length es ≡ length workers → length es' ≡ length workers
-      → ((i : ℕ) (w : S × Reporting) (b e : Taking) → i < length workers → IsTaken gives (get_or workers i w).0 (get_or workers i w).1 (get_or before i b) (get_or es i e).got)
-      → ((i : ℕ) (w : S × Reporting) (b e : Taking) → i < length workers → IsTaken gives (get_or workers i w).0 (get_or workers i w).1 (get_or before i b) (get_or es' i e).got)
+module _ {S : Type 0} (gives : S → Option Report → S → Type 0) (fixed : AnswersByFunction gives) (workers : List (S × Reporter)) (before : List LaneEnd) (lanes : HaveReporters workers before) (are_open : AreOpen before) where
+  same_lanes : (es es' : List LaneEnd) → length es ≡ length workers → length es' ≡ length workers
+      → ((i : ℕ) (w : S × Reporter) (b e : LaneEnd) → i < length workers → IsLaneTaken gives (get_or workers i w).0 (get_or workers i w).1 (get_or before i b) (get_or es i e).got)
+      → ((i : ℕ) (w : S × Reporter) (b e : LaneEnd) → i < length workers → IsLaneTaken gives (get_or workers i w).0 (get_or workers i w).1 (get_or before i b) (get_or es' i e).got)
       → map got_of es ≡ map got_of es'
   same_lanes es es' l l' p q = same_got es es' (l ∙ sym l') (λ i d d' b.
       let here : i < length workers = omega (arith, b, l) in
@@ -133,13 +133,13 @@ module _ {S : Type 0} (gives : S → Option Report → S → Type 0) (fixed : An
 
 -- ---- The promoted standbys.
 
-module _ {S : Type 0} (gives : S → Option Report → S → Type 0) (start : Namespace) (base : ℕ) (workers : List (S × Reporting)) (before ends ends' : List Taking) (x y : Contents) (given given' : List Answer) (log : given ≡ given') (got : map got_of ends ≡ map got_of ends')
-    (p : IsPromoted gives start base given workers before ends x) (q : IsPromoted gives start base given' workers before ends' y) where
+module _ {S : Type 0} (gives : S → Option Report → S → Type 0) (start : Namespace) (base : ℕ) (workers : List (S × Reporter)) (before ends ends' : List LaneEnd) (x y : Shadow) (given given' : List Answer) (log : given ≡ given') (got : map got_of ends ≡ map got_of ends')
+    (p : IsPromotedAtEnd gives start base given workers before ends x) (q : IsPromotedAtEnd gives start base given' workers before ends' y) where
   abbrev sent : Lanes
   sent = by_node (map got_of ends)
 
-  q' : IsPromoted gives start base given workers before ends' y
-  q' = subst (λ g. IsPromoted gives start base g workers before ends' y) (sym log) q
+  q' : IsPromotedAtEnd gives start base given workers before ends' y
+  q' = subst (λ g. IsPromotedAtEnd gives start base g workers before ends' y) (sym log) q
 
   same_namespace : x.namespace ≡ y.namespace
   same_namespace = p.stands.namespace ∙ sym q'.stands.namespace
@@ -164,12 +164,12 @@ drives_end_alike asks failures gives fixed fixed' past start base earlier old so
     let answers : d.0 ≡ e.0 = d.9.1 ∙ ap (λ (ss : List Segment). map given ss ++ end ∷ []) segments ∙ sym e.9.1 in
     let log = ap (λ rs. earlier ++ rs) answers in
     let got = same_lanes gives fixed' workers old.ends lanes are_open d.2 e.2 p.lanes q.lanes p.taken q.taken in
-    let tables = same_tables gives start base workers old.ends d.2 e.2 (shadow_after past x) (shadow_after past y) (earlier ++ d.0) (earlier ++ e.0) log got p q in
+    let tables = same_tables gives start base workers old.ends d.2 e.2 (shadow_with_past past x) (shadow_with_past past y) (earlier ++ d.0) (earlier ++ e.0) log got p q in
     let permille : x.permille ≡ y.permille = d.7.permille ∙ sym e.7.permille in
     let min : x.table.min ≡ y.table.min = d.7.min ∙ sym e.7.min in
     record {
-      namespace = same_namespace gives start base workers old.ends d.2 e.2 (shadow_after past x) (shadow_after past y) (earlier ++ d.0) (earlier ++ e.0) log got p q;
-      last = d.5 ∙ same_last gives start base workers old.ends d.2 e.2 (shadow_after past x) (shadow_after past y) (earlier ++ d.0) (earlier ++ e.0) log got p q ∙ sym e.5;
+      namespace = same_namespace gives start base workers old.ends d.2 e.2 (shadow_with_past past x) (shadow_with_past past y) (earlier ++ d.0) (earlier ++ e.0) log got p q;
+      last = d.5 ∙ same_last gives start base workers old.ends d.2 e.2 (shadow_with_past past x) (shadow_with_past past y) (earlier ++ d.0) (earlier ++ e.0) log got p q ∙ sym e.5;
       replicas = λ dn id. ap (λ (t : Sequential). t.replica dn id) tables;
       orders = λ dn id. ap (λ (t : Sequential). t.has_order dn id) tables;
       counts = λ j. let t : Sequential = tables j in safe_mode_of (permille j) (min j) t.namespace t.replica;

@@ -8,19 +8,19 @@ use Rattle.nn_model.specs.Lawful.{IsWhole}
 use Rattle.nn_model.specs.Namespace.{Namespace}
 use Rattle.nn_model.specs.Stands.{Stands}
 use Rattle.nn_types.specs.declared.report.Report.{Report}
-use Rattle.nn_lane.specs.Ends.{Reporting, Taking, got_of}
+use Rattle.nn_lane.specs.Ends.{Reporter, LaneEnd, got_of}
 use Rattle.nn_segment.specs.LogEnd.{end_of_log, given_in}
 use Rattle.nn_segment.specs.Segment.{Segment}
 use Rattle.nn_segment.specs.Source.{Answer, Asked, given, end}
 use Rattle.nn_segment.specs.Walk.{log_in}
 use Rattle.nn_segment.specs.declared.fault.SourceFault.{SourceFault}
-use Rattle.nn_shadow.specs.Contents.{Contents, standby_of}
+use Rattle.nn_shadow.specs.Contents.{Shadow, standby_of}
 use Rattle.nn_shadow.specs.declared.fault.Stop.{Stop}
-use Rattle.nn_tailer.specs.declared.standby.Active.{Active}
-use Rattle.nn_tailer.specs.Reads.{EndsInFault}
-use Rattle.nn_tailer.specs.Tailing.{has_begun, Tailer, LogStops, EndsInEnd, by_node}
+use Rattle.nn_lane_standby.specs.declared.standby.Active.{Active}
+use Rattle.nn_lane_standby.specs.Reads.{EndsInFault}
+use Rattle.nn_lane_standby.specs.Tailing.{has_begun, Standby, LogStops, EndsInEnd, by_node}
 use Rattle.nn_segment.proofs.Asks.{given-append, segments_given}
-use Rattle.nn_tailer.proofs.Logs.{ends_behind}
+use Rattle.nn_lane_standby.proofs.Logs.{ends_behind}
 use Rattle.nn_feed.specs.declared.ends.FeedEnd.{FeedEnd}
 use Rattle.nn_feed.specs.declared.rule.Placed.{Placed}
 use Rattle.nn_feed.specs.Ends.{put_by, got_by, IsSameFeeder, Gets, GivesWhatIsFed, IsMet, IsSameEnd}
@@ -31,10 +31,10 @@ use Rattle.nn_feed.specs.declared.running.Delivered.{Delivered}
 use Rattle.nn_feed.specs.Running.{HasRun, GaveThen, then_last, last_in, ending_of}
 use Rattle.nn_feed.proofs.Feeds.{last_among, one_last}
 use Rattle.nn_feed.proofs.Wholes.{asked_gets, given_is_got, ends_in_end, ends_in_last}
-use Rattle.nn_tailer.specs.Shadows.{shadow_after}
+use Rattle.nn_lane_standby.specs.Shadows.{shadow_with_past}
 use Rattle.nn_drive.specs.declared.driving.DriveFault.{DriveFault}
 use Rattle.nn_drive.specs.declared.driving.DriveFault.TheVariants as drive
-use Rattle.nn_drive.specs.Driven.{EndsEarly, WentUntil, IsPromoted, IsDriven, NotDriven}
+use Rattle.nn_drive.specs.Driven.{EndsEarly, WentUntil, IsPromotedAtEnd, IsDriven, NotDriven}
 use Rattle.nn_drive.proofs.Steps.{begun_or_not}
 use Rattle.nn_drive.specs.Feeding.{GotMore, HasAnswered, Sourced, WhyFailed, FailsOver, IsDrivenOver, IsKnown}
 
@@ -73,7 +73,7 @@ given_behind before answers more others e =
     given-append before others ∙ ap (λ l. given_in before ++ l) e ∙ sym (append_assoc (given_in before) (given_in answers) (given_in more)) ∙ ap (λ l. l ++ given_in more) (sym (given-append before answers))
 
 -- a log that stops goes on stopping
-stops_more : (x : Tailer) (answers more others : List Answer) (m : Stop) → given_in others ≡ given_in answers ++ given_in more → LogStops x answers m → LogStops x others m
+stops_more : (x : Standby) (answers more others : List Answer) (m : Stop) → given_in others ≡ given_in answers ++ given_in more → LogStops x answers m → LogStops x others m
 stops_more x answers more others m e h past start base before at =
     let s = h past start base before at in (
       s.0,
@@ -90,8 +90,8 @@ module _ (answers others : List Answer) (same : given_in others ≡ given_in ans
   same_log base before = ap (log_of base)
       (segments_given (before ++ answers) ∙ ap (λ l. map (λ (s : Segment). s.txs) l) (sym (same_behind before)) ∙ sym (segments_given (before ++ others)))
 
-  promoted_same : {S : Type 0} (gives : S → Option Report → S → Type 0) (start : Namespace) (base : ℕ) (before : List Answer) (workers : List (S × Reporting)) (was ends : List Taking) (x : Contents)
-      → IsPromoted gives start base (before ++ answers) workers was ends x → IsPromoted gives start base (before ++ others) workers was ends x
+  promoted_same : {S : Type 0} (gives : S → Option Report → S → Type 0) (start : Namespace) (base : ℕ) (before : List Answer) (workers : List (S × Reporter)) (was ends : List LaneEnd) (x : Shadow)
+      → IsPromotedAtEnd gives start base (before ++ answers) workers was ends x → IsPromotedAtEnd gives start base (before ++ others) workers was ends x
   promoted_same gives start base before workers was ends x p = record {
     stands = subst (λ l. Stands start base l (by_node (map got_of ends)) (standby_of x)) (same_log base before) p.stands;
     whole = subst (λ l. IsWhole start l (items (by_node (map got_of ends))) x.history) (same_log base before) p.whole;
@@ -165,7 +165,7 @@ module _ {T : Type 0} (gives : T → Answer → T → Type 0) (failures : T → 
     pub given_alike : EndsInEnd answers → given_in of_source ≡ given_in answers
     given_alike e = given_more ∙ ap (λ l. given_in answers ++ given_in l) (k.whole (got_end e)) ∙ append-nil (given_in answers)
 
-    why_failed : (x : Tailer) (f : DriveFault) → WhyFailed x answers f → ((e : _) → f ≡ drive.LogNotEnded e → has_last (got_by e1) ≡ true) → EndsEarly failures s x of_source t f
+    why_failed : (x : Standby) (f : DriveFault) → WhyFailed x answers f → ((e : _) → f ≡ drive.LogNotEnded e → has_last (got_by e1) ≡ true) → EndsEarly failures s x of_source t f
     why_failed x drive.AlreadyActive w told = absurd w
     why_failed x (drive.Stopped m) w told = stops_more x answers k.more of_source m given_more w
     why_failed x (drive.LogNotEnded f) w told =
@@ -173,12 +173,12 @@ module _ {T : Type 0} (gives : T → Answer → T → Type 0) (failures : T → 
         let here : EndsInFault of_source f = (g.0, all_got last ∙ g.1) in (here, k.failed f here)
     why_failed x drive.OutOfMemory w told = tt
 
-  pub failed : {R : Type 0} (x : Tailer) (e0 e2 : FeedEnd R) (f : DriveFault) → got_by e0 ≡ [] → FailsOver x e0 e2 f → failures s ≤ failures t → Sourced gives failures s (got_by e2) t → WentUntil gives failures s x t f
+  pub failed : {R : Type 0} (x : Standby) (e0 e2 : FeedEnd R) (f : DriveFault) → got_by e0 ≡ [] → FailsOver x e0 e2 f → failures s ≤ failures t → Sourced gives failures s (got_by e2) t → WentUntil gives failures s x t f
   failed x e0 e2 f new h counted all =
       let k = sourced_before (got_by h.between) (got_by e2) h.more all in
       (answers_of (got_by h.between) ++ k.more, k.asked, why_failed e0 h.between new h.answers h.asked k x f h.why h.told, counted)
 
-  pub driven : {R S : Type 0} (reports : S → Option Report → S → Type 0) (x : Tailer) (e0 e2 : FeedEnd R) (workers : List (S × Reporting)) (y : Contents) (active : Active)
+  pub driven : {R S : Type 0} (reports : S → Option Report → S → Type 0) (x : Standby) (e0 e2 : FeedEnd R) (workers : List (S × Reporter)) (y : Shadow) (active : Active)
       → got_by e0 ≡ [] → IsDrivenOver reports x e0 workers e2 y active → failures s ≤ failures t → Sourced gives failures s (got_by e2) t → IsDriven gives failures reports x s workers y active
   driven reports x e0 e2 workers y active new d counted k = (
     answers_of (got_by e2) ++ k.more,
@@ -190,7 +190,7 @@ module _ {T : Type 0} (gives : T → Answer → T → Type 0) (failures : T → 
     d.flushed,
     d.settings,
     λ past start base before at.
-        promoted_same d.answers (answers_of (got_by e2) ++ k.more) (given_alike e0 e2 new d.answers d.asked k d.ended) (ends_alike e0 e2 new d.answers d.asked k d.ended) reports start base before workers x.ends d.ends (shadow_after past y)
+        promoted_same d.answers (answers_of (got_by e2) ++ k.more) (given_alike e0 e2 new d.answers d.asked k d.ended) (ends_alike e0 e2 new d.answers d.asked k d.ended) reports start base before workers x.ends d.ends (shadow_with_past past y)
         (d.promoted past start base before at),
     (let ended = ends_alike e0 e2 new d.answers d.asked k d.ended in
         let is : k.last ≡ end = one_last (then_last k.segments k.last) k.last end (map given k.segments, refl) (ended.0, sym k.are ∙ ended.1) in
@@ -205,7 +205,7 @@ same_then e0 e1 e2 a b = b ∙ a
 pub same_asked : {R : Type 0} (e0 e1 : FeedEnd R) (answers : List Answer) → Asked GivesWhatIsFed e0 answers e1 → IsSameEnd e0 e1
 same_asked e0 e1 answers asked = (asked_gets e0 e1 answers asked).1
 
-why_of : {Q : Type 0} (failures : Q → ℕ) (s t : Q) (x : Tailer) (answers : List Answer) (f : DriveFault) → has_begun x ≡ false → EndsEarly failures s x answers t f → WhyFailed x answers f
+why_of : {Q : Type 0} (failures : Q → ℕ) (s t : Q) (x : Standby) (answers : List Answer) (f : DriveFault) → has_begun x ≡ false → EndsEarly failures s x answers t f → WhyFailed x answers f
 why_of failures s t x answers drive.AlreadyActive b h = begun_or_not x b h.0
 why_of failures s t x answers (drive.Stopped stop) b h = h
 why_of failures s t x answers (drive.LogNotEnded f) b h = h.0
@@ -214,7 +214,7 @@ why_of failures s t x answers drive.OutOfMemory b h = tt
 no_log : {P : Type 0} (g : DriveFault) (f : SourceFault) → g ≡ drive.OutOfMemory → g ≡ drive.LogNotEnded f → P
 no_log g f a b = absurd (let e : drive.OutOfMemory ≡ drive.LogNotEnded f = sym a ∙ b in cc)
 
-module _ {R : Type 0} (x : Tailer) (e0 e1 e2 : FeedEnd R) where
+module _ {R : Type 0} (x : Standby) (e0 e1 e2 : FeedEnd R) where
   pub nothing_begun : (told : Bool) (g : DriveFault) → IsKnown drive.OutOfMemory told g → GotMore (got_by e0) (got_by e2) → FailsOver x e0 e2 g
   nothing_begun told g known more =
       let is : g ≡ drive.OutOfMemory = elim known [ inl q ↦ q | inr q ↦ q.0 ] in
@@ -235,7 +235,7 @@ module _ {R : Type 0} (x : Tailer) (e0 e1 e2 : FeedEnd R) where
   ]
 
 -- a source whose feed did not meet
-pub not_met : {T : Type 0} (gives : T → Answer → T → Type 0) (failures : T → ℕ) (s : T) (x : Tailer) (got : List Placed) (met : Bool) → HasAnswered gives failures s got met → NotDriven gives failures x s drive.OutOfMemory
+pub not_met : {T : Type 0} (gives : T → Answer → T → Type 0) (failures : T → ℕ) (s : T) (x : Standby) (got : List Placed) (met : Bool) → HasAnswered gives failures s got met → NotDriven gives failures x s drive.OutOfMemory
 not_met gives failures s x got met h = (h.0, (h.1.0, h.1.1, tt, h.2))
 
 -- a feeder that told how its source ended is still that of the same feed
@@ -257,12 +257,12 @@ met_source gives failures s feeder ran told got is h new met =
     )
 
 -- what a run over the end of a feed came to, a drive comes to over its source
-module _ {T R S : Type 0} (gives : T → Answer → T → Type 0) (failures : T → ℕ) (reports : S → Option Report → S → Type 0) (x : Tailer) (s : T) (workers : List (S × Reporting)) (e0 e2 : FeedEnd R) (new : got_by e0 ≡ [])
+module _ {T R S : Type 0} (gives : T → Answer → T → Type 0) (failures : T → ℕ) (reports : S → Option Report → S → Type 0) (x : Standby) (s : T) (workers : List (S × Reporter)) (e0 e2 : FeedEnd R) (new : got_by e0 ≡ [])
     (met : Bool) (is_met : met ≡ true) (h : HasAnswered gives failures s (got_by e2) met) where
-  pub drive_ok : (r : Result (Contents × Active) DriveFault) → IfOk r (λ a. IsDrivenOver reports x e0 workers e2 a.0 a.1) → IfOk r (λ a. IsDriven gives failures reports x s workers a.0 a.1)
+  pub drive_ok : (r : Result (Shadow × Active) DriveFault) → IfOk r (λ a. IsDrivenOver reports x e0 workers e2 a.0 a.1) → IfOk r (λ a. IsDriven gives failures reports x s workers a.0 a.1)
   drive_ok (Ok a) d = driven gives failures s h.0 reports x e0 e2 workers a.0 a.1 new d h.2 (h.3 is_met)
   drive_ok (Err f) d = tt
 
-  pub drive_err : (r : Result (Contents × Active) DriveFault) → IfErr r (λ f. FailsOver x e0 e2 f) → IfErr r (λ f. NotDriven gives failures x s f)
+  pub drive_err : (r : Result (Shadow × Active) DriveFault) → IfErr r (λ f. FailsOver x e0 e2 f) → IfErr r (λ f. NotDriven gives failures x s f)
   drive_err (Ok a) d = tt
   drive_err (Err f) d = (h.0, failed gives failures s h.0 x e0 e2 f new d h.2 (h.3 is_met))

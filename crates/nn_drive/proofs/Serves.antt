@@ -10,7 +10,7 @@ use Rattle.nn_feed.specs.Feeds.{has_last, answers_of}
 use Rattle.nn_feed.specs.Running.{then_last}
 use Rattle.nn_feed.specs.declared.ends.FeedEnd.{FeedEnd}
 use Rattle.nn_feed.proofs.Feeds.{one_last}
-use Rattle.nn_lane.specs.Ends.{Reporting, Taking, lane_of, got_of}
+use Rattle.nn_lane.specs.Ends.{Reporter, LaneEnd, lane_of, got_of}
 use Rattle.nn_model.specs.History.{History, is_flush}
 use Rattle.nn_model.specs.Items.{items}
 use Rattle.nn_model.specs.Lawful.{IsWhole}
@@ -19,28 +19,28 @@ use Rattle.nn_model.specs.Stands.{Stands}
 use Rattle.nn_segment.specs.LogEnd.{end_of_log, given_in}
 use Rattle.nn_segment.specs.Source.{Answer, Asked, given, end}
 use Rattle.nn_segment.proofs.Asks.{asked_append}
-use Rattle.nn_shadow.specs.Contents.{Contents, standby_of, KeepsSettings}
-use Rattle.nn_tailer.specs.LaneSteps.{SameEnds, CloseEnds, AllClosed, closed_of}
-use Rattle.nn_tailer.specs.Promotion.{Promoted, IsPromoted}
-use Rattle.nn_tailer.specs.Tailing.{has_begun, Tailer, after, Carries, AllTaken, EndsInEnd, by_node, with_ends}
-use Rattle.nn_tailer.specs.declared.standby.Active.{Active}
-use Rattle.nn_tailer.proofs.Carried.{carries_same, carries_then}
-use Rattle.nn_tailer.proofs.Drained.{still_closed}
-use Rattle.nn_tailer.proofs.LaneSteps.{ends_same}
-use Rattle.nn_tailer.proofs.Logs.{ends_behind}
-use Rattle.nn_tailer.proofs.Shadowing.{settings_same, settings_then}
-use Rattle.nn_drive.specs.Driven.{AreLanes, ArePromised, Goes, Stayed, Ends, WentUntil}
+use Rattle.nn_shadow.specs.Contents.{Shadow, standby_of, KeepsSettings}
+use Rattle.nn_lane_standby.specs.LaneSteps.{SameEnds, CloseEnds, AllClosed, is_closed_lane}
+use Rattle.nn_lane_standby.specs.Promotion.{Promoted, IsPromoted}
+use Rattle.nn_lane_standby.specs.Tailing.{has_begun, Standby, standby_with_past, Carries, AllTaken, EndsInEnd, by_node, with_ends}
+use Rattle.nn_lane_standby.specs.declared.standby.Active.{Active}
+use Rattle.nn_lane_standby.proofs.Carried.{carries_same, carries_then}
+use Rattle.nn_lane_standby.proofs.Drained.{still_closed}
+use Rattle.nn_lane_standby.proofs.LaneSteps.{ends_same}
+use Rattle.nn_lane_standby.proofs.Logs.{ends_behind}
+use Rattle.nn_lane_standby.proofs.Shadowing.{settings_same, settings_then}
+use Rattle.nn_drive.specs.Driven.{HaveReporters, ArePromised, Goes, Stayed, PromotesAtEnd, WentUntil}
 use Rattle.nn_drive.specs.Feeding.{failures_of, HasAnswered, FailsOver, IsKnown}
 use Rattle.nn_drive.specs.Served.{end_of, handle_of, ArePaired, PromotesOver, IsServed, ComesBack}
-use Rattle.nn_drive.specs.Serving.{Shown, forgotten, WasShown, WasWished, WishesAt, IsDry, IsOf, IsPromotedAt, IsPromotedFrom}
+use Rattle.nn_drive.specs.Serving.{Shown, forgotten, WasShown, WasRequested, RequestsAt, IsDry, IsOf, IsPromotedAt, IsPromotedFrom}
 use Rattle.nn_drive.specs.declared.driving.DriveFault.{DriveFault}
 use Rattle.nn_drive.specs.declared.driving.WorkerPromise.{WorkerPromise}
 use Rattle.nn_drive.specs.declared.driving.WorkerExit.{WorkerExit}
-use Rattle.nn_drive.specs.declared.operator.Wish.{Wish}
+use Rattle.nn_drive.specs.declared.operator.Request.{Request}
 use Rattle.nn_drive.specs.declared.serving.Served.{Served}
-use Rattle.nn_tailer.specs.Shadows.{shadow_after}
+use Rattle.nn_lane_standby.specs.Shadows.{shadow_with_past}
 use Rattle.nn_drive.proofs.Kept.{settings_with, settings_of, carries_after, promotes_after, promotes_then, until_after}
-use Rattle.nn_drive.proofs.InTurn.{none_shown, shown_to_more, wishes_of_more}
+use Rattle.nn_drive.proofs.InTurn.{none_shown, shown_to_more, requests_of_more}
 use Rattle.nn_drive.proofs.Drives.{some_of, taken_at}
 use Rattle.nn_drive.proofs.Fed.{same_log, same_behind, given_alike, ends_alike, fails_over, got_none}
 use Rattle.nn_drive.proofs.Meets.{zip_of}
@@ -48,13 +48,13 @@ use Rattle.nn_drive.proofs.Steps.{until_then}
 
 -- ---- The lanes.
 
-pub lanes_same : (es es' : List Taking) → SameEnds es es' → map lane_of es' ≡ map lane_of es
+pub lanes_same : (es es' : List LaneEnd) → SameEnds es es' → map lane_of es' ≡ map lane_of es
 lanes_same [] [] s = refl
 lanes_same [] (e ∷ es) s = absurd s
 lanes_same (e ∷ es) [] s = absurd s
 lanes_same (e ∷ es) (e' ∷ es') s = let more = lanes_same es es' s.1 in λ j. s.0.0 j ∷ more j
 
-lanes_closed : (es es' : List Taking) → CloseEnds es es' → map lane_of es' ≡ map lane_of es
+lanes_closed : (es es' : List LaneEnd) → CloseEnds es es' → map lane_of es' ≡ map lane_of es
 lanes_closed [] [] s = refl
 lanes_closed [] (e ∷ es) s = absurd s
 lanes_closed (e ∷ es) [] s = absurd s
@@ -64,10 +64,10 @@ both_true : (a b : Bool) → (a && b) ≡ true → (a ≡ true) × (b ≡ true)
 both_true true b h = (refl, h)
 both_true false b h = absurd (let e : false ≡ true = h in cc)
 
-closed_at : (es : List Taking) (i : ℕ) (d : Taking) → i < length es → AllClosed es → (get_or es i d).closed ≡ true
+closed_at : (es : List LaneEnd) (i : ℕ) (d : LaneEnd) → i < length es → AllClosed es → (get_or es i d).closed ≡ true
 closed_at [] i d l c = absurd (omega (arith, l))
-closed_at (e ∷ es) zero d l c = (both_true (closed_of e) (list_all closed_of es) c).0
-closed_at (e ∷ es) (suc i) d l c = closed_at es i d (omega (arith, l)) (both_true (closed_of e) (list_all closed_of es) c).1
+closed_at (e ∷ es) zero d l c = (both_true (is_closed_lane e) (list_all is_closed_lane es) c).0
+closed_at (e ∷ es) (suc i) d l c = closed_at es i d (omega (arith, l)) (both_true (is_closed_lane e) (list_all is_closed_lane es) c).1
 
 pub map_at : {A B : Type 0} (f : A → B) (xs : List A) (i : ℕ) (d : A) → get_or (map f xs) i (f d) ≡ f (get_or xs i d)
 map_at f [] i d = refl
@@ -75,15 +75,15 @@ map_at f (x ∷ xs) zero d = refl
 map_at f (x ∷ xs) (suc i) d = map_at f xs i d
 
 -- lanes of which all was taken are dry
-all_dry : (es : List Taking) (ks : List (Option Message)) → AllTaken es ks → All IsDry es
+all_dry : (es : List LaneEnd) (ks : List (Option Message)) → AllTaken es ks → All IsDry es
 all_dry es ks t = λ k d l. taken_at es ks k d l t
 
 -- as many as the workers are promised
-as_many : {S : Type 0} (workers : List (S × Reporting)) (handles : List (PromisedHandle (WorkerExit S) (WorkerPromise S))) → ArePromised workers handles → length workers ≤ length handles → length handles ≡ length workers
+as_many : {S : Type 0} (workers : List (S × Reporter)) (handles : List (PromisedHandle (WorkerExit S) (WorkerPromise S))) → ArePromised workers handles → length workers ≤ length handles → length handles ≡ length workers
 as_many workers handles p all = omega (arith, p.0, all)
 
-module _ {S : Type 0} (workers : List (S × Reporting)) (handles : List (PromisedHandle (WorkerExit S) (WorkerPromise S))) (promised : ArePromised workers handles) (all : length workers ≤ length handles)
-    (old new : List Taking) (lanes : AreLanes workers old) (same : map lane_of new ≡ map lane_of old) (closed : AllClosed new) where
+module _ {S : Type 0} (workers : List (S × Reporter)) (handles : List (PromisedHandle (WorkerExit S) (WorkerPromise S))) (promised : ArePromised workers handles) (all : length workers ≤ length handles)
+    (old new : List LaneEnd) (lanes : HaveReporters workers old) (same : map lane_of new ≡ map lane_of old) (closed : AllClosed new) where
   -- each end is closed, and of the lane of its worker's thread
   pub are_of : AllZip IsOf new handles
   are_of =
@@ -98,7 +98,7 @@ module _ {S : Type 0} (workers : List (S × Reporting)) (handles : List (Promise
 
 -- ---- From the rotation to the promotion, or to a fault.
 
-module _ {O R : Type 0} (asks : O → Tailer → ℕ → Wish → O → Type 0) (started workers : ℕ) (few : started ≤ workers) (x0 : Tailer) (e0 : FeedEnd R) (o p : O) where
+module _ {O R : Type 0} (asks : O → Standby → ℕ → Request → O → Type 0) (started workers : ℕ) (few : started ≤ workers) (x0 : Standby) (e0 : FeedEnd R) (o p : O) where
   -- it was not begun
   pub comes_back_before : o ≡ p → ComesBack asks workers x0 e0 o x0 e0 p
   comes_back_before same = record {
@@ -110,7 +110,7 @@ module _ {O R : Type 0} (asks : O → Tailer → ℕ → Wish → O → Type 0) 
     not_promoted = refl;
   }
 
-  module _ (x1 : Tailer) (e1 : FeedEnd R) (shown : List Shown) (a1 : List Answer) (asked1 : Asked GivesWhatIsFed e0 a1 e1) (goes : Goes x0 a1 (after (forgotten shown) x1)) where
+  module _ (x1 : Standby) (e1 : FeedEnd R) (shown : List Shown) (a1 : List Answer) (asked1 : Asked GivesWhatIsFed e0 a1 e1) (goes : Goes x0 a1 (standby_with_past (forgotten shown) x1)) where
     -- a rotation failed
     pub comes_back_open : WasShown asks started x0 o shown a1 x1 p → ComesBack asks workers x0 e0 o x1 e1 p
     comes_back_open was = record {
@@ -122,29 +122,29 @@ module _ {O R : Type 0} (asks : O → Tailer → ℕ → Wish → O → Type 0) 
       not_promoted = goes.active;
     }
 
-    -- a promotion was wished, and the lanes were closed
-    module _ (wishes : WishesAt asks started x0 o shown a1 x1 p) (x2 x3 : Tailer) (e2 : FeedEnd R) (closes : CloseEnds x1.ends x2.ends) (closed : AllClosed x2.ends) (rest : x2 ≡ with_ends x1 x2.ends) (carries : Carries x1 [] x2) where
+    -- a promotion was requested, and the lanes were closed
+    module _ (requests : RequestsAt asks started x0 o shown a1 x1 p) (x2 x3 : Standby) (e2 : FeedEnd R) (closes : CloseEnds x1.ends x2.ends) (closed : AllClosed x2.ends) (rest : x2 ≡ with_ends x1 x2.ends) (carries : Carries x1 [] x2) where
       abbrev heard : History
       heard = forgotten shown
 
-      carried : Carries x0 a1 (after heard x2)
-      carried = subst (λ rs. Carries x0 rs (after heard x2)) (append-nil a1) (carries_then x0 (after heard x1) (after heard x2) a1 [] goes.carries (carries_after heard x1 x2 [] carries))
+      carried : Carries x0 a1 (standby_with_past heard x2)
+      carried = subst (λ rs. Carries x0 rs (standby_with_past heard x2)) (append-nil a1) (carries_then x0 (standby_with_past heard x1) (standby_with_past heard x2) a1 [] goes.carries (carries_after heard x1 x2 [] carries))
 
       lanes : map lane_of x2.ends ≡ map lane_of x0.ends
       lanes = lanes_closed x1.ends x2.ends closes ∙ lanes_same x0.ends x1.ends goes.same_ends
 
       settings : KeepsSettings x0.shadow x2.shadow
-      settings = settings_of heard x0.shadow x2.shadow (subst (λ z. KeepsSettings x0.shadow (shadow_after heard z)) (sym (ap (λ z. z.shadow) rest)) goes.settings)
+      settings = settings_of heard x0.shadow x2.shadow (subst (λ z. KeepsSettings x0.shadow (shadow_with_past heard z)) (sym (ap (λ z. z.shadow) rest)) goes.settings)
 
-      wished : (a2 : List Answer) (Follows : Tailer → List Answer → Type 0) → Follows (after heard x1) a2 → WasWished asks workers x0 o shown (a1 ++ a2) p Follows
-      wished a2 Follows f = record {
+      requested : (a2 : List Answer) (Follows : Standby → List Answer → Type 0) → Follows (standby_with_past heard x1) a2 → WasRequested asks workers x0 o shown (a1 ++ a2) p Follows
+      requested a2 Follows f = record {
         at = x1;
         before = a1;
         since = a2;
         are = refl;
         lanes = goes.same_ends;
         begun = goes.begun;
-        wishes = wishes_of_more asks started workers x0 o p shown a1 x1 few wishes;
+        requests = requests_of_more asks started workers x0 o p shown a1 x1 few requests;
         follows = f;
       }
 
@@ -155,13 +155,13 @@ module _ {O R : Type 0} (asks : O → Tailer → ℕ → Wish → O → Type 0) 
             asked = asked_append GivesWhatIsFed e0 e1 e2 a1 s.0 asked1 s.1;
             shown = shown;
             goes = record {
-              carries = carries_then x0 (after heard x2) (after heard x3) a1 s.0 carried on;
+              carries = carries_then x0 (standby_with_past heard x2) (standby_with_past heard x3) a1 s.0 carried on;
               lanes = lanes_same x2.ends x3.ends s.2.same_ends ∙ lanes;
               settings = settings_with heard x0.shadow x3.shadow (settings_then x0.shadow x2.shadow x3.shadow settings s.2.settings);
             };
             intake = inr (
               (still_closed x2.ends x3.ends s.2.same_ends closed).0,
-              wished s.0 (λ last since. Carries last since (after heard x3)) (carries_then (after heard x1) (after heard x2) (after heard x3) [] s.0 (carries_after heard x1 x2 [] carries) on),
+              requested s.0 (λ last since. Carries last since (standby_with_past heard x3)) (carries_then (standby_with_past heard x1) (standby_with_past heard x2) (standby_with_past heard x3) [] s.0 (carries_after heard x1 x2 [] carries) on),
             );
             not_promoted = s.2.active ∙ ap (λ z. z.active) rest ∙ goes.active;
           }
@@ -169,9 +169,9 @@ module _ {O R : Type 0} (asks : O → Tailer → ℕ → Wish → O → Type 0) 
       pub fails_closed : (f g : DriveFault) → has_begun x0 ≡ false → failures_of e0 ≤ failures_of e1 → WentUntil GivesWhatIsFed failures_of e1 x2 e2 f → IsKnown f (has_last (got_by e2)) g → FailsOver x0 e0 e2 g
       fails_closed f g serving not_fewer h known =
           let begun : has_begun x2 ≡ false = ap has_begun rest ∙ goes.begun ∙ serving in
-          fails_over x0 e0 e2 e2 failures_of f g serving (until_then GivesWhatIsFed failures_of e0 e1 e2 x0 (after heard x2) a1 f asked1 carried begun not_fewer (until_after GivesWhatIsFed failures_of heard e1 e2 x2 f h)) known (got_none (got_by e2))
+          fails_over x0 e0 e2 e2 failures_of f g serving (until_then GivesWhatIsFed failures_of e0 e1 e2 x0 (standby_with_past heard x2) a1 f asked1 carried begun not_fewer (until_after GivesWhatIsFed failures_of heard e1 e2 x2 f h)) known (got_none (got_by e2))
 
-      pub promotes_over : (active : Active) → Ends GivesWhatIsFed failures_of e1 x2 e2 active x3 → PromotesOver asks workers x0 e0 o active x3 e2 p
+      pub promotes_over : (active : Active) → PromotesAtEnd GivesWhatIsFed failures_of e1 x2 e2 active x3 → PromotesOver asks workers x0 e0 o active x3 e2 p
       promotes_over active e =
           let promotes = promotes_after heard x2 x3 e.0 e.4 in record {
             answers = a1 ++ e.0;
@@ -181,16 +181,16 @@ module _ {O R : Type 0} (asks : O → Tailer → ℕ → Wish → O → Type 0) 
             flushed = e.3.1;
             settings = settings_then x0.shadow x2.shadow x3.shadow settings e.6;
             shown = shown;
-            wished = wished e.0 (λ last since. IsPromoted last since (after heard x3)) (promotes_then (after heard x1) (after heard x2) (after heard x3) [] e.0 (carries_after heard x1 x2 [] carries) promotes);
+            requested = requested e.0 (λ last since. IsPromoted last since (standby_with_past heard x3)) (promotes_then (standby_with_past heard x1) (standby_with_past heard x2) (standby_with_past heard x3) [] e.0 (carries_after heard x1 x2 [] carries) promotes);
             lanes = lanes_same x2.ends x3.ends e.2 ∙ lanes;
             closed = (still_closed x2.ends x3.ends e.2 closed).0;
-            promoted = promotes_then x0 (after heard x2) (after heard x3) a1 e.0 carried promotes;
+            promoted = promotes_then x0 (standby_with_past heard x2) (standby_with_past heard x3) a1 e.0 carried promotes;
           }
 
 -- ---- From the end of a feed to its source.
 
 module _ (answers others : List Answer) (same : given_in others ≡ given_in answers) (ended : EndsInEnd others) where
-  promoted_at_same : (start : Namespace) (base : ℕ) (before : List Answer) (ends : List Taking) (x : Contents)
+  promoted_at_same : (start : Namespace) (base : ℕ) (before : List Answer) (ends : List LaneEnd) (x : Shadow)
       → IsPromotedAt start base (before ++ answers) ends x → IsPromotedAt start base (before ++ others) ends x
   promoted_at_same start base before ends x p = record {
     stands = subst (λ l. Stands start base l (by_node (map got_of ends)) (standby_of x)) (same_log answers others same ended base before) p.stands;
@@ -202,20 +202,20 @@ module _ (answers others : List Answer) (same : given_in others ≡ given_in ans
     dry = p.dry;
   }
 
-promoted_at : (start : Namespace) (base : ℕ) (given : List Answer) (y : Tailer) (ends : List Taking) (x : Contents) → ends ≡ y.ends → x ≡ y.shadow → Promoted start base given y → IsPromotedAt start base given ends x
+promoted_at : (start : Namespace) (base : ℕ) (given : List Answer) (y : Standby) (ends : List LaneEnd) (x : Shadow) → ends ≡ y.ends → x ≡ y.shadow → Promoted start base given y → IsPromotedAt start base given ends x
 promoted_at start base given y ends x e s p =
-    subst (λ (es : List Taking). IsPromotedAt start base given es x) (sym e)
-    (subst (λ (z : Contents). IsPromotedAt start base given y.ends z) (sym s)
+    subst (λ (es : List LaneEnd). IsPromotedAt start base given es x) (sym e)
+    (subst (λ (z : Shadow). IsPromotedAt start base given y.ends z) (sym s)
     (record { stands = p.stands; whole = p.whole; picture = p.picture; none_held = p.none_held; ended = p.ended; log_end = p.log_end; dry = all_dry y.ends y.undelivered p.taken }))
 
-promoted_from : (heard : History) (x : Tailer) (rs : List Answer) (y : Tailer) (ends : List Taking) (z : Contents) → ends ≡ y.ends → z ≡ y.shadow → IsPromoted x rs (after heard y) → IsPromotedFrom x rs ends (shadow_after heard z)
+promoted_from : (heard : History) (x : Standby) (rs : List Answer) (y : Standby) (ends : List LaneEnd) (z : Shadow) → ends ≡ y.ends → z ≡ y.shadow → IsPromoted x rs (standby_with_past heard y) → IsPromotedFrom x rs ends (shadow_with_past heard z)
 promoted_from heard x rs y ends z e q h past start base before at =
-    promoted_at start base (before ++ rs) (after past (after heard y)) ends (shadow_after past (shadow_after heard z)) e (ap (λ s. shadow_after past (shadow_after heard s)) q) (h past start base before at)
+    promoted_at start base (before ++ rs) (standby_with_past past (standby_with_past heard y)) ends (shadow_with_past past (shadow_with_past heard z)) e (ap (λ s. shadow_with_past past (shadow_with_past heard s)) q) (h past start base before at)
 
-module _ {T R S O : Type 0} (asks : O → Tailer → ℕ → Wish → O → Type 0) (gives : T → Answer → T → Type 0) (failures : T → ℕ) (x : Tailer) (s : T) (workers : List (S × Reporting)) (o p : O) (e0 e2 : FeedEnd R) (new : got_by e0 ≡ [])
-    (met : Bool) (is_met : met ≡ true) (h : HasAnswered gives failures s (got_by e2) met) (active : Active) (y : Tailer) (d : PromotesOver asks (length workers) x e0 o active y e2 p) where
+module _ {T R S O : Type 0} (asks : O → Standby → ℕ → Request → O → Type 0) (gives : T → Answer → T → Type 0) (failures : T → ℕ) (x : Standby) (s : T) (workers : List (S × Reporter)) (o p : O) (e0 e2 : FeedEnd R) (new : got_by e0 ≡ [])
+    (met : Bool) (is_met : met ≡ true) (h : HasAnswered gives failures s (got_by e2) met) (active : Active) (y : Standby) (d : PromotesOver asks (length workers) x e0 o active y e2 p) where
   pub served : (handles : List (PromisedHandle (WorkerExit S) (WorkerPromise S))) → ArePromised workers handles → length workers ≤ length handles
-      → (r : Served S) → r.active ≡ active → r.shadow ≡ y.shadow → (ends : List Taking) → ends ≡ y.ends → ArePaired ends handles r.workers.items → IsServed asks gives failures x s workers o p r
+      → (r : Served S) → r.active ≡ active → r.shadow ≡ y.shadow → (ends : List LaneEnd) → ends ≡ y.ends → ArePaired ends handles r.workers.items → IsServed asks gives failures x s workers o p r
   served handles promised all r a q ends e paired =
       let k = h.3 is_met in
       let answers = answers_of (got_by e2) ++ k.more in
@@ -230,24 +230,24 @@ module _ {T R S O : Type 0} (asks : O → Tailer → ℕ → Wish → O → Type
         not_fewer = h.2;
         segments = k.segments;
         are = k.are ∙ ap (then_last k.segments) is;
-        last = ap (λ (z : Active). z.last) a ∙ d.last ∙ ap (λ (z : Contents). z.last) (sym q);
-        flushed = ap (λ (z : Active). z.flushed) a ∙ d.flushed ∙ ap (λ (z : Contents). count_by is_flush z.history) (sym q);
-        settings = subst (λ (z : Contents). KeepsSettings x.shadow z) (sym q) d.settings;
+        last = ap (λ (z : Active). z.last) a ∙ d.last ∙ ap (λ (z : Shadow). z.last) (sym q);
+        flushed = ap (λ (z : Active). z.flushed) a ∙ d.flushed ∙ ap (λ (z : Shadow). count_by is_flush z.history) (sym q);
+        settings = subst (λ (z : Shadow). KeepsSettings x.shadow z) (sym q) d.settings;
         shown = d.shown;
         fed = d.answers;
         same = alike;
-        wished = record {
-          at = d.wished.at;
-          before = d.wished.before;
-          since = d.wished.since;
-          are = d.wished.are;
-          lanes = d.wished.lanes;
-          begun = d.wished.begun;
-          wishes = d.wished.wishes;
-          follows = promoted_from (forgotten d.shown) (after (forgotten d.shown) d.wished.at) d.wished.since y (map end_of r.workers.items) r.shadow (paired.0 ∙ e) q d.wished.follows;
+        requested = record {
+          at = d.requested.at;
+          before = d.requested.before;
+          since = d.requested.since;
+          are = d.requested.are;
+          lanes = d.requested.lanes;
+          begun = d.requested.begun;
+          requests = d.requested.requests;
+          follows = promoted_from (forgotten d.shown) (standby_with_past (forgotten d.shown) d.requested.at) d.requested.since y (map end_of r.workers.items) r.shadow (paired.0 ∙ e) q d.requested.follows;
         };
         run = (many, subst (λ hs. ArePromised workers hs) (sym paired.1) promised);
         promoted = λ past start base before at.
-            promoted_at_same d.answers answers alike ended start base before (map end_of r.workers.items) (shadow_after past (shadow_after (forgotten d.shown) r.shadow))
+            promoted_at_same d.answers answers alike ended start base before (map end_of r.workers.items) (shadow_with_past past (shadow_with_past (forgotten d.shown) r.shadow))
             (promoted_from (forgotten d.shown) x d.answers y (map end_of r.workers.items) r.shadow (paired.0 ∙ e) q d.promoted past start base before at);
       }

@@ -5,7 +5,7 @@ use Rattle.std.specs.declared.thread.PromisedHandle.{PromisedHandle}
 use Rattle.std.proofs.Common.{◌≡◌, ℕ, ◌+◌, ◌<◌, ◌≤◌, List, [], ◌∷◌, ◌++◌, length, length-append, get_or, refl, sym, ap, ◌∙◌, subst, arith}
 use Rattle.std.proofs.Math.Seq.{drop-append-add}
 use Rattle.std.proofs.lemmas.List.{get_or_append_left, reverse-append}
-use Rattle.nn_lane.specs.Ends.{Reporting}
+use Rattle.nn_lane.specs.Ends.{Reporter}
 use Rattle.nn_drive.specs.Driven.{IsPromised}
 use Rattle.nn_drive.specs.Served.{AreStarted}
 use Rattle.nn_drive.specs.declared.driving.WorkerExit.{WorkerExit}
@@ -17,11 +17,11 @@ pub popped : {A : Type 0} (xs ys : List A) (x : A) → xs ≡ ys ++ x ∷ [] →
 popped xs ys x e = ap reverse e ∙ reverse-append ys (x ∷ [])
 
 -- none was started, and all come back
-pub none_started : {S : Type 0} (workers : List (S × Reporting)) → AreStarted workers [] workers
+pub none_started : {S : Type 0} (workers : List (S × Reporter)) → AreStarted workers [] workers
 none_started workers = ((omega arith, λ i w h l. absurd (omega (arith, l))), (0, omega arith, refl))
 
-module _ {S : Type 0} (workers begun : List (S × Reporting)) (handles : List (PromisedHandle (WorkerExit S) (WorkerPromise S))) (each : AllZip IsPromised begun handles) where
-  started : (k : ℕ) (others back : List (S × Reporting)) → k ≤ 1 → workers ≡ begun ++ others → back ≡ drop k others → AreStarted workers handles back
+module _ {S : Type 0} (workers begun : List (S × Reporter)) (handles : List (PromisedHandle (WorkerExit S) (WorkerPromise S))) (each : AllZip IsPromised begun handles) where
+  started : (k : ℕ) (others back : List (S × Reporter)) → k ≤ 1 → workers ≡ begun ++ others → back ≡ drop k others → AreStarted workers handles back
   started k others back few e is =
       let many = zip_length IsPromised begun handles each in
       let size = ap length e ∙ length-append begun others in (
@@ -35,9 +35,9 @@ module _ {S : Type 0} (workers begun : List (S × Reporting)) (handles : List (P
       )
 
   -- all others come back
-  pub others_back : (others : List (S × Reporting)) → workers ≡ begun ++ others → AreStarted workers handles others
+  pub others_back : (others : List (S × Reporter)) → workers ≡ begun ++ others → AreStarted workers handles others
   others_back others e = started 0 others others (omega arith) e refl
 
   -- all but the first of the others
-  pub one_refused : (x : S × Reporting) (others : List (S × Reporting)) → workers ≡ begun ++ x ∷ others → AreStarted workers handles others
+  pub one_refused : (x : S × Reporter) (others : List (S × Reporter)) → workers ≡ begun ++ x ∷ others → AreStarted workers handles others
   one_refused x others e = started 1 (x ∷ others) others (omega arith) e refl

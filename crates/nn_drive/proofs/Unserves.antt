@@ -4,15 +4,15 @@ use Rattle.std.specs.declared.thread.PromisedHandle.{PromisedHandle}
 use Rattle.std.proofs.Common.{◌≡◌, ℕ, Bool, true, List, [], Option, Some, None, length, sym, subst, inl}
 use Rattle.nn_feed.specs.Ends.{got_by}
 use Rattle.nn_feed.specs.declared.ends.FeedEnd.{FeedEnd}
-use Rattle.nn_lane.specs.Ends.{Reporting}
+use Rattle.nn_lane.specs.Ends.{Reporter}
 use Rattle.nn_segment.specs.Source.{Answer}
-use Rattle.nn_tailer.specs.Tailing.{Tailer}
+use Rattle.nn_lane_standby.specs.Tailing.{Standby}
 use Rattle.nn_drive.specs.Driven.{NotDriven}
 use Rattle.nn_drive.specs.Feeding.{GotMore, HasAnswered, FailsOver}
 use Rattle.nn_drive.specs.Served.{AreStarted, IsUntouched, IsUnmet, ComesBack, IsStopped, IsUnserved}
 use Rattle.nn_drive.specs.declared.driving.DriveFault.{DriveFault}
 use Rattle.nn_drive.specs.declared.driving.DriveFault.TheVariants as drive
-use Rattle.nn_drive.specs.declared.operator.Wish.{Wish}
+use Rattle.nn_drive.specs.declared.operator.Request.{Request}
 use Rattle.nn_drive.specs.declared.serving.Feeding.{Feeding}
 use Rattle.nn_drive.specs.declared.serving.Unserved.{Unserved}
 use Rattle.nn_drive.specs.declared.driving.WorkerExit.{WorkerExit}
@@ -20,7 +20,7 @@ use Rattle.nn_drive.specs.declared.driving.WorkerPromise.{WorkerPromise}
 use Rattle.nn_drive.proofs.Fed.{got_then, failed, not_met}
 use Rattle.nn_drive.proofs.Starts.{none_started}
 
-module _ {T S R : Type 0} (gives : T → Answer → T → Type 0) (failures : T → ℕ) (u : Unserved T S R) (old : Tailer) (source : T) (h : IsStopped gives failures old source u) where
+module _ {T S R : Type 0} (gives : T → Answer → T → Type 0) (failures : T → ℕ) (u : Unserved T S R) (old : Standby) (source : T) (h : IsStopped gives failures old source u) where
   pub none_left : u.feeding ≡ None → NotDriven gives failures old source u.fault
   none_left e =
       subst (λ (o : Option (Feeding T R)). MatchOption o (NotDriven gives failures old source u.fault)
@@ -45,7 +45,7 @@ module _ {T S R : Type 0} (gives : T → Answer → T → Type 0) (failures : T 
           (answered.0, failed gives failures source answered.0 old left.1.0 e2 u.fault left.1.1 over answered.2 (answered.3 m))
 
 -- it was refused for this, with no thread to join
-pub is_refused : {O T S R : Type 0} (asks : O → Tailer → ℕ → Wish → O → Type 0) (gives : T → Answer → T → Type 0) (failures : T → ℕ) (workers : List (S × Reporting)) (o p : O) (u : Unserved T S R) (old : Tailer) (source : T) (back : Option T) (f : DriveFault)
+pub is_refused : {O T S R : Type 0} (asks : O → Standby → ℕ → Request → O → Type 0) (gives : T → Answer → T → Type 0) (failures : T → ℕ) (workers : List (S × Reporter)) (o p : O) (u : Unserved T S R) (old : Standby) (source : T) (back : Option T) (f : DriveFault)
     → (u.fault ≡ f) × (u.feeding ≡ None) × (u.source ≡ back) → IsUntouched old workers u → IfSome back (λ s. s ≡ source) → NotDriven gives failures old source f → IsUnserved asks gives failures old source workers o p u
 is_refused {O} {T} {S} {R} asks gives failures workers o p u old source back f e same own n = record {
   started = subst (λ (hs : List (PromisedHandle (WorkerExit S) (WorkerPromise S))). AreStarted workers hs u.unstarted.items) (sym same.1) (subst (AreStarted workers []) (sym same.2) (none_started workers));

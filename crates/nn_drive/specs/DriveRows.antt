@@ -2,7 +2,7 @@
 use Rattle.std.specs.Prelude.{◌≡◌, Bool, true, false, [], ◌∷◌, Option, Some, None, map, refl}
 use Rattle.nn_segment.specs.declared.fault.SourceFault.TheVariants.{Gone}
 use Rattle.nn_shadow.specs.declared.fault.Stop.{Stop}
-use Rattle.nn_tailer.specs.Tailing.{Tailer}
+use Rattle.nn_lane_standby.specs.Tailing.{Standby}
 use Rattle.nn_drive.specs.Fault.{number_of}
 use Rattle.nn_drive.specs.Refusals.{drive_refusal}
 use Rattle.nn_drive.specs.declared.driving.DriveFault.TheVariants.{AlreadyActive, Stopped, LogNotEnded, OutOfMemory}
@@ -10,10 +10,10 @@ use Rattle.nn_drive.specs.declared.driving.DriveFault.TheVariants.{AlreadyActive
 abbrev gap : Stop
 gap = record { txid = 3; number = 57 }
 
-abbrev standby : Tailer → Bool → Option Stop → Tailer
+abbrev standby : Standby → Bool → Option Stop → Standby
 standby x begun stop = record x { shadow = record x.shadow { phase = record { stopped = None; active = begun } }; stop = stop }
 
-first_causes : (x : Tailer) → map drive_refusal (standby x false None ∷ standby x false (Some gap) ∷ standby x true None ∷ standby x true (Some gap) ∷ [])
+first_causes : (x : Standby) → map drive_refusal (standby x false None ∷ standby x false (Some gap) ∷ standby x true None ∷ standby x true (Some gap) ∷ [])
     ≡ None ∷ Some (Stopped gap) ∷ Some AlreadyActive ∷ Some AlreadyActive ∷ []
 first_causes x = refl
 

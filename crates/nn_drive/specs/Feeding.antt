@@ -1,23 +1,23 @@
 -- What the source of a feed answered where the end of the feed got so much, and what a run over that end came to.
 use Rattle.nn_model.specs.History.{History, is_flush}
 use Rattle.nn_model.specs.Namespace.{Namespace}
-use Rattle.nn_tailer.specs.declared.standby.Active.{Active}
+use Rattle.nn_lane_standby.specs.declared.standby.Active.{Active}
 use Rattle.std.specs.Prelude.{◌≡◌, ℕ, ◌<◌, ◌≤◌, ◌⊎◌, Bool, true, Option, List, [], ◌++◌, count_by}
 use Rattle.nn_types.specs.declared.report.Report.{Report}
-use Rattle.nn_lane.specs.Ends.{Reporting, Taking}
+use Rattle.nn_lane.specs.Ends.{Reporter, LaneEnd}
 use Rattle.nn_segment.specs.Segment.{Segment}
 use Rattle.nn_segment.specs.Source.{Answer, Asked}
 use Rattle.nn_segment.specs.declared.fault.SourceFault.{SourceFault}
-use Rattle.nn_shadow.specs.Contents.{Contents, KeepsSettings}
-use Rattle.nn_tailer.specs.Shadows.{shadow_after}
-use Rattle.nn_tailer.specs.Reads.{EndsInFault}
-use Rattle.nn_tailer.specs.Tailing.{Tailer, after as behind, StandsAt, LogStops, EndsInEnd}
+use Rattle.nn_shadow.specs.Contents.{Shadow, KeepsSettings}
+use Rattle.nn_lane_standby.specs.Shadows.{shadow_with_past}
+use Rattle.nn_lane_standby.specs.Reads.{EndsInFault}
+use Rattle.nn_lane_standby.specs.Tailing.{Standby, standby_with_past, StandsAt, LogStops, EndsInEnd}
 use Rattle.nn_feed.specs.declared.ends.FeedEnd.{FeedEnd}
 use Rattle.nn_feed.specs.declared.rule.Placed.{Placed}
 use Rattle.nn_feed.specs.Ends.{got_by, GivesWhatIsFed}
 use Rattle.nn_feed.specs.Feeds.{has_last, answers_of}
 use Rattle.nn_feed.specs.Running.{then_last}
-use Rattle.nn_drive.specs.Driven.{IsPromoted}
+use Rattle.nn_drive.specs.Driven.{IsPromotedAtEnd}
 use Rattle.nn_drive.specs.declared.driving.DriveFault.{DriveFault}
 use Rattle.nn_drive.specs.declared.driving.DriveFault.TheVariants as drive
 
@@ -50,14 +50,14 @@ abbrev pub IsKnown : DriveFault → Bool → DriveFault → Type 0
 IsKnown fault told answer = (answer ≡ drive.OutOfMemory) ⊎ ((answer ≡ fault) × ((f : SourceFault) → fault ≡ drive.LogNotEnded f → told ≡ true))
 
 -- what a fault says of the standby before, and of what the feed answered since
-abbrev pub WhyFailed : Tailer → List Answer → DriveFault → Type 0
+abbrev pub WhyFailed : Standby → List Answer → DriveFault → Type 0
 WhyFailed old answers drive.AlreadyActive = ⊥
 WhyFailed old answers (drive.Stopped m) = LogStops old answers m
 WhyFailed old answers (drive.LogNotEnded f) = EndsInFault answers f
 WhyFailed old answers drive.OutOfMemory = Unit {0}
 
 -- a run over the end of a feed failed, which went from there to here: with the answers up to a point between, behind which more was got
-pub record FailsOver {R : Type 0} (old : Tailer) (end : FeedEnd R) (after : FeedEnd R) (fault : DriveFault) : Type 0 where
+pub record FailsOver {R : Type 0} (old : Standby) (end : FeedEnd R) (after : FeedEnd R) (fault : DriveFault) : Type 0 where
   pub answers : List Answer
   pub between : FeedEnd R
   pub asked : Asked GivesWhatIsFed end answers between
@@ -66,12 +66,12 @@ pub record FailsOver {R : Type 0} (old : Tailer) (end : FeedEnd R) (after : Feed
   pub more : GotMore (got_by between) (got_by after)
 
 -- a run over the end of a feed promoted its standby, as a drive does over its source
-pub record IsDrivenOver {R S : Type 0} (gives : S → Option Report → S → Type 0) (old : Tailer) (end : FeedEnd R) (workers : List (S × Reporting)) (after : FeedEnd R) (x : Contents) (active : Active) : Type 0 where
+pub record IsDrivenOver {R S : Type 0} (gives : S → Option Report → S → Type 0) (old : Standby) (end : FeedEnd R) (workers : List (S × Reporter)) (after : FeedEnd R) (x : Shadow) (active : Active) : Type 0 where
   pub answers : List Answer
   pub asked : Asked GivesWhatIsFed end answers after
   pub ended : EndsInEnd answers
   pub last : active.last ≡ x.last
   pub flushed : active.flushed ≡ count_by is_flush x.history
   pub settings : KeepsSettings old.shadow x
-  pub ends : List Taking
-  pub promoted : (past : History) (start : Namespace) (base : ℕ) (given : List Answer) → StandsAt start base given (behind past old) → IsPromoted gives start base (given ++ answers) workers old.ends ends (shadow_after past x)
+  pub ends : List LaneEnd
+  pub promoted : (past : History) (start : Namespace) (base : ℕ) (given : List Answer) → StandsAt start base given (standby_with_past past old) → IsPromotedAtEnd gives start base (given ++ answers) workers old.ends ends (shadow_with_past past x)

@@ -1,14 +1,14 @@
 -- Which drives are refused before a thread is started, and which faults of a step a drive may meet.
 use Rattle.std.specs.Prelude.{◌≡◌, Option, option_map, [], ◌∷◌}
-use Rattle.nn_shadow.specs.Refusals.{fault_if, first_fault}
-use Rattle.nn_tailer.specs.declared.fault.StepFault.{StepFault}
-use Rattle.nn_tailer.specs.declared.fault.StepFault.TheVariants as step
-use Rattle.nn_tailer.specs.Tailing.{has_begun, Tailer}
+use Rattle.nn_model.specs.Apply.{fault_if, first_fault}
+use Rattle.nn_lane_standby.specs.declared.fault.StepFault.{StepFault}
+use Rattle.nn_lane_standby.specs.declared.fault.StepFault.TheVariants as step
+use Rattle.nn_lane_standby.specs.Tailing.{has_begun, Standby}
 use Rattle.nn_drive.specs.declared.driving.DriveFault.{DriveFault}
 use Rattle.nn_drive.specs.declared.driving.DriveFault.TheVariants as drive
 
 -- the flush has begun, or the standby was stopped: the first cause in order is answered
-abbrev pub drive_refusal : Tailer → Option DriveFault
+abbrev pub drive_refusal : Standby → Option DriveFault
 drive_refusal x = first_fault (fault_if (has_begun x) drive.AlreadyActive ∷ option_map (λ stop. drive.Stopped stop) x.stop ∷ [])
 
 -- ---- For private clauses.

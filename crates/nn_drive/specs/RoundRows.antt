@@ -2,26 +2,26 @@
 use Rattle.std.specs.Prelude.{◌≡◌, ℕ, ◌+◌, ◌<◌, ◌≤◌, zero, suc, false, true, [], ◌∷◌, None, refl}
 use Rattle.std.proofs.Common.{arith, subst, inl, inr}
 use Rattle.nn_lane.specs.Ends.{LaneId}
-use Rattle.nn_tailer.specs.LaneSteps.{handed_count, all_count}
-use Rattle.nn_tailer.specs.Public.{IsStepped, SameLane}
-use Rattle.nn_tailer.specs.PromotedRows.{new, taking}
-use Rattle.nn_tailer.specs.Tailing.{Tailer, with_lane}
-use Rattle.nn_tailer.specs.declared.standby.Choice.TheVariants.{Edit, Lane}
-use Rattle.nn_tailer.specs.declared.standby.Stepped.{Stepped}
-use Rattle.nn_tailer.specs.declared.standby.Stepped.TheVariants as stepped
-use Rattle.nn_tailer.proofs.Carried.{carries_fetch}
-use Rattle.nn_tailer.proofs.Shadowing.{settings_same}
-use Rattle.nn_drive.specs.Rounds.{Makes, Tries, IsRound}
+use Rattle.nn_lane_standby.specs.LaneSteps.{handed_count, all_count}
+use Rattle.nn_lane_standby.specs.Public.{IsStepped, SameLane}
+use Rattle.nn_lane_standby.specs.PromotedRows.{new, taking}
+use Rattle.nn_lane_standby.specs.Tailing.{Standby, with_lane}
+use Rattle.nn_lane_standby.specs.declared.standby.Choice.TheVariants.{Edit, Lane}
+use Rattle.nn_lane_standby.specs.declared.standby.Stepped.{Stepped}
+use Rattle.nn_lane_standby.specs.declared.standby.Stepped.TheVariants as stepped
+use Rattle.nn_lane_standby.proofs.Carried.{carries_fetch}
+use Rattle.nn_lane_standby.proofs.Shadowing.{settings_same}
+use Rattle.nn_drive.specs.Rounds.{StepWasMade, Tries, IsRound}
 
 -- the lane was tried, and had no message
-abbrev tried : LaneId → Tailer
+abbrev tried : LaneId → Standby
 tried l = with_lane (new l) 0 (record (taking l [] false) { loads = 1 }) None
 
 other_lanes : (l : LaneId) (k : ℕ) → (1 ≡ k + 1 → ⊥) → SameLane (new l) k (tried l)
 other_lanes l zero other = absurd (other refl)
 other_lanes l (suc k) other = (λ e. refl, refl)
 
-tries_it : (l : LaneId) → Makes (new l) (Lane 1) (tried l)
+tries_it : (l : LaneId) → StepWasMade (new l) (Lane 1) (tried l)
 tries_it l = (
   [],
   stepped.Empty 0,
@@ -49,7 +49,7 @@ not_without_the_second_lane (inr (inl e)) = absurd (cc)
 not_without_the_second_lane (inr (inr none)) = none
 
 -- who leaves the standby as it is has not tried its lane
-not_by_doing_nothing : (l : LaneId) → Makes (new l) (Lane 1) (new l) → ⊥
+not_by_doing_nothing : (l : LaneId) → StepWasMade (new l) (Lane 1) (new l) → ⊥
 not_by_doing_nothing l h = by h.1 h.2
   where
     by : (s : Stepped) → IsStepped (new l) (Lane 1) h.0 (new l) s → ⊥

@@ -1,15 +1,16 @@
 //! A ready operator: it writes checkpoints in parts for another one, and holds the log meanwhile.
 ghost use Rattle.std.specs.Prelude.{◌≡◌, ℕ, Option, None, max};
-ghost use Rattle.nn_tailer.specs.Tailing.{Tailer};
-ghost use Rattle.nn_drive.specs.Checkpoints.{CallsOff, Continues, HasWritten, Heard, IsBegun, IsCalledOff, IsLeftWith, IsPart, asks_of, held, wish_with};
+ghost use Rattle.nn_lane_standby.specs.Tailing.{Standby};
+ghost use Rattle.nn_drive.specs.Checkpoints.{CallsOff, Continues, HasWritten, Heard, BeganCheckpoint, IsCalledOff, IsLeftWith, IsCheckpointPart, asks_of, held, request_with};
 ghost use Rattle.nn_drive.specs.declared.checkpointing.EndedCheckpoint.{EndedCheckpoint as Ended};
 
-use crate::operator::{Operator, Wish};
+use crate::operator::{Operator, Request};
 use nn_device::Writer;
 use nn_image::{SaveFault, Saving};
-use nn_tailer::Standby;
+use nn_lane_standby::Standby;
 use nn_types::Txid;
 use std::alloc::Global;
+use std::fmt;
 use std::io::Write;
 use std::marker::Model;
 use std::ops::ControlFlow;
@@ -19,7 +20,7 @@ use std::ops::ControlFlow;
 pub enum CheckpointOutcome {
     /// All of it was written.
     Written,
-    /// A promotion was wished meanwhile.
+    /// A promotion was requested meanwhile.
     CalledOff,
     /// Memory was refused, or a write failed.
     Failed(SaveFault),
@@ -38,7 +39,7 @@ pub struct EndedCheckpoint {
 /// An operator that wants checkpoints, for `Checkpointing`.
 pub trait CheckpointOperator<W>: Operator {
     /// `wants o x w p`: a `due` of an operator in the state o about the standby x may answer w and leave it in the state p.
-    ghost wants: { Self → Tailer → Option W → Self → Type 0 };
+    ghost wants: { Self → Standby → Option W → Self → Type 0 };
 
     /// `hears o w e p`: told that the checkpoint e ended, and given back w, an operator in the state o may be left in the state p.
     ghost hears: { Self → W → Ended → Self → Type 0 };
@@ -77,7 +78,7 @@ impl<W: Write> InHand<W> {
         standby: &Standby,
         writer: W,
     ) -> ControlFlow<(W, EndedCheckpoint), InHand<W>>
-        ensures { IsBegun W.contents standby.now writer result }
+        ensures { BeganCheckpoint W.contents standby.now writer result }
     {
         let shadow = standby.shadow();
         let Some(txid) = Txid::new(shadow.last_txid()) else {
@@ -101,7 +102,7 @@ impl<W: Write> InHand<W> {
         standby: &Standby,
         rows: usize,
     ) -> ControlFlow<(W, EndedCheckpoint), InHand<W>>
-        ensures { IsPart W.contents rows standby.now self result }
+        ensures { IsCheckpointPart W.contents rows standby.now self result }
     {
         let InHand {
             txid,
@@ -147,8 +148,8 @@ fn ended<W: Write>(txid: Txid, image: Writer<W>, outcome: CheckpointOutcome) -> 
 
 /// An operator whose checkpoints are written in parts: one part each rotation, while reports are taken and the log is held.
 ///
-/// It asks the operator within first. A promotion that this one wishes is passed on at once, and calls off the checkpoint in
-/// hand. All else that it wishes is done as well, and the log is held for as long as a checkpoint is in hand.
+/// It asks the operator within first. A promotion that this one requests is passed on at once, and calls off the checkpoint in
+/// hand. All else that it requests is done as well, and the log is held for as long as a checkpoint is in hand.
 ///
 /// Each checkpoint that is told as written is the image of the namespace after its transaction
 /// (`each_checkpoint_is_the_image`), if the standbys that it is asked about are those of one `serve`. So a new one is made for
@@ -162,11 +163,20 @@ pub struct Checkpointing<W: Write, O> {
 }
 
 impl<W: Write, O> Model for Checkpointing<W, O> {
-    ghost use Rattle.nn_drive.specs.Checkpoints.{Checkpointer};
+    ghost use Rattle.nn_drive.specs.Checkpoints.{Checkpointing};
 
-    ghost Value = { Checkpointer O };
+    ghost Value = { Checkpointing O };
 
     ghost view = { λ s. record { operator = s.operator; rows = s.rows; in_hand = s.in_hand } };
+}
+
+// Without the operator and the writer, which need not print themselves.
+impl<W: Write, O> fmt::Debug for Checkpointing<W, O> {
+    fn fmt<D: fmt::Write>(&self, f: &mut fmt::Formatter<D>) -> fmt::Result {
+        f.debug_struct("Checkpointing")
+            .field("rows", &self.rows)
+            .finish_non_exhaustive()
+    }
 }
 
 impl<W: Write + Drop, O: CheckpointOperator<W>> Checkpointing<W, O> {
@@ -234,33 +244,33 @@ impl<W: Write + Drop, O: CheckpointOperator<W>> Checkpointing<W, O> {
 impl<W: Write + Drop, O: CheckpointOperator<W>> Operator for Checkpointing<W, O> {
     ghost asks = { asks_of W.contents O.hears O.wants O.asks };
 
-    fn ask(&mut self, standby: &Standby, running: usize) -> Wish {
-        let wish = self.operator.ask(standby, running);
-        if let Wish::Promote = wish {
+    fn ask(&mut self, standby: &Standby, running: usize) -> Request {
+        let request = self.operator.ask(standby, running);
+        if let Request::Promote = request {
             self.call_off();
-            return Wish::Promote;
+            return Request::Promote;
         }
         self.go_on(standby);
-        wish_with(&self.in_hand, wish)
+        request_with(&self.in_hand, request)
     }
 }
 
-// What was wished, and that the log be held while a checkpoint is in hand.
-fn wish_with<W: Write>(in_hand: &Option<InHand<W>>, wish: Wish) -> Wish
-    ensures { result ≡ wish_with in_hand.now wish }
+// What was requested, and that the log be held while a checkpoint is in hand.
+fn request_with<W: Write>(in_hand: &Option<InHand<W>>, request: Request) -> Request
+    ensures { result ≡ request_with in_hand.now request }
 {
     match in_hand {
-        Some(_) => held(wish),
-        None => wish,
+        Some(_) => held(request),
+        None => request,
     }
 }
 
-fn held(wish: Wish) -> Wish
-    ensures { result ≡ held wish }
+fn held(request: Request) -> Request
+    ensures { result ≡ held request }
 {
-    match wish {
-        Wish::GoOn | Wish::Hold => Wish::Hold,
-        Wish::Forget | Wish::ForgetAndHold => Wish::ForgetAndHold,
-        Wish::Promote => Wish::Promote,
+    match request {
+        Request::GoOn | Request::Hold => Request::Hold,
+        Request::Forget | Request::ForgetAndHold => Request::ForgetAndHold,
+        Request::Promote => Request::Promote,
     }
 }

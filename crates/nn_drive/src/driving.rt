@@ -1,11 +1,11 @@
 //! One thread for each DataNode, and the standby on the thread that calls.
 ghost use Rattle.std.specs.Prelude.{◌≡◌, ◌<◌, ◌≤◌, [], true, false, length, vec_capacity, Some, Err, MatchBool, IfOk, IfErr, IfSome, ◌⊎◌};
 ghost use Rattle.std.specs.List.{AllZip};
-ghost use Rattle.nn_tailer.specs.LaneSteps.{AllClosed};
-ghost use Rattle.nn_tailer.specs.Tailing.{has_begun};
+ghost use Rattle.nn_lane_standby.specs.LaneSteps.{AllClosed};
+ghost use Rattle.nn_lane_standby.specs.Tailing.{has_begun};
 ghost use Rattle.nn_drive.specs.Fault.{number_of};
 ghost use Rattle.nn_drive.specs.Refusals.{drive_refusal};
-ghost use Rattle.nn_drive.specs.Driven.{HasReported, ArePromised, WentUntil, Stayed, Ends, IsTold, JoinsAll, AreOneLane, Agrees, AreLanes, IsDriven, NotDriven};
+ghost use Rattle.nn_drive.specs.Driven.{HasReported, ArePromised, WentUntil, Stayed, PromotesAtEnd, IsTold, JoinsAll, AreOneLane, EndsAgree, HaveReporters, IsDriven, NotDriven};
 ghost use Rattle.nn_feed.specs.Ends.{got_by, IsSameEnd};
 ghost use Rattle.nn_feed.specs.Feeds.{has_last};
 ghost use Rattle.nn_drive.specs.Feeding.{FailsOver, GotMore, IsDrivenOver, IsKnown};
@@ -19,22 +19,22 @@ use crate::rotation::{fault_of, rotate};
 use crate::serving::Feeding;
 use nn_feed::FeedEnd;
 use nn_lane::{LaneEnd, Refusal, Reporter, meet};
+use nn_lane_standby::{Active, PromoteFault, Standby};
 use nn_segment::{SegmentSource, SourceFault};
 use nn_shadow::{Shadow, Stop};
-use nn_tailer::{Active, PromoteFault, Standby};
 use nn_types::fault;
 use std::alloc::Global;
 use std::snapshot::Snapshot;
 use std::sync::Wait;
-use std::thread;
 use std::thread::{Promise, PromisedHandle, Scope, Threads};
+use std::{fmt, thread};
 use thiserror::Error;
 
 // How many steps of the log a rotation of a drive begins with, at most. A log that falls behind its reports leaves them waiting.
 const AHEAD: usize = 32_768;
 
 /// What a worker's thread gives back.
-#[derive(Drop)]
+#[derive(Debug, Drop)]
 pub struct WorkerExit<S> {
     pub source: S,
     pub reporter: Reporter,
@@ -45,6 +45,13 @@ pub struct WorkerExit<S> {
 /// The promise of a worker's thread: the source and the reporter that it began with.
 #[derive(Drop)]
 pub struct WorkerPromise<S>(pub Snapshot<S>, pub Snapshot<Reporter>);
+
+// What it remembers is there for proofs alone.
+impl<S> fmt::Debug for WorkerPromise<S> {
+    fn fmt<D: fmt::Write>(&self, f: &mut fmt::Formatter<D>) -> fmt::Result {
+        f.debug_struct("WorkerPromise").finish_non_exhaustive()
+    }
+}
 
 impl<S: ReportSource> Promise<WorkerExit<S>> for WorkerPromise<S> {
     ghost kept_by = { λ p w. HasReported S.gives p.0.value p.1.value w };
@@ -220,7 +227,7 @@ fn give_up<'a, S: ReportSource + Drop, R: Threads + Wait>(
 // Ends each lane.
 fn meet_all(ends: Vec<LaneEnd>, reporters: Vec<Reporter>)
     requires { AllZip AreOneLane ends.items reporters.items }
-    ensures { AllZip Agrees ends.items reporters.items }
+    ensures { AllZip EndsAgree ends.items reporters.items }
 {
     let mut ends = ends;
     let mut reporters = reporters;
@@ -239,7 +246,7 @@ pub(crate) fn promote<T: SegmentSource>(
 ) -> Result<Active, DriveFault>
     requires serving { has_begun standby.old ≡ false }
     requires closed { AllClosed standby.old.ends }
-    ensures ok { IfOk result (λ active. Ends T.gives T.failures source.old standby.old source.new active standby.new) }
+    ensures ok { IfOk result (λ active. PromotesAtEnd T.gives T.failures source.old standby.old source.new active standby.new) }
     ensures err { IfErr result (λ fault. WentUntil T.gives T.failures source.old standby.old source.new fault) }
     ensures stayed { IfErr result (λ _. Stayed T.gives source.old standby.old source.new standby.new) }
 {
@@ -265,7 +272,7 @@ fn run<'s, 'a, E, S: ReportSource + Send + Drop + 's, R: Threads + Wait + Sync>(
     bells: &'s Bells,
 ) -> Result<(Shadow, Active), DriveFault>
     requires serving { has_begun standby ≡ false }
-    requires lanes { AreLanes workers.items standby.ends }
+    requires lanes { HaveReporters workers.items standby.ends }
     requires none { reporters.items ≡ [] }
     requires room { length workers.items ≤ vec_capacity reporters }
     ensures same { IsSameEnd end.old end.new }
@@ -332,7 +339,7 @@ fn drive_in<
     bells: &'s Bells,
 ) -> Result<(Shadow, Active), DriveFault>
     requires serving { has_begun standby ≡ false }
-    requires lanes { AreLanes workers.items standby.ends }
+    requires lanes { HaveReporters workers.items standby.ends }
     ensures ok { IfOk result (λ r. IsDriven T.gives T.failures S.gives standby source workers.items r.0 r.1) }
     ensures err { IfErr result (λ fault. NotDriven T.gives T.failures standby source fault) }
 {
@@ -366,11 +373,14 @@ fn drive_in<
 ///
 /// The source is asked up to its End or its first fault, at most five segments ahead of the one that the standby has in
 /// hand. A source of reports ends with its first None, and is not asked again; nor is it once a report was refused, since
-/// its lane is closed or has carried all that it can. A full lane is tried again and again. The first cause of refusal is
-/// answered: 53 where the flush had begun before and 51 where the standby was stopped, both before any thread is started;
-/// then 55 where memory or a thread is refused, and while it works 51, 54, 55. Only once all workers have ended does it
-/// close the lanes. So 52 never comes, and no report is refused by 42 in a lane that was open when the drive began. 55
-/// would also come if the feed failed while both its ends were there, which no channel does and no contract excludes.
+/// its lane is closed or has carried all that it can. A worker at a full lane sleeps until the standby has visited it, and
+/// the standby sleeps where nothing is to do. Only once all workers have ended are the lanes closed: so no report is refused
+/// as closed in a lane that was open when the drive began.
+///
+/// The first cause of refusal is answered: `AlreadyActive` where the flush had begun before and `Stopped` where the standby
+/// was stopped, both before any thread is started; then `OutOfMemory` where memory or a thread is refused; and while it works
+/// `Stopped`, `LogNotEnded`, `OutOfMemory`. The last would also come if the feed failed while both its ends were there, which
+/// no channel does and no contract excludes.
 ///
 /// After a fault nothing is handed back: the lanes are closed, what the feed still brings is dropped until its source has
 /// ended, and each thread is joined before this returns. It waits for as long as a source of segments or of reports does.
@@ -385,7 +395,7 @@ pub fn drive<
     source: T,
     workers: Vec<(S, Reporter)>,
 ) -> Result<(Shadow, Active), DriveFault>
-    requires { AreLanes workers.items standby.ends }
+    requires { HaveReporters workers.items standby.ends }
     ensures refused { (fault : Why) → drive_refusal standby ≡ Some fault → result ≡ Err fault }
     ensures ok { IfOk result (λ r. IsDriven T.gives T.failures S.gives standby source workers.items r.0 r.1) }
     ensures err { IfErr result (λ fault. NotDriven T.gives T.failures standby source fault) }
@@ -402,7 +412,7 @@ pub fn drive<
         rt,
         move |scope| -> Result<(Shadow, Active), DriveFault>
             requires serving { has_begun standby ≡ false }
-            requires lanes { AreLanes workers.items standby.ends }
+            requires lanes { HaveReporters workers.items standby.ends }
             ensures ok { IfOk result (λ r. IsDriven T.gives T.failures S.gives standby source workers.items r.0 r.1) }
             ensures err { IfErr result (λ fault. NotDriven T.gives T.failures standby source fault) }
         { drive_in(scope, rt, alloc, standby, source, workers, bells) },

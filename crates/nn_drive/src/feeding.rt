@@ -130,7 +130,7 @@ pub(crate) fn end_feed<'a, T: SegmentSource + Drop, R: Threads + Wait>(
     true
 }
 
-// What a drive answers for a fault that it met at the end of a feed: 54 only where the feed told it as its source's. No
+// What a drive answers for a fault that it met at the end of a feed: `LogNotEnded` only where the feed told it as its source's. No
 // channel fails while both its ends are there, but no contract says so.
 fn known_fault(fault: DriveFault, is_told: bool) -> DriveFault
     ensures { IsKnown fault is_told result }

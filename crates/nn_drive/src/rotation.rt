@@ -1,22 +1,22 @@
-//! The rotation of a standby: its log and its lanes in turn, until its operator wishes a promotion.
+//! The rotation of a standby: its log and its lanes in turn, until its operator requests a promotion.
 ghost use Rattle.std.specs.Prelude.{◌≡◌, ◌≤◌, true, false, IfOk, IfErr};
 ghost use Rattle.nn_feed.specs.Ends.{GivesWhatIsFed};
-ghost use Rattle.nn_tailer.specs.Refusals.{has_place};
-ghost use Rattle.nn_tailer.specs.Tailing.{has_begun};
-ghost use Rattle.nn_tailer.specs.declared.standby.Choice.TheVariants.{Lane};
+ghost use Rattle.nn_lane_standby.specs.Refusals.{has_place};
+ghost use Rattle.nn_lane_standby.specs.Tailing.{has_begun};
+ghost use Rattle.nn_lane_standby.specs.declared.standby.Choice.TheVariants.{Lane};
 ghost use Rattle.nn_drive.specs.Driven.{Went, WentUntil};
 ghost use Rattle.nn_drive.specs.Feeding.{failures_of};
 ghost use Rattle.nn_drive.specs.Refusals.{MayCome, IsSameFault};
-ghost use Rattle.nn_drive.specs.Rounds.{Makes, HasStepped, HasTried, IsRound};
+ghost use Rattle.nn_drive.specs.Rounds.{StepWasMade, HasStepped, HasTried, IsRound};
 ghost use Rattle.nn_drive.specs.Served.{Rotates};
-ghost use Rattle.nn_drive.specs.Serving.{KeepsNamespace, WasShown, WishesAt, holds, left_by};
+ghost use Rattle.nn_drive.specs.Serving.{KeepsNamespace, WasShown, RequestsAt, holds, left_by_request};
 
 use crate::bells::Bells;
 use crate::driving::DriveFault;
-use crate::operator::{Operator, Wish};
+use crate::operator::{Operator, Request};
 use nn_feed::FeedEnd;
+use nn_lane_standby::{Choice, Standby, StepFault, Stepped};
 use nn_segment::SegmentSource;
-use nn_tailer::{Choice, Standby, StepFault, Stepped};
 use std::sync::Wait;
 
 // How many messages a visit of a lane takes at most: so each lane has its turn soon, however fast its worker reports.
@@ -53,7 +53,7 @@ fn take_step<T: SegmentSource>(
     requires serving { has_begun standby.old ≡ false }
     requires place { has_place standby.old choice ≡ true }
     ensures went { Went T.gives T.failures source.old standby.old source.new standby.new }
-    ensures made { IfOk result (λ _. Makes standby.old choice standby.new) }
+    ensures made { IfOk result (λ _. StepWasMade standby.old choice standby.new) }
     ensures until { IfErr result (λ fault. WentUntil T.gives T.failures source.old standby.old source.new fault) }
 {
     match standby.step(source, choice) {
@@ -93,54 +93,54 @@ fn is_at_hand<'a, R: Wait>(standby: &Standby, end: &FeedEnd<'a, R>) -> bool {
     standby.in_hand() > 0 || (end.is_ready() && !end.is_at_end())
 }
 
-// Makes so many steps of the log at most, while they need not wait for its source. Answers how many brought something.
+// Makes so many steps of the log at most, while they need not wait for its source and bring something.
 fn take_edits<'a, R: Wait>(
     standby: &mut Standby,
     end: &mut FeedEnd<'a, R>,
     most: usize,
-) -> Result<usize, DriveFault>
+) -> Result<(), DriveFault>
     requires { has_begun standby.old ≡ false }
     ensures went { Went GivesWhatIsFed failures_of end.old standby.old end.new standby.new }
     ensures stepped { IfOk result (λ _. HasStepped standby.old standby.new) }
     ensures until { IfErr result (λ fault. WentUntil GivesWhatIsFed failures_of end.old standby.old end.new fault) }
 {
-    for taken in 0..most {
+    for _ in 0..most {
         if !is_at_hand(standby, end) {
-            return Ok(taken);
+            return Ok(());
         }
         let has_come = take_step(standby, end, Choice::Edit)?;
         if !has_come {
-            return Ok(taken);
+            return Ok(());
         }
     }
-    Ok(most)
+    Ok(())
 }
 
-// Whether it is wished that the log be held.
-fn is_holding(wish: Wish) -> bool
-    ensures { result ≡ holds wish }
+// Whether it is requested that the log be held.
+fn is_holding(request: Request) -> bool
+    ensures { result ≡ holds request }
 {
-    match wish {
-        Wish::Hold | Wish::ForgetAndHold => true,
-        Wish::GoOn | Wish::Forget | Wish::Promote => false,
+    match request {
+        Request::Hold | Request::ForgetAndHold => true,
+        Request::GoOn | Request::Forget | Request::Promote => false,
     }
 }
 
-// The same, unless it is wished that the log be held.
+// The same, unless it is requested that the log be held.
 fn take_log<'a, R: Wait>(
     standby: &mut Standby,
     end: &mut FeedEnd<'a, R>,
-    wish: Wish,
+    request: Request,
     most: usize,
-) -> Result<usize, DriveFault>
+) -> Result<(), DriveFault>
     requires { has_begun standby.old ≡ false }
     ensures went { Went GivesWhatIsFed failures_of end.old standby.old end.new standby.new }
     ensures stepped { IfOk result (λ _. HasStepped standby.old standby.new) }
-    ensures held { IfOk result (λ _. holds wish ≡ true → KeepsNamespace standby.old standby.new) }
+    ensures held { IfOk result (λ _. holds request ≡ true → KeepsNamespace standby.old standby.new) }
     ensures until { IfErr result (λ fault. WentUntil GivesWhatIsFed failures_of end.old standby.old end.new fault) }
 {
-    if is_holding(wish) {
-        return Ok(0);
+    if is_holding(request) {
+        return Ok(());
     }
     take_edits(standby, end, most)
 }
@@ -150,13 +150,13 @@ fn take_log<'a, R: Wait>(
 fn take_lanes<'a, R: Wait>(
     standby: &mut Standby,
     end: &mut FeedEnd<'a, R>,
-    wish: Wish,
+    request: Request,
     bells: &Bells,
 ) -> Result<bool, DriveFault>
     requires { has_begun standby.old ≡ false }
     ensures went { Went GivesWhatIsFed failures_of end.old standby.old end.new standby.new }
     ensures visited { IfOk result (λ _. IsRound standby.old standby.new) }
-    ensures held { IfOk result (λ _. holds wish ≡ true → KeepsNamespace standby.old standby.new) }
+    ensures held { IfOk result (λ _. holds request ≡ true → KeepsNamespace standby.old standby.new) }
     ensures until { IfErr result (λ fault. WentUntil GivesWhatIsFed failures_of end.old standby.old end.new fault) }
 {
     let lanes = standby.lanes();
@@ -166,7 +166,7 @@ fn take_lanes<'a, R: Wait>(
         if taken > 0 {
             bells.wake(i);
         }
-        take_log(standby, end, wish, taken)?;
+        take_log(standby, end, request, taken)?;
         is_left |= taken == MESSAGES_OF_A_VISIT;
     }
     Ok(is_left)
@@ -177,19 +177,19 @@ fn take_lanes<'a, R: Wait>(
 fn take_round<'a, R: Wait>(
     standby: &mut Standby,
     end: &mut FeedEnd<'a, R>,
-    wish: Wish,
+    request: Request,
     bells: &Bells,
     ahead: usize,
 ) -> Result<bool, DriveFault>
     requires { has_begun standby.old ≡ false }
     ensures went { Went GivesWhatIsFed failures_of end.old standby.old end.new standby.new }
     ensures visited { IfOk result (λ _. IsRound standby.old standby.new) }
-    ensures held { IfOk result (λ _. holds wish ≡ true → KeepsNamespace standby.old standby.new) }
+    ensures held { IfOk result (λ _. holds request ≡ true → KeepsNamespace standby.old standby.new) }
     ensures until { IfErr result (λ fault. WentUntil GivesWhatIsFed failures_of end.old standby.old end.new fault) }
 {
     let most = standby.lanes().max(ahead);
-    take_log(standby, end, wish, most)?;
-    take_lanes(standby, end, wish, bells)
+    take_log(standby, end, request, most)?;
+    take_lanes(standby, end, request, bells)
 }
 
 // How many workers were not yet seen to have ended.
@@ -199,13 +199,13 @@ fn still_running(started: usize, bells: &Bells) -> usize
     started.saturating_sub(bells.ended())
 }
 
-// Forgets the history, where that was wished.
-fn forget_wished(standby: &mut Standby, wish: Wish)
-    ensures { standby.new ≡ left_by wish standby.old }
+// Forgets the history, where that was requested.
+fn forget_requested(standby: &mut Standby, request: Request)
+    ensures { standby.new ≡ left_by_request request standby.old }
 {
-    match wish {
-        Wish::Forget | Wish::ForgetAndHold => standby.forget_history(),
-        Wish::GoOn | Wish::Hold | Wish::Promote => {}
+    match request {
+        Request::Forget | Request::ForgetAndHold => standby.forget_history(),
+        Request::GoOn | Request::Hold | Request::Promote => {}
     }
 }
 
@@ -215,26 +215,26 @@ fn rest<'a, R: Wait>(
     rt: &R,
     standby: &Standby,
     end: &FeedEnd<'a, R>,
-    wish: Wish,
+    request: Request,
     bells: &Bells,
     running: usize,
     started: usize,
 ) {
-    let is_holding = is_holding(wish);
+    let is_holding = is_holding(request);
     bells.doze();
     let has_log = !is_holding && is_at_hand(standby, end);
     let has_ended = still_running(started, bells) != running;
     bells.rest(rt, has_log || has_ended, is_holding);
 }
 
-/// Rotations, until the operator wishes a promotion. It is asked before each one, and what it wishes to be forgotten of the
+/// Rotations, until the operator requests a promotion. It is asked before each one, and what it requests to be forgotten of the
 /// history is forgotten then.
 ///
 /// A rotation begins with at most as many steps of the log as there are lanes, or `ahead` where that is more. Then it visits each
 /// lane, and takes from it until it is empty, or gave 64 messages; and after each lane it makes at most as many steps of the log
 /// as the lane gave messages. So a lane that is never empty keeps back neither the log nor another lane, and a log that is
 /// always ready keeps back no lane. The log is left alone while no transaction is in hand and nothing lies in its feed: a
-/// slow source keeps back no message; and so it is where the operator wished that it be held.
+/// slow source keeps back no message; and so it is where the operator requested that it be held.
 ///
 /// Once the operator was asked, and no more is known to be there, it sleeps: until a report, the log or the end of a worker wakes
 /// it, and for 10 milliseconds at most. So the operator sees at once what came. While the log is held it sleeps a tenth of a
@@ -249,23 +249,23 @@ pub(crate) fn rotate<'a, O: Operator, R: Wait>(
     ahead: usize,
 ) -> Result<(), DriveFault>
     requires { has_begun standby.old ≡ false }
-    ensures wished { IfOk result (λ _. Rotates GivesWhatIsFed failures_of end.old standby.old end.new standby.new (λ shown answers. WishesAt O.asks started standby.old operator.old shown answers standby.new operator.new)) }
+    ensures requested { IfOk result (λ _. Rotates GivesWhatIsFed failures_of end.old standby.old end.new standby.new (λ shown answers. RequestsAt O.asks started standby.old operator.old shown answers standby.new operator.new)) }
     ensures gone { IfErr result (λ _. Rotates GivesWhatIsFed failures_of end.old standby.old end.new standby.new (λ shown answers. WasShown O.asks started standby.old operator.old shown answers standby.new operator.new)) }
     ensures until { IfErr result (λ fault. WentUntil GivesWhatIsFed failures_of end.old standby.old end.new fault) }
 {
     let mut is_left = true;
     for _ in rt.forever() {
         let running = still_running(started, bells);
-        let wish = operator.ask(standby, running);
-        if let Wish::Promote = wish {
+        let request = operator.ask(standby, running);
+        if let Request::Promote = request {
             return Ok(());
         }
-        forget_wished(standby, wish);
+        forget_requested(standby, request);
         if !is_left {
-            rest(rt, standby, end, wish, bells, running, started);
+            rest(rt, standby, end, request, bells, running, started);
         }
         bells.clear();
-        is_left = take_round(standby, end, wish, bells, ahead)?;
+        is_left = take_round(standby, end, request, bells, ahead)?;
     }
     unreachable!()
 }

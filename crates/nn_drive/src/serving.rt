@@ -7,9 +7,10 @@ use crate::driving::{DriveFault, WorkerExit, WorkerPromise};
 use crate::reporting::ReportSource;
 use nn_feed::{FeedEnd, FeederExit, FeederPromise};
 use nn_lane::{LaneEnd, Met, Refusal, Reporter};
+use nn_lane_standby::{Active, Standby};
 use nn_segment::SegmentSource;
 use nn_shadow::Shadow;
-use nn_tailer::{Active, Standby};
+use std::fmt;
 use std::sync::Wait;
 use std::thread::PromisedHandle;
 
@@ -23,8 +24,17 @@ pub struct Running<S: ReportSource> {
     ghost own: { IsOf end handle },
 }
 
+// Without the handle of its thread, which has nothing to show.
+impl<S: ReportSource> fmt::Debug for Running<S> {
+    fn fmt<D: fmt::Write>(&self, f: &mut fmt::Formatter<D>) -> fmt::Result {
+        f.debug_struct("Running")
+            .field("end", &self.end)
+            .finish_non_exhaustive()
+    }
+}
+
 /// What a worker left.
-#[derive(Drop)]
+#[derive(Debug, Drop)]
 pub struct Left<S> {
     pub source: S,
     /// How many reports it sent, where its source gave no more; else why the last one was refused. `Closed` is no fault: the
@@ -35,7 +45,7 @@ pub struct Left<S> {
 }
 
 /// A standby that was promoted.
-#[derive(Drop)]
+#[derive(Debug, Drop)]
 pub struct Served<S: ReportSource> {
     pub shadow: Shadow,
     pub active: Active,
@@ -50,6 +60,15 @@ pub struct Feeding<'a, T: SegmentSource, R: Wait> {
     pub handle: PromisedHandle<FeederExit<T>, FeederPromise<T>>,
     ghost one_feed: { AreOfOneFeed handle.promise.1.value end },
     ghost new: { put_by handle.promise.1.value ≡ [] },
+}
+
+// Without the handle, as above.
+impl<'a, T: SegmentSource, R: Wait> fmt::Debug for Feeding<'a, T, R> {
+    fn fmt<D: fmt::Write>(&self, f: &mut fmt::Formatter<D>) -> fmt::Result {
+        f.debug_struct("Feeding")
+            .field("end", &self.end)
+            .finish_non_exhaustive()
+    }
 }
 
 /// A standby that was not promoted, and why.
@@ -76,6 +95,16 @@ pub struct Unserved<'a, T: SegmentSource, S: ReportSource, R: Wait> {
     pub feeding: Option<Feeding<'a, T, R>>,
 }
 
+// Without sources and handles, which need not print themselves.
+impl<'a, T: SegmentSource, S: ReportSource, R: Wait> fmt::Debug for Unserved<'a, T, S, R> {
+    fn fmt<D: fmt::Write>(&self, f: &mut fmt::Formatter<D>) -> fmt::Result {
+        f.debug_struct("Unserved")
+            .field("fault", &self.fault)
+            .field("standby", &self.standby)
+            .finish_non_exhaustive()
+    }
+}
+
 /// What is left of a standby that was not promoted, once its source's thread was joined.
 #[derive(Drop)]
 pub struct Unfed<T, S: ReportSource> {
@@ -84,6 +113,16 @@ pub struct Unfed<T, S: ReportSource> {
     pub source: Option<T>,
     pub workers: Vec<PromisedHandle<WorkerExit<S>, WorkerPromise<S>>>,
     pub unstarted: Vec<(S, Reporter)>,
+}
+
+// Without sources and handles, as above.
+impl<T, S: ReportSource> fmt::Debug for Unfed<T, S> {
+    fn fmt<D: fmt::Write>(&self, f: &mut fmt::Formatter<D>) -> fmt::Result {
+        f.debug_struct("Unfed")
+            .field("fault", &self.fault)
+            .field("standby", &self.standby)
+            .finish_non_exhaustive()
+    }
 }
 
 mod calls;

@@ -11,7 +11,7 @@ use Rattle.nn_plain.specs.Spelling.{spelled_or, Spells, SpellsBlock, SpellsBlock
 use Rattle.nn_plain.specs.declared.value.Plain.{Plain}
 use Rattle.nn_plain.specs.declared.value.Plain.TheVariants.{Text, Whole, Truth}
 use Rattle.nn_edits.specs.Reading.{whole_in, number_in, block_in, items_in}
-use Rattle.nn_edits.specs.Parts.{blocks_of, scalar_from, scalar_of}
+use Rattle.nn_edits.specs.Parts.{blocks_of_value, scalar_from, scalar_of}
 use Rattle.nn_edits.specs.declared.fault.LineFault.TheVariants.{BadNumber, MissingField}
 
 whole_read : (key : List ℕ) (d : Data) (n : ℕ) → whole_at key d ≡ Some n → whole_in key d ≡ Ok n
@@ -39,7 +39,7 @@ items_read no_items (b ∷ bs) so lawful = absurd so
 items_read (item d ds) [] so lawful = absurd so
 items_read (item d ds) (b ∷ bs) so lawful = rw (block_read d b so.0 lawful.0, items_read ds bs so.1 lawful.1) refl
 
-pub blocks_read : (ds : Items) (bs : List Block) → SpellsBlocks ds bs → AreBlocks bs → blocks_of (array ds) ≡ Ok bs
+pub blocks_read : (ds : Items) (bs : List Block) → SpellsBlocks ds bs → AreBlocks bs → blocks_of_value (array ds) ≡ Ok bs
 blocks_read ds bs so lawful = items_read ds bs so lawful
 
 -- What a plain value is to a key.
@@ -49,7 +49,7 @@ plain_member d (Whole n) e = ap scalar_of (sym e)
 plain_member d (Truth b) e = ap scalar_of (sym e)
 
 -- No other plain value has blocks.
-pub no_blocks_read : (d : Data) (v : Plain) → Spells d v → blocks_of d ≡ Err MissingField
-no_blocks_read d (Text s) e = ap blocks_of e
-no_blocks_read d (Whole n) e = ap blocks_of e
-no_blocks_read d (Truth b) e = ap blocks_of e
+pub no_blocks_read : (d : Data) (v : Plain) → Spells d v → blocks_of_value d ≡ Err MissingField
+no_blocks_read d (Text s) e = ap blocks_of_value e
+no_blocks_read d (Whole n) e = ap blocks_of_value e
+no_blocks_read d (Truth b) e = ap blocks_of_value e

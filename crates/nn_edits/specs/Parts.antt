@@ -9,7 +9,7 @@ use Rattle.nn_types.specs.declared.block.Block.{Block}
 use Rattle.nn_types.specs.declared.report.Kind.{Kind}
 use Rattle.nn_types.specs.declared.report.Report.{Report}
 use Rattle.nn_edits.specs.Outcome.{◌>>=◌}
-use Rattle.nn_edits.specs.Reading.{within, first_named, items_in, blocks_in, op_of, kind_of, object_in}
+use Rattle.nn_edits.specs.Reading.{within, items_in, blocks_in, op_of, kind_of, object_in}
 use Rattle.nn_edits.specs.declared.fault.LineFault.{LineFault}
 use Rattle.nn_edits.specs.declared.fault.LineFault.TheVariants.{MissingField, BadNumber, UnknownOp, BadPath, UnknownKind}
 use Rattle.nn_edits.specs.declared.fields.Fields.{Fields}
@@ -27,6 +27,8 @@ use Rattle.nn_types.specs.declared.tx.Tx.{Tx}
 use Rattle.nn_types.specs.Profile.{profile_of}
 use Rattle.nn_types.specs.declared.profile.Profile.{Profile}
 use Rattle.nn_types.specs.declared.profile.Profile.TheVariants.{One}
+use Rattle.nn_types.specs.Limits.{max_datanodes}
+use Rattle.nn_plain.specs.Keys.{first_named}
 
 -- ---- one member
 
@@ -94,7 +96,7 @@ unfoldable pub txid_from : Scalar → Result ℕ LineFault
 txid_from s = whole_from s >>= λ n. within (nat_le 1 n && nat_lt n (2 ^ 63)) n
 
 unfoldable pub dn_from : Scalar → Result ℕ LineFault
-dn_from s = whole_from s >>= λ n. within (nat_le 1 n && nat_le n 256) n
+dn_from s = whole_from s >>= λ n. within (nat_le 1 n && nat_le n max_datanodes) n
 
 unfoldable pub path_from : Scalar → Result (List (List ℕ)) LineFault
 path_from missing = Err MissingField
@@ -123,8 +125,8 @@ kind_from other = Err UnknownKind
 -- ---- all that is kept
 
 -- The blocks of a value.
-abbrev pub blocks_of : Data → Result (List Block) LineFault
-blocks_of d = ok_or (as_array d) MissingField >>= items_in
+abbrev pub blocks_of_value : Data → Result (List Block) LineFault
+blocks_of_value d = ok_or (as_array d) MissingField >>= items_in
 
 -- The member at each key of the formats. The blocks at the key `blocks` are read already.
 pub record Parts : Type 0 where

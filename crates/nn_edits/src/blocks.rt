@@ -3,7 +3,7 @@ ghost use Rattle.std.specs.Prelude.{◌≡◌, ◌<◌, length, codes, if◌then
 ghost use Rattle.std.specs.Str.{bytes_eq};
 ghost use Rattle.serde_json.specs.Data.{Data};
 ghost use Rattle.nn_plain.specs.Ahead.{data_at};
-ghost use Rattle.nn_edits.specs.Parts.{seen, blocks_of, block_from};
+ghost use Rattle.nn_edits.specs.Parts.{seen, blocks_of_value, block_from};
 ghost use Rattle.nn_edits.specs.Reading.{block_in};
 
 use crate::ahead::read_member;
@@ -24,7 +24,7 @@ pub(crate) fn read_blocks(
     depth: usize,
 ) -> Result<Result<Blocks, LineFault>, ReadFault>
     ensures ok { IfOk result (λ bs. (d : Data) × (data_at depth reader.old ≡ Some (d, reader.new))
-        × (bs ≡ blocks_of d)) }
+        × (bs ≡ blocks_of_value d)) }
     ensures shorter { OnOk result (length reader.new < length reader.old) }
     ensures err { result ≡ Err ReadFault.Invalid → data_at depth reader.old ≡ None }
 {

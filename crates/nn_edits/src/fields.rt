@@ -144,7 +144,7 @@ impl<'a> Slots<'a> for Fields<'a> {
 
     fn put_array(&mut self, key: &'a str, blocks: Blocks) {
         if is_blocks(key) {
-            blocks.lawful();
+            blocks.recall_invariant();
             self.put_blocks(Ok(blocks));
             return;
         }

@@ -3,7 +3,7 @@ ghost use Rattle.std.specs.Prelude.{◌≡◌, Ok, IfOk};
 ghost use Rattle.serde_json.specs.Data.{object, no_members};
 ghost use Rattle.nn_edits.specs.Grammar.{IsEditLine, IsReportLine, IsLine, IsLawfulReport, IsLawfulLine};
 ghost use Rattle.nn_types.specs.LawfulEdit.{IsLawfulEdit};
-ghost use Rattle.nn_edits.specs.Outcome.{Gives, GivesSeen};
+ghost use Rattle.nn_edits.specs.Outcome.{LineGives, LineGivesSeen};
 ghost use Rattle.nn_edits.specs.Parts.{seen_fields, parts_of, parts_of_line, either_from};
 ghost use Rattle.nn_edits.specs.Reading.{edit_of_line, report_of_line, either_of_line};
 ghost use Rattle.nn_edits.specs.declared.line.Line.{Line as LineData};
@@ -16,15 +16,13 @@ use crate::reading::tx_in;
 use crate::report::report_in;
 use json::Scratch;
 use nn_plain::read_plain;
+use nn_types::limits::MAX_LINE_LEN;
 use nn_types::{Report, Tx};
 use simdutf8::basic::from_utf8;
 use std::alloc::Global;
 
-/// The bytes that a line may have.
-pub(crate) const MAX_LINE_LEN: usize = 65_536;
-
 /// A line of an input that has both transactions and reports.
-#[derive(Drop)]
+#[derive(Debug, Drop)]
 pub enum Line {
     Edit(Tx),
     Report(Report),
@@ -39,9 +37,9 @@ pub fn read_edit(alloc: Global, scratch: &mut Scratch, line: &[u8]) -> Result<Tx
     // What is read is what the line spells.
     ensures found { IfOk result (IsEditLine line.now) }
     // What the line spells is read.
-    ensures only { (tx : TxData) → IsEditLine line.now tx → Gives result (Ok tx) }
+    ensures only { (tx : TxData) → IsEditLine line.now tx → LineGives result (Ok tx) }
     // The fault is the first one in the order of the keys.
-    ensures exact { Gives result (edit_of_line line.now) }
+    ensures exact { LineGives result (edit_of_line line.now) }
     ensures lawful { IfOk result (λ tx. IsLawfulEdit tx.edit) }
 {
     edit_of_line(alloc, scratch, line)
@@ -55,9 +53,9 @@ pub fn read_report(alloc: Global, scratch: &mut Scratch, line: &[u8]) -> Result<
     // What is read is what the line spells.
     ensures found { IfOk result (IsReportLine line.now) }
     // What the line spells is read.
-    ensures only { (report : ReportData) → IsReportLine line.now report → Gives result (Ok report) }
+    ensures only { (report : ReportData) → IsReportLine line.now report → LineGives result (Ok report) }
     // The fault is the first one in the order of the keys.
-    ensures exact { Gives result (report_of_line line.now) }
+    ensures exact { LineGives result (report_of_line line.now) }
     ensures lawful { IfOk result IsLawfulReport }
 {
     report_of_line(alloc, scratch, line)
@@ -69,16 +67,16 @@ pub fn read_line(alloc: Global, scratch: &mut Scratch, line: &[u8]) -> Result<Li
     // What is read is what the line spells.
     ensures found { IfOk result (IsLine line.now) }
     // What the line spells is read.
-    ensures only { (read : LineData) → IsLine line.now read → Gives result (Ok read) }
+    ensures only { (read : LineData) → IsLine line.now read → LineGives result (Ok read) }
     // The fault is the first one in the order of the keys.
-    ensures exact { Gives result (either_of_line line.now) }
+    ensures exact { LineGives result (either_of_line line.now) }
     ensures lawful { IfOk result IsLawfulLine }
 {
     either_of_line(alloc, scratch, line)
 }
 
 fn edit_of_line(alloc: Global, scratch: &mut Scratch, line: &[u8]) -> Result<Tx, LineFault>
-    ensures { Gives result (edit_of_line line.now) }
+    ensures { LineGives result (edit_of_line line.now) }
 {
     let mut fields = Fields::none();
     fields_in(alloc, scratch, line, &mut fields)?;
@@ -86,7 +84,7 @@ fn edit_of_line(alloc: Global, scratch: &mut Scratch, line: &[u8]) -> Result<Tx,
 }
 
 fn report_of_line(alloc: Global, scratch: &mut Scratch, line: &[u8]) -> Result<Report, LineFault>
-    ensures { Gives result (report_of_line line.now) }
+    ensures { LineGives result (report_of_line line.now) }
 {
     let mut fields = Fields::none();
     fields_in(alloc, scratch, line, &mut fields)?;
@@ -94,7 +92,7 @@ fn report_of_line(alloc: Global, scratch: &mut Scratch, line: &[u8]) -> Result<R
 }
 
 fn either_of_line(alloc: Global, scratch: &mut Scratch, line: &[u8]) -> Result<Line, LineFault>
-    ensures { Gives result (either_of_line line.now) }
+    ensures { LineGives result (either_of_line line.now) }
 {
     let mut fields = Fields::none();
     fields_in(alloc, scratch, line, &mut fields)?;
@@ -103,7 +101,7 @@ fn either_of_line(alloc: Global, scratch: &mut Scratch, line: &[u8]) -> Result<L
 
 #[tactic(auto, unfolding(crate::specs::Parts::either_from))]
 fn either_in(alloc: Global, fields: &mut Fields<'_>) -> Result<Line, LineFault>
-    ensures { Gives result (either_from (seen_fields fields.old)) }
+    ensures { LineGives result (either_from (seen_fields fields.old)) }
 {
     if fields.op.is_there() {
         return Ok(Line::Edit(tx_in(alloc, fields)?));
@@ -119,7 +117,7 @@ fn fields_in<'a>(
     fields: &mut Fields<'a>,
 ) -> Result<(), LineFault>
     requires { seen_fields fields.old ≡ parts_of (object no_members) }
-    ensures { GivesSeen (λ _. seen_fields fields.new) result (parts_of_line line.now) }
+    ensures { LineGivesSeen (λ _. seen_fields fields.new) result (parts_of_line line.now) }
 {
     if line.len() > MAX_LINE_LEN {
         return Err(LineFault::LineTooLong);

@@ -1,16 +1,14 @@
 //! One member of an object, and what each key makes of it.
 ghost use Rattle.std.specs.Prelude.{◌≡◌};
-ghost use Rattle.nn_edits.specs.Outcome.{Gives};
+ghost use Rattle.nn_edits.specs.Outcome.{LineGives};
 ghost use Rattle.nn_plain.specs.Spelling.{spelled_or};
 ghost use Rattle.nn_edits.specs.Parts.{seen, scalar_from, is_there, whole_from, number_from, txid_from, dn_from, path_from, profile_from};
 
 use crate::fault::LineFault;
 use nn_plain::Plain;
+use nn_types::limits::MAX_DATANODES;
 use nn_types::{BlockId, GenerationStamp, Length, Path, Profile, Replication, Txid};
 use std::alloc::Global;
-
-/// The greatest number that a DataNode has.
-const MAX_DN: u64 = 256;
 
 /// What a member is to a key that wants a text or a whole number.
 ///
@@ -74,7 +72,7 @@ pub(crate) fn dn_in(member: Member<'_>) -> Result<u16, LineFault>
     ensures { result ≡ dn_from (seen member.entry) }
 {
     let number = whole_in(member)?;
-    if number == 0 || number > MAX_DN {
+    if number == 0 || number > u64::from(MAX_DATANODES) {
         return Err(LineFault::BadNumber);
     }
     Ok(number as u16)
@@ -126,7 +124,7 @@ pub(crate) fn profile_in(member: Member<'_>) -> Result<Profile, LineFault>
 
 #[tactic(auto, unfolding(crate::specs::Parts::path_from))]
 pub(crate) fn path_in(alloc: Global, member: Member<'_>) -> Result<Path, LineFault>
-    ensures { Gives result (path_from (seen member.entry)) }
+    ensures { LineGives result (path_from (seen member.entry)) }
 {
     match member {
         Member::Missing => Err(LineFault::MissingField),

@@ -10,7 +10,7 @@ use Rattle.nn_image.proofs.Round.{reads_back}
 use Rattle.nn_segment.specs.Segment.{Segment}
 use Rattle.nn_segment.specs.LogEnd.{end_of_log, end_behind}
 use Rattle.nn_segment.proofs.LogEnds.{ends_with_the_log}
-use Rattle.nn_tailer.proofs.LogEnds.{behind_none, behind_segment, behind_applied}
+use Rattle.nn_lane_standby.proofs.LogEnds.{behind_none, behind_segment, behind_applied}
 use Rattle.nn_engine.specs.Checkpoint.{HasNoGap, PrintsTheSame, StartsThere}
 use Rattle.nn_engine.specs.Output.{after_log}
 use Rattle.nn_engine.specs.Start.{from_image}
@@ -18,15 +18,15 @@ use Rattle.nn_engine.specs.Start.{from_image}
 abbrev txs_of : List Segment → List Tx
 txs_of segments = flat_map (λ segment. segment) (map (λ (s : Segment). s.txs) segments)
 
-front_of : (n : Namespace) (last : ℕ) (front back : List Tx) → IsLog n last (front ++ back) → IsLog n last front
-front_of n last [] back l = tt
-front_of n last (t ∷ front) back l = (l.0, l.1, front_of (effect n t.edit) t.txid front back l.2)
+prefix_of : (n : Namespace) (last : ℕ) (prefix back : List Tx) → IsLog n last (prefix ++ back) → IsLog n last prefix
+prefix_of n last [] back l = tt
+prefix_of n last (t ∷ prefix) back l = (l.0, l.1, prefix_of (effect n t.edit) t.txid prefix back l.2)
 
-back_of : (n : Namespace) (last : ℕ) (front back : List Tx) → IsLog n last (front ++ back) → IsLog (namespace_after n front) (last + length front) back
+back_of : (n : Namespace) (last : ℕ) (prefix back : List Tx) → IsLog n last (prefix ++ back) → IsLog (namespace_after n prefix) (last + length prefix) back
 back_of n last [] back l = let same : last ≡ last + 0 = omega arith in subst (λ k. IsLog n k back) same l
-back_of n last (t ∷ front) back l =
-    let same : t.txid + length front ≡ last + length (t ∷ front) = omega (arith, l.0) in
-    subst (λ k. IsLog (namespace_after (effect n t.edit) front) k back) same (back_of (effect n t.edit) t.txid front back l.2)
+back_of n last (t ∷ prefix) back l =
+    let same : t.txid + length prefix ≡ last + length (t ∷ prefix) = omega (arith, l.0) in
+    subst (λ k. IsLog (namespace_after (effect n t.edit) prefix) k back) same (back_of (effect n t.edit) t.txid prefix back l.2)
 
 -- what is in hand is applied, and then come the segments
 behind_log : (last : ℕ) (n : Namespace) (txs : List Tx) (later : List Segment) → IsLog n last txs → end_behind last n txs later ≡ end_of_log (last + length txs) (namespace_after n txs) later
@@ -47,25 +47,25 @@ followed last n (s ∷ segments) gap l =
     let both : IsLog n last (own ++ more) = subst (IsLog n last) split l in
     let sum : (last + length own) + length more ≡ last + length (own ++ more) = let k = length-append own more in omega (arith, k) in
     behind_segment last n s segments gap.0
-    ∙ behind_log last n own segments (front_of n last own more both)
+    ∙ behind_log last n own segments (prefix_of n last own more both)
     ∙ followed (last + length own) (namespace_after n own) segments gap.1 (back_of n last own more both)
     ∙ (λ j. Ok (record { last = sum j; namespace = sym (namespace_of_appended n own more) j }))
     ∙ ap (λ txs. Ok (record { last = last + length txs; namespace = namespace_after n txs })) (sym split)
 
 pub prints_the_same : PrintsTheSame
-prints_the_same options lanes segments rest front back end is whole behind gap =
+prints_the_same options lanes segments rest prefix back end is whole behind gap =
     let at = ends_with_the_log 0 root_alone segments end is in
-    let log : IsLog root_alone 0 (front ++ back) = subst (IsLog root_alone 0) whole at.log in
-    let none : 0 + length front ≡ length front = omega arith in
-    let left : IsLog (namespace_after root_alone front) (length front) back = subst (λ k. IsLog (namespace_after root_alone front) k back) none (back_of root_alone 0 front back log) in
-    let sum : length front + length back ≡ 0 + length (front ++ back) = let k = length-append front back in omega (arith, k) in
-    let last : length front + length back ≡ end.last = sum ∙ ap (λ txs. 0 + length txs) (sym whole) ∙ sym at.last_txid in
-    let namespace : namespace_after (namespace_after root_alone front) back ≡ end.namespace =
-    sym (namespace_of_appended root_alone front back) ∙ ap (namespace_after root_alone) (sym whole) ∙ sym at.namespace in
-    let goes_on = followed (length front) (namespace_after root_alone front) rest gap (subst (IsLog (namespace_after root_alone front) (length front)) (sym behind) left) in
+    let log : IsLog root_alone 0 (prefix ++ back) = subst (IsLog root_alone 0) whole at.log in
+    let none : 0 + length prefix ≡ length prefix = omega arith in
+    let left : IsLog (namespace_after root_alone prefix) (length prefix) back = subst (λ k. IsLog (namespace_after root_alone prefix) k back) none (back_of root_alone 0 prefix back log) in
+    let sum : length prefix + length back ≡ 0 + length (prefix ++ back) = let k = length-append prefix back in omega (arith, k) in
+    let last : length prefix + length back ≡ end.last = sum ∙ ap (λ txs. 0 + length txs) (sym whole) ∙ sym at.last_txid in
+    let namespace : namespace_after (namespace_after root_alone prefix) back ≡ end.namespace =
+    sym (namespace_of_appended root_alone prefix back) ∙ ap (namespace_after root_alone) (sym whole) ∙ sym at.namespace in
+    let goes_on = followed (length prefix) (namespace_after root_alone prefix) rest gap (subst (IsLog (namespace_after root_alone prefix) (length prefix)) (sym behind) left) in
     ap (after_log options lanes)
     (goes_on
-    ∙ ap (λ txs. Ok (record { last = length front + length txs; namespace = namespace_after (namespace_after root_alone front) txs })) behind
+    ∙ ap (λ txs. Ok (record { last = length prefix + length txs; namespace = namespace_after (namespace_after root_alone prefix) txs })) behind
     ∙ (λ j. Ok (record { last = last j; namespace = namespace j }))
     ∙ sym is)
 

@@ -9,9 +9,9 @@ use Rattle.std.proofs.lemmas.List.Elements.{All-head, All-tail}
 use Rattle.nn_types.specs.declared.report.Message.{Message}
 use Rattle.nn_types.specs.declared.report.Report.{Report}
 use Rattle.nn_model.specs.Lanes.{Lanes, no_messages, followed_by}
-use Rattle.nn_drive.specs.Reports.{message_of, sent_after}
+use Rattle.nn_drive.specs.Reports.{message_of_report, sent_after}
 use Rattle.nn_drive.proofs.Sends.{sent_more}
-use Rattle.nn_scenario.specs.Steps.{lanes_after, lanes_of, AreInTurn, IsStepOf}
+use Rattle.nn_scenario.specs.Steps.{lanes_after, lanes_of_steps, AreNextMessages, IsStepOf}
 use Rattle.nn_scenario.specs.declared.steps.Step.{Step}
 use Rattle.nn_scenario.specs.declared.steps.Step.TheVariants as step
 use Rattle.nn_engine.specs.InMemory.{report_of, with_step, AreFew, AreInMemory}
@@ -20,7 +20,7 @@ use Rattle.nn_engine.specs.InMemory.{report_of, with_step, AreFew, AreInMemory}
 pub record Filling (count : ℕ) (all : Lanes) (left : List Step) (sources : List (List Report)) : Type 0 where
   pub lanes : Lanes
   pub in_memory : AreInMemory count lanes sources
-  pub in_turn : AreInTurn lanes left
+  pub in_turn : AreNextMessages lanes left
   pub within : All (IsStepOf count) left
   pub ahead : lanes_after lanes left ≡ all
 
@@ -36,8 +36,8 @@ empty_size (suc n) = ap suc (empty_size n)
 none_few : (rs : List Report) → rs ≡ [] → length rs ≤ 2 ^ 62
 none_few rs e = let q : length rs ≡ 0 = ap length e in omega (arith, q)
 
-pub nothing_in_memory : (count : ℕ) (steps : List Step) (sources : List (List Report)) → sources ≡ replicate count [] → AreInTurn no_messages steps → All (IsStepOf count) steps
-    → Filling count (lanes_of steps) steps sources
+pub nothing_in_memory : (count : ℕ) (steps : List Step) (sources : List (List Report)) → sources ≡ replicate count [] → AreNextMessages no_messages steps → All (IsStepOf count) steps
+    → Filling count (lanes_of_steps steps) steps sources
 nothing_in_memory count steps sources e in_turn within = record {
   lanes = no_messages;
   in_memory = subst (AreInMemory count no_messages) (sym e) (record { size = empty_size count; each = λ i. ap (sent_after (i + 1) []) (empty_at count i); none = refl; few = λ i. none_few _ (empty_at count i) });
@@ -47,7 +47,7 @@ nothing_in_memory count steps sources e in_turn within = record {
 }
 
 -- the message's report, sent after those before it, is the message
-is_message : (m : Message) (sent : List Message) (dn : ℕ) → m.dn ≡ dn → m.number ≡ length sent + 1 → message_of dn sent (report_of m) ≡ m
+is_message : (m : Message) (sent : List Message) (dn : ℕ) → m.dn ≡ dn → m.number ≡ length sent + 1 → message_of_report dn sent (report_of m) ≡ m
 is_message m sent dn d n = (λ j. record { dn = sym d j; number = sym n j; block = m.block; stamp = m.stamp; len = m.len; kind = m.kind })
 
 chosen : {A : Type 0} (b c : Bool) (x y : A) → b ≡ c → (if b then x else y) ≡ (if c then x else y)
@@ -70,7 +70,7 @@ module _ (count : ℕ) (lanes : Lanes) (m : Message) (sources : List (List Repor
       let number : m.number ≡ length (lanes (i + 1)) + 1 = next ∙ ap (λ k. length (lanes k) + 1) dn in
       ap (sent_after (i + 1) []) there
       ∙ sent_more (i + 1) [] (get_or sources (m.dn - 1) []) (report_of m)
-      ∙ (λ j. was j ++ message_of (i + 1) (was j) (report_of m) ∷ [])
+      ∙ (λ j. was j ++ message_of_report (i + 1) (was j) (report_of m) ∷ [])
       ∙ ap (λ z. lanes (i + 1) ++ z ∷ []) (is_message m (lanes (i + 1)) (i + 1) dn number)
       ∙ sym (chosen ((i + 1) == m.dn) true (lanes (i + 1) ++ m ∷ []) (lanes (i + 1)) (eq-eqb (i + 1) m.dn (sym dn)))
 

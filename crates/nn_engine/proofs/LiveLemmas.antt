@@ -13,35 +13,35 @@ use Rattle.nn_model.specs.Lanes.{Lanes, no_messages}
 use Rattle.nn_model.specs.Log.{counted, log_of}
 use Rattle.nn_model.specs.Namespace.{Namespace}
 use Rattle.nn_model.specs.Stands.{fresh}
-use Rattle.nn_shadow.specs.Calls.{after, received}
-use Rattle.nn_shadow.specs.Contents.{Contents, standby_of}
+use Rattle.nn_shadow.specs.Calls.{with_past, received}
+use Rattle.nn_shadow.specs.Contents.{Shadow, standby_of}
 use Rattle.nn_shadow.specs.Laws.{StandsBy}
 use Rattle.nn_shadow.proofs.Taken.{receives_after, takes_after}
-use Rattle.nn_tailer.proofs.Shadowing.{settings_then}
+use Rattle.nn_lane_standby.proofs.Shadowing.{settings_then}
 use Rattle.nn_segment.specs.LogEnd.{LogEnd, LogStop, disorder, end_of_txs, end_of_log, and_then}
 use Rattle.nn_segment.specs.Segment.{Segment, is_end, first_txid}
-use Rattle.nn_scenario.specs.Checking.{Check, IsCheckOf, AreSegments}
+use Rattle.nn_scenario.specs.Checking.{SegmentCheck, IsCheckOf, AreSegments}
 use Rattle.nn_scenario.specs.Cut.{EditLine, Part, no_lines, with_line, last_part, segments_from}
 use Rattle.nn_scenario.specs.Reading.{Reading, nothing_read, with_edit_line, with_report_line}
 use Rattle.nn_scenario.specs.Scenario.{scenario_with}
-use Rattle.nn_scenario.specs.Steps.{message, next_message, lanes_of, edit_count}
-use Rattle.nn_scenario.specs.declared.segments.BadSegment.{BadSegment}
+use Rattle.nn_scenario.specs.Steps.{message, message_in_turn, lanes_of_steps, edit_count}
+use Rattle.nn_scenario.specs.declared.segments.PartFault.{PartFault}
 use Rattle.nn_scenario.specs.declared.steps.Step.TheVariants as step
 use Rattle.nn_scenario.proofs.StepLemmas.{lanes_after_edit, lanes_after_message}
 use Rattle.nn_engine.specs.Start.{Start}
 use Rattle.nn_engine.specs.Turns.{line_applied, in_turn}
 use Rattle.nn_engine.specs.Walk.{end_of_parts}
-use Rattle.nn_engine.specs.Following.{Following, without_events, HasFollowed, FollowsEdit, FollowsReport, Lived, IsLive, log_so_far, txs_read, turned, start_at, parts_of, stop_of, txs_of, HasArrived, Stops}
+use Rattle.nn_engine.specs.Following.{Follower, without_events, HasFollowed, FollowsEdit, FollowsReport, Lived, IsLive, log_so_far, txs_read, turned, start_at, parts_of, stop_of, txs_of, HasArrived, Stops}
 use Rattle.nn_engine.specs.declared.follower.LogFault.{LogFault}
 use Rattle.nn_engine.proofs.TurnLemmas.{one_more_edit, one_more_message, edits_and_one, edits_and_message, applied_after}
 use Rattle.nn_engine.proofs.Walks.{begins, ends_part, stays_behind, ended, stopped}
 
 -- ---- No line has come.
 
-pub begins_lived : (check : Check) (f : Following) (history : Bool) (s : Contents) → IsCheckOf nothing_read check → f ≡ record { standby = s; messages = 0; stop = None } → standby_of s ≡ fresh s.namespace s.last
+pub begins_lived : (check : SegmentCheck) (f : Follower) (history : Bool) (s : Shadow) → IsCheckOf nothing_read check → f ≡ record { standby = s; messages = 0; stop = None } → standby_of s ≡ fresh s.namespace s.last
     → StandsBy s.namespace s.last [] no_messages (standby_of s) → (let l : Lived = record { check = check; follower = f; history = history } in IsLive l nothing_read l)
 begins_lived check f history s checked is new stands =
-    let whole = λ (g : Following). (let l : Lived = record { check = check; follower = g; history = history } in IsLive l nothing_read l) in
+    let whole = λ (g : Follower). (let l : Lived = record { check = check; follower = g; history = history } in IsLive l nothing_read l) in
     subst whole (sym is) (record {
       check = checked;
       past = [];
@@ -58,18 +58,18 @@ begins_lived check f history s checked is new stands =
 log_over : (base : ℕ) (parts : List (List Tx)) (txs : List Tx) → log_so_far base (parts ++ txs ∷ []) [] ≡ log_so_far base parts txs
 log_over base parts txs = ap (counted base) (append-nil (flat_map (λ (ts : List Tx). ts) (parts ++ txs ∷ [])) ∙ flat_map-append (λ (ts : List Tx). ts) parts (txs ∷ []) ∙ ap (λ ts. flat_map (λ (ts : List Tx). ts) parts ++ ts) (append-nil txs))
 
-part_over : (past : History) (start : Start) (parts : List (List Tx)) (t : Tx) (front : List Tx) (lanes : Lanes) (x : Contents) (stop : Option LogStop)
-    → HasFollowed past start parts (t ∷ front) lanes x stop → HasFollowed past start (parts ++ (t ∷ front) ∷ []) [] lanes x stop
-part_over past start parts t front lanes x None h = (
-  ends_part start.txid start.namespace parts t front x.last x.namespace h.0,
-  subst (λ txs. StandsBy start.namespace start.txid txs lanes (after past (standby_of x))) (sym (log_over start.txid parts (t ∷ front))) h.1,
+part_over : (past : History) (start : Start) (parts : List (List Tx)) (t : Tx) (prefix : List Tx) (lanes : Lanes) (x : Shadow) (stop : Option LogStop)
+    → HasFollowed past start parts (t ∷ prefix) lanes x stop → HasFollowed past start (parts ++ (t ∷ prefix) ∷ []) [] lanes x stop
+part_over past start parts t prefix lanes x None h = (
+  ends_part start.txid start.namespace parts t prefix x.last x.namespace h.0,
+  subst (λ txs. StandsBy start.namespace start.txid txs lanes (with_past past (standby_of x))) (sym (log_over start.txid parts (t ∷ prefix))) h.1,
 )
-part_over past start parts t front lanes x (Some stop) h = stays_behind start.txid start.namespace parts t front stop h
+part_over past start parts t prefix lanes x (Some stop) h = stays_behind start.txid start.namespace parts t prefix stop h
 
-whole_over : (past : History) (start : Start) (parts : List (List Tx)) (front : List Tx) (tx : Tx) (lanes : Lanes) (x : Contents) (stop : Option LogStop)
-    → HasFollowed past start parts (front ++ tx ∷ []) lanes x stop → HasFollowed past start (parts ++ (front ++ tx ∷ []) ∷ []) [] lanes x stop
+whole_over : (past : History) (start : Start) (parts : List (List Tx)) (prefix : List Tx) (tx : Tx) (lanes : Lanes) (x : Shadow) (stop : Option LogStop)
+    → HasFollowed past start parts (prefix ++ tx ∷ []) lanes x stop → HasFollowed past start (parts ++ (prefix ++ tx ∷ []) ∷ []) [] lanes x stop
 whole_over past start parts [] tx lanes x stop h = part_over past start parts tx [] lanes x stop h
-whole_over past start parts (t ∷ front) tx lanes x stop h = part_over past start parts t (front ++ tx ∷ []) lanes x stop h
+whole_over past start parts (t ∷ prefix) tx lanes x stop h = part_over past start parts t (prefix ++ tx ∷ []) lanes x stop h
 
 abbrev lists_of : List Part → List (List Tx)
 lists_of parts = map (λ (p : Part). p.txs) parts
@@ -103,10 +103,10 @@ module _ (first old new : Lived) (same : new.history ≡ old.history) where
       begun_part : Reading
       begun_part = record { parts = x.parts; in_hand = part; steps = x.steps ++ step.Edit ∷ [] }
 
-      followed : HasFollowed h.past start (lists_of x.parts) (x.in_hand.txs ++ line.tx ∷ []) (lanes_of x.steps) new.follower.standby new.follower.stop
-      followed = follows.walks h.past start (lists_of x.parts) x.in_hand.txs (lanes_of x.steps) (begins ∙ ap (λ n. n == 0) h.check.lines) h.follower
+      followed : HasFollowed h.past start (lists_of x.parts) (x.in_hand.txs ++ line.tx ∷ []) (lanes_of_steps x.steps) new.follower.standby new.follower.stop
+      followed = follows.walks h.past start (lists_of x.parts) x.in_hand.txs (lanes_of_steps x.steps) (begins ∙ ap (λ n. n == 0) h.check.lines) h.follower
 
-      lanes : lanes_of (x.steps ++ step.Edit ∷ []) ≡ lanes_of x.steps
+      lanes : lanes_of_steps (x.steps ++ step.Edit ∷ []) ≡ lanes_of_steps x.steps
       lanes = lanes_after_edit no_messages x.steps
 
       kept_whole : txs_read whole ≡ txs_read x ++ line.tx ∷ []
@@ -124,20 +124,20 @@ module _ (first old new : Lived) (same : new.history ≡ old.history) where
       read_as_many false = many ∙ ap length (sym kept_part)
 
       turn_is : (old.follower.stop ≡ None) × (standby_of new.follower.standby ≡ line_applied (standby_of old.follower.standby) line.tx)
-          → after h.past (standby_of new.follower.standby) ≡ in_turn (fresh start.namespace start.txid) (txs_read x ++ line.tx ∷ []) (x.steps ++ step.Edit ∷ [])
-      turn_is t = ap (after h.past) t.1 ∙ sym (applied_after h.past (standby_of old.follower.standby) line.tx) ∙ ap (λ s. line_applied s line.tx) (h.turns t.0)
+          → with_past h.past (standby_of new.follower.standby) ≡ in_turn (fresh start.namespace start.txid) (txs_read x ++ line.tx ∷ []) (x.steps ++ step.Edit ∷ [])
+      turn_is t = ap (with_past h.past) t.1 ∙ sym (applied_after h.past (standby_of old.follower.standby) line.tx) ∙ ap (λ s. line_applied s line.tx) (h.turns t.0)
           ∙ sym (one_more_edit (fresh start.namespace start.txid) (txs_read x) x.steps line.tx h.edits)
 
       turned_by : (b : Bool) → (old.follower.stop ≡ None) × (standby_of new.follower.standby ≡ line_applied (standby_of old.follower.standby) line.tx)
-          → after h.past (standby_of new.follower.standby) ≡ turned start (cond b whole begun_part)
+          → with_past h.past (standby_of new.follower.standby) ≡ turned start (cond b whole begun_part)
       turned_by true t = turn_is t ∙ ap (λ txs. in_turn (fresh start.namespace start.txid) txs (x.steps ++ step.Edit ∷ [])) (sym kept_whole)
       turned_by false t = turn_is t ∙ ap (λ txs. in_turn (fresh start.namespace start.txid) txs (x.steps ++ step.Edit ∷ [])) (sym kept_part)
 
-      at : (b : Bool) → (let y : Reading = cond b whole begun_part in HasFollowed h.past start (lists_of y.parts) y.in_hand.txs (lanes_of y.steps) new.follower.standby new.follower.stop)
+      at : (b : Bool) → (let y : Reading = cond b whole begun_part in HasFollowed h.past start (lists_of y.parts) y.in_hand.txs (lanes_of_steps y.steps) new.follower.standby new.follower.stop)
       at true =
           subst (λ ls. HasFollowed h.past start (lists_of (x.parts ++ part ∷ [])) [] ls new.follower.standby new.follower.stop) (sym lanes)
-          (subst (λ ps. HasFollowed h.past start ps [] (lanes_of x.steps) new.follower.standby new.follower.stop) (sym (map-append (λ (p : Part). p.txs) x.parts (part ∷ [])))
-          (whole_over h.past start (lists_of x.parts) x.in_hand.txs line.tx (lanes_of x.steps) new.follower.standby new.follower.stop followed))
+          (subst (λ ps. HasFollowed h.past start ps [] (lanes_of_steps x.steps) new.follower.standby new.follower.stop) (sym (map-append (λ (p : Part). p.txs) x.parts (part ∷ [])))
+          (whole_over h.past start (lists_of x.parts) x.in_hand.txs line.tx (lanes_of_steps x.steps) new.follower.standby new.follower.stop followed))
       at false = subst (λ ls. HasFollowed h.past start (lists_of x.parts) part.txs ls new.follower.standby new.follower.stop) (sym lanes) followed
 
   pub report_lived : (x : Reading) (r : Report) → new.check ≡ old.check → FollowsReport r old.follower new.follower
@@ -150,7 +150,7 @@ module _ (first old new : Lived) (same : new.history ≡ old.history) where
     settings = settings_then first.follower.standby old.follower.standby new.follower.standby h.settings follows.settings;
     follower = subst (λ ls. HasFollowed h.past start (lists_of x.parts) x.in_hand.txs ls new.follower.standby new.follower.stop)
         (sym (lanes_after_message no_messages x.steps next))
-        (follows.walks h.past start (lists_of x.parts) x.in_hand.txs (lanes_of x.steps) h.follower);
+        (follows.walks h.past start (lists_of x.parts) x.in_hand.txs (lanes_of_steps x.steps) h.follower);
     edits = edits_and_message x.steps next ∙ h.edits;
     turns = λ still. turn_is (follows.turn still);
   }
@@ -159,24 +159,24 @@ module _ (first old new : Lived) (same : new.history ≡ old.history) where
       start = start_at first
 
       next : Message
-      next = next_message (lanes_of x.steps) r
+      next = message_in_turn (lanes_of_steps x.steps) r
 
       turn_is : (old.follower.stop ≡ None) × (standby_of new.follower.standby ≡ received (standby_of old.follower.standby) (message r ((standby_of old.follower.standby).last_number r.dn + 1)))
-          → after h.past (standby_of new.follower.standby) ≡ in_turn (fresh start.namespace start.txid) (txs_read x) (x.steps ++ step.Message next ∷ [])
+          → with_past h.past (standby_of new.follower.standby) ≡ in_turn (fresh start.namespace start.txid) (txs_read x) (x.steps ++ step.Message next ∷ [])
       turn_is t =
-          let k : HasFollowed h.past start (lists_of x.parts) x.in_hand.txs (lanes_of x.steps) old.follower.standby None =
-          subst (HasFollowed h.past start (lists_of x.parts) x.in_hand.txs (lanes_of x.steps) old.follower.standby) t.0 h.follower in
-          ap (after h.past) (t.1 ∙ ap (λ n. received (standby_of old.follower.standby) (message r (n + 1))) (k.1.stands.last_numbers r.dn))
+          let k : HasFollowed h.past start (lists_of x.parts) x.in_hand.txs (lanes_of_steps x.steps) old.follower.standby None =
+          subst (HasFollowed h.past start (lists_of x.parts) x.in_hand.txs (lanes_of_steps x.steps) old.follower.standby) t.0 h.follower in
+          ap (with_past h.past) (t.1 ∙ ap (λ n. received (standby_of old.follower.standby) (message r (n + 1))) (k.1.stands.last_numbers r.dn))
           ∙ sym (receives_after h.past (standby_of old.follower.standby) next)
           ∙ ap (λ s. received s next) (h.turns t.0)
           ∙ sym (one_more_message (fresh start.namespace start.txid) (txs_read x) x.steps next)
 
 -- its events are forgotten
-forgotten : (past : History) (start : Start) (parts : List (List Tx)) (front : List Tx) (lanes : Lanes) (x : Contents) (stop : Option LogStop)
-    → HasFollowed past start parts front lanes x stop → HasFollowed (past ++ x.history) start parts front lanes (record x { history = [] }) stop
-forgotten past start parts front lanes x None h =
-    (h.0, subst (StandsBy start.namespace start.txid (log_so_far start.txid parts front) lanes) (sym (takes_after past (standby_of x))) h.1)
-forgotten past start parts front lanes x (Some stop) h = h
+forgotten : (past : History) (start : Start) (parts : List (List Tx)) (prefix : List Tx) (lanes : Lanes) (x : Shadow) (stop : Option LogStop)
+    → HasFollowed past start parts prefix lanes x stop → HasFollowed (past ++ x.history) start parts prefix lanes (record x { history = [] }) stop
+forgotten past start parts prefix lanes x None h =
+    (h.0, subst (StandsBy start.namespace start.txid (log_so_far start.txid parts prefix) lanes) (sym (takes_after past (standby_of x))) h.1)
+forgotten past start parts prefix lanes x (Some stop) h = h
 
 pub forgets : (first l : Lived) (x : Reading) → l.history ≡ false → IsLive first x l → IsLive first x (record l { follower = without_events l.follower })
 forgets first l x off h = record {
@@ -185,7 +185,7 @@ forgets first l x off h = record {
   kept = λ asked. (let z : true ≡ false = sym asked ∙ off in absurd (cc));
   same = h.same;
   settings = record { datanodes = h.settings.datanodes; min = h.settings.min; permille = h.settings.permille };
-  follower = forgotten h.past (start_at first) (lists_of x.parts) x.in_hand.txs (lanes_of x.steps) l.follower.standby l.follower.stop h.follower;
+  follower = forgotten h.past (start_at first) (lists_of x.parts) x.in_hand.txs (lanes_of_steps x.steps) l.follower.standby l.follower.stop h.follower;
   edits = h.edits;
   turns = λ still. takes_after h.past (standby_of l.follower.standby) ∙ h.turns still;
 }
@@ -223,7 +223,7 @@ ends_alike last n (s ∷ segments) = at (nat_lt (last + 1) (first_txid s.txs)) (
     at false (Err stop) more = refl
 
 -- all parts are over
-all_over : (past : History) (start : Start) (parts : List Part) (part : Part) (lanes : Lanes) (x : Contents) (stop : Option LogStop)
+all_over : (past : History) (start : Start) (parts : List Part) (part : Part) (lanes : Lanes) (x : Shadow) (stop : Option LogStop)
     → HasFollowed past start (lists_of parts) part.txs lanes x stop → HasFollowed past start (lists_of (parts ++ last_part part)) [] lanes x stop
 all_over past start parts part lanes x stop h = at part.txs refl h
   where
@@ -231,11 +231,11 @@ all_over past start parts part lanes x stop h = at part.txs refl h
     at [] was h =
         subst (λ ps. HasFollowed past start (lists_of ps) [] lanes x stop)
         (sym (ap (λ b. parts ++ cond b [] (part ∷ [])) (eq-eqb (length part.txs) 0 (ap length was)) ∙ append-nil parts)) h
-    at (t ∷ front) was h =
+    at (t ∷ prefix) was h =
         subst (λ ps. HasFollowed past start (lists_of ps) [] lanes x stop)
         (sym (ap (λ b. parts ++ cond b [] (part ∷ [])) (ne_eqb (length part.txs) 0 (λ none. absurd (omega (arith, none, ap length was))))))
         (subst (λ ps. HasFollowed past start ps [] lanes x stop) (sym (map-append (λ (p : Part). p.txs) parts (part ∷ []) ∙ ap (λ txs. lists_of parts ++ txs ∷ []) was))
-        (part_over past start (lists_of parts) t front lanes x stop h))
+        (part_over past start (lists_of parts) t prefix lanes x stop h))
 
 -- of parts that are segments
 parts_end : (start : Start) (x : Reading) (segments : List Segment) (r : Result LogEnd LogStop)
@@ -248,7 +248,7 @@ last_flat part = at part.txs refl
   where
     at : (txs : List Tx) → part.txs ≡ txs → flat_map (λ (p : Part). p.txs) (last_part part) ≡ part.txs
     at [] was = ap (λ b. flat_map (λ (p : Part). p.txs) (cond b [] (part ∷ []))) (eq-eqb (length part.txs) 0 (ap length was)) ∙ sym was
-    at (t ∷ front) was = ap (λ b. flat_map (λ (p : Part). p.txs) (cond b [] (part ∷ []))) (ne_eqb (length part.txs) 0 (λ none. absurd (omega (arith, none, ap length was)))) ∙ append-nil part.txs
+    at (t ∷ prefix) was = ap (λ b. flat_map (λ (p : Part). p.txs) (cond b [] (part ∷ []))) (ne_eqb (length part.txs) 0 (λ none. absurd (omega (arith, none, ap length was)))) ∙ append-nil part.txs
 
 all_txs : (x : Reading) (segments : List Segment) → txs_of segments ≡ lists_of (parts_of x) → txs_read x ≡ flat_map (λ (txs : List Tx). txs) (txs_of segments)
 all_txs x segments same =
@@ -256,14 +256,14 @@ all_txs x segments same =
     ∙ ap (flat_map (λ (txs : List Tx). txs)) (sym same)
 
 module _ (first l : Lived) (x : Reading) (h : IsLive first x l) (segments : AreSegments (parts_of x) None) where
-  over : HasFollowed h.past (start_at first) (lists_of (parts_of x)) [] (lanes_of x.steps) l.follower.standby l.follower.stop
-  over = all_over h.past (start_at first) x.parts x.in_hand (lanes_of x.steps) l.follower.standby l.follower.stop h.follower
+  over : HasFollowed h.past (start_at first) (lists_of (parts_of x)) [] (lanes_of_steps x.steps) l.follower.standby l.follower.stop
+  over = all_over h.past (start_at first) x.parts x.in_hand (lanes_of_steps x.steps) l.follower.standby l.follower.stop h.follower
 
   pub has_arrived : l.follower.stop ≡ None → HasArrived (start_at first) first.history (scenario_with (parts_of x) x.steps) l.follower.standby
   has_arrived none =
       let start = start_at first in
-      let k : HasFollowed h.past start (lists_of (parts_of x)) [] (lanes_of x.steps) l.follower.standby None =
-      subst (HasFollowed h.past start (lists_of (parts_of x)) [] (lanes_of x.steps) l.follower.standby) none over in
+      let k : HasFollowed h.past start (lists_of (parts_of x)) [] (lanes_of_steps x.steps) l.follower.standby None =
+      subst (HasFollowed h.past start (lists_of (parts_of x)) [] (lanes_of_steps x.steps) l.follower.standby) none over in
       let same : log_of start.txid (txs_of segments.0) ≡ log_so_far start.txid (lists_of (parts_of x)) [] =
       ap (log_of start.txid) segments.2 ∙ sym (ap (counted start.txid) (append-nil (flat_map (λ (ts : List Tx). ts) (lists_of (parts_of x))))) in
       record {
@@ -272,7 +272,7 @@ module _ (first l : Lived) (x : Reading) (h : IsLive first x l) (segments : AreS
         ends = parts_end start x segments.0 _ segments.2 (ended start.txid start.namespace (lists_of (parts_of x)) l.follower.standby.last l.follower.standby.namespace k.0);
         past = h.past;
         kept = λ asked. h.kept (h.same ∙ asked);
-        stands = subst (λ txs. StandsBy start.namespace start.txid txs (lanes_of x.steps) (after h.past (standby_of l.follower.standby))) (sym same) k.1;
+        stands = subst (λ txs. StandsBy start.namespace start.txid txs (lanes_of_steps x.steps) (with_past h.past (standby_of l.follower.standby))) (sym same) k.1;
         turns = h.turns none ∙ ap (λ txs. in_turn (fresh start.namespace start.txid) txs x.steps) (all_txs x segments.0 segments.2);
       }
 
@@ -282,9 +282,9 @@ module _ (first l : Lived) (x : Reading) (h : IsLive first x l) (segments : AreS
         segments = segments.0;
         are = segments.1;
         ends = parts_end start x segments.0 _ segments.2 (stopped start.txid start.namespace (lists_of (parts_of x)) (stop_of fault)
-            (subst (HasFollowed h.past start (lists_of (parts_of x)) [] (lanes_of x.steps) l.follower.standby) is over));
+            (subst (HasFollowed h.past start (lists_of (parts_of x)) [] (lanes_of_steps x.steps) l.follower.standby) is over));
       }
 
 -- a segment has a fault
-pub bad_is_told : (x : Reading) (bad : BadSegment) → AreSegments (parts_of x) (Some bad) → segments_from 1 (parts_of x) ≡ Err bad
+pub bad_is_told : (x : Reading) (bad : PartFault) → AreSegments (parts_of x) (Some bad) → segments_from 1 (parts_of x) ≡ Err bad
 bad_is_told x bad h = ap (segments_from 1) (sym (append-nil (parts_of x))) ∙ h []

@@ -8,15 +8,15 @@ use Rattle.nn_model.specs.Lanes.{Lanes}
 use Rattle.nn_model.specs.Namespace.{Namespace}
 use Rattle.nn_segment.specs.Fault.{number_of as segment_number_of}
 use Rattle.nn_segment.specs.LogEnd.{stop_number}
-use Rattle.nn_shadow.specs.Calls.{after, flushed}
-use Rattle.nn_shadow.specs.Contents.{Contents, standby_of}
+use Rattle.nn_shadow.specs.Calls.{with_past, flushed}
+use Rattle.nn_shadow.specs.Contents.{Shadow, standby_of}
 use Rattle.nn_shadow.specs.Laws.{StandsBy}
-use Rattle.nn_scenario.specs.declared.scenario.BadLine.{BadLine}
-use Rattle.nn_scenario.specs.declared.segments.BadSegment.{BadSegment}
+use Rattle.nn_scenario.specs.declared.scenario.ScenarioFault.{ScenarioFault}
+use Rattle.nn_scenario.specs.declared.segments.PartFault.{PartFault}
 use Rattle.nn_engine.specs.declared.engine.Options.{Options}
 use Rattle.nn_engine.specs.declared.follower.LogFault.{LogFault}
-use Rattle.nn_engine.specs.declared.live.Halt.TheVariants as halt
-use Rattle.nn_engine.specs.Following.{Lived, EndsSo, HasArrived, Stops, stop_of}
+use Rattle.nn_engine.specs.declared.live.EndFault.TheVariants as halt
+use Rattle.nn_engine.specs.Following.{Lived, LinesComeTo, HasArrived, Stops, stop_of}
 use Rattle.nn_engine.specs.Output.{Printed, IsPrintedFrom, after_log, fault_at, with_history}
 use Rattle.nn_engine.specs.Pass.{BeginsAt}
 use Rattle.nn_engine.specs.Shown.{with_settings}
@@ -24,8 +24,8 @@ use Rattle.nn_engine.specs.Start.{Start}
 use Rattle.nn_engine.proofs.ToldLemmas.{printed_of_bad, printed_of_told, told_bad_segment, told_in_turn, told_stop}
 
 module _ (options : Options) (at : Start) (text : List ℕ) (first : Lived) (begins : BeginsAt options at first) (p : Printed) where
-  pub printed_of_standby : (x : Contents) → EndsSo first text (Ok x)
-      → ((past : History) (start : Namespace) (base : ℕ) (txs : List Tx) (lanes : Lanes) → StandsBy start base txs lanes (after past (standby_of x))
+  pub printed_of_standby : (x : Shadow) → LinesComeTo first text (Ok x)
+      → ((past : History) (start : Namespace) (base : ℕ) (txs : List Tx) (lanes : Lanes) → StandsBy start base txs lanes (with_past past (standby_of x))
       → p ≡ with_history options.history (flushed (standby_of x)).history (after_log (with_settings options x.permille x.table.min) lanes (Ok (record { last = x.last; namespace = x.namespace }))))
       → IsPrintedFrom at false options text p
   printed_of_standby x h told =
@@ -35,14 +35,14 @@ module _ (options : Options) (at : Start) (text : List ℕ) (first : Lived) (beg
       printed_of_told at false options text scenario p h.0.1
       (told_in_turn at options scenario x p arrived (h.1.min ∙ begins.min, h.1.permille ∙ begins.permille) told)
 
-  pub printed_of_line : (bad : BadLine) → EndsSo first text (Err (halt.Line bad)) → (bad.fault ≢ OutOfMemory) × (p ≡ fault_at (codes " line ") (line_number_of bad.fault) bad.line)
+  pub printed_of_line : (bad : ScenarioFault) → LinesComeTo first text (Err (halt.Line bad)) → (bad.fault ≢ OutOfMemory) × (p ≡ fault_at (codes " line ") (line_number_of bad.fault) bad.line)
       → IsPrintedFrom at false options text p
   printed_of_line bad h told = printed_of_bad at false options text bad p (h told.0) told.1
 
-  pub printed_of_segment : (bad : BadSegment) → EndsSo first text (Err (halt.Segment bad)) → p ≡ fault_at (codes " segment ") (segment_number_of bad.fault) bad.segment
+  pub printed_of_segment : (bad : PartFault) → LinesComeTo first text (Err (halt.Segment bad)) → p ≡ fault_at (codes " segment ") (segment_number_of bad.fault) bad.segment
       → IsPrintedFrom at false options text p
   printed_of_segment bad h told = printed_of_told at false options text h.0 p h.1 (told_bad_segment at options h.0 bad p h.2 told)
 
-  pub printed_of_stop : (fault : LogFault) → EndsSo first text (Err (halt.Log fault)) → p ≡ fault_at (codes " txid ") (stop_number (stop_of fault).cause) (stop_of fault).txid
+  pub printed_of_stop : (fault : LogFault) → LinesComeTo first text (Err (halt.Log fault)) → p ≡ fault_at (codes " txid ") (stop_number (stop_of fault).cause) (stop_of fault).txid
       → IsPrintedFrom at false options text p
   printed_of_stop fault h told = printed_of_told at false options text h.0 p h.1 (told_stop at options h.0 fault p (subst (λ s. Stops s h.0 fault) begins.at h.2) told)

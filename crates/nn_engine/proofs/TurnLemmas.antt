@@ -5,14 +5,14 @@ use Rattle.nn_types.specs.declared.report.Message.{Message}
 use Rattle.nn_types.specs.declared.tx.Tx.{Tx}
 use Rattle.nn_model.specs.History.{History}
 use Rattle.nn_model.specs.Stands.{StandbyState}
-use Rattle.nn_shadow.specs.Calls.{after, applied_to, received}
+use Rattle.nn_shadow.specs.Calls.{with_past, applied_to, received}
 use Rattle.nn_shadow.proofs.Taken.{applies_after}
 use Rattle.nn_scenario.specs.Steps.{edit_count}
 use Rattle.nn_scenario.specs.declared.steps.Step.{Step}
 use Rattle.nn_scenario.specs.declared.steps.Step.TheVariants as step
 use Rattle.nn_listing.specs.Trail.{history_text}
 use Rattle.nn_engine.specs.Output.{Printed, with_history}
-use Rattle.nn_engine.specs.Turns.{line_applied, next_line, in_turn}
+use Rattle.nn_engine.specs.Turns.{line_applied, next_applied, in_turn}
 
 pub one_more_edit : (x : StandbyState) (txs : List Tx) (steps : List Step) (tx : Tx) → edit_count steps ≡ length txs
     → in_turn x (txs ++ tx ∷ []) (steps ++ step.Edit ∷ []) ≡ line_applied (in_turn x txs steps) tx
@@ -25,7 +25,7 @@ one_more_edit x (t ∷ txs) (step.Message m ∷ steps) tx even = one_more_edit (
 
 pub one_more_message : (x : StandbyState) (txs : List Tx) (steps : List Step) (m : Message) → in_turn x txs (steps ++ step.Message m ∷ []) ≡ received (in_turn x txs steps) m
 one_more_message x txs [] m = refl
-one_more_message x txs (step.Edit ∷ steps) m = one_more_message (next_line x txs) (drop 1 txs) steps m
+one_more_message x txs (step.Edit ∷ steps) m = one_more_message (next_applied x txs) (drop 1 txs) steps m
 one_more_message x txs (step.Message k ∷ steps) m = one_more_message (received x k) txs steps m
 
 pub edits_and_one : (steps : List Step) → edit_count (steps ++ step.Edit ∷ []) ≡ edit_count steps + 1
@@ -41,8 +41,8 @@ edits_and_message (step.Message k ∷ steps) m = edits_and_message steps m
 -- ---- Events that were forgotten.
 
 -- a line's edit does the same behind a past
-pub applied_after : (past : History) (x : StandbyState) (tx : Tx) → line_applied (after past x) tx ≡ after past (line_applied x tx)
-applied_after past x tx = elim (tx.txid == x.last + 1) as (λ b. cond b (applied_to (after past x) tx) (after past x) ≡ after past (cond b (applied_to x tx) x)) [
+pub applied_after : (past : History) (x : StandbyState) (tx : Tx) → line_applied (with_past past x) tx ≡ with_past past (line_applied x tx)
+applied_after past x tx = elim (tx.txid == x.last + 1) as (λ b. cond b (applied_to (with_past past x) tx) (with_past past x) ≡ with_past past (cond b (applied_to x tx) x)) [
   | true ↦ applies_after past x tx
   | false ↦ refl
 ]

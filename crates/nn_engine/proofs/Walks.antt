@@ -21,30 +21,30 @@ opens last n tx back later low =
 
 -- before the next transaction
 abbrev Before : ℕ → Namespace → List (List Tx) → List Tx → ℕ → Namespace → Tx → Type 0
-Before base start parts front last n tx =
-    (back : List Tx) (later : List (List Tx)) → end_of_parts base start (parts ++ (front ++ tx ∷ back) ∷ later) ≡ end_within last n (tx ∷ back) later
+Before base start parts prefix last n tx =
+    (back : List Tx) (later : List (List Tx)) → end_of_parts base start (parts ++ (prefix ++ tx ∷ back) ∷ later) ≡ end_within last n (tx ∷ back) later
 
-before : (base : ℕ) (start : Namespace) (parts : List (List Tx)) (front : List Tx) (last : ℕ) (n : Namespace) (tx : Tx)
-    → HasWalked base start parts front last n → Fits front last tx → Before base start parts front last n tx
+before : (base : ℕ) (start : Namespace) (parts : List (List Tx)) (prefix : List Tx) (last : ℕ) (n : Namespace) (tx : Tx)
+    → HasWalked base start parts prefix last n → Fits prefix last tx → Before base start parts prefix last n tx
 before base start parts [] last n tx h low = λ back later. h ((tx ∷ back) ∷ later) ∙ opens last n tx back later low
-before base start parts (t ∷ front) last n tx h fits = λ back later. h (tx ∷ back) later
+before base start parts (t ∷ prefix) last n tx h fits = λ back later. h (tx ∷ back) later
 
 -- behind it: what is said of all that come behind
-behind : (base : ℕ) (start : Namespace) (parts : List (List Tx)) (front back : List Tx) (tx : Tx) (later : List (List Tx))
-    → end_of_parts base start (parts ++ ((front ++ tx ∷ []) ++ back) ∷ later) ≡ end_of_parts base start (parts ++ (front ++ tx ∷ back) ∷ later)
-behind base start parts front back tx later = ap (λ txs. end_of_parts base start (parts ++ txs ∷ later)) (append_assoc front (tx ∷ []) back)
+behind : (base : ℕ) (start : Namespace) (parts : List (List Tx)) (prefix back : List Tx) (tx : Tx) (later : List (List Tx))
+    → end_of_parts base start (parts ++ ((prefix ++ tx ∷ []) ++ back) ∷ later) ≡ end_of_parts base start (parts ++ (prefix ++ tx ∷ back) ∷ later)
+behind base start parts prefix back tx later = ap (λ txs. end_of_parts base start (parts ++ txs ∷ later)) (append_assoc prefix (tx ∷ []) back)
 
-walked : (base : ℕ) (start : Namespace) (parts : List (List Tx)) (front : List Tx) (tx : Tx) (last : ℕ) (n : Namespace)
-    → ((back : List Tx) (later : List (List Tx)) → end_of_parts base start (parts ++ ((front ++ tx ∷ []) ++ back) ∷ later) ≡ end_within last n back later)
-    → HasWalked base start parts (front ++ tx ∷ []) last n
+walked : (base : ℕ) (start : Namespace) (parts : List (List Tx)) (prefix : List Tx) (tx : Tx) (last : ℕ) (n : Namespace)
+    → ((back : List Tx) (later : List (List Tx)) → end_of_parts base start (parts ++ ((prefix ++ tx ∷ []) ++ back) ∷ later) ≡ end_within last n back later)
+    → HasWalked base start parts (prefix ++ tx ∷ []) last n
 walked base start parts [] tx last n h = h
-walked base start parts (t ∷ front) tx last n h = h
+walked base start parts (t ∷ prefix) tx last n h = h
 
-stopped_in : (base : ℕ) (start : Namespace) (parts : List (List Tx)) (front : List Tx) (tx : Tx) (stop : LogStop)
-    → ((back : List Tx) (later : List (List Tx)) → end_of_parts base start (parts ++ ((front ++ tx ∷ []) ++ back) ∷ later) ≡ Err stop)
-    → HasStopped base start parts (front ++ tx ∷ []) stop
+stopped_in : (base : ℕ) (start : Namespace) (parts : List (List Tx)) (prefix : List Tx) (tx : Tx) (stop : LogStop)
+    → ((back : List Tx) (later : List (List Tx)) → end_of_parts base start (parts ++ ((prefix ++ tx ∷ []) ++ back) ∷ later) ≡ Err stop)
+    → HasStopped base start parts (prefix ++ tx ∷ []) stop
 stopped_in base start parts [] tx stop h = h
-stopped_in base start parts (t ∷ front) tx stop h = h
+stopped_in base start parts (t ∷ prefix) tx stop h = h
 
 -- ---- one transaction
 
@@ -66,22 +66,22 @@ taken last n tx back later r next does =
     is_counted last n tx back later next
     ∙ ap (λ q. and_then (go_on tx.txid q (λ after. end_of_txs tx.txid after (counted tx.txid back))) (λ end. end_of_parts end.last end.namespace later)) does
 
-pub passes : (base : ℕ) (start : Namespace) (parts : List (List Tx)) (front : List Tx) (last : ℕ) (n : Namespace) (tx : Tx)
-    → HasWalked base start parts front last n → Fits front last tx → tx.txid ≢ last + 1 → HasWalked base start parts (front ++ tx ∷ []) last n
-passes base start parts front last n tx h fits other = walked base start parts front tx last n
-    (λ back later. behind base start parts front back tx later ∙ before base start parts front last n tx h fits back later ∙ not_counted last n tx back later other)
+pub passes : (base : ℕ) (start : Namespace) (parts : List (List Tx)) (prefix : List Tx) (last : ℕ) (n : Namespace) (tx : Tx)
+    → HasWalked base start parts prefix last n → Fits prefix last tx → tx.txid ≢ last + 1 → HasWalked base start parts (prefix ++ tx ∷ []) last n
+passes base start parts prefix last n tx h fits other = walked base start parts prefix tx last n
+    (λ back later. behind base start parts prefix back tx later ∙ before base start parts prefix last n tx h fits back later ∙ not_counted last n tx back later other)
 
-pub applies : (base : ℕ) (start : Namespace) (parts : List (List Tx)) (front : List Tx) (last : ℕ) (n m : Namespace) (tx : Tx)
-    → HasWalked base start parts front last n → Fits front last tx → tx.txid ≡ last + 1 → applied n tx.edit ≡ Ok m
-    → HasWalked base start parts (front ++ tx ∷ []) tx.txid m
-applies base start parts front last n m tx h fits next does = walked base start parts front tx tx.txid m
-    (λ back later. behind base start parts front back tx later ∙ before base start parts front last n tx h fits back later ∙ taken last n tx back later (Ok m) next does)
+pub applies : (base : ℕ) (start : Namespace) (parts : List (List Tx)) (prefix : List Tx) (last : ℕ) (n m : Namespace) (tx : Tx)
+    → HasWalked base start parts prefix last n → Fits prefix last tx → tx.txid ≡ last + 1 → applied n tx.edit ≡ Ok m
+    → HasWalked base start parts (prefix ++ tx ∷ []) tx.txid m
+applies base start parts prefix last n m tx h fits next does = walked base start parts prefix tx tx.txid m
+    (λ back later. behind base start parts prefix back tx later ∙ before base start parts prefix last n tx h fits back later ∙ taken last n tx back later (Ok m) next does)
 
-pub refuses : (base : ℕ) (start : Namespace) (parts : List (List Tx)) (front : List Tx) (last : ℕ) (n : Namespace) (tx : Tx) (fault : EditFault)
-    → HasWalked base start parts front last n → Fits front last tx → tx.txid ≡ last + 1 → applied n tx.edit ≡ Err fault
-    → HasStopped base start parts (front ++ tx ∷ []) (record { cause = refused fault; txid = tx.txid })
-refuses base start parts front last n tx fault h fits next does = stopped_in base start parts front tx (record { cause = refused fault; txid = tx.txid })
-    (λ back later. behind base start parts front back tx later ∙ before base start parts front last n tx h fits back later ∙ taken last n tx back later (Err fault) next does)
+pub refuses : (base : ℕ) (start : Namespace) (parts : List (List Tx)) (prefix : List Tx) (last : ℕ) (n : Namespace) (tx : Tx) (fault : EditFault)
+    → HasWalked base start parts prefix last n → Fits prefix last tx → tx.txid ≡ last + 1 → applied n tx.edit ≡ Err fault
+    → HasStopped base start parts (prefix ++ tx ∷ []) (record { cause = refused fault; txid = tx.txid })
+refuses base start parts prefix last n tx fault h fits next does = stopped_in base start parts prefix tx (record { cause = refused fault; txid = tx.txid })
+    (λ back later. behind base start parts prefix back tx later ∙ before base start parts prefix last n tx h fits back later ∙ taken last n tx back later (Err fault) next does)
 
 gap : (last : ℕ) (n : Namespace) (tx : Tx) (back : List Tx) (later : List (List Tx)) → last + 1 < tx.txid
     → end_of_parts last n ((tx ∷ back) ∷ later) ≡ Err (record { cause = disorder; txid = last + 1 })
@@ -106,18 +106,18 @@ part_behind base start parts txs later =
     ap (end_of_parts base start) (append_assoc parts (txs ∷ []) later)
     ∙ ap (λ part. end_of_parts base start (parts ++ part ∷ later)) (sym (append-nil txs))
 
-pub ends_part : (base : ℕ) (start : Namespace) (parts : List (List Tx)) (t : Tx) (front : List Tx) (last : ℕ) (n : Namespace)
-    → HasWalked base start parts (t ∷ front) last n → HasWalked base start (parts ++ (t ∷ front) ∷ []) [] last n
-ends_part base start parts t front last n h = λ later. part_behind base start parts (t ∷ front) later ∙ h [] later ∙ nothing_left last n later
+pub ends_part : (base : ℕ) (start : Namespace) (parts : List (List Tx)) (t : Tx) (prefix : List Tx) (last : ℕ) (n : Namespace)
+    → HasWalked base start parts (t ∷ prefix) last n → HasWalked base start (parts ++ (t ∷ prefix) ∷ []) [] last n
+ends_part base start parts t prefix last n h = λ later. part_behind base start parts (t ∷ prefix) later ∙ h [] later ∙ nothing_left last n later
 
-pub stays : (base : ℕ) (start : Namespace) (parts : List (List Tx)) (front : List Tx) (stop : LogStop) (tx : Tx)
-    → HasStopped base start parts front stop → HasStopped base start parts (front ++ tx ∷ []) stop
+pub stays : (base : ℕ) (start : Namespace) (parts : List (List Tx)) (prefix : List Tx) (stop : LogStop) (tx : Tx)
+    → HasStopped base start parts prefix stop → HasStopped base start parts (prefix ++ tx ∷ []) stop
 stays base start parts [] stop tx h = λ back later. h ((tx ∷ back) ∷ later)
-stays base start parts (t ∷ front) stop tx h = λ back later. behind base start parts (t ∷ front) back tx later ∙ h (tx ∷ back) later
+stays base start parts (t ∷ prefix) stop tx h = λ back later. behind base start parts (t ∷ prefix) back tx later ∙ h (tx ∷ back) later
 
-pub stays_behind : (base : ℕ) (start : Namespace) (parts : List (List Tx)) (t : Tx) (front : List Tx) (stop : LogStop)
-    → HasStopped base start parts (t ∷ front) stop → HasStopped base start (parts ++ (t ∷ front) ∷ []) [] stop
-stays_behind base start parts t front stop h = λ later. part_behind base start parts (t ∷ front) later ∙ h [] later
+pub stays_behind : (base : ℕ) (start : Namespace) (parts : List (List Tx)) (t : Tx) (prefix : List Tx) (stop : LogStop)
+    → HasStopped base start parts (t ∷ prefix) stop → HasStopped base start (parts ++ (t ∷ prefix) ∷ []) [] stop
+stays_behind base start parts t prefix stop h = λ later. part_behind base start parts (t ∷ prefix) later ∙ h [] later
 
 -- ---- the end
 

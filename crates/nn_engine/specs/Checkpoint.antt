@@ -5,7 +5,7 @@ use Rattle.nn_model.specs.Lanes.{Lanes}
 use Rattle.nn_model.specs.Log.{counted, log_of, namespace_after}
 use Rattle.nn_model.specs.Namespace.{root_alone}
 use Rattle.nn_model.specs.WellFormed.{IsWellFormed, HasUtf8Names}
-use Rattle.nn_image.specs.Lawful.{HasPaths, IsCounted}
+use Rattle.nn_image.specs.Lawful.{HasPaths, IsCountable}
 use Rattle.nn_image.specs.Text.{image_text}
 use Rattle.nn_image.specs.Reading.{read_image}
 use Rattle.nn_segment.specs.Segment.{Segment, first_txid}
@@ -27,12 +27,12 @@ HasNoGap last (s ∷ segments) = (first_txid s.txs ≤ last + 1) × HasNoGap (la
 -- a run over these, from where the first part of the log leads to, prints the same listing, tables, counts and safe mode as a run over the whole
 -- log from the root alone, where both are handed the same messages.
 abbrev pub PrintsTheSame : Type 0
-PrintsTheSame = (options : Options) (lanes : Lanes) (segments rest : List Segment) (front back : List Tx) (end : LogEnd)
-    → end_of_log 0 root_alone segments ≡ Ok end → log_of 0 (map (λ s. s.txs) segments) ≡ front ++ back
-    → log_of (length front) (map (λ s. s.txs) rest) ≡ back → HasNoGap (length front) rest
-    → after_segments (start_after front) options lanes (Ok rest) ≡ after_segments from_root options lanes (Ok segments)
+PrintsTheSame = (options : Options) (lanes : Lanes) (segments rest : List Segment) (prefix back : List Tx) (end : LogEnd)
+    → end_of_log 0 root_alone segments ≡ Ok end → log_of 0 (map (λ s. s.txs) segments) ≡ prefix ++ back
+    → log_of (length prefix) (map (λ s. s.txs) rest) ≡ back → HasNoGap (length prefix) rest
+    → after_segments (start_after prefix) options lanes (Ok rest) ≡ after_segments from_root options lanes (Ok segments)
 
 -- and that is where the image of version 2 starts a run, where every path keeps the limits of paths
 abbrev pub StartsThere : Type 0
-StartsThere = (txs : List Tx) → IsWellFormed (namespace_after root_alone txs) → HasUtf8Names (namespace_after root_alone txs) → HasPaths (namespace_after root_alone txs) → IsCounted (namespace_after root_alone txs) → length txs < 2 ^ 63
+StartsThere = (txs : List Tx) → IsWellFormed (namespace_after root_alone txs) → HasUtf8Names (namespace_after root_alone txs) → HasPaths (namespace_after root_alone txs) → IsCountable (namespace_after root_alone txs) → length txs < 2 ^ 63
     → from_image (read_image (image_text (namespace_after root_alone txs) (length txs))) ≡ Ok (start_after txs)

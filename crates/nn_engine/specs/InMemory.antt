@@ -8,8 +8,8 @@ use Rattle.nn_drive.specs.declared.driving.DriveFault.TheVariants as drive
 use Rattle.nn_model.specs.Lanes.{Lanes}
 use Rattle.nn_scenario.specs.declared.steps.Step.{Step}
 use Rattle.nn_scenario.specs.declared.steps.Step.TheVariants as step
-use Rattle.nn_lane.specs.Ends.{Taking}
-use Rattle.nn_tailer.specs.Tailing.{Tailer, StandsAt}
+use Rattle.nn_lane.specs.Ends.{LaneEnd}
+use Rattle.nn_lane_standby.specs.Tailing.{Standby, StandsAt}
 use Rattle.nn_engine.specs.Output.{Printed, fault_at}
 use Rattle.nn_engine.specs.Start.{Start}
 
@@ -41,7 +41,7 @@ pub record AreInMemory (count : ℕ) (lanes : Lanes) (sources : List (List Repor
 -- ---- For private clauses.
 
 -- a standby with no messages over a start, before its first step
-pub record IsBegun (start : Start) (own : List Taking) (x : Tailer) : Type 0 where
+pub record IsBegun (start : Start) (own : List LaneEnd) (x : Standby) : Type 0 where
   pub ends : x.ends ≡ own
   pub stands : StandsAt start.namespace start.txid [] x
 

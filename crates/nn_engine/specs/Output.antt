@@ -1,9 +1,10 @@
 -- What the program prints for a scenario.
 use Rattle.std.specs.Prelude.{◌≡◌, ℕ, Bool, true, false, ◌&&◌, ◌==◌, if◌then◌else◌, List, [], ◌∷◌, ◌++◌, flat_map, map, length, Result, Ok, Err, MatchResult, codes, decimal}
+use Rattle.nn_bytes.specs.Lines.{line_feed}
 use Rattle.nn_edits.specs.Fault.{number_of as line_number_of}
 use Rattle.nn_types.specs.declared.tx.Tx.{Tx}
 use Rattle.nn_model.specs.History.{History}
-use Rattle.nn_model.specs.Items.{items, having, had_by}
+use Rattle.nn_model.specs.Items.{items, node_state, lane_items}
 use Rattle.nn_model.specs.Lanes.{Lanes}
 use Rattle.nn_model.specs.Lawful.{IsLawful, IsWhole}
 use Rattle.nn_model.specs.Log.{log_of}
@@ -16,17 +17,17 @@ use Rattle.nn_image.specs.declared.fault.ImageFault.TheVariants as image
 use Rattle.nn_segment.specs.Fault.{number_of as segment_number_of}
 use Rattle.nn_segment.specs.Segment.{Segment}
 use Rattle.nn_scenario.specs.Cut.{segments_from}
-use Rattle.nn_listing.specs.Listing.{newline, listing_text}
+use Rattle.nn_listing.specs.Listing.{listing_text}
 use Rattle.nn_segment.specs.LogEnd.{LogStop, stop_number, LogEnd, end_of_log}
 use Rattle.nn_scenario.specs.Scenario.{Scenario, scenario_of}
-use Rattle.nn_scenario.specs.Steps.{lanes_of}
+use Rattle.nn_scenario.specs.Steps.{lanes_of_steps}
 use Rattle.nn_listing.specs.Safety.{unsafe_text}
 use Rattle.nn_listing.specs.Summary.{summary_of, summary_text}
 use Rattle.nn_listing.specs.Tables.{tables_text}
 use Rattle.nn_listing.specs.Trail.{history_text}
 use Rattle.nn_scenario.specs.declared.steps.Step.{Step}
-use Rattle.nn_scenario.specs.declared.scenario.BadLine.{BadLine}
-use Rattle.nn_scenario.specs.declared.segments.BadSegment.{BadSegment}
+use Rattle.nn_scenario.specs.declared.scenario.ScenarioFault.{ScenarioFault}
+use Rattle.nn_scenario.specs.declared.segments.PartFault.{PartFault}
 use Rattle.nn_engine.specs.declared.engine.Options.{Options}
 use Rattle.nn_engine.specs.Start.{Start, start_in, scenario_in}
 use Rattle.nn_engine.specs.Turns.{history_in_turn}
@@ -38,16 +39,16 @@ pub record Printed : Type 0 where
 
 -- `fault N line L`, `fault N segment K` or `fault N txid T`, where the place is ` line `, ` segment ` or ` txid `
 abbrev pub fault_at : List ℕ → ℕ → ℕ → Printed
-fault_at place number n = record { text = codes "fault " ++ decimal number ++ place ++ decimal n ++ newline ∷ []; status = 1 }
+fault_at place number n = record { text = codes "fault " ++ decimal number ++ place ++ decimal n ++ line_feed ∷ []; status = 1 }
 
 -- where it is asked for: the line `image`, and the image of the namespace after its last transaction
 abbrev pub image_part : Bool → LogEnd → List ℕ
 image_part false end = []
-image_part true end = codes "image" ++ newline ∷ image_text end.namespace end.last
+image_part true end = codes "image" ++ line_feed ∷ image_text end.namespace end.last
 
 -- the standby that followed the log to this end, took these messages, and flushed. Its history is no part of a summary
-abbrev pub at_end : Lanes → LogEnd → StandbyState
-at_end lanes end = record {
+abbrev pub standby_at_end : Lanes → LogEnd → StandbyState
+standby_at_end lanes end = record {
   namespace = end.namespace;
   last = end.last;
   history = [];
@@ -55,12 +56,12 @@ at_end lanes end = record {
   has_order = picture_order end.namespace (items lanes);
   held = [];
   last_number = λ dn. length (lanes dn);
-  had = λ dn. having (had_by (lanes dn));
+  had = λ dn. node_state (lane_items (lanes dn));
 }
 
 -- where it is asked for: what an operator reads of that standby
 abbrev pub summary_part : Options → Lanes → LogEnd → List ℕ
-summary_part options lanes end = if options.summary then summary_text (summary_of options.settings.permille options.settings.min (items lanes) (at_end lanes end)) else []
+summary_part options lanes end = if options.summary then summary_text (summary_of options.settings.permille options.settings.min (items lanes) (standby_at_end lanes end)) else []
 
 -- where they are asked for: the blocks that keep safe mode on
 abbrev pub unsafe_part : Options → Lanes → LogEnd → List ℕ
@@ -76,12 +77,12 @@ after_log options lanes (Ok end) = record {
 }
 after_log options lanes (Err stop) = fault_at (codes " txid ") (stop_number stop.cause) stop.txid
 
-abbrev pub after_segments : Start → Options → Lanes → Result (List Segment) BadSegment → Printed
+abbrev pub after_segments : Start → Options → Lanes → Result (List Segment) PartFault → Printed
 after_segments start options lanes (Ok segments) = after_log options lanes (end_of_log start.txid start.namespace segments)
 after_segments start options lanes (Err bad) = fault_at (codes " segment ") (segment_number_of bad.fault) bad.segment
 
-abbrev pub after_lines : Start → Options → Result Scenario BadLine → Printed
-after_lines start options (Ok scenario) = after_segments start options (lanes_of scenario.steps) (segments_from 1 scenario.parts)
+abbrev pub after_lines : Start → Options → Result Scenario ScenarioFault → Printed
+after_lines start options (Ok scenario) = after_segments start options (lanes_of_steps scenario.steps) (segments_from 1 scenario.parts)
 after_lines start options (Err bad) = fault_at (codes " line ") (line_number_of bad.fault) bad.line
 
 -- what is printed for a scenario from a start: the first bad line, or the first bad segment, or the first transaction that is missing or
@@ -97,13 +98,13 @@ with_history asked events p = if (p.status == 0) && asked then record { text = h
 
 -- the history of a standby that followed these segments from a start, and these steps, on one thread or with a thread for each DataNode
 pub record IsHistoryOf (start : Start) (threads : Bool) (segments : List (List Tx)) (steps : List Step) (events : History) : Type 0 where
-  pub lawful : IsLawful start.namespace (log_of start.txid segments) (items (lanes_of steps)) events
-  pub whole : IsWhole start.namespace (log_of start.txid segments) (items (lanes_of steps)) events
+  pub lawful : IsLawful start.namespace (log_of start.txid segments) (items (lanes_of_steps steps)) events
+  pub whole : IsWhole start.namespace (log_of start.txid segments) (items (lanes_of_steps steps)) events
   -- without threads it is the one that the lines make in their order
   pub one_thread : threads ≡ false → events ≡ history_in_turn start (flat_map (λ (txs : List Tx). txs) segments) steps
 
 -- where the log of these segments ends, the events are the history of a standby that followed them and these steps
-abbrev pub AreEventsOf : Start → Bool → List Step → Result (List Segment) BadSegment → History → Type 0
+abbrev pub AreEventsOf : Start → Bool → List Step → Result (List Segment) PartFault → History → Type 0
 AreEventsOf start threads steps whole events =
     (segments : List Segment) (end : LogEnd) → whole ≡ Ok segments → end_of_log start.txid start.namespace segments ≡ Ok end
     → IsHistoryOf start threads (map (λ s. s.txs) segments) steps events
@@ -118,7 +119,7 @@ pub record IsPrintedFrom (start : Start) (threads : Bool) (options : Options) (t
 
 -- `fault N image`
 abbrev pub fault_of_image : ℕ → Printed
-fault_of_image number = record { text = codes "fault " ++ decimal number ++ codes " image" ++ newline ∷ []; status = 1 }
+fault_of_image number = record { text = codes "fault " ++ decimal number ++ codes " image" ++ line_feed ∷ []; status = 1 }
 
 -- and where one of its lines has the fault, `fault N image line K`
 abbrev pub image_fault : ImageFault → Printed

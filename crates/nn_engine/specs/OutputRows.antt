@@ -10,14 +10,14 @@ use Rattle.json.specs.Print.{escape_byte}
 use Rattle.json.specs.Text.{content}
 use Rattle.json.specs.Word.{word, after_number}
 use Rattle.serde_json.specs.Read.{number_of}
+use Rattle.nn_bytes.specs.Lines.{line_feed}
 use Rattle.nn_edits.specs.Reading.{edit_of_line, either_of_line, object_in, value_of, either_in, tx_in, op_in, op_of, txid_in, whole_in, number_in, path_in, profile_in, edit_in, block_in, items_in, blocks_in, report_in, dn_in, kind_in, kind_of}
 use Rattle.nn_segment.specs.Lines.{reads_of}
 use Rattle.nn_segment.specs.LogEnd.{end_of_log, end_of_txs}
-use Rattle.nn_segment.specs.Name.{txids_of, name_text, digits as name_digits}
-use Rattle.nn_segment.specs.Reading.{read_segment, fault_of}
-use Rattle.nn_scenario.specs.Cut.{segments_from, cut_from}
+use Rattle.nn_segment.specs.Name.{txids_of, segment_file_name, digits as name_digits}
+use Rattle.nn_segment.specs.Reading.{read_segment, fault_of_segment}
+use Rattle.nn_scenario.specs.Cut.{segments_from, parts_from}
 use Rattle.nn_scenario.specs.Scenario.{scenario_of, lines_from}
-use Rattle.nn_listing.specs.Listing.{newline}
 use Rattle.nn_listing.specs.Summary.{summary_text, counts_text}
 use Rattle.nn_listing.specs.Tables.{datanodes}
 use Rattle.nn_image.specs.Text.{image_text, head_data, form_data, end_data}
@@ -31,13 +31,13 @@ usual = record { settings = record { permille = 999; min = 1 }; history = false;
 
 -- lines, each with its line feed
 abbrev lines : List (List ℕ) → List ℕ
-lines each = flat_map (λ l. l ++ newline ∷ []) each
+lines each = flat_map (λ l. l ++ line_feed ∷ []) each
 
 abbrev printed : ℕ → List (List ℕ) → Printed
 printed status each = record { text = lines each; status = status }
 
 nothing : output_of from_root usual [] ≡ printed 0 (codes "txid 0" ∷ codes "dir \"/\"" ∷ codes "blocks 0 safe 0 needed 0 mode off" ∷ [])
-unfolding output_of read_segment fault_of txids_of name_text name_digits reads_of edit_of_line end_of_txs scenario_of lines_from segments_from cut_from end_of_log digits escape_byte datanodes either_of_line either_in report_in dn_in kind_in kind_of object_in value_of tx_in op_in op_of txid_in whole_in number_in path_in profile_in edit_in blocks_in items_in block_in is_utf8 chars encode value punctuate lex content word after_number number_of scan_numeral
+unfolding output_of read_segment fault_of_segment txids_of segment_file_name name_digits reads_of edit_of_line end_of_txs scenario_of lines_from segments_from parts_from end_of_log digits escape_byte datanodes either_of_line either_in report_in dn_in kind_in kind_of object_in value_of tx_in op_in op_of txid_in whole_in number_in path_in profile_in edit_in blocks_in items_in block_in is_utf8 chars encode value punctuate lex content word after_number number_of scan_numeral
 nothing = refl
 
 -- A transaction that is refused, one that is missing, a segment with a fault, a line with a fault.
@@ -46,21 +46,21 @@ missing_parent : output_of from_root usual (lines (
     ∷ codes "{\"op\":\"OP_MKDIR\",\"path\":\"/a/b\",\"txid\":2}"
     ∷ codes "{\"op\":\"OP_END_LOG_SEGMENT\",\"txid\":3}" ∷ []))
     ≡ printed 1 (codes "fault 22 txid 2" ∷ [])
-unfolding output_of read_segment fault_of txids_of name_text name_digits reads_of edit_of_line end_of_txs scenario_of lines_from segments_from cut_from end_of_log digits escape_byte datanodes either_of_line either_in report_in dn_in kind_in kind_of object_in value_of tx_in op_in op_of txid_in whole_in number_in path_in profile_in edit_in blocks_in items_in block_in is_utf8 chars encode value punctuate lex content word after_number number_of scan_numeral
+unfolding output_of read_segment fault_of_segment txids_of segment_file_name name_digits reads_of edit_of_line end_of_txs scenario_of lines_from segments_from parts_from end_of_log digits escape_byte datanodes either_of_line either_in report_in dn_in kind_in kind_of object_in value_of tx_in op_in op_of txid_in whole_in number_in path_in profile_in edit_in blocks_in items_in block_in is_utf8 chars encode value punctuate lex content word after_number number_of scan_numeral
 missing_parent = refl
 
 log_begins_too_high : output_of from_root usual (lines (
     codes "{\"op\":\"OP_START_LOG_SEGMENT\",\"txid\":2}"
     ∷ codes "{\"op\":\"OP_END_LOG_SEGMENT\",\"txid\":3}" ∷ []))
     ≡ printed 1 (codes "fault 57 txid 1" ∷ [])
-unfolding output_of read_segment fault_of txids_of name_text name_digits reads_of edit_of_line end_of_txs scenario_of lines_from segments_from cut_from end_of_log digits escape_byte datanodes either_of_line either_in report_in dn_in kind_in kind_of object_in value_of tx_in op_in op_of txid_in whole_in number_in path_in profile_in edit_in blocks_in items_in block_in is_utf8 chars encode value punctuate lex content word after_number number_of scan_numeral
+unfolding output_of read_segment fault_of_segment txids_of segment_file_name name_digits reads_of edit_of_line end_of_txs scenario_of lines_from segments_from parts_from end_of_log digits escape_byte datanodes either_of_line either_in report_in dn_in kind_in kind_of object_in value_of tx_in op_in op_of txid_in whole_in number_in path_in profile_in edit_in blocks_in items_in block_in is_utf8 chars encode value punctuate lex content word after_number number_of scan_numeral
 log_begins_too_high = refl
 
 gap_in_segment : output_of from_root usual (lines (
     codes "{\"op\":\"OP_START_LOG_SEGMENT\",\"txid\":1}"
     ∷ codes "{\"op\":\"OP_END_LOG_SEGMENT\",\"txid\":3}" ∷ []))
     ≡ printed 1 (codes "fault 14 segment 1" ∷ [])
-unfolding output_of read_segment fault_of txids_of name_text name_digits reads_of edit_of_line end_of_txs scenario_of lines_from segments_from cut_from end_of_log digits escape_byte datanodes either_of_line either_in report_in dn_in kind_in kind_of object_in value_of tx_in op_in op_of txid_in whole_in number_in path_in profile_in edit_in blocks_in items_in block_in is_utf8 chars encode value punctuate lex content word after_number number_of scan_numeral
+unfolding output_of read_segment fault_of_segment txids_of segment_file_name name_digits reads_of edit_of_line end_of_txs scenario_of lines_from segments_from parts_from end_of_log digits escape_byte datanodes either_of_line either_in report_in dn_in kind_in kind_of object_in value_of tx_in op_in op_of txid_in whole_in number_in path_in profile_in edit_in blocks_in items_in block_in is_utf8 chars encode value punctuate lex content word after_number number_of scan_numeral
 gap_in_segment = refl
 
 bad_line : output_of from_root usual (lines (
@@ -68,7 +68,7 @@ bad_line : output_of from_root usual (lines (
     ∷ codes ""
     ∷ codes "{\"op\":\"OP_MKDIR\",\"txid\":2}" ∷ []))
     ≡ printed 1 (codes "fault 2 line 3" ∷ [])
-unfolding output_of read_segment fault_of txids_of name_text name_digits reads_of edit_of_line end_of_txs scenario_of lines_from segments_from cut_from end_of_log digits escape_byte datanodes either_of_line either_in report_in dn_in kind_in kind_of object_in value_of tx_in op_in op_of txid_in whole_in number_in path_in profile_in edit_in blocks_in items_in block_in is_utf8 chars encode value punctuate lex content word after_number number_of scan_numeral
+unfolding output_of read_segment fault_of_segment txids_of segment_file_name name_digits reads_of edit_of_line end_of_txs scenario_of lines_from segments_from parts_from end_of_log digits escape_byte datanodes either_of_line either_in report_in dn_in kind_in kind_of object_in value_of tx_in op_in op_of txid_in whole_in number_in path_in profile_in edit_in blocks_in items_in block_in is_utf8 chars encode value punctuate lex content word after_number number_of scan_numeral
 bad_line = refl
 
 -- A report that comes before the log has its block.
@@ -86,7 +86,7 @@ early_report : output_of from_root usual (lines (
     ∷ codes "file \"/f\" 3 closed 1073741825:1001:5"
     ∷ codes "replica 1073741825 1 1001 5 received live"
     ∷ codes "blocks 1 safe 1 needed 0 mode off" ∷ [])
-unfolding output_of read_segment fault_of txids_of name_text name_digits reads_of edit_of_line end_of_txs scenario_of lines_from segments_from cut_from end_of_log digits escape_byte datanodes either_of_line either_in report_in dn_in kind_in kind_of object_in value_of tx_in op_in op_of txid_in whole_in number_in path_in profile_in edit_in blocks_in items_in block_in is_utf8 chars encode value punctuate lex content word after_number number_of scan_numeral
+unfolding output_of read_segment fault_of_segment txids_of segment_file_name name_digits reads_of edit_of_line end_of_txs scenario_of lines_from segments_from parts_from end_of_log digits escape_byte datanodes either_of_line either_in report_in dn_in kind_in kind_of object_in value_of tx_in op_in op_of txid_in whole_in number_in path_in profile_in edit_in blocks_in items_in block_in is_utf8 chars encode value punctuate lex content word after_number number_of scan_numeral
 early_report = refl
 
 -- The same, where two live replicas make a block safe and all blocks have to be.
@@ -104,7 +104,7 @@ two_are_wanted : output_of from_root (record usual { settings = record { permill
     ∷ codes "file \"/f\" 3 closed 1073741825:1001:5"
     ∷ codes "replica 1073741825 1 1001 5 received live"
     ∷ codes "blocks 1 safe 0 needed 1 mode on" ∷ [])
-unfolding output_of read_segment fault_of txids_of name_text name_digits reads_of edit_of_line end_of_txs scenario_of lines_from segments_from cut_from end_of_log digits escape_byte datanodes either_of_line either_in report_in dn_in kind_in kind_of object_in value_of tx_in op_in op_of txid_in whole_in number_in path_in profile_in edit_in blocks_in items_in block_in is_utf8 chars encode value punctuate lex content word after_number number_of scan_numeral
+unfolding output_of read_segment fault_of_segment txids_of segment_file_name name_digits reads_of edit_of_line end_of_txs scenario_of lines_from segments_from parts_from end_of_log digits escape_byte datanodes either_of_line either_in report_in dn_in kind_in kind_of object_in value_of tx_in op_in op_of txid_in whole_in number_in path_in profile_in edit_in blocks_in items_in block_in is_utf8 chars encode value punctuate lex content word after_number number_of scan_numeral
 two_are_wanted = refl
 
 -- The same, with a summary and the blocks that keep safe mode on, behind the tables.
@@ -127,7 +127,7 @@ what_an_operator_reads : output_of from_root (record usual { settings = record {
     ∷ codes "stale 0" ∷ codes "ahead 0" ∷ codes "wrong_length 0" ∷ codes "orders 0"
     ∷ codes "blocks 1 safe 0 needed 1 mode on"
     ∷ codes "unsafe 1073741825 1 \"/f\"" ∷ [])
-unfolding output_of read_segment fault_of txids_of name_text name_digits reads_of edit_of_line end_of_txs scenario_of lines_from segments_from cut_from end_of_log digits escape_byte datanodes either_of_line either_in report_in dn_in kind_in kind_of object_in value_of tx_in op_in op_of txid_in whole_in number_in path_in profile_in edit_in blocks_in items_in block_in is_utf8 chars encode value punctuate lex content word after_number number_of scan_numeral summary_text counts_text
+unfolding output_of read_segment fault_of_segment txids_of segment_file_name name_digits reads_of edit_of_line end_of_txs scenario_of lines_from segments_from parts_from end_of_log digits escape_byte datanodes either_of_line either_in report_in dn_in kind_in kind_of object_in value_of tx_in op_in op_of txid_in whole_in number_in path_in profile_in edit_in blocks_in items_in block_in is_utf8 chars encode value punctuate lex content word after_number number_of scan_numeral summary_text counts_text
 what_an_operator_reads = refl
 
 -- With an image, of a file whose block was issued and never added.
@@ -145,5 +145,5 @@ with_an_image : output_of from_root (record usual { image = true }) (lines (
     ∷ codes "{\"awaiting\":[1073741825],\"image\":\"hdfs-standby\",\"last_block\":1073741825,\"last_gen\":1001,\"profile\":1,\"txid\":5,\"version\":2}"
     ∷ codes "{\"blocks\":[],\"closed\":false,\"path\":\"/f\",\"replication\":3,\"type\":\"file\"}"
     ∷ codes "{\"end\":1}" ∷ [])
-unfolding output_of read_segment fault_of txids_of name_text name_digits reads_of edit_of_line end_of_txs scenario_of lines_from segments_from cut_from end_of_log digits escape_byte datanodes either_of_line either_in report_in dn_in kind_in kind_of object_in value_of tx_in op_in op_of txid_in whole_in number_in path_in profile_in edit_in blocks_in items_in block_in is_utf8 chars encode value punctuate lex content word after_number number_of scan_numeral image_text head_data form_data end_data
+unfolding output_of read_segment fault_of_segment txids_of segment_file_name name_digits reads_of edit_of_line end_of_txs scenario_of lines_from segments_from parts_from end_of_log digits escape_byte datanodes either_of_line either_in report_in dn_in kind_in kind_of object_in value_of tx_in op_in op_of txid_in whole_in number_in path_in profile_in edit_in blocks_in items_in block_in is_utf8 chars encode value punctuate lex content word after_number number_of scan_numeral image_text head_data form_data end_data
 with_an_image = refl

@@ -1,11 +1,11 @@
 -- What a run wrote, beside what its reader had.
 use Rattle.std.specs.Prelude.{◌≡◌, ◌⊎◌, ◌+◌, ◌∷◌, [], ◌++◌, ℕ, Bool, true, List, length, codes}
 use Rattle.std.specs.Io.KnownBytes.{Consumes, IsAtEnd}
-use Rattle.nn_device.specs.Device.{Reading, Writing, Took}
-use Rattle.nn_device.specs.Parts.{TookFront}
-use Rattle.nn_device.specs.declared.writer.Unwritten.TheVariants.{WriteFailed}
-use Rattle.nn_listing.specs.Listing.{newline}
-use Rattle.nn_engine.specs.Input.{Fits, GaveTooMuch}
+use Rattle.nn_bytes.specs.Lines.{line_feed}
+use Rattle.nn_device.specs.Device.{Reader, Writer, Took}
+use Rattle.nn_device.specs.Parts.{TookPrefix}
+use Rattle.nn_device.specs.declared.writer.OutputFault.TheVariants.{WriteFailed}
+use Rattle.nn_engine.specs.Input.{IsWithinLimits, GaveTooMuch}
 use Rattle.nn_engine.specs.declared.device.InputFault.{InputFault}
 use Rattle.nn_engine.specs.declared.device.InputFault.TheVariants.{ReadFailed, TooLong, OutOfMemory}
 use Rattle.nn_engine.specs.declared.engine.Options.{Options}
@@ -14,7 +14,7 @@ use Rattle.nn_engine.specs.Output.{Printed, IsPrinted}
 
 -- one line with a fault's number alone
 abbrev pub fault_alone : List ℕ → Printed
-fault_alone number = record { text = codes "fault " ++ number ++ newline ∷ []; status = 1 }
+fault_alone number = record { text = codes "fault " ++ number ++ line_feed ∷ []; status = 1 }
 
 -- the line of an input that was not read
 abbrev pub unread_line : InputFault → List ℕ
@@ -26,8 +26,8 @@ unread_line OutOfMemory = (fault_alone (codes "55")).text
 pub record Given : Type 0 where
   pub options : Options
   pub threads : Bool  -- whether each DataNode reports from a thread of its own
-  pub before : Reading
-  pub after : Reading
+  pub before : Reader
+  pub after : Reader
 
 -- all that the reader gave, up to its end, is the input that the output is of
 pub record IsOutputOfAll (given : Given) (p : Printed) : Type 0 where
@@ -35,7 +35,7 @@ pub record IsOutputOfAll (given : Given) (p : Printed) : Type 0 where
   pub taken : Consumes given.before.left given.after.left input
   pub counted : given.after.given ≡ given.before.given + length input
   pub whole : IsAtEnd given.after.left
-  pub fits : Fits given.options.from_image input
+  pub fits : IsWithinLimits given.options.from_image input
   pub is : IsPrinted given.threads given.options input p
 
 -- the input cannot be read: a read failed, or the reader gave more than an input may have
@@ -53,23 +53,23 @@ IsOutput given p =
     ⊎ (((p ≡ fault_alone (codes "8")) × IsUnreadable given) ⊎ ((p ≡ fault_alone (codes "55")) × NoneFailed given))
 
 -- a whole output was written, and this is its status
-pub record Wrote (given : Given) (writer writer' : Writing) (status : ℕ) : Type 0 where
+pub record WroteOutput (given : Given) (writer writer' : Writer) (status : ℕ) : Type 0 where
   pub output : Printed
   pub right : IsOutput given output
   pub took : Took writer writer' output.text
   pub ends : status ≡ output.status
 
 -- a prefix of the text was written, and nothing after it: the fault tells how many bytes
-pub record Unfinished (writer writer' : Writing) (text : List ℕ) (fault : RunFault) : Type 0 where
-  pub took : TookFront writer writer' text WriteFailed
-  pub told : fault.written ≡ length took.front
+pub record Unfinished (writer writer' : Writer) (text : List ℕ) (fault : RunFault) : Type 0 where
+  pub took : TookPrefix writer writer' text WriteFailed
+  pub told : fault.written ≡ length took.prefix
 
 -- a prefix of an output was written
-pub record WroteFront (given : Given) (writer writer' : Writing) (fault : RunFault) : Type 0 where
+pub record WroteOutputPrefix (given : Given) (writer writer' : Writer) (fault : RunFault) : Type 0 where
   pub output : Printed
   pub right : IsOutput given output
-  pub front : Unfinished writer writer' output.text fault
+  pub prefix : Unfinished writer writer' output.text fault
 
 -- a run, its reader as it was before and after
-abbrev pub running : Options → Bool → Reading → Reading → Given
+abbrev pub running : Options → Bool → Reader → Reader → Given
 running options threads before after = record { options = options; threads = threads; before = before; after = after }

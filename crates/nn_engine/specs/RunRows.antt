@@ -1,18 +1,18 @@
 -- What is printed for an input that is not read, and what a run says of its devices, computed.
 use Rattle.std.specs.Prelude.{◌≡◌, ℕ, ◌+◌, ◌-◌, Bool, true, false, option_map, List, [], ◌∷◌, ◌++◌, length, map, Some, None, codes, refl}
 use Rattle.std.proofs.Common.{zero, suc, arith, sym, ap, inl, inr, ⊎_elim, true≢false, length-append, ◌∙◌}
-use Rattle.nn_device.specs.Device.{Reading, Writing}
-use Rattle.nn_listing.specs.Listing.{newline}
+use Rattle.nn_bytes.specs.Lines.{line_feed}
+use Rattle.nn_device.specs.Device.{Reader, Writer}
 use Rattle.nn_engine.specs.declared.device.InputFault.TheVariants.{ReadFailed, TooLong, OutOfMemory}
 use Rattle.nn_engine.specs.declared.engine.Options.{Options}
-use Rattle.nn_front.specs.Cut.{behind_mark, bytes_of, cut_from, divided, from_header, passed_over, rest_of}
-use Rattle.nn_engine.specs.Input.{Fits, IsTooLong, IsUnread}
+use Rattle.nn_front.specs.Cut.{behind_mark, bytes_of, image_cut_from, divided, from_header, passed_over, rest_of}
+use Rattle.nn_engine.specs.Input.{IsWithinLimits, IsTooLong, IsUnread}
 use Rattle.nn_engine.specs.Start.{scenario_in}
 use Rattle.nn_engine.specs.Output.{Printed}
-use Rattle.nn_engine.specs.Run.{Given, IsOutputOfAll, IsUnreadable, fault_alone, unread_line, NoneFailed, Unfinished, Wrote, WroteFront, running}
+use Rattle.nn_engine.specs.Run.{Given, IsOutputOfAll, IsUnreadable, fault_alone, unread_line, NoneFailed, Unfinished, WroteOutput, WroteOutputPrefix, running}
 
 unread : map unread_line (ReadFailed ∷ TooLong ∷ OutOfMemory ∷ [])
-    ≡ (codes "fault 8" ++ newline ∷ []) ∷ (codes "fault 8" ++ newline ∷ []) ∷ (codes "fault 55" ++ newline ∷ []) ∷ []
+    ≡ (codes "fault 8" ++ line_feed ∷ []) ∷ (codes "fault 8" ++ line_feed ∷ []) ∷ (codes "fault 55" ++ line_feed ∷ []) ∷ []
 unread = refl
 
 -- neither is a listing
@@ -20,7 +20,7 @@ status : map (λ number. (fault_alone number).status) (codes "8" ∷ codes "55" 
 status = refl
 
 -- a reader that has three bytes left
-abbrev reader : Bool → Reading
+abbrev reader : Bool → Reader
 reader failed = record { left = Some (codes "abc"); reads = 0; given = 0; failed = failed }
 
 read_failed : IsUnread false (reader false) (reader true) ReadFailed
@@ -68,10 +68,10 @@ too_long_a_scenario = inr (omega (arith, size 16777217))
 
 none_left : (n : ℕ) → length (scenario_in true (spaces n)) ≡ 0
 unfolding divided
-none_left n = ap (λ o. length (rest_of (option_map (cut_from true []) o))) (no_image n)
+none_left n = ap (λ o. length (rest_of (option_map (image_cut_from true []) o))) (no_image n)
 
 -- as many as may be
-fits : Fits true (spaces 16777216) × Fits false (spaces 16777216)
+fits : IsWithinLimits true (spaces 16777216) × IsWithinLimits false (spaces 16777216)
 fits = (
   record {
     front = omega (arith, all_passed 16777216);
@@ -90,59 +90,59 @@ readable : (options : Options) → NoneFailed (running options false (reader fal
 readable options h = true≢false h
 
 -- a writer that got so much
-abbrev writer : ℕ → Bool → Writing
+abbrev writer : ℕ → Bool → Writer
 writer taken failed = record { contents = None; taken = taken; failed = failed }
 
 -- a failed write is one that was noted
-no_write_failed : (options : Options) → WroteFront (running options false (reader false) (reader false)) (writer 0 false) (writer 2 false) (record { written = 2 }) → ⊥
-no_write_failed options h = true≢false (sym h.front.took.caused)
+no_write_failed : (options : Options) → WroteOutputPrefix (running options false (reader false) (reader false)) (writer 0 false) (writer 2 false) (record { written = 2 }) → ⊥
+no_write_failed options h = true≢false (sym h.prefix.took.caused)
 
 -- ---- What a run wrote.
 
-abbrev memory_line : Bool → Writing
-memory_line failed = record { contents = Some (codes "fault 55" ++ newline ∷ []); taken = 9; failed = failed }
+abbrev memory_line : Bool → Writer
+memory_line failed = record { contents = Some (codes "fault 55" ++ line_feed ∷ []); taken = 9; failed = failed }
 
-abbrev unwritten : Writing
+abbrev unwritten : Writer
 unwritten = record { contents = Some []; taken = 0; failed = false }
 
 -- memory ran out, and no read failed
-wrote_55 : (options : Options) → Wrote (running options false (reader false) (reader false)) unwritten (memory_line false) 1
+wrote_55 : (options : Options) → WroteOutput (running options false (reader false) (reader false)) unwritten (memory_line false) 1
 wrote_55 options = record { output = fault_alone (codes "55"); right = inr (inr (refl, refl)); took = record { bytes = refl; counted = refl; unfailed = refl }; ends = refl }
 
-wrote_8 : (options : Options) → Wrote (running options false (reader false) (reader true)) unwritten (record { contents = Some (codes "fault 8" ++ newline ∷ []); taken = 8; failed = false }) 1
+wrote_8 : (options : Options) → WroteOutput (running options false (reader false) (reader true)) unwritten (record { contents = Some (codes "fault 8" ++ line_feed ∷ []); taken = 8; failed = false }) 1
 wrote_8 options = record { output = fault_alone (codes "8"); right = inr (inl (refl, inl refl)); took = record { bytes = refl; counted = refl; unfailed = refl }; ends = refl }
 
 -- a whole output was written: no write failed
-not_with_a_failed_write : (given : Given) (ended : ℕ) → Wrote given unwritten (memory_line true) ended → ⊥
+not_with_a_failed_write : (given : Given) (ended : ℕ) → WroteOutput given unwritten (memory_line true) ended → ⊥
 not_with_a_failed_write given ended h = true≢false h.took.unfailed
 
 -- and all of it is what the writer got
-not_with_more_counted : (given : Given) (ended : ℕ) (text : List ℕ) → length text ≡ 3 → Wrote given unwritten (record { contents = Some text; taken = 4; failed = false }) ended → ⊥
+not_with_more_counted : (given : Given) (ended : ℕ) (text : List ℕ) → length text ≡ 3 → WroteOutput given unwritten (record { contents = Some text; taken = 4; failed = false }) ended → ⊥
 not_with_more_counted given ended text three h = let n = h.took.counted in let m : length text ≡ length h.output.text = ap length h.took.bytes in omega (arith, n, m, three)
 
 -- a writer that got the first word of a line
-abbrev word : Bool → Writing
+abbrev word : Bool → Writer
 word failed = record { contents = Some (codes "fault"); taken = 5; failed = failed }
 
 -- a prefix is not all
-not_a_front_of_all : Unfinished unwritten (memory_line true) (fault_alone (codes "55")).text (record { written = 9 }) → ⊥
-not_a_front_of_all h =
+not_a_prefix_of_all : Unfinished unwritten (memory_line true) (fault_alone (codes "55")).text (record { written = 9 }) → ⊥
+not_a_prefix_of_all h =
     let w = h.took in
-    let e : 9 ≡ length w.front + length w.rest = ap length w.whole ∙ length-append w.front w.rest in
+    let e : 9 ≡ length w.prefix + length w.rest = ap length w.whole ∙ length-append w.prefix w.rest in
     omega (arith, e, h.told, w.short)
 
-wrote_a_front_of_55 : (options : Options) → WroteFront (running options false (reader false) (reader false)) unwritten (word true) (record { written = 5 })
-wrote_a_front_of_55 options = record {
+wrote_a_prefix_of_55 : (options : Options) → WroteOutputPrefix (running options false (reader false) (reader false)) unwritten (word true) (record { written = 5 })
+wrote_a_prefix_of_55 options = record {
   output = fault_alone (codes "55");
   right = inr (inr (refl, refl));
-  front = record {
-    took = record { front = codes "fault"; rest = codes " 55" ++ newline ∷ []; whole = refl; short = omega arith; bytes = refl; counted = refl; caused = refl };
+  prefix = record {
+    took = record { prefix = codes "fault"; rest = codes " 55" ++ line_feed ∷ []; whole = refl; short = omega arith; bytes = refl; counted = refl; caused = refl };
     told = refl;
   };
 }
 
-not_told_of_another_count : (given : Given) → WroteFront given unwritten (word true) (record { written = 4 }) → ⊥
-not_told_of_another_count given h = let e : 5 ≡ 0 + length h.front.took.front = h.front.took.counted in omega (arith, e, h.front.told)
+not_told_of_another_count : (given : Given) → WroteOutputPrefix given unwritten (word true) (record { written = 4 }) → ⊥
+not_told_of_another_count given h = let e : 5 ≡ 0 + length h.prefix.took.prefix = h.prefix.took.counted in omega (arith, e, h.prefix.told)
 
 -- an input is unreadable where a read failed
 unreadable : (options : Options) → IsUnreadable (running options false (reader false) (reader true))

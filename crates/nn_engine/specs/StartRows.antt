@@ -13,13 +13,13 @@ use Rattle.serde_json.specs.Read.{number_of as json_number}
 use Rattle.nn_model.specs.declared.form.Form.TheVariants.{Dir}
 use Rattle.nn_model.specs.Namespace.{root_alone, with_row}
 use Rattle.nn_image.specs.declared.fault.ImageFault.TheVariants.{NotHeader, BadLine, WrongOrder, CountMismatch, Truncated, BadVersion, ReadFault, OutOfMemory}
-use Rattle.nn_image.specs.Reading.{is_end_line, read_image, all_from, rows_from, pieces_of, object_of, value_of, number_in, text_in, flag_in, array_in, path_in, block_of, gathered, blocks_at, numbers_at, replication_in, file_in, form_of, form_in, row_in, profile_in, fields_in}
+use Rattle.nn_image.specs.Reading.{is_end_line, read_image, all_from, rows_from, pieces_of, object_of, value_of_line, number_under, text_under, flag_under, array_under, path_under, block_of, gathered, blocks_at, numbers_at, replication_value, file_in, form_by_kind, form_in, row_of_line, header_profile, fields_in}
 use Rattle.json.specs.Print.{escape_byte}
-use Rattle.nn_listing.specs.Listing.{newline}
+use Rattle.nn_bytes.specs.Lines.{line_feed}
 use Rattle.nn_listing.specs.Tables.{datanodes}
 use Rattle.nn_model.specs.History.{History}
 use Rattle.nn_segment.specs.LogEnd.{end_of_log, end_of_txs}
-use Rattle.nn_scenario.specs.Cut.{segments_from, cut_from}
+use Rattle.nn_scenario.specs.Cut.{segments_from, parts_from}
 use Rattle.nn_front.specs.Cut.{divided}
 use Rattle.nn_edits.specs.Reading.{edit_of_line, either_of_line, object_in, value_of as line_value, either_in, tx_in, op_in, op_of, txid_in, whole_in, number_in as line_number, path_in as line_path, profile_in as line_profile, edit_in, block_in, items_in, blocks_in, report_in, dn_in, kind_in, kind_of}
 use Rattle.nn_edits.specs.declared.fault.LineFault.TheVariants.{MissingField}
@@ -31,7 +31,7 @@ use Rattle.nn_engine.specs.Start.{from_root, start_in, scenario_in}
 
 -- lines, each with its line feed
 abbrev lines : List (List ℕ) → List ℕ
-lines each = flat_map (λ l. l ++ newline ∷ []) each
+lines each = flat_map (λ l. l ++ line_feed ∷ []) each
 
 abbrev printed : ℕ → List (List ℕ) → Printed
 printed status each = record { text = lines each; status = status }
@@ -54,17 +54,17 @@ not_asked_for = (refl, refl)
 
 -- with the image, and the scenario is what follows it
 asked_for : start_in true input ≡ Ok (record { namespace = with_row root_alone (codes "a" ∷ []) Dir; txid = 5 })
-unfolding divided is_end_line read_image all_from rows_from pieces_of object_of value_of number_in text_in flag_in array_in path_in block_of gathered blocks_at numbers_at replication_in file_in form_of form_in row_in profile_in fields_in digits is_utf8 chars encode value punctuate lex content word after_number json_number scan_numeral
+unfolding divided is_end_line read_image all_from rows_from pieces_of object_of value_of_line number_under text_under flag_under array_under path_under block_of gathered blocks_at numbers_at replication_value file_in form_by_kind form_in row_of_line header_profile fields_in digits is_utf8 chars encode value punctuate lex content word after_number json_number scan_numeral
 asked_for = refl
 
 follows_it : scenario_in true input ≡ lines (codes "x" ∷ [])
-unfolding divided is_end_line object_of value_of is_utf8 chars encode value punctuate lex content word after_number json_number scan_numeral
+unfolding divided is_end_line object_of value_of_line is_utf8 chars encode value punctuate lex content word after_number json_number scan_numeral
 follows_it = refl
 
 -- no image, and images with faults
 faults : map (start_in true) ([] ∷ lines (codes "x" ∷ []) ∷ lines (header ∷ directory ∷ []) ∷ lines (header ∷ codes "{\"end\":1}" ∷ []) ∷ [])
     ≡ Err NotHeader ∷ Err NotHeader ∷ Err Truncated ∷ Err CountMismatch ∷ []
-unfolding divided is_end_line read_image all_from rows_from pieces_of object_of value_of number_in text_in flag_in array_in path_in block_of gathered blocks_at numbers_at replication_in file_in form_of form_in row_in profile_in fields_in digits is_utf8 chars encode value punctuate lex content word after_number json_number scan_numeral
+unfolding divided is_end_line read_image all_from rows_from pieces_of object_of value_of_line number_under text_under flag_under array_under path_under block_of gathered blocks_at numbers_at replication_value file_in form_by_kind form_in row_of_line header_profile fields_in digits is_utf8 chars encode value punctuate lex content word after_number json_number scan_numeral
 faults = refl
 
 nothing_follows : map (scenario_in true) ([] ∷ lines (codes "x" ∷ []) ∷ []) ≡ [] ∷ [] ∷ []
@@ -134,12 +134,12 @@ abbrev the_root : List (List ℕ)
 the_root = codes "txid 0" ∷ codes "dir \"/\"" ∷ codes "blocks 0 safe 0 needed 0 mode off" ∷ []
 
 the_root_is_told : output_of from_root (record usual { history = true }) [] ≡ printed 0 the_root
-unfolding output_of scenario_of lines_from segments_from cut_from end_of_log end_of_txs digits escape_byte datanodes
+unfolding output_of scenario_of lines_from segments_from parts_from end_of_log end_of_txs digits escape_byte datanodes
 the_root_is_told = refl
 
 -- where the input has no line, nothing happened
 none_happened : (events : History) → ((scenario : Scenario) → scenario_of [] ≡ Ok scenario → AreEventsOf from_root false scenario.steps (segments_from 1 scenario.parts) events) → events ≡ []
-unfolding scenario_of lines_from segments_from cut_from end_of_log end_of_txs
+unfolding scenario_of lines_from segments_from parts_from end_of_log end_of_txs
 none_happened events happened = (happened no_lines refl [] (record { last = 0; namespace = root_alone }) refl refl).one_thread refl
 
 not_what_did_not_happen : IsPrinted false (record usual { history = true }) [] (printed 0 (codes "applied 1" ∷ the_root)) → ⊥

@@ -13,14 +13,14 @@ abbrev pub line_applied : StandbyState → Tx → StandbyState
 line_applied x tx = if tx.txid == x.last + 1 then applied_to x tx else x
 
 -- the line of the first of these transactions, where there is one
-abbrev pub next_line : StandbyState → List Tx → StandbyState
-next_line x [] = x
-next_line x (tx ∷ txs) = line_applied x tx
+abbrev pub next_applied : StandbyState → List Tx → StandbyState
+next_applied x [] = x
+next_applied x (tx ∷ txs) = line_applied x tx
 
 -- each edit step is the line of the next of these transactions, and each message's line hands it over
 abbrev pub in_turn : StandbyState → List Tx → List Step → StandbyState
 in_turn x txs [] = x
-in_turn x txs (step.Edit ∷ steps) = in_turn (next_line x txs) (drop 1 txs) steps
+in_turn x txs (step.Edit ∷ steps) = in_turn (next_applied x txs) (drop 1 txs) steps
 in_turn x txs (step.Message m ∷ steps) = in_turn (received x m) txs steps
 
 -- and then the flush

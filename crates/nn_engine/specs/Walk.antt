@@ -18,18 +18,18 @@ end_of_parts last n (txs ∷ parts) =
 abbrev pub end_within : ℕ → Namespace → List Tx → List (List Tx) → Result LogEnd LogStop
 end_within last n back later = and_then (end_of_txs last n (counted last back)) (λ end. end_of_parts end.last end.namespace later)
 
--- these parts were walked through, and the front of the next one, to a txid and a namespace
+-- these parts were walked through, and the prefix of the next one, to a txid and a namespace
 abbrev pub HasWalked : ℕ → Namespace → List (List Tx) → List Tx → ℕ → Namespace → Type 0
 HasWalked base start parts [] last n = (later : List (List Tx)) → end_of_parts base start (parts ++ later) ≡ end_of_parts last n later
-HasWalked base start parts (t ∷ front) last n =
-    (back : List Tx) (later : List (List Tx)) → end_of_parts base start (parts ++ ((t ∷ front) ++ back) ∷ later) ≡ end_within last n back later
+HasWalked base start parts (t ∷ prefix) last n =
+    (back : List Tx) (later : List (List Tx)) → end_of_parts base start (parts ++ ((t ∷ prefix) ++ back) ∷ later) ≡ end_within last n back later
 
 -- the walk has stopped in them
 abbrev pub HasStopped : ℕ → Namespace → List (List Tx) → List Tx → LogStop → Type 0
 HasStopped base start parts [] stop = (later : List (List Tx)) → end_of_parts base start (parts ++ later) ≡ Err stop
-HasStopped base start parts (t ∷ front) stop = (back : List Tx) (later : List (List Tx)) → end_of_parts base start (parts ++ ((t ∷ front) ++ back) ∷ later) ≡ Err stop
+HasStopped base start parts (t ∷ prefix) stop = (back : List Tx) (later : List (List Tx)) → end_of_parts base start (parts ++ ((t ∷ prefix) ++ back) ∷ later) ≡ Err stop
 
 -- the next transaction of the part, or the first of the next part, which begins no higher than the next one
 abbrev pub Fits : List Tx → ℕ → Tx → Type 0
 Fits [] last tx = tx.txid ≤ last + 1
-Fits (t ∷ front) last tx = Unit {0}
+Fits (t ∷ prefix) last tx = Unit {0}

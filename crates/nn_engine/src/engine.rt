@@ -3,7 +3,7 @@ ghost use Rattle.std.specs.Prelude.{◌≡◌, ◌≤◌, ◌^◌, ℕ, List, fa
 ghost use Rattle.nn_model.specs.History.{History};
 ghost use Rattle.nn_model.specs.Lanes.{Lanes};
 ghost use Rattle.nn_model.specs.Namespace.{Namespace as Paths};
-ghost use Rattle.nn_shadow.specs.Calls.{after, flushed};
+ghost use Rattle.nn_shadow.specs.Calls.{with_past, flushed};
 ghost use Rattle.nn_shadow.specs.Contents.{standby_of};
 ghost use Rattle.nn_shadow.specs.Laws.{StandsBy};
 ghost use Rattle.nn_types.specs.declared.tx.Tx.{Tx};
@@ -11,13 +11,13 @@ ghost use Rattle.nn_engine.specs.Following.{serving};
 ghost use Rattle.nn_engine.specs.declared.engine.Options.{Options as RunOptions};
 ghost use Rattle.nn_engine.specs.Output.{after_log, with_history, IsPrinted};
 ghost use Rattle.nn_engine.specs.Pass.{IsRunOf};
-ghost use Rattle.nn_engine.specs.Run.{Wrote, WroteFront, running, unread_line};
+ghost use Rattle.nn_engine.specs.Run.{WroteOutput, WroteOutputPrefix, running, unread_line};
 ghost use Rattle.nn_engine.specs.Pieces.{faulted};
 ghost use Rattle.nn_engine.specs.Shown.{HasFlushed, shown, with_settings};
 
 use crate::device::InputFault;
 use crate::fault_line::FaultLine;
-use crate::live::Halt;
+use crate::live::EndFault;
 use crate::output::{OUT_OF_MEMORY, Output, RunEnd, RunFault, finish, finish_output, no_memory};
 use crate::pass::follow_input;
 use nn_device::{Reader, Writer};
@@ -56,7 +56,7 @@ const UNREADABLE: &[u8] = b"fault 8\n";
 ///
 /// `fault 8` says that a read failed, or that the scenario has more than 16,777,216 bytes. A reader that has not ended after
 /// 16,777,216 reads counts as failed. `fault 55` says that memory was refused. No fault line takes memory. After a failed
-/// write the writer has a front of the output.
+/// write the writer has a prefix of the output.
 ///
 /// Each line is followed as it comes, and none is kept; nor are events, unless a history is asked for. An image is kept whole
 /// until its end line has come.
@@ -66,10 +66,10 @@ pub fn run<R: Read, W: Write>(
     input: &mut Reader<R>,
     writer: &mut Writer<W>,
 ) -> Result<RunEnd, RunFault>
-    ensures written { IfOk result (λ end. Wrote
+    ensures written { IfOk result (λ end. WroteOutput
         (running options.now false input.old input.new)
         writer.old writer.new end.status) }
-    ensures front { IfErr result (WroteFront
+    ensures prefix { IfErr result (WroteOutputPrefix
         (running options.now false input.old input.new)
         writer.old writer.new) }
     ensures reads { input.new.reads ≤ 2 ^ 24 }
@@ -99,48 +99,48 @@ pub fn unread_line(fault: InputFault) -> &'static [u8]
 
 // The output of an input that was followed: the same for the same bytes, and no other. It knows of no reader, so that
 // neither `fault 8` nor `fault 55` is among its lines; where memory runs out there is no output.
-fn output_of_end(end: Result<Shadow, Halt>) -> Result<Output, AllocError>
-    requires { IfOk end (λ standby. standby.phase ≡ serving) }
+fn output_of_end(end: Result<Shadow, EndFault>) -> Result<Output, AllocError>
+    requires { IfOk end (λ shadow. shadow.phase ≡ serving) }
     ensures { (options : RunOptions) (input : List ℕ) → IsRunOf options input end → IfOk result (λ o. IsPrinted false options input (shown options o)) }
 {
     match end {
-        Ok(standby) => output_of_standby(standby),
+        Ok(shadow) => output_of_standby(shadow),
         Err(halt) => Ok(Output::Fault(line_of_halt(halt)?)),
     }
 }
 
-fn line_of_halt(halt: Halt) -> Result<FaultLine, AllocError>
+fn line_of_halt(halt: EndFault) -> Result<FaultLine, AllocError>
     ensures { (options : RunOptions) (input : List ℕ) → IsRunOf options input (Err halt) → IfOk result (λ line. IsPrinted false options input (faulted line)) }
 {
     match halt {
-        Halt::Image(fault) => Ok(FaultLine::of_image(fault)),
-        Halt::Line(bad) => FaultLine::of_bad_line(bad),
-        Halt::Segment(bad) => FaultLine::of_bad_segment(bad),
-        Halt::Log(fault) => Ok(FaultLine::of_log(fault)),
+        EndFault::Image(fault) => Ok(FaultLine::of_image(fault)),
+        EndFault::Line(bad) => FaultLine::of_bad_line(bad),
+        EndFault::Segment(bad) => FaultLine::of_bad_segment(bad),
+        EndFault::Log(fault) => Ok(FaultLine::of_log(fault)),
     }
 }
 
 // The standby followed its log to the end. It flushes what it holds, and then its tables are told.
-fn output_of_standby(standby: Shadow) -> Result<Output, AllocError>
-    requires { standby.phase ≡ serving }
-    ensures { IfOk result (λ o. (options : RunOptions) (past : History) (start : Paths) (base : ℕ) (txs : List Tx) (lanes : Lanes) → StandsBy start base txs lanes (after past (standby_of standby))
-        → shown options o ≡ with_history options.history (flushed (standby_of standby)).history (after_log (with_settings options standby.permille standby.table.min) lanes (Ok (record { last = standby.last; namespace = standby.namespace })))) }
+fn output_of_standby(shadow: Shadow) -> Result<Output, AllocError>
+    requires { shadow.phase ≡ serving }
+    ensures { IfOk result (λ o. (options : RunOptions) (past : History) (start : Paths) (base : ℕ) (txs : List Tx) (lanes : Lanes) → StandsBy start base txs lanes (with_past past (standby_of shadow))
+        → shown options o ≡ with_history options.history (flushed (standby_of shadow)).history (after_log (with_settings options shadow.permille shadow.table.min) lanes (Ok (record { last = shadow.last; namespace = shadow.namespace })))) }
 {
-    let mut standby = standby;
-    if let Err(fault) = standby.flush() {
+    let mut shadow = shadow;
+    if let Err(fault) = shadow.flush() {
         match fault {
             FlushFault::OutOfMemory => return Err(AllocError),
             FlushFault::Stopped(_) => unreachable!(),
         }
     }
-    Ok(output_of_flushed(standby))
+    Ok(output_of_flushed(shadow))
 }
 
 // The history, the listing, the tables and what more is asked for of a standby that has flushed.
-pub(crate) fn output_of_flushed(standby: Shadow) -> Output
-    ensures { (options : RunOptions) (lanes : Lanes) → HasFlushed lanes (standby_of standby)
-        → shown options result ≡ with_history options.history standby.history (after_log (with_settings options standby.permille standby.table.min) lanes (Ok (record { last = standby.last; namespace = standby.namespace }))) }
+pub(crate) fn output_of_flushed(shadow: Shadow) -> Output
+    ensures { (options : RunOptions) (lanes : Lanes) → HasFlushed lanes (standby_of shadow)
+        → shown options result ≡ with_history options.history shadow.history (after_log (with_settings options shadow.permille shadow.table.min) lanes (Ok (record { last = shadow.last; namespace = shadow.namespace }))) }
 {
-    standby.consistent();
-    Output::Flushed(standby)
+    shadow.recall_invariant();
+    Output::Flushed(shadow)
 }

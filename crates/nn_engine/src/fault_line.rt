@@ -1,6 +1,6 @@
 //! The line of a fault.
 ghost use Rattle.std.specs.Prelude.{◌≡◌, ◌≢◌, codes, IfOk, Some, None, Option, ℕ};
-ghost use Rattle.nn_device.specs.Page.{Puts};
+ghost use Rattle.nn_device.specs.Page.{PutsPiece};
 ghost use Rattle.nn_edits.specs.Fault.{number_of as line_number_of};
 ghost use Rattle.nn_segment.specs.Fault.{number_of as segment_number_of};
 ghost use Rattle.nn_segment.specs.LogEnd.{stop_number};
@@ -12,7 +12,7 @@ use crate::follower::LogFault;
 use nn_device::{Page, Writer};
 use nn_edits::LineFault;
 use nn_image::ImageFault;
-use nn_scenario::{BadLine, BadSegment};
+use nn_scenario::{PartFault, ScenarioFault};
 use nn_segment::SegmentFault;
 use nn_text::put_number;
 use nn_types::fault;
@@ -79,7 +79,7 @@ impl FaultLine {
     }
 
     /// The line of a bad line. There is none where memory was refused.
-    pub(crate) fn of_bad_line(bad: BadLine) -> Result<FaultLine, AllocError>
+    pub(crate) fn of_bad_line(bad: ScenarioFault) -> Result<FaultLine, AllocError>
         ensures { IfOk result (λ line. (bad.fault ≢ LineFault.OutOfMemory)
             × (line ≡ (fault_at (codes " line ") (line_number_of bad.fault) bad.line).text)) }
     {
@@ -90,7 +90,7 @@ impl FaultLine {
     }
 
     /// The line of a bad segment. There is none where memory was refused.
-    pub(crate) fn of_bad_segment(bad: BadSegment) -> Result<FaultLine, AllocError>
+    pub(crate) fn of_bad_segment(bad: PartFault) -> Result<FaultLine, AllocError>
         ensures { IfOk result (λ line. (bad.fault ≢ SegmentFault.OutOfMemory)
             × (line ≡ (fault_at (codes " segment ") (segment_number_of bad.fault) bad.segment).text)) }
     {
@@ -112,7 +112,7 @@ impl FaultLine {
 
     /// Puts the line on a page. It takes no memory.
     pub(crate) fn put<W: Write>(&self, page: &mut Page, writer: &mut Writer<W>)
-        ensures { Puts self.now page.old writer.old page.new writer.new }
+        ensures { PutsPiece self.now page.old writer.old page.new writer.new }
     {
         page.put(writer, b"fault ");
         put_number(page, writer, u64::from(self.number));
@@ -126,7 +126,7 @@ impl FaultLine {
 
 /// Puts the line of an image's fault, `fault N image` or `fault N image line L`. It takes no memory.
 pub fn put_image_fault<W: Write>(page: &mut Page, writer: &mut Writer<W>, fault: ImageFault)
-    ensures { Puts (image_fault fault).text page.old writer.old page.new writer.new }
+    ensures { PutsPiece (image_fault fault).text page.old writer.old page.new writer.new }
 {
     FaultLine::of_image(fault).put(page, writer);
 }

@@ -1,11 +1,12 @@
 //! A standby follows a log and the reports of DataNodes as their lines come.
 ghost use Rattle.std.specs.Prelude.{◌≡◌, ◌≤◌, ◌<◌, ◌^◌, ◌&&◌, nat_lt, ℕ, ◌+◌, List, ◌∷◌, ◌++◌, [], Ok, None, Some, true, false, length, IfOk, IfErr, OnOk, MatchResult};
 ghost use Rattle.nn_types.specs.declared.tx.Tx.{Tx as Transaction};
+ghost use Rattle.nn_types.specs.Limits.{max_datanodes};
 ghost use Rattle.nn_model.specs.History.{History};
 ghost use Rattle.nn_model.specs.Lanes.{Lanes, followed_by};
 ghost use Rattle.nn_model.specs.Namespace.{Namespace};
 ghost use Rattle.nn_model.specs.Stands.{fresh};
-ghost use Rattle.nn_shadow.specs.Calls.{after, received};
+ghost use Rattle.nn_shadow.specs.Calls.{with_past, received};
 ghost use Rattle.nn_shadow.specs.Contents.{KeepsSettings, standby_of};
 ghost use Rattle.nn_shadow.specs.Laws.{StandsBy};
 ghost use Rattle.nn_shadow.specs.Refusals.{hand_refusal};
@@ -26,7 +27,7 @@ pub enum LogFault {
 }
 
 /// A standby that follows lines as they come, until its log stops.
-#[derive(Drop)]
+#[derive(Debug, Drop)]
 pub struct Follower {
     shadow: Shadow,
     // how many messages it was handed
@@ -37,20 +38,21 @@ pub struct Follower {
 
 impl Model for Follower {
     ghost use Rattle.std.specs.Prelude.{◌≡◌, ◌≤◌, ℕ, None, length, option_map};
-    ghost use Rattle.nn_shadow.specs.Contents.{number_in};
-    ghost use Rattle.nn_engine.specs.Following.{Following, serving, stop_of};
+    ghost use Rattle.nn_shadow.specs.Contents.{last_number_in};
+    ghost use Rattle.nn_types.specs.Limits.{max_datanodes};
+    ghost use Rattle.nn_engine.specs.Following.{Follower, serving, stop_of};
 
-    ghost Value = { Following };
+    ghost Value = { Follower };
 
     ghost view = { λ f. record { standby = f.shadow; messages = f.messages; stop = option_map stop_of f.stop } };
 
-    ghost invariant = { λ f. (f.stop ≡ None → (f.shadow.phase ≡ serving) × (length f.shadow.numbers ≡ 256)) × ((dn : ℕ) → number_in f.shadow.numbers dn ≤ f.messages) };
+    ghost invariant = { λ f. (f.stop ≡ None → (f.shadow.phase ≡ serving) × (length f.shadow.numbers ≡ max_datanodes)) × ((dn : ℕ) → last_number_in f.shadow.numbers dn ≤ f.messages) };
 }
 
 impl Follower {
     /// A standby that has followed nothing yet. It has a lane for each DataNode that there can be.
     pub fn of(shadow: Shadow) -> Follower
-        requires serving { (shadow.phase ≡ serving) × (length shadow.numbers ≡ 256) }
+        requires serving { (shadow.phase ≡ serving) × (length shadow.numbers ≡ max_datanodes) }
         requires fresh { standby_of shadow ≡ fresh shadow.namespace shadow.last }
         ensures { result ≡ record { standby = shadow; messages = 0; stop = None } }
     {
@@ -107,7 +109,7 @@ impl Follower {
 
     /// The next report of its DataNode. Where memory is refused the standby is as before.
     pub fn follow_report(&mut self, report: &Report) -> Result<(), AllocError>
-        requires known { (1 ≤ report.now.dn) × (report.now.dn ≤ 256) }
+        requires known { (1 ≤ report.now.dn) × (report.now.dn ≤ max_datanodes) }
         requires few { self.old.messages < 2 ^ 32 }
         ensures ok { OnOk result (FollowsReport report.now self.old self.new) }
         ensures messages { self.new.messages ≤ self.old.messages + 1 }
@@ -162,7 +164,7 @@ fn apply(shadow: &mut Shadow, tx: &Tx) -> Result<Result<(), EditFault>, AllocErr
 fn hand(shadow: &mut Shadow, message: Message) -> Result<(), AllocError>
     requires { hand_refusal (length shadow.old.numbers) shadow.old.phase (standby_of shadow.old) message ≡ None }
     ensures stands { OnOk result ((past : History) (start : Namespace) (base : ℕ) (txs : List Transaction) (lanes : Lanes)
-        → StandsBy start base txs lanes (after past (standby_of shadow.old)) → StandsBy start base txs (followed_by lanes message) (after past (standby_of shadow.new))) }
+        → StandsBy start base txs lanes (with_past past (standby_of shadow.old)) → StandsBy start base txs (followed_by lanes message) (with_past past (standby_of shadow.new))) }
     ensures turn { OnOk result (standby_of shadow.new ≡ received (standby_of shadow.old) message) }
     ensures same { (shadow.new.namespace ≡ shadow.old.namespace) × (shadow.new.last ≡ shadow.old.last) }
     ensures left { IfErr result (λ _. standby_of shadow.new ≡ standby_of shadow.old) }

@@ -11,7 +11,7 @@ pub trait Gate {
 }
 
 /// A gate that is open.
-#[derive(Drop)]
+#[derive(Debug, Drop)]
 pub struct Open;
 
 impl Gate for Open {
@@ -22,7 +22,7 @@ impl Gate for Open {
 pub const SOURCE: u64 = 0;
 
 /// The gate as one thread comes to it: once.
-#[derive(Drop)]
+#[derive(Debug, Drop)]
 pub struct GatePass<G> {
     gate: Arc<G, Global>,
     thread: u64,

@@ -23,5 +23,5 @@ pub use fault_line::put_image_fault;
 pub use gate::{Gate, Open};
 pub use law::a_checkpoint_prints_the_same;
 pub use output::{RunEnd, RunFault};
-pub use parts::read_scenario;
+pub use parts::{ScenarioInputFault, read_scenario};
 pub use threads::{ThreadOptions, run_threads};

@@ -8,28 +8,29 @@ ghost use Rattle.nn_model.specs.Lanes.{no_messages};
 ghost use Rattle.nn_model.specs.Stands.{fresh};
 ghost use Rattle.nn_shadow.specs.Contents.{standby_of};
 ghost use Rattle.nn_shadow.specs.Laws.{StandsBy};
-ghost use Rattle.nn_engine.specs.Following.{serving, line_count, Lived, IsLive, IsNew, IsReading, EndsSo};
+ghost use Rattle.nn_engine.specs.Following.{serving, line_count, Lived, IsLive, IsNew, IsReading, LinesComeTo};
+ghost use Rattle.nn_types.specs.Limits.{max_datanodes};
 
 use crate::follower::{Follower, LogFault};
 use nn_edits::Line;
 use nn_image::ImageFault;
-use nn_scenario::{BadLine, BadSegment, LineSink, SegmentCheck};
+use nn_scenario::{LineSink, PartFault, ScenarioFault, SegmentCheck};
 use nn_shadow::Shadow;
 use nn_types::{Report, Tx};
 use std::alloc::{AllocError, Global};
 use std::marker::Model;
 
 /// Why a run shows no tables, where its input was read. The first of these is told, whatever came first.
-#[derive(Drop)]
-pub enum Halt {
+#[derive(Debug, Drop)]
+pub enum EndFault {
     Image(ImageFault),
-    Line(BadLine),
-    Segment(BadSegment),
+    Line(ScenarioFault),
+    Segment(PartFault),
     Log(LogFault),
 }
 
 /// The check of a scenario's segments, and a standby that follows its lines.
-#[derive(Drop)]
+#[derive(Debug, Drop)]
 pub struct Live {
     check: SegmentCheck,
     follower: Follower,
@@ -63,7 +64,7 @@ impl LineSink for Live {
 impl Live {
     /// No line has come to this standby, whose events are kept if its history is asked for.
     pub fn of(shadow: Shadow, history: bool) -> Live
-        requires serving { (shadow.phase ≡ serving) × (length shadow.numbers ≡ 256) }
+        requires serving { (shadow.phase ≡ serving) × (length shadow.numbers ≡ max_datanodes) }
         requires fresh { standby_of shadow ≡ fresh shadow.namespace shadow.last }
         requires stands { StandsBy shadow.namespace shadow.last [] no_messages (standby_of shadow) }
         ensures new { IsNew shadow history result }
@@ -93,7 +94,7 @@ impl Live {
     }
 
     fn report(&mut self, report: &Report) -> Result<(), AllocError>
-        requires known { (1 ≤ report.now.dn) × (report.now.dn ≤ 256) }
+        requires known { (1 ≤ report.now.dn) × (report.now.dn ≤ max_datanodes) }
         requires few { line_count self.old < 2 ^ 32 }
         ensures live { OnOk result ((first : Lived) (x : Reading) → IsLive first x self.old → IsLive first (with_report_line x report.now) self.new) }
         ensures count { line_count self.new ≤ line_count self.old + 1 }
@@ -114,9 +115,9 @@ impl Live {
     }
 
     /// The standby at the end of all lines, or why there is none.
-    fn end(self) -> Result<Shadow, Halt>
+    fn end(self) -> Result<Shadow, EndFault>
         requires { line_count self < 2 ^ 62 }
-        ensures ends { (first : Lived) (text : List ℕ) (x : Reading) → IsLive first x self → IsReading text x → EndsSo first text result }
+        ensures ends { (first : Lived) (text : List ℕ) (x : Reading) → IsLive first x self → IsReading text x → LinesComeTo first text result }
         ensures serving { IfOk result (λ standby. standby.phase ≡ serving) }
     {
         let Live {
@@ -125,23 +126,23 @@ impl Live {
             ..
         } = self;
         if let Some(bad) = check.into_bad() {
-            return Err(Halt::Segment(bad));
+            return Err(EndFault::Segment(bad));
         }
         match follower.end() {
             Ok(shadow) => Ok(shadow),
-            Err(fault) => Err(Halt::Log(fault)),
+            Err(fault) => Err(EndFault::Log(fault)),
         }
     }
 }
 
 /// What a scenario comes to whose lines were read so: the standby at its end, or why there is none.
-pub fn end_of_lines(lines: Result<Live, BadLine>) -> Result<Shadow, Halt>
+pub fn end_of_lines(lines: Result<Live, ScenarioFault>) -> Result<Shadow, EndFault>
     requires { IfOk lines (λ live. line_count live < 2 ^ 62) }
-    ensures ends { (first : Lived) (text : List ℕ) → IsReadBy IsLive first text lines → EndsSo first text result }
+    ensures ends { (first : Lived) (text : List ℕ) → IsReadBy IsLive first text lines → LinesComeTo first text result }
     ensures serving { IfOk result (λ standby. standby.phase ≡ serving) }
 {
     match lines {
         Ok(live) => live.end(),
-        Err(bad) => Err(Halt::Line(bad)),
+        Err(bad) => Err(EndFault::Line(bad)),
     }
 }

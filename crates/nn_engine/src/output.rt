@@ -2,7 +2,7 @@
 ghost use Rattle.std.specs.Prelude.{◌≡◌, codes, IfOk, IfErr};
 ghost use Rattle.nn_device.specs.Device.{Took};
 ghost use Rattle.nn_engine.specs.Run.{Unfinished, fault_alone};
-ghost use Rattle.nn_engine.specs.Shown.{Finished, FinishedFront, printed_of, shown};
+ghost use Rattle.nn_engine.specs.Shown.{Finished, FinishedPrefix, printed_of, shown};
 
 use crate::engine::Options;
 use crate::fault_line::FaultLine;
@@ -47,7 +47,7 @@ pub(crate) fn finish_output<W: Write>(
     writer: &mut Writer<W>,
 ) -> Result<RunEnd, RunFault>
     ensures written { IfOk result (λ end. Finished (shown options.now output) writer.old writer.new end.status) }
-    ensures front { IfErr result (FinishedFront (shown options.now output) writer.old writer.new) }
+    ensures prefix { IfErr result (FinishedPrefix (shown options.now output) writer.old writer.new) }
 {
     let finished = finish_lent(alloc, options, &output, writer);
     if options.leave_memory {
@@ -65,7 +65,7 @@ fn finish_lent<W: Write>(
     writer: &mut Writer<W>,
 ) -> Result<RunEnd, RunFault>
     ensures written { IfOk result (λ end. Finished (shown options.now output.now) writer.old writer.new end.status) }
-    ensures front { IfErr result (FinishedFront (shown options.now output.now) writer.old writer.new) }
+    ensures prefix { IfErr result (FinishedPrefix (shown options.now output.now) writer.old writer.new) }
 {
     match Ready::of(alloc, options, output) {
         Ok(ready) => write_ready(alloc, ready, writer),
@@ -76,7 +76,7 @@ fn finish_lent<W: Write>(
 /// Writes the line of a run for which memory was refused.
 pub(crate) fn no_memory<W: Write>(writer: &mut Writer<W>) -> Result<RunEnd, RunFault>
     ensures ok { IfOk result (λ end. Took writer.old writer.new (fault_alone (codes "55")).text × (end.status ≡ 1)) }
-    ensures front { IfErr result (Unfinished writer.old writer.new (fault_alone (codes "55")).text) }
+    ensures prefix { IfErr result (Unfinished writer.old writer.new (fault_alone (codes "55")).text) }
 {
     finish(writer, OUT_OF_MEMORY, 1)
 }
@@ -88,7 +88,7 @@ fn write_ready<W: Write>(
     writer: &mut Writer<W>,
 ) -> Result<RunEnd, RunFault>
     ensures ok { IfOk result (λ end. Took writer.old writer.new (printed_of ready.entry).text × (end.status ≡ (printed_of ready.entry).status)) }
-    ensures front { IfErr result (Unfinished writer.old writer.new (printed_of ready.entry).text) }
+    ensures prefix { IfErr result (Unfinished writer.old writer.new (printed_of ready.entry).text) }
 {
     let before = writer.taken();
     let status = ready.status();
@@ -110,7 +110,7 @@ pub(crate) fn finish<W: Write>(
     status: u8,
 ) -> Result<RunEnd, RunFault>
     ensures ok { IfOk result (λ end. Took writer.old writer.new text.now × (end.status ≡ status)) }
-    ensures front { IfErr result (Unfinished writer.old writer.new text.now) }
+    ensures prefix { IfErr result (Unfinished writer.old writer.new text.now) }
 {
     match writer.write_all(text) {
         Ok(()) => Ok(RunEnd { status }),

@@ -1,42 +1,68 @@
 //! The parts of an input that are read whole, for a run with threads: its image and its scenario.
 ghost use Rattle.std.specs.Prelude.{◌≡◌, ◌≤◌, ◌++◌, [], List, ℕ, false, drop, is_some, length, IfOk, IfErr, OnOk};
 ghost use Rattle.std.specs.Io.KnownBytes.{IsAtEnd};
-ghost use Rattle.nn_scenario.specs.Scenario.{seen, IsLawfulScenario};
-ghost use Rattle.nn_engine.specs.Input.{EndsFront, Fits, HasParts, IsFrontOf, IsNotTaken, IsRead, IsReadOfAll, IsScenarioOfAll, IsUnread};
+ghost use Rattle.nn_scenario.specs.Scenario.{scenario_of_read, IsLawfulScenario};
+ghost use Rattle.nn_engine.specs.Input.{EndsFront, IsWithinLimits, HasParts, IsFrontOf, IsNotTaken, IsRead, IsReadOfAll, IsScenarioOfAll, IsUnread, lines_read};
 
 use crate::device::{ByteSink, InputFault, read_to_end};
 use nn_device::Reader;
 use nn_edits::Scratch;
 use nn_front::{Front, Loaded};
-use nn_scenario::{BadLine, Lines, MAX_INPUT, Reading, Scenario, scenario_of};
+use nn_scenario::{Lines, Reading, Scenario, ScenarioFault, scenario_of};
+use nn_types::limits::MAX_INPUT;
 use std::alloc::{AllocError, Global};
 use std::io::Read;
 use std::marker::Model;
+use thiserror::Error;
 
 /// What the image of an input is read as, where it is asked for and there, and the scenario or its first line that is refused.
 #[derive(Drop)]
 pub(crate) struct InputParts {
     pub loaded: Option<Loaded>,
-    pub lines: Result<Scenario, BadLine>,
+    pub lines: Result<Scenario, ScenarioFault>,
 }
 
-/// Reads a scenario to the reader's end: at most `MAX_INPUT` bytes of it, in reads of up to 65,536 bytes each. The inner
-/// result is the scenario, or its first line that is refused. It reads on after such a line, since
-/// an input that can't be read is told first; what it read of a line is kept no longer than the line, unless the
-/// scenario has it. After a fault discard the reader: nothing is said of how far it was read.
+/// Why no scenario was read.
+#[derive(Debug, Drop, Error)]
+pub enum ScenarioInputFault {
+    /// The input can't be read, whatever its lines are.
+    #[error("{0}")]
+    Input(InputFault),
+    /// Its first line that is refused.
+    #[error("{0}")]
+    Line(ScenarioFault),
+}
+
+impl From<InputFault> for ScenarioInputFault {
+    ghost use Rattle.nn_engine.specs.declared.parts.ScenarioInputFault.TheVariants.{Input};
+
+    ghost from_gives = { λ fault e. e ≡ Input fault };
+
+    fn from(fault: InputFault) -> ScenarioInputFault {
+        ScenarioInputFault::Input(fault)
+    }
+}
+
+/// Reads a scenario to the reader's end: at most `MAX_INPUT` bytes of it, in reads of up to 65,536 bytes each. It reads on
+/// after a line that is refused, since an input that can't be read is told first; what it read of a line is kept no longer
+/// than the line, unless the scenario has it. After a fault of the input discard the reader: nothing is said of how far it
+/// was read.
 pub fn read_scenario<R: Read>(
     alloc: Global,
     input: &mut Reader<R>,
-) -> Result<Result<Scenario, BadLine>, InputFault>
-    ensures whole { IfOk result (IsScenarioOfAll input.old input.new) }
-    ensures end { OnOk result (IsAtEnd input.new.left) }
-    ensures lawful { IfOk result (λ lines. IfOk lines (λ s. IsLawfulScenario (seen s))) }
-    ensures none_failed { OnOk result (input.new.failed ≡ input.old.failed) }
-    ensures why { IfErr result (IsUnread false input.old input.new) }
+) -> Result<Scenario, ScenarioInputFault>
+    ensures whole { IfOk (lines_read result) (IsScenarioOfAll input.old input.new) }
+    ensures end { OnOk (lines_read result) (IsAtEnd input.new.left) }
+    ensures lawful { IfOk result (λ s. IsLawfulScenario (scenario_of_read s)) }
+    ensures none_failed { OnOk (lines_read result) (input.new.failed ≡ input.old.failed) }
+    ensures why { IfErr (lines_read result) (IsUnread false input.old input.new) }
 {
     let parts = read_parts(alloc, false, input)?;
     let InputParts { lines, .. } = parts;
-    Ok(lines)
+    match lines {
+        Ok(scenario) => Ok(scenario),
+        Err(fault) => Err(ScenarioInputFault::Line(fault)),
+    }
 }
 
 /// Reads an input to the reader's end, with an image before the scenario or without one. The image is loaded as it comes, and
@@ -49,7 +75,7 @@ pub(crate) fn read_parts<R: Read>(
 ) -> Result<InputParts, InputFault>
     ensures whole { IfOk result (λ r. IsReadOfAll from_image (λ input. IsRead from_image input r) input.old input.new) }
     ensures end { OnOk result (IsAtEnd input.new.left) }
-    ensures lawful { IfOk result (λ r. IfOk r.lines (λ s. IsLawfulScenario (seen s))) }
+    ensures lawful { IfOk result (λ r. IfOk r.lines (λ s. IsLawfulScenario (scenario_of_read s))) }
     ensures none_failed { OnOk result (input.new.failed ≡ input.old.failed) }
     ensures why { IfErr result (IsUnread from_image input.old input.new) }
 {
@@ -71,7 +97,7 @@ struct Parts {
 
 impl Model for Parts {
     ghost use Rattle.std.specs.Prelude.{◌≤◌, length};
-    ghost use Rattle.nn_scenario.specs.Scenario.{max_input};
+    ghost use Rattle.nn_types.specs.Limits.{max_input};
     ghost use Rattle.nn_engine.specs.Input.{PartsTaken};
 
     ghost Value = { PartsTaken };
@@ -124,8 +150,8 @@ impl Parts {
     // The parts of an input that has ended.
     fn end(self, alloc: Global) -> InputParts
         ensures read { (input : List ℕ) → HasParts self input → IsRead (is_some self.front) input result }
-        ensures lawful { (input : List ℕ) → HasParts self input → IfOk result.lines (λ s. IsLawfulScenario (seen s)) }
-        ensures fits { (input : List ℕ) → HasParts self input → Fits (is_some self.front) input }
+        ensures lawful { (input : List ℕ) → HasParts self input → IfOk result.lines (λ s. IsLawfulScenario (scenario_of_read s)) }
+        ensures fits { (input : List ℕ) → HasParts self input → IsWithinLimits (is_some self.front) input }
     {
         let Parts {
             front,

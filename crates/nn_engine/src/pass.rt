@@ -3,22 +3,23 @@ ghost use Rattle.std.specs.Prelude.{◌≡◌, ◌≤◌, ◌<◌, ◌+◌, ◌^
 ghost use Rattle.std.specs.Io.KnownBytes.{IsAtEnd};
 ghost use Rattle.nn_image.specs.declared.fault.ImageFault.{ImageFault as Fault};
 ghost use Rattle.nn_engine.specs.Following.{serving};
-ghost use Rattle.nn_engine.specs.Input.{loaded_in, start_of, Fits, IsNotTaken, IsReadOfAll, IsUnread};
+ghost use Rattle.nn_engine.specs.Input.{loaded_in, start_of, IsWithinLimits, IsNotTaken, IsReadOfAll, IsUnread};
 ghost use Rattle.nn_engine.specs.Pass.{HasBegun, HasPassed, HasPassedTo, HasRoom, IsRoomy, RunEnds, IsRunOf, StartsFrom, StartsLines};
 ghost use Rattle.nn_engine.specs.Start.{Start};
 ghost use Rattle.nn_engine.specs.declared.engine.Options.{Options as RunOptions};
+ghost use Rattle.nn_types.specs.Limits.{max_input};
 
 use crate::device::{ByteSink, InputFault, read_to_end};
 use crate::engine::Options;
-use crate::live::{Halt, Live, end_of_lines};
+use crate::live::{EndFault, Live, end_of_lines};
 use crate::start::{Begin, start_from};
 use nn_device::Reader;
 use nn_edits::Scratch;
 use nn_front::{Front, Loaded};
 use nn_image::ImageFault;
-use nn_scenario::{Lines, MAX_INPUT};
+use nn_scenario::Lines;
 use nn_shadow::Shadow;
-use nn_types::DATANODES;
+use nn_types::limits::{MAX_DATANODES, MAX_INPUT};
 use std::alloc::{AllocError, Global};
 use std::io::Read;
 use std::marker::Model;
@@ -29,7 +30,7 @@ pub(crate) fn follow_input<R: Read>(
     alloc: Global,
     options: &Options,
     input: &mut Reader<R>,
-) -> Result<Result<Shadow, Halt>, InputFault>
+) -> Result<Result<Shadow, EndFault>, InputFault>
     ensures whole { IfOk result (λ r. IsReadOfAll options.now.from_image (λ input. IsRunOf options.now input r) input.old input.new) }
     ensures serving { IfOk result (λ r. IfOk r (λ standby. standby.phase ≡ serving)) }
     ensures end { OnOk result (IsAtEnd input.new.left) }
@@ -66,10 +67,10 @@ struct Pass {
 
 impl Model for Pass {
     ghost use Rattle.std.specs.Prelude.{◌≤◌};
-    ghost use Rattle.nn_scenario.specs.Scenario.{max_input};
-    ghost use Rattle.nn_engine.specs.Pass.{Passed, HasRoom};
+    ghost use Rattle.nn_types.specs.Limits.{max_input};
+    ghost use Rattle.nn_engine.specs.Pass.{Pass, HasRoom};
 
-    ghost Value = { Passed };
+    ghost Value = { Pass };
 
     ghost view = { λ p. record { options = p.options; stage = p.stage; taken = p.taken } };
 
@@ -140,7 +141,7 @@ impl Pass {
 
     // Takes bytes of the scenario.
     fn push_lines(&mut self, alloc: Global, bytes: &[u8])
-        requires { self.old.taken + length bytes.now ≤ 16777216 }
+        requires { self.old.taken + length bytes.now ≤ max_input }
         ensures passed { (input : List ℕ) → HasPassedTo self.old input bytes.now → HasPassed self.new input }
         ensures options { self.new.options ≡ self.old.options }
     {
@@ -153,10 +154,10 @@ impl Pass {
     }
 
     // What the run of an input that has ended comes to.
-    fn end(self, alloc: Global) -> Result<Result<Shadow, Halt>, AllocError>
+    fn end(self, alloc: Global) -> Result<Result<Shadow, EndFault>, AllocError>
         ensures ends { IfOk result (λ r. (input : List ℕ) → HasPassed self input → IsRunOf self.options input r) }
         ensures serving { IfOk result (λ r. IfOk r (λ standby. standby.phase ≡ serving)) }
-        ensures fits { IfOk result (λ _. (input : List ℕ) → HasPassed self input → Fits self.options.from_image input) }
+        ensures fits { IfOk result (λ _. (input : List ℕ) → HasPassed self input → IsWithinLimits self.options.from_image input) }
     {
         let Pass {
             options,
@@ -192,20 +193,26 @@ fn lines_from(alloc: Global, options: &Options, begin: Begin) -> Result<Lines<Li
 {
     let Begin { namespace, txid } = begin;
     // One lane for each DataNode that there can be.
-    let Ok(shadow) = Shadow::from(alloc, namespace, txid.get(), DATANODES, options.settings) else {
+    let Ok(shadow) = Shadow::from(
+        alloc,
+        namespace,
+        txid.get(),
+        MAX_DATANODES,
+        options.settings,
+    ) else {
         return Err(AllocError);
     };
     Ok(Lines::to(alloc, Live::of(shadow, options.history)))
 }
 
 // What the run of a scenario that has ended comes to.
-fn end_of_begun(alloc: Global, scratch: &mut Scratch, begun: Begun) -> Result<Shadow, Halt>
-    requires { IsRoomy 16777216 begun }
+fn end_of_begun(alloc: Global, scratch: &mut Scratch, begun: Begun) -> Result<Shadow, EndFault>
+    requires { IsRoomy max_input begun }
     ensures ends { (options : RunOptions) (start : Result Start Fault) (rest : List ℕ) → HasBegun options start rest begun → RunEnds options start rest result }
     ensures serving { IfOk result (λ standby. standby.phase ≡ serving) }
 {
     match begun {
         Ok(lines) => end_of_lines(lines.end(alloc, scratch)),
-        Err(fault) => Err(Halt::Image(fault)),
+        Err(fault) => Err(EndFault::Image(fault)),
     }
 }

@@ -1,7 +1,7 @@
 //! An output that is ready to be put: all memory that it wants is had.
 ghost use Rattle.std.specs.Prelude.{◌≡◌, ◌++◌, IfOk, option_map};
 ghost use Rattle.std.specs.Option.{option_copied};
-ghost use Rattle.nn_device.specs.Page.{Puts};
+ghost use Rattle.nn_device.specs.Page.{PutsPiece};
 ghost use Rattle.nn_tree.specs.Rows.{extent_of};
 ghost use Rattle.nn_image.specs.Text.{image_text};
 ghost use Rattle.nn_listing.specs.Trail.{history_text};
@@ -63,9 +63,7 @@ impl<'a> Ready<'a> {
         ensures { IfOk result (λ ready. printed_of ready ≡ shown options.now output.now) }
     {
         match output {
-            Output::Flushed(standby) => Ok(Ready::Listing(ReadyParts::of(
-                alloc, options, standby,
-            )?)),
+            Output::Flushed(shadow) => Ok(Ready::Listing(ReadyParts::of(alloc, options, shadow)?)),
             Output::Fault(line) => Ok(Ready::Fault(line)),
         }
     }
@@ -82,7 +80,7 @@ impl<'a> Ready<'a> {
 
     /// Puts it on a page. It takes no memory.
     pub(crate) fn put<W: Write>(self, page: &mut Page, writer: &mut Writer<W>)
-        ensures { Puts (printed_of self.entry).text page.old writer.old page.new writer.new }
+        ensures { PutsPiece (printed_of self.entry).text page.old writer.old page.new writer.new }
     {
         match self {
             Ready::Listing(parts) => parts.put(page, writer),
@@ -95,25 +93,25 @@ impl<'a> ReadyParts<'a> {
     fn of(
         alloc: Global,
         options: &Options,
-        standby: &'a Shadow,
+        shadow: &'a Shadow,
     ) -> Result<ReadyParts<'a>, AllocError>
-        ensures { IfOk result (λ parts. parts ≡ listed_text options.now standby.now) }
+        ensures { IfOk result (λ parts. parts ≡ listed_text options.now shadow.now) }
     {
-        let namespace = standby.namespace();
+        let namespace = shadow.namespace();
         let extent = namespace.extent()?;
-        let image = asked_image(alloc, options.image, standby, extent)?;
+        let image = asked_image(alloc, options.image, shadow, extent)?;
         Ok(ReadyParts {
-            events: asked_history(options.history, standby),
-            listing: ReadyListing::of(namespace, extent, standby.last_txid())?,
-            tables: ReadyTables::of(alloc, standby.replicas(), standby.safe_mode())?,
-            summary: asked_summary(options.summary, standby),
-            unsafe_blocks: asked_unsafe(options.unsafe_blocks, standby, extent)?,
+            events: asked_history(options.history, shadow),
+            listing: ReadyListing::of(namespace, extent, shadow.last_txid())?,
+            tables: ReadyTables::of(alloc, shadow.replicas(), shadow.safe_mode())?,
+            summary: asked_summary(options.summary, shadow),
+            unsafe_blocks: asked_unsafe(options.unsafe_blocks, shadow, extent)?,
             image,
         })
     }
 
     fn put<W: Write>(self, page: &mut Page, writer: &mut Writer<W>)
-        ensures { Puts self.entry page.old writer.old page.new writer.new }
+        ensures { PutsPiece self.entry page.old writer.old page.new writer.new }
     {
         let ReadyParts {
             events,
@@ -133,12 +131,12 @@ impl<'a> ReadyParts<'a> {
 }
 
 fn put_asked_summary<W: Write>(page: &mut Page, writer: &mut Writer<W>, summary: Option<&Shadow>)
-    ensures { Puts (summary_after (option_copied summary.entry)) page.old writer.old page.new writer.new }
+    ensures { PutsPiece (summary_after (option_copied summary.entry)) page.old writer.old page.new writer.new }
 {
-    let Some(standby) = summary else {
+    let Some(shadow) = summary else {
         return;
     };
-    put_summary(page, writer, standby);
+    put_summary(page, writer, shadow);
 }
 
 fn put_asked_unsafe<W: Write>(
@@ -146,7 +144,7 @@ fn put_asked_unsafe<W: Write>(
     writer: &mut Writer<W>,
     lines: Option<ReadyUnsafe<'_>>,
 )
-    ensures { Puts (text_after lines.entry) page.old writer.old page.new writer.new }
+    ensures { PutsPiece (text_after lines.entry) page.old writer.old page.new writer.new }
 {
     let Some(lines) = lines else {
         return;
@@ -155,7 +153,7 @@ fn put_asked_unsafe<W: Write>(
 }
 
 fn put_asked_image<W: Write>(page: &mut Page, writer: &mut Writer<W>, image: Option<ReadyImage<'_>>)
-    ensures { Puts (image_after image.entry) page.old writer.old page.new writer.new }
+    ensures { PutsPiece (image_after image.entry) page.old writer.old page.new writer.new }
 {
     let Some(image) = image else {
         return;
@@ -165,30 +163,30 @@ fn put_asked_image<W: Write>(page: &mut Page, writer: &mut Writer<W>, image: Opt
 }
 
 // The history, where it is asked for.
-fn asked_history(asked: bool, standby: &Shadow) -> &[Event]
-    ensures { history_text result.now ≡ history_part asked standby.now.history }
+fn asked_history(asked: bool, shadow: &Shadow) -> &[Event]
+    ensures { history_text result.now ≡ history_part asked shadow.now.history }
 {
-    if asked { standby.history() } else { &[] }
+    if asked { shadow.history() } else { &[] }
 }
 
 // The standby, where its summary is asked for.
-fn asked_summary(asked: bool, standby: &Shadow) -> Option<&Shadow>
-    ensures { summary_after (option_copied result) ≡ summary_shown asked standby.now }
+fn asked_summary(asked: bool, shadow: &Shadow) -> Option<&Shadow>
+    ensures { summary_after (option_copied result) ≡ summary_shown asked shadow.now }
 {
-    if asked { Some(standby) } else { None }
+    if asked { Some(shadow) } else { None }
 }
 
 // The blocks that keep safe mode on, where they are asked for.
 fn asked_unsafe(
     asked: bool,
-    standby: &Shadow,
+    shadow: &Shadow,
     extent: Extent,
 ) -> Result<Option<ReadyUnsafe<'_>>, AllocError>
-    requires { extent ≡ extent_of standby.now.namespace.rows }
-    ensures { IfOk result (λ lines. text_after lines ≡ unsafe_shown asked standby.now) }
+    requires { extent ≡ extent_of shadow.now.namespace.rows }
+    ensures { IfOk result (λ lines. text_after lines ≡ unsafe_shown asked shadow.now) }
 {
     if asked {
-        return Ok(Some(ReadyUnsafe::of(standby, extent)?));
+        return Ok(Some(ReadyUnsafe::of(shadow, extent)?));
     }
     Ok(None)
 }
@@ -197,24 +195,24 @@ fn asked_unsafe(
 fn asked_image<'a>(
     alloc: Global,
     asked: bool,
-    standby: &'a Shadow,
+    shadow: &'a Shadow,
     extent: Extent,
 ) -> Result<Option<ReadyImage<'a>>, AllocError>
-    requires { extent ≡ extent_of standby.now.namespace.rows }
-    ensures { IfOk result (λ image. image_after image ≡ image_part asked (record { last = standby.now.last; namespace = standby.now.namespace })) }
+    requires { extent ≡ extent_of shadow.now.namespace.rows }
+    ensures { IfOk result (λ image. image_after image ≡ image_part asked (record { last = shadow.now.last; namespace = shadow.now.namespace })) }
 {
     if !asked {
         return Ok(None);
     }
-    let image = ReadyImage::of(alloc, standby.namespace(), extent, last_of(standby))?;
+    let image = ReadyImage::of(alloc, shadow.namespace(), extent, last_of(shadow))?;
     Ok(Some(image))
 }
 
 // The last txid of a standby, with which its image is saved.
-fn last_of(standby: &Shadow) -> Txid
-    ensures { result ≡ standby.now.last }
+fn last_of(shadow: &Shadow) -> Txid
+    ensures { result ≡ shadow.now.last }
 {
-    match Txid::new(standby.last_txid()) {
+    match Txid::new(shadow.last_txid()) {
         Some(txid) => txid,
         None => unreachable!(),
     }

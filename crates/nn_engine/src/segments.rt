@@ -8,7 +8,7 @@ use std::marker::Model;
 use std::sync::Arc;
 
 /// The segments of a run.
-#[derive(Drop)]
+#[derive(Debug, Drop)]
 pub struct Segments<G> {
     source: MemorySource,
     gate: GatePass<G>,

@@ -4,20 +4,21 @@ ghost use Rattle.std.specs.Prelude.{◌≡◌, ◌≤◌, ◌^◌, ◌++◌, ◌
 ghost use Rattle.std.specs.List.{All};
 ghost use Rattle.nn_model.specs.Lanes.{no_messages};
 ghost use Rattle.nn_scenario.specs.Cut.{segments_from};
-ghost use Rattle.nn_scenario.specs.Chunks.{IsReadAs};
-ghost use Rattle.nn_scenario.specs.Scenario.{seen, IsLawfulScenario};
-ghost use Rattle.nn_scenario.specs.Steps.{lanes_of, AreInTurn, IsStepOf};
+ghost use Rattle.nn_scenario.specs.Chunks.{IsScenarioOf};
+ghost use Rattle.nn_scenario.specs.Scenario.{scenario_of_read, IsLawfulScenario};
+ghost use Rattle.nn_scenario.specs.Steps.{lanes_of_steps, AreNextMessages, IsStepOf};
 ghost use Rattle.nn_engine.specs.InMemory.{GivesReport, report_of, with_step, AreFew, AreInMemory, IsBegun, MayEnd, TellsStop};
 ghost use Rattle.nn_engine.specs.Input.{IsRead, start_of};
-ghost use Rattle.nn_drive.specs.Driven.{AreLanes, IsDriven, NotDriven};
-ghost use Rattle.nn_drive.specs.NewLanes.{HavePlaces};
+ghost use Rattle.nn_drive.specs.Driven.{HaveReporters, IsDriven, NotDriven};
+ghost use Rattle.nn_drive.specs.NewLanes.{HaveCapacity};
 ghost use Rattle.nn_segment.specs.Source.{GivesNext};
-ghost use Rattle.nn_tailer.specs.Public.{AreNew};
-ghost use Rattle.nn_tailer.specs.Tailing.{has_begun};
+ghost use Rattle.nn_lane_standby.specs.Public.{AreNew};
+ghost use Rattle.nn_lane_standby.specs.Tailing.{has_begun};
 ghost use Rattle.nn_engine.specs.Output.{output_of, IsPrinted, IsPrintedFrom};
 ghost use Rattle.nn_engine.specs.Pieces.{faulted};
-ghost use Rattle.nn_engine.specs.Run.{Wrote, WroteFront, running};
+ghost use Rattle.nn_engine.specs.Run.{WroteOutput, WroteOutputPrefix, running};
 ghost use Rattle.nn_engine.specs.Shown.{shown, IsToldOf};
+ghost use Rattle.nn_types.specs.Limits.{max_capacity, max_datanodes};
 
 use crate::engine::{Options, output_of_flushed, unread_line};
 use crate::fault_line::FaultLine;
@@ -29,10 +30,10 @@ use crate::start::{Begin, start_from};
 use nn_device::{Reader, Writer};
 use nn_drive::{DriveFault, ReportSource, drive, with_lanes};
 use nn_lane::{LaneEnd, Reporter};
-use nn_scenario::{BadLine, Scenario, Step, StepList, read_segments};
+use nn_lane_standby::{Active, Standby};
+use nn_scenario::{Scenario, ScenarioFault, Step, StepList, read_segments};
 use nn_segment::Parsed;
 use nn_shadow::Shadow;
-use nn_tailer::{Active, Standby};
 use nn_types::{Message, Report, Settings};
 use std::alloc::{AllocError, Global};
 use std::collections::VecDeque;
@@ -43,11 +44,11 @@ use std::sync::{Arc, Wait};
 use std::thread::Threads;
 
 /// What a run with threads is asked for.
-#[derive(Drop)]
+#[derive(Debug, Drop)]
 pub struct ThreadOptions<G> {
     /// What a run without threads is asked for too.
     pub options: Options,
-    /// How many reports a lane holds at a time, 1 to 1024.
+    /// How many reports a lane holds at a time, 1 to `MAX_CAPACITY`.
     pub capacity: usize,
     pub gate: Arc<G, Global>,
 }
@@ -56,7 +57,7 @@ pub struct ThreadOptions<G> {
 const MAX_REPORTS: usize = 4_611_686_018_427_387_904;
 
 /// The reports of one DataNode, in memory.
-#[derive(Drop)]
+#[derive(Debug, Drop)]
 pub struct InMemoryReports<G> {
     reports: VecDeque<Report>,
     gate: GatePass<G>,
@@ -157,9 +158,9 @@ fn sources_of<G: Drop>(
     datanodes: u16,
     steps: StepList,
 ) -> Result<Vec<InMemoryReports<G>>, AllocError>
-    requires in_turn { AreInTurn no_messages steps }
+    requires in_turn { AreNextMessages no_messages steps }
     requires within { All (IsStepOf datanodes) steps }
-    ensures { IfOk result (λ v. AreInMemory datanodes (lanes_of steps) v.items) }
+    ensures { IfOk result (λ v. AreInMemory datanodes (lanes_of_steps steps) v.items) }
 {
     let mut sources = empty_sources(alloc, gate, datanodes)?;
     let mut steps = steps.into_steps();
@@ -190,7 +191,7 @@ fn standby_over(
     begin: Begin,
 ) -> Result<Standby, AllocError>
     requires some { 1 ≤ length ends.items }
-    requires few { length ends.items ≤ 256 }
+    requires few { length ends.items ≤ max_datanodes }
     requires fresh { AreNew 1 ends.items }
     ensures ends { IfOk result (λ x. x.ends ≡ ends.items) }
     ensures serves { IfOk result (λ x. has_begun x ≡ false) }
@@ -213,8 +214,8 @@ fn drive_over<G: Gate + Send + Sync + Drop, R: Threads + Wait + Sync>(
     segments: Vec<Parsed>,
     workers: Vec<(InMemoryReports<G>, Reporter)>,
 ) -> Result<(Shadow, Active), DriveFault>
-    requires lanes { AreLanes workers.items standby.ends }
-    requires places { HavePlaces asked.now.capacity standby.ends }
+    requires lanes { HaveReporters workers.items standby.ends }
+    requires places { HaveCapacity asked.now.capacity standby.ends }
     ensures ok { IfOk result (λ r. IsDriven GivesNext (λ _. 0) GivesReport standby segments.items workers.items r.0 r.1) }
     ensures err { IfErr result (NotDriven GivesNext (λ _. 0) standby segments.items) }
 {
@@ -234,9 +235,9 @@ fn output_of_drive<G: Gate + Send + Sync + Drop, R: Threads + Wait + Sync>(
     steps: StepList,
     segments: Vec<Parsed>,
 ) -> Result<Output, AllocError>
-    requires capacity { (1 ≤ asked.now.capacity) × (asked.now.capacity ≤ 1024) }
-    requires datanodes { (1 ≤ datanodes) × (datanodes ≤ 256) }
-    requires in_turn { AreInTurn no_messages steps }
+    requires capacity { (1 ≤ asked.now.capacity) × (asked.now.capacity ≤ max_capacity) }
+    requires datanodes { (1 ≤ datanodes) × (datanodes ≤ max_datanodes) }
+    requires in_turn { AreNextMessages no_messages steps }
     requires within { All (IsStepOf datanodes) steps }
     ensures { IfOk result (λ o. IsToldOf (start_of begin) true asked.now.options steps (Ok segments.items) (shown asked.now.options o)) }
 {
@@ -256,8 +257,8 @@ fn output_of_threads<G: Gate + Send + Sync + Drop, R: Threads + Wait + Sync>(
     begin: Begin,
     scenario: Scenario,
 ) -> Result<Output, AllocError>
-    requires capacity { (1 ≤ asked.now.capacity) × (asked.now.capacity ≤ 1024) }
-    requires lawful { IsLawfulScenario (seen scenario) }
+    requires capacity { (1 ≤ asked.now.capacity) × (asked.now.capacity ≤ max_capacity) }
+    requires lawful { IsLawfulScenario (scenario_of_read scenario) }
     ensures { IfOk result (λ o. IsToldOf (start_of begin) true asked.now.options scenario.steps (segments_from 1 scenario.parts.items) (shown asked.now.options o)) }
 {
     let Scenario {
@@ -278,11 +279,11 @@ fn output_by_threads<G: Gate + Send + Sync + Drop, R: Threads + Wait + Sync>(
     alloc: Global,
     asked: &ThreadOptions<G>,
     begin: Begin,
-    lines: Result<Scenario, BadLine>,
+    lines: Result<Scenario, ScenarioFault>,
 ) -> Result<Output, AllocError>
-    requires capacity { (1 ≤ asked.now.capacity) × (asked.now.capacity ≤ 1024) }
-    requires lawful { IfOk lines (λ s. IsLawfulScenario (seen s)) }
-    ensures { (text : List ℕ) → IsReadAs text lines → IfOk result (λ o. IsPrintedFrom (start_of begin) true asked.now.options text (shown asked.now.options o)) }
+    requires capacity { (1 ≤ asked.now.capacity) × (asked.now.capacity ≤ max_capacity) }
+    requires lawful { IfOk lines (λ s. IsLawfulScenario (scenario_of_read s)) }
+    ensures { (text : List ℕ) → IsScenarioOf text lines → IfOk result (λ o. IsPrintedFrom (start_of begin) true asked.now.options text (shown asked.now.options o)) }
 {
     match lines {
         Ok(scenario) => output_of_threads(rt, alloc, asked, begin, scenario),
@@ -297,8 +298,8 @@ fn parts_by_threads<G: Gate + Send + Sync + Drop, R: Threads + Wait + Sync>(
     asked: &ThreadOptions<G>,
     parts: InputParts,
 ) -> Result<Output, AllocError>
-    requires capacity { (1 ≤ asked.now.capacity) × (asked.now.capacity ≤ 1024) }
-    requires lawful { IfOk parts.lines (λ s. IsLawfulScenario (seen s)) }
+    requires capacity { (1 ≤ asked.now.capacity) × (asked.now.capacity ≤ max_capacity) }
+    requires lawful { IfOk parts.lines (λ s. IsLawfulScenario (scenario_of_read s)) }
     ensures { (input : List ℕ) → IsRead asked.now.options.from_image input parts → IfOk result (λ o. IsPrinted true asked.now.options input (shown asked.now.options o)) }
 {
     let InputParts { loaded, lines } = parts;
@@ -320,11 +321,11 @@ pub fn run_threads<I: Read, W: Write, G: Gate + Send + Sync + Drop, R: Threads +
     input: &mut Reader<I>,
     writer: &mut Writer<W>,
 ) -> Result<RunEnd, RunFault>
-    requires { (1 ≤ asked.now.capacity) × (asked.now.capacity ≤ 1024) }
-    ensures written { IfOk result (λ end. Wrote
+    requires { (1 ≤ asked.now.capacity) × (asked.now.capacity ≤ max_capacity) }
+    ensures written { IfOk result (λ end. WroteOutput
         (running asked.now.options true input.old input.new)
         writer.old writer.new end.status) }
-    ensures front { IfErr result (WroteFront
+    ensures prefix { IfErr result (WroteOutputPrefix
         (running asked.now.options true input.old input.new)
         writer.old writer.new) }
     ensures reads { input.new.reads ≤ 2 ^ 24 }

@@ -1,6 +1,6 @@
 -- What one answer of a feed's end says.
 use Rattle.std.proofs.Common.{◌≡◌, ◌-◌, ◌<◌, ◌^◌, true, false, true≢false, List, [], ◌∷◌, length, length-append, Ok, Err, refl, sym, ◌∙◌, ap, subst, ⊎_elim, arith}
-use Rattle.nn_segment.specs.Source.{Answer, is_end, end}
+use Rattle.nn_segment.specs.Source.{Answer, is_end_item, end}
 use Rattle.nn_segment.specs.declared.fault.SourceFault.TheVariants as source
 use Rattle.nn_segment.specs.declared.source.Item.{Item}
 use Rattle.nn_feed.specs.declared.rule.Placed.{Placed}
@@ -15,7 +15,7 @@ gets_elim old new answer again next nothing h = ⊎_elim again (λ x. ⊎_elim n
 no_item : (item : Item) → Ok item ≡ Err source.Gone → ⊥
 no_item item e = cc
 
-pub gets_lower : (old new : List Placed) (item : Item) → Gets old (Ok item) new → is_end item ≡ false → 2 ^ 60 - length new < 2 ^ 60 - length old
+pub gets_lower : (old new : List Placed) (item : Item) → Gets old (Ok item) new → is_end_item item ≡ false → 2 ^ 60 - length new < 2 ^ 60 - length old
 gets_lower old new item h segment =
     gets_elim old new (Ok item) (λ again. absurd (true≢false (sym again.0 ∙ segment)))
     (λ next.

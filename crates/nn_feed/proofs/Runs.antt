@@ -6,7 +6,7 @@ use Rattle.nn_segment.specs.Source.{Answer, given}
 use Rattle.nn_feed.specs.declared.fault.Refusal.{Refusal}
 use Rattle.nn_feed.specs.declared.fault.Refusal.TheVariants.{Ended, Gone}
 use Rattle.nn_feed.specs.declared.rule.Placed.{Placed}
-use Rattle.nn_feed.specs.Ends.{Refuses}
+use Rattle.nn_feed.specs.Ends.{RefusesAnswer}
 use Rattle.nn_feed.specs.Feeds.{placed, answers_of}
 use Rattle.nn_feed.specs.declared.fault.FeedFault.TheVariants.{Refused}
 use Rattle.nn_feed.specs.Running.{refused_answer, then_last, WasRefused}
@@ -20,7 +20,7 @@ pub one_last_more : (now after : List Placed) (before : List Answer) (xs : List 
 one_last_more now after before xs last n e h = grind (arith, common_steps)
 
 -- the answer that comes back is the one that was to be put
-pub came_back : (put : List Placed) (answer : Answer) (refusal : Refusal) → Refuses put answer refusal → refused_answer refusal ≡ answer
+pub came_back : (put : List Placed) (answer : Answer) (refusal : Refusal) → RefusesAnswer put answer refusal → refused_answer refusal ≡ answer
 came_back put answer (Ended back) h = h.0
 came_back put answer (Gone back place) h = h.0
 
@@ -30,5 +30,5 @@ on_no_fault P (Ok item) h = tt
 on_no_fault P (Err fault) h = absurd h
 
 -- what a feeder refused, it refused with what is put now
-pub was_refused : (old new : List Placed) (answer : Answer) (refusal : Refusal) → new ≡ old → refused_answer refusal ≡ answer → Refuses old answer refusal → WasRefused new (Refused refusal)
-was_refused old new answer refusal p q r = subst (λ l. Refuses l (refused_answer refusal) refusal) (sym p) (subst (λ a. Refuses old a refusal) (sym q) r)
+pub was_refused : (old new : List Placed) (answer : Answer) (refusal : Refusal) → new ≡ old → refused_answer refusal ≡ answer → RefusesAnswer old answer refusal → WasRefused new (Refused refusal)
+was_refused old new answer refusal p q r = subst (λ l. RefusesAnswer l (refused_answer refusal) refusal) (sym p) (subst (λ a. RefusesAnswer old a refusal) (sym q) r)

@@ -81,8 +81,8 @@ gave_last got (answer ∷ answers) asked over = ends_somewhere answer answers
 -- ---- What was put.
 
 -- what was got is a prefix of what was put
-pub met_front : (put got : List Placed) → IsMet put got → (more : List Answer) × (answers_of put ≡ answers_of got ++ more)
-met_front put got met = (answers_of met.0, ap answers_of met.1 ∙ map-append answer_of got met.0)
+pub met_prefix : (put got : List Placed) → IsMet put got → (more : List Answer) × (answers_of put ≡ answers_of got ++ more)
+met_prefix put got met = (answers_of met.0, ap answers_of met.1 ∙ map-append answer_of got met.0)
 
 -- once its last answer was got, it is all of it
 pub met_whole : (put got : List Placed) → IsMet put got → has_last got ≡ true → put ≡ got

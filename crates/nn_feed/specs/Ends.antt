@@ -41,13 +41,13 @@ abbrev pub MayFollow : List Placed → Answer → Type 0
 MayFollow put answer = (has_last put ≡ false) × (is_last answer ≡ false → length put < 2 ^ 60)
 
 -- one answer more was put, at its place, where it may follow
-abbrev pub Puts : List Placed → Answer → List Placed → Type 0
-Puts put answer new = MayFollow put answer × (new ≡ put ++ placed answer (length put) ∷ [])
+abbrev pub PutsAnswer : List Placed → Answer → List Placed → Type 0
+PutsAnswer put answer new = MayFollow put answer × (new ≡ put ++ placed answer (length put) ∷ [])
 
 -- an answer was refused so: it comes back, 45 comes where it may not follow; 46 where it may, and its send failed, of which only the place is seen
-abbrev pub Refuses : List Placed → Answer → Refusal → Type 0
-Refuses put answer (Ended back) = (back ≡ answer) × MayNotFollow put answer
-Refuses put answer (Gone back place) = (back ≡ answer) × MayFollow put answer × (place ≡ length put)
+abbrev pub RefusesAnswer : List Placed → Answer → Refusal → Type 0
+RefusesAnswer put answer (Ended back) = (back ≡ answer) × MayNotFollow put answer
+RefusesAnswer put answer (Gone back place) = (back ≡ answer) × MayFollow put answer × (place ≡ length put)
 
 -- the last answer was got before, and comes again
 abbrev pub GetsAgain : List Placed → Answer → List Placed → Type 0

@@ -12,7 +12,7 @@ use Rattle.nn_feed.specs.declared.rule.Placed.{Placed}
 use Rattle.nn_feed.specs.Feeds.{placed, answers_of, is_last, has_last, EndsIn, MayStand, IsFeed}
 use Rattle.nn_feed.specs.Rule.{log, Fits}
 use Rattle.nn_feed.specs.Passes.{ended_by, as_answer, ending_in}
-use Rattle.nn_feed.specs.Ends.{MayNotFollow, MayFollow, Puts, Refuses, GetsAgain, GetsNext, GetsNothing, Gets, IsMet}
+use Rattle.nn_feed.specs.Ends.{MayNotFollow, MayFollow, PutsAnswer, RefusesAnswer, GetsAgain, GetsNext, GetsNothing, Gets, IsMet}
 use Rattle.nn_feed.specs.Fault.{number_of, number_of_fault}
 use Rattle.nn_feed.specs.Running.{last_answer, RefusedAnItem, ending_of, last_in, then_last, Fed}
 
@@ -108,20 +108,20 @@ endings = (refl, refl, refl, refl)
 
 -- ---- What the calls do.
 
-refused_after_end : Refuses put segment (Ended segment)
+refused_after_end : RefusesAnswer put segment (Ended segment)
 refused_after_end = (refl, inl refl)
 
-end_refused_after_a_fault : Refuses stopped end (Ended end)
+end_refused_after_a_fault : RefusesAnswer stopped end (Ended end)
 end_refused_after_a_fault = (refl, inl refl)
 
-fault_refused_after_end : Refuses put failed (Ended failed)
+fault_refused_after_end : RefusesAnswer put failed (Ended failed)
 fault_refused_after_end = (refl, inl refl)
 
 not_refused_before_end : MayNotFollow got segment → ⊥
 not_refused_before_end h =
     ⊎_elim (λ (e : false ≡ true). true≢false (sym e)) (λ (e : (false ≡ false) × (2 ^ 60 ≤ 1)). let n : 2 ^ 60 ≤ 1 = e.1 in omega (arith, n)) h
 
-refused_as_one_too_many : (before : List Placed) → 2 ^ 60 ≤ length before → Refuses before segment (Ended segment)
+refused_as_one_too_many : (before : List Placed) → 2 ^ 60 ≤ length before → RefusesAnswer before segment (Ended segment)
 refused_as_one_too_many before many = (refl, inr (refl, many))
 
 end_is_never_too_many : (before : List Placed) → has_last before ≡ false → MayNotFollow before end → ⊥
@@ -132,11 +132,11 @@ fault_is_never_too_many : (before : List Placed) → has_last before ≡ false �
 fault_is_never_too_many before unended h =
     ⊎_elim (λ (e : has_last before ≡ true). true≢false (sym e ∙ unended)) (λ (e : (true ≡ false) × (2 ^ 60 ≤ length before)). true≢false e.0) h
 
-another_does_not_come_back : Refuses put segment (Ended end) → ⊥
+another_does_not_come_back : RefusesAnswer put segment (Ended end) → ⊥
 another_does_not_come_back h = let e : end ≡ segment = h.0 in cc
 
 -- one more is put, at its place
-end_is_put : Puts got end put
+end_is_put : PutsAnswer got end put
 end_is_put = ((refl, λ e. absurd (true≢false e)), refl)
 
 nothing_is_put_behind_end : MayFollow put segment → ⊥
@@ -145,17 +145,17 @@ nothing_is_put_behind_end h = true≢false h.0
 no_segment_is_put_too_many : (before : List Placed) → 2 ^ 60 ≤ length before → MayFollow before segment → ⊥
 no_segment_is_put_too_many before many h = let few = h.1 refl in omega (arith, many, few)
 
-another_is_not_put : Puts got end (got ++ placed failed 1 ∷ []) → ⊥
+another_is_not_put : PutsAnswer got end (got ++ placed failed 1 ∷ []) → ⊥
 another_is_not_put h = let e : segment ∷ failed ∷ [] ≡ segment ∷ end ∷ [] = ap answers_of h.1 in cc
 
-gone : Refuses got segment (Gone segment 1)
+gone : RefusesAnswer got segment (Gone segment 1)
 gone = (refl, (refl, λ _. omega arith), refl)
 
-ended_comes_before_gone : Refuses put segment (Gone segment 2) → ⊥
+ended_comes_before_gone : RefusesAnswer put segment (Gone segment 2) → ⊥
 ended_comes_before_gone h = true≢false h.1.0
 
 -- the send that failed is its own
-not_gone_by_another_send : Refuses got segment (Gone segment 0) → ⊥
+not_gone_by_another_send : RefusesAnswer got segment (Gone segment 0) → ⊥
 not_gone_by_another_send h = let e : 0 ≡ 1 = h.2 in omega (arith, e)
 
 next_is_got : Gets got end put

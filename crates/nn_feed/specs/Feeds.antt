@@ -1,6 +1,6 @@
 -- The lists of answers that a feed may carry.
 use Rattle.std.specs.Prelude.{◌≡◌, ℕ, Bool, true, false, ◌||◌, ◌+◌, ◌^◌, ◌<◌, List, [], ◌∷◌, ◌++◌, map, Ok, Err}
-use Rattle.nn_segment.specs.Source.{Answer, is_end}
+use Rattle.nn_segment.specs.Source.{Answer, is_end_item}
 use Rattle.nn_segment.specs.declared.source.Item.TheVariants.{Segment, End}
 use Rattle.nn_feed.specs.declared.rule.Placed.{Placed}
 
@@ -16,7 +16,7 @@ answers_of ps = map answer_of ps
 
 -- nothing follows End, nor a fault
 abbrev pub is_last : Answer → Bool
-is_last (Ok item) = is_end item
+is_last (Ok item) = is_end_item item
 is_last (Err fault) = true
 
 -- whether End or a fault is among them

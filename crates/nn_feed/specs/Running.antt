@@ -11,7 +11,7 @@ use Rattle.nn_feed.specs.declared.fault.Refusal.TheVariants.{Ended, Gone}
 use Rattle.nn_feed.specs.declared.rule.Placed.{Placed}
 use Rattle.nn_feed.specs.declared.running.FeederExit.{FeederExit}
 use Rattle.nn_feed.specs.declared.running.Delivered.{Delivered}
-use Rattle.nn_feed.specs.Ends.{put_by, IsSameFeeder, Refuses}
+use Rattle.nn_feed.specs.Ends.{put_by, IsSameFeeder, RefusesAnswer}
 use Rattle.nn_feed.specs.Feeds.{answers_of}
 
 -- the answer that came back
@@ -32,7 +32,7 @@ RefusedAnItem (Refused refusal) = OnErr (refused_answer refusal) ⊥
 -- and it was refused as the feeder refuses it, with this put
 abbrev pub WasRefused : List Placed → FeedFault → Type 0
 WasRefused put (Source fault) = Unit {0}
-WasRefused put (Refused refusal) = Refuses put (refused_answer refusal) refusal
+WasRefused put (Refused refusal) = RefusesAnswer put (refused_answer refusal) refusal
 
 -- what the source answered last, where it was fed to its last answer: End after so many segments, or a fault
 abbrev pub ending_of : Result ℕ SourceFault → Answer
@@ -76,7 +76,7 @@ module _ {S : Type 0} (gives : S → Answer → S → Type 0) where
     pub put : IfOk ran.outcome
         (λ told. IsSameFeeder feeder told.feeder × (answers_of (put_by told.feeder) ≡ answers_of (put_by feeder) ++ then_last segments (ending_of told.end)))
     pub refused : IfErr ran.outcome
-        (λ e. (after : List Placed) × (answers_of after ≡ answers_of (put_by feeder) ++ map given segments) × Refuses after (refused_answer e) e)
+        (λ e. (after : List Placed) × (answers_of after ≡ answers_of (put_by feeder) ++ map given segments) × RefusesAnswer after (refused_answer e) e)
     pub counted : IfOk ran.outcome (λ told. IfOk told.end (λ n. n ≡ length segments))
     pub failed : OnErr (last_in ran.outcome) (failures source < failures ran.source)
     pub not_fewer : failures source ≤ failures ran.source

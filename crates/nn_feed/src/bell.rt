@@ -1,4 +1,5 @@
 //! A bell: a word on which one thread sleeps until another one rings.
+use std::fmt;
 use std::sync::Wait;
 use std::sync::atomic::{AtomicU64, Ordering};
 use std::time::Duration;
@@ -15,6 +16,13 @@ const DOZING: u64 = 1;
 #[derive(Drop)]
 pub struct Bell {
     word: AtomicU64,
+}
+
+// Whether somebody sleeps on it is known to nobody for long.
+impl fmt::Debug for Bell {
+    fn fmt<D: fmt::Write>(&self, f: &mut fmt::Formatter<D>) -> fmt::Result {
+        f.debug_struct("Bell").finish_non_exhaustive()
+    }
 }
 
 impl Bell {

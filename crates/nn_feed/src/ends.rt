@@ -11,6 +11,7 @@ use crate::rule::{InOrder, Log, Placed};
 use crossbeam_channel::{Pass, RuledReceiver, RuledSender};
 use nn_segment::SourceFault;
 use std::alloc::Global;
+use std::fmt;
 use std::sync::atomic::AtomicU64;
 use std::sync::{Arc, Wait};
 
@@ -32,8 +33,18 @@ pub struct Feeder {
     ghost bounded: { (ended ≡ false → count ≤ 2 ^ 60) × (count ≤ 2 ^ 60 + 1) },
 }
 
+// Without the channel, which both ends share.
+impl fmt::Debug for Feeder {
+    fn fmt<D: fmt::Write>(&self, f: &mut fmt::Formatter<D>) -> fmt::Result {
+        f.debug_struct("Feeder")
+            .field("count", &self.count)
+            .field("ended", &self.ended)
+            .finish_non_exhaustive()
+    }
+}
+
 // How a source ended.
-#[derive(Clone, Copy)]
+#[derive(Clone, Copy, Debug)]
 pub enum Ending {
     End,
     Fault(SourceFault),
@@ -41,7 +52,7 @@ pub enum Ending {
 
 /// The end that gets, a source of segments: it gives the answers that were put, in order, and waits for each; behind End
 /// it gives End again and again, and behind a fault that fault. Where the other end is gone and nothing is left it fails
-/// with 46.
+/// with `SourceFault::Gone`.
 ///
 /// It counts its failures, and would wait for ever at 2^64 - 1 of them.
 #[derive(Drop)]
@@ -58,6 +69,17 @@ pub struct FeedEnd<'a, R: Wait> {
     ghost role: { MayGet pass },
     ghost told: { is_some ending ≡ has_last (got_in pass) },
     ghost last: { ending ≡ ending_in (got_in pass) },
+}
+
+// Without the channel, as above.
+impl<'a, R: Wait> fmt::Debug for FeedEnd<'a, R> {
+    fn fmt<D: fmt::Write>(&self, f: &mut fmt::Formatter<D>) -> fmt::Result {
+        f.debug_struct("FeedEnd")
+            .field("count", &self.count)
+            .field("ending", &self.ending)
+            .field("failures", &self.failures)
+            .finish_non_exhaustive()
+    }
 }
 
 mod calls;

@@ -2,12 +2,12 @@
 ghost use Rattle.std.specs.Prelude.{◌≡◌};
 ghost use Rattle.nn_feed.specs.Fault.{number_of, number_of_fault};
 
-use crate::send::FailedSend;
+use crate::send::SendFailed;
 use nn_segment::{Item, SourceFault};
 use nn_types::fault;
 
 /// Why an answer of a source, an item or its fault, was not put. It comes back.
-#[derive(Drop)]
+#[derive(Debug, Drop)]
 pub enum Refusal {
     /// End or a fault was put before, or the answer is a segment and 2^60 were put before.
     Ended {
@@ -16,7 +16,7 @@ pub enum Refusal {
     /// The other end is gone: the send failed.
     Gone {
         answer: Result<Item, SourceFault>,
-        failed: FailedSend,
+        failed: SendFailed,
     },
 }
 
@@ -34,7 +34,7 @@ impl Refusal {
 
 /// Why a feeder ended before it had put End. It makes up neither fault: the one is the last answer of its source, the other
 /// that of its last try to put an item.
-#[derive(Drop)]
+#[derive(Debug, Drop)]
 pub enum FeedFault {
     /// The source's fault.
     Source(SourceFault),

@@ -17,4 +17,4 @@ pub use ends::{FeedEnd, Feeder, feed, meet};
 pub use fault::{FeedFault, Refusal};
 pub use laws::a_feed_gives_what_its_source_gave;
 pub use running::{Delivered, FeederExit, FeederPromise, run_feeder, run_thread};
-pub use send::FailedSend;
+pub use send::SendFailed;

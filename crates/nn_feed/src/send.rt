@@ -12,13 +12,13 @@ use std::marker::Model;
 use std::sync::Wait;
 
 /// A send that failed, since the other end is gone. Only this module makes one, so whoever has one has tried.
-#[derive(Drop)]
-pub struct FailedSend {
+#[derive(Debug, Drop)]
+pub struct SendFailed {
     // The place of the answer that was not sent.
     place: u64,
 }
 
-impl Model for FailedSend {
+impl Model for SendFailed {
     ghost use Rattle.std.specs.Prelude.{ℕ};
 
     ghost Value = { ℕ };
@@ -32,7 +32,7 @@ pub(crate) fn send<R: Wait>(
     sender: &RuledSender<Placed, Log, InOrder>,
     pass: &mut Pass<Placed, Log>,
     message: Placed,
-) -> Result<(), (Placed, FailedSend)>
+) -> Result<(), (Placed, SendFailed)>
     requires channel { IsSeatAt (sends_on sender.now) pass.old }
     requires role { MayPut pass.old }
     requires place { message.place ≡ length (put_in pass.old) }
@@ -47,7 +47,7 @@ pub(crate) fn send<R: Wait>(
     let place = message.place;
     match sender.send_as::<Puts, R>(rt, pass, message) {
         Ok(()) => Ok(()),
-        Err(SendError::Disconnected(back)) => Err((back, FailedSend { place })),
+        Err(SendError::Disconnected(back)) => Err((back, SendFailed { place })),
         Err(SendError::OutOfMemory(_)) => unreachable!(),
     }
 }

@@ -6,10 +6,11 @@ ghost use Rattle.nn_segment.specs.Lines.{is_unbroken};
 ghost use Rattle.nn_front.specs.Cut.{divided, image_read, mark, max_passed, passed_over, rest_of};
 ghost use Rattle.nn_front.specs.Front.{IsFront, IsTooMuch, LineEnded, begun, kept, passed_at, room};
 
+use nn_bytes::line_end;
 use nn_image::{ImageFault, Loading};
-use nn_segment::line_end;
 use nn_tree::Namespace;
 use nn_types::Txid;
+use nn_types::limits::MAX_INPUT;
 use std::alloc::{AllocError, Global};
 use std::marker::Model;
 use std::mem;
@@ -22,7 +23,7 @@ const MARK: &[u8] = b"image";
 const MAX_KEPT: usize = 6;
 
 /// How many bytes may be passed over before an image.
-pub const MAX_PASSED: usize = 16_777_216;
+pub const MAX_PASSED: usize = MAX_INPUT;
 
 /// Why a front takes no more bytes. Discard it then.
 #[derive(Clone, Copy, Debug, PartialEq, Eq, Error)]
@@ -51,7 +52,7 @@ pub type Loaded = Result<(Namespace, Txid), ImageFault>;
 
 /// The front of an input, whose bytes come in chunks. It loads the image line by line, and keeps the line in hand, of one
 /// that is passed over six bytes.
-#[derive(Drop)]
+#[derive(Debug, Drop)]
 pub struct Front {
     place: Place,
     // the bytes of the line that has not ended
@@ -65,9 +66,9 @@ pub struct Front {
 impl Model for Front {
     ghost use Rattle.std.specs.Prelude.{◌≤◌};
     ghost use Rattle.nn_front.specs.Cut.{max_passed};
-    ghost use Rattle.nn_front.specs.Front.{FrontState};
+    ghost use Rattle.nn_front.specs.Front.{Front};
 
-    ghost Value = { FrontState };
+    ghost Value = { Front };
 
     ghost view = { λ f. record { place = f.place; line = f.line.items; loading = f.loading; passed = f.passed } };
 

@@ -6,14 +6,14 @@ use Rattle.std.proofs.lemmas.Str.{is_utf8-from_IsUtf8, IsUtf8-from_is_utf8}
 use Rattle.serde_json.specs.Data.{Data}
 use Rattle.serde_json.specs.Read.{read}
 use Rattle.nn_tree.specs.Restore.{rises}
-use Rattle.nn_image.specs.Reading.{value_of}
+use Rattle.nn_image.specs.Reading.{value_of_line}
 
-pub value_of_text : (line : List ℕ) (d : Data) → IsUtf8 line → read line ≡ Some d → value_of line ≡ Some d
-unfolding value_of
+pub value_of_text : (line : List ℕ) (d : Data) → IsUtf8 line → read line ≡ Some d → value_of_line line ≡ Some d
+unfolding value_of_line
 value_of_text line d text e = rw (is_utf8-from_IsUtf8 line text) e
 
-pub value_of_none : (line : List ℕ) → (IsUtf8 line → read line ≡ None) → value_of line ≡ None
-unfolding value_of
+pub value_of_none : (line : List ℕ) → (IsUtf8 line → read line ≡ None) → value_of_line line ≡ None
+unfolding value_of_line
 value_of_none line h = at (is_utf8 line) refl
   where
     at : (t : Bool) → is_utf8 line ≡ t → cond t (read line) None ≡ None

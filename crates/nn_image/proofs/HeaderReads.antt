@@ -14,7 +14,7 @@ use Rattle.nn_plain.proofs.KeyLemmas.{member_put, none_named, some_named}
 use Rattle.nn_tree.specs.Restore.{bare, is_issued, rises}
 use Rattle.nn_image.specs.Arrays.{awaiting_from, awaiting_of, ids_in}
 use Rattle.nn_image.specs.HeaderParts.{HeaderParts, all_keys, by_version, fields_from, header_key, key_text, of_parts, parts_of, profile_from, put_at}
-use Rattle.nn_image.specs.Reading.{◌>>=◌, array_in, fields_in, gathered, is_header, limited, number_in, number_of, numbers_at, object_of, object_only, of_header, of_version, profile_in, text_in}
+use Rattle.nn_image.specs.Reading.{◌>>=◌, array_under, fields_in, gathered, is_header, limited, number_under, whole_value, numbers_at, object_of, if_object, of_header, of_version, header_profile, text_under}
 use Rattle.nn_image.specs.declared.fault.ImageFault.TheVariants.{NotHeader}
 use Rattle.nn_image.specs.declared.header.HeaderKey.{HeaderKey}
 use Rattle.nn_image.specs.declared.header.HeaderKey.TheVariants as key
@@ -35,7 +35,7 @@ put_all k d p = record {
 }
 
 parts_put : (k : List ℕ) (d : Data) (ms : Members) → parts_of (object (put k d ms)) ≡ put_all k d (parts_of (object ms))
-unfolding text_in
+unfolding text_under
 parts_put k d ms =
     rw (
       member_put (λ o. o >>= as_str) (codes "image") k d ms,
@@ -118,20 +118,20 @@ one_more n kept ids fit = at (limited n)
     at None = inl refl
     at (Some x) = own x (ltb x 1073741825) refl fit
 
-gathered_fit : (ds : Items) → Fit (gathered awaiting_of ds) (gathered number_of ds)
+gathered_fit : (ds : Items) → Fit (gathered awaiting_of ds) (gathered whole_value ds)
 unfolding gathered
 gathered_fit no_items = inl refl
-gathered_fit (item d ds) = one_more (whole_of d) (gathered awaiting_of ds) (gathered number_of ds) (gathered_fit ds)
+gathered_fit (item d ds) = one_more (whole_of d) (gathered awaiting_of ds) (gathered whole_value ds) (gathered_fit ds)
 
 ids_fit : (d : Data) → Fit (get (codes "awaiting") d >>= ids_in) (numbers_at (codes "awaiting") d)
-unfolding numbers_at array_in
+unfolding numbers_at array_under
 ids_fit d = at (get (codes "awaiting") d)
   where
-    items : (o : Option Items) → Fit (o >>= gathered awaiting_of) (o >>= gathered number_of)
+    items : (o : Option Items) → Fit (o >>= gathered awaiting_of) (o >>= gathered whole_value)
     items None = inl refl
     items (Some ds) = gathered_fit ds
 
-    at : (o : Option Data) → Fit (o >>= ids_in) ((o >>= as_array) >>= gathered number_of)
+    at : (o : Option Data) → Fit (o >>= ids_in) ((o >>= as_array) >>= gathered whole_value)
     at None = inl refl
     at (Some v) = items (as_array v)
 
@@ -164,19 +164,19 @@ module _ (mark : List ℕ) (txid last_block last_stamp : ℕ) (profile : Option 
       nothing None h = refl
       nothing (Some xs) h = then_none profile _ (λ p. rw (no_header mark last_block last_stamp xs (h last_block xs refl)) refl)
 
-profile_is : (v : ℕ) (d : Data) → profile_from v (whole_at (codes "profile") d) ≡ profile_in v d
-unfolding profile_from profile_in
+profile_is : (v : ℕ) (d : Data) → profile_from v (whole_at (codes "profile") d) ≡ header_profile v d
+unfolding profile_from header_profile
 profile_is v d = rw (number_is (codes "profile") d) refl
 
 fields_are : (v : ℕ) (d : Data) → fields_from v (parts_of d) ≡ fields_in v d
 unfolding fields_from fields_in
 fields_are v d =
     rw (number_is (codes "txid") d, number_is (codes "last_block") d, number_is (codes "last_gen") d, profile_is v d)
-    (then_same (text_in (codes "image") d) _ _ (λ mark. then_same (number_in (codes "txid") d) _ _ (λ txid. then_same (number_in (codes "last_block") d) _ _ (λ last_block. then_same (number_in (codes "last_gen") d) _ _ (λ last_stamp.
-    ids_say mark txid last_block last_stamp (profile_in v d) (get (codes "awaiting") d >>= ids_in) (numbers_at (codes "awaiting") d) (ids_fit d))))))
+    (then_same (text_under (codes "image") d) _ _ (λ mark. then_same (number_under (codes "txid") d) _ _ (λ txid. then_same (number_under (codes "last_block") d) _ _ (λ last_block. then_same (number_under (codes "last_gen") d) _ _ (λ last_stamp.
+    ids_say mark txid last_block last_stamp (header_profile v d) (get (codes "awaiting") d >>= ids_in) (numbers_at (codes "awaiting") d) (ids_fit d))))))
 
-says : (d : Data) → of_parts (parts_of d) ≡ of_version d (number_in (codes "version") d)
-says d = ap (by_version (parts_of d)) (number_is (codes "version") d) ∙ at (number_in (codes "version") d)
+says : (d : Data) → of_parts (parts_of d) ≡ of_version d (number_under (codes "version") d)
+says d = ap (by_version (parts_of d)) (number_is (codes "version") d) ∙ at (number_under (codes "version") d)
   where
     at : (o : Option ℕ) → by_version (parts_of d) o ≡ of_version d o
     at None = refl
@@ -185,7 +185,7 @@ says d = ap (by_version (parts_of d)) (number_is (codes "version") d) ∙ at (nu
 pub header_says : (line : List ℕ) (ms : Members) (p : HeaderParts) → IsUtf8 line → read line ≡ Some (object ms) → p ≡ parts_of (object ms) → of_parts p ≡ of_header (object_of line)
 unfolding object_of
 header_says line ms p text e kept =
-    let there : object_of line ≡ Some (object ms) = ap (λ v. v >>= object_only) (value_of_text line (object ms) text e) in
+    let there : object_of line ≡ Some (object ms) = ap (λ v. v >>= if_object) (value_of_text line (object ms) text e) in
     ap of_parts kept ∙ says (object ms) ∙ ap of_header (sym there)
 
 pub none_says : (line : List ℕ) → object_of line ≡ None → of_header (object_of line) ≡ Err NotHeader

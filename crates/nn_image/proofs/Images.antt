@@ -14,9 +14,9 @@ use Rattle.nn_tree.specs.Restore.{bare, row_fits}
 use Rattle.nn_tree.proofs.RestoredFile.{restored_well}
 use Rattle.nn_image.specs.declared.fault.ImageFault.{ImageFault}
 use Rattle.nn_image.specs.declared.fault.ImageFault.TheVariants.{BadLine, WrongOrder, CountMismatch}
-use Rattle.nn_image.specs.Image.{IsRow, AreRows, IsEnd, IsImage}
+use Rattle.nn_image.specs.Image.{IsRow, AreRows, IsEndLine, IsImage}
 use Rattle.nn_image.specs.Loading.{IsLoading}
-use Rattle.nn_image.specs.Reading.{number_of, row_in, object_of, of_header, ◌then◌, last_path, next_line, with_rows, with_next, at_end, nothing_more, by_key, by_value, rows_from, pieces_of, all_from, read_image}
+use Rattle.nn_image.specs.Reading.{whole_value, row_of_line, object_of, of_header, ◌then◌, last_path, next_line_number, with_rows, with_next_row, at_end_line, nothing_more, by_key, by_value, rows_from, pieces_of, all_from, read_image}
 use Rattle.nn_image.proofs.Keeps.{Keeps}
 use Rattle.nn_image.proofs.Kept.{keeps}
 use Rattle.nn_image.proofs.Lawful.{row_lawful, header_lawful, HasHeader}
@@ -40,13 +40,13 @@ rows_counted [] (row ∷ rows) h = absurd h
 rows_counted (line ∷ lines) [] h = absurd h
 rows_counted (line ∷ lines) (row ∷ rows) h = ap suc (rows_counted lines rows h.1)
 
-module _ (n : Namespace) (w : Keeps n) (last : List ℕ) (end : IsEnd last (length n.rows - 1)) where
+module _ (n : Namespace) (w : Keeps n) (last : List ℕ) (end : IsEndLine last (length n.rows - 1)) where
   end_read : rows_from n (last ∷ [] ∷ []) ≡ Ok n
   unfolding rows_from
   end_read =
       ap (by_value n ([] ∷ []) (λ m. rows_from m ([] ∷ []))) end.object
       ∙ ap (by_key n end.value ([] ∷ []) (λ m. rows_from m ([] ∷ []))) end.has_end
-      ∙ ap (λ k. at_end n k ([] ∷ [])) end.gives
+      ∙ ap (λ k. at_end_line n k ([] ∷ [])) end.gives
       ∙ ap (λ t. cond t (Ok n) (Err CountMismatch)) (same_test (length n.rows - 1))
 
   lines_read : (lines : List (List ℕ)) (rest : Rows) (first : Path × Form) (before : Rows) → AreRows lines rest → n.rows ≡ (first ∷ before) ++ rest
@@ -62,7 +62,7 @@ module _ (n : Namespace) (w : Keeps n) (last : List ℕ) (end : IsEnd last (leng
       let is = are.0 in
       let less : path_cmp (last_path (first ∷ before)) row.0 ≡ Less = last_less first before row rest (mid_sorted n w (first ∷ before) row rest same) in
       let fits : row_fits m row.0 row.1 ≡ true = fits_here n w (first ∷ before) row rest same (parent_less _ row.0 less) in
-      let accepted : with_next m (row_in is.value) ≡ Ok (with_rows n ((first ∷ before) ++ row ∷ [])) = ap (with_next m) is.gives ∙ rw (less, fits) refl in
+      let accepted : with_next_row m (row_of_line is.value) ≡ Ok (with_rows n ((first ∷ before) ++ row ∷ [])) = ap (with_next_row m) is.gives ∙ rw (less, fits) refl in
       rows_turn m line left (some_left lines last)
       ∙ ap (by_value m left (λ k. rows_from k left)) is.object
       ∙ ap (by_key m is.value left (λ k. rows_from k left)) is.no_end
@@ -80,7 +80,7 @@ image_read text n txid i =
     let left = i.lines ++ i.last ∷ [] ∷ [] in
     let pieces : pieces_of text ≡ i.head ∷ left =
     ap pieces_of i.spelled ∙ pieces_of_lines (i.head ∷ (i.lines ++ i.last ∷ [])) i.plain ∙ ap (λ ps. i.head ∷ ps) (append_assoc i.lines (i.last ∷ []) ([] ∷ [])) in
-    let rows : rows_from (bare n.issued) left ≡ Ok n = lines_read n w i.last (subst (IsEnd i.last) count i.counted) i.lines root.0 ([], Dir) [] are root.1 in
+    let rows : rows_from (bare n.issued) left ≡ Ok n = lines_read n w i.last (subst (IsEndLine i.last) count i.counted) i.lines root.0 ([], Dir) [] are root.1 in
     ap all_from pieces ∙ all_turn i.head left (some_left i.lines i.last)
     ∙ ap (λ r. r then (λ h. rows_from h.0 left then (λ m. Ok (m, h.1)))) i.header
     ∙ ap (λ r. r then (λ m. Ok (m, txid))) rows
@@ -88,13 +88,13 @@ image_read text n txid i =
 -- ---- What is read is an image.
 
 -- a namespace with the next row is well formed
-next_well : (m : Namespace) (d : Data) (row : Path × Form) → IsWellFormed m → row_in d ≡ Some row → is_lt (path_cmp (last_path m.rows) row.0) ≡ true → row_fits m row.0 row.1 ≡ true
+next_well : (m : Namespace) (d : Data) (row : Path × Form) → IsWellFormed m → row_of_line d ≡ Some row → is_lt (path_cmp (last_path m.rows) row.0) ≡ true → row_fits m row.0 row.1 ≡ true
     → IsWellFormed (with_rows m (m.rows ++ row ∷ []))
 next_well m d row w is order fits =
-    let loading : IsLoading m (last_path m.rows) (next_line m) = record { sorted = w.blocks.in_order; last = refl; at = refl } in
+    let loading : IsLoading m (last_path m.rows) (next_line_number m) = record { sorted = w.blocks.in_order; last = refl; at = refl } in
     let lawful = row_lawful d row is in
-    subst IsWellFormed (pushed m (last_path m.rows) (next_line m) loading row order _ refl)
-    (restored_well m row.0 row.1 lawful.0 lawful.1 (fits_is m (last_path m.rows) (next_line m) loading row order ∙ fits) w)
+    subst IsWellFormed (pushed m (last_path m.rows) (next_line_number m) loading row order _ refl)
+    (restored_well m row.0 row.1 lawful.0 lawful.1 (fits_is m (last_path m.rows) (next_line_number m) loading row order ∙ fits) w)
 
 -- the pieces are lines of rows after those of m, the end line, and nothing more
 pub record IsRest (m : Namespace) (pieces : List (List ℕ)) (n : Namespace) : Type 0 where
@@ -104,7 +104,7 @@ pub record IsRest (m : Namespace) (pieces : List (List ℕ)) (n : Namespace) : T
   pub are : pieces ≡ lines ++ last ∷ [] ∷ []
   pub grown : n ≡ with_rows m (m.rows ++ rest)
   pub rows : AreRows lines rest
-  pub ends : IsEnd last (length n.rows - 1)
+  pub ends : IsEndLine last (length n.rows - 1)
   pub well : IsWellFormed n
 
 nothing_left : (m n : Namespace) (next : List ℕ) (pieces : List (List ℕ)) → nothing_more m (next ∷ pieces) ≡ Ok n → (next ∷ pieces ≡ [] ∷ []) × (m ≡ n)
@@ -122,10 +122,10 @@ went_on (Ok x) f y e = (x, refl, e)
 went_on (Err g) f y e = absurd (cc)
 
 end_rest : (m n : Namespace) (line next : List ℕ) (pieces : List (List ℕ)) (d count : Data) → IsWellFormed m → object_of line ≡ Some d → get (codes "end") d ≡ Some count
-    → at_end m (number_of count) (next ∷ pieces) ≡ Ok n → IsRest m (line ∷ next ∷ pieces) n
-end_rest m n line next pieces d count w object has e = at (number_of count) refl e
+    → at_end_line m (whole_value count) (next ∷ pieces) ≡ Ok n → IsRest m (line ∷ next ∷ pieces) n
+end_rest m n line next pieces d count w object has e = at (whole_value count) refl e
   where
-    at : (o : Option ℕ) → number_of count ≡ o → at_end m o (next ∷ pieces) ≡ Ok n → IsRest m (line ∷ next ∷ pieces) n
+    at : (o : Option ℕ) → whole_value count ≡ o → at_end_line m o (next ∷ pieces) ≡ Ok n → IsRest m (line ∷ next ∷ pieces) n
     at None is h = absurd (cc)
     at (Some k) is h =
         let all = accepted (eqb k (length m.rows - 1)) (nothing_more m (next ∷ pieces)) CountMismatch n h in
@@ -163,18 +163,18 @@ rest_of m [] n w e = absurd (cc)
 rest_of m (torn ∷ []) n w e = absurd (cc)
 rest_of m (line ∷ next ∷ pieces) n w e = value (object_of line) refl e (λ k v h. rest_of k (next ∷ pieces) n v h)
   where
-    row_next : (d : Data) → object_of line ≡ Some d → get (codes "end") d ≡ None → (o : Option (Path × Form)) → row_in d ≡ o → (with_next m o then λ k. rows_from k (next ∷ pieces)) ≡ Ok n → More (next ∷ pieces) n → IsRest m (line ∷ next ∷ pieces) n
+    row_next : (d : Data) → object_of line ≡ Some d → get (codes "end") d ≡ None → (o : Option (Path × Form)) → row_of_line d ≡ o → (with_next_row m o then λ k. rows_from k (next ∷ pieces)) ≡ Ok n → More (next ∷ pieces) n → IsRest m (line ∷ next ∷ pieces) n
     row_next d object none None is h more = absurd (cc)
     row_next d object none (Some row) is h more =
-        let on = went_on (with_next m (Some row)) (λ k. rows_from k (next ∷ pieces)) n h in
-        let order = accepted (is_lt (path_cmp (last_path m.rows) row.0)) (cond (row_fits m row.0 row.1) (Ok (with_rows m (m.rows ++ row ∷ []))) (Err (BadLine (next_line m)))) (WrongOrder (next_line m)) on.0 on.1 in
-        let fits = accepted (row_fits m row.0 row.1) (Ok (with_rows m (m.rows ++ row ∷ []))) (BadLine (next_line m)) on.0 order.1 in
+        let on = went_on (with_next_row m (Some row)) (λ k. rows_from k (next ∷ pieces)) n h in
+        let order = accepted (is_lt (path_cmp (last_path m.rows) row.0)) (cond (row_fits m row.0 row.1) (Ok (with_rows m (m.rows ++ row ∷ []))) (Err (BadLine (next_line_number m)))) (WrongOrder (next_line_number m)) on.0 on.1 in
+        let fits = accepted (row_fits m row.0 row.1) (Ok (with_rows m (m.rows ++ row ∷ []))) (BadLine (next_line_number m)) on.0 order.1 in
         let same : with_rows m (m.rows ++ row ∷ []) ≡ on.0 = cc in
         one_more m n line (next ∷ pieces) row (record { value = d; object = object; no_end = none; gives = is })
         (more (with_rows m (m.rows ++ row ∷ [])) (next_well m d row w is order.0 fits.0) (ap (λ k. rows_from k (next ∷ pieces)) same ∙ on.2))
 
     member : (d : Data) → object_of line ≡ Some d → (o : Option Data) → get (codes "end") d ≡ o → by_key m d (next ∷ pieces) (λ k. rows_from k (next ∷ pieces)) o ≡ Ok n → More (next ∷ pieces) n → IsRest m (line ∷ next ∷ pieces) n
-    member d object None has h more = row_next d object has (row_in d) refl h more
+    member d object None has h more = row_next d object has (row_of_line d) refl h more
     member d object (Some count) has h more = end_rest m n line next pieces d count w object has h
 
     value : (o : Option Data) → object_of line ≡ o → by_value m (next ∷ pieces) (λ k. rows_from k (next ∷ pieces)) o ≡ Ok n → More (next ∷ pieces) n → IsRest m (line ∷ next ∷ pieces) n
@@ -195,7 +195,7 @@ image_of text head pieces start n txid are header has h =
       plain = split.1;
       header = header ∙ ap (λ k. Ok (k, txid)) same;
       rows = subst (AreRows h.lines) (ap (drop 1) (sym rows)) h.rows;
-      counted = subst (IsEnd h.last) count h.ends;
+      counted = subst (IsEndLine h.last) count h.ends;
       well_formed = h.well;
     }
 

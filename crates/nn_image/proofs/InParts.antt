@@ -8,12 +8,13 @@ use Rattle.std.proofs.Math.Seq.{drop-append_seam}
 use Rattle.std.proofs.KnownBytes.{Appends-nil}
 use Rattle.std.proofs.lemmas.Grind.{flat_map-append}
 use Rattle.serde_json.specs.Written.{compact_text}
-use Rattle.nn_device.specs.Device.{Writing, Took}
-use Rattle.nn_device.specs.Page.{Gathered, HasGone, HasPut, Puts, TookAllBut}
-use Rattle.nn_device.specs.Parts.{TookFront}
-use Rattle.nn_device.specs.declared.writer.Unwritten.{Unwritten}
-use Rattle.nn_device.specs.declared.writer.Unwritten.TheVariants.{WriteFailed, OutOfMemory}
-use Rattle.nn_device.proofs.Parts.{front_after, front_of, took_both}
+use Rattle.nn_bytes.specs.Lines.{line_feed}
+use Rattle.nn_device.specs.Device.{Writer, Took}
+use Rattle.nn_device.specs.Page.{Page, HasGone, HasPut, PutsPiece, TookAllBut}
+use Rattle.nn_device.specs.Parts.{TookPrefix}
+use Rattle.nn_device.specs.declared.writer.OutputFault.{OutputFault}
+use Rattle.nn_device.specs.declared.writer.OutputFault.TheVariants.{WriteFailed, OutOfMemory}
+use Rattle.nn_device.proofs.Parts.{prefix_after, prefix_of, took_both}
 use Rattle.nn_model.specs.declared.form.Form.{Form}
 use Rattle.nn_model.specs.declared.form.Form.TheVariants.{Dir}
 use Rattle.nn_model.specs.Namespace.{Path, Namespace, path_cmp}
@@ -22,13 +23,13 @@ use Rattle.nn_tree.specs.At.{names_of}
 use Rattle.nn_tree.specs.Rows.{rows_from, Resumes as ResumesRows}
 use Rattle.nn_image.specs.declared.fault.SaveFault.{SaveFault}
 use Rattle.nn_image.specs.declared.saving.parts.Part.{Part}
-use Rattle.nn_image.specs.InParts.{Begin, Begins, IsPart, IsRest, IsSaving, IsSavedBy, Place, Resumes, WrotePart, behind_part, fault_of, first_place, last_line, part_at, part_of, paths_from, rest_text}
-use Rattle.nn_image.specs.Saving.{WroteFront, cause_of}
-use Rattle.nn_image.specs.Text.{feed, line_of, header_data, row_data, row_lines, end_data, image_text}
+use Rattle.nn_image.specs.InParts.{Begin, WroteHeader, IsPart, IsRest, IsSaving, IsSavedBy, Place, Resumes, WrotePart, behind_part, fault_of, first_place, last_line, part_at, part_of, paths_from, rest_text}
+use Rattle.nn_image.specs.Saving.{WrotePrefix, cause_of}
+use Rattle.nn_image.specs.Text.{value_line, header_data, row_data, row_lines, end_data, image_text}
 use Rattle.nn_image.proofs.Rows.{Rows, T_of, root_first}
 
 lines_both : (a b : Rows) → row_lines (a ++ b) ≡ row_lines a ++ row_lines b
-lines_both a b = flat_map-append (λ (row : Path × Form). line_of (row_data row)) a b
+lines_both a b = flat_map-append (λ (row : Path × Form). value_line (row_data row)) a b
 
 -- ---- The rows of a part.
 
@@ -36,15 +37,15 @@ lines_both a b = flat_map-append (λ (row : Path × Form). line_of (row_data row
 part_and_rest : (rows bytes : ℕ) (all : Rows) → all ≡ part_of rows bytes all ++ drop (length (part_of rows bytes all)) all
 part_and_rest rows bytes [] = refl
 part_and_rest rows bytes (row ∷ more) =
-    let part = part_of (rows - 1) (bytes - length (line_of (row_data row))) more in
+    let part = part_of (rows - 1) (bytes - length (value_line (row_data row))) more in
     elim (rows == 0 || bytes == 0) as (λ b. row ∷ more ≡ cond b [] (row ∷ part) ++ drop (length (cond b [] (row ∷ part))) (row ∷ more)) [
       | true ↦ refl
-      | false ↦ ap (λ r. row ∷ r) (part_and_rest (rows - 1) (bytes - length (line_of (row_data row))) more)
+      | false ↦ ap (λ r. row ∷ r) (part_and_rest (rows - 1) (bytes - length (value_line (row_data row))) more)
     ]
 
 none_of_a_full_part : (rows bytes : ℕ) (all : Rows) → (rows == 0 || bytes == 0) ≡ true → part_of rows bytes all ≡ []
 none_of_a_full_part rows bytes [] full = refl
-none_of_a_full_part rows bytes (row ∷ more) full = ap (λ b. cond b [] (row ∷ part_of (rows - 1) (bytes - length (line_of (row_data row))) more)) full
+none_of_a_full_part rows bytes (row ∷ more) full = ap (λ b. cond b [] (row ∷ part_of (rows - 1) (bytes - length (value_line (row_data row))) more)) full
 
 -- ---- The rows from a path on.
 
@@ -100,32 +101,32 @@ module _ (n : Namespace) (w : IsWellFormed n) where
   resumes_named : (name : List ℕ) (q : Path) (row : Path × Form) (back : Rows) → rows_from (name ∷ q) n.rows ≡ row ∷ back → paths_from (name ∷ q) n ≡ row ∷ back
   resumes_named name q row back is = sym (from_named name q) ∙ is
 
-  not_at_root : (p : Path) (front : Rows) (row : Path × Form) (back : Rows) → paths_from p n ≡ front ++ row ∷ back → rows_from [] n.rows ≡ row ∷ back → ⊥
-  not_at_root p front row back is all =
-      omega (arith, fewer_paths p, ap length is, length-append front (row ∷ back), ap length (sym (from_root n.rows) ∙ all))
+  not_at_root : (p : Path) (prefix : Rows) (row : Path × Form) (back : Rows) → paths_from p n ≡ prefix ++ row ∷ back → rows_from [] n.rows ≡ row ∷ back → ⊥
+  not_at_root p prefix row back is all =
+      omega (arith, fewer_paths p, ap length is, length-append prefix (row ∷ back), ap length (sym (from_root n.rows) ∙ all))
 
-  at_path : (p : Path) (front : Rows) (q : Path) (form : Form) (back : Rows) → paths_from p n ≡ front ++ (q, form) ∷ back → rows_from q n.rows ≡ (q, form) ∷ back → paths_from q n ≡ (q, form) ∷ back
-  at_path p front [] form back is all = absurd (not_at_root p front ([], form) back is all)
-  at_path p front (name ∷ q) form back is all = resumes_named name q (name ∷ q, form) back all
+  at_path : (p : Path) (prefix : Rows) (q : Path) (form : Form) (back : Rows) → paths_from p n ≡ prefix ++ (q, form) ∷ back → rows_from q n.rows ≡ (q, form) ∷ back → paths_from q n ≡ (q, form) ∷ back
+  at_path p prefix [] form back is all = absurd (not_at_root p prefix ([], form) back is all)
+  at_path p prefix (name ∷ q) form back is all = resumes_named name q (name ∷ q, form) back all
 
-  all_rows_from : (p : Path) (front : Rows) (row : Path × Form) (back : Rows) → paths_from p n ≡ front ++ row ∷ back → (before : Rows) × (rows_from p n.rows ≡ before ++ row ∷ back)
-  all_rows_from [] front row back is = (([], Dir) ∷ front, from_root n.rows ∙ first.1 ∙ ap (λ r. ([], Dir) ∷ r) (sym (ap (drop 1) first.1) ∙ sym (from_root (drop 1 n.rows)) ∙ is))
-  all_rows_from (name ∷ p) front row back is = (front, from_named name p ∙ is)
+  all_rows_from : (p : Path) (prefix : Rows) (row : Path × Form) (back : Rows) → paths_from p n ≡ prefix ++ row ∷ back → (before : Rows) × (rows_from p n.rows ≡ before ++ row ∷ back)
+  all_rows_from [] prefix row back is = (([], Dir) ∷ prefix, from_root n.rows ∙ first.1 ∙ ap (λ r. ([], Dir) ∷ r) (sym (ap (drop 1) first.1) ∙ sym (from_root (drop 1 n.rows)) ∙ is))
+  all_rows_from (name ∷ p) prefix row back is = (prefix, from_named name p ∙ is)
 
   pub paths_resume : ResumesRows n.rows → Resumes n
-  paths_resume resumes p front row back is =
-      let all = all_rows_from p front row back is in
-      at_path p front row.0 row.1 back is (resumes p all.0 row back all.1)
+  paths_resume resumes p prefix row back is =
+      let all = all_rows_from p prefix row back is in
+      at_path p prefix row.0 row.1 back is (resumes p all.0 row back all.1)
 
 -- ---- The texts of a place.
 
 -- an image is its first line, and then what is left at the first place
-image_whole : (n : Namespace) (txid : ℕ) → image_text n txid ≡ line_of (header_data n txid) ++ rest_text first_place n
+image_whole : (n : Namespace) (txid : ℕ) → image_text n txid ≡ value_line (header_data n txid) ++ rest_text first_place n
 unfolding image_text
 image_whole n txid =
     let all : paths_from [] n ≡ drop 1 n.rows = from_root (drop 1 n.rows) in
     let count : length n.rows - 1 ≡ 0 + length (paths_from [] n) = omega (arith, ap length all, length-drop 1 n.rows) in
-    λ j. line_of (header_data n txid) ++ (row_lines (sym all j) ++ line_of (end_data (count j)))
+    λ j. value_line (header_data n txid) ++ (row_lines (sym all j) ++ value_line (end_data (count j)))
 
 module _ (n : Namespace) (rows : ℕ) (s : Place) where
   abbrev all : Rows
@@ -148,66 +149,66 @@ module _ (n : Namespace) (rows : ℕ) (s : Place) where
   part_whole t next counted =
       let both : row_lines all ≡ row_lines part ++ row_lines (paths_from t.path n) = lines ∙ ap (λ r. row_lines part ++ row_lines r) (sym next) in
       let count : s.count + length all ≡ t.count + length (paths_from t.path n) = omega (arith, counted, ap length next, ap length whole, length-append part back) in
-      (λ j. both j ++ line_of (end_data (count j))) ∙ append_assoc (row_lines part) (row_lines (paths_from t.path n)) (line_of (end_data (t.count + length (paths_from t.path n))))
+      (λ j. both j ++ value_line (end_data (count j))) ∙ append_assoc (row_lines part) (row_lines (paths_from t.path n)) (value_line (end_data (t.count + length (paths_from t.path n))))
 
 -- ---- A saving goes on.
 
 module _ (n : Namespace) (txid : ℕ) where
-  pub begins : (old new : Writing) (s : Place) → Begins n txid old new s → IsSaving n txid old new s
+  pub begins : (old new : Writer) (s : Place) → WroteHeader n txid old new s → IsSaving n txid old new s
   begins old new s h = record {
-    front = line_of (header_data n txid);
+    prefix = value_line (header_data n txid);
     took = h.took;
-    whole = image_whole n txid ∙ ap (λ p. line_of (header_data n txid) ++ rest_text p n) (sym h.place);
+    whole = image_whole n txid ∙ ap (λ p. value_line (header_data n txid) ++ rest_text p n) (sym h.place);
   }
 
-  pub head_front : (old new : Writing) (e : Unwritten) → TookFront old new (line_of (header_data n txid)) e → TookFront old new (image_text n txid) e
-  head_front old new e h =
-      subst (λ t. TookFront old new t e) (sym (image_whole n txid)) (front_of old new new (line_of (header_data n txid)) (rest_text first_place n) e h)
+  pub head_prefix : (old new : Writer) (e : OutputFault) → TookPrefix old new (value_line (header_data n txid)) e → TookPrefix old new (image_text n txid) e
+  head_prefix old new e h =
+      subst (λ t. TookPrefix old new t e) (sym (image_whole n txid)) (prefix_of old new new (value_line (header_data n txid)) (rest_text first_place n) e h)
 
-  goes_on : (start old new : Writing) (rows : ℕ) (s t : Place) → IsSaving n txid start old s → WrotePart n rows s old new t → IsSaving n txid start new t
+  goes_on : (start old new : Writer) (rows : ℕ) (s t : Place) → IsSaving n txid start old s → WrotePart n rows s old new t → IsSaving n txid start new t
   goes_on start old new rows s t h w =
       let part = row_lines (part_at rows s n) in
       record {
-        front = h.front ++ part;
-        took = took_both start old new h.front part h.took w.took;
-        whole = h.whole ∙ ap (λ r. h.front ++ r) (part_whole n rows s t w.next w.counted) ∙ sym (append_assoc h.front part (rest_text t n));
+        prefix = h.prefix ++ part;
+        took = took_both start old new h.prefix part h.took w.took;
+        whole = h.whole ∙ ap (λ r. h.prefix ++ r) (part_whole n rows s t w.next w.counted) ∙ sym (append_assoc h.prefix part (rest_text t n));
       }
 
-  ends : (start old new : Writing) (s : Place) → IsSaving n txid start old s → Took old new (rest_text s n) → Took start new (image_text n txid)
-  ends start old new s h took = subst (Took start new) (sym h.whole) (took_both start old new h.front (rest_text s n) h.took took)
+  ends : (start old new : Writer) (s : Place) → IsSaving n txid start old s → Took old new (rest_text s n) → Took start new (image_text n txid)
+  ends start old new s h took = subst (Took start new) (sym h.whole) (took_both start old new h.prefix (rest_text s n) h.took took)
 
-  pub stops : (start old new : Writing) (s : Place) (e : SaveFault) → IsSaving n txid start old s → WroteFront old new (rest_text s n) e → TookFront start new (image_text n txid) (cause_of e)
+  pub stops : (start old new : Writer) (s : Place) (e : SaveFault) → IsSaving n txid start old s → WrotePrefix old new (rest_text s n) e → TookPrefix start new (image_text n txid) (cause_of e)
   stops start old new s e h w =
-      subst (λ t. TookFront start new t (cause_of e)) (sym h.whole) (front_after start old new h.front (rest_text s n) (cause_of e) h.took w.took)
+      subst (λ t. TookPrefix start new t (cause_of e)) (sym h.whole) (prefix_after start old new h.prefix (rest_text s n) (cause_of e) h.took w.took)
 
 -- what a call that went well made of an image
-pub saved_ok : (n : Namespace) (rows : ℕ) (s : Place) (w0 w1 : Writing) (o : Option Place) → IfSome o (WrotePart n rows s w0 w1) → (o ≡ None → IsRest n rows s w0 w1)
-    → (txid : ℕ) (start : Writing) → IsSaving n txid start w0 s → IsSavedBy n txid start w1 (Ok o)
+pub saved_ok : (n : Namespace) (rows : ℕ) (s : Place) (w0 w1 : Writer) (o : Option Place) → IfSome o (WrotePart n rows s w0 w1) → (o ≡ None → IsRest n rows s w0 w1)
+    → (txid : ℕ) (start : Writer) → IsSaving n txid start w0 s → IsSavedBy n txid start w1 (Ok o)
 saved_ok n rows s w0 w1 None written ended txid start h = ends n txid start w0 w1 s h (ended refl).took
 saved_ok n rows s w0 w1 (Some t) written ended txid start h = goes_on n txid start w0 w1 rows s t h written
 
 -- a fault, told with the bytes of the call
-pub told_with : (old new : Writing) (text : List ℕ) (e : Unwritten) (written : ℕ) → written ≡ new.taken - old.taken → TookFront old new text e → WroteFront old new text (fault_of e written)
+pub told_with : (old new : Writer) (text : List ℕ) (e : OutputFault) (written : ℕ) → written ≡ new.taken - old.taken → TookPrefix old new text e → WrotePrefix old new text (fault_of e written)
 told_with old new text WriteFailed written is h = record { took = h; told = omega (arith, is, h.counted) }
 told_with old new text OutOfMemory written is h = record { took = h; told = tt }
 
 -- ---- The lines of a part.
 
 -- these rows were put, of those that are left at a place
-pub record HasPutRows (start : Writing) (rows bytes : ℕ) (all : Rows) (lines : ℕ) (left : Rows) (page : Gathered) (now : Writing) : Type 0 where
+pub record HasPutRows (start : Writer) (rows bytes : ℕ) (all : Rows) (lines : ℕ) (left : Rows) (page : Page) (now : Writer) : Type 0 where
   pub done : Rows
   pub whole : all ≡ done ++ left
   pub put : HasPut start (row_lines done) page now
   pub counted : lines ≡ length done
   pub part : part_of rows bytes all ≡ done ++ part_of (rows - lines) (bytes - length (row_lines done)) left
 
-pub none_put : (start : Writing) (rows bytes : ℕ) (all : Rows) (page : Gathered) → HasPut start [] page start → HasPutRows start rows bytes all 0 all page start
+pub none_put : (start : Writer) (rows bytes : ℕ) (all : Rows) (page : Page) → HasPut start [] page start → HasPutRows start rows bytes all 0 all page start
 none_put start rows bytes all page put =
     let same_rows : rows ≡ rows - 0 = omega arith in
     let same_bytes : bytes ≡ bytes - 0 = omega arith in
     record { done = []; whole = refl; put = put; counted = refl; part = λ j. part_of (same_rows j) (same_bytes j) all }
 
-module _ (start : Writing) (rows bytes : ℕ) (all : Rows) (lines : ℕ) (left : Rows) (page : Gathered) (now : Writing) (h : HasPutRows start rows bytes all lines left page now) where
+module _ (start : Writer) (rows bytes : ℕ) (all : Rows) (lines : ℕ) (left : Rows) (page : Page) (now : Writer) (h : HasPutRows start rows bytes all lines left page now) where
   still : page.lost ≡ false → TookAllBut start now (row_lines h.done) page.left
   still well = subst (λ b. HasGone b start (row_lines h.done) page.left now) well h.put
 
@@ -215,7 +216,7 @@ module _ (start : Writing) (rows bytes : ℕ) (all : Rows) (lines : ℕ) (left :
   bytes_put : page.lost ≡ false → (now.taken - start.taken) + length page.left ≡ length (row_lines h.done)
   bytes_put well =
       let took = still well in
-      omega (arith, took.took.counted, ap length took.whole, length-append took.front page.left)
+      omega (arith, took.took.counted, ap length took.whole, length-append took.prefix page.left)
 
   -- a prefix of what was left was written
   abbrev text : List ℕ → List ℕ
@@ -224,18 +225,18 @@ module _ (start : Writing) (rows bytes : ℕ) (all : Rows) (lines : ℕ) (left :
   split : (tail : List ℕ) → text tail ≡ row_lines h.done ++ (row_lines left ++ tail)
   split tail = ap (λ t. t ++ tail) (ap row_lines h.whole ∙ lines_both h.done left) ∙ append_assoc (row_lines h.done) (row_lines left) tail
 
-  pub lost_front : (tail : List ℕ) → page.lost ≡ true → TookFront start now (text tail) WriteFailed
-  lost_front tail lost =
-      subst (λ t. TookFront start now t WriteFailed) (sym (split tail))
-      (front_of start now now (row_lines h.done) (row_lines left ++ tail) WriteFailed (subst (λ b. HasGone b start (row_lines h.done) page.left now) lost h.put))
+  pub lost_prefix : (tail : List ℕ) → page.lost ≡ true → TookPrefix start now (text tail) WriteFailed
+  lost_prefix tail lost =
+      subst (λ t. TookPrefix start now t WriteFailed) (sym (split tail))
+      (prefix_of start now now (row_lines h.done) (row_lines left ++ tail) WriteFailed (subst (λ b. HasGone b start (row_lines h.done) page.left now) lost h.put))
 
-  pub unlost_front : (tail : List ℕ) → 0 < length tail → page.lost ≡ false → TookFront start now (text tail) OutOfMemory
-  unlost_front tail some well =
+  pub unlost_prefix : (tail : List ℕ) → 0 < length tail → page.lost ≡ false → TookPrefix start now (text tail) OutOfMemory
+  unlost_prefix tail some well =
       let took = still well in
       record {
-        front = took.front;
+        prefix = took.prefix;
         rest = page.left ++ (row_lines left ++ tail);
-        whole = split tail ∙ ap (λ t. t ++ (row_lines left ++ tail)) took.whole ∙ append_assoc took.front page.left (row_lines left ++ tail);
+        whole = split tail ∙ ap (λ t. t ++ (row_lines left ++ tail)) took.whole ∙ append_assoc took.prefix page.left (row_lines left ++ tail);
         short = omega (arith, some, length-append page.left (row_lines left ++ tail), length-append (row_lines left) tail);
         bytes = took.took.bytes;
         counted = took.took.counted;
@@ -298,9 +299,9 @@ module _ (start : Writing) (rows bytes : ℕ) (all : Rows) (lines : ℕ) (left :
       ap (λ b. b || bytes - length (row_lines h.done) == 0) (not_zero (rows - lines) (omega (arith, few))) ∙ not_zero (bytes - length (row_lines h.done)) (omega (arith, short))
 
   pub row_put : page.lost ≡ false → lines < rows → (now.taken - start.taken) + length page.left < bytes → (row : Path × Form) (more : Rows) → left ≡ row ∷ more
-      → (page' : Gathered) (now' : Writing) → Puts (line_of (row_data row)) page now page' now' → HasPutRows start rows bytes all (lines + 1) more page' now'
+      → (page' : Page) (now' : Writer) → PutsPiece (value_line (row_data row)) page now page' now' → HasPutRows start rows bytes all (lines + 1) more page' now'
   row_put well few short row more is page' now' puts =
-      let line = line_of (row_data row) in
+      let line = value_line (row_data row) in
       let done' = h.done ++ row ∷ [] in
       let text : row_lines done' ≡ row_lines h.done ++ line = lines_both h.done (row ∷ []) ∙ ap (λ t. row_lines h.done ++ t) (append-nil line) in
       let room = bytes - length (row_lines h.done) in
@@ -319,32 +320,32 @@ module _ (start : Writing) (rows bytes : ℕ) (all : Rows) (lines : ℕ) (left :
 -- ---- A call.
 
 -- why a call ends
-pub at_err : {T : Type 0} (r : Result T Unwritten) (P : Unwritten → Type 0) (why : Unwritten) → IsErrAnd r (λ e. e ≡ why) → P why → IfErr r P
+pub at_err : {T : Type 0} (r : Result T OutputFault) (P : OutputFault → Type 0) (why : OutputFault) → IsErrAnd r (λ e. e ≡ why) → P why → IfErr r P
 at_err (Ok x) P why is holds = tt
 at_err (Err e) P why is holds = subst P (sym is) holds
 
 module _ (n : Namespace) (rows : ℕ) (s : Place) where
   abbrev end_line : List ℕ
-  end_line = line_of (end_data (s.count + length (paths_from s.path n)))
+  end_line = value_line (end_data (s.count + length (paths_from s.path n)))
 
   some_line : 0 < length end_line
-  some_line = omega (arith, length-append (compact_text (end_data (s.count + length (paths_from s.path n)))) (feed ∷ []))
+  some_line = omega (arith, length-append (compact_text (end_data (s.count + length (paths_from s.path n)))) (line_feed ∷ []))
 
   -- where a walk has what is left at a place
   module _ (left : Rows) (is : left ≡ paths_from s.path n) where
     pub part_there : (part : Part) → IsPart rows 262144 left part → IsPart rows 262144 (paths_from s.path n) part
     part_there part h = subst (λ l. IsPart rows 262144 l part) is h
 
-    pub put_there : (start now : Writing) (page : Gathered) → HasPut start (row_lines (part_of rows 262144 left)) page now → HasPut start (row_lines (part_at rows s n)) page now
+    pub put_there : (start now : Writer) (page : Page) → HasPut start (row_lines (part_of rows 262144 left)) page now → HasPut start (row_lines (part_at rows s n)) page now
     put_there start now page h = subst (λ l. HasPut start (row_lines (part_of rows 262144 l)) page now) is h
 
-    pub walk_front : (start now : Writing) (e : Unwritten) → ((tail : List ℕ) → 0 < length tail → TookFront start now (row_lines left ++ tail) e) → TookFront start now (rest_text s n) e
-    walk_front start now e h = subst (λ l. TookFront start now (row_lines l ++ end_line) e) is (h end_line some_line)
+    pub walk_prefix : (start now : Writer) (e : OutputFault) → ((tail : List ℕ) → 0 < length tail → TookPrefix start now (row_lines left ++ tail) e) → TookPrefix start now (rest_text s n) e
+    walk_prefix start now e h = subst (λ l. TookPrefix start now (row_lines l ++ end_line) e) is (h end_line some_line)
 
   -- nothing was written
-  pub none_written : (w : Writing) → TookFront w w (rest_text s n) OutOfMemory
+  pub none_written : (w : Writer) → TookPrefix w w (rest_text s n) OutOfMemory
   none_written w = record {
-    front = [];
+    prefix = [];
     rest = rest_text s n;
     whole = refl;
     short = omega (arith, some_line, length-append (row_lines (paths_from s.path n)) end_line);
@@ -359,15 +360,15 @@ module _ (n : Namespace) (rows : ℕ) (s : Place) where
       (row_lines (behind_part rows s n) ++ end_line, ap (λ t. t ++ end_line) (lines n rows s) ∙ append_assoc (row_lines (part_at rows s n)) (row_lines (behind_part rows s n)) end_line)
 
   -- a part was put and not written
-  pub part_unwritten : (start now : Writing) (page : Gathered) → page.lost ≡ false → HasPut start (row_lines (part_at rows s n)) page now → TookFront start now (rest_text s n) OutOfMemory
+  pub part_unwritten : (start now : Writer) (page : Page) → page.lost ≡ false → HasPut start (row_lines (part_at rows s n)) page now → TookPrefix start now (rest_text s n) OutOfMemory
   unfolding rest_is
   part_unwritten start now page well put =
       let took : TookAllBut start now (row_lines (part_at rows s n)) page.left = subst (λ b. HasGone b start (row_lines (part_at rows s n)) page.left now) well put in
       let behind = row_lines (behind_part rows s n) ++ end_line in
       record {
-        front = took.front;
+        prefix = took.prefix;
         rest = page.left ++ behind;
-        whole = rest_is.1 ∙ ap (λ t. t ++ behind) took.whole ∙ append_assoc took.front page.left behind;
+        whole = rest_is.1 ∙ ap (λ t. t ++ behind) took.whole ∙ append_assoc took.prefix page.left behind;
         short = omega (arith, some_line, length-append page.left behind, length-append (row_lines (behind_part rows s n)) end_line);
         bytes = took.took.bytes;
         counted = took.took.counted;
@@ -375,13 +376,13 @@ module _ (n : Namespace) (rows : ℕ) (s : Place) where
       }
 
   -- a prefix of the part is a prefix of what is left
-  pub part_front : (w0 w1 : Writing) (e : Unwritten) → TookFront w0 w1 (row_lines (part_at rows s n)) e → TookFront w0 w1 (rest_text s n) e
-  part_front w0 w1 e h = subst (λ t. TookFront w0 w1 t e) (sym rest_is.1) (front_of w0 w1 w1 (row_lines (part_at rows s n)) rest_is.0 e h)
+  pub part_prefix : (w0 w1 : Writer) (e : OutputFault) → TookPrefix w0 w1 (row_lines (part_at rows s n)) e → TookPrefix w0 w1 (rest_text s n) e
+  part_prefix w0 w1 e h = subst (λ t. TookPrefix w0 w1 t e) (sym rest_is.1) (prefix_of w0 w1 w1 (row_lines (part_at rows s n)) rest_is.0 e h)
 
   module _ (part : Part) (h : IsPart rows 262144 (paths_from s.path n) part) where
     -- paths are left
     pub part_written : Resumes n → (names : Vec (String Global) Global) → part.next ≡ Some names → (count : ℕ) → count ≡ s.count + part.lines
-        → (w0 w1 : Writing) → Took w0 w1 (row_lines (part_at rows s n)) → WrotePart n rows s w0 w1 (record { path = names_of names.items; count = count })
+        → (w0 w1 : Writer) → Took w0 w1 (row_lines (part_at rows s n)) → WrotePart n rows s w0 w1 (record { path = names_of names.items; count = count })
     part_written resumes names is count counted w0 w1 took =
         let next = subst (λ o. MatchOption o (behind_part rows s n ≡ []) (λ names. Begin (names_of names.items) (behind_part rows s n))) is h.next in
         let row : Path × Form = (names_of names.items, next.0) in
@@ -396,25 +397,25 @@ module _ (n : Namespace) (rows : ℕ) (s : Place) where
     none_behind is = subst (λ o. MatchOption o (behind_part rows s n ≡ []) (λ names. Begin (names_of names.items) (behind_part rows s n))) is h.next
 
     -- none are left
-    all_text : part.next ≡ None → (count : ℕ) → count ≡ s.count + part.lines → row_lines (part_at rows s n) ++ line_of (end_data count) ≡ rest_text s n
+    all_text : part.next ≡ None → (count : ℕ) → count ≡ s.count + part.lines → row_lines (part_at rows s n) ++ value_line (end_data count) ≡ rest_text s n
     all_text is count counted =
         let none = none_behind is in
         let all : part_at rows s n ≡ paths_from s.path n = sym (append-nil (part_at rows s n)) ∙ ap (λ b. part_at rows s n ++ b) (sym none) ∙ sym (whole n rows s) in
         let same : count ≡ s.count + length (paths_from s.path n) = omega (arith, counted, h.lines, ap length all) in
-        λ j. row_lines (all j) ++ line_of (end_data (same j))
+        λ j. row_lines (all j) ++ value_line (end_data (same j))
 
-    pub rest_written : part.next ≡ None → (count : ℕ) → count ≡ s.count + part.lines → (w0 w1 : Writing) → Took w0 w1 (row_lines (part_at rows s n) ++ line_of (end_data count)) → IsRest n rows s w0 w1
+    pub rest_written : part.next ≡ None → (count : ℕ) → count ≡ s.count + part.lines → (w0 w1 : Writer) → Took w0 w1 (row_lines (part_at rows s n) ++ value_line (end_data count)) → IsRest n rows s w0 w1
     rest_written is count counted w0 w1 took = record { took = subst (Took w0 w1) (all_text is count counted) took; none_left = none_behind is }
 
-    rest_front : part.next ≡ None → (count : ℕ) → count ≡ s.count + part.lines → (w0 w1 : Writing) (e : Unwritten) → TookFront w0 w1 (row_lines (part_at rows s n) ++ line_of (end_data count)) e
-        → TookFront w0 w1 (rest_text s n) e
-    rest_front is count counted w0 w1 e front = subst (λ t. TookFront w0 w1 t e) (all_text is count counted) front
+    rest_prefix : part.next ≡ None → (count : ℕ) → count ≡ s.count + part.lines → (w0 w1 : Writer) (e : OutputFault) → TookPrefix w0 w1 (row_lines (part_at rows s n) ++ value_line (end_data count)) e
+        → TookPrefix w0 w1 (rest_text s n) e
+    rest_prefix is count counted w0 w1 e prefix = subst (λ t. TookPrefix w0 w1 t e) (all_text is count counted) prefix
 
     -- a prefix of the part and of the last line, where that comes, is a prefix of what is left
-    pub end_front : (count : ℕ) → count ≡ s.count + part.lines → (w0 w1 : Writing) (e : Unwritten) → TookFront w0 w1 (row_lines (part_at rows s n) ++ last_line part.next count) e → TookFront w0 w1 (rest_text s n) e
-    end_front count counted w0 w1 e front =
+    pub end_prefix : (count : ℕ) → count ≡ s.count + part.lines → (w0 w1 : Writer) (e : OutputFault) → TookPrefix w0 w1 (row_lines (part_at rows s n) ++ last_line part.next count) e → TookPrefix w0 w1 (rest_text s n) e
+    end_prefix count counted w0 w1 e prefix =
         let text = row_lines (part_at rows s n) in
-        elim part.next as (λ o. part.next ≡ o → TookFront w0 w1 (text ++ last_line o count) e → TookFront w0 w1 (rest_text s n) e) [
-          | None ↦ λ is f. rest_front is count counted w0 w1 e f
-          | Some next ↦ λ is f. part_front w0 w1 e (subst (λ t. TookFront w0 w1 t e) (append-nil text) f)
-        ] refl front
+        elim part.next as (λ o. part.next ≡ o → TookPrefix w0 w1 (text ++ last_line o count) e → TookPrefix w0 w1 (rest_text s n) e) [
+          | None ↦ λ is f. rest_prefix is count counted w0 w1 e f
+          | Some next ↦ λ is f. part_prefix w0 w1 e (subst (λ t. TookPrefix w0 w1 t e) (append-nil text) f)
+        ] refl prefix

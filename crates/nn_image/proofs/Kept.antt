@@ -14,7 +14,7 @@ use Rattle.nn_model.specs.declared.form.Form.{Form}
 use Rattle.nn_model.specs.declared.form.Form.TheVariants.{Dir, File}
 use Rattle.nn_model.specs.Namespace.{Path, path_cmp, Issued, Namespace, lookup, no_block}
 use Rattle.nn_model.specs.Apply.{has_id}
-use Rattle.nn_model.specs.WellFormed.{Has, IsIssued, IsWellFormed}
+use Rattle.nn_model.specs.WellFormed.{Includes, IsIssued, IsWellFormed}
 use Rattle.nn_model.proofs.Dues.{blocks_in}
 use Rattle.nn_tree.specs.Restore.{parent_of, rises, is_issued, block_fits}
 use Rattle.nn_tree.proofs.RestoredFile.{once_of}
@@ -24,13 +24,13 @@ use Rattle.nn_image.proofs.Order.{greater}
 
 -- ---- rows
 
-below_has : (p : Path) (rows : Rows) (row : Path × Form) → T (below_all path_cmp p rows) → Has rows row → path_cmp p row.0 ≡ Less
+below_has : (p : Path) (rows : Rows) (row : Path × Form) → T (below_all path_cmp p rows) → Includes rows row → path_cmp p row.0 ≡ Less
 below_has p [] row h here = absurd here
 below_has p (x ∷ rows) row h here =
     let both = and_T (is_lt (path_cmp p x.0)) _ h in
     elim here as (λ _. path_cmp p row.0 ≡ Less) [ inl e ↦ subst (λ r. path_cmp p r.0 ≡ Less) e (less_of _ both.0) | inr k ↦ below_has p rows row both.1 k ]
 
-pub found_row : (rows : Rows) (row : Path × Form) → T (is_sorted path_cmp rows) → Has rows row → find_entry path_cmp row.0 rows ≡ Some row.1
+pub found_row : (rows : Rows) (row : Path × Form) → T (is_sorted path_cmp rows) → Includes rows row → find_entry path_cmp row.0 rows ≡ Some row.1
 found_row [] row sorted here = absurd here
 found_row (x ∷ rows) row sorted here =
     let both = and_T (below_all path_cmp x.0 rows) _ sorted in

@@ -2,7 +2,7 @@
 use Rattle.std.proofs.Common.{◌≡◌, ℕ, ◌-◌, List, [], ◌++◌, length, replicate, false, Result, Ok, Err, ap, ◌∙◌, append-nil, arith}
 use Rattle.std.specs.Prelude.{codes, IfOk}
 use Rattle.std.specs.Fmt.{decimal, padded_integral, format_spec, char_count}
-use Rattle.nn_image.specs.Text.{name_text}
+use Rattle.nn_image.specs.Text.{image_file_name}
 
 -- as a hole of width 19 writes it
 abbrev pub hole : ℕ → List ℕ
@@ -15,8 +15,8 @@ filled : (n : ℕ) → hole n ≡ replicate (19 - length (decimal n)) 48 ++ deci
 unfolding padded_integral char_count
 filled n = bare (19 - length (decimal n)) (decimal n)
 
-pub named : (txid : ℕ) → codes "fsimage_" ++ hole txid ≡ name_text txid
-unfolding name_text
+pub named : (txid : ℕ) → codes "fsimage_" ++ hole txid ≡ image_file_name txid
+unfolding image_file_name
 named txid = ap (λ ds. codes "fsimage_" ++ ds) (filled txid)
 
 pub named_ok : {A E : Type 0} (bytes : A → List ℕ) (r : Result A E) (text name : List ℕ) → text ≡ name → IfOk r (λ s. bytes s ≡ text) → IfOk r (λ s. bytes s ≡ name)

@@ -8,7 +8,7 @@ use Rattle.nn_model.specs.declared.form.Form.{Form}
 use Rattle.nn_model.specs.Namespace.{Path, path_cmp, Namespace, with_row}
 use Rattle.nn_tree.specs.Restore.{row_fits, can_restore}
 use Rattle.nn_image.specs.declared.fault.ImageFault.TheVariants.{BadLine, WrongOrder}
-use Rattle.nn_image.specs.Reading.{last_path, with_next, with_rows}
+use Rattle.nn_image.specs.Reading.{last_path, with_next_row, with_rows}
 use Rattle.nn_image.specs.Loading.{IsLoading}
 use Rattle.nn_image.proofs.Rows.{Rows, paths_total, and_T, T_and, T_of, less_of, true_of}
 
@@ -63,7 +63,7 @@ is_lt_true p q e = less_of _ (T_of _ e)
 -- ---- what a call of `restore` says of the definition
 
 module _ (n : Namespace) (before : Path) (number : ℕ) (w : IsLoading n before number) (row : Path × Form) where
-  pub out_of_order : is_lt (path_cmp before row.0) ≡ false → with_next n (Some row) ≡ Err (WrongOrder number)
+  pub out_of_order : is_lt (path_cmp before row.0) ≡ false → with_next_row n (Some row) ≡ Err (WrongOrder number)
   out_of_order e = rw (w.last, e) (ap (λ k. Err (WrongOrder k)) w.at)
 
   module _ (order : is_lt (path_cmp before row.0) ≡ true) where
@@ -73,13 +73,13 @@ module _ (n : Namespace) (before : Path) (number : ℕ) (w : IsLoading n before 
     pub fits_is : can_restore n row.0 row.1 ≡ row_fits n row.0 row.1
     fits_is = ap (λ o. not (is_some o) && row_fits n row.0 row.1) (not_there n.rows row.0 less_all)
 
-    pub refused : can_restore n row.0 row.1 ≡ false → with_next n (Some row) ≡ Err (BadLine number)
+    pub refused : can_restore n row.0 row.1 ≡ false → with_next_row n (Some row) ≡ Err (BadLine number)
     refused e = rw (w.last, order, sym fits_is ∙ e) (ap (λ k. Err (BadLine k)) w.at)
 
     pub pushed : (m : Namespace) → m ≡ with_row n row.0 row.1 → m ≡ with_rows n (n.rows ++ row ∷ [])
     pushed m e = e ∙ ap (with_rows n) (put_last n.rows row.0 row.1 less_all)
 
-    pub added : (m : Namespace) → m ≡ with_row n row.0 row.1 → can_restore n row.0 row.1 ≡ true → with_next n (Some row) ≡ Ok m
+    pub added : (m : Namespace) → m ≡ with_row n row.0 row.1 → can_restore n row.0 row.1 ≡ true → with_next_row n (Some row) ≡ Ok m
     added m e fits = rw (w.last, order, sym fits_is ∙ fits) (ap Ok (sym (pushed m e)))
 
     pub still_loading : (m : Namespace) → m ≡ with_row n row.0 row.1 → IsLoading m row.0 (number + 1)

@@ -2,10 +2,10 @@
 use Rattle.std.proofs.Common.{◌≡◌, ℕ, List, [], ◌∷◌, ◌++◌, Bool, true, false, cond, eqb, refl, sym, ap, ◌∙◌, append_assoc}
 use Rattle.std.specs.List.{flat_map, list_all, slice_split, onto_first}
 use Rattle.std.proofs.lemmas.Bool.Decides.{Decides-eqb}
+use Rattle.nn_bytes.specs.Lines.{line_feed}
 use Rattle.nn_image.specs.Image.{with_feed}
 use Rattle.nn_image.specs.Lines.{no_feed}
 use Rattle.nn_image.specs.Reading.{pieces_of}
-use Rattle.nn_image.specs.Text.{feed}
 use Rattle.nn_image.proofs.LoadedLines.{piece}
 use Rattle.nn_image.proofs.Rows.{and_true}
 
@@ -15,56 +15,56 @@ unfolding pieces_of
 pieces_of_lines [] plain = refl
 pieces_of_lines (line ∷ lines) plain =
     let both = and_true (no_feed line) (list_all no_feed lines) plain in
-    ap pieces_of (append_assoc line (feed ∷ []) (flat_map with_feed lines)) ∙ piece line (flat_map with_feed lines) both.0 ∙ ap (λ ps. line ∷ ps) (pieces_of_lines lines both.1)
+    ap pieces_of (append_assoc line (line_feed ∷ []) (flat_map with_feed lines)) ∙ piece line (flat_map with_feed lines) both.0 ∙ ap (λ ps. line ∷ ps) (pieces_of_lines lines both.1)
 
 abbrev cuts : ℕ → Bool
-cuts b = eqb b feed
+cuts b = eqb b line_feed
 
 -- a line feed before each piece
 abbrev before_each : List (List ℕ) → List ℕ
-before_each pieces = flat_map (λ p. feed ∷ p) pieces
+before_each pieces = flat_map (λ p. line_feed ∷ p) pieces
 
-onto_each : (x : ℕ) (ps : List (List ℕ)) (xs : List ℕ) → before_each ps ≡ feed ∷ xs → before_each (onto_first x ps) ≡ feed ∷ x ∷ xs
+onto_each : (x : ℕ) (ps : List (List ℕ)) (xs : List ℕ) → before_each ps ≡ line_feed ∷ xs → before_each (onto_first x ps) ≡ line_feed ∷ x ∷ xs
 onto_each x [] xs e = absurd (cc)
-onto_each x (p ∷ ps) xs e = let same : p ++ before_each ps ≡ xs = cc in ap (λ r. feed ∷ x ∷ r) same
+onto_each x (p ∷ ps) xs e = let same : p ++ before_each ps ≡ xs = cc in ap (λ r. line_feed ∷ x ∷ r) same
 
-each_at : (b : Bool) (x : ℕ) (xs : List ℕ) (ps : List (List ℕ)) → eqb x feed ≡ b → before_each ps ≡ feed ∷ xs → before_each (cond b ([] ∷ ps) (onto_first x ps)) ≡ feed ∷ x ∷ xs
-each_at true x xs ps e h = let same : x ≡ feed = (Decides-eqb x feed).0 e in rw (same, h) refl
+each_at : (b : Bool) (x : ℕ) (xs : List ℕ) (ps : List (List ℕ)) → eqb x line_feed ≡ b → before_each ps ≡ line_feed ∷ xs → before_each (cond b ([] ∷ ps) (onto_first x ps)) ≡ line_feed ∷ x ∷ xs
+each_at true x xs ps e h = let same : x ≡ line_feed = (Decides-eqb x line_feed).0 e in rw (same, h) refl
 each_at false x xs ps e h = onto_each x ps xs h
 
-joined_pieces : (text : List ℕ) → before_each (slice_split cuts text) ≡ feed ∷ text
+joined_pieces : (text : List ℕ) → before_each (slice_split cuts text) ≡ line_feed ∷ text
 joined_pieces [] = refl
-joined_pieces (x ∷ xs) = each_at (eqb x feed) x xs (slice_split cuts xs) refl (joined_pieces xs)
+joined_pieces (x ∷ xs) = each_at (eqb x line_feed) x xs (slice_split cuts xs) refl (joined_pieces xs)
 
 -- no piece has a line feed
-plain_onto : (x : ℕ) (ps : List (List ℕ)) → eqb x feed ≡ false → list_all no_feed ps ≡ true → list_all no_feed (onto_first x ps) ≡ true
+plain_onto : (x : ℕ) (ps : List (List ℕ)) → eqb x line_feed ≡ false → list_all no_feed ps ≡ true → list_all no_feed (onto_first x ps) ≡ true
 plain_onto x [] e h = rw e refl
 plain_onto x (p ∷ ps) e h = let both = and_true (no_feed p) (list_all no_feed ps) h in rw (e, both.0, both.1) refl
 
-plain_at : (b : Bool) (x : ℕ) (ps : List (List ℕ)) → eqb x feed ≡ b → list_all no_feed ps ≡ true → list_all no_feed (cond b ([] ∷ ps) (onto_first x ps)) ≡ true
+plain_at : (b : Bool) (x : ℕ) (ps : List (List ℕ)) → eqb x line_feed ≡ b → list_all no_feed ps ≡ true → list_all no_feed (cond b ([] ∷ ps) (onto_first x ps)) ≡ true
 plain_at true x ps e h = h
 plain_at false x ps e h = plain_onto x ps e h
 
 plain_pieces : (text : List ℕ) → list_all no_feed (slice_split cuts text) ≡ true
 plain_pieces [] = refl
-plain_pieces (x ∷ xs) = plain_at (eqb x feed) x (slice_split cuts xs) refl (plain_pieces xs)
+plain_pieces (x ∷ xs) = plain_at (eqb x line_feed) x (slice_split cuts xs) refl (plain_pieces xs)
 
 -- the feeds before the pieces are those after the lines
-moved : (lines : List (List ℕ)) → before_each (lines ++ [] ∷ []) ≡ feed ∷ flat_map with_feed lines
+moved : (lines : List (List ℕ)) → before_each (lines ++ [] ∷ []) ≡ line_feed ∷ flat_map with_feed lines
 moved [] = refl
 moved (line ∷ lines) =
-    ap (λ r. feed ∷ (line ++ r)) (moved lines) ∙ ap (λ r. feed ∷ r) (sym (append_assoc line (feed ∷ []) (flat_map with_feed lines)))
+    ap (λ r. line_feed ∷ (line ++ r)) (moved lines) ∙ ap (λ r. line_feed ∷ r) (sym (append_assoc line (line_feed ∷ []) (flat_map with_feed lines)))
 
-plain_front : (lines more : List (List ℕ)) → list_all no_feed (lines ++ more) ≡ true → list_all no_feed lines ≡ true
-plain_front [] more h = refl
-plain_front (line ∷ lines) more h = let both = and_true (no_feed line) (list_all no_feed (lines ++ more)) h in rw (both.0, plain_front lines more both.1) refl
+plain_prefix : (lines more : List (List ℕ)) → list_all no_feed (lines ++ more) ≡ true → list_all no_feed lines ≡ true
+plain_prefix [] more h = refl
+plain_prefix (line ∷ lines) more h = let both = and_true (no_feed line) (list_all no_feed (lines ++ more)) h in rw (both.0, plain_prefix lines more both.1) refl
 
-tail_same : (a b : List ℕ) → ◌≡◌ {A = List ℕ} (feed ∷ a) (feed ∷ b) → a ≡ b
+tail_same : (a b : List ℕ) → ◌≡◌ {A = List ℕ} (line_feed ∷ a) (line_feed ∷ b) → a ≡ b
 tail_same a b e = cc
 
 pub lines_of : (text : List ℕ) (lines : List (List ℕ)) → pieces_of text ≡ lines ++ [] ∷ [] → (text ≡ flat_map with_feed lines) × (list_all no_feed lines ≡ true)
 unfolding pieces_of
 lines_of text lines e = (
   tail_same text (flat_map with_feed lines) (sym (joined_pieces text) ∙ ap before_each e ∙ moved lines),
-  plain_front lines ([] ∷ []) (sym (ap (list_all no_feed) e) ∙ plain_pieces text),
+  plain_prefix lines ([] ∷ []) (sym (ap (list_all no_feed) e) ∙ plain_pieces text),
 )

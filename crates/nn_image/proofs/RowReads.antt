@@ -21,7 +21,7 @@ use Rattle.nn_plain.proofs.KeyLemmas.{member_put, none_named, some_named}
 use Rattle.nn_tree.specs.Restore.{replication_fits}
 use Rattle.nn_image.specs.Loading.{by_read, is_end_row, IsReadAs}
 use Rattle.nn_image.specs.RowParts.{RowParts, parts_of, key_text, all_keys, row_key, put_at, file_from, form_from, row_from, row_or_bad, line_by, line_from}
-use Rattle.nn_image.specs.Reading.{◌>>=◌, ◌then◌, limited, number_in, text_in, flag_in, array_in, path_in, block_of, gathered, blocks_at, replication_in, file_in, form_of, form_in, row_in, by_key, by_value, with_next, object_only, object_of, value_of, has_end, is_end_line}
+use Rattle.nn_image.specs.Reading.{◌>>=◌, ◌then◌, limited, number_under, text_under, flag_under, array_under, path_under, block_of, gathered, blocks_at, replication_value, file_in, form_by_kind, form_in, row_of_line, by_key, by_value, with_next_row, if_object, object_of, value_of_line, has_end, is_end_line}
 use Rattle.nn_image.specs.declared.row_line.RowLine.TheVariants.{Bad}
 use Rattle.nn_image.proofs.ArrayLemmas.{value_of_text, value_of_none}
 use Rattle.nn_image.specs.declared.row_members.RowKey.{RowKey}
@@ -29,11 +29,11 @@ use Rattle.nn_image.specs.declared.row_members.RowKey.TheVariants as key
 
 -- ---- blocks
 
-number_read : (name : List ℕ) (d : Data) (n : ℕ) → whole_at name d ≡ Some n → IsNumber n → number_in name d ≡ Some n
-unfolding number_in
+number_read : (name : List ℕ) (d : Data) (n : ℕ) → whole_at name d ≡ Some n → IsNumber n → number_under name d ≡ Some n
+unfolding number_under
 number_read name d n e small = at (get name d) refl e
   where
-    at : (o : Option Data) → get name d ≡ o → option_and_then whole_of o ≡ Some n → number_in name d ≡ Some n
+    at : (o : Option Data) → get name d ≡ o → option_and_then whole_of o ≡ Some n → number_under name d ≡ Some n
     at None there e = absurd (cc)
     at (Some v) there e = rw (there, e, lt-ltb n (2 ^ 63) small) refl
 
@@ -67,7 +67,7 @@ put_all k d p = record {
 }
 
 parts_put : (k : List ℕ) (d : Data) (ms : Members) → parts_of (object (put k d ms)) ≡ put_all k d (parts_of (object ms))
-unfolding text_in flag_in array_in blocks_at
+unfolding text_under flag_under array_under blocks_at
 parts_put k d ms =
     rw (
       member_put (λ o. o >>= as_str) (codes "path") k d ms,
@@ -101,8 +101,8 @@ module _ (k : List ℕ) (d : Data) (ms : Members) where
 -- ---- rows
 
 -- a replication has no need of the limit of numbers
-replication_is : (d : Data) (g : ℕ → Form) → (whole_at (codes "replication") d >>= λ r. cond (replication_fits r) (Some (g r)) None) ≡ (replication_in d >>= λ r. Some (g r))
-unfolding replication_in number_in
+replication_is : (d : Data) (g : ℕ → Form) → (whole_at (codes "replication") d >>= λ r. cond (replication_fits r) (Some (g r)) None) ≡ (replication_value d >>= λ r. Some (g r))
+unfolding replication_value number_under
 replication_is d g = at (get (codes "replication") d) refl
   where
     fits : (r : ℕ) (t : Bool) → replication_fits r ≡ t → cond t (Some (g r)) None ≡ ((cond t (Some r) None) >>= λ r. Some (g r))
@@ -125,7 +125,7 @@ replication_is d g = at (get (codes "replication") d) refl
     whole None = refl
     whole (Some r) = number r (ltb r (2 ^ 63)) refl
 
-    at : (o : Option Data) → get (codes "replication") d ≡ o → (whole_at (codes "replication") d >>= λ r. cond (replication_fits r) (Some (g r)) None) ≡ (replication_in d >>= λ r. Some (g r))
+    at : (o : Option Data) → get (codes "replication") d ≡ o → (whole_at (codes "replication") d >>= λ r. cond (replication_fits r) (Some (g r)) None) ≡ (replication_value d >>= λ r. Some (g r))
     at None e = rw e refl
     at (Some v) e = rw e (whole (whole_of v))
 
@@ -139,15 +139,15 @@ then_then (Some x) f g = refl
 
 file_is : (d : Data) → file_from (parts_of d) ≡ file_in d
 unfolding file_from file_in
-file_is d = then_same (blocks_at (codes "blocks") d) _ _ (λ blocks. then_same (flag_in (codes "closed") d) _ _ (λ closed. replication_is d (λ r. File (record { replication = r; closed = closed; blocks = blocks }))))
+file_is d = then_same (blocks_at (codes "blocks") d) _ _ (λ blocks. then_same (flag_under (codes "closed") d) _ _ (λ closed. replication_is d (λ r. File (record { replication = r; closed = closed; blocks = blocks }))))
 
 form_is : (d : Data) → form_from (parts_of d) ≡ form_in d
-unfolding form_from form_in form_of
+unfolding form_from form_in form_by_kind
 form_is d = rw (file_is d) refl
 
-row_is : (d : Data) → row_from (parts_of d) ≡ row_in d
-unfolding row_from row_in path_in
-row_is d = rw (form_is d) (sym (then_then (text_in (codes "path") d) path_of (λ path. form_in d >>= λ form. Some (path, form))))
+row_is : (d : Data) → row_from (parts_of d) ≡ row_of_line d
+unfolding row_from row_of_line path_under
+row_is d = rw (form_is d) (sym (then_then (text_under (codes "path") d) path_of (λ path. form_in d >>= λ form. Some (path, form))))
 
 -- ---- lines
 
@@ -156,15 +156,15 @@ pub line_read : (line : List ℕ) (ms : Members) (p : RowParts) → IsUtf8 line 
 unfolding object_of
 line_read line ms p text e kept n pieces more =
     let d = object ms in
-    let there : object_of line ≡ Some d = ap (λ v. v >>= object_only) (value_of_text line d text e) in
+    let there : object_of line ≡ Some d = ap (λ v. v >>= if_object) (value_of_text line d text e) in
     ap (by_value n pieces more) there ∙ at (get (codes "end") d) ∙ ap (λ q. by_read n pieces more (line_from q)) (sym kept)
   where
-    row : (o : Option (Path × Form)) → (with_next n o then more) ≡ by_read n pieces more (row_or_bad o)
+    row : (o : Option (Path × Form)) → (with_next_row n o then more) ≡ by_read n pieces more (row_or_bad o)
     row None = refl
     row (Some r) = refl
 
     at : (o : Option Data) → by_key n (object ms) pieces more o ≡ by_read n pieces more (line_by (option_map whole_of o) (parts_of (object ms)))
-    at None = row (row_in (object ms)) ∙ ap (λ o. by_read n pieces more (row_or_bad o)) (sym (row_is (object ms)))
+    at None = row (row_of_line (object ms)) ∙ ap (λ o. by_read n pieces more (row_or_bad o)) (sym (row_is (object ms)))
     at (Some count) = refl
 
 pub no_line_read : (line : List ℕ) → object_of line ≡ None → IsReadAs line Bad
@@ -173,13 +173,13 @@ no_line_read line none n pieces more = ap (by_value n pieces more) none
 -- a line that is no text, or no object
 pub no_text_there : (line : List ℕ) → (IsUtf8 line → ⊥) → object_of line ≡ None
 unfolding object_of
-no_text_there line never = ap (λ v. v >>= object_only) (value_of_none line (λ text. absurd (never text)))
+no_text_there line never = ap (λ v. v >>= if_object) (value_of_none line (λ text. absurd (never text)))
 
 pub no_object_there : (line : List ℕ) → IsUtf8 line → LacksObject line → object_of line ≡ None
 unfolding object_of
 no_object_there line text lacks = at (read line) refl
   where
-    only : (d : Data) → read line ≡ Some d → object_only d ≡ None
+    only : (d : Data) → read line ≡ Some d → if_object d ≡ None
     only null e = refl
     only (boolean b) e = refl
     only (number n) e = refl
@@ -187,16 +187,16 @@ no_object_there line text lacks = at (read line) refl
     only (array ds) e = refl
     only (object ms) e = absurd (lacks ms e)
 
-    at : (o : Option Data) → read line ≡ o → (value_of line >>= object_only) ≡ None
-    at None e = ap (λ v. v >>= object_only) (value_of_none line (λ _. e))
-    at (Some d) e = ap (λ v. v >>= object_only) (value_of_text line d text e) ∙ only d e
+    at : (o : Option Data) → read line ≡ o → (value_of_line line >>= if_object) ≡ None
+    at None e = ap (λ v. v >>= if_object) (value_of_none line (λ _. e))
+    at (Some d) e = ap (λ v. v >>= if_object) (value_of_text line d text e) ∙ only d e
 
 -- ---- the end line
 
 pub ends_as : (line : List ℕ) (ms : Members) (p : RowParts) → IsUtf8 line → read line ≡ Some (object ms) → p ≡ parts_of (object ms) → is_end_row (line_from p) ≡ is_end_line line
 unfolding is_end_line object_of
 ends_as line ms p text e kept =
-    let there : object_of line ≡ Some (object ms) = ap (λ v. v >>= object_only) (value_of_text line (object ms) text e) in
+    let there : object_of line ≡ Some (object ms) = ap (λ v. v >>= if_object) (value_of_text line (object ms) text e) in
     ap (λ q. is_end_row (line_from q)) kept ∙ at (get (codes "end") (object ms)) ∙ ap has_end (sym there)
   where
     no_end : (o : Option (Path × Form)) → is_end_row (row_or_bad o) ≡ false

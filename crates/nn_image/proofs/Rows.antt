@@ -16,7 +16,7 @@ use Rattle.nn_model.proofs.Dues.{blocks_in}
 use Rattle.nn_image.specs.Reading.{with_rows}
 use Rattle.nn_tree.specs.Restore.{parent_of, is_issued, block_fits, once, form_fits, row_fits}
 use Rattle.nn_model.specs.Apply.{has_id}
-use Rattle.nn_model.specs.WellFormed.{Has}
+use Rattle.nn_model.specs.WellFormed.{Includes}
 use Rattle.nn_image.proofs.Keeps.{file_fits, Keeps}
 use Rattle.nn_image.specs.Reading.{last_path}
 use Rattle.nn_image.proofs.Shapes.{AreShort, IsShortBlock, AreShortBlocks, IsShortForm}
@@ -80,13 +80,13 @@ root_first ((name ∷ p, form) ∷ rest) sorted e =
     absurd (cc)
 
 -- a path below a row is found before it
-pub find_front : (q : Path) (before : Rows) (row : Path × Form) (rest : Rows) → T (is_sorted path_cmp (before ++ row ∷ rest)) → path_cmp q row.0 ≡ Less
+pub find_prefix : (q : Path) (before : Rows) (row : Path × Form) (rest : Rows) → T (is_sorted path_cmp (before ++ row ∷ rest)) → path_cmp q row.0 ≡ Less
     → find_entry path_cmp q (before ++ row ∷ rest) ≡ find_entry path_cmp q before
-find_front q [] row rest sorted e =
+find_prefix q [] row rest sorted e =
     let both = and_T (below_all path_cmp row.0 rest) _ sorted in
     none_below q (row ∷ rest) (T_and (is_lt (path_cmp q row.0)) _ (subst (λ r. T (is_lt r)) (sym e) tt) (below_trans q row.0 rest e both.0))
-find_front q (x ∷ before) row rest sorted e =
-    ap (cond (eq_by_cmp path_cmp q x.0) (Some x.1)) (find_front q before row rest (and_T (below_all path_cmp x.0 (before ++ row ∷ rest)) _ sorted).1 e)
+find_prefix q (x ∷ before) row rest sorted e =
+    ap (cond (eq_by_cmp path_cmp q x.0) (Some x.1)) (find_prefix q before row rest (and_T (below_all path_cmp x.0 (before ++ row ∷ rest)) _ sorted).1 e)
 
 -- the last path before a row is less
 pub last_less : (first : Path × Form) (before : Rows) (row : Path × Form) (rest : Rows) → T (is_sorted path_cmp ((first ∷ before) ++ row ∷ rest))
@@ -107,27 +107,27 @@ parent_less last (name ∷ p) e = below name p
 
 -- ---- blocks
 
-pub has_mid : {A : Type 0} (before : List A) (x : A) (rest : List A) → Has (before ++ x ∷ rest) x
+pub has_mid : {A : Type 0} (before : List A) (x : A) (rest : List A) → Includes (before ++ x ∷ rest) x
 has_mid [] x rest = inl refl
 has_mid (y ∷ before) x rest = inr (has_mid before x rest)
 
-has_left : {A : Type 0} (xs ys : List A) (x : A) → Has xs x → Has (xs ++ ys) x
+has_left : {A : Type 0} (xs ys : List A) (x : A) → Includes xs x → Includes (xs ++ ys) x
 has_left [] ys x h = absurd h
-has_left (y ∷ xs) ys x h = elim h as (λ _. (y ≡ x) ⊎ Has (xs ++ ys) x) [ inl e ↦ inl e | inr k ↦ inr (has_left xs ys x k) ]
+has_left (y ∷ xs) ys x h = elim h as (λ _. (y ≡ x) ⊎ Includes (xs ++ ys) x) [ inl e ↦ inl e | inr k ↦ inr (has_left xs ys x k) ]
 
-has_right : {A : Type 0} (xs ys : List A) (x : A) → Has ys x → Has (xs ++ ys) x
+has_right : {A : Type 0} (xs ys : List A) (x : A) → Includes ys x → Includes (xs ++ ys) x
 has_right [] ys x h = h
 has_right (y ∷ xs) ys x h = inr (has_right xs ys x h)
 
-pub has_block : (before : Rows) (row : Path × Form) (rest : Rows) (b : Block) → Has (blocks_of row.1) b → Has (blocks_in (before ++ row ∷ rest)) b
+pub has_block : (before : Rows) (row : Path × Form) (rest : Rows) (b : Block) → Includes (blocks_of row.1) b → Includes (blocks_in (before ++ row ∷ rest)) b
 has_block [] row rest b h = has_left (blocks_of row.1) (blocks_in rest) b h
 has_block (x ∷ before) row rest b h = has_right (blocks_of x.1) _ b (has_block before row rest b h)
 
-pub all_of : (p : Block → Bool) (bs : List Block) → ((b : Block) → Has bs b → p b ≡ true) → list_all p bs ≡ true
+pub all_of : (p : Block → Bool) (bs : List Block) → ((b : Block) → Includes bs b → p b ≡ true) → list_all p bs ≡ true
 all_of p [] h = refl
 all_of p (b ∷ bs) h = rw (h b (inl refl)) (all_of p bs (λ c k. h c (inr k)))
 
-pub short_of : (bs : List Block) → ((b : Block) → Has bs b → IsShortBlock b) → AreShortBlocks bs
+pub short_of : (bs : List Block) → ((b : Block) → Includes bs b → IsShortBlock b) → AreShortBlocks bs
 short_of [] h = tt
 short_of (b ∷ bs) h = (h b (inl refl), short_of bs (λ c k. h c (inr k)))
 
@@ -139,15 +139,15 @@ not_true : (b : Bool) → not b ≡ true → b ≡ false
 not_true true e = absurd (cc)
 not_true false e = refl
 
-id_front : (xs ys : List Block) (i : ℕ) → has_id (map (λ c. c.id) (xs ++ ys)) i ≡ false → has_id (map (λ c. c.id) xs) i ≡ false
-id_front [] ys i e = refl
-id_front (x ∷ xs) ys i e = let both = or_false (eqb x.id i) _ e in rw both.0 (id_front xs ys i both.1)
+id_prefix : (xs ys : List Block) (i : ℕ) → has_id (map (λ c. c.id) (xs ++ ys)) i ≡ false → has_id (map (λ c. c.id) xs) i ≡ false
+id_prefix [] ys i e = refl
+id_prefix (x ∷ xs) ys i e = let both = or_false (eqb x.id i) _ e in rw both.0 (id_prefix xs ys i both.1)
 
-pub once_front : (xs ys : List Block) → once (xs ++ ys) ≡ true → once xs ≡ true
-once_front [] ys e = refl
-once_front (x ∷ xs) ys e =
+pub once_prefix : (xs ys : List Block) → once (xs ++ ys) ≡ true → once xs ≡ true
+once_prefix [] ys e = refl
+once_prefix (x ∷ xs) ys e =
     let both = and_true (not (has_id (map (λ c. c.id) (xs ++ ys)) x.id)) _ e in
-    rw (id_front xs ys x.id (not_true _ both.0)) (once_front xs ys both.1)
+    rw (id_prefix xs ys x.id (not_true _ both.0)) (once_prefix xs ys both.1)
 
 pub blocks_mid : (before : Rows) (row : Path × Form) (rest : Rows) → blocks_in (before ++ row ∷ rest) ≡ (blocks_in before ++ blocks_of row.1) ++ blocks_in rest
 blocks_mid [] row rest = refl
@@ -158,7 +158,7 @@ blocks_mid (x ∷ before) row rest =
 -- ---- a row of a well formed namespace
 
 module _ (n : Namespace) (w : Keeps n) where
-  pub short_block : (b : Block) → Has (blocks_in n.rows) b → IsShortBlock b
+  pub short_block : (b : Block) → Includes (blocks_in n.rows) b → IsShortBlock b
   short_block b h =
       let fits = and_true _ (leb b.stamp n.issued.last_stamp) (w.issued b h) in
       let issued = and_true (is_issued n.issued.last_block b.id) (not (has_id n.issued.awaiting b.id)) (and_true (is_issued n.issued.last_block b.id && not (has_id n.issued.awaiting b.id)) (leb 1001 b.stamp) fits.0).0 in
@@ -177,16 +177,16 @@ module _ (n : Namespace) (w : Keeps n) where
   short_awaiting = short_ids n.issued.awaiting (and_true (list_all (is_issued n.issued.last_block) n.issued.awaiting) _ w.awaiting).0
 
   module _ (before : Rows) (row : Path × Form) (rest : Rows) (same : n.rows ≡ before ++ row ∷ rest) where
-    row_has : Has n.rows row
-    row_has = subst (λ rows. Has rows row) (sym same) (has_mid before row rest)
+    row_has : Includes n.rows row
+    row_has = subst (λ rows. Includes rows row) (sym same) (has_mid before row rest)
 
-    block_has : (b : Block) → Has (blocks_of row.1) b → Has (blocks_in n.rows) b
-    block_has b h = subst (λ rows. Has (blocks_in rows) b) (sym same) (has_block before row rest b h)
+    block_has : (b : Block) → Includes (blocks_of row.1) b → Includes (blocks_in n.rows) b
+    block_has b h = subst (λ rows. Includes (blocks_in rows) b) (sym same) (has_block before row rest b h)
 
     pub short_form : IsShortForm row.1
     short_form = at row.1 (w.replications row row_has) (λ b h. short_block b (block_has b h))
       where
-        at : (form : Form) → file_fits form → ((b : Block) → Has (blocks_of form) b → IsShortBlock b) → IsShortForm form
+        at : (form : Form) → file_fits form → ((b : Block) → Includes (blocks_of form) b → IsShortBlock b) → IsShortForm form
         at Dir h k = tt
         at (File file) h k =
             let to : file.replication ≤ 512 = leb-true file.replication 512 (and_true (leb 1 file.replication) _ h).1 in
@@ -196,14 +196,14 @@ module _ (n : Namespace) (w : Keeps n) where
     mid_sorted = subst (λ rows. T (is_sorted path_cmp rows)) same (T_of (is_sorted path_cmp n.rows) w.in_order)
 
     once_before : once (blocks_in before ++ blocks_of row.1) ≡ true
-    once_before = once_front (blocks_in before ++ blocks_of row.1) (blocks_in rest) (ap once (sym (ap blocks_in same ∙ blocks_mid before row rest)) ∙ w.once)
+    once_before = once_prefix (blocks_in before ++ blocks_of row.1) (blocks_in rest) (ap once (sym (ap blocks_in same ∙ blocks_mid before row rest)) ∙ w.once)
 
     pub fits_here : path_cmp (parent_of row.0) row.0 ≡ Less → row_fits (with_rows n before) row.0 row.1 ≡ true
     fits_here less =
         let parent : find_entry path_cmp (parent_of row.0) before ≡ Some Dir =
-        sym (find_front (parent_of row.0) before row rest mid_sorted less) ∙ ap (find_entry path_cmp (parent_of row.0)) (sym same) ∙ w.parents row row_has in
+        sym (find_prefix (parent_of row.0) before row rest mid_sorted less) ∙ ap (find_entry path_cmp (parent_of row.0)) (sym same) ∙ w.parents row row_has in
         rw parent (at row.1 (w.replications row row_has) (λ b h. w.issued b (block_has b h)) once_before)
       where
-        at : (form : Form) → file_fits form → ((b : Block) → Has (blocks_of form) b → block_fits n.issued b ≡ true) → once (blocks_in before ++ blocks_of form) ≡ true → form_fits (with_rows n before) form ≡ true
+        at : (form : Form) → file_fits form → ((b : Block) → Includes (blocks_of form) b → block_fits n.issued b ≡ true) → once (blocks_in before ++ blocks_of form) ≡ true → form_fits (with_rows n before) form ≡ true
         at Dir h k e = refl
         at (File file) h k e = rw (h, all_of (block_fits n.issued) file.blocks k, e) refl

@@ -9,7 +9,7 @@ use Rattle.serde_json.specs.Read.{max_depth, of_json, of_items}
 use Rattle.serde_json.specs.Written.{outline, items_outline, compact_text}
 use Rattle.serde_json.specs.Find.{as_object}
 use Rattle.serde_json.proofs.Numbers.{number_of-decimal}
-use Rattle.nn_types.specs.Profile.{number_of as profile_number, profile_of}
+use Rattle.nn_types.specs.Profile.{profile_number, profile_of}
 use Rattle.nn_types.specs.declared.profile.Profile.{Profile}
 use Rattle.nn_types.specs.declared.profile.Profile.TheVariants.{One, Two}
 use Rattle.nn_types.specs.Path.{IsPath, path_text}
@@ -20,9 +20,9 @@ use Rattle.nn_model.specs.declared.form.Form.TheVariants.{Dir, File}
 use Rattle.nn_model.specs.Namespace.{Path, Namespace}
 use Rattle.nn_tree.specs.Restore.{bare, awaiting_fits, replication_fits}
 use Rattle.nn_model.specs.Laws.{in_profile}
-use Rattle.nn_image.specs.Text.{block_data, block_items, number_items, head_data, header_data, form_data, end_data}
+use Rattle.nn_image.specs.Text.{block_value, block_items, number_items, head_data, header_data, form_data, end_data}
 use Rattle.nn_image.specs.OldText.{old_header_data}
-use Rattle.nn_image.specs.Reading.{◌>>=◌, number_of, number_in, text_in, flag_in, array_in, path_in, block_of, gathered, blocks_at, numbers_at, replication_in, file_in, form_of, form_in, row_in, profile_in, fields_in, object_of, value_of, limited, of_version}
+use Rattle.nn_image.specs.Reading.{◌>>=◌, whole_value, number_under, text_under, flag_under, array_under, path_under, block_of, gathered, blocks_at, numbers_at, replication_value, file_in, form_by_kind, form_in, row_of_line, header_profile, fields_in, object_of, value_of_line, limited, of_version}
 use Rattle.nn_image.proofs.Json.{IsPlain, ItemsArePlain, read_compact, utf8_compact}
 
 -- ---- numbers
@@ -57,7 +57,7 @@ numbers_same : (ns : List ℕ) → AreShort ns → of_items (items_outline (numb
 numbers_same [] h = refl
 numbers_same (n ∷ ns) h = rw (number_of-decimal n (wider n h.0), numbers_same ns h.1) refl
 
-numbers_read : (ns : List ℕ) → AreShort ns → gathered number_of (number_items ns) ≡ Some ns
+numbers_read : (ns : List ℕ) → AreShort ns → gathered whole_value (number_items ns) ≡ Some ns
 unfolding gathered
 numbers_read [] h = refl
 numbers_read (n ∷ ns) h = rw (limited_ok n h.0, numbers_read ns h.1) refl
@@ -67,7 +67,7 @@ numbers_read (n ∷ ns) h = rw (limited_ok n h.0, numbers_read ns h.1) refl
 key_utf8 : IsUtf8 (codes "gen")
 key_utf8 = IsUtf8-are_ascii _ refl
 
-block_plain : (b : Block) → IsShortBlock b → IsPlain (block_data b)
+block_plain : (b : Block) → IsShortBlock b → IsPlain (block_value b)
 block_plain b h =
     (IsUtf8-are_ascii _ refl, wider b.stamp h.1, (IsUtf8-are_ascii _ refl, wider b.id h.0, (IsUtf8-are_ascii _ refl, wider b.len h.2, tt)))
 
@@ -79,15 +79,15 @@ blocks_deep : (bs : List Block) → tree.items_depth (items_outline (block_items
 blocks_deep [] = lit≤ tt
 blocks_deep (b ∷ bs) = omega (arith, blocks_deep bs)
 
-block_same : (b : Block) → IsShortBlock b → of_json (outline (block_data b)) ≡ Some (block_data b)
+block_same : (b : Block) → IsShortBlock b → of_json (outline (block_value b)) ≡ Some (block_value b)
 block_same b h = rw (number_of-decimal b.stamp (wider b.stamp h.1), number_of-decimal b.id (wider b.id h.0), number_of-decimal b.len (wider b.len h.2)) refl
 
 blocks_same : (bs : List Block) → AreShortBlocks bs → of_items (items_outline (block_items bs)) ≡ Some (block_items bs)
 blocks_same [] h = refl
 blocks_same (b ∷ bs) h = rw (block_same b h.0, blocks_same bs h.1) refl
 
-block_read : (b : Block) → IsShortBlock b → block_of (block_data b) ≡ Some b
-unfolding block_of number_in
+block_read : (b : Block) → IsShortBlock b → block_of (block_value b) ≡ Some b
+unfolding block_of number_under
 block_read b h = rw (limited_ok b.id h.0, limited_ok b.stamp h.1, limited_ok b.len h.2) refl
 
 blocks_read : (bs : List Block) → AreShortBlocks bs → gathered block_of (block_items bs) ≡ Some bs
@@ -120,8 +120,8 @@ unfolding form_data
 form_same p Dir h = refl
 form_same p (File file) h = rw (blocks_same file.blocks h.0, number_of-decimal file.replication (wider file.replication h.2)) refl
 
-pub row_read : (p : Path) (form : Form) → IsPath p → IsShortForm form → row_in (form_data p form) ≡ Some (p, form)
-unfolding form_data row_in path_in text_in form_in form_of file_in flag_in array_in blocks_at replication_in number_in
+pub row_read : (p : Path) (form : Form) → IsPath p → IsShortForm form → row_of_line (form_data p form) ≡ Some (p, form)
+unfolding form_data row_of_line path_under text_under form_in form_by_kind file_in flag_under array_under blocks_at replication_value number_under
 row_read p Dir path h = rw (path_of_path_text p path) refl
 row_read p (File file) path h = rw (path_of_path_text p path, blocks_read file.blocks h.0, limited_ok file.replication h.2, h.1) refl
 
@@ -131,7 +131,7 @@ row_is_object p Dir = refl
 row_is_object p (File file) = refl
 
 pub row_object : (p : Path) (form : Form) → IsUtf8 (path_text p) → IsShortForm form → object_of (compact_text (form_data p form)) ≡ Some (form_data p form)
-unfolding object_of value_of
+unfolding object_of value_of_line
 row_object p form text h =
     let plain = form_plain p form text h in
     rw (is_utf8-from_IsUtf8 _ (utf8_compact (form_data p form) plain), read_compact (form_data p form) plain (form_deep p form) (form_same p form h)) (row_is_object p form)
@@ -143,7 +143,7 @@ unfolding end_data
 end_plain count h = (IsUtf8-are_ascii _ refl, wider count h, tt)
 
 pub end_object : (count : ℕ) → count < 2 ^ 63 → object_of (compact_text (end_data count)) ≡ Some (end_data count)
-unfolding object_of value_of end_data
+unfolding object_of value_of_line end_data
 end_object count h =
     let plain = end_plain count h in
     let same : of_json (outline (end_data count)) ≡ Some (end_data count) = rw (number_of-decimal count (wider count h)) refl in
@@ -202,13 +202,13 @@ module _ (n : Namespace) (txid : ℕ) (awaiting : AreShort n.issued.awaiting) (b
   header_is_object = refl
 
   pub header_object : object_of (compact_text (header_data n txid)) ≡ Some (header_data n txid)
-  unfolding object_of value_of
+  unfolding object_of value_of_line
   header_object =
       rw (is_utf8-from_IsUtf8 _ (utf8_compact (header_data n txid) header_plain), read_compact (header_data n txid) header_plain header_deep header_same) header_is_object
 
   pub header_read : awaiting_fits n.issued.last_block n.issued.awaiting ≡ true → 1073741824 ≤ n.issued.last_block → 1000 ≤ n.issued.last_stamp
-      → of_version (header_data n txid) (number_in (codes "version") (header_data n txid)) ≡ Ok (bare n.issued, txid)
-  unfolding head_data fields_in profile_in number_in text_in numbers_at array_in
+      → of_version (header_data n txid) (number_under (codes "version") (header_data n txid)) ≡ Ok (bare n.issued, txid)
+  unfolding head_data fields_in header_profile number_under text_under numbers_at array_under
   header_read fits low old =
       rw (limited_ok txid number, limited_ok n.issued.last_block block, limited_ok n.issued.last_stamp stamp, numbers_read n.issued.awaiting awaiting, profile_read n.issued.profile, le-leb 1073741824 n.issued.last_block low, le-leb 1000 n.issued.last_stamp old, fits) refl
 
@@ -251,12 +251,12 @@ module _ (n : Namespace) (txid : ℕ) (awaiting : AreShort n.issued.awaiting) (b
   old_header_is_object = refl
 
   pub old_header_object : object_of (compact_text (old_header_data n txid)) ≡ Some (old_header_data n txid)
-  unfolding object_of value_of
+  unfolding object_of value_of_line
   old_header_object =
       rw (is_utf8-from_IsUtf8 _ (utf8_compact (old_header_data n txid) old_header_plain), read_compact (old_header_data n txid) old_header_plain old_header_deep old_header_same) old_header_is_object
 
   pub old_header_read : awaiting_fits n.issued.last_block n.issued.awaiting ≡ true → 1073741824 ≤ n.issued.last_block → 1000 ≤ n.issued.last_stamp
-      → of_version (old_header_data n txid) (number_in (codes "version") (old_header_data n txid)) ≡ Ok (bare (in_profile One n).issued, txid)
-  unfolding old_header_data fields_in profile_in number_in text_in numbers_at array_in
+      → of_version (old_header_data n txid) (number_under (codes "version") (old_header_data n txid)) ≡ Ok (bare (in_profile One n).issued, txid)
+  unfolding old_header_data fields_in header_profile number_under text_under numbers_at array_under
   old_header_read fits low old =
       rw (limited_ok txid number, limited_ok n.issued.last_block block, limited_ok n.issued.last_stamp stamp, numbers_read n.issued.awaiting awaiting, le-leb 1073741824 n.issued.last_block low, le-leb 1000 n.issued.last_stamp old, fits) refl

@@ -6,7 +6,7 @@ use Rattle.serde_json.specs.Written.{has_float, items_have_float}
 use Rattle.serde_json.specs.declared.value.Value.{Value}
 use Rattle.nn_model.specs.declared.form.Form.{Form}
 use Rattle.nn_model.specs.Namespace.{Path, Namespace}
-use Rattle.nn_image.specs.Text.{number_items, head_data, header_data, row_lines, line_of, end_data, image_text}
+use Rattle.nn_image.specs.Text.{number_items, head_data, header_data, row_lines, value_line, end_data, image_text}
 
 -- ---- no floats
 
@@ -46,6 +46,6 @@ numbers_done vs ns k over = ap (λ r. items_then vs (number_items r)) (drop_of_l
 -- ---- the whole text
 
 pub whole_image : (n : Namespace) (txid : ℕ) (head : List ℕ) (rows : List (Path × Form)) (paths : ℕ)
-    → head ≡ line_of (header_data n txid) → rows ≡ drop 1 n.rows → paths ≡ length n.rows - 1 → head ++ (row_lines rows ++ line_of (end_data paths)) ≡ image_text n txid
+    → head ≡ value_line (header_data n txid) → rows ≡ drop 1 n.rows → paths ≡ length n.rows - 1 → head ++ (row_lines rows ++ value_line (end_data paths)) ≡ image_text n txid
 unfolding image_text
 whole_image n txid head rows paths header below count = rw (header, below, count) refl

@@ -1,8 +1,9 @@
 -- What is kept of the arrays of an image's lines. No public contract cites these.
-use Rattle.std.specs.Prelude.{ℕ, List, nat_lt, if◌then◌else◌, Option, Some, None, codes}
+use Rattle.std.specs.Prelude.{ℕ, ◌+◌, List, nat_lt, if◌then◌else◌, Option, Some, None, codes}
 use Rattle.serde_json.specs.Data.{Data}
 use Rattle.serde_json.specs.Find.{as_array}
 use Rattle.nn_types.specs.declared.block.Block.{Block}
+use Rattle.nn_model.specs.Namespace.{no_block}
 use Rattle.nn_plain.specs.Spelling.{whole_at, whole_of}
 use Rattle.nn_image.specs.Reading.{◌>>=◌, block_of, gathered, limited}
 use Rattle.nn_image.specs.declared.arrays.BlockMembers.{BlockMembers}
@@ -27,12 +28,12 @@ block_from p = do
   Some (record { id = id; stamp = stamp; len = len })
 
 -- the blocks that a value is
-abbrev pub blocks_in : Data → Option (List Block)
-blocks_in d = as_array d >>= gathered block_of
+abbrev pub block_list : Data → Option (List Block)
+block_list d = as_array d >>= gathered block_of
 
 -- an id that a block can have: no other one awaits
 unfoldable pub awaiting_from : Option ℕ → Option ℕ
-awaiting_from n = limited n >>= λ id. if nat_lt id 1073741825 then None else Some id
+awaiting_from n = limited n >>= λ id. if nat_lt id (no_block + 1) then None else Some id
 
 abbrev pub awaiting_of : Data → Option ℕ
 awaiting_of d = awaiting_from (whole_of d)

@@ -1,47 +1,47 @@
 -- What is told of a text of which a prefix was written, and of reads that failed.
 use Rattle.std.specs.Prelude.{ℕ, true, false, [], ◌∷◌, length, Some, Ok, Err, codes, refl}
 use Rattle.std.proofs.Common.{sym, ap, inl, inr, true≢false, arith, length-append}
-use Rattle.nn_device.specs.Device.{Writing}
+use Rattle.nn_device.specs.Device.{Writer}
 use Rattle.nn_image.specs.declared.fault.ImageFault.TheVariants.{Truncated, BadLine, ReadFault, OutOfMemory}
 use Rattle.nn_image.specs.declared.fault.SaveFault.TheVariants as save
 use Rattle.nn_image.specs.Lines.{Takes}
-use Rattle.nn_image.specs.Outcome.{Fails, IsOfDevice, Noted, IsNoRead}
-use Rattle.nn_image.specs.Saving.{WroteFront}
+use Rattle.nn_image.specs.Outcome.{ImageFails, IsOfDevice, Noted, IsNoRead}
+use Rattle.nn_image.specs.Saving.{WrotePrefix}
 
 -- ---- writes
 
-abbrev unwritten : Writing
+abbrev unwritten : Writer
 unwritten = record { contents = Some []; taken = 5; failed = false }
 
 -- two bytes were written, and then a write failed
-abbrev failed_after_two : Writing
+abbrev failed_after_two : Writer
 failed_after_two = record { contents = Some (codes "ab"); taken = 7; failed = true }
 
 -- two bytes were written, and then memory ran out
-abbrev ended_after_two : Writing
+abbrev ended_after_two : Writer
 ended_after_two = record { contents = Some (codes "ab"); taken = 7; failed = false }
 
-two_told : WroteFront unwritten failed_after_two (codes "abc") (save.WriteFault 2)
-two_told = record { took = record { front = codes "ab"; rest = codes "c"; whole = refl; short = omega arith; bytes = refl; counted = refl; caused = refl }; told = refl }
+two_told : WrotePrefix unwritten failed_after_two (codes "abc") (save.WriteFault 2)
+two_told = record { took = record { prefix = codes "ab"; rest = codes "c"; whole = refl; short = omega arith; bytes = refl; counted = refl; caused = refl }; told = refl }
 
 -- the bytes of this text are told, and not all that the writer took
-all_told : WroteFront unwritten failed_after_two (codes "abc") (save.WriteFault 7) → ⊥
+all_told : WrotePrefix unwritten failed_after_two (codes "abc") (save.WriteFault 7) → ⊥
 all_told h = omega (arith, h.told, h.took.counted)
 
 -- a failed write was noted
-not_noted : WroteFront unwritten ended_after_two (codes "abc") (save.WriteFault 2) → ⊥
+not_noted : WrotePrefix unwritten ended_after_two (codes "abc") (save.WriteFault 2) → ⊥
 not_noted h = true≢false (sym h.took.caused)
 
-no_memory : WroteFront unwritten ended_after_two (codes "abc") save.OutOfMemory
-no_memory = record { took = record { front = codes "ab"; rest = codes "c"; whole = refl; short = omega arith; bytes = refl; counted = refl; caused = refl }; told = tt }
+no_memory : WrotePrefix unwritten ended_after_two (codes "abc") save.OutOfMemory
+no_memory = record { took = record { prefix = codes "ab"; rest = codes "c"; whole = refl; short = omega arith; bytes = refl; counted = refl; caused = refl }; told = tt }
 
 -- where memory ran out, no write failed
-no_failure : WroteFront unwritten failed_after_two (codes "abc") save.OutOfMemory → ⊥
+no_failure : WrotePrefix unwritten failed_after_two (codes "abc") save.OutOfMemory → ⊥
 no_failure h = true≢false h.took.caused
 
 -- and some bytes are left out
-no_memory_behind_all : WroteFront unwritten ended_after_two (codes "ab") save.OutOfMemory → ⊥
-no_memory_behind_all h = omega (arith, h.took.counted, h.took.short, ap length h.took.whole, length-append h.took.front h.took.rest)
+no_memory_behind_all : WrotePrefix unwritten ended_after_two (codes "ab") save.OutOfMemory → ⊥
+no_memory_behind_all h = omega (arith, h.took.counted, h.took.short, ap length h.took.whole, length-append h.took.prefix h.took.rest)
 
 -- ---- reads
 
@@ -66,17 +66,17 @@ of_a_read : IsNoRead ReadFault → ⊥
 of_a_read h = h
 
 -- a fault of the text is the one that the definition gives
-given : Fails {Y = ℕ} (BadLine 2) (Err (BadLine 2))
+given : ImageFails {Y = ℕ} (BadLine 2) (Err (BadLine 2))
 given = refl
 
-another_line : Fails {Y = ℕ} (BadLine 3) (Err (BadLine 2)) → ⊥
+another_line : ImageFails {Y = ℕ} (BadLine 3) (Err (BadLine 2)) → ⊥
 another_line h = cc
 
-no_fault : Fails {Y = ℕ} Truncated (Ok 5) → ⊥
+no_fault : ImageFails {Y = ℕ} Truncated (Ok 5) → ⊥
 no_fault h = cc
 
 -- a fault of the device comes whatever the definition gives
-whatever : Fails {Y = ℕ} ReadFault (Ok 5) × Fails {Y = ℕ} OutOfMemory (Err (BadLine 2))
+whatever : ImageFails {Y = ℕ} ReadFault (Ok 5) × ImageFails {Y = ℕ} OutOfMemory (Err (BadLine 2))
 whatever = (tt, tt)
 
 of_the_device : IsOfDevice ReadFault × IsOfDevice OutOfMemory

@@ -12,7 +12,7 @@ use Rattle.nn_tree.specs.Restore.{bare}
 use Rattle.nn_image.specs.Arrays.{ids_in}
 use Rattle.nn_plain.specs.Keys.{first_named}
 use Rattle.nn_plain.specs.Spelling.{whole_at, whole_of}
-use Rattle.nn_image.specs.Reading.{◌>>=◌, is_header, limited, text_in}
+use Rattle.nn_image.specs.Reading.{◌>>=◌, is_header, limited, text_under}
 use Rattle.nn_image.specs.declared.fault.ImageFault.{ImageFault}
 use Rattle.nn_image.specs.declared.fault.ImageFault.TheVariants.{NotHeader, BadVersion}
 use Rattle.nn_image.specs.declared.header.HeaderKey.{HeaderKey}
@@ -31,7 +31,7 @@ pub record HeaderParts : Type 0 where
 -- of a value
 abbrev pub parts_of : Data → HeaderParts
 parts_of d = record {
-  image = text_in (codes "image") d;
+  image = text_under (codes "image") d;
   version = whole_at (codes "version") d;
   txid = whole_at (codes "txid") d;
   last_block = whole_at (codes "last_block") d;

@@ -4,16 +4,16 @@ use Rattle.std.specs.Prelude.{◌≡◌, ℕ, List, [], ◌∷◌, ◌++◌, len
 use Rattle.std.specs.List.{flat_map, list_all}
 use Rattle.serde_json.specs.Data.{Data}
 use Rattle.serde_json.specs.Find.{get}
+use Rattle.nn_bytes.specs.Lines.{line_feed}
 use Rattle.nn_model.specs.declared.form.Form.{Form}
 use Rattle.nn_model.specs.Namespace.{Path, Namespace}
 use Rattle.nn_model.specs.WellFormed.{IsWellFormed}
 use Rattle.nn_tree.specs.Restore.{bare}
-use Rattle.nn_image.specs.Text.{feed}
 use Rattle.nn_image.specs.Lines.{no_feed}
-use Rattle.nn_image.specs.Reading.{object_of, of_header, row_in, number_of}
+use Rattle.nn_image.specs.Reading.{object_of, of_header, row_of_line, whole_value}
 
 abbrev pub with_feed : List ℕ → List ℕ
-with_feed line = line ++ feed ∷ []
+with_feed line = line ++ line_feed ∷ []
 
 -- the line is a header with the numbers of the namespace, and the txid
 abbrev pub IsHeader : List ℕ → Namespace → ℕ → Type 0
@@ -24,7 +24,7 @@ pub record IsRow (line : List ℕ) (row : Path × Form) : Type 0 where
   pub value : Data
   pub object : object_of line ≡ Some value
   pub no_end : get (codes "end") value ≡ None
-  pub gives : row_in value ≡ Some row
+  pub gives : row_of_line value ≡ Some row
 
 -- each line is that of its row
 abbrev pub AreRows : List (List ℕ) → List (Path × Form) → Type 0
@@ -34,12 +34,12 @@ AreRows (line ∷ lines) [] = ⊥
 AreRows (line ∷ lines) (row ∷ rows) = IsRow line row × AreRows lines rows
 
 -- the line is an end line with this number
-pub record IsEnd (line : List ℕ) (count : ℕ) : Type 0 where
+pub record IsEndLine (line : List ℕ) (count : ℕ) : Type 0 where
   pub value : Data
   pub object : object_of line ≡ Some value
   pub member : Data
   pub has_end : get (codes "end") value ≡ Some member
-  pub gives : number_of member ≡ Some count
+  pub gives : whole_value member ≡ Some count
 
 pub record IsImage (text : List ℕ) (n : Namespace) (txid : ℕ) : Type 0 where
   pub head : List ℕ
@@ -49,5 +49,5 @@ pub record IsImage (text : List ℕ) (n : Namespace) (txid : ℕ) : Type 0 where
   pub plain : list_all no_feed (head ∷ (lines ++ last ∷ [])) ≡ true
   pub header : IsHeader head n txid
   pub rows : AreRows lines (drop 1 n.rows)
-  pub counted : IsEnd last (length lines)
+  pub counted : IsEndLine last (length lines)
   pub well_formed : IsWellFormed n

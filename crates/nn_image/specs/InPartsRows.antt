@@ -3,11 +3,11 @@ use Rattle.std.specs.Prelude.{◌≡◌, ℕ, List, [], ◌∷◌, ◌++◌, Som
 use Rattle.std.specs.Fmt.{digits}
 use Rattle.std.proofs.Common.{ap, arith}
 use Rattle.json.specs.Print.{escape_byte}
-use Rattle.nn_device.specs.Device.{Writing}
+use Rattle.nn_device.specs.Device.{Writer}
 use Rattle.nn_model.specs.declared.form.Form.{Form}
 use Rattle.nn_model.specs.declared.form.Form.TheVariants.{Dir}
 use Rattle.nn_model.specs.Namespace.{Path, Namespace, root_alone}
-use Rattle.nn_image.specs.InParts.{Begins, IsRest, Place, WrotePart, first_place, last_line, part_of, paths_from}
+use Rattle.nn_image.specs.InParts.{WroteHeader, IsRest, Place, WrotePart, first_place, last_line, part_of, paths_from}
 use Rattle.nn_image.specs.Text.{end_data, form_data}
 
 abbrev a : Path
@@ -67,7 +67,7 @@ all_that_are_left = refl
 
 -- ---- What a call does.
 
-module _ (w0 w1 : Writing) where
+module _ (w0 w1 : Writer) where
   abbrev behind : Path → ℕ → Place
   behind p count = record { path = p; count = count }
 
@@ -93,5 +93,5 @@ module _ (w0 w1 : Writing) where
   unfolding form_data escape_byte
   no_early_end h = omega (arith, ap length h.none_left)
 
-  begun_at_the_first : (txid : ℕ) → Begins n txid w0 w1 (behind b 0) → ⊥
+  begun_at_the_first : (txid : ℕ) → WroteHeader n txid w0 w1 (behind b 0) → ⊥
   begun_at_the_first txid h = omega (arith, ap (λ s. length s.path) h.place)

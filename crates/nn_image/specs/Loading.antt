@@ -11,16 +11,16 @@ use Rattle.nn_image.specs.declared.loading.Stage.TheVariants as stage
 use Rattle.nn_image.specs.declared.row_line.RowLine.{RowLine}
 use Rattle.nn_image.specs.declared.row_line.RowLine.TheVariants.{Row, End, Bad}
 use Rattle.nn_image.specs.Lawful.{HasPaths}
-use Rattle.nn_image.specs.Outcome.{Fails, IsNoRead}
-use Rattle.nn_image.specs.Reading.{last_path, next_line, with_next, by_value, rows_from, at_end, nothing_more, pieces_of, all_from, read_image, ◌then◌, object_of, is_end_line}
+use Rattle.nn_image.specs.Outcome.{ImageFails, IsNoRead}
+use Rattle.nn_image.specs.Reading.{last_path, next_line_number, with_next_row, by_value, rows_from, at_end_line, nothing_more, pieces_of, all_from, read_image, ◌then◌, object_of, is_end_line}
 
 -- the known bytes make the definition fail in this way, unless a read failed or memory ran out
-abbrev pub Stops : {X : Type 0} → Option (List ℕ) → ImageFault → (List ℕ → Result X ImageFault) → Type 0
-Stops known e f = (text : List ℕ) → known ≡ Some text → Fails e (f text)
+abbrev pub LoadFails : {X : Type 0} → Option (List ℕ) → ImageFault → (List ℕ → Result X ImageFault) → Type 0
+LoadFails known e f = (text : List ℕ) → known ≡ Some text → ImageFails e (f text)
 
 -- the definition gives this for the known bytes, and none is left
-abbrev pub Ends : {X : Type 0} → Option (List ℕ) → Option (List ℕ) → (List ℕ → Result X ImageFault) → X → Type 0
-Ends old new f x = (text : List ℕ) → old ≡ Some text → (f text ≡ Ok x) × IsAtEnd new
+abbrev pub GivesAtEnd : {X : Type 0} → Option (List ℕ) → Option (List ℕ) → (List ℕ → Result X ImageFault) → X → Type 0
+GivesAtEnd old new f x = (text : List ℕ) → old ≡ Some text → (f text ≡ Ok x) × IsAtEnd new
 
 -- ---- line by line
 
@@ -28,50 +28,50 @@ abbrev pub with_txid : ℕ → Result Namespace ImageFault → Result (Namespace
 with_txid txid r = r then λ n. Ok (n, txid)
 
 -- what the lines that have come make of an image
-pub data LoadState : Type 0 where
+pub data Loading : Type 0 where
   -- none has come
-  at_header : LoadState
+  at_header : Loading
   -- the header has come, and lines of paths; with the txid
-  in_rows : Namespace → ℕ → LoadState
+  in_rows : Namespace → ℕ → Loading
   -- and the end line
-  behind_end : Namespace → ℕ → LoadState
+  behind_end : Namespace → ℕ → Loading
   -- one of them has this fault
-  refused : ImageFault → LoadState
+  refused : ImageFault → Loading
 
 -- what they and these pieces of a text make of it: each piece except the last is a line
-abbrev pub loaded_from : LoadState → List (List ℕ) → Result (Namespace × ℕ) ImageFault
+abbrev pub loaded_from : Loading → List (List ℕ) → Result (Namespace × ℕ) ImageFault
 loaded_from at_header pieces = all_from pieces
 loaded_from (in_rows n txid) pieces = with_txid txid (rows_from n pieces)
 loaded_from (behind_end n txid) pieces = with_txid txid (nothing_more n pieces)
 loaded_from (refused e) pieces = Err e
 
 -- the line came
-abbrev pub TakesLine : LoadState → LoadState → List ℕ → Type 0
+abbrev pub TakesLine : Loading → Loading → List ℕ → Type 0
 TakesLine old new line = (next : List ℕ) (pieces : List (List ℕ)) → loaded_from old (line ∷ next ∷ pieces) ≡ loaded_from new (next ∷ pieces)
 
-abbrev pub is_first : LoadState → Bool
+abbrev pub is_first : Loading → Bool
 is_first at_header = true
 is_first (in_rows n txid) = false
 is_first (behind_end n txid) = false
 is_first (refused e) = false
 
 -- the image ends with the line, which is no header
-abbrev pub ends_with : LoadState → List ℕ → Bool
+abbrev pub ends_with : Loading → List ℕ → Bool
 ends_with l line = not (is_first l) && is_end_line line
 
-abbrev pub fault_of : LoadState → Option ImageFault
-fault_of at_header = None
-fault_of (in_rows n txid) = None
-fault_of (behind_end n txid) = None
-fault_of (refused e) = Some e
+abbrev pub fault_of_loading : Loading → Option ImageFault
+fault_of_loading at_header = None
+fault_of_loading (in_rows n txid) = None
+fault_of_loading (behind_end n txid) = None
+fault_of_loading (refused e) = Some e
 
 -- ---- For private clauses.
 
 -- what a line that was read and then the pieces make of the namespace
 abbrev pub by_read : Namespace → List (List ℕ) → (Namespace → Result Namespace ImageFault) → RowLine → Result Namespace ImageFault
-by_read n pieces more (Row path form) = with_next n (Some (path, form)) then more
-by_read n pieces more (End count) = at_end n count pieces
-by_read n pieces more Bad = Err (BadLine (next_line n))
+by_read n pieces more (Row path form) = with_next_row n (Some (path, form)) then more
+by_read n pieces more (End count) = at_end_line n count pieces
+by_read n pieces more Bad = Err (BadLine (next_line_number n))
 
 -- the count of an end line is a number of the formats
 abbrev pub HasLimit : RowLine → Type 0
@@ -91,7 +91,7 @@ IsReadAs line read = (n : Namespace) (pieces : List (List ℕ)) (more : Namespac
 pub record IsLoading (n : Namespace) (before : Path) (number : ℕ) : Type 0 where
   pub sorted : IsTrue (is_sorted path_cmp n.rows)
   pub last : last_path n.rows ≡ before
-  pub at : next_line n ≡ number
+  pub at : next_line_number n ≡ number
 
 -- so it is behind a header, and behind an end line the paths are counted
 pub record IsBegun (b : Begun) : Type 0 where
@@ -104,7 +104,7 @@ pub record IsBegun (b : Begun) : Type 0 where
 abbrev pub rows_left : Begun → List (List ℕ) → Result Namespace ImageFault
 rows_left b pieces = if b.has_ended then nothing_more b.namespace pieces else rows_from b.namespace pieces
 
-abbrev pub state_of : Stage → LoadState
+abbrev pub state_of : Stage → Loading
 state_of stage.Header = at_header
 state_of (stage.Begun b) = if b.has_ended then behind_end b.namespace b.txid else in_rows b.namespace b.txid
 state_of (stage.Refused e) = refused e
@@ -120,5 +120,5 @@ TakesRow old new read None = (line next : List ℕ) (pieces : List (List ℕ)) �
 TakesRow old new read (Some e) = (line next : List ℕ) (pieces : List (List ℕ)) → IsReadAs line read → rows_left old (line ∷ next ∷ pieces) ≡ Err e
 
 -- of the bytes to come so many were taken, and this is what their lines make of an image
-abbrev pub HasLoaded : Option (List ℕ) → Option (List ℕ) → LoadState → Type 0
+abbrev pub HasLoaded : Option (List ℕ) → Option (List ℕ) → Loading → Type 0
 HasLoaded old new l = (text : List ℕ) → old ≡ Some text → (left : List ℕ) × (new ≡ Some left) × (read_image text ≡ loaded_from l (pieces_of left))

@@ -2,7 +2,7 @@
 use Rattle.std.specs.Prelude.{ℕ, ◌-◌, ◌++◌, List, drop, length, codes}
 use Rattle.serde_json.specs.Data.{Data, number, unsigned, string, array, object, member, no_members}
 use Rattle.nn_model.specs.Namespace.{Namespace}
-use Rattle.nn_image.specs.Text.{number_items, line_of, row_lines, end_data}
+use Rattle.nn_image.specs.Text.{number_items, value_line, row_lines, end_data}
 
 unfoldable pub old_header_data : Namespace → ℕ → Data
 old_header_data n txid =
@@ -15,4 +15,4 @@ old_header_data n txid =
 
 -- the other lines are those of version 2
 unfoldable pub old_image_text : Namespace → ℕ → List ℕ
-old_image_text n txid = line_of (old_header_data n txid) ++ (row_lines (drop 1 n.rows) ++ line_of (end_data (length n.rows - 1)))
+old_image_text n txid = value_line (old_header_data n txid) ++ (row_lines (drop 1 n.rows) ++ value_line (end_data (length n.rows - 1)))

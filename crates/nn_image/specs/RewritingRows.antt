@@ -11,7 +11,7 @@ use Rattle.json.specs.Print.{escape_byte}
 use Rattle.json.specs.Text.{content}
 use Rattle.json.specs.Word.{word, after_number}
 use Rattle.serde_json.specs.Read.{number_of as json_number}
-use Rattle.nn_device.specs.Device.{Reading, Writing}
+use Rattle.nn_device.specs.Device.{Reader, Writer}
 use Rattle.nn_model.proofs.Equals.{root_alone_is_well_formed}
 use Rattle.nn_model.specs.declared.form.Form.TheVariants.{Dir, File}
 use Rattle.nn_model.specs.Namespace.{Namespace, lookup, root_alone, with_row}
@@ -21,7 +21,7 @@ use Rattle.nn_image.specs.declared.fault.SaveFault.TheVariants as save
 use Rattle.nn_image.specs.declared.fault.RewriteFault.TheVariants.{Load, Save}
 use Rattle.nn_image.specs.Text.{image_text, head_data, form_data, end_data}
 use Rattle.nn_image.specs.OldText.{old_image_text, old_header_data}
-use Rattle.nn_image.specs.Reading.{read_image, all_from, rows_from, pieces_of, object_of, value_of, number_in, text_in, flag_in, array_in, path_in, block_of, gathered, blocks_at, numbers_at, replication_in, file_in, form_of, form_in, row_in, profile_in, fields_in}
+use Rattle.nn_image.specs.Reading.{read_image, all_from, rows_from, pieces_of, object_of, value_of_line, number_under, text_under, flag_under, array_under, path_under, block_of, gathered, blocks_at, numbers_at, replication_value, file_in, form_by_kind, form_in, row_of_line, header_profile, fields_in}
 use Rattle.nn_image.specs.Rewriting.{Rewrote, StoppedWriting, IfLoad, IfSave}
 use Rattle.nn_image.specs.TextRows.{lines, header}
 
@@ -54,11 +54,11 @@ unfolding image_text head_data form_data end_data digits escape_byte
 of_the_root = refl
 
 old_is_read : read_image old_image ≡ Ok (root_alone, 5)
-unfolding read_image all_from rows_from pieces_of object_of value_of number_in text_in flag_in array_in path_in block_of gathered blocks_at numbers_at replication_in file_in form_of form_in row_in profile_in fields_in digits is_utf8 chars encode value punctuate lex content word after_number json_number scan_numeral
+unfolding read_image all_from rows_from pieces_of object_of value_of_line number_under text_under flag_under array_under path_under block_of gathered blocks_at numbers_at replication_value file_in form_by_kind form_in row_of_line header_profile fields_in digits is_utf8 chars encode value punctuate lex content word after_number json_number scan_numeral
 old_is_read = refl
 
 new_is_read : read_image image ≡ Ok (root_alone, 5)
-unfolding read_image all_from rows_from pieces_of object_of value_of number_in text_in flag_in array_in path_in block_of gathered blocks_at numbers_at replication_in file_in form_of form_in row_in profile_in fields_in digits is_utf8 chars encode value punctuate lex content word after_number json_number scan_numeral
+unfolding read_image all_from rows_from pieces_of object_of value_of_line number_under text_under flag_under array_under path_under block_of gathered blocks_at numbers_at replication_value file_in form_by_kind form_in row_of_line header_profile fields_in digits is_utf8 chars encode value punctuate lex content word after_number json_number scan_numeral
 new_is_read = refl
 
 no_image : read_image (codes "x") ≡ Err Truncated
@@ -78,32 +78,32 @@ unfolding image_text head_data form_data end_data digits escape_byte
 of_the_limit = refl
 
 limit_is_not_read : read_image image_at_limit ≡ Err NotHeader
-unfolding read_image all_from rows_from pieces_of object_of value_of number_in text_in flag_in array_in path_in block_of gathered blocks_at numbers_at replication_in file_in form_of form_in row_in profile_in fields_in digits is_utf8 chars encode value punctuate lex content word after_number json_number scan_numeral
+unfolding read_image all_from rows_from pieces_of object_of value_of_line number_under text_under flag_under array_under path_under block_of gathered blocks_at numbers_at replication_value file_in form_by_kind form_in row_of_line header_profile fields_in digits is_utf8 chars encode value punctuate lex content word after_number json_number scan_numeral
 limit_is_not_read = refl
 
 -- ---- Rewritten whole.
 
-abbrev unread : Reading
+abbrev unread : Reader
 unread = record { left = Some old_image; reads = 0; given = 0; failed = false }
 
-abbrev all_read : Reading
+abbrev all_read : Reader
 all_read = record { left = Some []; reads = 1; given = 112; failed = false }
 
-abbrev failed_reader : Reading
+abbrev failed_reader : Reader
 failed_reader = record all_read { failed = true }
 
 -- readers whose bytes are not known
-abbrev unknown : Reading
+abbrev unknown : Reader
 unknown = record unread { left = None }
 
-abbrev unwritten : Writing
+abbrev unwritten : Writer
 unwritten = record { contents = Some []; taken = 7; failed = false }
 
 -- a writer that took this text
-abbrev holding : List ℕ → Writing
+abbrev holding : List ℕ → Writer
 holding text = record { contents = Some text; taken = 7 + length text; failed = false }
 
-abbrev written : Writing
+abbrev written : Writer
 written = holding image
 
 -- the old image is read to its end
@@ -164,7 +164,7 @@ no_root h none = let found : lookup h.namespace [] ≡ None = ap (λ rows. looku
 -- ---- Read, and not written whole.
 
 -- two bytes were written, and then a write failed
-abbrev failed_after_two : Writing
+abbrev failed_after_two : Writer
 failed_after_two = record { contents = Some (codes "{\""); taken = 9; failed = true }
 
 stopped : StoppedWriting unread all_read unwritten failed_after_two (WriteFault 2)
@@ -174,8 +174,8 @@ stopped = record {
   well_formed = root_alone_is_well_formed;
   read = old_ends;
   unfailed = refl;
-  front = record {
-    took = record { front = codes "{\""; rest = drop 2 image; whole = of_the_root; short = omega arith; bytes = refl; counted = refl; caused = refl };
+  prefix = record {
+    took = record { prefix = codes "{\""; rest = drop 2 image; whole = of_the_root; short = omega arith; bytes = refl; counted = refl; caused = refl };
     told = refl;
   };
 }
@@ -192,15 +192,15 @@ stopped_by_a_read h = true≢false h.unfailed
 
 -- the bytes that were written are told
 three_told : StoppedWriting unread all_read unwritten failed_after_two (WriteFault 3) → ⊥
-three_told h = omega (arith, h.front.told, h.front.took.counted)
+three_told h = omega (arith, h.prefix.told, h.prefix.took.counted)
 
 -- and they are the first ones of the image of the namespace that was read
-no_front : StoppedWriting unread all_read unwritten (record failed_after_two { contents = Some (codes "[]") }) (WriteFault 2) → ⊥
-no_front h =
+no_prefix : StoppedWriting unread all_read unwritten (record failed_after_two { contents = Some (codes "[]") }) (WriteFault 2) → ⊥
+no_prefix h =
     let same = is_the_root h.namespace h.txid (h.read old_image refl).0 in
     let its : image_text root_alone 5 ≡ image_text h.namespace h.txid = cc (same.0, same.1) in
-    let text : image ≡ codes "[]" ++ h.front.took.rest =
-    sym of_the_root ∙ its ∙ h.front.took.whole ∙ ap (λ t. t ++ h.front.took.rest) (sym h.front.took.bytes) in
+    let text : image ≡ codes "[]" ++ h.prefix.took.rest =
+    sym of_the_root ∙ its ∙ h.prefix.took.whole ∙ ap (λ t. t ++ h.prefix.took.rest) (sym h.prefix.took.bytes) in
     let first : 123 ≡ 91 = ap (λ t. get_or t 0 0) text in
     omega (arith, first)
 

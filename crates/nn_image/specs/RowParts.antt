@@ -12,7 +12,7 @@ use Rattle.nn_model.specs.Namespace.{Path}
 use Rattle.nn_plain.specs.Spelling.{whole_of, whole_at}
 use Rattle.nn_tree.specs.Restore.{replication_fits}
 use Rattle.nn_plain.specs.Keys.{first_named}
-use Rattle.nn_image.specs.Reading.{◌>>=◌, limited, text_in, flag_in, blocks_at, gathered, block_of}
+use Rattle.nn_image.specs.Reading.{◌>>=◌, limited, text_under, flag_under, blocks_at, gathered, block_of}
 use Rattle.nn_image.specs.declared.row_line.RowLine.{RowLine}
 use Rattle.nn_image.specs.declared.row_line.RowLine.TheVariants.{Row, End, Bad}
 use Rattle.nn_image.specs.declared.row_members.RowKey.{RowKey}
@@ -32,10 +32,10 @@ pub record RowParts : Type 0 where
 -- of a value
 abbrev pub parts_of : Data → RowParts
 parts_of d = record {
-  path = text_in (codes "path") d;
-  kind = text_in (codes "type") d;
+  path = text_under (codes "path") d;
+  kind = text_under (codes "type") d;
   blocks = blocks_at (codes "blocks") d;
-  closed = flag_in (codes "closed") d;
+  closed = flag_under (codes "closed") d;
   replication = whole_at (codes "replication") d;
   end = option_map whole_of (get (codes "end") d);
 }

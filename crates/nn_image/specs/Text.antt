@@ -3,22 +3,20 @@ use Rattle.std.specs.Prelude.{ℕ, ◌-◌, List, [], ◌∷◌, ◌++◌, drop,
 use Rattle.std.specs.List.{flat_map}
 use Rattle.serde_json.specs.Data.{Data, boolean, number, unsigned, string, array, object, Items, no_items, item, member, no_members}
 use Rattle.serde_json.specs.Written.{compact_text}
-use Rattle.nn_types.specs.Profile.{number_of as profile_number}
+use Rattle.nn_bytes.specs.Lines.{line_feed}
+use Rattle.nn_types.specs.Profile.{profile_number}
 use Rattle.nn_types.specs.Path.{path_text}
 use Rattle.nn_types.specs.declared.block.Block.{Block}
 use Rattle.nn_model.specs.declared.form.Form.{Form}
 use Rattle.nn_model.specs.declared.form.Form.TheVariants.{Dir, File}
 use Rattle.nn_model.specs.Namespace.{Path, Namespace}
 
-abbrev pub feed : ℕ
-feed = 10
-
-abbrev pub block_data : Block → Data
-block_data b = object (member (codes "gen") (number (unsigned b.stamp)) (member (codes "id") (number (unsigned b.id)) (member (codes "len") (number (unsigned b.len)) no_members)))
+abbrev pub block_value : Block → Data
+block_value b = object (member (codes "gen") (number (unsigned b.stamp)) (member (codes "id") (number (unsigned b.id)) (member (codes "len") (number (unsigned b.len)) no_members)))
 
 abbrev pub block_items : List Block → Items
 block_items [] = no_items
-block_items (b ∷ bs) = item (block_data b) (block_items bs)
+block_items (b ∷ bs) = item (block_value b) (block_items bs)
 
 abbrev pub number_items : List ℕ → Items
 number_items [] = no_items
@@ -53,19 +51,19 @@ unfoldable pub end_data : ℕ → Data
 end_data count = object (member (codes "end") (number (unsigned count)) no_members)
 
 -- the line of a value
-abbrev pub line_of : Data → List ℕ
-line_of d = compact_text d ++ feed ∷ []
+abbrev pub value_line : Data → List ℕ
+value_line d = compact_text d ++ line_feed ∷ []
 
 abbrev pub row_lines : List (Path × Form) → List ℕ
-row_lines rows = flat_map (λ row. line_of (row_data row)) rows
+row_lines rows = flat_map (λ row. value_line (row_data row)) rows
 
 -- each path except the root, which is the first, and the number of those paths
 abbrev pub body_text : Namespace → List ℕ
-body_text n = row_lines (drop 1 n.rows) ++ line_of (end_data (length n.rows - 1))
+body_text n = row_lines (drop 1 n.rows) ++ value_line (end_data (length n.rows - 1))
 
 unfoldable pub image_text : Namespace → ℕ → List ℕ
-image_text n txid = line_of (header_data n txid) ++ body_text n
+image_text n txid = value_line (header_data n txid) ++ body_text n
 
 -- `fsimage_` and the txid in 19 digits
-unfoldable pub name_text : ℕ → List ℕ
-name_text txid = codes "fsimage_" ++ (replicate (19 - length (decimal txid)) 48 ++ decimal txid)
+unfoldable pub image_file_name : ℕ → List ℕ
+image_file_name txid = codes "fsimage_" ++ (replicate (19 - length (decimal txid)) 48 ++ decimal txid)

@@ -4,17 +4,15 @@ ghost use Rattle.std.specs.Str.{bytes_eq};
 ghost use Rattle.serde_json.specs.Data.{Data, object, no_items, no_members};
 ghost use Rattle.serde_json.specs.Find.{as_array};
 ghost use Rattle.nn_plain.specs.Ahead.{data_at};
-ghost use Rattle.nn_image.specs.Arrays.{awaiting_from, block_from, blocks_in, ids_in, seen_block};
+ghost use Rattle.nn_image.specs.Arrays.{awaiting_from, block_from, block_list, ids_in, seen_block};
 ghost use Rattle.nn_image.specs.Reading.{block_of};
 
 use crate::values::whole_of;
 use json::Reader;
 use nn_plain::{ItemSink, MemberSink, ReadFault, read_array, read_object, read_value};
+use nn_types::limits::FIRST_BLOCK;
 use nn_types::{Block, BlockId, Blocks, GenerationStamp, Length};
 use std::alloc::Global;
-
-/// The least id that a block can have.
-const FIRST_ID: u64 = 1_073_741_825;
 
 /// The next value, read as blocks: none where it is no array of them.
 pub(crate) fn read_blocks(
@@ -22,7 +20,7 @@ pub(crate) fn read_blocks(
     reader: &mut Reader<'_>,
     depth: usize,
 ) -> Result<Option<Blocks>, ReadFault>
-    ensures ok { IfOk result (λ bs. (d : Data) × (data_at depth reader.old ≡ Some (d, reader.new)) × (bs ≡ blocks_in d)) }
+    ensures ok { IfOk result (λ bs. (d : Data) × (data_at depth reader.old ≡ Some (d, reader.new)) × (bs ≡ block_list d)) }
     ensures shorter { OnOk result (length reader.new < length reader.old) }
     ensures err { result ≡ Err ReadFault.Invalid → data_at depth reader.old ≡ None }
 {
@@ -199,5 +197,9 @@ fn awaiting_from(number: Option<u64>) -> Option<BlockId>
     ensures { result ≡ awaiting_from number }
 {
     let id = BlockId::new(number?)?;
-    if id.get() < FIRST_ID { None } else { Some(id) }
+    if id.get() < FIRST_BLOCK {
+        None
+    } else {
+        Some(id)
+    }
 }

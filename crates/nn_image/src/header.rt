@@ -3,9 +3,9 @@ ghost use Rattle.std.specs.Prelude.{◌≡◌, ◌≢◌, ◌<◌, ◌^◌, IfOk
 ghost use Rattle.std.specs.List.{list_all};
 ghost use Rattle.serde_json.specs.Data.{Data, object, no_members};
 ghost use Rattle.nn_plain.specs.Spelling.{plain_of, spelled_or};
-ghost use Rattle.nn_image.specs.Header.{header_value, IsLawful};
+ghost use Rattle.nn_image.specs.Header.{header_value, IsLawfulHeader};
 ghost use Rattle.nn_image.specs.HeaderParts.{fields_from, header_key, of_parts, parts_of, profile_from, put_at, seen_parts};
-ghost use Rattle.nn_image.specs.Outcome.{Fails, IsNoRead};
+ghost use Rattle.nn_image.specs.Outcome.{ImageFails, IsNoRead};
 ghost use Rattle.nn_image.specs.Reading.{object_of, of_header};
 ghost use Rattle.nn_tree.specs.Restore.{awaiting_fits, is_issued, rises};
 
@@ -14,6 +14,7 @@ use crate::fault::ImageFault;
 use crate::values::{limited, text_of, whole_of};
 use json::{Reader, Scratch};
 use nn_plain::{MemberSink, Plain, ReadFault, read_line, read_value};
+use nn_types::limits::{FIRST_BLOCK, LAST_RESERVED_BLOCK, LAST_RESERVED_STAMP};
 use nn_types::{BlockId, GenerationStamp, Profile, Txid};
 use simdutf8::basic::from_utf8;
 use std::alloc::Global;
@@ -31,9 +32,9 @@ pub(crate) struct Header {
 /// What the first line says.
 pub(crate) fn read_header(alloc: Global, line: &[u8]) -> Result<Header, ImageFault>
     ensures ok { IfOk result (λ h. of_header (object_of line.now) ≡ Ok (header_value h)) }
-    ensures lawful { IfOk result IsLawful }
+    ensures lawful { IfOk result IsLawfulHeader }
     ensures limit { IfOk result (λ h. h.txid < 2 ^ 63) }
-    ensures fault { IfErr result (λ e. Fails e (of_header (object_of line.now))) }
+    ensures fault { IfErr result (λ e. ImageFails e (of_header (object_of line.now))) }
     ensures own { IfErr result IsNoRead }
 {
     let Ok(text) = from_utf8(line) else {
@@ -74,7 +75,7 @@ pub(crate) struct HeaderMembers<'a> {
 
 impl<'a> HeaderMembers<'a> {
     // Those of an object with no members.
-    #[tactic(auto, unfolding(crate::specs::Reading::text_in))]
+    #[tactic(auto, unfolding(crate::specs::Reading::text_under))]
     fn none() -> HeaderMembers<'a>
         ensures { seen_parts result ≡ parts_of (object no_members) }
     {
@@ -92,9 +93,9 @@ impl<'a> HeaderMembers<'a> {
     // The header of these members.
     fn header(self) -> Result<Header, ImageFault>
         ensures ok { IfOk result (λ h. of_parts (seen_parts self.entry) ≡ Ok (header_value h)) }
-        ensures lawful { IfOk result IsLawful }
+        ensures lawful { IfOk result IsLawfulHeader }
         ensures limit { IfOk result (λ h. h.txid < 2 ^ 63) }
-        ensures fault { IfErr result (λ e. Fails e (of_parts (seen_parts self.entry))) }
+        ensures fault { IfErr result (λ e. ImageFails e (of_parts (seen_parts self.entry))) }
         ensures own { IfErr result IsNoRead }
     {
         let Some(version) = limited(self.version) else {
@@ -110,7 +111,7 @@ impl<'a> HeaderMembers<'a> {
     #[tactic(auto, unfolding(crate::specs::HeaderParts::fields_from))]
     fn fields(self, version: u64) -> Option<Header>
         ensures value { option_map header_value result ≡ fields_from version (seen_parts self.entry) }
-        ensures lawful { IfSome result IsLawful }
+        ensures lawful { IfSome result IsLawfulHeader }
         ensures limit { IfSome result (λ h. h.txid < 2 ^ 63) }
     {
         let mark = self.image?;
@@ -119,10 +120,11 @@ impl<'a> HeaderMembers<'a> {
         let last_stamp = GenerationStamp::new(self.last_stamp?)?;
         let awaiting = self.awaiting?;
         let profile = profile_from(version, self.profile)?;
-        txid.get();
+        // Recalls to the prover that the txid keeps its limits.
+        let _recalled = txid.get();
         if mark != "hdfs-standby"
-            || last_block.get() < 1_073_741_824
-            || last_stamp.get() < 1000
+            || last_block.get() < LAST_RESERVED_BLOCK
+            || last_stamp.get() < LAST_RESERVED_STAMP
             || !awaiting_fits(last_block, &awaiting)
         {
             return None;
@@ -215,7 +217,7 @@ fn awaiting_fits(last_block: BlockId, ids: &[BlockId]) -> bool
 fn all_issued(last_block: BlockId, ids: &[BlockId]) -> bool
     ensures { result ≡ list_all (is_issued last_block) ids.now }
 {
-    ids.iter().all(|id| 1_073_741_825 <= id.get() && id.get() <= last_block.get())
+    ids.iter().all(|id| FIRST_BLOCK <= id.get() && id.get() <= last_block.get())
 }
 
 fn rises(ids: &[BlockId]) -> bool

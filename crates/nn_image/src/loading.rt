@@ -3,7 +3,7 @@ ghost use Rattle.std.specs.Prelude.{◌≡◌, ◌≤◌, ◌<◌, ◌+◌, ◌^
 ghost use Rattle.std.specs.Ordering.{is_lt};
 ghost use Rattle.nn_model.specs.Namespace.{path_cmp};
 ghost use Rattle.nn_image.specs.Lawful.{HasPaths};
-ghost use Rattle.nn_image.specs.Loading.{at_header, refused, is_first, ends_with, fault_of, loaded_from, state_of, HasLimit, IsBegun, IsLawfulStage, TakesLine, TakesRow};
+ghost use Rattle.nn_image.specs.Loading.{at_header, refused, is_first, ends_with, fault_of_loading, loaded_from, state_of, HasLimit, IsBegun, IsLawfulStage, TakesLine, TakesRow};
 ghost use Rattle.nn_image.specs.Outcome.{IsNoRead};
 ghost use Rattle.nn_image.specs.Reading.{read_image};
 ghost use Rattle.nn_image.specs.Text.{image_text};
@@ -21,15 +21,15 @@ use std::cmp::Ordering;
 use std::marker::Model;
 
 /// What the lines of an image that have come make of it: a namespace so far, or the first fault.
-#[derive(Drop)]
+#[derive(Debug, Drop)]
 pub struct Loading {
     stage: Stage,
 }
 
 impl Model for Loading {
-    ghost use Rattle.nn_image.specs.Loading.{LoadState, state_of, IsLawfulStage};
+    ghost use Rattle.nn_image.specs.Loading.{Loading, state_of, IsLawfulStage};
 
-    ghost Value = { LoadState };
+    ghost Value = { Loading };
 
     ghost view = { λ l. state_of l.stage };
 
@@ -37,7 +37,7 @@ impl Model for Loading {
 }
 
 /// Where in an image a loading is.
-#[derive(Drop)]
+#[derive(Debug, Drop)]
 enum Stage {
     /// No line has come.
     Header,
@@ -47,7 +47,7 @@ enum Stage {
 }
 
 /// What stands behind a header.
-#[derive(Drop)]
+#[derive(Debug, Drop)]
 struct Begun {
     namespace: Namespace,
     // the path of the last line, or the root
@@ -105,7 +105,7 @@ impl Loading {
 
     /// The first fault of the lines that have come.
     pub fn fault(&self) -> Option<ImageFault>
-        ensures fault { result ≡ fault_of self.now }
+        ensures fault { result ≡ fault_of_loading self.now }
         ensures own { IfSome result IsNoRead }
     {
         match self.stage {
@@ -244,8 +244,9 @@ impl Begun {
             txid,
             ..
         } = self;
-        namespace.well_formed();
-        txid.get();
+        namespace.recall_invariant();
+        // Recalls to the prover that the txid keeps its limits.
+        let _recalled = txid.get();
         Ok((namespace, txid))
     }
 }

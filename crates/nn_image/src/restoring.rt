@@ -1,7 +1,7 @@
 //! From a reader to a namespace.
 ghost use Rattle.std.specs.Prelude.{◌≡◌, ◌≤◌, ◌<◌, ◌^◌, Ok, OnOk, IfOk, IfErr};
 ghost use Rattle.nn_image.specs.Lawful.{HasPaths};
-ghost use Rattle.nn_image.specs.Loading.{Ends, Stops};
+ghost use Rattle.nn_image.specs.Loading.{GivesAtEnd, LoadFails};
 ghost use Rattle.nn_image.specs.Outcome.{Noted};
 ghost use Rattle.nn_image.specs.Reading.{read_image};
 ghost use Rattle.nn_image.specs.Text.{image_text};
@@ -21,12 +21,12 @@ use std::io::Read;
 /// the first one of the whole text all the same. Beside the namespace it takes a buffer of 65,536 bytes, and one line; where
 /// that is no plain one, as much again, and a block or an id for each that it lists.
 pub fn load<R: Read>(alloc: Global, reader: &mut Reader<R>) -> Result<(Namespace, Txid), ImageFault>
-    ensures ok { IfOk result (λ i. Ends reader.old.left reader.new.left read_image i) }
+    ensures ok { IfOk result (λ i. GivesAtEnd reader.old.left reader.new.left read_image i) }
     ensures limit { IfOk result (λ i. i.1 < 2 ^ 63) }
     ensures paths { IfOk result (λ i. HasPaths i.0) }
     ensures again { IfOk result (λ i. read_image (image_text i.0 i.1) ≡ Ok i) }
     ensures unfailed { OnOk result (reader.new.failed ≡ reader.old.failed) }
-    ensures fault { IfErr result (λ e. Stops reader.old.left e read_image) }
+    ensures fault { IfErr result (λ e. LoadFails reader.old.left e read_image) }
     ensures noted { IfErr result (λ e. Noted e reader.old.failed reader.new.failed) }
     ensures reads { reader.new.reads ≤ 2 ^ 24 }
 {
@@ -40,12 +40,12 @@ fn load_image<R: Read>(
     alloc: Global,
     reader: &mut Reader<R>,
 ) -> Result<(Namespace, Txid), ImageFault>
-    ensures ok { IfOk result (λ i. Ends reader.old.left reader.new.left read_image i) }
+    ensures ok { IfOk result (λ i. GivesAtEnd reader.old.left reader.new.left read_image i) }
     ensures limit { IfOk result (λ i. i.1 < 2 ^ 63) }
     ensures paths { IfOk result (λ i. HasPaths i.0) }
     ensures again { IfOk result (λ i. read_image (image_text i.0 i.1) ≡ Ok i) }
     ensures unfailed { OnOk result (reader.new.failed ≡ reader.old.failed) }
-    ensures fault { IfErr result (λ e. Stops reader.old.left e read_image) }
+    ensures fault { IfErr result (λ e. LoadFails reader.old.left e read_image) }
     ensures noted { IfErr result (λ e. Noted e reader.old.failed reader.new.failed) }
 {
     let mut window = Window::new(alloc)?;
@@ -56,8 +56,8 @@ fn load_image<R: Read>(
         if !line.whole {
             return loading.end(&line.text);
         }
-        // Each line takes a byte, and bytes are counted.
-        reader.given();
+        // Recalls to the prover that bytes are counted: each line takes one.
+        let _recalled = reader.given();
         loading.push(alloc, &line.text)?;
         if let Some(fault) = loading.fault() {
             return Err(fault);

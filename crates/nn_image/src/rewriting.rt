@@ -2,7 +2,7 @@
 ghost use Rattle.std.specs.Prelude.{◌≡◌, ◌<◌, ◌≤◌, ◌^◌, IfOk, IfErr};
 ghost use Rattle.nn_image.specs.Reading.{read_image};
 ghost use Rattle.nn_image.specs.Outcome.{Noted};
-ghost use Rattle.nn_image.specs.Loading.{Stops};
+ghost use Rattle.nn_image.specs.Loading.{LoadFails};
 ghost use Rattle.nn_image.specs.Rewriting.{Rewrote, StoppedWriting, IfLoad, IfSave};
 
 use crate::fault::RewriteFault;
@@ -28,16 +28,16 @@ pub fn rewrite<R: Read, W: Write>(
     ensures ok { IfOk result (λ txid. Rewrote reader.old reader.new writer.old writer.new txid) }
     ensures limit { IfOk result (λ txid. txid < 2 ^ 63) }
     ensures reads { reader.new.reads ≤ 2 ^ 24 }
-    ensures unread { IfErr result (IfLoad (λ e. Stops reader.old.left e read_image)) }
+    ensures unread { IfErr result (IfLoad (λ e. LoadFails reader.old.left e read_image)) }
     ensures noted { IfErr result (IfLoad (λ e. Noted e reader.old.failed reader.new.failed)) }
     ensures untouched { IfErr result (IfLoad (λ e. writer.new ≡ writer.old)) }
-    ensures front { IfErr result (IfSave (StoppedWriting reader.old reader.new writer.old writer.new)) }
+    ensures prefix { IfErr result (IfSave (StoppedWriting reader.old reader.new writer.old writer.new)) }
 {
     let (namespace, txid) = match load(alloc, reader) {
         Ok(image) => image,
         Err(fault) => return Err(RewriteFault::Load(fault)),
     };
-    namespace.well_formed();
+    namespace.recall_invariant();
     let saved = save(alloc, &namespace, txid, writer);
     drop(namespace);
     match saved {

@@ -10,6 +10,7 @@ use crate::values::{limited, text_of, truth_of, whole_of};
 use json::Reader;
 use nn_model::{FileRow, Form};
 use nn_plain::{MemberSink, Plain, ReadFault, Slots, read_value};
+use nn_types::limits::MAX_REPLICATION;
 use nn_types::{Blocks, Path, PathFault, Replication};
 use std::alloc::{AllocError, Global};
 
@@ -38,7 +39,7 @@ pub(crate) struct RowMembers<'a> {
 
 impl<'a> RowMembers<'a> {
     /// Those of an object with no members.
-    #[tactic(auto, unfolding(crate::specs::Reading::text_in, crate::specs::Reading::flag_in, crate::specs::Reading::array_in, crate::specs::Reading::blocks_at))]
+    #[tactic(auto, unfolding(crate::specs::Reading::text_under, crate::specs::Reading::flag_under, crate::specs::Reading::array_under, crate::specs::Reading::blocks_at))]
     pub(crate) fn none() -> RowMembers<'a>
         ensures { seen_parts result ≡ parts_of (object no_members) }
     {
@@ -102,7 +103,7 @@ impl<'a> RowMembers<'a> {
         let blocks = self.blocks?;
         let closed = self.closed?;
         let replication = self.replication?;
-        if replication < 1 || 512 < replication {
+        if replication < 1 || u64::from(MAX_REPLICATION) < replication {
             return None;
         }
         let replication = Replication::new(replication)?;
@@ -149,7 +150,7 @@ impl<'a> Slots<'a> for RowMembers<'a> {
     fn put_array(&mut self, key: &'a str, blocks: Blocks) {
         match row_key(key) {
             Some(RowKey::Blocks) => {
-                blocks.lawful();
+                blocks.recall_invariant();
                 self.blocks = Some(blocks);
             }
             Some(key) => self.set(key, None),

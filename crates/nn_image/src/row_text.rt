@@ -2,11 +2,11 @@
 ghost use Rattle.std.specs.Prelude.{◌≡◌, false};
 ghost use Rattle.serde_json.specs.Data.{boolean};
 ghost use Rattle.serde_json.specs.Written.{compact_text, items_text};
-ghost use Rattle.nn_device.specs.Page.{Puts};
+ghost use Rattle.nn_device.specs.Page.{PutsPiece};
 ghost use Rattle.nn_model.specs.declared.form.Form.TheVariants as form;
 ghost use Rattle.nn_tree.specs.Found.{form_of};
 ghost use Rattle.nn_tree.specs.Listing.{lent_names};
-ghost use Rattle.nn_image.specs.Text.{line_of, block_data, block_items, row_data};
+ghost use Rattle.nn_image.specs.Text.{value_line, block_value, block_items, row_data};
 
 use nn_device::{Page, Writer};
 use nn_model::FileRow;
@@ -27,7 +27,7 @@ pub(crate) fn put_row<W: Write>(
     names: &[&str],
     found: Found<'_>,
 )
-    ensures { Puts (line_of (row_data (lent_names names.now, form_of found.entry))) page.old writer.old page.new writer.new }
+    ensures { PutsPiece (value_line (row_data (lent_names names.now, form_of found.entry))) page.old writer.old page.new writer.new }
 {
     match found {
         Found::Dir => put_dir(page, writer, names),
@@ -36,7 +36,7 @@ pub(crate) fn put_row<W: Write>(
 }
 
 fn put_dir<W: Write>(page: &mut Page, writer: &mut Writer<W>, names: &[&str])
-    ensures { Puts (line_of (row_data (lent_names names.now, form.Dir))) page.old writer.old page.new writer.new }
+    ensures { PutsPiece (value_line (row_data (lent_names names.now, form.Dir))) page.old writer.old page.new writer.new }
 {
     page.put(writer, b"{\"path\":");
     put_path(page, writer, names);
@@ -44,7 +44,7 @@ fn put_dir<W: Write>(page: &mut Page, writer: &mut Writer<W>, names: &[&str])
 }
 
 fn put_file<W: Write>(page: &mut Page, writer: &mut Writer<W>, names: &[&str], file: &FileRow)
-    ensures { Puts (line_of (row_data (lent_names names.now, form.File file.now))) page.old writer.old page.new writer.new }
+    ensures { PutsPiece (value_line (row_data (lent_names names.now, form.File file.now))) page.old writer.old page.new writer.new }
 {
     page.put(writer, b"{\"blocks\":[");
     put_blocks(page, writer, file.blocks.as_slice());
@@ -65,7 +65,7 @@ fn word(truth: bool) -> &'static str
 
 // The blocks, with a comma between two, and the bracket after them.
 fn put_blocks<W: Write>(page: &mut Page, writer: &mut Writer<W>, blocks: &[Block])
-    ensures { Puts (items_text false (block_items blocks.now)) page.old writer.old page.new writer.new }
+    ensures { PutsPiece (items_text false (block_items blocks.now)) page.old writer.old page.new writer.new }
 {
     let Some((first, others)) = blocks.split_first() else {
         page.put(writer, b"]");
@@ -80,7 +80,7 @@ fn put_blocks<W: Write>(page: &mut Page, writer: &mut Writer<W>, blocks: &[Block
 }
 
 fn put_block<W: Write>(page: &mut Page, writer: &mut Writer<W>, block: Block)
-    ensures { Puts (compact_text (block_data block)) page.old writer.old page.new writer.new }
+    ensures { PutsPiece (compact_text (block_value block)) page.old writer.old page.new writer.new }
 {
     page.put(writer, b"{\"gen\":");
     put_number(page, writer, block.stamp.get());

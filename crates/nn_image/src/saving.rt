@@ -3,11 +3,11 @@ ghost use Rattle.std.specs.Prelude.{◌≡◌, ◌≤◌, false, string_bytes, d
 ghost use Rattle.serde_json.specs.View.{view, items_view};
 ghost use Rattle.serde_json.specs.Written.{has_float};
 ghost use Rattle.nn_device.specs.Device.{Took};
-ghost use Rattle.nn_device.specs.Page.{Puts};
+ghost use Rattle.nn_device.specs.Page.{PutsPiece};
 ghost use Rattle.nn_tree.specs.Rows.{extent_of, greatest_depth};
-ghost use Rattle.nn_image.specs.Text.{line_of, number_items, header_data, head_data, row_lines, end_data, image_text, name_text};
+ghost use Rattle.nn_image.specs.Text.{value_line, number_items, header_data, head_data, row_lines, end_data, image_text, image_file_name};
 ghost use Rattle.nn_image.specs.Lawful.{IsReadBack};
-ghost use Rattle.nn_image.specs.Saving.{WroteFront};
+ghost use Rattle.nn_image.specs.Saving.{WrotePrefix};
 
 mod parts;
 
@@ -25,14 +25,14 @@ use std::marker::Model;
 
 /// The name of the image of the namespace after this transaction.
 pub fn image_name(alloc: Global, txid: Txid) -> Result<String, AllocError>
-    ensures { IfOk result (λ name. string_bytes name ≡ name_text txid) }
+    ensures { IfOk result (λ name. string_bytes name ≡ image_file_name txid) }
 {
     let txid = txid.get();
     format!(in alloc; "fsimage_{txid:019}")
 }
 
 /// The image of a namespace, ready to be put: all memory that it wants is had.
-#[derive(Drop)]
+#[derive(Debug, Drop)]
 pub struct ReadyImage<'a> {
     // the line of the header
     head: String,
@@ -45,11 +45,11 @@ pub struct ReadyImage<'a> {
 impl<'a> Model for ReadyImage<'a> {
     ghost use Rattle.std.specs.Prelude.{ℕ, List, ◌++◌, ◌≤◌, string_bytes};
     ghost use Rattle.nn_tree.specs.Rows.{greatest_depth};
-    ghost use Rattle.nn_image.specs.Text.{row_lines, line_of, end_data};
+    ghost use Rattle.nn_image.specs.Text.{row_lines, value_line, end_data};
 
     ghost Value = { List ℕ };
 
-    ghost view = { λ a. string_bytes a.head ++ (row_lines a.rows.left ++ line_of (end_data a.paths)) };
+    ghost view = { λ a. string_bytes a.head ++ (row_lines a.rows.left ++ value_line (end_data a.paths)) };
 
     ghost invariant = { λ a. greatest_depth a.rows.left ≤ a.rows.room };
 }
@@ -73,7 +73,7 @@ impl<'a> ReadyImage<'a> {
 
     /// Puts the image on a page. It takes no memory.
     pub fn put<W: Write>(self, page: &mut Page, writer: &mut Writer<W>)
-        ensures { Puts self.entry page.old writer.old page.new writer.new }
+        ensures { PutsPiece self.entry page.old writer.old page.new writer.new }
     {
         let ReadyImage { head, rows, paths } = self;
         page.put(writer, head.as_bytes());
@@ -98,11 +98,11 @@ pub fn save<W: Write>(
     writer: &mut Writer<W>,
 ) -> Result<(), SaveFault>
     ensures ok { OnOk result (Took writer.old writer.new (image_text namespace.now txid)) }
-    ensures front { IfErr result (WroteFront writer.old writer.new (image_text namespace.now txid)) }
+    ensures prefix { IfErr result (WrotePrefix writer.old writer.new (image_text namespace.now txid)) }
     ensures memory { IsErrOf result SaveFault.OutOfMemory → writer.new ≡ writer.old }
     ensures again { IsReadBack namespace.now txid }
 {
-    is_read_back(namespace, txid);
+    recall_image(namespace, txid);
     let Ok(image) = ready_image(alloc, namespace, txid) else {
         return Err(SaveFault::OutOfMemory);
     };
@@ -130,21 +130,21 @@ fn ready_image<'a>(
     ReadyImage::of(alloc, namespace, extent, txid)
 }
 
-// What a reader makes of the image. This does nothing.
-fn is_read_back(namespace: &Namespace, txid: Txid)
+// Recalls to the prover what a reader makes of the image. It does nothing when it runs.
+fn recall_image(namespace: &Namespace, txid: Txid)
     ensures { IsReadBack namespace.now txid }
 {
-    namespace.well_formed();
+    namespace.recall_invariant();
     txid.get();
 }
 
 // Puts the line of each of these rows. A walk that has its room wants no more memory.
 fn put_rows<W: Write>(page: &mut Page, writer: &mut Writer<W>, mut rows: Rows<'_>)
     requires { greatest_depth rows.left ≤ rows.room }
-    ensures { Puts (row_lines rows.entry.left) page.old writer.old page.new writer.new }
+    ensures { PutsPiece (row_lines rows.entry.left) page.old writer.old page.new writer.new }
 {
     'rows: while !page.has_failed() {
-        let Ok(next) = rows.next() else {
+        let Ok(next) = rows.next_row() else {
             unreachable!();
         };
         let Some(found) = next else {
@@ -156,7 +156,7 @@ fn put_rows<W: Write>(page: &mut Page, writer: &mut Writer<W>, mut rows: Rows<'_
 
 // Puts the line of the number of paths.
 fn put_end<W: Write>(page: &mut Page, writer: &mut Writer<W>, paths: u64)
-    ensures { Puts (line_of (end_data paths)) page.old writer.old page.new writer.new }
+    ensures { PutsPiece (value_line (end_data paths)) page.old writer.old page.new writer.new }
 {
     page.put(writer, b"{\"end\":");
     put_number(page, writer, paths);
@@ -170,13 +170,13 @@ fn rows_below_root(namespace: &Namespace, depth: usize) -> Result<Rows<'_>, Allo
     ensures room { IfOk result (λ rows. greatest_depth rows.left ≤ rows.room) }
 {
     let mut rows = namespace.ready_rows(depth)?;
-    rows.next()?;
+    rows.next_row()?;
     Ok(rows)
 }
 
 // The line of the header.
 fn head_line(alloc: Global, namespace: &Namespace, txid: Txid) -> Result<String, AllocError>
-    ensures { IfOk result (λ s. string_bytes s ≡ line_of (header_data namespace.now txid)) }
+    ensures { IfOk result (λ s. string_bytes s ≡ value_line (header_data namespace.now txid)) }
 {
     let value = header_value(alloc, namespace, txid)?;
     line(alloc, &value)
@@ -185,7 +185,7 @@ fn head_line(alloc: Global, namespace: &Namespace, txid: Txid) -> Result<String,
 // The line of a value.
 fn line(alloc: Global, value: &Value) -> Result<String, AllocError>
     requires { has_float (view value.now) ≡ false }
-    ensures { IfOk result (λ s. string_bytes s ≡ line_of (view value.now)) }
+    ensures { IfOk result (λ s. string_bytes s ≡ value_line (view value.now)) }
 {
     let mut text = value.to_string(alloc)?;
     text.push('\n')?;

@@ -10,7 +10,7 @@ use Rattle.nn_types.specs.declared.report.Message.{Message}
 use Rattle.nn_lane.specs.declared.view.Sender.{Sender}
 use Rattle.nn_lane.specs.declared.view.Taker.{Taker}
 use Rattle.nn_lane.specs.Intake.{bit, laid}
-use Rattle.nn_lane.specs.Lane.{away, Kept, new_sender, new_taker, holding, with_next, looked, checked, sent_more, was_told, saw, got_more, closed_at}
+use Rattle.nn_lane.specs.Lane.{away, LaneFacts, new_sender, new_taker, holding, with_next, looked, checked, sent_more, was_told, saw, got_more, closed_at}
 use Rattle.nn_lane.proofs.Rows.{at_within, at_end, at_after, head_of, apart}
 
 abbrev Homes : Type 0
@@ -23,12 +23,12 @@ abbrev value_or : Message → Option Message → Message
 value_or m None = m
 value_or m (Some x) = x
 
-module _ {node n : ℕ} {words : List ℕ} {homes : Homes} {r : Sender} {e : Taker} (K : Kept node n words homes r e) where
+module _ {node n : ℕ} {words : List ℕ} {homes : Homes} {r : Sender} {e : Taker} (K : LaneFacts node n words homes r e) where
   pub sent_length : length r.sent ≡ length e.got + length K.left
   sent_length = ap length K.split ∙ length-append e.got K.left
 
   -- a load of `taken`, with no room
-  pub sees_full : r.out ≡ false → Kept node n words homes (looked r (length e.got) false) e
+  pub sees_full : r.out ≡ false → LaneFacts node n words homes (looked r (length e.got) false) e
   sees_full in_ = record {
     left = K.left;
     as_long = K.as_long;
@@ -51,7 +51,7 @@ module _ {node n : ℕ} {words : List ℕ} {homes : Homes} {r : Sender} {e : Tak
   }
 
   -- a load of `taken`, where the slot is out
-  pub sees_again : r.out ≡ true → Kept node n words homes (looked r (length e.got) true) e
+  pub sees_again : r.out ≡ true → LaneFacts node n words homes (looked r (length e.got) true) e
   sees_again out = record {
     left = K.left;
     as_long = K.as_long;
@@ -77,7 +77,7 @@ module _ {node n : ℕ} {words : List ℕ} {homes : Homes} {r : Sender} {e : Tak
   fits_still out = let a = K.fits out in let b = K.seen_taken in omega arith
 
   -- a load of `taken`, where the slot that is out goes home
-  pub gives_back : (x : Message) → r.out ≡ true → Kept node n words (set homes (length r.sent % n) (some x)) (looked r (length e.got) false) e
+  pub gives_back : (x : Message) → r.out ≡ true → LaneFacts node n words (set homes (length r.sent % n) (some x)) (looked r (length e.got) false) e
   gives_back x out = let long = sent_length in let fits = K.fits out in let near = K.seen_taken in record {
     left = K.left;
     as_long = length-set homes _ _ ∙ K.as_long;
@@ -117,7 +117,7 @@ module _ {node n : ℕ} {words : List ℕ} {homes : Homes} {r : Sender} {e : Tak
       at_next aw = let one = has_one e.next refl aw in let long = sent_length in apart (length e.got) (length r.sent) n (omega arith) (let h : length r.sent < length e.got + n = room in h)
 
   -- the slot of the next message is taken, where the reporter knows that there is room
-  pub holds_room : length r.sent < r.seen + n → Kept node n words (set homes (length r.sent % n) none) (holding r true) e
+  pub holds_room : length r.sent < r.seen + n → LaneFacts node n words (set homes (length r.sent % n) none) (holding r true) e
   holds_room fits = let long = sent_length in let seen = K.seen_taken in record {
     left = K.left;
     as_long = length-set homes _ _ ∙ K.as_long;
@@ -142,7 +142,7 @@ module _ {node n : ℕ} {words : List ℕ} {homes : Homes} {r : Sender} {e : Tak
 
   -- the exchange of `front`, where it wins: the lane is open, and the slot goes home with the next message
   pub accepts : (x : Message) → e.closed ≡ false → r.out ≡ true → x.number ≡ length r.sent + 1 → x.dn ≡ node
-      → Kept node n (laid (2 * length r.sent + 2) (length e.got)) (set homes (length r.sent % n) (some x)) (sent_more r x false) e
+      → LaneFacts node n (laid (2 * length r.sent + 2) (length e.got)) (set homes (length r.sent % n) (some x)) (sent_more r x false) e
   accepts x open_ out number dn = let long = sent_length in let fits = K.fits out in let near = K.seen_taken in let grown : length (r.sent ++ x ∷ []) ≡ length r.sent + 1 = length-append r.sent (x ∷ []) in
       record {
         left = K.left ++ x ∷ [];
@@ -180,7 +180,7 @@ module _ {node n : ℕ} {words : List ℕ} {homes : Homes} {r : Sender} {e : Tak
       spot i l b (no other) = let was = K.vacant i l (λ _. other) b in (was.0, set_else homes (length r.sent % n) i (some x) other ∙ was.1)
 
   -- the exchange of `front`, where it fails: the lane is closed
-  pub tells : e.closed ≡ true → Kept node n words homes (was_told r) e
+  pub tells : e.closed ≡ true → LaneFacts node n words homes (was_told r) e
   tells shut_ = record {
     left = K.left;
     as_long = K.as_long;
@@ -203,7 +203,7 @@ module _ {node n : ℕ} {words : List ℕ} {homes : Homes} {r : Sender} {e : Tak
   }
 
   -- a load of `front` by the reporter, who is told only of a close
-  pub checks : (b : Bool) → (b ≡ true → e.closed ≡ true) → Kept node n words homes (checked r b) e
+  pub checks : (b : Bool) → (b ≡ true → e.closed ≡ true) → LaneFacts node n words homes (checked r b) e
   checks b told_so = record {
     left = K.left;
     as_long = K.as_long;
@@ -226,7 +226,7 @@ module _ {node n : ℕ} {words : List ℕ} {homes : Homes} {r : Sender} {e : Tak
   }
 
   -- a load of `front`, before a slot is taken
-  pub sees : e.next ≡ None → Kept node n words homes r (saw e (length r.sent) None)
+  pub sees : e.next ≡ None → LaneFacts node n words homes r (saw e (length r.sent) None)
   sees is = let long = sent_length in record {
     left = K.left;
     as_long = K.as_long;
@@ -250,7 +250,7 @@ module _ {node n : ℕ} {words : List ℕ} {homes : Homes} {r : Sender} {e : Tak
 
   -- the slot of the first untaken message is taken, where the other end knows of one
   pub holds_next : e.next ≡ None → length e.got < e.seen
-      → (x : Message) × (get_elem? homes (length e.got % n) ≡ some (some x)) × (x.number ≡ length e.got + 1) × (x.dn ≡ node) × Kept node n words (set homes (length e.got % n) none) r (with_next e (Some x))
+      → (x : Message) × (get_elem? homes (length e.got % n) ≡ some (some x)) × (x.number ≡ length e.got + 1) × (x.dn ≡ node) × LaneFacts node n words (set homes (length e.got % n) none) r (with_next e (Some x))
   holds_next is some_left = let long = sent_length in let seen = K.seen_high in
       let h = head_of K.left (let more : 0 < length K.left = omega arith in more) in
       let first : get_elem? K.left 0 ≡ some h.0 = ap (λ l. get_elem? l 0) h.2 in
@@ -287,10 +287,10 @@ module _ {node n : ℕ} {words : List ℕ} {homes : Homes} {r : Sender} {e : Tak
       )
 
   -- the store of `taken`: the first untaken message is taken, and its slot goes home with whatever it has
-  pub takes : (x y : Message) → e.next ≡ Some x → Kept node n (laid (2 * length r.sent + bit e.closed) (length e.got + 1)) (set homes (length e.got % n) (some y)) r (got_more e x None)
+  pub takes : (x y : Message) → e.next ≡ Some x → LaneFacts node n (laid (2 * length r.sent + bit e.closed) (length e.got + 1)) (set homes (length e.got % n) (some y)) r (got_more e x None)
   takes x y is = go K.left refl
     where
-      go : (l : List Message) → l ≡ K.left → Kept node n (laid (2 * length r.sent + bit e.closed) (length e.got + 1)) (set homes (length e.got % n) (some y)) r (got_more e x None)
+      go : (l : List Message) → l ≡ K.left → LaneFacts node n (laid (2 * length r.sent + bit e.closed) (length e.got + 1)) (set homes (length e.got % n) (some y)) r (got_more e x None)
       go [] l_is = absurd (some-ne-none x (sym (ap (λ l. get_elem? l 0) l_is ∙ K.next x is)))
       go (z ∷ zs) l_is =
           let first : z ≡ x = some-injective z x (ap (λ l. get_elem? l 0) l_is ∙ K.next x is) in
@@ -327,7 +327,7 @@ module _ {node n : ℕ} {words : List ℕ} {homes : Homes} {r : Sender} {e : Tak
           spot i l a (no other) = let was = K.vacant i l a (λ _. other) in (was.0, set_else homes (length e.got % n) i (some y) other ∙ was.1)
 
   -- the close
-  pub shuts : Kept node n (laid (2 * length r.sent + 1) (length e.got)) homes r (closed_at e (length r.sent) e.next)
+  pub shuts : LaneFacts node n (laid (2 * length r.sent + 1) (length e.got)) homes r (closed_at e (length r.sent) e.next)
   shuts = record {
     left = K.left;
     as_long = K.as_long;
@@ -349,7 +349,7 @@ module _ {node n : ℕ} {words : List ℕ} {homes : Homes} {r : Sender} {e : Tak
     vacant = K.vacant;
   }
 
-pub begins : (node n : ℕ) (homes : Homes) → 0 < n → length homes ≡ n → ((i : ℕ) → i < n → (y : Message) × (get_elem? homes i ≡ some (some y))) → Kept node n (laid 0 0) homes (new_sender node) (new_taker node)
+pub begins : (node n : ℕ) (homes : Homes) → 0 < n → length homes ≡ n → ((i : ℕ) → i < n → (y : Message) × (get_elem? homes i ≡ some (some y))) → LaneFacts node n (laid 0 0) homes (new_sender node) (new_taker node)
 begins node n homes pos long each = record {
   left = [];
   as_long = long;

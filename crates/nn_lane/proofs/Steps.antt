@@ -16,7 +16,7 @@ use lib.Seq.{set-get_or}
 use Rattle.nn_types.specs.declared.report.Message.{Message}
 use Rattle.nn_lane.specs.declared.view.View.{View}
 use Rattle.nn_lane.specs.Intake.{bit, laid, front_word, taken_word}
-use Rattle.nn_lane.specs.Lane.{Seated, Kept, Lane, Sat, new_sender, new_taker, opening_view, taker_of, reporter_of, both_of, spent, with_sender, with_taker, looked, beside, saw_taken, checked, saw_closed, gave_back, sent_more, was_told, SentMore, accepted, away, NextOut, saw, SawFront, saw_front, got_more, Took, took, closed_at, Shuts, shut, learned}
+use Rattle.nn_lane.specs.Lane.{Seated, LaneFacts, Lane, Sat, new_sender, new_taker, opening_view, taker_of, reporter_of, both_of, spent, with_sender, with_taker, looked, beside, saw_taken, checked, saw_closed, gave_back, sent_more, was_told, SentMore, accepted, away, NextOut, saw, SawFront, saw_front, got_more, TookNext, took, closed_at, Shuts, shut, learned}
 use Rattle.nn_lane.proofs.Rows.{half}
 use Rattle.nn_lane.proofs.Seats.{reporter_moves, taker_moves, cuts, joins, shows_both}
 use Rattle.nn_lane.proofs.Keeps as kept
@@ -29,13 +29,13 @@ Cs = List (ℕ × Message)
 
 module _ (node slots id : ℕ) (v : View) where
   -- what a reporter's seat knows of the table
-  reporter_kept : (s : St) (h : Lane node s) → length s.homes ≡ slots → get_elem? s.views id ≡ some v → v.sends ≡ true → v.takes ≡ false → Kept node slots s.words s.homes v.sender h.2
+  reporter_kept : (s : St) (h : Lane node s) → length s.homes ≡ slots → get_elem? s.views id ≡ some v → v.sends ≡ true → v.takes ≡ false → LaneFacts node slots s.words s.homes v.sender h.2
   reporter_kept s h long at on off = let same = (reporter_moves s.views id v v h.1 v.sender h.2 h.3 at on off (on, off, refl)).0 in
-      subst (λ r. Kept node slots s.words s.homes r h.2) (sym same) (subst (λ n. Kept node n s.words s.homes h.1 h.2) (sym h.4.as_long ∙ long) h.4)
+      subst (λ r. LaneFacts node slots s.words s.homes r h.2) (sym same) (subst (λ n. LaneFacts node n s.words s.homes h.1 h.2) (sym h.4.as_long ∙ long) h.4)
 
-  taker_kept : (s : St) (h : Lane node s) → length s.homes ≡ slots → get_elem? s.views id ≡ some v → v.sends ≡ false → v.takes ≡ true → Kept node slots s.words s.homes h.1 v.taker
+  taker_kept : (s : St) (h : Lane node s) → length s.homes ≡ slots → get_elem? s.views id ≡ some v → v.sends ≡ false → v.takes ≡ true → LaneFacts node slots s.words s.homes h.1 v.taker
   taker_kept s h long at off on = let same = (taker_moves s.views id v v h.1 h.2 v.taker h.3 at off on (off, on, refl)).0 in
-      subst (λ e. Kept node slots s.words s.homes h.1 e) (sym same) (subst (λ n. Kept node n s.words s.homes h.1 h.2) (sym h.4.as_long ∙ long) h.4)
+      subst (λ e. LaneFacts node slots s.words s.homes h.1 e) (sym same) (subst (λ n. LaneFacts node n s.words s.homes h.1 h.2) (sym h.4.as_long ∙ long) h.4)
 
   -- the facts do not change with words that are the same
   words_stay : (s : St) (i : ℕ) (t : ℕ) (f g : ℕ) → s.words ≡ laid f g → set (laid f g) i t ≡ laid f g → s.words ≡ set s.words i t
@@ -50,7 +50,7 @@ module _ (node slots id : ℕ) (v : View) where
   pub loads_taken : (cs : Cs) → v.sends ≡ true → v.takes ≡ false → HoldsNext v.sender.out cs → Allows (Lane node) slots id (v, cs) taken_word (λ n. n) (saw_taken (step slots taken_word 0 0 none) (v, cs))
   loads_taken cs on off holds s h long at _ = subst Goal (sym (ap (λ ws. slice_index ws taken_word) K.words_are)) (start v.sender.out refl holds)
     where
-      K : Kept node slots s.words s.homes v.sender h.2
+      K : LaneFacts node slots s.words s.homes v.sender h.2
       K = reporter_kept s h long at on off
 
       Goal : ℕ → Type 0
@@ -83,14 +83,14 @@ module _ (node slots id : ℕ) (v : View) where
         with_sender v (looked v.sender (length h.2.got) true),
         takes (length v.sender.sent % slots) y.0,
         y.1,
-        (slots, looked v.sender (length h.2.got) true, h.2, seated true, subst (λ us. Kept node slots us (set s.homes (length v.sender.sent % slots) none) (looked v.sender (length h.2.got) true) h.2) ws (kept.holds_room (kept.sees_full K free) room)),
+        (slots, looked v.sender (length h.2.got) true, h.2, seated true, subst (λ us. LaneFacts node slots us (set s.homes (length v.sender.sent % slots) none) (looked v.sender (length h.2.got) true) h.2) ws (kept.holds_room (kept.sees_full K free) room)),
         (most, K.seen_taken, low, (λ _. room), refl, (y.0, refl)),
       ))
       go free false is = tell false false free is (
         with_sender v (looked v.sender (length h.2.got) false),
         keeps,
         tt,
-        (slots, looked v.sender (length h.2.got) false, h.2, seated false, subst (λ us. Kept node slots us s.homes (looked v.sender (length h.2.got) false) h.2) ws (kept.sees_full K free)),
+        (slots, looked v.sender (length h.2.got) false, h.2, seated false, subst (λ us. LaneFacts node slots us s.homes (looked v.sender (length h.2.got) false) h.2) ws (kept.sees_full K free)),
         (most, K.seen_taken, low, (λ o. absurd (true≢false (sym o))), refl, refl),
       )
 
@@ -99,7 +99,7 @@ module _ (node slots id : ℕ) (v : View) where
         with_sender v (looked v.sender (length h.2.got) true),
         keeps,
         tt,
-        (slots, looked v.sender (length h.2.got) true, h.2, seated true, subst (λ us. Kept node slots us s.homes (looked v.sender (length h.2.got) true) h.2) ws (kept.sees_again K out)),
+        (slots, looked v.sender (length h.2.got) true, h.2, seated true, subst (λ us. LaneFacts node slots us s.homes (looked v.sender (length h.2.got) true) h.2) ws (kept.sees_again K out)),
         (most, K.seen_taken, low, (λ _. room), refl, has),
       )
       start false free _ = go free (nat_lt (length v.sender.sent) (length h.2.got + slots)) refl
@@ -108,7 +108,7 @@ module _ (node slots id : ℕ) (v : View) where
   pub gives_taken : (cs : Cs) → v.sends ≡ true → v.takes ≡ false → HoldsNext v.sender.out cs → Allows (Lane node) slots id (v, cs) taken_word (λ n. n) (gave_back (step slots taken_word 0 0 none) (v, cs))
   gives_taken cs on off holds s h long at _ = subst Goal (sym (ap (λ ws. slice_index ws taken_word) K.words_are)) (start v.sender.out refl holds)
     where
-      K : Kept node slots s.words s.homes v.sender h.2
+      K : LaneFacts node slots s.words s.homes v.sender h.2
       K = reporter_kept s h long at on off
 
       w : View
@@ -130,7 +130,7 @@ module _ (node slots id : ℕ) (v : View) where
       out_case out has = subst Done (sym has.1) (
         gives,
         tt,
-        (slots, looked v.sender (length h.2.got) false, h.2, seated, subst (λ us. Kept node slots us (set s.homes (length v.sender.sent % slots) (some has.0)) (looked v.sender (length h.2.got) false) h.2) ws (kept.gives_back K has.0 out)),
+        (slots, looked v.sender (length h.2.got) false, h.2, seated, subst (λ us. LaneFacts node slots us (set s.homes (length v.sender.sent % slots) (some has.0)) (looked v.sender (length h.2.got) false) h.2) ws (kept.gives_back K has.0 out)),
         refl,
       )
 
@@ -140,7 +140,7 @@ module _ (node slots id : ℕ) (v : View) where
         w,
         keeps,
         tt,
-        (slots, looked v.sender (length h.2.got) false, h.2, seated, subst (λ us. Kept node slots us s.homes (looked v.sender (length h.2.got) false) h.2) ws (kept.sees_full K free)),
+        (slots, looked v.sender (length h.2.got) false, h.2, seated, subst (λ us. LaneFacts node slots us s.homes (looked v.sender (length h.2.got) false) h.2) ws (kept.sees_full K free)),
         (refl, ap (λ o. beside o cs) (sym free), K.seen_taken),
       )
 
@@ -157,7 +157,7 @@ module _ (node slots id : ℕ) (v : View) where
       → Allows (Lane node) slots id (v, (length v.sender.sent % slots, x) ∷ more) front_word (λ n. either (n == old) new n) (accepted (step slots front_word old new (some x)) (v, (length v.sender.sent % slots, x) ∷ more))
   exchanges more x old new on off out number dn old_is new_is s h long at _ = exchanged f old new Goal hit miss
     where
-      K : Kept node slots s.words s.homes v.sender h.2
+      K : LaneFacts node slots s.words s.homes v.sender h.2
       K = reporter_kept s h long at on off
 
       f : ℕ
@@ -199,8 +199,8 @@ module _ (node slots id : ℕ) (v : View) where
               sent_more v.sender x true,
               h.2,
               seated true,
-              subst (λ k. Kept node slots (set s.words front_word new) (set homes (k % slots) none) (sent_more v.sender x true) h.2) grown
-                  (subst (λ us. Kept node slots us (set homes (length (v.sender.sent ++ x ∷ []) % slots) none) (sent_more v.sender x true) h.2) ws (kept.holds_room K1 room)),
+              subst (λ k. LaneFacts node slots (set s.words front_word new) (set homes (k % slots) none) (sent_more v.sender x true) h.2) grown
+                  (subst (λ us. LaneFacts node slots us (set homes (length (v.sender.sent ++ x ∷ []) % slots) none) (sent_more v.sender x true) h.2) ws (kept.holds_room K1 room)),
             ),
             (refl, (y.0, refl)),
           )
@@ -208,7 +208,7 @@ module _ (node slots id : ℕ) (v : View) where
         with_sender v (sent_more v.sender x false),
         gives,
         tt,
-        (slots, sent_more v.sender x false, h.2, seated false, subst (λ us. Kept node slots us homes (sent_more v.sender x false) h.2) ws (kept.accepts K x opened out number (dn ∙ K.nodes.0))),
+        (slots, sent_more v.sender x false, h.2, seated false, subst (λ us. LaneFacts node slots us homes (sent_more v.sender x false) h.2) ws (kept.accepts K x opened out number (dn ∙ K.nodes.0))),
         (refl, refl),
       )
 
@@ -226,7 +226,7 @@ module _ (node slots id : ℕ) (v : View) where
           was_told v.sender,
           h.2,
           (reporter_moves s.views id v (with_sender v (was_told v.sender)) h.1 (was_told v.sender) h.2 h.3 at on off (on, off, refl)).1,
-          subst (λ us. Kept node slots us s.homes (was_told v.sender) h.2) (K.words_are ∙ (λ i. laid (sym f_is i) (length h.2.got)) ∙ ap (λ us. set us front_word f) (sym K.words_are)) (kept.tells K closed),
+          subst (λ us. LaneFacts node slots us s.homes (was_told v.sender) h.2) (K.words_are ∙ (λ i. laid (sym f_is i) (length h.2.got)) ∙ ap (λ us. set us front_word f) (sym K.words_are)) (kept.tells K closed),
         ),
         ((λ e. absurd (ne e)), (λ _. (refl, refl))),
       )
@@ -235,7 +235,7 @@ module _ (node slots id : ℕ) (v : View) where
   pub loads_closed : (cs : Cs) → v.sends ≡ true → v.takes ≡ false → Allows (Lane node) slots id (v, cs) front_word (λ n. n) (saw_closed (step slots front_word 0 0 none) (v, cs))
   loads_closed cs on off s h long at _ = by (ℕ_discrete f (2 * length v.sender.sent))
     where
-      K : Kept node slots s.words s.homes v.sender h.2
+      K : LaneFacts node slots s.words s.homes v.sender h.2
       K = reporter_kept s h long at on off
 
       f : ℕ
@@ -254,7 +254,7 @@ module _ (node slots id : ℕ) (v : View) where
       seated b = (reporter_moves s.views id v (with_sender v (checked v.sender b)) h.1 (checked v.sender b) h.2 h.3 at on off (on, off, refl)).1
 
       lane_of : (b : Bool) → (b ≡ true → h.2.closed ≡ true) → Lane node (stepped s front_word f id cs (with_sender v (checked v.sender b)) keeps)
-      lane_of b told_so = (slots, checked v.sender b, h.2, seated b, subst (λ us. Kept node slots us s.homes (checked v.sender b) h.2) ws (kept.checks K b told_so))
+      lane_of b told_so = (slots, checked v.sender b, h.2, seated b, subst (λ us. LaneFacts node slots us s.homes (checked v.sender b) h.2) ws (kept.checks K b told_so))
 
       by : Dec (f ≡ 2 * length v.sender.sent) → Goal
       by (yes e) = (with_sender v (checked v.sender v.sender.told), keeps, tt, lane_of v.sender.told K.told, (refl, (λ _. refl), (λ ne. absurd (ne e))))
@@ -265,7 +265,7 @@ module _ (node slots id : ℕ) (v : View) where
   pub loads_front : (cs : Cs) → v.sends ≡ false → v.takes ≡ true → v.taker.next ≡ None → Allows (Lane node) slots id (v, cs) front_word (λ n. n) (saw_front (step slots front_word 0 0 none) (v, cs))
   loads_front cs off on free s h long at _ = subst Goal (sym q_is) (go (nat_lt (length v.taker.got) (length h.1.sent)) refl)
     where
-      K : Kept node slots s.words s.homes h.1 v.taker
+      K : LaneFacts node slots s.words s.homes h.1 v.taker
       K = taker_kept s h long at off on
 
       f : ℕ
@@ -297,14 +297,14 @@ module _ (node slots id : ℕ) (v : View) where
         with_taker v (saw v.taker (length h.1.sent) (Some one.0)),
         takes (length v.taker.got % slots) one.0,
         one.1,
-        (slots, h.1, saw v.taker (length h.1.sent) (Some one.0), seated (Some one.0), subst (λ us. Kept node slots us (set s.homes (length v.taker.got % slots) none) h.1 (saw v.taker (length h.1.sent) (Some one.0))) ws one.4),
+        (slots, h.1, saw v.taker (length h.1.sent) (Some one.0), seated (Some one.0), subst (λ us. LaneFacts node slots us (set s.homes (length v.taker.got % slots) none) h.1 (saw v.taker (length h.1.sent) (Some one.0))) ws one.4),
         (low, K.seen_high, (λ c. sym (K.closed c)), (one.0, refl, refl, one.2, one.3 ∙ sym K.nodes.1)),
       ))
       go false is = subst Told (sym is) (
         with_taker v (saw v.taker (length h.1.sent) None),
         keeps,
         tt,
-        (slots, h.1, saw v.taker (length h.1.sent) None, seated None, subst (λ us. Kept node slots us s.homes h.1 (saw v.taker (length h.1.sent) None)) ws (kept.sees K free)),
+        (slots, h.1, saw v.taker (length h.1.sent) None, seated None, subst (λ us. LaneFacts node slots us s.homes h.1 (saw v.taker (length h.1.sent) None)) ws (kept.sees K free)),
         (low, K.seen_high, (λ c. sym (K.closed c)), (refl, refl)),
       )
 
@@ -313,7 +313,7 @@ module _ (node slots id : ℕ) (v : View) where
       → Allows (Lane node) slots id (v, (length v.taker.got % slots, y) ∷ more) taken_word (λ _. new) (λ _. took (step slots taken_word new 0 none) (v, (length v.taker.got % slots, y) ∷ more) new)
   stores_taken more x y new off on next new_is s h long at _ = let t = start (nat_lt (length v.taker.got + 1) v.taker.seen) refl in (t.0, t.1, t.2, t.3, (x, next, t.4))
     where
-      K : Kept node slots s.words s.homes h.1 v.taker
+      K : LaneFacts node slots s.words s.homes h.1 v.taker
       K = taker_kept s h long at off on
 
       cs : Cs
@@ -323,7 +323,7 @@ module _ (node slots id : ℕ) (v : View) where
       homes = set s.homes (length v.taker.got % slots) (some y)
 
       Goal : Bool → Type 0
-      Goal b = (w : View) × (a : Act Message) × Valid s.homes cs a × Lane node (stepped s taken_word new id cs w a) × Took b (step slots taken_word new 0 none) x (v, cs) (w, carried_after cs a)
+      Goal b = (w : View) × (a : Act Message) × Valid s.homes cs a × Lane node (stepped s taken_word new id cs w a) × TookNext b (step slots taken_word new 0 none) x (v, cs) (w, carried_after cs a)
 
       seated : (o : Option Message) → Seated (set s.views id (with_taker v (got_more v.taker x o))) h.1 (got_more v.taker x o)
       seated o = (taker_moves s.views id v (with_taker v (got_more v.taker x o)) h.1 h.2 (got_more v.taker x o) h.3 at off on (off, on, refl)).1
@@ -331,8 +331,8 @@ module _ (node slots id : ℕ) (v : View) where
       ws : laid (2 * length h.1.sent + bit v.taker.closed) (length v.taker.got + 1) ≡ set s.words taken_word new
       ws = (λ i. laid (2 * length h.1.sent + bit v.taker.closed) (sym new_is i)) ∙ ap (λ us. set us taken_word new) (sym K.words_are)
 
-      K1 : Kept node slots (set s.words taken_word new) homes h.1 (got_more v.taker x None)
-      K1 = subst (λ us. Kept node slots us homes h.1 (got_more v.taker x None)) ws (kept.takes K x y next)
+      K1 : LaneFacts node slots (set s.words taken_word new) homes h.1 (got_more v.taker x None)
+      K1 = subst (λ us. LaneFacts node slots us homes h.1 (got_more v.taker x None)) ws (kept.takes K x y next)
 
       grown : length (v.taker.got ++ x ∷ []) ≡ length v.taker.got + 1
       grown = length-append v.taker.got (x ∷ [])
@@ -348,7 +348,7 @@ module _ (node slots id : ℕ) (v : View) where
           h.1,
           got_more v.taker x (Some one.0),
           seated (Some one.0),
-          subst (λ k. Kept node slots (set s.words taken_word new) (set homes (k % slots) none) h.1 (got_more v.taker x (Some one.0))) grown one.4,
+          subst (λ k. LaneFacts node slots (set s.words taken_word new) (set homes (k % slots) none) h.1 (got_more v.taker x (Some one.0))) grown one.4,
         ),
         (one.0, refl, refl, one.2 ∙ ap (λ k. k + 1) grown, one.3 ∙ sym K.nodes.1),
       )
@@ -367,7 +367,7 @@ module _ (node slots id : ℕ) (v : View) where
   pub shuts_front : (cs : Cs) → v.sends ≡ false → v.takes ≡ true → HoldsFirst v.taker.next cs → Allows (Lane node) slots id (v, cs) front_word (λ n. bit_or n 1) (shut (step slots front_word 1 0 none) (v, cs))
   shuts_front cs off on has s h long at _ = subst (Goal (bit_or f 1)) (sym q_is) (subst (λ z. Goal z (length h.1.sent)) (sym (ap (λ z. bit_or z 1) f_is ∙ or_one (length h.1.sent) v.taker.closed)) (start v.taker.next refl has))
     where
-      K : Kept node slots s.words s.homes h.1 v.taker
+      K : LaneFacts node slots s.words s.homes h.1 v.taker
       K = taker_kept s h long at off on
 
       f : ℕ
@@ -397,9 +397,9 @@ module _ (node slots id : ℕ) (v : View) where
       ws : List ℕ
       ws = set s.words front_word (2 * length h.1.sent + 1)
 
-      shut_with : (o : Option Message) → v.taker.next ≡ o → Kept node slots ws s.homes h.1 (closed_at v.taker (length h.1.sent) o)
-      shut_with o is = subst (λ o'. Kept node slots ws s.homes h.1 (closed_at v.taker (length h.1.sent) o')) is
-          (subst (λ us. Kept node slots us s.homes h.1 (closed_at v.taker (length h.1.sent) v.taker.next)) (ap (λ us. set us front_word (2 * length h.1.sent + 1)) (sym K.words_are)) (kept.shuts K))
+      shut_with : (o : Option Message) → v.taker.next ≡ o → LaneFacts node slots ws s.homes h.1 (closed_at v.taker (length h.1.sent) o)
+      shut_with o is = subst (λ o'. LaneFacts node slots ws s.homes h.1 (closed_at v.taker (length h.1.sent) o')) is
+          (subst (λ us. LaneFacts node slots us s.homes h.1 (closed_at v.taker (length h.1.sent) v.taker.next)) (ap (λ us. set us front_word (2 * length h.1.sent + 1)) (sym K.words_are)) (kept.shuts K))
 
       go : v.taker.next ≡ None → (b : Bool) → nat_lt (length v.taker.got) (length h.1.sent) ≡ b → Told None b
       go free true is = let one = kept.holds_next (shut_with None free) refl (ltb-true _ _ is) in (
@@ -431,13 +431,13 @@ module _ (node slots id : ℕ) (v : View) where
   -- what the joined seat learns
   pub learns : (cs : Cs) → v.sends ≡ true → v.takes ≡ true → Allows (Lane node) slots id (v, cs) front_word (λ n. n) (learned (step slots front_word 0 0 none) (v, cs))
   learns cs on both s h long at _ = let same = shows_both s.views id v h.1 h.2 h.3 at on both in
-      let K : Kept node h.0 s.words s.homes v.sender v.taker = subst (λ r. Kept node h.0 s.words s.homes r v.taker) (sym same.0) (subst (λ e. Kept node h.0 s.words s.homes h.1 e) (sym same.1) h.4) in
+      let K : LaneFacts node h.0 s.words s.homes v.sender v.taker = subst (λ r. LaneFacts node h.0 s.words s.homes r v.taker) (sym same.0) (subst (λ e. LaneFacts node h.0 s.words s.homes h.1 e) (sym same.1) h.4) in
       let f_is : slice_index s.words front_word ≡ 2 * length v.sender.sent + bit v.taker.closed = ap (λ ws. slice_index ws front_word) K.words_are in (
         v,
         keeps,
         tt,
         subst (λ vs. Lane node record { words = set s.words front_word (slice_index s.words front_word); homes = s.homes; views = vs }) (sym (set_again s.views id v at))
-            (h.0, h.1, h.2, h.3, subst (λ us. Kept node h.0 us s.homes h.1 h.2) (sym (set-get_or s.words front_word 0)) h.4),
+            (h.0, h.1, h.2, h.3, subst (λ us. LaneFacts node h.0 us s.homes h.1 h.2) (sym (set-get_or s.words front_word 0)) h.4),
         (refl, ap (λ z. z / 2) f_is ∙ half (length v.sender.sent) v.taker.closed, (K.left, K.split), K.closed, K.told, K.seen_taken, K.seen_high),
       )
 

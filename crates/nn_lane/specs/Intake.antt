@@ -17,15 +17,15 @@ pub data IntakeEvent : Type 0 where
 abbrev pub no_intake : Intake
 no_intake = record { accepted = []; taken = 0; closed = false }
 
-abbrev pub after_event : Intake → IntakeEvent → Intake
-after_event c (Accept m) = record { accepted = c.accepted ++ m ∷ []; taken = c.taken; closed = c.closed }
-after_event c Take = record { accepted = c.accepted; taken = c.taken + 1; closed = c.closed }
-after_event c Close = record { accepted = c.accepted; taken = c.taken; closed = true }
-after_event c Look = c
+abbrev pub intake_after_event : Intake → IntakeEvent → Intake
+intake_after_event c (Accept m) = record { accepted = c.accepted ++ m ∷ []; taken = c.taken; closed = c.closed }
+intake_after_event c Take = record { accepted = c.accepted; taken = c.taken + 1; closed = c.closed }
+intake_after_event c Close = record { accepted = c.accepted; taken = c.taken; closed = true }
+intake_after_event c Look = c
 
 abbrev pub intake_after : Intake → List IntakeEvent → Intake
 intake_after c [] = c
-intake_after c (e ∷ es) = intake_after (after_event c e) es
+intake_after c (e ∷ es) = intake_after (intake_after_event c e) es
 
 -- the event may come, at a lane of n places: a message is accepted while the lane is open and one of its places is free,
 -- the first untaken one is taken, and the lane is closed once
@@ -37,7 +37,7 @@ May n c Look = ⊤
 
 abbrev pub MayAll : ℕ → Intake → List IntakeEvent → Type 0
 MayAll n c [] = ⊤
-MayAll n c (e ∷ es) = May n c e × MayAll n (after_event c e) es
+MayAll n c (e ∷ es) = May n c e × MayAll n (intake_after_event c e) es
 
 abbrev pub bit : Bool → ℕ
 bit true = 1

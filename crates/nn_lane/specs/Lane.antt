@@ -45,8 +45,8 @@ with_taker v e = record v { taker = e }
 abbrev pub IsBoth : Bool → View → Sender → Taker → Type 0
 IsBoth met v r e = (v.sends ≡ true) × (v.takes ≡ true) × (v.met ≡ met) × (v.sender ≡ r) × (v.taker ≡ e)
 
-abbrev pub IsTaker : View → Taker → Type 0
-IsTaker v e = (v.sends ≡ false) × (v.takes ≡ true) × (v.taker ≡ e)
+abbrev pub HasTaker : View → Taker → Type 0
+HasTaker v e = (v.sends ≡ false) × (v.takes ≡ true) × (v.taker ≡ e)
 
 abbrev pub IsReporter : View → Sender → Type 0
 IsReporter v r = (v.sends ≡ true) × (v.takes ≡ false) × (v.sender ≡ r)
@@ -58,7 +58,7 @@ IsSpent v = (v.sends ≡ false) × (v.takes ≡ false)
 abbrev pub Seated : List View → Sender → Taker → Type 0
 Seated [] r e = ⊥
 Seated (v ∷ []) r e = IsBoth false v r e
-Seated (v ∷ w ∷ []) r e = (IsTaker v e × IsReporter w r) ⊎ (IsBoth true v r e × IsSpent w)
+Seated (v ∷ w ∷ []) r e = (HasTaker v e × IsReporter w r) ⊎ (IsBoth true v r e × IsSpent w)
 Seated (v ∷ w ∷ x ∷ vs) r e = ⊥
 
 abbrev pub away : Option Message → Bool
@@ -69,7 +69,7 @@ away (Some m) = true
 -- fits the slots; message k + 1 lies in slot k % n, except that the first one that is left may be out with the taker; every other
 -- slot is at home, except the one that is out with the sender, whose message then has room; a count that an end saw is one that
 -- was true; of a closed lane the taker saw all that was sent, and the sender was told only of a close
-pub record Kept (node n : ℕ) (words : List ℕ) (homes : List (maybe.Option Message)) (r : Sender) (e : Taker) : Type 0 where
+pub record LaneFacts (node n : ℕ) (words : List ℕ) (homes : List (maybe.Option Message)) (r : Sender) (e : Taker) : Type 0 where
   pub left : List Message
   pub as_long : length homes ≡ n
   pub some_slot : 0 < n
@@ -91,7 +91,7 @@ pub record Kept (node n : ℕ) (words : List ℕ) (homes : List (maybe.Option Me
 
 -- the rule: a table of this DataNode's lane shows two sides, of which the facts hold
 abbrev pub Lane : ℕ → State Message View → Type 0
-Lane node s = (n : ℕ) × (r : Sender) × (e : Taker) × Seated s.views r e × Kept node n s.words s.homes r e
+Lane node s = (n : ℕ) × (r : Sender) × (e : Taker) × Seated s.views r e × LaneFacts node n s.words s.homes r e
 
 -- a seat: its view, and the slots that it has out
 abbrev pub Sat : Type 0
@@ -172,11 +172,11 @@ saw_front st m n m' = SawFront (nat_lt (length m.0.taker.got) (n / 2)) (n / 2) s
 abbrev pub got_more : Taker → Message → Option Message → Taker
 got_more e x o = record e { got = e.got ++ x ∷ []; next = o }
 
-abbrev pub Took : Bool → Step Message → Message → Sat → Sat → Type 0
-Took some_left st x m m' = NextOut some_left (length m.0.taker.got + 1) st.slots (got_more m.0.taker x) (rest m.1) m m'
+abbrev pub TookNext : Bool → Step Message → Message → Sat → Sat → Type 0
+TookNext some_left st x m m' = NextOut some_left (length m.0.taker.got + 1) st.slots (got_more m.0.taker x) (rest m.1) m m'
 
 abbrev pub took : Step Message → Sat → ℕ → Sat → Type 0
-took st m n m' = (x : Message) × (m.0.taker.next ≡ Some x) × Took (nat_lt (length m.0.taker.got + 1) m.0.taker.seen) st x m m'
+took st m n m' = (x : Message) × (m.0.taker.next ≡ Some x) × TookNext (nat_lt (length m.0.taker.got + 1) m.0.taker.seen) st x m m'
 
 -- it sets the low bit of `front`: the lane is closed
 abbrev pub closed_at : Taker → ℕ → Option Message → Taker

@@ -9,7 +9,7 @@ use Rattle.nn_lane.specs.declared.view.View.{View}
 use Rattle.nn_lane.specs.Intake.{IntakeEvent, Accept, Take, Close, Look, laid}
 use Rattle.nn_lane.specs.IntakeRows.{message}
 use Rattle.nn_lane.specs.Lane.{taker_of, reporter_of}
-use Rattle.nn_lane.specs.Moves.{LaneState, MakesStep, Moves, Runs, IsMadeBy, SeatStep, SeeTaken, SeeClosed, Send, GiveBack, SeeFront, TakeFirst, Shut, Learn, becomes, event_of, open_front, word_of}
+use Rattle.nn_lane.specs.Moves.{LaneState, MakesStep, Moves, MovesInTurn, IsMadeBy, SeatStep, SeeTaken, SeeClosed, Send, GiveBack, SeeFront, TakeFirst, Shut, Learn, becomes, event_of, open_front, word_of}
 
 -- the reporter sent one message, and the other end took none
 abbrev sender : Sender
@@ -125,10 +125,10 @@ not_taken_uncounted h = by h.1 h.2 h.3
     by Shut m e = neither is_take h.0.taker.closed Look Close Take refl refl refl e
     by Learn m e = true≢false (sym (ap is_take e))
 
-no_step : (s : LaneState) → Runs 3 1 s [] s
+no_step : (s : LaneState) → MovesInTurn 3 1 s [] s
 no_step s = refl
 
-not_elsewhere_with_no_step : Runs 3 1 (lane 2 false) [] (lane 3 false) → ⊥
+not_elsewhere_with_no_step : MovesInTurn 3 1 (lane 2 false) [] (lane 3 false) → ⊥
 not_elsewhere_with_no_step h = let e : 3 ≡ 2 = ap front h in omega (arith, e)
   where
     front : LaneState → ℕ

@@ -15,15 +15,15 @@ abbrev pub LaneState : Type 0
 LaneState = State Message View
 
 -- what the two sides show of the lane
-abbrev pub shown : Sender → Taker → Intake
-shown r e = record { accepted = r.sent; taken = length e.got; closed = e.closed }
+abbrev pub intake_shown : Sender → Taker → Intake
+intake_shown r e = record { accepted = r.sent; taken = length e.got; closed = e.closed }
 
 abbrev pub shown_by : (node : ℕ) (s : LaneState) → Lane node s → Intake
-shown_by node s h = shown h.1 h.2
+shown_by node s h = intake_shown h.1 h.2
 
 -- a seat with the view v makes one step: the word i becomes f of what it was, the seat has a new view, and the step told this
-abbrev pub Steps : LaneState → View → ℕ → (ℕ → ℕ) → (Sat → ℕ → Sat → Type 0) → LaneState → Type 0
-Steps s v i f told s' = (id : ℕ) × (cs : List (ℕ × Message)) × (m : Sat) × (get_elem? s.views id ≡ some v)
+abbrev pub SeatSteps : LaneState → View → ℕ → (ℕ → ℕ) → (Sat → ℕ → Sat → Type 0) → LaneState → Type 0
+SeatSteps s v i f told s' = (id : ℕ) × (cs : List (ℕ × Message)) × (m : Sat) × (get_elem? s.views id ≡ some v)
     × (s'.words ≡ slice_set s.words i (f (slice_index s.words i))) × (s'.views ≡ slice_set s.views id m.0) × told (v, cs) (slice_index s.words i) m
 
 abbrev pub IsSender : View → Type 0
@@ -81,15 +81,15 @@ becomes v Shut f = bit_or f 1
 becomes v Learn f = f
 
 -- what the step tells its seat, in a lane of n places
-abbrev pub tells : ℕ → View → SeatStep → Sat → ℕ → Sat → Type 0
-tells n v SeeTaken m t = saw_taken (step n taken_word 0 0 none) m t
-tells n v SeeClosed m f = saw_closed (step n front_word 0 0 none) m f
-tells n v (Send x) m f = accepted (step n front_word (open_front v) (open_front v + 2) (some x)) m f
-tells n v GiveBack m t = gave_back (step n taken_word 0 0 none) m t
-tells n v SeeFront m f = saw_front (step n front_word 0 0 none) m f
-tells n v TakeFirst m t = took (step n taken_word (length v.taker.got + 1) 0 none) m (length v.taker.got + 1)
-tells n v Shut m f = shut (step n front_word 1 0 none) m f
-tells n v Learn m f = learned (step n front_word 0 0 none) m f
+abbrev pub step_tells : ℕ → View → SeatStep → Sat → ℕ → Sat → Type 0
+step_tells n v SeeTaken m t = saw_taken (step n taken_word 0 0 none) m t
+step_tells n v SeeClosed m f = saw_closed (step n front_word 0 0 none) m f
+step_tells n v (Send x) m f = accepted (step n front_word (open_front v) (open_front v + 2) (some x)) m f
+step_tells n v GiveBack m t = gave_back (step n taken_word 0 0 none) m t
+step_tells n v SeeFront m f = saw_front (step n front_word 0 0 none) m f
+step_tells n v TakeFirst m t = took (step n taken_word (length v.taker.got + 1) 0 none) m (length v.taker.got + 1)
+step_tells n v Shut m f = shut (step n front_word 1 0 none) m f
+step_tells n v Learn m f = learned (step n front_word 0 0 none) m f
 
 -- the event that it is, where the word was found so: sending is one only at an open lane, and closing only the first time
 abbrev pub event_of : View → SeatStep → ℕ → IntakeEvent
@@ -104,28 +104,28 @@ event_of v Learn f = Look
 
 -- a seat with the view v makes this step, in a lane of n places
 abbrev pub MakesStep : ℕ → LaneState → View → SeatStep → LaneState → Type 0
-MakesStep n s v c s' = IsMadeBy v c × Steps s v (word_of c) (becomes v c) (tells n v c) s'
+MakesStep n s v c s' = IsMadeBy v c × SeatSteps s v (word_of c) (becomes v c) (step_tells n v c) s'
 
 -- some seat of a lane of n places makes a step that is this event
 abbrev pub Moves : ℕ → LaneState → IntakeEvent → LaneState → Type 0
 Moves n s e s' = (v : View) × (c : SeatStep) × MakesStep n s v c s' × (event_of v c (slice_index s.words (word_of c)) ≡ e)
 
 -- one step after another, with the rule kept between them
-abbrev pub Runs : ℕ → ℕ → LaneState → List IntakeEvent → LaneState → Type 0
-Runs node n s [] s' = s' ≡ s
-Runs node n s (e ∷ es) s' = (m : LaneState) × Lane node m × (length m.homes ≡ n) × Moves n s e m × Runs node n m es s'
+abbrev pub MovesInTurn : ℕ → ℕ → LaneState → List IntakeEvent → LaneState → Type 0
+MovesInTurn node n s [] s' = s' ≡ s
+MovesInTurn node n s (e ∷ es) s' = (m : LaneState) × Lane node m × (length m.homes ≡ n) × Moves n s e m × MovesInTurn node n m es s'
 
 -- Wherever a seat is allowed the step, which is what each of the atomic operations asks for, it is that event.
 abbrev pub EachStepIsAnEvent : Type 0
-EachStepIsAnEvent = (node n id : ℕ) (c : SeatStep) (v : View) (cs : List (ℕ × Message)) → IsMadeBy v c → Allows (Lane node) n id (v, cs) (word_of c) (becomes v c) (tells n v c (v, cs))
+EachStepIsAnEvent = (node n id : ℕ) (c : SeatStep) (v : View) (cs : List (ℕ × Message)) → IsMadeBy v c → Allows (Lane node) n id (v, cs) (word_of c) (becomes v c) (step_tells n v c (v, cs))
     → (s : LaneState) → Lane node s → length s.homes ≡ n → get_elem? s.views id ≡ some v → slice_index s.words (word_of c) < 2 ^ 64
     → (s' : LaneState) × Lane node s' × (length s'.homes ≡ n) × Moves n s (event_of v c (slice_index s.words (word_of c))) s'
 
 -- ---- What is no event.
 
 -- the one seat of a new lane is parted in two
-abbrev pub Parts : LaneState → LaneState → Type 0
-Parts s s' = (id : ℕ) × (v : View) × (get_elem? s.views id ≡ some v) × (v.sends ≡ true) × (v.takes ≡ true) × (v.met ≡ false) × (s'.views ≡ slice_set s.views id (taker_of v) ++ reporter_of v ∷ [])
+abbrev pub PartsSeat : LaneState → LaneState → Type 0
+PartsSeat s s' = (id : ℕ) × (v : View) × (get_elem? s.views id ≡ some v) × (v.sends ≡ true) × (v.takes ≡ true) × (v.met ≡ false) × (s'.views ≡ slice_set s.views id (taker_of v) ++ reporter_of v ∷ [])
 
 -- the two seats meet, and one of them is spent
 abbrev pub Meets : LaneState → LaneState → Type 0

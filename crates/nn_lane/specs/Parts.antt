@@ -3,6 +3,7 @@ use Rattle.std.specs.Prelude.{◌≡◌, ℕ, ◌+◌, ◌^◌, ◌<◌, ◌≤�
 use Rattle.atomic_table.specs.Seated.{TableId}
 use Rattle.atomic_table.specs.declared.shared.Seat.{Seat}
 use Rattle.nn_types.specs.declared.report.Message.{Message}
+use Rattle.nn_types.specs.Limits.{max_capacity}
 use Rattle.nn_lane.specs.declared.view.View.{View}
 
 -- the slot of the next message is out with the reporter exactly where it remembers that fewer messages were sent than have
@@ -48,7 +49,7 @@ pub record ReporterOk (table : TableId) (seat : Seat Message View) (dn accepted 
   pub seated : seat.table_id ≡ table
   pub words : table.words ≡ 32
   pub some_slot : 0 < table.slots
-  pub few : table.slots ≤ 1024
+  pub few : table.slots ≤ max_capacity
   pub sends : seat.me.0.sends ≡ true
   pub takes : seat.me.0.takes ≡ false
   pub room : KnowsRoom seat.me.0.sender.out seat accepted limit

@@ -1,11 +1,12 @@
 //! The two ends of a lane.
 ghost use Rattle.std.specs.Prelude.{◌≡◌, ◌≤◌, ◌<◌, ◌^◌, ◌+◌, ◌∷◌, ◌++◌, ◌⊎◌, length, true, false, [], IfOk, IfErr, Some, None};
-ghost use Rattle.nn_lane.specs.Ends.{capacity_of, next_message, HasPlace, Refuses, StaysUnchecked, LooksForClose, Publishes, Gives, Looked, StartsWith};
+ghost use Rattle.nn_lane.specs.Ends.{capacity_of, next_message, HasPlace, RefusesMessage, StaysUnchecked, LooksForClose, Publishes, GivesMessage, Looked, StartsWith};
 ghost use Rattle.nn_types.specs.declared.report.Message.{Message};
+ghost use Rattle.nn_types.specs.Limits.{max_capacity, max_datanodes};
 ghost use Rattle.nn_lane.specs.Parts.{KnowsRoom, KnowsNext, SenderStays, SenderLooks, SenderRemembers, TakerStays, TakerLooks, TakerRemembers};
 
 use crate::fault::Refusal;
-use crate::message::{Met, Taken};
+use crate::message::{Met, Published, Taken};
 use crate::plays::{
     Accept, Cut, GiveBack, LaneRule, Learn, SeeClosed, SeeFront, SeeTaken, Shut, Take,
 };
@@ -13,6 +14,7 @@ use crate::view::View;
 use atomic_table::{Seat, Table};
 use nn_types::{BlockId, GenerationStamp, Kind, Length, Message};
 use std::alloc::{AllocError, Global};
+use std::fmt;
 use std::marker::Model;
 use std::sync::Arc;
 
@@ -48,14 +50,26 @@ pub struct Reporter {
 
 impl Model for Reporter {
     ghost use Rattle.std.specs.Arc.{arc_value};
-    ghost use Rattle.nn_lane.specs.Ends.{Reporting};
+    ghost use Rattle.nn_lane.specs.Ends.{Reporter};
     ghost use Rattle.nn_lane.specs.Parts.{ReporterOk};
 
-    ghost Value = { Reporting };
+    ghost Value = { Reporter };
 
     ghost view = { λ r. record { lane = record { table = r.seat.table_id; node = r.seat.me.0.sender.node }; sent = r.seat.me.0.sender.sent; prepared = r.prepared; seen = r.seat.me.0.sender.seen; loads = r.seat.me.0.sender.loads; checks = r.seat.me.0.sender.checks; told = r.seat.me.0.sender.told } };
 
     ghost invariant = { λ r. ReporterOk (arc_value r.table).shared.table_id r.seat r.dn r.accepted r.limit r.told r.prepared };
+}
+
+// Without the table, which both ends share.
+impl fmt::Debug for Reporter {
+    fn fmt<D: fmt::Write>(&self, f: &mut fmt::Formatter<D>) -> fmt::Result {
+        f.debug_struct("Reporter")
+            .field("dn", &self.dn)
+            .field("accepted", &self.accepted)
+            .field("told", &self.told)
+            .field("prepared", &self.prepared)
+            .finish_non_exhaustive()
+    }
 }
 
 /// The end that takes, and that may close the lane. The standby has it.
@@ -71,10 +85,10 @@ pub struct LaneEnd {
 
 impl Model for LaneEnd {
     ghost use Rattle.std.specs.Arc.{arc_value};
-    ghost use Rattle.nn_lane.specs.Ends.{Taking};
+    ghost use Rattle.nn_lane.specs.Ends.{LaneEnd};
     ghost use Rattle.nn_lane.specs.Parts.{LaneEndOk};
 
-    ghost Value = { Taking };
+    ghost Value = { LaneEnd };
 
     ghost view = { λ r. record { lane = record { table = r.seat.table_id; node = r.seat.me.0.taker.node }; got = r.seat.me.0.taker.got; seen = r.seat.me.0.taker.seen; loads = r.seat.me.0.taker.loads; closed = r.seat.me.0.taker.closed } };
 
@@ -84,7 +98,7 @@ impl Model for LaneEnd {
 // How many messages have a place, which is more than `accepted`: the reporter looks only if it knows of no place. Where
 // there is none, how many messages were taken.
 fn places(table: &LaneTable, seat: &mut LaneSeat, accepted: u64, limit: u64) -> Result<u64, u64>
-    requires table { (seat.old.table_id ≡ table.now.shared.table_id) × (table.now.shared.table_id.words ≡ 32) × (table.now.shared.table_id.slots ≤ 1024) }
+    requires table { (seat.old.table_id ≡ table.now.shared.table_id) × (table.now.shared.table_id.words ≡ 32) × (table.now.shared.table_id.slots ≤ max_capacity) }
     requires seat { (seat.old.me.0.sends ≡ true) × (seat.old.me.0.takes ≡ false) × (accepted ≡ length seat.old.me.0.sender.sent) × (accepted ≤ 2 ^ 62) }
     requires room { KnowsRoom seat.old.me.0.sender.out seat.old accepted limit }
     ensures stays { SenderStays seat.old seat.new }
@@ -121,7 +135,7 @@ impl Reporter {
         ensures lane { self.new.lane ≡ self.old.lane }
         ensures same { (self.new.sent ≡ self.old.sent) × (self.new.told ≡ self.old.told) × StaysUnchecked self.old self.new }
         ensures ok { IfOk result (λ _. (self.new.prepared ≡ Some (next_message self.old.lane.node self.old.sent block stamp len kind)) × HasPlace self.old self.new) }
-        ensures refused { IfErr result (λ e. (self.new.prepared ≡ None) × Refuses self.old self.new (next_message self.old.lane.node self.old.sent block stamp len kind) e) }
+        ensures refused { IfErr result (λ e. (self.new.prepared ≡ None) × RefusesMessage self.old self.new (next_message self.old.lane.node self.old.sent block stamp len kind) e) }
     {
         let accepted = self.accepted;
         let message = Message {
@@ -151,23 +165,22 @@ impl Reporter {
         Ok(())
     }
 
-    /// Sends the message that is prepared, and answers its number; `None` where none is. O(1); it tries once and never
-    /// waits.
+    /// Sends the message that is prepared. O(1); it tries once and never waits.
     ///
-    /// `Closed` where the other end closed the lane meanwhile: told of it before, by `is_closed`, it does not try.
-    /// Afterwards nothing is prepared.
-    pub fn publish(&mut self) -> Option<Result<u64, Refusal>>
+    /// It is refused as `Closed` where the other end closed the lane meanwhile: told of it before, by `is_closed`, it does not
+    /// try. Afterwards nothing is prepared.
+    pub fn publish(&mut self) -> Published
         ensures lane { self.new.lane ≡ self.old.lane }
         ensures after { (self.new.prepared ≡ None) × (self.new.seen ≡ self.old.seen) × (self.new.loads ≡ self.old.loads) × StaysUnchecked self.old self.new }
         ensures publishes { Publishes self.old self.new result }
     {
         let Some(message) = self.prepared else {
-            return None;
+            return Published::Nothing;
         };
         self.prepared = None;
         let accepted = self.accepted;
         if self.told {
-            return Some(Err(Refusal::Closed { message, accepted }));
+            return Published::Refused(Refusal::Closed { message, accepted });
         }
         let front = 2 * accepted;
         let found = self
@@ -176,10 +189,10 @@ impl Reporter {
             .compare_exchange_with::<Accept>(&mut self.seat, FRONT, front, front + 2, &message);
         if found != front {
             self.told = true;
-            return Some(Err(Refusal::Closed { message, accepted }));
+            return Published::Refused(Refusal::Closed { message, accepted });
         }
         self.accepted = accepted + 1;
-        Some(Ok(accepted + 1))
+        Published::Sent(accepted + 1)
     }
 
     /// Sends one message, and answers its number: messages are counted from 1. It is `prepare`, and then `publish`. O(1); it
@@ -198,12 +211,13 @@ impl Reporter {
     ) -> Result<u64, Refusal>
         ensures lane { (self.new.lane ≡ self.old.lane) × (self.new.prepared ≡ None) × StaysUnchecked self.old self.new }
         ensures ok { IfOk result (λ n. (self.new.sent ≡ self.old.sent ++ next_message self.old.lane.node self.old.sent block stamp len kind ∷ []) × (n ≡ length self.new.sent) × (n ≤ 2 ^ 62) × HasPlace self.old self.new) }
-        ensures refused { IfErr result (λ e. (self.new.sent ≡ self.old.sent) × Refuses self.old self.new (next_message self.old.lane.node self.old.sent block stamp len kind) e) }
+        ensures refused { IfErr result (λ e. (self.new.sent ≡ self.old.sent) × RefusesMessage self.old self.new (next_message self.old.lane.node self.old.sent block stamp len kind) e) }
     {
         self.prepare(block, stamp, len, kind)?;
         match self.publish() {
-            Some(answer) => answer,
-            None => unreachable!(),
+            Published::Sent(number) => Ok(number),
+            Published::Refused(refusal) => Err(refusal),
+            Published::Nothing => unreachable!(),
         }
     }
 
@@ -253,6 +267,17 @@ fn known(table: &LaneTable, seat: &mut LaneSeat, taken: u64, seen: u64) -> u64
     table.shared.load::<SeeFront>(seat, FRONT) / 2
 }
 
+// Without the table, as above.
+impl fmt::Debug for LaneEnd {
+    fn fmt<D: fmt::Write>(&self, f: &mut fmt::Formatter<D>) -> fmt::Result {
+        f.debug_struct("LaneEnd")
+            .field("taken", &self.taken)
+            .field("seen", &self.seen)
+            .field("closed", &self.closed)
+            .finish_non_exhaustive()
+    }
+}
+
 impl LaneEnd {
     /// Takes the oldest message: the next one that its reporter sent. O(1); it never waits.
     ///
@@ -260,7 +285,7 @@ impl LaneEnd {
     /// looks at the reporter's end only if it took all that it remembers.
     pub fn take(&mut self) -> Taken
         ensures lane { (self.new.lane ≡ self.old.lane) × (self.new.closed ≡ self.old.closed) }
-        ensures gives { Gives self.old self.new result }
+        ensures gives { GivesMessage self.old self.new result }
         ensures looked { Looked self.old self.new result }
         ensures closed { self.old.closed ≡ true → self.new.seen ≡ self.old.seen }
     {
@@ -294,7 +319,7 @@ impl LaneEnd {
         front / 2
     }
 
-    /// How many messages the lane holds at most: 1 to 1024.
+    /// How many messages the lane holds at most: 1 to `MAX_CAPACITY`.
     pub fn capacity(&self) -> usize
         ensures { result ≡ capacity_of self.now.lane }
     {
@@ -316,7 +341,7 @@ impl LaneEnd {
 /// of a close only if there was one, and neither end saw more of the other than there was.
 pub fn meet(end: LaneEnd, reporter: Reporter) -> Met
     requires { end.lane ≡ reporter.lane }
-    ensures front { StartsWith reporter.sent end.got }
+    ensures prefix { StartsWith reporter.sent end.got }
     ensures closed { end.closed ≡ true → end.seen ≡ length reporter.sent }
     ensures told { reporter.told ≡ true → end.closed ≡ true }
     ensures seen { (reporter.seen ≤ length end.got) × (end.seen ≤ length reporter.sent) }
@@ -349,8 +374,8 @@ pub fn meet(end: LaneEnd, reporter: Reporter) -> Met
 /// The two ends of a new lane of this DataNode, which holds at most `capacity` messages at a time. No other call takes
 /// memory.
 pub fn lane(alloc: Global, dn: u16, capacity: usize) -> Result<(Reporter, LaneEnd), AllocError>
-    requires dn { (1 ≤ dn) × (dn ≤ 256) }
-    requires capacity { (1 ≤ capacity) × (capacity ≤ 1024) }
+    requires dn { (1 ≤ dn) × (dn ≤ max_datanodes) }
+    requires capacity { (1 ≤ capacity) × (capacity ≤ max_capacity) }
     ensures one_lane { IfOk result (λ ends. (ends.0.lane ≡ ends.1.lane) × (ends.0.lane.node ≡ dn) × (capacity_of ends.0.lane ≡ capacity)) }
     ensures empty { IfOk result (λ ends. (ends.0.sent ≡ []) × (ends.0.prepared ≡ None) × (ends.1.got ≡ [])) }
     ensures open { IfOk result (λ ends. (ends.0.told ≡ false) × (ends.1.closed ≡ false)) }

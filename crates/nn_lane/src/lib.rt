@@ -18,4 +18,4 @@ pub use laws::{
     a_lane_is_an_intake, a_run_is_a_list_of_events, an_allowed_step_is_a_move,
     each_step_is_an_event, no_event_but_a_step,
 };
-pub use message::{Met, Taken};
+pub use message::{Met, Published, Taken};

@@ -4,20 +4,21 @@ use Rattle.std.specs.Prelude.{codes, decimal, filter, flat_map, nat_le, option_m
 use Rattle.std.specs.List.{cons_option}
 use Rattle.std.proofs.lemmas.Bool.{le-leb, lt-leb}
 use Rattle.std.proofs.lemmas.List.Elements.{filter-append}
+use Rattle.nn_bytes.specs.Lines.{line_feed}
 use Rattle.nn_types.specs.declared.block.Block.{Block}
 use Rattle.nn_types.specs.declared.replica.Replica.{Replica}
 use Rattle.nn_model.specs.Counts.{SafeMode, closed_blocks_of, is_live, live_count, live_up_to, safe_mode_of}
 use Rattle.nn_model.specs.Namespace.{Namespace, Path}
 use Rattle.nn_model.specs.declared.form.Form.{Form}
-use Rattle.nn_listing.specs.Listing.{newline, path_json}
+use Rattle.nn_listing.specs.Listing.{path_json}
 use Rattle.nn_listing.specs.Safety.{unsafe_in, unsafe_of}
 use Rattle.nn_replicas.specs.Agreement.{Shows}
 use Rattle.nn_replicas.specs.Calls.{entry_or_none, replica_at, replicas_at}
 use Rattle.nn_replicas.specs.Entry.{live_cells, replicas_in}
-use Rattle.nn_replicas.specs.Table.{Table}
+use Rattle.nn_replicas.specs.Table.{Replicas}
 use Rattle.nn_replicas.specs.declared.entry.Cell.{Cell}
-use Rattle.nn_device.specs.Device.{Writing}
-use Rattle.nn_device.specs.Page.{Gathered, Puts, PutsAllBut}
+use Rattle.nn_device.specs.Device.{Writer}
+use Rattle.nn_device.specs.Page.{Page, PutsPiece, PutsAllBut}
 use Rattle.nn_device.proofs.Pages.{one_more}
 use Rattle.nn_replicas.proofs.Entries.{counted_cons}
 use Rattle.nn_replicas.proofs.Ties.{cells_live, of_cells, same_live}
@@ -37,7 +38,7 @@ lives_cells b (x ∷ cells) = at x.1.replica (lives_cells b cells) ∙ sym (coun
     at None later = omega (arith, later)
     at (Some r) later = ap (λ k. cond (is_live (Some r) b) 1 0 + k) later
 
-pub all_lives : (n : Namespace) (t : Table) (b : Block) → Shows n t → lives b (replicas_at t b.id) ≡ live_count (replica_at t) b
+pub all_lives : (n : Namespace) (t : Replicas) (b : Block) → Shows n t → lives b (replicas_at t b.id) ≡ live_count (replica_at t) b
 all_lives n t b shows =
     lives_cells b (entry_or_none t b.id).cells
     ∙ cells_live b 256 (entry_or_none t b.id).cells (shows.in_order.datanodes b.id) (λ dn h. shows.datanodes dn b.id h)
@@ -51,11 +52,11 @@ few_live (suc n) f b = at (is_live (f (suc n) b.id) b) (few_live n f b)
     at true h = omega (arith, h)
     at false h = omega (arith, h)
 
-pub few : (n : Namespace) (t : Table) (b : Block) → Shows n t → lives b (replicas_at t b.id) ≤ 256
+pub few : (n : Namespace) (t : Replicas) (b : Block) → Shows n t → lives b (replicas_at t b.id) ≤ 256
 few n t b shows = subst (λ k. k ≤ 256) (sym (all_lives n t b shows)) (few_live 256 (replica_at t) b)
 
 -- so there is room for one more
-pub one_fits : (n : Namespace) (t : Table) (b : Block) (live left : ℕ) → Shows n t → live + left ≡ lives b (replicas_at t b.id) → live + 1 < 2 ^ 64
+pub one_fits : (n : Namespace) (t : Replicas) (b : Block) (live left : ℕ) → Shows n t → live + left ≡ lives b (replicas_at t b.id) → live + 1 < 2 ^ 64
 one_fits n t b live left shows is = fits (lives b (replicas_at t b.id)) is (few n t b shows)
   where
     fits : (all : ℕ) → live + left ≡ all → all ≤ 256 → live + 1 < 2 ^ 64
@@ -78,7 +79,7 @@ passed_over b live all old r new e h isnt = ap (λ k. k + lives b new) (none_mor
     none_more : (k : ℕ) → k ≡ k + 0
     none_more k = omega arith
 
-pub all_counted : (n : Namespace) (t : Table) (b : Block) (live : ℕ) (left : List (ℕ × Replica)) → Shows n t → left ≡ [] → live + lives b left ≡ lives b (replicas_at t b.id) → live ≡ live_count (replica_at t) b
+pub all_counted : (n : Namespace) (t : Replicas) (b : Block) (live : ℕ) (left : List (ℕ × Replica)) → Shows n t → left ≡ [] → live + lives b left ≡ lives b (replicas_at t b.id) → live ≡ live_count (replica_at t) b
 all_counted n t b live left shows none is = none_left live ∙ ap (λ l. live + lives b l) (sym none) ∙ is ∙ all_lives n t b shows
   where
     none_left : (k : ℕ) → k ≡ k + 0
@@ -118,7 +119,7 @@ left_both most a b = omega arith
 
 module _ (min : ℕ) (replica : ℕ → ℕ → Option Replica) (p : Path) (b : Block) where
   abbrev its_line : List ℕ
-  its_line = codes "unsafe " ++ decimal b.id ++ codes " " ++ decimal (live_count replica b) ++ codes " " ++ path_json p ++ newline ∷ []
+  its_line = codes "unsafe " ++ decimal b.id ++ codes " " ++ decimal (live_count replica b) ++ codes " " ++ path_json p ++ line_feed ∷ []
 
   pub safe_block : min ≤ live_count replica b → unsafe_of min replica p b ≡ []
   safe_block enough = ap (λ c. cond c [] (its_line ∷ [])) (le-leb _ _ enough)
@@ -153,7 +154,7 @@ module _ (min : ℕ) (replica : ℕ → ℕ → Option Replica) where
   safe b = nat_le min (live_count replica b)
 
   -- a block is safe, or has a line
-  one_block : (p : Path) (b : Block) (is : Bool) (c : Bool) → c ≡ is → length (cond is [] ((codes "unsafe " ++ decimal b.id ++ codes " " ++ decimal (live_count replica b) ++ codes " " ++ path_json p ++ newline ∷ []) ∷ [])) + cond c 1 0 ≡ 1
+  one_block : (p : Path) (b : Block) (is : Bool) (c : Bool) → c ≡ is → length (cond is [] ((codes "unsafe " ++ decimal b.id ++ codes " " ++ decimal (live_count replica b) ++ codes " " ++ path_json p ++ line_feed ∷ []) ∷ [])) + cond c 1 0 ≡ 1
   one_block p b true c e = ap (λ d. 0 + cond d 1 0) e
   one_block p b false c e = ap (λ d. 1 + cond d 1 0) e
 
@@ -187,8 +188,8 @@ above_zero (suc n) isnt = omega arith
 
 -- ---- The first of what is left.
 
-pub first_put : (text : List ℕ) (left : ℕ) (some more lines : List (List ℕ)) (left' : ℕ) (p q r : Gathered) (w x y : Writing) → lines ≡ some ++ more → left' ≡ left - length some
-    → PutsAllBut text (joined (take left lines)) p w q x → Puts (joined (take left some)) q x r y → PutsAllBut text (joined (take left' more)) p w r y
+pub first_put : (text : List ℕ) (left : ℕ) (some more lines : List (List ℕ)) (left' : ℕ) (p q r : Page) (w x y : Writer) → lines ≡ some ++ more → left' ≡ left - length some
+    → PutsAllBut text (joined (take left lines)) p w q x → PutsPiece (joined (take left some)) q x r y → PutsAllBut text (joined (take left' more)) p w r y
 first_put text left some more lines left' p q r w x y are fewer all put =
     one_more text (joined (take left some)) (joined (take left' more)) p q r w x y
     (subst (λ t. PutsAllBut text t p w q x) (ap (λ l. joined (take left l)) are ∙ joined_both left some more ∙ ap (λ k. joined (take left some) ++ joined (take k more)) (sym fewer)) all) put

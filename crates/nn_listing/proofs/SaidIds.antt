@@ -7,7 +7,7 @@ use Rattle.std.specs.FinMap.Entries.{by_order, find, put, is_sorted}
 use Rattle.std.proofs.lemmas.Bool.{ne_eqb, eqb-false}
 use Rattle.nn_types.specs.declared.report.Message.{Message}
 use Rattle.nn_model.specs.Lanes.{Lanes}
-use Rattle.nn_model.specs.Picture.{has_now}
+use Rattle.nn_model.specs.Picture.{last_replica}
 use Rattle.nn_model.specs.Replay.{reported}
 use Rattle.nn_replicas.proofs.Entries.{put_sorted}
 use Rattle.nn_replicas.proofs.Lookups.{find_put}
@@ -64,7 +64,7 @@ unsaid k (m ∷ ms) h =
     let other : (m.block == k) ≡ false = ne_eqb m.block k (λ e. eqb-false k m.block parts.0 (sym e)) in
     ap (λ b. cond b (m ∷ filter (λ m. m.block == k) ms) (filter (λ m. m.block == k) ms)) other ∙ unsaid k ms parts.1
 
-pub has_nothing : (lanes : Lanes) (dn k : ℕ) → is_said lanes dn k ≡ false → has_now lanes dn k ≡ None
+pub has_nothing : (lanes : Lanes) (dn k : ℕ) → is_said lanes dn k ≡ false → last_replica lanes dn k ≡ None
 has_nothing lanes dn k h = ap (λ ms. option_and_then reported (last_or None ms)) (unsaid k (lanes dn) h)
 
 -- where no DataNode speaks of the block, a text that is none for each of them is none

@@ -6,13 +6,13 @@ use Rattle.nn_model.specs.Lanes.{Lanes}
 use Rattle.nn_tree.specs.Sizes.{files_of, directories_of}
 use Rattle.nn_replicas.specs.Calls.{replica_at}
 use Rattle.nn_replicas.proofs.Ties.{counts_agree}
-use Rattle.nn_shadow.specs.Contents.{Contents, standby_of, IsConsistent}
+use Rattle.nn_shadow.specs.Contents.{Shadow, standby_of, IsConsistent}
 use Rattle.nn_listing.specs.Tables.{datanodes, IsOfSaid}
 use Rattle.nn_listing.specs.Counted.{sender_seen, summary_seen}
 use Rattle.nn_listing.specs.Summary.{summary_of}
 use Rattle.nn_listing.proofs.TableLines.{orders_counted}
 
-pub summary_is : (x : Contents) (lanes : Lanes) → IsConsistent x → IsOfSaid x.namespace lanes x.table → summary_seen x ≡ summary_of x.permille x.table.min lanes (standby_of x)
+pub summary_is : (x : Shadow) (lanes : Lanes) → IsConsistent x → IsOfSaid x.namespace lanes x.table → summary_seen x ≡ summary_of x.permille x.table.min lanes (standby_of x)
 summary_is x lanes c said =
     let counts = counts_agree x.namespace x.table c.well_formed.blocks c.shows in
     λ i. record {

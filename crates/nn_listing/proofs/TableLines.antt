@@ -13,14 +13,14 @@ use Rattle.nn_model.specs.declared.form.BlockRow.{BlockRow}
 use Rattle.nn_model.specs.Counts.{SafeMode, safe_mode_of}
 use Rattle.nn_model.specs.Lanes.{Lanes}
 use Rattle.nn_model.specs.Namespace.{Namespace}
-use Rattle.nn_model.specs.Picture.{has_now, picture_replica, picture_order}
+use Rattle.nn_model.specs.Picture.{last_replica, picture_replica, picture_order}
 use Rattle.nn_model.specs.Replay.{is_named}
 use Rattle.nn_model.specs.Status.{block_at}
 use Rattle.nn_replicas.specs.declared.entry.Cell.{Cell}
 use Rattle.nn_replicas.specs.Calls.{row_at, replica_at, has_order, entry_or_none, replicas_at, orders_of}
 use Rattle.nn_replicas.specs.Entry.{is_ordered, no_entry, row_in, replica_in, order_in, orders_in}
 use Rattle.nn_replicas.specs.Figures.{figures_of}
-use Rattle.nn_replicas.specs.Table.{BlockEntry, Table}
+use Rattle.nn_replicas.specs.Table.{BlockEntry, Replicas}
 use Rattle.nn_model.proofs.Touches.{block_of_row}
 use Rattle.nn_replicas.proofs.Ties.{block_of}
 use Rattle.nn_listing.specs.Tables.{datanodes, said_by, said_ids, is_said, of_each, replica_line, replica_text, replica_lines, replica_lines_by, order_line, order_text, order_lines, order_lines_by}
@@ -42,7 +42,7 @@ over_marked text (id ∷ ids) = ap (λ r. text id ++ r) (over_marked text ids)
 
 -- ---- a table that has nothing of which no DataNode spoke
 
-module _ (n : Namespace) (lanes : Lanes) (t : Table) (h : IsOfSaid n lanes t)
+module _ (n : Namespace) (lanes : Lanes) (t : Replicas) (h : IsOfSaid n lanes t)
     (count : ℕ) (count_is : 256 ≡ count) (all : datanodes ≡ range_with_len 1 count) where
   block_shown : (id : ℕ) → block_at n id ≡ option_map block_of (row_at t id)
   block_shown id =
@@ -166,13 +166,13 @@ all_datanodes : datanodes ≡ range_with_len 1 256
 unfolding datanodes
 all_datanodes = refl
 
-pub of_said : (n : Namespace) (lanes : Lanes) (t : Table) (rest : List ℕ) → IsOfSaid n lanes t
+pub of_said : (n : Namespace) (lanes : Lanes) (t : Replicas) (rest : List ℕ) → IsOfSaid n lanes t
     → lines_of_replicas t ++ lines_of_orders t ++ rest ≡ replica_lines_by n lanes (replica_at t) ++ order_lines_by lanes (has_order t) ++ rest
 of_said n lanes t rest h = ap₂ (λ a b. a ++ b ++ rest) (replicas_are n lanes t h 256 refl all_datanodes) (orders_are n lanes t h 256 refl all_datanodes)
 
 -- ---- a table that shows the picture
 
-module _ (permille min : ℕ) (n : Namespace) (lanes : Lanes) (t : Table) (mode : SafeMode) (h : IsPicture permille min n lanes t mode) where
+module _ (permille min : ℕ) (n : Namespace) (lanes : Lanes) (t : Replicas) (mode : SafeMode) (h : IsPicture permille min n lanes t mode) where
   no_replica_there : (named : Bool) (r : Option Replica) → r ≡ None → cond named r None ≡ None
   no_replica_there true r e = e
   no_replica_there false r e = refl
@@ -184,8 +184,8 @@ module _ (permille min : ℕ) (n : Namespace) (lanes : Lanes) (t : Table) (mode 
   pub is_of_said : IsOfSaid n lanes t
   is_of_said = record {
     shows = h.shows;
-    replicas = λ dn id g. h.replicas dn id ∙ no_replica_there (is_named n id) (has_now lanes dn id) (has_nothing lanes dn id g);
-    orders = λ dn id g. h.orders dn id ∙ no_order_there (is_named n id) (has_now lanes dn id) (has_nothing lanes dn id g);
+    replicas = λ dn id g. h.replicas dn id ∙ no_replica_there (is_named n id) (last_replica lanes dn id) (has_nothing lanes dn id g);
+    orders = λ dn id g. h.orders dn id ∙ no_order_there (is_named n id) (last_replica lanes dn id) (has_nothing lanes dn id g);
   }
 
   same_replicas : replica_at t ≡ picture_replica n lanes
@@ -220,7 +220,7 @@ one_where true = refl
 one_where false = refl
 
 -- a table that has nothing of which no DataNode spoke counts the orders of what they spoke of
-pub orders_counted : (n : Namespace) (lanes : Lanes) (t : Table) → IsOfSaid n lanes t → (figures_of t).orders ≡ order_count lanes (has_order t)
+pub orders_counted : (n : Namespace) (lanes : Lanes) (t : Replicas) → IsOfSaid n lanes t → (figures_of t).orders ≡ order_count lanes (has_order t)
 orders_counted n lanes t h =
     let one : ℕ → ℕ → List ℕ = λ id dn. 1 ∷ [] in
     let counted : (figures_of t).orders ≡ length (orders_of t) =

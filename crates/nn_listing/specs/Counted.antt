@@ -6,7 +6,7 @@ use Rattle.nn_replicas.specs.declared.figures.Figures.{Figures}
 use Rattle.nn_replicas.specs.Calls.{replica_at}
 use Rattle.nn_replicas.specs.Figures.{figures_of}
 use Rattle.nn_postponed.specs.Queues.{held_from}
-use Rattle.nn_shadow.specs.Contents.{Contents, number_in, having_in}
+use Rattle.nn_shadow.specs.Contents.{Shadow, last_number_in, node_state_in}
 use Rattle.nn_listing.specs.Summary.{Counts, Sender, Summary}
 
 abbrev pub counts_told : ℕ → ℕ → Figures → Counts
@@ -24,10 +24,10 @@ counts_told files directories f = record {
   orders = f.orders;
 }
 
-abbrev pub sender_seen : Contents → ℕ → Sender
-sender_seen x dn = record { messages = number_in x.numbers dn; waiting = held_from dn x.held; report = (having_in x.had dn).begun }
+abbrev pub sender_seen : Shadow → ℕ → Sender
+sender_seen x dn = record { messages = last_number_in x.numbers dn; waiting = held_from dn x.held; report = (node_state_in x.had dn).begun }
 
-abbrev pub summary_seen : Contents → Summary
+abbrev pub summary_seen : Shadow → Summary
 summary_seen x = record {
   txid = x.last;
   held = length x.held;

@@ -2,14 +2,12 @@
 use Rattle.std.specs.Prelude.{ℕ, Bool, true, false, List, [], ◌∷◌, ◌++◌, flat_map, codes, decimal}
 use Rattle.serde_json.specs.Data.{string}
 use Rattle.serde_json.specs.Written.{compact_text}
+use Rattle.nn_bytes.specs.Lines.{line_feed}
 use Rattle.nn_types.specs.Path.{path_text}
 use Rattle.nn_types.specs.declared.block.Block.{Block}
 use Rattle.nn_model.specs.declared.form.Form.{Form}
 use Rattle.nn_model.specs.declared.form.Form.TheVariants.{Dir, File}
 use Rattle.nn_model.specs.Namespace.{Path, Namespace}
-
-abbrev pub newline : ℕ
-newline = 10
 
 -- a path is written as the JSON text of its spelling
 abbrev pub path_json : Path → List ℕ
@@ -25,18 +23,18 @@ state_text true = codes "closed"
 state_text false = codes "open"
 
 -- the line of a path
-abbrev pub line_of : Path → Form → List ℕ
-line_of p Dir = codes "dir " ++ path_json p ++ newline ∷ []
-line_of p (File file) =
+abbrev pub path_line : Path → Form → List ℕ
+path_line p Dir = codes "dir " ++ path_json p ++ line_feed ∷ []
+path_line p (File file) =
     codes "file " ++ path_json p ++ codes " " ++ decimal file.replication ++ codes " " ++ state_text file.closed
-    ++ flat_map block_text file.blocks ++ newline ∷ []
+    ++ flat_map block_text file.blocks ++ line_feed ∷ []
 
 abbrev pub row_line : Path × Form → List ℕ
-row_line row = line_of row.0 row.1
+row_line row = path_line row.0 row.1
 
 -- the last transaction, and then these rows
 abbrev pub listing_of : ℕ → List (Path × Form) → List ℕ
-listing_of last rows = codes "txid " ++ decimal last ++ newline ∷ [] ++ flat_map row_line rows
+listing_of last rows = codes "txid " ++ decimal last ++ line_feed ∷ [] ++ flat_map row_line rows
 
 -- the last transaction, and then each path in path order
 abbrev pub listing_text : ℕ → Namespace → List ℕ

@@ -1,6 +1,7 @@
 -- What an operator reads of a standby, a line for each figure.
 use Rattle.std.specs.Prelude.{ℕ, Bool, ◌==◌, ◌&&◌, nat_lt, if◌then◌else◌, List, [], ◌∷◌, ◌++◌, length, flat_map, count_by, Option, Some, None, codes, decimal}
 use Rattle.std.specs.List.{sum_by}
+use Rattle.nn_bytes.specs.Lines.{line_feed}
 use Rattle.nn_types.specs.declared.replica.Class.TheVariants.{Stale, Ahead, WrongLength}
 use Rattle.nn_model.specs.Counts.{SafeMode, safe_mode_of}
 use Rattle.nn_model.specs.Lanes.{Lanes}
@@ -8,7 +9,6 @@ use Rattle.nn_model.specs.Namespace.{all_blocks}
 use Rattle.nn_model.specs.Stands.{StandbyState}
 use Rattle.nn_tree.specs.Sizes.{files_of, directories_of}
 use Rattle.nn_replicas.specs.Agreement.{passing, class_total}
-use Rattle.nn_listing.specs.Listing.{newline}
 use Rattle.nn_listing.specs.Tables.{datanodes, said_ids, blocks_line}
 
 -- ---- What is told.
@@ -43,7 +43,7 @@ pub record Summary : Type 0 where
 
 -- `KEY VALUE`
 abbrev pub line : List ℕ → List ℕ → List ℕ
-line key value = key ++ codes " " ++ value ++ newline ∷ []
+line key value = key ++ codes " " ++ value ++ line_feed ∷ []
 
 abbrev pub report_part : Option ℕ → List ℕ
 report_part None = []
@@ -53,7 +53,7 @@ report_part (Some number) = codes " report " ++ decimal number
 abbrev pub sender_text : ℕ → Sender → List ℕ
 sender_text dn s =
     if s.messages == 0 then []
-    else codes "datanode " ++ decimal dn ++ codes " " ++ decimal s.messages ++ codes " held " ++ decimal s.waiting ++ report_part s.report ++ newline ∷ []
+    else codes "datanode " ++ decimal dn ++ codes " " ++ decimal s.messages ++ codes " held " ++ decimal s.waiting ++ report_part s.report ++ line_feed ∷ []
 
 unfoldable pub counts_text : Counts → List ℕ
 counts_text c =

@@ -1,9 +1,11 @@
 -- What the program prints of replicas, orders and counts: told by the namespace, and by what each DataNode said last.
 use Rattle.std.specs.Prelude.{◌≡◌, ◌==◌, ℕ, Bool, true, false, List, [], ◌∷◌, ◌++◌, map, flat_map, Option, Some, None, codes, decimal}
 use Rattle.std.specs.List.{list_any, range_with_len}
+use Rattle.nn_bytes.specs.Lines.{line_feed}
 use Rattle.nn_types.specs.declared.block.Block.{Block}
 use Rattle.nn_types.specs.declared.replica.Replica.{Replica}
 use Rattle.nn_types.specs.Words.{kind_text, class_text}
+use Rattle.nn_types.specs.Limits.{max_datanodes}
 use Rattle.nn_model.specs.Items.{each_once}
 use Rattle.nn_model.specs.Counts.{class_of, SafeMode, safe_mode_of}
 use Rattle.nn_model.specs.Lanes.{Lanes}
@@ -11,15 +13,14 @@ use Rattle.nn_model.specs.Namespace.{Namespace}
 use Rattle.nn_model.specs.Picture.{picture_replica, picture_order}
 use Rattle.nn_model.specs.Status.{block_at}
 use Rattle.nn_replicas.specs.Agreement.{Shows}
-use Rattle.nn_replicas.specs.Calls.{rows_of, replica_at, replicas_at, has_order, orders_of}
-use Rattle.nn_replicas.specs.Table.{Table}
-use Rattle.nn_listing.specs.Listing.{newline}
+use Rattle.nn_replicas.specs.Calls.{table_rows, replica_at, replicas_at, has_order, orders_of}
+use Rattle.nn_replicas.specs.Table.{Replicas}
 
 -- ---- Which DataNodes and block ids there are.
 
 -- DataNodes are 1 to 256
 unfoldable pub datanodes : List ℕ
-datanodes = range_with_len 1 256
+datanodes = range_with_len 1 max_datanodes
 
 -- the ids of the blocks that the DataNode speaks of, as its messages come
 abbrev pub said_by : Lanes → ℕ → List ℕ
@@ -43,7 +44,7 @@ of_each lanes text = flat_map (λ id. flat_map (text id) datanodes) (said_ids la
 abbrev pub replica_line : ℕ → Block → ℕ → Replica → List ℕ
 replica_line id b dn r =
     codes "replica " ++ decimal id ++ codes " " ++ decimal dn ++ codes " " ++ decimal r.stamp ++ codes " " ++ decimal r.len
-    ++ codes " " ++ kind_text r.kind ++ codes " " ++ class_text (class_of r b) ++ newline ∷ []
+    ++ codes " " ++ kind_text r.kind ++ codes " " ++ class_text (class_of r b) ++ line_feed ∷ []
 
 -- that line, where a file holds the block and the DataNode has a replica
 abbrev pub replica_text : ℕ → Option Block → ℕ → Option Replica → List ℕ
@@ -63,7 +64,7 @@ replica_lines n lanes = replica_lines_by n lanes (picture_replica n lanes)
 
 -- `order BLOCK DN`
 abbrev pub order_line : ℕ → ℕ → List ℕ
-order_line id dn = codes "order " ++ decimal id ++ codes " " ++ decimal dn ++ newline ∷ []
+order_line id dn = codes "order " ++ decimal id ++ codes " " ++ decimal dn ++ line_feed ∷ []
 
 -- that line, where the DataNode is to delete what it has of the block
 abbrev pub order_text : ℕ → ℕ → Bool → List ℕ
@@ -88,7 +89,7 @@ mode_text false = codes "off"
 abbrev pub blocks_line : SafeMode → List ℕ
 blocks_line mode =
     codes "blocks " ++ decimal mode.total ++ codes " safe " ++ decimal mode.safe ++ codes " needed " ++ decimal mode.needed
-    ++ codes " mode " ++ mode_text mode.on ++ newline ∷ []
+    ++ codes " mode " ++ mode_text mode.on ++ line_feed ∷ []
 
 -- ---- All of it.
 
@@ -103,21 +104,21 @@ abbrev pub lines_of_block : ℕ → Block → List (ℕ × Replica) → List ℕ
 lines_of_block id b replicas = flat_map (λ r. replica_line id b r.0 r.1) replicas
 
 -- the lines of all replicas of a table
-abbrev pub lines_of_replicas : Table → List ℕ
-lines_of_replicas t = flat_map (λ row. lines_of_block row.0 row.1.block (replicas_at t row.0)) (rows_of t)
+abbrev pub lines_of_replicas : Replicas → List ℕ
+lines_of_replicas t = flat_map (λ row. lines_of_block row.0 row.1.block (replicas_at t row.0)) (table_rows t)
 
 -- the lines of all orders of a table
-abbrev pub lines_of_orders : Table → List ℕ
+abbrev pub lines_of_orders : Replicas → List ℕ
 lines_of_orders t = flat_map (λ order. order_line order.0 order.1) (orders_of t)
 
 -- the table shows the namespace, and has nothing of a DataNode about a block of which it did not speak
-pub record IsOfSaid (n : Namespace) (lanes : Lanes) (t : Table) : Type 0 where
+pub record IsOfSaid (n : Namespace) (lanes : Lanes) (t : Replicas) : Type 0 where
   pub shows : Shows n t
   pub replicas : (dn id : ℕ) → is_said lanes dn id ≡ false → replica_at t dn id ≡ None
   pub orders : (dn id : ℕ) → is_said lanes dn id ≡ false → has_order t dn id ≡ false
 
 -- the table shows the namespace, its replicas and orders are the picture's, and the mode is the one of its replicas
-pub record IsPicture (permille min : ℕ) (n : Namespace) (lanes : Lanes) (t : Table) (mode : SafeMode) : Type 0 where
+pub record IsPicture (permille min : ℕ) (n : Namespace) (lanes : Lanes) (t : Replicas) (mode : SafeMode) : Type 0 where
   pub shows : Shows n t
   pub replicas : (dn id : ℕ) → replica_at t dn id ≡ picture_replica n lanes dn id
   pub orders : (dn id : ℕ) → has_order t dn id ≡ picture_order n lanes dn id

@@ -1,17 +1,17 @@
 -- Lines of replicas, orders and counts, computed.
 use Rattle.std.specs.Prelude.{◌≡◌, ℕ, true, false, List, [], ◌∷◌, ◌++◌, map, codes, refl, ◌==◌, if◌then◌else◌}
 use Rattle.std.specs.Fmt.{digits}
+use Rattle.nn_bytes.specs.Lines.{line_feed}
 use Rattle.nn_types.specs.declared.report.Kind.TheVariants.{Receiving, Received, Deleted}
 use Rattle.nn_types.specs.declared.profile.Profile.TheVariants.{One}
 use Rattle.nn_model.specs.declared.form.Form.TheVariants.{Dir, File}
 use Rattle.nn_model.specs.Lanes.{Lanes, no_messages}
 use Rattle.nn_model.specs.MessageRows.{b, c, f, block, message}
 use Rattle.nn_model.specs.Namespace.{Namespace, root_alone}
-use Rattle.nn_listing.specs.Listing.{newline}
 use Rattle.nn_listing.specs.Tables.{datanodes, said_ids, replica_lines, order_lines, blocks_line, tables_text}
 
 abbrev line : List ℕ → List ℕ
-line text = text ++ newline ∷ []
+line text = text ++ line_feed ∷ []
 
 -- a closed file with the blocks b and c
 abbrev one_file : Namespace

@@ -1,6 +1,6 @@
 //! The fields of a line, with a space before each.
 ghost use Rattle.std.specs.Prelude.{◌≡◌, ◌++◌, codes, decimal};
-ghost use Rattle.nn_device.specs.Page.{Puts};
+ghost use Rattle.nn_device.specs.Page.{PutsPiece};
 
 use nn_device::{Page, Writer};
 use nn_text::put_number;
@@ -8,7 +8,7 @@ use std::io::Write;
 
 /// Puts a space and a number.
 pub fn put_field<W: Write>(page: &mut Page, writer: &mut Writer<W>, number: u64)
-    ensures { Puts (codes " " ++ decimal number) page.old writer.old page.new writer.new }
+    ensures { PutsPiece (codes " " ++ decimal number) page.old writer.old page.new writer.new }
 {
     page.put_byte(writer, b' ');
     put_number(page, writer, number);
@@ -16,7 +16,7 @@ pub fn put_field<W: Write>(page: &mut Page, writer: &mut Writer<W>, number: u64)
 
 /// Puts a space and a word.
 pub(crate) fn put_word<W: Write>(page: &mut Page, writer: &mut Writer<W>, word: &str)
-    ensures { Puts (codes " " ++ word.now) page.old writer.old page.new writer.new }
+    ensures { PutsPiece (codes " " ++ word.now) page.old writer.old page.new writer.new }
 {
     page.put_byte(writer, b' ');
     page.put(writer, word.as_bytes());

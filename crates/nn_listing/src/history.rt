@@ -1,6 +1,6 @@
 //! What the program prints of a standby's history.
 ghost use Rattle.std.specs.Prelude.{◌≡◌};
-ghost use Rattle.nn_device.specs.Page.{Puts};
+ghost use Rattle.nn_device.specs.Page.{PutsPiece};
 ghost use Rattle.nn_listing.specs.Trail.{cause_text, event_line, history_text};
 
 use crate::fields::{put_field, put_word};
@@ -17,7 +17,7 @@ use std::io::Write;
 ///
 /// It takes no memory.
 pub fn put_history<W: Write>(page: &mut Page, writer: &mut Writer<W>, events: &[Event])
-    ensures { Puts (history_text events.now) page.old writer.old page.new writer.new }
+    ensures { PutsPiece (history_text events.now) page.old writer.old page.new writer.new }
 {
     for event in events {
         put_event(page, writer, *event);
@@ -25,7 +25,7 @@ pub fn put_history<W: Write>(page: &mut Page, writer: &mut Writer<W>, events: &[
 }
 
 fn put_event<W: Write>(page: &mut Page, writer: &mut Writer<W>, event: Event)
-    ensures { Puts (event_line event) page.old writer.old page.new writer.new }
+    ensures { PutsPiece (event_line event) page.old writer.old page.new writer.new }
 {
     match event {
         Event::Applied { txid } => {

@@ -1,18 +1,18 @@
 //! What the program prints of its namespace.
 ghost use Rattle.std.specs.Prelude.{◌≡◌, ◌≤◌, OnOk, IfErr, IfOk, Err, flat_map};
 ghost use Rattle.nn_device.specs.Device.{Took};
-ghost use Rattle.nn_device.specs.Page.{Puts};
-ghost use Rattle.nn_device.specs.Parts.{TookFront};
-ghost use Rattle.nn_device.specs.declared.writer.Unwritten.TheVariants.{OutOfMemory};
+ghost use Rattle.nn_device.specs.Page.{PutsPiece};
+ghost use Rattle.nn_device.specs.Parts.{TookPrefix};
+ghost use Rattle.nn_device.specs.declared.writer.OutputFault.TheVariants.{OutOfMemory};
 ghost use Rattle.nn_model.specs.declared.form.Form.{Form};
 ghost use Rattle.nn_model.specs.declared.form.Form.TheVariants.{File};
 ghost use Rattle.nn_tree.specs.Found.{form_of};
 ghost use Rattle.nn_tree.specs.Listing.{lent_names};
 ghost use Rattle.nn_tree.specs.Rows.{extent_of, greatest_depth};
-ghost use Rattle.nn_listing.specs.Listing.{listing_text, line_of, row_line, block_text, state_text};
+ghost use Rattle.nn_listing.specs.Listing.{listing_text, path_line, row_line, block_text, state_text};
 
 use crate::fields::{put_field, put_word};
-use nn_device::{Page, Unwritten, Writer};
+use nn_device::{OutputFault, Page, Writer};
 use nn_model::FileRow;
 use nn_text::{put_number, put_path};
 use nn_tree::{Extent, Found, Namespace, Rows};
@@ -29,7 +29,7 @@ use std::marker::Model;
 /// dir "/"
 /// file "/f" 3 closed 1073741825:1001:5
 /// ```
-#[derive(Drop)]
+#[derive(Debug, Drop)]
 pub struct ReadyListing<'a> {
     last: u64,
     rows: Rows<'a>,
@@ -63,7 +63,7 @@ impl<'a> ReadyListing<'a> {
 
     /// Puts the listing. It takes no memory.
     pub fn put<W: Write>(self, page: &mut Page, writer: &mut Writer<W>)
-        ensures { Puts self.entry page.old writer.old page.new writer.new }
+        ensures { PutsPiece self.entry page.old writer.old page.new writer.new }
     {
         page.put(writer, b"txid");
         put_field(page, writer, self.last);
@@ -74,19 +74,19 @@ impl<'a> ReadyListing<'a> {
 
 /// Writes the listing of a namespace after this transaction, 0 where there was none, in parts of some 65,536 bytes.
 ///
-/// A write that fails ends it: the writer has a front of the listing then. Where memory is refused, it has nothing of it.
+/// A write that fails ends it: the writer has a prefix of the listing then. Where memory is refused, it has nothing of it.
 pub fn write_listing<W: Write>(
     alloc: Global,
     namespace: &Namespace,
     last: u64,
     writer: &mut Writer<W>,
-) -> Result<(), Unwritten>
+) -> Result<(), OutputFault>
     ensures ok { OnOk result (Took writer.old writer.new (listing_text last namespace.now)) }
-    ensures front { IfErr result (TookFront writer.old writer.new (listing_text last namespace.now)) }
+    ensures prefix { IfErr result (TookPrefix writer.old writer.new (listing_text last namespace.now)) }
     ensures memory { result ≡ Err OutOfMemory → writer.new ≡ writer.old }
 {
     let Ok(listing) = listing_of(namespace, last) else {
-        return Err(Unwritten::OutOfMemory);
+        return Err(OutputFault::OutOfMemory);
     };
     let mut page = Page::new(alloc);
     listing.put(&mut page, writer);
@@ -103,10 +103,10 @@ fn listing_of(namespace: &Namespace, last: u64) -> Result<ReadyListing<'_>, Allo
 // Puts the line of each of these rows. A walk that has its room wants no more memory.
 fn put_rows<W: Write>(page: &mut Page, writer: &mut Writer<W>, mut rows: Rows<'_>)
     requires { greatest_depth rows.left ≤ rows.room }
-    ensures { Puts (flat_map row_line rows.entry.left) page.old writer.old page.new writer.new }
+    ensures { PutsPiece (flat_map row_line rows.entry.left) page.old writer.old page.new writer.new }
 {
     'rows: while !page.has_failed() {
-        let Ok(next) = rows.next() else {
+        let Ok(next) = rows.next_row() else {
             unreachable!();
         };
         let Some(found) = next else {
@@ -118,7 +118,7 @@ fn put_rows<W: Write>(page: &mut Page, writer: &mut Writer<W>, mut rows: Rows<'_
 
 /// Puts the line of what is at the path with these names.
 pub fn put_row<W: Write>(page: &mut Page, writer: &mut Writer<W>, names: &[&str], found: Found<'_>)
-    ensures { Puts (line_of (lent_names names.now) (form_of found.entry)) page.old writer.old page.new writer.new }
+    ensures { PutsPiece (path_line (lent_names names.now) (form_of found.entry)) page.old writer.old page.new writer.new }
 {
     match found {
         Found::Dir => put_dir(page, writer, names),
@@ -127,7 +127,7 @@ pub fn put_row<W: Write>(page: &mut Page, writer: &mut Writer<W>, names: &[&str]
 }
 
 fn put_dir<W: Write>(page: &mut Page, writer: &mut Writer<W>, names: &[&str])
-    ensures { Puts (line_of (lent_names names.now) Form.Dir) page.old writer.old page.new writer.new }
+    ensures { PutsPiece (path_line (lent_names names.now) Form.Dir) page.old writer.old page.new writer.new }
 {
     page.put(writer, b"dir ");
     put_path(page, writer, names);
@@ -135,7 +135,7 @@ fn put_dir<W: Write>(page: &mut Page, writer: &mut Writer<W>, names: &[&str])
 }
 
 fn put_file<W: Write>(page: &mut Page, writer: &mut Writer<W>, names: &[&str], file: &FileRow)
-    ensures { Puts (line_of (lent_names names.now) (File file.now)) page.old writer.old page.new writer.new }
+    ensures { PutsPiece (path_line (lent_names names.now) (File file.now)) page.old writer.old page.new writer.new }
 {
     page.put(writer, b"file ");
     put_path(page, writer, names);
@@ -146,7 +146,7 @@ fn put_file<W: Write>(page: &mut Page, writer: &mut Writer<W>, names: &[&str], f
 }
 
 fn put_blocks<W: Write>(page: &mut Page, writer: &mut Writer<W>, blocks: &[Block])
-    ensures { Puts (flat_map block_text blocks.now) page.old writer.old page.new writer.new }
+    ensures { PutsPiece (flat_map block_text blocks.now) page.old writer.old page.new writer.new }
 {
     for block in blocks {
         put_block(page, writer, *block);
@@ -154,7 +154,7 @@ fn put_blocks<W: Write>(page: &mut Page, writer: &mut Writer<W>, blocks: &[Block
 }
 
 fn put_block<W: Write>(page: &mut Page, writer: &mut Writer<W>, block: Block)
-    ensures { Puts (block_text block) page.old writer.old page.new writer.new }
+    ensures { PutsPiece (block_text block) page.old writer.old page.new writer.new }
 {
     put_field(page, writer, block.id.get());
     page.put_byte(writer, b':');

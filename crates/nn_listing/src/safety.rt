@@ -1,6 +1,7 @@
 //! What keeps safe mode on: the blocks that have too few live replicas.
 ghost use Rattle.std.specs.Prelude.{◌≡◌, ◌≤◌, ◌-◌, ◌++◌, ◌∷◌, [], take, length, flat_map, Some, IfOk, codes, decimal};
-ghost use Rattle.nn_device.specs.Page.{Puts};
+ghost use Rattle.nn_bytes.specs.Lines.{line_feed};
+ghost use Rattle.nn_device.specs.Page.{PutsPiece};
 ghost use Rattle.nn_model.specs.Counts.{closed_blocks_of, is_live, live_count};
 ghost use Rattle.nn_model.specs.Namespace.{Namespace};
 ghost use Rattle.nn_replicas.specs.Agreement.{Shows};
@@ -8,7 +9,7 @@ ghost use Rattle.nn_replicas.specs.Calls.{replica_at};
 ghost use Rattle.nn_tree.specs.Found.{form_of};
 ghost use Rattle.nn_tree.specs.Listing.{lent_names};
 ghost use Rattle.nn_tree.specs.Rows.{extent_of, greatest_depth};
-ghost use Rattle.nn_listing.specs.Listing.{newline, path_json};
+ghost use Rattle.nn_listing.specs.Listing.{path_json};
 ghost use Rattle.nn_listing.specs.Safety.{unsafe_in, unsafe_of, unsafe_text};
 
 use crate::fields::put_field;
@@ -29,7 +30,7 @@ use std::marker::Model;
 /// ```
 ///
 /// They come in path order, and the blocks of a file in file order.
-#[derive(Drop)]
+#[derive(Debug, Drop)]
 pub struct ReadyUnsafe<'a> {
     rows: Rows<'a>,
     table: &'a Replicas,
@@ -58,7 +59,7 @@ impl<'a> ReadyUnsafe<'a> {
         requires { extent ≡ extent_of standby.now.namespace.rows }
         ensures { IfOk result (λ lines. lines ≡ unsafe_text standby.now.table.min (replica_at standby.now.table) standby.now.namespace.rows) }
     {
-        standby.consistent();
+        standby.recall_invariant();
         let rows = standby.namespace().ready_rows(extent.depth)?;
         let SafeMode { total, safe, .. } = standby.safe_mode();
         Ok(ReadyUnsafe {
@@ -70,7 +71,7 @@ impl<'a> ReadyUnsafe<'a> {
 
     /// Puts the lines, by one walk of the namespace. It takes no memory.
     pub fn put<W: Write>(self, page: &mut Page, writer: &mut Writer<W>)
-        ensures { Puts self.entry page.old writer.old page.new writer.new }
+        ensures { PutsPiece self.entry page.old writer.old page.new writer.new }
     {
         let min = self.table.min();
         put_unsafe_rows(page, writer, self.rows, self.table, min, self.count);
@@ -88,11 +89,11 @@ pub fn put_unsafe_rows<W: Write>(
 )
     requires room { greatest_depth rows.left ≤ rows.room }
     requires shows { (n : Namespace) × Shows n table.now }
-    ensures { Puts (flat_map (λ l. l) (take most (unsafe_in min (replica_at table.now) rows.entry.left))) page.old writer.old page.new writer.new }
+    ensures { PutsPiece (flat_map (λ l. l) (take most (unsafe_in min (replica_at table.now) rows.entry.left))) page.old writer.old page.new writer.new }
 {
     let mut left = most;
     'rows: while left > 0 {
-        let Ok(next) = rows.next() else {
+        let Ok(next) = rows.next_row() else {
             unreachable!();
         };
         let Some(found) = next else {
@@ -113,7 +114,7 @@ fn put_unsafe_row<W: Write>(
     most: u64,
 ) -> u64
     requires shows { (n : Namespace) × Shows n table.now }
-    ensures put { Puts (flat_map (λ l. l) (take most (flat_map (unsafe_of min (replica_at table.now) (lent_names names.now)) (closed_blocks_of (form_of found.entry))))) page.old writer.old page.new writer.new }
+    ensures put { PutsPiece (flat_map (λ l. l) (take most (flat_map (unsafe_of min (replica_at table.now) (lent_names names.now)) (closed_blocks_of (form_of found.entry))))) page.old writer.old page.new writer.new }
     ensures left { result ≡ most - length (flat_map (unsafe_of min (replica_at table.now) (lent_names names.now)) (closed_blocks_of (form_of found.entry))) }
 {
     let Found::File(file) = found else {
@@ -144,7 +145,7 @@ fn put_unsafe_blocks<W: Write>(
     most: u64,
 ) -> u64
     requires shows { (n : Namespace) × Shows n table.now }
-    ensures put { Puts (flat_map (λ l. l) (take most (flat_map (unsafe_of min (replica_at table.now) (lent_names names.now)) blocks.now))) page.old writer.old page.new writer.new }
+    ensures put { PutsPiece (flat_map (λ l. l) (take most (flat_map (unsafe_of min (replica_at table.now) (lent_names names.now)) blocks.now))) page.old writer.old page.new writer.new }
     ensures left { result ≡ most - length (flat_map (unsafe_of min (replica_at table.now) (lent_names names.now)) blocks.now) }
 {
     let mut left = most;
@@ -167,7 +168,7 @@ fn put_unsafe_block<W: Write>(
     most: u64,
 ) -> u64
     requires shows { (n : Namespace) × Shows n table.now }
-    ensures put { Puts (flat_map (λ l. l) (take most (unsafe_of min (replica_at table.now) (lent_names names.now) block.now))) page.old writer.old page.new writer.new }
+    ensures put { PutsPiece (flat_map (λ l. l) (take most (unsafe_of min (replica_at table.now) (lent_names names.now) block.now))) page.old writer.old page.new writer.new }
     ensures left { result ≡ most - length (unsafe_of min (replica_at table.now) (lent_names names.now) block.now) }
 {
     let live = live_count(table, block);
@@ -213,7 +214,7 @@ fn put_unsafe<W: Write>(
     live: u64,
     names: &[&str],
 )
-    ensures { Puts (codes "unsafe " ++ decimal id ++ codes " " ++ decimal live ++ codes " " ++ path_json (lent_names names.now) ++ newline ∷ []) page.old writer.old page.new writer.new }
+    ensures { PutsPiece (codes "unsafe " ++ decimal id ++ codes " " ++ decimal live ++ codes " " ++ path_json (lent_names names.now) ++ line_feed ∷ []) page.old writer.old page.new writer.new }
 {
     page.put(writer, b"unsafe");
     put_field(page, writer, id.get());

@@ -2,7 +2,7 @@
 ghost use Rattle.std.specs.Prelude.{◌≡◌, flat_map, decimal};
 ghost use Rattle.nn_model.specs.Lanes.{Lanes};
 ghost use Rattle.nn_shadow.specs.Contents.{standby_of};
-ghost use Rattle.nn_device.specs.Page.{Puts};
+ghost use Rattle.nn_device.specs.Page.{PutsPiece};
 ghost use Rattle.nn_listing.specs.Counted.{counts_told, sender_seen, summary_seen};
 ghost use Rattle.nn_listing.specs.Summary.{line, report_part, sender_text, counts_text, summary_text, summary_of};
 ghost use Rattle.nn_listing.specs.Tables.{datanodes, IsOfSaid};
@@ -12,17 +12,17 @@ use crate::tables::put_counts;
 use nn_device::{Page, Writer};
 use nn_replicas::Figures;
 use nn_shadow::Shadow;
-use nn_types::DATANODES;
+use nn_types::limits::MAX_DATANODES;
 use std::io::Write;
 
 /// Puts what an operator reads of a standby: `txid T` and `held H`, a line for each DataNode that sent messages, one for each
 /// count, and safe mode. It takes no memory, and a time that does not grow with the standby.
 pub fn put_summary<W: Write>(page: &mut Page, writer: &mut Writer<W>, shadow: &Shadow)
-    ensures seen { Puts (summary_text (summary_seen shadow.now)) page.old writer.old page.new writer.new }
+    ensures seen { PutsPiece (summary_text (summary_seen shadow.now)) page.old writer.old page.new writer.new }
     ensures said { (lanes : Lanes) → IsOfSaid shadow.now.namespace lanes shadow.now.table
-        → Puts (summary_text (summary_of shadow.now.permille shadow.now.table.min lanes (standby_of shadow.now))) page.old writer.old page.new writer.new }
+        → PutsPiece (summary_text (summary_of shadow.now.permille shadow.now.table.min lanes (standby_of shadow.now))) page.old writer.old page.new writer.new }
 {
-    shadow.consistent();
+    shadow.recall_invariant();
     put_count(page, writer, "txid", shadow.last_txid());
     put_count(page, writer, "held", shadow.held_count() as u64);
     put_senders(page, writer, shadow);
@@ -34,10 +34,10 @@ pub fn put_summary<W: Write>(page: &mut Page, writer: &mut Writer<W>, shadow: &S
 
 // Puts a line for each DataNode that sent messages.
 fn put_senders<W: Write>(page: &mut Page, writer: &mut Writer<W>, shadow: &Shadow)
-    ensures { Puts (flat_map (λ dn. sender_text dn (sender_seen shadow.now dn)) datanodes) page.old writer.old page.new writer.new }
+    ensures { PutsPiece (flat_map (λ dn. sender_text dn (sender_seen shadow.now dn)) datanodes) page.old writer.old page.new writer.new }
 {
     let mut dn = 0;
-    'datanodes: while dn < DATANODES {
+    'datanodes: while dn < MAX_DATANODES {
         dn += 1;
         let messages = shadow.last_number(dn);
         let waiting = shadow.held_from(dn) as u64;
@@ -47,7 +47,7 @@ fn put_senders<W: Write>(page: &mut Page, writer: &mut Writer<W>, shadow: &Shado
 
 /// Puts `KEY N`.
 pub fn put_count<W: Write>(page: &mut Page, writer: &mut Writer<W>, key: &str, number: u64)
-    ensures { Puts (line key.now (decimal number)) page.old writer.old page.new writer.new }
+    ensures { PutsPiece (line key.now (decimal number)) page.old writer.old page.new writer.new }
 {
     page.put(writer, key.as_bytes());
     put_field(page, writer, number);
@@ -64,7 +64,7 @@ fn put_sender<W: Write>(
     waiting: u64,
     report: Option<u64>,
 )
-    ensures { Puts (sender_text dn (record { messages = messages; waiting = waiting; report = report })) page.old writer.old page.new writer.new }
+    ensures { PutsPiece (sender_text dn (record { messages = messages; waiting = waiting; report = report })) page.old writer.old page.new writer.new }
 {
     if messages == 0 {
         return;
@@ -79,7 +79,7 @@ fn put_sender<W: Write>(
 }
 
 fn put_report<W: Write>(page: &mut Page, writer: &mut Writer<W>, report: Option<u64>)
-    ensures { Puts (report_part report) page.old writer.old page.new writer.new }
+    ensures { PutsPiece (report_part report) page.old writer.old page.new writer.new }
 {
     let Some(number) = report else {
         return;
@@ -96,7 +96,7 @@ fn put_figures<W: Write>(
     directories: u64,
     figures: &Figures,
 )
-    ensures { Puts (counts_text (counts_told files directories figures.now)) page.old writer.old page.new writer.new }
+    ensures { PutsPiece (counts_text (counts_told files directories figures.now)) page.old writer.old page.new writer.new }
 {
     put_count(page, writer, "files", files);
     put_count(page, writer, "directories", directories);

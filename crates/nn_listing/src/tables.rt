@@ -1,6 +1,6 @@
 //! What the program prints of replicas, orders and counts.
 ghost use Rattle.std.specs.Prelude.{◌≡◌, ◌++◌, ℕ, IfOk, flat_map};
-ghost use Rattle.nn_device.specs.Page.{Puts};
+ghost use Rattle.nn_device.specs.Page.{PutsPiece};
 ghost use Rattle.nn_model.specs.Lanes.{Lanes};
 ghost use Rattle.nn_model.specs.Namespace.{Namespace};
 ghost use Rattle.nn_replicas.specs.Calls.{replica_at, has_order};
@@ -24,7 +24,7 @@ use std::marker::Model;
 /// ```
 ///
 /// Replicas and orders come by ascending block id and then by DataNode.
-#[derive(Drop)]
+#[derive(Debug, Drop)]
 pub struct ReadyTables<'a> {
     table: &'a Replicas,
     orders: Vec<(BlockId, u16)>,
@@ -73,7 +73,7 @@ impl<'a> ReadyTables<'a> {
 
     /// Puts the lines. It takes no memory.
     pub fn put<W: Write>(self, page: &mut Page, writer: &mut Writer<W>)
-        ensures { Puts self.entry page.old writer.old page.new writer.new }
+        ensures { PutsPiece self.entry page.old writer.old page.new writer.new }
     {
         put_replicas(page, writer, self.table);
         put_orders(page, writer, &self.orders);
@@ -82,7 +82,7 @@ impl<'a> ReadyTables<'a> {
 }
 
 fn put_replicas<W: Write>(page: &mut Page, writer: &mut Writer<W>, table: &Replicas)
-    ensures { Puts (lines_of_replicas table.now) page.old writer.old page.new writer.new }
+    ensures { PutsPiece (lines_of_replicas table.now) page.old writer.old page.new writer.new }
 {
     for (block, row) in table.rows() {
         put_block_replicas(page, writer, block, &row.block, table.replicas_of(block));
@@ -97,7 +97,7 @@ pub fn put_block_replicas<W: Write>(
     block: &Block,
     replicas: ReplicasOf<'_>,
 )
-    ensures { Puts (lines_of_block id block.now replicas.entry) page.old writer.old page.new writer.new }
+    ensures { PutsPiece (lines_of_block id block.now replicas.entry) page.old writer.old page.new writer.new }
 {
     for (dn, replica) in replicas {
         put_replica(page, writer, id, *block, dn, replica);
@@ -112,7 +112,7 @@ fn put_replica<W: Write>(
     dn: u16,
     replica: Replica,
 )
-    ensures { Puts (replica_line id block dn replica) page.old writer.old page.new writer.new }
+    ensures { PutsPiece (replica_line id block dn replica) page.old writer.old page.new writer.new }
 {
     page.put(writer, b"replica");
     put_field(page, writer, id.get());
@@ -125,7 +125,7 @@ fn put_replica<W: Write>(
 }
 
 fn put_orders<W: Write>(page: &mut Page, writer: &mut Writer<W>, orders: &[(BlockId, u16)])
-    ensures { Puts (flat_map (λ order. order_line order.0 order.1) orders.now) page.old writer.old page.new writer.new }
+    ensures { PutsPiece (flat_map (λ order. order_line order.0 order.1) orders.now) page.old writer.old page.new writer.new }
 {
     for (block, dn) in orders {
         put_order(page, writer, *block, *dn);
@@ -134,7 +134,7 @@ fn put_orders<W: Write>(page: &mut Page, writer: &mut Writer<W>, orders: &[(Bloc
 
 /// Puts `order BLOCK DN`.
 pub fn put_order<W: Write>(page: &mut Page, writer: &mut Writer<W>, id: BlockId, dn: u16)
-    ensures { Puts (order_line id dn) page.old writer.old page.new writer.new }
+    ensures { PutsPiece (order_line id dn) page.old writer.old page.new writer.new }
 {
     page.put(writer, b"order");
     put_field(page, writer, id.get());
@@ -144,7 +144,7 @@ pub fn put_order<W: Write>(page: &mut Page, writer: &mut Writer<W>, id: BlockId,
 
 /// Puts `blocks TOTAL safe S needed K mode on`, or `off`.
 pub fn put_counts<W: Write>(page: &mut Page, writer: &mut Writer<W>, mode: SafeMode)
-    ensures { Puts (blocks_line (counts_of mode)) page.old writer.old page.new writer.new }
+    ensures { PutsPiece (blocks_line (counts_of mode)) page.old writer.old page.new writer.new }
 {
     let SafeMode {
         total,

@@ -13,42 +13,42 @@ use Rattle.nn_segment.specs.Segment.{Segment, is_start, is_end, first_txid}
 use Rattle.nn_segment.specs.declared.fault.SegmentFault.{SegmentFault}
 use Rattle.nn_scenario.specs.Cut.{EditLine, segment_of}
 use Rattle.nn_scenario.specs.Scenario.{is_blank}
-use Rattle.nn_scenario.specs.Steps.{next_message}
+use Rattle.nn_scenario.specs.Steps.{message_in_turn}
 use Rattle.nn_shadow.specs.declared.fault.ApplyFault.{ApplyFault}
 use Rattle.nn_shadow.specs.declared.fault.FlushFault.{FlushFault}
 use Rattle.nn_shadow.specs.declared.fault.HandCause.{HandCause}
 use Rattle.nn_shadow.specs.Refusals.{apply_refusal, hand_refusal, flush_refusal}
-use Rattle.nn_live.specs.Live.{Asked, Service, handed, hands, applies, follows, follows_segment, follows_new, ends_segment, tells, tells_gap, is_between, becomes_active, before_edit, behind_edit, with_edit, takes_edit, ends_at, promotes, empty_report, does, takes_read, takes_word, takes, takes_all, counts_line}
+use Rattle.nn_live.specs.Live.{LiveSetup, ServiceState, takes_message, hands, applies, follows, follows_segment, follows_new, ends_segment, tells_fault, tells_gap, is_between, becomes_active, before_edit, behind_edit, with_edit, takes_edit, ends_at, promotes, empty_report, does, takes_read, takes_word, takes, takes_all, counts_line}
 use Rattle.nn_live.specs.Words.{word_in}
 use Rattle.nn_live.specs.declared.word.Word.{Word}
 use Rattle.nn_live.specs.declared.word.Word.TheVariants as kind
 
 -- a service without its counts, and as if it had written nothing
-abbrev pub bare : Service → Service
+abbrev pub bare : ServiceState → ServiceState
 bare s = record s { passed = 0; segments = 0; lines = 0; written = [] }
 
 -- a step does the same to it
-abbrev pub IsBlind : (Service → Service) → Type 0
-IsBlind step = (s : Service) → bare (step s) ≡ bare (step (bare s))
+abbrev pub IsBlind : (ServiceState → ServiceState) → Type 0
+IsBlind step = (s : ServiceState) → bare (step s) ≡ bare (step (bare s))
 
-module _ (asked : Asked) where
+module _ (asked : LiveSetup) where
   -- services that differ in these alone do the same
-  pub alike : (step : Service → Service) → IsBlind step → (s t : Service) → bare s ≡ bare t → bare (step s) ≡ bare (step t)
+  pub alike : (step : ServiceState → ServiceState) → IsBlind step → (s t : ServiceState) → bare s ≡ bare t → bare (step s) ≡ bare (step t)
   alike step blind s t e = blind s ∙ ap (λ u. bare (step u)) e ∙ sym (blind t)
 
-  one_of : (b : Bool) (f g : Service → Service) → IsBlind f → IsBlind g → IsBlind (λ s. cond b (f s) (g s))
+  one_of : (b : Bool) (f g : ServiceState → ServiceState) → IsBlind f → IsBlind g → IsBlind (λ s. cond b (f s) (g s))
   one_of true f g blind more = blind
   one_of false f g blind more = more
 
-  one_report : (m : Message) (r : Option HandCause) (rest : Service → Service) → IsBlind rest → IsBlind (handed asked m r rest)
+  one_report : (m : Message) (r : Option HandCause) (rest : ServiceState → ServiceState) → IsBlind rest → IsBlind (takes_message asked m r rest)
   one_report m None rest blind s = alike rest blind _ _ refl
   one_report m (Some cause) rest blind s = refl
 
   all_reports : (reports : List Report) → IsBlind (hands asked reports)
   all_reports [] s = refl
-  all_reports (r ∷ reports) s = one_report (next_message s.sent r) (hand_refusal 256 s.phase s.standby (next_message s.sent r)) (λ t. hands asked reports t) (all_reports reports) s
+  all_reports (r ∷ reports) s = one_report (message_in_turn s.sent r) (hand_refusal 256 s.phase s.standby (message_in_turn s.sent r)) (λ t. hands asked reports t) (all_reports reports) s
 
-  one_tx : (tx : Tx) (r : Option ApplyFault) (rest : Service → Service) → IsBlind rest → IsBlind (applies asked tx r rest)
+  one_tx : (tx : Tx) (r : Option ApplyFault) (rest : ServiceState → ServiceState) → IsBlind rest → IsBlind (applies asked tx r rest)
   one_tx tx None rest blind s = alike rest blind _ _ refl
   one_tx tx (Some fault) rest blind s = refl
 
@@ -89,13 +89,13 @@ module _ (asked : Asked) where
   promoted txid lost (Some fault) s = refl
   promoted txid lost None s = at (not (lost || is_between s)) (ends_at txid lost s)
     where
-      gap : Service → Service
-      gap t = tells DISORDER (codes " txid ") (t.standby.last + 1) t
+      gap : ServiceState → ServiceState
+      gap t = tells_fault DISORDER (codes " txid ") (t.standby.last + 1) t
 
-      inside : Service → Service
-      inside t = tells NO_END (codes " segment ") (t.segments + 1) t
+      inside : ServiceState → ServiceState
+      inside t = tells_fault NO_END (codes " segment ") (t.segments + 1) t
 
-      made : Bool → Bool → Service → Service
+      made : Bool → Bool → ServiceState → ServiceState
       made a b t = cond a (inside t) (cond b (becomes_active asked t) (gap t))
 
       at : (a b : Bool) → bare (made a b s) ≡ bare (made a b (bare s))

@@ -10,15 +10,15 @@ use Rattle.nn_shadow.specs.Contents.{IsConsistent}
 use Rattle.nn_listing.specs.Summary.{summary_of}
 use Rattle.nn_listing.proofs.Summaries.{summary_is}
 use Rattle.nn_live.proofs.Tabling.{of_said}
-use Rattle.nn_live.specs.Answers.{block_text, held_line, path_text, shown, status_lines}
+use Rattle.nn_live.specs.Answers.{block_answer, held_line, path_answer, first_lines, status_lines}
 use Rattle.nn_listing.specs.Safety.{unsafe_in}
-use Rattle.nn_live.specs.Live.{Asked, Service, does, figures_of, says}
-use Rattle.nn_live.specs.Serving.{Seen, IsAt, Makes, figures_seen}
+use Rattle.nn_live.specs.Live.{LiveSetup, ServiceState, does, live_figures, says}
+use Rattle.nn_live.specs.Serving.{Service, IsAtService, FollowsStep, figures_seen}
 use Rattle.nn_live.specs.declared.word.Word.TheVariants as word
 use Rattle.nn_live.proofs.Places.{only_tells}
 
-module _ (x : Seen) where
-  figures_are : IsConsistent x.shadow → (asked : Asked) (s : Service) → IsAt asked x s → figures_seen x ≡ figures_of asked s
+module _ (x : Service) where
+  figures_are : IsConsistent x.shadow → (asked : LiveSetup) (s : ServiceState) → IsAtService asked x s → figures_seen x ≡ live_figures asked s
   figures_are c asked s i = λ j. record {
     stopped = (i.phase j).stopped;
     active = (i.phase j).active;
@@ -32,19 +32,19 @@ module _ (x : Seen) where
         ∙ (λ k. summary_of (sym i.asks k).permille (sym i.asks k).min (items s.sent) (i.standby k))) j;
   }
 
-  pub status_told : IsConsistent x.shadow → Makes (λ asked s. does asked word.Status s) x x (status_lines (figures_seen x))
+  pub status_told : IsConsistent x.shadow → FollowsStep (λ asked s. does asked word.Status s) x x (status_lines (figures_seen x))
   status_told c = only_tells (λ asked s. does asked word.Status s) x _ (λ asked s i. ap (λ f. says (status_lines f) s) (sym (figures_are c asked s i)))
 
-  pub held_told : (most : Option ℕ) → Makes (λ asked s. does asked (word.Held most) s) x x (shown most (map held_line x.shadow.held))
-  held_told most = only_tells (λ asked s. does asked (word.Held most) s) x _ (λ asked s i. ap (λ (y : StandbyState). says (shown most (map held_line y.held)) s) (sym i.standby))
+  pub held_told : (most : Option ℕ) → FollowsStep (λ asked s. does asked (word.Held most) s) x x (first_lines most (map held_line x.shadow.held))
+  held_told most = only_tells (λ asked s. does asked (word.Held most) s) x _ (λ asked s i. ap (λ (y : StandbyState). says (first_lines most (map held_line y.held)) s) (sym i.standby))
 
-  pub path_told : (p : Path) (found : Option Form) → found ≡ lookup x.shadow.namespace p → Makes (λ asked s. does asked (word.Path p) s) x x (path_text p found)
+  pub path_told : (p : Path) (found : Option Form) → found ≡ lookup x.shadow.namespace p → FollowsStep (λ asked s. does asked (word.Path p) s) x x (path_answer p found)
   path_told p found is = only_tells (λ asked s. does asked (word.Path p) s) x _ (λ asked s i.
-      (sym (ap (λ o. says (path_text p o) s) is ∙ ap (λ (y : StandbyState). says (path_text p (lookup y.namespace p)) s) i.standby)))
+      (sym (ap (λ o. says (path_answer p o) s) is ∙ ap (λ (y : StandbyState). says (path_answer p (lookup y.namespace p)) s) i.standby)))
 
-  pub unsafe_told : (most : Option ℕ) → Makes (λ asked s. does asked (word.Unsafe most) s) x x (shown most (unsafe_in x.shadow.table.min (replica_at x.shadow.table) x.shadow.namespace.rows))
+  pub unsafe_told : (most : Option ℕ) → FollowsStep (λ asked s. does asked (word.Unsafe most) s) x x (first_lines most (unsafe_in x.shadow.table.min (replica_at x.shadow.table) x.shadow.namespace.rows))
   unsafe_told most = only_tells (λ asked s. does asked (word.Unsafe most) s) x _ (λ asked s i.
-      ap₂ (λ (y : StandbyState) (a : Asked). says (shown most (unsafe_in a.min y.replica y.namespace.rows)) s) (sym i.standby) i.asks)
+      ap₂ (λ (y : StandbyState) (a : LiveSetup). says (first_lines most (unsafe_in a.min y.replica y.namespace.rows)) s) (sym i.standby) i.asks)
 
-  pub block_told : (id : ℕ) → Makes (λ asked s. does asked (word.Block id) s) x x (block_text (standby_of x.shadow) id)
-  block_told id = only_tells (λ asked s. does asked (word.Block id) s) x _ (λ asked s i. ap (λ (y : StandbyState). says (block_text y id) s) (sym i.standby))
+  pub block_told : (id : ℕ) → FollowsStep (λ asked s. does asked (word.Block id) s) x x (block_answer (standby_of x.shadow) id)
+  block_told id = only_tells (λ asked s. does asked (word.Block id) s) x _ (λ asked s i. ap (λ (y : StandbyState). says (block_answer y id) s) (sym i.standby))

@@ -5,24 +5,24 @@ use Rattle.nn_types.specs.declared.tx.Tx.{Tx}
 use Rattle.nn_shadow.specs.declared.fault.ApplyFault.{ApplyFault}
 use Rattle.nn_shadow.specs.Contents.{standby_of}
 use Rattle.nn_shadow.specs.Refusals.{apply_refusal}
-use Rattle.nn_live.specs.Live.{Asked, Service, applies, follows}
-use Rattle.nn_live.specs.Serving.{Seen, IsAt, Makes, takes_tx}
+use Rattle.nn_live.specs.Live.{LiveSetup, ServiceState, applies, follows}
+use Rattle.nn_live.specs.Serving.{Service, IsAtService, FollowsStep, takes_tx}
 use Rattle.nn_live.proofs.Applying.{same_apply_refusal}
 use Rattle.nn_live.proofs.Options.{none_if, some_unless}
 
 -- it came from there to here, with this text, and of the transactions these are left
-abbrev pub Came : Seen → Seen → List Tx → List Tx → List ℕ → Type 0
-Came first now txs rest text = (asked : Asked) (s : Service) → IsAt asked first s
-    → (t : Service) × IsAt asked now t × (follows asked txs s ≡ follows asked rest t) × (t.written ≡ s.written ++ text)
+abbrev pub Came : Service → Service → List Tx → List Tx → List ℕ → Type 0
+Came first now txs rest text = (asked : LiveSetup) (s : ServiceState) → IsAtService asked first s
+    → (t : ServiceState) × IsAtService asked now t × (follows asked txs s ≡ follows asked rest t) × (t.written ≡ s.written ++ text)
 
-pub none_came : (x : Seen) (txs : List Tx) → Came x x txs txs []
+pub none_came : (x : Service) (txs : List Tx) → Came x x txs txs []
 none_came x txs asked s i = (s, i, refl, sym (append-nil s.written))
 
-module _ (first x y : Seen) (txs later : List Tx) (tx : Tx) (text more : List ℕ) (made : Makes (takes_tx tx) x y more) (came : Came first x txs (tx ∷ later) text) where
-  at_tx : Asked → Service → (Service → Service) → Option ApplyFault → Service
+module _ (first x y : Service) (txs later : List Tx) (tx : Tx) (text more : List ℕ) (made : FollowsStep (takes_tx tx) x y more) (came : Came first x txs (tx ∷ later) text) where
+  at_tx : LiveSetup → ServiceState → (ServiceState → ServiceState) → Option ApplyFault → ServiceState
   at_tx asked t rest o = applies asked tx o rest t
 
-  written : (asked : Asked) (s t : Service) → IsAt asked x t → t.written ≡ s.written ++ text → (takes_tx tx asked t).written ≡ s.written ++ (text ++ more)
+  written : (asked : LiveSetup) (s t : ServiceState) → IsAtService asked x t → t.written ≡ s.written ++ text → (takes_tx tx asked t).written ≡ s.written ++ (text ++ more)
   written asked s t i e = made.written asked t i ∙ ap (λ w. w ++ more) e ∙ append_assoc s.written text more
 
   pub one_more : true ≡ is_none (apply_refusal x.shadow.phase (standby_of x.shadow) tx) → Came first y txs later (text ++ more)
@@ -37,22 +37,22 @@ module _ (first x y : Seen) (txs later : List Tx) (tx : Tx) (text more : List �
         written asked s t c.1 c.3,
       )
 
-  pub last_one : false ≡ is_none (apply_refusal x.shadow.phase (standby_of x.shadow) tx) → Makes (λ asked s. follows asked txs s) first y (text ++ more)
+  pub last_one : false ≡ is_none (apply_refusal x.shadow.phase (standby_of x.shadow) tx) → FollowsStep (λ asked s. follows asked txs s) first y (text ++ more)
   unfolding at_tx
   last_one refused =
       let f = some_unless _ refused in
-      let ends : (asked : Asked) (s : Service) (i : IsAt asked first s) → follows asked txs s ≡ takes_tx tx asked (came asked s i).0 = λ asked s i.
+      let ends : (asked : LiveSetup) (s : ServiceState) (i : IsAtService asked first s) → follows asked txs s ≡ takes_tx tx asked (came asked s i).0 = λ asked s i.
       (let c = came asked s i in
       let t = c.0 in
       let some : apply_refusal t.phase t.standby tx ≡ Some f.0 = sym (same_apply_refusal asked x t tx c.1) ∙ f.1 in
       c.2 ∙ ap (at_tx asked t (λ u. follows asked later u)) some ∙ sym (ap (at_tx asked t (λ u. u)) some)) in
       record {
-        at = λ asked s i. subst (IsAt asked y) (sym (ends asked s i)) (made.at asked (came asked s i).0 (came asked s i).1);
-        written = λ asked s i. ap (λ (u : Service). u.written) (ends asked s i) ∙ written asked s (came asked s i).0 (came asked s i).1 (came asked s i).3;
+        at = λ asked s i. subst (IsAtService asked y) (sym (ends asked s i)) (made.at asked (came asked s i).0 (came asked s i).1);
+        written = λ asked s i. ap (λ (u : ServiceState). u.written) (ends asked s i) ∙ written asked s (came asked s i).0 (came asked s i).1 (came asked s i).3;
       }
 
-pub all_came : (first x : Seen) (txs : List Tx) (text : List ℕ) → Came first x txs [] text → Makes (λ asked s. follows asked txs s) first x text
+pub all_came : (first x : Service) (txs : List Tx) (text : List ℕ) → Came first x txs [] text → FollowsStep (λ asked s. follows asked txs s) first x text
 all_came first x txs text came = record {
-  at = λ asked s i. subst (IsAt asked x) (sym (came asked s i).2) (came asked s i).1;
-  written = λ asked s i. ap (λ (u : Service). u.written) (came asked s i).2 ∙ (came asked s i).3;
+  at = λ asked s i. subst (IsAtService asked x) (sym (came asked s i).2) (came asked s i).1;
+  written = λ asked s i. ap (λ (u : ServiceState). u.written) (came asked s i).2 ∙ (came asked s i).3;
 }

@@ -5,12 +5,13 @@ use Rattle.nn_types.specs.declared.report.Kind.TheVariants.{Begin, Finish}
 use Rattle.nn_types.specs.declared.report.Message.{Message}
 use Rattle.nn_types.specs.declared.report.Report.{Report}
 use Rattle.nn_model.specs.Stands.{StandbyState}
-use Rattle.nn_scenario.specs.Steps.{next_message}
+use Rattle.nn_scenario.specs.Steps.{message_in_turn}
 use Rattle.nn_shadow.specs.declared.fault.HandCause.{HandCause}
 use Rattle.nn_shadow.specs.declared.fault.HandCause.TheVariants as hand
 use Rattle.nn_shadow.specs.declared.fault.Stop.{Stop}
-use Rattle.nn_shadow.specs.Refusals.{Phase, fault_if, first_fault, hand_refusal, is_lane}
-use Rattle.nn_live.specs.Live.{Asked, Service, empty_report, handed, hands, mark_of, tells}
+use Rattle.nn_model.specs.Apply.{fault_if, first_fault}
+use Rattle.nn_shadow.specs.Refusals.{Phase, hand_refusal, is_lane}
+use Rattle.nn_live.specs.Live.{LiveSetup, ServiceState, empty_report, takes_message, hands, mark_of, tells_fault}
 use Rattle.nn_shadow.specs.Numbers.{number_of_hand}
 
 -- why it is refused
@@ -29,15 +30,15 @@ first_cause None false false more e = refl
 refused : (phase : Phase) (x : StandbyState) (m : Message) → is_lane 256 m.dn ≡ false → hand_refusal 256 phase x m ≡ Some (no_lane phase.stopped phase.active)
 refused phase x m e = first_cause phase.stopped phase.active (is_lane 256 m.dn) _ e
 
-told : (asked : Asked) (s : Service) (dn : ℕ) → is_lane 256 dn ≡ false → hands asked (empty_report dn) s ≡ tells (number_of_hand (no_lane s.phase.stopped s.phase.active)) (codes " line ") s.lines s
+told : (asked : LiveSetup) (s : ServiceState) (dn : ℕ) → is_lane 256 dn ≡ false → hands asked (empty_report dn) s ≡ tells_fault (number_of_hand (no_lane s.phase.stopped s.phase.active)) (codes " line ") s.lines s
 told asked s dn e =
-    ap (λ o. handed asked (next_message s.sent (mark_of dn Begin)) o (λ t. hands asked (later dn) t) s) (refused s.phase s.standby (next_message s.sent (mark_of dn Begin)) e)
+    ap (λ o. takes_message asked (message_in_turn s.sent (mark_of dn Begin)) o (λ t. hands asked (later dn) t) s) (refused s.phase s.standby (message_in_turn s.sent (mark_of dn Begin)) e)
   where
     later : ℕ → List Report
     later dn = mark_of dn Finish ∷ []
 
 -- so is 0 in its place
-pub same_gone : (asked : Asked) (s : Service) (dn : ℕ) → hands asked (empty_report dn) s ≡ hands asked (empty_report (cond (nat_le dn 256) dn 0)) s
+pub same_gone : (asked : LiveSetup) (s : ServiceState) (dn : ℕ) → hands asked (empty_report dn) s ≡ hands asked (empty_report (cond (nat_le dn 256) dn 0)) s
 same_gone asked s dn = at (nat_le dn 256) refl
   where
     none : (b : Bool) → nat_le dn 256 ≡ b → b ≡ false → is_lane 256 dn ≡ false

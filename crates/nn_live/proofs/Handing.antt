@@ -7,60 +7,60 @@ use Rattle.nn_types.specs.declared.report.Message.{Message}
 use Rattle.nn_types.specs.declared.report.Report.{Report}
 use Rattle.nn_model.specs.Lanes.{followed_by}
 use Rattle.nn_model.specs.Stands.{StandbyState}
-use Rattle.nn_scenario.specs.Steps.{message, next_message}
+use Rattle.nn_scenario.specs.Steps.{message, message_in_turn}
 use Rattle.nn_shadow.specs.declared.fault.HandCause.{HandCause}
 use Rattle.nn_shadow.specs.Calls.{received}
-use Rattle.nn_shadow.specs.Contents.{Contents, KeepsSettings, standby_of, number_in}
+use Rattle.nn_shadow.specs.Contents.{Shadow, KeepsSettings, standby_of, last_number_in}
 use Rattle.nn_shadow.specs.Numbers.{number_of_hand}
 use Rattle.nn_shadow.specs.Refusals.{Phase, hand_refusal}
-use Rattle.nn_live.specs.Live.{Asked, Service, handed, hands, says}
-use Rattle.nn_live.specs.Serving.{Seen, IsAt, Makes, forgetful, next_of, fault_text}
+use Rattle.nn_live.specs.Live.{LiveSetup, ServiceState, takes_message, hands, says}
+use Rattle.nn_live.specs.Serving.{Service, IsAtService, FollowsStep, forgetful, next_of, fault_text}
 use Rattle.nn_live.proofs.Places.{asks_still, only_tells}
 use Rattle.nn_live.proofs.Standing as standing
 use Rattle.nn_live.proofs.Options.{none_if, some_unless}
 
-abbrev one_report : Report → Asked → Service → Service
+abbrev one_report : Report → LiveSetup → ServiceState → ServiceState
 one_report r asked s = hands asked (r ∷ []) s
 
-same_message : (asked : Asked) (x : Seen) (s : Service) (r : Report) → IsAt asked x s → next_of x.shadow r ≡ next_message s.sent r
+same_message : (asked : LiveSetup) (x : Service) (s : ServiceState) (r : Report) → IsAtService asked x s → next_of x.shadow r ≡ message_in_turn s.sent r
 same_message asked x s r i = ap (λ k. message r (k + 1)) (i.sent r.dn)
 
-same_refusal : (asked : Asked) (x : Seen) (s : Service) (r : Report) → IsAt asked x s
-    → hand_refusal 256 x.shadow.phase (standby_of x.shadow) (next_of x.shadow r) ≡ hand_refusal 256 s.phase s.standby (next_message s.sent r)
+same_refusal : (asked : LiveSetup) (x : Service) (s : ServiceState) (r : Report) → IsAtService asked x s
+    → hand_refusal 256 x.shadow.phase (standby_of x.shadow) (next_of x.shadow r) ≡ hand_refusal 256 s.phase s.standby (message_in_turn s.sent r)
 same_refusal asked x s r i =
     ap (λ (p : Phase). hand_refusal 256 p (standby_of x.shadow) (next_of x.shadow r)) i.phase
     ∙ ap (λ (y : StandbyState). hand_refusal 256 s.phase y (next_of x.shadow r)) i.standby
     ∙ ap (λ m. hand_refusal 256 s.phase s.standby m) (same_message asked x s r i)
 
-one_more : (s : Service) (m : Message) (k last dn : ℕ) → last ≡ length (s.sent dn) → (same : Bool) → (dn == m.dn) ≡ same → k ≡ length (s.sent m.dn) + 1
+one_more : (s : ServiceState) (m : Message) (k last dn : ℕ) → last ≡ length (s.sent dn) → (same : Bool) → (dn == m.dn) ≡ same → k ≡ length (s.sent m.dn) + 1
     → cond same k last ≡ length (cond same (s.sent dn ++ m ∷ []) (s.sent dn))
 one_more s m k last dn e false d n = e
 one_more s m k last dn e true d n =
     n ∙ ap (λ j. length (s.sent j) + 1) (sym (eqb-true dn m.dn d)) ∙ sym (length-append (s.sent dn) (m ∷ []))
 
 -- what the code told of a standby, and had then forgotten
-abbrev pub told : Bool → Contents → List ℕ
+abbrev pub told : Bool → Shadow → List ℕ
 told history z = cond history (history_text z.history) []
 
-module _ (x : Seen) (z : Contents) (r : Report)
+module _ (x : Service) (z : Shadow) (r : Report)
     (is : standby_of z ≡ received (standby_of x.shadow) (next_of x.shadow r)) (phase : z.phase ≡ x.shadow.phase) (settings : KeepsSettings x.shadow z)
     (fits : hand_refusal 256 x.shadow.phase (standby_of x.shadow) (next_of x.shadow r) ≡ None) where
   -- the definition took it, too
-  takes : (asked : Asked) (s : Service) → IsAt asked x s → one_report r asked s ≡ handed asked (next_message s.sent r) None (λ t. t) s
-  takes asked s i = ap (λ o. handed asked (next_message s.sent r) o (λ t. t) s) (sym (same_refusal asked x s r i) ∙ fits)
+  takes : (asked : LiveSetup) (s : ServiceState) → IsAtService asked x s → one_report r asked s ≡ takes_message asked (message_in_turn s.sent r) None (λ t. t) s
+  takes asked s i = ap (λ o. takes_message asked (message_in_turn s.sent r) o (λ t. t) s) (sym (same_refusal asked x s r i) ∙ fits)
 
-  comes : (asked : Asked) (s : Service) → IsAt asked x s → standby_of z ≡ received s.standby (next_message s.sent r)
+  comes : (asked : LiveSetup) (s : ServiceState) → IsAtService asked x s → standby_of z ≡ received s.standby (message_in_turn s.sent r)
   comes asked s i = is ∙ ap₂ received i.standby (same_message asked x s r i)
 
-  sent : (asked : Asked) (s : Service) → IsAt asked x s → (dn : ℕ) → number_in z.numbers dn ≡ length (followed_by s.sent (next_message s.sent r) dn)
+  sent : (asked : LiveSetup) (s : ServiceState) → IsAtService asked x s → (dn : ℕ) → last_number_in z.numbers dn ≡ length (followed_by s.sent (message_in_turn s.sent r) dn)
   sent asked s i dn =
-      let m = next_message s.sent r in
+      let m = message_in_turn s.sent r in
       ap (λ (c : StandbyState). c.last_number dn) is
-      ∙ one_more s m (number_in x.shadow.numbers r.dn + 1) (number_in x.shadow.numbers dn) dn (i.sent dn) (dn == m.dn) refl (ap (λ k. k + 1) (i.sent r.dn))
+      ∙ one_more s m (last_number_in x.shadow.numbers r.dn + 1) (last_number_in x.shadow.numbers dn) dn (i.sent dn) (dn == m.dn) refl (ap (λ k. k + 1) (i.sent r.dn))
 
-  pub taken : Makes (one_report r) x (forgetful (record x { shadow = z })) (told x.history z)
+  pub taken : FollowsStep (one_report r) x (forgetful (record x { shadow = z })) (told x.history z)
   taken = record {
-    at = λ asked s i. subst (IsAt asked (forgetful (record x { shadow = z }))) (sym (takes asked s i)) (record {
+    at = λ asked s i. subst (IsAtService asked (forgetful (record x { shadow = z }))) (sym (takes asked s i)) (record {
       asks = asks_still asked x z settings i.asks;
       standby = ap (λ (c : StandbyState). record c { history = [] }) (comes asked s i);
       phase = phase ∙ i.phase;
@@ -70,28 +70,28 @@ module _ (x : Seen) (z : Contents) (r : Report)
       passed = i.passed;
       segments = i.segments;
       lines = i.lines;
-      log = (i.log.0, i.log.1, standing.one_report asked i.log.0 i.log.1 (next_message s.sent r) (λ t. t) (λ t j. j) s i.log.2 None (sym (same_refusal asked x s r i) ∙ fits));
+      log = (i.log.0, i.log.1, standing.one_report asked i.log.0 i.log.1 (message_in_turn s.sent r) (λ t. t) (λ t j. j) s i.log.2 None (sym (same_refusal asked x s r i) ∙ fits));
     });
-    written = λ asked s i. ap (λ (t : Service). t.written) (takes asked s i)
-        ∙ ap₂ (λ b h. s.written ++ cond b (history_text h) []) (ap (λ (a : Asked). a.history) i.asks) (sym (ap (λ (c : StandbyState). c.history) (comes asked s i)));
+    written = λ asked s i. ap (λ (t : ServiceState). t.written) (takes asked s i)
+        ∙ ap₂ (λ b h. s.written ++ cond b (history_text h) []) (ap (λ (a : LiveSetup). a.history) i.asks) (sym (ap (λ (c : StandbyState). c.history) (comes asked s i)));
   }
 
-module _ (x : Seen) (r : Report) (cause : HandCause)
+module _ (x : Service) (r : Report) (cause : HandCause)
     (is : hand_refusal 256 x.shadow.phase (standby_of x.shadow) (next_of x.shadow r) ≡ Some cause) where
-  pub refused : Makes (one_report r) x x (fault_text (number_of_hand cause) (codes " line ") x.lines)
+  pub refused : FollowsStep (one_report r) x x (fault_text (number_of_hand cause) (codes " line ") x.lines)
   refused = only_tells (one_report r) x _ (λ asked s i.
-      (ap (λ o. handed asked (next_message s.sent r) o (λ t. t) s) (sym (same_refusal asked x s r i) ∙ is) ∙ ap (λ l. says (fault_text (number_of_hand cause) (codes " line ") l) s) (sym i.lines)))
+      (ap (λ o. takes_message asked (message_in_turn s.sent r) o (λ t. t) s) (sym (same_refusal asked x s r i) ∙ is) ∙ ap (λ l. says (fault_text (number_of_hand cause) (codes " line ") l) s) (sym i.lines)))
 
 -- a message that was taken adds one to the messages of its DataNode
-pub grows : (x : Seen) (z : Contents) (r : Report) → standby_of z ≡ received (standby_of x.shadow) (next_of x.shadow r) → (dn : ℕ) → number_in z.numbers dn ≤ number_in x.shadow.numbers dn + 1
-grows x z r is dn = subst (λ n. n ≤ number_in x.shadow.numbers dn + 1) (sym (ap (λ (c : StandbyState). c.last_number dn) is)) (at (dn == r.dn) refl)
+pub grows : (x : Service) (z : Shadow) (r : Report) → standby_of z ≡ received (standby_of x.shadow) (next_of x.shadow r) → (dn : ℕ) → last_number_in z.numbers dn ≤ last_number_in x.shadow.numbers dn + 1
+grows x z r is dn = subst (λ n. n ≤ last_number_in x.shadow.numbers dn + 1) (sym (ap (λ (c : StandbyState). c.last_number dn) is)) (at (dn == r.dn) refl)
   where
-    at : (same : Bool) → (dn == r.dn) ≡ same → cond same (number_in x.shadow.numbers r.dn + 1) (number_in x.shadow.numbers dn) ≤ number_in x.shadow.numbers dn + 1
-    at true e = subst (λ j. number_in x.shadow.numbers r.dn + 1 ≤ number_in x.shadow.numbers j + 1) (sym (eqb-true dn r.dn e)) (omega arith)
+    at : (same : Bool) → (dn == r.dn) ≡ same → cond same (last_number_in x.shadow.numbers r.dn + 1) (last_number_in x.shadow.numbers dn) ≤ last_number_in x.shadow.numbers dn + 1
+    at true e = subst (λ j. last_number_in x.shadow.numbers r.dn + 1 ≤ last_number_in x.shadow.numbers j + 1) (sym (eqb-true dn r.dn e)) (omega arith)
     at false e = omega arith
 
 -- what lacked memory shows the same standby in the same phase: it is the same service
-pub nothing_made : (x : Seen) (z : Contents) → standby_of z ≡ standby_of x.shadow → z.phase ≡ x.shadow.phase → KeepsSettings x.shadow z → Makes (λ _ s. s) x (record x { shadow = z }) []
+pub nothing_made : (x : Service) (z : Shadow) → standby_of z ≡ standby_of x.shadow → z.phase ≡ x.shadow.phase → KeepsSettings x.shadow z → FollowsStep (λ _ s. s) x (record x { shadow = z }) []
 nothing_made x z same phase keeps = record {
   at = λ asked s i. record {
     asks = asks_still asked x z keeps i.asks;
@@ -110,35 +110,35 @@ nothing_made x z same phase keeps = record {
 
 -- ---- A DataNode that is gone.
 
-abbrev both_reports : Report → Report → Asked → Service → Service
+abbrev both_reports : Report → Report → LiveSetup → ServiceState → ServiceState
 both_reports r q asked s = hands asked (r ∷ q ∷ []) s
 
-module _ (x y : Seen) (r q : Report) (text : List ℕ) (made : Makes (one_report r) x y text) where
-  at_first : Asked → Service → (Service → Service) → Option HandCause → Service
-  at_first asked s rest o = handed asked (next_message s.sent r) o rest s
+module _ (x y : Service) (r q : Report) (text : List ℕ) (made : FollowsStep (one_report r) x y text) where
+  at_first : LiveSetup → ServiceState → (ServiceState → ServiceState) → Option HandCause → ServiceState
+  at_first asked s rest o = takes_message asked (message_in_turn s.sent r) o rest s
 
-  pub both_handed : (z : Seen) (more : List ℕ) → true ≡ is_none (hand_refusal 256 x.shadow.phase (standby_of x.shadow) (next_of x.shadow r)) → Makes (one_report q) y z more
-      → Makes (both_reports r q) x z (text ++ more)
+  pub both_handed : (z : Service) (more : List ℕ) → true ≡ is_none (hand_refusal 256 x.shadow.phase (standby_of x.shadow) (next_of x.shadow r)) → FollowsStep (one_report q) y z more
+      → FollowsStep (both_reports r q) x z (text ++ more)
   unfolding at_first
   both_handed z more fits later = record {
-    at = λ asked s i. subst (IsAt asked z) (sym (is asked s i)) (later.at asked (one_report r asked s) (made.at asked s i));
-    written = λ asked s i. ap (λ (t : Service). t.written) (is asked s i) ∙ later.written asked (one_report r asked s) (made.at asked s i)
+    at = λ asked s i. subst (IsAtService asked z) (sym (is asked s i)) (later.at asked (one_report r asked s) (made.at asked s i));
+    written = λ asked s i. ap (λ (t : ServiceState). t.written) (is asked s i) ∙ later.written asked (one_report r asked s) (made.at asked s i)
         ∙ ap (λ w. w ++ more) (made.written asked s i) ∙ append_assoc s.written text more;
   }
     where
-      is : (asked : Asked) (s : Service) → IsAt asked x s → both_reports r q asked s ≡ one_report q asked (one_report r asked s)
+      is : (asked : LiveSetup) (s : ServiceState) → IsAtService asked x s → both_reports r q asked s ≡ one_report q asked (one_report r asked s)
       is asked s i =
           let none = sym (same_refusal asked x s r i) ∙ none_if _ fits in
           ap (at_first asked s (λ t. one_report q asked t)) none ∙ sym (ap (λ o. one_report q asked (at_first asked s (λ t. t) o)) none)
 
-  pub first_refused : false ≡ is_none (hand_refusal 256 x.shadow.phase (standby_of x.shadow) (next_of x.shadow r)) → Makes (both_reports r q) x y text
+  pub first_refused : false ≡ is_none (hand_refusal 256 x.shadow.phase (standby_of x.shadow) (next_of x.shadow r)) → FollowsStep (both_reports r q) x y text
   unfolding at_first
   first_refused refuses = record {
-    at = λ asked s i. subst (IsAt asked y) (sym (is asked s i)) (made.at asked s i);
-    written = λ asked s i. ap (λ (t : Service). t.written) (is asked s i) ∙ made.written asked s i;
+    at = λ asked s i. subst (IsAtService asked y) (sym (is asked s i)) (made.at asked s i);
+    written = λ asked s i. ap (λ (t : ServiceState). t.written) (is asked s i) ∙ made.written asked s i;
   }
     where
-      is : (asked : Asked) (s : Service) → IsAt asked x s → both_reports r q asked s ≡ one_report r asked s
+      is : (asked : LiveSetup) (s : ServiceState) → IsAtService asked x s → both_reports r q asked s ≡ one_report r asked s
       is asked s i =
           let some = some_unless _ refuses in
           let there = sym (same_refusal asked x s r i) ∙ some.1 in

@@ -7,16 +7,17 @@ use Rattle.serde_json.specs.Find.{get}
 use Rattle.nn_model.specs.Namespace.{Namespace, Path, path_cmp}
 use Rattle.nn_tree.specs.Restore.{row_fits}
 use Rattle.std.specs.Ordering.{is_lt}
+use Rattle.nn_bytes.specs.Lines.{line_feed}
 use Rattle.nn_model.specs.declared.form.Form.{Form}
-use Rattle.nn_segment.specs.Lines.{newline, is_unbroken, joined_lines}
-use Rattle.nn_image.specs.Loading.{LoadState, TakesLine, at_header, behind_end, ends_with, fault_of, in_rows, is_first, loaded_from, refused as bad}
-use Rattle.nn_image.specs.Reading.{all_from, at_end, by_key, by_value, fields_in, has_end, is_end_line, last_path, next_line, nothing_more, number_in, number_of, object_of, of_header, of_version, pieces_of, read_image, row_in, rows_from, value_of, with_next, with_rows, ◌then◌}
+use Rattle.nn_segment.specs.Lines.{is_unbroken, joined_lines}
+use Rattle.nn_image.specs.Loading.{Loading, TakesLine, at_header, behind_end, ends_with, fault_of_loading, in_rows, is_first, loaded_from, refused as bad}
+use Rattle.nn_image.specs.Reading.{all_from, at_end_line, by_key, by_value, fields_in, has_end, is_end_line, last_path, next_line_number, nothing_more, number_under, whole_value, object_of, of_header, of_version, pieces_of, read_image, row_of_line, rows_from, value_of_line, with_next_row, with_rows, ◌then◌}
 use Rattle.nn_image.specs.declared.fault.ImageFault.{ImageFault}
 use Rattle.nn_image.specs.declared.fault.ImageFault.TheVariants.{NotHeader, BadLine, WrongOrder, CountMismatch, Truncated, BadVersion, ReadFault, OutOfMemory}
 use Rattle.nn_image.proofs.LoadedLines.{piece}
-use Rattle.nn_live.specs.Live.{Asked, Stage, begun, image_lines, loaded, loading, pieces, refused, so_far, takes_line, takes_pieces}
-use Rattle.nn_live.specs.Opening.{IsEnded, IsOpening, OpeningState, OpensTo, loads_on}
-use Rattle.nn_live.specs.Taking.{goes_on}
+use Rattle.nn_live.specs.Live.{LiveSetup, Stage, new_service, image_lines, loaded, loading, pieces, refused, so_far, takes_line, takes_pieces}
+use Rattle.nn_live.specs.Opening.{IsEnded, IsOpening, Opening, OpensTo, loads_on}
+use Rattle.nn_live.specs.Taking.{stage_after}
 use Rattle.nn_live.specs.declared.opening.Opened.{Opened}
 use Rattle.nn_live.specs.declared.opening.Opened.TheVariants as opened
 use Rattle.nn_live.proofs.Cutting.{some_piece, unbroken_both}
@@ -35,20 +36,20 @@ judged_either : {X : Type 0} (b : Bool) (x y : Result X ImageFault) → Judged x
 judged_either true x y first other = first
 judged_either false x y first other = other
 
-row_judged : (n : Namespace) (o : Option (Path × Form)) → Judged (with_next n o)
+row_judged : (n : Namespace) (o : Option (Path × Form)) → Judged (with_next_row n o)
 row_judged n None = λ e. absurd (cc)
 row_judged n (Some row) =
-    judged_either (is_lt (path_cmp (last_path n.rows) row.0)) (cond (row_fits n row.0 row.1) (Ok (with_rows n (n.rows ++ row ∷ []))) (Err (BadLine (next_line n)))) (Err (WrongOrder (next_line n)))
-    (judged_either (row_fits n row.0 row.1) (Ok (with_rows n (n.rows ++ row ∷ []))) (Err (BadLine (next_line n))) (λ e. absurd (cc)) (λ e. absurd (cc))) (λ e. absurd (cc))
+    judged_either (is_lt (path_cmp (last_path n.rows) row.0)) (cond (row_fits n row.0 row.1) (Ok (with_rows n (n.rows ++ row ∷ []))) (Err (BadLine (next_line_number n)))) (Err (WrongOrder (next_line_number n)))
+    (judged_either (row_fits n row.0 row.1) (Ok (with_rows n (n.rows ++ row ∷ []))) (Err (BadLine (next_line_number n))) (λ e. absurd (cc)) (λ e. absurd (cc))) (λ e. absurd (cc))
 
-end_judged : (n : Namespace) (o : Option ℕ) (ps : List (List ℕ)) → Judged (nothing_more n ps) → Judged (at_end n o ps)
+end_judged : (n : Namespace) (o : Option ℕ) (ps : List (List ℕ)) → Judged (nothing_more n ps) → Judged (at_end_line n o ps)
 end_judged n None ps behind = λ e. absurd (cc)
 end_judged n (Some count) ps behind = judged_either (count == (length n.rows - 1)) (nothing_more n ps) (Err CountMismatch) behind (λ e. absurd (cc))
 
 module _ (n : Namespace) (ps : List (List ℕ)) (more : Namespace → Result Namespace ImageFault) (behind : Judged (nothing_more n ps)) (later : (m : Namespace) → Judged (more m)) where
   key_judged : (d : Data) (o : Option Data) → Judged (by_key n d ps more o)
-  key_judged d None = judged_then (with_next n (row_in d)) more (row_judged n (row_in d)) later
-  key_judged d (Some count) = end_judged n (number_of count) ps behind
+  key_judged d None = judged_then (with_next_row n (row_of_line d)) more (row_judged n (row_of_line d)) later
+  key_judged d (Some count) = end_judged n (whole_value count) ps behind
 
   value_judged : (o : Option Data) → Judged (by_value n ps more o)
   value_judged None = λ e. absurd (cc)
@@ -65,21 +66,21 @@ version_judged d (Some version) =
 
 header_judged : (o : Option Data) → Judged (of_header o)
 header_judged None = λ e. absurd (cc)
-header_judged (Some d) = version_judged d (number_in (codes "version") d)
+header_judged (Some d) = version_judged d (number_under (codes "version") d)
 
 -- a line that is not UTF-8 is no row
-bad_row : (n : Namespace) → rows_from n ((255 ∷ []) ∷ [] ∷ []) ≡ Err (BadLine (next_line n))
-unfolding rows_from object_of value_of is_utf8 chars
+bad_row : (n : Namespace) → rows_from n ((255 ∷ []) ∷ [] ∷ []) ≡ Err (BadLine (next_line_number n))
+unfolding rows_from object_of value_of_line is_utf8 chars
 bad_row n = refl
 
 rows_judged : (n : Namespace) → Judged (rows_from n ((255 ∷ []) ∷ [] ∷ []))
-rows_judged n = λ e. let clash : Err (BadLine (next_line n)) ≡ Err Truncated = sym (bad_row n) ∙ e in absurd (cc)
+rows_judged n = λ e. let clash : Err (BadLine (next_line_number n)) ≡ Err Truncated = sym (bad_row n) ∙ e in absurd (cc)
 
 more_judged : (n : Namespace) (line next : List ℕ) (ps : List (List ℕ)) → Judged (nothing_more n (line ∷ next ∷ ps))
 more_judged n [] next ps = λ e. absurd (cc)
 more_judged n (b ∷ line) next ps = λ e. absurd (cc)
 
-line_judged : (old : LoadState) (line : List ℕ) → fault_of old ≡ None → Judged (loaded_from old (line ∷ (255 ∷ []) ∷ [] ∷ []))
+line_judged : (old : Loading) (line : List ℕ) → fault_of_loading old ≡ None → Judged (loaded_from old (line ∷ (255 ∷ []) ∷ [] ∷ []))
 unfolding all_from rows_from
 line_judged at_header line none =
     judged_then (of_header (object_of line)) (λ head. rows_from head.0 ((255 ∷ []) ∷ [] ∷ []) then λ n. Ok (n, head.1)) (header_judged (object_of line))
@@ -93,7 +94,7 @@ line_judged (bad e) line none = absurd (cc)
 abbrev JudgedFault : ImageFault → Type 0
 JudgedFault fault = Judged {X = Namespace × ℕ} (Err fault)
 
-fault_judged : (old new : LoadState) (line : List ℕ) (fault : ImageFault) → TakesLine old new line → fault_of old ≡ None → fault_of new ≡ Some fault → JudgedFault fault
+fault_judged : (old new : Loading) (line : List ℕ) (fault : ImageFault) → TakesLine old new line → fault_of_loading old ≡ None → fault_of_loading new ≡ Some fault → JudgedFault fault
 fault_judged old at_header line fault takes none is = absurd (cc)
 fault_judged old (in_rows n txid) line fault takes none is = absurd (cc)
 fault_judged old (behind_end n txid) line fault takes none is = absurd (cc)
@@ -120,7 +121,7 @@ rows_wait n = λ x e. absurd (cc)
 
 module _ (n : Namespace) where
   key_waits : (d : Data) (o : Option Data) → is_some o ≡ false → IsFault (by_key n d ([] ∷ []) (λ m. rows_from m ([] ∷ [])) o)
-  key_waits d None isnt = fault_then (with_next n (row_in d)) (λ m. rows_from m ([] ∷ [])) rows_wait
+  key_waits d None isnt = fault_then (with_next_row n (row_of_line d)) (λ m. rows_from m ([] ∷ [])) rows_wait
   key_waits d (Some count) isnt = absurd (cc)
 
   value_waits : (o : Option Data) → has_end o ≡ false → IsFault (by_value n ([] ∷ []) (λ m. rows_from m ([] ∷ [])) o)
@@ -132,7 +133,7 @@ module _ (n : Namespace) where
 
   key_ends : (d : Data) (o : Option Data) → is_some o ≡ true → Judged (by_key n d ([] ∷ []) (λ m. rows_from m ([] ∷ [])) o)
   key_ends d None is = absurd (cc)
-  key_ends d (Some count) is = end_judged n (number_of count) ([] ∷ []) none_behind
+  key_ends d (Some count) is = end_judged n (whole_value count) ([] ∷ []) none_behind
 
   value_ends : (o : Option Data) → has_end o ≡ true → Judged (by_value n ([] ∷ []) (λ m. rows_from m ([] ∷ [])) o)
   value_ends None is = absurd (cc)
@@ -142,7 +143,7 @@ more_is_fault : (n : Namespace) (line next : List ℕ) (ps : List (List ℕ)) �
 more_is_fault n [] next ps = λ x e. absurd (cc)
 more_is_fault n (b ∷ line) next ps = λ x e. absurd (cc)
 
-line_waits : (old : LoadState) (line : List ℕ) → ends_with old line ≡ false → IsFault (loaded_from old (line ∷ [] ∷ []))
+line_waits : (old : Loading) (line : List ℕ) → ends_with old line ≡ false → IsFault (loaded_from old (line ∷ [] ∷ []))
 unfolding all_from rows_from is_end_line
 line_waits at_header line isnt =
     fault_then (of_header (object_of line)) (λ head. rows_from head.0 ([] ∷ []) then λ n. Ok (n, head.1)) (λ head. still_fault (rows_from head.0 ([] ∷ [])) (λ n. Ok (n, head.1)) (rows_wait head.0))
@@ -150,7 +151,7 @@ line_waits (in_rows n txid) line isnt = still_fault (by_value n ([] ∷ []) (λ 
 line_waits (behind_end n txid) line isnt = still_fault (nothing_more n (line ∷ [] ∷ [])) (λ m. Ok (m, txid)) (more_is_fault n line [] [])
 line_waits (bad e) line isnt = λ x e. absurd (cc)
 
-pub not_ended : (old new : LoadState) (line : List ℕ) → TakesLine old new line → ends_with old line ≡ false → fault_of new ≡ None → is_first new ≡ false → loaded_from new ([] ∷ []) ≡ Err Truncated
+pub not_ended : (old new : Loading) (line : List ℕ) → TakesLine old new line → ends_with old line ≡ false → fault_of_loading new ≡ None → is_first new ≡ false → loaded_from new ([] ∷ []) ≡ Err Truncated
 unfolding rows_from
 not_ended old at_header line takes isnt none first = absurd (cc)
 not_ended old (in_rows n txid) line takes isnt none first = refl
@@ -158,14 +159,14 @@ not_ended old (behind_end n txid) line takes isnt none first = absurd (line_wait
 not_ended old (bad e) line takes isnt none first = absurd (cc)
 
 module _ (line : List ℕ) where
-  line_closes : (old : LoadState) → fault_of old ≡ None → ends_with old line ≡ true → Judged (loaded_from old (line ∷ [] ∷ []))
+  line_closes : (old : Loading) → fault_of_loading old ≡ None → ends_with old line ≡ true → Judged (loaded_from old (line ∷ [] ∷ []))
   unfolding rows_from is_end_line
   line_closes at_header none is = absurd (cc)
   line_closes (in_rows n txid) none is = judged_then (by_value n ([] ∷ []) (λ m. rows_from m ([] ∷ [])) (object_of line)) (λ m. Ok (m, txid)) (value_ends n (object_of line) is) (λ m e. absurd (cc))
   line_closes (behind_end n txid) none is = judged_then (nothing_more n (line ∷ [] ∷ [])) (λ m. Ok (m, txid)) (more_judged n line [] []) (λ m e. absurd (cc))
   line_closes (bad e) none is = absurd (cc)
 
-  pub has_ended : (old new : LoadState) → TakesLine old new line → fault_of old ≡ None → ends_with old line ≡ true → Judged (loaded_from new ([] ∷ []))
+  pub has_ended : (old new : Loading) → TakesLine old new line → fault_of_loading old ≡ None → ends_with old line ≡ true → Judged (loaded_from new ([] ∷ []))
   has_ended old new takes none is = λ e. line_closes old none is (takes [] [] ∙ e)
 
 -- ---- Lines.
@@ -180,22 +181,22 @@ judged_is lines BadVersion is = refl
 judged_is lines ReadFault is = refl
 judged_is lines OutOfMemory is = refl
 
-joined_more : (lines : List (List ℕ)) (line : List ℕ) → joined_lines (lines ++ line ∷ []) ≡ joined_lines lines ++ (line ++ newline ∷ [])
-joined_more [] line = append-nil (line ++ newline ∷ [])
-joined_more (l ∷ lines) line = ap (λ t. (l ++ newline ∷ []) ++ t) (joined_more lines line) ∙ sym (append_assoc (l ++ newline ∷ []) (joined_lines lines) (line ++ newline ∷ []))
+joined_more : (lines : List (List ℕ)) (line : List ℕ) → joined_lines (lines ++ line ∷ []) ≡ joined_lines lines ++ (line ++ line_feed ∷ [])
+joined_more [] line = append-nil (line ++ line_feed ∷ [])
+joined_more (l ∷ lines) line = ap (λ t. (l ++ line_feed ∷ []) ++ t) (joined_more lines line) ∙ sym (append_assoc (l ++ line_feed ∷ []) (joined_lines lines) (line ++ line_feed ∷ []))
 
-cut_line : (line more : List ℕ) → is_unbroken line ≡ true → pieces_of (line ++ newline ∷ more) ≡ line ∷ pieces_of more
+cut_line : (line more : List ℕ) → is_unbroken line ≡ true → pieces_of (line ++ line_feed ∷ more) ≡ line ∷ pieces_of more
 cut_line line more whole = piece line more whole
 
 same_pieces : (text : List ℕ) → pieces_of text ≡ pieces text
 unfolding pieces_of
 same_pieces text = refl
 
-one_more : (asked : Asked) (line p : List ℕ) (ps : List (List ℕ)) (s : Stage) → takes_pieces asked (line ∷ p ∷ ps) s ≡ takes_pieces asked (p ∷ ps) (takes_line asked line s)
+one_more : (asked : LiveSetup) (line p : List ℕ) (ps : List (List ℕ)) (s : Stage) → takes_pieces asked (line ∷ p ∷ ps) s ≡ takes_pieces asked (p ∷ ps) (takes_line asked line s)
 unfolding takes_pieces
 one_more asked line p ps s = refl
 
-refused_stays : (asked : Asked) (ps : List (List ℕ)) (fault : ImageFault) → (takes_pieces asked ps (refused fault)).0 ≡ refused fault
+refused_stays : (asked : LiveSetup) (ps : List (List ℕ)) (fault : ImageFault) → (takes_pieces asked ps (refused fault)).0 ≡ refused fault
 unfolding takes_pieces
 refused_stays asked [] fault = refl
 refused_stays asked (torn ∷ []) fault = refl
@@ -213,7 +214,7 @@ none_opened = record {
 }
 
 -- bytes of a line
-pub line_kept : (before bytes : List ℕ) (o new : OpeningState) → IsOpening before o → is_unbroken bytes ≡ true → new.loading ≡ o.loading → new.line ≡ o.line ++ bytes → IsOpening (before ++ bytes) new
+pub line_kept : (before bytes : List ℕ) (o new : Opening) → IsOpening before o → is_unbroken bytes ≡ true → new.loading ≡ o.loading → new.line ≡ o.line ++ bytes → IsOpening (before ++ bytes) new
 line_kept before bytes o new has whole same is = record {
   lines = has.lines;
   same = λ asked more.
@@ -221,15 +222,15 @@ line_kept before bytes o new has whole same is = record {
       ∙ ap (loads_on asked has.lines) (sym (append_assoc o.line bytes more) ∙ ap (λ l. l ++ more) (sym is));
   unbroken = ap is_unbroken is ∙ unbroken_both o.line bytes has.unbroken whole;
   loaded = λ more. has.loaded more ∙ ap (λ l. loaded_from l (pieces_of more)) (sym same);
-  none_bad = ap fault_of same ∙ has.none_bad;
+  none_bad = ap fault_of_loading same ∙ has.none_bad;
 }
 
-module _ (before : List ℕ) (o : OpeningState) (has : IsOpening before o) (l : LoadState) (takes : TakesLine o.loading l o.line) where
+module _ (before : List ℕ) (o : Opening) (has : IsOpening before o) (l : Loading) (takes : TakesLine o.loading l o.line) where
   read_on : (more : List ℕ) → read_image (joined_lines (has.lines ++ o.line ∷ []) ++ more) ≡ loaded_from l (pieces_of more)
   read_on more =
       ap (λ t. read_image (t ++ more)) (joined_more has.lines o.line)
-      ∙ ap read_image (append_assoc (joined_lines has.lines) (o.line ++ newline ∷ []) more ∙ ap (λ t. joined_lines has.lines ++ t) (append_assoc o.line (newline ∷ []) more))
-      ∙ has.loaded (o.line ++ newline ∷ more)
+      ∙ ap read_image (append_assoc (joined_lines has.lines) (o.line ++ line_feed ∷ []) more ∙ ap (λ t. joined_lines has.lines ++ t) (append_assoc o.line (line_feed ∷ []) more))
+      ∙ has.loaded (o.line ++ line_feed ∷ more)
       ∙ ap (loaded_from o.loading) (cut_line o.line more has.unbroken)
       ∙ next (pieces_of more) (some (pieces_of more) (same_pieces more ∙ (some_piece more).2))
     where
@@ -243,17 +244,17 @@ module _ (before : List ℕ) (o : OpeningState) (has : IsOpening before o) (l : 
   unfolding pieces_of
   image_is = ap read_image (sym (append-nil (joined_lines (has.lines ++ o.line ∷ [])))) ∙ read_on []
 
-  line_came : (asked : Asked) (more : List ℕ) → so_far asked true ((before ++ newline ∷ []) ++ more) ≡ takes_pieces asked (pieces more) (loaded (has.lines ++ o.line ∷ []) (loaded_from l ([] ∷ [])))
+  line_came : (asked : LiveSetup) (more : List ℕ) → so_far asked true ((before ++ line_feed ∷ []) ++ more) ≡ takes_pieces asked (pieces more) (loaded (has.lines ++ o.line ∷ []) (loaded_from l ([] ∷ [])))
   line_came asked more =
       let others = some_piece more in
-      ap (so_far asked true) (append_assoc before (newline ∷ []) more) ∙ has.same asked (newline ∷ more)
-      ∙ ap (λ ps. takes_pieces asked ps (loading has.lines)) (sym (same_pieces (o.line ++ newline ∷ more)) ∙ cut_line o.line more has.unbroken ∙ ap (λ ps. o.line ∷ ps) (same_pieces more ∙ others.2))
+      ap (so_far asked true) (append_assoc before (line_feed ∷ []) more) ∙ has.same asked (line_feed ∷ more)
+      ∙ ap (λ ps. takes_pieces asked ps (loading has.lines)) (sym (same_pieces (o.line ++ line_feed ∷ more)) ∙ cut_line o.line more has.unbroken ∙ ap (λ ps. o.line ∷ ps) (same_pieces more ∙ others.2))
       ∙ one_more asked o.line others.0 others.1 (loading has.lines)
       ∙ ap (λ ps. takes_pieces asked ps (image_lines (has.lines ++ o.line ∷ []))) (sym others.2)
       ∙ ap (λ r. takes_pieces asked (pieces more) (loaded (has.lines ++ o.line ∷ []) r)) image_is
 
   -- it is no end line, and has no fault
-  pub line_loads : (new : OpeningState) → new.loading ≡ l → new.line ≡ [] → ends_with o.loading o.line ≡ false → fault_of l ≡ None → is_first l ≡ false → IsOpening (before ++ newline ∷ []) new
+  pub line_loads : (new : Opening) → new.loading ≡ l → new.line ≡ [] → ends_with o.loading o.line ≡ false → fault_of_loading l ≡ None → is_first l ≡ false → IsOpening (before ++ line_feed ∷ []) new
   line_loads new same none isnt well later =
       let waits = not_ended o.loading l o.line takes isnt well later in
       record {
@@ -262,42 +263,42 @@ module _ (before : List ℕ) (o : OpeningState) (has : IsOpening before o) (l : 
             line_came asked more ∙ ap (λ r. takes_pieces asked (pieces more) (loaded (has.lines ++ o.line ∷ []) r)) waits ∙ ap (λ t. loads_on asked (has.lines ++ o.line ∷ []) (t ++ more)) (sym none);
         unbroken = ap is_unbroken none;
         loaded = λ more. read_on more ∙ ap (λ m. loaded_from m (pieces_of more)) (sym same);
-        none_bad = ap fault_of same ∙ well;
+        none_bad = ap fault_of_loading same ∙ well;
       }
 
   -- it has this fault
-  pub line_refused : (asked : Asked) (more : List ℕ) (fault : ImageFault) → JudgedFault fault → loaded_from l ([] ∷ []) ≡ Err fault → (so_far asked true ((before ++ newline ∷ []) ++ more)).0 ≡ refused fault
+  pub line_refused : (asked : LiveSetup) (more : List ℕ) (fault : ImageFault) → JudgedFault fault → loaded_from l ([] ∷ []) ≡ Err fault → (so_far asked true ((before ++ line_feed ∷ []) ++ more)).0 ≡ refused fault
   line_refused asked more fault judged is =
       ap (λ (x : Stage × List ℕ). x.0) (line_came asked more ∙ ap (λ r. takes_pieces asked (pieces more) (loaded (has.lines ++ o.line ∷ []) r)) is)
       ∙ ap (λ s. (takes_pieces asked (pieces more) s).0) (judged_is (has.lines ++ o.line ∷ []) fault judged)
       ∙ refused_stays asked (pieces more) fault
 
-  pub line_bad : (asked : Asked) (more : List ℕ) (fault : ImageFault) → fault_of l ≡ Some fault → (so_far asked true ((before ++ newline ∷ []) ++ more)).0 ≡ refused fault
+  pub line_bad : (asked : LiveSetup) (more : List ℕ) (fault : ImageFault) → fault_of_loading l ≡ Some fault → (so_far asked true ((before ++ line_feed ∷ []) ++ more)).0 ≡ refused fault
   line_bad asked more fault is = line_refused asked more fault (fault_judged o.loading l o.line fault takes has.none_bad is) (at l is)
     where
-      at : (m : LoadState) → fault_of m ≡ Some fault → loaded_from m ([] ∷ []) ≡ Err fault
+      at : (m : Loading) → fault_of_loading m ≡ Some fault → loaded_from m ([] ∷ []) ≡ Err fault
       at at_header e = absurd (cc)
       at (in_rows n txid) e = absurd (cc)
       at (behind_end n txid) e = absurd (cc)
       at (bad f) e = let same : f ≡ fault = cc in ap Err same
 
   -- it is the end line
-  pub line_ends : (after : List ℕ) (x : Opened) → ends_with o.loading o.line ≡ true → IsEnded l after x → (new : OpeningState) → OpensTo (before ++ newline ∷ after) new x
+  pub line_ends : (after : List ℕ) (x : Opened) → ends_with o.loading o.line ≡ true → IsEnded l after x → (new : Opening) → OpensTo (before ++ line_feed ∷ after) new x
   line_ends after opened.Loading is ended new = absurd ended
   line_ends after (opened.Loaded n txid rest) is ended new = (
     ended.2,
     λ asked more.
-        ap (so_far asked true) (append_assoc before (newline ∷ after) more ∙ sym (append_assoc before (newline ∷ []) (after ++ more))) ∙ line_came asked (after ++ more)
+        ap (so_far asked true) (append_assoc before (line_feed ∷ after) more ∙ sym (append_assoc before (line_feed ∷ []) (after ++ more))) ∙ line_came asked (after ++ more)
         ∙ ap (λ r. takes_pieces asked (pieces (after ++ more)) (loaded (has.lines ++ o.line ∷ []) r)) ended.0
-        ∙ ap (λ t. goes_on asked (begun n txid) (t ++ more)) (sym ended.1),
+        ∙ ap (λ t. stage_after asked (new_service n txid) (t ++ more)) (sym ended.1),
   )
   line_ends after (opened.Refused fault) is ended new = λ asked more.
-      ap (λ t. (so_far asked true t).0) (append_assoc before (newline ∷ after) more ∙ sym (append_assoc before (newline ∷ []) (after ++ more)))
+      ap (λ t. (so_far asked true t).0) (append_assoc before (line_feed ∷ after) more ∙ sym (append_assoc before (line_feed ∷ []) (after ++ more)))
       ∙ line_refused asked (after ++ more) fault (λ e. has_ended o.line o.loading l takes has.none_bad is (ended ∙ e)) ended
 
 -- some bytes are those before, the line and its line feed, and the rest
-pub line_came_to : (before bytes front rest text after : List ℕ) → bytes ≡ front ++ rest → rest ≡ (text ++ newline ∷ []) ++ after
-    → ((before ++ front) ++ text) ++ newline ∷ after ≡ before ++ bytes
-line_came_to before bytes front rest text after is cut =
-    append_assoc (before ++ front) text (newline ∷ after) ∙ append_assoc before front (text ++ newline ∷ after)
-    ∙ ap (λ t. before ++ (front ++ t)) (sym (append_assoc text (newline ∷ []) after)) ∙ ap (λ t. before ++ t) (ap (λ r. front ++ r) (sym cut) ∙ sym is)
+pub line_came_to : (before bytes prefix rest text after : List ℕ) → bytes ≡ prefix ++ rest → rest ≡ (text ++ line_feed ∷ []) ++ after
+    → ((before ++ prefix) ++ text) ++ line_feed ∷ after ≡ before ++ bytes
+line_came_to before bytes prefix rest text after is cut =
+    append_assoc (before ++ prefix) text (line_feed ∷ after) ∙ append_assoc before prefix (text ++ line_feed ∷ after)
+    ∙ ap (λ t. before ++ (prefix ++ t)) (sym (append_assoc text (line_feed ∷ []) after)) ∙ ap (λ t. before ++ t) (ap (λ r. prefix ++ r) (sym cut) ∙ sym is)

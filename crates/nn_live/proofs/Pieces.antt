@@ -1,8 +1,8 @@
 -- Lines that are put piece by piece.
 use Rattle.std.proofs.Common.{◌≡◌, ℕ, zero, suc, ◌-◌, ◌<◌, Bool, true, cond, List, [], ◌∷◌, ◌++◌, map, take, ap, arith, append_assoc, sym}
 use Rattle.std.specs.Prelude.{codes, filter, flat_map}
+use Rattle.nn_bytes.specs.Lines.{line_feed}
 use Rattle.nn_types.specs.declared.report.Message.{Message}
-use Rattle.nn_listing.specs.Listing.{newline}
 use Rattle.nn_live.specs.Answers.{held_line}
 
 -- a space and a field
@@ -10,13 +10,13 @@ abbrev pub field : List ℕ → List ℕ
 field text = codes " " ++ text
 
 pub held_pieces : (block dn number stamp kind : List ℕ)
-    → codes "held" ++ (field block ++ (field dn ++ (field number ++ (field stamp ++ (codes " " ++ (kind ++ newline ∷ []))))))
-    ≡ codes "held " ++ block ++ codes " " ++ dn ++ codes " " ++ number ++ codes " " ++ stamp ++ codes " " ++ kind ++ newline ∷ []
+    → codes "held" ++ (field block ++ (field dn ++ (field number ++ (field stamp ++ (codes " " ++ (kind ++ line_feed ∷ []))))))
+    ≡ codes "held " ++ block ++ codes " " ++ dn ++ codes " " ++ number ++ codes " " ++ stamp ++ codes " " ++ kind ++ line_feed ∷ []
 held_pieces block dn number stamp kind = simp append_assoc
 
 pub block_pieces : (block stamp len path : List ℕ)
-    → codes "block" ++ (field block ++ (field stamp ++ (field len ++ (codes " " ++ (path ++ newline ∷ [])))))
-    ≡ codes "block " ++ block ++ codes " " ++ stamp ++ codes " " ++ len ++ codes " " ++ path ++ newline ∷ []
+    → codes "block" ++ (field block ++ (field stamp ++ (field len ++ (codes " " ++ (path ++ line_feed ∷ [])))))
+    ≡ codes "block " ++ block ++ codes " " ++ stamp ++ codes " " ++ len ++ codes " " ++ path ++ line_feed ∷ []
 block_pieces block stamp len path = simp append_assoc
 
 pub status_pieces : (a b c d e f g : List ℕ) → a ++ (b ++ (c ++ (d ++ (e ++ (f ++ g))))) ≡ a ++ b ++ c ++ d ++ e ++ f ++ g

@@ -1,18 +1,18 @@
 -- Where the code stays at a service of the definition.
 use Rattle.std.proofs.Common.{◌≡◌, List, ℕ, [], ◌++◌, Result, Ok, Err, sym, subst, ap, ap₂, ◌∙◌, append-nil, append_assoc}
 use Rattle.std.specs.Prelude.{IfErr, IsErrOf}
-use Rattle.nn_shadow.specs.Contents.{Contents, KeepsSettings}
+use Rattle.nn_shadow.specs.Contents.{Shadow, KeepsSettings}
 use Rattle.nn_live.specs.declared.service.ServiceFault.{ServiceFault}
 use Rattle.nn_live.specs.declared.service.ServiceFault.TheVariants as service
-use Rattle.nn_live.specs.Live.{Asked, Service, says}
-use Rattle.nn_live.specs.Serving.{Seen, IsAt, Makes, asked_of}
+use Rattle.nn_live.specs.Live.{LiveSetup, ServiceState, says}
+use Rattle.nn_live.specs.Serving.{Service, IsAtService, FollowsStep, asked_of}
 
 -- a standby keeps its settings
-pub asks_still : (asked : Asked) (x : Seen) (z : Contents) → KeepsSettings x.shadow z → asked ≡ asked_of x → asked ≡ asked_of (record x { shadow = z })
+pub asks_still : (asked : LiveSetup) (x : Service) (z : Shadow) → KeepsSettings x.shadow z → asked ≡ asked_of x → asked ≡ asked_of (record x { shadow = z })
 asks_still asked x z keeps is = is ∙ ap₂ (λ p m. record { permille = p; min = m; history = x.history; version = x.version }) (sym keeps.permille) (sym keeps.min)
 
 -- telling changes nothing
-pub told_there : (asked : Asked) (x : Seen) (s : Service) (text : List ℕ) → IsAt asked x s → IsAt asked x (says text s)
+pub told_there : (asked : LiveSetup) (x : Service) (s : ServiceState) (text : List ℕ) → IsAtService asked x s → IsAtService asked x (says text s)
 told_there asked x s text i = record {
   asks = i.asks;
   standby = i.standby;
@@ -27,31 +27,31 @@ told_there asked x s text i = record {
 }
 
 -- one step, and then another
-pub then_makes : (f g : Asked → Service → Service) (x y z : Seen) (a b : List ℕ) → Makes f x y a → Makes g y z b → Makes (λ asked s. g asked (f asked s)) x z (a ++ b)
+pub then_makes : (f g : LiveSetup → ServiceState → ServiceState) (x y z : Service) (a b : List ℕ) → FollowsStep f x y a → FollowsStep g y z b → FollowsStep (λ asked s. g asked (f asked s)) x z (a ++ b)
 then_makes f g x y z a b first more = record {
   at = λ asked s i. more.at asked (f asked s) (first.at asked s i);
   written = λ asked s i. more.written asked (f asked s) (first.at asked s i) ∙ ap (λ w. w ++ b) (first.written asked s i) ∙ append_assoc s.written a b;
 }
 
 -- a step that the definition does in other words
-pub same_makes : (f g : Asked → Service → Service) (x y : Seen) (text : List ℕ) → ((asked : Asked) (s : Service) → IsAt asked x s → f asked s ≡ g asked s) → Makes g x y text → Makes f x y text
+pub same_makes : (f g : LiveSetup → ServiceState → ServiceState) (x y : Service) (text : List ℕ) → ((asked : LiveSetup) (s : ServiceState) → IsAtService asked x s → f asked s ≡ g asked s) → FollowsStep g x y text → FollowsStep f x y text
 same_makes f g x y text same made = record {
-  at = λ asked s i. subst (IsAt asked y) (sym (same asked s i)) (made.at asked s i);
-  written = λ asked s i. ap (λ (t : Service). t.written) (same asked s i) ∙ made.written asked s i;
+  at = λ asked s i. subst (IsAtService asked y) (sym (same asked s i)) (made.at asked s i);
+  written = λ asked s i. ap (λ (t : ServiceState). t.written) (same asked s i) ∙ made.written asked s i;
 }
 
 -- a step that tells something, and does nothing else
-pub only_tells : (f : Asked → Service → Service) (x : Seen) (text : List ℕ) → ((asked : Asked) (s : Service) → IsAt asked x s → f asked s ≡ says text s) → Makes f x x text
+pub only_tells : (f : LiveSetup → ServiceState → ServiceState) (x : Service) (text : List ℕ) → ((asked : LiveSetup) (s : ServiceState) → IsAtService asked x s → f asked s ≡ says text s) → FollowsStep f x x text
 only_tells f x text is = record {
-  at = λ asked s i. subst (IsAt asked x) (sym (is asked s i)) (told_there asked x s text i);
-  written = λ asked s i. ap (λ (t : Service). t.written) (is asked s i);
+  at = λ asked s i. subst (IsAtService asked x) (sym (is asked s i)) (told_there asked x s text i);
+  written = λ asked s i. ap (λ (t : ServiceState). t.written) (is asked s i);
 }
 
 -- and one that does nothing at all
-pub nothing_done : (f : Asked → Service → Service) (x : Seen) → ((asked : Asked) (s : Service) → IsAt asked x s → f asked s ≡ s) → Makes f x x []
+pub nothing_done : (f : LiveSetup → ServiceState → ServiceState) (x : Service) → ((asked : LiveSetup) (s : ServiceState) → IsAtService asked x s → f asked s ≡ s) → FollowsStep f x x []
 nothing_done f x is = record {
-  at = λ asked s i. subst (IsAt asked x) (sym (is asked s i)) i;
-  written = λ asked s i. ap (λ (t : Service). t.written) (is asked s i) ∙ sym (append-nil s.written);
+  at = λ asked s i. subst (IsAtService asked x) (sym (is asked s i)) i;
+  written = λ asked s i. ap (λ (t : ServiceState). t.written) (is asked s i) ∙ sym (append-nil s.written);
 }
 
 -- who lacked memory has not come to the end of a count

@@ -9,26 +9,26 @@ use Rattle.nn_shadow.specs.declared.fault.Stop.{Stop}
 use Rattle.nn_shadow.specs.declared.fault.FlushFault.{FlushFault}
 use Rattle.nn_shadow.specs.declared.fault.FlushFault.TheVariants as flush
 use Rattle.nn_shadow.specs.Calls.{flushed}
-use Rattle.nn_shadow.specs.Contents.{Contents, KeepsSettings, standby_of, number_in}
+use Rattle.nn_shadow.specs.Contents.{Shadow, KeepsSettings, standby_of, last_number_in}
 use Rattle.nn_shadow.specs.Refusals.{Phase, flush_refusal}
-use Rattle.nn_live.specs.Live.{Asked, Service, says, tells, ends_at, becomes_active, promotes}
-use Rattle.nn_live.specs.Serving.{Seen, Kept, Keeps, IsAt, Makes, forgetful, fault_text, log_ends, takes_promotion}
+use Rattle.nn_live.specs.Live.{LiveSetup, ServiceState, says, tells_fault, ends_at, becomes_active, promotes}
+use Rattle.nn_live.specs.Serving.{Service, InHand, HasPart, IsAtService, FollowsStep, forgetful, fault_text, log_ends, takes_promotion}
 use Rattle.nn_live.proofs.Handing.{told}
 use Rattle.nn_live.proofs.Places.{asks_still, only_tells}
 use Rattle.nn_live.proofs.Standing.{promotion}
 
-module _ (x : Seen) (txid : ℕ) (losing : Bool) where
-  abbrev step : Asked → Service → Service
+module _ (x : Service) (txid : ℕ) (losing : Bool) where
+  abbrev step : LiveSetup → ServiceState → ServiceState
   step = takes_promotion txid losing
 
   -- what a promotion comes to
-  abbrev outcome : Asked → Service → Option FlushFault → Bool → Bool → Service
+  abbrev outcome : LiveSetup → ServiceState → Option FlushFault → Bool → Bool → ServiceState
   outcome asked s (Some fault) between ends = promotes asked txid losing (Some fault) s
   outcome asked s None between ends =
-      cond (not (losing || between)) (tells NO_END (codes " segment ") (s.segments + 1) s) (cond ends (becomes_active asked s) (tells DISORDER (codes " txid ") (s.standby.last + 1) s))
+      cond (not (losing || between)) (tells_fault NO_END (codes " segment ") (s.segments + 1) s) (cond ends (becomes_active asked s) (tells_fault DISORDER (codes " txid ") (s.standby.last + 1) s))
 
   -- as the code sees it
-  seen : (asked : Asked) (s : Service) → IsAt asked x s
+  seen : (asked : LiveSetup) (s : ServiceState) → IsAtService asked x s
       → step asked s ≡ outcome asked s (flush_refusal x.shadow.phase) (x.in_hand.edits == 0) (log_ends x.shadow.last x.known txid losing)
   seen asked s i =
       ap (λ (p : Phase). promotes asked txid losing (flush_refusal p) s) (sym i.phase)
@@ -40,44 +40,44 @@ module _ (x : Seen) (txid : ℕ) (losing : Bool) where
           ap (λ k. outcome asked s None (k == 0) (ends_at txid losing s)) (sym i.in_hand.edits)
           ∙ ap₂ (λ (y : StandbyState) k. outcome asked s None (x.in_hand.edits == 0) (log_ends y.last k txid losing)) (sym i.standby) (sym i.known)
 
-  pub stopped : (stop : Stop) → x.shadow.phase.stopped ≡ Some stop → Makes step x x (fault_text STOPPED (codes " line ") x.lines)
+  pub stopped : (stop : Stop) → x.shadow.phase.stopped ≡ Some stop → FollowsStep step x x (fault_text STOPPED (codes " line ") x.lines)
   stopped stop e = only_tells step x _ (λ asked s i.
       (let refused : flush_refusal x.shadow.phase ≡ Some (flush.Stopped stop) = rw e refl in
       seen asked s i ∙ ap (λ o. outcome asked s o (x.in_hand.edits == 0) (log_ends x.shadow.last x.known txid losing)) refused
       ∙ ap (λ l. says (fault_text STOPPED (codes " line ") l) s) (sym i.lines)))
 
   module _ (e : x.shadow.phase.stopped ≡ None) where
-    not_stopped : (asked : Asked) (s : Service) → IsAt asked x s → step asked s ≡ outcome asked s None (x.in_hand.edits == 0) (log_ends x.shadow.last x.known txid losing)
+    not_stopped : (asked : LiveSetup) (s : ServiceState) → IsAtService asked x s → step asked s ≡ outcome asked s None (x.in_hand.edits == 0) (log_ends x.shadow.last x.known txid losing)
     not_stopped asked s i =
         let none : flush_refusal x.shadow.phase ≡ None = rw e refl in
         seen asked s i ∙ ap (λ o. outcome asked s o (x.in_hand.edits == 0) (log_ends x.shadow.last x.known txid losing)) none
 
-    pub inside : (losing || (x.in_hand.edits == 0)) ≡ false → Makes step x x (fault_text NO_END (codes " segment ") (x.segments + 1))
+    pub inside : (losing || (x.in_hand.edits == 0)) ≡ false → FollowsStep step x x (fault_text NO_END (codes " segment ") (x.segments + 1))
     inside is = only_tells step x _ (λ asked s i.
         (not_stopped asked s i
-        ∙ ap (λ b. cond (not b) (tells NO_END (codes " segment ") (s.segments + 1) s) (cond (log_ends x.shadow.last x.known txid losing) (becomes_active asked s) (tells DISORDER (codes " txid ") (s.standby.last + 1) s))) is
+        ∙ ap (λ b. cond (not b) (tells_fault NO_END (codes " segment ") (s.segments + 1) s) (cond (log_ends x.shadow.last x.known txid losing) (becomes_active asked s) (tells_fault DISORDER (codes " txid ") (s.standby.last + 1) s))) is
         ∙ ap (λ k. says (fault_text NO_END (codes " segment ") (k + 1)) s) (sym i.segments)))
 
     module _ (is : (losing || (x.in_hand.edits == 0)) ≡ true) where
-      between : (asked : Asked) (s : Service) → IsAt asked x s
-          → step asked s ≡ cond (log_ends x.shadow.last x.known txid losing) (becomes_active asked s) (tells DISORDER (codes " txid ") (s.standby.last + 1) s)
+      between : (asked : LiveSetup) (s : ServiceState) → IsAtService asked x s
+          → step asked s ≡ cond (log_ends x.shadow.last x.known txid losing) (becomes_active asked s) (tells_fault DISORDER (codes " txid ") (s.standby.last + 1) s)
       between asked s i = not_stopped asked s i
-          ∙ ap (λ b. cond (not b) (tells NO_END (codes " segment ") (s.segments + 1) s) (cond (log_ends x.shadow.last x.known txid losing) (becomes_active asked s) (tells DISORDER (codes " txid ") (s.standby.last + 1) s))) is
+          ∙ ap (λ b. cond (not b) (tells_fault NO_END (codes " segment ") (s.segments + 1) s) (cond (log_ends x.shadow.last x.known txid losing) (becomes_active asked s) (tells_fault DISORDER (codes " txid ") (s.standby.last + 1) s))) is
 
-      pub not_there : log_ends x.shadow.last x.known txid losing ≡ false → Makes step x x (fault_text DISORDER (codes " txid ") (x.shadow.last + 1))
+      pub not_there : log_ends x.shadow.last x.known txid losing ≡ false → FollowsStep step x x (fault_text DISORDER (codes " txid ") (x.shadow.last + 1))
       not_there isnt = only_tells step x _ (λ asked s i.
-          (between asked s i ∙ ap (λ b. cond b (becomes_active asked s) (tells DISORDER (codes " txid ") (s.standby.last + 1) s)) isnt
+          (between asked s i ∙ ap (λ b. cond b (becomes_active asked s) (tells_fault DISORDER (codes " txid ") (s.standby.last + 1) s)) isnt
           ∙ ap (λ (y : StandbyState). says (fault_text DISORDER (codes " txid ") (y.last + 1)) s) (sym i.standby)))
 
-      pub promoted : (z : Contents) (h : Kept) → log_ends x.shadow.last x.known txid losing ≡ true
-          → standby_of z ≡ flushed (standby_of x.shadow) → z.phase ≡ record x.shadow.phase { active = true } → z.numbers ≡ x.shadow.numbers → KeepsSettings x.shadow z → Keeps no_lines h
-          → Makes step x (forgetful (record x { shadow = z; in_hand = h })) (told x.history z)
+      pub promoted : (z : Shadow) (h : InHand) → log_ends x.shadow.last x.known txid losing ≡ true
+          → standby_of z ≡ flushed (standby_of x.shadow) → z.phase ≡ record x.shadow.phase { active = true } → z.numbers ≡ x.shadow.numbers → KeepsSettings x.shadow z → HasPart no_lines h
+          → FollowsStep step x (forgetful (record x { shadow = z; in_hand = h })) (told x.history z)
       promoted z h ends done phase numbers settings none = record {
-        at = λ asked s i. subst (IsAt asked (forgetful (record x { shadow = z; in_hand = h }))) (sym (becomes asked s i)) (record {
+        at = λ asked s i. subst (IsAtService asked (forgetful (record x { shadow = z; in_hand = h }))) (sym (becomes asked s i)) (record {
           asks = asks_still asked x z settings i.asks;
           standby = ap (λ (c : StandbyState). record c { history = [] }) (comes asked s i);
           phase = phase ∙ ap (λ (p : Phase). record p { active = true }) i.phase;
-          sent = λ dn. ap (λ (ns : List ℕ). number_in ns dn) numbers ∙ i.sent dn;
+          sent = λ dn. ap (λ (ns : List ℕ). last_number_in ns dn) numbers ∙ i.sent dn;
           in_hand = none;
           known = i.known;
           passed = i.passed;
@@ -85,12 +85,12 @@ module _ (x : Seen) (txid : ℕ) (losing : Bool) where
           lines = i.lines;
           log = (i.log.0, i.log.1, promotion i.log.0 i.log.1 s.log s.standby s.phase.active s.sent i.log.2);
         });
-        written = λ asked s i. ap (λ (t : Service). t.written) (becomes asked s i)
-            ∙ ap₂ (λ c h. s.written ++ cond c (history_text h) []) (ap (λ (a : Asked). a.history) i.asks) (sym (ap (λ (c : StandbyState). c.history) (comes asked s i)));
+        written = λ asked s i. ap (λ (t : ServiceState). t.written) (becomes asked s i)
+            ∙ ap₂ (λ c h. s.written ++ cond c (history_text h) []) (ap (λ (a : LiveSetup). a.history) i.asks) (sym (ap (λ (c : StandbyState). c.history) (comes asked s i)));
       }
         where
-          comes : (asked : Asked) (s : Service) → IsAt asked x s → standby_of z ≡ flushed s.standby
+          comes : (asked : LiveSetup) (s : ServiceState) → IsAtService asked x s → standby_of z ≡ flushed s.standby
           comes asked s i = done ∙ ap flushed i.standby
 
-          becomes : (asked : Asked) (s : Service) → IsAt asked x s → step asked s ≡ becomes_active asked s
-          becomes asked s i = between asked s i ∙ ap (λ b. cond b (becomes_active asked s) (tells DISORDER (codes " txid ") (s.standby.last + 1) s)) ends
+          becomes : (asked : LiveSetup) (s : ServiceState) → IsAtService asked x s → step asked s ≡ becomes_active asked s
+          becomes asked s i = between asked s i ∙ ap (λ b. cond b (becomes_active asked s) (tells_fault DISORDER (codes " txid ") (s.standby.last + 1) s)) ends

@@ -9,13 +9,13 @@ use Rattle.nn_model.specs.Namespace.{Namespace}
 use Rattle.nn_replicas.specs.Agreement.{Shows}
 use Rattle.nn_replicas.specs.Calls.{entry_or_none, replica_at, replicas_at}
 use Rattle.nn_replicas.specs.Entry.{replica_in}
-use Rattle.nn_replicas.specs.Table.{Table}
+use Rattle.nn_replicas.specs.Table.{Replicas}
 use Rattle.nn_replicas.specs.declared.entry.Cell.{Cell}
 use Rattle.nn_listing.specs.Tables.{datanodes, lines_of_block, replica_line, replica_text}
 use Rattle.nn_listing.proofs.KeyTexts.{given, gathered, no_texts, same_texts, texts_of_some, Within}
 use Rattle.nn_listing.proofs.Summaries.{all_datanodes}
 
-module _ (n : Namespace) (t : Table) (shows : Shows n t) (count : ℕ) (count_is : 256 ≡ count) (all : datanodes ≡ range_with_len 1 count) (id : ℕ) (b : Block) where
+module _ (n : Namespace) (t : Replicas) (shows : Shows n t) (count : ℕ) (count_is : 256 ≡ count) (all : datanodes ≡ range_with_len 1 count) (id : ℕ) (b : Block) where
   abbrev cells : List (ℕ × Cell)
   cells = (entry_or_none t id).cells
 
@@ -36,8 +36,8 @@ module _ (n : Namespace) (t : Table) (shows : Shows n t) (count : ℕ) (count_is
       cases dn None = refl
       cases dn (Some r) = refl
 
-pub of_held_block : (n : Namespace) (t : Table) (id : ℕ) (b : Block) → Shows n t → lines_of_block id b (replicas_at t id) ≡ flat_map (λ dn. replica_text id (Some b) dn (replica_at t dn id)) datanodes
+pub of_held_block : (n : Namespace) (t : Replicas) (id : ℕ) (b : Block) → Shows n t → lines_of_block id b (replicas_at t id) ≡ flat_map (λ dn. replica_text id (Some b) dn (replica_at t dn id)) datanodes
 of_held_block n t id b shows = in_turn n t shows 256 refl all_datanodes id b
 
-pub of_no_block : (t : Table) (id : ℕ) → [] ≡ flat_map (λ dn. replica_text id None dn (replica_at t dn id)) datanodes
+pub of_no_block : (t : Replicas) (id : ℕ) → [] ≡ flat_map (λ dn. replica_text id None dn (replica_at t dn id)) datanodes
 of_no_block t id = sym (no_texts (λ dn. replica_text id None dn (replica_at t dn id)) datanodes (λ dn. refl))

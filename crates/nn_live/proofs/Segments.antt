@@ -8,29 +8,29 @@ use Rattle.nn_model.specs.Log.{counted}
 use Rattle.nn_model.specs.Stands.{StandbyState}
 use Rattle.nn_segment.specs.Segment.{Segment, IsSegment, starts, first_txid}
 use Rattle.nn_segment.proofs.Walks.{adds_the_rest}
-use Rattle.nn_live.specs.Live.{Asked, Service, follows, follows_new, follows_txs, says, tells_gap}
-use Rattle.nn_live.specs.Serving.{Seen, IsAt, Makes, fault_text}
+use Rattle.nn_live.specs.Live.{LiveSetup, ServiceState, follows, follows_new, follows_txs, says, tells_gap}
+use Rattle.nn_live.specs.Serving.{Service, IsAtService, FollowsStep, fault_text}
 use Rattle.nn_live.proofs.Places.{then_makes, same_makes, only_tells}
 
-abbrev pub gap_text : Seen → List ℕ
+abbrev pub gap_text : Service → List ℕ
 gap_text x = fault_text DISORDER (codes " txid " ++ decimal (x.shadow.last + 1) ++ codes " segment ") x.segments
 
-module _ (x : Seen) (txs : List Tx) where
-  last_is : (asked : Asked) (s : Service) → IsAt asked x s → x.shadow.last ≡ s.standby.last
+module _ (x : Service) (txs : List Tx) where
+  last_is : (asked : LiveSetup) (s : ServiceState) → IsAtService asked x s → x.shadow.last ≡ s.standby.last
   last_is asked s i = ap (λ (y : StandbyState). y.last) i.standby
 
-  pub behind_a_gap : x.shadow.last + 1 < first_txid txs → Makes (λ asked s. follows_txs asked txs s) x x (gap_text x)
+  pub behind_a_gap : x.shadow.last + 1 < first_txid txs → FollowsStep (λ asked s. follows_txs asked txs s) x x (gap_text x)
   behind_a_gap high = only_tells (λ asked s. follows_txs asked txs s) x _ (λ asked s i.
       (let above : ltb (s.standby.last + 1) (first_txid txs) ≡ true = lt-ltb _ _ (subst (λ l. l + 1 < first_txid txs) (last_is asked s i) high) in
       ap (λ b. cond b (tells_gap s) (follows_new asked txs (counted s.standby.last txs) s)) above
       ∙ ap₂ (λ l k. says (fault_text DISORDER (codes " txid " ++ decimal (l + 1) ++ codes " segment ") k) s) (sym (last_is asked s i)) (sym i.segments)))
 
   -- the old ones are passed over
-  passes : List Tx → Asked → Service → Service
+  passes : List Tx → LiveSetup → ServiceState → ServiceState
   passes new asked s = record s { passed = s.passed + (length txs - length new) }
 
-  pub now_followed : (new : List Tx) (y : Seen) (text : List ℕ) → first_txid txs ≤ x.shadow.last + 1 → counted x.shadow.last txs ≡ new
-      → Makes (λ asked s. follows asked new s) (record x { passed = x.passed + (length txs - length new) }) y text → Makes (λ asked s. follows_txs asked txs s) x y text
+  pub now_followed : (new : List Tx) (y : Service) (text : List ℕ) → first_txid txs ≤ x.shadow.last + 1 → counted x.shadow.last txs ≡ new
+      → FollowsStep (λ asked s. follows asked new s) (record x { passed = x.passed + (length txs - length new) }) y text → FollowsStep (λ asked s. follows_txs asked txs s) x y text
   unfolding passes
   now_followed new y text low is made =
       same_makes (λ asked s. follows_txs asked txs s) (λ asked s. follows asked new (passes new asked s)) x y text (λ asked s i.

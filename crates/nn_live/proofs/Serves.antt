@@ -3,44 +3,44 @@ use Rattle.std.proofs.Common.{◌≡◌, ℕ, ◌+◌, ◌≤◌, Bool, true, fa
 use Rattle.std.specs.Io.KnownBytes.{Consumes, Keeps}
 use Rattle.std.proofs.KnownBytes.{Consumes-nil, Consumes-trans}
 use Rattle.std.proofs.lemmas.List.{length-take}
-use Rattle.nn_device.specs.Device.{Reading, Writing}
-use Rattle.nn_device.specs.Page.{Gathered, HasGone, HasPut}
-use Rattle.nn_device.specs.Parts.{TookFront}
-use Rattle.nn_device.specs.declared.writer.Unwritten.{Unwritten}
-use Rattle.nn_device.specs.declared.writer.Unwritten.TheVariants.{WriteFailed}
+use Rattle.nn_device.specs.Device.{Reader, Writer}
+use Rattle.nn_device.specs.Page.{Page, HasGone, HasPut}
+use Rattle.nn_device.specs.Parts.{TookPrefix}
+use Rattle.nn_device.specs.declared.writer.OutputFault.{OutputFault}
+use Rattle.nn_device.specs.declared.writer.OutputFault.TheVariants.{WriteFailed}
 use Rattle.nn_engine.specs.Output.{image_fault}
 use Rattle.nn_image.specs.declared.fault.ImageFault.{ImageFault}
-use Rattle.nn_live.specs.Live.{ended, refused, so_far, status_of, told_so_far, written_of}
-use Rattle.nn_live.specs.Running.{Ends, Gave, Halts, IsOfLines, IsOutput, IsReader, IsStage, Run, asked_by, halt_text, live_output, serving_by}
-use Rattle.nn_live.specs.declared.run.Halt.{Halt}
-use Rattle.nn_live.specs.declared.run.Halt.TheVariants as halt
+use Rattle.nn_live.specs.Live.{ended, refused, so_far, exit_status, told_so_far, written_of}
+use Rattle.nn_live.specs.Running.{EndsRun, GaveBytes, Halts, IsOfLines, IsLiveOutput, IsReader, IsStage, Run, asked_by, halt_text, live_output, serving_by}
+use Rattle.nn_live.specs.declared.run.EndFault.{EndFault}
+use Rattle.nn_live.specs.declared.run.EndFault.TheVariants as halt
 use Rattle.nn_live.specs.declared.run.LiveOptions.{LiveOptions}
 use Rattle.nn_live.specs.declared.run.Stage.{Stage as RunStage}
 use Rattle.nn_live.specs.declared.run.Stage.TheVariants as stage
-use Rattle.nn_live.proofs.Running.{no_front, opening_told, so_far_told}
+use Rattle.nn_live.proofs.Running.{no_prefix, opening_told, so_far_told}
 
 -- ---- What the reader gave.
 
-pub given_none : (r : Reading) → Gave r r []
+pub given_none : (r : Reader) → GaveBytes r r []
 given_none r = record { taken = Consumes-nil r.left; counted = omega arith }
 
-module _ (a b c : Reading) (bytes : List ℕ) (gave : Gave a b bytes) where
+module _ (a b c : Reader) (bytes : List ℕ) (gave : GaveBytes a b bytes) where
   -- a read gave more
-  pub given_more : (n : ℕ) (buffer : List ℕ) → n ≤ length buffer → Consumes b.left c.left (take n buffer) → c.given ≡ b.given + n → Gave a c (bytes ++ take n buffer)
+  pub given_more : (n : ℕ) (buffer : List ℕ) → n ≤ length buffer → Consumes b.left c.left (take n buffer) → c.given ≡ b.given + n → GaveBytes a c (bytes ++ take n buffer)
   given_more n buffer bound got counted = record {
     taken = Consumes-trans a.left b.left c.left bytes (take n buffer) gave.taken got;
     counted = omega (arith, length-append bytes (take n buffer), length-take n buffer, gave.counted, counted, bound);
   }
 
   -- the last one gave nothing
-  pub given_all : (n : ℕ) (buffer : List ℕ) → n ≡ 0 → Consumes b.left c.left (take n buffer) → c.given ≡ b.given + n → Gave a c bytes
+  pub given_all : (n : ℕ) (buffer : List ℕ) → n ≡ 0 → Consumes b.left c.left (take n buffer) → c.given ≡ b.given + n → GaveBytes a c bytes
   given_all n buffer none got counted = record {
     taken = subst (Consumes a.left c.left) (append-nil bytes) (Consumes-trans a.left b.left c.left bytes [] gave.taken (subst (λ k. Consumes b.left c.left (take k buffer)) none got));
     counted = omega (arith, gave.counted, counted, none);
   }
 
   -- a read that failed gave nothing either
-  pub given_still : Keeps b.left c.left → c.given ≡ b.given → Gave a c bytes
+  pub given_still : Keeps b.left c.left → c.given ≡ b.given → GaveBytes a c bytes
   given_still keeps same = record { taken = at a.left b.left c.left gave.taken keeps; counted = omega (arith, gave.counted, same) }
     where
       at : (x y z : Option (List ℕ)) → Consumes x y bytes → Keeps y z → Consumes x z bytes
@@ -52,10 +52,10 @@ module _ (a b c : Reading) (bytes : List ℕ) (gave : Gave a b bytes) where
 -- ---- Why it ends.
 
 -- before the first read
-pub nothing_served : (o : LiveOptions) (r : Reading) → Halts (serving_by o r r) [] halt.OutOfMemory
-nothing_served o r = record { bytes = []; gave = given_none r; reader = refl; is = no_front _ }
+pub nothing_served : (o : LiveOptions) (r : Reader) → Halts (serving_by o r r) [] halt.OutOfMemory
+nothing_served o r = record { bytes = []; gave = given_none r; reader = refl; is = no_prefix _ }
 
-pub lines_reader : (why : Halt) (before after : Bool) → IsOfLines why → after ≡ before → IsReader why before after
+pub lines_reader : (why : EndFault) (before after : Bool) → IsOfLines why → after ≡ before → IsReader why before after
 lines_reader (halt.Refused fault) before after of same = same
 lines_reader halt.Unreadable before after of same = absurd of
 lines_reader halt.OutOfMemory before after of same = same
@@ -67,27 +67,27 @@ stage_told o bytes told (stage.Serving live) is = so_far_told o bytes told live 
 -- ---- What it wrote.
 
 -- an empty page has nothing to be written
-pub nothing_left : (p : Gathered) (w : Writing) → HasPut w [] p w → p.left ≡ []
+pub nothing_left : (p : Page) (w : Writer) → HasPut w [] p w → p.left ≡ []
 nothing_left p w put = at p.lost p.left put
   where
     at : (lost : Bool) (left : List ℕ) → HasGone lost w [] left w → left ≡ []
-    at false left put = none put.front put.whole
+    at false left put = none put.prefix put.whole
       where
-        none : (front : List ℕ) → [] ≡ front ++ left → left ≡ []
+        none : (prefix : List ℕ) → [] ≡ prefix ++ left → left ≡ []
         none [] e = sym e
-        none (x ∷ front) e = absurd (cc)
-    at true left put = absurd (omega (arith, put.short, ap length put.whole, length-append put.front put.rest))
+        none (x ∷ prefix) e = absurd (cc)
+    at true left put = absurd (omega (arith, put.short, ap length put.whole, length-append put.prefix put.rest))
 
 -- behind a failed write it has a prefix
-pub lost_front : (p : Gathered) (start now : Writing) (text : List ℕ) → p.lost ≡ true → HasPut start text p now → TookFront start now text WriteFailed
-lost_front p start now text lost put = subst (λ b. HasGone b start text p.left now) lost put
+pub lost_prefix : (p : Page) (start now : Writer) (text : List ℕ) → p.lost ≡ true → HasPut start text p now → TookPrefix start now text WriteFailed
+lost_prefix p start now text lost put = subst (λ b. HasGone b start text p.left now) lost put
 
 -- the page and the writer that two ways came to
-pub there : (start : Writing) (text : List ℕ) (p q : Gathered) (w x : Writing) → p ≡ q → w ≡ x → HasPut start text q x → HasPut start text p w
-there start text p q w x page writer put = subst (λ (r : Gathered). HasPut start text r w) (sym page) (subst (HasPut start text q) (sym writer) put)
+pub there : (start : Writer) (text : List ℕ) (p q : Page) (w x : Writer) → p ≡ q → w ≡ x → HasPut start text q x → HasPut start text p w
+there start text p q w x page writer put = subst (λ (r : Page). HasPut start text r w) (sym page) (subst (HasPut start text q) (sym writer) put)
 
-pub front_took : (start now : Writing) (text : List ℕ) (cause : Unwritten) → cause ≡ WriteFailed → TookFront start now text cause → TookFront start now text WriteFailed
-front_took start now text cause is took = subst (TookFront start now text) is took
+pub prefix_took : (start now : Writer) (text : List ℕ) (cause : OutputFault) → cause ≡ WriteFailed → TookPrefix start now text cause → TookPrefix start now text WriteFailed
+prefix_took start now text cause is took = subst (TookPrefix start now text) is took
 
 -- whatever follows a line that no image has
 refused_output : (o : LiveOptions) (input told : List ℕ) (fault : ImageFault) → told ≡ [] → (so_far (asked_by o) o.from_image input).0 ≡ refused fault
@@ -95,13 +95,13 @@ refused_output : (o : LiveOptions) (input told : List ℕ) (fault : ImageFault) 
 refused_output o input told fault none is =
     let torn = (so_far (asked_by o) o.from_image input).1 in
     ap (λ t. record { text = t ++ (image_fault fault).text; status = 1 }) none
-    ∙ ap (λ s. record { text = written_of (ended (asked_by o) (s, torn)); status = status_of (ended (asked_by o) (s, torn)) }) (sym is)
+    ∙ ap (λ s. record { text = written_of (ended (asked_by o) (s, torn)); status = exit_status (ended (asked_by o) (s, torn)) }) (sym is)
 
-pub halt_output : (run : Run) (told : List ℕ) (why : Halt) → Halts run told why → IsOutput run (record { text = told ++ halt_text why; status = 1 })
+pub halt_output : (run : Run) (told : List ℕ) (why : EndFault) → Halts run told why → IsLiveOutput run (record { text = told ++ halt_text why; status = 1 })
 halt_output run told (halt.Refused fault) h =
     inr (inl (record { bytes = h.bytes; gave = h.gave; none_failed = h.reader; is = λ more. refused_output run.options (h.bytes ++ more) told fault h.is.0 (h.is.1 more) }))
 halt_output run told halt.Unreadable h = inr (inr (inl (record { bytes = h.bytes; gave = h.gave; failed = h.reader; is = ap (λ t. record { text = t ++ halt_text halt.Unreadable; status = 1 }) h.is })))
-halt_output run told halt.OutOfMemory h = inr (inr (inr (record { bytes = h.bytes; gave = h.gave; none_failed = h.reader; told = told; front = h.is; is = refl })))
+halt_output run told halt.OutOfMemory h = inr (inr (inr (record { bytes = h.bytes; gave = h.gave; none_failed = h.reader; told = told; prefix = h.is; is = refl })))
 
-pub end_output : (run : Run) (told : List ℕ) (status : ℕ) → Ends run told status → IsOutput run (record { text = told; status = status })
+pub end_output : (run : Run) (told : List ℕ) (status : ℕ) → EndsRun run told status → IsLiveOutput run (record { text = told; status = status })
 end_output run told status e = inl (record { input = e.input; gave = e.gave; whole = e.whole; none_failed = e.none_failed; is = e.is })

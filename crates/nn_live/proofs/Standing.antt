@@ -25,20 +25,20 @@ use Rattle.nn_segment.specs.Segment.{Segment, is_end}
 use Rattle.nn_segment.specs.declared.fault.SegmentFault.{SegmentFault}
 use Rattle.nn_scenario.specs.Cut.{EditLine, segment_of}
 use Rattle.nn_scenario.specs.Scenario.{is_blank}
-use Rattle.nn_scenario.specs.Steps.{next_message}
+use Rattle.nn_scenario.specs.Steps.{message_in_turn}
 use Rattle.nn_shadow.specs.declared.fault.ApplyFault.{ApplyFault}
 use Rattle.nn_shadow.specs.declared.fault.ApplyFault.TheVariants.{Stopped, AlreadyActive, Disorder, Refused, OutOfMemory}
 use Rattle.nn_shadow.specs.declared.fault.FlushFault.{FlushFault}
 use Rattle.nn_shadow.specs.declared.fault.HandCause.{HandCause}
-use Rattle.nn_shadow.specs.Calls.{applied_to, received, flushed, processing, without_history, after}
+use Rattle.nn_shadow.specs.Calls.{applied_to, received, flushed, processing, without_history, with_past}
 use Rattle.nn_shadow.specs.Laws.{StandsBy}
 use Rattle.nn_shadow.specs.Refusals.{Phase, apply_refusal, hand_refusal, flush_refusal, phase_after_apply}
 use Rattle.nn_shadow.proofs.Refusing.{no_refusal_applies, no_refusal_hands}
 use Rattle.nn_shadow.proofs.Standings.{begins_standing, applies as applies_standing, receives, flush_shows_picture}
 use Rattle.nn_shadow.proofs.Taken.{applies_after, receives_after, takes_after}
 use Rattle.nn_live.specs.Answers.{tables_now}
-use Rattle.nn_live.specs.Laws.{StandsAt, HasLog, StandsAtItsLog, AnswersThePicture, served}
-use Rattle.nn_live.specs.Live.{Asked, Service, begun, handed, hands, applies, follows, follows_segment, ends_segment, before_edit, with_edit, takes_edit, ends_at, promotes, empty_report, does, takes_read, takes_word, takes, takes_all}
+use Rattle.nn_live.specs.Laws.{ServiceStandsAt, HasLog, StandsAtItsLog, AnswersThePicture, served}
+use Rattle.nn_live.specs.Live.{LiveSetup, ServiceState, new_service, takes_message, hands, applies, follows, follows_segment, ends_segment, before_edit, with_edit, takes_edit, ends_at, promotes, empty_report, does, takes_read, takes_word, takes, takes_all}
 use Rattle.nn_live.specs.Words.{word_in}
 use Rattle.nn_live.specs.declared.word.Word.{Word}
 use Rattle.nn_live.specs.declared.word.Word.TheVariants as kind
@@ -57,7 +57,7 @@ shows_again x sent [] e p = p
 shows_again x sent (m ∷ l) e p = absurd (cc)
 
 module _ (n : Namespace) (base : ℕ) where
-  pub begins : StandsBy n base [] no_messages (fresh n base) → StandsAt n base [] (fresh n base) false no_messages
+  pub begins : StandsBy n base [] no_messages (fresh n base) → ServiceStandsAt n base [] (fresh n base) false no_messages
   begins first = record {
     log = first.stands.log;
     last = first.stands.last;
@@ -69,8 +69,8 @@ module _ (n : Namespace) (base : ℕ) where
   }
 
   -- a standby that stands, and was not promoted, once its history was taken
-  now_at : (txs : List Tx) (sent : Lanes) (told : History) (x : StandbyState) (active : Bool) → active ≡ false → StandsBy n base txs sent (after told x)
-      → StandsAt n base txs (without_history x) active sent
+  now_at : (txs : List Tx) (sent : Lanes) (told : History) (x : StandbyState) (active : Bool) → active ≡ false → StandsBy n base txs sent (with_past told x)
+      → ServiceStandsAt n base txs (without_history x) active sent
   now_at txs sent told x active not_active by = record {
     log = by.stands.log;
     last = by.stands.last;
@@ -81,23 +81,23 @@ module _ (n : Namespace) (base : ℕ) where
     flushed = λ a. absurd (cc);
   }
 
-  message : (txs : List Tx) (x : StandbyState) (phase : Phase) (sent : Lanes) (m : Message) → StandsAt n base txs x phase.active sent → hand_refusal 256 phase x m ≡ None
-      → StandsAt n base txs (without_history (received x m)) phase.active (followed_by sent m)
+  message : (txs : List Tx) (x : StandbyState) (phase : Phase) (sent : Lanes) (m : Message) → ServiceStandsAt n base txs x phase.active sent → hand_refusal 256 phase x m ≡ None
+      → ServiceStandsAt n base txs (without_history (received x m)) phase.active (followed_by sent m)
   message txs x phase sent m i e =
       let r = no_refusal_hands 256 phase x m e in
       let a : phase.active ≡ false = r.2.not_active in
-      let by = receives n base txs sent (after i.told x) m (i.stands a) r.1 in
+      let by = receives n base txs sent (with_past i.told x) m (i.stands a) r.1 in
       now_at txs (followed_by sent m) i.told (received x m) phase.active a (subst (StandsBy n base txs (followed_by sent m)) (receives_after i.told x m) by)
 
-  transaction : (txs : List Tx) (x : StandbyState) (phase : Phase) (sent : Lanes) (tx : Tx) → StandsAt n base txs x phase.active sent → apply_refusal phase x tx ≡ None
-      → StandsAt n base (txs ++ tx ∷ []) (without_history (applied_to x tx)) phase.active sent
+  transaction : (txs : List Tx) (x : StandbyState) (phase : Phase) (sent : Lanes) (tx : Tx) → ServiceStandsAt n base txs x phase.active sent → apply_refusal phase x tx ≡ None
+      → ServiceStandsAt n base (txs ++ tx ∷ []) (without_history (applied_to x tx)) phase.active sent
   transaction txs x phase sent tx i e =
       let r = no_refusal_applies phase x tx e in
       let a : phase.active ≡ false = r.2.not_active in
-      let by = applies_standing n base txs sent (after i.told x) tx (i.stands a) r.0 r.1 in
+      let by = applies_standing n base txs sent (with_past i.told x) tx (i.stands a) r.0 r.1 in
       now_at (txs ++ tx ∷ []) sent i.told (applied_to x tx) phase.active a (subst (StandsBy n base (txs ++ tx ∷ []) sent) (applies_after i.told x tx) by)
 
-  pub promotion : (txs : List Tx) (x : StandbyState) (active : Bool) (sent : Lanes) → StandsAt n base txs x active sent → StandsAt n base txs (without_history (flushed x)) true sent
+  pub promotion : (txs : List Tx) (x : StandbyState) (active : Bool) (sent : Lanes) → ServiceStandsAt n base txs x active sent → ServiceStandsAt n base txs (without_history (flushed x)) true sent
   promotion txs x active sent i = record {
     log = i.log;
     last = i.last;
@@ -109,53 +109,53 @@ module _ (n : Namespace) (base : ℕ) where
   }
     where
       at : (b : Bool) → active ≡ b → ShowsPicture x.namespace (items sent) (tables_of (flushed x))
-      at false e = flush_shows_picture n base txs sent (after i.told x) (i.stands e)
+      at false e = flush_shows_picture n base txs sent (with_past i.told x) (i.stands e)
       at true e = shows_again x sent x.held (i.flushed e) (i.shows e)
 
-module _ (asked : Asked) (n : Namespace) (base : ℕ) where
-  abbrev Is : Service → Type 0
+module _ (asked : LiveSetup) (n : Namespace) (base : ℕ) where
+  abbrev Is : ServiceState → Type 0
   Is s = HasLog n base s
 
-  either_way : (b : Bool) (s t : Service) → Is s → Is t → Is (cond b s t)
+  either_way : (b : Bool) (s t : ServiceState) → Is s → Is t → Is (cond b s t)
   either_way true s t i j = i
   either_way false s t i j = j
 
-  pub one_report : (m : Message) (rest : Service → Service) → ((t : Service) → Is t → Is (rest t)) → (s : Service) → Is s
-      → (r : Option HandCause) → hand_refusal 256 s.phase s.standby m ≡ r → Is (handed asked m r rest s)
+  pub one_report : (m : Message) (rest : ServiceState → ServiceState) → ((t : ServiceState) → Is t → Is (rest t)) → (s : ServiceState) → Is s
+      → (r : Option HandCause) → hand_refusal 256 s.phase s.standby m ≡ r → Is (takes_message asked m r rest s)
   one_report m rest later s i None e = later _ (message n base s.log s.standby s.phase s.sent m i e)
   one_report m rest later s i (Some cause) e = i
 
-  pub all_reports : (reports : List Report) (s : Service) → Is s → Is (hands asked reports s)
+  pub all_reports : (reports : List Report) (s : ServiceState) → Is s → Is (hands asked reports s)
   all_reports [] s i = i
-  all_reports (r ∷ reports) s i = one_report (next_message s.sent r) (λ t. hands asked reports t) (all_reports reports) s i (hand_refusal 256 s.phase s.standby (next_message s.sent r)) refl
+  all_reports (r ∷ reports) s i = one_report (message_in_turn s.sent r) (λ t. hands asked reports t) (all_reports reports) s i (hand_refusal 256 s.phase s.standby (message_in_turn s.sent r)) refl
 
-  pub one_tx : (tx : Tx) (rest : Service → Service) → ((t : Service) → Is t → Is (rest t)) → (s : Service) → Is s
+  pub one_tx : (tx : Tx) (rest : ServiceState → ServiceState) → ((t : ServiceState) → Is t → Is (rest t)) → (s : ServiceState) → Is s
       → (r : Option ApplyFault) → apply_refusal s.phase s.standby tx ≡ r → Is (applies asked tx r rest s)
   one_tx tx rest later s i None e = later _ (transaction n base s.log s.standby s.phase s.sent tx i e)
-  one_tx tx rest later s i (Some fault) e = subst (λ a. StandsAt n base s.log s.standby a s.sent) (sym (active_stays s.phase tx fault)) i
+  one_tx tx rest later s i (Some fault) e = subst (λ a. ServiceStandsAt n base s.log s.standby a s.sent) (sym (active_stays s.phase tx fault)) i
 
-  all_txs : (txs : List Tx) (s : Service) → Is s → Is (follows asked txs s)
+  all_txs : (txs : List Tx) (s : ServiceState) → Is s → Is (follows asked txs s)
   all_txs [] s i = i
   all_txs (tx ∷ txs) s i = one_tx tx (λ t. follows asked txs t) (all_txs txs) s i (apply_refusal s.phase s.standby tx) refl
 
-  pub segment : (r : Result Segment SegmentFault) (s : Service) → Is s → Is (follows_segment asked r s)
+  pub segment : (r : Result Segment SegmentFault) (s : ServiceState) → Is s → Is (follows_segment asked r s)
   segment (Err fault) s i = i
   segment (Ok g) s i = either_way _ _ _ i (all_txs (counted s.standby.last g.txs) _ i)
 
-  ends : (s : Service) → Is s → Is (ends_segment asked s)
+  ends : (s : ServiceState) → Is s → Is (ends_segment asked s)
   ends s i = segment (segment_of s.in_hand) _ i
 
-  edit : (line : EditLine) (s : Service) → Is s → Is (takes_edit asked line s)
+  edit : (line : EditLine) (s : ServiceState) → Is s → Is (takes_edit asked line s)
   edit line s i =
       let t = with_edit line (before_edit asked line.tx s) in
       let j : Is t = either_way _ _ _ (ends s i) i in
       either_way (is_end line.tx.edit) _ _ (ends t j) j
 
-  pub promoted : (txid : ℕ) (lost : Bool) (r : Option FlushFault) (s : Service) → Is s → Is (promotes asked txid lost r s)
+  pub promoted : (txid : ℕ) (lost : Bool) (r : Option FlushFault) (s : ServiceState) → Is s → Is (promotes asked txid lost r s)
   promoted txid lost (Some fault) s i = i
   promoted txid lost None s i = either_way _ _ _ i (either_way (ends_at txid lost s) _ _ (promotion n base s.log s.standby s.phase.active s.sent i) i)
 
-  word : (w : Word) (s : Service) → Is s → Is (does asked w s)
+  word : (w : Word) (s : ServiceState) → Is s → Is (does asked w s)
   word kind.Sync s i = i
   word kind.Status s i = i
   word (kind.Held most) s i = i
@@ -168,33 +168,33 @@ module _ (asked : Asked) (n : Namespace) (base : ℕ) where
   word (kind.Promote txid) s i = promoted txid false (flush_refusal s.phase) s i
   word (kind.PromoteLosing txid) s i = promoted txid true (flush_refusal s.phase) s i
 
-  read : (text : List ℕ) (r : Result Line LineFault) (s : Service) → Is s → Is (takes_read asked text r s)
+  read : (text : List ℕ) (r : Result Line LineFault) (s : ServiceState) → Is s → Is (takes_read asked text r s)
   read text (Ok (either.Edit tx)) s i = edit (record { text = text; tx = tx }) s i
   read text (Ok (either.Report r)) s i = all_reports (r ∷ []) s i
   read text (Err fault) s i = i
 
-  word_or_read : (text : List ℕ) (w : Option Word) (s : Service) → Is s → Is (takes_word asked text w s)
+  word_or_read : (text : List ℕ) (w : Option Word) (s : ServiceState) → Is s → Is (takes_word asked text w s)
   word_or_read text (Some w) s i = word w s i
   word_or_read text None s i = read text (either_of_line text) s i
 
-  line : (text : List ℕ) (s : Service) → Is s → Is (takes asked text s)
+  line : (text : List ℕ) (s : ServiceState) → Is s → Is (takes asked text s)
   unfolding takes
   line text s i = either_way (is_blank text) _ _ i (word_or_read text (word_in text) _ i)
 
-  all_lines : (texts : List (List ℕ)) (s : Service) → Is s → Is (takes_all asked texts s)
+  all_lines : (texts : List (List ℕ)) (s : ServiceState) → Is s → Is (takes_all asked texts s)
   unfolding takes_all
   all_lines [] s i = i
   all_lines (text ∷ texts) s i = all_lines texts (takes asked text s) (line text s i)
 
   from_first : HasWellFormedBlocks n → (texts : List (List ℕ)) → Is (served asked n base texts)
-  from_first w texts = all_lines texts (begun n base) (begins n base (begins_standing n base w))
+  from_first w texts = all_lines texts (new_service n base) (begins n base (begins_standing n base w))
 
 pub stands_at_its_log : StandsAtItsLog
 stands_at_its_log asked n base texts w = from_first asked n base w texts
 
 -- ---- The tables of a service that was promoted.
 
-module _ (asked : Asked) where
+module _ (asked : LiveSetup) where
   abbrev text_of : Lanes → StandbyState → (ℕ → ℕ → Option Replica) → (ℕ → ℕ → Bool) → List ℕ
   text_of lanes x replica has_order =
       of_each lanes (λ id dn. replica_text id (block_at x.namespace id) dn (replica dn id))

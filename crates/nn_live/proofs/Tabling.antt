@@ -8,7 +8,7 @@ use Rattle.nn_model.specs.Held.{is_held, without_held}
 use Rattle.nn_model.specs.Items.{items}
 use Rattle.nn_model.specs.Lanes.{Lanes}
 use Rattle.nn_model.specs.Namespace.{Namespace}
-use Rattle.nn_model.specs.Picture.{has_now, ShowsPicture}
+use Rattle.nn_model.specs.Picture.{last_replica, ShowsPicture}
 use Rattle.nn_model.specs.Replay.{is_named}
 use Rattle.nn_model.specs.Stands.{StandbyState, tables_of}
 use Rattle.nn_model.proofs.Standings.{tables_show_picture}
@@ -18,8 +18,8 @@ use Rattle.nn_listing.specs.Tables.{IsOfSaid, is_said}
 use Rattle.nn_listing.proofs.SaidIds.{has_nothing}
 use Rattle.nn_live.specs.Answers.{tables_now}
 use Rattle.nn_live.specs.Laws.{HasLog}
-use Rattle.nn_live.specs.Live.{Asked, Service, does, says}
-use Rattle.nn_live.specs.Serving.{Seen, IsAt, Makes, tables_seen}
+use Rattle.nn_live.specs.Live.{LiveSetup, ServiceState, does, says}
+use Rattle.nn_live.specs.Serving.{Service, IsAtService, FollowsStep, tables_seen}
 use Rattle.nn_live.specs.declared.word.Word.TheVariants as word
 use Rattle.nn_live.proofs.Places.{only_tells}
 
@@ -48,11 +48,11 @@ none_there false r e = (refl, ap is_some e)
 -- of a picture
 not_pictured : (lanes : Lanes) (x : StandbyState) (dn id : ℕ) → ShowsPicture x.namespace lanes (tables_of x) → is_said lanes dn id ≡ false → (x.replica dn id ≡ None) × (x.has_order dn id ≡ false)
 not_pictured lanes x dn id shows unsaid =
-    let none = none_there (is_named x.namespace id) (has_now lanes dn id) (has_nothing lanes dn id unsaid) in
+    let none = none_there (is_named x.namespace id) (last_replica lanes dn id) (has_nothing lanes dn id unsaid) in
     (shows.replicas dn id ∙ none.0, shows.orders dn id ∙ none.1)
 
 -- and so of each service
-not_there : (n : Namespace) (base : ℕ) (s : Service) → HasLog n base s → (dn id : ℕ) → is_said (items s.sent) dn id ≡ false → (s.standby.replica dn id ≡ None) × (s.standby.has_order dn id ≡ false)
+not_there : (n : Namespace) (base : ℕ) (s : ServiceState) → HasLog n base s → (dn id : ℕ) → is_said (items s.sent) dn id ≡ false → (s.standby.replica dn id ≡ None) × (s.standby.has_order dn id ≡ false)
 not_there n base s l dn id unsaid = at s.phase.active refl
   where
     at : (b : Bool) → s.phase.active ≡ b → (s.standby.replica dn id ≡ None) × (s.standby.has_order dn id ≡ false)
@@ -65,8 +65,8 @@ not_there n base s l dn id unsaid = at s.phase.active refl
 
 -- ---- So the table lists just what is looked up in it.
 
-module _ (x : Seen) (shows : Shows x.shadow.namespace x.shadow.table) where
-  pub of_said : (asked : Asked) (s : Service) → IsAt asked x s → IsOfSaid x.shadow.namespace (items s.sent) x.shadow.table
+module _ (x : Service) (shows : Shows x.shadow.namespace x.shadow.table) where
+  pub of_said : (asked : LiveSetup) (s : ServiceState) → IsAtService asked x s → IsOfSaid x.shadow.namespace (items s.sent) x.shadow.table
   of_said asked s i = record {
     shows = shows;
     replicas = λ dn id unsaid. ap (λ (y : StandbyState). y.replica dn id) i.standby ∙ (not_there i.log.0 i.log.1 s i.log.2 dn id unsaid).0;
@@ -75,7 +75,7 @@ module _ (x : Seen) (shows : Shows x.shadow.namespace x.shadow.table) where
 
   pub tables_told : (text : List ℕ)
       → ((n : Namespace) (lanes : Lanes) → IsOfSaid n lanes x.shadow.table → text ≡ tables_seen n lanes x)
-      → Makes (λ asked s. does asked word.Tables s) x x (listing_text x.shadow.last x.shadow.namespace ++ text)
+      → FollowsStep (λ asked s. does asked word.Tables s) x x (listing_text x.shadow.last x.shadow.namespace ++ text)
   tables_told text is = only_tells (λ asked s. does asked word.Tables s) x _ (λ asked s i.
       (sym (ap (λ t. says (listing_text x.shadow.last x.shadow.namespace ++ t) s) (is x.shadow.namespace (items s.sent) (of_said asked s i))
-      ∙ ap₂ (λ (y : StandbyState) (a : Asked). says (listing_text y.last y.namespace ++ tables_now a.permille a.min (items s.sent) y) s) i.standby (sym i.asks))))
+      ∙ ap₂ (λ (y : StandbyState) (a : LiveSetup). says (listing_text y.last y.namespace ++ tables_now a.permille a.min (items s.sent) y) s) i.standby (sym i.asks))))

@@ -16,14 +16,14 @@ use Rattle.nn_model.proofs.Logs.{counts_up, gap_adds_nothing}
 use Rattle.nn_segment.specs.Segment.{Segment, is_start, is_end, starts, ends_once, first_txid}
 use Rattle.nn_segment.specs.declared.fault.SegmentFault.{SegmentFault}
 use Rattle.nn_segment.proofs.SegmentLemmas.{read_is_segment}
-use Rattle.nn_scenario.specs.Cut.{EditLine, Part, no_lines, with_line, name_of, segment_of}
+use Rattle.nn_scenario.specs.Cut.{EditLine, Part, no_lines, with_line, part_name, segment_of}
 use Rattle.nn_shadow.specs.declared.fault.Stop.{Stop}
 use Rattle.nn_shadow.specs.declared.fault.ApplyFault.{ApplyFault}
 use Rattle.nn_shadow.specs.declared.fault.ApplyFault.TheVariants.{Stopped, AlreadyActive, Refused}
 use Rattle.nn_shadow.specs.Calls.{applied_to}
 use Rattle.nn_shadow.specs.Refusals.{Phase, apply_refusal, phase_after_apply}
 use Rattle.nn_live.specs.Laws.{IsEdit, Sending, segment, other, edits, texts_of, AreSegmentLines, IsSending, sent_once, sent_twice, MayBeSentTwice}
-use Rattle.nn_live.specs.Live.{Asked, Service, begun, applies, follows, follows_new, follows_segment, ends_segment, is_between, before_edit, with_edit, takes_edit, tells_gap, comes_to, takes, takes_all, counts_line}
+use Rattle.nn_live.specs.Live.{LiveSetup, ServiceState, new_service, applies, follows, follows_new, follows_segment, ends_segment, is_between, before_edit, with_edit, takes_edit, tells_gap, comes_to, takes, takes_all, counts_line}
 use Rattle.nn_live.proofs.Alike.{bare, IsBlind, alike, all_txs, segment as segment_blind, ends as ends_blind, edit as edit_blind, all_lines}
 use Rattle.nn_live.proofs.Known.{segment as knows}
 
@@ -105,14 +105,14 @@ stops phase x tx fault next is = at phase.stopped refl phase.active refl (refusa
 
 -- ---- A segment that is followed again.
 
-module _ (asked : Asked) where
+module _ (asked : LiveSetup) where
   -- once the transactions that count are followed, the last of them is reached, or the standby refuses all
-  follows_all : (new : List Tx) (s : Service) → CountsUp s.standby.last new
+  follows_all : (new : List Tx) (s : ServiceState) → CountsUp s.standby.last new
       → Refuses (follows asked new s).phase ⊎ ((follows asked new s).standby.last ≡ s.standby.last + length new)
   follows_all [] s up = inr (omega arith)
   follows_all (tx ∷ new) s up = at (follows_all new) (apply_refusal s.phase s.standby tx) refl
     where
-      at : ((t : Service) → CountsUp t.standby.last new → Refuses (follows asked new t).phase ⊎ ((follows asked new t).standby.last ≡ t.standby.last + length new))
+      at : ((t : ServiceState) → CountsUp t.standby.last new → Refuses (follows asked new t).phase ⊎ ((follows asked new t).standby.last ≡ t.standby.last + length new))
           → (r : Option ApplyFault) → apply_refusal s.phase s.standby tx ≡ r
           → Refuses (applies asked tx r (λ t. follows asked new t) s).phase ⊎ ((applies asked tx r (λ t. follows asked new t) s).standby.last ≡ s.standby.last + length (tx ∷ new))
       at more (Some fault) e = inl (stops s.phase s.standby tx fault up.0 e)
@@ -121,32 +121,32 @@ module _ (asked : Asked) where
         | inr last ↦ inr (omega (arith, last, up.0))
       ]
 
-  refused_all : (txs : List Tx) (s : Service) → Refuses s.phase → bare (follows asked txs s) ≡ bare s
+  refused_all : (txs : List Tx) (s : ServiceState) → Refuses s.phase → bare (follows asked txs s) ≡ bare s
   refused_all [] s r = refl
   refused_all (tx ∷ txs) s r =
       let no = r s.standby tx in
       ap (λ o. bare (applies asked tx o (λ t. follows asked txs t) s)) no.1 ∙ ap (λ p. bare (record s { phase = p })) no.2
 
-  no_more : (b : ℕ) (txs : List Tx) → CountsUp b txs → (x y : Service) → y ≡ follows asked (counted x.standby.last txs) x
+  no_more : (b : ℕ) (txs : List Tx) → CountsUp b txs → (x y : ServiceState) → y ≡ follows asked (counted x.standby.last txs) x
       → bare (follows asked (counted y.standby.last txs) y) ≡ bare y
   no_more b txs up x y is = elim (follows_all (counted x.standby.last txs) x (counts_up x.standby.last txs)) [
-    | inl refuses ↦ refused_all (counted y.standby.last txs) y (subst (λ (t : Service). Refuses t.phase) (sym is) refuses)
+    | inl refuses ↦ refused_all (counted y.standby.last txs) y (subst (λ (t : ServiceState). Refuses t.phase) (sym is) refuses)
     | inr last ↦
-        let none : counted y.standby.last txs ≡ [] = ap (λ (t : Service). counted t.standby.last txs) is ∙ ap (λ k. counted k txs) last ∙ counted_once b txs up x.standby.last in
+        let none : counted y.standby.last txs ≡ [] = ap (λ (t : ServiceState). counted t.standby.last txs) is ∙ ap (λ k. counted k txs) last ∙ counted_once b txs up x.standby.last in
         ap (λ ts. bare (follows asked ts y)) none
   ]
 
   abbrev CountUp : Result Segment SegmentFault → Type 0
   CountUp r = (g : Segment) → r ≡ Ok g → CountsUp (first_txid g.txs - 1) g.txs
 
-  followed_again : (r : Result Segment SegmentFault) → CountUp r → (x : Service) → bare (follows_segment asked r (follows_segment asked r x)) ≡ bare (follows_segment asked r x)
+  followed_again : (r : Result Segment SegmentFault) → CountUp r → (x : ServiceState) → bare (follows_segment asked r (follows_segment asked r x)) ≡ bare (follows_segment asked r x)
   followed_again (Err fault) up x = refl
   followed_again (Ok g) up x = at (ltb (x.standby.last + 1) (first_txid g.txs)) refl
     where
-      shape : Service → Bool → Service
+      shape : ServiceState → Bool → ServiceState
       shape y b = cond b (tells_gap y) (follows_new asked g.txs (counted y.standby.last g.txs) y)
 
-      second : (y : Service) (b : Bool) → bare (follows asked (counted y.standby.last g.txs) y) ≡ bare y → bare (shape y b) ≡ bare y
+      second : (y : ServiceState) (b : Bool) → bare (follows asked (counted y.standby.last g.txs) y) ≡ bare y → bare (shape y b) ≡ bare y
       second y true same = refl
       second y false same = alike asked (follows asked (counted y.standby.last g.txs)) (all_txs asked (counted y.standby.last g.txs)) _ y refl ∙ same
 
@@ -157,18 +157,18 @@ module _ (asked : Asked) where
           second (shape x false) _ (no_more (first_txid g.txs - 1) g.txs (up g refl) from (shape x false) refl)
 
   -- what is in hand stays
-  abbrev SameHand : Service → Service → Type 0
+  abbrev SameHand : ServiceState → ServiceState → Type 0
   SameHand s t = t.in_hand ≡ s.in_hand
 
-  one_kept : (tx : Tx) (rest : Service → Service) → ((t : Service) → SameHand t (rest t)) → (s : Service) (r : Option ApplyFault) → SameHand s (applies asked tx r rest s)
+  one_kept : (tx : Tx) (rest : ServiceState → ServiceState) → ((t : ServiceState) → SameHand t (rest t)) → (s : ServiceState) (r : Option ApplyFault) → SameHand s (applies asked tx r rest s)
   one_kept tx rest later s None = later _
   one_kept tx rest later s (Some fault) = refl
 
-  all_kept : (txs : List Tx) (s : Service) → SameHand s (follows asked txs s)
+  all_kept : (txs : List Tx) (s : ServiceState) → SameHand s (follows asked txs s)
   all_kept [] s = refl
   all_kept (tx ∷ txs) s = one_kept tx (λ t. follows asked txs t) (all_kept txs) s (apply_refusal s.phase s.standby tx)
 
-  hand_kept : (r : Result Segment SegmentFault) (s : Service) → SameHand s (follows_segment asked r s)
+  hand_kept : (r : Result Segment SegmentFault) (s : ServiceState) → SameHand s (follows_segment asked r s)
   hand_kept (Err fault) s = refl
   hand_kept (Ok g) s = at (ltb (s.standby.last + 1) (first_txid g.txs))
     where
@@ -193,7 +193,7 @@ not_both (SetReplication p r) s e = absurd (cc)
 not_both (AllocateBlockId i) s e = absurd (cc)
 not_both (SetGenstamp g) s e = absurd (cc)
 
-abbrev adds : List EditLine → Service → Service
+abbrev adds : List EditLine → ServiceState → ServiceState
 adds [] s = s
 adds (l ∷ lines) s = adds lines (with_edit l s)
 
@@ -206,7 +206,7 @@ abbrev most : List EditLine → ℕ → ℕ
 most [] k = k
 most (l ∷ lines) k = most lines (max k l.tx.txid)
 
-added : (lines : List EditLine) (s : Service) → bare (adds lines s) ≡ record (bare s) { in_hand = hand lines s.in_hand; known = most lines s.known }
+added : (lines : List EditLine) (s : ServiceState) → bare (adds lines s) ≡ record (bare s) { in_hand = hand lines s.in_hand; known = most lines s.known }
 added [] s = refl
 added (l ∷ lines) s = added lines (with_edit l s)
 
@@ -226,8 +226,8 @@ most_stays : (lines : List EditLine) (k : ℕ) → IsWithin k lines → most lin
 most_stays [] k within = refl
 most_stays (l ∷ lines) k within = ap (most lines) (max-eq_left within.0) ∙ most_stays lines k within.1
 
-module _ (asked : Asked) where
-  abbrev run : List EditLine → Service → Service
+module _ (asked : LiveSetup) where
+  abbrev run : List EditLine → ServiceState → ServiceState
   run [] s = s
   run (l ∷ lines) s = run lines (takes_edit asked l s)
 
@@ -235,14 +235,14 @@ module _ (asked : Asked) where
   run_blind [] s = refl
   run_blind (l ∷ lines) s = alike asked (run lines) (run_blind lines) _ _ (edit_blind asked l s)
 
-  one_line : (l : EditLine) → IsEdit l.text l.tx → (s : Service) → takes asked l.text s ≡ takes_edit asked l (counts_line s)
+  one_line : (l : EditLine) → IsEdit l.text l.tx → (s : ServiceState) → takes asked l.text s ≡ takes_edit asked l (counts_line s)
   unfolding takes
   one_line l is s = rw (is.not_blank, is.no_word, is.read) refl
 
   abbrev Read : EditLine → Type 0
   Read l = IsEdit l.text l.tx
 
-  all_run : (lines : List EditLine) → All Read lines → (s : Service) → bare (takes_all asked (texts_of lines) s) ≡ bare (run lines s)
+  all_run : (lines : List EditLine) → All Read lines → (s : ServiceState) → bare (takes_all asked (texts_of lines) s) ≡ bare (run lines s)
   unfolding takes_all
   all_run [] are s = refl
   all_run (l ∷ lines) are s =
@@ -250,20 +250,20 @@ module _ (asked : Asked) where
       ∙ alike asked (run lines) (run_blind lines) _ _ (alike asked (takes_edit asked l) (edit_blind asked l) (counts_line s) s refl)
 
   -- an edit as its marks say
-  abbrev by_marks : EditLine → Service → Bool → Bool → Service
+  abbrev by_marks : EditLine → ServiceState → Bool → Bool → ServiceState
   by_marks l s starts ends =
       let t = with_edit l (cond (starts && not (is_between s)) (ends_segment asked s) s) in
       cond ends (ends_segment asked t) t
 
-  over : (lines : List EditLine) (t : Service) → (length (edits lines) == 0) ≡ true → run lines (ends_segment asked t) ≡ ends_segment asked (adds lines t)
+  over : (lines : List EditLine) (t : ServiceState) → (length (edits lines) == 0) ≡ true → run lines (ends_segment asked t) ≡ ends_segment asked (adds lines t)
   over [] t e = refl
   over (l ∷ lines) t e = absurd (omega (arith, eqb-true (length (edits (l ∷ lines))) 0 e))
 
-  rest_run : (lines : List EditLine) → ends_once (edits lines) ≡ true → (s : Service) → run lines s ≡ ends_segment asked (adds lines s)
+  rest_run : (lines : List EditLine) → ends_once (edits lines) ≡ true → (s : ServiceState) → run lines s ≡ ends_segment asked (adds lines s)
   rest_run [] e s = absurd (cc)
   rest_run (l ∷ lines) e s = at (rest_run lines) (is_start l.tx.edit) refl (is_end l.tx.edit) refl e
     where
-      at : (ends_once (edits lines) ≡ true → (t : Service) → run lines t ≡ ends_segment asked (adds lines t)) → (a : Bool) → is_start l.tx.edit ≡ a → (b : Bool) → is_end l.tx.edit ≡ b
+      at : (ends_once (edits lines) ≡ true → (t : ServiceState) → run lines t ≡ ends_segment asked (adds lines t)) → (a : Bool) → is_start l.tx.edit ≡ a → (b : Bool) → is_end l.tx.edit ≡ b
           → cond (a || b) (b && (length (edits lines) == 0)) (ends_once (edits lines)) ≡ true → run lines (takes_edit asked l s) ≡ ends_segment asked (adds lines (with_edit l s))
       at more true starts true ends e = absurd (not_both l.tx.edit starts ends)
       at more true starts false ends e = absurd (cc)
@@ -285,16 +285,16 @@ has_start [] are = absurd (never are.starts)
     never e = absurd (cc)
 has_start (l ∷ lines) are = record { first = l; rest = lines; are = refl; starts = are.starts; ends = are.ends }
 
-module _ (asked : Asked) (l : EditLine) (lines : List EditLine) (starts : is_start l.tx.edit ≡ true) (ends : ends_once (edits lines) ≡ true) where
+module _ (asked : LiveSetup) (l : EditLine) (lines : List EditLine) (starts : is_start l.tx.edit ≡ true) (ends : ends_once (edits lines) ≡ true) where
   -- the segment's part
   abbrev part : Part
   part = hand lines (with_line no_lines l)
 
   -- where the segment is judged
-  abbrev judged : Service → Service
+  abbrev judged : ServiceState → ServiceState
   judged b = record (bare b) { in_hand = no_lines; known = most (l ∷ lines) b.known }
 
-  adds_part : (b : Service) → bare (adds (l ∷ lines) b) ≡ record (judged b) { in_hand = part }
+  adds_part : (b : ServiceState) → bare (adds (l ∷ lines) b) ≡ record (judged b) { in_hand = part }
   adds_part b = added (l ∷ lines) b ∙ ap (λ c. record (judged b) { in_hand = hand lines (with_line (cond c no_lines b.in_hand) l) }) starts
 
   no_end : is_end l.tx.edit ≡ false
@@ -304,20 +304,20 @@ module _ (asked : Asked) (l : EditLine) (lines : List EditLine) (starts : is_sta
       at true e = absurd (not_both l.tx.edit starts e)
       at false e = refl
 
-  runs : (s : Service) → run asked (l ∷ lines) s ≡ ends_segment asked (adds (l ∷ lines) (before_edit asked l.tx s))
+  runs : (s : ServiceState) → run asked (l ∷ lines) s ≡ ends_segment asked (adds (l ∷ lines) (before_edit asked l.tx s))
   runs s = ap (λ b. run asked lines (by_marks asked l s (is_start l.tx.edit) b)) no_end ∙ rest_run asked lines ends (with_edit l (before_edit asked l.tx s))
 
-  comes : (s : Service) → bare (run asked (l ∷ lines) s) ≡ bare (follows_segment asked (segment_of part) (judged (before_edit asked l.tx s)))
+  comes : (s : ServiceState) → bare (run asked (l ∷ lines) s) ≡ bare (follows_segment asked (segment_of part) (judged (before_edit asked l.tx s)))
   comes s =
       let b = before_edit asked l.tx s in
       ap bare (runs s) ∙ ends_blind asked (adds (l ∷ lines) b) ∙ ap (λ u. bare (ends_segment asked u)) (adds_part b)
       ∙ alike asked (follows_segment asked (segment_of part)) (segment_blind asked (segment_of part)) _ (judged b) refl
 
   count_up : CountUp asked (segment_of part)
-  count_up g e = (read_is_segment (name_of part.txs) part.bytes g e).0.counts_up
+  count_up g e = (read_is_segment (part_name part.txs) part.bytes g e).0.counts_up
 
   -- sent once, and again
-  again : (s : Service) → bare (run asked (l ∷ lines) (run asked (l ∷ lines) s)) ≡ bare (run asked (l ∷ lines) s)
+  again : (s : ServiceState) → bare (run asked (l ∷ lines) (run asked (l ∷ lines) s)) ≡ bare (run asked (l ∷ lines) s)
   again s =
       let x = judged (before_edit asked l.tx s) in
       let y = follows_segment asked (segment_of part) x in
@@ -329,19 +329,19 @@ module _ (asked : Asked) (l : EditLine) (lines : List EditLine) (starts : is_sta
       alike asked (run asked (l ∷ lines)) (run_blind asked (l ∷ lines)) _ y once ∙ comes y ∙ ap (λ u. bare (follows_segment asked (segment_of part) u)) same
       ∙ sym (segment_blind asked (segment_of part) y) ∙ followed_again asked (segment_of part) count_up x ∙ sym once
     where
-      stays : (b : Bool) (t u : Service) → cond (b && false) t u ≡ u
+      stays : (b : Bool) (t u : ServiceState) → cond (b && false) t u ≡ u
       stays true t u = refl
       stays false t u = refl
 
 -- ---- All that a caller sends.
 
-module _ (asked : Asked) where
-  all_append : (xs ys : List (List ℕ)) (s : Service) → takes_all asked (xs ++ ys) s ≡ takes_all asked ys (takes_all asked xs s)
+module _ (asked : LiveSetup) where
+  all_append : (xs ys : List (List ℕ)) (s : ServiceState) → takes_all asked (xs ++ ys) s ≡ takes_all asked ys (takes_all asked xs s)
   unfolding takes_all
   all_append [] ys s = refl
   all_append (x ∷ xs) ys s = all_append xs ys (takes asked x s)
 
-  segment_twice : (lines : List EditLine) → AreSegmentLines lines → (s : Service)
+  segment_twice : (lines : List EditLine) → AreSegmentLines lines → (s : ServiceState)
       → bare (takes_all asked (texts_of lines) (takes_all asked (texts_of lines) s)) ≡ bare (takes_all asked (texts_of lines) s)
   segment_twice lines are s =
       let h = has_start lines are in
@@ -351,7 +351,7 @@ module _ (asked : Asked) where
       ∙ subst (λ ls. bare (run asked ls (run asked ls s)) ≡ bare (run asked ls s)) (sym h.are) (again asked h.first h.rest h.starts h.ends s)
       ∙ sym once
 
-  sends : (all : List Sending) → All IsSending all → (s t : Service) → bare s ≡ bare t
+  sends : (all : List Sending) → All IsSending all → (s t : ServiceState) → bare s ≡ bare t
       → bare (takes_all asked (flat_map sent_once all) s) ≡ bare (takes_all asked (flat_map sent_twice all) t)
   unfolding takes_all
   sends [] are s t e = e
@@ -370,12 +370,12 @@ module _ (asked : Asked) where
 
 pub may_be_sent_twice : MayBeSentTwice
 may_be_sent_twice asked n base all are =
-    let e = sends asked all are (begun n base) (begun n base) refl in
+    let e = sends asked all are (new_service n base) (new_service n base) refl in
     record {
-      standby = ap (λ (s : Service). s.standby) e;
-      phase = ap (λ (s : Service). s.phase) e;
-      log = ap (λ (s : Service). s.log) e;
-      sent = ap (λ (s : Service). s.sent) e;
-      in_hand = ap (λ (s : Service). s.in_hand) e;
-      known = ap (λ (s : Service). s.known) e;
+      standby = ap (λ (s : ServiceState). s.standby) e;
+      phase = ap (λ (s : ServiceState). s.phase) e;
+      log = ap (λ (s : ServiceState). s.log) e;
+      sent = ap (λ (s : ServiceState). s.sent) e;
+      in_hand = ap (λ (s : ServiceState). s.in_hand) e;
+      known = ap (λ (s : ServiceState). s.known) e;
     }

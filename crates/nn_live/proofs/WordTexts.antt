@@ -22,15 +22,15 @@ use Rattle.nn_plain.specs.Ahead.{data_at}
 use Rattle.nn_plain.proofs.Turns.{whole_read, whole_and_more, whole_refused}
 use Rattle.nn_edits.specs.Reading.{value_of}
 use Rattle.nn_edits.proofs.JsonLines.{value_of_text}
-use Rattle.nn_live.specs.Words.{number_in, path_in, alone, behind_front, is_text, or_else, word_in}
+use Rattle.nn_live.specs.Words.{number_word, path_word, word_alone, behind_prefix, is_text, or_else, word_in}
 
-pub written : (text : List ℕ) (n : ℕ) → n < 2 ^ 63 → text ≡ decimal n → number_in text ≡ Some n
+pub written : (text : List ℕ) (n : ℕ) → n < 2 ^ 63 → text ≡ decimal n → number_word text ≡ Some n
 written text n small is =
     let value : digits_value 10 text ≡ n = ap (digits_value 10) is ∙ (decimal_is_IsNumeral n (omega (arith, small))).1 in
     let same : bytes_eq text (decimal n) ≡ true = (bytes_eq-Decides text (decimal n)).1 is in
     rw (value, lt-ltb n (2 ^ 63) small, same) refl
 
-pub not_written : (text : List ℕ) → ((n : ℕ) → n < 2 ^ 63 → text ≡ decimal n → ⊥) → number_in text ≡ None
+pub not_written : (text : List ℕ) → ((n : ℕ) → n < 2 ^ 63 → text ≡ decimal n → ⊥) → number_word text ≡ None
 not_written text never = at (ltb (digits_value 10 text) (2 ^ 63)) refl (bytes_eq text (decimal (digits_value 10 text))) refl
   where
     at : (a : Bool) → ltb (digits_value 10 text) (2 ^ 63) ≡ a → (b : Bool) → bytes_eq text (decimal (digits_value 10 text)) ≡ b
@@ -51,7 +51,7 @@ parses_it text m n r got small is parses = own r r refl got (parsed text n r sma
 
 -- ---- The path that a text of JSON spells.
 
-pub no_value : (text : List ℕ) → (IsUtf8 text → read text ≡ None) → path_in text ≡ None
+pub no_value : (text : List ℕ) → (IsUtf8 text → read text ≡ None) → path_word text ≡ None
 unfolding value_of
 no_value text none = at (is_utf8 text) refl
   where
@@ -59,7 +59,7 @@ no_value text none = at (is_utf8 text) refl
     at true e = ap (λ o. option_and_then path_of (option_and_then as_str o)) (none (IsUtf8-from_is_utf8 text e))
     at false e = refl
 
-pub value_there : (text : List ℕ) (d : Data) → IsUtf8 text → read text ≡ Some d → path_in text ≡ option_and_then path_of (as_str d)
+pub value_there : (text : List ℕ) (d : Data) → IsUtf8 text → read text ≡ Some d → path_word text ≡ option_and_then path_of (as_str d)
 value_there text d utf8 is = ap (λ o. option_and_then path_of (option_and_then as_str o)) (value_of_text text d utf8 is)
 
 pub nothing_ahead : (text : List ℕ) → data_at 127 (tokens text) ≡ None → read text ≡ None
@@ -91,13 +91,13 @@ begins (x ∷ line) b is = let same : b ≡ x = cc in (line, ap (λ y. y ∷ lin
 
 -- a line that begins above all letters
 pub no_word : (line : List ℕ) (b : ℕ) (rest : List ℕ) → line ≡ b ∷ rest → 122 < b → word_in line ≡ None
-unfolding word_in alone
-no_word line b rest is above = ap (λ l. cond (is_text l) (or_else (alone l) (behind_front l)) None) is ∙ none (is_text (b ∷ rest))
+unfolding word_in word_alone
+no_word line b rest is above = ap (λ l. cond (is_text l) (or_else (word_alone l) (behind_prefix l)) None) is ∙ none (is_text (b ∷ rest))
   where
     isnt : (x : ℕ) → x ≤ 122 → (b == x) ≡ false
     isnt x low = ne_eqb b x (λ same. absurd (omega (arith, same, low, above)))
 
-    none : (t : Bool) → cond t (or_else (alone (b ∷ rest)) (behind_front (b ∷ rest))) None ≡ None
+    none : (t : Bool) → cond t (or_else (word_alone (b ∷ rest)) (behind_prefix (b ∷ rest))) None ≡ None
     none true = rw (isnt 115 (omega arith), isnt 104 (omega arith), isnt 117 (omega arith), isnt 116 (omega arith), isnt 99 (omega arith), isnt 112 (omega arith), isnt 98 (omega arith), isnt 103 (omega arith)) refl
     none false = refl
 
@@ -105,11 +105,11 @@ pub no_text : (line : List ℕ) → (IsUtf8 line → ⊥) → word_in line ≡ N
 unfolding word_in
 no_text line never = at (leb (length line) 65536) (is_utf8 line) refl
   where
-    at : (a b : Bool) → is_utf8 line ≡ b → cond (a && b) (or_else (alone line) (behind_front line)) None ≡ None
+    at : (a b : Bool) → is_utf8 line ≡ b → cond (a && b) (or_else (word_alone line) (behind_prefix line)) None ≡ None
     at true true e = absurd (never (IsUtf8-from_is_utf8 line e))
     at true false e = refl
     at false b e = refl
 
-pub text_line : (line : List ℕ) → length line ≤ 65536 → IsUtf8 line → word_in line ≡ or_else (alone line) (behind_front line)
+pub text_line : (line : List ℕ) → length line ≤ 65536 → IsUtf8 line → word_in line ≡ or_else (word_alone line) (behind_prefix line)
 unfolding word_in
 text_line line short utf8 = rw (le-leb (length line) 65536 short, is_utf8-from_IsUtf8 line utf8) refl

@@ -1,5 +1,6 @@
 -- What a standby in service answers: lines of words, each with one space between two words.
 use Rattle.std.specs.Prelude.{ℕ, ◌-◌, Bool, true, false, ◌==◌, List, [], ◌∷◌, ◌++◌, length, take, filter, flat_map, Option, Some, None, codes, decimal}
+use Rattle.nn_bytes.specs.Lines.{line_feed}
 use Rattle.nn_types.specs.declared.block.Block.{Block}
 use Rattle.nn_types.specs.declared.report.Message.{Message}
 use Rattle.nn_types.specs.Words.{kind_text}
@@ -9,7 +10,7 @@ use Rattle.nn_model.specs.Lanes.{Lanes}
 use Rattle.nn_model.specs.Namespace.{Path, Namespace, blocks_of}
 use Rattle.nn_model.specs.Stands.{StandbyState}
 use Rattle.nn_model.specs.Status.{block_at}
-use Rattle.nn_listing.specs.Listing.{newline, path_json, line_of}
+use Rattle.nn_listing.specs.Listing.{path_json, path_line}
 use Rattle.nn_listing.specs.Summary.{Summary, line, summary_text}
 use Rattle.nn_listing.specs.Tables.{datanodes, replica_text, replica_lines_by, order_text, order_lines_by, blocks_line}
 use Rattle.nn_shadow.specs.declared.fault.Stop.{Stop}
@@ -18,9 +19,9 @@ abbrev pub and_number : List ℕ → ℕ → List ℕ
 and_number text n = text ++ codes " " ++ decimal n
 
 -- all lines, or so many of them and `more K`, K being how many more there are
-abbrev pub shown : Option ℕ → List (List ℕ) → List ℕ
-shown None lines = flat_map (λ l. l) lines
-shown (Some most) lines = flat_map (λ l. l) (take most lines) ++ line (codes "more") (decimal (length lines - most))
+abbrev pub first_lines : Option ℕ → List (List ℕ) → List ℕ
+first_lines None lines = flat_map (λ l. l) lines
+first_lines (Some most) lines = flat_map (λ l. l) (take most lines) ++ line (codes "more") (decimal (length lines - most))
 
 -- ---- The status.
 
@@ -36,15 +37,15 @@ pub record Figures : Type 0 where
   pub last_edit : ℕ  -- the txid of the last of them, 0 where there is none
   pub standby : Summary
 
-abbrev pub state_of : Option Stop → Bool → List ℕ
-state_of (Some stop) active = and_number (and_number (codes "stopped") stop.number) stop.txid
-state_of None true = codes "active"
-state_of None false = codes "standby"
+abbrev pub state_answer : Option Stop → Bool → List ℕ
+state_answer (Some stop) active = and_number (and_number (codes "stopped") stop.number) stop.txid
+state_answer None true = codes "active"
+state_answer None false = codes "standby"
 
 -- the last lines are the standby's summary
 abbrev pub status_lines : Figures → List ℕ
 status_lines f =
-    line (codes "state") (state_of f.stopped f.active) ++ line (codes "version") f.version
+    line (codes "state") (state_answer f.stopped f.active) ++ line (codes "version") f.version
     ++ line (codes "known") (decimal f.known) ++ line (codes "passed") (decimal f.passed) ++ line (codes "segments") (decimal f.segments)
     ++ line (codes "edits") (and_number (decimal f.edits) f.last_edit) ++ summary_text f.standby
 
@@ -54,14 +55,14 @@ status_lines f =
 abbrev pub held_line : Message → List ℕ
 held_line m =
     codes "held " ++ decimal m.block ++ codes " " ++ decimal m.dn ++ codes " " ++ decimal m.number ++ codes " " ++ decimal m.stamp
-    ++ codes " " ++ kind_text m.kind ++ newline ∷ []
+    ++ codes " " ++ kind_text m.kind ++ line_feed ∷ []
 
 -- ---- One block, one path.
 
 -- `block BLOCK STAMP LEN PATH`
 abbrev pub block_line : Path → Block → List ℕ
 block_line p b =
-    codes "block " ++ decimal b.id ++ codes " " ++ decimal b.stamp ++ codes " " ++ decimal b.len ++ codes " " ++ path_json p ++ newline ∷ []
+    codes "block " ++ decimal b.id ++ codes " " ++ decimal b.stamp ++ codes " " ++ decimal b.len ++ codes " " ++ path_json p ++ line_feed ∷ []
 
 -- of the blocks with this id at a path
 abbrev pub holder_lines : ℕ → Path × Form → List ℕ
@@ -78,13 +79,13 @@ abbrev pub orders_text : StandbyState → ℕ → List ℕ
 orders_text x id = flat_map (λ dn. order_text id dn (x.has_order dn id)) datanodes
 
 -- its file, its replicas, its orders, and what waits for it
-abbrev pub block_text : StandbyState → ℕ → List ℕ
-block_text x id = holder_text x.namespace id ++ (replicas_text x id ++ (orders_text x id ++ flat_map held_line (filter (λ m. m.block == id) x.held)))
+abbrev pub block_answer : StandbyState → ℕ → List ℕ
+block_answer x id = holder_text x.namespace id ++ (replicas_text x id ++ (orders_text x id ++ flat_map held_line (filter (λ m. m.block == id) x.held)))
 
 -- the line of a path in the tables, if anything is there
-abbrev pub path_text : Path → Option Form → List ℕ
-path_text p None = []
-path_text p (Some form) = line_of p form
+abbrev pub path_answer : Path → Option Form → List ℕ
+path_answer p None = []
+path_answer p (Some form) = path_line p form
 
 -- ---- The tables.
 

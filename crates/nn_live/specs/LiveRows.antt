@@ -11,23 +11,23 @@ use Rattle.json.specs.Print.{escape_byte}
 use Rattle.json.specs.Text.{content}
 use Rattle.json.specs.Word.{word, after_number}
 use Rattle.serde_json.specs.Read.{number_of}
+use Rattle.nn_bytes.specs.Lines.{line_feed}
 use Rattle.nn_edits.specs.Reading.{edit_of_line, either_of_line, object_in, value_of, either_in, tx_in, op_in, op_of, txid_in, whole_in, number_in, path_in, profile_in, edit_in, block_in, items_in, blocks_in, report_in, dn_in, kind_in, kind_of}
 use Rattle.nn_segment.specs.Lines.{reads_of}
-use Rattle.nn_segment.specs.Name.{txids_of, name_text, digits as name_digits}
-use Rattle.nn_segment.specs.Reading.{read_segment, fault_of}
-use Rattle.nn_listing.specs.Listing.{newline}
+use Rattle.nn_segment.specs.Name.{txids_of, segment_file_name, digits as name_digits}
+use Rattle.nn_segment.specs.Reading.{read_segment, fault_of_segment}
 use Rattle.nn_listing.specs.Summary.{counts_text, summary_text}
 use Rattle.nn_listing.specs.Tables.{datanodes}
-use Rattle.nn_image.specs.Reading.{is_end_line, read_image, all_from, rows_from, pieces_of, object_of, value_of as image_value, number_in as image_number, text_in, flag_in, array_in, path_in as image_path, block_of, gathered, blocks_at, numbers_at, replication_in, file_in, form_of, form_in, row_in, profile_in as image_profile, fields_in}
+use Rattle.nn_image.specs.Reading.{is_end_line, read_image, all_from, rows_from, pieces_of, object_of, value_of_line, number_under, text_under, flag_under, array_under, path_under, block_of, gathered, blocks_at, numbers_at, replication_value, file_in, form_by_kind, form_in, row_of_line, header_profile, fields_in}
 use Rattle.nn_image.specs.Text.{image_text, head_data, form_data, end_data}
-use Rattle.nn_live.specs.Live.{Asked, live_text, takes, takes_all, takes_torn, takes_pieces}
-use Rattle.nn_live.specs.Words.{alone, word_in}
+use Rattle.nn_live.specs.Live.{LiveSetup, live_text, takes, takes_all, takes_torn, takes_pieces}
+use Rattle.nn_live.specs.Words.{word_alone, word_in}
 
 -- lines, each with its line feed
 abbrev lines : List (List ℕ) → List ℕ
-lines each = flat_map (λ l. l ++ newline ∷ []) each
+lines each = flat_map (λ l. l ++ line_feed ∷ []) each
 
-abbrev asks : Bool → Asked
+abbrev asks : Bool → LiveSetup
 asks history = record { permille = 999; min = 1; history = history; version = codes "1.2.3" }
 
 -- all that is written for these lines by a service that began with the root alone
@@ -42,7 +42,7 @@ live_history each = live_text (asks true) false (lines each)
 
 -- nothing is written of itself
 silence : live [] ≡ []
-unfolding takes takes_all takes_torn takes_pieces word_in alone read_segment fault_of txids_of name_text name_digits reads_of edit_of_line digits escape_byte datanodes either_of_line either_in report_in dn_in kind_in kind_of object_in value_of tx_in op_in op_of txid_in whole_in number_in path_in profile_in edit_in blocks_in items_in block_in is_utf8 chars encode value punctuate lex content word after_number number_of scan_numeral image_text head_data form_data end_data
+unfolding takes takes_all takes_torn takes_pieces word_in word_alone read_segment fault_of_segment txids_of segment_file_name name_digits reads_of edit_of_line digits escape_byte datanodes either_of_line either_in report_in dn_in kind_in kind_of object_in value_of tx_in op_in op_of txid_in whole_in number_in path_in profile_in edit_in blocks_in items_in block_in is_utf8 chars encode value punctuate lex content word after_number number_of scan_numeral image_text head_data form_data end_data
 silence = refl
 
 -- blank lines are counted, and the answer to a word ends with the number of its line
@@ -50,7 +50,7 @@ barrier : live (
     codes "  "
     ∷ codes "sync" ∷ [])
     ≡ lines (codes "done 2" ∷ [])
-unfolding takes takes_all takes_torn takes_pieces word_in alone read_segment fault_of txids_of name_text name_digits reads_of edit_of_line digits escape_byte datanodes either_of_line either_in report_in dn_in kind_in kind_of object_in value_of tx_in op_in op_of txid_in whole_in number_in path_in profile_in edit_in blocks_in items_in block_in is_utf8 chars encode value punctuate lex content word after_number number_of scan_numeral image_text head_data form_data end_data
+unfolding takes takes_all takes_torn takes_pieces word_in word_alone read_segment fault_of_segment txids_of segment_file_name name_digits reads_of edit_of_line digits escape_byte datanodes either_of_line either_in report_in dn_in kind_in kind_of object_in value_of tx_in op_in op_of txid_in whole_in number_in path_in profile_in edit_in blocks_in items_in block_in is_utf8 chars encode value punctuate lex content word after_number number_of scan_numeral image_text head_data form_data end_data
 barrier = refl
 
 -- a line that is nothing is told, and the service goes on
@@ -60,7 +60,7 @@ bad_line : live (
     ∷ codes "sync now"
     ∷ codes "sync" ∷ [])
     ≡ lines (codes "fault 2 line 1" ∷ codes "fault 1 line 2" ∷ codes "fault 1 line 3" ∷ codes "done 4" ∷ [])
-unfolding takes takes_all takes_torn takes_pieces word_in alone read_segment fault_of txids_of name_text name_digits reads_of edit_of_line digits escape_byte datanodes either_of_line either_in report_in dn_in kind_in kind_of object_in value_of tx_in op_in op_of txid_in whole_in number_in path_in profile_in edit_in blocks_in items_in block_in is_utf8 chars encode value punctuate lex content word after_number number_of scan_numeral image_text head_data form_data end_data
+unfolding takes takes_all takes_torn takes_pieces word_in word_alone read_segment fault_of_segment txids_of segment_file_name name_digits reads_of edit_of_line digits escape_byte datanodes either_of_line either_in report_in dn_in kind_in kind_of object_in value_of tx_in op_in op_of txid_in whole_in number_in path_in profile_in edit_in blocks_in items_in block_in is_utf8 chars encode value punctuate lex content word after_number number_of scan_numeral image_text head_data form_data end_data
 bad_line = refl
 
 -- ---- Segments.
@@ -72,7 +72,7 @@ waits_for_the_end : live_history (
     ∷ codes "{\"op\":\"OP_END_LOG_SEGMENT\",\"txid\":2}"
     ∷ codes "sync" ∷ [])
     ≡ lines (codes "done 2" ∷ codes "applied 1" ∷ codes "applied 2" ∷ codes "done 4" ∷ [])
-unfolding takes takes_all takes_torn takes_pieces word_in alone read_segment fault_of txids_of name_text name_digits reads_of edit_of_line digits escape_byte datanodes either_of_line either_in report_in dn_in kind_in kind_of object_in value_of tx_in op_in op_of txid_in whole_in number_in path_in profile_in edit_in blocks_in items_in block_in is_utf8 chars encode value punctuate lex content word after_number number_of scan_numeral image_text head_data form_data end_data
+unfolding takes takes_all takes_torn takes_pieces word_in word_alone read_segment fault_of_segment txids_of segment_file_name name_digits reads_of edit_of_line digits escape_byte datanodes either_of_line either_in report_in dn_in kind_in kind_of object_in value_of tx_in op_in op_of txid_in whole_in number_in path_in profile_in edit_in blocks_in items_in block_in is_utf8 chars encode value punctuate lex content word after_number number_of scan_numeral image_text head_data form_data end_data
 waits_for_the_end = refl
 
 -- a segment that is sent again is passed over
@@ -83,7 +83,7 @@ sent_again : live_history (
     ∷ codes "{\"op\":\"OP_END_LOG_SEGMENT\",\"txid\":2}"
     ∷ codes "sync" ∷ [])
     ≡ lines (codes "applied 1" ∷ codes "applied 2" ∷ codes "done 5" ∷ [])
-unfolding takes takes_all takes_torn takes_pieces word_in alone read_segment fault_of txids_of name_text name_digits reads_of edit_of_line digits escape_byte datanodes either_of_line either_in report_in dn_in kind_in kind_of object_in value_of tx_in op_in op_of txid_in whole_in number_in path_in profile_in edit_in blocks_in items_in block_in is_utf8 chars encode value punctuate lex content word after_number number_of scan_numeral image_text head_data form_data end_data
+unfolding takes takes_all takes_torn takes_pieces word_in word_alone read_segment fault_of_segment txids_of segment_file_name name_digits reads_of edit_of_line digits escape_byte datanodes either_of_line either_in report_in dn_in kind_in kind_of object_in value_of tx_in op_in op_of txid_in whole_in number_in path_in profile_in edit_in blocks_in items_in block_in is_utf8 chars encode value punctuate lex content word after_number number_of scan_numeral image_text head_data form_data end_data
 sent_again = refl
 
 -- one behind a gap is told, and may come again when the gap is filled
@@ -93,7 +93,7 @@ behind_a_gap : live_history (
     ∷ codes "{\"op\":\"OP_START_LOG_SEGMENT\",\"txid\":1}"
     ∷ codes "{\"op\":\"OP_END_LOG_SEGMENT\",\"txid\":2}" ∷ [])
     ≡ lines (codes "fault 57 txid 1 segment 1" ∷ codes "applied 1" ∷ codes "applied 2" ∷ [])
-unfolding takes takes_all takes_torn takes_pieces word_in alone read_segment fault_of txids_of name_text name_digits reads_of edit_of_line digits escape_byte datanodes either_of_line either_in report_in dn_in kind_in kind_of object_in value_of tx_in op_in op_of txid_in whole_in number_in path_in profile_in edit_in blocks_in items_in block_in is_utf8 chars encode value punctuate lex content word after_number number_of scan_numeral image_text head_data form_data end_data
+unfolding takes takes_all takes_torn takes_pieces word_in word_alone read_segment fault_of_segment txids_of segment_file_name name_digits reads_of edit_of_line digits escape_byte datanodes either_of_line either_in report_in dn_in kind_in kind_of object_in value_of tx_in op_in op_of txid_in whole_in number_in path_in profile_in edit_in blocks_in items_in block_in is_utf8 chars encode value punctuate lex content word after_number number_of scan_numeral image_text head_data form_data end_data
 behind_a_gap = refl
 
 -- a start mark begins anew: what was in hand has no end
@@ -102,7 +102,7 @@ begins_anew : live_history (
     ∷ codes "{\"op\":\"OP_START_LOG_SEGMENT\",\"txid\":1}"
     ∷ codes "{\"op\":\"OP_END_LOG_SEGMENT\",\"txid\":2}" ∷ [])
     ≡ lines (codes "fault 13 segment 1" ∷ codes "applied 1" ∷ codes "applied 2" ∷ [])
-unfolding takes takes_all takes_torn takes_pieces word_in alone read_segment fault_of txids_of name_text name_digits reads_of edit_of_line digits escape_byte datanodes either_of_line either_in report_in dn_in kind_in kind_of object_in value_of tx_in op_in op_of txid_in whole_in number_in path_in profile_in edit_in blocks_in items_in block_in is_utf8 chars encode value punctuate lex content word after_number number_of scan_numeral image_text head_data form_data end_data
+unfolding takes takes_all takes_torn takes_pieces word_in word_alone read_segment fault_of_segment txids_of segment_file_name name_digits reads_of edit_of_line digits escape_byte datanodes either_of_line either_in report_in dn_in kind_in kind_of object_in value_of tx_in op_in op_of txid_in whole_in number_in path_in profile_in edit_in blocks_in items_in block_in is_utf8 chars encode value punctuate lex content word after_number number_of scan_numeral image_text head_data form_data end_data
 begins_anew = refl
 
 -- of a segment with a fault nothing is followed
@@ -111,7 +111,7 @@ bad_segment : live_history (
     ∷ codes "{\"op\":\"OP_END_LOG_SEGMENT\",\"txid\":3}"
     ∷ codes "sync" ∷ [])
     ≡ lines (codes "fault 14 segment 1" ∷ codes "done 3" ∷ [])
-unfolding takes takes_all takes_torn takes_pieces word_in alone read_segment fault_of txids_of name_text name_digits reads_of edit_of_line digits escape_byte datanodes either_of_line either_in report_in dn_in kind_in kind_of object_in value_of tx_in op_in op_of txid_in whole_in number_in path_in profile_in edit_in blocks_in items_in block_in is_utf8 chars encode value punctuate lex content word after_number number_of scan_numeral image_text head_data form_data end_data
+unfolding takes takes_all takes_torn takes_pieces word_in word_alone read_segment fault_of_segment txids_of segment_file_name name_digits reads_of edit_of_line digits escape_byte datanodes either_of_line either_in report_in dn_in kind_in kind_of object_in value_of tx_in op_in op_of txid_in whole_in number_in path_in profile_in edit_in blocks_in items_in block_in is_utf8 chars encode value punctuate lex content word after_number number_of scan_numeral image_text head_data form_data end_data
 bad_segment = refl
 
 -- an edit that does not apply stops the standby for good, and questions are answered on
@@ -123,7 +123,7 @@ stopped : live (
     ∷ codes "promote 1 lost"
     ∷ codes "path \"/\"" ∷ [])
     ≡ lines (codes "fault 22 txid 2" ∷ codes "fault 51 line 4" ∷ codes "fault 51 line 5" ∷ codes "done 5" ∷ codes "dir \"/\"" ∷ codes "done 6" ∷ [])
-unfolding takes takes_all takes_torn takes_pieces word_in alone read_segment fault_of txids_of name_text name_digits reads_of edit_of_line digits escape_byte datanodes either_of_line either_in report_in dn_in kind_in kind_of object_in value_of tx_in op_in op_of txid_in whole_in number_in path_in profile_in edit_in blocks_in items_in block_in is_utf8 chars encode value punctuate lex content word after_number number_of scan_numeral image_text head_data form_data end_data
+unfolding takes takes_all takes_torn takes_pieces word_in word_alone read_segment fault_of_segment txids_of segment_file_name name_digits reads_of edit_of_line digits escape_byte datanodes either_of_line either_in report_in dn_in kind_in kind_of object_in value_of tx_in op_in op_of txid_in whole_in number_in path_in profile_in edit_in blocks_in items_in block_in is_utf8 chars encode value punctuate lex content word after_number number_of scan_numeral image_text head_data form_data end_data
 stopped = refl
 
 -- ---- A promotion.
@@ -136,7 +136,7 @@ promoted : live_history (
     ∷ codes "{\"dn\":1,\"block\":5,\"gen\":1,\"len\":0,\"kind\":\"received\"}"
     ∷ codes "tables" ∷ [])
     ≡ lines (codes "held 1073741825 1 1 1001 received" ∷ codes "done 2" ∷ codes "processed 1 1 1073741825 flush" ∷ codes "done 3" ∷ codes "fault 53 line 4" ∷ codes "txid 0" ∷ codes "dir \"/\"" ∷ codes "order 1073741825 1" ∷ codes "blocks 0 safe 0 needed 0 mode off" ∷ codes "done 5" ∷ [])
-unfolding takes takes_all takes_torn takes_pieces word_in alone read_segment fault_of txids_of name_text name_digits reads_of edit_of_line digits escape_byte datanodes either_of_line either_in report_in dn_in kind_in kind_of object_in value_of tx_in op_in op_of txid_in whole_in number_in path_in profile_in edit_in blocks_in items_in block_in is_utf8 chars encode value punctuate lex content word after_number number_of scan_numeral image_text head_data form_data end_data
+unfolding takes takes_all takes_torn takes_pieces word_in word_alone read_segment fault_of_segment txids_of segment_file_name name_digits reads_of edit_of_line digits escape_byte datanodes either_of_line either_in report_in dn_in kind_in kind_of object_in value_of tx_in op_in op_of txid_in whole_in number_in path_in profile_in edit_in blocks_in items_in block_in is_utf8 chars encode value punctuate lex content word after_number number_of scan_numeral image_text head_data form_data end_data
 promoted = refl
 
 -- not inside a segment
@@ -144,14 +144,14 @@ inside_a_segment : live (
     codes "{\"op\":\"OP_START_LOG_SEGMENT\",\"txid\":1}"
     ∷ codes "promote 0" ∷ [])
     ≡ lines (codes "fault 13 segment 1" ∷ codes "done 2" ∷ codes "fault 13 segment 1" ∷ [])
-unfolding takes takes_all takes_torn takes_pieces word_in alone read_segment fault_of txids_of name_text name_digits reads_of edit_of_line digits escape_byte datanodes either_of_line either_in report_in dn_in kind_in kind_of object_in value_of tx_in op_in op_of txid_in whole_in number_in path_in profile_in edit_in blocks_in items_in block_in is_utf8 chars encode value punctuate lex content word after_number number_of scan_numeral image_text head_data form_data end_data
+unfolding takes takes_all takes_torn takes_pieces word_in word_alone read_segment fault_of_segment txids_of segment_file_name name_digits reads_of edit_of_line digits escape_byte datanodes either_of_line either_in report_in dn_in kind_in kind_of object_in value_of tx_in op_in op_of txid_in whole_in number_in path_in profile_in edit_in blocks_in items_in block_in is_utf8 chars encode value punctuate lex content word after_number number_of scan_numeral image_text head_data form_data end_data
 inside_a_segment = refl
 
 -- nor at another txid than the last
 at_another_txid : live (
     codes "promote 1" ∷ [])
     ≡ lines (codes "fault 57 txid 1" ∷ codes "done 1" ∷ [])
-unfolding takes takes_all takes_torn takes_pieces word_in alone read_segment fault_of txids_of name_text name_digits reads_of edit_of_line digits escape_byte datanodes either_of_line either_in report_in dn_in kind_in kind_of object_in value_of tx_in op_in op_of txid_in whole_in number_in path_in profile_in edit_in blocks_in items_in block_in is_utf8 chars encode value punctuate lex content word after_number number_of scan_numeral image_text head_data form_data end_data
+unfolding takes takes_all takes_torn takes_pieces word_in word_alone read_segment fault_of_segment txids_of segment_file_name name_digits reads_of edit_of_line digits escape_byte datanodes either_of_line either_in report_in dn_in kind_in kind_of object_in value_of tx_in op_in op_of txid_in whole_in number_in path_in profile_in edit_in blocks_in items_in block_in is_utf8 chars encode value punctuate lex content word after_number number_of scan_numeral image_text head_data form_data end_data
 at_another_txid = refl
 
 -- nor where edits above the last one were read, unless they are given up
@@ -162,7 +162,7 @@ behind_what_it_knows : live (
     ∷ codes "promote 0 lost"
     ∷ codes "promote 0 lost" ∷ [])
     ≡ lines (codes "fault 57 txid 1 segment 1" ∷ codes "fault 57 txid 1" ∷ codes "done 3" ∷ codes "done 4" ∷ codes "done 5" ∷ [])
-unfolding takes takes_all takes_torn takes_pieces word_in alone read_segment fault_of txids_of name_text name_digits reads_of edit_of_line digits escape_byte datanodes either_of_line either_in report_in dn_in kind_in kind_of object_in value_of tx_in op_in op_of txid_in whole_in number_in path_in profile_in edit_in blocks_in items_in block_in is_utf8 chars encode value punctuate lex content word after_number number_of scan_numeral image_text head_data form_data end_data
+unfolding takes takes_all takes_torn takes_pieces word_in word_alone read_segment fault_of_segment txids_of segment_file_name name_digits reads_of edit_of_line digits escape_byte datanodes either_of_line either_in report_in dn_in kind_in kind_of object_in value_of tx_in op_in op_of txid_in whole_in number_in path_in profile_in edit_in blocks_in items_in block_in is_utf8 chars encode value punctuate lex content word after_number number_of scan_numeral image_text head_data form_data end_data
 behind_what_it_knows = refl
 
 -- what is counted of the root alone
@@ -178,7 +178,7 @@ given_up_in_hand : live (
     ∷ codes "status" ∷ [])
     ≡ lines ((codes "done 2" ∷ codes "state active" ∷ codes "version 1.2.3" ∷ codes "known 1" ∷ codes "passed 0" ∷ codes "segments 0" ∷ codes "edits 0 0" ∷ codes "txid 0" ∷ codes "held 0" ∷ [])
     ++ counts_of_the_root ++ codes "blocks 0 safe 0 needed 0 mode off" ∷ codes "done 3" ∷ [])
-unfolding counts_text summary_text takes takes_all takes_torn takes_pieces word_in alone read_segment fault_of txids_of name_text name_digits reads_of edit_of_line digits escape_byte datanodes either_of_line either_in report_in dn_in kind_in kind_of object_in value_of tx_in op_in op_of txid_in whole_in number_in path_in profile_in edit_in blocks_in items_in block_in is_utf8 chars encode value punctuate lex content word after_number number_of scan_numeral image_text head_data form_data end_data
+unfolding counts_text summary_text takes takes_all takes_torn takes_pieces word_in word_alone read_segment fault_of_segment txids_of segment_file_name name_digits reads_of edit_of_line digits escape_byte datanodes either_of_line either_in report_in dn_in kind_in kind_of object_in value_of tx_in op_in op_of txid_in whole_in number_in path_in profile_in edit_in blocks_in items_in block_in is_utf8 chars encode value punctuate lex content word after_number number_of scan_numeral image_text head_data form_data end_data
 given_up_in_hand = refl
 
 -- ---- Words.
@@ -194,7 +194,7 @@ status_of_a_service : live (
     ∷ codes "status" ∷ [])
     ≡ lines ((codes "state standby" ∷ codes "version 1.2.3" ∷ codes "known 2" ∷ codes "passed 2" ∷ codes "segments 2" ∷ codes "edits 1 1" ∷ codes "txid 2" ∷ codes "held 1" ∷ codes "datanode 3 1 held 1" ∷ [])
     ++ counts_of_the_root ++ codes "blocks 0 safe 0 needed 0 mode off" ∷ codes "done 7" ∷ codes "fault 13 segment 3" ∷ [])
-unfolding counts_text summary_text takes takes_all takes_torn takes_pieces word_in alone read_segment fault_of txids_of name_text name_digits reads_of edit_of_line digits escape_byte datanodes either_of_line either_in report_in dn_in kind_in kind_of object_in value_of tx_in op_in op_of txid_in whole_in number_in path_in profile_in edit_in blocks_in items_in block_in is_utf8 chars encode value punctuate lex content word after_number number_of scan_numeral image_text head_data form_data end_data
+unfolding counts_text summary_text takes takes_all takes_torn takes_pieces word_in word_alone read_segment fault_of_segment txids_of segment_file_name name_digits reads_of edit_of_line digits escape_byte datanodes either_of_line either_in report_in dn_in kind_in kind_of object_in value_of tx_in op_in op_of txid_in whole_in number_in path_in profile_in edit_in blocks_in items_in block_in is_utf8 chars encode value punctuate lex content word after_number number_of scan_numeral image_text head_data form_data end_data
 status_of_a_service = refl
 
 -- so many lines, and how many more
@@ -203,7 +203,7 @@ some_of_what_is_held : live (
     ∷ codes "{\"dn\":2,\"block\":1073741825,\"gen\":1001,\"len\":0,\"kind\":\"received\"}"
     ∷ codes "held 1" ∷ [])
     ≡ lines (codes "held 1073741825 1 1 1001 received" ∷ codes "more 1" ∷ codes "done 3" ∷ [])
-unfolding takes takes_all takes_torn takes_pieces word_in alone read_segment fault_of txids_of name_text name_digits reads_of edit_of_line digits escape_byte datanodes either_of_line either_in report_in dn_in kind_in kind_of object_in value_of tx_in op_in op_of txid_in whole_in number_in path_in profile_in edit_in blocks_in items_in block_in is_utf8 chars encode value punctuate lex content word after_number number_of scan_numeral image_text head_data form_data end_data
+unfolding takes takes_all takes_torn takes_pieces word_in word_alone read_segment fault_of_segment txids_of segment_file_name name_digits reads_of edit_of_line digits escape_byte datanodes either_of_line either_in report_in dn_in kind_in kind_of object_in value_of tx_in op_in op_of txid_in whole_in number_in path_in profile_in edit_in blocks_in items_in block_in is_utf8 chars encode value punctuate lex content word after_number number_of scan_numeral image_text head_data form_data end_data
 some_of_what_is_held = refl
 
 -- a block, its file, and what each DataNode has of it; a path
@@ -223,7 +223,7 @@ one_block : live (
     ∷ codes "path \"/f\""
     ∷ codes "path \"/g\"" ∷ [])
     ≡ lines (codes "unsafe 1073741825 0 \"/f\"" ∷ codes "done 8" ∷ codes "block 1073741825 1001 5 \"/f\"" ∷ codes "replica 1073741825 1 1001 5 received live" ∷ codes "held 1073741825 2 1 1002 received" ∷ codes "done 11" ∷ codes "done 12" ∷ codes "file \"/f\" 3 closed 1073741825:1001:5" ∷ codes "done 13" ∷ codes "done 14" ∷ [])
-unfolding takes takes_all takes_torn takes_pieces word_in alone read_segment fault_of txids_of name_text name_digits reads_of edit_of_line digits escape_byte datanodes either_of_line either_in report_in dn_in kind_in kind_of object_in value_of tx_in op_in op_of txid_in whole_in number_in path_in profile_in edit_in blocks_in items_in block_in is_utf8 chars encode value punctuate lex content word after_number number_of scan_numeral image_text head_data form_data end_data
+unfolding takes takes_all takes_torn takes_pieces word_in word_alone read_segment fault_of_segment txids_of segment_file_name name_digits reads_of edit_of_line digits escape_byte datanodes either_of_line either_in report_in dn_in kind_in kind_of object_in value_of tx_in op_in op_of txid_in whole_in number_in path_in profile_in edit_in blocks_in items_in block_in is_utf8 chars encode value punctuate lex content word after_number number_of scan_numeral image_text head_data form_data end_data
 one_block = refl
 
 -- a DataNode that is gone has nothing
@@ -239,10 +239,10 @@ a_datanode_is_gone : live (
     ∷ codes "gone 1"
     ∷ codes "block 1073741825" ∷ [])
     ≡ lines (codes "done 9" ∷ codes "block 1073741825 1001 5 \"/f\"" ∷ codes "done 10" ∷ [])
-unfolding takes takes_all takes_torn takes_pieces word_in alone read_segment fault_of txids_of name_text name_digits reads_of edit_of_line digits escape_byte datanodes either_of_line either_in report_in dn_in kind_in kind_of object_in value_of tx_in op_in op_of txid_in whole_in number_in path_in profile_in edit_in blocks_in items_in block_in is_utf8 chars encode value punctuate lex content word after_number number_of scan_numeral image_text head_data form_data end_data
+unfolding takes takes_all takes_torn takes_pieces word_in word_alone read_segment fault_of_segment txids_of segment_file_name name_digits reads_of edit_of_line digits escape_byte datanodes either_of_line either_in report_in dn_in kind_in kind_of object_in value_of tx_in op_in op_of txid_in whole_in number_in path_in profile_in edit_in blocks_in items_in block_in is_utf8 chars encode value punctuate lex content word after_number number_of scan_numeral image_text head_data form_data end_data
 a_datanode_is_gone = refl
 
--- what is not just a word is no word: a number has no zeros in front, and there is a DataNode of that number
+-- what is not just a word is no word: a number has no leading zeros, and there is a DataNode of that number
 no_words : live (
     codes "held 01"
     ∷ codes "promote 0 last"
@@ -251,7 +251,7 @@ no_words : live (
     ∷ codes "sync "
     ∷ codes "gone 0" ∷ [])
     ≡ lines (codes "fault 1 line 1" ∷ codes "fault 1 line 2" ∷ codes "fault 1 line 3" ∷ codes "fault 1 line 4" ∷ codes "fault 1 line 5" ∷ codes "fault 56 line 6" ∷ codes "done 6" ∷ [])
-unfolding takes takes_all takes_torn takes_pieces word_in alone read_segment fault_of txids_of name_text name_digits reads_of edit_of_line digits escape_byte datanodes either_of_line either_in report_in dn_in kind_in kind_of object_in value_of tx_in op_in op_of txid_in whole_in number_in path_in profile_in edit_in blocks_in items_in block_in is_utf8 chars encode value punctuate lex content word after_number number_of scan_numeral image_text head_data form_data end_data
+unfolding takes takes_all takes_torn takes_pieces word_in word_alone read_segment fault_of_segment txids_of segment_file_name name_digits reads_of edit_of_line digits escape_byte datanodes either_of_line either_in report_in dn_in kind_in kind_of object_in value_of tx_in op_in op_of txid_in whole_in number_in path_in profile_in edit_in blocks_in items_in block_in is_utf8 chars encode value punctuate lex content word after_number number_of scan_numeral image_text head_data form_data end_data
 no_words = refl
 
 -- nor is a line that is too long, whatever its first bytes are
@@ -263,7 +263,7 @@ too_long line h = rw (lt-leb (length line) 65536 h) refl
 checkpoint_of_a_service : live (
     codes "checkpoint" ∷ [])
     ≡ lines (codes "{\"awaiting\":[],\"image\":\"hdfs-standby\",\"last_block\":1073741824,\"last_gen\":1000,\"profile\":1,\"txid\":0,\"version\":2}" ∷ codes "{\"end\":0}" ∷ codes "done 1" ∷ [])
-unfolding takes takes_all takes_torn takes_pieces word_in alone read_segment fault_of txids_of name_text name_digits reads_of edit_of_line digits escape_byte datanodes either_of_line either_in report_in dn_in kind_in kind_of object_in value_of tx_in op_in op_of txid_in whole_in number_in path_in profile_in edit_in blocks_in items_in block_in is_utf8 chars encode value punctuate lex content word after_number number_of scan_numeral image_text head_data form_data end_data
+unfolding takes takes_all takes_torn takes_pieces word_in word_alone read_segment fault_of_segment txids_of segment_file_name name_digits reads_of edit_of_line digits escape_byte datanodes either_of_line either_in report_in dn_in kind_in kind_of object_in value_of tx_in op_in op_of txid_in whole_in number_in path_in profile_in edit_in blocks_in items_in block_in is_utf8 chars encode value punctuate lex content word after_number number_of scan_numeral image_text head_data form_data end_data
 checkpoint_of_a_service = refl
 
 -- ---- The end of the input.
@@ -275,19 +275,19 @@ torn each bytes = live_text (asks true) false (lines each ++ bytes)
 -- a last line may lack its line feed
 last_line_counts : torn (codes "{\"op\":\"OP_START_LOG_SEGMENT\",\"txid\":1}" ∷ []) (codes "{\"op\":\"OP_END_LOG_SEGMENT\",\"txid\":2}")
     ≡ lines (codes "applied 1" ∷ codes "applied 2" ∷ [])
-unfolding takes takes_all takes_torn takes_pieces word_in alone read_segment fault_of txids_of name_text name_digits reads_of edit_of_line digits escape_byte datanodes either_of_line either_in report_in dn_in kind_in kind_of object_in value_of tx_in op_in op_of txid_in whole_in number_in path_in profile_in edit_in blocks_in items_in block_in is_utf8 chars encode value punctuate lex content word after_number number_of scan_numeral image_text head_data form_data end_data
+unfolding takes takes_all takes_torn takes_pieces word_in word_alone read_segment fault_of_segment txids_of segment_file_name name_digits reads_of edit_of_line digits escape_byte datanodes either_of_line either_in report_in dn_in kind_in kind_of object_in value_of tx_in op_in op_of txid_in whole_in number_in path_in profile_in edit_in blocks_in items_in block_in is_utf8 chars encode value punctuate lex content word after_number number_of scan_numeral image_text head_data form_data end_data
 last_line_counts = refl
 
 -- a word may not: it may be a part of another one
 torn_word_asks_for_nothing : torn ([]) (codes "promote 1")
     ≡ lines (codes "fault 1 line 1" ∷ [])
-unfolding takes takes_all takes_torn takes_pieces word_in alone read_segment fault_of txids_of name_text name_digits reads_of edit_of_line digits escape_byte datanodes either_of_line either_in report_in dn_in kind_in kind_of object_in value_of tx_in op_in op_of txid_in whole_in number_in path_in profile_in edit_in blocks_in items_in block_in is_utf8 chars encode value punctuate lex content word after_number number_of scan_numeral image_text head_data form_data end_data
+unfolding takes takes_all takes_torn takes_pieces word_in word_alone read_segment fault_of_segment txids_of segment_file_name name_digits reads_of edit_of_line digits escape_byte datanodes either_of_line either_in report_in dn_in kind_in kind_of object_in value_of tx_in op_in op_of txid_in whole_in number_in path_in profile_in edit_in blocks_in items_in block_in is_utf8 chars encode value punctuate lex content word after_number number_of scan_numeral image_text head_data form_data end_data
 torn_word_asks_for_nothing = refl
 
 -- a segment in hand is told, and nothing is promoted
 ends_inside_a_segment : torn (codes "sync" ∷ codes "{\"op\":\"OP_START_LOG_SEGMENT\",\"txid\":1}" ∷ []) (codes "")
     ≡ lines (codes "done 1" ∷ codes "fault 13 segment 1" ∷ [])
-unfolding takes takes_all takes_torn takes_pieces word_in alone read_segment fault_of txids_of name_text name_digits reads_of edit_of_line digits escape_byte datanodes either_of_line either_in report_in dn_in kind_in kind_of object_in value_of tx_in op_in op_of txid_in whole_in number_in path_in profile_in edit_in blocks_in items_in block_in is_utf8 chars encode value punctuate lex content word after_number number_of scan_numeral image_text head_data form_data end_data
+unfolding takes takes_all takes_torn takes_pieces word_in word_alone read_segment fault_of_segment txids_of segment_file_name name_digits reads_of edit_of_line digits escape_byte datanodes either_of_line either_in report_in dn_in kind_in kind_of object_in value_of tx_in op_in op_of txid_in whole_in number_in path_in profile_in edit_in blocks_in items_in block_in is_utf8 chars encode value punctuate lex content word after_number number_of scan_numeral image_text head_data form_data end_data
 ends_inside_a_segment = refl
 
 -- ---- From an image.
@@ -303,7 +303,7 @@ goes_on : from_image (
     ∷ codes "path \"/a\""
     ∷ codes "promote 5" ∷ [])
     ≡ lines (codes "dir \"/a\"" ∷ codes "done 1" ∷ codes "done 2" ∷ [])
-unfolding takes takes_all takes_torn takes_pieces word_in alone read_segment fault_of txids_of name_text name_digits reads_of edit_of_line digits escape_byte datanodes either_of_line either_in report_in dn_in kind_in kind_of object_in value_of tx_in op_in op_of txid_in whole_in number_in path_in profile_in edit_in blocks_in items_in block_in is_utf8 chars encode value punctuate lex content word after_number number_of scan_numeral image_text head_data form_data end_data is_end_line read_image all_from rows_from pieces_of object_of image_value image_number text_in flag_in array_in image_path block_of gathered blocks_at numbers_at replication_in file_in form_of form_in row_in image_profile fields_in
+unfolding takes takes_all takes_torn takes_pieces word_in word_alone read_segment fault_of_segment txids_of segment_file_name name_digits reads_of edit_of_line digits escape_byte datanodes either_of_line either_in report_in dn_in kind_in kind_of object_in value_of tx_in op_in op_of txid_in whole_in number_in path_in profile_in edit_in blocks_in items_in block_in is_utf8 chars encode value punctuate lex content word after_number number_of scan_numeral image_text head_data form_data end_data is_end_line read_image all_from rows_from pieces_of object_of value_of_line number_under text_under flag_under array_under path_under block_of gathered blocks_at numbers_at replication_value file_in form_by_kind form_in row_of_line header_profile fields_in
 goes_on = refl
 
 -- the first line that no image has is told at once, and all is over
@@ -311,7 +311,7 @@ bad_header : from_image (
     codes "sync"
     ∷ codes "sync" ∷ [])
     ≡ lines (codes "fault 61 image" ∷ [])
-unfolding takes takes_all takes_torn takes_pieces word_in alone read_segment fault_of txids_of name_text name_digits reads_of edit_of_line digits escape_byte datanodes either_of_line either_in report_in dn_in kind_in kind_of object_in value_of tx_in op_in op_of txid_in whole_in number_in path_in profile_in edit_in blocks_in items_in block_in is_utf8 chars encode value punctuate lex content word after_number number_of scan_numeral image_text head_data form_data end_data is_end_line read_image all_from rows_from pieces_of object_of image_value image_number text_in flag_in array_in image_path block_of gathered blocks_at numbers_at replication_in file_in form_of form_in row_in image_profile fields_in
+unfolding takes takes_all takes_torn takes_pieces word_in word_alone read_segment fault_of_segment txids_of segment_file_name name_digits reads_of edit_of_line digits escape_byte datanodes either_of_line either_in report_in dn_in kind_in kind_of object_in value_of tx_in op_in op_of txid_in whole_in number_in path_in profile_in edit_in blocks_in items_in block_in is_utf8 chars encode value punctuate lex content word after_number number_of scan_numeral image_text head_data form_data end_data is_end_line read_image all_from rows_from pieces_of object_of value_of_line number_under text_under flag_under array_under path_under block_of gathered blocks_at numbers_at replication_value file_in form_by_kind form_in row_of_line header_profile fields_in
 bad_header = refl
 
 -- so is a row
@@ -320,12 +320,12 @@ bad_row : from_image (
     ∷ codes "{\"path\":\"/a/b\",\"type\":\"dir\"}"
     ∷ codes "sync" ∷ [])
     ≡ lines (codes "fault 62 image line 2" ∷ [])
-unfolding takes takes_all takes_torn takes_pieces word_in alone read_segment fault_of txids_of name_text name_digits reads_of edit_of_line digits escape_byte datanodes either_of_line either_in report_in dn_in kind_in kind_of object_in value_of tx_in op_in op_of txid_in whole_in number_in path_in profile_in edit_in blocks_in items_in block_in is_utf8 chars encode value punctuate lex content word after_number number_of scan_numeral image_text head_data form_data end_data is_end_line read_image all_from rows_from pieces_of object_of image_value image_number text_in flag_in array_in image_path block_of gathered blocks_at numbers_at replication_in file_in form_of form_in row_in image_profile fields_in
+unfolding takes takes_all takes_torn takes_pieces word_in word_alone read_segment fault_of_segment txids_of segment_file_name name_digits reads_of edit_of_line digits escape_byte datanodes either_of_line either_in report_in dn_in kind_in kind_of object_in value_of tx_in op_in op_of txid_in whole_in number_in path_in profile_in edit_in blocks_in items_in block_in is_utf8 chars encode value punctuate lex content word after_number number_of scan_numeral image_text head_data form_data end_data is_end_line read_image all_from rows_from pieces_of object_of value_of_line number_under text_under flag_under array_under path_under block_of gathered blocks_at numbers_at replication_value file_in form_by_kind form_in row_of_line header_profile fields_in
 bad_row = refl
 
 -- an image that does not end is told at the end of the input
 torn_image : from_image (
     codes "{\"awaiting\":[],\"image\":\"hdfs-standby\",\"last_block\":1073741824,\"last_gen\":1000,\"profile\":1,\"txid\":5,\"version\":2}" ∷ [])
     ≡ lines (codes "fault 65 image" ∷ [])
-unfolding takes takes_all takes_torn takes_pieces word_in alone read_segment fault_of txids_of name_text name_digits reads_of edit_of_line digits escape_byte datanodes either_of_line either_in report_in dn_in kind_in kind_of object_in value_of tx_in op_in op_of txid_in whole_in number_in path_in profile_in edit_in blocks_in items_in block_in is_utf8 chars encode value punctuate lex content word after_number number_of scan_numeral image_text head_data form_data end_data is_end_line read_image all_from rows_from pieces_of object_of image_value image_number text_in flag_in array_in image_path block_of gathered blocks_at numbers_at replication_in file_in form_of form_in row_in image_profile fields_in
+unfolding takes takes_all takes_torn takes_pieces word_in word_alone read_segment fault_of_segment txids_of segment_file_name name_digits reads_of edit_of_line digits escape_byte datanodes either_of_line either_in report_in dn_in kind_in kind_of object_in value_of tx_in op_in op_of txid_in whole_in number_in path_in profile_in edit_in blocks_in items_in block_in is_utf8 chars encode value punctuate lex content word after_number number_of scan_numeral image_text head_data form_data end_data is_end_line read_image all_from rows_from pieces_of object_of value_of_line number_under text_under flag_under array_under path_under block_of gathered blocks_at numbers_at replication_value file_in form_by_kind form_in row_of_line header_profile fields_in
 torn_image = refl

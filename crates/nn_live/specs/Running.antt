@@ -1,157 +1,157 @@
 -- What a service wrote, beside what its reader gave.
 use Rattle.std.specs.Prelude.{◌≡◌, ◌⊎◌, ◌+◌, ◌++◌, [], ℕ, Bool, true, List, length, Option, Some, None}
 use Rattle.std.specs.Io.KnownBytes.{Consumes, IsAtEnd}
-use Rattle.nn_device.specs.Device.{Reading, Writing, Took}
+use Rattle.nn_device.specs.Device.{Reader, Writer, Took}
 use Rattle.nn_engine.specs.Output.{Printed, image_fault}
 use Rattle.nn_engine.specs.Run.{Unfinished, unread_line}
 use Rattle.nn_engine.specs.declared.device.InputFault.TheVariants.{ReadFailed, OutOfMemory}
 use Rattle.nn_engine.specs.declared.output.RunFault.{RunFault}
-use Rattle.nn_live.specs.Live.{Asked, Service, at_end, live_text, refused, so_far, status_of, told_so_far}
+use Rattle.nn_live.specs.Live.{LiveSetup, ServiceState, stage_at_end, live_text, refused, so_far, exit_status, told_so_far}
 use Rattle.nn_live.specs.Opening.{IsOpening}
-use Rattle.nn_live.specs.Serving.{IsAt, IsFrontOf}
-use Rattle.nn_live.specs.Taking.{Taking, HasTorn, goes_on}
-use Rattle.nn_live.specs.declared.run.Halt.{Halt}
-use Rattle.nn_live.specs.declared.run.Halt.TheVariants as halt
+use Rattle.nn_live.specs.Serving.{IsAtService, IsPrefixOf}
+use Rattle.nn_live.specs.Taking.{Live, HasTorn, stage_after}
+use Rattle.nn_live.specs.declared.run.EndFault.{EndFault}
+use Rattle.nn_live.specs.declared.run.EndFault.TheVariants as halt
 use Rattle.nn_live.specs.declared.run.LiveOptions.{LiveOptions}
 use Rattle.nn_live.specs.declared.run.Stage.{Stage as RunStage}
 use Rattle.nn_live.specs.declared.run.Stage.TheVariants as stage
 
 -- ---- What it is asked for, and what it was given.
 
-abbrev pub asked_by : LiveOptions → Asked
+abbrev pub asked_by : LiveOptions → LiveSetup
 asked_by o = record { permille = o.settings.permille; min = o.settings.min; history = o.history; version = o.version.now }
 
 -- its reader before and after
 pub record Run : Type 0 where
   pub options : LiveOptions
-  pub before : Reading
-  pub after : Reading
+  pub before : Reader
+  pub after : Reader
 
-abbrev pub serving_by : LiveOptions → Reading → Reading → Run
+abbrev pub serving_by : LiveOptions → Reader → Reader → Run
 serving_by options before after = record { options = options; before = before; after = after }
 
 -- the reader gave these bytes
-pub record Gave (before after : Reading) (bytes : List ℕ) : Type 0 where
+pub record GaveBytes (before after : Reader) (bytes : List ℕ) : Type 0 where
   pub taken : Consumes before.left after.left bytes
   pub counted : after.given ≡ before.given + length bytes
 
-abbrev pub NoneFailed : Run → Type 0
-NoneFailed run = run.after.failed ≡ run.before.failed
+abbrev pub NoReadFailed : Run → Type 0
+NoReadFailed run = run.after.failed ≡ run.before.failed
 
 -- ---- What it writes.
 
 -- the text of a whole input, and the status behind it
 abbrev pub live_output : LiveOptions → List ℕ → Printed
-live_output o input = record { text = live_text (asked_by o) o.from_image input; status = status_of (at_end (asked_by o) o.from_image input) }
+live_output o input = record { text = live_text (asked_by o) o.from_image input; status = exit_status (stage_at_end (asked_by o) o.from_image input) }
 
 -- The input ended, and this is its output.
 pub record IsOfWhole (run : Run) (p : Printed) : Type 0 where
   pub input : List ℕ
-  pub gave : Gave run.before run.after input
+  pub gave : GaveBytes run.before run.after input
   pub whole : IsAtEnd run.after.left
-  pub none_failed : NoneFailed run
+  pub none_failed : NoReadFailed run
   pub is : p ≡ live_output run.options input
 
 -- A line came that no image has: whatever follows it, this is the output.
 pub record IsOfRefused (run : Run) (p : Printed) : Type 0 where
   pub bytes : List ℕ
-  pub gave : Gave run.before run.after bytes
-  pub none_failed : NoneFailed run
+  pub gave : GaveBytes run.before run.after bytes
+  pub none_failed : NoReadFailed run
   pub is : (more : List ℕ) → p ≡ live_output run.options (bytes ++ more)
 
 -- A read failed. What the lines so far say was told, and then that.
 pub record IsOfFailedRead (run : Run) (p : Printed) : Type 0 where
   pub bytes : List ℕ
-  pub gave : Gave run.before run.after bytes
+  pub gave : GaveBytes run.before run.after bytes
   pub failed : run.after.failed ≡ true
   pub is : p ≡ record { text = told_so_far (asked_by run.options) run.options.from_image bytes ++ unread_line ReadFailed; status = 1 }
 
--- Memory was refused, or a count had come to its end. A front of what the bytes so far say was told, and then that.
+-- Memory was refused, or a count had come to its end. A prefix of what the bytes so far say was told, and then that.
 pub record IsOfNoMemory (run : Run) (p : Printed) : Type 0 where
   pub bytes : List ℕ
-  pub gave : Gave run.before run.after bytes
-  pub none_failed : NoneFailed run
+  pub gave : GaveBytes run.before run.after bytes
+  pub none_failed : NoReadFailed run
   pub told : List ℕ
-  pub front : IsFrontOf told (live_text (asked_by run.options) run.options.from_image bytes)
+  pub prefix : IsPrefixOf told (live_text (asked_by run.options) run.options.from_image bytes)
   pub is : p ≡ record { text = told ++ unread_line OutOfMemory; status = 1 }
 
-abbrev pub IsOutput : Run → Printed → Type 0
-IsOutput run p = IsOfWhole run p ⊎ (IsOfRefused run p ⊎ (IsOfFailedRead run p ⊎ IsOfNoMemory run p))
+abbrev pub IsLiveOutput : Run → Printed → Type 0
+IsLiveOutput run p = IsOfWhole run p ⊎ (IsOfRefused run p ⊎ (IsOfFailedRead run p ⊎ IsOfNoMemory run p))
 
 -- an output was written whole, and this is its status
-pub record Wrote (run : Run) (writer writer' : Writing) (status : ℕ) : Type 0 where
+pub record WroteLive (run : Run) (writer writer' : Writer) (status : ℕ) : Type 0 where
   pub output : Printed
-  pub right : IsOutput run output
+  pub right : IsLiveOutput run output
   pub took : Took writer writer' output.text
   pub ends : status ≡ output.status
 
 -- what the lines so far say, when a write fails
 pub record IsSoFar (run : Run) (text : List ℕ) : Type 0 where
   pub bytes : List ℕ
-  pub gave : Gave run.before run.after bytes
+  pub gave : GaveBytes run.before run.after bytes
   pub is : text ≡ told_so_far (asked_by run.options) run.options.from_image bytes
 
 -- a write failed: a prefix of an output was written, or of what the lines so far say
-pub record WroteFront (run : Run) (writer writer' : Writing) (fault : RunFault) : Type 0 where
+pub record WroteLivePrefix (run : Run) (writer writer' : Writer) (fault : RunFault) : Type 0 where
   pub text : List ℕ
-  pub right : ((output : Printed) × IsOutput run output × (text ≡ output.text)) ⊎ IsSoFar run text
-  pub front : Unfinished writer writer' text fault
+  pub right : ((output : Printed) × IsLiveOutput run output × (text ≡ output.text)) ⊎ IsSoFar run text
+  pub prefix : Unfinished writer writer' text fault
 
 -- ---- For private clauses.
 
 -- a service of the code is where the definition is, for which these bytes came and this text was told
-pub record IsServing (o : LiveOptions) (bytes told : List ℕ) (x : Taking) : Type 0 where
-  pub now : Service
+pub record IsServing (o : LiveOptions) (bytes told : List ℕ) (x : Live) : Type 0 where
+  pub now : ServiceState
   pub torn : List ℕ
-  pub at : IsAt (asked_by o) x.service now
+  pub at : IsAtService (asked_by o) x.service now
   pub has : HasTorn torn x.torn
   pub written : now.written ≡ told
-  pub same : (more : List ℕ) → so_far (asked_by o) o.from_image (bytes ++ more) ≡ goes_on (asked_by o) now (torn ++ more)
+  pub same : (more : List ℕ) → so_far (asked_by o) o.from_image (bytes ++ more) ≡ stage_after (asked_by o) now (torn ++ more)
 
 abbrev pub IsStage : LiveOptions → List ℕ → List ℕ → RunStage → Type 0
 IsStage o bytes told (stage.Loading opening) = (o.from_image ≡ true) × (told ≡ []) × IsOpening bytes opening
 IsStage o bytes told (stage.Serving live) = IsServing o bytes told live
 
 -- why it ends, where these bytes came, and this text was told
-abbrev pub IsHalt : LiveOptions → List ℕ → List ℕ → Halt → Type 0
+abbrev pub IsHalt : LiveOptions → List ℕ → List ℕ → EndFault → Type 0
 IsHalt o bytes told (halt.Refused fault) = (told ≡ []) × ((more : List ℕ) → (so_far (asked_by o) o.from_image (bytes ++ more)).0 ≡ refused fault)
 IsHalt o bytes told halt.Unreadable = told ≡ told_so_far (asked_by o) o.from_image bytes
-IsHalt o bytes told halt.OutOfMemory = IsFrontOf told (live_text (asked_by o) o.from_image bytes)
+IsHalt o bytes told halt.OutOfMemory = IsPrefixOf told (live_text (asked_by o) o.from_image bytes)
 
 -- the line that tells it
-abbrev pub halt_text : Halt → List ℕ
+abbrev pub halt_text : EndFault → List ℕ
 halt_text (halt.Refused fault) = (image_fault fault).text
 halt_text halt.Unreadable = unread_line ReadFailed
 halt_text halt.OutOfMemory = unread_line OutOfMemory
 
 -- and what it says of the reader
-abbrev pub IsReader : Halt → Bool → Bool → Type 0
+abbrev pub IsReader : EndFault → Bool → Bool → Type 0
 IsReader (halt.Refused fault) before after = after ≡ before
 IsReader halt.Unreadable before after = after ≡ true
 IsReader halt.OutOfMemory before after = after ≡ before
 
 -- a reason that lines give
-abbrev pub IsOfLines : Halt → Type 0
+abbrev pub IsOfLines : EndFault → Type 0
 IsOfLines (halt.Refused fault) = Unit {0}
 IsOfLines halt.Unreadable = ⊥
 IsOfLines halt.OutOfMemory = Unit {0}
 
 -- the reader gave some bytes, and it ends for this reason
-pub record Halts (run : Run) (told : List ℕ) (why : Halt) : Type 0 where
+pub record Halts (run : Run) (told : List ℕ) (why : EndFault) : Type 0 where
   pub bytes : List ℕ
-  pub gave : Gave run.before run.after bytes
+  pub gave : GaveBytes run.before run.after bytes
   pub reader : IsReader why run.before.failed run.after.failed
   pub is : IsHalt run.options bytes told why
 
 -- it gave an input to its end, of which this is the text, and the status
-pub record Ends (run : Run) (told : List ℕ) (status : ℕ) : Type 0 where
+pub record EndsRun (run : Run) (told : List ℕ) (status : ℕ) : Type 0 where
   pub input : List ℕ
-  pub gave : Gave run.before run.after input
+  pub gave : GaveBytes run.before run.after input
   pub whole : IsAtEnd run.after.left
-  pub none_failed : NoneFailed run
+  pub none_failed : NoReadFailed run
   pub is : record { text = told; status = status } ≡ live_output run.options input
 
 -- and behind it there is this status; or a write failed
 abbrev pub IsEnd : Run → List ℕ → Bool → Option ℕ → Type 0
-IsEnd run told lost (Some status) = Ends run told status
+IsEnd run told lost (Some status) = EndsRun run told status
 IsEnd run told lost None = (lost ≡ true) × IsSoFar run told

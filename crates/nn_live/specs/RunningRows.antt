@@ -3,30 +3,30 @@ use Rattle.std.specs.Prelude.{◌≡◌, ℕ, ◌+◌, Bool, true, false, List, 
 use Rattle.std.proofs.Common.{arith, ap, append-nil, get_or, inl, inr, sym, true≢false, ◌∙◌}
 use Rattle.std.specs.Fmt.{digits}
 use Rattle.std.specs.Str.{is_utf8, chars}
+use Rattle.nn_bytes.specs.Lines.{line_feed}
 use lib.Utf8.{encode}
-use Rattle.nn_device.specs.Device.{Reading, Writing}
-use Rattle.nn_listing.specs.Listing.{newline}
+use Rattle.nn_device.specs.Device.{Reader, Writer}
 use Rattle.nn_engine.specs.Output.{Printed}
 use Rattle.nn_live.specs.Live.{takes, takes_pieces, takes_torn, told_so_far}
-use Rattle.nn_live.specs.Running.{IsOfFailedRead, IsOfNoMemory, IsOfRefused, IsOfWhole, IsSoFar, Wrote, WroteFront, asked_by, live_output, serving_by}
-use Rattle.nn_live.specs.Serving.{IsFrontOf}
-use Rattle.nn_live.specs.Words.{alone, word_in}
+use Rattle.nn_live.specs.Running.{IsOfFailedRead, IsOfNoMemory, IsOfRefused, IsOfWhole, IsSoFar, WroteLive, WroteLivePrefix, asked_by, live_output, serving_by}
+use Rattle.nn_live.specs.Serving.{IsPrefixOf}
+use Rattle.nn_live.specs.Words.{word_alone, word_in}
 use Rattle.nn_live.specs.declared.run.LiveOptions.{LiveOptions}
 
 abbrev sync : List ℕ
-sync = codes "sync" ++ newline ∷ []
+sync = codes "sync" ++ line_feed ∷ []
 
 abbrev done : List ℕ
-done = codes "done 1" ++ newline ∷ []
+done = codes "done 1" ++ line_feed ∷ []
 
 -- a reader that has these bytes, of five
-abbrev reader : List ℕ → ℕ → Bool → Reading
+abbrev reader : List ℕ → ℕ → Bool → Reader
 reader left given failed = record { left = Some left; reads = 0; given = given; failed = failed }
 
-abbrev unread : Reading
+abbrev unread : Reader
 unread = reader sync 0 false
 
-abbrev at_its_end : Reading
+abbrev at_its_end : Reader
 at_its_end = reader [] 5 false
 
 abbrev printed : List ℕ → ℕ → Printed
@@ -40,7 +40,7 @@ module _ (o : LiveOptions) where
   -- ---- The text of an input, before and behind its end.
 
   one_answer : live_output root sync ≡ printed done 0
-  unfolding takes takes_pieces takes_torn word_in alone is_utf8 chars encode digits
+  unfolding takes takes_pieces takes_torn word_in word_alone is_utf8 chars encode digits
   one_answer = refl
 
   -- a line that has not ended says nothing
@@ -49,7 +49,7 @@ module _ (o : LiveOptions) where
   nothing_yet = refl
 
   told_yet : told_so_far (asked_by root) false sync ≡ done
-  unfolding takes takes_pieces word_in alone is_utf8 chars encode digits
+  unfolding takes takes_pieces word_in word_alone is_utf8 chars encode digits
   told_yet = refl
 
   -- ---- Its output.
@@ -90,30 +90,30 @@ module _ (o : LiveOptions) where
       absurd (cc)
 
   -- behind a failed read comes what was told, and that
-  failed_read : IsOfFailedRead (serving_by root unread (reader [] 5 true)) (printed (done ++ (codes "fault 8" ++ newline ∷ [])) 1)
-  failed_read = record { bytes = sync; gave = record { taken = refl; counted = refl }; failed = refl; is = ap (λ t. printed (t ++ (codes "fault 8" ++ newline ∷ [])) 1) (sym told_yet) }
+  failed_read : IsOfFailedRead (serving_by root unread (reader [] 5 true)) (printed (done ++ (codes "fault 8" ++ line_feed ∷ [])) 1)
+  failed_read = record { bytes = sync; gave = record { taken = refl; counted = refl }; failed = refl; is = ap (λ t. printed (t ++ (codes "fault 8" ++ line_feed ∷ [])) 1) (sym told_yet) }
 
   not_where_none_failed : (p : Printed) → IsOfFailedRead (serving_by root unread at_its_end) p → ⊥
   not_where_none_failed p h = true≢false (sym h.failed)
 
-  -- where memory is refused, a front of it
-  nothing_told : IsOfNoMemory (serving_by root unread at_its_end) (printed (codes "fault 55" ++ newline ∷ []) 1)
+  -- where memory is refused, a prefix of it
+  nothing_told : IsOfNoMemory (serving_by root unread at_its_end) (printed (codes "fault 55" ++ line_feed ∷ []) 1)
   nothing_told = record {
     bytes = sync;
     gave = record { taken = refl; counted = refl };
     none_failed = refl;
     told = [];
-    front = (done, ap (λ (p : Printed). p.text) one_answer);
+    prefix = (done, ap (λ (p : Printed). p.text) one_answer);
     is = refl;
   }
 
-  all_told : IsOfNoMemory (serving_by root unread at_its_end) (printed (done ++ (codes "fault 55" ++ newline ∷ [])) 1)
+  all_told : IsOfNoMemory (serving_by root unread at_its_end) (printed (done ++ (codes "fault 55" ++ line_feed ∷ [])) 1)
   all_told = record {
     bytes = sync;
     gave = record { taken = refl; counted = refl };
     none_failed = refl;
     told = done;
-    front = ([], ap (λ (p : Printed). p.text) one_answer ∙ sym (append-nil done));
+    prefix = ([], ap (λ (p : Printed). p.text) one_answer ∙ sym (append-nil done));
     is = refl;
   }
 
@@ -122,37 +122,37 @@ module _ (o : LiveOptions) where
 
   -- ---- What a writer has.
 
-  abbrev unwritten : Writing
+  abbrev unwritten : Writer
   unwritten = record { contents = Some []; taken = 0; failed = false }
 
-  abbrev written : List ℕ → Bool → Writing
+  abbrev written : List ℕ → Bool → Writer
   written text failed = record { contents = Some text; taken = length text; failed = failed }
 
-  wrote : Wrote (serving_by root unread at_its_end) unwritten (written done false) 0
+  wrote : WroteLive (serving_by root unread at_its_end) unwritten (written done false) 0
   wrote = record { output = printed done 0; right = inl whole; took = record { bytes = refl; counted = refl; unfailed = refl }; ends = refl }
 
-  not_with_a_failed_write : (ended : ℕ) → Wrote (serving_by root unread at_its_end) unwritten (written done true) ended → ⊥
+  not_with_a_failed_write : (ended : ℕ) → WroteLive (serving_by root unread at_its_end) unwritten (written done true) ended → ⊥
   not_with_a_failed_write ended h = true≢false h.took.unfailed
 
   so_far : IsSoFar (serving_by root unread (reader [] 5 false)) done
   so_far = record { bytes = sync; gave = record { taken = refl; counted = refl }; is = sym told_yet }
 
-  wrote_a_front : WroteFront (serving_by root unread at_its_end) unwritten (written (codes "done") true) (record { written = 4 })
-  wrote_a_front = record {
+  wrote_a_prefix : WroteLivePrefix (serving_by root unread at_its_end) unwritten (written (codes "done") true) (record { written = 4 })
+  wrote_a_prefix = record {
     text = done;
     right = inr so_far;
-    front = record {
-      took = record { front = codes "done"; rest = codes " 1" ++ newline ∷ []; whole = refl; short = omega arith; bytes = refl; counted = refl; caused = refl };
+    prefix = record {
+      took = record { prefix = codes "done"; rest = codes " 1" ++ line_feed ∷ []; whole = refl; short = omega arith; bytes = refl; counted = refl; caused = refl };
       told = refl;
     };
   }
 
-  not_told_of_another_count : WroteFront (serving_by root unread at_its_end) unwritten (written (codes "done") true) (record { written = 3 }) → ⊥
-  not_told_of_another_count h = let e : 4 ≡ 0 + length h.front.took.front = h.front.took.counted in omega (arith, e, h.front.told)
+  not_told_of_another_count : WroteLivePrefix (serving_by root unread at_its_end) unwritten (written (codes "done") true) (record { written = 3 }) → ⊥
+  not_told_of_another_count h = let e : 4 ≡ 0 + length h.prefix.took.prefix = h.prefix.took.counted in omega (arith, e, h.prefix.told)
 
--- a front of a text, and no front of it
-front : IsFrontOf (codes "do") (codes "done")
-front = (codes "ne", refl)
+-- a prefix of a text, and no prefix of it
+prefix : IsPrefixOf (codes "do") (codes "done")
+prefix = (codes "ne", refl)
 
-no_front : IsFrontOf (codes "x") (codes "done") → ⊥
-no_front h = let e : 100 ≡ 120 = ap (λ t. get_or t 0 0) h.1 in omega (arith, e)
+no_prefix : IsPrefixOf (codes "x") (codes "done") → ⊥
+no_prefix h = let e : 100 ≡ 120 = ap (λ t. get_or t 0 0) h.1 in omega (arith, e)

@@ -2,82 +2,83 @@
 use Rattle.std.specs.Prelude.{◌≡◌, ◌<◌, ℕ, Bool, true, List, [], ◌∷◌, ◌++◌, flat_map, length, take}
 use Rattle.nn_segment.specs.Lines.{is_unbroken}
 use Rattle.nn_scenario.specs.Scenario.{is_blank}
-use Rattle.nn_live.specs.Live.{Asked, Service, Stage, ended, ends, pieces, serving, takes_pieces, takes_torn, written_of}
-use Rattle.nn_live.specs.Serving.{Seen, IsAt, IsFrontOf, HasRunOut, RunsOutBehind}
+use Rattle.nn_live.specs.Live.{LiveSetup, ServiceState, Stage, ended, ends, pieces, serving, takes_pieces, takes_torn, written_of}
+use Rattle.nn_live.specs.Serving.{Service, IsAtService, IsPrefixOf, HasRunOut, RunsOutBehind}
+use Rattle.nn_types.specs.Limits.{max_line}
 
 -- what the code has of the bytes behind the last line feed
-pub record Left : Type 0 where
+pub record Torn : Type 0 where
   pub kept : List ℕ
   pub blank : Bool
 
-pub record Taking : Type 0 where
-  pub service : Seen
-  pub torn : Left
+pub record Live : Type 0 where
+  pub service : Service
+  pub torn : Torn
 
 -- of these bytes it has the first 65,537, and knows whether all are blank
-pub record HasTorn (torn : List ℕ) (x : Left) : Type 0 where
+pub record HasTorn (torn : List ℕ) (x : Torn) : Type 0 where
   pub kept : x.kept ≡ take 65537 torn
   pub blank : x.blank ≡ is_blank torn
   pub unbroken : is_unbroken torn ≡ true
 
 -- a line that has more bytes than one may have, and may be blank
 pub record IsLong (text : List ℕ) (blank : Bool) : Type 0 where
-  pub long : 65536 < length text
+  pub long : max_line < length text
   pub all : is_blank text ≡ blank
 
 -- what the definition comes to, where it has taken the lines before these bytes
-abbrev pub goes_on : Asked → Service → List ℕ → Stage × List ℕ
-goes_on asked s bytes = takes_pieces asked (pieces bytes) (serving s)
+abbrev pub stage_after : LiveSetup → ServiceState → List ℕ → Stage × List ℕ
+stage_after asked s bytes = takes_pieces asked (pieces bytes) (serving s)
 
 -- Of these bytes the code has taken all but the rest, and put this text. It is at a service of the definition, which goes on with what the
 -- code has of the last line, and with the rest, as it does with all.
-pub record CameTo (asked : Asked) (s : Service) (bytes rest text : List ℕ) (x : Taking) : Type 0 where
-  pub now : Service
+pub record TakenAllBut (asked : LiveSetup) (s : ServiceState) (bytes rest text : List ℕ) (x : Live) : Type 0 where
+  pub now : ServiceState
   pub torn : List ℕ
-  pub at : IsAt asked x.service now
+  pub at : IsAtService asked x.service now
   pub has : HasTorn torn x.torn
   pub written : now.written ≡ s.written ++ text
-  pub same : (more : List ℕ) → goes_on asked s (bytes ++ more) ≡ goes_on asked now (torn ++ (rest ++ more))
+  pub same : (more : List ℕ) → stage_after asked s (bytes ++ more) ≡ stage_after asked now (torn ++ (rest ++ more))
 
-abbrev pub Takes : List ℕ → List ℕ → Taking → Taking → List ℕ → Type 0
-Takes bytes rest old new text =
-    (asked : Asked) (s : Service) (torn : List ℕ) → IsAt asked old.service s → HasTorn torn old.torn → CameTo asked s (torn ++ bytes) rest text new
+abbrev pub TakesBytes : List ℕ → List ℕ → Live → Live → List ℕ → Type 0
+TakesBytes bytes rest old new text =
+    (asked : LiveSetup) (s : ServiceState) (torn : List ℕ) → IsAtService asked old.service s → HasTorn torn old.torn → TakenAllBut asked s (torn ++ bytes) rest text new
 
 -- these bytes came, and this text was put: just what the lines that ended say, as no line feed is left
-abbrev pub Pushes : List ℕ → Taking → Taking → List ℕ → Type 0
-Pushes bytes old new text = Takes bytes [] old new text
+abbrev pub Pushes : List ℕ → Live → Live → List ℕ → Type 0
+Pushes bytes old new text = TakesBytes bytes [] old new text
 
--- not all lines of these bytes were taken, but what was told is a front of what they say
-abbrev pub BreaksPush : List ℕ → Taking → List ℕ → Type 0
+-- not all lines of these bytes were taken, but what was told is a prefix of what they say
+abbrev pub BreaksPush : List ℕ → Live → List ℕ → Type 0
 BreaksPush bytes old told =
-    (asked : Asked) (s : Service) (torn : List ℕ) → IsAt asked old.service s → HasTorn torn old.torn
-    → IsFrontOf (s.written ++ told) (written_of (goes_on asked s (torn ++ bytes)).0)
+    (asked : LiveSetup) (s : ServiceState) (torn : List ℕ) → IsAtService asked old.service s → HasTorn torn old.torn
+    → IsPrefixOf (s.written ++ told) (written_of (stage_after asked s (torn ++ bytes)).0)
 
 -- and so at the end of the input
-abbrev pub BreaksEnd : Taking → List ℕ → Type 0
+abbrev pub BreaksEnd : Live → List ℕ → Type 0
 BreaksEnd old told =
-    (asked : Asked) (s : Service) (torn : List ℕ) → IsAt asked old.service s → HasTorn torn old.torn → IsFrontOf (s.written ++ told) (ends asked (takes_torn asked torn s)).written
+    (asked : LiveSetup) (s : ServiceState) (torn : List ℕ) → IsAtService asked old.service s → HasTorn torn old.torn → IsPrefixOf (s.written ++ told) (ends asked (takes_torn asked torn s)).written
 
 -- a count had reached its end when some of the lines of these bytes were taken
-abbrev pub RunsOut : List ℕ → Taking → Type 0
-RunsOut bytes old = (mid : Taking) × (rest : List ℕ) × (told : List ℕ) × Takes bytes rest old mid told × HasRunOut mid.service
+abbrev pub RunsOut : List ℕ → Live → Type 0
+RunsOut bytes old = (mid : Live) × (rest : List ℕ) × (told : List ℕ) × TakesBytes bytes rest old mid told × HasRunOut mid.service
 
 -- and so at the end of the input
-abbrev pub RunsOutAtEnd : Taking → Type 0
+abbrev pub RunsOutAtEnd : Live → Type 0
 RunsOutAtEnd old = (torn : List ℕ) → HasTorn torn old.torn → RunsOutBehind torn old.service
 
 -- the input ended, and this text was put
-pub record Finishes (old new : Taking) (text : List ℕ) : Type 0 where
-  pub at : (asked : Asked) (s : Service) (torn : List ℕ) → IsAt asked old.service s → HasTorn torn old.torn → IsAt asked new.service (ends asked (takes_torn asked torn s))
-  pub written : (asked : Asked) (s : Service) (torn : List ℕ) → IsAt asked old.service s → HasTorn torn old.torn → (ends asked (takes_torn asked torn s)).written ≡ s.written ++ text
+pub record EndsInput (old new : Live) (text : List ℕ) : Type 0 where
+  pub at : (asked : LiveSetup) (s : ServiceState) (torn : List ℕ) → IsAtService asked old.service s → HasTorn torn old.torn → IsAtService asked new.service (ends asked (takes_torn asked torn s))
+  pub written : (asked : LiveSetup) (s : ServiceState) (torn : List ℕ) → IsAtService asked old.service s → HasTorn torn old.torn → (ends asked (takes_torn asked torn s)).written ≡ s.written ++ text
 
 -- these chunks came, one after another, and this text was put
-unfoldable pub Comes : List (List ℕ) → Taking → Taking → List ℕ → Type 0
+unfoldable pub Comes : List (List ℕ) → Live → Live → List ℕ → Type 0
 Comes [] x y told = (x ≡ y) × (told ≡ [])
-Comes (bytes ∷ chunks) x y told = (mid : Taking) × (first : List ℕ) × (later : List ℕ) × Pushes bytes x mid first × Comes chunks mid y later × (told ≡ first ++ later)
+Comes (bytes ∷ chunks) x y told = (mid : Live) × (first : List ℕ) × (later : List ℕ) × Pushes bytes x mid first × Comes chunks mid y later × (told ≡ first ++ later)
 
 -- An input may come in chunks: what is told of them, and of its end, is what the definition tells of the whole.
 abbrev pub MayBeCut : Type 0
 MayBeCut =
-    (asked : Asked) (s : Service) (chunks : List (List ℕ)) (x y z : Taking) (told last : List ℕ) → IsAt asked x.service s → HasTorn [] x.torn → Comes chunks x y told → Finishes y z last
-    → written_of (ended asked (goes_on asked s (flat_map (λ bytes. bytes) chunks))) ≡ s.written ++ (told ++ last)
+    (asked : LiveSetup) (s : ServiceState) (chunks : List (List ℕ)) (x y z : Live) (told last : List ℕ) → IsAtService asked x.service s → HasTorn [] x.torn → Comes chunks x y told → EndsInput y z last
+    → written_of (ended asked (stage_after asked s (flat_map (λ bytes. bytes) chunks))) ≡ s.written ++ (told ++ last)

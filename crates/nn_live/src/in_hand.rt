@@ -5,7 +5,7 @@ ghost use Rattle.nn_segment.specs.Lines.{is_unbroken};
 ghost use Rattle.nn_segment.specs.Segment.{Segment, IsSegment};
 ghost use Rattle.nn_scenario.specs.Cut.{Part, no_lines, with_line, segment_of};
 ghost use Rattle.nn_scenario.specs.Reading.{Reading, with_edit_line};
-ghost use Rattle.nn_live.specs.Serving.{Keeps, HasRead, IsAllOf, alone};
+ghost use Rattle.nn_live.specs.Serving.{HasPart, HasRead, IsAllOf, part_alone};
 
 use crate::service::ServiceFault;
 use nn_scenario::SegmentCheck;
@@ -19,7 +19,7 @@ const MAX_LINES: u64 = 4_611_686_018_427_387_903;
 
 /// The edits in hand. Each is checked as it comes, and its transaction is kept until the segment ends. Of a segment that has become
 /// too long none is kept.
-#[derive(Drop)]
+#[derive(Debug, Drop)]
 pub(crate) struct InHand {
     check: SegmentCheck,
     txs: Vec<Tx>,
@@ -30,9 +30,9 @@ pub(crate) struct InHand {
 
 impl Model for InHand {
     ghost use Rattle.std.specs.Prelude.{◌≤◌, ◌<◌, ◌+◌, ◌^◌};
-    ghost use Rattle.nn_live.specs.Serving.{Kept};
+    ghost use Rattle.nn_live.specs.Serving.{InHand};
 
-    ghost Value = { Kept };
+    ghost Value = { InHand };
 
     ghost view = { λ h. record { check = h.check; txs = h.txs.items; edits = h.edits; last = h.last } };
 
@@ -42,7 +42,7 @@ impl Model for InHand {
 impl InHand {
     /// No edits. Takes no memory.
     pub(crate) fn none(alloc: Global) -> InHand
-        ensures { Keeps no_lines result }
+        ensures { HasPart no_lines result }
     {
         InHand {
             check: SegmentCheck::new(),
@@ -78,8 +78,8 @@ impl InHand {
         requires unbroken { is_unbroken text.now ≡ true }
         requires read { edit_of_line text.now ≡ Ok tx }
         requires from_one { 1 ≤ tx.txid }
-        ensures ok { OnOk result ((part : Part) → Keeps part self.old
-            → HasRead (with_edit_line (alone part) (record { text = text.now; tx = tx })) (with_line part (record { text = text.now; tx = tx })) self.new) }
+        ensures ok { OnOk result ((part : Part) → HasPart part self.old
+            → HasRead (with_edit_line (part_alone part) (record { text = text.now; tx = tx })) (with_line part (record { text = text.now; tx = tx })) self.new) }
         ensures exhausted { IsErrOf result ServiceFault.Exhausted → 2 ^ 62 ≤ self.old.edits + 1 }
         ensures left { IfErr result (λ _. self.new ≡ self.old) }
     {
@@ -101,8 +101,8 @@ impl InHand {
 
     /// Why these edits are no segment, where no end mark came and some edit did.
     pub(crate) fn into_fault(self) -> SegmentFault
-        requires { (part : Part) × Keeps part self × (0 < self.edits) }
-        ensures { (part : Part) → Keeps part self → segment_of part ≡ Err result }
+        requires { (part : Part) × HasPart part self × (0 < self.edits) }
+        ensures { (part : Part) → HasPart part self → segment_of part ≡ Err result }
     {
         match self.check.into_bad() {
             Some(bad) => bad.fault,

@@ -1,17 +1,19 @@
 //! A standby in service whose input comes in chunks.
 ghost use Rattle.std.specs.Prelude.{◌≡◌, ◌∷◌, ◌++◌, [], List, ℕ, true, IfErr, IsErrOf, OnOk, if◌then◌else◌, is_some};
-ghost use Rattle.nn_device.specs.Page.{Puts};
-ghost use Rattle.nn_segment.specs.Lines.{newline, is_unbroken};
+ghost use Rattle.nn_bytes.specs.Lines.{line_feed};
+ghost use Rattle.nn_device.specs.Page.{PutsPiece};
+ghost use Rattle.nn_segment.specs.Lines.{is_unbroken};
 ghost use Rattle.nn_live.specs.Live.{takes};
-ghost use Rattle.nn_live.specs.Serving.{Breaks, HasRunOut, Makes};
-ghost use Rattle.nn_live.specs.Taking.{BreaksEnd, BreaksPush, Finishes, HasTorn, Pushes, RunsOut, RunsOutAtEnd};
+ghost use Rattle.nn_live.specs.Serving.{Breaks, HasRunOut, FollowsStep};
+ghost use Rattle.nn_live.specs.Taking.{BreaksEnd, BreaksPush, EndsInput, HasTorn, Pushes, RunsOut, RunsOutAtEnd};
 
 use crate::service::{Service, ServiceFault};
 use crate::torn::Torn;
+use nn_bytes::line_end;
 use nn_device::{Page, Writer};
 use nn_edits::Scratch;
-use nn_segment::line_end;
 use std::alloc::Global;
+use std::fmt;
 use std::io::Write;
 use std::marker::Model;
 
@@ -24,11 +26,20 @@ pub struct Live {
 }
 
 impl Model for Live {
-    ghost use Rattle.nn_live.specs.Taking.{Taking};
+    ghost use Rattle.nn_live.specs.Taking.{Live};
 
-    ghost Value = { Taking };
+    ghost Value = { Live };
 
     ghost view = { λ l. record { service = l.service; torn = l.torn } };
+}
+
+// Without the bytes that it has of a line.
+impl fmt::Debug for Live {
+    fn fmt<D: fmt::Write>(&self, f: &mut fmt::Formatter<D>) -> fmt::Result {
+        f.debug_struct("Live")
+            .field("service", &self.service)
+            .finish_non_exhaustive()
+    }
 }
 
 impl Live {
@@ -62,9 +73,9 @@ impl Live {
         writer: &mut Writer<W>,
         bytes: &[u8],
     ) -> Result<(), ServiceFault>
-        ensures ok { OnOk result ((told : List ℕ) × Puts told page.old writer.old page.new writer.new × Pushes bytes.now self.old self.new told) }
+        ensures ok { OnOk result ((told : List ℕ) × PutsPiece told page.old writer.old page.new writer.new × Pushes bytes.now self.old self.new told) }
         ensures exhausted { IsErrOf result ServiceFault.Exhausted → RunsOut bytes.now self.old }
-        ensures front { IfErr result (λ _. (told : List ℕ) × Puts told page.old writer.old page.new writer.new × BreaksPush bytes.now self.old told) }
+        ensures prefix { IfErr result (λ _. (told : List ℕ) × PutsPiece told page.old writer.old page.new writer.new × BreaksPush bytes.now self.old told) }
     {
         let mut rest = bytes;
         'lines: loop {
@@ -83,9 +94,9 @@ impl Live {
         page: &mut Page,
         writer: &mut Writer<W>,
     ) -> Result<(), ServiceFault>
-        ensures ok { OnOk result ((told : List ℕ) × Puts told page.old writer.old page.new writer.new × Finishes self.old self.new told) }
+        ensures ok { OnOk result ((told : List ℕ) × PutsPiece told page.old writer.old page.new writer.new × EndsInput self.old self.new told) }
         ensures exhausted { IsErrOf result ServiceFault.Exhausted → RunsOutAtEnd self.old }
-        ensures front { IfErr result (λ _. (told : List ℕ) × Puts told page.old writer.old page.new writer.new × BreaksEnd self.old told) }
+        ensures prefix { IfErr result (λ _. (told : List ℕ) × PutsPiece told page.old writer.old page.new writer.new × BreaksEnd self.old told) }
     {
         if self.torn.is_too_long() {
             return self.service.end_long(page, writer, self.torn.is_blank());
@@ -102,9 +113,9 @@ impl Live {
         text: &[u8],
     ) -> Result<(), ServiceFault>
         requires { is_unbroken text.now ≡ true }
-        ensures ok { OnOk result ((told : List ℕ) × Puts told page.old writer.old page.new writer.new × Pushes (text.now ++ newline ∷ []) self.old self.new told) }
+        ensures ok { OnOk result ((told : List ℕ) × PutsPiece told page.old writer.old page.new writer.new × Pushes (text.now ++ line_feed ∷ []) self.old self.new told) }
         ensures exhausted { IsErrOf result ServiceFault.Exhausted → HasRunOut self.old.service }
-        ensures front { IfErr result (λ _. (told : List ℕ) × Puts told page.old writer.old page.new writer.new × BreaksPush (text.now ++ newline ∷ []) self.old told) }
+        ensures prefix { IfErr result (λ _. (told : List ℕ) × PutsPiece told page.old writer.old page.new writer.new × BreaksPush (text.now ++ line_feed ∷ []) self.old told) }
     {
         if self.torn.is_empty() {
             return self.service.line(&mut self.scratch, page, writer, text);
@@ -121,11 +132,11 @@ impl Live {
         page: &mut Page,
         writer: &mut Writer<W>,
     ) -> Result<(), ServiceFault>
-        ensures ok { OnOk result ((told : List ℕ) × Puts told page.old writer.old page.new writer.new
-            × ((torn : List ℕ) → HasTorn torn self.old.torn → Makes (λ asked s. takes asked torn s) self.old.service self.new.service told)) }
+        ensures ok { OnOk result ((told : List ℕ) × PutsPiece told page.old writer.old page.new writer.new
+            × ((torn : List ℕ) → HasTorn torn self.old.torn → FollowsStep (λ asked s. takes asked torn s) self.old.service self.new.service told)) }
         ensures torn { self.new.torn ≡ self.old.torn }
         ensures exhausted { IsErrOf result ServiceFault.Exhausted → HasRunOut self.old.service }
-        ensures front { IfErr result (λ _. (told : List ℕ) × Puts told page.old writer.old page.new writer.new
+        ensures prefix { IfErr result (λ _. (told : List ℕ) × PutsPiece told page.old writer.old page.new writer.new
             × ((torn : List ℕ) → HasTorn torn self.old.torn → Breaks (λ asked s. takes asked torn s) self.old.service told)) }
     {
         if self.torn.is_too_long() {

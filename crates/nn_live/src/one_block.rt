@@ -1,6 +1,6 @@
 //! What a service answers of one block.
 ghost use Rattle.std.specs.Prelude.{◌≡◌, ◌≤◌, ◌==◌, filter, flat_map};
-ghost use Rattle.nn_device.specs.Page.{Puts};
+ghost use Rattle.nn_device.specs.Page.{PutsPiece};
 ghost use Rattle.nn_types.specs.declared.report.Message.{Message};
 ghost use Rattle.nn_model.specs.Status.{block_at};
 ghost use Rattle.nn_listing.specs.Tables.{datanodes, order_text, replica_text};
@@ -17,7 +17,8 @@ use nn_listing::{put_block_replicas, put_order};
 use nn_postponed::Held;
 use nn_replicas::Replicas;
 use nn_tree::{Found, Namespace, Rows};
-use nn_types::{Block, BlockId, DATANODES};
+use nn_types::limits::MAX_DATANODES;
+use nn_types::{Block, BlockId};
 use std::io::Write;
 
 /// Puts the line of the file that holds the block, if one does.
@@ -28,10 +29,10 @@ pub(crate) fn put_holder<W: Write>(
     id: BlockId,
 )
     requires room { greatest_depth rows.left ≤ rows.room }
-    ensures { Puts (flat_map (holder_lines id) rows.entry.left) page.old writer.old page.new writer.new }
+    ensures { PutsPiece (flat_map (holder_lines id) rows.entry.left) page.old writer.old page.new writer.new }
 {
     'rows: loop {
-        let Ok(next) = rows.next() else {
+        let Ok(next) = rows.next_row() else {
             unreachable!();
         };
         let Some(found) = next else {
@@ -49,7 +50,7 @@ fn put_holder_row<W: Write>(
     found: Found<'_>,
     id: BlockId,
 )
-    ensures { Puts (holder_lines id (lent_names names.now, form_of found.entry)) page.old writer.old page.new writer.new }
+    ensures { PutsPiece (holder_lines id (lent_names names.now, form_of found.entry)) page.old writer.old page.new writer.new }
 {
     if let Found::File(file) = found {
         put_holder_blocks(page, writer, names, file.blocks.as_slice(), id);
@@ -64,7 +65,7 @@ fn put_holder_blocks<W: Write>(
     blocks: &[Block],
     id: BlockId,
 )
-    ensures { Puts (flat_map (block_line (lent_names names.now)) (filter (λ b. b.id == id) blocks.now)) page.old writer.old page.new writer.new }
+    ensures { PutsPiece (flat_map (block_line (lent_names names.now)) (filter (λ b. b.id == id) blocks.now)) page.old writer.old page.new writer.new }
 {
     let mut rest = blocks;
     'rest: while let Some((block, later)) = rest.split_first() {
@@ -84,7 +85,7 @@ pub(crate) fn put_replicas_of<W: Write>(
     id: BlockId,
 )
     requires { Shows namespace.now table.now }
-    ensures { Puts (flat_map (λ dn. replica_text id (block_at namespace.now id) dn (replica_at table.now dn id)) datanodes) page.old writer.old page.new writer.new }
+    ensures { PutsPiece (flat_map (λ dn. replica_text id (block_at namespace.now id) dn (replica_at table.now dn id)) datanodes) page.old writer.old page.new writer.new }
 {
     if let Some(row) = namespace.block(id) {
         put_block_replicas(page, writer, id, &row.block, table.replicas_of(id));
@@ -98,10 +99,10 @@ pub(crate) fn put_orders_of<W: Write>(
     table: &Replicas,
     id: BlockId,
 )
-    ensures { Puts (flat_map (λ dn. order_text id dn (has_order table.now dn id)) datanodes) page.old writer.old page.new writer.new }
+    ensures { PutsPiece (flat_map (λ dn. order_text id dn (has_order table.now dn id)) datanodes) page.old writer.old page.new writer.new }
 {
     let mut dn = 0;
-    'datanodes: while dn < DATANODES {
+    'datanodes: while dn < MAX_DATANODES {
         dn += 1;
         if table.has_order(dn, id) {
             put_order(page, writer, id, dn);
@@ -116,7 +117,7 @@ pub(crate) fn put_held_of<W: Write>(
     mut held: Held<'_>,
     id: BlockId,
 )
-    ensures { Puts (flat_map held_line (filter (λ (m : Message). m.block == id) held.entry)) page.old writer.old page.new writer.new }
+    ensures { PutsPiece (flat_map held_line (filter (λ (m : Message). m.block == id) held.entry)) page.old writer.old page.new writer.new }
 {
     'held: while let Some(message) = held.next() {
         if message.block == id {

@@ -2,8 +2,8 @@
 ghost use Rattle.std.specs.Prelude.{◌++◌, [], List, ℕ, IfOk};
 ghost use Rattle.nn_live.specs.Opening.{IsEnded, IsOpening, OpensTo};
 
+use nn_bytes::line_end;
 use nn_image::{ImageFault, Loading};
-use nn_segment::line_end;
 use nn_tree::Namespace;
 use nn_types::Txid;
 use std::alloc::{AllocError, Global};
@@ -29,9 +29,9 @@ pub(crate) struct Opening {
 }
 
 impl Model for Opening {
-    ghost use Rattle.nn_live.specs.Opening.{OpeningState};
+    ghost use Rattle.nn_live.specs.Opening.{Opening};
 
-    ghost Value = { OpeningState };
+    ghost Value = { Opening };
 
     ghost view = { λ o. record { loading = o.loading; line = o.line.items } };
 }

@@ -2,12 +2,12 @@
 ghost use Rattle.std.specs.Prelude.{◌≡◌, ◌<◌, ◌-◌, ◌^◌, ◌++◌, [], List, ℕ, IfOk, IfErr, OnErr, OnOk};
 ghost use Rattle.std.specs.Io.{ReadsAtMost};
 ghost use Rattle.std.specs.Io.KnownBytes.{ReadConsumes};
-ghost use Rattle.nn_device.specs.Device.{FailedToReadOn, GaveOn, Took, Writing};
-ghost use Rattle.nn_device.specs.Page.{HasPut, Puts};
+ghost use Rattle.nn_device.specs.Device.{FailedToReadOn, GaveOn, Took, Writer as WriterView};
+ghost use Rattle.nn_device.specs.Page.{HasPut, PutsPiece};
 ghost use Rattle.nn_engine.specs.Run.{Unfinished};
-ghost use Rattle.nn_live.specs.Live.{begun, live_text};
-ghost use Rattle.nn_live.specs.Running.{Halts, IsEnd, IsHalt, IsOfLines, IsStage, Wrote, WroteFront, asked_by, halt_text, live_output, serving_by};
-ghost use Rattle.nn_live.specs.Serving.{IsAt};
+ghost use Rattle.nn_live.specs.Live.{new_service, live_text};
+ghost use Rattle.nn_live.specs.Running.{Halts, IsEnd, IsHalt, IsOfLines, IsStage, WroteLive, WroteLivePrefix, asked_by, halt_text, live_output, serving_by};
+ghost use Rattle.nn_live.specs.Serving.{IsAtService};
 ghost use Rattle.nn_live.specs.Taking.{HasTorn};
 
 use crate::live::Live;
@@ -43,7 +43,7 @@ pub struct LiveOptions {
 
 /// Why a service ends before its input does.
 #[derive(Clone, Copy, Debug, PartialEq, Eq)]
-enum Halt {
+enum EndFault {
     /// No image has such a line.
     Refused(ImageFault),
     /// A read failed.
@@ -52,23 +52,23 @@ enum Halt {
     OutOfMemory,
 }
 
-impl From<AllocError> for Halt {
-    ghost use Rattle.nn_live.specs.declared.run.Halt.TheVariants.{OutOfMemory};
+impl From<AllocError> for EndFault {
+    ghost use Rattle.nn_live.specs.declared.run.EndFault.TheVariants.{OutOfMemory};
 
     ghost from_gives = { λ _ e. e ≡ OutOfMemory };
 
-    fn from(_e: AllocError) -> Halt {
-        Halt::OutOfMemory
+    fn from(_e: AllocError) -> EndFault {
+        EndFault::OutOfMemory
     }
 }
 
-impl From<ServiceFault> for Halt {
-    ghost use Rattle.nn_live.specs.declared.run.Halt.TheVariants.{OutOfMemory};
+impl From<ServiceFault> for EndFault {
+    ghost use Rattle.nn_live.specs.declared.run.EndFault.TheVariants.{OutOfMemory};
 
     ghost from_gives = { λ _ e. e ≡ OutOfMemory };
 
-    fn from(_e: ServiceFault) -> Halt {
-        Halt::OutOfMemory
+    fn from(_e: ServiceFault) -> EndFault {
+        EndFault::OutOfMemory
     }
 }
 
@@ -81,8 +81,8 @@ pub fn run_live<R: Read, W: Write>(
     input: &mut Reader<R>,
     writer: &mut Writer<W>,
 ) -> Result<RunEnd, RunFault>
-    ensures written { IfOk result (λ end. Wrote (serving_by options.now input.old input.new) writer.old writer.new end.status) }
-    ensures front { IfErr result (WroteFront (serving_by options.now input.old input.new) writer.old writer.new) }
+    ensures written { IfOk result (λ end. WroteLive (serving_by options.now input.old input.new) writer.old writer.new end.status) }
+    ensures prefix { IfErr result (WroteLivePrefix (serving_by options.now input.old input.new) writer.old writer.new) }
 {
     let before = writer.taken();
     let mut page = Page::new(alloc);
@@ -103,8 +103,8 @@ fn finish<W: Write>(
     before: u64,
     status: u8,
 ) -> Result<RunEnd, RunFault>
-    ensures written { IfOk result (λ end. (end.status ≡ status) × ((start : Writing) (text : List ℕ) → HasPut start text page writer.old → Took start writer.new text)) }
-    ensures front { IfErr result (λ fault. (start : Writing) (text : List ℕ) → HasPut start text page writer.old → before ≡ start.taken → Unfinished start writer.new text fault) }
+    ensures written { IfOk result (λ end. (end.status ≡ status) × ((start : WriterView) (text : List ℕ) → HasPut start text page writer.old → Took start writer.new text)) }
+    ensures prefix { IfErr result (λ fault. (start : WriterView) (text : List ℕ) → HasPut start text page writer.old → before ≡ start.taken → Unfinished start writer.new text fault) }
 {
     match page.end(writer) {
         Ok(()) => Ok(RunEnd { status }),
@@ -119,16 +119,16 @@ fn serve<R: Read, W: Write>(
     input: &mut Reader<R>,
     page: &mut Page,
     writer: &mut Writer<W>,
-) -> Result<Option<u8>, Halt>
+) -> Result<Option<u8>, EndFault>
     requires { page.old.left ≡ [] }
-    ensures ended { IfOk result (λ end. (told : List ℕ) × Puts told page.old writer.old page.new writer.new × IsEnd (serving_by options.now input.old input.new) told page.new.lost end) }
-    ensures halted { IfErr result (λ why. (told : List ℕ) × Puts told page.old writer.old page.new writer.new × Halts (serving_by options.now input.old input.new) told why) }
+    ensures ended { IfOk result (λ end. (told : List ℕ) × PutsPiece told page.old writer.old page.new writer.new × IsEnd (serving_by options.now input.old input.new) told page.new.lost end) }
+    ensures halted { IfErr result (λ why. (told : List ℕ) × PutsPiece told page.old writer.old page.new writer.new × Halts (serving_by options.now input.old input.new) told why) }
 {
     let mut stage = Stage::new(alloc, options)?;
     let mut buffer = new_buffer(alloc, BUFFER)?;
     'reads: loop {
         let Ok(n) = read_next(input, page, &mut buffer) else {
-            return Err(Halt::Unreadable);
+            return Err(EndFault::Unreadable);
         };
         if n == 0 {
             let status = stage.end(options.leave_memory, page, writer)?;
@@ -157,15 +157,15 @@ fn read_next<R: Read>(
     input.read_on(buffer)
 }
 
-impl Halt {
+impl EndFault {
     // Puts the line that tells it.
     fn put<W: Write>(self, page: &mut Page, writer: &mut Writer<W>)
-        ensures { Puts (halt_text self) page.old writer.old page.new writer.new }
+        ensures { PutsPiece (halt_text self) page.old writer.old page.new writer.new }
     {
         match self {
-            Halt::Refused(fault) => put_image_fault(page, writer, fault),
-            Halt::Unreadable => page.put(writer, unread_line(InputFault::ReadFailed)),
-            Halt::OutOfMemory => page.put(writer, unread_line(InputFault::OutOfMemory)),
+            EndFault::Refused(fault) => put_image_fault(page, writer, fault),
+            EndFault::Unreadable => page.put(writer, unread_line(InputFault::ReadFailed)),
+            EndFault::OutOfMemory => page.put(writer, unread_line(InputFault::OutOfMemory)),
         }
     }
 }
@@ -179,9 +179,9 @@ enum Stage {
 
 impl Stage {
     // Before the first byte.
-    fn new(alloc: Global, options: &LiveOptions) -> Result<Stage, Halt>
+    fn new(alloc: Global, options: &LiveOptions) -> Result<Stage, EndFault>
         ensures stage { IfOk result (IsStage options.now [] []) }
-        ensures memory { IfErr result (λ why. why ≡ Halt.OutOfMemory) }
+        ensures memory { IfErr result (λ why. why ≡ EndFault.OutOfMemory) }
     {
         if options.from_image {
             return Ok(Stage::Loading(Opening::new(alloc)));
@@ -197,10 +197,10 @@ impl Stage {
         page: &mut Page,
         writer: &mut Writer<W>,
         bytes: &[u8],
-    ) -> Result<(), Halt>
-        ensures ok { OnOk result ((more : List ℕ) × Puts more page.old writer.old page.new writer.new
+    ) -> Result<(), EndFault>
+        ensures ok { OnOk result ((more : List ℕ) × PutsPiece more page.old writer.old page.new writer.new
             × ((before told : List ℕ) → IsStage options.now before told self.old → IsStage options.now (before ++ bytes.now) (told ++ more) self.new)) }
-        ensures err { IfErr result (λ why. (more : List ℕ) × Puts more page.old writer.old page.new writer.new
+        ensures err { IfErr result (λ why. (more : List ℕ) × PutsPiece more page.old writer.old page.new writer.new
             × ((before told : List ℕ) → IsStage options.now before told self.old → IsHalt options.now (before ++ bytes.now) (told ++ more) why)) }
         ensures why { IfErr result (λ why. IsOfLines why) }
     {
@@ -208,7 +208,7 @@ impl Stage {
             Stage::Loading(opening) => {
                 match opening.push(alloc, bytes)? {
                     Opened::Loading => Ok(()),
-                    Opened::Refused(fault) => Err(Halt::Refused(fault)),
+                    Opened::Refused(fault) => Err(EndFault::Refused(fault)),
                     Opened::Loaded(namespace, txid, rest) => {
                         let mut live = live_from(alloc, options, namespace, txid.get())?;
                         live.push(page, writer, rest)?;
@@ -227,10 +227,10 @@ impl Stage {
         leave_memory: bool,
         page: &mut Page,
         writer: &mut Writer<W>,
-    ) -> Result<u8, Halt>
-        ensures ok { IfOk result (λ status. (more : List ℕ) × Puts more page.old writer.old page.new writer.new
+    ) -> Result<u8, EndFault>
+        ensures ok { IfOk result (λ status. (more : List ℕ) × PutsPiece more page.old writer.old page.new writer.new
             × ((options : LiveOptions) (input told : List ℕ) → IsStage options input told self → record { text = told ++ more; status = status } ≡ live_output options input)) }
-        ensures err { IfErr result (λ why. (why ≡ Halt.OutOfMemory) × ((more : List ℕ) × Puts more page.old writer.old page.new writer.new
+        ensures err { IfErr result (λ why. (why ≡ EndFault.OutOfMemory) × ((more : List ℕ) × PutsPiece more page.old writer.old page.new writer.new
             × ((options : LiveOptions) (input told : List ℕ) → IsStage options input told self → IsHalt options input (told ++ more) why))) }
     {
         match self {
@@ -263,11 +263,11 @@ fn live_from(
     options: &LiveOptions,
     namespace: Namespace,
     txid: u64,
-) -> Result<Live, Halt>
+) -> Result<Live, EndFault>
     requires { txid < 2 ^ 63 }
-    ensures at { IfOk result (λ live. IsAt (asked_by options.now) live.service (begun namespace txid)) }
+    ensures at { IfOk result (λ live. IsAtService (asked_by options.now) live.service (new_service namespace txid)) }
     ensures torn { IfOk result (λ live. HasTorn [] live.torn) }
-    ensures memory { IfErr result (λ why. why ≡ Halt.OutOfMemory) }
+    ensures memory { IfErr result (λ why. why ≡ EndFault.OutOfMemory) }
 {
     match Service::begin(
         alloc,
@@ -278,7 +278,7 @@ fn live_from(
         options.version,
     ) {
         Ok(service) => Ok(Live::of(alloc, service)),
-        Err(_) => Err(Halt::OutOfMemory),
+        Err(_) => Err(EndFault::OutOfMemory),
     }
 }
 

@@ -1,9 +1,9 @@
 //! A standby in service: what it does with each line, and what it tells.
 ghost use Rattle.std.specs.Prelude.{◌≡◌, ◌≤◌, ◌<◌, ◌+◌, ◌^◌, [], if◌then◌else◌, IfOk, OnOk, IfErr, IsErrOf};
-ghost use Rattle.nn_device.specs.Page.{Puts};
+ghost use Rattle.nn_device.specs.Page.{PutsPiece};
 ghost use Rattle.nn_listing.specs.Trail.{history_text};
-ghost use Rattle.nn_live.specs.Live.{Asked, begun, counts_line};
-ghost use Rattle.nn_live.specs.Serving.{IsAt, Makes, forgetful};
+ghost use Rattle.nn_live.specs.Live.{LiveSetup, new_service, counts_line};
+ghost use Rattle.nn_live.specs.Serving.{IsAtService, FollowsStep, forgetful};
 
 mod answers;
 mod edits;
@@ -16,7 +16,8 @@ use nn_device::{Page, Writer};
 use nn_listing::put_history;
 use nn_shadow::{FromFault, Shadow};
 use nn_tree::Namespace;
-use nn_types::{DATANODES, Settings};
+use nn_types::Settings;
+use nn_types::limits::MAX_DATANODES;
 use std::alloc::Global;
 use std::io::Write;
 use std::marker::Model;
@@ -30,7 +31,7 @@ pub enum ServiceFault {
 }
 
 /// A standby in service.
-#[derive(Drop)]
+#[derive(Debug, Drop)]
 pub struct Service {
     shadow: Shadow,
     in_hand: InHand,
@@ -51,13 +52,14 @@ pub struct Service {
 impl Model for Service {
     ghost use Rattle.std.specs.Prelude.{◌≡◌, length};
     ghost use Rattle.nn_scenario.specs.Cut.{Part};
-    ghost use Rattle.nn_live.specs.Serving.{Seen, Keeps};
+    ghost use Rattle.nn_live.specs.Serving.{Service, HasPart};
+    ghost use Rattle.nn_types.specs.Limits.{max_datanodes};
 
-    ghost Value = { Seen };
+    ghost Value = { Service };
 
     ghost view = { λ s. record { shadow = s.shadow; in_hand = s.in_hand; history = s.history; version = s.version.now; known = s.known; passed = s.passed; segments = s.segments; lines = s.lines } };
 
-    ghost invariant = { λ s. (length s.shadow.numbers ≡ 256) × ((part : Part) × Keeps part s.in_hand) × (s.min ≡ s.shadow.table.min) };
+    ghost invariant = { λ s. (length s.shadow.numbers ≡ max_datanodes) × ((part : Part) × HasPart part s.in_hand) × (s.min ≡ s.shadow.table.min) };
 }
 
 impl Service {
@@ -73,10 +75,10 @@ impl Service {
         version: &'static str,
     ) -> Result<Service, FromFault>
         requires { txid < 2 ^ 63 }
-        ensures ok { IfOk result (λ service. IsAt (record { permille = settings.permille; min = settings.min; history = history; version = version.now }) service (begun namespace txid)) }
+        ensures ok { IfOk result (λ service. IsAtService (record { permille = settings.permille; min = settings.min; history = history; version = version.now }) service (new_service namespace txid)) }
         ensures back { IfErr result (λ fault. fault.namespace ≡ namespace) }
     {
-        let shadow = Shadow::from(alloc, namespace, txid, DATANODES, settings)?;
+        let shadow = Shadow::from(alloc, namespace, txid, MAX_DATANODES, settings)?;
         Ok(Service {
             shadow,
             in_hand: InHand::none(alloc),
@@ -100,7 +102,7 @@ impl Service {
 
     // One more line came: what is told of it from now on has its number.
     fn next_line(&mut self) -> Result<(), ServiceFault>
-        ensures ok { OnOk result (Makes (λ _ s. counts_line s) self.old self.new []) }
+        ensures ok { OnOk result (FollowsStep (λ _ s. counts_line s) self.old self.new []) }
         ensures counted { OnOk result (self.new ≡ record self.old { lines = self.old.lines + 1 }) }
         ensures exhausted { IsErrOf result ServiceFault.Exhausted → 2 ^ 63 ≤ self.old.lines }
         ensures left { IfErr result (λ _. self.new ≡ self.old) }
@@ -114,7 +116,7 @@ impl Service {
 
     // Tells what was done, where that is asked for, and forgets it.
     fn tell_events<W: Write>(&mut self, page: &mut Page, writer: &mut Writer<W>)
-        ensures put { Puts (if self.old.history then history_text self.old.shadow.history else []) page.old writer.old page.new writer.new }
+        ensures put { PutsPiece (if self.old.history then history_text self.old.shadow.history else []) page.old writer.old page.new writer.new }
         ensures left { self.new ≡ forgetful self.old }
     {
         if self.history {

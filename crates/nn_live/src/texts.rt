@@ -1,11 +1,12 @@
 //! The lines that a service writes: words and numbers with one space between two of them.
 ghost use Rattle.std.specs.Prelude.{◌≡◌, ◌++◌, ◌==◌, ◌∷◌, [], if◌then◌else◌, codes, decimal};
+ghost use Rattle.nn_bytes.specs.Lines.{line_feed};
 ghost use Rattle.nn_types.specs.declared.fault.TheConstants.{DISORDER};
-ghost use Rattle.nn_device.specs.Page.{Puts};
+ghost use Rattle.nn_device.specs.Page.{PutsPiece};
 ghost use Rattle.nn_tree.specs.Listing.{lent_names};
-ghost use Rattle.nn_listing.specs.Listing.{newline, path_json};
+ghost use Rattle.nn_listing.specs.Listing.{path_json};
 ghost use Rattle.nn_listing.specs.Summary.{line};
-ghost use Rattle.nn_live.specs.Answers.{and_number, block_line, held_line, state_of};
+ghost use Rattle.nn_live.specs.Answers.{and_number, block_line, held_line, state_answer};
 ghost use Rattle.nn_live.specs.Serving.{fault_text};
 
 use nn_device::{Page, Writer};
@@ -23,7 +24,7 @@ pub(crate) fn put_fault<W: Write>(
     place: &str,
     n: u64,
 )
-    ensures { Puts (fault_text number place.now n) page.old writer.old page.new writer.new }
+    ensures { PutsPiece (fault_text number place.now n) page.old writer.old page.new writer.new }
 {
     page.put(writer, b"fault ");
     put_number(page, writer, u64::from(number));
@@ -34,7 +35,7 @@ pub(crate) fn put_fault<W: Write>(
 
 /// Puts `fault 57 txid N segment K`.
 pub(crate) fn put_gap<W: Write>(page: &mut Page, writer: &mut Writer<W>, next: u64, segment: u64)
-    ensures { Puts (fault_text DISORDER (codes " txid " ++ decimal next ++ codes " segment ") segment) page.old writer.old page.new writer.new }
+    ensures { PutsPiece (fault_text DISORDER (codes " txid " ++ decimal next ++ codes " segment ") segment) page.old writer.old page.new writer.new }
 {
     page.put(writer, b"fault ");
     put_number(page, writer, u64::from(fault::DISORDER));
@@ -53,7 +54,7 @@ pub(crate) fn put_counts_of<W: Write>(
     number: u64,
     other: u64,
 )
-    ensures { Puts (line key.now (and_number (decimal number) other)) page.old writer.old page.new writer.new }
+    ensures { PutsPiece (line key.now (and_number (decimal number) other)) page.old writer.old page.new writer.new }
 {
     page.put(writer, key.as_bytes());
     put_field(page, writer, number);
@@ -63,7 +64,7 @@ pub(crate) fn put_counts_of<W: Write>(
 
 /// Puts `KEY TEXT`.
 pub(crate) fn put_text<W: Write>(page: &mut Page, writer: &mut Writer<W>, key: &str, text: &str)
-    ensures { Puts (line key.now text.now) page.old writer.old page.new writer.new }
+    ensures { PutsPiece (line key.now text.now) page.old writer.old page.new writer.new }
 {
     page.put(writer, key.as_bytes());
     page.put_byte(writer, b' ');
@@ -78,7 +79,7 @@ pub(crate) fn put_state<W: Write>(
     stop: Option<Stop>,
     active: bool,
 )
-    ensures { Puts (line (codes "state") (state_of stop active)) page.old writer.old page.new writer.new }
+    ensures { PutsPiece (line (codes "state") (state_answer stop active)) page.old writer.old page.new writer.new }
 {
     match stop {
         Some(stop) => put_counts_of(
@@ -99,7 +100,7 @@ pub(crate) fn put_state<W: Write>(
 
 /// Puts `held BLOCK DN NUMBER STAMP KIND`.
 pub(crate) fn put_held<W: Write>(page: &mut Page, writer: &mut Writer<W>, message: &Message)
-    ensures { Puts (held_line message.now) page.old writer.old page.new writer.new }
+    ensures { PutsPiece (held_line message.now) page.old writer.old page.new writer.new }
 {
     page.put(writer, b"held");
     put_field(page, writer, message.block.get());
@@ -118,7 +119,7 @@ pub(crate) fn put_block<W: Write>(
     names: &[&str],
     block: &Block,
 )
-    ensures { Puts (block_line (lent_names names.now) block.now) page.old writer.old page.new writer.new }
+    ensures { PutsPiece (block_line (lent_names names.now) block.now) page.old writer.old page.new writer.new }
 {
     page.put(writer, b"block");
     put_field(page, writer, block.id.get());

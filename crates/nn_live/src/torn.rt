@@ -2,32 +2,35 @@
 ghost use Rattle.std.specs.Prelude.{◌≡◌, ◌==◌, ◌++◌, [], List, ℕ, length, nat_lt, take, true, OnOk, IfErr};
 ghost use Rattle.nn_segment.specs.Lines.{is_unbroken};
 ghost use Rattle.nn_live.specs.Taking.{HasTorn};
+ghost use Rattle.nn_types.specs.Limits.{max_line};
 
 use crate::service::ServiceFault;
 use nn_scenario::is_blank;
+use nn_types::limits::MAX_LINE_LEN;
 use std::alloc::Global;
 use std::marker::Model;
 
 /// The bytes that a line may have, and one.
-const MAX_KEPT: usize = 65_537;
+const MAX_KEPT: usize = MAX_LINE_LEN + 1;
 
 /// The bytes behind the last line feed. Of a line without end only the first 65,537 are kept, and whether all are blank.
-#[derive(Drop)]
+#[derive(Debug, Drop)]
 pub(crate) struct Torn {
     kept: Vec<u8>,
     blank: bool,
 }
 
 impl Model for Torn {
-    ghost use Rattle.std.specs.Prelude.{◌≡◌, ◌≤◌, true, length};
+    ghost use Rattle.std.specs.Prelude.{◌≡◌, ◌≤◌, ◌+◌, true, length};
     ghost use Rattle.nn_segment.specs.Lines.{is_unbroken};
-    ghost use Rattle.nn_live.specs.Taking.{Left};
+    ghost use Rattle.nn_types.specs.Limits.{max_line};
+    ghost use Rattle.nn_live.specs.Taking.{Torn};
 
-    ghost Value = { Left };
+    ghost Value = { Torn };
 
     ghost view = { λ t. record { kept = t.kept.items; blank = t.blank } };
 
-    ghost invariant = { λ t. (is_unbroken t.kept.items ≡ true) × (length t.kept.items ≤ 65537) };
+    ghost invariant = { λ t. (is_unbroken t.kept.items ≡ true) × (length t.kept.items ≤ max_line + 1) };
 }
 
 impl Torn {
@@ -50,7 +53,7 @@ impl Torn {
 
     /// Whether there are more than a line may have.
     pub(crate) fn is_too_long(&self) -> bool
-        ensures { result ≡ nat_lt 65536 (length self.now.kept) }
+        ensures { result ≡ nat_lt max_line (length self.now.kept) }
     {
         self.kept.len() >= MAX_KEPT
     }
@@ -77,7 +80,7 @@ impl Torn {
         ensures left { IfErr result (λ fault. (fault ≡ ServiceFault.OutOfMemory) × (self.new ≡ self.old)) }
     {
         let room = MAX_KEPT - self.kept.len();
-        if let Err(_) = self.kept.extend_from_slice(front(bytes, room)) {
+        if let Err(_) = self.kept.extend_from_slice(prefix(bytes, room)) {
             return Err(ServiceFault::OutOfMemory);
         }
         self.blank &= is_blank(bytes);
@@ -94,7 +97,7 @@ impl Torn {
 }
 
 // At most so many of these bytes.
-fn front(bytes: &[u8], most: usize) -> &[u8]
+fn prefix(bytes: &[u8], most: usize) -> &[u8]
     ensures { result.now ≡ take most bytes.now }
 {
     if most >= bytes.len() {

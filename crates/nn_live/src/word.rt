@@ -3,17 +3,15 @@ ghost use Rattle.std.specs.Prelude.{◌≡◌, ◌<◌, ◌^◌, None, IfOk, IfS
 ghost use Rattle.serde_json.specs.Data.{Data};
 ghost use Rattle.serde_json.specs.Find.{as_str};
 ghost use Rattle.nn_plain.specs.Spelling.{plain_of, spelled_or};
-ghost use Rattle.nn_live.specs.Words.{fronted, alone, asking, number_in, path_in, promotion_in, word_in};
+ghost use Rattle.nn_live.specs.Words.{prefixed, word_alone, asking, number_word, path_word, promotion_in, word_in};
 
 use itoa::Buffer;
 use json::{Reader, Scratch};
 use nn_plain::{Plain, read_value};
+use nn_types::limits::MAX_LINE_LEN;
 use nn_types::{BlockId, Path, PathFault};
 use simdutf8::basic::from_utf8;
 use std::alloc::{AllocError, Global};
-
-/// The bytes that a line may have.
-const MAX_LINE: usize = 65_536;
 
 /// How deep a line may nest.
 const MAX_DEPTH: usize = 127;
@@ -22,7 +20,7 @@ const MAX_DEPTH: usize = 127;
 pub(crate) const NUMBERS: u64 = 9_223_372_036_854_775_808;
 
 /// What a caller asks for. Whether there is a block, a path or a DataNode of that name, the answer tells.
-#[derive(Drop)]
+#[derive(Debug, Drop)]
 pub enum Word {
     /// That all before it is done.
     Sync,
@@ -57,7 +55,7 @@ impl Word {
         if is_object(line) {
             return Ok(None);
         }
-        if line.len() > MAX_LINE {
+        if line.len() > MAX_LINE_LEN {
             return Ok(None);
         }
         let Ok(text) = from_utf8(line) else {
@@ -87,9 +85,9 @@ fn is_object(line: &[u8]) -> bool
 }
 
 // The word that stands alone in a line.
-#[tactic(auto, unfolding(crate::specs::Words::alone))]
+#[tactic(auto, unfolding(crate::specs::Words::word_alone))]
 fn alone(line: &str) -> Option<Word>
-    ensures { result ≡ alone line.now }
+    ensures { result ≡ word_alone line.now }
 {
     match line {
         "sync" => Some(Word::Sync),
@@ -104,7 +102,7 @@ fn alone(line: &str) -> Option<Word>
 
 // The word that stands before a number.
 fn before_number(line: &[u8]) -> Option<Word>
-    ensures { result ≡ fronted asking line.now }
+    ensures { result ≡ prefixed asking line.now }
 {
     if let Some(text) = line.strip_prefix(b"held ") {
         return Some(Word::Held(Some(number_in(text)?)));
@@ -133,7 +131,7 @@ fn promotion_in(text: &[u8]) -> Option<Word>
 
 // The block id that a text is.
 fn id_in(text: &[u8]) -> Option<BlockId>
-    ensures { result ≡ number_in text.now }
+    ensures { result ≡ number_word text.now }
 {
     let number = number_in(text)?;
     let Some(id) = BlockId::new(number) else {
@@ -144,7 +142,7 @@ fn id_in(text: &[u8]) -> Option<BlockId>
 
 // The number of the formats that a text is, written as the program writes it.
 fn number_in(text: &[u8]) -> Option<u64>
-    ensures number { result ≡ number_in text.now }
+    ensures number { result ≡ number_word text.now }
     ensures small { IfSome result (λ n. n < 2 ^ 63) }
 {
     let Ok(number) = fast_float::parse_u64(text) else {
@@ -162,7 +160,7 @@ fn number_in(text: &[u8]) -> Option<u64>
 
 // The path that a text of JSON spells.
 fn path_in(alloc: Global, scratch: &mut Scratch, text: &[u8]) -> Result<Option<Path>, AllocError>
-    ensures { IfOk result (λ path. path ≡ path_in text.now) }
+    ensures { IfOk result (λ path. path ≡ path_word text.now) }
 {
     let Ok(text) = from_utf8(text) else {
         return Ok(None);

@@ -17,9 +17,9 @@ use Rattle.nn_model.specs.declared.form.Form.{Form}
 use Rattle.nn_model.specs.declared.form.Form.TheVariants.{Dir, File}
 use Rattle.nn_types.specs.declared.edit_fault.EditFault.{EditFault}
 use Rattle.nn_model.specs.Namespace.{Path, path_cmp, Namespace, with_row, file_at, file_or_none, blocks_of, all_blocks, begins_with}
-use Rattle.nn_model.specs.Apply.{first, when, checks, refusal, effect, has_id, keeps_ids, keeps_stamps, with_blocks, moved, list_checks}
+use Rattle.nn_model.specs.Apply.{first_fault, fault_if, checks, refusal, effect, has_id, keeps_ids, keeps_stamps, with_blocks, moved, list_checks}
 use Rattle.nn_model.specs.Status.{block_at, status_unheld, status_from, due_in}
-use Rattle.nn_model.specs.WellFormed.{Has, times, HasWellFormedBlocks}
+use Rattle.nn_model.specs.WellFormed.{Includes, times, HasWellFormedBlocks}
 use Rattle.nn_model.proofs.InRows.{put_from, order_from, moved_from, filter_from}
 pub use Rattle.nn_model.proofs.InRows.{has_left, has_right, has_either}
 
@@ -28,7 +28,7 @@ abbrev pub blocks_in : List (Path × Form) → List Block
 blocks_in rows = flat_map (λ row. blocks_of row.1) rows
 
 -- what is found by its id stands in the list
-pub found_in : (bs : List Block) (id : ℕ) (b : Block) → find (λ x. x.id == id) bs ≡ Some b → Has bs b × (b.id ≡ id)
+pub found_in : (bs : List Block) (id : ℕ) (b : Block) → find (λ x. x.id == id) bs ≡ Some b → Includes bs b × (b.id ≡ id)
 found_in [] id b found = absurd (cc)
 found_in (x ∷ bs) id b found =
     elim (cases_Bool (x.id == id)) [
@@ -38,7 +38,7 @@ found_in (x ∷ bs) id b found =
     ]
 
 -- what stands in the list has an id that is found
-pub none_found : (bs : List Block) (id : ℕ) (b : Block) → find (λ x. x.id == id) bs ≡ None → Has bs b → b.id ≡ id → ⊥
+pub none_found : (bs : List Block) (id : ℕ) (b : Block) → find (λ x. x.id == id) bs ≡ None → Includes bs b → b.id ≡ id → ⊥
 none_found [] id b none here same = here
 none_found (x ∷ bs) id b none here same =
     elim (cases_Bool (x.id == id)) [
@@ -49,7 +49,7 @@ none_found (x ∷ bs) id b none here same =
       ]
     ]
 
-pub stands_times : (bs : List Block) (b : Block) (id : ℕ) → Has bs b → b.id ≡ id → 1 ≤ times id bs
+pub stands_times : (bs : List Block) (b : Block) (id : ℕ) → Includes bs b → b.id ≡ id → 1 ≤ times id bs
 stands_times [] b id here same = absurd here
 stands_times (x ∷ bs) b id here same =
     elim (cases_Bool (x.id == id)) [
@@ -60,7 +60,7 @@ stands_times (x ∷ bs) b id here same =
       ]
     ]
 
-pub once_same : (bs : List Block) (x y : Block) → times y.id bs ≤ 1 → Has bs x → Has bs y → x.id ≡ y.id → x ≡ y
+pub once_same : (bs : List Block) (x y : Block) → times y.id bs ≤ 1 → Includes bs x → Includes bs y → x.id ≡ y.id → x ≡ y
 once_same [] x y once hx hy same = absurd hx
 once_same (b ∷ bs) x y once hx hy same =
     elim (cases_Bool (b.id == y.id)) [
@@ -82,11 +82,11 @@ once_same (b ∷ bs) x y once hx hy same =
 
 -- where a block of the new namespace comes from: from one of the old with the same id and no greater stamp, or from an awaiting id
 abbrev pub Comes : Namespace → Block → Type 0
-Comes n b = ((a : Block) × Has (all_blocks n) a × (a.id ≡ b.id) × (a.stamp ≤ b.stamp)) ⊎ (has_id n.issued.awaiting b.id ≡ true)
+Comes n b = ((a : Block) × Includes (all_blocks n) a × (a.id ≡ b.id) × (a.stamp ≤ b.stamp)) ⊎ (has_id n.issued.awaiting b.id ≡ true)
 
 -- what an edit may do to the blocks, the ids and the awaiting ids
 pub record GoesOn (n new : Namespace) : Type 0 where
-  pub each : (b : Block) → Has (all_blocks new) b → Comes n b
+  pub each : (b : Block) → Includes (all_blocks new) b → Comes n b
   pub last : n.issued.last_block ≤ new.issued.last_block
   pub awaiting : (id : ℕ) → id ≤ n.issued.last_block → has_id n.issued.awaiting id ≡ false → has_id new.issued.awaiting id ≡ false
 
@@ -130,7 +130,7 @@ cases_block None = inr refl
 pub record HasIds (n : Namespace) : Type 0 where
   pub in_order : is_sorted path_cmp n.rows ≡ true
   pub once : (id : ℕ) → times id (all_blocks n) ≤ 1
-  pub issued : (b : Block) → Has (all_blocks n) b → (b.id ≤ n.issued.last_block) × (has_id n.issued.awaiting b.id ≡ false)
+  pub issued : (b : Block) → Includes (all_blocks n) b → (b.id ≤ n.issued.last_block) × (has_id n.issued.awaiting b.id ≡ false)
   pub awaiting : (id : ℕ) → has_id n.issued.awaiting id ≡ true → id ≤ n.issued.last_block
 
 pub ids_of_well : (n : Namespace) → HasWellFormedBlocks n → HasIds n
@@ -179,22 +179,22 @@ goes_on n new w g id stamp due =
 
 -- ---- what an edit does to the blocks
 
-form_has : (form : Form) (b : Block) → Has (file_or_none (Some form)).blocks b → Has (blocks_of form) b
+form_has : (form : Form) (b : Block) → Includes (file_or_none (Some form)).blocks b → Includes (blocks_of form) b
 form_has Dir b here = here
 form_has (File file) b here = here
 
-pub file_has : (p : Path) (rows : List (Path × Form)) (b : Block) → Has (file_or_none (find_entry path_cmp p rows)).blocks b → Has (blocks_in rows) b
+pub file_has : (p : Path) (rows : List (Path × Form)) (b : Block) → Includes (file_or_none (find_entry path_cmp p rows)).blocks b → Includes (blocks_in rows) b
 file_has p [] b here = absurd here
 file_has p (row ∷ rows) b here =
-    elim (eq_by_cmp path_cmp p row.0) as (λ t. Has (file_or_none (cond t (Some row.1) (find_entry path_cmp p rows))).blocks b
-    → Has (blocks_in (row ∷ rows)) b) [
+    elim (eq_by_cmp path_cmp p row.0) as (λ t. Includes (file_or_none (cond t (Some row.1) (find_entry path_cmp p rows))).blocks b
+    → Includes (blocks_in (row ∷ rows)) b) [
       | true ↦ λ h. has_left (blocks_of row.1) (blocks_in rows) b (form_has row.1 b h)
       | false ↦ λ h. has_right (blocks_of row.1) (blocks_in rows) b (file_has p rows b h)
     ] here
 
 -- a block of a new list comes from the one in its place
-pub listed : (last : ℕ) (old new : List Block) (b : Block) → keeps_ids old new ≡ true → keeps_stamps last old new ≡ true → Has new b →
-    (a : Block) × Has old a × (a.id ≡ b.id) × (a.stamp ≤ b.stamp)
+pub listed : (last : ℕ) (old new : List Block) (b : Block) → keeps_ids old new ≡ true → keeps_stamps last old new ≡ true → Includes new b →
+    (a : Block) × Includes old a × (a.id ≡ b.id) × (a.stamp ≤ b.stamp)
 listed last old [] b ids stamps here = absurd here
 listed last [] (y ∷ new) b ids stamps here = absurd (both_ways _ refl ids)
 listed last (a ∷ old) (y ∷ new) b ids stamps (inl same) =
@@ -212,24 +212,24 @@ abbrev pub AllNone : List (Option EditFault) → Type 0
 AllNone [] = Unit {0}
 AllNone (check ∷ checks) = (check ≡ None) × AllNone checks
 
-pub all_none : (checks : List (Option EditFault)) → first checks ≡ None → AllNone checks
+pub all_none : (checks : List (Option EditFault)) → first_fault checks ≡ None → AllNone checks
 all_none [] none = tt
 all_none (Some fault ∷ checks) none = absurd (cc)
 all_none (None ∷ checks) none = (refl, all_none checks none)
 
-pub when_none : (b : Bool) (fault : EditFault) → when b fault ≡ None → b ≡ false
+pub when_none : (b : Bool) (fault : EditFault) → fault_if b fault ≡ None → b ≡ false
 when_none true fault none = absurd (cc)
 when_none false fault none = refl
 
 -- ---- edit by edit
 
-stays : (n : Namespace) (b : Block) → Has (all_blocks n) b → Comes n b
+stays : (n : Namespace) (b : Block) → Includes (all_blocks n) b → Comes n b
 stays n b here = inl (b, here, refl, omega arith)
 
 same_ids : (n : Namespace) (id : ℕ) → id ≤ n.issued.last_block → has_id n.issued.awaiting id ≡ false → has_id n.issued.awaiting id ≡ false
 same_ids n id low free = free
 
-row_goes_on : (n : Namespace) (p : Path) (form : Form) → ((b : Block) → Has (blocks_of form) b → Comes n b) → GoesOn n (with_row n p form)
+row_goes_on : (n : Namespace) (p : Path) (form : Form) → ((b : Block) → Includes (blocks_of form) b → Comes n b) → GoesOn n (with_row n p form)
 row_goes_on n p form comes = record {
   each = λ b here. elim (put_from blocks_of p form n.rows b here) [ inl a ↦ comes b a | inr c ↦ stays n b c ];
   last = omega arith;
@@ -248,7 +248,7 @@ pub any_push : (p : ℕ → Bool) (xs : List ℕ) (x : ℕ) → list_any p xs �
 any_push p [] x none last = or_from _ _ last refl
 any_push p (y ∷ xs) x none last = or_from _ _ (or_parts _ _ none).0 (any_push p xs x (or_parts _ _ none).1 last)
 
-list_goes_on : (n : Namespace) (p : Path) (bs : List Block) (closed : Bool) → first (list_checks n p bs) ≡ None → GoesOn n (with_blocks n p bs closed)
+list_goes_on : (n : Namespace) (p : Path) (bs : List Block) (closed : Bool) → first_fault (list_checks n p bs) ≡ None → GoesOn n (with_blocks n p bs closed)
 list_goes_on n p bs closed applies =
     let found = all_none (list_checks n p bs) applies in
     let ids = not-false _ (when_none _ _ found.1.1.1.1.1.0) in

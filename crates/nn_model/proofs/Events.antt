@@ -13,33 +13,33 @@ use Rattle.nn_types.specs.declared.event.Cause.{Cause}
 use Rattle.nn_types.specs.declared.event.Cause.TheVariants.{Due, Flush}
 use Rattle.nn_types.specs.declared.tx.Tx.{Tx}
 use Rattle.nn_model.specs.Namespace.{Namespace}
-use Rattle.nn_model.specs.WellFormed.{Has}
+use Rattle.nn_model.specs.WellFormed.{Includes}
 use Rattle.nn_model.specs.Log.{namespace_after}
 use Rattle.nn_model.specs.Lanes.{Lanes, message_of, IsSent}
 use Rattle.nn_model.specs.Held.{IsHeld, IsFree}
 use Rattle.nn_model.specs.History.{History, EachAfter, applied_txid, applied_txids, namespace_at, processed}
-use Rattle.nn_model.specs.Lawful.{NamesMessage, WaitedItsTurn, FlushesHeld, reaches, IsLawful}
+use Rattle.nn_model.specs.Lawful.{NamesItem, WaitedItsTurn, FlushesHeld, processes_from, IsLawful}
 
 -- ---- list_any
 
-pub any_false_at : {A : Type 0} (p : A → Bool) (xs : List A) (x : A) → list_any p xs ≡ false → Has xs x → p x ≡ false
+pub any_false_at : {A : Type 0} (p : A → Bool) (xs : List A) (x : A) → list_any p xs ≡ false → Includes xs x → p x ≡ false
 any_false_at p [] x none here = absurd here
 any_false_at p (y ∷ xs) x none (inl same) = ap p (sym same) ∙ (or_parts _ _ none).0
 any_false_at p (y ∷ xs) x none (inr here) = any_false_at p xs x (or_parts _ _ none).1 here
 
-pub any_true_at : {A : Type 0} (p : A → Bool) (xs : List A) (x : A) → p x ≡ true → Has xs x → list_any p xs ≡ true
+pub any_true_at : {A : Type 0} (p : A → Bool) (xs : List A) (x : A) → p x ≡ true → Includes xs x → list_any p xs ≡ true
 any_true_at p [] x holds here = absurd here
 any_true_at p (y ∷ xs) x holds (inl same) = or_left _ _ (ap p same ∙ holds)
 any_true_at p (y ∷ xs) x holds (inr here) = or_right _ _ (any_true_at p xs x holds here)
 
-pub any_found : {A : Type 0} (p : A → Bool) (xs : List A) → list_any p xs ≡ true → (x : A) × Has xs x × (p x ≡ true)
+pub any_found : {A : Type 0} (p : A → Bool) (xs : List A) → list_any p xs ≡ true → (x : A) × Includes xs x × (p x ≡ true)
 any_found p [] holds = absurd (both_ways false refl holds)
 any_found p (x ∷ xs) holds = elim (or_cases (p x) (list_any p xs) holds) [
   | inl here ↦ (x, inl refl, here)
   | inr later ↦ let found = any_found p xs later in (found.0, inr found.1, found.2)
 ]
 
-pub any_none : {A : Type 0} (p : A → Bool) (xs : List A) → ((x : A) → Has xs x → p x ≡ false) → list_any p xs ≡ false
+pub any_none : {A : Type 0} (p : A → Bool) (xs : List A) → ((x : A) → Includes xs x → p x ≡ false) → list_any p xs ≡ false
 any_none p [] each = refl
 any_none p (x ∷ xs) each = or_from _ _ (each x (inl refl)) (any_none p xs (λ y here. each y (inr here)))
 
@@ -89,7 +89,7 @@ each_weaker P Q before (x ∷ events) whole is step all =
 
 -- ---- reaching a number
 
-pub reaches_less : (dn id low high : ℕ) → low ≤ high → (e : Event) → reaches dn id high e ≡ true → reaches dn id low e ≡ true
+pub reaches_less : (dn id low high : ℕ) → low ≤ high → (e : Event) → processes_from dn id high e ≡ true → processes_from dn id low e ≡ true
 reaches_less dn id low high le (Applied txid) hit = absurd (both_ways _ refl hit)
 reaches_less dn id low high le (Processed d k b c) hit =
     let parts = and_parts ((d == dn) && (b == id)) (nat_le high k) hit in
@@ -98,9 +98,9 @@ reaches_less dn id low high le (Processed d k b c) hit =
     and_from _ _ parts.0 (le-leb _ _ here)
 
 -- a message that was processed was reached
-pub reached_by : (cause : Cause) (h : History) (m : Message) → Has h (processed cause m) → list_any (reaches m.dn m.block m.number) h ≡ true
+pub reached_by : (cause : Cause) (h : History) (m : Message) → Includes h (processed cause m) → list_any (processes_from m.dn m.block m.number) h ≡ true
 reached_by cause h m here =
-    any_true_at (reaches m.dn m.block m.number) h (processed cause m)
+    any_true_at (processes_from m.dn m.block m.number) h (processed cause m)
     (and_from _ _ (and_from _ _ (eq-eqb m.dn m.dn refl) (eq-eqb m.block m.block refl)) (le-leb m.number m.number (omega arith))) here
 
 -- ---- what a lawful history says of an event, joined into one fact
@@ -131,7 +131,7 @@ from_found lanes m dn number block P sent is_dn is_number is_block holds =
     subst (λ o. IfSome o P) (sym (named_found lanes m dn number block sent is_dn is_number is_block)) holds
 
 tells : (start : Namespace) (txs : List Tx) (lanes : Lanes) (before : History) (event : Event) →
-    NamesMessage lanes before event → WaitedItsTurn start txs lanes before event → FlushesHeld start txs lanes before event → Tells start txs lanes before event
+    NamesItem lanes before event → WaitedItsTurn start txs lanes before event → FlushesHeld start txs lanes before event → Tells start txs lanes before event
 tells start txs lanes before (Applied txid) names waited held = tt
 tells start txs lanes before (Processed dn number block Due) names waited held = (
   names.0,
@@ -153,7 +153,7 @@ tells start txs lanes before (Processed dn number block Flush) names waited held
 )
 
 each_tells : (start : Namespace) (txs : List Tx) (lanes : Lanes) (before events : History) →
-    EachAfter (NamesMessage lanes) before events → EachAfter (WaitedItsTurn start txs lanes) before events →
+    EachAfter (NamesItem lanes) before events → EachAfter (WaitedItsTurn start txs lanes) before events →
     EachAfter (FlushesHeld start txs lanes) before events →
     EachAfter (Tells start txs lanes) before events
 each_tells start txs lanes before [] names waited held = tt

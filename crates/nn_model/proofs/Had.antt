@@ -10,8 +10,8 @@ use Rattle.std.specs.FinMap.Entries.{find as find_entry, put, by_order, is_sorte
 use Rattle.std.proofs.lemmas.Bool.{both_ways, cases_Bool, eqb-true, eq-eqb, cond-true, cond-false, lt-ltb, false_from_ne_true}
 use Rattle.std.proofs.lemmas.Cmp.{nat_cmp_total}
 use Rattle.nn_types.specs.declared.report.Message.{Message}
-use Rattle.nn_model.specs.WellFormed.{Has}
-use Rattle.nn_model.specs.Items.{with_once, each_once, last_about, number_if_had, has_of, is_deleted, with_item, with_items, having, had_by, had_after, having_after, begun_after, Had, added}
+use Rattle.nn_model.specs.WellFormed.{Includes}
+use Rattle.nn_model.specs.Items.{with_once, each_once, last_about, number_unless_deleted, numbered_blocks, is_deleted, with_item, with_items, node_state, lane_items, lane_items_after, node_state_after, begun_after, LaneItems, added}
 use Rattle.nn_model.specs.Lanes.{Lanes, followed_by}
 use Rattle.nn_model.proofs.Items.{AreRising, rising_each, had_push}
 
@@ -29,22 +29,22 @@ last_push (x ∷ its) i acc q = elim (x.block == q) as (λ t. last_or acc (cond 
     ]
 
 pub last_number_push : (its : List Message) (i : Message) (q : ℕ) →
-    number_if_had (last_about (its ++ i ∷ []) q) ≡ cond (i.block == q) (number_if_had (Some i)) (number_if_had (last_about its q))
-last_number_push its i q = ap number_if_had (last_push its i None q)
-    ∙ elim (i.block == q) as (λ t. number_if_had (cond t (Some i) (last_about its q)) ≡ cond t (number_if_had (Some i)) (number_if_had (last_about its q)))
+    number_unless_deleted (last_about (its ++ i ∷ []) q) ≡ cond (i.block == q) (number_unless_deleted (Some i)) (number_unless_deleted (last_about its q))
+last_number_push its i q = ap number_unless_deleted (last_push its i None q)
+    ∙ elim (i.block == q) as (λ t. number_unless_deleted (cond t (Some i) (last_about its q)) ≡ cond t (number_unless_deleted (Some i)) (number_unless_deleted (last_about its q)))
     [ true ↦ refl | false ↦ refl ]
 
-in_once : (id : ℕ) (ids : List ℕ) (q : ℕ) → (id ≡ q) ⊎ Has ids q → Has (with_once id ids) q
+in_once : (id : ℕ) (ids : List ℕ) (q : ℕ) → (id ≡ q) ⊎ Includes ids q → Includes (with_once id ids) q
 in_once id [] q here = here
-in_once id (i ∷ ids) q here = elim (nat_lt id i) as (λ t. Has (cond t (id ∷ i ∷ ids) (cond (id == i) (i ∷ ids) (i ∷ with_once id ids))) q) [
+in_once id (i ∷ ids) q here = elim (nat_lt id i) as (λ t. Includes (cond t (id ∷ i ∷ ids) (cond (id == i) (i ∷ ids) (i ∷ with_once id ids))) q) [
   | true ↦ here
-  | false ↦ elim (id == i) as (λ t. (id == i) ≡ t → Has (cond t (i ∷ ids) (i ∷ with_once id ids)) q) [
+  | false ↦ elim (id == i) as (λ t. (id == i) ≡ t → Includes (cond t (i ∷ ids) (i ∷ with_once id ids)) q) [
     | true ↦ λ same. elim here [ inl new ↦ inl (sym (eqb-true id i same) ∙ new) | inr old ↦ old ]
     | false ↦ λ apart. elim here [ inl new ↦ inr (in_once id ids q (inl new)) | inr (inl own) ↦ inl own | inr (inr old) ↦ inr (in_once id ids q (inr old)) ]
   ] refl
 ]
 
-pub in_each : (ids : List ℕ) (q : ℕ) → Has ids q → Has (each_once ids) q
+pub in_each : (ids : List ℕ) (q : ℕ) → Includes ids q → Includes (each_once ids) q
 in_each [] q here = here
 in_each (id ∷ ids) q (inl same) = in_once id (each_once ids) q (inl same)
 in_each (id ∷ ids) q (inr here) = in_once id (each_once ids) q (inr (in_each ids q here))
@@ -59,7 +59,7 @@ eq_is x y = cases (nat_lt x y) (x == y) refl refl
     cases false false l e = refl
 
 -- a look-up in what is listed: where it is not listed it has nothing
-pub find_listed : (f : ℕ → Option ℕ) (ids : List ℕ) (q : ℕ) → Has ids q ⊎ (f q ≡ None) → find_entry nat_cmp q (listed_as f ids) ≡ f q
+pub find_listed : (f : ℕ → Option ℕ) (ids : List ℕ) (q : ℕ) → Includes ids q ⊎ (f q ≡ None) → find_entry nat_cmp q (listed_as f ids) ≡ f q
 find_listed f [] q (inl none) = absurd none
 find_listed f [] q (inr none) = sym none
 find_listed f (i ∷ ids) q so = elim (cases_Bool (q == i)) [
@@ -69,7 +69,7 @@ find_listed f (i ∷ ids) q so = elim (cases_Bool (q == i)) [
         | None ↦ λ is. find_listed f ids q (inr (ap f e ∙ is))
       ] refl
   | inr apart ↦
-      let rest : Has ids q ⊎ (f q ≡ None) = elim so [
+      let rest : Includes ids q ⊎ (f q ≡ None) = elim so [
         | inl (inl own) ↦ absurd (both_ways _ apart (eq-eqb q i (sym own)))
         | inl (inr later) ↦ inl later
         | inr none ↦ inr none
@@ -81,7 +81,7 @@ find_listed f (i ∷ ids) q so = elim (cases_Bool (q == i)) [
 ]
 
 -- each block of an item is listed, and of another nothing was said
-said_or_not : (its : List Message) (q : ℕ) → Has (map (λ i. i.block) its) q ⊎ (last_about its q ≡ None)
+said_or_not : (its : List Message) (q : ℕ) → Includes (map (λ i. i.block) its) q ⊎ (last_about its q ≡ None)
 said_or_not [] q = inr refl
 said_or_not (x ∷ its) q = elim (cases_Bool (x.block == q)) [
   | inl same ↦ inl (inl (eqb-true x.block q same))
@@ -92,9 +92,9 @@ said_or_not (x ∷ its) q = elim (cases_Bool (x.block == q)) [
 ]
 
 -- so what is had is looked up by the last item about the block
-pub find_had : (its : List Message) (q : ℕ) → find_entry nat_cmp q (has_of its) ≡ number_if_had (last_about its q)
-find_had its q = find_listed (λ id. number_if_had (last_about its id)) (each_once (map (λ i. i.block) its)) q
-    (elim (said_or_not its q) [ inl here ↦ inl (in_each (map (λ i. i.block) its) q here) | inr none ↦ inr (ap number_if_had none) ])
+pub find_had : (its : List Message) (q : ℕ) → find_entry nat_cmp q (numbered_blocks its) ≡ number_unless_deleted (last_about its q)
+find_had its q = find_listed (λ id. number_unless_deleted (last_about its id)) (each_once (map (λ i. i.block) its)) q
+    (elim (said_or_not its q) [ inl here ↦ inl (in_each (map (λ i. i.block) its) q here) | inr none ↦ inr (ap number_unless_deleted none) ])
 
 -- ---- entries in order
 
@@ -186,7 +186,7 @@ find_removed q k (e ∷ es) sorted = elim (cases_Bool (k == e.0)) [
 
 -- ---- what is had, in order
 
-below_listed : (f : ℕ → Option ℕ) (x : ℕ) (ids : List ℕ) → ((j : ℕ) → Has ids j → x < j) → T (below_all nat_cmp x (listed_as f ids))
+below_listed : (f : ℕ → Option ℕ) (x : ℕ) (ids : List ℕ) → ((j : ℕ) → Includes ids j → x < j) → T (below_all nat_cmp x (listed_as f ids))
 below_listed f x [] above = tt
 below_listed f x (i ∷ ids) above = elim (f i) as (λ o. T (below_all nat_cmp x (cons_option (option_map (λ number. (i, number)) o) (listed_as f ids)))) [
   | None ↦ below_listed f x ids (λ j here. above j (inr here))
@@ -200,8 +200,8 @@ sorted_listed f (i ∷ ids) rising = elim (f i) as (λ o. T (is_sorted nat_cmp (
   | Some v ↦ both_true _ _ (below_listed f i ids rising.0) (sorted_listed f ids rising.1)
 ]
 
-pub has_sorted : (its : List Message) → T (is_sorted nat_cmp (has_of its))
-has_sorted its = sorted_listed (λ id. number_if_had (last_about its id)) (each_once (map (λ i. i.block) its)) (rising_each (map (λ i. i.block) its))
+pub has_sorted : (its : List Message) → T (is_sorted nat_cmp (numbered_blocks its))
+has_sorted its = sorted_listed (λ id. number_unless_deleted (last_about its id)) (each_once (map (λ i. i.block) its)) (rising_each (map (λ i. i.block) its))
 
 -- ---- one more item
 
@@ -212,7 +212,7 @@ either_way x y = elim (cases_Bool (x == y)) [
 ]
 
 find_with : (has : List (ℕ × ℕ)) (i : Message) (q : ℕ) → T (is_sorted nat_cmp has) →
-    find_entry nat_cmp q (with_item has i) ≡ cond (i.block == q) (number_if_had (Some i)) (find_entry nat_cmp q has)
+    find_entry nat_cmp q (with_item has i) ≡ cond (i.block == q) (number_unless_deleted (Some i)) (find_entry nat_cmp q has)
 find_with has i q sorted = elim (is_deleted i.kind) as
     (λ t. find_entry nat_cmp q (if t then remove_entry (is_at (nat_cmp i.block)) has else insert_entry nat_cmp has i.block i.number)
     ≡ cond (i.block == q) (if t then None else Some i.number) (find_entry nat_cmp q has)) [
@@ -229,26 +229,26 @@ sorted_with has i sorted = elim (is_deleted i.kind) as
       | false ↦ subst (λ l. T (is_sorted nat_cmp l)) (sym (insert_is_put i.block i.number has)) (is_sorted-put nat_cmp nat_cmp_total i.block i.number has sorted)
     ]
 
-pub has_push : (its : List Message) (i : Message) → has_of (its ++ i ∷ []) ≡ with_item (has_of its) i
-has_push its i = same_entries nat_cmp nat_cmp_total same_by_cmp (has_of (its ++ i ∷ [])) (with_item (has_of its) i)
-    (has_sorted (its ++ i ∷ [])) (sorted_with (has_of its) i (has_sorted its))
-    (λ q. find_had (its ++ i ∷ []) q ∙ last_number_push its i q ∙ ap (cond (i.block == q) (number_if_had (Some i))) (sym (find_had its q))
-    ∙ sym (find_with (has_of its) i q (has_sorted its)))
+pub has_push : (its : List Message) (i : Message) → numbered_blocks (its ++ i ∷ []) ≡ with_item (numbered_blocks its) i
+has_push its i = same_entries nat_cmp nat_cmp_total same_by_cmp (numbered_blocks (its ++ i ∷ [])) (with_item (numbered_blocks its) i)
+    (has_sorted (its ++ i ∷ [])) (sorted_with (numbered_blocks its) i (has_sorted its))
+    (λ q. find_had (its ++ i ∷ []) q ∙ last_number_push its i q ∙ ap (cond (i.block == q) (number_unless_deleted (Some i))) (sym (find_had its q))
+    ∙ sym (find_with (numbered_blocks its) i q (has_sorted its)))
 
-has_append : (its new : List Message) → has_of (its ++ new) ≡ with_items (has_of its) new
-has_append its [] = ap has_of (append-nil its)
-has_append its (i ∷ new) = ap has_of (sym (append_assoc its (i ∷ []) new)) ∙ has_append (its ++ i ∷ []) new ∙ ap (λ h. with_items h new) (has_push its i)
+has_append : (its new : List Message) → numbered_blocks (its ++ new) ≡ with_items (numbered_blocks its) new
+has_append its [] = ap numbered_blocks (append-nil its)
+has_append its (i ∷ new) = ap numbered_blocks (sym (append_assoc its (i ∷ []) new)) ∙ has_append (its ++ i ∷ []) new ∙ ap (λ h. with_items h new) (has_push its i)
 
 -- ---- one more message
 
-pub having_push : (t : Had) (m : Message) → having (had_after t m) ≡ having_after (having t) m
-having_push t m j = record { has = has_append t.items (added (having t) m) j; begun = begun_after m.kind t.begun m.number }
+pub having_push : (t : LaneItems) (m : Message) → node_state (lane_items_after t m) ≡ node_state_after (node_state t) m
+having_push t m j = record { has = has_append t.items (added (node_state t) m) j; begun = begun_after m.kind t.begun m.number }
 
 -- what is had by lanes with one more message
 pub having_followed : (lanes : Lanes) (m : Message) (dn : ℕ) →
-    having (had_by (followed_by lanes m dn)) ≡ (if dn == m.dn then having_after (having (had_by (lanes dn))) m else having (had_by (lanes dn)))
-having_followed lanes m dn = elim (dn == m.dn) as (λ t. having (had_by (cond t (lanes dn ++ m ∷ []) (lanes dn)))
-    ≡ cond t (having_after (having (had_by (lanes dn))) m) (having (had_by (lanes dn)))) [
-      | true ↦ ap having (had_push (had_by []) (lanes dn) m) ∙ having_push (had_by (lanes dn)) m
+    node_state (lane_items (followed_by lanes m dn)) ≡ (if dn == m.dn then node_state_after (node_state (lane_items (lanes dn))) m else node_state (lane_items (lanes dn)))
+having_followed lanes m dn = elim (dn == m.dn) as (λ t. node_state (lane_items (cond t (lanes dn ++ m ∷ []) (lanes dn)))
+    ≡ cond t (node_state_after (node_state (lane_items (lanes dn))) m) (node_state (lane_items (lanes dn)))) [
+      | true ↦ ap node_state (had_push (lane_items []) (lanes dn) m) ∙ having_push (lane_items (lanes dn)) m
       | false ↦ refl
     ]

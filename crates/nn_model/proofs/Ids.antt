@@ -10,9 +10,9 @@ use Rattle.nn_types.specs.declared.tx.Tx.{Tx}
 use Rattle.nn_model.specs.declared.form.Form.{Form}
 use Rattle.nn_model.specs.declared.form.Form.TheVariants.{Dir, File}
 use Rattle.nn_model.specs.Namespace.{Path, path_cmp, Namespace, with_row, file_at, blocks_of, all_blocks, begins_with}
-use Rattle.nn_model.specs.Apply.{first, checks, refusal, effect, has_id, with_blocks, in_path_order, moved, list_checks}
+use Rattle.nn_model.specs.Apply.{first_fault, checks, refusal, effect, has_id, with_blocks, in_path_order, moved, list_checks}
 use Rattle.nn_model.specs.Status.{due_in}
-use Rattle.nn_model.specs.WellFormed.{Has, times, HasWellFormedBlocks}
+use Rattle.nn_model.specs.WellFormed.{Includes, times, HasWellFormedBlocks}
 use Rattle.nn_model.specs.Log.{namespace_after, IsLog}
 use Rattle.nn_model.proofs.Lookups.{paths_total}
 use Rattle.nn_model.proofs.Dues.{HasIds, ids_of_well, goes_on, stands_times, blocks_in, all_none, when_none, filter_none, any_push, GoesOn, edit_goes_on}
@@ -27,7 +27,7 @@ module _ (n : Namespace) (w : HasIds n) where
 
   -- the blocks of the new namespace come from the old one's and from awaiting ids; nothing else is issued, and those don't await
   ids_from : (new : Namespace) → GoesOn n new → is_sorted path_cmp new.rows ≡ true → ((id : ℕ) → times id (all_blocks new) ≤ 1) →
-      ((b : Block) → Has (all_blocks new) b → has_id n.issued.awaiting b.id ≡ true → has_id new.issued.awaiting b.id ≡ false) →
+      ((b : Block) → Includes (all_blocks new) b → has_id n.issued.awaiting b.id ≡ true → has_id new.issued.awaiting b.id ≡ false) →
       ((id : ℕ) → has_id new.issued.awaiting id ≡ true → id ≤ new.issued.last_block) → HasIds new
   ids_from new g sorted once added awaiting = record {
     in_order = sorted;
@@ -59,7 +59,7 @@ module _ (n : Namespace) (w : HasIds n) where
       HasIds (with_row n p form)
   row_ids p form g fewer = fewer_ids (put path_cmp p form n.rows) g (sorted_row p form) (λ id. omega (arith, times_put id p form n.rows w.in_order, fewer id))
 
-  list_ids : (p : Path) (bs : List Block) (closed : Bool) → GoesOn n (with_blocks n p bs closed) → first (list_checks n p bs) ≡ None →
+  list_ids : (p : Path) (bs : List Block) (closed : Bool) → GoesOn n (with_blocks n p bs closed) → first_fault (list_checks n p bs) ≡ None →
       HasIds (with_blocks n p bs closed)
   list_ids p bs closed g applies =
       let found = all_none (list_checks n p bs) applies in

@@ -8,10 +8,10 @@ use Rattle.nn_types.specs.declared.event.Event.{Event}
 use Rattle.nn_types.specs.declared.event.Event.TheVariants.{Applied, Processed}
 use Rattle.nn_types.specs.declared.tx.Tx.{Tx}
 use Rattle.nn_model.specs.Namespace.{Namespace}
-use Rattle.nn_model.specs.WellFormed.{Has}
+use Rattle.nn_model.specs.WellFormed.{Includes}
 use Rattle.nn_model.specs.Lanes.{Lanes, AreInOrder, AreOrdered, message_with, message_of, IsSent}
 use Rattle.nn_model.specs.History.{History, EachAfter}
-use Rattle.nn_model.specs.Lawful.{NumberRises, reaches}
+use Rattle.nn_model.specs.Lawful.{NumberRises, processes_from}
 use Rattle.nn_model.proofs.Events.{any_push, any_kept, any_last, any_weaker, reaches_less, Tells, named_found}
 use Rattle.nn_model.proofs.Sent.{before_later, found_message, has_sent}
 use Rattle.nn_model.proofs.Shown.{done_by, last_done}
@@ -20,14 +20,14 @@ use Rattle.nn_model.proofs.Shown.{done_by, last_done}
 
 module _ (dn : ℕ) (q : Message → Bool) where
   pub last_bounds : (ms : List Message) (acc : Option Message) → AreInOrder dn ms →
-      ((c : Message) → acc ≡ Some c → (m : Message) → Has ms m → c.number ≤ m.number) →
+      ((c : Message) → acc ≡ Some c → (m : Message) → Includes ms m → c.number ≤ m.number) →
       ((m : Message) → acc ≡ Some m → (a : Message) × (last_or acc (filter q ms) ≡ Some a) × (m.number ≤ a.number))
-      × ((m : Message) → Has ms m → q m ≡ true → (a : Message) × (last_or acc (filter q ms) ≡ Some a) × (m.number ≤ a.number))
+      × ((m : Message) → Includes ms m → q m ≡ true → (a : Message) × (last_or acc (filter q ms) ≡ Some a) × (m.number ≤ a.number))
   last_bounds [] acc order low = ((λ m is. (m, is, omega arith)), (λ m here passes. absurd here))
   last_bounds (x ∷ ms) acc order low =
       elim (q x) as (λ t. q x ≡ t →
       ((m : Message) → acc ≡ Some m → (a : Message) × (last_or acc (cond t (x ∷ filter q ms) (filter q ms)) ≡ Some a) × (m.number ≤ a.number))
-      × ((m : Message) → Has (x ∷ ms) m → q m ≡ true → (a : Message) × (last_or acc (cond t (x ∷ filter q ms) (filter q ms)) ≡ Some a)
+      × ((m : Message) → Includes (x ∷ ms) m → q m ≡ true → (a : Message) × (last_or acc (cond t (x ∷ filter q ms) (filter q ms)) ≡ Some a)
       × (m.number ≤ a.number))) [
         | true ↦ λ is.
             let rest = last_bounds ms (Some x) order.2
@@ -41,10 +41,10 @@ module _ (dn : ℕ) (q : Message → Bool) where
             (rest.0, (λ m here passes. elim here [ inl same ↦ absurd (both_ways _ is (ap q same ∙ passes)) | inr later ↦ rest.1 m later passes ]))
       ] refl
 
-  pub last_from : (ms : List Message) (acc : Option Message) (a : Message) → last_or acc (filter q ms) ≡ Some a → (acc ≡ Some a) ⊎ (Has ms a × (q a ≡ true))
+  pub last_from : (ms : List Message) (acc : Option Message) (a : Message) → last_or acc (filter q ms) ≡ Some a → (acc ≡ Some a) ⊎ (Includes ms a × (q a ≡ true))
   last_from [] acc a is = inl is
   last_from (x ∷ ms) acc a is =
-      elim (q x) as (λ t. q x ≡ t → last_or acc (cond t (x ∷ filter q ms) (filter q ms)) ≡ Some a → (acc ≡ Some a) ⊎ (Has (x ∷ ms) a × (q a ≡ true))) [
+      elim (q x) as (λ t. q x ≡ t → last_or acc (cond t (x ∷ filter q ms) (filter q ms)) ≡ Some a → (acc ≡ Some a) ⊎ (Includes (x ∷ ms) a × (q a ≡ true))) [
         | true ↦ λ passes e. elim (last_from ms (Some x) a e) [
           | inl own ↦
               (let same : x ≡ a = cc in inr (inl same, ap q (sym same) ∙ passes))
@@ -61,22 +61,22 @@ module _ (lanes : Lanes) (dn id : ℕ) where
     pub sent : IsSent lanes a
     pub dn_is : a.dn ≡ dn
     pub block_is : a.block ≡ id
-    pub beyond : list_any (reaches dn id (a.number + 1)) before ≡ false
-    pub reached : list_any (reaches dn id a.number) before ≡ true
+    pub beyond : list_any (processes_from dn id (a.number + 1)) before ≡ false
+    pub reached : list_any (processes_from dn id a.number) before ≡ true
 
   abbrev pub Bounds : Option Message → History → Type 0
-  Bounds None before = list_any (reaches dn id 0) before ≡ false
+  Bounds None before = list_any (processes_from dn id 0) before ≡ false
   Bounds (Some a) before = IsLastDone a before
 
-  bounds_keep : (last : Option Message) (before : History) (e : Event) → ((j : ℕ) → reaches dn id j e ≡ false) → Bounds last before →
+  bounds_keep : (last : Option Message) (before : History) (e : Event) → ((j : ℕ) → processes_from dn id j e ≡ false) → Bounds last before →
       Bounds last (before ++ e ∷ [])
-  bounds_keep None before e past b = any_push (reaches dn id 0) before e b (past 0)
+  bounds_keep None before e past b = any_push (processes_from dn id 0) before e b (past 0)
   bounds_keep (Some a) before e past b = record {
     sent = b.sent;
     dn_is = b.dn_is;
     block_is = b.block_is;
-    beyond = any_push (reaches dn id (a.number + 1)) before e b.beyond (past (a.number + 1));
-    reached = any_kept (reaches dn id a.number) before (e ∷ []) b.reached;
+    beyond = any_push (processes_from dn id (a.number + 1)) before e b.beyond (past (a.number + 1));
+    reached = any_kept (processes_from dn id a.number) before (e ∷ []) b.reached;
   }
 
   pub walk_last : (start : Namespace) (txs : List Tx) (before events : History) (last : Option Message) →
@@ -100,12 +100,12 @@ module _ (lanes : Lanes) (dn id : ℕ) where
               sent = named.0.1;
               dn_is = named.0.2 ∙ sym dn_is;
               block_is = named.0.4 ∙ sym id_is;
-              beyond = any_push (reaches dn id (m.number + 1)) before e
-                  (any_weaker (reaches d c k) (reaches dn id (m.number + 1))
-                  (λ x h. subst (λ y. reaches d y k x ≡ true) id_is (subst (λ y. reaches y id k x ≡ true) dn_is
+              beyond = any_push (processes_from dn id (m.number + 1)) before e
+                  (any_weaker (processes_from d c k) (processes_from dn id (m.number + 1))
+                  (λ x h. subst (λ y. processes_from d y k x ≡ true) id_is (subst (λ y. processes_from y id k x ≡ true) dn_is
                   (reaches_less dn id k (m.number + 1) (omega arith) x h))) before rises.0)
                   (false_from_ne_true _ (λ h. let over : m.number + 1 ≤ k = leb-true _ _ (and_parts _ _ h).1 in omega arith));
-              reached = any_last (reaches dn id m.number) before e
+              reached = any_last (processes_from dn id m.number) before e
                   (and_from _ _ (and_from _ _ (eq-eqb _ _ (sym dn_is)) (eq-eqb _ _ (sym id_is)))
                   (subst (λ j. nat_le m.number j ≡ true) number (le-leb m.number m.number (omega arith))));
             })
@@ -121,23 +121,23 @@ module _ (lanes : Lanes) (dn id : ℕ) where
 
 -- q: which messages of the lane count. All that count were reached, and what was processed last counts
 module _ (lanes : Lanes) (ordered : AreOrdered lanes) (h : History) (dn id : ℕ) (q : Message → Bool)
-    (reached : (c : Message) → Has (lanes dn) c → q c ≡ true → c.block ≡ id → list_any (reaches dn id c.number) h ≡ true)
+    (reached : (c : Message) → Includes (lanes dn) c → q c ≡ true → c.block ≡ id → list_any (processes_from dn id c.number) h ≡ true)
     (counts : (a : Message) → IsLastDone lanes dn id a h → q a ≡ true) where
   abbrev test : Message → Bool
   test m = q m && (m.block == id)
 
-  test_reached : (c : Message) → Has (lanes dn) c → (q c && (c.block == id)) ≡ true → list_any (reaches dn id c.number) h ≡ true
+  test_reached : (c : Message) → Includes (lanes dn) c → (q c && (c.block == id)) ≡ true → list_any (processes_from dn id c.number) h ≡ true
   test_reached c here passes = let parts = and_parts (q c) (c.block == id) passes in reached c here parts.0 (eqb-true _ _ parts.1)
 
   pub agree : (r z : Option Message) → Bounds lanes dn id r h → last_or None (filter (λ m. q m && (m.block == id)) (lanes dn)) ≡ z → z ≡ r
   agree None None b is = refl
   agree None (Some c) b is = elim (last_from dn (λ m. q m && (m.block == id)) (lanes dn) None c is) [
     | inl none ↦ absurd (cc)
-    | inr found ↦ absurd (both_ways _ (any_weaker (reaches dn id 0) (reaches dn id c.number) (reaches_less dn id 0 c.number (omega arith)) h b)
+    | inr found ↦ absurd (both_ways _ (any_weaker (processes_from dn id 0) (processes_from dn id c.number) (reaches_less dn id 0 c.number (omega arith)) h b)
         (test_reached c found.0 found.1))
   ]
   agree (Some a) z b is =
-      let here : Has (lanes dn) a = subst (λ i. Has (lanes i) a) b.dn_is (has_sent lanes a b.sent) in
+      let here : Includes (lanes dn) a = subst (λ i. Includes (lanes i) a) b.dn_is (has_sent lanes a b.sent) in
       let c = (last_bounds dn (λ m. q m && (m.block == id)) (lanes dn) None (ordered dn) (λ y e m h. absurd (cc))).1 a here
       (and_from (q a) (a.block == id) (counts a b) (eq-eqb _ _ b.block_is)) in
       elim (last_from dn (λ m. q m && (m.block == id)) (lanes dn) None c.0 c.1) [
@@ -145,7 +145,7 @@ module _ (lanes : Lanes) (ordered : AreOrdered lanes) (h : History) (dn id : ℕ
         | inr found ↦
             let at_most : c.0.number ≤ a.number = ⊎_elim
             (λ (x : a.number < c.0.number). absurd (both_ways _
-            (any_weaker (reaches dn id (a.number + 1)) (reaches dn id c.0.number) (reaches_less dn id (a.number + 1) c.0.number (omega arith)) h b.beyond)
+            (any_weaker (processes_from dn id (a.number + 1)) (processes_from dn id c.0.number) (reaches_less dn id (a.number + 1) c.0.number (omega arith)) h b.beyond)
             (test_reached c.0 found.0 found.1)))
             (λ (x : c.0.number ≤ a.number). x) (cases_lt a.number c.0.number) in
             let number : c.0.number ≡ a.number = omega (arith, at_most, c.2) in

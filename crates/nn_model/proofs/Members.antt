@@ -11,19 +11,19 @@ use Rattle.nn_model.specs.declared.form.Form.{Form}
 use Rattle.nn_model.specs.declared.form.Form.TheVariants.{Dir, File}
 use Rattle.nn_model.specs.declared.form.BlockRow.{BlockRow}
 use Rattle.nn_model.specs.Namespace.{Path, path_cmp, blocks_of}
-use Rattle.nn_model.specs.Blocks.{block_row, rows_of}
-use Rattle.nn_model.specs.WellFormed.{Has, times}
+use Rattle.nn_model.specs.Blocks.{block_row, block_rows_of}
+use Rattle.nn_model.specs.WellFormed.{Includes, times}
 use Rattle.nn_model.proofs.Dues.{has_either, blocks_in, stands_times}
 use Rattle.nn_model.proofs.InRows.{all_at}
 use Rattle.nn_model.proofs.Wells.{not_below}
 use Rattle.nn_model.proofs.Prefixes.{same, same_true, same_self}
 
 abbrev pub rows_in : List (Path × Form) → List BlockRow
-rows_in rows = flat_map (λ row. rows_of row.1) rows
+rows_in rows = flat_map (λ row. block_rows_of row.1) rows
 
 -- the rows of what stands at a path
 abbrev pub rows_at : Option Form → List BlockRow
-rows_at = all_at rows_of
+rows_at = all_at block_rows_of
 
 -- ---- their blocks
 
@@ -34,17 +34,17 @@ pub just_blocks : (closed : Bool) (bs : List Block) → blocks_of_rows (map (λ 
 just_blocks closed [] = refl
 just_blocks closed (b ∷ bs) = ap (λ xs. b ∷ xs) (just_blocks closed bs)
 
-blocks_of_form : (form : Form) → blocks_of_rows (rows_of form) ≡ blocks_of form
+blocks_of_form : (form : Form) → blocks_of_rows (block_rows_of form) ≡ blocks_of form
 blocks_of_form Dir = refl
 blocks_of_form (File file) = just_blocks file.closed file.blocks
 
 pub blocks_of_all : (rows : List (Path × Form)) → blocks_of_rows (rows_in rows) ≡ blocks_in rows
 blocks_of_all [] = refl
 blocks_of_all (row ∷ rows) =
-    map-append (λ r. r.block) (rows_of row.1) (rows_in rows)
+    map-append (λ r. r.block) (block_rows_of row.1) (rows_in rows)
     ∙ (λ j. blocks_of_form row.1 j ++ blocks_of_all rows j)
 
-pub block_has : (rs : List BlockRow) (r : BlockRow) → Has rs r → Has (blocks_of_rows rs) r.block
+pub block_has : (rs : List BlockRow) (r : BlockRow) → Includes rs r → Includes (blocks_of_rows rs) r.block
 block_has [] r here = here
 block_has (x ∷ rs) r (inl same) = inl (ap (λ y. y.block) same)
 block_has (x ∷ rs) r (inr here) = inr (block_has rs r here)
@@ -59,7 +59,7 @@ find_block (r ∷ rs) id =
     ]
 
 -- a row that is found stands there
-pub row_found : (rs : List BlockRow) (id : ℕ) (r : BlockRow) → find (λ x. x.block.id == id) rs ≡ Some r → Has rs r × (r.block.id ≡ id)
+pub row_found : (rs : List BlockRow) (id : ℕ) (r : BlockRow) → find (λ x. x.block.id == id) rs ≡ Some r → Includes rs r × (r.block.id ≡ id)
 row_found [] id r found = absurd (cc)
 row_found (x ∷ rs) id r found =
     elim (cases_Bool (x.block.id == id)) [
@@ -72,7 +72,7 @@ row_found (x ∷ rs) id r found =
     ]
 
 -- where each id stands once, a row is found by its id
-pub row_known : (rs : List BlockRow) (r : BlockRow) (id : ℕ) → times id (blocks_of_rows rs) ≤ 1 → Has rs r → r.block.id ≡ id →
+pub row_known : (rs : List BlockRow) (r : BlockRow) (id : ℕ) → times id (blocks_of_rows rs) ≤ 1 → Includes rs r → r.block.id ≡ id →
     find (λ x. x.block.id == id) rs ≡ Some r
 row_known [] r id once here is = absurd here
 row_known (x ∷ rs) r id once here is =
@@ -94,12 +94,12 @@ row_known (x ∷ rs) r id once here is =
 
 -- ---- rows of a file
 
-pub of_block : (closed : Bool) (bs : List Block) (b : Block) → Has bs b → Has (map (λ x. block_row closed x) bs) (block_row closed b)
+pub of_block : (closed : Bool) (bs : List Block) (b : Block) → Includes bs b → Includes (map (λ x. block_row closed x) bs) (block_row closed b)
 of_block closed [] b here = here
 of_block closed (x ∷ bs) b (inl same) = inl (ap (block_row closed) same)
 of_block closed (x ∷ bs) b (inr here) = inr (of_block closed bs b here)
 
-pub row_of_file : (closed : Bool) (bs : List Block) (r : BlockRow) → Has (map (λ x. block_row closed x) bs) r → Has bs r.block × (r.closed ≡ closed)
+pub row_of_file : (closed : Bool) (bs : List Block) (r : BlockRow) → Includes (map (λ x. block_row closed x) bs) r → Includes bs r.block × (r.closed ≡ closed)
 row_of_file closed [] r here = absurd here
 row_of_file closed (x ∷ bs) r (inl same) = (inl (ap (λ y. y.block) same), ap (λ y. y.closed) (sym same))
 row_of_file closed (x ∷ bs) r (inr here) = let rest = row_of_file closed bs r here in (inr rest.0, rest.1)
@@ -107,17 +107,17 @@ row_of_file closed (x ∷ bs) r (inr here) = let rest = row_of_file closed bs r 
 -- ---- by look-ups
 
 -- each stands at some path
-pub some_path : (rows : List (Path × Form)) → is_sorted path_cmp rows ≡ true → (r : BlockRow) → Has (rows_in rows) r →
-    (p : Path) × Has (rows_at (find_entry path_cmp p rows)) r
+pub some_path : (rows : List (Path × Form)) → is_sorted path_cmp rows ≡ true → (r : BlockRow) → Includes (rows_in rows) r →
+    (p : Path) × Includes (rows_at (find_entry path_cmp p rows)) r
 some_path [] sorted r here = absurd here
 some_path (row ∷ rows) sorted r here =
     let parts = and_parts (below_all path_cmp row.0 rows) (is_sorted path_cmp rows) sorted in
     let at : Path → Option Form = λ p. find_entry path_cmp p rows in
-    elim (has_either (rows_of row.1) (rows_in rows) r here) [
-      | inl own ↦ (row.0, subst (λ (o : Option Form). Has (rows_at o) r) (sym (cond-true (same row.0 row.0) (Some row.1) (at row.0) (same_self row.0))) own)
+    elim (has_either (block_rows_of row.1) (rows_in rows) r here) [
+      | inl own ↦ (row.0, subst (λ (o : Option Form). Includes (rows_at o) r) (sym (cond-true (same row.0 row.0) (Some row.1) (at row.0) (same_self row.0))) own)
       | inr later ↦
           let rest = some_path rows parts.1 r later in
           let apart : same rest.0 row.0 ≡ false = false_from_ne_true _ (λ one.
-          subst (λ (o : Option Form). Has (rows_at o) r) (ap at (same_true rest.0 row.0 one) ∙ not_below row.0 rows parts.0) rest.1) in
-          (rest.0, subst (λ (o : Option Form). Has (rows_at o) r) (sym (cond-false (same rest.0 row.0) (Some row.1) (at rest.0) apart)) rest.1)
+          subst (λ (o : Option Form). Includes (rows_at o) r) (ap at (same_true rest.0 row.0 one) ∙ not_below row.0 rows parts.0) rest.1) in
+          (rest.0, subst (λ (o : Option Form). Includes (rows_at o) r) (sym (cond-false (same rest.0 row.0) (Some row.1) (at rest.0) apart)) rest.1)
     ]

@@ -7,12 +7,12 @@ use Rattle.nn_types.specs.declared.report.Message.{Message}
 use Rattle.nn_types.specs.declared.event.Cause.TheVariants.{Due, Flush}
 use Rattle.nn_types.specs.declared.tx.Tx.{Tx}
 use Rattle.nn_model.specs.Namespace.{Namespace}
-use Rattle.nn_model.specs.WellFormed.{Has}
+use Rattle.nn_model.specs.WellFormed.{Includes}
 use Rattle.nn_model.specs.Log.{namespace_after, IsLog}
 use Rattle.nn_model.specs.Lanes.{Lanes, AreOrdered, IsSent}
 use Rattle.nn_model.specs.Held.{is_held, without_held}
 use Rattle.nn_model.specs.History.{History, is_flush}
-use Rattle.nn_model.specs.Lawful.{IsLawful, IsWhole, reaches}
+use Rattle.nn_model.specs.Lawful.{IsLawful, IsWhole, processes_from}
 use Rattle.nn_model.specs.Replay.{is_named, starting_at, replay}
 use Rattle.nn_model.specs.Picture.{last_said, ShowsPicture}
 use Rattle.nn_model.proofs.Events.{lawful_tells, reached_by, at_end}
@@ -54,14 +54,14 @@ module _ (start : Namespace) (base : ℕ) (txs : List Tx) (lanes : Lanes) (h : H
         orders = λ dn id. let t = shown dn id in t.1.order ∙ (λ j. cond (is_named ((t.0 ∙ now) j) id) false (is_some (has (sym (same dn id) j))));
       }
 
-  reached_in_lane : (dn id : ℕ) (c : Message) → Has (lanes dn) c → c.block ≡ id → list_any (reaches c.dn c.block c.number) h ≡ true →
-      list_any (reaches dn id c.number) h ≡ true
+  reached_in_lane : (dn id : ℕ) (c : Message) → Includes (lanes dn) c → c.block ≡ id → list_any (processes_from c.dn c.block c.number) h ≡ true →
+      list_any (processes_from dn id c.number) h ≡ true
   reached_in_lane dn id c here about reached =
       let own : c.dn ≡ dn = dn_of dn (lanes dn) c (ordered dn) here in
-      (λ i. list_any (reaches (sym own i) (sym about i) c.number) h) ∙ reached
+      (λ i. list_any (processes_from (sym own i) (sym about i) c.number) h) ∙ reached
 
   -- each message was reached by a whole history
-  all_reached : IsWhole start txs lanes h → (m : Message) → IsSent lanes m → list_any (reaches m.dn m.block m.number) h ≡ true
+  all_reached : IsWhole start txs lanes h → (m : Message) → IsSent lanes m → list_any (processes_from m.dn m.block m.number) h ≡ true
   all_reached whole m sent = elim (cases_Bool (is_held (namespace_after start txs) (lanes m.dn) m)) [
     | inl waits ↦ reached_by Flush h m (whole m sent waits)
     | inr free ↦ reached_by Due h m (lawful.none_forgotten m sent free)
@@ -86,5 +86,5 @@ module _ (start : Namespace) (base : ℕ) (txs : List Tx) (lanes : Lanes) (h : H
       (subst (λ d. is_held n (lanes d) c ≡ false) (sym own) (not-true _ free)))))
       (λ a done. not_from_false _ (subst (λ d. is_held n (lanes d) a ≡ false) done.dn_is (false_from_ne_true _ (λ waits.
       both_ways _ (not_passed start txs lanes along h (lawful_tells start txs lanes h lawful) no_flush a waits)
-      ((λ i. list_any (reaches (done.dn_is i) (done.block_is i) a.number) h) ∙ done.reached)))))
+      ((λ i. list_any (processes_from (done.dn_is i) (done.block_is i) a.number) h) ∙ done.reached)))))
       (last_done lanes dn id None h) _ (walk_last lanes dn id start txs [] h None (lawful_tells start txs lanes h lawful) lawful.in_sending_order refl) refl)

@@ -5,15 +5,15 @@ use Rattle.std.proofs.lemmas.Bool.{both_ways, and_parts, and_from, or_cases, or_
 use Rattle.nn_types.specs.declared.report.Message.{Message}
 use Rattle.nn_model.specs.Namespace.{Namespace}
 use Rattle.nn_model.specs.Status.{due_in}
-use Rattle.nn_model.specs.WellFormed.{Has}
-use Rattle.nn_model.specs.Lanes.{Lanes, AreLanes, AreNumbered, AreInOrder, AreOrdered, comes_before, message_with, IsSent}
+use Rattle.nn_model.specs.WellFormed.{Includes}
+use Rattle.nn_model.specs.Lanes.{Lanes, AreNumberedLanes, AreNumbered, AreInOrder, AreOrdered, comes_before, message_with, IsSent}
 use Rattle.nn_model.specs.Held.{keeps_back, IsFree}
 use Rattle.nn_model.proofs.Events.{any_false_at, any_none}
 use Rattle.nn_model.proofs.Dues.{has_right}
 
 -- ---- order of lanes
 
-pub dn_of : (dn : ℕ) (ms : List Message) (m : Message) → AreInOrder dn ms → Has ms m → m.dn ≡ dn
+pub dn_of : (dn : ℕ) (ms : List Message) (m : Message) → AreInOrder dn ms → Includes ms m → m.dn ≡ dn
 dn_of dn [] m order here = absurd here
 dn_of dn (x ∷ ms) m order (inl same) = ap (λ y. y.dn) (sym same) ∙ order.0
 dn_of dn (x ∷ ms) m order (inr here) = dn_of dn ms m order.2 here
@@ -26,12 +26,12 @@ before_parts x m before = elim (or_cases (nat_lt x.number m.number) ((x.number =
       let n : x.number ≡ m.number = eqb-true _ _ p.0 in let l : x.block < m.block = ltb-true _ _ p.1 in (omega (arith, n), λ e. l)
 ]
 
-pub before_later : (dn : ℕ) (x : Message) (ms : List Message) (m : Message) → AreInOrder dn (x ∷ ms) → Has ms m →
+pub before_later : (dn : ℕ) (x : Message) (ms : List Message) (m : Message) → AreInOrder dn (x ∷ ms) → Includes ms m →
     (x.number ≤ m.number) × (x.number ≡ m.number → x.block < m.block)
 before_later dn x ms m order here = before_parts x m (not-false _ (any_false_at (λ later. not (comes_before x later)) ms m order.1 here))
 
 -- what comes before the last of a lane
-pub before_last : (dn : ℕ) (ms : List Message) (m y : Message) → AreInOrder dn (ms ++ m ∷ []) → Has ms y →
+pub before_last : (dn : ℕ) (ms : List Message) (m y : Message) → AreInOrder dn (ms ++ m ∷ []) → Includes ms y →
     (y.number ≤ m.number) × (y.number ≡ m.number → y.block < m.block)
 before_last dn [] m y order here = absurd here
 before_last dn (x ∷ ms) m y order (inl same) =
@@ -40,7 +40,7 @@ before_last dn (x ∷ ms) m y order (inl same) =
 before_last dn (x ∷ ms) m y order (inr here) = before_last dn ms m y order.2 here
 
 -- a message of a lane is found by its number and its block
-pub found_message : (dn : ℕ) (ms : List Message) (m : Message) → AreInOrder dn ms → Has ms m → message_with m.number m.block ms ≡ Some m
+pub found_message : (dn : ℕ) (ms : List Message) (m : Message) → AreInOrder dn ms → Includes ms m → message_with m.number m.block ms ≡ Some m
 found_message dn [] m order here = absurd here
 found_message dn (x ∷ ms) m order (inl same) =
     subst (λ y. message_with y.number y.block (x ∷ ms) ≡ Some y) same
@@ -56,11 +56,11 @@ found_message dn (x ∷ ms) m order (inr here) =
     omega arith))
     ∙ found_message dn ms m order.2 here
 
-pub sent_from_lane : (lanes : Lanes) (dn : ℕ) (m : Message) → AreOrdered lanes → Has (lanes dn) m → IsSent lanes m
+pub sent_from_lane : (lanes : Lanes) (dn : ℕ) (m : Message) → AreOrdered lanes → Includes (lanes dn) m → IsSent lanes m
 sent_from_lane lanes dn m are here =
     subst (λ d. message_with m.number m.block (lanes d) ≡ Some m) (sym (dn_of dn (lanes dn) m (are dn) here)) (found_message dn (lanes dn) m (are dn) here)
 
-in_lane : (number block : ℕ) (ms : List Message) (m : Message) → message_with number block ms ≡ Some m → Has ms m
+in_lane : (number block : ℕ) (ms : List Message) (m : Message) → message_with number block ms ≡ Some m → Includes ms m
 in_lane number block [] m found = absurd (cc)
 in_lane number block (x ∷ ms) m found = elim (cases_Bool ((x.number == number) && (x.block == block))) [
   | inl same ↦ let e : Some x ≡ Some m = sym (cond-true ((x.number == number) && (x.block == block)) (Some x) (message_with number block ms) same) ∙ found in inl (cc)
@@ -68,7 +68,7 @@ in_lane number block (x ∷ ms) m found = elim (cases_Bool ((x.number == number)
       (sym (cond-false ((x.number == number) && (x.block == block)) (Some x) (message_with number block ms) other) ∙ found))
 ]
 
-pub has_sent : (lanes : Lanes) (m : Message) → IsSent lanes m → Has (lanes m.dn) m
+pub has_sent : (lanes : Lanes) (m : Message) → IsSent lanes m → Includes (lanes m.dn) m
 has_sent lanes m sent = in_lane m.number m.block (lanes m.dn) m sent
 
 -- two messages of one DataNode with one number about one block are one
@@ -78,7 +78,7 @@ one_sent lanes m j sent j_sent dn number block =
 
 -- ---- messages that are numbered without a gap are in order
 
-number_at_least : (dn k : ℕ) (ms : List Message) (m : Message) → AreNumbered dn k ms → Has ms m → k ≤ m.number
+number_at_least : (dn k : ℕ) (ms : List Message) (m : Message) → AreNumbered dn k ms → Includes ms m → k ≤ m.number
 number_at_least dn k [] m numbered here = absurd here
 number_at_least dn k (x ∷ ms) m numbered (inl same) = subst (λ y. k ≤ y.number) same (omega (arith, numbered.1))
 number_at_least dn k (x ∷ ms) m numbered (inr here) = omega (arith, number_at_least dn (k + 1) ms m numbered.2 here)
@@ -95,7 +95,7 @@ numbered_in_order dn k (x ∷ ms) numbered = (
   numbered_in_order dn (k + 1) ms numbered.2,
 )
 
-pub lanes_in_order : (lanes : Lanes) → AreLanes lanes → AreOrdered lanes
+pub lanes_in_order : (lanes : Lanes) → AreNumberedLanes lanes → AreOrdered lanes
 lanes_in_order lanes numbered dn = numbered_in_order dn 1 (lanes dn) (numbered dn)
 
 -- ---- what keeps a message back

@@ -20,7 +20,7 @@ use Rattle.nn_model.specs.Log.{namespace_after, IsLog}
 use Rattle.nn_model.specs.Lanes.{Lanes, message_of, IsSent}
 use Rattle.nn_model.specs.History.{History, EachAfter, applied_txid, applied_txids, namespace_at, is_flush, processed}
 use Rattle.nn_model.specs.Lawful.{NoFlushBefore}
-use Rattle.nn_model.specs.Replay.{Sequential, reported, is_named, after_edit, set_at, after_message, apply_found, process_found, replay_from}
+use Rattle.nn_model.specs.Replay.{Sequential, reported, is_named, after_edit, set_at, after_item, apply_found, process_found, replay_from}
 use Rattle.nn_model.proofs.Dues.{edit_goes_on, stays_gone, due_not_awaiting, due_with_none}
 use Rattle.nn_model.proofs.Events.{any_left, any_right, any_push, MayBeProcessed, Tells, named_found, applied_more, same_moment}
 use Rattle.nn_model.proofs.Sent.{free_is_due}
@@ -116,7 +116,7 @@ has_if false m last = refl
 
 shows_message : (dn id : ℕ) (s : Sequential) (last : Option Message) (m : Message) (flushed now_flushed : Bool) →
     (now_flushed ≡ false → (flushed ≡ false) × (due_in s.namespace m.block m.stamp ≡ true)) → Shows dn id s last flushed →
-    Shows dn id (after_message s m) (if (dn == m.dn) && (id == m.block) then Some m else last) now_flushed
+    Shows dn id (after_item s m) (if (dn == m.dn) && (id == m.block) then Some m else last) now_flushed
 shows_message dn id s last m flushed now_flushed not_yet shows =
     let hit = (dn == m.dn) && (id == m.block) in
     let same : hit ≡ true → is_named s.namespace m.block ≡ is_named s.namespace id = λ h. ap (is_named s.namespace) (sym (eqb-true _ _ (and_parts _ _ h).1)) in
@@ -189,7 +189,7 @@ module _ (start : Namespace) (base : ℕ) (txs : List Tx) (lanes : Lanes) (whole
       λ j. if (dn == told.0.2 j) && (id == told.0.4 j) then sym found j else last in
       subst (λ z. ShowsAtEnd (replay_from txs lanes z events) (last_done lanes dn id (done_by lanes dn id last event) events))
       (ap (process_found s) (sym found))
-      (walk (before ++ event ∷ []) events (after_message s m) (done_by lanes dn id last event) (append_assoc before (event ∷ []) events ∙ is) told.1 late.1
+      (walk (before ++ event ∷ []) events (after_item s m) (done_by lanes dn id last event) (append_assoc before (event ∷ []) events ∙ is) told.1 late.1
       (at ∙ sym (same_moment start txs before d k b cause))
-      (subst (λ o. Shows dn id (after_message s m) o (list_any is_flush (before ++ event ∷ []))) said
+      (subst (λ o. Shows dn id (after_item s m) o (list_any is_flush (before ++ event ∷ []))) said
       (shows_message dn id s last m (list_any is_flush before) (list_any is_flush (before ++ event ∷ [])) not_yet shows)))

@@ -15,10 +15,10 @@ use Rattle.nn_model.specs.declared.form.Form.{Form}
 use Rattle.nn_model.specs.declared.form.Form.TheVariants.{Dir, File}
 use Rattle.nn_model.specs.declared.form.BlockRow.{BlockRow}
 use Rattle.nn_model.specs.Namespace.{Path, path_cmp, Namespace, lookup, with_row, file_at, file_or_none, begins_with}
-use Rattle.nn_model.specs.Apply.{first, checks, refusal, effect, has_id, keeps_ids, list_checks, with_blocks, new_block, moved}
+use Rattle.nn_model.specs.Apply.{first_fault, checks, refusal, effect, has_id, keeps_ids, list_checks, with_blocks, new_block, moved}
 use Rattle.nn_model.specs.Touched.{ids_of, nothing, listed, touched, block_after}
-use Rattle.nn_model.specs.Blocks.{block_row, rows_of, block_rows, block_row_at}
-use Rattle.nn_model.specs.WellFormed.{Has, times, HasWellFormedBlocks, IsWellFormed}
+use Rattle.nn_model.specs.Blocks.{block_row, block_rows_of, block_rows, block_row_at}
+use Rattle.nn_model.specs.WellFormed.{Includes, times, HasWellFormedBlocks, IsWellFormed}
 use Rattle.nn_model.specs.Laws.{TouchedTells, RowsAreTold}
 use Rattle.nn_model.proofs.Dues.{has_left, has_right, has_either, blocks_in, stands_times, all_none, when_none}
 use Rattle.nn_model.proofs.Wells.{times_put, blocks_stay_well_formed}
@@ -32,7 +32,7 @@ use Rattle.nn_model.proofs.Touches.{Tells, tells, block_of_row, block_told, ids_
 -- ---- a new list of a file's blocks
 
 -- each old id is in the new list, or among those that it leaves out
-in_list_or_out : (old bs : List Block) (b : Block) → keeps_ids old bs ≡ true → Has old b →
+in_list_or_out : (old bs : List Block) (b : Block) → keeps_ids old bs ≡ true → Includes old b →
     (has_id (ids_of bs) b.id ≡ true) ⊎ (has_id (ids_of (drop (length bs) old)) b.id ≡ true)
 in_list_or_out [] bs b keeps here = absurd here
 in_list_or_out (a ∷ old) [] b keeps here = inr (ids_has (a ∷ old) b b.id here refl)
@@ -68,28 +68,28 @@ file_rows (Some Dir) = refl
 file_rows (Some (File file)) = refl
 
 -- a row that stands has its block among the blocks, which then have its id
-block_in : (rows : List (Path × Form)) (r : BlockRow) → Has (rows_in rows) r → Has (blocks_in rows) r.block
-block_in rows r here = subst (λ bs. Has bs r.block) (blocks_of_all rows) (block_has (rows_in rows) r here)
+block_in : (rows : List (Path × Form)) (r : BlockRow) → Includes (rows_in rows) r → Includes (blocks_in rows) r.block
+block_in rows r here = subst (λ bs. Includes bs r.block) (blocks_of_all rows) (block_has (rows_in rows) r here)
 
-stands_in : (rows : List (Path × Form)) (r : BlockRow) → Has (rows_in rows) r → 1 ≤ times r.block.id (blocks_in rows)
+stands_in : (rows : List (Path × Form)) (r : BlockRow) → Includes (rows_in rows) r → 1 ≤ times r.block.id (blocks_in rows)
 stands_in rows r here = stands_times (blocks_in rows) r.block r.block.id (block_in rows r here) refl
 
 module _ (n : Namespace) (w : HasWellFormedBlocks n) where
-  from_file : (p : Path) (r : BlockRow) → Has (rows_in_file n p) r → Has (block_rows n) r
-  from_file p r here = at_path rows_of p n.rows r (subst (λ rs. Has rs r) (sym (file_rows (lookup n p))) here)
+  from_file : (p : Path) (r : BlockRow) → Includes (rows_in_file n p) r → Includes (block_rows n) r
+  from_file p r here = at_path block_rows_of p n.rows r (subst (λ rs. Includes rs r) (sym (file_rows (lookup n p))) here)
 
-  put_rest : (p : Path) (form : Form) (r : BlockRow) → Has (block_rows n) r → Has (block_rows (with_row n p form)) r ⊎ Has (rows_in_file n p) r
-  put_rest p form r here = elim (put_keeps rows_of p form n.rows r here) [
+  put_rest : (p : Path) (form : Form) (r : BlockRow) → Includes (block_rows n) r → Includes (block_rows (with_row n p form)) r ⊎ Includes (rows_in_file n p) r
+  put_rest p form r here = elim (put_keeps block_rows_of p form n.rows r here) [
     | inl still ↦ inl still
-    | inr there ↦ inr (subst (λ rs. Has rs r) (file_rows (lookup n p)) there)
+    | inr there ↦ inr (subst (λ rs. Includes rs r) (file_rows (lookup n p)) there)
   ]
 
   -- a row with the same blocks, in a file that is closed or open as before
-  same_row : (p : Path) (form : Form) → rows_of form ≡ rows_in_file n p → Tells n (with_row n p form) nothing
+  same_row : (p : Path) (form : Form) → block_rows_of form ≡ rows_in_file n p → Tells n (with_row n p form) nothing
   same_row p form same = record {
     into = λ r none. absurd none;
-    stays = λ r here _ _. elim (put_rest p form r here) [ inl still ↦ still | inr file ↦ put_has rows_of p form n.rows r (subst (λ rs. Has rs r) (sym same) file) ];
-    comes = λ r here. elim (put_from rows_of p form n.rows r here) [ inl own ↦ inr (from_file p r (subst (λ rs. Has rs r) same own)) | inr there ↦ inr there ];
+    stays = λ r here _ _. elim (put_rest p form r here) [ inl still ↦ still | inr file ↦ put_has block_rows_of p form n.rows r (subst (λ rs. Includes rs r) (sym same) file) ];
+    comes = λ r here. elim (put_from block_rows_of p form n.rows r here) [ inl own ↦ inr (from_file p r (subst (λ rs. Includes rs r) same own)) | inr there ↦ inr there ];
     gone = λ r here. refl;
   }
 
@@ -99,18 +99,18 @@ module _ (n : Namespace) (w : HasWellFormedBlocks n) where
       let new = new_block i stamp ∷ [] in
       let form = File (record { replication = (file_at n p).replication; closed = false; blocks = old ++ new }) in
       let opened : rows_in_file n p ≡ map (λ b. block_row false b) old = ap (λ closed. map (λ b. block_row closed b) old) is_open in
-      let halves : rows_of form ≡ map (λ b. block_row false b) old ++ map (λ b. block_row false b) new = map-append (λ b. block_row false b) old new in
+      let halves : block_rows_of form ≡ map (λ b. block_row false b) old ++ map (λ b. block_row false b) new = map-append (λ b. block_row false b) old new in
       record {
-        into = λ r here. put_has rows_of p form n.rows r (subst (λ rs. Has rs r) (sym halves)
+        into = λ r here. put_has block_rows_of p form n.rows r (subst (λ rs. Includes rs r) (sym halves)
             (has_right (map (λ b. block_row false b) old) (map (λ b. block_row false b) new) r here));
         stays = λ r here _ _. elim (put_rest p form r here) [
           | inl still ↦ still
-          | inr file ↦ put_has rows_of p form n.rows r (subst (λ rs. Has rs r) (sym halves)
-              (has_left (map (λ b. block_row false b) old) (map (λ b. block_row false b) new) r (subst (λ rs. Has rs r) opened file)))
+          | inr file ↦ put_has block_rows_of p form n.rows r (subst (λ rs. Includes rs r) (sym halves)
+              (has_left (map (λ b. block_row false b) old) (map (λ b. block_row false b) new) r (subst (λ rs. Includes rs r) opened file)))
         ];
-        comes = λ r here. elim (put_from rows_of p form n.rows r here) [
-          | inl own ↦ elim (has_either (map (λ b. block_row false b) old) (map (λ b. block_row false b) new) r (subst (λ rs. Has rs r) halves own)) [
-            | inl file ↦ inr (from_file p r (subst (λ rs. Has rs r) (sym opened) file))
+        comes = λ r here. elim (put_from block_rows_of p form n.rows r here) [
+          | inl own ↦ elim (has_either (map (λ b. block_row false b) old) (map (λ b. block_row false b) new) r (subst (λ rs. Includes rs r) halves own)) [
+            | inl file ↦ inr (from_file p r (subst (λ rs. Includes rs r) (sym opened) file))
             | inr fresh ↦ inl fresh
           ]
           | inr there ↦ inr there
@@ -118,14 +118,14 @@ module _ (n : Namespace) (w : HasWellFormedBlocks n) where
         gone = λ r here. refl;
       }
 
-  relisted : (p : Path) (bs : List Block) (now_closed : Bool) → first (list_checks n p bs) ≡ None →
+  relisted : (p : Path) (bs : List Block) (now_closed : Bool) → first_fault (list_checks n p bs) ≡ None →
       Tells n (with_blocks n p bs now_closed) (listed n p bs now_closed)
   relisted p bs now_closed applies =
       let old = (file_at n p).blocks in
       let keeps : keeps_ids old bs ≡ true = not-false _ (when_none _ _ (all_none (list_checks n p bs) applies).1.1.1.1.1.0) in
       let form = File (record { replication = (file_at n p).replication; closed = now_closed; blocks = bs }) in
       record {
-        into = λ r here. put_has rows_of p form n.rows r here;
+        into = λ r here. put_has block_rows_of p form n.rows r here;
         stays = λ r here retired changed. elim (put_rest p form r here) [
           | inl still ↦ still
           | inr file ↦ elim (in_list_or_out old bs r.block keeps (row_of_file (file_at n p).closed old r file).0) [
@@ -133,7 +133,7 @@ module _ (n : Namespace) (w : HasWellFormedBlocks n) where
             | inr out ↦ absurd (both_ways _ retired out)
           ]
         ];
-        comes = λ r here. elim (put_from rows_of p form n.rows r here) [ inl own ↦ inl own | inr there ↦ inr there ];
+        comes = λ r here. elim (put_from block_rows_of p form n.rows r here) [ inl own ↦ inl own | inr there ↦ inr there ];
         gone = λ r here. false_from_ne_true _ (λ out.
             let stands = stands_in (put path_cmp p form n.rows) r here in
             let left_out = ids_times (drop (length bs) old) r.block.id out in
@@ -145,7 +145,7 @@ module _ (n : Namespace) (w : HasWellFormedBlocks n) where
       let bs = (file_at n p).blocks in
       let form = File (record { replication = (file_at n p).replication; closed = false; blocks = bs }) in
       record {
-        into = λ r here. put_has rows_of p form n.rows r here;
+        into = λ r here. put_has block_rows_of p form n.rows r here;
         stays = λ r here _ changed. elim (put_rest p form r here) [
           | inl still ↦ still
           | inr file ↦
@@ -153,7 +153,7 @@ module _ (n : Namespace) (w : HasWellFormedBlocks n) where
               let told : has_id (ids_of bs) r.block.id ≡ false = ap (λ xs. has_id (ids_of xs) r.block.id) (sym (just_blocks false bs)) ∙ changed in
               absurd (both_ways _ told (ids_has bs r.block r.block.id stands refl))
         ];
-        comes = λ r here. elim (put_from rows_of p form n.rows r here) [ inl own ↦ inl own | inr there ↦ inr there ];
+        comes = λ r here. elim (put_from block_rows_of p form n.rows r here) [ inl own ↦ inl own | inr there ↦ inr there ];
         gone = λ r here. refl;
       }
 
@@ -163,13 +163,13 @@ module _ (n : Namespace) (w : HasWellFormedBlocks n) where
       let goes = filter test n.rows in
       record {
         into = λ r none. absurd none;
-        stays = λ r here retired _. elim (filter_either rows_of test n.rows r here) [
+        stays = λ r here retired _. elim (filter_either block_rows_of test n.rows r here) [
           | inl below ↦
               let went = ids_has (blocks_in goes) r.block r.block.id (block_in goes r below) refl in
               absurd (both_ways _ retired (ascending_has (ids_of (blocks_in goes)) r.block.id ∙ went))
           | inr still ↦ still
         ];
-        comes = λ r here. inr (filter_from rows_of (λ row. not (begins_with p row.0)) n.rows r here);
+        comes = λ r here. inr (filter_from block_rows_of (λ row. not (begins_with p row.0)) n.rows r here);
         gone = λ r here. ascending_has (ids_of (blocks_in goes)) r.block.id ∙ false_from_ne_true _ (λ below.
             let stands = stands_in (filter (λ row. not (test row)) n.rows) r here in
             let went = ids_times (blocks_in goes) r.block.id below in
@@ -181,15 +181,15 @@ module _ (n : Namespace) (w : HasWellFormedBlocks n) where
   renamed s d look free = record {
     into = λ r none. absurd none;
     stays = λ r here _ _. (let at = some_path n.rows w.in_order r here in goes at.0 r at.1);
-    comes = λ r here. inr (moved_from rows_of (moved s d) n.rows r (order_from rows_of (map (λ row. (moved s d row.0, row.1)) n.rows) r here));
+    comes = λ r here. inr (moved_from block_rows_of (moved s d) n.rows r (order_from block_rows_of (map (λ row. (moved s d row.0, row.1)) n.rows) r here));
     gone = λ r here. refl;
   }
     where
-      there : (p q : Path) (r : BlockRow) → after_rename (lookup n) s d q ≡ lookup n p → Has (rows_at (lookup n p)) r →
-          Has (block_rows (effect n (Rename s d))) r
-      there p q r is here = at_path rows_of q (effect n (Rename s d)).rows r (subst (λ (o : Option Form). Has (rows_at o) r) (sym (look q ∙ is)) here)
+      there : (p q : Path) (r : BlockRow) → after_rename (lookup n) s d q ≡ lookup n p → Includes (rows_at (lookup n p)) r →
+          Includes (block_rows (effect n (Rename s d))) r
+      there p q r is here = at_path block_rows_of q (effect n (Rename s d)).rows r (subst (λ (o : Option Form). Includes (rows_at o) r) (sym (look q ∙ is)) here)
 
-      goes : (p : Path) (r : BlockRow) → Has (rows_at (lookup n p)) r → Has (block_rows (effect n (Rename s d))) r
+      goes : (p : Path) (r : BlockRow) → Includes (rows_at (lookup n p)) r → Includes (block_rows (effect n (Rename s d))) r
       goes p r here = elim (cases_Bool (begins_with s p)) [
         | inl below ↦
             let rest = drop (length s) p in
@@ -199,7 +199,7 @@ module _ (n : Namespace) (w : HasWellFormedBlocks n) where
         | inr apart ↦ elim (cases_Bool (begins_with d p)) [
           | inl under ↦
               let none = ap (lookup n) (begins_split d p under) ∙ free (drop (length d) p) in
-              absurd (subst (λ (o : Option Form). Has (rows_at o) r) none here)
+              absurd (subst (λ (o : Option Form). Includes (rows_at o) r) none here)
           | inr beside ↦ there p p r (elsewhere (lookup n) s d p beside apart) here
         ]
       ]
@@ -209,8 +209,8 @@ module _ (n : Namespace) (w : HasWellFormedBlocks n) where
 all_stays : (n new : Namespace) → block_rows new ≡ block_rows n → Tells n new nothing
 all_stays n new same = record {
   into = λ r none. absurd none;
-  stays = λ r here _ _. subst (λ rs. Has rs r) (sym same) here;
-  comes = λ r here. inr (subst (λ rs. Has rs r) same here);
+  stays = λ r here _ _. subst (λ rs. Includes rs r) (sym same) here;
+  comes = λ r here. inr (subst (λ rs. Includes rs r) same here);
   gone = λ r here. refl;
 }
 

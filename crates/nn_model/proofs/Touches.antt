@@ -12,14 +12,14 @@ use Rattle.nn_model.specs.Apply.{has_id}
 use Rattle.nn_model.specs.Status.{block_at}
 use Rattle.nn_model.specs.Touched.{Touched, ids_of, with_id, ascending, changed_blocks, changed_ids, or_before, row_after, block_after}
 use Rattle.nn_model.specs.Blocks.{block_rows, block_row_at}
-use Rattle.nn_model.specs.WellFormed.{Has, times, HasWellFormedBlocks}
+use Rattle.nn_model.specs.WellFormed.{Includes, times, HasWellFormedBlocks}
 use Rattle.nn_model.proofs.Dues.{blocks_in, none_found}
 use Rattle.nn_model.proofs.Wells.{times-append}
 use Rattle.nn_model.proofs.Members.{blocks_of_rows, blocks_of_all, block_has, find_block, row_found, row_known}
 
 -- ---- ids of blocks
 
-pub ids_has : (bs : List Block) (b : Block) (id : ℕ) → Has bs b → b.id ≡ id → has_id (ids_of bs) id ≡ true
+pub ids_has : (bs : List Block) (b : Block) (id : ℕ) → Includes bs b → b.id ≡ id → has_id (ids_of bs) id ≡ true
 ids_has [] b id here is = absurd here
 ids_has (x ∷ bs) b id (inl same) is = or_left (x.id == id) (has_id (ids_of bs) id) (eq-eqb _ _ (ap (λ y. y.id) same ∙ is))
 ids_has (x ∷ bs) b id (inr here) is = or_right (x.id == id) (has_id (ids_of bs) id) (ids_has bs b id here is)
@@ -75,11 +75,11 @@ times_split id test (row ∷ rows) =
 
 -- what an edit that touched this may do to the blocks
 pub record Tells (n new : Namespace) (t : Touched) : Type 0 where
-  pub into : (r : BlockRow) → Has t.changed r → Has (block_rows new) r
-  pub stays : (r : BlockRow) → Has (block_rows n) r → has_id t.retired r.block.id ≡ false → has_id (changed_ids t) r.block.id ≡ false →
-      Has (block_rows new) r
-  pub comes : (r : BlockRow) → Has (block_rows new) r → Has t.changed r ⊎ Has (block_rows n) r
-  pub gone : (r : BlockRow) → Has (block_rows new) r → has_id t.retired r.block.id ≡ false
+  pub into : (r : BlockRow) → Includes t.changed r → Includes (block_rows new) r
+  pub stays : (r : BlockRow) → Includes (block_rows n) r → has_id t.retired r.block.id ≡ false → has_id (changed_ids t) r.block.id ≡ false →
+      Includes (block_rows new) r
+  pub comes : (r : BlockRow) → Includes (block_rows new) r → Includes t.changed r ⊎ Includes (block_rows n) r
+  pub gone : (r : BlockRow) → Includes (block_rows new) r → has_id t.retired r.block.id ≡ false
 
 cases_row : (o : Option BlockRow) → ((r : BlockRow) × (o ≡ Some r)) ⊎ (o ≡ None)
 cases_row (Some r) = inl (r, refl)
@@ -92,13 +92,13 @@ block_of_row n id = find_block (block_rows n) id ∙ ap (find (λ b. b.id == id)
 no_block : (rs : List BlockRow) (id : ℕ) → find (λ r. r.block.id == id) rs ≡ None → find (λ b. b.id == id) (blocks_of_rows rs) ≡ None
 no_block rs id none = sym (find_block rs id) ∙ ap (option_map (λ r. r.block)) none
 
-no_row : (rs : List BlockRow) (id : ℕ) (r : BlockRow) → find (λ x. x.block.id == id) rs ≡ None → Has rs r → r.block.id ≡ id → ⊥
+no_row : (rs : List BlockRow) (id : ℕ) (r : BlockRow) → find (λ x. x.block.id == id) rs ≡ None → Includes rs r → r.block.id ≡ id → ⊥
 no_row rs id r none here is = none_found (blocks_of_rows rs) id r.block (no_block rs id none) (block_has rs r here) is
 
 pub tells : (n new : Namespace) (t : Touched) → HasWellFormedBlocks new → Tells n new t →
     (id : ℕ) → block_row_at new id ≡ row_after t (block_row_at n id) id
 tells n new t w h id =
-    let known : (r : BlockRow) → Has (block_rows new) r → r.block.id ≡ id → block_row_at new id ≡ Some r = λ r here is.
+    let known : (r : BlockRow) → Includes (block_rows new) r → r.block.id ≡ id → block_row_at new id ≡ Some r = λ r here is.
     row_known (block_rows new) r id (subst (λ bs. times id bs ≤ 1) (sym (blocks_of_all new.rows)) (w.once id)) here is in
     let changed_or_before = or_before (find (λ r. r.block.id == id) t.changed) (block_row_at n id) in
     elim (cases_Bool (has_id t.retired id)) [

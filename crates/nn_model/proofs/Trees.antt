@@ -14,7 +14,7 @@ use Rattle.nn_model.specs.declared.form.Form.{Form}
 use Rattle.nn_model.specs.declared.form.Form.TheVariants.{Dir, File}
 use Rattle.nn_model.specs.declared.form.FileRow.{FileRow}
 use Rattle.nn_model.specs.Namespace.{Path, Namespace, no_stamp, lookup, with_row, begins_with, file_at, file_or_none}
-use Rattle.nn_model.specs.Apply.{first, checks, refusal, effect, is_root, is_dir, walk, exists, missing, not_file, replication_range, list_checks}
+use Rattle.nn_model.specs.Apply.{first_fault, checks, refusal, effect, is_root, is_dir, walk, exists, missing, not_file, replication_range, list_checks}
 use Rattle.nn_model.specs.Apply.{with_blocks}
 use Rattle.nn_model.specs.WellFormed.{IsWellFormed}
 use Rattle.nn_model.proofs.Dues.{all_none, when_none}
@@ -181,7 +181,7 @@ module _ (n : Namespace) (t : IsTree (lookup n)) where
   same_range : (p : Path) → missing (lookup n p) ≡ None → not_file (lookup n p) ≡ None → InRange (File (file_at n p))
   same_range p there no_dir = t.replications p (File (file_at n p)) (its_file n p there no_dir)
 
-  list_tree : (p : Path) (bs : List Block) (now_closed : Bool) → first (list_checks n p bs) ≡ None → IsTree (lookup (with_blocks n p bs now_closed))
+  list_tree : (p : Path) (bs : List Block) (now_closed : Bool) → first_fault (list_checks n p bs) ≡ None → IsTree (lookup (with_blocks n p bs now_closed))
   list_tree p bs now_closed applies =
       let ok = all_none (list_checks n p bs) applies in
       file_row p (record {

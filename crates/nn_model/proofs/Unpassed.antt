@@ -11,12 +11,12 @@ use Rattle.nn_types.specs.declared.event.Cause.TheVariants.{Due, Flush}
 use Rattle.nn_types.specs.declared.tx.Tx.{Tx}
 use Rattle.nn_model.specs.Namespace.{Namespace}
 use Rattle.nn_model.specs.Status.{due_in}
-use Rattle.nn_model.specs.WellFormed.{Has}
+use Rattle.nn_model.specs.WellFormed.{Includes}
 use Rattle.nn_model.specs.Log.{namespace_after}
 use Rattle.nn_model.specs.Lanes.{Lanes}
 use Rattle.nn_model.specs.Held.{keeps_back, IsHeld}
 use Rattle.nn_model.specs.History.{History, EachAfter, applied_txids, namespace_at, is_flush}
-use Rattle.nn_model.specs.Lawful.{reaches}
+use Rattle.nn_model.specs.Lawful.{processes_from}
 use Rattle.nn_model.proofs.Events.{any_false_at, any_found, Tells}
 use Rattle.nn_model.proofs.Sent.{keeps_from, kept_by}
 use Rattle.nn_model.proofs.Places.{DueAlong}
@@ -29,7 +29,7 @@ module _ (start : Namespace) (txs : List Tx) (lanes : Lanes) (along : DueAlong s
       (along k (k + length txs) id stamp (omega arith) due)
 
   -- an event that names a message which nothing held at its moment does not reach one that is held in the end
-  short : (before : History) (event : Event) → is_flush event ≡ false → Tells start txs lanes before event → reaches m.dn m.block m.number event ≡ false
+  short : (before : History) (event : Event) → is_flush event ≡ false → Tells start txs lanes before event → processes_from m.dn m.block m.number event ≡ false
   short before (Applied txid) no_flush told = refl
   short before (Processed dn number block Flush) no_flush told = absurd (both_ways _ no_flush refl)
   short before (Processed dn number block Due) no_flush told = false_from_ne_true _ (λ reached.
@@ -39,7 +39,7 @@ module _ (start : Namespace) (txs : List Tx) (lanes : Lanes) (along : DueAlong s
       let block_is : block ≡ m.block = eqb-true _ _ inner.1 in
       let j = any_found (keeps_back (namespace_after start txs) m) (lanes m.dn) waits in
       let kept = kept_by (namespace_after start txs) m j.0 j.2 in
-      let there : Has (lanes told.0.dn) j.0 = subst (λ d. Has (lanes d) j.0) (sym (told.2 ∙ dn_is)) j.1 in
+      let there : Includes (lanes told.0.dn) j.0 = subst (λ d. Includes (lanes d) j.0) (sym (told.2 ∙ dn_is)) j.1 in
       let above : m.number ≤ number = leb-true m.number number outer.1 in
       let at_most : j.0.number ≤ told.0.number = omega (arith, kept.1, above, told.3) in
       elim (cases_Bool (due_in (namespace_at start txs before) j.0.block j.0.stamp)) [
@@ -49,7 +49,7 @@ module _ (start : Namespace) (txs : List Tx) (lanes : Lanes) (along : DueAlong s
       ])
 
   none_past : (before events : History) → EachAfter (Tells start txs lanes) before events → list_any is_flush events ≡ false →
-      list_any (reaches m.dn m.block m.number) events ≡ false
+      list_any (processes_from m.dn m.block m.number) events ≡ false
   none_past before [] told no_flush = refl
   none_past before (event ∷ events) told no_flush =
       or_from _ _ (short before event (or_parts _ _ no_flush).0 told.0) (none_past (before ++ event ∷ []) events told.1 (or_parts _ _ no_flush).1)
@@ -57,5 +57,5 @@ module _ (start : Namespace) (txs : List Tx) (lanes : Lanes) (along : DueAlong s
 -- before the flush, no event reaches a message that is held
 pub not_passed : (start : Namespace) (txs : List Tx) (lanes : Lanes) → DueAlong start txs → (h : History) → EachAfter (Tells start txs lanes) [] h →
     list_any is_flush h ≡ false →
-    (m : Message) → IsHeld (namespace_after start txs) lanes m → list_any (reaches m.dn m.block m.number) h ≡ false
+    (m : Message) → IsHeld (namespace_after start txs) lanes m → list_any (processes_from m.dn m.block m.number) h ≡ false
 not_passed start txs lanes along h told no_flush m waits = none_past start txs lanes along m waits [] h told no_flush

@@ -22,7 +22,7 @@ use Rattle.nn_model.proofs.Trees.{absent}
 
 -- names in front of names
 both_utf8 : (p q : Path) → AreUtf8 p → AreUtf8 q → AreUtf8 (p ++ q)
-both_utf8 p q front back = list_all-append is_utf8 p q ∙ and_from (list_all is_utf8 p) (list_all is_utf8 q) front back
+both_utf8 p q prefix back = list_all-append is_utf8 p q ∙ and_from (list_all is_utf8 p) (list_all is_utf8 q) prefix back
 
 later_utf8 : (p q : Path) → AreUtf8 (p ++ q) → AreUtf8 q
 later_utf8 p q all = (and_parts (list_all is_utf8 p) (list_all is_utf8 q) (sym (list_all-append is_utf8 p q) ∙ all)).1

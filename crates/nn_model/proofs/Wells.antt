@@ -23,8 +23,8 @@ use Rattle.nn_types.specs.LawfulEdit.{IsLawfulEdit}
 use Rattle.nn_model.specs.declared.form.Form.{Form}
 use Rattle.nn_model.specs.declared.form.Form.TheVariants.{Dir, File}
 use Rattle.nn_model.specs.Namespace.{Path, path_cmp, Issued, Namespace, no_block, no_stamp, with_row, file_at, file_or_none, blocks_of, all_blocks, begins_with}
-use Rattle.nn_model.specs.Apply.{first, checks, refusal, effect, has_id, keeps_ids, keeps_stamps, with_blocks, in_path_order, moved, list_checks}
-use Rattle.nn_model.specs.WellFormed.{Has, times, IsIssued, HasWellFormedBlocks}
+use Rattle.nn_model.specs.Apply.{first_fault, checks, refusal, effect, has_id, keeps_ids, keeps_stamps, with_blocks, in_path_order, moved, list_checks}
+use Rattle.nn_model.specs.WellFormed.{Includes, times, IsIssued, HasWellFormedBlocks}
 use Rattle.nn_model.proofs.Dues.{has_either, blocks_in, file_has, listed, all_none, when_none}
 use Rattle.nn_model.proofs.InRows.{put_from, order_from, moved_from, filter_from}
 use Rattle.nn_model.proofs.Dues.{filter_none, any_push}
@@ -36,7 +36,7 @@ pub times-append : (id : ℕ) (xs ys : List Block) → times id (xs ++ ys) ≡ t
 times-append id [] ys = omega arith
 times-append id (x ∷ xs) ys = omega (arith, times-append id xs ys)
 
-pub absent : (id : ℕ) (bs : List Block) → ((b : Block) → Has bs b → b.id ≡ id → ⊥) → times id bs ≡ 0
+pub absent : (id : ℕ) (bs : List Block) → ((b : Block) → Includes bs b → b.id ≡ id → ⊥) → times id bs ≡ 0
 absent id [] away = refl
 absent id (b ∷ bs) away =
     subst (λ t. cond t 1 0 + times id bs ≡ 0) (sym (ne_eqb _ _ (away b (inl refl)))) (omega (arith, absent id bs (λ x here. away x (inr here))))
@@ -160,7 +160,7 @@ times_listed id (a ∷ old) (y ∷ new) ids =
     omega (arith, same, times_listed id old new parts.1)
 
 -- a generation stamp of a new list is one that was issued
-listed_top : (last : ℕ) (old new : List Block) (b : Block) → keeps_ids old new ≡ true → keeps_stamps last old new ≡ true → Has new b → b.stamp ≤ last
+listed_top : (last : ℕ) (old new : List Block) (b : Block) → keeps_ids old new ≡ true → keeps_stamps last old new ≡ true → Includes new b → b.stamp ≤ last
 listed_top last old [] b ids stamps here = absurd here
 listed_top last [] (y ∷ new) b ids stamps here = absurd (both_ways _ refl ids)
 listed_top last (a ∷ old) (y ∷ new) b ids stamps (inl same) =
@@ -183,7 +183,7 @@ filtered_out i (x ∷ ids) =
     ] refl
 
 -- the lengths of a lawful list are numbers
-length_of : (bs : List Block) (b : Block) → AreBlocks bs → Has bs b → IsNumber b.len
+length_of : (bs : List Block) (b : Block) → AreBlocks bs → Includes bs b → IsNumber b.len
 length_of [] b are here = absurd here
 length_of (x ∷ bs) b are (inl same) = subst (λ y. IsNumber y.len) same are.0.2
 length_of (x ∷ bs) b are (inr here) = length_of bs b are.1 here
@@ -219,7 +219,7 @@ still_issued old new b block stamp free is = record {
 module _ (n : Namespace) (w : HasWellFormedBlocks n) where
   -- other rows, with the same ids and stamps issued and the same ids awaiting
   rows_well : (rows : List (Path × Form)) → is_sorted path_cmp rows ≡ true → ((id : ℕ) → times id (blocks_in rows) ≤ 1) →
-      ((b : Block) → Has (blocks_in rows) b → IsIssued n.issued b) → HasWellFormedBlocks (record n { rows = rows })
+      ((b : Block) → Includes (blocks_in rows) b → IsIssued n.issued b) → HasWellFormedBlocks (record n { rows = rows })
   rows_well rows sorted once issued = record {
     in_order = sorted;
     last_block_from = w.last_block_from;
@@ -232,7 +232,7 @@ module _ (n : Namespace) (w : HasWellFormedBlocks n) where
   sorted_row : (p : Path) (form : Form) → is_sorted path_cmp (put path_cmp p form n.rows) ≡ true
   sorted_row p form = from_T _ (is_sorted-put path_cmp paths_total p form n.rows (to_T _ w.in_order))
 
-  row_well : (p : Path) (form : Form) → ((b : Block) → Has (blocks_of form) b → IsIssued n.issued b) →
+  row_well : (p : Path) (form : Form) → ((b : Block) → Includes (blocks_of form) b → IsIssued n.issued b) →
       ((id : ℕ) → times id (blocks_of form) ≤ times id (file_at n p).blocks) → HasWellFormedBlocks (with_row n p form)
   row_well p form new fewer =
       rows_well (put path_cmp p form n.rows) (sorted_row p form) (λ id. omega (arith, times_put id p form n.rows w.in_order, w.once id, fewer id))
@@ -240,10 +240,10 @@ module _ (n : Namespace) (w : HasWellFormedBlocks n) where
 
   -- some of the rows, in another order or at other paths
   fewer_well : (rows : List (Path × Form)) → is_sorted path_cmp rows ≡ true → ((id : ℕ) → times id (blocks_in rows) ≤ times id (all_blocks n)) →
-      ((b : Block) → Has (blocks_in rows) b → Has (all_blocks n) b) → HasWellFormedBlocks (record n { rows = rows })
+      ((b : Block) → Includes (blocks_in rows) b → Includes (all_blocks n) b) → HasWellFormedBlocks (record n { rows = rows })
   fewer_well rows sorted fewer old = rows_well rows sorted (λ id. omega (arith, fewer id, w.once id)) (λ b here. w.issued b (old b here))
 
-  list_well : (p : Path) (bs : List Block) (now_closed : Bool) → AreBlocks bs → first (list_checks n p bs) ≡ None →
+  list_well : (p : Path) (bs : List Block) (now_closed : Bool) → AreBlocks bs → first_fault (list_checks n p bs) ≡ None →
       HasWellFormedBlocks (with_blocks n p bs now_closed)
   list_well p bs now_closed are applies =
       let found = all_none (list_checks n p bs) applies in
@@ -275,7 +275,7 @@ module _ (n : Namespace) (w : HasWellFormedBlocks n) where
       absent id (all_blocks n) (λ b here is. both_ways _ (w.issued b here).not_awaiting (subst (λ k. has_id n.issued.awaiting k ≡ true) (same ∙ sym is) waits)) in
       let freed : (id : ℕ) → has_id n.issued.awaiting id ≡ false → has_id after.issued.awaiting id ≡ false =
       λ id. filter_none (λ k. k == id) (λ k. not (k == i)) n.issued.awaiting in
-      let old : (b : Block) → Has (all_blocks n) b → IsIssued after.issued b = λ b there.
+      let old : (b : Block) → Includes (all_blocks n) b → IsIssued after.issued b = λ b there.
       (let is = w.issued b there in still_issued n.issued after.issued b (omega arith) (omega arith) (freed b.id is.not_awaiting) is) in
       record {
         in_order = sorted_row p form;

@@ -11,12 +11,12 @@ use Rattle.nn_types.specs.declared.event.Cause.TheVariants.{Due, Flush}
 use Rattle.nn_types.specs.declared.tx.Tx.{Tx}
 use Rattle.nn_model.specs.Namespace.{Namespace}
 use Rattle.nn_model.specs.Status.{due_in}
-use Rattle.nn_model.specs.WellFormed.{Has}
+use Rattle.nn_model.specs.WellFormed.{Includes}
 use Rattle.nn_model.specs.Log.{namespace_after}
 use Rattle.nn_model.specs.Lanes.{Lanes, AreOrdered, IsSent}
 use Rattle.nn_model.specs.Held.{keeps_back, is_held, IsFree}
 use Rattle.nn_model.specs.History.{History, EachAfter, applied_txids, namespace_at, is_flush, processed}
-use Rattle.nn_model.specs.Lawful.{NamesMessage, NumberRises, NoFlushBefore, WaitedItsTurn, WasDueItself, reaches}
+use Rattle.nn_model.specs.Lawful.{NamesItem, NumberRises, NoFlushBefore, WaitedItsTurn, WasDueItself, processes_from}
 use Rattle.nn_model.specs.HistoryLaws.{SameWhenWhole, LawfulIsLoose}
 use Rattle.nn_model.proofs.Events.{any_none, any_left, any_right, any_either, any_last, any_true_at, at_found, from_found, applied_more, same_moment}
 use Rattle.nn_model.proofs.Sent.{dn_of, sent_from_lane, one_sent, kept_by, free_is_due}
@@ -41,12 +41,12 @@ about_one j d k b cause hit = elim (or_cases (is_about j
     (Processed d k b cause)) false hit) [ inl here ↦ about_parts j d k b cause here | inr none ↦ absurd (both_ways _ refl none) ]
 
 -- what is processed later was not reached before
-later : (j : Message) (b rest : History) → EachAfter NumberRises b rest → list_any (is_about j) rest ≡ true → list_any (reaches j.dn j.block j.number) b ≡ false
+later : (j : Message) (b rest : History) → EachAfter NumberRises b rest → list_any (is_about j) rest ≡ true → list_any (processes_from j.dn j.block j.number) b ≡ false
 later j b [] rises told = absurd (both_ways _ refl told)
-later j b (Applied txid ∷ rest) rises told = any_left (reaches j.dn j.block j.number) b (Applied txid ∷ []) (later j (b ++ Applied txid ∷ []) rest rises.1 told)
+later j b (Applied txid ∷ rest) rises told = any_left (processes_from j.dn j.block j.number) b (Applied txid ∷ []) (later j (b ++ Applied txid ∷ []) rest rises.1 told)
 later j b (Processed d k c cause ∷ rest) rises told = elim (or_cases (is_about j (Processed d k c cause)) (list_any (is_about j) rest) told) [
-  | inl here ↦ let is = about_parts j d k c cause here in (λ i. list_any (reaches (sym is.0 i) (sym is.1 i) (sym is.2 i)) b) ∙ rises.0
-  | inr further ↦ any_left (reaches j.dn j.block j.number) b (Processed d k c cause ∷ []) (later j (b ++ Processed d k c cause ∷ []) rest rises.1 further)
+  | inl here ↦ let is = about_parts j d k c cause here in (λ i. list_any (processes_from (sym is.0 i) (sym is.1 i) (sym is.2 i)) b) ∙ rises.0
+  | inr further ↦ any_left (processes_from j.dn j.block j.number) b (Processed d k c cause ∷ []) (later j (b ++ Processed d k c cause ∷ []) rest rises.1 further)
 ]
 
 module _ (start : Namespace) (txs : List Tx) (lanes : Lanes) (whole : History) (along : DueAlong start txs) (ordered : AreOrdered lanes)
@@ -75,14 +75,14 @@ module _ (start : Namespace) (txs : List Tx) (lanes : Lanes) (whole : History) (
           | inr here_or_later ↦ elim (or_cases (is_about j (Processed d k c Due)) (list_any (is_about j) rest) here_or_later) [
             | inl now ↦ apart (sym (about_parts j d k c Due now).2 ∙ sym number_is)
             | inr after ↦ both_ways _ (later j (before ++ Processed d k c Due ∷ []) rest rises.1 after)
-                (any_last (reaches j.dn j.block j.number) before (Processed d k c Due)
+                (any_last (processes_from j.dn j.block j.number) before (Processed d k c Due)
                 (and_from _ _ (and_from _ _ (eq-eqb _ _ (sym dn_is ∙ sym dn)) (eq-eqb _ _ (sym block_is ∙ sym t.0)))
                 (le-leb j.number k (omega (arith, t.1, number_is)))))
           ]
         ]
       ]))
 
-  strong : (before events : History) → before ++ events ≡ whole → EachAfter (NamesMessage lanes) before events → EachAfter NumberRises before events →
+  strong : (before events : History) → before ++ events ≡ whole → EachAfter (NamesItem lanes) before events → EachAfter NumberRises before events →
       EachAfter (WasDueItself start txs lanes) before events → EachAfter NoFlushBefore before events → SoFar before →
       EachAfter (WaitedItsTurn start txs lanes) before events
   strong before [] is names rises due late so_far = tt
@@ -117,7 +117,7 @@ module _ (start : Namespace) (txs : List Tx) (lanes : Lanes) (whole : History) (
         (λ unflushed. absurd (both_ways true (or_parts true (list_any is_flush []) (any_right is_flush before (Processed d k c Flush ∷ []) unflushed)).0 refl)),
   )
 
-loose : (start : Namespace) (txs : List Tx) (lanes : Lanes) (before events : History) → EachAfter (NamesMessage lanes) before events →
+loose : (start : Namespace) (txs : List Tx) (lanes : Lanes) (before events : History) → EachAfter (NamesItem lanes) before events →
     EachAfter (WaitedItsTurn start txs lanes) before events → EachAfter (WasDueItself start txs lanes) before events
 loose start txs lanes before [] names waited = tt
 loose start txs lanes before (Applied txid ∷ events) names waited = (tt, loose start txs lanes (before ++ Applied txid ∷ []) events names.1 waited.1)
@@ -131,7 +131,7 @@ loose start txs lanes before (Processed d k c Due ∷ events) names waited =
 loose start txs lanes before (Processed d k c Flush ∷ events) names waited =
     (tt, loose start txs lanes (before ++ Processed d k c Flush ∷ []) events names.1 waited.1)
 
-told_by : (j : Message) (cause : Cause) (h : History) → Has h (processed cause j) → list_any (is_about j) h ≡ true
+told_by : (j : Message) (cause : Cause) (h : History) → Includes h (processed cause j) → list_any (is_about j) h ≡ true
 told_by j cause h here =
     any_true_at (is_about j) h (processed cause j) (and_from _ _ (and_from _ _ (eq-eqb j.dn j.dn refl) (eq-eqb j.block j.block refl))
     (eq-eqb j.number j.number refl)) here

@@ -13,21 +13,22 @@ use Rattle.nn_types.specs.declared.edit_fault.EditFault.{EditFault}
 use Rattle.nn_types.specs.declared.edit_fault.EditFault.TheVariants.{Exists, Missing, NotDirectory, NotFile, IsRoot, IntoItself, NotOpen, WrongBlocks}
 use Rattle.nn_types.specs.declared.edit_fault.EditFault.TheVariants.{BadGeneration, BadBlockId, BadReplication, NotClosed, LowerProfile}
 use Rattle.nn_types.specs.Profile.{is_lower}
+use Rattle.nn_types.specs.Limits.{max_replication}
 use Rattle.nn_model.specs.Namespace.{Path, path_cmp, Namespace, lookup, with_row, begins_with, file_at, file_or_none, no_stamp}
 
 -- ---- Why an edit is refused: the checks of an edit in order, of which the first that finds a fault decides. What is at a path
 -- is asked by look-ups.
 
 -- a fault where the test holds
-abbrev pub when : Bool → EditFault → Option EditFault
-when true fault = Some fault
-when false fault = None
+abbrev pub fault_if : {F : Type 0} → Bool → F → Option F
+fault_if true fault = Some fault
+fault_if false fault = None
 
 -- the first fault that was found
-abbrev pub first : List (Option EditFault) → Option EditFault
-first [] = None
-first (Some fault ∷ checks) = Some fault
-first (None ∷ checks) = first checks
+abbrev pub first_fault : {F : Type 0} → List (Option F) → Option F
+first_fault [] = None
+first_fault (Some fault ∷ checks) = Some fault
+first_fault (None ∷ checks) = first_fault checks
 
 -- what is found in a directory, where it is one
 abbrev pub in_directory : Option Form → Option EditFault → Option EditFault
@@ -45,10 +46,10 @@ is_root [] = Some IsRoot
 is_root (name ∷ p) = None
 
 abbrev pub exists : Option Form → Option EditFault
-exists form = when (is_some form) Exists
+exists form = fault_if (is_some form) Exists
 
 abbrev pub missing : Option Form → Option EditFault
-missing form = when (not (is_some form)) Missing
+missing form = fault_if (not (is_some form)) Missing
 
 abbrev pub is_dir : Option Form → Bool
 is_dir (Some Dir) = true
@@ -56,17 +57,17 @@ is_dir (Some (File file)) = false
 is_dir None = false
 
 abbrev pub not_file : Option Form → Option EditFault
-not_file form = when (is_dir form) NotFile
+not_file form = fault_if (is_dir form) NotFile
 
 abbrev pub not_open : Option Form → Option EditFault
-not_open form = when (file_or_none form).closed NotOpen
+not_open form = fault_if (file_or_none form).closed NotOpen
 
 abbrev pub not_closed : Option Form → Option EditFault
-not_closed form = when (not (file_or_none form).closed) NotClosed
+not_closed form = fault_if (not (file_or_none form).closed) NotClosed
 
 -- a replication is 1 to 512
 abbrev pub replication_range : ℕ → Option EditFault
-replication_range r = when (nat_lt r 1 || nat_lt 512 r) BadReplication
+replication_range r = fault_if (nat_lt r 1 || nat_lt max_replication r) BadReplication
 
 -- the new list has the ids of the old one, place by place, all of them or all but the last
 abbrev pub keeps_ids : List Block → List Block → Bool
@@ -89,36 +90,36 @@ has_id ids i = list_any (λ id. id == i) ids
 abbrev pub list_checks : Namespace → Path → List Block → List (Option EditFault)
 list_checks n p bs =
     is_root p ∷ walk (lookup n) p ∷ missing (lookup n p) ∷ not_file (lookup n p) ∷ not_open (lookup n p)
-    ∷ when (not (keeps_ids (file_at n p).blocks bs)) WrongBlocks
-    ∷ when (not (keeps_stamps n.issued.last_stamp (file_at n p).blocks bs)) BadGeneration
+    ∷ fault_if (not (keeps_ids (file_at n p).blocks bs)) WrongBlocks
+    ∷ fault_if (not (keeps_stamps n.issued.last_stamp (file_at n p).blocks bs)) BadGeneration
     ∷ []
 
 -- the checks of an edit, in order
 abbrev pub checks : Namespace → Edit → List (Option EditFault)
-checks n (StartSegment profile) = when (is_lower profile n.issued.profile) LowerProfile ∷ []
+checks n (StartSegment profile) = fault_if (is_lower profile n.issued.profile) LowerProfile ∷ []
 checks n EndSegment = []
 checks n (Mkdir p) = is_root p ∷ walk (lookup n) p ∷ exists (lookup n p) ∷ []
 checks n (Add p r) = is_root p ∷ replication_range r ∷ walk (lookup n) p ∷ exists (lookup n p) ∷ []
 checks n (AddBlock p i stamp) =
     is_root p ∷ walk (lookup n) p ∷ missing (lookup n p) ∷ not_file (lookup n p) ∷ not_open (lookup n p)
-    ∷ when (not (has_id n.issued.awaiting i)) BadBlockId
-    ∷ when (nat_le stamp no_stamp || nat_lt n.issued.last_stamp stamp) BadGeneration
+    ∷ fault_if (not (has_id n.issued.awaiting i)) BadBlockId
+    ∷ fault_if (nat_le stamp no_stamp || nat_lt n.issued.last_stamp stamp) BadGeneration
     ∷ []
 checks n (UpdateBlocks p bs) = list_checks n p bs
 checks n (Close p bs) = list_checks n p bs
 checks n (Append p) = is_root p ∷ walk (lookup n) p ∷ missing (lookup n p) ∷ not_file (lookup n p) ∷ not_closed (lookup n p) ∷ []
 checks n (Rename s d) =
     is_root s ∷ is_root d ∷ walk (lookup n) s ∷ missing (lookup n s)
-    ∷ when (begins_with s d && nat_lt (length s) (length d)) IntoItself
+    ∷ fault_if (begins_with s d && nat_lt (length s) (length d)) IntoItself
     ∷ walk (lookup n) d ∷ exists (lookup n d) ∷ []
 checks n (Delete p) = is_root p ∷ walk (lookup n) p ∷ missing (lookup n p) ∷ []
 checks n (SetReplication p r) = is_root p ∷ replication_range r ∷ walk (lookup n) p ∷ missing (lookup n p) ∷ not_file (lookup n p) ∷ []
-checks n (AllocateBlockId i) = when (nat_le i n.issued.last_block) BadBlockId ∷ []
-checks n (SetGenstamp stamp) = when (nat_le stamp n.issued.last_stamp) BadGeneration ∷ []
+checks n (AllocateBlockId i) = fault_if (nat_le i n.issued.last_block) BadBlockId ∷ []
+checks n (SetGenstamp stamp) = fault_if (nat_le stamp n.issued.last_stamp) BadGeneration ∷ []
 
 -- why the namespace refuses the edit, or None where it applies
 abbrev pub refusal : Namespace → Edit → Option EditFault
-refusal n edit = first (checks n edit)
+refusal n edit = first_fault (checks n edit)
 
 -- ---- What an edit does where it applies.
 

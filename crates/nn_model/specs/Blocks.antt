@@ -11,13 +11,13 @@ abbrev pub block_row : Bool → Block → BlockRow
 block_row closed b = record { block = b; closed = closed }
 
 -- the blocks of what is at a path
-abbrev pub rows_of : Form → List BlockRow
-rows_of Dir = []
-rows_of (File file) = map (λ b. block_row file.closed b) file.blocks
+abbrev pub block_rows_of : Form → List BlockRow
+block_rows_of Dir = []
+block_rows_of (File file) = map (λ b. block_row file.closed b) file.blocks
 
 -- the blocks of all files, in path order and then in file order
 abbrev pub block_rows : Namespace → List BlockRow
-block_rows n = flat_map (λ row. rows_of row.1) n.rows
+block_rows n = flat_map (λ row. block_rows_of row.1) n.rows
 
 -- the block that a file holds under this id, and whether the file is closed
 abbrev pub block_row_at : Namespace → ℕ → Option BlockRow

@@ -9,6 +9,7 @@ use Rattle.nn_types.specs.declared.replica.Replica.{Replica}
 use Rattle.nn_types.specs.declared.replica.Class.{Class}
 use Rattle.nn_types.specs.declared.replica.Class.TheVariants.{Stale, Ahead, Building, Live, WrongLength}
 use Rattle.nn_types.specs.Settings.{needed_of}
+use Rattle.nn_types.specs.Limits.{max_datanodes}
 use Rattle.nn_model.specs.Namespace.{Namespace}
 
 -- ---- One replica.
@@ -55,7 +56,7 @@ live_up_to (suc dn) replicas b = (if is_live (replicas (suc dn) b.id) b then 1 e
 
 -- DataNodes are 1 to 256
 abbrev pub live_count : (ℕ → ℕ → Option Replica) → Block → ℕ
-live_count replicas b = live_up_to 256 replicas b
+live_count replicas b = live_up_to max_datanodes replicas b
 
 -- how many blocks closed files have
 abbrev pub total_of : Namespace → ℕ

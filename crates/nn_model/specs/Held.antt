@@ -13,7 +13,7 @@ keeps_back n m earlier = (earlier.block == m.block) && nat_le earlier.number m.n
 
 -- whether an item of the lane with these items is held
 abbrev pub is_held : Namespace → List Message → Message → Bool
-is_held n messages m = list_any (keeps_back n m) messages
+is_held n items m = list_any (keeps_back n m) items
 
 abbrev pub IsHeld : Namespace → Lanes → Message → Type 0
 IsHeld n lanes m = is_held n (lanes m.dn) m ≡ true

@@ -42,13 +42,13 @@ namespace_at start txs before = namespace_after start (take (length (applied_txi
 
 -- ---- What was processed.
 
-abbrev pub number_of : ℕ → ℕ → Event → Option ℕ
-number_of dn block (Applied txid) = None
-number_of dn block (Processed d number b cause) = if (d == dn) && (b == block) then Some number else None
+abbrev pub number_processed : ℕ → ℕ → Event → Option ℕ
+number_processed dn block (Applied txid) = None
+number_processed dn block (Processed d number b cause) = if (d == dn) && (b == block) then Some number else None
 
 -- the numbers of the DataNode's items about the block that were processed, in order
-abbrev pub numbers_of : ℕ → ℕ → History → List ℕ
-numbers_of dn block events = filter_map (number_of dn block) events
+abbrev pub numbers_processed : ℕ → ℕ → History → List ℕ
+numbers_processed dn block events = filter_map (number_processed dn block) events
 
 abbrev pub processes : ℕ → ℕ → ℕ → Event → Bool
 processes dn number block (Applied txid) = false

@@ -5,26 +5,26 @@ use Rattle.std.specs.Ordering.{nat_cmp}
 use Rattle.nn_types.specs.declared.report.Message.{Message}
 use Rattle.nn_types.specs.declared.tx.Tx.{Tx}
 use Rattle.nn_model.specs.Namespace.{Namespace}
-use Rattle.nn_model.specs.WellFormed.{Has, HasWellFormedBlocks}
+use Rattle.nn_model.specs.WellFormed.{Includes, HasWellFormedBlocks}
 use Rattle.nn_model.specs.Log.{namespace_after, IsLog}
-use Rattle.nn_model.specs.Lanes.{Lanes, AreLanes, IsSent, no_messages}
+use Rattle.nn_model.specs.Lanes.{Lanes, AreNumberedLanes, IsSent, no_messages}
 use Rattle.nn_model.specs.Items.{items}
 use Rattle.nn_model.specs.Held.{without_held}
-use Rattle.nn_model.specs.History.{History, IsBeforeFlush, numbers_of, times_processed}
+use Rattle.nn_model.specs.History.{History, IsBeforeFlush, numbers_processed, times_processed}
 use Rattle.nn_model.specs.Lawful.{IsLawful, IsWhole, IsLooselyLawful}
 use Rattle.nn_model.specs.Replay.{replay}
 use Rattle.nn_model.specs.Picture.{ShowsPicture}
 use Rattle.nn_model.specs.Counts.{safe_mode_of}
 use Rattle.nn_model.specs.Stands.{StandbyState, Stands, tables_of, fresh}
 
--- a lawful and whole history ends in the picture of all messages, whatever its order was
+-- a lawful and whole history ends in the picture of all items, whatever its order was
 abbrev pub EndsInPicture : Type 0
 EndsInPicture =
-    (start : Namespace) (base : ℕ) (txs : List Tx) (lanes : Lanes) (events : History) → HasWellFormedBlocks start → IsLog start base txs → AreLanes lanes →
+    (start : Namespace) (base : ℕ) (txs : List Tx) (lanes : Lanes) (events : History) → HasWellFormedBlocks start → IsLog start base txs → AreNumberedLanes lanes →
     IsLawful start txs (items lanes) events → IsWhole start txs (items lanes) events →
     ShowsPicture (namespace_after start txs) (items lanes) (replay start txs (items lanes) events)
 
--- before the flush, the history of a standby that stands ends in the picture of the messages that are not held
+-- before the flush, the history of a standby that stands ends in the picture of the items that are not held
 abbrev pub ReplaysPicture : Type 0
 ReplaysPicture =
     (start : Namespace) (base : ℕ) (txs : List Tx) (lanes : Lanes) (x : StandbyState) → Stands start base txs lanes x → IsBeforeFlush x.history →
@@ -36,28 +36,28 @@ TablesShowPicture =
     (start : Namespace) (base : ℕ) (txs : List Tx) (lanes : Lanes) (x : StandbyState) → Stands start base txs lanes x → IsBeforeFlush x.history →
     ShowsPicture x.namespace (without_held x.namespace (items lanes)) (tables_of x)
 
--- a lawful history processes each message at most once
+-- a lawful history processes each item at most once
 abbrev pub ProcessedOnce : Type 0
 ProcessedOnce =
     (start : Namespace) (txs : List Tx) (lanes : Lanes) (events : History) → IsLawful start txs lanes events →
     (dn number block : ℕ) → times_processed dn number block events ≤ 1
 
--- and where it is whole, each message that was sent exactly once
+-- and where it is whole, each item that was sent exactly once
 abbrev pub EachOnce : Type 0
 EachOnce =
     (start : Namespace) (txs : List Tx) (lanes : Lanes) (events : History) → IsLawful start txs lanes events → IsWhole start txs lanes events →
     (m : Message) → IsSent lanes m → times_processed m.dn m.number m.block events ≡ 1
 
--- and the messages of one DataNode about one block in the order in which they were sent
+-- and the items of one DataNode about one block in the order in which they were sent
 abbrev pub InSendingOrder : Type 0
 InSendingOrder =
     (start : Namespace) (txs : List Tx) (lanes : Lanes) (events : History) → IsLawful start txs lanes events →
-    (dn block : ℕ) → IsStrictlySortedBy nat_cmp (numbers_of dn block events)
+    (dn block : ℕ) → IsStrictlySortedBy nat_cmp (numbers_processed dn block events)
 
 -- a whole history is lawful in both readings of the waiting rule, or in none
 abbrev pub SameWhenWhole : Type 0
 SameWhenWhole =
-    (start : Namespace) (base : ℕ) (txs : List Tx) (lanes : Lanes) (events : History) → HasWellFormedBlocks start → IsLog start base txs → AreLanes lanes →
+    (start : Namespace) (base : ℕ) (txs : List Tx) (lanes : Lanes) (events : History) → HasWellFormedBlocks start → IsLog start base txs → AreNumberedLanes lanes →
     IsWhole start txs (items lanes) events → IsLooselyLawful start txs (items lanes) events ↔ IsLawful start txs (items lanes) events
 
 -- a lawful history is lawful in the looser reading too, whole or not
@@ -79,11 +79,11 @@ SameWhenFlushed =
     (start : Namespace) (base : ℕ) (txs : List Tx) (lanes : Lanes) (x y : StandbyState) → Stands start base txs lanes x → Stands start base txs lanes y →
     IsWhole start txs (items lanes) x.history → IsWhole start txs (items lanes) y.history → ShowSame x y
 
--- and before it too, and hold the same messages, in whatever order these came
+-- and before it too, and hold the same items, in whatever order these came
 abbrev pub SameBeforeFlush : Type 0
 SameBeforeFlush =
     (start : Namespace) (base : ℕ) (txs : List Tx) (lanes : Lanes) (x y : StandbyState) → Stands start base txs lanes x → Stands start base txs lanes y →
-    IsBeforeFlush x.history → IsBeforeFlush y.history → ShowSame x y × ((m : Message) → Has x.held m ↔ Has y.held m)
+    IsBeforeFlush x.history → IsBeforeFlush y.history → ShowSame x y × ((m : Message) → Includes x.held m ↔ Includes y.held m)
 
 -- a standby that did nothing yet stands at the empty log and at no messages, over any base with well formed blocks
 abbrev pub FreshStands : Type 0

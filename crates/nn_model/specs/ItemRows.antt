@@ -2,7 +2,7 @@
 use Rattle.std.specs.Prelude.{◌≡◌, ℕ, ◌+◌, true, false, [], ◌∷◌, map, Some, None, refl}
 use Rattle.nn_types.specs.declared.report.Message.{Message}
 use Rattle.nn_types.specs.declared.report.Kind.TheVariants.{Receiving, Received, Deleted, Begin, Listed, Finish}
-use Rattle.nn_model.specs.Items.{each_once, is_deleted, has_of, left_out, taken_back, begun_after, items_of, items, Having, nothing_had, with_item, with_items, having_after}
+use Rattle.nn_model.specs.Items.{each_once, is_deleted, numbered_blocks, left_out, revoked, begun_after, items_of, items, NodeState, nothing_known, with_item, with_items, node_state_after}
 use Rattle.nn_model.specs.MessageRows.{b, c, message, two_lanes}
 
 -- of DataNode 1: a begin, an end
@@ -25,19 +25,19 @@ row_of_ids : each_once (5 ∷ 3 ∷ 5 ∷ 1 ∷ 3 ∷ 9 ∷ []) ≡ 1 ∷ 3 ∷ 
 row_of_ids = refl
 
 -- what is had, and since when; what is left out
-row_of_what_is_had : has_of (had 1 c ∷ had 2 b ∷ had 3 c ∷ gone 4 b ∷ had 5 (c + 1) ∷ []) ≡ (c, 3) ∷ (c + 1, 5) ∷ []
+row_of_what_is_had : numbered_blocks (had 1 c ∷ had 2 b ∷ had 3 c ∷ gone 4 b ∷ had 5 (c + 1) ∷ []) ≡ (c, 3) ∷ (c + 1, 5) ∷ []
 row_of_what_is_had = refl
 
 -- a replica that is being received is had, too
-row_of_being_received : has_of (message 1 1 Receiving b 1001 0 ∷ []) ≡ (b, 1) ∷ []
+row_of_being_received : numbered_blocks (message 1 1 Receiving b 1001 0 ∷ []) ≡ (b, 1) ∷ []
 row_of_being_received = refl
 
-row_of_what_is_left_out : left_out 4 (has_of (had 1 c ∷ had 2 b ∷ had 4 (c + 2) ∷ had 5 (c + 1) ∷ [])) ≡ b ∷ c ∷ []
+row_of_what_is_left_out : left_out 4 (numbered_blocks (had 1 c ∷ had 2 b ∷ had 4 (c + 2) ∷ had 5 (c + 1) ∷ [])) ≡ b ∷ c ∷ []
 row_of_what_is_left_out = refl
 
 -- whatever the end of a report carries, what it revokes has no generation stamp and no length
-row_of_what_is_taken_back : taken_back (message 1 5 Finish c 1001 7) b ≡ gone 5 b
-row_of_what_is_taken_back = refl
+row_of_what_is_revoked : revoked (message 1 5 Finish c 1001 7) b ≡ gone 5 b
+row_of_what_is_revoked = refl
 
 -- a delete alone takes away
 row_of_deletes : map is_deleted (Receiving ∷ Received ∷ Deleted ∷ Begin ∷ Listed ∷ Finish ∷ []) ≡ false ∷ false ∷ true ∷ false ∷ false ∷ false ∷ []
@@ -110,14 +110,14 @@ row_of_one_item = (refl, refl, refl, refl)
 row_of_items : with_items ((b, 1) ∷ (c, 2) ∷ []) (gone 3 b ∷ had 4 (c + 1) ∷ []) ≡ (c, 2) ∷ (c + 1, 4) ∷ []
 row_of_items = refl
 
-abbrev reporting : Having
+abbrev reporting : NodeState
 reporting = record { has = (b, 1) ∷ (c, 4) ∷ []; begun = Some 3 }
 
-row_of_a_begin : having_after nothing_had (begin 1) ≡ record { has = []; begun = Some 1 }
+row_of_a_begin : node_state_after nothing_known (begin 1) ≡ record { has = []; begun = Some 1 }
 row_of_a_begin = refl
 
-row_of_an_end : having_after reporting (finish 5) ≡ record { has = (c, 4) ∷ []; begun = None }
+row_of_an_end : node_state_after reporting (finish 5) ≡ record { has = (c, 4) ∷ []; begun = None }
 row_of_an_end = refl
 
-row_of_no_end : having_after reporting (listed 5 b) ≡ record { has = (b, 5) ∷ (c, 4) ∷ []; begun = Some 3 }
+row_of_no_end : node_state_after reporting (listed 5 b) ≡ record { has = (b, 5) ∷ (c, 4) ∷ []; begun = Some 3 }
 row_of_no_end = refl

@@ -37,24 +37,24 @@ is_deleted Listed = false
 is_deleted Finish = false
 
 -- the number of the last item, unless that is a delete
-abbrev pub number_if_had : Option Message → Option ℕ
-number_if_had None = None
-number_if_had (Some i) = if is_deleted i.kind then None else Some i.number
+abbrev pub number_unless_deleted : Option Message → Option ℕ
+number_unless_deleted None = None
+number_unless_deleted (Some i) = if is_deleted i.kind then None else Some i.number
 
-abbrev pub entry_if_had : List Message → ℕ → Option (ℕ × ℕ)
-entry_if_had items id = option_map (λ number. (id, number)) (number_if_had (last_about items id))
+abbrev pub entry_unless_deleted : List Message → ℕ → Option (ℕ × ℕ)
+entry_unless_deleted items id = option_map (λ number. (id, number)) (number_unless_deleted (last_about items id))
 
 -- what the DataNode has by its last item about each block: the blocks, ascending, each with that item's number
-abbrev pub has_of : List Message → List (ℕ × ℕ)
-has_of items = filter_map (entry_if_had items) (each_once (map (λ i. i.block) items))
+abbrev pub numbered_blocks : List Message → List (ℕ × ℕ)
+numbered_blocks items = filter_map (entry_unless_deleted items) (each_once (map (λ i. i.block) items))
 
 -- what is known of a DataNode: what it has, and the number of the begin of the report that is open
-pub record Having : Type 0 where
+pub record NodeState : Type 0 where
   pub has : List (ℕ × ℕ)
   pub begun : Option ℕ
 
-abbrev pub nothing_had : Having
-nothing_had = record { has = []; begun = None }
+abbrev pub nothing_known : NodeState
+nothing_known = record { has = []; begun = None }
 
 -- ---- The items of one more message.
 
@@ -62,16 +62,16 @@ nothing_had = record { has = []; begun = None }
 abbrev pub left_out : ℕ → List (ℕ × ℕ) → List ℕ
 left_out begin has = map (λ (had : ℕ × ℕ). had.0) (filter (λ (had : ℕ × ℕ). nat_lt had.1 begin) has)
 
--- the end of a report takes this block back
-abbrev pub taken_back : Message → ℕ → Message
-taken_back finish id = record finish { block = id; stamp = 0; len = 0; kind = Deleted }
+-- the end of a report revokes this block
+abbrev pub revoked : Message → ℕ → Message
+revoked finish id = record finish { block = id; stamp = 0; len = 0; kind = Deleted }
 
 -- the items of the end of a report: none where no report is open
 abbrev pub finished : Option ℕ → List (ℕ × ℕ) → Message → List Message
 finished None has m = []
-finished (Some begin) has m = map (taken_back m) (left_out begin has)
+finished (Some begin) has m = map (revoked m) (left_out begin has)
 
-abbrev pub added_as : Kind → Having → Message → List Message
+abbrev pub added_as : Kind → NodeState → Message → List Message
 added_as Receiving had m = m ∷ []
 added_as Received had m = m ∷ []
 added_as Deleted had m = m ∷ []
@@ -80,7 +80,7 @@ added_as Listed had m = (record m { kind = Received }) ∷ []
 added_as Finish had m = finished had.begun had.has m
 
 -- the items that a message adds
-abbrev pub added : Having → Message → List Message
+abbrev pub added : NodeState → Message → List Message
 added had m = added_as m.kind had m
 
 -- the begin of the report that is open after a message
@@ -95,27 +95,27 @@ begun_after Finish begun number = None
 -- ---- A lane.
 
 -- its items so far, and the begin of the report that is open
-pub record Had : Type 0 where
+pub record LaneItems : Type 0 where
   pub items : List Message
   pub begun : Option ℕ
 
-abbrev pub having : Had → Having
-having t = record { has = has_of t.items; begun = t.begun }
+abbrev pub node_state : LaneItems → NodeState
+node_state t = record { has = numbered_blocks t.items; begun = t.begun }
 
-abbrev pub had_after : Had → Message → Had
-had_after t m = record { items = t.items ++ added (having t) m; begun = begun_after m.kind t.begun m.number }
+abbrev pub lane_items_after : LaneItems → Message → LaneItems
+lane_items_after t m = record { items = t.items ++ added (node_state t) m; begun = begun_after m.kind t.begun m.number }
 
 -- messages, one after another
-abbrev pub had_from : Had → List Message → Had
-had_from t [] = t
-had_from t (m ∷ messages) = had_from (had_after t m) messages
+abbrev pub lane_items_from : LaneItems → List Message → LaneItems
+lane_items_from t [] = t
+lane_items_from t (m ∷ messages) = lane_items_from (lane_items_after t m) messages
 
-abbrev pub had_by : List Message → Had
-had_by messages = had_from (record { items = []; begun = None }) messages
+abbrev pub lane_items : List Message → LaneItems
+lane_items messages = lane_items_from (record { items = []; begun = None }) messages
 
 -- the items of messages
 abbrev pub items_of : List Message → List Message
-items_of messages = (had_by messages).items
+items_of messages = (lane_items messages).items
 
 -- the items of lanes
 abbrev pub items : Lanes → Lanes
@@ -132,5 +132,5 @@ with_items has [] = has
 with_items has (i ∷ items) = with_items (with_item has i) items
 
 -- what is known after a message
-abbrev pub having_after : Having → Message → Having
-having_after had m = record { has = with_items had.has (added had m); begun = begun_after m.kind had.begun m.number }
+abbrev pub node_state_after : NodeState → Message → NodeState
+node_state_after had m = record { has = with_items had.has (added had m); begun = begun_after m.kind had.begun m.number }

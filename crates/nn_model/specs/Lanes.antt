@@ -21,8 +21,8 @@ AreNumbered dn number [] = Unit {0}
 AreNumbered dn number (m ∷ messages) = (m.dn ≡ dn) × (m.number ≡ number) × AreNumbered dn (number + 1) messages
 
 -- each lane has messages of its own DataNode alone, numbered from 1
-abbrev pub AreLanes : Lanes → Type 0
-AreLanes lanes = (dn : ℕ) → AreNumbered dn 1 (lanes dn)
+abbrev pub AreNumberedLanes : Lanes → Type 0
+AreNumberedLanes lanes = (dn : ℕ) → AreNumbered dn 1 (lanes dn)
 
 -- the first message comes before the second: its number is less, or the same and its block is less
 abbrev pub comes_before : Message → Message → Bool

@@ -8,7 +8,7 @@ use Rattle.nn_types.specs.declared.event.Cause.TheVariants.{Due, Flush}
 use Rattle.nn_types.specs.declared.tx.Tx.{Tx}
 use Rattle.nn_model.specs.Namespace.{Namespace}
 use Rattle.nn_model.specs.Status.{due_in}
-use Rattle.nn_model.specs.WellFormed.{Has}
+use Rattle.nn_model.specs.WellFormed.{Includes}
 use Rattle.nn_model.specs.Log.{namespace_after}
 use Rattle.nn_model.specs.Lanes.{Lanes, message_of, IsSent}
 use Rattle.nn_model.specs.Held.{IsHeld, IsFree}
@@ -17,20 +17,20 @@ use Rattle.nn_model.specs.History.{History, EachEvent, applied_txids, namespace_
 -- ---- What a lawful history says of one event, where `before` are the events before it.
 
 -- what was processed is an item that was sent: its DataNode, its number and its block are the event's
-abbrev pub NamesMessage : Lanes → History → Event → Type 0
-NamesMessage lanes before (Applied txid) = Unit {0}
-NamesMessage lanes before (Processed dn number block cause) =
+abbrev pub NamesItem : Lanes → History → Event → Type 0
+NamesItem lanes before (Applied txid) = Unit {0}
+NamesItem lanes before (Processed dn number block cause) =
     (m : Message) × IsSent lanes m × (m.dn ≡ dn) × (m.number ≡ number) × (m.block ≡ block)
 
 -- the event processes an item of this DataNode about this block, with this number or a later one
-abbrev pub reaches : ℕ → ℕ → ℕ → Event → Bool
-reaches dn block number (Applied txid) = false
-reaches dn block number (Processed d k b cause) = (d == dn) && (b == block) && nat_le number k
+abbrev pub processes_from : ℕ → ℕ → ℕ → Event → Bool
+processes_from dn block number (Applied txid) = false
+processes_from dn block number (Processed d k b cause) = (d == dn) && (b == block) && nat_le number k
 
 -- no item of the same DataNode about the same block was processed before with the same number or a later one
 abbrev pub NumberRises : History → Event → Type 0
 NumberRises before (Applied txid) = Unit {0}
-NumberRises before (Processed dn number block cause) = list_any (reaches dn block number) before ≡ false
+NumberRises before (Processed dn number block cause) = list_any (processes_from dn block number) before ≡ false
 
 -- what was processed as due was not held in the namespace of the moment
 abbrev pub WaitedItsTurn : Namespace → List Tx → Lanes → History → Event → Type 0
@@ -59,7 +59,7 @@ pub record IsLawfulBy (rule : History → Event → Type 0) (start : Namespace) 
   -- the transactions were applied in order, each once
   pub applied_in_order : applied_txids events ≡ map (λ tx. tx.txid) txs
   -- only items that were sent were processed
-  pub sent : EachEvent (NamesMessage lanes) events
+  pub sent : EachEvent (NamesItem lanes) events
   -- of one DataNode about one block each was processed once, in sending order
   pub in_sending_order : EachEvent NumberRises events
   -- what was processed as due kept the rule
@@ -69,7 +69,7 @@ pub record IsLawfulBy (rule : History → Event → Type 0) (start : Namespace) 
   -- and took only what is held at the end of the log
   pub flush_held : EachEvent (FlushesHeld start txs lanes) events
   -- what is not held at the end of the log was processed as due
-  pub none_forgotten : (m : Message) → IsSent lanes m → IsFree (namespace_after start txs) lanes m → Has events (processed Due m)
+  pub none_forgotten : (m : Message) → IsSent lanes m → IsFree (namespace_after start txs) lanes m → Includes events (processed Due m)
 
 -- none was processed as due while it was held: it and each earlier one of its DataNode about its block were due
 abbrev pub IsLawful : Namespace → List Tx → Lanes → History → Type 0
@@ -78,7 +78,7 @@ IsLawful start txs lanes events = IsLawfulBy (WaitedItsTurn start txs lanes) sta
 -- and what is held at the end of the log was flushed
 abbrev pub IsWhole : Namespace → List Tx → Lanes → History → Type 0
 IsWhole start txs lanes events =
-    (m : Message) → IsSent lanes m → IsHeld (namespace_after start txs) lanes m → Has events (processed Flush m)
+    (m : Message) → IsSent lanes m → IsHeld (namespace_after start txs) lanes m → Includes events (processed Flush m)
 
 -- ---- A looser reading, which asks of an item alone that it was due, whatever waited before it.
 

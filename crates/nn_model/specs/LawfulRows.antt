@@ -10,19 +10,19 @@ use Rattle.nn_types.specs.declared.event.Event.TheVariants.{Applied, Processed}
 use Rattle.nn_types.specs.declared.event.Cause.{Cause}
 use Rattle.nn_types.specs.declared.event.Cause.TheVariants.{Due, Flush}
 use Rattle.nn_model.specs.Namespace.{root_alone}
-use Rattle.nn_model.specs.WellFormed.{Has}
+use Rattle.nn_model.specs.WellFormed.{Includes}
 use Rattle.nn_model.specs.Log.{namespace_after}
 use Rattle.nn_model.specs.Lanes.{Lanes, message_of, no_messages}
 use Rattle.nn_model.specs.Held.{is_held, IsFree}
 use Rattle.nn_model.specs.History.{History, is_flush, processed}
-use Rattle.nn_model.specs.Lawful.{NamesMessage, IsLawful, IsWhole, IsLooselyLawful}
+use Rattle.nn_model.specs.Lawful.{NamesItem, IsLawful, IsWhole, IsLooselyLawful}
 use Rattle.nn_model.specs.Replay.{replay}
 use Rattle.nn_model.specs.MessageRows.{b, c, message, received, two_lanes, of_sent, early_log, early_end, early_report, early_lanes, future_report, other_report, future_lanes, future_history}
 
 -- ---- Words for the examples.
 
 -- an event that is in a history passes where it passes by itself
-has_any : (p : Event → Bool) (events : History) (e : Event) → p e ≡ true → Has events e → list_any p events ≡ true
+has_any : (p : Event → Bool) (events : History) (e : Event) → p e ≡ true → Includes events e → list_any p events ≡ true
 has_any p [] e holds here = absurd here
 has_any p (x ∷ events) e holds (inl same) = or_left _ _ (ap p same ∙ holds)
 has_any p (x ∷ events) e holds (inr here) = or_right _ _ (has_any p events e holds here)
@@ -33,7 +33,7 @@ is_due_event (Processed dn number block Due) = true
 is_due_event (Processed dn number block Flush) = false
 
 -- the message that an event names is the one with its DataNode, number and block
-named : (lanes : Lanes) (before : History) (dn number block : ℕ) (cause : Cause) → NamesMessage lanes before (Processed dn number block cause) →
+named : (lanes : Lanes) (before : History) (dn number block : ℕ) (cause : Cause) → NamesItem lanes before (Processed dn number block cause) →
     (m : Message) × (message_of lanes dn number block ≡ Some m)
 named lanes before dn number block cause names =
     (names.0, (λ i. message_of lanes (sym names.2 i) (sym names.3 i) (sym names.4 i)) ∙ names.1)
@@ -123,7 +123,7 @@ two_datanodes_mix = record {
   waited = search rules;
   flush_last = search rules;
   flush_held = search rules;
-  none_forgotten = of_sent (λ m. IsFree (namespace_after root_alone early_log) reports_of_two m → Has mixed_history (processed Due m))
+  none_forgotten = of_sent (λ m. IsFree (namespace_after root_alone early_log) reports_of_two m → Includes mixed_history (processed Due m))
       (early_report ∷ second_report ∷ []) (other_report ∷ []) ((λ free. search rules), ((λ free. search rules), tt)) ((λ free. search rules), tt);
 }
 
@@ -152,7 +152,7 @@ one_overtakes_loosely = record {
   waited = search rules;
   flush_last = search rules;
   flush_held = search rules;
-  none_forgotten = of_sent (λ m. IsFree (namespace_after root_alone early_log) overtaking_lanes m → Has overtaking_history (processed Due m))
+  none_forgotten = of_sent (λ m. IsFree (namespace_after root_alone early_log) overtaking_lanes m → Includes overtaking_history (processed Due m))
       (future_report ∷ second_report ∷ []) [] ((λ free. absurd (both_ways _ free refl)), ((λ free. absurd (both_ways _ free refl)), tt)) tt;
 }
 
@@ -183,7 +183,7 @@ one_is_forgotten lawful =
     both_ways _ refl (has_any is_due_event (first_five ++ last_two) (processed Due early_report) refl (lawful.none_forgotten early_report refl refl))
 
 -- flushing a free message does not count
-one_is_flushed_instead : Has (first_five ++ last_two ++ Processed 1 1 b Flush ∷ []) (processed Due early_report) → ⊥
+one_is_flushed_instead : Includes (first_five ++ last_two ++ Processed 1 1 b Flush ∷ []) (processed Due early_report) → ⊥
 one_is_flushed_instead here = both_ways _ refl (has_any is_due_event (first_five ++ last_two ++ Processed 1 1 b Flush ∷ [])
     (processed Due early_report) refl here)
 

@@ -11,7 +11,7 @@ use Rattle.nn_model.specs.Apply.{has_id, refusal, effect}
 use Rattle.nn_model.specs.Status.{block_at, due_in}
 use Rattle.nn_model.specs.Touched.{touched, row_after, block_after, is_touched}
 use Rattle.nn_model.specs.Blocks.{block_row_at}
-use Rattle.nn_model.specs.WellFormed.{Has, HasWellFormedBlocks, IsWellFormed, HasUtf8Names}
+use Rattle.nn_model.specs.WellFormed.{Includes, HasWellFormedBlocks, IsWellFormed, HasUtf8Names}
 use Rattle.nn_model.specs.Log.{namespace_after, IsLog, run, counted, log_of, CountsUp, AreLawful}
 
 -- what is due in the first namespace is due in the second
@@ -48,7 +48,7 @@ abbrev pub RowsAreTold : Type 0
 RowsAreTold = (n : Namespace) (edit : Edit) → IsLawfulEdit edit → refusal n edit ≡ None → IsWellFormed n →
     (id : ℕ) → block_row_at (effect n edit) id ≡ row_after (touched n edit) (block_row_at n id) id
 
--- a message becomes due by an edit only where the edit touched its block: changed it, retired it or passed it over
+-- an item becomes due by an edit only where the edit touched its block: changed it, retired it or passed it over
 abbrev pub OnlyTouchedBecomeDue : Type 0
 OnlyTouchedBecomeDue = (n : Namespace) (edit : Edit) → IsLawfulEdit edit → refusal n edit ≡ None → IsWellFormed n →
     (id stamp : ℕ) → is_touched (touched n edit) id ≡ false → due_in (effect n edit) id stamp ≡ due_in n id stamp
@@ -99,7 +99,7 @@ OneMoreSegment = (last : ℕ) (segments : List (List Tx)) (segment : List Tx) �
 
 -- a segment with no new transaction adds nothing
 abbrev pub OldAddsNothing : Type 0
-OldAddsNothing = (last : ℕ) (segment : List Tx) → ((tx : Tx) → Has segment tx → tx.txid ≤ last) → counted last segment ≡ []
+OldAddsNothing = (last : ℕ) (segment : List Tx) → ((tx : Tx) → Includes segment tx → tx.txid ≤ last) → counted last segment ≡ []
 
 -- a segment that begins above the next txid adds nothing
 abbrev pub GapAddsNothing : Type 0

@@ -18,9 +18,9 @@ use Rattle.nn_types.specs.declared.replica.Replica.{Replica}
 use Rattle.nn_types.specs.declared.replica.Class.TheVariants.{Ahead}
 use Rattle.nn_model.specs.Namespace.{Path, Namespace, root_alone}
 use Rattle.nn_model.specs.Status.{status_of, due_in}
-use Rattle.nn_model.specs.WellFormed.{Has}
+use Rattle.nn_model.specs.WellFormed.{Includes}
 use Rattle.nn_model.specs.Log.{namespace_after, IsLog}
-use Rattle.nn_model.specs.Lanes.{Lanes, AreNumbered, AreLanes, message_with, IsSent}
+use Rattle.nn_model.specs.Lanes.{Lanes, AreNumbered, AreNumberedLanes, message_with, IsSent}
 use Rattle.nn_model.specs.Items.{items, items_of}
 use Rattle.nn_model.specs.Held.{is_held, IsHeld, IsFree}
 use Rattle.nn_model.specs.History.{History, processed}
@@ -67,15 +67,15 @@ abbrev pub OfEach : (Message → Type 0) → List Message → Type 0
 OfEach P [] = Unit {0}
 OfEach P (m ∷ messages) = P m × OfEach P messages
 
-of_has : (P : Message → Type 0) (messages : List Message) → OfEach P messages → (m : Message) → Has messages m → P m
+of_has : (P : Message → Type 0) (messages : List Message) → OfEach P messages → (m : Message) → Includes messages m → P m
 of_has P [] all m here = absurd here
 of_has P (x ∷ messages) all m (inl same) = subst P same all.0
 of_has P (x ∷ messages) all m (inr here) = of_has P messages all.1 m here
 
-found_has : (number block : ℕ) (messages : List Message) (m : Message) → message_with number block messages ≡ Some m → Has messages m
+found_has : (number block : ℕ) (messages : List Message) (m : Message) → message_with number block messages ≡ Some m → Includes messages m
 found_has number block [] m found = absurd (cc)
 found_has number block (x ∷ messages) m found =
-    elim ((x.number == number) && (x.block == block)) as (λ t. cond t (Some x) (message_with number block messages) ≡ Some m → (x ≡ m) ⊎ Has messages m) [
+    elim ((x.number == number) && (x.block == block)) as (λ t. cond t (Some x) (message_with number block messages) ≡ Some m → (x ≡ m) ⊎ Includes messages m) [
       | true ↦ λ e. inl (cc)
       | false ↦ λ e. inr (found_has number block messages m e)
     ] found
@@ -104,7 +104,7 @@ pub of_item : (P : Message → Type 0) (one two : List Message) → OfEach P (it
 of_item P one two all_one all_two m sent =
     of_sent P (items_of one) (items_of two) all_one all_two m (subst (λ l. IsSent l m) (items_of_two one two) sent)
 
-pub are_lanes : (one two : List Message) → AreNumbered 1 1 one → AreNumbered 2 1 two → AreLanes (two_lanes one two)
+pub are_lanes : (one two : List Message) → AreNumbered 1 1 one → AreNumbered 2 1 two → AreNumberedLanes (two_lanes one two)
 are_lanes one two first second dn = elim (cases_Bool (dn == 1)) [
   | inl is_one ↦ subst (AreNumbered dn 1) (sym (cond-true (dn == 1) one (if dn == 2 then two else []) is_one))
       (subst (λ d. AreNumbered d 1 one) (sym (eqb-true _ _ is_one)) first)
@@ -154,12 +154,12 @@ early_report_released_lawful = record {
   waited = search rules;
   flush_last = search rules;
   flush_held = search rules;
-  none_forgotten = of_sent (λ m. IsFree (namespace_after root_alone early_log) early_lanes m → Has early_history (processed Due m)) (early_report ∷ []) []
+  none_forgotten = of_sent (λ m. IsFree (namespace_after root_alone early_log) early_lanes m → Includes early_history (processed Due m)) (early_report ∷ []) []
       ((λ free. search rules), tt) tt;
 }
 
 early_report_released_whole : IsWhole root_alone early_log early_lanes early_history
-early_report_released_whole = of_sent (λ m. IsHeld (namespace_after root_alone early_log) early_lanes m → Has early_history (processed Flush m))
+early_report_released_whole = of_sent (λ m. IsHeld (namespace_after root_alone early_log) early_lanes m → Includes early_history (processed Flush m))
     (early_report ∷ []) [] ((λ held. absurd (both_ways _ refl held)), tt) tt
 
 early_report_released_replay : let s = replay root_alone early_log early_lanes early_history in
@@ -233,13 +233,13 @@ future_report_flushed_lawful = record {
   waited = search rules;
   flush_last = search rules;
   flush_held = search rules;
-  none_forgotten = of_sent (λ m. IsFree (namespace_after root_alone early_log) future_lanes m → Has future_history (processed Due m))
+  none_forgotten = of_sent (λ m. IsFree (namespace_after root_alone early_log) future_lanes m → Includes future_history (processed Due m))
       (future_report ∷ delete_behind ∷ []) (other_report ∷ [])
       ((λ free. absurd (both_ways _ free refl)), ((λ free. absurd (both_ways _ free refl)), tt)) ((λ free. search rules), tt);
 }
 
 pub future_report_flushed_whole : IsWhole root_alone early_log future_lanes future_history
-future_report_flushed_whole = of_sent (λ m. IsHeld (namespace_after root_alone early_log) future_lanes m → Has future_history (processed Flush m))
+future_report_flushed_whole = of_sent (λ m. IsHeld (namespace_after root_alone early_log) future_lanes m → Includes future_history (processed Flush m))
     (future_report ∷ delete_behind ∷ []) (other_report ∷ [])
     ((λ held. search rules), ((λ held. search rules), tt)) ((λ held. absurd (both_ways _ refl held)), tt)
 

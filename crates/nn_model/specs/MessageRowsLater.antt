@@ -13,7 +13,7 @@ use Rattle.nn_types.specs.declared.tx.Tx.{Tx}
 use Rattle.nn_model.specs.declared.form.Form.TheVariants.{Dir, File}
 use Rattle.nn_model.specs.Namespace.{Namespace, root_alone}
 use Rattle.nn_model.specs.Status.{status_of}
-use Rattle.nn_model.specs.WellFormed.{Has}
+use Rattle.nn_model.specs.WellFormed.{Includes}
 use Rattle.nn_model.specs.Log.{namespace_after, IsLog}
 use Rattle.nn_model.specs.Lanes.{Lanes}
 use Rattle.nn_model.specs.Held.{IsHeld, IsFree}
@@ -62,7 +62,7 @@ raised_generation_is_stale_lawful = record {
   waited = search rules;
   flush_last = search rules;
   flush_held = search rules;
-  none_forgotten = of_sent (λ m. IsFree (namespace_after root_alone raised_log) raised_lanes m → Has raised_history (processed Due m))
+  none_forgotten = of_sent (λ m. IsFree (namespace_after root_alone raised_log) raised_lanes m → Includes raised_history (processed Due m))
       (old_report ∷ new_report ∷ []) [] ((λ free. search rules), ((λ free. search rules), tt)) tt;
 }
 
@@ -110,7 +110,7 @@ deleted_block_is_ordered_lawful = record {
   waited = search rules;
   flush_last = search rules;
   flush_held = search rules;
-  none_forgotten = of_sent (λ m. IsFree (namespace_after root_alone deleted_log) deleted_lanes m → Has deleted_history (processed Due m))
+  none_forgotten = of_sent (λ m. IsFree (namespace_after root_alone deleted_log) deleted_lanes m → Includes deleted_history (processed Due m))
       (first_report ∷ delete_report ∷ []) [] ((λ free. search rules), ((λ free. search rules), tt)) tt;
 }
 
@@ -149,7 +149,7 @@ skipped_id_is_retired_lawful = record {
   waited = search rules;
   flush_last = search rules;
   flush_held = search rules;
-  none_forgotten = of_sent (λ m. IsFree (namespace_after root_alone skipped_log) skipped_lanes m → Has skipped_history (processed Due m))
+  none_forgotten = of_sent (λ m. IsFree (namespace_after root_alone skipped_log) skipped_lanes m → Includes skipped_history (processed Due m))
       (first_report ∷ []) [] ((λ free. search rules), tt) tt;
 }
 
@@ -184,12 +184,12 @@ promotion_flushes_unnamed_lawful = record {
   waited = search rules;
   flush_last = search rules;
   flush_held = search rules;
-  none_forgotten = of_sent (λ m. IsFree (namespace_after root_alone unnamed_log) unnamed_lanes m → Has unnamed_history (processed Due m))
+  none_forgotten = of_sent (λ m. IsFree (namespace_after root_alone unnamed_log) unnamed_lanes m → Includes unnamed_history (processed Due m))
       (unnamed_report ∷ []) [] ((λ free. absurd (both_ways _ free refl)), tt) tt;
 }
 
 promotion_flushes_unnamed_whole : IsWhole root_alone unnamed_log unnamed_lanes unnamed_history
-promotion_flushes_unnamed_whole = of_sent (λ m. IsHeld (namespace_after root_alone unnamed_log) unnamed_lanes m → Has unnamed_history (processed Flush m))
+promotion_flushes_unnamed_whole = of_sent (λ m. IsHeld (namespace_after root_alone unnamed_log) unnamed_lanes m → Includes unnamed_history (processed Flush m))
     (unnamed_report ∷ []) [] ((λ held. search rules), tt) tt
 
 promotion_flushes_unnamed_order : let s = replay root_alone unnamed_log unnamed_lanes unnamed_history in

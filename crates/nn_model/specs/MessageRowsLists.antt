@@ -12,7 +12,7 @@ use Rattle.nn_types.specs.declared.tx.Tx.{Tx}
 use Rattle.nn_model.specs.declared.form.Form.TheVariants.{Dir, File}
 use Rattle.nn_model.specs.Namespace.{Namespace, root_alone}
 use Rattle.nn_model.specs.Status.{status_of}
-use Rattle.nn_model.specs.WellFormed.{Has}
+use Rattle.nn_model.specs.WellFormed.{Includes}
 use Rattle.nn_model.specs.Log.{namespace_after, IsLog}
 use Rattle.nn_model.specs.Lanes.{Lanes}
 use Rattle.nn_model.specs.Held.{is_held, IsFree}
@@ -60,7 +60,7 @@ left_out_block_is_retired_lawful = record {
   waited = search rules;
   flush_last = search rules;
   flush_held = search rules;
-  none_forgotten = of_sent (λ m. IsFree (namespace_after root_alone left_out_log) left_out_lanes m → Has left_out_history (processed Due m))
+  none_forgotten = of_sent (λ m. IsFree (namespace_after root_alone left_out_log) left_out_lanes m → Includes left_out_history (processed Due m))
       (left_out_report ∷ []) [] ((λ free. search rules), tt) tt;
 }
 
@@ -140,7 +140,7 @@ released_by_block_lawful = record {
   waited = search rules;
   flush_last = search rules;
   flush_held = search rules;
-  none_forgotten = of_sent (λ m. IsFree (namespace_after root_alone released_log) released_lanes m → Has released_history (processed Due m))
+  none_forgotten = of_sent (λ m. IsFree (namespace_after root_alone released_log) released_lanes m → Includes released_history (processed Due m))
       (report_of_c ∷ report_of_b ∷ []) [] ((λ free. search rules), ((λ free. search rules), tt)) tt;
 }
 

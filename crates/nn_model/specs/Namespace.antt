@@ -7,6 +7,7 @@ use Rattle.std.specs.FinMap.Entries.{find, put}
 use Rattle.nn_types.specs.declared.block.Block.{Block}
 use Rattle.nn_types.specs.declared.profile.Profile.{Profile}
 use Rattle.nn_types.specs.declared.profile.Profile.TheVariants.{One}
+use Rattle.nn_types.specs.Limits.{last_reserved_block, last_reserved_stamp}
 use Rattle.nn_model.specs.declared.form.Form.{Form}
 use Rattle.nn_model.specs.declared.form.Form.TheVariants.{Dir, File}
 use Rattle.nn_model.specs.declared.form.FileRow.{FileRow}
@@ -67,11 +68,11 @@ all_blocks n = flat_map (λ row. blocks_of row.1) n.rows
 
 -- the last id before the first one that a log issues
 abbrev pub no_block : ℕ
-no_block = 1073741824
+no_block = last_reserved_block
 
 -- the last generation stamp before the first one that a log issues
 abbrev pub no_stamp : ℕ
-no_stamp = 1000
+no_stamp = last_reserved_stamp
 
 -- the namespace before the first edit: the root alone
 abbrev pub root_alone : Namespace

@@ -13,16 +13,16 @@ abbrev pub last_said : Lanes → ℕ → ℕ → Option Message
 last_said lanes dn id = last_or None (filter (λ m. m.block == id) (lanes dn))
 
 -- what the DataNode has of the block by its last word: nothing where that is a delete, or where it said nothing
-abbrev pub has_now : Lanes → ℕ → ℕ → Option Replica
-has_now lanes dn id = option_and_then reported (last_said lanes dn id)
+abbrev pub last_replica : Lanes → ℕ → ℕ → Option Replica
+last_replica lanes dn id = option_and_then reported (last_said lanes dn id)
 
 -- what it has is a replica where a file holds the block
 abbrev pub picture_replica : Namespace → Lanes → ℕ → ℕ → Option Replica
-picture_replica n lanes dn id = if is_named n id then has_now lanes dn id else None
+picture_replica n lanes dn id = if is_named n id then last_replica lanes dn id else None
 
 -- and is to be deleted where none does
 abbrev pub picture_order : Namespace → Lanes → ℕ → ℕ → Bool
-picture_order n lanes dn id = if is_named n id then false else is_some (has_now lanes dn id)
+picture_order n lanes dn id = if is_named n id then false else is_some (last_replica lanes dn id)
 
 -- the sequential standby shows the picture
 pub record ShowsPicture (n : Namespace) (lanes : Lanes) (s : Sequential) : Type 0 where

@@ -60,8 +60,8 @@ abbrev pub set_at : {A : Type 0} → ℕ → ℕ → A → (ℕ → ℕ → A) �
 set_at d b value old dn id = if (dn == d) && (id == b) then value else old dn id
 
 -- the replica is set or erased where a file holds the block, else the order
-abbrev pub after_message : Sequential → Message → Sequential
-after_message s m = record {
+abbrev pub after_item : Sequential → Message → Sequential
+after_item s m = record {
   namespace = s.namespace;
   replica = if is_named s.namespace m.block then set_at m.dn m.block (reported m) s.replica else s.replica;
   has_order = if is_named s.namespace m.block then s.has_order else set_at m.dn m.block (is_some (reported m)) s.has_order;
@@ -75,7 +75,7 @@ apply_found s (Some tx) = after_edit s (effect s.namespace tx.edit)
 
 abbrev pub process_found : Sequential → Option Message → Sequential
 process_found s None = s
-process_found s (Some m) = after_message s m
+process_found s (Some m) = after_item s m
 
 -- an event: its transaction by its txid, its item by its DataNode, number and block
 abbrev pub after_event : List Tx → Lanes → Sequential → Event → Sequential

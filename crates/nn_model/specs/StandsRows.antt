@@ -13,9 +13,9 @@ use Rattle.nn_types.specs.declared.tx.Tx.{Tx}
 use Rattle.nn_model.specs.declared.form.Form.TheVariants.{Dir, File}
 use Rattle.nn_model.specs.Namespace.{Namespace, root_alone}
 use Rattle.nn_model.specs.Log.{namespace_after}
-use Rattle.nn_model.specs.WellFormed.{Has, HasWellFormedBlocks}
+use Rattle.nn_model.specs.WellFormed.{Includes, HasWellFormedBlocks}
 use Rattle.nn_model.specs.Lanes.{Lanes, no_messages}
-use Rattle.nn_model.specs.Items.{items, Having, nothing_had, having, had_by}
+use Rattle.nn_model.specs.Items.{items, NodeState, nothing_known, node_state, lane_items}
 use Rattle.nn_model.specs.Held.{IsHeld, IsFree}
 use Rattle.nn_model.specs.Lawful.{IsLawful}
 use Rattle.nn_model.specs.History.{History, processed}
@@ -56,7 +56,7 @@ abbrev waiting_log : List Tx
 waiting_log = tx 1 (StartSegment One) ∷ []
 
 -- and no full report is open
-abbrev had_alone : List (ℕ × ℕ) → Having
+abbrev had_alone : List (ℕ × ℕ) → NodeState
 had_alone has = record { has = has; begun = None }
 
 abbrev waiting : StandbyState
@@ -68,13 +68,13 @@ waiting = record {
   has_order = λ dn id. false;
   held = first_of_b ∷ other_of_b ∷ second_of_b ∷ report_of_c ∷ [];
   last_number = λ dn. if dn == 1 then 3 else if dn == 2 then 1 else 0;
-  had = λ dn. if dn == 1 then had_alone ((b, 3) ∷ (c, 1) ∷ []) else if dn == 2 then had_alone ((b, 1) ∷ []) else nothing_had;
+  had = λ dn. if dn == 1 then had_alone ((b, 3) ∷ (c, 1) ∷ []) else if dn == 2 then had_alone ((b, 1) ∷ []) else nothing_known;
 }
 
 abbrev IsWaiting : Message → Type 0
 IsWaiting m = IsLeft root_alone waiting_log (items waiting_lanes) (Applied 1 ∷ []) m
 
-is_left : (m : Message) → Has waiting.held m → IsWaiting m
+is_left : (m : Message) → Includes waiting.held m → IsWaiting m
 is_left m (inl same) = subst IsWaiting same (record { sent = refl; held = refl; not_flushed = λ here. search rules })
 is_left m (inr (inl same)) = subst IsWaiting same (record { sent = refl; held = refl; not_flushed = λ here. search rules })
 is_left m (inr (inr (inl same))) = subst IsWaiting same (record { sent = refl; held = refl; not_flushed = λ here. search rules })
@@ -95,7 +95,7 @@ waiting_stands = record {
     waited = search rules;
     flush_last = search rules;
     flush_held = search rules;
-    none_forgotten = of_item (λ m. IsFree root_alone (items waiting_lanes) m → Has (Applied 1 ∷ []) (processed Due m))
+    none_forgotten = of_item (λ m. IsFree root_alone (items waiting_lanes) m → Includes (Applied 1 ∷ []) (processed Due m))
         (report_of_c ∷ first_of_b ∷ second_of_b ∷ []) (other_of_b ∷ [])
         ((λ free. absurd (both_ways _ free refl)), ((λ free. absurd (both_ways _ free refl)), ((λ free. absurd (both_ways _ free refl)), tt)))
         ((λ free. absurd (both_ways _ free refl)), tt);
@@ -104,7 +104,7 @@ waiting_stands = record {
   orders = λ dn id. refl;
   held = λ m. (
     is_left m,
-    (λ left. of_item (Has waiting.held) (report_of_c ∷ first_of_b ∷ second_of_b ∷ []) (other_of_b ∷ [])
+    (λ left. of_item (Includes waiting.held) (report_of_c ∷ first_of_b ∷ second_of_b ∷ []) (other_of_b ∷ [])
         (search rules) (search rules) m left.sent),
   );
   by_block = search rules;
@@ -114,10 +114,10 @@ waiting_stands = record {
         | true ↦ refl
         | false ↦ elim (dn == 2) as (λ t. (if t then 1 else 0) ≡ length (if t then other_of_b ∷ [] else [])) [ true ↦ refl | false ↦ refl ]
       ];
-  had = λ dn. elim (dn == 1) as (λ t. (if t then had_alone ((b, 3) ∷ (c, 1) ∷ []) else if dn == 2 then had_alone ((b, 1) ∷ []) else nothing_had)
-      ≡ having (had_by (if t then report_of_c ∷ first_of_b ∷ second_of_b ∷ [] else if dn == 2 then other_of_b ∷ [] else []))) [
+  had = λ dn. elim (dn == 1) as (λ t. (if t then had_alone ((b, 3) ∷ (c, 1) ∷ []) else if dn == 2 then had_alone ((b, 1) ∷ []) else nothing_known)
+      ≡ node_state (lane_items (if t then report_of_c ∷ first_of_b ∷ second_of_b ∷ [] else if dn == 2 then other_of_b ∷ [] else []))) [
         | true ↦ refl
-        | false ↦ elim (dn == 2) as (λ t. (if t then had_alone ((b, 1) ∷ []) else nothing_had) ≡ having (had_by (if t then other_of_b ∷ [] else [])))
+        | false ↦ elim (dn == 2) as (λ t. (if t then had_alone ((b, 1) ∷ []) else nothing_known) ≡ node_state (lane_items (if t then other_of_b ∷ [] else [])))
             [ true ↦ refl | false ↦ refl ]
       ];
 }
@@ -140,7 +140,7 @@ serving = record {
   has_order = λ dn id. false;
   held = [];
   last_number = λ dn. if dn == 1 then 1 else 0;
-  had = λ dn. if dn == 1 then had_alone ((b, 1) ∷ []) else nothing_had;
+  had = λ dn. if dn == 1 then had_alone ((b, 1) ∷ []) else nothing_known;
 }
 
 serving_stands : Stands root_alone 0 named_log early_lanes serving
@@ -157,7 +157,7 @@ serving_stands = record {
     waited = search rules;
     flush_last = search rules;
     flush_held = search rules;
-    none_forgotten = of_item (λ m. IsFree (namespace_after root_alone named_log) (items early_lanes) m → Has released (processed Due m)) (early_report ∷ []) []
+    none_forgotten = of_item (λ m. IsFree (namespace_after root_alone named_log) (items early_lanes) m → Includes released (processed Due m)) (early_report ∷ []) []
         ((λ free. search rules), tt) tt;
   };
   replicas = λ dn id. refl;
@@ -173,10 +173,10 @@ serving_stands = record {
     | true ↦ refl
     | false ↦ elim (dn == 2) as (λ t. 0 ≡ length {A = Message} (if t then [] else [])) [ true ↦ refl | false ↦ refl ]
   ];
-  had = λ dn. elim (dn == 1) as (λ t. (if t then had_alone ((b, 1) ∷ []) else nothing_had)
-      ≡ having (had_by (if t then early_report ∷ [] else if dn == 2 then [] else []))) [
+  had = λ dn. elim (dn == 1) as (λ t. (if t then had_alone ((b, 1) ∷ []) else nothing_known)
+      ≡ node_state (lane_items (if t then early_report ∷ [] else if dn == 2 then [] else []))) [
         | true ↦ refl
-        | false ↦ elim (dn == 2) as (λ t. nothing_had ≡ having (had_by (if t then [] else []))) [ true ↦ refl | false ↦ refl ]
+        | false ↦ elim (dn == 2) as (λ t. nothing_known ≡ node_state (lane_items (if t then [] else []))) [ true ↦ refl | false ↦ refl ]
       ];
 }
 
@@ -191,7 +191,7 @@ flushed = record {
   has_order = λ dn id. (dn == 1) && (id == b);
   held = [];
   last_number = λ dn. if dn == 1 then 1 else 0;
-  had = λ dn. if dn == 1 then had_alone ((b, 1) ∷ []) else nothing_had;
+  had = λ dn. if dn == 1 then had_alone ((b, 1) ∷ []) else nothing_known;
 }
 
 order_of : (t : Bool) → t ≡ (if t then true else false)
@@ -210,7 +210,7 @@ flushed_stands = record {
   orders = λ dn id. order_of ((dn == 1) && (id == b));
   held = λ m. (
     (λ none. absurd none),
-    (λ left. of_item (λ y. (Has unnamed_history (processed Flush y) → ⊥) → ⊥) (unnamed_report ∷ []) []
+    (λ left. of_item (λ y. (Includes unnamed_history (processed Flush y) → ⊥) → ⊥) (unnamed_report ∷ []) []
         ((λ unflushed. unflushed (search rules)), tt) tt m left.sent left.not_flushed),
   );
   by_block = tt;
@@ -219,10 +219,10 @@ flushed_stands = record {
     | true ↦ refl
     | false ↦ elim (dn == 2) as (λ t. 0 ≡ length {A = Message} (if t then [] else [])) [ true ↦ refl | false ↦ refl ]
   ];
-  had = λ dn. elim (dn == 1) as (λ t. (if t then had_alone ((b, 1) ∷ []) else nothing_had)
-      ≡ having (had_by (if t then unnamed_report ∷ [] else if dn == 2 then [] else []))) [
+  had = λ dn. elim (dn == 1) as (λ t. (if t then had_alone ((b, 1) ∷ []) else nothing_known)
+      ≡ node_state (lane_items (if t then unnamed_report ∷ [] else if dn == 2 then [] else []))) [
         | true ↦ refl
-        | false ↦ elim (dn == 2) as (λ t. nothing_had ≡ having (had_by (if t then [] else []))) [ true ↦ refl | false ↦ refl ]
+        | false ↦ elim (dn == 2) as (λ t. nothing_known ≡ node_state (lane_items (if t then [] else []))) [ true ↦ refl | false ↦ refl ]
       ];
 }
 
@@ -278,7 +278,7 @@ holds_what_was_flushed s = ((s.held unnamed_report).0 (inl refl)).not_flushed (i
 lost_a_held_message : Stands root_alone 0 waiting_log waiting_lanes (record waiting { held = first_of_b ∷ other_of_b ∷ second_of_b ∷ [] }) → ⊥
 lost_a_held_message s = has_no_c ((s.held report_of_c).1 (is_left report_of_c (inr (inr (inr (inl refl))))))
   where
-    has_no_c : Has (first_of_b ∷ other_of_b ∷ second_of_b ∷ []) report_of_c → ⊥
+    has_no_c : Includes (first_of_b ∷ other_of_b ∷ second_of_b ∷ []) report_of_c → ⊥
     has_no_c (inl same) = omega (arith, ap (λ m. m.block) same)
     has_no_c (inr (inl same)) = omega (arith, ap (λ m. m.block) same)
     has_no_c (inr (inr (inl same))) = omega (arith, ap (λ m. m.block) same)
@@ -297,7 +297,7 @@ holds_one_twice s = both_ways _ s.by_number.1.1.0 refl
 forgot_the_numbers : Stands root_alone 0 waiting_log waiting_lanes (record waiting { last_number = λ dn. 0 }) → ⊥
 forgot_the_numbers s = omega (arith, s.last_numbers 1)
 
-forgot_what_is_had : Stands root_alone 0 waiting_log waiting_lanes (record waiting { had = λ dn. nothing_had }) → ⊥
+forgot_what_is_had : Stands root_alone 0 waiting_log waiting_lanes (record waiting { had = λ dn. nothing_known }) → ⊥
 forgot_what_is_had s = let e : 0 ≡ 2 = ap (λ h. length h.has) (s.had 1) in omega (arith, e)
 
 keeps_a_report_open : Stands root_alone 0 waiting_log waiting_lanes

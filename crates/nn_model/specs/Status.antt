@@ -1,4 +1,4 @@
--- What the log has said of a block id, and which messages are due.
+-- What the log has said of a block id, and which items are due.
 use Rattle.std.specs.Prelude.{ℕ, Bool, Option, Some, None, find, nat_le, ◌==◌, if◌then◌else◌}
 use Rattle.nn_types.specs.declared.block.Block.{Block}
 use Rattle.nn_types.specs.declared.status.Status.{Status}
@@ -23,6 +23,6 @@ status_from None unheld = unheld
 abbrev pub status_of : Namespace → ℕ → Status
 status_of n id = status_from (block_at n id) (status_unheld n id)
 
--- whether a message about the block with the generation stamp is due
+-- whether an item about the block with the generation stamp is due
 abbrev pub due_in : Namespace → ℕ → ℕ → Bool
 due_in n id stamp = is_due (status_of n id) stamp

@@ -11,9 +11,9 @@ use Rattle.nn_model.specs.Namespace.{root_alone}
 use Rattle.nn_model.specs.Log.{namespace_after}
 use Rattle.nn_model.specs.Lanes.{no_messages, followed_by, AreNumbered, AreInOrder, message_of}
 use Rattle.nn_model.specs.Held.{keeps_back, without_held}
-use Rattle.nn_model.specs.History.{applied_txids, namespace_at, is_flush, processed, numbers_of, times_processed}
-use Rattle.nn_model.specs.Replay.{starting_at, is_named, leaves, reported, after_message, replay}
-use Rattle.nn_model.specs.Picture.{last_said, has_now, picture_replica, picture_order, ShowsPicture}
+use Rattle.nn_model.specs.History.{applied_txids, namespace_at, is_flush, processed, numbers_processed, times_processed}
+use Rattle.nn_model.specs.Replay.{starting_at, is_named, leaves, reported, after_item, replay}
+use Rattle.nn_model.specs.Picture.{last_said, last_replica, picture_replica, picture_order, ShowsPicture}
 use Rattle.nn_model.specs.MessageRows.{tx, b, c, f, far, message, received, two_lanes, early_log, early_end, early_report, early_lanes, future_report, delete_behind, other_report, future_lanes, future_history}
 
 -- ---- Lanes.
@@ -100,7 +100,7 @@ moments = (refl, refl)
 flushes : map is_flush (Applied 1 ∷ processed Due early_report ∷ processed Flush early_report ∷ []) ≡ false ∷ false ∷ true ∷ []
 flushes = refl
 
-numbers : (numbers_of 1 b future_history ≡ 1 ∷ 2 ∷ []) × (numbers_of 2 b future_history ≡ 1 ∷ []) × (numbers_of 1 c future_history ≡ [])
+numbers : (numbers_processed 1 b future_history ≡ 1 ∷ 2 ∷ []) × (numbers_processed 2 b future_history ≡ 1 ∷ []) × (numbers_processed 1 c future_history ≡ [])
 numbers = (refl, refl, refl)
 
 times_of_each : (map (λ k. times_processed 1 k b future_history) (0 ∷ 1 ∷ 2 ∷ 3 ∷ []) ≡ 0 ∷ 1 ∷ 1 ∷ 0 ∷ [])
@@ -115,10 +115,10 @@ abbrev writing : Message
 writing = message 1 1 Receiving b 1001 2
 
 -- a replica is set by each report, and taken away by a delete
-replicas_change : let s = after_message (starting_at early_end) writing in
+replicas_change : let s = after_item (starting_at early_end) writing in
     (s.replica 1 b ≡ Some (record { stamp = 1001; len = 2; kind = Receiving })) × (s.has_order 1 b ≡ false) × (s.replica 2 b ≡ None) × (s.replica 1 c ≡ None)
-    × ((after_message s second_report).replica 1 b ≡ Some (received 1001 6)) × ((after_message s delete_behind).replica 1 b ≡ None)
-    × ((after_message s other_report).replica 1 b ≡ Some (record { stamp = 1001; len = 2; kind = Receiving }))
+    × ((after_item s second_report).replica 1 b ≡ Some (received 1001 6)) × ((after_item s delete_behind).replica 1 b ≡ None)
+    × ((after_item s other_report).replica 1 b ≡ Some (record { stamp = 1001; len = 2; kind = Receiving }))
 replicas_change = (refl, refl, refl, refl, refl, refl, refl)
 
 -- only what is received or being received is a replica
@@ -126,10 +126,10 @@ no_replica_by_others : map (λ kind. reported (message 1 1 kind b 1001 5)) (Dele
 no_replica_by_others = refl
 
 -- where no file holds the block, an order is
-orders_change : let s = after_message (starting_at root_alone) writing in
+orders_change : let s = after_item (starting_at root_alone) writing in
     (s.has_order 1 b ≡ true) × (s.replica 1 b ≡ None) × (s.has_order 2 b ≡ false) × (s.has_order 1 c ≡ false)
-    × ((after_message s second_report).has_order 1 b ≡ true) × ((after_message s delete_behind).has_order 1 b ≡ false)
-    × ((after_message s other_report).has_order 1 b ≡ true)
+    × ((after_item s second_report).has_order 1 b ≡ true) × ((after_item s delete_behind).has_order 1 b ≡ false)
+    × ((after_item s other_report).has_order 1 b ≡ true)
 orders_change = (refl, refl, refl, refl, refl, refl, refl)
 
 blocks_leave : let gone = namespace_after early_end (tx 8 (Delete f) ∷ []) in
@@ -154,7 +154,7 @@ last_words : (last_said future_lanes 1 b ≡ Some delete_behind) × (last_said f
     × (last_said future_lanes 1 c ≡ None) × (last_said future_lanes 3 b ≡ None)
 last_words = (refl, refl, refl, refl)
 
-now_has : (has_now future_lanes 1 b ≡ None) × (has_now future_lanes 2 b ≡ Some (received 1001 5)) × (has_now future_lanes 1 c ≡ None)
+now_has : (last_replica future_lanes 1 b ≡ None) × (last_replica future_lanes 2 b ≡ Some (received 1001 5)) × (last_replica future_lanes 1 c ≡ None)
 now_has = (refl, refl, refl)
 
 pictures : (map (λ dn. picture_replica early_end future_lanes dn b) (1 ∷ 2 ∷ 3 ∷ []) ≡ None ∷ Some (received 1001 5) ∷ None ∷ [])

@@ -6,15 +6,16 @@ use Rattle.std.specs.Ordering.{nat_cmp}
 use Rattle.nn_types.specs.declared.block.Block.{Block}
 use Rattle.nn_types.specs.Number.{IsNumber}
 use Rattle.nn_types.specs.Path.{AreUtf8}
+use Rattle.nn_types.specs.Limits.{max_replication}
 use Rattle.nn_model.specs.declared.form.Form.TheVariants.{Dir, File}
 use Rattle.nn_model.specs.declared.form.FileRow.{FileRow}
 use Rattle.nn_model.specs.Namespace.{Path, path_cmp, Issued, Namespace, lookup, all_blocks, no_block, no_stamp}
 use Rattle.nn_model.specs.Apply.{has_id}
 
 -- the element is in the list
-abbrev pub Has : {A : Type 0} → List A → A → Type 0
-Has [] x = ⊥
-Has (y ∷ ys) x = (y ≡ x) ⊎ Has ys x
+abbrev pub Includes : {A : Type 0} → List A → A → Type 0
+Includes [] x = ⊥
+Includes (y ∷ ys) x = (y ≡ x) ⊎ Includes ys x
 
 -- how often a block id is in the list
 abbrev pub times : ℕ → List Block → ℕ
@@ -38,13 +39,13 @@ pub record HasWellFormedBlocks (n : Namespace) : Type 0 where
   pub awaiting_in_order : IsStrictlySortedBy nat_cmp n.issued.awaiting
   pub awaiting_from : (id : ℕ) → has_id n.issued.awaiting id ≡ true → (no_block + 1 ≤ id) × (id ≤ n.issued.last_block)
   pub once : (id : ℕ) → times id (all_blocks n) ≤ 1
-  pub issued : (b : Block) → Has (all_blocks n) b → IsIssued n.issued b
+  pub issued : (b : Block) → Includes (all_blocks n) b → IsIssued n.issued b
 
 -- a well formed namespace: a tree of directories with files as leaves, with well formed blocks, in the limits of its numbers
 pub record IsWellFormed (n : Namespace) : Type 0 where
   pub root : lookup n [] ≡ Some Dir
   pub parents : (p : Path) (name : List ℕ) → is_some (lookup n (p ++ name ∷ [])) ≡ true → lookup n p ≡ Some Dir
-  pub replications : (p : Path) (file : FileRow) → lookup n p ≡ Some (File file) → (1 ≤ file.replication) × (file.replication ≤ 512)
+  pub replications : (p : Path) (file : FileRow) → lookup n p ≡ Some (File file) → (1 ≤ file.replication) × (file.replication ≤ max_replication)
   pub blocks : HasWellFormedBlocks n
   pub last_block_to : IsNumber n.issued.last_block
   pub last_stamp_from : no_stamp ≤ n.issued.last_stamp

@@ -2,7 +2,7 @@
 use nn_types::{Block, Blocks, Replication};
 
 /// A file of the namespace.
-#[derive(Drop)]
+#[derive(Debug, Drop)]
 pub struct FileRow {
     pub replication: Replication,
     /// An open file can be given blocks; a closed one is complete.
@@ -11,7 +11,7 @@ pub struct FileRow {
 }
 
 /// What is at a path.
-#[derive(Drop)]
+#[derive(Debug, Drop)]
 pub enum Form {
     Dir,
     File(FileRow),

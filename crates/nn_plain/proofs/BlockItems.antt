@@ -9,15 +9,15 @@ use Rattle.nn_plain.specs.Spelling.{SpellsBlock, SpellsBlocks, whole_of, whole_a
 
 -- ---- items
 
--- The items `es` are those that were read as the blocks `front`, and then the items `ds`.
+-- The items `es` are those that were read as the blocks `prefix`, and then the items `ds`.
 abbrev pub GoesOn : Items → List Block → Items → Type 0
-GoesOn es front ds = (bs : List Block) → SpellsBlocks ds bs → SpellsBlocks es (front ++ bs)
+GoesOn es prefix ds = (bs : List Block) → SpellsBlocks ds bs → SpellsBlocks es (prefix ++ bs)
 
-pub item_more : (es : Items) (front : List Block) (d : Data) (ds : Items) (b : Block) → SpellsBlock d b → GoesOn es front (item d ds) → GoesOn es (front ++ b ∷ []) ds
-item_more es front d ds b one all = λ bs rest. subst (SpellsBlocks es) (sym (append_assoc front (b ∷ []) bs)) (all (b ∷ bs) (one, rest))
+pub item_more : (es : Items) (prefix : List Block) (d : Data) (ds : Items) (b : Block) → SpellsBlock d b → GoesOn es prefix (item d ds) → GoesOn es (prefix ++ b ∷ []) ds
+item_more es prefix d ds b one all = λ bs rest. subst (SpellsBlocks es) (sym (append_assoc prefix (b ∷ []) bs)) (all (b ∷ bs) (one, rest))
 
-pub items_done : (es : Items) (front : List Block) → GoesOn es front no_items → SpellsBlocks es front
-items_done es front all = subst (SpellsBlocks es) (append-nil front) (all [] tt)
+pub items_done : (es : Items) (prefix : List Block) → GoesOn es prefix no_items → SpellsBlocks es prefix
+items_done es prefix all = subst (SpellsBlocks es) (append-nil prefix) (all [] tt)
 
 -- ---- numbers
 

@@ -5,7 +5,7 @@ use Rattle.json.specs.Token.{key, begin_object, end_object, begin_array, end_arr
 use Rattle.json.specs.Lex.{colon, begins_colon, between, lex, fresh, after_value, after_comma, punctuate}
 use Rattle.json.specs.Print.{escape}
 use Rattle.json.specs.Word.{ends_word}
-use Rattle.nn_plain.specs.Bytes.{Begins, AtStop, EndsValue, Skips, tokens_left}
+use Rattle.nn_plain.specs.Bytes.{NextBegins, AtStop, EndsValue, Skips, tokens_left}
 use Rattle.nn_types.proofs.Lists.{byte_there}
 use Rattle.nn_plain.proofs.FirstToken.{key_then, blank_next, colon_next, no_colon, ends, comma_here, open_here, open_after_comma, open_array_here}
 
@@ -59,14 +59,14 @@ module _ (b : Bool) (d : List ℕ) (at : ℕ) where
   after_the_comma start e skips =
       ap (λ t. punctuate after_value (lex between t)) (byte_there d at 44 (omega arith) e) ∙ comma_here (drop (at + 1) d) ∙ ap (punctuate after_comma) skips
 
-  pub key_left : (start end sep next : ℕ) (s : List ℕ) → Begins b d at start → escape s ≡ s → drop start d ≡ 34 ∷ (s ++ 34 ∷ drop end d)
+  pub key_left : (start end sep next : ℕ) (s : List ℕ) → NextBegins b d at start → escape s ≡ s → drop start d ≡ 34 ∷ (s ++ 34 ∷ drop end d)
       → Skips d end sep → get_or d sep 0 ≡ 58 → Skips d (sep + 1) next → tokens_left b (drop at d) ≡ key s ∷ tokens_left true (drop next d)
   key_left start end sep next s begins e is before there after = first begins
     where
       lexemes : lex between (drop end d) ≡ colon ∷ lex between (drop next d)
       lexemes = before ∙ ap (lex between) (byte_there d sep 58 (omega arith) there) ∙ colon_next (drop (sep + 1) d) ∙ ap (λ ls. colon ∷ ls) after
 
-      first : Begins b d at start → tokens_left b (drop at d) ≡ key s ∷ tokens_left true (drop next d)
+      first : NextBegins b d at start → tokens_left b (drop at d) ≡ key s ∷ tokens_left true (drop next d)
       first (inl h) =
           ap (λ x. tokens_left x (drop at d)) h.0
           ∙ key_then fresh s (drop at d) (drop end d) (lex between (drop next d)) refl e (ap (λ k. drop k d) (sym h.1) ∙ is) lexemes
@@ -74,13 +74,13 @@ module _ (b : Bool) (d : List ℕ) (at : ℕ) where
           ap (λ x. tokens_left x (drop at d)) h.0 ∙ after_the_comma start h.1 h.2
           ∙ key_then after_comma s (drop start d) (drop end d) (lex between (drop next d)) refl e is lexemes
 
-  pub open_left : (start next : ℕ) → Begins b d at start → get_or d start 0 ≡ 123 → Skips d (start + 1) next → tokens_left b (drop at d) ≡ begin_object ∷ tokens_left true (drop next d)
+  pub open_left : (start next : ℕ) → NextBegins b d at start → get_or d start 0 ≡ 123 → Skips d (start + 1) next → tokens_left b (drop at d) ≡ begin_object ∷ tokens_left true (drop next d)
   open_left start next begins e skips = first begins ∙ ap (λ ls. begin_object ∷ punctuate fresh ls) skips
     where
       there : drop start d ≡ 123 ∷ drop (start + 1) d
       there = byte_there d start 123 (omega arith) e
 
-      first : Begins b d at start → tokens_left b (drop at d) ≡ begin_object ∷ punctuate fresh (lex between (drop (start + 1) d))
+      first : NextBegins b d at start → tokens_left b (drop at d) ≡ begin_object ∷ punctuate fresh (lex between (drop (start + 1) d))
       first (inl h) =
           ap (λ x. tokens_left x (drop at d)) h.0 ∙ ap (λ k. punctuate fresh (lex between (drop k d))) (sym h.1)
           ∙ ap (λ t. punctuate fresh (lex between t)) there ∙ open_here (drop (start + 1) d)

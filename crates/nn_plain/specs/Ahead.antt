@@ -31,9 +31,9 @@ abbrev pub LacksObject : List ℕ → Type 0
 LacksObject line = (ms : Members) → read line ≡ Some (object ms) → ⊥
 
 -- The items with one behind them.
-abbrev pub with_item : Items → Data → Items
-with_item no_items e = item e no_items
-with_item (item d ds) e = item d (with_item ds e)
+abbrev pub with_last_item : Items → Data → Items
+with_last_item no_items e = item e no_items
+with_last_item (item d ds) e = item d (with_last_item ds e)
 
 -- The answer to whether a value is an object; of its members this holds.
 abbrev pub IsObjectIf : Bool → Data → (Members → Type 0) → Type 0

@@ -16,8 +16,8 @@ abbrev pub Skips : List ℕ → ℕ → ℕ → Type 0
 Skips text from to = lex between (drop from text) ≡ lex between (drop to text)
 
 -- The next key or item begins at `start`. The first one begins at once, any other one after a comma.
-abbrev pub Begins : Bool → List ℕ → ℕ → ℕ → Type 0
-Begins first text at start = ((first ≡ true) × (start ≡ at)) ⊎ ((first ≡ false) × (get_or text at 0 ≡ 44) × Skips text (at + 1) start)
+abbrev pub NextBegins : Bool → List ℕ → ℕ → ℕ → Type 0
+NextBegins first text at start = ((first ≡ true) × (start ≡ at)) ⊎ ((first ≡ false) × (get_or text at 0 ≡ 44) × Skips text (at + 1) start)
 
 -- A comma or a bracket that closes. One of them comes after each value in an object or array.
 abbrev pub Stops : ℕ → Type 0

@@ -1,7 +1,7 @@
 -- Which values of JSON plain values stand for, and how items and members come together.
 use Rattle.std.specs.Prelude.{◌≡◌, [], ◌∷◌, true, map, Some, None, codes, refl}
 use Rattle.serde_json.specs.Data.{null, boolean, number, string, array, object, unsigned, no_items, item, no_members}
-use Rattle.nn_plain.specs.Ahead.{with_item, IsArrayIf, IsObjectIf}
+use Rattle.nn_plain.specs.Ahead.{with_last_item, IsArrayIf, IsObjectIf}
 use Rattle.nn_plain.specs.Keys.{first_named}
 use Rattle.nn_plain.specs.Spelling.{plain_of}
 
@@ -14,7 +14,7 @@ other : map plain_of (null ∷ array no_items ∷ object no_members ∷ []) ≡ 
 other = refl
 
 -- an item comes behind those that are there
-behind : with_item (item null (item (boolean true) no_items)) (string []) ≡ item null (item (boolean true) (item (string []) no_items))
+behind : with_last_item (item null (item (boolean true) no_items)) (string []) ≡ item null (item (boolean true) (item (string []) no_items))
 behind = refl
 
 -- an empty array is one, and no object

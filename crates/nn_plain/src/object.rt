@@ -3,7 +3,7 @@ ghost use Rattle.std.specs.Prelude.{◌≡◌, ◌<◌, length, true, Some, None
 ghost use Rattle.serde_json.specs.Data.{Data, Items, Members, array, object, no_items, no_members, put};
 ghost use Rattle.serde_json.specs.Find.{as_array, as_object};
 ghost use Rattle.serde_json.specs.Read.{read};
-ghost use Rattle.nn_plain.specs.Ahead.{data_at, items_at, members_at, with_item, IsArrayIf, IsObjectIf, LacksObject};
+ghost use Rattle.nn_plain.specs.Ahead.{data_at, items_at, members_at, with_last_item, IsArrayIf, IsObjectIf, LacksObject};
 
 use crate::any::read_from;
 use json::{Invalid, Reader, Scratch, Token};
@@ -74,7 +74,7 @@ pub trait ItemSink {
         depth: usize,
     ) -> Result<(), ReadFault>
         ensures ok { OnOk result ((d : Data) × (data_at depth reader.old ≡ Some (d, reader.new))
-            × ((ds : Items) → seen self.old ds → seen self.new (with_item ds d))) }
+            × ((ds : Items) → seen self.old ds → seen self.new (with_last_item ds d))) }
         ensures shorter { OnOk result (length reader.new < length reader.old) }
         ensures err { result ≡ Err ReadFault.Invalid → data_at depth reader.old ≡ None };
 }

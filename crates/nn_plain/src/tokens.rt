@@ -5,7 +5,7 @@ ghost use Rattle.serde_json.specs.Read.{number_of};
 ghost use Rattle.json.specs.Json.{read_key};
 ghost use Rattle.json.specs.Token.{string, number, boolean, begin_object, begin_array, end_array};
 ghost use Rattle.json.specs.Lex.{tokens};
-ghost use Rattle.nn_plain.specs.Bytes.{AtStop, Begins, EndsValue, Skips, is_printable};
+ghost use Rattle.nn_plain.specs.Bytes.{AtStop, NextBegins, EndsValue, Skips, is_printable};
 
 use crate::number::number_at;
 use crate::text::quoted_at;
@@ -189,7 +189,7 @@ fn byte_at(text: &str, i: usize) -> u8
 #[inline(always)]
 fn start_at(text: &str, at: usize, first: bool) -> Option<usize>
     requires { at ≤ length text.now }
-    ensures begins { IfSome result (Begins first text.now at) }
+    ensures begins { IfSome result (NextBegins first text.now at) }
     ensures bound { IfSome result (λ start. start ≤ length text.now) }
 {
     if first {

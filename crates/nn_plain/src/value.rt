@@ -6,7 +6,7 @@ ghost use Rattle.nn_plain.specs.Spelling.{Spells, SpellsBlocks, whole_of};
 use nn_types::Blocks;
 
 /// A value of a plain line that is no array.
-#[derive(Clone, Copy, Drop)]
+#[derive(Clone, Copy, Debug, Drop)]
 pub enum Plain<'a> {
     Text(&'a str),
     /// A number that was written with digits alone.

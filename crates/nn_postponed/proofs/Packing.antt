@@ -5,7 +5,7 @@ use Rattle.std.specs.List.{list_any}
 use Rattle.std.proofs.lemmas.Bool.{cond-true, cond-false, eq-eqb, ne_eqb}
 use Rattle.std.proofs.lemmas.List.{take_more_set, drop-set-lt}
 use Rattle.nn_types.specs.declared.report.Message.{Message}
-use Rattle.nn_postponed.specs.Places.{present, places, packed, starts, EndsWith}
+use Rattle.nn_postponed.specs.Places.{present, places, packed, starts_at, EndsWith}
 use Rattle.nn_postponed.specs.Release.{same_source}
 use Rattle.nn_postponed.proofs.Places.{gone, hole_behind, taken_here, left_here, one_more, none_more, one_left, none_left_here, drop_at, present_append}
 
@@ -26,11 +26,11 @@ gone_append (Some x ∷ xs) ys s = gone_append xs ys (x ∷ s)
 
 -- ---- which head stands first
 
-later_places : (p i : ℕ) (s : List Message) (xs : List (Option Message)) → p < i → starts p (places i s xs) ≡ false
+later_places : (p i : ℕ) (s : List Message) (xs : List (Option Message)) → p < i → starts_at p (places i s xs) ≡ false
 later_places p i s [] lt = refl
 later_places p i s (None ∷ xs) lt = later_places p (i + 1) s xs (omega (arith, lt))
 later_places p i s (Some x ∷ xs) lt =
-    elim (list_any (same_source x) s) as (λ w. starts p (cond w (places (i + 1) (x ∷ s) xs) (i ∷ places (i + 1) (x ∷ s) xs)) ≡ false) [
+    elim (list_any (same_source x) s) as (λ w. starts_at p (cond w (places (i + 1) (x ∷ s) xs) (i ∷ places (i + 1) (x ∷ s) xs)) ≡ false) [
       | true ↦ later_places p (i + 1) (x ∷ s) xs (omega (arith, lt))
       | false ↦ ne_eqb i p (λ e. omega (arith, e, lt))
     ]
@@ -46,7 +46,7 @@ drop_next (x ∷ hs) (suc k) h rest is =
 -- ---- The loop. Of the places those before `from` were passed: their messages stand before `to`, and the heads before `head` stand with them.
 
 pub record Packing (slots : List (Option Message)) (from to head : ℕ) (items : List (Option Message)) (hs : List ℕ) : Type 0 where
-  pub front : take to items ≡ packed (take from slots)
+  pub prefix : take to items ≡ packed (take from slots)
   pub rest : drop from items ≡ drop from slots
   pub low : to ≤ from
   pub len : length items ≡ length slots
@@ -79,7 +79,7 @@ module _ (slots : List (Option Message)) (from to head : ℕ) (items : List (Opt
       let is : get_or slots from d ≡ None = there ∙ got in
       let same : gone (take (from + 1) slots) [] ≡ gone (take from slots) [] = gone_now None is in
       record {
-        front = so.front ∙ ap (map (λ (m : Message). Some m)) (sym (none_more slots from d in_slots is));
+        prefix = so.prefix ∙ ap (map (λ (m : Message). Some m)) (sym (none_more slots from d in_slots is));
         rest = rest_now;
         low = omega (arith, so.low);
         len = so.len;
@@ -89,10 +89,10 @@ module _ (slots : List (Option Message)) (from to head : ℕ) (items : List (Opt
       }
 
   -- a message goes to the first place that is left, and so does its head
-  pub packed_one : (m : Message) (next : ℕ) (fs : List ℕ) → get_or items from d ≡ Some m → next ≡ cond (starts from (drop head hs)) (head + 1) head →
-      fs ≡ cond (starts from (drop head hs)) (set hs head to) hs → Packing slots (from + 1) (to + 1) next (set items to (Some m)) fs
+  pub packed_one : (m : Message) (next : ℕ) (fs : List ℕ) → get_or items from d ≡ Some m → next ≡ cond (starts_at from (drop head hs)) (head + 1) head →
+      fs ≡ cond (starts_at from (drop head hs)) (set hs head to) hs → Packing slots (from + 1) (to + 1) next (set items to (Some m)) fs
   packed_one m next fs got next_is fs_is = record {
-    front = take_more_set items to (Some m) (omega (arith, so.low, in_range)) ∙ ap (λ l. l ++ Some m ∷ []) so.front
+    prefix = take_more_set items to (Some m) (omega (arith, so.low, in_range)) ∙ ap (λ l. l ++ Some m ∷ []) so.prefix
         ∙ sym (packed_append (present (take from slots)) m) ∙ ap (map (λ (m : Message). Some m)) (sym (one_more slots from d in_slots m is));
     rest = drop-set-lt (from + 1) items to (Some m) (omega (arith, so.low)) ∙ rest_now;
     low = omega (arith, so.low);
@@ -131,7 +131,7 @@ module _ (slots : List (Option Message)) (from to head : ℕ) (items : List (Opt
           (take next fs ++ places (to + 1) (m ∷ before) (packed (drop (from + 1) slots)) ≡ take head hs ++ places to before (packed (drop from slots))) × (drop next fs ≡ later)
       heads_now true e =
           let here : drop head hs ≡ later = left_now ∙ cond-true known later (from ∷ later) e in
-          let no : starts from (drop head hs) ≡ false = ap (starts from) here ∙ later_places from (from + 1) (m ∷ before) (drop (from + 1) slots) (omega arith) in
+          let no : starts_at from (drop head hs) ≡ false = ap (starts_at from) here ∙ later_places from (from + 1) (m ∷ before) (drop (from + 1) slots) (omega arith) in
           let n : next ≡ head = next_is ∙ cond-false _ _ _ no in
           let f : fs ≡ hs = fs_is ∙ cond-false _ _ _ no in (
             (λ i. take (n i) (f i) ++ places (to + 1) (m ∷ before) (packed (drop (from + 1) slots)))
@@ -140,7 +140,7 @@ module _ (slots : List (Option Message)) (from to head : ℕ) (items : List (Opt
           )
       heads_now false e =
           let here : drop head hs ≡ from ∷ later = left_now ∙ cond-false known later (from ∷ later) e in
-          let yes : starts from (drop head hs) ≡ true = ap (starts from) here ∙ eq-eqb from from refl in
+          let yes : starts_at from (drop head hs) ≡ true = ap (starts_at from) here ∙ eq-eqb from from refl in
           let n : next ≡ head + 1 = next_is ∙ cond-true _ _ _ yes in
           let f : fs ≡ set hs head to = fs_is ∙ cond-true _ _ _ yes in
           let after = drop_next hs head from later here in (

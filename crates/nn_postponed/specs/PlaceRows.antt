@@ -1,7 +1,7 @@
 -- The places of a queue on small examples, computed.
 use Rattle.std.specs.Prelude.{◌≡◌, true, false, List, [], ◌∷◌, Option, Some, None, refl}
 use Rattle.nn_types.specs.declared.report.Message.{Message}
-use Rattle.nn_postponed.specs.Places.{present, places, heads, without_first, spot, closed_up, packed, starts}
+use Rattle.nn_postponed.specs.Places.{present, places, heads, without_first, spot, closed_up, packed, starts_at}
 use Rattle.nn_postponed.specs.QueueRows.{first_report, other_report, second_report}
 
 -- a hole stands before a message of another DataNode, and the first DataNode's second message is the last one
@@ -43,8 +43,8 @@ closed = refl
 heads_closed : places 0 [] (packed left) ≡ 0 ∷ 1 ∷ []
 heads_closed = refl
 
-not_yet_there : starts 1 (2 ∷ 3 ∷ []) ≡ false
+not_yet_there : starts_at 1 (2 ∷ 3 ∷ []) ≡ false
 not_yet_there = refl
 
-there : starts 2 (2 ∷ 3 ∷ []) ≡ true
+there : starts_at 2 (2 ∷ 3 ∷ []) ≡ true
 there = refl

@@ -6,7 +6,7 @@ use std::alloc::{AllocError, Global};
 use std::marker::Model;
 
 /// A number for each DataNode. Its memory is given back with the whole alone.
-#[derive(Drop)]
+#[derive(Debug, Drop)]
 pub struct Counts {
     // at the place of the DataNode's number; those beyond the end are 0
     counts: Vec<usize>,

@@ -6,8 +6,12 @@ ghost use Rattle.nn_postponed.specs.Scans.{KnowsStuck, Marks, will_go};
 ghost use Rattle.nn_postponed.specs.Release.{same_source, due_at, freed};
 
 use crate::heads::same_source;
+use nn_types::limits::MAX_DATANODES;
 use nn_types::{BlockId, Message, Status, due};
 use std::marker::Model;
+
+// A place for each DataNode, and one for 0, which none has.
+const PLACES: usize = MAX_DATANODES as usize + 1;
 
 /// What releases of a block would give, one message after another, while all of it is held. It takes no memory, and one
 /// pass over the block's queue in all.
@@ -19,7 +23,7 @@ pub(crate) struct Freed<'a> {
     block: BlockId,
     status: Status,
     // Of each DataNode, whether one of its messages before that place is not due.
-    stuck: [bool; 257],
+    stuck: [bool; PLACES],
 }
 
 impl<'a> Model for Freed<'a> {
@@ -45,7 +49,7 @@ impl<'a> Freed<'a> {
             at: 0,
             block,
             status,
-            stuck: [false; 257],
+            stuck: [false; PLACES],
         }
     }
 

@@ -11,7 +11,7 @@ use std::marker::Model;
 
 /// All messages that wait, by ascending block and, for one block, in the order of arrival. It takes no memory, and one pass over
 /// all queues.
-#[derive(Drop)]
+#[derive(Debug, Drop)]
 pub struct Held<'a> {
     // what is left of the queue in hand
     queue: Waiting<'a>,

@@ -1,7 +1,7 @@
 //! The places of a queue, and the holes among them that messages left.
 ghost use Rattle.std.specs.Prelude.{◌≡◌, ◌+◌, ◌≤◌, [], length, drop, set, IfSome, IfNone, if◌then◌else◌};
 ghost use Rattle.nn_types.specs.declared.report.Message.{Message};
-ghost use Rattle.nn_postponed.specs.Places.{places, present, packed, starts, EndsWith};
+ghost use Rattle.nn_postponed.specs.Places.{places, present, packed, starts_at, EndsWith};
 
 use nn_types::Message;
 
@@ -53,8 +53,8 @@ fn pack(messages: &mut Vec<Option<Message>>, heads: &mut Vec<usize>)
 
 // Puts the head to the place `to`, if it is at the place `from`. The head that comes next.
 fn moved(heads: &mut Vec<usize>, head: usize, from: usize, to: usize) -> usize
-    ensures next { result ≡ (if starts from (drop head heads.old.items) then head + 1 else head) }
-    ensures heads { heads.new.items ≡ (if starts from (drop head heads.old.items) then set heads.old.items head to else heads.old.items) }
+    ensures next { result ≡ (if starts_at from (drop head heads.old.items) then head + 1 else head) }
+    ensures heads { heads.new.items ≡ (if starts_at from (drop head heads.old.items) then set heads.old.items head to else heads.old.items) }
 {
     if head < heads.len() && heads[head] == from {
         heads[head] = to;

@@ -1,10 +1,14 @@
 //! The held messages.
-ghost use Rattle.std.specs.Prelude.{◌≡◌, ◌<◌, ◌≤◌, ◌^◌, ◌↔◌, List, [], ◌∷◌, length, take, None, IsTrue, IfSome, IfNone, OnOk, OnErr, IfErr};
+ghost use Rattle.std.specs.Prelude.{◌≡◌, ◌<◌, ◌≤◌, ◌^◌, ◌+◌, ◌↔◌, List, [], ◌∷◌, length, take, None, true, false, IsTrue, IfSome, IfNone, OnOk, OnErr, IfErr};
+ghost use Rattle.std.specs.Ordering.{nat_cmp};
+ghost use Rattle.std.specs.BTreeMap.{IsOrdered, UpdatesBy, is_at};
+ghost use Rattle.std.specs.Map.{remove_entry};
 ghost use Rattle.std.specs.List.{list_any};
 ghost use Rattle.nn_types.specs.declared.report.Message.{Message};
 ghost use Rattle.nn_types.specs.declared.fault.TheConstants.{MEMORY};
 ghost use Rattle.nn_model.specs.Stands.{AreByBlock};
-ghost use Rattle.nn_postponed.specs.Queues.{queue, queued, all_queued, is_from, held_from, IsNext, HaveIds};
+ghost use Rattle.nn_postponed.specs.Queues.{queue, queued, all_queued, is_from, held_from, IsNextBlock, HaveIds};
+ghost use Rattle.nn_postponed.specs.Counts.{count_of, OneMore};
 ghost use Rattle.nn_postponed.specs.Release.{due_at, first_free, without_free, freed};
 
 use crate::counts::Counts;
@@ -20,11 +24,11 @@ use thiserror::Error;
 /// Memory was refused, and the message is not held. It comes back as it was handed over.
 #[derive(Clone, Copy, Debug, Error)]
 #[error("out of memory")]
-pub struct Refused {
+pub struct HoldRefusal {
     pub message: Message,
 }
 
-impl Refused {
+impl HoldRefusal {
     /// The fault's number.
     pub fn number(self) -> u8
         ensures { result ≡ MEMORY }
@@ -44,7 +48,7 @@ const LIMIT: usize = 9223372036854775807;
 /// end, are one pass over the block's queue each. A queue that has become empty leaves the map.
 ///
 /// The messages of each DataNode are counted, in eight bytes for each DataNode up to the highest from which one was held.
-#[derive(Drop)]
+#[derive(Debug, Drop)]
 pub struct Postponed {
     queues: BTreeMap<BlockId, Queue>,
     // how many messages there are in all queues
@@ -83,13 +87,13 @@ impl Postponed {
     }
 
     /// Holds one more message, as the last one about its block. Only this call and `hold_all` take memory.
-    pub fn hold(&mut self, message: Message) -> Result<(), Refused>
+    pub fn hold(&mut self, message: Message) -> Result<(), HoldRefusal>
         ensures ok { OnOk result (self.new ≡ queued message self.old) }
         ensures err { OnErr result (self.new ≡ self.old) }
         ensures back { IfErr result (λ refused. refused.message ≡ message) }
     {
         let Ok(()) = self.push(&message) else {
-            return Err(Refused { message });
+            return Err(HoldRefusal { message });
         };
         Ok(())
     }
@@ -104,7 +108,7 @@ impl Postponed {
     {
         for i in 0..messages.len() {
             let Ok(()) = self.push(&messages[i]) else {
-                self.take_back(messages, i);
+                self.revoke(messages, i);
                 return Err(AllocError);
             };
         }
@@ -123,8 +127,8 @@ impl Postponed {
             return Err(AllocError);
         };
         let Some(queue) = self.queues.get_mut(&message.block) else {
-            // That a block id is in its range is known once it is read.
-            let _id = message.block.get();
+            // Recalls to the prover that a block id keeps its limits.
+            let _recalled = message.block.get();
             let mut queue = Queue::new(self.alloc);
             let Ok(()) = queue.push(message) else {
                 return Err(AllocError);
@@ -144,8 +148,8 @@ impl Postponed {
         Ok(())
     }
 
-    // Takes back the first `held` of these messages, the last one of them first. Nothing was held after them.
-    fn take_back(&mut self, messages: &[Message], held: usize)
+    // Revokes the first `held` of these messages, the last one of them first. Nothing was held after them.
+    fn revoke(&mut self, messages: &[Message], held: usize)
         requires { held ≤ length messages.now }
         ensures { (was : List Message) → self.old ≡ all_queued was (take held messages.now) → self.new ≡ was }
     {
@@ -169,11 +173,15 @@ impl Postponed {
         let Some(message) = queue.take_last() else {
             unreachable!()
         };
-        if queue.is_empty() {
-            let _ = self.queues.remove(&block);
-        }
-        self.count -= 1;
-        self.counts.fewer(message.dn);
+        let is_empty = queue.is_empty();
+        one_went(
+            &mut self.queues,
+            &mut self.count,
+            &mut self.counts,
+            block,
+            is_empty,
+            message.dn,
+        );
         Some(message)
     }
 
@@ -228,18 +236,22 @@ impl Postponed {
         let Some(message) = queue.release(block, status) else {
             return None;
         };
-        if queue.is_empty() {
-            let _ = self.queues.remove(&block);
-        }
-        self.count -= 1;
-        self.counts.fewer(message.dn);
+        let is_empty = queue.is_empty();
+        one_went(
+            &mut self.queues,
+            &mut self.count,
+            &mut self.counts,
+            block,
+            is_empty,
+            message.dn,
+        );
         Some(message)
     }
 
     /// The least block of at least `from` about which a message is held. A caller that goes on from the id
     /// above the answer meets each block once, in ascending order.
     pub fn next_held(&self, from: BlockId) -> Option<BlockId>
-        ensures next { IsNext from self.now result }
+        ensures next { IsNextBlock from self.now result }
         // What such a caller knows of the list, and of what lies above the highest id.
         ensures order { AreByBlock self.now }
         ensures ids { HaveIds self.now }
@@ -265,11 +277,15 @@ impl Postponed {
         let Some(message) = first.take_first() else {
             unreachable!()
         };
-        if first.is_empty() {
-            let _ = self.queues.remove(&block);
-        }
-        self.count -= 1;
-        self.counts.fewer(message.dn);
+        let is_empty = first.is_empty();
+        one_went(
+            &mut self.queues,
+            &mut self.count,
+            &mut self.counts,
+            block,
+            is_empty,
+            message.dn,
+        );
         Some(message)
     }
 
@@ -296,4 +312,27 @@ impl Postponed {
     {
         self.count == 0
     }
+}
+
+// A message of this DataNode went from a block's queue, which goes as well where it is empty now.
+fn one_went(
+    queues: &mut BTreeMap<BlockId, Queue>,
+    count: &mut usize,
+    counts: &mut Counts,
+    block: BlockId,
+    is_empty: bool,
+    dn: u16,
+)
+    requires count { 0 < count.old }
+    requires from { 0 < count_of dn counts.old }
+    ensures emptied { is_empty ≡ true → IsOrdered nat_cmp queues.new × UpdatesBy nat_cmp (nat_cmp block) queues.old queues.new None × (queues.new.entries ≡ remove_entry (is_at (nat_cmp block)) queues.old.entries) }
+    ensures kept { is_empty ≡ false → queues.new ≡ queues.old }
+    ensures count { count.new + 1 ≡ count.old }
+    ensures counts { OneMore dn counts.new counts.old }
+{
+    if is_empty {
+        let _ = queues.remove(&block);
+    }
+    *count -= 1;
+    counts.fewer(dn);
 }

@@ -1,5 +1,6 @@
 //! The messages about a block, lent in the order of arrival.
-ghost use Rattle.std.specs.Prelude.{◌≡◌, [], ◌∷◌, IfSome, IfNone};
+ghost use Rattle.std.specs.Prelude.{◌≡◌};
+ghost use Rattle.std.specs.Iterator.{YieldsFirst, item_count};
 ghost use Rattle.nn_postponed.specs.Places.{present};
 
 use nn_types::Message;
@@ -7,7 +8,7 @@ use std::marker::Model;
 
 /// The messages that wait about a block, one after another in the order of arrival. It takes no memory, and one pass
 /// over the block's queue in all.
-#[derive(Drop)]
+#[derive(Debug, Drop)]
 pub struct Waiting<'a> {
     messages: &'a [Option<Message>],
     // The next place to look at.
@@ -32,12 +33,16 @@ impl<'a> Waiting<'a> {
     {
         Waiting { messages, at: 0 }
     }
+}
 
-    /// The next one.
-    pub fn next(&mut self) -> Option<Message>
-        ensures some { IfSome result (λ m. self.old ≡ m ∷ self.new) }
-        ensures none { IfNone result ((self.old ≡ []) × (self.new ≡ [])) }
-    {
+impl<'a> Iterator for Waiting<'a> {
+    type Item = Message;
+
+    ghost next_gives = { YieldsFirst (λ s. s) };
+
+    ghost remaining = { item_count (λ s. s) };
+
+    fn next(&mut self) -> Option<Message> {
         while self.at < self.messages.len() {
             let slot = self.messages[self.at];
             self.at += 1;

@@ -8,10 +8,10 @@ use Rattle.std.specs.BTreeMap.{is_at}
 use Rattle.std.specs.Ordering.{is_eq, is_lt}
 use Rattle.std.specs.FinMap.Entries.{find, below_all, is_sorted}
 use Rattle.nn_replicas.specs.declared.entry.Cell.{Cell}
-use Rattle.nn_replicas.specs.Table.{BlockEntry, Table}
+use Rattle.nn_replicas.specs.Table.{BlockEntry, Replicas}
 use Rattle.nn_replicas.specs.Entry.{is_ordered, no_entry, is_idle, is_idle_cell, replication_in}
 use Rattle.nn_replicas.specs.Calls.{entry_at, entry_or_none, has_entry, row_at, replica_at, has_order, is_placed, without_entry, is_idle_at, room_given_back}
-use Rattle.nn_replicas.specs.Order.{IsInOrder}
+use Rattle.nn_replicas.specs.Order.{IsSortedTable}
 use Rattle.nn_replicas.specs.Effects.{GivesBack}
 use Rattle.nn_replicas.proofs.Entries.{halves, find_below, tail_sorted, share, summed, summed_cons, summed_there}
 use Rattle.nn_replicas.proofs.Lookups.{eq_is}
@@ -116,10 +116,10 @@ idle_found dn (c ∷ cells) h =
 -- ---- the table
 
 -- a block that is idle has no row, no replica and no order
-pub idle_tells : (t : Table) (id : ℕ) → is_idle_at t id ≡ true → (row_at t id ≡ None) × ((dn : ℕ) → (replica_at t dn id ≡ None) × (has_order t dn id ≡ false))
+pub idle_tells : (t : Replicas) (id : ℕ) → is_idle_at t id ≡ true → (row_at t id ≡ None) × ((dn : ℕ) → (replica_at t dn id ≡ None) × (has_order t dn id ≡ false))
 idle_tells t id idle = (no_row (entry_or_none t id) idle, λ dn. idle_found dn (entry_or_none t id).cells (idle_parts (entry_or_none t id) idle).1)
 
-module _ (t : Table) (id : ℕ) (s : is_sorted nat_cmp t.entries ≡ true) (idle : is_idle_at t id ≡ true) where
+module _ (t : Replicas) (id : ℕ) (s : is_sorted nat_cmp t.entries ≡ true) (idle : is_idle_at t id ≡ true) where
   -- what is asked of a block id is as it was, where no entry and the entry answer the same
   stays : {X : Type 0} (f : BlockEntry → X) → f no_entry ≡ f (entry_or_none t id) → (b : ℕ) → f (entry_or_none (without_entry t id) b) ≡ f (entry_or_none t b)
   stays f same b = ap (λ x. f (unwrap_or x no_entry)) (find_removed b id t.entries s) ∙ cases (b == id) refl
@@ -154,7 +154,7 @@ module _ (t : Table) (id : ℕ) (s : is_sorted nat_cmp t.entries ≡ true) (idle
     entries = λ b. no_entry_left b ∙ ap (λ i. not ((b == id) && i) && has_entry t b) (sym idle);
   }
 
-nothing_given : (t : Table) (id : ℕ) → is_idle_at t id ≡ false → GivesBack t id t
+nothing_given : (t : Replicas) (id : ℕ) → is_idle_at t id ≡ false → GivesBack t id t
 nothing_given t id h = record {
   rows = λ b. refl;
   replications = λ b. refl;
@@ -168,21 +168,21 @@ nothing_given t id h = record {
     same true b = refl
     same false b = refl
 
-pub give_back_gives : (t : Table) (id : ℕ) → IsInOrder t → GivesBack t id (room_given_back t id)
+pub give_back_gives : (t : Replicas) (id : ℕ) → IsSortedTable t → GivesBack t id (room_given_back t id)
 give_back_gives t id o = cases (is_idle_at t id) refl
   where
     cases : (b : Bool) → is_idle_at t id ≡ b → GivesBack t id (cond b (without_entry t id) t)
     cases true h = taken_gives t id o.blocks h
     cases false h = nothing_given t id h
 
-pub give_back_in_order : (t : Table) (id : ℕ) → IsInOrder t → IsInOrder (room_given_back t id)
+pub give_back_in_order : (t : Replicas) (id : ℕ) → IsSortedTable t → IsSortedTable (room_given_back t id)
 give_back_in_order t id o = cases (is_idle_at t id) refl
   where
     without : (b : ℕ) (same : Bool) → (b == id) ≡ same → is_sorted nat_cmp (unwrap_or (cond same None (entry_at t b)) no_entry).cells ≡ true
     without b true h = refl
     without b false h = o.datanodes b
 
-    cases : (b : Bool) → is_idle_at t id ≡ b → IsInOrder (cond b (without_entry t id) t)
+    cases : (b : Bool) → is_idle_at t id ≡ b → IsSortedTable (cond b (without_entry t id) t)
     cases true h = record {
       blocks = removed_sorted id t.entries o.blocks;
       datanodes = λ b. ap (λ x. is_sorted nat_cmp (unwrap_or x no_entry).cells) (find_removed b id t.entries o.blocks) ∙ without b (b == id) refl;
@@ -192,33 +192,33 @@ give_back_in_order t id o = cases (is_idle_at t id) refl
 -- ---- the code's table
 
 -- the entry of a block id, which is idle, was taken out
-pub record Leaves (t : Table) (min b : ℕ) (es fs : Entries) (v : BlockEntry) : Type 0 where
+pub record Leaves (t : Replicas) (min b : ℕ) (es fs : Entries) (v : BlockEntry) : Type 0 where
   pub all : table min es ≡ t
   pub found : find nat_cmp b es ≡ Some v
   pub idle : is_idle v ≡ true
   pub gone : fs ≡ remove_entry (is_at (nat_cmp b)) es
 
-pub leaves : (t : Table) (min b : ℕ) (es fs : Entries) (v : BlockEntry) → table min es ≡ t → Some v ≡ lookup (is_at (nat_cmp b)) es → is_idle v ≡ true → fs ≡ remove_entry (is_at (nat_cmp b)) es → Leaves t min b es fs v
+pub leaves : (t : Replicas) (min b : ℕ) (es fs : Entries) (v : BlockEntry) → table min es ≡ t → Some v ≡ lookup (is_at (nat_cmp b)) es → is_idle v ≡ true → fs ≡ remove_entry (is_at (nat_cmp b)) es → Leaves t min b es fs v
 leaves t min b es fs v e h i g = record { all = e; found = sym (lookup_is_find b es) ∙ sym h; idle = i; gone = g }
 
-pub went : {t : Table} {min b : ℕ} {es fs : Entries} {v : BlockEntry} → Leaves t min b es fs v → Moves es fs (Some v) None
+pub went : {t : Replicas} {min b : ℕ} {es fs : Entries} {v : BlockEntry} → Leaves t min b es fs v → Moves es fs (Some v) None
 went {t} {min} {b} {es} {fs} {v} l = record {
   there = λ f. (let k = ap (share f) l.found in omega (arith, k, summed_there f b es));
   sums = λ f. (let k = ap (share f) l.found in let g = ap (summed f) l.gone in omega (arith, k, g, summed_removed f b es));
 }
 
-pub given_new : {t : Table} {min b : ℕ} {es fs : Entries} {v : BlockEntry} → Leaves t min b es fs v → table min fs ≡ room_given_back t b
+pub given_new : {t : Replicas} {min b : ℕ} {es fs : Entries} {v : BlockEntry} → Leaves t min b es fs v → table min fs ≡ room_given_back t b
 given_new {t} {min} {b} {es} {fs} {v} l =
     ap (table min) l.gone ∙ ap (λ x. without_entry x b) l.all
     ∙ sym (ap (λ i. cond i (without_entry t b) t) (ap (λ x. is_idle_at x b) (sym l.all) ∙ ap (λ o. is_idle (unwrap_or o no_entry)) l.found ∙ l.idle))
 
 -- what is not idle stays
-pub not_given : (t : Table) (min b : ℕ) (es : Entries) (v : BlockEntry) → table min es ≡ t → Some v ≡ lookup (is_at (nat_cmp b)) es → is_idle v ≡ false → t ≡ room_given_back t b
+pub not_given : (t : Replicas) (min b : ℕ) (es : Entries) (v : BlockEntry) → table min es ≡ t → Some v ≡ lookup (is_at (nat_cmp b)) es → is_idle v ≡ false → t ≡ room_given_back t b
 not_given t min b es v e h i =
     sym (ap (λ j. cond j (without_entry t b) t) (ap (λ x. is_idle_at x b) (sym e) ∙ ap (λ o. is_idle (unwrap_or o no_entry)) (sym (lookup_is_find b es) ∙ sym h) ∙ i))
 
 -- and where nothing is known nothing goes
-pub none_given : (t : Table) (min b : ℕ) (es : Entries) → table min es ≡ t → None ≡ lookup (is_at (nat_cmp b)) es → t ≡ room_given_back t b
+pub none_given : (t : Replicas) (min b : ℕ) (es : Entries) → table min es ≡ t → None ≡ lookup (is_at (nat_cmp b)) es → t ≡ room_given_back t b
 none_given t min b es e h =
     let none : find nat_cmp b es ≡ None = sym (lookup_is_find b es) ∙ sym h in
     sym (ap (λ j. cond j (without_entry t b) t) (ap (λ x. is_idle_at x b) (sym e) ∙ ap (λ o. is_idle (unwrap_or o no_entry)) none)

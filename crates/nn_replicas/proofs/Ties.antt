@@ -17,13 +17,13 @@ use Rattle.nn_model.specs.declared.form.Form.{Form}
 use Rattle.nn_model.specs.declared.form.Form.TheVariants.{Dir, File}
 use Rattle.nn_model.specs.declared.form.BlockRow.{BlockRow}
 use Rattle.nn_model.specs.Namespace.{Path, Namespace, all_blocks}
-use Rattle.nn_model.specs.Blocks.{block_row, rows_of, block_rows}
-use Rattle.nn_model.specs.WellFormed.{Has, times, HasWellFormedBlocks}
+use Rattle.nn_model.specs.Blocks.{block_row, block_rows_of, block_rows}
+use Rattle.nn_model.specs.WellFormed.{Includes, times, HasWellFormedBlocks}
 use Rattle.nn_model.specs.Counts.{class_of, is_live, live_up_to, live_count, closed_blocks_of, closed_blocks}
 use Rattle.nn_model.proofs.InRows.{all_in, has_left, has_right}
 use Rattle.nn_model.proofs.Members.{rows_in, blocks_of_all}
 use Rattle.nn_replicas.specs.declared.entry.Cell.{Cell}
-use Rattle.nn_replicas.specs.Table.{BlockEntry, Table}
+use Rattle.nn_replicas.specs.Table.{BlockEntry, Replicas}
 use Rattle.nn_replicas.specs.Entry.{no_entry, is_closed, is_closed_row, is_safe, is_safe_row, live_cells, replication_in}
 use Rattle.nn_replicas.specs.Figures.{is_class, cells_of, replicas_of, live_of, one_if}
 use Rattle.nn_replicas.specs.Agreement.{replications_of, Shows, class_up_to, class_count, passing_in, passing, HasCounts, CountsAgree}
@@ -103,13 +103,13 @@ row_sum_over v [] ys = omega arith
 row_sum_over v (x ∷ xs) ys = omega (arith, row_sum_over v xs ys)
 
 -- of each file, where that is known of what stands there
-file_sums : (v : BlockRow → ℕ) (f : Form → ℕ) (rows : List (Path × Form)) → ((form : Form) → ((x : Block × ℕ) → Has (replications_of form) x → Has (all_in replications_of rows) x) → row_sum v (rows_of form) ≡ f form)
+file_sums : (v : BlockRow → ℕ) (f : Form → ℕ) (rows : List (Path × Form)) → ((form : Form) → ((x : Block × ℕ) → Includes (replications_of form) x → Includes (all_in replications_of rows) x) → row_sum v (block_rows_of form) ≡ f form)
     → row_sum v (rows_in rows) ≡ sum_by (λ row. f row.1) rows
 file_sums v f [] h = refl
 file_sums v f (row ∷ rows) h =
     omega (
       arith,
-      row_sum_over v (rows_of row.1) (rows_in rows),
+      row_sum_over v (block_rows_of row.1) (rows_in rows),
       sum_by-cons (λ (r : Path × Form). f r.1) row rows,
       h row.1 (λ x here. has_left (replications_of row.1) (all_in replications_of rows) x here),
       file_sums v f rows (λ form within. h form (λ x here. has_right (replications_of row.1) (all_in replications_of rows) x (within x here))),
@@ -226,14 +226,14 @@ all_ones [] = refl
 all_ones (b ∷ bs) = omega (arith, sum_by-cons (λ (x : Block). 1) b bs, all_ones bs)
 
 -- tests that agree on all blocks count as many
-count_alike : (p q : Block → Bool) (bs : List Block) → ((b : Block) → Has bs b → p b ≡ q b) → count_by p bs ≡ count_by q bs
+count_alike : (p q : Block → Bool) (bs : List Block) → ((b : Block) → Includes bs b → p b ≡ q b) → count_by p bs ≡ count_by q bs
 count_alike p q [] h = refl
 count_alike p q (b ∷ bs) h =
     let one = ap {B = ℕ} (λ x. cond x 1 0) (h b (inl refl)) in
     omega (arith, one, sum_by-cons (λ (x : Block). cond (p x) 1 0) b bs, sum_by-cons (λ (x : Block). cond (q x) 1 0) b bs, count_alike p q bs (λ x here. h x (inr here)))
 
 -- each block of a file has its replication
-pub with_number : (bs : List Block) (k : ℕ) (b : Block) → Has bs b → Has {A = Block × ℕ} (map (λ (a : Block). (a, k)) bs) (b, k)
+pub with_number : (bs : List Block) (k : ℕ) (b : Block) → Includes bs b → Includes {A = Block × ℕ} (map (λ (a : Block). (a, k)) bs) (b, k)
 with_number [] k b here = here
 with_number (a ∷ bs) k b (inl same) = inl (ap (λ (x : Block). (x, k)) same)
 with_number (a ∷ bs) k b (inr later) = inr (with_number bs k b later)
@@ -260,7 +260,7 @@ listed_in p (row ∷ rows) =
       length-append (filter p (closed_blocks_of row.1)) (filter p (flat_map (λ r. closed_blocks_of r.1) rows)),
     )
 
-listed_form : (p : Block → Bool) (form : Form) → row_sum (closed_that p) (rows_of form) ≡ length (filter p (closed_blocks_of form))
+listed_form : (p : Block → Bool) (form : Form) → row_sum (closed_that p) (block_rows_of form) ≡ length (filter p (closed_blocks_of form))
 listed_form p Dir = refl
 listed_form p (File file) = closed_in_file p file.closed file.blocks ∙ by_closed file.closed
   where
@@ -268,7 +268,7 @@ listed_form p (File file) = closed_in_file p file.closed file.blocks ∙ by_clos
     by_closed true = sym (length-filter p file.blocks)
     by_closed false = refl
 
-module _ (n : Namespace) (t : Table) (well : HasWellFormedBlocks n) (shows : Shows n t) where
+module _ (n : Namespace) (t : Replicas) (well : HasWellFormedBlocks n) (shows : Shows n t) where
   abbrev live : Block → ℕ
   live b = live_count (replica_at t) b
 
@@ -309,7 +309,7 @@ module _ (n : Namespace) (t : Table) (well : HasWellFormedBlocks n) (shows : Sho
         ∙ ap (λ l. one_if (r.closed && test e.replication l)) (live_here id r.block at)
         ∙ ap (λ k. one_if (r.closed && test k (live r.block))) own)
 
-    tested_form : (form : Form) → ((x : Block × ℕ) → Has (replications_of form) x → Has (all_in replications_of n.rows) x) → row_sum tested (rows_of form) ≡ passing_in test (replica_at t) form
+    tested_form : (form : Form) → ((x : Block × ℕ) → Includes (replications_of form) x → Includes (all_in replications_of n.rows) x) → row_sum tested (block_rows_of form) ≡ passing_in test (replica_at t) form
     tested_form Dir within = refl
     tested_form (File file) within =
         closed_in_file (λ b. test (replication_at t b.id) (live b)) file.closed file.blocks

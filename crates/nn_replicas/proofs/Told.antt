@@ -8,11 +8,11 @@ use Rattle.std.specs.Map.{lookup}
 use Rattle.std.specs.FinMap.Entries.{by_order, find, put}
 use Rattle.nn_types.specs.declared.replica.Replica.{Replica}
 use Rattle.nn_replicas.specs.declared.entry.Cell.{Cell}
-use Rattle.nn_replicas.specs.Table.{BlockEntry, Table}
+use Rattle.nn_replicas.specs.Table.{BlockEntry, Replicas}
 use Rattle.nn_replicas.specs.Entry.{no_entry, no_cell, cell_put, cell_of, with_cell, with_place, with_put, with_erased, with_told, stamp_in}
 use Rattle.nn_replicas.specs.Calls.{entry_at, entry_or_none, stamp_at, reaches, with_entry, changed_from, with_due, pair_placed, pair_told, pair_told_if, due_told}
-use Rattle.nn_replicas.specs.Effects.{Places, Writes}
-use Rattle.nn_replicas.specs.Order.{IsInOrder}
+use Rattle.nn_replicas.specs.Effects.{Places, SetsReplica}
+use Rattle.nn_replicas.specs.Order.{IsSortedTable}
 use Rattle.nn_replicas.proofs.Lookups.{find_put, place_places, put_writes, erase_writes, place_in_order, put_in_order, erase_in_order}
 use Rattle.nn_replicas.proofs.Entries.{lookup_is_find}
 use Rattle.nn_replicas.proofs.Tables.{Entries, table}
@@ -45,11 +45,11 @@ put_places e dn r = sym (cases (find nat_cmp dn e.cells) refl)
         ∙ ap {B = BlockEntry} (λ xs. record e { cells = xs }) (put_twice dn no_cell (cell_put (is_some e.row) r (cell_of e dn)) e.cells)
     cases (Some c) h = refl
 
-entry_twice : (t : Table) (id : ℕ) (x y : BlockEntry) → with_entry (with_entry t id x) id y ≡ with_entry t id y
-entry_twice t id x y = ap {B = Table} (λ es. record t { entries = es }) (put_twice id x y t.entries)
+entry_twice : (t : Replicas) (id : ℕ) (x y : BlockEntry) → with_entry (with_entry t id x) id y ≡ with_entry t id y
+entry_twice t id x y = ap {B = Replicas} (λ es. record t { entries = es }) (put_twice id x y t.entries)
 
 -- one write does what room and the telling do, one after the other
-pub told_at_once : (t : Table) (dn id : ℕ) (r : Option Replica) → with_entry t id (with_told (entry_or_none t id) dn r) ≡ pair_told (pair_placed t dn id) dn id r
+pub told_at_once : (t : Replicas) (dn id : ℕ) (r : Option Replica) → with_entry t id (with_told (entry_or_none t id) dn r) ≡ pair_told (pair_placed t dn id) dn id r
 told_at_once t dn id (Some r) =
     let placed = with_place (entry_or_none t id) dn in
     let there : entry_at (with_entry t id placed) id ≡ Some placed = found_put id placed t.entries in
@@ -61,14 +61,14 @@ told_at_once t dn id None =
     sym (ap (changed_from (with_entry t id placed) id (λ e. with_erased e dn)) there ∙ entry_twice t id placed (with_erased placed dn))
 
 -- where the row is not there, or has a lower stamp, there is only room
-pub due_unreached : (t : Table) (dn id stamp : ℕ) (r : Option Replica) → reaches (stamp_at t id) stamp ≡ false → pair_placed t dn id ≡ due_told t dn id stamp r
+pub due_unreached : (t : Replicas) (dn id stamp : ℕ) (r : Option Replica) → reaches (stamp_at t id) stamp ≡ false → pair_placed t dn id ≡ due_told t dn id stamp r
 due_unreached t dn id stamp r h = ap (λ b. pair_told_if b (pair_placed t dn id) dn id r) (sym h)
 
-pub due_reached : (t : Table) (dn id stamp : ℕ) (r : Option Replica) → reaches (stamp_at t id) stamp ≡ true → pair_told (pair_placed t dn id) dn id r ≡ due_told t dn id stamp r
+pub due_reached : (t : Replicas) (dn id stamp : ℕ) (r : Option Replica) → reaches (stamp_at t id) stamp ≡ true → pair_told (pair_placed t dn id) dn id r ≡ due_told t dn id stamp r
 due_reached t dn id stamp r h = ap (λ b. pair_told_if b (pair_placed t dn id) dn id r) (sym h)
 
 -- the same of one look-up
-pub told_due : (t : Table) (dn id stamp : ℕ) (r : Option Replica) → with_entry t id (with_due (entry_or_none t id) dn stamp r) ≡ due_told t dn id stamp r
+pub told_due : (t : Replicas) (dn id stamp : ℕ) (r : Option Replica) → with_entry t id (with_due (entry_or_none t id) dn stamp r) ≡ due_told t dn id stamp r
 told_due t dn id stamp r = cases (reaches (stamp_at t id) stamp) refl
   where
     cases : (b : Bool) → reaches (stamp_at t id) stamp ≡ b → with_entry t id (with_due (entry_or_none t id) dn stamp r) ≡ due_told t dn id stamp r
@@ -77,37 +77,37 @@ told_due t dn id stamp r = cases (reaches (stamp_at t id) stamp) refl
     cases false h = ap (λ b. with_entry t id (cond b (with_told (entry_or_none t id) dn r) (with_place (entry_or_none t id) dn))) h ∙ due_unreached t dn id stamp r h
 
 -- where nothing is known of the block
-pub early_due : (t : Table) (dn id stamp : ℕ) (r : Option Replica) → entry_at t id ≡ None → pair_placed t dn id ≡ due_told t dn id stamp r
+pub early_due : (t : Replicas) (dn id stamp : ℕ) (r : Option Replica) → entry_at t id ≡ None → pair_placed t dn id ≡ due_told t dn id stamp r
 early_due t dn id stamp r none = due_unreached t dn id stamp r (ap (λ o. reaches (stamp_in (unwrap_or o no_entry).row) stamp) none)
 
 -- ---- What telling changes.
 
-told_writes : (t : Table) (dn id : ℕ) (r : Option Replica) → Writes t dn id r (pair_told t dn id r)
+told_writes : (t : Replicas) (dn id : ℕ) (r : Option Replica) → SetsReplica t dn id r (pair_told t dn id r)
 told_writes t dn id (Some r) = put_writes t dn id r
 told_writes t dn id None = erase_writes t dn id
 
-pub due_writes : (t : Table) (dn id stamp : ℕ) (r : Option Replica) → reaches (stamp_at t id) stamp ≡ true → Writes (pair_placed t dn id) dn id r (due_told t dn id stamp r)
-due_writes t dn id stamp r h = subst (Writes (pair_placed t dn id) dn id r) (due_reached t dn id stamp r h) (told_writes (pair_placed t dn id) dn id r)
+pub due_writes : (t : Replicas) (dn id stamp : ℕ) (r : Option Replica) → reaches (stamp_at t id) stamp ≡ true → SetsReplica (pair_placed t dn id) dn id r (due_told t dn id stamp r)
+due_writes t dn id stamp r h = subst (SetsReplica (pair_placed t dn id) dn id r) (due_reached t dn id stamp r h) (told_writes (pair_placed t dn id) dn id r)
 
-pub early_places : (t : Table) (dn id stamp : ℕ) (r : Option Replica) → reaches (stamp_at t id) stamp ≡ false → Places t dn id (due_told t dn id stamp r)
+pub early_places : (t : Replicas) (dn id stamp : ℕ) (r : Option Replica) → reaches (stamp_at t id) stamp ≡ false → Places t dn id (due_told t dn id stamp r)
 early_places t dn id stamp r h = subst (Places t dn id) (due_unreached t dn id stamp r h) (place_places t dn id)
 
-told_in_order : (t : Table) (dn id : ℕ) (r : Option Replica) → IsInOrder t → IsInOrder (pair_told t dn id r)
+told_in_order : (t : Replicas) (dn id : ℕ) (r : Option Replica) → IsSortedTable t → IsSortedTable (pair_told t dn id r)
 told_in_order t dn id (Some r) o = put_in_order t dn id r o
 told_in_order t dn id None o = erase_in_order t dn id o
 
-pub due_in_order : (t : Table) (dn id stamp : ℕ) (r : Option Replica) → IsInOrder t → IsInOrder (due_told t dn id stamp r)
+pub due_in_order : (t : Replicas) (dn id stamp : ℕ) (r : Option Replica) → IsSortedTable t → IsSortedTable (due_told t dn id stamp r)
 due_in_order t dn id stamp r o =
     let placed = place_in_order t dn id o in
-    elim (reaches (stamp_at t id) stamp) as (λ b. IsInOrder (pair_told_if b (pair_placed t dn id) dn id r)) [
+    elim (reaches (stamp_at t id) stamp) as (λ b. IsSortedTable (pair_told_if b (pair_placed t dn id) dn id r)) [
       | true ↦ told_in_order (pair_placed t dn id) dn id r placed
       | false ↦ placed
     ]
 
 -- ---- The stamp that stands at a block id.
 
-pub no_stamp : (t : Table) (min b : ℕ) (es : Entries) → table min es ≡ t → None ≡ lookup (is_at (nat_cmp b)) es → None ≡ stamp_at t b
+pub no_stamp : (t : Replicas) (min b : ℕ) (es : Entries) → table min es ≡ t → None ≡ lookup (is_at (nat_cmp b)) es → None ≡ stamp_at t b
 no_stamp t min b es e h = ap (λ o. stamp_in (unwrap_or o no_entry).row) (h ∙ lookup_is_find b es) ∙ ap (λ x. stamp_at x b) e
 
-pub stamp_there : (t : Table) (min b : ℕ) (es : Entries) (v : BlockEntry) → table min es ≡ t → Some v ≡ lookup (is_at (nat_cmp b)) es → stamp_in v.row ≡ stamp_at t b
+pub stamp_there : (t : Replicas) (min b : ℕ) (es : Entries) (v : BlockEntry) → table min es ≡ t → Some v ≡ lookup (is_at (nat_cmp b)) es → stamp_in v.row ≡ stamp_at t b
 stamp_there t min b es v e h = ap (λ o. stamp_in (unwrap_or o no_entry).row) (h ∙ lookup_is_find b es) ∙ ap (λ x. stamp_at x b) e

@@ -6,17 +6,18 @@ use Rattle.nn_types.specs.declared.block.Block.{Block}
 use Rattle.nn_types.specs.declared.replica.Replica.{Replica}
 use Rattle.nn_types.specs.declared.replica.Class.{Class}
 use Rattle.nn_types.specs.declared.replica.Class.TheVariants.{Stale, Ahead, WrongLength}
+use Rattle.nn_types.specs.Limits.{max_datanodes}
 use Rattle.nn_model.specs.declared.form.Form.{Form}
 use Rattle.nn_model.specs.declared.form.Form.TheVariants.{Dir, File}
 use Rattle.nn_model.specs.Namespace.{Namespace, all_blocks}
 use Rattle.nn_model.specs.Blocks.{block_row_at}
-use Rattle.nn_model.specs.WellFormed.{Has, HasWellFormedBlocks}
+use Rattle.nn_model.specs.WellFormed.{Includes, HasWellFormedBlocks}
 use Rattle.nn_model.specs.Counts as model
 use Rattle.nn_model.specs.Counts.{class_of, live_count}
-use Rattle.nn_replicas.specs.Table.{Table}
-use Rattle.nn_replicas.specs.Calls.{row_at, replication_at, replica_at, is_placed, total_of, safe_of}
+use Rattle.nn_replicas.specs.Table.{Replicas}
+use Rattle.nn_replicas.specs.Calls.{row_at, replication_at, replica_at, is_placed, total_in, safe_in}
 use Rattle.nn_replicas.specs.Figures.{is_class, figures_of, one_if}
-use Rattle.nn_replicas.specs.Order.{IsInOrder}
+use Rattle.nn_replicas.specs.Order.{IsSortedTable}
 
 -- each block of a file, with the file's replication
 abbrev pub replications_of : Form → List (Block × ℕ)
@@ -27,11 +28,11 @@ abbrev pub block_replications : Namespace → List (Block × ℕ)
 block_replications n = flat_map (λ row. replications_of row.1) n.rows
 
 -- the table has the rows of the namespace's blocks with the replications of their files, and DataNodes from 1 to 256
-pub record Shows (n : Namespace) (t : Table) : Type 0 where
-  pub in_order : IsInOrder t
+pub record Shows (n : Namespace) (t : Replicas) : Type 0 where
+  pub in_order : IsSortedTable t
   pub rows : (id : ℕ) → row_at t id ≡ block_row_at n id
-  pub replications : (x : Block × ℕ) → Has (block_replications n) x → replication_at t x.0.id ≡ x.1
-  pub datanodes : (dn id : ℕ) → IsTrue (is_placed t dn id) → (1 ≤ dn) × (dn ≤ 256)
+  pub replications : (x : Block × ℕ) → Includes (block_replications n) x → replication_at t x.0.id ≡ x.1
+  pub datanodes : (dn id : ℕ) → IsTrue (is_placed t dn id) → (1 ≤ dn) × (dn ≤ max_datanodes)
 
 -- ---- The figures of a namespace. `replicas` gives the replica of a DataNode and a block.
 
@@ -42,7 +43,7 @@ class_up_to class (suc dn) replicas b = one_if (is_class class (option_map (λ r
 
 -- DataNodes are 1 to 256
 abbrev pub class_count : Class → (ℕ → ℕ → Option Replica) → Block → ℕ
-class_count class replicas b = class_up_to class 256 replicas b
+class_count class replicas b = class_up_to class max_datanodes replicas b
 
 -- how many replicas of all files' blocks are of this class
 abbrev pub class_total : Class → Namespace → (ℕ → ℕ → Option Replica) → ℕ
@@ -57,9 +58,9 @@ abbrev pub passing : (ℕ → ℕ → Bool) → Namespace → (ℕ → ℕ → O
 passing test n replicas = sum_by (λ row. passing_in test replicas row.1) n.rows
 
 -- the counts of the table are those of the namespace with the table's replicas
-pub record HasCounts (n : Namespace) (t : Table) : Type 0 where
-  pub total : total_of t ≡ model.total_of n
-  pub safe : safe_of t ≡ model.safe_of t.min n (replica_at t)
+pub record HasCounts (n : Namespace) (t : Replicas) : Type 0 where
+  pub total : total_in t ≡ model.total_of n
+  pub safe : safe_in t ≡ model.safe_of t.min n (replica_at t)
   pub blocks : (figures_of t).blocks ≡ length (all_blocks n)
   pub missing : (figures_of t).missing ≡ passing (λ replication live. live == 0) n (replica_at t)
   pub missing_of_one : (figures_of t).missing_of_one ≡ passing (λ replication live. (live == 0) && (replication == 1)) n (replica_at t)
@@ -70,4 +71,4 @@ pub record HasCounts (n : Namespace) (t : Table) : Type 0 where
   pub wrong_length : (figures_of t).wrong_length ≡ class_total WrongLength n (replica_at t)
 
 abbrev pub CountsAgree : Type 0
-CountsAgree = (n : Namespace) (t : Table) → HasWellFormedBlocks n → Shows n t → HasCounts n t
+CountsAgree = (n : Namespace) (t : Replicas) → HasWellFormedBlocks n → Shows n t → HasCounts n t

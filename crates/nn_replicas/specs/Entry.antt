@@ -49,8 +49,8 @@ abbrev pub no_entry : BlockEntry
 no_entry = record { row = None; replication = 0; cells = [] }
 
 -- the block is named, by a file of this replication
-abbrev pub with_row : BlockEntry → BlockRow → ℕ → BlockEntry
-with_row e row replication = record e { row = Some row; replication = replication }
+abbrev pub entry_with_row : BlockEntry → BlockRow → ℕ → BlockEntry
+entry_with_row e row replication = record e { row = Some row; replication = replication }
 
 abbrev pub cell_of : BlockEntry → ℕ → Cell
 cell_of e dn = unwrap_or (find nat_cmp dn e.cells) no_cell

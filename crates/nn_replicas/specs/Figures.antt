@@ -12,9 +12,9 @@ use Rattle.nn_model.specs.declared.form.BlockRow.{BlockRow}
 use Rattle.nn_replicas.specs.declared.entry.Cell.{Cell}
 use Rattle.nn_replicas.specs.declared.entry.Classes.{Classes}
 use Rattle.nn_replicas.specs.declared.figures.Figures.{Figures}
-use Rattle.nn_replicas.specs.Table.{BlockEntry, Table}
+use Rattle.nn_replicas.specs.Table.{BlockEntry, Replicas}
 use Rattle.nn_replicas.specs.Entry.{live_cells, has_cell, is_closed, is_safe}
-use Rattle.nn_replicas.specs.Calls.{total_of, safe_of}
+use Rattle.nn_replicas.specs.Calls.{total_in, safe_in}
 
 abbrev pub one_if : Bool → ℕ
 one_if b = if b then 1 else 0
@@ -98,11 +98,11 @@ ordered_cells e = count_by (λ c. c.1.ordered) e.cells
 
 -- ---- All blocks.
 
-abbrev pub figures_of : Table → Figures
+abbrev pub figures_of : Replicas → Figures
 figures_of t = record {
   blocks = count_by (λ e. is_some e.1.row) t.entries;
-  total = total_of t;
-  safe = safe_of t;
+  total = total_in t;
+  safe = safe_in t;
   missing = count_by (λ e. is_missing e.1) t.entries;
   missing_of_one = count_by (λ e. is_missing_of_one e.1) t.entries;
   under_replicated = count_by (λ e. is_under_replicated e.1) t.entries;
@@ -124,7 +124,7 @@ abbrev pub looked_at : ℕ → ℕ × BlockEntry → ℕ × Option ℕ
 looked_at min e = (e.0, too_few min e.1)
 
 -- each block that the table knows, from an id on
-abbrev pub unsafe_from : Table → ℕ → List (ℕ × Option ℕ)
+abbrev pub unsafe_from : Replicas → ℕ → List (ℕ × Option ℕ)
 unsafe_from t from = map (looked_at t.min) (entries_from (nat_cmp from) t.entries)
 
 -- ---- What one block adds, as the code counts it.

@@ -1,22 +1,22 @@
 -- Figures through the calls, computed.
 use Rattle.std.specs.Prelude.{◌≡◌, ℕ, true, false, List, [], ◌∷◌, map, Some, None, refl}
 use Rattle.nn_types.specs.declared.report.Kind.TheVariants.{Receiving, Received}
-use Rattle.nn_replicas.specs.Table.{Table}
+use Rattle.nn_replicas.specs.Table.{Replicas}
 use Rattle.nn_replicas.specs.Calls.{empty_table, block_set, replica_put, block_retired, room_given_back}
 use Rattle.nn_replicas.specs.Figures.{figures_of, unsafe_from}
 use Rattle.nn_replicas.specs.TableRows.{b, c, block, block_b, replica, named, raised, reported, gone, stray, placed, done}
 
 -- blocks, and of closed files all, safe, missing, missing of one, under- and over-replicated
-abbrev of_blocks : Table → List ℕ
+abbrev of_blocks : Replicas → List ℕ
 of_blocks t = let f = figures_of t in f.blocks ∷ f.total ∷ f.safe ∷ f.missing ∷ f.missing_of_one ∷ f.under_replicated ∷ f.over_replicated ∷ []
 
 -- replicas that are stale, ahead and of a wrong length, orders, and places
-abbrev of_replicas : Table → List ℕ
+abbrev of_replicas : Replicas → List ℕ
 of_replicas t = let f = figures_of t in f.stale ∷ f.ahead ∷ f.wrong_length ∷ f.orders ∷ f.places ∷ []
 
 -- ---- A block of a closed file.
 
-abbrev held : ℕ → Table
+abbrev held : ℕ → Replicas
 held replication = block_set (empty_table 1) (block_b 1001) true replication
 
 one_replica : of_blocks named ≡ 1 ∷ 1 ∷ 1 ∷ 0 ∷ 0 ∷ 0 ∷ 0 ∷ []
@@ -27,7 +27,7 @@ no_replica : map of_blocks (empty_table 1 ∷ held 1 ∷ held 3 ∷ []) ≡ (0 �
 no_replica = refl
 
 -- two live replicas: over-replicated, enough, and under-replicated, as the file's replication is 1, 2 and 3
-abbrev two_of : ℕ → Table
+abbrev two_of : ℕ → Replicas
 two_of replication = replica_put (replica_put (held replication) 1 b (replica Received 1001 5)) 2 b (replica Received 1001 5)
 
 two_replicas : map (λ r. of_blocks (two_of r)) (1 ∷ 2 ∷ 3 ∷ []) ≡ (1 ∷ 1 ∷ 1 ∷ 0 ∷ 0 ∷ 0 ∷ 1 ∷ []) ∷ (1 ∷ 1 ∷ 1 ∷ 0 ∷ 0 ∷ 0 ∷ 0 ∷ []) ∷ (1 ∷ 1 ∷ 1 ∷ 0 ∷ 0 ∷ 1 ∷ 0 ∷ []) ∷ []
@@ -56,7 +56,7 @@ orders = refl
 -- ---- What keeps safe mode on.
 
 -- three blocks, of which the second is of an open file, and the third has a replica
-abbrev three : Table
+abbrev three : Replicas
 three = replica_put (block_set (block_set (held 3) (block c 7) false 3) (block 1073741827 6) true 3) 1 1073741827 (replica Received 1001 6)
 
 looked : map (λ from. unsafe_from three from) (0 ∷ c ∷ 1073741828 ∷ [])

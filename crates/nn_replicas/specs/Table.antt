@@ -9,6 +9,6 @@ pub record BlockEntry : Type 0 where
   pub replication : ℕ  -- that file's, 0 where none holds it
   pub cells : List (ℕ × Cell)  -- by DataNode, in order
 
-pub record Table : Type 0 where
+pub record Replicas : Type 0 where
   pub min : ℕ  -- how many live replicas make a block safe
   pub entries : List (ℕ × BlockEntry)  -- by block id, in order

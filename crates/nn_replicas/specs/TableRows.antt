@@ -4,8 +4,8 @@ use Rattle.nn_types.specs.declared.block.Block.{Block}
 use Rattle.nn_types.specs.declared.report.Kind.{Kind}
 use Rattle.nn_types.specs.declared.report.Kind.TheVariants.{Receiving, Received}
 use Rattle.nn_types.specs.declared.replica.Replica.{Replica}
-use Rattle.nn_replicas.specs.Table.{Table}
-use Rattle.nn_replicas.specs.Calls.{row_at, rows_of, replica_at, has_order, is_placed, replicas_at, orders_of, total_of, safe_of, empty_table, room_made}
+use Rattle.nn_replicas.specs.Table.{Replicas}
+use Rattle.nn_replicas.specs.Calls.{row_at, table_rows, replica_at, has_order, is_placed, replicas_at, orders_of, total_in, safe_in, empty_table, room_made}
 use Rattle.nn_replicas.specs.Calls.{stamp_at, block_set, pair_placed, replica_put, replica_erased, due_told, block_retired, has_entry, is_idle_at, room_given_back}
 
 -- ---- The blocks b and c, and reports of b by DataNodes 1, 2 and 3.
@@ -22,27 +22,27 @@ block_b stamp = record { id = b; stamp = stamp; len = 5 }
 abbrev pub replica : Kind → ℕ → ℕ → Replica
 replica kind stamp len = record { stamp = stamp; len = len; kind = kind }
 
-abbrev pub named : Table
+abbrev pub named : Replicas
 named = replica_put (block_set (empty_table 1) (block_b 1001) true 1) 1 b (replica Received 1001 5)
 
 -- the generation stamp is raised, and then DataNode 1 reports again
-abbrev pub raised : Table
+abbrev pub raised : Replicas
 raised = block_set (replica_put named 2 b (replica Receiving 1001 5)) (block_b 1002) true 3
 
-abbrev pub reported : ℕ → Table
+abbrev pub reported : ℕ → Replicas
 reported len = replica_put raised 1 b (replica Received 1002 len)
 
-abbrev pub gone : Table
+abbrev pub gone : Replicas
 gone = block_retired (replica_put (reported 5) 3 b (replica Receiving 9223372036854775807 0)) b
 
-totals : map total_of (empty_table 1 ∷ named ∷ raised ∷ reported 5 ∷ gone ∷ []) ≡ 0 ∷ 1 ∷ 1 ∷ 1 ∷ 0 ∷ []
+totals : map total_in (empty_table 1 ∷ named ∷ raised ∷ reported 5 ∷ gone ∷ []) ≡ 0 ∷ 1 ∷ 1 ∷ 1 ∷ 0 ∷ []
 totals = refl
 
-safe_counts : map safe_of (empty_table 1 ∷ named ∷ raised ∷ reported 4 ∷ reported 5 ∷ gone ∷ []) ≡ 0 ∷ 1 ∷ 0 ∷ 0 ∷ 1 ∷ 0 ∷ []
+safe_counts : map safe_in (empty_table 1 ∷ named ∷ raised ∷ reported 4 ∷ reported 5 ∷ gone ∷ []) ≡ 0 ∷ 1 ∷ 0 ∷ 0 ∷ 1 ∷ 0 ∷ []
 safe_counts = refl
 
 -- a block of an open file does not count, however many have it
-open_files : map (λ t. total_of (block_set t (block_b 1001) false 1)) (empty_table 1 ∷ named ∷ []) ≡ 0 ∷ 0 ∷ []
+open_files : map (λ t. total_in (block_set t (block_b 1001) false 1)) (empty_table 1 ∷ named ∷ []) ≡ 0 ∷ 0 ∷ []
 open_files = refl
 
 replicas : replicas_at raised b ≡ (1, replica Received 1001 5) ∷ (2, replica Receiving 1001 5) ∷ []
@@ -52,14 +52,14 @@ orders : (orders_of raised ≡ []) × (orders_of gone ≡ (b, 1) ∷ (b, 2) ∷ 
 orders = (refl, refl, refl, refl)
 
 -- what no file holds is ordered to be deleted, until it is
-abbrev pub stray : Table
+abbrev pub stray : Replicas
 stray = replica_put gone 3 c (replica Received 1001 0)
 
 strays : (has_order stray 3 c ≡ true) × (replica_at stray 3 c ≡ None) × (has_order (replica_erased stray 3 c) 3 c ≡ false) × (orders_of (replica_erased stray 3 c) ≡ orders_of gone)
 strays = (refl, refl, refl, refl)
 
 -- room alone is neither a replica nor an order, and stays until it is given back
-abbrev pub placed : Table
+abbrev pub placed : Replicas
 placed = pair_placed gone 4 b
 
 rooms : (orders_of placed ≡ orders_of gone) × (map (λ t. is_placed t 4 b) (gone ∷ placed ∷ replica_erased placed 4 b ∷ block_retired placed b ∷ []) ≡ false ∷ true ∷ true ∷ true ∷ [])
@@ -67,10 +67,10 @@ rooms = (refl, refl)
 
 -- room is given back, and with it the entry, once there is no row, no replica and no order: here the orders are done, one
 -- after another
-abbrev pub done : Table
+abbrev pub done : Replicas
 done = replica_erased (replica_erased (replica_erased placed 1 b) 2 b) 3 b
 
-abbrev idle_blocks : Table → List Bool
+abbrev idle_blocks : Replicas → List Bool
 idle_blocks t = is_idle_at t b ∷ is_idle_at t c ∷ []
 
 idle : map idle_blocks (raised ∷ placed ∷ replica_erased (replica_erased placed 1 b) 2 b ∷ done ∷ pair_placed stray 1 c ∷ pair_placed done 1 c ∷ [])
@@ -95,7 +95,7 @@ not_given_back : (room_given_back placed b ≡ placed)
 not_given_back = (refl, refl, refl)
 
 -- nor where a replica stands without a row
-abbrev replica_alone : Table
+abbrev replica_alone : Replicas
 replica_alone = record { min = 1; entries = (b, record { row = None; replication = 0; cells = (1, record { replica = Some (replica Received 1001 5); ordered = false }) ∷ [] }) ∷ [] }
 
 not_given_back_alone : room_given_back replica_alone b ≡ replica_alone
@@ -121,6 +121,6 @@ block id len = record { id = id; stamp = 1001; len = len }
 
 -- rows by ascending block id, of the blocks that files hold
 rows : let t = block_set (block_set stray (block 1073741828 7) false 1) (block 1073741827 6) true 1 in
-    (rows_of t ≡ (1073741827, record { block = block 1073741827 6; closed = true }) ∷ (1073741828, record { block = block 1073741828 7; closed = false }) ∷ [])
-    × (rows_of stray ≡ [])
+    (table_rows t ≡ (1073741827, record { block = block 1073741827 6; closed = true }) ∷ (1073741828, record { block = block 1073741828 7; closed = false }) ∷ [])
+    × (table_rows stray ≡ [])
 rows = (refl, refl)

@@ -6,7 +6,7 @@ ghost use Rattle.std.specs.Ordering.{nat_cmp};
 ghost use Rattle.std.specs.Option.{option_map};
 ghost use Rattle.nn_model.specs.Counts.{class_of};
 ghost use Rattle.nn_replicas.specs.Scan.{place, is_here};
-ghost use Rattle.nn_replicas.specs.Entry.{replicas_in, orders_in, is_ordered, cell_retired, no_entry, is_idle, is_idle_cell, has_cell, with_row, with_place, with_put, with_erased, with_told, retired, stamp_in};
+ghost use Rattle.nn_replicas.specs.Entry.{replicas_in, orders_in, is_ordered, cell_retired, no_entry, is_idle, is_idle_cell, has_cell, entry_with_row, with_place, with_put, with_erased, with_told, retired, stamp_in};
 ghost use Rattle.nn_replicas.specs.Calls.{reaches, with_due};
 ghost use Rattle.nn_replicas.specs.Figures.{classes_in, no_classes, with_class, HaveRoom, figures_in, too_few, one_if, grown};
 
@@ -30,7 +30,7 @@ pub struct Cell {
 }
 
 // A block as a file holds it. The replication is the file's.
-#[derive(Clone, Copy)]
+#[derive(Clone, Copy, Debug)]
 pub struct FileBlock {
     block: Block,
     closed: bool,
@@ -39,7 +39,7 @@ pub struct FileBlock {
 
 // A cell stands for a DataNode that was placed, and stays as long as the entry: so a later report or a retirement is
 // written in place and takes no memory. Up to three cells lie in the entry itself.
-#[derive(Drop)]
+#[derive(Debug, Drop)]
 pub struct Entry {
     // Where a file holds the block.
     file: Option<FileBlock>,
@@ -71,7 +71,7 @@ impl Entry {
     }
 
     pub fn set_row(&mut self, row: BlockRow, replication: u16)
-        ensures { self.new ≡ with_row self.old row replication }
+        ensures { self.new ≡ entry_with_row self.old row replication }
     {
         self.file = Some(FileBlock {
             block: row.block,
@@ -375,7 +375,7 @@ fn is_idle_slot(slot: &Slot) -> bool
 }
 
 // How many replicas of a block are of each class that is counted.
-#[derive(Clone, Copy)]
+#[derive(Clone, Copy, Debug)]
 pub struct Classes {
     live: u64,
     stale: u64,

@@ -8,7 +8,7 @@ use nn_types::Replica;
 use std::marker::Model;
 
 /// The replicas of a block, in order of DataNode.
-#[derive(Drop)]
+#[derive(Debug, Drop)]
 pub struct ReplicasOf<'a> {
     cells: &'a [Slot],
 }

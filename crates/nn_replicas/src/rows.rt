@@ -10,7 +10,7 @@ use nn_types::BlockId;
 use std::marker::Model;
 
 /// The rows of the blocks that files hold, each with its block id, by ascending block id.
-#[derive(Drop)]
+#[derive(Debug, Drop)]
 pub struct Rows<'a> {
     entries: Entries<'a, BlockId, Entry>,
 }

@@ -7,7 +7,7 @@ use nn_types::{GenerationStamp, Kind, Length, Replica};
 use std::marker::Model;
 
 // A DataNode and its cell, packed into 24 bytes: an option of a replica would take 32 of its own.
-#[derive(Drop)]
+#[derive(Debug, Drop)]
 pub struct Slot {
     dn: u16,
     ordered: bool,

@@ -2,7 +2,7 @@
 ghost use Rattle.std.specs.Prelude.{◌≡◌, ◌≤◌, ◌<◌, ◌+◌, ◌^◌, length, None, true, IsOk, OnOk, OnErr, IfOk, IfSome, IsTrue};
 ghost use Rattle.std.specs.FinMap.Entries.{is_sorted};
 ghost use Rattle.std.specs.Ordering.{nat_cmp};
-ghost use Rattle.nn_replicas.specs.Calls.{rows_of, replicas_at, orders_of, AreAscending, has_order, is_placed, entry_at, has_entry, is_kept, with_entry, empty_table, room_made, block_set, pair_placed, replica_put, replica_erased, stamp_at, due_told, block_retired, room_given_back};
+ghost use Rattle.nn_replicas.specs.Calls.{table_rows, replicas_at, orders_of, AreAscending, has_order, is_placed, entry_at, has_entry, is_kept, with_entry, empty_table, room_made, block_set, pair_placed, replica_put, replica_erased, stamp_at, due_told, block_retired, room_given_back};
 ghost use Rattle.nn_replicas.specs.Entry.{has_cell};
 ghost use Rattle.nn_replicas.specs.Figures.{figures_of, unsafe_from, grown};
 
@@ -23,7 +23,7 @@ use std::marker::Model;
 /// what it has of a block without one. A DataNode that was placed at a block keeps its room there, so a later report of
 /// it takes no memory, and a block for which room was made gets its row without memory: until `give_back` takes the entry of
 /// that block, with the room of all DataNodes.
-#[derive(Drop)]
+#[derive(Debug, Drop)]
 pub struct Replicas {
     min: u16,
     entries: SortedMap<BlockId, Entry>,
@@ -37,10 +37,10 @@ impl Model for Replicas {
     ghost use Rattle.std.specs.List.Sorted.{IsStrictlySortedBy};
     ghost use Rattle.std.specs.Map.{keys_of};
     ghost use Rattle.std.specs.Ordering.{nat_cmp};
-    ghost use Rattle.nn_replicas.specs.Table.{Table};
+    ghost use Rattle.nn_replicas.specs.Table.{Replicas};
     ghost use Rattle.nn_replicas.specs.Figures.{figures_of};
 
-    ghost Value = { Table };
+    ghost Value = { Replicas };
 
     ghost view = { λ t. record { min = t.min; entries = t.entries } };
 
@@ -89,8 +89,8 @@ impl Replicas {
         ensures err { OnErr result (self.new ≡ self.old) }
         ensures room { IsTrue (has_entry self.old block.id) → IsOk result }
     {
-        // Fewer blocks than 2^63 fit in memory, so the figures do not overflow.
-        let _count = self.entries.len();
+        // Recalls to the prover that fewer blocks than 2^63 fit in memory, so the figures do not overflow.
+        let _recalled = self.entries.len();
         let row = BlockRow { block, closed };
         let Some(entry) = self.entries.get_mut(&block.id) else {
             let mut entry = Entry::new(self.alloc);
@@ -112,8 +112,8 @@ impl Replicas {
         ensures ok { OnOk result (self.new ≡ with_entry self.old block entry) }
         ensures err { OnErr result (self.new ≡ self.old) }
     {
-        // Fewer blocks than 2^63 fit in memory, so the figures do not overflow.
-        let _count = self.entries.len();
+        // Recalls to the prover that fewer blocks than 2^63 fit in memory, so the figures do not overflow.
+        let _recalled = self.entries.len();
         if self.figures.places == u64::MAX {
             return Err(AllocError);
         }
@@ -130,8 +130,8 @@ impl Replicas {
         ensures ok { OnOk result (self.new ≡ pair_placed self.old dn block) }
         ensures err { OnErr result (self.new ≡ self.old) }
     {
-        // Fewer blocks than 2^63 fit in memory, so the figures do not overflow.
-        let _count = self.entries.len();
+        // Recalls to the prover that fewer blocks than 2^63 fit in memory, so the figures do not overflow.
+        let _recalled = self.entries.len();
         let Some(entry) = self.entries.get_mut(&block) else {
             let mut entry = Entry::new(self.alloc);
             entry.place(dn)?;
@@ -158,8 +158,8 @@ impl Replicas {
         ensures err { OnErr result (self.new ≡ self.old) }
         ensures room { IsTrue (is_placed self.old dn block) → IsOk result }
     {
-        // Fewer blocks than 2^63 fit in memory, so the figures do not overflow.
-        let _count = self.entries.len();
+        // Recalls to the prover that fewer blocks than 2^63 fit in memory, so the figures do not overflow.
+        let _recalled = self.entries.len();
         let Some(entry) = self.entries.get_mut(&block) else {
             let mut entry = Entry::new(self.alloc);
             entry.put(dn, replica)?;
@@ -180,8 +180,8 @@ impl Replicas {
     pub fn erase(&mut self, dn: u16, block: BlockId)
         ensures { self.new ≡ replica_erased self.old dn block }
     {
-        // Fewer blocks than 2^63 fit in memory, so the figures do not overflow.
-        let _count = self.entries.len();
+        // Recalls to the prover that fewer blocks than 2^63 fit in memory, so the figures do not overflow.
+        let _recalled = self.entries.len();
         let Some(entry) = self.entries.get_mut(&block) else {
             return;
         };
@@ -209,8 +209,8 @@ impl Replicas {
         ensures err { OnErr result (self.new ≡ self.old) }
         ensures room { IsTrue (is_placed self.old dn block) → IsOk result }
     {
-        // Fewer blocks than 2^63 fit in memory, so the figures do not overflow.
-        let _count = self.entries.len();
+        // Recalls to the prover that fewer blocks than 2^63 fit in memory, so the figures do not overflow.
+        let _recalled = self.entries.len();
         let Some(entry) = self.entries.get_mut(&block) else {
             let mut entry = Entry::new(self.alloc);
             entry.place(dn)?;
@@ -232,8 +232,8 @@ impl Replicas {
     pub fn retire(&mut self, block: BlockId)
         ensures { self.new ≡ block_retired self.old block }
     {
-        // Fewer blocks than 2^63 fit in memory, so the figures do not overflow.
-        let _count = self.entries.len();
+        // Recalls to the prover that fewer blocks than 2^63 fit in memory, so the figures do not overflow.
+        let _recalled = self.entries.len();
         let Some(entry) = self.entries.get_mut(&block) else {
             return;
         };
@@ -251,8 +251,8 @@ impl Replicas {
     pub fn give_back(&mut self, block: BlockId)
         ensures { self.new ≡ room_given_back self.old block }
     {
-        // Fewer blocks than 2^63 fit in memory, so the figures do not overflow.
-        let _count = self.entries.len();
+        // Recalls to the prover that fewer blocks than 2^63 fit in memory, so the figures do not overflow.
+        let _recalled = self.entries.len();
         let Some(entry) = self.entries.get(&block) else {
             return;
         };
@@ -287,7 +287,7 @@ impl Replicas {
 
     /// The rows of the blocks that files hold, each with its block id, by ascending block id.
     pub fn rows(&self) -> Rows<'_>
-        ensures all { result ≡ rows_of self.now }
+        ensures all { result ≡ table_rows self.now }
         ensures order { IsTrue (is_sorted nat_cmp result) }
     {
         Rows::new(self.entries.iter())

@@ -12,7 +12,7 @@ use std::marker::Model;
 /// and these are too few to make it safe.
 ///
 /// A step looks at one block, safe or not, so a caller can take so many steps and go on later behind the last id.
-#[derive(Drop)]
+#[derive(Debug, Drop)]
 pub struct UnsafeBlocks<'a> {
     min: u16,
     entries: Entries<'a, BlockId, Entry>,

@@ -6,24 +6,26 @@ use Rattle.std.proofs.Math.Nat.{le-max_left, max-eq_right, max-le}
 use Rattle.std.proofs.lemmas.Bool.{and_from, eqb-true, eq-eqb, ne_eqb, lt-ltb, ltb-true, ltb-false}
 use Rattle.std.proofs.lemmas.List.{map-append}
 use Rattle.std.proofs.lemmas.List.Elements.{All-head}
+use Rattle.nn_bytes.specs.Lines.{line_feed}
 use Rattle.nn_edits.specs.Reading.{edit_of_line}
 use Rattle.nn_types.specs.declared.edit.Edit.{Edit}
 use Rattle.nn_types.specs.declared.edit.Edit.TheVariants as edit
 use Rattle.nn_types.specs.declared.profile.Profile.{Profile}
 use Rattle.nn_types.specs.declared.tx.Tx.{Tx}
-use Rattle.nn_segment.specs.Lines.{newline, lines_of, joined_lines, reads_of, is_ended, is_unbroken}
+use Rattle.nn_model.specs.Apply.{fault_if, first_fault}
+use Rattle.nn_segment.specs.Lines.{lines_of, joined_lines, reads_of, is_ended, is_unbroken}
 use Rattle.nn_segment.specs.Name.{txids_of}
-use Rattle.nn_segment.specs.Reading.{when, first, later_fault, after_start, lines_fault, is_named, bytes_checks, unless, read_segment}
+use Rattle.nn_segment.specs.Reading.{later_fault, after_start, lines_fault, names_txids, bytes_checks, unless, read_segment}
 use Rattle.nn_segment.specs.Segment.{Segment, start_profile, is_start, is_end, allows, ends_once, last_txid}
 use Rattle.nn_segment.specs.declared.fault.SegmentFault.{SegmentFault}
 use Rattle.nn_segment.specs.declared.fault.SegmentFault.TheVariants.{NoStart, Gap, WrongProfile, TooLong, NoEnd, TornLine}
 use Rattle.nn_segment.proofs.Names.{names}
 use Rattle.nn_segment.proofs.ReadingLemmas.{accepted, by_lines, bytes_good, bytes_refused, end_refuses, none_refuses, order_refuses, refused}
-use Rattle.nn_scenario.specs.Checking.{Check, first_line_fault, later_line_fault, or_fault, begun, gone_on, line_added, part_fault, or_bad, part_ended, line_checked, HasBegun, IsInHand, AreSegments, IsCheckOf}
-use Rattle.nn_scenario.specs.Cut.{Part, AreRead, no_lines, with_line, last_part, name_of, segment_of, with_segment, segments_from}
+use Rattle.nn_scenario.specs.Checking.{SegmentCheck, first_line_fault, later_line_fault, or_fault, begun, gone_on, line_added, part_fault, or_bad, part_ended, line_checked, HasBegunPart, IsInHand, AreSegments, IsCheckOf}
+use Rattle.nn_scenario.specs.Cut.{Part, AreRead, no_lines, with_line, last_part, part_name, segment_of, with_segment, segments_from}
 use Rattle.nn_scenario.specs.Reading.{Reading, nothing_read, with_edit_line}
 use Rattle.nn_scenario.specs.declared.steps.Step.TheVariants as step
-use Rattle.nn_scenario.specs.declared.segments.BadSegment.{BadSegment}
+use Rattle.nn_scenario.specs.declared.segments.PartFault.{PartFault}
 use Rattle.nn_scenario.proofs.SegmentLemmas.{no_parts, none_read, one_more_read, part_refused, part_taken, prepend, read_back}
 
 abbrev has_end : List Tx → Bool
@@ -142,15 +144,15 @@ max_below a b k l r =
     omega (arith, top, l)
 
 named_so : (t : Tx) (later : List Tx) → 1 ≤ t.txid → t.txid < 2 ^ 63 → last_txid (t ∷ later) < 2 ^ 63
-    → txids_of (name_of (t ∷ later)) ≡ Some (t.txid, max t.txid (last_txid (t ∷ later)))
-named_so t later from below last = names (name_of (t ∷ later)) t.txid (max t.txid (last_txid (t ∷ later))) (record {
+    → txids_of (part_name (t ∷ later)) ≡ Some (t.txid, max t.txid (last_txid (t ∷ later)))
+named_so t later from below last = names (part_name (t ∷ later)) t.txid (max t.txid (last_txid (t ∷ later))) (record {
   from_one = from;
   in_order = le-max_left t.txid (last_txid (t ∷ later));
   in_range = max_below t.txid (last_txid (t ∷ later)) (2 ^ 63) below last;
   spelled = refl;
 })
 
-name_is : (t : Tx) (later : List Tx) → lines_fault (map Ok (t ∷ later)) ≡ None → is_named (Some (t.txid, max t.txid (last_txid (t ∷ later)))) (t ∷ later) ≡ true
+name_is : (t : Tx) (later : List Tx) → lines_fault (map Ok (t ∷ later)) ≡ None → names_txids (Some (t.txid, max t.txid (last_txid (t ∷ later)))) (t ∷ later) ≡ true
 name_is t later none =
     and_from (eqb t.txid t.txid) (eqb (max t.txid (last_txid (t ∷ later))) (last_txid (t ∷ later)))
     (eq-eqb t.txid t.txid refl) (eq-eqb _ _ (max-eq_right (in_order_rises t later none)))
@@ -164,8 +166,8 @@ ended_behind (b ∷ xs) ys h = one (xs ++ ys) (ended_behind xs ys h)
     one (c ∷ zs) h = h
 
 joined_ended : (line : List ℕ) (lines : List (List ℕ)) → is_ended (joined_lines (line ∷ lines)) ≡ true
-joined_ended line [] = ap is_ended (append-nil (line ++ newline ∷ [])) ∙ ended_behind line (newline ∷ []) refl
-joined_ended line (next ∷ lines) = ended_behind (line ++ newline ∷ []) (joined_lines (next ∷ lines)) (joined_ended next lines)
+joined_ended line [] = ap is_ended (append-nil (line ++ line_feed ∷ [])) ∙ ended_behind line (line_feed ∷ []) refl
+joined_ended line (next ∷ lines) = ended_behind (line ++ line_feed ∷ []) (joined_lines (next ∷ lines)) (joined_ended next lines)
 
 bytes_ended : (bytes : List ℕ) (t : Tx) (later : List Tx) → AreRead (record { bytes = bytes; txs = t ∷ later }) → is_ended bytes ≡ true
 bytes_ended bytes t later h = at h.lines h.joined h.reads
@@ -178,21 +180,21 @@ some_bytes : (bytes : List ℕ) → is_ended bytes ≡ true → eqb (length byte
 some_bytes [] h = absurd (cc)
 some_bytes (b ∷ bytes) h = ne_eqb (suc (length bytes)) 0 (λ e. absurd (omega (arith, e)))
 
-too_long : (bytes : List ℕ) → 16777216 < length bytes → first (bytes_checks bytes) ≡ Some TooLong
+too_long : (bytes : List ℕ) → 16777216 < length bytes → first_fault (bytes_checks bytes) ≡ Some TooLong
 too_long bytes long =
-    ap (λ b. first (when b TooLong ∷ when (eqb (length bytes) 0) NoStart ∷ when (not (is_ended bytes)) (TornLine (length (lines_of bytes))) ∷ [])) (lt-ltb 16777216 (length bytes) long)
+    ap (λ b. first_fault (fault_if b TooLong ∷ fault_if (eqb (length bytes) 0) NoStart ∷ fault_if (not (is_ended bytes)) (TornLine (length (lines_of bytes))) ∷ [])) (lt-ltb 16777216 (length bytes) long)
 
 -- what a part is, where its lines have this fault, and this says whether it ends
 pub judged_part : (bytes : List ℕ) (t : Tx) (later : List Tx) (room : ℕ) (order : Option SegmentFault) (ends : Bool) → AreRead (record { bytes = bytes; txs = t ∷ later })
     → t.txid < 2 ^ 63 → last_txid (t ∷ later) < 2 ^ 63 → room ≡ 16777217 - length bytes → order ≡ lines_fault (map Ok (t ∷ later)) → (order ≡ None → ends_once later ≡ ends)
-    → segment_of (record { bytes = bytes; txs = t ∷ later }) ≡ unless (part_fault room order ends) (record { name = name_of (t ∷ later); bytes = bytes; txs = t ∷ later })
+    → segment_of (record { bytes = bytes; txs = t ∷ later }) ≡ unless (part_fault room order ends) (record { name = part_name (t ∷ later); bytes = bytes; txs = t ∷ later })
 judged_part bytes t later room order ends h below last left is ended = sized (nat_lt 16777216 (length bytes)) refl
   where
     txs : List Tx
     txs = t ∷ later
 
     name : List ℕ
-    name = name_of (t ∷ later)
+    name = part_name (t ∷ later)
 
     txids : ℕ × ℕ
     txids = (t.txid, max t.txid (last_txid (t ∷ later)))
@@ -206,7 +208,7 @@ judged_part bytes t later room order ends h below last left is ended = sized (na
     read : reads_of bytes ≡ map Ok txs
     read = read_back (record { bytes = bytes; txs = txs }) h
 
-    by_order : first (bytes_checks bytes) ≡ None → (o : Option SegmentFault) → order ≡ o → (e : Bool) → ends ≡ e
+    by_order : first_fault (bytes_checks bytes) ≡ None → (o : Option SegmentFault) → order ≡ o → (e : Bool) → ends ≡ e
         → read_segment name bytes ≡ unless (or_fault o (cond e None (Some NoEnd))) (record { name = name; bytes = bytes; txs = txs })
     by_order good (Some fault) was e so =
         refused name bytes fault (by_lines name bytes txids named good ∙ order_refuses txids (reads_of bytes) txs None fault read (sym is ∙ was))
@@ -233,9 +235,9 @@ judged_part bytes t later room order ends h below last left is ended = sized (na
 segments_behind : (k : ℕ) (parts more : List Part) (segments : List Segment) → segments_from k parts ≡ Ok segments
     → segments_from k (parts ++ more) ≡ prepend segments (segments_from (length parts + k) more)
 unfolding segments_from
-segments_behind k [] more segments is = let none : [] ≡ segments = cc in sym (all_from (segments_from k more)) ∙ ap (λ front. prepend front (segments_from k more)) none ∙ ap (λ n. prepend segments (segments_from n more)) (let same : k ≡ 0 + k = omega arith in same)
+segments_behind k [] more segments is = let none : [] ≡ segments = cc in sym (all_from (segments_from k more)) ∙ ap (λ prefix. prepend prefix (segments_from k more)) none ∙ ap (λ n. prepend segments (segments_from n more)) (let same : k ≡ 0 + k = omega arith in same)
   where
-    all_from : (r : Result (List Segment) BadSegment) → prepend [] r ≡ r
+    all_from : (r : Result (List Segment) PartFault) → prepend [] r ≡ r
     all_from (Ok segments) = refl
     all_from (Err e) = refl
 segments_behind k (part ∷ parts) more segments is = at (segment_of part) (segments_from (k + 1) parts) refl is (segments_behind (k + 1) parts more)
@@ -243,18 +245,18 @@ segments_behind k (part ∷ parts) more segments is = at (segment_of part) (segm
     place : length parts + (k + 1) ≡ suc (length parts) + k
     place = omega arith
 
-    one : (s : Segment) (later : List Segment) (r : Result (List Segment) BadSegment) → with_segment k (Ok s) (prepend later r) ≡ prepend (s ∷ later) r
+    one : (s : Segment) (later : List Segment) (r : Result (List Segment) PartFault) → with_segment k (Ok s) (prepend later r) ≡ prepend (s ∷ later) r
     one s later (Ok segments) = refl
     one s later (Err e) = refl
 
-    at : (o : Result Segment SegmentFault) (r : Result (List Segment) BadSegment) → segments_from (k + 1) parts ≡ r → with_segment k o r ≡ Ok segments
+    at : (o : Result Segment SegmentFault) (r : Result (List Segment) PartFault) → segments_from (k + 1) parts ≡ r → with_segment k o r ≡ Ok segments
         → ((later : List Segment) → segments_from (k + 1) parts ≡ Ok later → segments_from (k + 1) (parts ++ more) ≡ prepend later (segments_from (length parts + (k + 1)) more))
         → with_segment k o (segments_from (k + 1) (parts ++ more)) ≡ prepend segments (segments_from (suc (length parts) + k) more)
     at (Ok s) (Ok later) was is rest =
         let same : s ∷ later ≡ segments = cc in
         ap (with_segment k (Ok s)) (rest later was)
         ∙ one s later (segments_from (length parts + (k + 1)) more)
-        ∙ ap (λ front. prepend front (segments_from (length parts + (k + 1)) more)) same
+        ∙ ap (λ prefix. prepend prefix (segments_from (length parts + (k + 1)) more)) same
         ∙ ap (λ n. prepend segments (segments_from n more)) place
     at (Ok s) (Err e) was is rest = absurd (cc)
     at (Err e) r was is rest = absurd (cc)
@@ -263,8 +265,8 @@ txs_map-append : {A B : Type 0} (f : A → B) (xs : List A) (x : A) → map f (x
 txs_map-append f xs x = map-append f xs (x ∷ [])
 
 -- one more part, of which it was found what it is
-pub one_more_part : (parts : List Part) (part : Part) (bad : Option BadSegment) (fault : Option SegmentFault) → AreSegments parts bad
-    → segment_of part ≡ unless fault (record { name = name_of part.txs; bytes = part.bytes; txs = part.txs })
+pub one_more_part : (parts : List Part) (part : Part) (bad : Option PartFault) (fault : Option SegmentFault) → AreSegments parts bad
+    → segment_of part ≡ unless fault (record { name = part_name part.txs; bytes = part.bytes; txs = part.txs })
     → AreSegments (parts ++ part ∷ []) (or_bad bad fault (length parts + 1))
 one_more_part parts part (Some bad) fault h is = λ more. ap (segments_from 1) (append_assoc parts (part ∷ []) more) ∙ h (part ∷ more)
 one_more_part parts part None (Some fault) h is = λ more.
@@ -272,10 +274,10 @@ one_more_part parts part None (Some fault) h is = λ more.
     ∙ segments_behind 1 parts (part ∷ more) h.0 h.1
     ∙ part_refused (length parts + 1) part more h.0 fault is
 one_more_part parts part None None h is =
-    let s : Segment = record { name = name_of part.txs; bytes = part.bytes; txs = part.txs } in (
+    let s : Segment = record { name = part_name part.txs; bytes = part.bytes; txs = part.txs } in (
       h.0 ++ s ∷ [],
       segments_behind 1 parts (part ∷ []) h.0 h.1 ∙ part_taken (length parts + 1) part [] h.0 s is ∙ no_parts (length parts + 1 + 1) (h.0 ++ s ∷ []) [] refl,
-      txs_map-append (λ (x : Segment). x.txs) h.0 s ∙ ap (λ front. front ++ part.txs ∷ []) h.2 ∙ sym (txs_map-append (λ (p : Part). p.txs) parts part),
+      txs_map-append (λ (x : Segment). x.txs) h.0 s ∙ ap (λ prefix. prefix ++ part.txs ∷ []) h.2 ∙ sym (txs_map-append (λ (p : Part). p.txs) parts part),
     )
 
 -- ---- the check of one more line
@@ -308,26 +310,26 @@ end_is_no_start (edit.AllocateBlockId i) ends = absurd (cc)
 end_is_no_start (edit.SetGenstamp s) ends = absurd (cc)
 
 -- whichever line it is
-record Adds (c : Check) (bytes : ℕ) (c' : Check) : Type 0 where
+record Adds (c : SegmentCheck) (bytes : ℕ) (c' : SegmentCheck) : Type 0 where
   room : c'.room ≡ c.room - bytes
   lines : c'.lines ≡ c.lines + 1
   ended : c'.ended ≡ c.ended
   bad : c'.bad ≡ c.bad
 
-adds : (c : Check) (bytes : ℕ) (tx : Tx) → Adds c bytes (line_added c bytes tx)
+adds : (c : SegmentCheck) (bytes : ℕ) (tx : Tx) → Adds c bytes (line_added c bytes tx)
 adds c bytes tx = at (eqb c.lines 0) refl
   where
     at : (b : Bool) → eqb c.lines 0 ≡ b → Adds c bytes (cond b (begun c bytes tx) (gone_on c bytes tx))
     at true none = record { room = refl; lines = let zero : c.lines ≡ 0 = eqb-true c.lines 0 none in omega (arith, zero); ended = refl; bad = refl }
     at false some = record { room = refl; lines = refl; ended = refl; bad = refl }
 
-is_first : (c : Check) (bytes : ℕ) (tx : Tx) → c.lines ≡ 0 → line_added c bytes tx ≡ begun c bytes tx
+is_first : (c : SegmentCheck) (bytes : ℕ) (tx : Tx) → c.lines ≡ 0 → line_added c bytes tx ≡ begun c bytes tx
 is_first c bytes tx none = ap (λ b. cond b (begun c bytes tx) (gone_on c bytes tx)) (eq-eqb c.lines 0 none)
 
-is_later : (c : Check) (bytes : ℕ) (tx : Tx) (k : ℕ) → c.lines ≡ suc k → line_added c bytes tx ≡ gone_on c bytes tx
+is_later : (c : SegmentCheck) (bytes : ℕ) (tx : Tx) (k : ℕ) → c.lines ≡ suc k → line_added c bytes tx ≡ gone_on c bytes tx
 is_later c bytes tx k some = ap (λ b. cond b (begun c bytes tx) (gone_on c bytes tx)) (ne_eqb c.lines 0 (λ none. absurd (omega (arith, some, none))))
 
-order_added : (t : Tx) (later : List Tx) (c : Check) (tx : Tx) → HasBegun t later c → c.lines ≡ suc (length later)
+order_added : (t : Tx) (later : List Tx) (c : SegmentCheck) (tx : Tx) → HasBegunPart t later c → c.lines ≡ suc (length later)
     → or_fault c.order (later_line_fault c.profile (c.lines + 1) c.next tx) ≡ lines_fault (map Ok (t ∷ (later ++ tx ∷ [])))
 order_added t later c tx h lines =
     let place : c.lines + 1 ≡ length later + 2 = omega (arith, lines) in
@@ -337,7 +339,7 @@ order_added t later c tx h lines =
     ∙ ap (λ n. or_fault (lines_fault (map Ok (t ∷ later))) (later_line_fault (start_profile t.edit) (length later + 2) n tx)) h.next
     ∙ sym (order_goes_on t later tx)
 
-has_begun : (c : Check) (bytes : ℕ) (tx : Tx) → tx.txid < 2 ^ 63 → HasBegun tx [] (begun c bytes tx)
+has_begun : (c : SegmentCheck) (bytes : ℕ) (tx : Tx) → tx.txid < 2 ^ 63 → HasBegunPart tx [] (begun c bytes tx)
 has_begun c bytes tx below = record {
   profile = refl;
   next = refl;
@@ -348,8 +350,8 @@ has_begun c bytes tx below = record {
   last_in_range = omega (arith, below);
 }
 
-has_gone_on : (t : Tx) (later : List Tx) (c : Check) (bytes : ℕ) (tx : Tx) → HasBegun t later c → c.lines ≡ suc (length later) → tx.txid < 2 ^ 63 → is_end tx.edit ≡ false
-    → HasBegun t (later ++ tx ∷ []) (gone_on c bytes tx)
+has_gone_on : (t : Tx) (later : List Tx) (c : SegmentCheck) (bytes : ℕ) (tx : Tx) → HasBegunPart t later c → c.lines ≡ suc (length later) → tx.txid < 2 ^ 63 → is_end tx.edit ≡ false
+    → HasBegunPart t (later ++ tx ∷ []) (gone_on c bytes tx)
 has_gone_on t later c bytes tx h lines below other = record {
   profile = h.profile;
   next = ap (λ n. n + 1) (sym (last_is_next t later tx));
@@ -365,28 +367,28 @@ has_gone_on t later c bytes tx h lines below other = record {
     none false true na nb = absurd (cc)
     none false false na nb = refl
 
-in_hand_still : (txs : List Tx) (c : Check) (bytes : ℕ) (tx : Tx) → IsInHand txs c → c.lines ≡ length txs → tx.txid < 2 ^ 63 → is_end tx.edit ≡ false
+in_hand_still : (txs : List Tx) (c : SegmentCheck) (bytes : ℕ) (tx : Tx) → IsInHand txs c → c.lines ≡ length txs → tx.txid < 2 ^ 63 → is_end tx.edit ≡ false
     → IsInHand (txs ++ tx ∷ []) (line_added c bytes tx)
-in_hand_still [] c bytes tx h lines below other = subst (HasBegun tx []) (sym (is_first c bytes tx lines)) (has_begun c bytes tx below)
+in_hand_still [] c bytes tx h lines below other = subst (HasBegunPart tx []) (sym (is_first c bytes tx lines)) (has_begun c bytes tx below)
 in_hand_still (t ∷ later) c bytes tx h lines below other =
-    subst (HasBegun t (later ++ tx ∷ [])) (sym (is_later c bytes tx (length later) lines)) (has_gone_on t later c bytes tx h lines below other)
+    subst (HasBegunPart t (later ++ tx ∷ [])) (sym (is_later c bytes tx (length later) lines)) (has_gone_on t later c bytes tx h lines below other)
 
 -- the part that an end mark ends
-abbrev fault_here : Check → Option SegmentFault
+abbrev fault_here : SegmentCheck → Option SegmentFault
 fault_here c = part_fault c.room c.order (true && not c.inside)
 
-ended_by : (txs : List Tx) (c : Check) (n : ℕ) (tx : Tx) (bytes : List ℕ) → IsInHand txs c → c.lines ≡ length txs → tx.txid < 2 ^ 63 → is_end tx.edit ≡ true
+ended_by : (txs : List Tx) (c : SegmentCheck) (n : ℕ) (tx : Tx) (bytes : List ℕ) → IsInHand txs c → c.lines ≡ length txs → tx.txid < 2 ^ 63 → is_end tx.edit ≡ true
     → AreRead (record { bytes = bytes; txs = txs ++ tx ∷ [] }) → c.room - n ≡ 16777217 - length bytes
-    → segment_of (record { bytes = bytes; txs = txs ++ tx ∷ [] }) ≡ unless (fault_here (line_added c n tx)) (record { name = name_of (txs ++ tx ∷ []); bytes = bytes; txs = txs ++ tx ∷ [] })
+    → segment_of (record { bytes = bytes; txs = txs ++ tx ∷ [] }) ≡ unless (fault_here (line_added c n tx)) (record { name = part_name (txs ++ tx ∷ []); bytes = bytes; txs = txs ++ tx ∷ [] })
 ended_by [] c n tx bytes h lines below ends read room =
     judged_part bytes tx [] (c.room - n) (first_line_fault (start_profile tx.edit)) true read below below room (sym (order_begins tx))
     (λ none. absurd (let fault : Some NoStart ≡ None = sym (ap first_line_fault (end_is_no_start tx.edit ends)) ∙ none in cc))
-    ∙ ap (λ k. unless (fault_here k) (record { name = name_of (tx ∷ []); bytes = bytes; txs = tx ∷ [] })) (sym (is_first c n tx lines))
+    ∙ ap (λ k. unless (fault_here k) (record { name = part_name (tx ∷ []); bytes = bytes; txs = tx ∷ [] })) (sym (is_first c n tx lines))
 ended_by (t ∷ later) c n tx bytes h lines below ends read room =
     let last : last_txid (t ∷ (later ++ tx ∷ [])) < 2 ^ 63 = subst (λ k. k < 2 ^ 63) (sym (last_is_next t later tx)) below in
     judged_part bytes t (later ++ tx ∷ []) (c.room - n) (or_fault c.order (later_line_fault c.profile (c.lines + 1) c.next tx)) (true && not (c.inside || is_start tx.edit))
     read h.first_in_range last room (order_added t later c tx h lines) (λ none. ends_once_at later tx h.not_ended ends ∙ marks)
-    ∙ ap (λ k. unless (fault_here k) (record { name = name_of (t ∷ (later ++ tx ∷ [])); bytes = bytes; txs = t ∷ (later ++ tx ∷ []) })) (sym (is_later c n tx (length later) lines))
+    ∙ ap (λ k. unless (fault_here k) (record { name = part_name (t ∷ (later ++ tx ∷ [])); bytes = bytes; txs = t ∷ (later ++ tx ∷ []) })) (sym (is_later c n tx (length later) lines))
   where
     or_none : (a b : Bool) → b ≡ false → not a ≡ (true && not (a || b))
     or_none true b none = refl
@@ -399,11 +401,11 @@ ended_by (t ∷ later) c n tx bytes h lines below ends read room =
     marks : not (has_start later) ≡ (true && not (c.inside || is_start tx.edit))
     marks = ap not (sym h.inside) ∙ or_none c.inside (is_start tx.edit) no_start
 
-room_left : (c : Check) (bytes text : List ℕ) → c.room ≡ 16777217 - length bytes → c.room - (length text + 1) ≡ 16777217 - length (bytes ++ text ++ newline ∷ [])
-room_left c bytes text room = omega (arith, room, length-append (bytes ++ text) (newline ∷ []), length-append bytes text)
+room_left : (c : SegmentCheck) (bytes text : List ℕ) → c.room ≡ 16777217 - length bytes → c.room - (length text + 1) ≡ 16777217 - length (bytes ++ text ++ line_feed ∷ [])
+room_left c bytes text room = omega (arith, room, length-append (bytes ++ text) (line_feed ∷ []), length-append bytes text)
 
 -- one more line is checked
-pub line_checks : (x : Reading) (c : Check) (text : List ℕ) (tx : Tx) → is_unbroken text ≡ true → edit_of_line text ≡ Ok tx → 1 ≤ tx.txid → tx.txid < 2 ^ 63 → IsCheckOf x c
+pub line_checks : (x : Reading) (c : SegmentCheck) (text : List ℕ) (tx : Tx) → is_unbroken text ≡ true → edit_of_line text ≡ Ok tx → 1 ≤ tx.txid → tx.txid < 2 ^ 63 → IsCheckOf x c
     → IsCheckOf (with_edit_line x (record { text = text; tx = tx })) (line_checked c (length text + 1) tx)
 line_checks x c text tx whole is from below h = at (is_end tx.edit) refl
   where
@@ -413,7 +415,7 @@ line_checks x c text tx whole is from below h = at (is_end tx.edit) refl
     part : Part
     part = with_line x.in_hand (record { text = text; tx = tx })
 
-    added : Check
+    added : SegmentCheck
     added = line_added c n tx
 
     more : Adds c n added
@@ -446,7 +448,7 @@ line_checks x c text tx whole is from below h = at (is_end tx.edit) refl
           (one_more_part x.parts part c.bad (fault_here added) h.parts (ended_by x.in_hand.txs c n tx part.bytes h.in_hand h.lines below ends read room));
     }
       where
-        bad_is : {a b : Option BadSegment} {k l : ℕ} → a ≡ b → k ≡ l → or_bad a (fault_here added) k ≡ or_bad b (fault_here added) l
+        bad_is : {a b : Option PartFault} {k l : ℕ} → a ≡ b → k ≡ l → or_bad a (fault_here added) k ≡ or_bad b (fault_here added) l
         bad_is {a} {b} {k} {l} same place = ap (λ o. or_bad o (fault_here added) k) same ∙ ap (λ m. or_bad b (fault_here added) m) place
 
 -- ---- no line
@@ -457,13 +459,13 @@ nothing_checked = record { read = none_read; room = refl; lines = refl; in_hand 
 
 -- ---- no more lines
 
-pub none_in_hand : (x : Reading) (c : Check) → c.lines ≡ 0 → IsCheckOf x c → AreSegments (x.parts ++ last_part x.in_hand) c.bad
+pub none_in_hand : (x : Reading) (c : SegmentCheck) → c.lines ≡ 0 → IsCheckOf x c → AreSegments (x.parts ++ last_part x.in_hand) c.bad
 none_in_hand x c none h =
     subst (λ parts. AreSegments parts c.bad)
     (sym (ap (λ b. x.parts ++ cond b [] (x.in_hand ∷ [])) (eq-eqb (length x.in_hand.txs) 0 (sym h.lines ∙ none)) ∙ append-nil x.parts))
     h.parts
 
-pub some_in_hand : (x : Reading) (c : Check) → c.lines ≢ 0 → IsCheckOf x c → AreSegments (x.parts ++ last_part x.in_hand) (or_bad c.bad (part_fault c.room c.order false) (c.ended + 1))
+pub some_in_hand : (x : Reading) (c : SegmentCheck) → c.lines ≢ 0 → IsCheckOf x c → AreSegments (x.parts ++ last_part x.in_hand) (or_bad c.bad (part_fault c.room c.order false) (c.ended + 1))
 some_in_hand x c some h =
     subst (λ parts. AreSegments parts (or_bad c.bad (part_fault c.room c.order false) (c.ended + 1)))
     (sym (ap (λ b. x.parts ++ cond b [] (x.in_hand ∷ [])) (ne_eqb (length x.in_hand.txs) 0 (λ none. some (h.lines ∙ none)))))
@@ -471,11 +473,11 @@ some_in_hand x c some h =
     (one_more_part x.parts x.in_hand c.bad (part_fault c.room c.order false) h.parts (left x.in_hand.txs refl h.in_hand)))
   where
     left : (txs : List Tx) → x.in_hand.txs ≡ txs → IsInHand txs c
-        → segment_of x.in_hand ≡ unless (part_fault c.room c.order false) (record { name = name_of x.in_hand.txs; bytes = x.in_hand.bytes; txs = x.in_hand.txs })
+        → segment_of x.in_hand ≡ unless (part_fault c.room c.order false) (record { name = part_name x.in_hand.txs; bytes = x.in_hand.bytes; txs = x.in_hand.txs })
     left [] was begun = absurd (some (h.lines ∙ ap length was))
     left (t ∷ later) was begun =
         let last : last_txid (t ∷ later) < 2 ^ 63 = omega (arith, begun.next, begun.last_in_range) in
-        subst (λ txs. segment_of (record { bytes = x.in_hand.bytes; txs = txs }) ≡ unless (part_fault c.room c.order false) (record { name = name_of txs; bytes = x.in_hand.bytes; txs = txs })) (sym was)
+        subst (λ txs. segment_of (record { bytes = x.in_hand.bytes; txs = txs }) ≡ unless (part_fault c.room c.order false) (record { name = part_name txs; bytes = x.in_hand.bytes; txs = txs })) (sym was)
         (judged_part x.in_hand.bytes t later c.room c.order false
         (subst (λ txs. AreRead (record { bytes = x.in_hand.bytes; txs = txs })) was h.read)
         begun.first_in_range last h.room begun.order (λ none. has_no_end later begun.not_ended))

@@ -15,11 +15,11 @@ use Rattle.nn_types.specs.declared.tx.Tx.{Tx}
 use Rattle.nn_edits.proofs.LineGrammar.{either_line_ok, lawful_line}
 use Rattle.nn_model.specs.Lanes.{Lanes, no_messages, followed_by}
 use Rattle.nn_segment.specs.Segment.{is_end}
-use Rattle.nn_scenario.specs.Cut.{EditLine, Part, no_lines, with_line, cut_from, cut}
+use Rattle.nn_scenario.specs.Cut.{EditLine, Part, no_lines, with_line, parts_from, cut}
 use Rattle.nn_scenario.specs.Scenario.{ScenarioLine, edit, report, line_as, is_blank, and_later, with_read, lines_from, edit_lines, steps_from, steps_of}
-use Rattle.nn_scenario.specs.Scenario.{Scenario, lines_of, scenario_with, scenario_from, scenario_of, HasMessagesOf, IsLawfulScenario}
-use Rattle.nn_scenario.specs.Steps.{next_message, lanes_of, datanode_count, edit_count, IsStepOf}
-use Rattle.nn_scenario.specs.declared.scenario.BadLine.{BadLine}
+use Rattle.nn_scenario.specs.Scenario.{Scenario, scenario_lines, scenario_with, scenario_from, scenario_of, HasMessagesOf, IsLawfulScenario}
+use Rattle.nn_scenario.specs.Steps.{message_in_turn, lanes_of_steps, datanode_count, edit_count, IsStepOf}
+use Rattle.nn_scenario.specs.declared.scenario.ScenarioFault.{ScenarioFault}
 use Rattle.nn_scenario.specs.declared.steps.Step.{Step}
 use Rattle.nn_scenario.specs.declared.steps.Step.TheVariants as step
 use Rattle.nn_scenario.proofs.StepLemmas.{steps_in_turn, lanes_of_lines, steps_are_lanes}
@@ -38,7 +38,7 @@ lawful_read : (text : List ℕ) (line : Line) → either_of_line text ≡ Ok lin
 lawful_read text (either.Edit tx) is = tt
 lawful_read text (either.Report r) is = lawful_line text (either.Report r) (either_line_ok text (either.Report r) is)
 
-later_lawful : (line : ScenarioLine) (r : Result (List ScenarioLine) BadLine) (lines : List ScenarioLine) → and_later line r ≡ Ok lines → IsLawfulRead line →
+later_lawful : (line : ScenarioLine) (r : Result (List ScenarioLine) ScenarioFault) (lines : List ScenarioLine) → and_later line r ≡ Ok lines → IsLawfulRead line →
     ((later : List ScenarioLine) → r ≡ Ok later → AreLawful later) → AreLawful lines
 later_lawful line (Ok later) lines is h rest = let same : line ∷ later ≡ lines = cc in subst AreLawful same (h, rest later refl)
 later_lawful line (Err e) lines is h rest = absurd (cc)
@@ -65,21 +65,21 @@ count_from (step.Message m ∷ steps) = omega (arith, count_from steps)
 count_to : (lanes : Lanes) (lines : List ScenarioLine) → AreLawful lines → datanode_count (steps_from lanes lines) ≤ 256
 count_to lanes [] h = omega arith
 count_to lanes (edit line ∷ lines) h = count_to lanes lines h.1
-count_to lanes (report r ∷ lines) h = omega (arith, h.0.dn_to, count_to (followed_by lanes (next_message lanes r)) lines h.1)
+count_to lanes (report r ∷ lines) h = omega (arith, h.0.dn_to, count_to (followed_by lanes (message_in_turn lanes r)) lines h.1)
 
 steps_within : (k : ℕ) (lanes : Lanes) (lines : List ScenarioLine) → AreLawful lines → datanode_count (steps_from lanes lines) ≤ k →
     All (IsStepOf k) (steps_from lanes lines)
 steps_within k lanes [] h below = All-nil (IsStepOf k)
 steps_within k lanes (edit line ∷ lines) h below = All-cons (IsStepOf k) step.Edit (steps_from lanes lines) tt (steps_within k lanes lines h.1 below)
 steps_within k lanes (report r ∷ lines) h below =
-    let m = next_message lanes r in
+    let m = message_in_turn lanes r in
     let more = followed_by lanes m in
     All-cons (IsStepOf k) (step.Message m) (steps_from more lines) (h.0.dn_from, omega (arith, below)) (steps_within k more lines h.1 (omega (arith, below)))
 
 edits_of_steps : (lanes : Lanes) (lines : List ScenarioLine) → edit_count (steps_from lanes lines) ≡ length (edit_lines lines)
 edits_of_steps lanes [] = refl
 edits_of_steps lanes (edit line ∷ lines) = omega (arith, edits_of_steps lanes lines)
-edits_of_steps lanes (report r ∷ lines) = edits_of_steps (followed_by lanes (next_message lanes r)) lines
+edits_of_steps lanes (report r ∷ lines) = edits_of_steps (followed_by lanes (message_in_turn lanes r)) lines
 
 -- ---- a cut keeps the transactions in order
 
@@ -89,8 +89,8 @@ txs_in parts = flat_map (λ part. part.txs) parts
 abbrev txs_of : List EditLine → List Tx
 txs_of lines = map (λ line. line.tx) lines
 
-pub cut_keeps : (part : Part) (lines : List EditLine) → txs_in (cut_from part lines) ≡ part.txs ++ txs_of lines
-unfolding cut_from
+pub cut_keeps : (part : Part) (lines : List EditLine) → txs_in (parts_from part lines) ≡ part.txs ++ txs_of lines
+unfolding parts_from
 cut_keeps part [] = at (length part.txs == 0) refl
   where
     at : (t : Bool) → (length part.txs == 0) ≡ t → txs_in (cond t [] (part ∷ [])) ≡ part.txs ++ []
@@ -98,9 +98,9 @@ cut_keeps part [] = at (length part.txs == 0) refl
     at false some = refl
 cut_keeps part (line ∷ lines) = at (is_end line.tx.edit) (cut_keeps no_lines lines) (cut_keeps (with_line part line) lines)
   where
-    at : (t : Bool) → txs_in (cut_from no_lines lines) ≡ txs_of lines →
-        txs_in (cut_from (with_line part line) lines) ≡ (part.txs ++ line.tx ∷ []) ++ txs_of lines →
-        txs_in (cond t (with_line part line ∷ cut_from no_lines lines) (cut_from (with_line part line) lines)) ≡ part.txs ++ txs_of (line ∷ lines)
+    at : (t : Bool) → txs_in (parts_from no_lines lines) ≡ txs_of lines →
+        txs_in (parts_from (with_line part line) lines) ≡ (part.txs ++ line.tx ∷ []) ++ txs_of lines →
+        txs_in (cond t (with_line part line ∷ parts_from no_lines lines) (parts_from (with_line part line) lines)) ≡ part.txs ++ txs_of (line ∷ lines)
     at true rest more = ap (λ txs. (part.txs ++ line.tx ∷ []) ++ txs) rest ∙ append_assoc part.txs (line.tx ∷ []) (txs_of lines)
     at false rest more = more ∙ append_assoc part.txs (line.tx ∷ []) (txs_of lines)
 
@@ -122,19 +122,19 @@ lawful_lines lines h = record {
 
 pub has_messages : (text : List ℕ) (s : Scenario) → scenario_of text ≡ Ok s → HasMessagesOf text s
 unfolding scenario_of
-has_messages text s is = at (lines_of text) refl is
+has_messages text s is = at (scenario_lines text) refl is
   where
-    at : (r : Result (List ScenarioLine) BadLine) → lines_of text ≡ r → scenario_from r ≡ Ok s → HasMessagesOf text s
+    at : (r : Result (List ScenarioLine) ScenarioFault) → scenario_lines text ≡ r → scenario_from r ≡ Ok s → HasMessagesOf text s
     at (Ok lines) was is =
         let same : scenario_with (cut (edit_lines lines)) (steps_of lines) ≡ s = cc in
-        (lines, was, λ dn. ap (λ (x : Scenario). lanes_of x.steps dn) (sym same) ∙ lanes_of_lines lines dn)
+        (lines, was, λ dn. ap (λ (x : Scenario). lanes_of_steps x.steps dn) (sym same) ∙ lanes_of_lines lines dn)
     at (Err e) was is = absurd (cc)
 
 pub lawful_scenario : (text : List ℕ) (s : Scenario) → scenario_of text ≡ Ok s → IsLawfulScenario s
 unfolding scenario_of
-lawful_scenario text s is = at (lines_of text) refl is
+lawful_scenario text s is = at (scenario_lines text) refl is
   where
-    at : (r : Result (List ScenarioLine) BadLine) → lines_of text ≡ r → scenario_from r ≡ Ok s → IsLawfulScenario s
+    at : (r : Result (List ScenarioLine) ScenarioFault) → scenario_lines text ≡ r → scenario_from r ≡ Ok s → IsLawfulScenario s
     at (Ok lines) was is =
         let same : scenario_with (cut (edit_lines lines)) (steps_of lines) ≡ s = cc in
         subst IsLawfulScenario same (lawful_lines lines (lines_lawful 1 _ lines was))

@@ -3,6 +3,7 @@ use Rattle.std.proofs.Common.{◌≡◌, ℕ, ◌+◌, List, [], ◌∷◌, ◌+
 use Rattle.std.proofs.Common.{append_assoc, append-nil, eqb, cond, ◌≤◌}
 use Rattle.std.specs.Bool.{MatchBool}
 use Rattle.std.specs.List.{slice_split}
+use Rattle.nn_bytes.specs.Lines.{line_feed}
 use Rattle.nn_types.specs.declared.report.Report.{Report}
 use Rattle.nn_edits.specs.Reading.{edit_of_line, either_of_line}
 use Rattle.nn_edits.specs.declared.fault.LineFault.{LineFault}
@@ -12,20 +13,19 @@ use Rattle.nn_types.specs.declared.tx.Tx.{Tx}
 use Rattle.nn_edits.proofs.LineGrammar.{either_line_ok, edit_line_has}
 use Rattle.nn_model.specs.Lanes.{no_messages}
 use Rattle.nn_segment.specs.Segment.{is_end}
-use Rattle.nn_scenario.specs.Cut.{no_lines, with_line, last_part, cut_from}
+use Rattle.nn_scenario.specs.Cut.{no_lines, with_line, last_part, parts_from}
 use Rattle.nn_scenario.specs.Scenario.{ScenarioLine, edit, report, line_as, is_blank, and_later, with_read, lines_from, edit_lines, steps_from}
 use Rattle.nn_scenario.specs.Scenario.{scenario_with, scenario_from, scenario_of}
 use Rattle.nn_scenario.specs.Chunks.{and_lines, follow}
 use Rattle.nn_scenario.specs.Reading.{Reading, nothing_read, followed_by_line, IsFollowed}
-use Rattle.nn_scenario.specs.Steps.{next_message, lanes_of, with_report}
-use Rattle.nn_scenario.specs.declared.scenario.BadLine.{BadLine}
+use Rattle.nn_scenario.specs.Steps.{message_in_turn, lanes_of_steps, with_report}
+use Rattle.nn_scenario.specs.declared.scenario.ScenarioFault.{ScenarioFault}
 use Rattle.nn_scenario.specs.declared.steps.Step.{Step}
 use Rattle.nn_scenario.specs.declared.steps.Step.TheVariants as step
-use Rattle.nn_segment.specs.Lines.{newline}
 use Rattle.nn_scenario.proofs.StepLemmas.{lanes_after_edit, lanes_after_message}
 
 abbrev pub pieces : List ℕ → List (List ℕ)
-pieces text = slice_split (λ b. eqb b newline) text
+pieces text = slice_split (λ b. eqb b line_feed) text
 
 -- a line that is an edit where both sorts stand together is that edit
 pub edit_alone : (line : List ℕ) (tx : Tx) → either_of_line line ≡ Ok (either.Edit tx) → edit_of_line line ≡ Ok tx
@@ -36,36 +36,36 @@ edit_from_one line tx is = (either_line_ok line (either.Edit tx) is).2.from_one
 
 -- ---- what was read, and then the lines that are left
 
-edit_steps : (steps : List Step) (lines : List ScenarioLine) → steps ++ step.Edit ∷ steps_from (lanes_of steps) lines
-    ≡ (steps ++ step.Edit ∷ []) ++ steps_from (lanes_of (steps ++ step.Edit ∷ [])) lines
+edit_steps : (steps : List Step) (lines : List ScenarioLine) → steps ++ step.Edit ∷ steps_from (lanes_of_steps steps) lines
+    ≡ (steps ++ step.Edit ∷ []) ++ steps_from (lanes_of_steps (steps ++ step.Edit ∷ [])) lines
 edit_steps steps lines =
     ap (λ lanes. steps ++ step.Edit ∷ steps_from lanes lines) (sym (lanes_after_edit no_messages steps))
-    ∙ sym (append_assoc steps (step.Edit ∷ []) (steps_from (lanes_of (steps ++ step.Edit ∷ [])) lines))
+    ∙ sym (append_assoc steps (step.Edit ∷ []) (steps_from (lanes_of_steps (steps ++ step.Edit ∷ [])) lines))
 
-report_steps : (steps : List Step) (r : Report) (lines : List ScenarioLine) → steps ++ steps_from (lanes_of steps) (report r ∷ lines)
-    ≡ with_report steps r ++ steps_from (lanes_of (with_report steps r)) lines
+report_steps : (steps : List Step) (r : Report) (lines : List ScenarioLine) → steps ++ steps_from (lanes_of_steps steps) (report r ∷ lines)
+    ≡ with_report steps r ++ steps_from (lanes_of_steps (with_report steps r)) lines
 report_steps steps r lines =
-    let m = next_message (lanes_of steps) r in
+    let m = message_in_turn (lanes_of_steps steps) r in
     ap (λ lanes. steps ++ step.Message m ∷ steps_from lanes lines) (sym (lanes_after_message no_messages steps m))
-    ∙ sym (append_assoc steps (step.Message m ∷ []) (steps_from (lanes_of (with_report steps r)) lines))
+    ∙ sym (append_assoc steps (step.Message m ∷ []) (steps_from (lanes_of_steps (with_report steps r)) lines))
 
 taken : (x : Reading) (line : ScenarioLine) (lines : List ScenarioLine) → and_lines x (line ∷ lines) ≡ and_lines (followed_by_line x line) lines
-unfolding cut_from
-taken x (report r) lines = ap (λ steps. scenario_with (x.parts ++ cut_from x.in_hand (edit_lines lines)) steps) (report_steps x.steps r lines)
+unfolding parts_from
+taken x (report r) lines = ap (λ steps. scenario_with (x.parts ++ parts_from x.in_hand (edit_lines lines)) steps) (report_steps x.steps r lines)
 taken x (edit line) lines =
-    ap (scenario_with (x.parts ++ cut_from x.in_hand (line ∷ edit_lines lines))) (edit_steps x.steps lines)
+    ap (scenario_with (x.parts ++ parts_from x.in_hand (line ∷ edit_lines lines))) (edit_steps x.steps lines)
     ∙ at (is_end line.tx.edit)
   where
     at : (b : Bool) →
-        scenario_with (x.parts ++ cond b (with_line x.in_hand line ∷ cut_from no_lines (edit_lines lines)) (cut_from (with_line x.in_hand line) (edit_lines lines)))
-        ((x.steps ++ step.Edit ∷ []) ++ steps_from (lanes_of (x.steps ++ step.Edit ∷ [])) lines)
+        scenario_with (x.parts ++ cond b (with_line x.in_hand line ∷ parts_from no_lines (edit_lines lines)) (parts_from (with_line x.in_hand line) (edit_lines lines)))
+        ((x.steps ++ step.Edit ∷ []) ++ steps_from (lanes_of_steps (x.steps ++ step.Edit ∷ [])) lines)
         ≡ and_lines (cond b (record { parts = x.parts ++ with_line x.in_hand line ∷ []; in_hand = no_lines; steps = x.steps ++ step.Edit ∷ [] })
         (record { parts = x.parts; in_hand = with_line x.in_hand line; steps = x.steps ++ step.Edit ∷ [] })) lines
-    at true = ap (λ parts. scenario_with parts ((x.steps ++ step.Edit ∷ []) ++ steps_from (lanes_of (x.steps ++ step.Edit ∷ [])) lines))
-        (sym (append_assoc x.parts (with_line x.in_hand line ∷ []) (cut_from no_lines (edit_lines lines))))
+    at true = ap (λ parts. scenario_with parts ((x.steps ++ step.Edit ∷ []) ++ steps_from (lanes_of_steps (x.steps ++ step.Edit ∷ [])) lines))
+        (sym (append_assoc x.parts (with_line x.in_hand line ∷ []) (parts_from no_lines (edit_lines lines))))
     at false = refl
 
-one_taken : (x : Reading) (line : ScenarioLine) (r : Result (List ScenarioLine) BadLine) → follow x (and_later line r) ≡ follow (followed_by_line x line) r
+one_taken : (x : Reading) (line : ScenarioLine) (r : Result (List ScenarioLine) ScenarioFault) → follow x (and_later line r) ≡ follow (followed_by_line x line) r
 one_taken x line (Ok lines) = ap Ok (taken x line lines)
 one_taken x line (Err e) = refl
 
@@ -90,13 +90,13 @@ unfolding lines_from
 refused n text texts d x e h = rw (e, h) refl
 
 pub no_more : (n : ℕ) (x : Reading) → follow x (lines_from n []) ≡ Ok (scenario_with (x.parts ++ last_part x.in_hand) x.steps)
-unfolding lines_from cut_from
+unfolding lines_from parts_from
 no_more n x = ap (λ steps. Ok (scenario_with (x.parts ++ last_part x.in_hand) steps)) (append-nil x.steps)
 
 pub whole_input : (text : List ℕ) → follow nothing_read (lines_from 1 (pieces text)) ≡ scenario_of text
 unfolding scenario_of
 whole_input text = same (lines_from 1 (pieces text))
   where
-    same : (r : Result (List ScenarioLine) BadLine) → follow nothing_read r ≡ scenario_from r
+    same : (r : Result (List ScenarioLine) ScenarioFault) → follow nothing_read r ≡ scenario_from r
     same (Ok lines) = refl
     same (Err e) = refl

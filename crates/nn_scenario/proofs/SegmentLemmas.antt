@@ -5,62 +5,63 @@ use Rattle.std.proofs.lemmas.List.{map-append}
 use Rattle.std.specs.List.{All, list_all}
 use Rattle.std.proofs.lemmas.Bool.{and_parts}
 use Rattle.std.proofs.lemmas.List.Elements.{All-head, All-push, All-nil}
+use Rattle.nn_bytes.specs.Lines.{line_feed}
 use Rattle.nn_edits.specs.Reading.{edit_of_line}
 use Rattle.nn_types.specs.declared.tx.Tx.{Tx}
-use Rattle.nn_segment.specs.Lines.{newline, joined_lines, reads_of, is_unbroken}
+use Rattle.nn_segment.specs.Lines.{joined_lines, reads_of, is_unbroken}
 use Rattle.nn_segment.proofs.JoinedLines.{reads_joined}
 use Rattle.nn_segment.specs.Segment.{Segment, last_txid}
-use Rattle.nn_segment.specs.Name.{name_text, txids_of}
+use Rattle.nn_segment.specs.Name.{segment_file_name, txids_of}
 use Rattle.nn_segment.specs.Reading.{read_segment}
 use Rattle.nn_segment.proofs.ReadingLemmas.{no_name}
 use Rattle.nn_segment.specs.declared.fault.SegmentFault.{SegmentFault}
 use Rattle.nn_segment.specs.declared.fault.SegmentFault.TheVariants.{BadName, NoStart, NoEnd, Gap, TornLine, NameMismatch, TooLong, BadLine, WrongProfile, OutOfMemory}
-use Rattle.nn_segment.specs.Outcome.{Gives}
-use Rattle.nn_scenario.specs.Cut.{Part, no_lines, with_line, AreRead, name_of, segment_of, with_segment, segments_from}
-use Rattle.nn_scenario.specs.declared.segments.BadSegment.{BadSegment}
+use Rattle.nn_segment.specs.Outcome.{SegmentGives}
+use Rattle.nn_scenario.specs.Cut.{Part, no_lines, with_line, AreRead, part_name, segment_of, with_segment, segments_from}
+use Rattle.nn_scenario.specs.declared.segments.PartFault.{PartFault}
 
 -- the segments so far, and then those that were read
-abbrev pub prepend : List Segment → Result (List Segment) BadSegment → Result (List Segment) BadSegment
-prepend front (Ok segments) = Ok (front ++ segments)
-prepend front (Err e) = Err e
+abbrev pub prepend : List Segment → Result (List Segment) PartFault → Result (List Segment) PartFault
+prepend prefix (Ok segments) = Ok (prefix ++ segments)
+prepend prefix (Err e) = Err e
 
-pub no_parts : (k : ℕ) (front : List Segment) (parts : List Part) → length parts ≡ 0 → prepend front (segments_from k parts) ≡ Ok front
+pub no_parts : (k : ℕ) (prefix : List Segment) (parts : List Part) → length parts ≡ 0 → prepend prefix (segments_from k parts) ≡ Ok prefix
 unfolding segments_from
-no_parts k front [] e = ap Ok (append-nil front)
-no_parts k front (part ∷ parts) e = absurd (omega arith)
+no_parts k prefix [] e = ap Ok (append-nil prefix)
+no_parts k prefix (part ∷ parts) e = absurd (omega arith)
 
-pub part_taken : (k : ℕ) (part : Part) (parts : List Part) (front : List Segment) (s : Segment) → segment_of part ≡ Ok s
-    → prepend front (segments_from k (part ∷ parts)) ≡ prepend (front ++ s ∷ []) (segments_from (k + 1) parts)
+pub part_taken : (k : ℕ) (part : Part) (parts : List Part) (prefix : List Segment) (s : Segment) → segment_of part ≡ Ok s
+    → prepend prefix (segments_from k (part ∷ parts)) ≡ prepend (prefix ++ s ∷ []) (segments_from (k + 1) parts)
 unfolding segments_from
-part_taken k part parts front s is = rw is (later (segments_from (k + 1) parts))
+part_taken k part parts prefix s is = rw is (later (segments_from (k + 1) parts))
   where
-    later : (r : Result (List Segment) BadSegment) → prepend front (with_segment k (Ok s) r) ≡ prepend (front ++ s ∷ []) r
-    later (Ok segments) = ap Ok (sym (append_assoc front (s ∷ []) segments))
+    later : (r : Result (List Segment) PartFault) → prepend prefix (with_segment k (Ok s) r) ≡ prepend (prefix ++ s ∷ []) r
+    later (Ok segments) = ap Ok (sym (append_assoc prefix (s ∷ []) segments))
     later (Err e) = refl
 
 -- one more segment
-pub part_read : (part : Part) (parts : List Part) (front front' : List Segment) (s : Segment) → segment_of part ≡ Ok s → front' ≡ front ++ s ∷ []
-    → prepend front' (segments_from (length front' + 1) parts) ≡ prepend front (segments_from (length front + 1) (part ∷ parts))
-part_read part parts front front' s is more =
-    let size : length front' + 1 ≡ length front + 1 + 1 = omega (arith, ap length more, length-append front (s ∷ [])) in
-    ap (λ k. prepend front' (segments_from k parts)) size
-    ∙ ap (λ f. prepend f (segments_from (length front + 1 + 1) parts)) more
-    ∙ sym (part_taken (length front + 1) part parts front s is)
+pub part_read : (part : Part) (parts : List Part) (prefix prefix' : List Segment) (s : Segment) → segment_of part ≡ Ok s → prefix' ≡ prefix ++ s ∷ []
+    → prepend prefix' (segments_from (length prefix' + 1) parts) ≡ prepend prefix (segments_from (length prefix + 1) (part ∷ parts))
+part_read part parts prefix prefix' s is more =
+    let size : length prefix' + 1 ≡ length prefix + 1 + 1 = omega (arith, ap length more, length-append prefix (s ∷ [])) in
+    ap (λ k. prepend prefix' (segments_from k parts)) size
+    ∙ ap (λ f. prepend f (segments_from (length prefix + 1 + 1) parts)) more
+    ∙ sym (part_taken (length prefix + 1) part parts prefix s is)
 
-pub part_refused : (k : ℕ) (part : Part) (parts : List Part) (front : List Segment) (fault : SegmentFault) → segment_of part ≡ Err fault
-    → prepend front (segments_from k (part ∷ parts)) ≡ Err (record { fault = fault; segment = k })
+pub part_refused : (k : ℕ) (part : Part) (parts : List Part) (prefix : List Segment) (fault : SegmentFault) → segment_of part ≡ Err fault
+    → prepend prefix (segments_from k (part ∷ parts)) ≡ Err (record { fault = fault; segment = k })
 unfolding segments_from
-part_refused k part parts front fault is = rw is refl
+part_refused k part parts prefix fault is = rw is refl
 
 pub all_parts : (parts : List Part) → prepend [] (segments_from 1 parts) ≡ segments_from 1 parts
 all_parts parts = same (segments_from 1 parts)
   where
-    same : (r : Result (List Segment) BadSegment) → prepend [] r ≡ r
+    same : (r : Result (List Segment) PartFault) → prepend [] r ≡ r
     same (Ok segments) = refl
     same (Err e) = refl
 
 -- a fault other than out of memory is the definition's
-pub fault_given : {X : Type 0} (fault : SegmentFault) (given : Result X SegmentFault) → Gives (Err fault) given → (fault ≡ OutOfMemory → ⊥) → given ≡ Err fault
+pub fault_given : {X : Type 0} (fault : SegmentFault) (given : Result X SegmentFault) → SegmentGives (Err fault) given → (fault ≡ OutOfMemory → ⊥) → given ≡ Err fault
 fault_given BadName given is other = is
 fault_given TooLong given is other = is
 fault_given NoStart given is other = is
@@ -80,10 +81,10 @@ read_back part h = ap reads_of h.joined ∙ reads_joined h.lines part.txs h.unbr
 pub none_read : AreRead no_lines
 none_read = record { lines = []; unbroken = refl; joined = refl; reads = refl; from_one = All-nil (λ (tx : Tx). 1 ≤ tx.txid) }
 
-joined-append : (lines : List (List ℕ)) (line : List ℕ) → joined_lines (lines ++ line ∷ []) ≡ joined_lines lines ++ (line ++ newline ∷ [])
-joined-append [] line = append-nil (line ++ newline ∷ [])
+joined-append : (lines : List (List ℕ)) (line : List ℕ) → joined_lines (lines ++ line ∷ []) ≡ joined_lines lines ++ (line ++ line_feed ∷ [])
+joined-append [] line = append-nil (line ++ line_feed ∷ [])
 joined-append (l ∷ lines) line =
-    ap (λ r. (l ++ newline ∷ []) ++ r) (joined-append lines line) ∙ sym (append_assoc (l ++ newline ∷ []) (joined_lines lines) (line ++ newline ∷ []))
+    ap (λ r. (l ++ line_feed ∷ []) ++ r) (joined-append lines line) ∙ sym (append_assoc (l ++ line_feed ∷ []) (joined_lines lines) (line ++ line_feed ∷ []))
 
 unbroken-append : (lines : List (List ℕ)) (line : List ℕ) → list_all is_unbroken lines ≡ true → is_unbroken line ≡ true → list_all is_unbroken (lines ++ line ∷ []) ≡ true
 unbroken-append [] line all one = rw one refl
@@ -96,18 +97,18 @@ pub one_more_read : (part : Part) (text : List ℕ) (tx : Tx) → AreRead part �
 one_more_read part text tx h whole is from = record {
   lines = h.lines ++ text ∷ [];
   unbroken = unbroken-append h.lines text h.unbroken whole;
-  joined = ap (λ bytes. bytes ++ text ++ newline ∷ []) h.joined ∙ append_assoc (joined_lines h.lines) text (newline ∷ []) ∙ sym (joined-append h.lines text);
+  joined = ap (λ bytes. bytes ++ text ++ line_feed ∷ []) h.joined ∙ append_assoc (joined_lines h.lines) text (line_feed ∷ []) ∙ sym (joined-append h.lines text);
   reads = map-append edit_of_line h.lines (text ∷ []) ∙ (λ j. h.reads j ++ is j ∷ []) ∙ sym (map-append Ok part.txs (tx ∷ []));
   from_one = All-push (λ (t : Tx). 1 ≤ t.txid) part.txs tx h.from_one from;
 }
 
 -- ---- names
 
-pub named : (txs : List Tx) (first last : Tx) (high : ℕ) → Some first ≡ slice_get txs 0 → last_txid txs ≡ last.txid → high ≡ max first.txid last.txid → name_text first.txid high ≡ name_of txs
+pub named : (txs : List Tx) (first last : Tx) (high : ℕ) → Some first ≡ slice_get txs 0 → last_txid txs ≡ last.txid → high ≡ max first.txid last.txid → segment_file_name first.txid high ≡ part_name txs
 named [] first last high f l h = absurd (cc)
 named (x ∷ txs) first last high f l h =
     let same : first ≡ x = cc in
-    ap (λ n. name_text first.txid n) (h ∙ ap (max first.txid) (sym l)) ∙ ap (λ (t : Tx). name_text t.txid (max t.txid (last_txid (x ∷ txs)))) same
+    ap (λ n. segment_file_name first.txid n) (h ∙ ap (max first.txid) (sym l)) ∙ ap (λ (t : Tx). segment_file_name t.txid (max t.txid (last_txid (x ∷ txs)))) same
 
 pub first_from_one : (txs : List Tx) (first : Tx) → All (λ tx. 1 ≤ tx.txid) txs → Some first ≡ slice_get txs 0 → 1 ≤ first.txid
 first_from_one [] first all f = absurd (cc)

@@ -6,9 +6,9 @@ use Rattle.std.proofs.lemmas.List.{length-replicate, get_or-replicate, get_or_de
 use Rattle.std.proofs.lemmas.Bool.{cases_Bool, eqb-true, eq-eqb, both_ways}
 use Rattle.nn_types.specs.declared.report.Message.{Message}
 use Rattle.nn_types.specs.declared.report.Report.{Report}
-use Rattle.nn_model.specs.Lanes.{Lanes, no_messages, followed_by, AreNumbered, AreLanes}
+use Rattle.nn_model.specs.Lanes.{Lanes, no_messages, followed_by, AreNumbered, AreNumberedLanes}
 use Rattle.nn_scenario.specs.Scenario.{ScenarioLine, edit, report, numbered, messages_of, steps_from, steps_of}
-use Rattle.nn_scenario.specs.Steps.{message, next_message, lanes_after, lanes_of, AreInTurn, datanode_count, with_report, IsCounted}
+use Rattle.nn_scenario.specs.Steps.{message, message_in_turn, lanes_after, lanes_of_steps, AreNextMessages, datanode_count, with_report, IsCounted}
 use Rattle.nn_scenario.specs.declared.steps.Step.{Step}
 use Rattle.nn_scenario.specs.declared.steps.Step.TheVariants as step
 
@@ -86,20 +86,20 @@ counted_report steps sent lanes r within h = record {
 }
   where
     m : Message
-    m = next_message (lanes_of steps) r
+    m = message_in_turn (lanes_of_steps steps) r
 
     grows : max lanes r.dn ≡ max r.dn (datanode_count steps)
     grows = omega (arith, h.greatest)
 
-    each : (dn : ℕ) → dn < 257 → get_or (set sent r.dn (get_or sent r.dn 0 + 1)) dn 0 ≡ length (followed_by (lanes_of steps) m dn)
+    each : (dn : ℕ) → dn < 257 → get_or (set sent r.dn (get_or sent r.dn 0 + 1)) dn 0 ≡ length (followed_by (lanes_of_steps steps) m dn)
     each dn below = elim (cases_Bool (dn == r.dn)) [
       | inl same ↦
           let is : dn ≡ r.dn = eqb-true _ _ same in
           let place : r.dn < length sent = omega (arith, h.places) in
           let before = h.each dn below in
           let here : get_or sent r.dn 0 ≡ get_or sent dn 0 = ap (λ k. get_or sent k 0) (sym is) in
-          let new : length (followed_by (lanes_of steps) m dn) ≡ length (lanes_of steps dn) + 1 =
-          ap length (own_lane (lanes_of steps) m dn is) ∙ length-append (lanes_of steps dn) (m ∷ []) in
+          let new : length (followed_by (lanes_of_steps steps) m dn) ≡ length (lanes_of_steps steps dn) + 1 =
+          ap length (own_lane (lanes_of_steps steps) m dn is) ∙ length-append (lanes_of_steps steps dn) (m ∷ []) in
           ap (λ k. get_or (set sent r.dn (get_or sent r.dn 0 + 1)) k 0) is
           ∙ get_or-set_same sent r.dn (get_or sent r.dn 0 + 1) 0 place
           ∙ omega (arith, before, here, new)
@@ -107,12 +107,12 @@ counted_report steps sent lanes r within h = record {
           let apart : dn ≢ r.dn = λ is. both_ways _ other (eq-eqb _ _ is) in
           get_or-set_other sent r.dn dn (get_or sent r.dn 0 + 1) 0 apart
           ∙ h.each dn below
-          ∙ ap length (sym (other_lane (lanes_of steps) m dn apart))
+          ∙ ap length (sym (other_lane (lanes_of_steps steps) m dn apart))
     ]
 
 -- ---- the messages of lines
 
-with_same : (r : Report) (dn : ℕ) (lanes : Lanes) → dn ≡ r.dn → next_message lanes r ≡ message r (length (lanes dn) + 1)
+with_same : (r : Report) (dn : ℕ) (lanes : Lanes) → dn ≡ r.dn → message_in_turn lanes r ≡ message r (length (lanes dn) + 1)
 with_same r dn lanes is = ap (λ k. message r (length (lanes k) + 1)) (sym is)
 
 -- after the steps of lines each lane goes on with the reports of its DataNode, numbered from its end on
@@ -121,10 +121,10 @@ lanes_go_on : (dn : ℕ) (lanes : Lanes) (lines : List ScenarioLine) →
 lanes_go_on dn lanes [] = sym (append-nil (lanes dn))
 lanes_go_on dn lanes (edit line ∷ lines) = lanes_go_on dn lanes lines
 lanes_go_on dn lanes (report r ∷ lines) =
-    lanes_go_on dn (followed_by lanes (next_message lanes r)) lines ∙ elim (cases_Bool (dn == r.dn)) [
+    lanes_go_on dn (followed_by lanes (message_in_turn lanes r)) lines ∙ elim (cases_Bool (dn == r.dn)) [
       | inl same ↦
           let is : dn ≡ r.dn = eqb-true _ _ same in
-          let m = next_message lanes r in
+          let m = message_in_turn lanes r in
           let k = length (lanes dn) + 1 in
           let longer : length (lanes dn ++ m ∷ []) ≡ k = length-append (lanes dn) (m ∷ []) in
           ap (λ lane. lane ++ numbered dn (length lane + 1) lines) (own_lane lanes m dn is)
@@ -133,14 +133,14 @@ lanes_go_on dn lanes (report r ∷ lines) =
           ∙ ap (λ x. lanes dn ++ x ∷ numbered dn (k + 1) lines) (with_same r dn lanes is)
           ∙ ap (λ t. lanes dn ++ cond t (message r k ∷ numbered dn (k + 1) lines) (numbered dn k lines)) (sym same)
       | inr other ↦
-          let m = next_message lanes r in
+          let m = message_in_turn lanes r in
           let k = length (lanes dn) + 1 in
           ap (λ t. cond t (lanes dn ++ m ∷ []) (lanes dn) ++ numbered dn (length (cond t (lanes dn ++ m ∷ []) (lanes dn)) + 1) lines) other
           ∙ ap (λ t. lanes dn ++ cond t (message r k ∷ numbered dn (k + 1) lines) (numbered dn k lines)) (sym other)
     ]
 
 -- the messages of the steps, taken one after another, are those of the lines
-pub lanes_of_lines : (lines : List ScenarioLine) (dn : ℕ) → lanes_of (steps_of lines) dn ≡ messages_of lines dn
+pub lanes_of_lines : (lines : List ScenarioLine) (dn : ℕ) → lanes_of_steps (steps_of lines) dn ≡ messages_of lines dn
 lanes_of_lines lines dn = lanes_go_on dn no_messages lines
 
 numbered_lane : (dn number : ℕ) (lines : List ScenarioLine) → AreNumbered dn number (numbered dn number lines)
@@ -155,16 +155,16 @@ numbered_lane dn number (report r ∷ lines) =
     at false other _ still = still
 
 -- the messages of lines are lanes
-pub messages_are_lanes : (lines : List ScenarioLine) → AreLanes (messages_of lines)
+pub messages_are_lanes : (lines : List ScenarioLine) → AreNumberedLanes (messages_of lines)
 messages_are_lanes lines dn = numbered_lane dn 1 lines
 
-pub steps_are_lanes : (lines : List ScenarioLine) → AreLanes (lanes_of (steps_of lines))
+pub steps_are_lanes : (lines : List ScenarioLine) → AreNumberedLanes (lanes_of_steps (steps_of lines))
 steps_are_lanes lines dn = subst (AreNumbered dn 1) (sym (lanes_of_lines lines dn)) (messages_are_lanes lines dn)
 
-pub steps_in_turn : (lanes : Lanes) (lines : List ScenarioLine) → AreInTurn lanes (steps_from lanes lines)
+pub steps_in_turn : (lanes : Lanes) (lines : List ScenarioLine) → AreNextMessages lanes (steps_from lanes lines)
 steps_in_turn lanes [] = tt
 steps_in_turn lanes (edit line ∷ lines) = steps_in_turn lanes lines
-steps_in_turn lanes (report r ∷ lines) = (refl, steps_in_turn (followed_by lanes (next_message lanes r)) lines)
+steps_in_turn lanes (report r ∷ lines) = (refl, steps_in_turn (followed_by lanes (message_in_turn lanes r)) lines)
 
 -- steps may be taken in two parts, one after the other
 pub lanes_after_both : (lanes : Lanes) (some more : List Step) → lanes_after lanes (some ++ more) ≡ lanes_after (lanes_after lanes some) more
@@ -172,7 +172,7 @@ lanes_after_both lanes [] more = refl
 lanes_after_both lanes (step.Edit ∷ some) more = lanes_after_both lanes some more
 lanes_after_both lanes (step.Message m ∷ some) more = lanes_after_both (followed_by lanes m) some more
 
-pub in_turn_after : (lanes : Lanes) (some more : List Step) → AreInTurn lanes (some ++ more) → AreInTurn (lanes_after lanes some) more
+pub in_turn_after : (lanes : Lanes) (some more : List Step) → AreNextMessages lanes (some ++ more) → AreNextMessages (lanes_after lanes some) more
 in_turn_after lanes [] more h = h
 in_turn_after lanes (step.Edit ∷ some) more h = in_turn_after lanes some more h
 in_turn_after lanes (step.Message m ∷ some) more h = in_turn_after (followed_by lanes m) some more h.1
@@ -195,7 +195,7 @@ number_fits steps sent lanes dn place x within h is read =
 
 -- the message is the next one of its DataNode
 pub next_counted : (steps : List Step) (sent : List ℕ) (lanes : ℕ) (r : Report) (place x : ℕ) → r.dn ≤ 256 → IsCounted steps sent lanes → place ≡ r.dn →
-    x ≡ get_or sent place x → message r (x + 1) ≡ next_message (lanes_of steps) r
+    x ≡ get_or sent place x → message r (x + 1) ≡ message_in_turn (lanes_of_steps steps) r
 next_counted steps sent lanes r place x within h is read =
     ap (λ n. message r (n + 1)) (sent_read steps sent lanes r.dn place x within h is read ∙ h.each r.dn (omega (arith, within)))
 

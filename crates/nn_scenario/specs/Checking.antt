@@ -9,10 +9,10 @@ use Rattle.nn_segment.specs.declared.fault.SegmentFault.{SegmentFault}
 use Rattle.nn_segment.specs.declared.fault.SegmentFault.TheVariants.{NoStart, Gap, WrongProfile, TooLong, NoEnd}
 use Rattle.nn_scenario.specs.Cut.{Part, AreRead, segments_from}
 use Rattle.nn_scenario.specs.Reading.{Reading}
-use Rattle.nn_scenario.specs.declared.segments.BadSegment.{BadSegment}
+use Rattle.nn_scenario.specs.declared.segments.PartFault.{PartFault}
 
 -- what is known of the part in hand, how many parts have ended, and the first of them that has a fault
-pub record Check : Type 0 where
+pub record SegmentCheck : Type 0 where
   pub room : ℕ  -- the bytes that the part in hand may still have, and one
   pub lines : ℕ
   pub profile : Option Profile  -- of its first line, if that is a start mark
@@ -20,7 +20,7 @@ pub record Check : Type 0 where
   pub order : Option SegmentFault  -- the first fault of its lines
   pub inside : Bool  -- whether a start mark is behind its first line
   pub ended : ℕ
-  pub bad : Option BadSegment
+  pub bad : Option PartFault
 
 -- ---- What the check does with a line.
 
@@ -40,7 +40,7 @@ or_fault None more = more
 or_fault (Some fault) more = Some fault
 
 -- a first line, of so many bytes with its line feed
-abbrev pub begun : Check → ℕ → Tx → Check
+abbrev pub begun : SegmentCheck → ℕ → Tx → SegmentCheck
 begun c bytes tx = record {
   room = c.room - bytes;
   lines = 1;
@@ -53,7 +53,7 @@ begun c bytes tx = record {
 }
 
 -- a later line
-abbrev pub gone_on : Check → ℕ → Tx → Check
+abbrev pub gone_on : SegmentCheck → ℕ → Tx → SegmentCheck
 gone_on c bytes tx = record {
   room = c.room - bytes;
   lines = c.lines + 1;
@@ -65,7 +65,7 @@ gone_on c bytes tx = record {
   bad = c.bad;
 }
 
-abbrev pub line_added : Check → ℕ → Tx → Check
+abbrev pub line_added : SegmentCheck → ℕ → Tx → SegmentCheck
 line_added c bytes tx = if c.lines == 0 then begun c bytes tx else gone_on c bytes tx
 
 -- the fault of a part with so much room left, this fault of its lines, and whether its only mark behind the first line is an end mark, its last line
@@ -73,13 +73,13 @@ abbrev pub part_fault : ℕ → Option SegmentFault → Bool → Option SegmentF
 part_fault room order ends = if room == 0 then Some TooLong else or_fault order (if ends then None else Some NoEnd)
 
 -- the first segment with a fault, where the next one has this
-abbrev pub or_bad : Option BadSegment → Option SegmentFault → ℕ → Option BadSegment
+abbrev pub or_bad : Option PartFault → Option SegmentFault → ℕ → Option PartFault
 or_bad (Some bad) fault segment = Some bad
 or_bad None None segment = None
 or_bad None (Some fault) segment = Some (record { fault = fault; segment = segment })
 
 -- the part in hand ends, with an end mark or without
-abbrev pub part_ended : Check → Bool → Check
+abbrev pub part_ended : SegmentCheck → Bool → SegmentCheck
 part_ended c marked = record {
   room = 16777217;
   lines = 0;
@@ -92,13 +92,13 @@ part_ended c marked = record {
 }
 
 -- one more line, of so many bytes with its line feed
-abbrev pub line_checked : Check → ℕ → Tx → Check
+abbrev pub line_checked : SegmentCheck → ℕ → Tx → SegmentCheck
 line_checked c bytes tx = if is_end tx.edit then part_ended (line_added c bytes tx) true else line_added c bytes tx
 
 -- ---- What it knows.
 
 -- of a part that begins so
-pub record HasBegun (t : Tx) (later : List Tx) (c : Check) : Type 0 where
+pub record HasBegunPart (t : Tx) (later : List Tx) (c : SegmentCheck) : Type 0 where
   pub profile : c.profile ≡ start_profile t.edit
   pub next : c.next ≡ last_txid (t ∷ later) + 1
   pub order : c.order ≡ lines_fault (map Ok (t ∷ later))
@@ -107,17 +107,17 @@ pub record HasBegun (t : Tx) (later : List Tx) (c : Check) : Type 0 where
   pub first_in_range : t.txid < 2 ^ 63
   pub last_in_range : c.next ≤ 2 ^ 63
 
-abbrev pub IsInHand : List Tx → Check → Type 0
+abbrev pub IsInHand : List Tx → SegmentCheck → Type 0
 IsInHand [] c = Unit {0}
-IsInHand (t ∷ later) c = HasBegun t later c
+IsInHand (t ∷ later) c = HasBegunPart t later c
 
 -- parts are segments, or this is the first that has a fault, whatever parts follow
-abbrev pub AreSegments : List Part → Option BadSegment → Type 0
+abbrev pub AreSegments : List Part → Option PartFault → Type 0
 AreSegments parts None = (segments : List Segment) × (segments_from 1 parts ≡ Ok segments) × (map (λ (s : Segment). s.txs) segments ≡ map (λ (p : Part). p.txs) parts)
 AreSegments parts (Some bad) = (more : List Part) → segments_from 1 (parts ++ more) ≡ Err bad
 
 -- the check is of the parts that were read, and of the part in hand
-pub record IsCheckOf (x : Reading) (c : Check) : Type 0 where
+pub record IsCheckOf (x : Reading) (c : SegmentCheck) : Type 0 where
   pub read : AreRead x.in_hand
   pub room : c.room ≡ 16777217 - length x.in_hand.bytes
   pub lines : c.lines ≡ length x.in_hand.txs

@@ -9,26 +9,26 @@ use Rattle.nn_types.specs.declared.tx.Tx.{Tx}
 use Rattle.nn_segment.specs.declared.fault.SegmentFault.{SegmentFault}
 use Rattle.nn_segment.specs.declared.fault.SegmentFault.TheVariants.{NoStart, Gap, WrongProfile, TooLong, NoEnd}
 use Rattle.nn_segment.specs.Segment.{Segment}
-use Rattle.nn_scenario.specs.Checking.{Check, line_checked, part_fault, HasBegun, AreSegments, IsCheckOf}
+use Rattle.nn_scenario.specs.Checking.{SegmentCheck, line_checked, part_fault, HasBegunPart, AreSegments, IsCheckOf}
 use Rattle.nn_scenario.specs.Cut.{segments_from}
 use Rattle.nn_scenario.specs.Reading.{nothing_read}
-use Rattle.nn_scenario.specs.declared.segments.BadSegment.{BadSegment}
+use Rattle.nn_scenario.specs.declared.segments.PartFault.{PartFault}
 
-abbrev nothing : Check
+abbrev nothing : SegmentCheck
 nothing = record { room = 16777217; lines = 0; profile = None; next = 0; order = None; inside = false; ended = 0; bad = None }
 
 abbrev tx : ℕ → Edit → Tx
 tx txid edit = record { txid = txid; edit = edit }
 
 -- a line of 60 bytes with its line feed for each transaction
-abbrev checked : Check → List Tx → Check
+abbrev checked : SegmentCheck → List Tx → SegmentCheck
 checked c [] = c
 checked c (t ∷ txs) = checked (line_checked c 60 t) txs
 
-abbrev bad_of : List Tx → Option BadSegment
+abbrev bad_of : List Tx → Option PartFault
 bad_of txs = (checked nothing txs).bad
 
-abbrev bad : ℕ → SegmentFault → Option BadSegment
+abbrev bad : ℕ → SegmentFault → Option PartFault
 bad segment fault = Some (record { fault = fault; segment = segment })
 
 -- ---- Lines.
@@ -64,25 +64,25 @@ one_byte_too_long = refl
 
 -- ---- What the check knows.
 
-abbrev begun_at_1 : Check
+abbrev begun_at_1 : SegmentCheck
 begun_at_1 = record nothing { lines = 1; profile = Some One; next = 2 }
 
-begins : HasBegun (tx 1 (StartSegment One)) [] begun_at_1
+begins : HasBegunPart (tx 1 (StartSegment One)) [] begun_at_1
 begins = record { profile = refl; next = refl; order = refl; inside = refl; not_ended = refl; first_in_range = lit< tt; last_in_range = lit≤ tt }
 
-not_in_another_profile : HasBegun (tx 1 (StartSegment One)) [] (record begun_at_1 { profile = Some Two }) → ⊥
+not_in_another_profile : HasBegunPart (tx 1 (StartSegment One)) [] (record begun_at_1 { profile = Some Two }) → ⊥
 not_in_another_profile h = let e : Some Two ≡ Some One = h.profile in cc
 
-not_before_another_txid : HasBegun (tx 1 (StartSegment One)) [] (record begun_at_1 { next = 3 }) → ⊥
+not_before_another_txid : HasBegunPart (tx 1 (StartSegment One)) [] (record begun_at_1 { next = 3 }) → ⊥
 not_before_another_txid h = let e : 3 ≡ 2 = h.next in omega (arith, e)
 
-not_with_a_fault_made_up : HasBegun (tx 1 (StartSegment One)) [] (record begun_at_1 { order = Some NoStart }) → ⊥
+not_with_a_fault_made_up : HasBegunPart (tx 1 (StartSegment One)) [] (record begun_at_1 { order = Some NoStart }) → ⊥
 not_with_a_fault_made_up h = let e : Some NoStart ≡ None = h.order in cc
 
-not_with_a_mark_made_up : HasBegun (tx 1 (StartSegment One)) [] (record begun_at_1 { inside = true }) → ⊥
+not_with_a_mark_made_up : HasBegunPart (tx 1 (StartSegment One)) [] (record begun_at_1 { inside = true }) → ⊥
 not_with_a_mark_made_up h = true≢false h.inside
 
-not_behind_its_end : (c : Check) → HasBegun (tx 1 (StartSegment One)) (tx 2 EndSegment ∷ []) c → ⊥
+not_behind_its_end : (c : SegmentCheck) → HasBegunPart (tx 1 (StartSegment One)) (tx 2 EndSegment ∷ []) c → ⊥
 not_behind_its_end c h = true≢false (sym h.not_ended)
 
 of_nothing : IsCheckOf nothing_read nothing
@@ -98,9 +98,9 @@ not_of_a_line h = let e : 1 ≡ 0 = h.lines in omega (arith, e)
 not_of_a_segment : IsCheckOf nothing_read (record nothing { ended = 1 }) → ⊥
 not_of_a_segment h = let e : 1 ≡ 0 = h.ended in omega (arith, e)
 
-not_bad_without_a_segment : (b : BadSegment) → AreSegments [] (Some b) → ⊥
+not_bad_without_a_segment : (b : PartFault) → AreSegments [] (Some b) → ⊥
 unfolding segments_from
 not_bad_without_a_segment b h = no_err b (h [])
   where
-    no_err : (b : BadSegment) → ◌≡◌ {A = Result (List Segment) BadSegment} (Ok []) (Err b) → ⊥
+    no_err : (b : PartFault) → ◌≡◌ {A = Result (List Segment) PartFault} (Ok []) (Err b) → ⊥
     no_err b e = cc

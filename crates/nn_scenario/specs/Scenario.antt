@@ -1,24 +1,21 @@
 -- A scenario's bytes as lines, the lines as edits and messages.
 use Rattle.std.specs.Prelude.{◌≡◌, ◌≤◌, ℕ, ◌+◌, ◌==◌, ◌||◌, List, [], ◌∷◌, length, flat_map, Bool, if◌then◌else◌, Result, Ok, Err}
 use Rattle.std.specs.List.{slice_split, list_all, All}
+use Rattle.nn_bytes.specs.Lines.{line_feed}
 use Rattle.nn_types.specs.declared.report.Message.{Message}
 use Rattle.nn_types.specs.declared.report.Report.{Report}
+use Rattle.nn_types.specs.Limits.{max_datanodes}
 use Rattle.nn_edits.specs.Reading.{either_of_line}
 use Rattle.nn_edits.specs.declared.fault.LineFault.{LineFault}
 use Rattle.nn_edits.specs.declared.line.Line.{Line}
 use Rattle.nn_edits.specs.declared.line.Line.TheVariants as either
-use Rattle.nn_model.specs.Lanes.{Lanes, AreLanes, no_messages, followed_by}
+use Rattle.nn_model.specs.Lanes.{Lanes, AreNumberedLanes, no_messages, followed_by}
 use Rattle.nn_scenario.specs.Cut.{EditLine, Part, cut}
-use Rattle.nn_segment.specs.Lines.{newline}
-use Rattle.nn_scenario.specs.Steps.{message, next_message, lanes_of, datanode_count, edit_count, AreInTurn, IsStepOf}
-use Rattle.nn_scenario.specs.declared.scenario.BadLine.{BadLine}
+use Rattle.nn_scenario.specs.Steps.{message, message_in_turn, lanes_of_steps, datanode_count, edit_count, AreNextMessages, IsStepOf}
+use Rattle.nn_scenario.specs.declared.scenario.ScenarioFault.{ScenarioFault}
 use Rattle.nn_scenario.specs.declared.scenario.Scenario.{Scenario as Read}
 use Rattle.nn_scenario.specs.declared.steps.Step.{Step}
 use Rattle.nn_scenario.specs.declared.steps.Step.TheVariants as step
-
--- the bytes that a scenario may have
-abbrev pub max_input : ℕ
-max_input = 16777216
 
 -- ---- Lines.
 
@@ -43,18 +40,18 @@ abbrev pub and_later : {X E : Type 0} → X → Result (List X) E → Result (Li
 and_later x (Ok xs) = Ok (x ∷ xs)
 and_later x (Err e) = Err e
 
-abbrev pub with_read : ℕ → List ℕ → Result Line LineFault → Result (List ScenarioLine) BadLine → Result (List ScenarioLine) BadLine
+abbrev pub with_read : ℕ → List ℕ → Result Line LineFault → Result (List ScenarioLine) ScenarioFault → Result (List ScenarioLine) ScenarioFault
 with_read n text (Ok line) later = and_later (line_as text line) later
 with_read n text (Err fault) later = Err (record { fault = fault; line = n })
 
 -- the lines among texts that are counted from n, blank ones passed over, or the first fault with its line
-unfoldable pub lines_from : ℕ → List (List ℕ) → Result (List ScenarioLine) BadLine
+unfoldable pub lines_from : ℕ → List (List ℕ) → Result (List ScenarioLine) ScenarioFault
 lines_from n [] = Ok []
 lines_from n (text ∷ texts) = if is_blank text then lines_from (n + 1) texts else with_read n text (either_of_line text) (lines_from (n + 1) texts)
 
 -- the lines of a text
-abbrev pub lines_of : List ℕ → Result (List ScenarioLine) BadLine
-lines_of text = lines_from 1 (slice_split (λ b. b == newline) text)
+abbrev pub scenario_lines : List ℕ → Result (List ScenarioLine) ScenarioFault
+scenario_lines text = lines_from 1 (slice_split (λ b. b == line_feed) text)
 
 -- ---- What the lines say.
 
@@ -78,7 +75,7 @@ messages_of lines dn = numbered dn 1 lines
 abbrev pub steps_from : Lanes → List ScenarioLine → List Step
 steps_from lanes [] = []
 steps_from lanes (edit line ∷ lines) = step.Edit ∷ steps_from lanes lines
-steps_from lanes (report r ∷ lines) = step.Message (next_message lanes r) ∷ steps_from (followed_by lanes (next_message lanes r)) lines
+steps_from lanes (report r ∷ lines) = step.Message (message_in_turn lanes r) ∷ steps_from (followed_by lanes (message_in_turn lanes r)) lines
 
 -- the steps that lines are, one for each
 abbrev pub steps_of : List ScenarioLine → List Step
@@ -93,30 +90,30 @@ pub record Scenario : Type 0 where
 abbrev pub scenario_with : List Part → List Step → Scenario
 scenario_with parts steps = record { parts = parts; steps = steps; datanodes = datanode_count steps }
 
-abbrev pub scenario_from : Result (List ScenarioLine) BadLine → Result Scenario BadLine
+abbrev pub scenario_from : Result (List ScenarioLine) ScenarioFault → Result Scenario ScenarioFault
 scenario_from (Ok lines) = Ok (scenario_with (cut (edit_lines lines)) (steps_of lines))
 scenario_from (Err bad) = Err bad
 
 -- the scenario that a text is, or its first line that is neither an edit nor a report
-unfoldable pub scenario_of : List ℕ → Result Scenario BadLine
-scenario_of text = scenario_from (lines_of text)
+unfoldable pub scenario_of : List ℕ → Result Scenario ScenarioFault
+scenario_of text = scenario_from (scenario_lines text)
 
 -- ---- What was read.
 
 -- a scenario of the code as its parts, steps and DataNodes
-abbrev pub seen : Read → Scenario
-seen s = record { parts = s.parts.items; steps = s.steps; datanodes = s.datanodes }
+abbrev pub scenario_of_read : Read → Scenario
+scenario_of_read s = record { parts = s.parts.items; steps = s.steps; datanodes = s.datanodes }
 
 -- the messages of the steps are those of the text's lines: of each DataNode its reports, numbered from 1
 abbrev pub HasMessagesOf : List ℕ → Scenario → Type 0
-HasMessagesOf text s = (lines : List ScenarioLine) × (lines_of text ≡ Ok lines) × ((dn : ℕ) → lanes_of s.steps dn ≡ messages_of lines dn)
+HasMessagesOf text s = (lines : List ScenarioLine) × (scenario_lines text ≡ Ok lines) × ((dn : ℕ) → lanes_of_steps s.steps dn ≡ messages_of lines dn)
 
 -- What every scenario is: it has an edit for each transaction of its parts, each message is the next one of its DataNode, the messages are lanes, and
 -- they are of DataNodes from 1 to 256 at most.
 pub record IsLawfulScenario (s : Scenario) : Type 0 where
   pub edits : edit_count s.steps ≡ length (flat_map (λ part. part.txs) s.parts)
-  pub in_turn : AreInTurn no_messages s.steps
-  pub messages : AreLanes (lanes_of s.steps)
+  pub in_turn : AreNextMessages no_messages s.steps
+  pub messages : AreNumberedLanes (lanes_of_steps s.steps)
   pub within : All (IsStepOf s.datanodes) s.steps
   pub datanodes_from : 1 ≤ s.datanodes
-  pub datanodes_to : s.datanodes ≤ 256
+  pub datanodes_to : s.datanodes ≤ max_datanodes

@@ -5,7 +5,7 @@ use Rattle.nn_types.specs.declared.report.Report.{Report}
 use Rattle.nn_types.specs.declared.profile.Profile.TheVariants.{One}
 use Rattle.nn_types.specs.declared.edit.Edit.TheVariants.{StartSegment}
 use Rattle.nn_scenario.specs.Scenario.{ScenarioLine, edit, report, edit_lines, messages_of, steps_of}
-use Rattle.nn_scenario.specs.Steps.{message, datanode_count, lanes_of}
+use Rattle.nn_scenario.specs.Steps.{message, datanode_count, lanes_of_steps}
 use Rattle.nn_scenario.specs.declared.steps.Step.TheVariants as step
 
 abbrev about : ℕ → ℕ → Report
@@ -25,7 +25,7 @@ numbered_apart = refl
 one_lane : messages_of three_reports 2 ≡ message (about 2 5) 1 ∷ message (about 2 7) 2 ∷ []
 one_lane = refl
 
-same_lane : lanes_of (steps_of three_reports) 2 ≡ messages_of three_reports 2
+same_lane : lanes_of_steps (steps_of three_reports) 2 ≡ messages_of three_reports 2
 same_lane = refl
 
 nobody_else : messages_of three_reports 3 ≡ []

@@ -2,6 +2,7 @@
 use Rattle.std.specs.Prelude.{◌≡◌, ℕ, ◌+◌, ◌<◌, ◌≤◌, List, [], ◌∷◌, ◌++◌, length, max, slice_index}
 use Rattle.nn_types.specs.declared.report.Message.{Message}
 use Rattle.nn_types.specs.declared.report.Report.{Report}
+use Rattle.nn_types.specs.Limits.{max_datanodes}
 use Rattle.nn_model.specs.Lanes.{Lanes, no_messages, followed_by}
 use Rattle.nn_scenario.specs.declared.steps.Step.{Step}
 use Rattle.nn_scenario.specs.declared.steps.Step.TheVariants as step
@@ -11,8 +12,8 @@ abbrev pub message : Report → ℕ → Message
 message r number = record { dn = r.dn; number = number; block = r.block; stamp = r.stamp; len = r.len; kind = r.kind }
 
 -- the report as the next message of its DataNode
-abbrev pub next_message : Lanes → Report → Message
-next_message lanes r = message r (length (lanes r.dn) + 1)
+abbrev pub message_in_turn : Lanes → Report → Message
+message_in_turn lanes r = message r (length (lanes r.dn) + 1)
 
 -- what the DataNodes sent once these steps were taken
 abbrev pub lanes_after : Lanes → List Step → Lanes
@@ -21,8 +22,8 @@ lanes_after lanes (step.Edit ∷ steps) = lanes_after lanes steps
 lanes_after lanes (step.Message m ∷ steps) = lanes_after (followed_by lanes m) steps
 
 -- what the DataNodes sent in these steps
-abbrev pub lanes_of : List Step → Lanes
-lanes_of steps = lanes_after no_messages steps
+abbrev pub lanes_of_steps : List Step → Lanes
+lanes_of_steps steps = lanes_after no_messages steps
 
 -- the greatest DataNode of any message, and at least 1
 abbrev pub datanode_count : List Step → ℕ
@@ -31,10 +32,10 @@ datanode_count (step.Edit ∷ steps) = datanode_count steps
 datanode_count (step.Message m ∷ steps) = max m.dn (datanode_count steps)
 
 -- each message of the steps is the next one of its DataNode, where the DataNodes sent this before them
-abbrev pub AreInTurn : Lanes → List Step → Type 0
-AreInTurn lanes [] = Unit {0}
-AreInTurn lanes (step.Edit ∷ steps) = AreInTurn lanes steps
-AreInTurn lanes (step.Message m ∷ steps) = (m.number ≡ length (lanes m.dn) + 1) × AreInTurn (followed_by lanes m) steps
+abbrev pub AreNextMessages : Lanes → List Step → Type 0
+AreNextMessages lanes [] = Unit {0}
+AreNextMessages lanes (step.Edit ∷ steps) = AreNextMessages lanes steps
+AreNextMessages lanes (step.Message m ∷ steps) = (m.number ≡ length (lanes m.dn) + 1) × AreNextMessages (followed_by lanes m) steps
 
 -- the edits among steps
 abbrev pub edit_count : List Step → ℕ
@@ -49,10 +50,10 @@ IsStepOf datanodes (step.Message m) = (1 ≤ m.dn) × (m.dn ≤ datanodes)
 
 -- the steps and one more, a report
 abbrev pub with_report : List Step → Report → List Step
-with_report steps r = steps ++ step.Message (next_message (lanes_of steps) r) ∷ []
+with_report steps r = steps ++ step.Message (message_in_turn (lanes_of_steps steps) r) ∷ []
 
 -- of each DataNode that there can be it is known how many messages it sent in these steps, and the greatest that sent one
 pub record IsCounted (steps : List Step) (sent : List ℕ) (datanodes : ℕ) : Type 0 where
-  pub places : length sent ≡ 257
-  pub each : (dn : ℕ) → dn < 257 → slice_index sent dn ≡ length (lanes_of steps dn)
+  pub places : length sent ≡ max_datanodes + 1
+  pub each : (dn : ℕ) → dn < max_datanodes + 1 → slice_index sent dn ≡ length (lanes_of_steps steps dn)
   pub greatest : datanodes ≡ datanode_count steps

@@ -8,18 +8,19 @@ ghost use Rattle.nn_scenario.specs.Checking.{first_line_fault, later_line_fault,
 ghost use Rattle.nn_scenario.specs.Cut.{last_part};
 ghost use Rattle.nn_scenario.specs.Reading.{Reading, nothing_read, with_edit_line};
 
-use crate::segments::BadSegment;
+use crate::segments::PartFault;
 use nn_segment::{SegmentFault, allows, is_end, is_start, start_profile};
+use nn_types::limits::MAX_INPUT;
 use nn_types::{Profile, Tx};
 use std::marker::Model;
 use std::mem;
 
 // The bytes that a segment may have, and one.
-const ROOM: u64 = 16_777_217;
+const ROOM: u64 = MAX_INPUT as u64 + 1;
 
 /// The check of a log whose lines come one after another. It takes no memory, and constant time for a line. Its verdict is
 /// that of `read_segments` on the same lines.
-#[derive(Drop)]
+#[derive(Debug, Drop)]
 pub struct SegmentCheck {
     // the bytes that the part in hand may still have, and one
     room: u64,
@@ -36,13 +37,13 @@ pub struct SegmentCheck {
     // how many parts have ended
     ended: u64,
     // the first of them that has a fault
-    bad: Option<BadSegment>,
+    bad: Option<PartFault>,
 }
 
 impl Model for SegmentCheck {
-    ghost use Rattle.nn_scenario.specs.Checking.{Check};
+    ghost use Rattle.nn_scenario.specs.Checking.{SegmentCheck};
 
-    ghost Value = { Check };
+    ghost Value = { SegmentCheck };
 
     ghost view = { λ c. record { room = c.room; lines = c.lines; profile = c.profile; next = c.next; order = c.order; inside = c.inside; ended = c.ended; bad = c.bad } };
 }
@@ -92,7 +93,7 @@ impl SegmentCheck {
     }
 
     /// The first segment that has a fault, where no line comes. What is left of the last one is a segment too.
-    pub fn into_bad(self) -> Option<BadSegment>
+    pub fn into_bad(self) -> Option<PartFault>
         requires few { self.ended + self.lines < 2 ^ 62 }
         ensures { (x : Reading) → IsCheckOf x self → AreSegments (x.parts ++ last_part x.in_hand) result }
     {
@@ -239,14 +240,14 @@ fn part_fault(room: u64, order: Option<SegmentFault>, ends: bool) -> Option<Segm
 }
 
 // The first segment that has a fault, of those before and of this one.
-fn or_bad(bad: Option<BadSegment>, fault: Option<SegmentFault>, segment: u64) -> Option<BadSegment>
+fn or_bad(bad: Option<PartFault>, fault: Option<SegmentFault>, segment: u64) -> Option<PartFault>
     ensures { result ≡ or_bad bad fault segment }
 {
     if let Some(bad) = bad {
         return Some(bad);
     }
     match fault {
-        Some(fault) => Some(BadSegment { fault, segment }),
+        Some(fault) => Some(PartFault { fault, segment }),
         None => None,
     }
 }

@@ -13,7 +13,8 @@ mod steps;
 
 pub use checking::SegmentCheck;
 pub use lines::{LineSink, Lines, is_blank};
-pub use scenario::{BadLine, MAX_INPUT, Reading, Scenario, read_lines, scenario_of};
-pub use segments::{BadSegment, Part, read_segments};
+pub use nn_types::limits::MAX_INPUT;
+pub use scenario::{Reading, Scenario, ScenarioFault, read_lines, scenario_of};
+pub use segments::{Part, PartFault, read_segments};
 pub use step_list::{StepList, StepsLeft};
 pub use steps::Step;

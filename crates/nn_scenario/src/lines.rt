@@ -1,16 +1,18 @@
 //! The lines of a scenario whose bytes come in chunks: each is read and handed on as soon as it has ended, and its bytes
 //! are let go.
 ghost use Rattle.std.specs.Prelude.{◌≡◌, ◌≢◌, ◌≤◌, ◌<◌, ◌+◌, ◌^◌, [], List, ◌++◌, ◌∷◌, ℕ, true, false, length, Ok, Err, None, Some, is_some, IfOk, IfErr, OnOk};
+ghost use Rattle.nn_bytes.specs.Lines.{line_feed};
 ghost use Rattle.nn_edits.specs.Grammar.{IsLawfulLine};
 ghost use Rattle.nn_edits.specs.Reading.{either_of_line};
 ghost use Rattle.nn_scenario.specs.Chunks.{HasCome, IsReadBy, Hands, Takes, Refuses};
 ghost use Rattle.nn_scenario.specs.Reading.{Reading, nothing_read, followed_by_line};
-ghost use Rattle.nn_scenario.specs.Scenario.{max_input, is_blank, line_as};
-ghost use Rattle.nn_segment.specs.Lines.{newline, is_unbroken};
+ghost use Rattle.nn_scenario.specs.Scenario.{is_blank, line_as};
+ghost use Rattle.nn_segment.specs.Lines.{is_unbroken};
+ghost use Rattle.nn_types.specs.Limits.{max_input};
 
-use crate::scenario::{BadLine, no_memory};
+use crate::scenario::{ScenarioFault, no_memory};
+use nn_bytes::line_end;
 use nn_edits::{Line, LineFault, Scratch, read_line};
-use nn_segment::line_end;
 use std::alloc::{AllocError, Global};
 use std::marker::Model;
 
@@ -34,7 +36,7 @@ pub trait LineSink {
 }
 
 /// The lines of a scenario that have come, each handed to a sink. Of the bytes those behind the last line feed are kept.
-#[derive(Drop)]
+#[derive(Debug, Drop)]
 pub struct Lines<S> {
     sink: S,
     // how many lines have ended
@@ -42,15 +44,15 @@ pub struct Lines<S> {
     // the bytes behind the last line feed
     torn: Vec<u8>,
     // the first line that was refused, behind which none is read
-    bad: Option<BadLine>,
+    bad: Option<ScenarioFault>,
 }
 
 impl<S> Model for Lines<S> {
     ghost use Rattle.std.specs.Prelude.{◌≡◌, true};
     ghost use Rattle.nn_segment.specs.Lines.{is_unbroken};
-    ghost use Rattle.nn_scenario.specs.Chunks.{Chunks};
+    ghost use Rattle.nn_scenario.specs.Chunks.{Lines};
 
-    ghost Value = { Chunks S };
+    ghost Value = { Lines S };
 
     ghost view = { λ l. record { so_far = l.sink; ended = l.ended; torn = l.torn.items; bad = l.bad } };
 
@@ -92,7 +94,7 @@ impl<S: LineSink + Drop> Lines<S> {
     }
 
     /// The sink of all lines, or the first line that was refused. The last line may lack its line feed.
-    pub fn end(self, alloc: Global, scratch: &mut Scratch) -> Result<S, BadLine>
+    pub fn end(self, alloc: Global, scratch: &mut Scratch) -> Result<S, ScenarioFault>
         requires short { self.ended ≤ max_input }
         requires count { S.count self.so_far ≤ self.ended }
         ensures read { (first : S) (text : List ℕ) → HasCome S.has_read first text self → IsReadBy S.has_read first text result }
@@ -117,7 +119,7 @@ impl<S: LineSink + Drop> Lines<S> {
         self.bad.is_some()
     }
 
-    fn refuse(&mut self, bad: BadLine)
+    fn refuse(&mut self, bad: ScenarioFault)
         ensures { self.new ≡ record { so_far = self.old.so_far; ended = self.old.ended; torn = self.old.torn; bad = Some bad } }
     {
         self.bad = Some(bad);
@@ -128,7 +130,7 @@ impl<S: LineSink + Drop> Lines<S> {
         alloc: Global,
         scratch: &mut Scratch,
         bytes: &[u8],
-    ) -> Result<(), BadLine>
+    ) -> Result<(), ScenarioFault>
         requires few { self.old.ended + length bytes.now ≤ max_input }
         requires count { S.count self.old.so_far ≤ self.old.ended }
         requires good { self.old.bad ≡ None }
@@ -149,13 +151,18 @@ impl<S: LineSink + Drop> Lines<S> {
     }
 
     // The line that ends with this text.
-    fn end_line(&mut self, alloc: Global, scratch: &mut Scratch, text: &[u8]) -> Result<(), BadLine>
+    fn end_line(
+        &mut self,
+        alloc: Global,
+        scratch: &mut Scratch,
+        text: &[u8],
+    ) -> Result<(), ScenarioFault>
         requires few { self.old.ended + 1 ≤ max_input }
         requires count { S.count self.old.so_far ≤ self.old.ended }
         requires good { self.old.bad ≡ None }
         requires unbroken { is_unbroken text.now ≡ true }
-        ensures ok { OnOk result ((self.new.bad ≡ None) × Takes S.has_read (text.now ++ newline ∷ []) self.old self.new) }
-        ensures bad { IfErr result (Refuses S.has_read (text.now ++ newline ∷ []) self.old) }
+        ensures ok { OnOk result ((self.new.bad ≡ None) × Takes S.has_read (text.now ++ line_feed ∷ []) self.old self.new) }
+        ensures bad { IfErr result (Refuses S.has_read (text.now ++ line_feed ∷ []) self.old) }
         ensures ended { self.new.ended ≡ self.old.ended + 1 }
         ensures count { S.count self.new.so_far ≤ self.new.ended }
     {
@@ -173,7 +180,7 @@ impl<S: LineSink + Drop> Lines<S> {
     }
 
     // Keeps the bytes of a line that has not ended.
-    fn keep(&mut self, text: &[u8]) -> Result<(), BadLine>
+    fn keep(&mut self, text: &[u8]) -> Result<(), ScenarioFault>
         requires good { self.old.bad ≡ None }
         requires unbroken { is_unbroken text.now ≡ true }
         ensures ok { OnOk result ((self.new.bad ≡ None) × Takes S.has_read text.now self.old self.new) }
@@ -196,7 +203,7 @@ fn hand_line<S: LineSink>(
     scratch: &mut Scratch,
     text: &[u8],
     line: u64,
-) -> Result<(), BadLine>
+) -> Result<(), ScenarioFault>
     requires unbroken { is_unbroken text.now ≡ true }
     requires few { S.count sink.old < 2 ^ 32 }
     ensures count { S.count sink.new ≤ S.count sink.old + 1 }
@@ -207,7 +214,7 @@ fn hand_line<S: LineSink>(
     if is_blank(text) {
         return Ok(());
     }
-    let read = read_line(alloc, scratch, text).map_err(|fault| BadLine { fault, line })?;
+    let read = read_line(alloc, scratch, text).map_err(|fault| ScenarioFault { fault, line })?;
     sink.line(alloc, text, read).map_err(|_| no_memory(line))
 }
 

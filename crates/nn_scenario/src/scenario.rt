@@ -1,11 +1,12 @@
 //! A scenario's bytes as the lines of segments and as steps: cut into lines, each line read.
 ghost use Rattle.std.specs.Prelude.{◌≡◌, ◌≢◌, ◌≤◌, ◌+◌, ◌++◌, true, List, ℕ, length, Ok, Err, IfOk, IfErr, OnOk};
 ghost use Rattle.nn_edits.specs.Reading.{edit_of_line};
-ghost use Rattle.nn_scenario.specs.Chunks.{IsReadAs, IsReadBy};
+ghost use Rattle.nn_scenario.specs.Chunks.{IsScenarioOf, IsReadBy};
 ghost use Rattle.nn_scenario.specs.Cut.{last_part};
-ghost use Rattle.nn_scenario.specs.Scenario.{max_input, scenario_of, seen, HasMessagesOf, IsLawfulScenario, scenario_with};
-ghost use Rattle.nn_scenario.specs.Reading.{Reading as SoFar, nothing_read, with_edit_line};
+ghost use Rattle.nn_scenario.specs.Scenario.{scenario_of, scenario_of_read, HasMessagesOf, IsLawfulScenario, scenario_with};
+ghost use Rattle.nn_scenario.specs.Reading.{Reading, nothing_read, with_edit_line};
 ghost use Rattle.nn_segment.specs.Lines.{is_unbroken};
+ghost use Rattle.nn_types.specs.Limits.{max_input};
 
 use crate::lines::{LineSink, Lines};
 use crate::segments::Part;
@@ -17,19 +18,18 @@ use nn_types::Tx;
 use std::alloc::{AllocError, Global};
 use std::marker::Model;
 use std::mem;
-
-/// The bytes that a scenario may have.
-pub const MAX_INPUT: usize = 16_777_216;
+use thiserror::Error;
 
 /// A line that was not read. Lines count from 1, the blank ones too.
-#[derive(Drop)]
-pub struct BadLine {
+#[derive(Debug, Drop, Error)]
+#[error("line {line}: {fault}")]
+pub struct ScenarioFault {
     pub fault: LineFault,
     pub line: u64,
 }
 
 /// What a scenario says.
-#[derive(Drop)]
+#[derive(Debug, Drop)]
 pub struct Scenario {
     /// The edit lines, cut after each end mark.
     pub parts: Vec<Part>,
@@ -42,11 +42,11 @@ pub struct Scenario {
 /// The scenario of a text, or its first line that is refused. Lines end with a line feed, which the last may lack; a
 /// line of spaces, tabs and carriage returns alone is passed over. The messages of each DataNode are numbered from 1, in
 /// the order of the lines. Each line is parsed once, and the bytes of an edit line are copied once.
-pub fn read_lines(alloc: Global, input: &[u8]) -> Result<Scenario, BadLine>
+pub fn read_lines(alloc: Global, input: &[u8]) -> Result<Scenario, ScenarioFault>
     requires { length input.now ≤ max_input }
-    ensures ok { IfOk result (λ s. scenario_of input.now ≡ Ok (seen s)) }
-    ensures messages { IfOk result (λ s. HasMessagesOf input.now (seen s)) }
-    ensures lawful { IfOk result (λ s. IsLawfulScenario (seen s)) }
+    ensures ok { IfOk result (λ s. scenario_of input.now ≡ Ok (scenario_of_read s)) }
+    ensures messages { IfOk result (λ s. HasMessagesOf input.now (scenario_of_read s)) }
+    ensures lawful { IfOk result (λ s. IsLawfulScenario (scenario_of_read s)) }
     ensures bad { IfErr result (λ e. e.fault ≢ LineFault.OutOfMemory → scenario_of input.now ≡ Err e) }
 {
     let Ok(reading) = Reading::new(alloc) else {
@@ -59,8 +59,8 @@ pub fn read_lines(alloc: Global, input: &[u8]) -> Result<Scenario, BadLine>
 }
 
 /// The scenario of all lines, where none was refused.
-pub fn scenario_of(lines: Result<Reading, BadLine>) -> Result<Scenario, BadLine>
-    ensures { (first : SoFar) (text : List ℕ) → IsReadBy (λ _ x reading. reading ≡ x) first text lines → IsReadAs text result }
+pub fn scenario_of(lines: Result<Reading, ScenarioFault>) -> Result<Scenario, ScenarioFault>
+    ensures { (first : Reading) (text : List ℕ) → IsReadBy (λ _ x reading. reading ≡ x) first text lines → IsScenarioOf text result }
 {
     match lines {
         Ok(reading) => reading.into_scenario(),
@@ -68,15 +68,15 @@ pub fn scenario_of(lines: Result<Reading, BadLine>) -> Result<Scenario, BadLine>
     }
 }
 
-pub(crate) fn no_memory(line: u64) -> BadLine
+pub(crate) fn no_memory(line: u64) -> ScenarioFault
     ensures { result ≡ record { fault = LineFault.OutOfMemory; line = line } }
 {
     let fault = LineFault::OutOfMemory;
-    BadLine { fault, line }
+    ScenarioFault { fault, line }
 }
 
 /// What was read so far: the parts that ended, the one in hand, and the steps.
-#[derive(Drop)]
+#[derive(Debug, Drop)]
 pub struct Reading {
     parts: Vec<Part>,
     in_hand: Part,
@@ -138,8 +138,8 @@ impl Reading {
     }
 
     // All that was read, at the last line.
-    fn into_scenario(self) -> Result<Scenario, BadLine>
-        ensures ok { IfOk result (λ s. seen s ≡ scenario_with (self.parts ++ last_part self.in_hand) self.steps) }
+    fn into_scenario(self) -> Result<Scenario, ScenarioFault>
+        ensures ok { IfOk result (λ s. scenario_of_read s ≡ scenario_with (self.parts ++ last_part self.in_hand) self.steps) }
         ensures bad { IfErr result (λ e. e.fault ≡ LineFault.OutOfMemory) }
     {
         let Reading {

@@ -1,11 +1,12 @@
 //! The edit lines of a scenario as segments.
 ghost use Rattle.std.specs.Prelude.{◌≡◌, ◌≢◌, ◌≤◌, ◌++◌, ◌∷◌, [], true, Ok, Err, IfOk, IfErr, OnOk, MatchOption, max};
 ghost use Rattle.std.specs.List.{All};
+ghost use Rattle.nn_bytes.specs.Lines.{line_feed};
 ghost use Rattle.nn_edits.specs.Reading.{edit_of_line};
-ghost use Rattle.nn_segment.specs.Lines.{newline, is_unbroken};
-ghost use Rattle.nn_segment.specs.Name.{name_text};
-ghost use Rattle.nn_segment.specs.Outcome.{Gives};
-ghost use Rattle.nn_scenario.specs.Cut.{no_lines, with_line, last_part, name_of, segment_of, segments_from};
+ghost use Rattle.nn_segment.specs.Lines.{is_unbroken};
+ghost use Rattle.nn_segment.specs.Name.{segment_file_name};
+ghost use Rattle.nn_segment.specs.Outcome.{SegmentGives};
+ghost use Rattle.nn_scenario.specs.Cut.{no_lines, with_line, last_part, part_name, segment_of, segments_from};
 
 use nn_segment::{Parsed, SegmentFault, segment_name};
 use nn_types::{Tx, Txid};
@@ -14,7 +15,7 @@ use std::marker::Model;
 
 /// Lines of the log that are to become one segment: their bytes, each with one line feed after it, and the
 /// transactions that they were read as.
-#[derive(Drop)]
+#[derive(Debug, Drop)]
 pub struct Part {
     bytes: Vec<u8>,
     txs: Vec<Tx>,
@@ -68,7 +69,7 @@ impl Part {
     /// The segment of these lines, named by its first and its last transaction, or its first fault. No line is
     /// read again.
     pub fn into_segment(self, alloc: Global) -> Result<Parsed, SegmentFault>
-        ensures { Gives result (segment_of self) }
+        ensures { SegmentGives result (segment_of self) }
     {
         let Part { bytes, txs } = self;
         let Some(txids) = ends_of(&txs) else {
@@ -82,7 +83,7 @@ impl Part {
 }
 
 fn add_line(bytes: &mut Vec<u8>, text: &[u8]) -> Result<(), AllocError>
-    ensures { OnOk result (bytes.new.items ≡ bytes.old.items ++ text.now ++ newline ∷ []) }
+    ensures { OnOk result (bytes.new.items ≡ bytes.old.items ++ text.now ++ line_feed ∷ []) }
 {
     bytes.extend_from_slice(text)?;
     bytes.push(b'\n')?;
@@ -92,7 +93,7 @@ fn add_line(bytes: &mut Vec<u8>, text: &[u8]) -> Result<(), AllocError>
 // The txids of the name of transactions; none where there are no transactions.
 fn ends_of(txs: &[Tx]) -> Option<(Txid, Txid)>
     requires { All (λ tx. 1 ≤ tx.txid) txs.now }
-    ensures { MatchOption result (name_of txs.now ≡ []) (λ p. (name_of txs.now ≡ name_text p.0 p.1) × (1 ≤ p.0) × (p.0 ≤ p.1)) }
+    ensures { MatchOption result (part_name txs.now ≡ []) (λ p. (part_name txs.now ≡ segment_file_name p.0 p.1) × (1 ≤ p.0) × (p.0 ≤ p.1)) }
 {
     let first = txs.first()?;
     let last = txs.last()?;
@@ -107,14 +108,14 @@ fn no_lower(first: Txid, last: Txid) -> Txid
 }
 
 /// A segment that has a fault. Segments count from 1.
-#[derive(Drop)]
-pub struct BadSegment {
+#[derive(Debug, Drop)]
+pub struct PartFault {
     pub fault: SegmentFault,
     pub segment: u64,
 }
 
 /// The segments of parts, or the first that has a fault.
-pub fn read_segments(alloc: Global, parts: Vec<Part>) -> Result<Vec<Parsed>, BadSegment>
+pub fn read_segments(alloc: Global, parts: Vec<Part>) -> Result<Vec<Parsed>, PartFault>
     ensures ok { IfOk result (λ v. segments_from 1 parts.items ≡ Ok v.items) }
     ensures bad { IfErr result (λ e. e.fault ≢ SegmentFault.OutOfMemory → segments_from 1 parts.items ≡ Err e) }
 {
@@ -123,11 +124,11 @@ pub fn read_segments(alloc: Global, parts: Vec<Part>) -> Result<Vec<Parsed>, Bad
         let segment = segments.len() as u64 + 1;
         let parsed = match part.into_segment(alloc) {
             Ok(parsed) => parsed,
-            Err(fault) => return Err(BadSegment { fault, segment }),
+            Err(fault) => return Err(PartFault { fault, segment }),
         };
         if let Err(_) = segments.push(parsed) {
             let fault = SegmentFault::OutOfMemory;
-            return Err(BadSegment { fault, segment });
+            return Err(PartFault { fault, segment });
         }
     }
     Ok(segments)

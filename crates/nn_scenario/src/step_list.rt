@@ -1,5 +1,6 @@
 //! The steps of a scenario, kept small: most are edits, which say nothing.
-ghost use Rattle.std.specs.Prelude.{◌≡◌, ◌<◌, ◌^◌, ◌++◌, ◌∷◌, [], length, OnOk, OnErr, IfSome, IfNone};
+ghost use Rattle.std.specs.Prelude.{◌≡◌, ◌<◌, ◌^◌, ◌++◌, ◌∷◌, ◌==◌, [], length, OnOk, OnErr};
+ghost use Rattle.std.specs.Iterator.{YieldsFirst, item_count};
 
 use crate::steps::Step;
 use nn_types::Message;
@@ -8,7 +9,7 @@ use std::marker::Model;
 use std::vec::IntoIter;
 
 /// Steps in order. An edit takes a byte, a message a byte more than itself.
-#[derive(Drop)]
+#[derive(Debug, Drop)]
 pub struct StepList {
     // of each step whether it is a message
     kinds: Vec<bool>,
@@ -47,6 +48,13 @@ impl StepList {
         self.kinds.len()
     }
 
+    /// Whether there are none.
+    pub fn is_empty(&self) -> bool
+        ensures { result ≡ (length self.now == 0) }
+    {
+        self.len() == 0
+    }
+
     /// Adds an edit. Where memory is refused the steps stay.
     pub fn push_edit(&mut self) -> Result<(), AllocError>
         ensures ok { OnOk result (self.new ≡ self.old ++ Step.Edit ∷ []) }
@@ -82,7 +90,7 @@ impl StepList {
 }
 
 /// The steps of a list that were not taken yet.
-#[derive(Drop)]
+#[derive(Debug, Drop)]
 pub struct StepsLeft {
     kinds: IntoIter<bool>,
     messages: IntoIter<Message>,
@@ -101,12 +109,14 @@ impl Model for StepsLeft {
     ghost invariant = { λ s. AreTold (into_iter_items s.kinds) (into_iter_items s.messages) };
 }
 
-impl StepsLeft {
-    /// Takes the first of the steps that are left.
-    pub fn next(&mut self) -> Option<Step>
-        ensures some { IfSome result (λ step. self.old ≡ step ∷ self.new) }
-        ensures none { IfNone result (self.old ≡ []) }
-    {
+impl Iterator for StepsLeft {
+    type Item = Step;
+
+    ghost next_gives = { YieldsFirst (λ s. s) };
+
+    ghost remaining = { item_count (λ s. s) };
+
+    fn next(&mut self) -> Option<Step> {
         let Some(is_message) = self.kinds.next() else {
             return None;
         };

@@ -1,8 +1,10 @@
 //! The steps of a scenario, with its messages numbered.
 ghost use Rattle.std.specs.Prelude.{◌≡◌, ◌≤◌, ◌++◌, ◌∷◌, [], IfOk, OnOk, OnErr, replicate};
 ghost use Rattle.nn_scenario.specs.Steps.{message, with_report, datanode_count};
+ghost use Rattle.nn_types.specs.Limits.{max_datanodes};
 
 use crate::step_list::StepList;
+use nn_types::limits::MAX_DATANODES;
 use nn_types::{Message, Report};
 use std::alloc::{AllocError, Global};
 use std::marker::Model;
@@ -16,10 +18,10 @@ pub enum Step {
 }
 
 // A place for each DataNode, and one for 0, which none has.
-const PLACES: usize = 257;
+const PLACES: usize = MAX_DATANODES as usize + 1;
 
 /// Steps in order. Each message has the number that its DataNode counted it under, from 1.
-#[derive(Drop)]
+#[derive(Debug, Drop)]
 pub struct Steps {
     items: StepList,
     // how many messages each DataNode sent
@@ -63,12 +65,12 @@ impl Steps {
 
     /// The next step is the next message of a DataNode. Where memory is refused the steps stay.
     pub fn push_report(&mut self, report: Report) -> Result<(), AllocError>
-        requires { report.dn ≤ 256 }
+        requires { report.dn ≤ max_datanodes }
         ensures ok { OnOk result (self.new ≡ with_report self.old report) }
         ensures left { OnErr result (self.new ≡ self.old) }
     {
-        // A DataNode sent no more messages than there are steps.
-        let _steps = self.items.len();
+        // Recalls to the prover that steps fit in memory: a DataNode sent no more messages than there are.
+        let _recalled = self.items.len();
         let dn = report.dn;
         let number = self.sent[usize::from(dn)] + 1;
         let next = message(report, number);

@@ -2,7 +2,7 @@
 use Rattle.std.proofs.Common.{◌≡◌, List, [], ◌∷◌, ◌++◌, map, Ok, Err, refl, subst, sym, ap, ◌∙◌, append_assoc}
 use Rattle.std.proofs.lemmas.List.{append-nil, map-append}
 use Rattle.nn_segment.specs.Segment.{Segment}
-use Rattle.nn_segment.specs.Source.{Answer, given, end, Asked, GivesNext, AreInOrder, GivesInOrder}
+use Rattle.nn_segment.specs.Source.{Answer, given, end, Asked, AreAnswersOf, GivesInOrder}
 use Rattle.nn_segment.specs.LogEnd.{given_in}
 use Rattle.nn_segment.specs.Walk.{segments_in}
 use Rattle.nn_segment.specs.declared.fault.SourceFault.{SourceFault}
@@ -22,9 +22,9 @@ asked_again gives old between new answers answer first h = asked_append gives ol
 pub in_order : GivesInOrder
 in_order old new [] asked = tt
 in_order [] new (answer ∷ answers) asked =
-    (asked.1.0, let P : List Segment → Type 0 = λ x. AreInOrder x answers in subst P asked.1.1 (in_order asked.0 new answers asked.2))
+    (asked.1.0, let P : List Segment → Type 0 = λ x. AreAnswersOf x answers in subst P asked.1.1 (in_order asked.0 new answers asked.2))
 in_order (s ∷ segments) new (answer ∷ answers) asked =
-    (asked.1.0, let P : List Segment → Type 0 = λ x. AreInOrder x answers in subst P asked.1.1 (in_order asked.0 new answers asked.2))
+    (asked.1.0, let P : List Segment → Type 0 = λ x. AreAnswersOf x answers in subst P asked.1.1 (in_order asked.0 new answers asked.2))
 
 -- one more segment
 pub asked_more : {S : Type 0} (gives : S → Answer → S → Type 0) (old between new : S) (segments : List Segment) (s : Segment)

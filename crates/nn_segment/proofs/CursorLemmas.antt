@@ -10,7 +10,7 @@ use Rattle.nn_segment.specs.Segment.{Segment, first_txid, IsSegment}
 use Rattle.nn_segment.specs.Source.{Answer, Asked, given, end}
 use Rattle.nn_segment.specs.LogEnd.{end_of_txs, and_then, end_of_log, given_in}
 use Rattle.nn_segment.specs.LogLeft.{LogLeft, end_of_left, ComesNext, IsMissing, LeavesSame}
-use Rattle.nn_segment.specs.Cursor.{is_passed, PassesOver, TakesUp, left_by, ReadsOn}
+use Rattle.nn_segment.specs.Cursor.{is_passed, PassesOver, TakesUp, log_left, ReadsOn}
 use Rattle.nn_segment.specs.declared.fault.SourceFault.{SourceFault}
 use Rattle.nn_segment.specs.declared.cursor.TakenUp.TheVariants as taken_up
 use Rattle.nn_segment.specs.declared.cursor.Next.TheVariants as next
@@ -110,7 +110,7 @@ pub record Walking {S : Type 0} (gives : S → Answer → S → Type 0) (failure
   pub asked : Asked gives s answers t
   pub segments : List Segment
   pub all_given : answers ≡ map given segments
-  pub same : (later : List Segment) → LeavesSame last (left_by old answers later) (left_by new [] later)
+  pub same : (later : List Segment) → LeavesSame last (log_left old answers later) (log_left new [] later)
 
 -- nothing was asked yet
 pub walk_begins : {S : Type 0} (gives : S → Answer → S → Type 0) (failures : S → ℕ) (last : ℕ) (s : S) (old : List Tx) → Walking gives failures last s s old old
@@ -133,39 +133,39 @@ more_given answers segments answer s all is =
 then_given : (answers : List Answer) (segments : List Segment) (answer to : Answer) → answers ≡ map given segments → answer ≡ to → answers ++ answer ∷ [] ≡ map given segments ++ to ∷ []
 then_given answers segments answer to all is = ap (λ a. answers ++ a ∷ []) is ∙ ap (λ given_so_far. given_so_far ++ to ∷ []) all
 
-module _ (last : ℕ) (old : List Tx) (answers : List Answer) (mid : List Tx) (same : (later : List Segment) → LeavesSame last (left_by old answers later) (left_by mid [] later)) where
+module _ (last : ℕ) (old : List Tx) (answers : List Answer) (mid : List Tx) (same : (later : List Segment) → LeavesSame last (log_left old answers later) (log_left mid [] later)) where
   -- one more answer
-  moved : (answer : Answer) (s : Segment) (later : List Segment) → answer ≡ given s → left_by old (answers ++ answer ∷ []) later ≡ left_by old answers (s ∷ later)
+  moved : (answer : Answer) (s : Segment) (later : List Segment) → answer ≡ given s → log_left old (answers ++ answer ∷ []) later ≡ log_left old answers (s ∷ later)
   moved answer s later is = ap (λ segments. record { txs = old; segments = segments })
       (ap (λ a. given_in (answers ++ a ∷ []) ++ later) is ∙ one_given answers s later)
 
   pub reads_transaction : (tx : Tx) (new : List Tx) (later : List Segment) → tx.txid ≡ last + 1 → counted last mid ≡ tx ∷ counted tx.txid new
-      → ComesNext last (left_by old answers later) tx (left_by new [] later)
+      → ComesNext last (log_left old answers later) tx (log_left new [] later)
   reads_transaction tx new later next is = (
     next,
-    λ n. (same later).0 n ∙ one_taken last n (left_by mid [] later) (left_by new [] later) tx is refl,
-    (same later).1 ∙ one_left last (left_by mid [] later) (left_by new [] later) tx next is refl,
+    λ n. (same later).0 n ∙ one_taken last n (log_left mid [] later) (log_left new [] later) tx is refl,
+    (same later).1 ∙ one_left last (log_left mid [] later) (log_left new [] later) tx next is refl,
   )
 
   pub reads_gap : (hand : List Tx) (answer : Answer) (s : Segment) (later : List Segment) → counted last mid ≡ [] → answer ≡ given s → last + 1 < first_txid s.txs
-      → IsMissing last (left_by old (answers ++ answer ∷ []) later)
+      → IsMissing last (log_left old (answers ++ answer ∷ []) later)
   reads_gap hand answer s later none is high = λ n.
       ap (end_of_left last n) (moved answer s later is)
       ∙ (same (s ∷ later)).0 n
-      ∙ one_missing last n (left_by mid [] (s ∷ later)) s later none refl high
+      ∙ one_missing last n (log_left mid [] (s ∷ later)) s later none refl high
 
   pub reads_segment : (new : List Tx) (answer : Answer) (s : Segment) (later : List Segment) → counted last mid ≡ [] → answer ≡ given s → first_txid s.txs ≤ last + 1
-      → counted last s.txs ≡ counted last new → LeavesSame last (left_by old (answers ++ answer ∷ []) later) (left_by new [] later)
+      → counted last s.txs ≡ counted last new → LeavesSame last (log_left old (answers ++ answer ∷ []) later) (log_left new [] later)
   reads_segment new answer s later none is low counts =
-      subst (λ left. LeavesSame last left (left_by new [] later)) (sym (moved answer s later is))
-      (same_then last (left_by old answers (s ∷ later)) (left_by mid [] (s ∷ later)) (left_by new [] later) (same (s ∷ later))
-      (same_then last (left_by mid [] (s ∷ later)) (left_by s.txs [] later) (left_by new [] later) (segment_comes last mid s later none low) (same_counts last s.txs new later counts)))
+      subst (λ left. LeavesSame last left (log_left new [] later)) (sym (moved answer s later is))
+      (same_then last (log_left old answers (s ∷ later)) (log_left mid [] (s ∷ later)) (log_left new [] later) (same (s ∷ later))
+      (same_then last (log_left mid [] (s ∷ later)) (log_left s.txs [] later) (log_left new [] later) (segment_comes last mid s later none low) (same_counts last s.txs new later counts)))
 
   -- an answer with no segment
   pub reads_nothing : (answer : Answer) (later : List Segment) → given_in (answers ++ answer ∷ []) ≡ given_in answers
-      → LeavesSame last (left_by old (answers ++ answer ∷ []) later) (left_by mid [] later)
+      → LeavesSame last (log_left old (answers ++ answer ∷ []) later) (log_left mid [] later)
   reads_nothing answer later is =
-      subst (λ (segments : List Segment). LeavesSame last (record { txs = old; segments = segments ++ later }) (left_by mid [] later)) (sym is) (same later)
+      subst (λ (segments : List Segment). LeavesSame last (record { txs = old; segments = segments ++ later }) (log_left mid [] later)) (sym is) (same later)
 
 -- ---- the walk, one call further
 
@@ -207,9 +207,9 @@ module _ {S : Type 0} (gives : S → Answer → S → Type 0) (failures : S → 
 
     -- an answer with no segment
     nothing_more : given_in (w.answers ++ answer ∷ []) ≡ given_in w.answers → new ≡ hand → (later : List Segment)
-        → LeavesSame last (left_by old (w.answers ++ answer ∷ []) later) (left_by new [] later)
+        → LeavesSame last (log_left old (w.answers ++ answer ∷ []) later) (log_left new [] later)
     nothing_more none same later =
-        same_then last (left_by old (w.answers ++ answer ∷ []) later) (left_by mid [] later) (left_by new [] later)
+        same_then last (log_left old (w.answers ++ answer ∷ []) later) (log_left mid [] later) (log_left new [] later)
         (reads_nothing last old w.answers mid w.same answer later none)
         (same_counts last mid new later (spent.0 ∙ sym (ap (counted last) (same ∙ spent.1))))
 

@@ -6,7 +6,7 @@ use Rattle.std.proofs.lemmas.Bool.{cases_lt}
 use Rattle.std.proofs.lemmas.List.{take_more, get_or_append_left, get_or_push, replicate-append-replicate}
 use Rattle.std.proofs.lemmas.List.Sums.{fold-append}
 use Rattle.std.proofs.Math.Nat.{pow-suc, pow-le-pow_right}
-use Rattle.nn_segment.specs.Name.{digits, number_of}
+use Rattle.nn_segment.specs.Name.{digits, number_spelled}
 
 pub length-digits : (k n : ℕ) → length (digits k n) ≡ k
 unfolding digits
@@ -17,9 +17,9 @@ length-digits (suc k) n = length-append (digits k (n / 10)) _ ∙ omega (arith, 
 pub digits_more : (k n d : ℕ) → d < 10 → digits (suc k) (n * 10 + d) ≡ digits k n ++ (48 + d) ∷ []
 unfolding digits
 digits_more k n d small =
-    let front : (n * 10 + d) / 10 ≡ n = omega arith in
+    let prefix : (n * 10 + d) / 10 ≡ n = omega arith in
     let last : (n * 10 + d) % 10 ≡ d = omega arith in
-    ap (λ m. digits k m ++ (48 + (n * 10 + d) % 10) ∷ []) front ∙ ap (λ m. digits k n ++ (48 + m) ∷ []) last
+    ap (λ m. digits k m ++ (48 + (n * 10 + d) % 10) ∷ []) prefix ∙ ap (λ m. digits k n ++ (48 + m) ∷ []) last
 
 -- each is a digit
 pub digit_at : (k n i : ℕ) → i < k → (48 ≤ get_or (digits k n) i 0) × (get_or (digits k n) i 0 ≤ 57)
@@ -37,12 +37,12 @@ ten_times : (k n : ℕ) → n < 10 ^ suc k → n / 10 < 10 ^ k
 ten_times k n h = omega (arith, pow-suc 10 k, h)
 
 -- what the digits spell
-pub number_of-digits : (k n : ℕ) → n < 10 ^ k → number_of (digits k n) ≡ n
+pub number_of-digits : (k n : ℕ) → n < 10 ^ k → number_spelled (digits k n) ≡ n
 unfolding digits
 number_of-digits zero n h = omega arith
 number_of-digits (suc k) n h =
-    let front = number_of-digits k (n / 10) (ten_times k n h) in
-    fold-append (λ n digit. 10 * n + (digit - 48)) 0 (digits k (n / 10)) _ ∙ omega (arith, front)
+    let prefix = number_of-digits k (n / 10) (ten_times k n h) in
+    fold-append (λ n digit. 10 * n + (digit - 48)) 0 (digits k (n / 10)) _ ∙ omega (arith, prefix)
 
 zeros : (k : ℕ) → digits k 0 ≡ replicate k 48
 unfolding digits

@@ -4,13 +4,14 @@ use Rattle.std.proofs.lemmas.Bool.{eqb-true}
 use Rattle.std.proofs.lemmas.List.{map-append}
 use Rattle.std.proofs.lemmas.List.Sums.{sum_by-cons}
 use Rattle.std.specs.List.{onto_first, position_or_len}
+use Rattle.nn_bytes.specs.Lines.{line_feed}
 use Rattle.nn_edits.specs.Reading.{edit_of_line}
 use Rattle.nn_edits.specs.declared.fault.LineFault.{LineFault}
 use Rattle.nn_types.specs.declared.tx.Tx.{Tx}
-use Rattle.nn_segment.specs.Lines.{newline, lines_of, is_ended, is_unbroken, reads_of}
+use Rattle.nn_segment.specs.Lines.{lines_of, is_ended, is_unbroken, reads_of}
 
 abbrev pub ends : ℕ → Bool
-ends b = eqb b newline
+ends b = eqb b line_feed
 
 -- ---- the first line
 
@@ -108,3 +109,7 @@ first_unbroken (b ∷ text) = at (ends b) refl (first_unbroken text)
     at false e later =
         let one : suc (position_or_len ends text) ≡ 1 + position_or_len ends text = omega arith in
         subst (λ k. is_unbroken (take k (b ∷ text)) ≡ true) one (rw e later)
+
+-- nor before a place where it ends
+pub unbroken_to : (text : List ℕ) (end : ℕ) → end ≡ position_or_len ends text → is_unbroken (take end text) ≡ true
+unbroken_to text end is = subst (λ n. is_unbroken (take n text) ≡ true) (sym is) (first_unbroken text)

@@ -8,7 +8,7 @@ use Rattle.std.proofs.lemmas.Bool.Decides.{Decides-eqb}
 use Rattle.std.proofs.lemmas.List.{take_at, drop_at, take_all, get_or_at, drop_more, take-append-drop, drop-drop}
 use Rattle.std.proofs.lemmas.Option.{cond_some}
 use Rattle.std.proofs.lemmas.Slice.Eq.{bytes_eq-Decides, starts_is}
-use Rattle.nn_segment.specs.Name.{digits, name_text, number_of, if_named, txids_of, IsNameOf}
+use Rattle.nn_segment.specs.Name.{digits, segment_file_name, number_spelled, if_named, txids_of, IsNameOf}
 use Rattle.nn_segment.proofs.Digits.{length-digits, number_of-digits, digits_padded}
 
 abbrev head_text : List ℕ
@@ -18,43 +18,43 @@ abbrev dash : List ℕ
 dash = codes "-"
 
 -- the four parts of a name
-pub parts : (first last : ℕ) → name_text first last ≡ head_text ++ (digits 19 first ++ (dash ++ digits 19 last))
-unfolding name_text
+pub parts : (first last : ℕ) → segment_file_name first last ≡ head_text ++ (digits 19 first ++ (dash ++ digits 19 last))
+unfolding segment_file_name
 parts first last =
     append_assoc (head_text ++ digits 19 first) dash (digits 19 last) ∙ append_assoc head_text (digits 19 first) (dash ++ digits 19 last)
 
-pub length-name : (first last : ℕ) → length (name_text first last) ≡ 45
+pub length-name : (first last : ℕ) → length (segment_file_name first last) ≡ 45
 length-name first last =
     ap length (parts first last)
     ∙ omega (arith, length-append (digits 19 first) (dash ++ digits 19 last), length-digits 19 first, length-digits 19 last)
 
 -- what follows the head, and what follows the dash
-pub drop-head : (first last : ℕ) → drop 6 (name_text first last) ≡ digits 19 first ++ (dash ++ digits 19 last)
+pub drop-head : (first last : ℕ) → drop 6 (segment_file_name first last) ≡ digits 19 first ++ (dash ++ digits 19 last)
 drop-head first last = ap (drop 6) (parts first last)
 
-pub first-digits : (first last : ℕ) → take 19 (drop 6 (name_text first last)) ≡ digits 19 first
+pub first-digits : (first last : ℕ) → take 19 (drop 6 (segment_file_name first last)) ≡ digits 19 first
 first-digits first last =
     ap (take 19) (drop-head first last) ∙ take_at (digits 19 first) (dash ++ digits 19 last) 19 (length-digits 19 first)
 
-before_last : (first last : ℕ) → name_text first last ≡ (head_text ++ digits 19 first ++ dash) ++ digits 19 last
-unfolding name_text
+before_last : (first last : ℕ) → segment_file_name first last ≡ (head_text ++ digits 19 first ++ dash) ++ digits 19 last
+unfolding segment_file_name
 before_last first last = refl
 
-pub last-digits : (first last : ℕ) → drop 26 (name_text first last) ≡ digits 19 last
+pub last-digits : (first last : ℕ) → drop 26 (segment_file_name first last) ≡ digits 19 last
 last-digits first last =
     ap (drop 26) (before_last first last)
     ∙ drop_at (head_text ++ digits 19 first ++ dash) (digits 19 last) 26 (length-append (head_text ++ digits 19 first) dash ∙ omega (arith, length-append head_text (digits 19 first), length-digits 19 first))
 
 -- a name is read back, where its txids are in order
 pub read-name : (first last : ℕ) → first < 10 ^ 19 → last < 10 ^ 19
-    → txids_of (name_text first last) ≡ cond (leb 1 first && leb first last && ltb last (2 ^ 63)) (Some (first, last)) None
+    → txids_of (segment_file_name first last) ≡ cond (leb 1 first && leb first last && ltb last (2 ^ 63)) (Some (first, last)) None
 unfolding txids_of
 read-name first last f l =
-    let text = name_text first last in
-    let one : number_of (take 19 (drop 6 text)) ≡ first = ap number_of (first-digits first last) ∙ number_of-digits 19 first f in
+    let text = segment_file_name first last in
+    let one : number_spelled (take 19 (drop 6 text)) ≡ first = ap number_spelled (first-digits first last) ∙ number_of-digits 19 first f in
     let rest : take 19 (drop 26 text) ≡ digits 19 last = ap (take 19) (last-digits first last) ∙ take_all 19 (digits 19 last) (omega (arith, length-digits 19 last)) in
-    let other : number_of (take 19 (drop 26 text)) ≡ last = ap number_of rest ∙ number_of-digits 19 last l in
-    ap (λ n. if_named text n (number_of (take 19 (drop 26 text)))) one
+    let other : number_spelled (take 19 (drop 26 text)) ≡ last = ap number_spelled rest ∙ number_of-digits 19 last l in
+    ap (λ n. if_named text n (number_spelled (take 19 (drop 26 text)))) one
     ∙ ap (if_named text first) other
     ∙ ap (λ b. cond (leb 1 first && leb first last && ltb last (2 ^ 63) && b) (Some (first, last)) None) ((bytes_eq-Decides text text).1 refl)
     ∙ ap (λ b. cond b (Some (first, last)) None) (and_true (leb 1 first && leb first last && ltb last (2 ^ 63)))
@@ -76,7 +76,7 @@ names text first last is =
 -- what is read of a text is what the text names
 pub named : (text : List ℕ) (first last : ℕ) → txids_of text ≡ Some (first, last) → IsNameOf text first last
 unfolding txids_of
-named text first last e = by_numbers (number_of (take 19 (drop 6 text))) (number_of (take 19 (drop 26 text))) e
+named text first last e = by_numbers (number_spelled (take 19 (drop 6 text))) (number_spelled (take 19 (drop 26 text))) e
   where
     by_numbers : (n m : ℕ) → if_named text n m ≡ Some (first, last) → IsNameOf text first last
     by_numbers n m e =
@@ -88,12 +88,12 @@ named text first last e = by_numbers (number_of (take 19 (drop 6 text))) (number
           from_one = leb-true 1 n order.0;
           in_order = leb-true n m order.1;
           in_range = ltb-true m (2 ^ 63) numbers.1;
-          spelled = (bytes_eq-Decides text (name_text n m)).0 all.1;
+          spelled = (bytes_eq-Decides text (segment_file_name n m)).0 all.1;
         } in
         subst (λ (p : ℕ × ℕ). IsNameOf text p.0 p.1) found.1 is
 
 -- a text that is no name is not read
-pub unnamed : (text : List ℕ) → ((first last : ℕ) → text ≢ name_text first last) → txids_of text ≡ None
+pub unnamed : (text : List ℕ) → ((first last : ℕ) → text ≢ segment_file_name first last) → txids_of text ≡ None
 unnamed text other = at (txids_of text) refl
   where
     at : (o : Option (ℕ × ℕ)) → txids_of text ≡ o → txids_of text ≡ None
@@ -101,7 +101,7 @@ unnamed text other = at (txids_of text) refl
     at (Some p) e = absurd (other p.0 p.1 (named text p.0 p.1 e).spelled)
 
 -- the txids of a text with the form of a name
-pub judged : (text : List ℕ) (first last : ℕ) (found : Option (ℕ × ℕ)) → first < 10 ^ 19 → last < 10 ^ 19 → text ≡ name_text first last
+pub judged : (text : List ℕ) (first last : ℕ) (found : Option (ℕ × ℕ)) → first < 10 ^ 19 → last < 10 ^ 19 → text ≡ segment_file_name first last
     → SomeIff found ((1 ≤ first) × (first ≤ last) × (last < 2 ^ 63)) (first, last) → found ≡ txids_of text
 judged text first last None f l spelled outside = sym (none (txids_of text) refl)
   where
@@ -122,20 +122,20 @@ judged text first last (Some p) f l spelled inside =
 pub is_head : (text : List ℕ) (r : Bool) → r ≡ starts_with ◌==◌ text head_text → (r ≡ true → text ≡ head_text ++ drop 6 text) × ((rest : List ℕ) → text ≡ head_text ++ rest → r ≡ true)
 is_head text r is = starts_is Decides-eqb text head_text r is
 
-pub headless : (text : List ℕ) (r : Bool) → r ≡ starts_with ◌==◌ text head_text → r ≡ false → (first last : ℕ) → text ≢ name_text first last
+pub headless : (text : List ℕ) (r : Bool) → r ≡ starts_with ◌==◌ text head_text → r ≡ false → (first last : ℕ) → text ≢ segment_file_name first last
 headless text r is none first last e =
     both_ways r none ((is_head text r is).1 (digits 19 first ++ (dash ++ digits 19 last)) (e ∙ parts first last))
 
-pub dash_at : (text : List ℕ) (first last : ℕ) → text ≡ name_text first last → get_or text 25 0 ≡ 45
+pub dash_at : (text : List ℕ) (first last : ℕ) → text ≡ segment_file_name first last → get_or text 25 0 ≡ 45
 dash_at text first last e =
-    let front = head_text ++ digits 19 first in
-    let whole : name_text first last ≡ front ++ 45 ∷ digits 19 last = before_last first last ∙ append_assoc front dash (digits 19 last) in
+    let prefix = head_text ++ digits 19 first in
+    let whole : segment_file_name first last ≡ prefix ++ 45 ∷ digits 19 last = before_last first last ∙ append_assoc prefix dash (digits 19 last) in
     ap (λ t. get_or t 25 0) (e ∙ whole)
-    ∙ get_or_at front 45 (digits 19 last) 0 25 (length-append head_text (digits 19 first) ∙ omega (arith, length-digits 19 first))
+    ∙ get_or_at prefix 45 (digits 19 last) 0 25 (length-append head_text (digits 19 first) ∙ omega (arith, length-digits 19 first))
 
 -- the parts of a text that has each of them
 pub joined : (text : List ℕ) (first last : ℕ) → length text ≡ 45 → text ≡ head_text ++ drop 6 text → get_or text 25 0 ≡ 45
-    → digits 19 first ≡ take 19 (drop 6 text) → digits 19 last ≡ drop 26 text → text ≡ name_text first last
+    → digits 19 first ≡ take 19 (drop 6 text) → digits 19 last ≡ drop 26 text → text ≡ segment_file_name first last
 joined text first last size head middle one other =
     let after : drop 25 text ≡ dash ++ digits 19 last = drop_more text 25 0 (omega (arith, size)) ∙ ap (λ b. b ∷ drop 26 text) middle ∙ ap (λ t. 45 ∷ t) (sym other) in
     let tail : drop 6 text ≡ digits 19 first ++ (dash ++ digits 19 last) =
@@ -159,7 +159,7 @@ filled : (n : ℕ) → n < 2 ^ 63 → hole n ≡ digits 19 n
 unfolding padded_integral char_count
 filled n small = bare (19 - length (decimal n)) (decimal n) ∙ sym (digits_padded 18 n (below n small) (omega arith))
 
-pub written : (first last : ℕ) → first < 2 ^ 63 → last < 2 ^ 63 → head_text ++ (hole first ++ 45 ∷ hole last) ≡ name_text first last
+pub written : (first last : ℕ) → first < 2 ^ 63 → last < 2 ^ 63 → head_text ++ (hole first ++ 45 ∷ hole last) ≡ segment_file_name first last
 written first last f l =
     ap (λ ds. head_text ++ (ds ++ 45 ∷ hole last)) (filled first f)
     ∙ ap (λ ds. head_text ++ (digits 19 first ++ 45 ∷ ds)) (filled last l)

@@ -2,9 +2,9 @@
 use Rattle.std.proofs.Common.{◌≡◌, Result, Err}
 use Rattle.nn_segment.specs.declared.fault.SegmentFault.{SegmentFault}
 use Rattle.nn_segment.specs.declared.fault.SegmentFault.TheVariants.{BadName, TooLong, NoStart, TornLine, BadLine, Gap, WrongProfile, NoEnd, NameMismatch, OutOfMemory}
-use Rattle.nn_segment.specs.Outcome.{Gives}
+use Rattle.nn_segment.specs.Outcome.{SegmentGives}
 
-pub gives_fault : {X : Type 0} (e : SegmentFault) (given : Result X SegmentFault) → given ≡ Err e → Gives (Err e) given
+pub gives_fault : {X : Type 0} (e : SegmentFault) (given : Result X SegmentFault) → given ≡ Err e → SegmentGives (Err e) given
 gives_fault BadName given is = is
 gives_fault TooLong given is = is
 gives_fault NoStart given is = is

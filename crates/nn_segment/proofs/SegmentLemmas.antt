@@ -5,22 +5,23 @@ use Rattle.std.proofs.lemmas.Bool.{and_parts, and_from, ne_eqb, eqb-true, eq-eqb
 use Rattle.nn_types.specs.declared.tx.Tx.{Tx}
 use Rattle.nn_types.specs.declared.profile.Profile.{Profile}
 use Rattle.nn_model.specs.Log.{CountsUp}
+use Rattle.nn_model.specs.Apply.{fault_if, first_fault}
 use Rattle.nn_segment.specs.declared.fault.SegmentFault.{SegmentFault}
 use Rattle.nn_segment.specs.declared.fault.SegmentFault.TheVariants.{BadName, TooLong, NoStart, TornLine, NoEnd, NameMismatch, Gap, WrongProfile}
 use Rattle.nn_segment.specs.Name.{txids_of, IsNameOf}
 use Rattle.nn_segment.specs.Lines.{lines_of, is_ended, reads_of}
 use Rattle.nn_segment.specs.Segment.{Segment, max_bytes, start_profile, allows, allows_all, allowed_by, keeps_profile, starts, ends_once, first_txid, last_txid, IsSegment}
-use Rattle.nn_segment.specs.Reading.{when, first, later_fault, after_start, lines_fault, txs_in, is_named, bytes_checks, lines_checks, fault_of, unless, read_segment}
+use Rattle.nn_segment.specs.Reading.{later_fault, after_start, lines_fault, txs_in, names_txids, bytes_checks, lines_checks, fault_of_segment, unless, read_segment}
 use Rattle.nn_segment.proofs.Names.{named, names}
 use Rattle.nn_segment.proofs.ReadingLemmas.{Reads, by_lines, accepted, bytes_good, none_refuses}
 
 -- ---- no fault, check by check
 
-pub first_none : (o : Option SegmentFault) (os : List (Option SegmentFault)) → first (o ∷ os) ≡ None → (o ≡ None) × (first os ≡ None)
+pub first_none : (o : Option SegmentFault) (os : List (Option SegmentFault)) → first_fault (o ∷ os) ≡ None → (o ≡ None) × (first_fault os ≡ None)
 first_none None os e = (refl, e)
 first_none (Some x) os e = absurd (cc)
 
-when_none : (b : Bool) (x : SegmentFault) → when b x ≡ None → b ≡ false
+when_none : (b : Bool) (x : SegmentFault) → fault_if b x ≡ None → b ≡ false
 when_none true x e = absurd (cc)
 when_none false x e = refl
 
@@ -78,21 +79,21 @@ some_txs : (txs : List Tx) → ends_once (drop 1 txs) ≡ true → 0 < length tx
 some_txs [] e = absurd (cc)
 some_txs (tx ∷ txs) e = omega arith
 
-is_named_parts : (txids : ℕ × ℕ) (txs : List Tx) → is_named (Some txids) txs ≡ true → (txids.0 ≡ first_txid txs) × (txids.1 ≡ last_txid txs)
+is_named_parts : (txids : ℕ × ℕ) (txs : List Tx) → names_txids (Some txids) txs ≡ true → (txids.0 ≡ first_txid txs) × (txids.1 ≡ last_txid txs)
 is_named_parts txids txs e = let both = and_parts _ _ e in (eqb-true txids.0 (first_txid txs) both.0, eqb-true txids.1 (last_txid txs) both.1)
 
 -- a segment, from the checks on name, bytes and lines
-pub whole : (name bytes : List ℕ) (txids : ℕ × ℕ) → txids_of name ≡ Some txids → first (bytes_checks bytes) ≡ None → first (lines_checks (Some txids) (reads_of bytes)) ≡ None
+pub whole : (name bytes : List ℕ) (txids : ℕ × ℕ) → txids_of name ≡ Some txids → first_fault (bytes_checks bytes) ≡ None → first_fault (lines_checks (Some txids) (reads_of bytes)) ≡ None
     → IsSegment (record { name = name; bytes = bytes; txs = txs_in (reads_of bytes) })
 whole name bytes txids is_name good lines_good =
     let reads = reads_of bytes in
     let txs = txs_in (reads_of bytes) in
-    let long = first_none (when (ltb max_bytes (length bytes)) TooLong) _ good in
-    let empty = first_none (when (eqb (length bytes) 0) NoStart) _ long.1 in
-    let torn = first_none (when (not (is_ended bytes)) (TornLine (length (lines_of bytes)))) _ empty.1 in
+    let long = first_none (fault_if (ltb max_bytes (length bytes)) TooLong) _ good in
+    let empty = first_none (fault_if (eqb (length bytes) 0) NoStart) _ long.1 in
+    let torn = first_none (fault_if (not (is_ended bytes)) (TornLine (length (lines_of bytes)))) _ empty.1 in
     let order = first_none (lines_fault reads) _ lines_good in
-    let end = first_none (when (not (ends_once (drop 1 txs))) NoEnd) _ order.1 in
-    let other = first_none (when (not (is_named (Some txids) txs)) NameMismatch) _ end.1 in
+    let end = first_none (fault_if (not (ends_once (drop 1 txs))) NoEnd) _ order.1 in
+    let other = first_none (fault_if (not (names_txids (Some txids) txs)) NameMismatch) _ end.1 in
     let ended : ends_once (drop 1 txs) ≡ true = not-false _ (when_none _ NoEnd end.0) in
     let same = is_named_parts txids txs (not-false _ (when_none _ NameMismatch other.0)) in
     let of = named name txids.0 txids.1 is_name in
@@ -109,21 +110,21 @@ whole name bytes txids is_name good lines_good =
       keeps_profile = ordered.profile (some_txs txs ended);
     }
 
-fault_parts : (name bytes : List ℕ) → fault_of name bytes ≡ None → (txids : ℕ × ℕ) × (txids_of name ≡ Some txids) × (first (bytes_checks bytes) ≡ None) × (first (lines_checks (Some txids) (reads_of bytes)) ≡ None)
-unfolding fault_of
+fault_parts : (name bytes : List ℕ) → fault_of_segment name bytes ≡ None → (txids : ℕ × ℕ) × (txids_of name ≡ Some txids) × (first_fault (bytes_checks bytes) ≡ None) × (first_fault (lines_checks (Some txids) (reads_of bytes)) ≡ None)
+unfolding fault_of_segment
 fault_parts name bytes e =
-    let bad = first_none (when (is_none (txids_of name)) BadName) _ e in
-    let early = first_none (first (bytes_checks bytes)) _ bad.1 in
-    let late = first_none (first (lines_checks (txids_of name) (reads_of bytes))) [] early.1 in
+    let bad = first_none (fault_if (is_none (txids_of name)) BadName) _ e in
+    let early = first_none (first_fault (bytes_checks bytes)) _ bad.1 in
+    let late = first_none (first_fault (lines_checks (txids_of name) (reads_of bytes))) [] early.1 in
     let found = some_if (txids_of name) (when_none _ BadName bad.0) in
-    (found.0, found.1, early.0, ap (λ o. first (lines_checks o (reads_of bytes))) (sym found.1) ∙ late.0)
+    (found.0, found.1, early.0, ap (λ o. first_fault (lines_checks o (reads_of bytes))) (sym found.1) ∙ late.0)
 
 -- what is read is a segment of that name and those bytes
 pub read_is_segment : (name bytes : List ℕ) (s : Segment) → read_segment name bytes ≡ Ok s → IsSegment s × (s.name ≡ name) × (s.bytes ≡ bytes)
 unfolding read_segment
-read_is_segment name bytes s e = at (fault_of name bytes) refl e
+read_is_segment name bytes s e = at (fault_of_segment name bytes) refl e
   where
-    at : (o : Option SegmentFault) → fault_of name bytes ≡ o → unless o (record { name = name; bytes = bytes; txs = txs_in (reads_of bytes) }) ≡ Ok s → IsSegment s × (s.name ≡ name) × (s.bytes ≡ bytes)
+    at : (o : Option SegmentFault) → fault_of_segment name bytes ≡ o → unless o (record { name = name; bytes = bytes; txs = txs_in (reads_of bytes) }) ≡ Ok s → IsSegment s × (s.name ≡ name) × (s.bytes ≡ bytes)
     at (Some x) none e = absurd (cc)
     at None none e =
         let parts = fault_parts name bytes none in

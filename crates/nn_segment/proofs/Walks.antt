@@ -6,7 +6,7 @@ use Rattle.nn_model.specs.Log.{counted, log_of, CountsUp}
 use Rattle.nn_model.proofs.Logs.{one_more_segment, gap_adds_nothing, overlap_adds_the_rest}
 use Rattle.nn_segment.specs.Segment.{first_txid, last_txid}
 use Rattle.nn_segment.specs.Source.{Answer, given, end}
-use Rattle.nn_segment.specs.Walk.{segments_in, OldIsPassedOver, NextIsTaken, OldSegmentAddsNothing, HighSegmentAddsNothing, SegmentAddsTheRest, SegmentBehindTheRest, EndAddsNothing, FaultAddsNothing}
+use Rattle.nn_segment.specs.Walk.{segments_in, OldIsPassedOver, NextTxIsTaken, OldSegmentAddsNothing, HighSegmentAddsNothing, SegmentAddsTheRest, SegmentBehindTheRest, EndAddsNothing, FaultAddsNothing}
 use Rattle.nn_segment.specs.declared.source.Item.TheVariants as item
 
 -- ---- transaction by transaction
@@ -17,7 +17,7 @@ next last tx txs counts = cond counts (tx ∷ counted tx.txid txs) (counted last
 pub passed_over : OldIsPassedOver
 passed_over last tx txs old = ap (next last tx txs) (ne_eqb tx.txid (last + 1) (λ e. omega (arith, old, e)))
 
-pub next_taken : NextIsTaken
+pub next_taken : NextTxIsTaken
 next_taken last tx txs is = ap (next last tx txs) (eq-eqb tx.txid (last + 1) is) ∙ ap (λ n. tx ∷ counted n txs) is
 
 -- ---- segment by segment

@@ -32,8 +32,8 @@ TakesUp last old answer new (Ok taken_up.End) = (answer ≡ end) × (new ≡ old
 TakesUp last old answer new (Err fault) = (answer ≡ Err fault) × (new ≡ old)
 
 -- what is in hand, then the segments among these answers, and then those that come later
-abbrev pub left_by : List Tx → List Answer → List Segment → LogLeft
-left_by txs answers later = record { txs = txs; segments = given_in answers ++ later }
+abbrev pub log_left : List Tx → List Answer → List Segment → LogLeft
+log_left txs answers later = record { txs = txs; segments = given_in answers ++ later }
 
 abbrev pub ComesAfter : ℕ → LogLeft → Result Next SourceFault → LogLeft → Type 0
 ComesAfter last old (Ok (next.Transaction tx)) new = ComesNext last old tx new
@@ -51,5 +51,5 @@ AnswersSo answers (Err fault) = (segments : List Segment) × (answers ≡ map gi
 -- a log was read on by answers of its source, whatever segments come later
 abbrev pub ReadsOn : {S : Type 0} → (S → Answer → S → Type 0) → ℕ → S → List Tx → S → List Tx → Result Next SourceFault → Type 0
 ReadsOn gives last s old t new result =
-    (answers : List Answer) × Asked gives s answers t × ((later : List Segment) → ComesAfter last (left_by old answers later) result (left_by new [] later))
+    (answers : List Answer) × Asked gives s answers t × ((later : List Segment) → ComesAfter last (log_left old answers later) result (log_left new [] later))
     × AnswersSo answers result

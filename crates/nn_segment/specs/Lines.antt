@@ -4,22 +4,20 @@ use Rattle.std.specs.List.{onto_first, flat_map, list_all}
 use Rattle.nn_edits.specs.declared.fault.LineFault.{LineFault}
 use Rattle.nn_types.specs.declared.tx.Tx.{Tx}
 use Rattle.nn_edits.specs.Reading.{edit_of_line}
-
-abbrev pub newline : ℕ
-newline = 10
+use Rattle.nn_bytes.specs.Lines.{line_feed}
 
 -- the lines, each ended by a line feed, which the last may lack
 abbrev pub lines_of : List ℕ → List (List ℕ)
 lines_of [] = []
-lines_of (b ∷ bytes) = if b == newline then [] ∷ lines_of bytes else onto_first b (lines_of bytes)
+lines_of (b ∷ bytes) = if b == line_feed then [] ∷ lines_of bytes else onto_first b (lines_of bytes)
 
 -- the bytes of lines, with one line feed after each
 abbrev pub joined_lines : List (List ℕ) → List ℕ
-joined_lines lines = flat_map (λ line. line ++ newline ∷ []) lines
+joined_lines lines = flat_map (λ line. line ++ line_feed ∷ []) lines
 
 -- no byte of the line is a line feed
 abbrev pub is_unbroken : List ℕ → Bool
-is_unbroken line = list_all (λ b. not (b == newline)) line
+is_unbroken line = list_all (λ b. not (b == line_feed)) line
 
 -- joined lines are cut back into the same lines
 abbrev pub JoinedAreCutBack : Type 0
@@ -28,7 +26,7 @@ JoinedAreCutBack = (lines : List (List ℕ)) → list_all is_unbroken lines ≡ 
 -- whether the last byte is a line feed
 abbrev pub is_ended : List ℕ → Bool
 is_ended [] = false
-is_ended (b ∷ []) = b == newline
+is_ended (b ∷ []) = b == line_feed
 is_ended (b ∷ c ∷ bytes) = is_ended (c ∷ bytes)
 
 -- what each line is read as

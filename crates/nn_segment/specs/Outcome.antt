@@ -7,12 +7,12 @@ use Rattle.nn_segment.specs.declared.fault.SegmentFault.{SegmentFault}
 use Rattle.nn_segment.specs.declared.fault.SegmentFault.TheVariants.{OutOfMemory}
 
 -- The call answered what is given. Out of memory alone is left open.
-abbrev pub Gives : {X : Type 0} → Result X SegmentFault → Result X SegmentFault → Type 0
-Gives (Ok x) given = given ≡ Ok x
-Gives (Err OutOfMemory) given = Unit {0}
-Gives (Err e) given = given ≡ Err e
+abbrev pub SegmentGives : {X : Type 0} → Result X SegmentFault → Result X SegmentFault → Type 0
+SegmentGives (Ok x) given = given ≡ Ok x
+SegmentGives (Err OutOfMemory) given = Unit {0}
+SegmentGives (Err e) given = given ≡ Err e
 
 -- The transactions are those of the lines up to a bad one, which has this fault or found no memory; or up to the end.
 abbrev pub StopsAt : List (Result Tx LineFault) → List Tx → Option LineFault → Type 0
 StopsAt reads txs None = reads ≡ map Ok txs
-StopsAt reads txs (Some fault) = (read : Result Tx LineFault) × (rest : List (Result Tx LineFault)) × (reads ≡ map Ok txs ++ read ∷ rest) × line.Fails fault read
+StopsAt reads txs (Some fault) = (read : Result Tx LineFault) × (rest : List (Result Tx LineFault)) × (reads ≡ map Ok txs ++ read ∷ rest) × line.LineFails fault read

@@ -1,25 +1,15 @@
 -- The segment that bytes are under a name, or the first fault that applies.
-use Rattle.std.specs.Prelude.{ℕ, ◌+◌, List, [], ◌∷◌, length, drop, Bool, true, false, not, ◌==◌, ◌&&◌, nat_lt, if◌then◌else◌, Option, Some, None, is_none, Result, Ok, Err}
+use Rattle.std.specs.Prelude.{ℕ, ◌+◌, List, [], ◌∷◌, length, drop, Bool, false, not, ◌==◌, ◌&&◌, nat_lt, if◌then◌else◌, Option, Some, None, is_none, Result, Ok, Err}
 use Rattle.nn_edits.specs.declared.fault.LineFault.{LineFault}
 use Rattle.nn_edits.specs.declared.fault.LineFault.TheVariants as line
 use Rattle.nn_types.specs.declared.tx.Tx.{Tx}
 use Rattle.nn_types.specs.declared.profile.Profile.{Profile}
+use Rattle.nn_model.specs.Apply.{fault_if, first_fault}
 use Rattle.nn_segment.specs.declared.fault.SegmentFault.{SegmentFault}
 use Rattle.nn_segment.specs.declared.fault.SegmentFault.TheVariants.{BadName, TooLong, NoStart, TornLine, BadLine, Gap, WrongProfile, NoEnd, NameMismatch, OutOfMemory}
 use Rattle.nn_segment.specs.Name.{txids_of}
 use Rattle.nn_segment.specs.Lines.{lines_of, is_ended, reads_of}
 use Rattle.nn_segment.specs.Segment.{Segment, max_bytes, start_profile, allows, ends_once, first_txid, last_txid}
-
--- a fault where the test holds
-abbrev pub when : Bool → SegmentFault → Option SegmentFault
-when true fault = Some fault
-when false fault = None
-
--- the first fault that was found
-abbrev pub first : List (Option SegmentFault) → Option SegmentFault
-first [] = None
-first (Some fault ∷ checks) = Some fault
-first (None ∷ checks) = first checks
 
 -- ---- Line by line.
 
@@ -48,9 +38,9 @@ txs_in (Ok tx ∷ reads) = tx ∷ txs_in reads
 txs_in (Err fault ∷ reads) = txs_in reads
 
 -- whether these are the first and the last txid
-abbrev pub is_named : Option (ℕ × ℕ) → List Tx → Bool
-is_named (Some txids) txs = (txids.0 == first_txid txs) && (txids.1 == last_txid txs)
-is_named None txs = false
+abbrev pub names_txids : Option (ℕ × ℕ) → List Tx → Bool
+names_txids (Some txids) txs = (txids.0 == first_txid txs) && (txids.1 == last_txid txs)
+names_txids None txs = false
 
 -- the fault of a bad line; no line says that memory runs out
 abbrev pub fault_of_line : ℕ → LineFault → SegmentFault
@@ -62,19 +52,19 @@ fault_of_line n fault = BadLine n fault
 -- of the bytes, before any line is read
 abbrev pub bytes_checks : List ℕ → List (Option SegmentFault)
 bytes_checks bytes =
-    when (nat_lt max_bytes (length bytes)) TooLong
-    ∷ when (length bytes == 0) NoStart
-    ∷ when (not (is_ended bytes)) (TornLine (length (lines_of bytes)))
+    fault_if (nat_lt max_bytes (length bytes)) TooLong
+    ∷ fault_if (length bytes == 0) NoStart
+    ∷ fault_if (not (is_ended bytes)) (TornLine (length (lines_of bytes)))
     ∷ []
 
 -- of the lines as they were read, under a name with these txids
 abbrev pub lines_checks : Option (ℕ × ℕ) → List (Result Tx LineFault) → List (Option SegmentFault)
 lines_checks txids reads =
-    lines_fault reads ∷ when (not (ends_once (drop 1 (txs_in reads)))) NoEnd ∷ when (not (is_named txids (txs_in reads))) NameMismatch ∷ []
+    lines_fault reads ∷ fault_if (not (ends_once (drop 1 (txs_in reads)))) NoEnd ∷ fault_if (not (names_txids txids (txs_in reads))) NameMismatch ∷ []
 
 -- why the bytes are no segment of that name
-unfoldable pub fault_of : List ℕ → List ℕ → Option SegmentFault
-fault_of name bytes = first (when (is_none (txids_of name)) BadName ∷ first (bytes_checks bytes) ∷ first (lines_checks (txids_of name) (reads_of bytes)) ∷ [])
+unfoldable pub fault_of_segment : List ℕ → List ℕ → Option SegmentFault
+fault_of_segment name bytes = first_fault (fault_if (is_none (txids_of name)) BadName ∷ first_fault (bytes_checks bytes) ∷ first_fault (lines_checks (txids_of name) (reads_of bytes)) ∷ [])
 
 -- the value, unless there is a fault
 abbrev pub unless : {A : Type 0} → Option SegmentFault → A → Result A SegmentFault
@@ -83,4 +73,4 @@ unless (Some fault) value = Err fault
 
 -- the segment, or its first fault
 unfoldable pub read_segment : List ℕ → List ℕ → Result Segment SegmentFault
-read_segment name bytes = unless (fault_of name bytes) (record { name = name; bytes = bytes; txs = txs_in (reads_of bytes) })
+read_segment name bytes = unless (fault_of_segment name bytes) (record { name = name; bytes = bytes; txs = txs_in (reads_of bytes) })

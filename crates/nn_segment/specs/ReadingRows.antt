@@ -1,47 +1,49 @@
 -- Segments and their faults, computed.
 use Rattle.std.specs.Prelude.{◌≡◌, ℕ, List, [], ◌∷◌, ◌++◌, map, Option, Some, None, Result, Ok, Err, codes, true, false, refl}
+use Rattle.nn_bytes.specs.Lines.{line_feed}
 use Rattle.nn_edits.specs.declared.fault.LineFault.{LineFault}
 use Rattle.nn_edits.specs.declared.fault.LineFault.TheVariants.{NotJson, MissingField}
 use Rattle.nn_types.specs.declared.profile.Profile.TheVariants.{One, Two}
 use Rattle.nn_types.specs.declared.edit.Edit.{Edit}
 use Rattle.nn_types.specs.declared.edit.Edit.TheVariants.{StartSegment, EndSegment, Mkdir, Append, Delete}
 use Rattle.nn_types.specs.declared.tx.Tx.{Tx}
+use Rattle.nn_model.specs.Apply.{first_fault}
 use Rattle.nn_segment.specs.declared.fault.SegmentFault.{SegmentFault}
 use Rattle.nn_segment.specs.declared.fault.SegmentFault.TheVariants.{BadName, NoStart, TornLine, BadLine, Gap, WrongProfile, NoEnd, NameMismatch}
-use Rattle.nn_segment.specs.Name.{digits, name_text, txids_of}
-use Rattle.nn_segment.specs.Lines.{newline, lines_of, is_ended}
+use Rattle.nn_segment.specs.Name.{digits, segment_file_name, txids_of}
+use Rattle.nn_segment.specs.Lines.{lines_of, is_ended}
 use Rattle.nn_segment.specs.Segment.{start_profile, allows, keeps_profile, ends_once, first_txid, last_txid}
-use Rattle.nn_segment.specs.Reading.{first, lines_checks, bytes_checks, fault_of, read_segment}
+use Rattle.nn_segment.specs.Reading.{lines_checks, bytes_checks, fault_of_segment, read_segment}
 
 -- ---- Lines.
 
-lines : (lines_of (codes "ab" ++ newline ∷ codes "c" ++ newline ∷ []) ≡ codes "ab" ∷ codes "c" ∷ [])
-    × (lines_of (newline ∷ newline ∷ []) ≡ [] ∷ [] ∷ [])
-    × (lines_of (codes "ab" ++ newline ∷ codes "c") ≡ codes "ab" ∷ codes "c" ∷ [])
+lines : (lines_of (codes "ab" ++ line_feed ∷ codes "c" ++ line_feed ∷ []) ≡ codes "ab" ∷ codes "c" ∷ [])
+    × (lines_of (line_feed ∷ line_feed ∷ []) ≡ [] ∷ [] ∷ [])
+    × (lines_of (codes "ab" ++ line_feed ∷ codes "c") ≡ codes "ab" ∷ codes "c" ∷ [])
     × (lines_of [] ≡ [])
 lines = (refl, refl, refl, refl)
 
-ended : (is_ended (codes "ab" ++ newline ∷ []) ≡ true) × (is_ended (newline ∷ codes "ab") ≡ false) × (is_ended [] ≡ false)
+ended : (is_ended (codes "ab" ++ line_feed ∷ []) ≡ true) × (is_ended (line_feed ∷ codes "ab") ≡ false) × (is_ended [] ≡ false)
 ended = (refl, refl, refl)
 
 -- ---- Before any line is read.
 
-no_bytes : first (bytes_checks []) ≡ Some NoStart
+no_bytes : first_fault (bytes_checks []) ≡ Some NoStart
 no_bytes = refl
 
-torn_first_line : first (bytes_checks (codes "{}")) ≡ Some (TornLine 1)
+torn_first_line : first_fault (bytes_checks (codes "{}")) ≡ Some (TornLine 1)
 torn_first_line = refl
 
-torn_last_line : first (bytes_checks (codes "{}" ++ newline ∷ codes "{}" ++ newline ∷ codes "{")) ≡ Some (TornLine 3)
+torn_last_line : first_fault (bytes_checks (codes "{}" ++ line_feed ∷ codes "{}" ++ line_feed ∷ codes "{")) ≡ Some (TornLine 3)
 torn_last_line = refl
 
 -- the name comes first
-bad_name_and_no_bytes : fault_of (codes "edits") [] ≡ Some BadName
-unfolding fault_of txids_of name_text digits
+bad_name_and_no_bytes : fault_of_segment (codes "edits") [] ≡ Some BadName
+unfolding fault_of_segment txids_of segment_file_name digits
 bad_name_and_no_bytes = refl
 
 no_bytes_under_a_name : read_segment (codes "edits_0000000000000000001-0000000000000000003") [] ≡ Err NoStart
-unfolding read_segment fault_of txids_of name_text digits
+unfolding read_segment fault_of_segment txids_of segment_file_name digits
 no_bytes_under_a_name = refl
 
 -- ---- Lines as they were read, under the txids of a name.
@@ -50,7 +52,7 @@ abbrev tx : ℕ → Edit → Result Tx LineFault
 tx txid edit = Ok (record { txid = txid; edit = edit })
 
 abbrev fault_under : ℕ → ℕ → List (Result Tx LineFault) → Option SegmentFault
-fault_under f l reads = first (lines_checks (Some (f, l)) reads)
+fault_under f l reads = first_fault (lines_checks (Some (f, l)) reads)
 
 abbrev a : List (List ℕ)
 a = codes "a" ∷ []

@@ -7,6 +7,7 @@ use Rattle.nn_types.specs.declared.edit.Edit.TheVariants.{SetReplication, Alloca
 use Rattle.nn_types.specs.declared.profile.Profile.{Profile}
 use Rattle.nn_types.specs.declared.profile.Profile.TheVariants.{One, Two}
 use Rattle.nn_types.specs.declared.tx.Tx.{Tx}
+use Rattle.nn_types.specs.Limits.{max_input}
 use Rattle.nn_model.specs.Log.{CountsUp}
 use Rattle.nn_segment.specs.Name.{IsNameOf}
 use Rattle.nn_segment.specs.Lines.{is_ended, reads_of}
@@ -19,7 +20,7 @@ pub record Segment : Type 0 where
 
 -- the bytes that a segment may have
 abbrev pub max_bytes : ℕ
-max_bytes = 16777216
+max_bytes = max_input
 
 -- the profile of a start mark; no other edit has one
 abbrev pub start_profile : Edit → Option Profile

@@ -4,7 +4,7 @@ use Rattle.std.proofs.Common.{arith, sym, ap, get_or, lit<, true≢false}
 use Rattle.nn_types.specs.declared.profile.Profile.TheVariants.{One}
 use Rattle.nn_types.specs.declared.edit.Edit.TheVariants.{StartSegment, EndSegment, Mkdir, Append}
 use Rattle.nn_types.specs.declared.tx.Tx.{Tx}
-use Rattle.nn_segment.specs.Name.{digits, name_text}
+use Rattle.nn_segment.specs.Name.{digits, segment_file_name}
 use Rattle.nn_segment.specs.Lines.{is_ended, reads_of}
 use Rattle.nn_segment.specs.Segment.{Segment, IsSegment, max_bytes}
 
@@ -28,7 +28,7 @@ segment name bytes txs = record { name = name; bytes = bytes; txs = txs }
 
 -- whatever else is on their lines
 two_marks : (bytes : List ℕ) → length bytes ≤ max_bytes → is_ended bytes ≡ true → reads_of bytes ≡ map Ok marks → IsSegment (segment one_to_two bytes marks)
-unfolding name_text digits
+unfolding segment_file_name digits
 two_marks bytes short ended lines = record {
   short = short;
   ended = ended;
@@ -55,7 +55,7 @@ not_with_a_gap : (bytes : List ℕ) → IsSegment (segment one_to_two bytes (sta
 not_with_a_gap bytes h = let e : 3 ≡ 2 = h.counts_up.1.0 in omega (arith, e)
 
 not_from_another_txid : (bytes : List ℕ) → IsSegment (segment one_to_two bytes (start 2 ∷ last 3 ∷ [])) → ⊥
-unfolding name_text digits
+unfolding segment_file_name digits
 not_from_another_txid bytes h = let e : 49 ≡ 50 = ap (λ (text : List ℕ). get_or text 24 0) h.named.spelled in omega (arith, e)
 
 not_from_zero : (name bytes : List ℕ) → IsSegment (segment name bytes (start 0 ∷ last 1 ∷ [])) → ⊥

@@ -5,9 +5,9 @@ use Rattle.nn_segment.specs.declared.fault.SourceFault.{SourceFault}
 use Rattle.nn_segment.specs.declared.source.Item.{Item}
 use Rattle.nn_segment.specs.declared.source.Item.TheVariants as item
 
-abbrev pub is_end : Item → Bool
-is_end (item.Segment s) = false
-is_end item.End = true
+abbrev pub is_end_item : Item → Bool
+is_end_item (item.Segment s) = false
+is_end_item item.End = true
 
 -- what a `next` answers
 abbrev pub Answer : Type 0
@@ -32,11 +32,11 @@ GivesNext [] answer new = (answer ≡ end) × (new ≡ [])
 GivesNext (s ∷ segments) answer new = (answer ≡ given s) × (new ≡ segments)
 
 -- the answers are these segments, and then End
-abbrev pub AreInOrder : List Segment → List Answer → Type 0
-AreInOrder segments [] = Unit {0}
-AreInOrder [] (answer ∷ answers) = (answer ≡ end) × AreInOrder [] answers
-AreInOrder (s ∷ segments) (answer ∷ answers) = (answer ≡ given s) × AreInOrder segments answers
+abbrev pub AreAnswersOf : List Segment → List Answer → Type 0
+AreAnswersOf segments [] = Unit {0}
+AreAnswersOf [] (answer ∷ answers) = (answer ≡ end) × AreAnswersOf [] answers
+AreAnswersOf (s ∷ segments) (answer ∷ answers) = (answer ≡ given s) × AreAnswersOf segments answers
 
 -- however often it is asked, it gives its segments in order, and then End
 abbrev pub GivesInOrder : Type 0
-GivesInOrder = (old new : List Segment) (answers : List Answer) → Asked GivesNext old answers new → AreInOrder old answers
+GivesInOrder = (old new : List Segment) (answers : List Answer) → Asked GivesNext old answers new → AreAnswersOf old answers

@@ -25,8 +25,8 @@ abbrev pub OldIsPassedOver : Type 0
 OldIsPassedOver = (last : ℕ) (tx : Tx) (txs : List Tx) → tx.txid ≤ last → counted last (tx ∷ txs) ≡ counted last txs
 
 -- the next one is taken
-abbrev pub NextIsTaken : Type 0
-NextIsTaken = (last : ℕ) (tx : Tx) (txs : List Tx) → tx.txid ≡ last + 1 → counted last (tx ∷ txs) ≡ tx ∷ counted (last + 1) txs
+abbrev pub NextTxIsTaken : Type 0
+NextTxIsTaken = (last : ℕ) (tx : Tx) (txs : List Tx) → tx.txid ≡ last + 1 → counted last (tx ∷ txs) ≡ tx ∷ counted (last + 1) txs
 
 -- ---- Segment by segment.
 

@@ -28,7 +28,7 @@ pub enum TakenUp {
 }
 
 /// What a log gives next.
-#[derive(Drop)]
+#[derive(Debug, Drop)]
 pub enum Next {
     Transaction(Tx),
     /// A segment begins above the next transaction, which is therefore missing.
@@ -38,7 +38,7 @@ pub enum Next {
 
 /// Where a log is read: what is left of the segment in hand. The source is lent to each call that asks it, and may be
 /// another one at the next call.
-#[derive(Drop)]
+#[derive(Debug, Drop)]
 pub struct Cursor {
     txs: VecDeque<Tx>,
 }
@@ -114,7 +114,11 @@ impl Cursor {
 
     /// What comes after the transaction with this txid. Transactions that are older, or that a segment gives again,
     /// are passed over; a source that fails may be asked again.
-    pub fn next<S: SegmentSource>(&mut self, source: &mut S, last: u64) -> Result<Next, SourceFault>
+    pub fn next_transaction<S: SegmentSource>(
+        &mut self,
+        source: &mut S,
+        last: u64,
+    ) -> Result<Next, SourceFault>
         requires { last < 2 ^ 63 }
         ensures reads { ReadsOn S.gives last source.old self.old source.new self.new result }
         ensures over { result ≡ Ok Next.Over → S.ended source.new × (self.new ≡ []) }

@@ -36,8 +36,8 @@ pub enum SegmentFault {
 
 impl SegmentFault {
     /// The fault's number.
-    pub fn number(&self) -> u8
-        ensures { result ≡ number_of self.now }
+    pub fn number(self) -> u8
+        ensures { result ≡ number_of self }
     {
         match self {
             SegmentFault::BadName => fault::BAD_NAME,
@@ -87,8 +87,8 @@ pub enum SourceFault {
 
 impl SourceFault {
     /// The fault's number.
-    pub fn number(&self) -> u8
-        ensures { result ≡ number_of_source self.now }
+    pub fn number(self) -> u8
+        ensures { result ≡ number_of_source self }
     {
         match self {
             SourceFault::Gone => fault::GONE,

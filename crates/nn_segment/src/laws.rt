@@ -9,7 +9,7 @@ ghost use Rattle.nn_segment.specs.Lines.{reads_of, joined_lines, is_unbroken, Jo
 ghost use Rattle.nn_segment.specs.Reading.{read_segment};
 ghost use Rattle.nn_segment.specs.Segment.{Segment, IsSegment};
 ghost use Rattle.nn_segment.specs.Source.{GivesInOrder};
-ghost use Rattle.nn_segment.specs.Walk.{OldIsPassedOver, NextIsTaken, OldSegmentAddsNothing, HighSegmentAddsNothing};
+ghost use Rattle.nn_segment.specs.Walk.{OldIsPassedOver, NextTxIsTaken, OldSegmentAddsNothing, HighSegmentAddsNothing};
 ghost use Rattle.nn_segment.specs.Walk.{SegmentAddsTheRest, SegmentBehindTheRest, EndAddsNothing, FaultAddsNothing};
 
 /// What is read is a segment of that name and those bytes, and each segment is read.
@@ -36,7 +36,7 @@ pub fn memory_gives_in_order()
 /// as a whole, and what one more answer of a source adds.
 pub fn a_walk_goes_through()
     ensures passed { OldIsPassedOver }
-    ensures taken { NextIsTaken }
+    ensures taken { NextTxIsTaken }
     ensures old { OldSegmentAddsNothing }
     ensures high { HighSegmentAddsNothing }
     ensures rest { SegmentAddsTheRest }

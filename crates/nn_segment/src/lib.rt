@@ -18,7 +18,6 @@ pub use laws::{
     a_walk_ends_with_the_log, a_walk_goes_through, joined_lines_are_cut_back,
     memory_gives_in_order, reading_is_the_segment,
 };
-pub use lines::line_end;
 pub use name::{one_name, parse_name, segment_name};
 pub use parsed::{Parsed, allows, is_end, is_start, start_profile};
 pub use source::{Item, MemorySource, SegmentSource};

@@ -1,12 +1,12 @@
 //! The lines of a segment's bytes, each read as a transaction.
-ghost use Rattle.std.specs.Prelude.{◌≡◌, ◌≢◌, ◌≤◌, ◌<◌, ◌==◌, ◌+◌, ◌++◌, ◌∷◌, ℕ, [], length, take, drop, count_by, slice_index, true, false, OnOk, OnErr};
-ghost use Rattle.std.specs.List.{position_or_len};
+ghost use Rattle.std.specs.Prelude.{◌≡◌, ◌≤◌, ◌<◌, ◌==◌, ◌+◌, ◌++◌, ◌∷◌, [], length, drop, count_by, true, false, OnOk, OnErr};
+ghost use Rattle.nn_bytes.specs.Lines.{line_feed};
 ghost use Rattle.nn_segment.specs.declared.fault.SegmentFault.TheVariants.{TornLine};
-ghost use Rattle.nn_segment.specs.Lines.{newline, lines_of, is_ended, is_unbroken, reads_of};
+ghost use Rattle.nn_segment.specs.Lines.{lines_of, is_ended, reads_of};
 ghost use Rattle.nn_segment.specs.Outcome.{StopsAt};
 
 use crate::fault::SegmentFault;
-use memchr::memchr;
+use nn_bytes::line_end;
 use nn_edits::{LineFault, Scratch, read_edit};
 use nn_types::Tx;
 use std::alloc::{AllocError, Global};
@@ -67,29 +67,10 @@ pub(crate) fn torn_line(bytes: &[u8]) -> SegmentFault
 }
 
 fn line_feeds(bytes: &[u8]) -> usize
-    ensures count { result ≡ count_by (λ b. b == newline) bytes.now }
+    ensures count { result ≡ count_by (λ b. b == line_feed) bytes.now }
     ensures within { result ≤ length bytes.now }
 {
     bytes.iter().filter(|b| **b == b'\n').count()
-}
-
-/// Where the first line ends: at its line feed, or with the bytes.
-pub fn line_end(bytes: &[u8]) -> usize
-    ensures end { result ≡ position_or_len (λ b. b == newline) bytes.now }
-    ensures within { result ≤ length bytes.now }
-    ensures unbroken { is_unbroken (take result bytes.now) ≡ true }
-    ensures there { result < length bytes.now → slice_index bytes.now result ≡ newline }
-{
-    line_feed(bytes)
-}
-
-// The place of the first line feed, or the length.
-fn line_feed(bytes: &[u8]) -> usize
-    ensures within { result ≤ length bytes.now }
-    ensures before { (k : ℕ) → k < result → slice_index bytes.now k ≢ newline }
-    ensures there { result < length bytes.now → slice_index bytes.now result ≡ newline }
-{
-    memchr(b'\n', bytes).unwrap_or(bytes.len())
 }
 
 // What follows the line that ends there.

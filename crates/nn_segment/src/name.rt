@@ -1,6 +1,6 @@
 //! Names of segments, such as `edits_0000000000000000001-0000000000000000004`.
 ghost use Rattle.std.specs.Prelude.{◌≡◌, ◌≢◌, ◌≤◌, ◌<◌, ◌^◌, ℕ, List, Some, length, IfOk, IfSome, IfNone, SomeIff, string_bytes};
-ghost use Rattle.nn_segment.specs.Name.{digits, name_text, txids_of, IsNameOf};
+ghost use Rattle.nn_segment.specs.Name.{digits, segment_file_name, txids_of, IsNameOf};
 
 use nn_types::Txid;
 use std::alloc::{AllocError, Global};
@@ -12,7 +12,7 @@ const NAME_LEN: usize = 45;
 pub fn segment_name(alloc: Global, first: Txid, last: Txid) -> Result<String, AllocError>
     requires from_one { 1 ≤ first }
     requires in_order { first ≤ last }
-    ensures ok { IfOk result (λ name. string_bytes name ≡ name_text first last) }
+    ensures ok { IfOk result (λ name. string_bytes name ≡ segment_file_name first last) }
     ensures named { IfOk result (λ name. txids_of (string_bytes name) ≡ Some (first, last)) }
 {
     format!(in alloc; "edits_{:019}-{:019}", first.get(), last.get())
@@ -35,15 +35,15 @@ pub fn parse_name(text: &str) -> Option<(Txid, Txid)>
 /// A segment's name is read as the two transactions that it was made of, and no other text is.
 pub fn one_name()
     ensures reads { (first last : ℕ) → 1 ≤ first → first ≤ last → last < 2 ^ 63
-        → txids_of (name_text first last) ≡ Some (first, last) }
+        → txids_of (segment_file_name first last) ≡ Some (first, last) }
     ensures alone { (text : List ℕ) (first last : ℕ) → txids_of text ≡ Some (first, last)
-        → text ≡ name_text first last }
+        → text ≡ segment_file_name first last }
 {}
 
 // The two numbers of a text that has the form of a name.
 fn numbers_in(text: &[u8]) -> Option<(u64, u64)>
-    ensures some { IfSome result (λ p. (p.0 < 10 ^ 19) × (p.1 < 10 ^ 19) × (text.now ≡ name_text p.0 p.1)) }
-    ensures none { IfNone result ((first last : ℕ) → text.now ≢ name_text first last) }
+    ensures some { IfSome result (λ p. (p.0 < 10 ^ 19) × (p.1 < 10 ^ 19) × (text.now ≡ segment_file_name p.0 p.1)) }
+    ensures none { IfNone result ((first last : ℕ) → text.now ≢ segment_file_name first last) }
 {
     if text.len() != NAME_LEN {
         return None;

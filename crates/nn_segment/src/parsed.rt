@@ -1,25 +1,24 @@
 //! A segment that was found whole.
 ghost use Rattle.std.specs.Prelude.{◌≡◌, ◌⊎◌, ◌≤◌, ◌<◌, ◌^◌, ◌+◌, ◌||◌, length, None, Some, Ok, Err, map, drop, string_bytes, MatchResult};
+ghost use Rattle.nn_model.specs.Apply.{first_fault};
 ghost use Rattle.nn_segment.specs.Name.{txids_of};
 ghost use Rattle.nn_segment.specs.Lines.{reads_of};
 ghost use Rattle.nn_segment.specs.Segment.{start_profile, allows, is_start, is_end, ends_once, first_txid, last_txid, IsSegment};
-ghost use Rattle.nn_segment.specs.Reading.{first, bytes_checks, lines_fault, later_fault, is_named, read_segment, fault_of_line};
-ghost use Rattle.nn_segment.specs.Outcome.{Gives, StopsAt};
+ghost use Rattle.nn_segment.specs.Reading.{bytes_checks, lines_fault, later_fault, names_txids, read_segment, fault_of_line};
+ghost use Rattle.nn_segment.specs.Outcome.{SegmentGives, StopsAt};
 
 use crate::fault::SegmentFault;
 use crate::lines::{read_lines, torn_line};
 use crate::name::parse_name;
 use nn_edits::LineFault;
+use nn_types::limits::MAX_INPUT;
 use nn_types::{Edit, Profile, Tx, Txid};
 use std::alloc::Global;
 use std::marker::Model;
 
-/// The bytes that a segment may have.
-const MAX_BYTES: usize = 16_777_216;
-
 /// A segment of the log: a name, bytes, and the transactions of its lines. A start mark comes first, an end mark
 /// last and none between; each transaction is the next one after the one before.
-#[derive(Drop)]
+#[derive(Debug, Drop)]
 pub struct Parsed {
     name: String,
     bytes: Vec<u8>,
@@ -43,7 +42,7 @@ impl Parsed {
     ///
     /// After a fault name and bytes are dropped. Time and memory are of the order of the bytes.
     pub fn of(alloc: Global, name: String, bytes: Vec<u8>) -> Result<Parsed, SegmentFault>
-        ensures { Gives result (read_segment (string_bytes name) bytes.items) }
+        ensures { SegmentGives result (read_segment (string_bytes name) bytes.items) }
     {
         let Some(txids) = parse_name(name.as_str()) else {
             return Err(SegmentFault::BadName);
@@ -105,9 +104,9 @@ impl Parsed {
 
 // The fault of the bytes that can be told before any line is read.
 fn check_bytes(bytes: &[u8]) -> Result<(), SegmentFault>
-    ensures { MatchResult result (λ _. first (bytes_checks bytes.now) ≡ None) (λ e. first (bytes_checks bytes.now) ≡ Some e) }
+    ensures { MatchResult result (λ _. first_fault (bytes_checks bytes.now) ≡ None) (λ e. first_fault (bytes_checks bytes.now) ≡ Some e) }
 {
-    if bytes.len() > MAX_BYTES {
+    if bytes.len() > MAX_INPUT {
         return Err(SegmentFault::TooLong);
     }
     if bytes.is_empty() {
@@ -128,7 +127,7 @@ fn after_lines(
     bad: Option<LineFault>,
 ) -> Result<Parsed, SegmentFault>
     requires named { txids_of (string_bytes name) ≡ Some txids }
-    requires bytes { first (bytes_checks bytes.items) ≡ None }
+    requires bytes { first_fault (bytes_checks bytes.items) ≡ None }
     requires read { StopsAt (reads_of bytes.items) txs.items bad }
     ensures { (result ≡ read_segment (string_bytes name) bytes.items)
         ⊎ ((bad ≡ Some LineFault.OutOfMemory) × (result ≡ Err SegmentFault.OutOfMemory)) }
@@ -215,7 +214,7 @@ fn ends_once(txs: &[Tx]) -> bool
 }
 
 fn is_named(txids: (Txid, Txid), txs: &[Tx]) -> bool
-    ensures { result ≡ is_named (Some txids) txs.now }
+    ensures { result ≡ names_txids (Some txids) txs.now }
 {
     txids.0.get() == first_txid(txs) && txids.1.get() == last_txid(txs)
 }

@@ -1,6 +1,6 @@
 //! Where segments come from.
 ghost use Rattle.std.specs.Prelude.{◌≡◌, ◌<◌, ◌≤◌, ℕ, Result, Ok, false, IfOk, OnErr};
-ghost use Rattle.nn_segment.specs.Source.{is_end};
+ghost use Rattle.nn_segment.specs.Source.{is_end_item};
 ghost use Rattle.nn_segment.specs.declared.fault.SourceFault.{SourceFault};
 ghost use Rattle.nn_segment.specs.declared.source.Item.{Item};
 
@@ -10,7 +10,7 @@ use std::marker::Model;
 use std::vec::IntoIter;
 
 /// What a source gives: one segment after another, and then its end.
-#[derive(Drop)]
+#[derive(Debug, Drop)]
 pub enum Item {
     Segment(Parsed),
     End,
@@ -36,7 +36,7 @@ pub trait SegmentSource {
     /// The next segment, or the end.
     fn next(&mut self) -> Result<Item, SourceFault>
         ensures gives { gives self.old result self.new }
-        ensures lower { IfOk result (λ item. is_end item ≡ false → left self.new < left self.old) }
+        ensures lower { IfOk result (λ item. is_end_item item ≡ false → left self.new < left self.old) }
         ensures failed { OnErr result (failures self.old < failures self.new) }
         ensures counted { failures self.old ≤ failures self.new }
         ensures ends { result ≡ Ok Item.End → ended self.new }
@@ -44,7 +44,7 @@ pub trait SegmentSource {
 }
 
 /// Gives the segments that it was made of, in order, and then End. It never fails.
-#[derive(Drop)]
+#[derive(Debug, Drop)]
 pub struct MemorySource {
     segments: IntoIter<Parsed>,
 }

@@ -7,21 +7,21 @@ use Rattle.nn_types.specs.declared.block.Block.{Block}
 use Rattle.nn_types.specs.declared.report.Message.{Message}
 use Rattle.nn_model.specs.Namespace.{Namespace, all_blocks}
 use Rattle.nn_model.specs.Status.{block_at}
-use Rattle.nn_model.specs.WellFormed.{Has, HasWellFormedBlocks}
+use Rattle.nn_model.specs.WellFormed.{Includes, HasWellFormedBlocks}
 use Rattle.nn_model.proofs.Dues.{cases_block, due_retired}
 use Rattle.nn_replicas.proofs.Entries.{same_some}
 use Rattle.nn_postponed.specs.Release.{same_source, must_wait}
 use Rattle.nn_shadow.specs.Calls.{is_due_in}
 
-found_there : (id : ℕ) (bs : List Block) (b : Block) → find (λ x. x.id == id) bs ≡ Some b → Has bs b × ((b.id == id) ≡ true)
+found_there : (id : ℕ) (bs : List Block) (b : Block) → find (λ x. x.id == id) bs ≡ Some b → Includes bs b × ((b.id == id) ≡ true)
 found_there id [] b e = absurd (nothing e)
   where
     nothing : None ≡ Some b → ⊥
     nothing is = cc
 found_there id (x ∷ bs) b e = cases (found_there id bs b) (x.id == id) refl e
   where
-    cases : (find (λ y. y.id == id) bs ≡ Some b → Has bs b × ((b.id == id) ≡ true)) → (same : Bool) → (x.id == id) ≡ same →
-        cond same (Some x) (find (λ y. y.id == id) bs) ≡ Some b → Has (x ∷ bs) b × ((b.id == id) ≡ true)
+    cases : (find (λ y. y.id == id) bs ≡ Some b → Includes bs b × ((b.id == id) ≡ true)) → (same : Bool) → (x.id == id) ≡ same →
+        cond same (Some x) (find (λ y. y.id == id) bs) ≡ Some b → Includes (x ∷ bs) b × ((b.id == id) ≡ true)
     cases next true h g = let is : x ≡ b = same_some x b g in (inl is, ap (λ (y : Block). y.id == id) (sym is) ∙ h)
     cases next false h g = let r = next g in (inr r.0, r.1)
 

@@ -7,17 +7,17 @@ use Rattle.nn_types.specs.declared.report.Message.{Message}
 use Rattle.nn_types.specs.declared.edit.Edit.{Edit}
 use Rattle.nn_model.specs.Apply.{has_id}
 use Rattle.nn_model.specs.Stands.{StandbyState}
-use Rattle.nn_model.specs.WellFormed.{Has}
-use Rattle.nn_replicas.specs.Table.{BlockEntry, Table}
+use Rattle.nn_model.specs.WellFormed.{Includes}
+use Rattle.nn_replicas.specs.Table.{BlockEntry, Replicas}
 use Rattle.nn_replicas.specs.Entry.{no_entry, is_idle}
 use Rattle.nn_replicas.specs.Calls.{entry_at, has_entry, is_placed, is_idle_at, room_made, without_entry, room_given_back}
-use Rattle.nn_replicas.specs.Effects.{is_named as has_row}
-use Rattle.nn_replicas.specs.Order.{IsInOrder}
+use Rattle.nn_replicas.specs.Effects.{has_row}
+use Rattle.nn_replicas.specs.Order.{IsSortedTable}
 use Rattle.nn_replicas.proofs.GivenBack.{find_removed, idle_tells, give_back_gives, give_back_in_order}
 use Rattle.nn_replicas.proofs.RoomMade.{placed_entry, made_there, made_given}
 use Rattle.nn_postponed.specs.Queues.{IsLeast}
 use Rattle.nn_postponed.proofs.Orders.{any_weaker}
-use Rattle.nn_shadow.specs.Contents.{Contents, standby_of, Becomes}
+use Rattle.nn_shadow.specs.Contents.{Shadow, standby_of, Becomes}
 use Rattle.nn_shadow.specs.Room.{is_waited_for, IsNeeded, IsTight, given_back, all_given_back, given_back_at, added_given_back}
 use Rattle.nn_shadow.specs.Steps.{HavePlaces, block_added, room_made_at, room_made_for}
 use Rattle.nn_shadow.proofs.Sound.{IsSound}
@@ -46,7 +46,7 @@ next_tells id next ms l = elim (cases_Bool (next == id)) [
   | inr other ↦ other ∙ sym (least_above id next ms l other)
 ]
 
-not_about : (ms : List Message) (id : ℕ) (m : Message) → is_waited_for ms id ≡ false → Has ms m → (m.block == id) ≡ false
+not_about : (ms : List Message) (id : ℕ) (m : Message) → is_waited_for ms id ≡ false → Includes ms m → (m.block == id) ≡ false
 not_about [] id m h here = absurd here
 not_about (x ∷ ms) id m h (inl same) = ap (λ (y : Message). y.block == id) (sym same) ∙ (or_parts (x.block == id) (is_waited_for ms id) h).0
 not_about (x ∷ ms) id m h (inr here) = not_about ms id m (or_parts (x.block == id) (is_waited_for ms id) h).1 here
@@ -54,16 +54,16 @@ not_about (x ∷ ms) id m h (inr here) = not_about ms id m (or_parts (x.block ==
 -- ---- the room of one block
 
 -- either nothing is given back, or the room of a block about which nothing is held
-cases_given : (held : List Message) (t : Table) (id : ℕ) (P : Table → Type 0) → P t → (is_waited_for held id ≡ false → P (room_given_back t id)) → P (given_back held t id)
+cases_given : (held : List Message) (t : Replicas) (id : ℕ) (P : Replicas → Type 0) → P t → (is_waited_for held id ≡ false → P (room_given_back t id)) → P (given_back held t id)
 cases_given held t id P stays goes = elim (is_waited_for held id) as (λ w. is_waited_for held id ≡ w → P (cond w t (room_given_back t id))) [
   | true ↦ λ w. stays
   | false ↦ goes
 ] refl
 
-pub given_in_order : (held : List Message) (t : Table) (id : ℕ) → IsInOrder t → IsInOrder (given_back held t id)
-given_in_order held t id o = cases_given held t id IsInOrder o (λ w. give_back_in_order t id o)
+pub given_in_order : (held : List Message) (t : Replicas) (id : ℕ) → IsSortedTable t → IsSortedTable (given_back held t id)
+given_in_order held t id o = cases_given held t id IsSortedTable o (λ w. give_back_in_order t id o)
 
-given_apart : (held : List Message) (t : Table) (id b : ℕ) → IsInOrder t → (b == id) ≡ false → entry_at (given_back held t id) b ≡ entry_at t b
+given_apart : (held : List Message) (t : Replicas) (id b : ℕ) → IsSortedTable t → (b == id) ≡ false → entry_at (given_back held t id) b ≡ entry_at t b
 given_apart held t id b o apart = cases_given held t id (λ s. entry_at s b ≡ entry_at t b) refl (λ w. elim (is_idle_at t id) as (λ i. entry_at (cond i (without_entry t id) t) b ≡ entry_at t b) [
   | true ↦ find_removed b id t.entries o.blocks ∙ ap (λ s. cond s None (entry_at t b)) apart
   | false ↦ refl
@@ -71,16 +71,16 @@ given_apart held t id b o apart = cases_given held t id (λ s. entry_at s b ≡ 
 
 -- ---- what is needed
 
-pub needed_alike : (held now : List Message) (t new : Table) (b : ℕ) → entry_at new b ≡ entry_at t b → (is_waited_for held b ≡ true → is_waited_for now b ≡ true) →
+pub needed_alike : (held now : List Message) (t new : Replicas) (b : ℕ) → entry_at new b ≡ entry_at t b → (is_waited_for held b ≡ true → is_waited_for now b ≡ true) →
     IsNeeded held t b → IsNeeded now new b
 needed_alike held now t new b same still needed here idle =
     still (needed (ap is_some (sym same) ∙ here) (ap (λ o. is_idle (unwrap_or o no_entry)) (sym same) ∙ idle))
 
 -- a block with a row is not idle
-pub needed_row : (held : List Message) (t : Table) (b : ℕ) → has_row t b ≡ true → IsNeeded held t b
+pub needed_row : (held : List Message) (t : Replicas) (b : ℕ) → has_row t b ≡ true → IsNeeded held t b
 needed_row held t b named here idle = absurd (both_ways (has_row t b) (ap is_some (idle_tells t b idle).0) named)
 
-needed_given : (held : List Message) (t : Table) (id : ℕ) → IsInOrder t → IsNeeded held (given_back held t id) id
+needed_given : (held : List Message) (t : Replicas) (id : ℕ) → IsSortedTable t → IsNeeded held (given_back held t id) id
 needed_given held t id o = elim (cases_Bool (is_waited_for held id)) [
   | inl waits ↦ λ here idle. waits
   | inr free ↦ subst (λ s. IsNeeded held s id) (λ j. cond (sym free j) t (room_given_back t id)) (elim (cases_Bool (is_idle_at t id)) [
@@ -92,7 +92,7 @@ needed_given held t id o = elim (cases_Bool (is_waited_for held id)) [
     gone : has_entry (without_entry t id) id ≡ false
     gone = ap is_some (find_removed id id t.entries o.blocks ∙ ap (λ s. cond s None (entry_at t id)) (eq-eqb id id refl))
 
-needed_stays : (held : List Message) (t : Table) (id b : ℕ) → IsInOrder t → IsNeeded held t b → IsNeeded held (given_back held t id) b
+needed_stays : (held : List Message) (t : Replicas) (id b : ℕ) → IsSortedTable t → IsNeeded held t b → IsNeeded held (given_back held t id) b
 needed_stays held t id b o needed = elim (cases_Bool (b == id)) [
   | inl same ↦ subst (IsNeeded held (given_back held t id)) (sym (eqb-true b id same)) (needed_given held t id o)
   | inr other ↦ needed_alike held held t (given_back held t id) b (given_apart held t id b o other) (λ w. w) needed
@@ -100,16 +100,16 @@ needed_stays held t id b o needed = elim (cases_Bool (b == id)) [
 
 -- ---- the room of blocks, one after another
 
-pub all_given_in_order : (held : List Message) (t : Table) (ids : List ℕ) → IsInOrder t → IsInOrder (all_given_back held t ids)
+pub all_given_in_order : (held : List Message) (t : Replicas) (ids : List ℕ) → IsSortedTable t → IsSortedTable (all_given_back held t ids)
 all_given_in_order held t [] o = o
 all_given_in_order held t (id ∷ ids) o = all_given_in_order held (given_back held t id) ids (given_in_order held t id o)
 
-pub all_needed_stays : (held : List Message) (t : Table) (ids : List ℕ) (b : ℕ) → IsInOrder t → IsNeeded held t b → IsNeeded held (all_given_back held t ids) b
+pub all_needed_stays : (held : List Message) (t : Replicas) (ids : List ℕ) (b : ℕ) → IsSortedTable t → IsNeeded held t b → IsNeeded held (all_given_back held t ids) b
 all_needed_stays held t [] b o needed = needed
 all_needed_stays held t (id ∷ ids) b o needed =
     all_needed_stays held (given_back held t id) ids b (given_in_order held t id o) (needed_stays held t id b o needed)
 
-pub all_needed_given : (held : List Message) (t : Table) (ids : List ℕ) (b : ℕ) → IsInOrder t → has_id ids b ≡ true → IsNeeded held (all_given_back held t ids) b
+pub all_needed_given : (held : List Message) (t : Replicas) (ids : List ℕ) (b : ℕ) → IsSortedTable t → has_id ids b ≡ true → IsNeeded held (all_given_back held t ids) b
 all_needed_given held t [] b o none = cc
 all_needed_given held t (id ∷ ids) b o has = elim (or_cases (id == b) (has_id ids b) has) [
   | inl same ↦ all_needed_stays held (given_back held t id) ids b (given_in_order held t id o)
@@ -120,7 +120,7 @@ all_needed_given held t (id ∷ ids) b o has = elim (or_cases (id == b) (has_id 
 -- ---- the room of a block that an edit adds
 
 -- an item that is held has its room
-waited_entry : (t : Table) (held : List Message) (id : ℕ) → HavePlaces t held → is_waited_for held id ≡ true → has_entry t id ≡ true
+waited_entry : (t : Replicas) (held : List Message) (id : ℕ) → HavePlaces t held → is_waited_for held id ≡ true → has_entry t id ≡ true
 waited_entry t [] id placed waits = absurd (both_ways _ refl waits)
 waited_entry t (m ∷ held) id placed waits = elim (or_cases (m.block == id) (is_waited_for held id) waits) [
   | inl own ↦ subst (λ b. has_entry t b ≡ true) (eqb-true m.block id own) (placed_entry t m.dn m.block (placed m (inl refl)))
@@ -128,7 +128,7 @@ waited_entry t (m ∷ held) id placed waits = elim (or_cases (m.block == id) (is
 ]
 
 -- room was made for a block, and given back: one that had an entry has it still, and of any other it goes again
-made_back : (held : List Message) (t : Table) (id : ℕ) → IsInOrder t → IsNeeded held t id → (is_waited_for held id ≡ true → has_entry t id ≡ true) →
+made_back : (held : List Message) (t : Replicas) (id : ℕ) → IsSortedTable t → IsNeeded held t id → (is_waited_for held id ≡ true → has_entry t id ≡ true) →
     given_back held (room_made t id) id ≡ t
 made_back held t id o needed waits = by_entry (entry_at t id) refl
   where
@@ -144,7 +144,7 @@ made_back held t id o needed waits = by_entry (entry_at t id) refl
           | inr busy ↦ ap (λ i. cond i (without_entry t id) t) busy
         ])
 
-pub added_back : (held : List Message) (t : Table) (edit : Edit) → IsInOrder t → IsTight held t → HavePlaces t held →
+pub added_back : (held : List Message) (t : Replicas) (edit : Edit) → IsSortedTable t → IsTight held t → HavePlaces t held →
     added_given_back held (room_made_for t edit) edit ≡ t
 added_back held t edit o tight placed = by_block (block_added edit)
   where
@@ -155,21 +155,21 @@ added_back held t edit o tight placed = by_block (block_added edit)
 -- ---- the standby
 
 -- it shows what it showed, and what holds within a call holds
-pub record Stays (x : Contents) (t : Table) : Type 0 where
+pub record Stays (x : Shadow) (t : Replicas) : Type 0 where
   pub sound : IsSound (record x { table = t })
   pub becomes : Becomes x (standby_of x) (record x { table = t })
 
-pub becomes_more : {x y z : Contents} {s : StandbyState} → Becomes x s y → Becomes y (standby_of y) z → Becomes x s z
+pub becomes_more : {x y z : Shadow} {s : StandbyState} → Becomes x s y → Becomes y (standby_of y) z → Becomes x s z
 becomes_more {x} {y} {z} {s} a b = record {
   standby = b.standby ∙ a.standby;
   phase = b.phase ∙ a.phase;
   settings = record { datanodes = b.settings.datanodes ∙ a.settings.datanodes; min = b.settings.min ∙ a.settings.min; permille = b.settings.permille ∙ a.settings.permille };
 }
 
-same_stays : (x : Contents) → IsSound x → Stays x x.table
+same_stays : (x : Shadow) → IsSound x → Stays x x.table
 same_stays x c = record { sound = c; becomes = record { standby = refl; phase = refl; settings = record { datanodes = refl; min = refl; permille = refl } } }
 
-room_stays : (x : Contents) (id : ℕ) → IsSound x → is_waited_for x.held id ≡ false → Stays x (room_given_back x.table id)
+room_stays : (x : Shadow) (id : ℕ) → IsSound x → is_waited_for x.held id ≡ false → Stays x (room_given_back x.table id)
 room_stays x id c none =
     let g = give_back_gives x.table id c.shows.in_order in
     record {
@@ -200,10 +200,10 @@ room_stays x id c none =
       };
     }
 
-pub given_stays : (x : Contents) (id : ℕ) → IsSound x → Stays x (given_back x.held x.table id)
+pub given_stays : (x : Shadow) (id : ℕ) → IsSound x → Stays x (given_back x.held x.table id)
 given_stays x id c = cases_given x.held x.table id (Stays x) (same_stays x c) (room_stays x id c)
 
-pub all_given_stays : (x : Contents) (ids : List ℕ) → IsSound x → Stays x (all_given_back x.held x.table ids)
+pub all_given_stays : (x : Shadow) (ids : List ℕ) → IsSound x → Stays x (all_given_back x.held x.table ids)
 all_given_stays x [] c = same_stays x c
 all_given_stays x (id ∷ ids) c =
     let one = given_stays x id c in

@@ -10,7 +10,7 @@ use Rattle.std.specs.Ordering.{nat_cmp, is_eq, match_ordering}
 use Rattle.std.specs.declared.cmp.Ordering.TheVariants.{Less, Equal, Greater}
 use Rattle.std.proofs.lemmas.Bool.{eqb-true, eq-eqb, ltb-true, cond-true, cond-false, ltb-false, false_from_ne_true}
 use Rattle.std.proofs.lemmas.Bool.Decides.{nat_tests}
-use Rattle.nn_shadow.specs.Notes.{with_note, with_notes, before, onward, past, is_next, left_of, merged}
+use Rattle.nn_shadow.specs.Notes.{with_note, with_notes, before, onward, past, is_next, note_left, merged}
 
 -- ---- comparing
 
@@ -65,17 +65,17 @@ before_mono x y (e ∷ es) le h = (omega (arith, le, h.0), before_mono x y es le
 -- ---- one note
 
 -- past blocks before it
-note_behind : (front back : List (ℕ × ℕ)) (note : ℕ × ℕ) → AllBefore note.0 front → with_note (front ++ back) note ≡ front ++ with_note back note
+note_behind : (prefix back : List (ℕ × ℕ)) (note : ℕ × ℕ) → AllBefore note.0 prefix → with_note (prefix ++ back) note ≡ prefix ++ with_note back note
 note_behind [] back note h = refl
-note_behind (e ∷ front) back note h =
-    let later = note_behind front back note h.1 in
+note_behind (e ∷ prefix) back note h =
+    let later = note_behind prefix back note h.1 in
     let over = greater note.0 e.0 h.0 in
-    elim (note.1 == 0) as (λ d. cond d (remove_entry (is_at (nat_cmp note.0)) (front ++ back)) (insert_entry nat_cmp (front ++ back) note.0 note.1)
-    ≡ front ++ cond d (remove_entry (is_at (nat_cmp note.0)) back) (insert_entry nat_cmp back note.0 note.1)
-    → cond d (remove_entry (is_at (nat_cmp note.0)) (e ∷ front ++ back)) (insert_entry nat_cmp (e ∷ front ++ back) note.0 note.1)
-    ≡ e ∷ front ++ cond d (remove_entry (is_at (nat_cmp note.0)) back) (insert_entry nat_cmp back note.0 note.1)) [
-      | true ↦ λ same. ap (λ o. cond (is_eq o) (front ++ back) (e ∷ remove_entry (is_at (nat_cmp note.0)) (front ++ back))) over ∙ ap (λ l. e ∷ l) same
-      | false ↦ λ same. ap (λ o. match_ordering o ((note.0, note.1) ∷ e ∷ front ++ back) ((e.0, note.1) ∷ front ++ back) (e ∷ insert_entry nat_cmp (front ++ back) note.0 note.1)) over ∙ ap (λ l. e ∷ l) same
+    elim (note.1 == 0) as (λ d. cond d (remove_entry (is_at (nat_cmp note.0)) (prefix ++ back)) (insert_entry nat_cmp (prefix ++ back) note.0 note.1)
+    ≡ prefix ++ cond d (remove_entry (is_at (nat_cmp note.0)) back) (insert_entry nat_cmp back note.0 note.1)
+    → cond d (remove_entry (is_at (nat_cmp note.0)) (e ∷ prefix ++ back)) (insert_entry nat_cmp (e ∷ prefix ++ back) note.0 note.1)
+    ≡ e ∷ prefix ++ cond d (remove_entry (is_at (nat_cmp note.0)) back) (insert_entry nat_cmp back note.0 note.1)) [
+      | true ↦ λ same. ap (λ o. cond (is_eq o) (prefix ++ back) (e ∷ remove_entry (is_at (nat_cmp note.0)) (prefix ++ back))) over ∙ ap (λ l. e ∷ l) same
+      | false ↦ λ same. ap (λ o. match_ordering o ((note.0, note.1) ∷ e ∷ prefix ++ back) ((e.0, note.1) ∷ prefix ++ back) (e ∷ insert_entry nat_cmp (prefix ++ back) note.0 note.1)) over ∙ ap (λ l. e ∷ l) same
     ] later
 
 pub not_there : (block : ℕ) (es : List (ℕ × ℕ)) → AllAfter block es → remove_entry (is_at (nat_cmp block)) es ≡ es
@@ -115,12 +115,12 @@ note_here (e ∷ es) note h asc =
 
 -- each of them is about a block past these
 abbrev AllPast : List (ℕ × ℕ) → List (ℕ × ℕ) → Type 0
-AllPast front = AllByRecursion (λ (note : ℕ × ℕ). AllBefore note.0 front)
+AllPast prefix = AllByRecursion (λ (note : ℕ × ℕ). AllBefore note.0 prefix)
 
-notes_behind : (front back told : List (ℕ × ℕ)) → AllPast front told → with_notes (front ++ back) told ≡ front ++ with_notes back told
-notes_behind front back [] h = refl
-notes_behind front back (note ∷ told) h =
-    ap (λ l. with_notes l told) (note_behind front back note h.0) ∙ notes_behind front (with_note back note) told h.1
+notes_behind : (prefix back told : List (ℕ × ℕ)) → AllPast prefix told → with_notes (prefix ++ back) told ≡ prefix ++ with_notes back told
+notes_behind prefix back [] h = refl
+notes_behind prefix back (note ∷ told) h =
+    ap (λ l. with_notes l told) (note_behind prefix back note h.0) ∙ notes_behind prefix (with_note back note) told h.1
 
 -- ---- the parts of a list
 
@@ -178,9 +178,9 @@ past_none block (e ∷ es) h = cond-false (e.0 == block) es (e ∷ es) (false_fr
 -- ---- the notes that are left
 
 -- this list is before each later note
-past_each : (block : ℕ) (front told : List (ℕ × ℕ)) → AllBefore block front → NoneBefore block told → AllPast front told
-past_each block front [] h none = tt
-past_each block front (note ∷ told) h none = (before_mono block note.0 front none.0 h, past_each block front told h none.1)
+past_each : (block : ℕ) (prefix told : List (ℕ × ℕ)) → AllBefore block prefix → NoneBefore block told → AllPast prefix told
+past_each block prefix [] h none = tt
+past_each block prefix (note ∷ told) h none = (before_mono block note.0 prefix none.0 h, past_each block prefix told h none.1)
 
 own_past : (note : ℕ × ℕ) (told : List (ℕ × ℕ)) → AllAfter note.0 told → AllPast (cond (note.1 == 0) [] (note ∷ [])) told
 own_past note [] h = tt
@@ -217,7 +217,7 @@ note_again back note (again ∷ told) after asc next = ap (λ l. with_notes l to
         ]
 
 kept_is : (note : ℕ × ℕ) (told back : List (ℕ × ℕ)) → AllAfter note.0 back → Ascend back → NoneBefore note.0 told → Rise told →
-    left_of note told ++ with_notes back told ≡ with_notes (cond (note.1 == 0) [] (note ∷ []) ++ back) told
+    note_left note told ++ with_notes back told ≡ with_notes (cond (note.1 == 0) [] (note ∷ []) ++ back) told
 kept_is note told back after asc none rise =
     elim (is_next note.0 told) as (λ t. is_next note.0 told ≡ t → cond ((note.1 == 0) || t) [] (note ∷ []) ++ with_notes back told
     ≡ with_notes (cond (note.1 == 0) [] (note ∷ []) ++ back) told) [
@@ -237,16 +237,16 @@ kept_is note told back after asc none rise =
 pub merged_is : (has told : List (ℕ × ℕ)) → Ascend has → Rise told → merged has told ≡ with_notes has told
 merged_is has [] asc rise = refl
 merged_is has (note ∷ told) asc rise =
-    let front = before note.0 has in
+    let prefix = before note.0 has in
     let tail = onward note.0 has in
     let back = past note.0 tail in
     let tail_asc = onward_ascends note.0 has asc in
     let tail_none = onward_none note.0 has asc in
     let back_asc = past_ascends note.0 tail tail_asc in
-    let whole = ap (λ l. with_note l note) (split note.0 has) ∙ note_behind front tail note (before_all note.0 has)
-    ∙ ap (λ l. front ++ l) (note_here tail note tail_none tail_asc) in
+    let whole = ap (λ l. with_note l note) (split note.0 has) ∙ note_behind prefix tail note (before_all note.0 has)
+    ∙ ap (λ l. prefix ++ l) (note_here tail note tail_none tail_asc) in
     let all = ap (λ l. with_notes l told) whole
-    ∙ notes_behind front (cond (note.1 == 0) [] (note ∷ []) ++ back) told (past_each note.0 front told (before_all note.0 has) rise.0) in
-    let rest = ap (λ l. left_of note told ++ l) (merged_is back told back_asc rise.1)
+    ∙ notes_behind prefix (cond (note.1 == 0) [] (note ∷ []) ++ back) told (past_each note.0 prefix told (before_all note.0 has) rise.0) in
+    let rest = ap (λ l. note_left note told ++ l) (merged_is back told back_asc rise.1)
     ∙ kept_is note told back (past_after note.0 tail tail_none tail_asc) back_asc rise.0 rise.1 in
-    ap (λ l. front ++ l) rest ∙ sym all
+    ap (λ l. prefix ++ l) rest ∙ sym all

@@ -7,7 +7,7 @@ use Rattle.std.specs.BTreeMap.{insert_entry, is_at}
 use Rattle.std.specs.Ordering.{nat_cmp}
 use Rattle.std.proofs.lemmas.Bool.{eqb-true, false_from_ne_true}
 use Rattle.nn_types.specs.declared.report.Message.{Message}
-use Rattle.nn_model.specs.Items.{Having, is_deleted, with_item}
+use Rattle.nn_model.specs.Items.{NodeState, is_deleted, with_item}
 use Rattle.nn_shadow.specs.Notes.{number_noted, with_note, with_notes}
 
 note_more : (has told : List (ℕ × ℕ)) (note : ℕ × ℕ) → with_notes has (told ++ note ∷ []) ≡ with_note (with_notes has told) note
@@ -26,9 +26,9 @@ note_is_item has m from_one =
     none : m.number ≡ 0 → ⊥
     none e = omega (arith, from_one, e)
 
-pub noted : (has told later : List (ℕ × ℕ)) (begun : Option ℕ) (was : Having) (m : Message) → 1 ≤ m.number → later ≡ told ++ (m.block, number_noted m) ∷ [] →
+pub noted : (has told later : List (ℕ × ℕ)) (begun : Option ℕ) (was : NodeState) (m : Message) → 1 ≤ m.number → later ≡ told ++ (m.block, number_noted m) ∷ [] →
     record { has = with_notes has told; begun = begun } ≡ was →
-    ◌≡◌ {A = Having} (record { has = with_notes has later; begun = begun }) (record was { has = with_item was.has m })
+    ◌≡◌ {A = NodeState} (record { has = with_notes has later; begun = begun }) (record was { has = with_item was.has m })
 noted has told later begun was m from_one is same =
-    ap {B = Having} (λ es. record { has = es; begun = begun }) (ap (with_notes has) is ∙ note_more has told (m.block, number_noted m) ∙ note_is_item (with_notes has told) m from_one)
-    ∙ ap {B = Having} (λ (h : Having). record h { has = with_item h.has m }) same
+    ap {B = NodeState} (λ es. record { has = es; begun = begun }) (ap (with_notes has) is ∙ note_more has told (m.block, number_noted m) ∙ note_is_item (with_notes has told) m from_one)
+    ∙ ap {B = NodeState} (λ (h : NodeState). record h { has = with_item h.has m }) same

@@ -13,10 +13,10 @@ use Rattle.nn_model.specs.declared.form.BlockRow.{BlockRow}
 use Rattle.nn_model.specs.Namespace.{Namespace}
 use Rattle.nn_model.specs.History.{History, processed}
 use Rattle.nn_model.specs.Replay.{reported, reported_as}
-use Rattle.nn_replicas.specs.Table.{Table}
+use Rattle.nn_replicas.specs.Table.{Replicas}
 use Rattle.nn_replicas.specs.Entry.{stamp_in}
 use Rattle.nn_replicas.specs.Calls.{row_at, has_order, is_idle_at, without_entry, room_given_back, pair_placed, replica_put, stamp_at, reaches, pair_told, pair_told_if, due_told}
-use Rattle.nn_replicas.specs.Effects.{is_pair, is_named as has_row}
+use Rattle.nn_replicas.specs.Effects.{is_pair, has_row}
 use Rattle.nn_replicas.proofs.GivenBack.{idle_tells}
 use Rattle.nn_replicas.proofs.Lookups.{place_places, put_writes}
 use Rattle.nn_postponed.specs.Queues.{queued, all_queued}
@@ -30,18 +30,18 @@ use Rattle.nn_shadow.proofs.Tables.{taken_writes}
 
 -- ---- what keeps its room
 
-given_not : (held : List Message) (t : Table) (id : ℕ) → is_idle_at t id ≡ false → given_back held t id ≡ t
+given_not : (held : List Message) (t : Replicas) (id : ℕ) → is_idle_at t id ≡ false → given_back held t id ≡ t
 given_not held t id busy = elim (is_waited_for held id) as (λ w. cond w t (room_given_back t id) ≡ t) [
   | true ↦ refl
   | false ↦ ap (λ i. cond i (without_entry t id) t) busy
 ]
 
 -- a block with a row
-row_busy : (t : Table) (id : ℕ) → has_row t id ≡ true → is_idle_at t id ≡ false
+row_busy : (t : Replicas) (id : ℕ) → has_row t id ≡ true → is_idle_at t id ≡ false
 row_busy t id named = false_from_ne_true _ (λ idle. both_ways (has_row t id) (ap is_some (idle_tells t id idle).0) named)
 
 -- a block of which a replica was told: it has a row, or there is an order
-put_busy : (t : Table) (dn id : ℕ) (r : Replica) → is_idle_at (replica_put t dn id r) id ≡ false
+put_busy : (t : Replicas) (dn id : ℕ) (r : Replica) → is_idle_at (replica_put t dn id r) id ≡ false
 put_busy t dn id r = false_from_ne_true _ (λ idle.
     let w = put_writes t dn id r in
     let told = idle_tells (replica_put t dn id r) id idle in
@@ -52,7 +52,7 @@ put_busy t dn id r = false_from_ne_true _ (λ idle.
     ∙ ap (λ p. cond (p && true) true (has_order t dn id)) (and_from (dn == dn) (id == id) (eq-eqb dn dn refl) (eq-eqb id id refl))))
 
 -- where a replica is told there is nothing to give back
-pub told_keeps : (held : List Message) (t : Table) (m : Message) (k : Kind) → m.kind ≡ k → is_some (reported_as k m) ≡ true → message_taken t m ≡ taken_and_given_back held t m
+pub told_keeps : (held : List Message) (t : Replicas) (m : Message) (k : Kind) → m.kind ≡ k → is_some (reported_as k m) ≡ true → message_taken t m ≡ taken_and_given_back held t m
 told_keeps held t m k is told = sym (given_not held (message_taken t m) m.block (ap (λ l. is_idle_at (taken_as l t m) m.block) is ∙ busy k told))
   where
     busy : (l : Kind) → is_some (reported_as l m) ≡ true → is_idle_at (taken_as l t m) m.block ≡ false
@@ -65,7 +65,7 @@ told_keeps held t m k is told = sym (given_not held (message_taken t m) m.block 
 
 -- ---- by the row of the table
 
-told_is_taken : (t : Table) (m : Message) → pair_told t m.dn m.block (reported m) ≡ message_taken t m
+told_is_taken : (t : Replicas) (m : Message) → pair_told t m.dn m.block (reported m) ≡ message_taken t m
 told_is_taken t m = by_kind m.kind
   where
     by_kind : (k : Kind) → pair_told t m.dn m.block (reported_as k m) ≡ taken_as k t m
@@ -77,7 +77,7 @@ told_is_taken t m = by_kind m.kind
     by_kind Finish = refl
 
 -- an item that is due is processed once, by the row or without it
-pub taken_by_row : (t : Table) (held : List Message) (m : Message) (other : Status) (o : Option ℕ) → o ≡ stamp_at t m.block → is_due (status_by_row o other) m.stamp ≡ true →
+pub taken_by_row : (t : Replicas) (held : List Message) (m : Message) (other : Status) (o : Option ℕ) → o ≡ stamp_at t m.block → is_due (status_by_row o other) m.stamp ≡ true →
     taken_without_row o held (due_told t m.dn m.block m.stamp (reported m)) m ≡ taken_and_given_back held (pair_placed t m.dn m.block) m
 taken_by_row t held m other None is due =
     ap (λ o. taken_and_given_back held (pair_told_if (reaches o m.stamp) (pair_placed t m.dn m.block) m.dn m.block (reported m)) m) (sym is)
@@ -87,7 +87,7 @@ taken_by_row t held m other (Some stamp) is due =
     ∙ told_is_taken placed m
     ∙ sym (given_not held (message_taken placed m) m.block (row_busy (message_taken placed m) m.block named))
   where
-    placed : Table
+    placed : Replicas
     placed = pair_placed t m.dn m.block
 
     has_stamp : (r : Option BlockRow) → stamp_in r ≡ Some stamp → is_some r ≡ true
@@ -99,7 +99,7 @@ taken_by_row t held m other (Some stamp) is due =
 
 -- ---- all of it
 
-module _ (n : Namespace) (i : Message) (h h_now : History) (was now : List Message) (t t_now : Table) where
+module _ (n : Namespace) (i : Message) (h h_now : History) (was now : List Message) (t t_now : Replicas) where
   -- it has to wait, and is held
   pub one_held : true ≡ must_wait (is_due_in n) was i → h_now ≡ h → now ≡ queued i was → t_now ≡ pair_placed t i.dn i.block → TakesItems n (i ∷ []) h was t h_now now t_now
   one_held waits is_h is_now is_t = record {
@@ -109,7 +109,7 @@ module _ (n : Namespace) (i : Message) (h h_now : History) (was now : List Messa
         ∙ ap (λ w. given_back now (messages_taken placed (cond (not w) (i ∷ []) [])) i.block) waits;
   }
     where
-      placed : Table
+      placed : Replicas
       placed = pair_placed t i.dn i.block
 
       waited : is_waited_for now i.block ≡ true

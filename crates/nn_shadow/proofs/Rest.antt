@@ -5,8 +5,8 @@ use Rattle.std.specs.List.{list_any}
 use Rattle.std.proofs.Math.Seq.{drop-cons}
 use Rattle.std.proofs.lemmas.List.{drop_all}
 use Rattle.nn_types.specs.declared.report.Message.{Message}
-use Rattle.nn_model.specs.WellFormed.{Has}
-use Rattle.nn_replicas.specs.Table.{Table}
+use Rattle.nn_model.specs.WellFormed.{Includes}
+use Rattle.nn_replicas.specs.Table.{Replicas}
 use Rattle.nn_replicas.specs.Calls.{pair_placed}
 use Rattle.nn_postponed.specs.Queues.{is_from}
 use Rattle.nn_shadow.specs.Steps.{all_placed, not_held}
@@ -15,7 +15,7 @@ pub rest_at : (xs : List Message) (i : ℕ) (x : Message) → i < length xs → 
 rest_at xs i x in_range got =
     drop-cons xs i x in_range ∙ (λ j. sym got j ∷ drop (let e : suc i ≡ i + 1 = omega arith in e j) xs)
 
-pub has_at : (xs : List Message) (i : ℕ) (x : Message) → i < length xs → Has xs (get_or xs i x)
+pub has_at : (xs : List Message) (i : ℕ) (x : Message) → i < length xs → Includes xs (get_or xs i x)
 has_at [] i x in_range = absurd (omega (arith, in_range))
 has_at (y ∷ xs) zero x in_range = inl refl
 has_at (y ∷ xs) (suc i) x in_range = inr (has_at xs i x (omega (arith, in_range)))
@@ -29,7 +29,7 @@ rest_takes held xs i x in_range got none =
     ap (not_held held) (rest_at xs i x in_range got)
     ∙ ap (λ t. cond (not t) (x ∷ not_held held (drop (i + 1) xs)) (not_held held (drop (i + 1) xs))) none
 
-pub place_more : (t : Table) (ms : List Message) (m : Message) → all_placed t (ms ++ m ∷ []) ≡ pair_placed (all_placed t ms) m.dn m.block
+pub place_more : (t : Replicas) (ms : List Message) (m : Message) → all_placed t (ms ++ m ∷ []) ≡ pair_placed (all_placed t ms) m.dn m.block
 place_more t [] m = refl
 place_more t (x ∷ ms) m = place_more (pair_placed t x.dn x.block) ms m
 

@@ -10,7 +10,7 @@ use Rattle.nn_types.specs.declared.edit.Edit.TheVariants.{StartSegment, EndSegme
 use Rattle.nn_types.specs.declared.edit.Edit.TheVariants.{SetReplication, AllocateBlockId, SetGenstamp}
 use Rattle.nn_model.specs.Namespace.{Namespace, Path, file_at}
 use Rattle.nn_model.specs.Touched.{touched, ids_of, ids_below, with_id, ascending, changed_ids}
-use Rattle.nn_model.specs.Apply.{first, keeps_ids, list_checks, refusal}
+use Rattle.nn_model.specs.Apply.{first_fault, keeps_ids, list_checks, refusal}
 use Rattle.nn_model.proofs.Dues.{all_none}
 use Rattle.nn_model.proofs.Dues.{when_none}
 use Rattle.nn_model.proofs.Members.{just_blocks}
@@ -187,7 +187,7 @@ pub found_at : (from low m : ℕ) (ids : List ℕ) → Rises ids → low < lengt
     m ≡ get_or ids low m → Some m ≡ lowest from None ids
 found_at from low m ids r lt below above is = ap (λ k. Some k) is ∙ sym (lowest_at from ids low m r lt below (above low m (omega arith) lt))
 
-relisted_rises : (n : Namespace) (p : Path) (bs : List Block) → first (list_checks n p bs) ≡ None → Rises (ids_of (drop (length bs) (file_at n p).blocks))
+relisted_rises : (n : Namespace) (p : Path) (bs : List Block) → first_fault (list_checks n p bs) ≡ None → Rises (ids_of (drop (length bs) (file_at n p).blocks))
 relisted_rises n p bs applies =
     left_out_rises (file_at n p).blocks bs (not-false _ (when_none _ _ (all_none (list_checks n p bs) applies).1.1.1.1.1.0))
 

@@ -4,16 +4,16 @@ use Rattle.std.specs.Prelude.{IfSome, IsTrue}
 use Rattle.nn_types.specs.declared.report.Message.{Message}
 use Rattle.nn_model.specs.Replay.{is_named}
 use Rattle.nn_model.specs.Stands.{AreByBlock}
-use Rattle.nn_model.specs.WellFormed.{Has, IsWellFormed}
+use Rattle.nn_model.specs.WellFormed.{Includes, IsWellFormed}
 use Rattle.nn_replicas.specs.Calls.{replica_at, is_placed}
 use Rattle.nn_replicas.specs.Agreement.{Shows}
 use Rattle.nn_postponed.specs.Release.{first_free}
 use Rattle.nn_shadow.specs.Calls.{is_due_in}
-use Rattle.nn_shadow.specs.Contents.{Contents, IsStop, IsConsistent}
+use Rattle.nn_shadow.specs.Contents.{Shadow, IsStop, IsConsistent}
 use Rattle.nn_shadow.specs.Room.{IsTight}
 
 -- the fields of IsConsistent, without the last one
-pub record IsSound (x : Contents) : Type 0 where
+pub record IsSound (x : Shadow) : Type 0 where
   pub limit : x.last < 2 ^ 63
   pub well_formed : IsWellFormed x.namespace
   pub datanodes_from : 1 ≤ length x.numbers
@@ -22,11 +22,11 @@ pub record IsSound (x : Contents) : Type 0 where
   pub stopped : IfSome x.phase.stopped (IsStop x.namespace x.last)
   pub shows : Shows x.namespace x.table
   pub unnamed : (dn id : ℕ) → is_named x.namespace id ≡ false → replica_at x.table dn id ≡ None
-  pub placed : (m : Message) → Has x.held m → IsTrue (is_placed x.table m.dn m.block)
+  pub placed : (m : Message) → Includes x.held m → IsTrue (is_placed x.table m.dn m.block)
   pub by_block : AreByBlock x.held
   pub settled : first_free (is_due_in x.namespace) [] x.held ≡ None
 
-pub sound_of : {x : Contents} → IsConsistent x → IsSound x
+pub sound_of : {x : Shadow} → IsConsistent x → IsSound x
 sound_of {x} c = record {
   limit = c.limit;
   well_formed = c.well_formed;
@@ -41,7 +41,7 @@ sound_of {x} c = record {
   settled = c.settled;
 }
 
-pub consistent_of : {x : Contents} → IsSound x → (x.phase.active ≡ false → IsTight x.held x.table) → IsConsistent x
+pub consistent_of : {x : Shadow} → IsSound x → (x.phase.active ≡ false → IsTight x.held x.table) → IsConsistent x
 consistent_of {x} c tight = record {
   limit = c.limit;
   well_formed = c.well_formed;

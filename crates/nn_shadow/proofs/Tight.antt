@@ -14,12 +14,12 @@ use Rattle.nn_model.specs.Namespace.{Namespace}
 use Rattle.nn_model.specs.Apply.{has_id, effect}
 use Rattle.nn_model.specs.History.{History, processed}
 use Rattle.nn_model.specs.Touched.{Touched, touched, changed_ids, is_within, is_touched}
-use Rattle.nn_replicas.specs.Table.{Table}
+use Rattle.nn_replicas.specs.Table.{Replicas}
 use Rattle.nn_replicas.specs.Entry.{no_entry}
 use Rattle.nn_replicas.specs.Calls.{entry_at, row_at}
-use Rattle.nn_replicas.specs.Effects.{is_named as has_row}
-use Rattle.nn_replicas.specs.Order.{IsInOrder}
-use Rattle.nn_postponed.specs.Release.{same_source, must_wait, first_free, freed, kept}
+use Rattle.nn_replicas.specs.Effects.{has_row}
+use Rattle.nn_replicas.specs.Order.{IsSortedTable}
+use Rattle.nn_postponed.specs.Release.{same_source, must_wait, first_free, freed, still_waiting}
 use Rattle.nn_postponed.proofs.Orders.{any_all}
 use Rattle.nn_shadow.specs.Items.{TakesItems, LeavesItems, free_of, stuck_of}
 use Rattle.nn_shadow.specs.Room.{is_waited_for, IsNeeded, IsTight, all_given_back, item_blocks, processed_blocks, skipped_blocks, given_back_after}
@@ -54,8 +54,8 @@ blocks_are [] b = refl
 blocks_are (m ∷ ms) b = ap (λ t. (m.block == b) || t) (blocks_are ms b)
 
 -- items were taken in
-pub items_tight : {n : Namespace} {items was now : List Message} {h h_now : History} {t t_now : Table} → TakesItems n items h was t h_now now t_now →
-    IsInOrder (messages_taken (all_placed t items) (free_of n was items)) → IsTight was t → IsTight now t_now
+pub items_tight : {n : Namespace} {items was now : List Message} {h h_now : History} {t t_now : Replicas} → TakesItems n items h was t h_now now t_now →
+    IsSortedTable (messages_taken (all_placed t items) (free_of n was items)) → IsTight was t → IsTight now t_now
 items_tight {n} {items} {was} {now} {h} {h_now} {t} {t_now} takes o tight b =
     let free = free_of n was items in
     let taken = messages_taken (all_placed t items) free in
@@ -67,8 +67,8 @@ items_tight {n} {items} {was} {now} {h} {h_now} {t} {t_now} takes o tight b =
     ])
 
 -- none was taken in
-pub failed_tight : {items was now : List Message} {h h_now : History} {t t_now : Table} → LeavesItems items h was t h_now now t_now →
-    ((k : ℕ) → IsInOrder (all_placed t (take k items))) → IsTight was t → IsTight now t_now
+pub failed_tight : {items was now : List Message} {h h_now : History} {t t_now : Replicas} → LeavesItems items h was t h_now now t_now →
+    ((k : ℕ) → IsSortedTable (all_placed t (take k items))) → IsTight was t → IsTight now t_now
 failed_tight {items} {was} {now} {h} {h_now} {t} {t_now} left o tight b =
     subst (λ l. IsNeeded l t_now b) (sym left.held) (elim left.table [
       | inl same ↦ subst (λ s. IsNeeded was s b) (sym same) (tight b)
@@ -119,10 +119,10 @@ freed_touched what due held b quiet about = elim (cases_Bool (is_touched what b)
 ]
 
 -- what is held about a block stays held, where nothing about it is set free
-still_waited : (due : Message → Bool) (s ms : List Message) (b : ℕ) → is_waited_for (freed due s ms) b ≡ false → is_waited_for ms b ≡ is_waited_for (kept due s ms) b
+still_waited : (due : Message → Bool) (s ms : List Message) (b : ℕ) → is_waited_for (freed due s ms) b ≡ false → is_waited_for ms b ≡ is_waited_for (still_waiting due s ms) b
 still_waited due s [] b none = refl
 still_waited due s (x ∷ ms) b none = (elim (must_wait due s x) as (λ t. is_waited_for (cond t (freed due (x ∷ s) ms) (x ∷ freed due s ms)) b ≡ false →
-    ((x.block == b) || is_waited_for ms b) ≡ is_waited_for (cond t (x ∷ kept due (x ∷ s) ms) (kept due s ms)) b) [
+    ((x.block == b) || is_waited_for ms b) ≡ is_waited_for (cond t (x ∷ still_waiting due (x ∷ s) ms) (still_waiting due s ms)) b) [
       | true ↦ λ h. ap (λ t. (x.block == b) || t) (still_waited due (x ∷ s) ms b h)
       | false ↦ λ h.
           let parts = or_parts (x.block == b) (is_waited_for (freed due s ms) b) h in
@@ -155,12 +155,12 @@ unchanged n (SetGenstamp stamp) b h = h
 
 -- a block whose row an edit set has a row, one that it retired is given back, and one that it passed over too, where an item about
 -- it was set free. Of any other block nothing changed.
-pub edit_tight : (n : Namespace) (t : Table) (edit : Edit) (due : Message → Bool) (held : List Message) →
-    IsQuiet (touched n edit) due held → IsInOrder (messages_taken (followed (effect n edit) edit (room_made_for t edit) (touched n edit)) (freed due [] held)) →
+pub edit_tight : (n : Namespace) (t : Replicas) (edit : Edit) (due : Message → Bool) (held : List Message) →
+    IsQuiet (touched n edit) due held → IsSortedTable (messages_taken (followed (effect n edit) edit (room_made_for t edit) (touched n edit)) (freed due [] held)) →
     ((b : ℕ) → row_at (messages_taken (followed (effect n edit) edit (room_made_for t edit) (touched n edit)) (freed due [] held)) b ≡ row_at (followed (effect n edit) edit (room_made_for t edit) (touched n edit)) b) →
     IsTight held t →
-    IsTight (kept due [] held)
-    (given_back_after (kept due [] held) (messages_taken (followed (effect n edit) edit (room_made_for t edit) (touched n edit)) (freed due [] held)) (touched n edit) (map (processed Due) (freed due [] held)))
+    IsTight (still_waiting due [] held)
+    (given_back_after (still_waiting due [] held) (messages_taken (followed (effect n edit) edit (room_made_for t edit) (touched n edit)) (freed due [] held)) (touched n edit) (map (processed Due) (freed due [] held)))
 edit_tight n t edit due held quiet o rows tight b = elim (cases_Bool (has_id what.retired b)) [
   | inl gone ↦ needed_more (all_needed_given now taken what.retired b o gone)
   | inr stays ↦ elim (cases_Bool (has_id (row_ids set) b)) [
@@ -181,24 +181,24 @@ edit_tight n t edit due held quiet o rows tight b = elim (cases_Bool (has_id wha
     out = freed due [] held
 
     now : List Message
-    now = kept due [] held
+    now = still_waiting due [] held
 
     events : History
     events = map (processed Due) out
 
-    made : Table
+    made : Replicas
     made = followed (effect n edit) edit (room_made_for t edit) what
 
-    taken : Table
+    taken : Replicas
     taken = messages_taken made out
 
-    given : Table
+    given : Replicas
     given = all_given_back now taken what.retired
 
     skipped : List ℕ
     skipped = skipped_blocks what.skipped events
 
-    given_o : IsInOrder given
+    given_o : IsSortedTable given
     given_o = all_given_in_order now taken what.retired o
 
     needed_more : IsNeeded now given b → IsNeeded now (all_given_back now given skipped) b

@@ -12,18 +12,18 @@ use Rattle.nn_types.specs.EditFault.{number_of}
 use Rattle.nn_model.proofs.Equals.{root_alone_is_well_formed}
 use Rattle.nn_model.specs.Apply.{refusal}
 use Rattle.nn_model.specs.declared.form.Form.TheVariants.{Dir}
-use Rattle.nn_model.specs.Items.{Having, nothing_had}
+use Rattle.nn_model.specs.Items.{NodeState, nothing_known}
 use Rattle.nn_model.specs.MessageRows.{b, c, block, message, received}
 use Rattle.nn_model.specs.Namespace.{root_alone}
-use Rattle.nn_model.specs.WellFormed.{Has}
-use Rattle.nn_replicas.specs.Table.{BlockEntry, Table}
+use Rattle.nn_model.specs.WellFormed.{Includes}
+use Rattle.nn_replicas.specs.Table.{BlockEntry, Replicas}
 use Rattle.nn_replicas.specs.Entry.{no_entry, with_cell, with_place}
 use Rattle.nn_replicas.specs.Calls.{empty_table, with_entry, block_set, pair_placed, is_placed}
 use Rattle.nn_replicas.specs.Effects.{is_pair}
 use Rattle.nn_replicas.specs.Agreement.{Shows}
 use Rattle.nn_replicas.proofs.Lookups.{find_put, new_in_order, place_in_order, place_places}
 use Rattle.nn_shadow.specs.declared.fault.Stop.{Stop}
-use Rattle.nn_shadow.specs.Contents.{Contents, number_in, having_in, standby_of, IsStop, IsConsistent, KeepsSettings, Becomes}
+use Rattle.nn_shadow.specs.Contents.{Shadow, last_number_in, node_state_in, standby_of, IsStop, IsConsistent, KeepsSettings, Becomes}
 use Rattle.nn_shadow.specs.Room.{is_waited_for, IsTight}
 
 -- ---- After the start of a segment, a message of DataNode 1 about b waits. No id is issued yet.
@@ -35,10 +35,10 @@ early = message 1 1 Received b 1002 5
 abbrev entry : BlockEntry
 entry = with_place no_entry 1
 
-abbrev at_b : Table
+abbrev at_b : Replicas
 at_b = pair_placed (empty_table 1) 1 b
 
-abbrev waiting : Contents
+abbrev waiting : Shadow
 waiting = record {
   namespace = root_alone;
   last = 1;
@@ -46,7 +46,7 @@ waiting = record {
   table = at_b;
   held = early ∷ [];
   numbers = 1 ∷ 0 ∷ [];
-  had = record { has = (b, 1) ∷ []; begun = None } ∷ nothing_had ∷ [];
+  had = record { has = (b, 1) ∷ []; begun = None } ∷ nothing_known ∷ [];
   phase = record { stopped = None; active = false };
   permille = 999;
 }
@@ -65,7 +65,7 @@ root_is_shown = record {
   datanodes = has_datanodes;
 }
 
-has_room : (m : Message) → Has waiting.held m → IsTrue (is_placed at_b m.dn m.block)
+has_room : (m : Message) → Includes waiting.held m → IsTrue (is_placed at_b m.dn m.block)
 has_room m (inl same) = subst (λ i. IsTrue (is_placed at_b i.dn i.block)) same refl
 has_room m (inr none) = absurd none
 
@@ -93,7 +93,7 @@ consistent = record {
 }
 
 -- what is left idle may stay, once it is active
-abbrev active : Contents
+abbrev active : Shadow
 active = record waiting { held = []; phase = record { stopped = None; active = true } }
 
 consistent_once_active : IsConsistent active
@@ -126,7 +126,7 @@ there_is_no_datanode x = omega (arith, x.datanodes_from)
 there_are_257_datanodes : IsConsistent (record waiting { numbers = replicate 257 0 }) → ⊥
 there_are_257_datanodes x = let most : 257 ≤ 256 = x.datanodes_to in omega (arith, most)
 
-one_has_nothing_known : IsConsistent (record waiting { had = nothing_had ∷ [] }) → ⊥
+one_has_nothing_known : IsConsistent (record waiting { had = nothing_known ∷ [] }) → ⊥
 one_has_nothing_known x = let each : 1 ≡ 2 = x.had_each in omega (arith, each)
 
 abbrev stop_at : ℕ → Stop
@@ -171,13 +171,13 @@ another_number s exists = let same : 22 ≡ 21 = s.number ∙ ap number_of exist
 
 -- ---- What it shows.
 
-numbers : map (number_in (7 ∷ 8 ∷ [])) (0 ∷ 1 ∷ 2 ∷ []) ≡ 0 ∷ 7 ∷ 8 ∷ []
+numbers : map (last_number_in (7 ∷ 8 ∷ [])) (0 ∷ 1 ∷ 2 ∷ []) ≡ 0 ∷ 7 ∷ 8 ∷ []
 numbers = refl
 
-abbrev has_b : Having
+abbrev has_b : NodeState
 has_b = record { has = (b, 1) ∷ []; begun = None }
 
-havings : map (having_in (has_b ∷ [])) (0 ∷ 1 ∷ 2 ∷ []) ≡ nothing_had ∷ has_b ∷ nothing_had ∷ []
+havings : map (node_state_in (has_b ∷ [])) (0 ∷ 1 ∷ 2 ∷ []) ≡ nothing_known ∷ has_b ∷ nothing_known ∷ []
 havings = refl
 
 -- ---- What stays.

@@ -8,7 +8,7 @@ use Rattle.nn_model.specs.Stands.{StandbyState}
 use Rattle.nn_model.specs.Items.{with_items}
 use Rattle.nn_postponed.specs.Queues.{all_queued}
 use Rattle.nn_postponed.specs.Release.{must_wait}
-use Rattle.nn_replicas.specs.Table.{Table}
+use Rattle.nn_replicas.specs.Table.{Replicas}
 use Rattle.nn_shadow.specs.declared.fault.Handed.{Handed}
 use Rattle.nn_shadow.specs.Calls.{is_due_in, processing, waiting, due_now}
 use Rattle.nn_shadow.specs.Steps.{messages_taken, all_placed}
@@ -32,17 +32,17 @@ free_of n held items = filter (λ i. not (must_wait (is_due_in n) held i)) items
 abbrev pub stuck_of : Namespace → List Message → List Message → List Message
 stuck_of n held items = filter (must_wait (is_due_in n) held) items
 
-abbrev pub counts_of : Namespace → List Message → List Message → Handed
-counts_of n held items = record { processed = length (free_of n held items); held = length (stuck_of n held items) }
+abbrev pub handed_counts : Namespace → List Message → List Message → Handed
+handed_counts n held items = record { processed = length (free_of n held items); held = length (stuck_of n held items) }
 
 -- history, held items and table after these items were taken in, and the room that they left idle was given back
-pub record TakesItems (n : Namespace) (items : List Message) (h : History) (was : List Message) (t : Table) (h_now : History) (now : List Message) (t_now : Table) : Type 0 where
+pub record TakesItems (n : Namespace) (items : List Message) (h : History) (was : List Message) (t : Replicas) (h_now : History) (now : List Message) (t_now : Replicas) : Type 0 where
   pub history : h_now ≡ h ++ map (processed Due) (free_of n was items)
   pub held : now ≡ all_queued was (stuck_of n was items)
   pub table : t_now ≡ all_given_back now (messages_taken (all_placed t items) (free_of n was items)) (item_blocks items)
 
 -- none was taken in: the table is as it was, or the first ones got their room and it was given back
-pub record LeavesItems (items : List Message) (h : History) (was : List Message) (t : Table) (h_now : History) (now : List Message) (t_now : Table) : Type 0 where
+pub record LeavesItems (items : List Message) (h : History) (was : List Message) (t : Replicas) (h_now : History) (now : List Message) (t_now : Replicas) : Type 0 where
   pub history : h_now ≡ h
   pub held : now ≡ was
   pub table : (t_now ≡ t) ⊎ ((count : ℕ) × (t_now ≡ all_given_back was (all_placed t (take count items)) (item_blocks items)))

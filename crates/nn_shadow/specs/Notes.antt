@@ -5,16 +5,16 @@ use Rattle.std.specs.BTreeMap.{insert_entry, is_at}
 use Rattle.std.specs.FinMap.Entries.{is_sorted}
 use Rattle.std.specs.Ordering.{nat_cmp}
 use Rattle.nn_types.specs.declared.report.Message.{Message}
-use Rattle.nn_model.specs.Items.{Having, is_deleted}
+use Rattle.nn_model.specs.Items.{NodeState, is_deleted}
 
 -- what a DataNode has, whether one more note has its place, and whether all notes are sorted in
 pub record Notes : Type 0 where
-  pub having : Having
+  pub having : NodeState
   pub room : Bool
   pub settled : Bool
 
-abbrev pub having_of : Notes → Having
-having_of n = n.having
+abbrev pub node_state_of : Notes → NodeState
+node_state_of n = n.having
 
 -- the number under which an item is noted: 0 for a delete
 abbrev pub number_noted : Message → ℕ
@@ -46,7 +46,7 @@ pub record IsTidy (has : List (ℕ × ℕ)) (blocks notes : ℕ) : Type 0 where
   pub sorted : T (is_sorted nat_cmp has)
   pub few : notes ≤ most_told blocks
 
--- ---- The notes in the order of their blocks are taken in from the front.
+-- ---- The notes in the order of their blocks are taken in from the prefix.
 
 -- the blocks before this one, and the others
 abbrev pub before : ℕ → List (ℕ × ℕ) → List (ℕ × ℕ)
@@ -68,9 +68,9 @@ is_next block [] = false
 is_next block (note ∷ told) = note.0 == block
 
 -- what is left of a note: nothing, where it is a delete or the next one is about its block too
-abbrev pub left_of : ℕ × ℕ → List (ℕ × ℕ) → List (ℕ × ℕ)
-left_of note told = if (note.1 == 0 || is_next note.0 told) then [] else note ∷ []
+abbrev pub note_left : ℕ × ℕ → List (ℕ × ℕ) → List (ℕ × ℕ)
+note_left note told = if (note.1 == 0 || is_next note.0 told) then [] else note ∷ []
 
 abbrev pub merged : List (ℕ × ℕ) → List (ℕ × ℕ) → List (ℕ × ℕ)
 merged has [] = has
-merged has (note ∷ told) = before note.0 has ++ (left_of note told ++ merged (past note.0 (onward note.0 has)) told)
+merged has (note ∷ told) = before note.0 has ++ (note_left note told ++ merged (past note.0 (onward note.0 has)) told)

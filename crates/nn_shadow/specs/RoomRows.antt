@@ -10,20 +10,20 @@ use Rattle.nn_types.specs.declared.edit.Edit.TheVariants.{StartSegment, EndSegme
 use Rattle.nn_types.specs.declared.edit.Edit.TheVariants.{SetReplication, AllocateBlockId, SetGenstamp}
 use Rattle.nn_model.specs.MessageRows.{b, c, f, message}
 use Rattle.nn_model.specs.Touched.{nothing}
-use Rattle.nn_replicas.specs.Table.{Table}
+use Rattle.nn_replicas.specs.Table.{Replicas}
 use Rattle.nn_replicas.specs.Calls.{empty_table, pair_placed, room_made}
 use Rattle.nn_shadow.specs.Room.{is_waited_for, given_back, all_given_back, taken_unless, taken_without_row, given_back_after, added_given_back}
 use Rattle.nn_shadow.specs.Steps.{message_taken, block_added, room_made_for}
 
 -- ---- DataNode 1 was placed at b and c. No file holds them.
 
-abbrev at_b : Table
+abbrev at_b : Replicas
 at_b = pair_placed (empty_table 1) 1 b
 
-abbrev at_c : Table
+abbrev at_c : Replicas
 at_c = pair_placed (empty_table 1) 1 c
 
-abbrev at_both : Table
+abbrev at_both : Replicas
 at_both = pair_placed at_b 1 c
 
 abbrev received_b : Message

@@ -7,7 +7,7 @@ use Rattle.nn_types.specs.declared.edit.Edit.TheVariants.{StartSegment, EndSegme
 use Rattle.nn_types.specs.declared.edit.Edit.TheVariants.{SetReplication, AllocateBlockId, SetGenstamp}
 use Rattle.nn_model.specs.Namespace.{Namespace, file_at}
 use Rattle.nn_model.specs.Touched.{Touched, ids_of, is_within, is_touched}
-use Rattle.nn_model.specs.WellFormed.{Has}
+use Rattle.nn_model.specs.WellFormed.{Includes}
 use Rattle.nn_postponed.specs.Release.{first_free}
 
 -- a message that is due, about a block that the edit did not touch
@@ -27,7 +27,7 @@ is_reached (Some found) id = nat_le found id
 pub record IsNextTouched (t : Touched) (from : ℕ) (held : List Message) (next : Option ℕ) : Type 0 where
   pub from_there : IfSome next (λ block. from ≤ block)
   pub touched : IfSome next (λ block. is_touched t block ≡ true)
-  pub reached : (m : Message) → Has held m → from ≤ m.block → is_touched t m.block ≡ true → is_reached next m.block ≡ true
+  pub reached : (m : Message) → Includes held m → from ≤ m.block → is_touched t m.block ≡ true → is_reached next m.block ≡ true
 
 -- ---- How it is found.
 
@@ -77,4 +77,4 @@ later first from = if nat_lt first from then from else first
 pub record IsNextSkipped (range : Option (ℕ × ℕ)) (from : ℕ) (held : List Message) (next : Option ℕ) : Type 0 where
   pub from_there : IfSome next (λ block. from ≤ block)
   pub within : IfSome next (λ block. is_within range block ≡ true)
-  pub reached : (m : Message) → Has held m → from ≤ m.block → is_within range m.block ≡ true → is_reached next m.block ≡ true
+  pub reached : (m : Message) → Includes held m → from ≤ m.block → is_within range m.block ≡ true → is_reached next m.block ≡ true

@@ -3,8 +3,8 @@ ghost use Rattle.std.specs.Prelude.{◌≡◌, ◌+◌, ◌≤◌, ◌++◌, ◌
 ghost use Rattle.std.specs.FinMap.Entries.{is_sorted};
 ghost use Rattle.std.specs.Ordering.{nat_cmp};
 ghost use Rattle.nn_types.specs.declared.report.Message.{Message};
-ghost use Rattle.nn_model.specs.Items.{nothing_had, taken_back, finished, begun_after, with_item, with_items};
-ghost use Rattle.nn_shadow.specs.Notes.{number_noted, with_notes, before, onward, past, is_next, left_of, merged};
+ghost use Rattle.nn_model.specs.Items.{nothing_known, revoked, finished, begun_after, with_item, with_items};
+ghost use Rattle.nn_shadow.specs.Notes.{number_noted, with_notes, before, onward, past, is_next, note_left, merged};
 ghost use Rattle.nn_shadow.specs.Steps.{AreApart};
 
 use nn_types::{BlockId, GenerationStamp, Kind, Length, Message};
@@ -16,7 +16,7 @@ use std::marker::Model;
 ///
 /// An item is noted behind those that came before it. Only where the blocks are read, or where too many notes wait, are the
 /// notes sorted in among the blocks: so a note takes no search.
-#[derive(Drop)]
+#[derive(Debug, Drop)]
 pub(crate) struct Had {
     // By ascending block.
     has: Vec<(BlockId, u64)>,
@@ -41,7 +41,7 @@ impl Model for Had {
 impl Had {
     /// Nothing was told yet.
     pub fn new(alloc: Global) -> Had
-        ensures { result.having ≡ nothing_had }
+        ensures { result.having ≡ nothing_known }
     {
         Had {
             has: Vec::new(alloc),
@@ -111,7 +111,7 @@ impl Had {
         told_before(alloc, begin, self.has.as_slice(), finish)
     }
 
-    /// Forgets the blocks that the end of a full report takes back.
+    /// Forgets the blocks that the end of a full report revokes.
     pub fn forget_left_out(&mut self)
         requires settled { self.old.settled ≡ true }
         ensures { (finish : Message) → self.new.having ≡ record self.old.having { has = with_items self.old.having.has (finished self.old.having.begun self.old.having.has finish) } }
@@ -197,7 +197,7 @@ fn past<'a>(has: &'a [(BlockId, u64)], block: BlockId) -> &'a [(BlockId, u64)]
 // Moves a note, unless it is a delete or the next one is about its block too.
 fn push_left(note: &(BlockId, u64), later: &[(BlockId, u64)], all: &mut Vec<(BlockId, u64)>)
     requires room { vec_len all.old < vec_capacity all.old }
-    ensures items { all.new.items ≡ all.old.items ++ left_of note.now later.now }
+    ensures items { all.new.items ≡ all.old.items ++ note_left note.now later.now }
     ensures room { vec_len all.new ≤ vec_len all.old + 1 }
     ensures capacity { vec_capacity all.new ≡ vec_capacity all.old }
 {
@@ -242,7 +242,7 @@ fn number_noted(item: &Message) -> u64
     }
 }
 
-// The items that take back the blocks that were told before the begin.
+// The items that revoke the blocks that were told before the begin.
 fn told_before(
     alloc: Global,
     begin: u64,
@@ -257,7 +257,7 @@ fn told_before(
     let mut left = has;
     'had: while let Some((had, others)) = left.split_first() {
         if had.1 < begin {
-            let Ok(()) = gone.push(taken_back(finish, had.0)) else {
+            let Ok(()) = gone.push(revoked(finish, had.0)) else {
                 return Err(AllocError);
             };
         }
@@ -267,8 +267,8 @@ fn told_before(
 }
 
 // The item by which the end of a full report takes a block back.
-fn taken_back(finish: &Message, block: BlockId) -> Message
-    ensures { result ≡ taken_back finish.now block }
+fn revoked(finish: &Message, block: BlockId) -> Message
+    ensures { result ≡ revoked finish.now block }
 {
     Message {
         block,

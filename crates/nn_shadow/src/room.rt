@@ -1,6 +1,6 @@
 //! Room in the table that nobody needs any more is given back. None of these takes memory.
 ghost use Rattle.std.specs.Prelude.{◌≡◌, ◌≤◌, length, drop};
-ghost use Rattle.nn_tree.specs.Touched.{seen};
+ghost use Rattle.nn_tree.specs.Touched.{touched_of};
 ghost use Rattle.nn_shadow.specs.Room.{is_waited_for, given_back, all_given_back, item_blocks, processed_blocks, given_back_after};
 
 use nn_postponed::Postponed;
@@ -38,7 +38,7 @@ pub(crate) fn give_back_touched(
     before: usize,
 )
     requires { before ≤ length history.now }
-    ensures { table.new ≡ given_back_after held.now table.old (seen touched.now) (drop before history.now) }
+    ensures { table.new ≡ given_back_after held.now table.old (touched_of touched.now) (drop before history.now) }
 {
     give_back_blocks(table, held, touched.retired.as_slice());
     if touched.skipped.is_some() {

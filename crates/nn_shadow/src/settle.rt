@@ -7,11 +7,11 @@ ghost use Rattle.nn_types.specs.declared.event.Cause.TheVariants.{Due, Flush};
 ghost use Rattle.nn_model.specs.History.{processed};
 ghost use Rattle.nn_model.specs.Touched.{ascending, changed_ids};
 ghost use Rattle.nn_model.specs.Stands.{AreByBlock};
-ghost use Rattle.nn_postponed.specs.Release.{due_at, first_free, freed, kept};
+ghost use Rattle.nn_postponed.specs.Release.{due_at, first_free, freed, still_waiting};
 ghost use Rattle.nn_shadow.specs.Calls.{is_due_in};
 ghost use Rattle.nn_shadow.specs.Rounds.{TakesBlock, FillsBlock, LeavesOthers};
 ghost use Rattle.nn_shadow.specs.Touching.{IsQuiet, Rises};
-ghost use Rattle.nn_tree.specs.Touched.{seen};
+ghost use Rattle.nn_tree.specs.Touched.{touched_of};
 ghost use Rattle.nn_shadow.specs.Steps.{messages_taken, not_held, HavePlaces};
 
 use crate::table::process;
@@ -40,11 +40,11 @@ pub(crate) fn settle(
     requires room { vec_len history.old + length held.old ≤ vec_capacity history.old }
     requires placed { HavePlaces table.old held.old }
     requires order { AreByBlock held.old }
-    requires written { (held.old ≡ []) ⊎ (written.now ≡ ascending (changed_ids (seen touched.now))) }
-    requires rises { Rises (seen touched.now).retired }
-    requires quiet { IsQuiet (seen touched.now) (is_due_in namespace.now) held.old }
+    requires written { (held.old ≡ []) ⊎ (written.now ≡ ascending (changed_ids (touched_of touched.now))) }
+    requires rises { Rises (touched_of touched.now).retired }
+    requires quiet { IsQuiet (touched_of touched.now) (is_due_in namespace.now) held.old }
     ensures told { history.new.items ≡ history.old.items ++ map (processed Due) (freed (is_due_in namespace.now) [] held.old) }
-    ensures left { held.new ≡ kept (is_due_in namespace.now) [] held.old }
+    ensures left { held.new ≡ still_waiting (is_due_in namespace.now) [] held.old }
     ensures table { table.new ≡ messages_taken table.old (freed (is_due_in namespace.now) [] held.old) }
 {
     let Some(mut from) = BlockId::new(0) else {

@@ -22,7 +22,7 @@ pub(crate) fn blank_table(
     for row in namespace.blocks() {
         table.set_block(row.block, row.closed, 0)?;
     }
-    namespace.well_formed();
+    namespace.recall_invariant();
     set_files(&mut table, namespace)?;
     Ok(table)
 }
@@ -34,7 +34,7 @@ fn set_files(table: &mut Replicas, namespace: &Namespace) -> Result<(), AllocErr
     ensures { OnOk result (table.new ≡ files_set table.old namespace.now.rows) }
 {
     let mut rows = namespace.rows();
-    while let Some(found) = rows.next()? {
+    while let Some(found) = rows.next_row()? {
         if let Found::File(file) = found {
             set_file(table, file);
         }

@@ -8,7 +8,7 @@ ghost use Rattle.nn_model.specs.Status.{status_unheld};
 ghost use Rattle.nn_postponed.specs.Release.{must_wait};
 ghost use Rattle.nn_postponed.specs.Queues.{all_queued};
 ghost use Rattle.nn_shadow.specs.Calls.{is_due_in};
-ghost use Rattle.nn_shadow.specs.Items.{TakesItems, LeavesItems, free_of, stuck_of, counts_of};
+ghost use Rattle.nn_shadow.specs.Items.{TakesItems, LeavesItems, free_of, stuck_of, handed_counts};
 ghost use Rattle.nn_shadow.specs.Steps.{AreApart, messages_taken, all_placed, status_by_row};
 ghost use Rattle.nn_shadow.specs.Room.{taken_unless};
 ghost use Rattle.nn_replicas.specs.Agreement.{Shows};
@@ -41,7 +41,7 @@ pub(crate) fn take_items(
     ensures ok { OnOk result (TakesItems namespace.now (added had.old.having m.now) history.old.items held.old table.old history.new.items held.new table.new) }
     ensures had { OnOk result (had.new.having ≡ record had.old.having { has = with_items had.old.having.has (added had.old.having m.now) }) }
     ensures apart { OnOk result (AreApart (added had.old.having m.now)) }
-    ensures handed { IfOk result (λ handed. handed ≡ counts_of namespace.now held.old (added had.old.having m.now)) }
+    ensures handed { IfOk result (λ handed. handed ≡ handed_counts namespace.now held.old (added had.old.having m.now)) }
     ensures err { OnErr result (LeavesItems (added had.old.having m.now) history.old.items held.old table.old history.new.items held.new table.new) }
     ensures had_err { OnErr result (had.new.having ≡ had.old.having) }
 {
@@ -50,7 +50,7 @@ pub(crate) fn take_items(
             processed: 0,
             held: 0,
         }),
-        Kind::Finish => take_back(namespace, history, held, table, had, m),
+        Kind::Finish => revoke(namespace, history, held, table, had, m),
         Kind::Listed => {
             let item = Message {
                 kind: Kind::Received,
@@ -78,7 +78,7 @@ fn take_item(
     requires number { 1 ≤ item.now.number }
     ensures ok { OnOk result (TakesItems namespace.now (item.now ∷ []) history.old.items held.old table.old history.new.items held.new table.new) }
     ensures had { OnOk result (had.new.having ≡ record had.old.having { has = with_items had.old.having.has (item.now ∷ []) }) }
-    ensures handed { IfOk result (λ handed. handed ≡ counts_of namespace.now held.old (item.now ∷ [])) }
+    ensures handed { IfOk result (λ handed. handed ≡ handed_counts namespace.now held.old (item.now ∷ [])) }
     ensures err { OnErr result (LeavesItems (item.now ∷ []) history.old.items held.old table.old history.new.items held.new table.new) }
     ensures had_err { OnErr result (had.new.having ≡ had.old.having) }
 {
@@ -103,7 +103,7 @@ fn process_or_hold(
     requires shows { Shows namespace.now table.old }
     requires blocks { HasWellFormedBlocks namespace.now }
     ensures ok { OnOk result (TakesItems namespace.now (item.now ∷ []) history.old.items held.old table.old history.new.items held.new table.new) }
-    ensures handed { IfOk result (λ handed. handed ≡ counts_of namespace.now held.old (item.now ∷ [])) }
+    ensures handed { IfOk result (λ handed. handed ≡ handed_counts namespace.now held.old (item.now ∷ [])) }
     ensures err { OnErr result (LeavesItems (item.now ∷ []) history.old.items held.old table.old history.new.items held.new table.new) }
 {
     history.reserve(1)?;
@@ -190,7 +190,7 @@ fn status_by_row(
 }
 
 // The items of the end of a full report. Their room is given back behind them where nobody needs it.
-fn take_back(
+fn revoke(
     namespace: &Namespace,
     history: &mut Vec<Event>,
     held: &mut Postponed,
@@ -201,7 +201,7 @@ fn take_back(
     ensures ok { OnOk result (TakesItems namespace.now (finished had.old.having.begun had.old.having.has finish.now) history.old.items held.old table.old history.new.items held.new table.new) }
     ensures had { OnOk result (had.new.having ≡ record had.old.having { has = with_items had.old.having.has (finished had.old.having.begun had.old.having.has finish.now) }) }
     ensures apart { OnOk result (AreApart (finished had.old.having.begun had.old.having.has finish.now)) }
-    ensures handed { IfOk result (λ handed. handed ≡ counts_of namespace.now held.old (finished had.old.having.begun had.old.having.has finish.now)) }
+    ensures handed { IfOk result (λ handed. handed ≡ handed_counts namespace.now held.old (finished had.old.having.begun had.old.having.has finish.now)) }
     ensures err { OnErr result (LeavesItems (finished had.old.having.begun had.old.having.has finish.now) history.old.items held.old table.old history.new.items held.new table.new) }
     ensures had_err { OnErr result (had.new.having ≡ had.old.having) }
 {
@@ -232,7 +232,7 @@ fn process_or_hold_all(
     ensures told { OnOk result (history.new.items ≡ history.old.items ++ map (processed Due) (free_of namespace.now held.old items.now)) }
     ensures held { OnOk result (held.new ≡ all_queued held.old (stuck_of namespace.now held.old items.now)) }
     ensures table { OnOk result (table.new ≡ messages_taken (all_placed table.old items.now) (free_of namespace.now held.old items.now)) }
-    ensures handed { IfOk result (λ handed. handed ≡ counts_of namespace.now held.old items.now) }
+    ensures handed { IfOk result (λ handed. handed ≡ handed_counts namespace.now held.old items.now) }
     ensures stays { OnErr result ((history.new.items ≡ history.old.items) × (held.new ≡ held.old)) }
     ensures placed { OnErr result ((count : ℕ) × (table.new ≡ all_placed table.old (take count items.now))) }
 {

@@ -2,7 +2,7 @@
 ghost use Rattle.std.specs.Prelude.{◌≡◌, ◌++◌, [], None, OnOk, IfOk, ◌⊎◌};
 ghost use Rattle.nn_model.specs.Namespace.{file_at};
 ghost use Rattle.nn_model.specs.Touched.{ids_of, ascending, changed_ids};
-ghost use Rattle.nn_tree.specs.Touched.{seen};
+ghost use Rattle.nn_tree.specs.Touched.{touched_of};
 ghost use Rattle.nn_shadow.specs.Touching.{written, Rises, IsNextTouched, IsNextSkipped, lower, lowest, earlier, later};
 
 use nn_postponed::Postponed;
@@ -87,9 +87,9 @@ pub(crate) fn next_touched(
     held: &Postponed,
     from: BlockId,
 ) -> Option<BlockId>
-    requires written { written.now ≡ ascending (changed_ids (seen touched.now)) }
-    requires rises { Rises (seen touched.now).retired }
-    ensures { IsNextTouched (seen touched.now) from held.now result }
+    requires written { written.now ≡ ascending (changed_ids (touched_of touched.now)) }
+    requires rises { Rises (touched_of touched.now).retired }
+    ensures { IsNextTouched (touched_of touched.now) from held.now result }
 {
     let changed = least_from(written, from);
     let retired = least_from(touched.retired.as_slice(), from);

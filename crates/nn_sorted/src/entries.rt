@@ -7,7 +7,7 @@ ghost use Rattle.nn_sorted.specs.Chunks.{flat, after, HasEntries};
 use std::marker::Model;
 
 /// The entries of a map that are left, by ascending key.
-#[derive(Drop)]
+#[derive(Debug, Drop)]
 pub struct Entries<'a, K, V> {
     // What is left of the chunk at hand.
     entries: &'a [(K, V)],

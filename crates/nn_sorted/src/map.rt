@@ -18,7 +18,7 @@ use std::mem;
 const LIMIT: usize = 9223372036854775807;
 
 /// A map whose keys are kept in order, seen as the list of its entries, by ascending key.
-#[derive(Drop)]
+#[derive(Debug, Drop)]
 pub struct SortedMap<K: Ord, V> {
     // No chunk is empty.
     chunks: Vec<Vec<(K, V)>>,
@@ -47,8 +47,8 @@ impl<K: Ord, V> SortedMap<K, V> {
         self.len == 0
     }
 
-    /// The keys of every map are in order. This does nothing: it is there for the proofs of callers.
-    pub fn in_order(&self)
+    /// Recalls to the prover that the keys of a map are in order. It does nothing when it runs.
+    pub fn recall_invariant(&self)
         ensures { IsStrictlySortedBy K.cmp (keys_of self.now) }
     {
         let _ = &self.chunks;

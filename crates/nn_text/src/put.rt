@@ -5,7 +5,7 @@ ghost use Rattle.std.specs.Map.Iter.{deref};
 ghost use Rattle.json.specs.Print.{escape, escape_byte, escape_letter};
 ghost use Rattle.serde_json.specs.Data.{string};
 ghost use Rattle.serde_json.specs.Written.{compact_text};
-ghost use Rattle.nn_device.specs.Page.{Puts};
+ghost use Rattle.nn_device.specs.Page.{PutsPiece};
 ghost use Rattle.nn_types.specs.Path.{path_text};
 ghost use Rattle.nn_tree.specs.Listing.{lent_names};
 ghost use Rattle.nn_text.specs.Plain.{escaped_name};
@@ -17,7 +17,7 @@ use std::io::Write;
 
 /// Puts a number in decimal, as `{}` prints it. Beside `write!` it saves the formatter.
 pub fn put_number<W: Write>(page: &mut Page, writer: &mut Writer<W>, number: u64)
-    ensures { Puts (decimal number) page.old writer.old page.new writer.new }
+    ensures { PutsPiece (decimal number) page.old writer.old page.new writer.new }
 {
     let mut buffer = Buffer::new();
     page.put(writer, buffer.format(number).as_bytes());
@@ -25,7 +25,7 @@ pub fn put_number<W: Write>(page: &mut Page, writer: &mut Writer<W>, number: u64
 
 /// Puts the path of these names between quotes, escaped as JSON has it. No name at all is the root.
 pub fn put_path<W: Write>(page: &mut Page, writer: &mut Writer<W>, names: &[&str])
-    ensures { Puts (compact_text (string (path_text (lent_names names.now)))) page.old writer.old page.new writer.new }
+    ensures { PutsPiece (compact_text (string (path_text (lent_names names.now)))) page.old writer.old page.new writer.new }
 {
     page.put_byte(writer, b'"');
     put_text(page, writer, names);
@@ -33,7 +33,7 @@ pub fn put_path<W: Write>(page: &mut Page, writer: &mut Writer<W>, names: &[&str
 }
 
 fn put_text<W: Write>(page: &mut Page, writer: &mut Writer<W>, names: &[&str])
-    ensures { Puts (escape (path_text (lent_names names.now))) page.old writer.old page.new writer.new }
+    ensures { PutsPiece (escape (path_text (lent_names names.now))) page.old writer.old page.new writer.new }
 {
     if names.is_empty() {
         page.put_byte(writer, b'/');
@@ -44,7 +44,7 @@ fn put_text<W: Write>(page: &mut Page, writer: &mut Writer<W>, names: &[&str])
 
 // A slash before each name.
 fn put_names<W: Write>(page: &mut Page, writer: &mut Writer<W>, names: &[&str])
-    ensures { Puts (flat_map (λ n. escaped_name (deref n)) names.now) page.old writer.old page.new writer.new }
+    ensures { PutsPiece (flat_map (λ n. escaped_name (deref n)) names.now) page.old writer.old page.new writer.new }
 {
     for name in names {
         page.put_byte(writer, b'/');
@@ -54,7 +54,7 @@ fn put_names<W: Write>(page: &mut Page, writer: &mut Writer<W>, names: &[&str])
 
 // A name is mostly plain, and then put whole.
 fn put_name<W: Write>(page: &mut Page, writer: &mut Writer<W>, name: &str)
-    ensures { Puts (escape name.now) page.old writer.old page.new writer.new }
+    ensures { PutsPiece (escape name.now) page.old writer.old page.new writer.new }
 {
     if is_plain(name) {
         page.put(writer, name.as_bytes());
@@ -67,7 +67,7 @@ fn put_name<W: Write>(page: &mut Page, writer: &mut Writer<W>, name: &str)
 
 // What stands in a string of JSON for a byte.
 fn put_byte<W: Write>(page: &mut Page, writer: &mut Writer<W>, b: u8)
-    ensures { Puts (escape_byte b) page.old writer.old page.new writer.new }
+    ensures { PutsPiece (escape_byte b) page.old writer.old page.new writer.new }
 {
     let letter = escape_letter(b);
     if letter > 0 {

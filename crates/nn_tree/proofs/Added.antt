@@ -12,14 +12,14 @@ use Rattle.nn_model.specs.declared.form.Form.TheVariants.{File}
 use Rattle.nn_model.specs.declared.form.FileRow.{FileRow}
 use Rattle.nn_model.specs.Namespace.{Namespace, lookup, with_row, all_blocks, file_at, file_or_none}
 use Rattle.nn_model.specs.Apply.{refusal, effect, checks, has_id}
-use Rattle.nn_model.specs.WellFormed.{Has}
+use Rattle.nn_model.specs.WellFormed.{Includes}
 use Rattle.nn_model.proofs.Dues.{all_none, when_none, has_left, has_right, has_either, file_has}
 use Rattle.nn_model.proofs.Wells.{blocks_of_found}
 use Rattle.nn_model.specs.declared.form.Form.{Form}
 use Rattle.nn_model.specs.Namespace.{Path, Issued}
 use Rattle.nn_tree.specs.At.{IsSubtree, IsGrafted}
 use Rattle.nn_model.specs.declared.form.BlockRow.{BlockRow}
-use Rattle.nn_tree.specs.View.{seen, Stands, IsKept}
+use Rattle.nn_tree.specs.View.{seen, IsInSomeFile, IsKept}
 use Rattle.nn_tree.proofs.Deleted.{tie}
 use Rattle.nn_tree.proofs.Indexed.{old_blocks, apart}
 use Rattle.nn_tree.proofs.Kept.{put_index, file_seen, file_was}
@@ -31,8 +31,8 @@ waits n p i stamp lawful = let a = all_none (checks n (edit.AddBlock p i stamp))
 pub open_file : (n : Namespace) (p : Path) (i stamp : ℕ) → refusal n (edit.AddBlock p i stamp) ≡ None → (file_at n p).closed ≡ false
 open_file n p i stamp lawful = let a = all_none (checks n (edit.AddBlock p i stamp)) lawful in when_none _ _ a.1.1.1.1.0
 
-pub stands_in : (n : Namespace) (b : BlockRow) → Stands (lookup n) b → Has (all_blocks n) b.block
-stands_in n b s = file_has s.0 n.rows b.block (subst (λ o. Has (old_blocks o) b.block) (sym s.2) (subst (λ bs. Has bs b.block) (sym (blocks_of_found s.1)) s.3.1))
+pub stands_in : (n : Namespace) (b : BlockRow) → IsInSomeFile (lookup n) b → Includes (all_blocks n) b.block
+stands_in n b s = file_has s.0 n.rows b.block (subst (λ o. Includes (old_blocks o) b.block) (sym s.2) (subst (λ bs. Includes bs b.block) (sym (blocks_of_found s.1)) s.3.1))
 
 pub not_yet : (n : Namespace) (i : ℕ) (look : ℕ → Option BlockRow) → has_id n.issued.awaiting i ≡ true → IsKept n look → look i ≡ None
 not_yet n i look waiting k =
@@ -52,7 +52,7 @@ add_block_kept n p i stamp x look next l lawful was goes k =
     let y : FileRow = record { replication = f.replication; closed = false; blocks = f.blocks ++ b ∷ [] } in
     let none = not_yet n i look (waits n p i stamp lawful) k in
     let is_open : x.closed ≡ false = sym (ap (λ o. (file_or_none o).closed) was) ∙ open_file n p i stamp lawful in
-    let new : (c : BlockRow) → Stands (lookup n) c → c.block.id ≡ i → ⊥ = λ c s e. (let here = k.index.complete c s in let there : look c.block.id ≡ None = ap look e ∙ none in (cc (here, there))) in
+    let new : (c : BlockRow) → IsInSomeFile (lookup n) c → c.block.id ≡ i → ⊥ = λ c s e. (let here = k.index.complete c s in let there : look c.block.id ≡ None = ap look e ∙ none in (cc (here, there))) in
     record {
       well = stays_well_formed n (edit.AddBlock p i stamp) l.0 lawful k.well;
       utf8 = names_stay_utf8 n (edit.AddBlock p i stamp) l.1 lawful k.well k.utf8;
@@ -66,7 +66,7 @@ add_block_kept n p i stamp x look next l lawful was goes k =
         ];
         written = λ c h. elim (has_either f.blocks (b ∷ []) c.block h.1) [
           | inl old ↦
-              (let stands : Stands (lookup n) c = (p, File x, was, (h.0 ∙ sym is_open, subst (λ o. Has (old_blocks o) c.block) was old)) in
+              (let stands : IsInSomeFile (lookup n) c = (p, File x, was, (h.0 ∙ sym is_open, subst (λ o. Includes (old_blocks o) c.block) was old)) in
               goes c.block.id ∙ ap (λ t. cond t (Some row) (look c.block.id)) (ne_eqb i c.block.id (λ e. new c stands (sym e))) ∙ k.index.complete c stands)
           | inr last ↦ elim last [
             | inl e ↦

@@ -7,7 +7,7 @@ use Rattle.nn_model.specs.declared.form.Form.{Form}
 use Rattle.nn_model.specs.declared.form.Form.TheVariants.{File}
 use Rattle.nn_model.specs.declared.form.FileRow.{FileRow}
 use Rattle.nn_model.specs.Namespace.{Path, Namespace, lookup, file_or_none, no_stamp}
-use Rattle.nn_model.specs.Apply.{refusal, first, when, walk, is_root, missing, not_file, not_open, not_closed, checks, list_checks, in_path_order, has_id, keeps_ids, keeps_stamps}
+use Rattle.nn_model.specs.Apply.{refusal, first_fault, fault_if, walk, is_root, missing, not_file, not_open, not_closed, checks, list_checks, in_path_order, has_id, keeps_ids, keeps_stamps}
 use Rattle.nn_model.proofs.Dues.{all_none}
 use Rattle.nn_tree.specs.At.{at, IsSubtree}
 use Rattle.nn_tree.specs.Walks.{mkdir_fault, delete_fault}
@@ -38,19 +38,19 @@ has_file es n p ns x h e root walked stands = record {
 
 pub add_block_applies : (n : Namespace) (p : Path) (x : FileRow) (i stamp : ℕ) → HasFile n p x → x.closed ≡ false → not (has_id n.issued.awaiting i) ≡ false → (nat_le stamp no_stamp || nat_lt n.issued.last_stamp stamp) ≡ false → refusal n (edit.AddBlock p i stamp) ≡ None
 add_block_applies n p x i stamp h is_open waits issued =
-    (λ j. first (h.root j ∷ h.walked j ∷ missing (h.stands j) ∷ not_file (h.stands j) ∷ not_open (h.stands j) ∷ when (waits j) BadBlockId ∷ when (issued j) BadGeneration ∷ []))
-    ∙ ap (λ b. first (when b NotOpen ∷ None ∷ None ∷ [])) is_open
+    (λ j. first_fault (h.root j ∷ h.walked j ∷ missing (h.stands j) ∷ not_file (h.stands j) ∷ not_open (h.stands j) ∷ fault_if (waits j) BadBlockId ∷ fault_if (issued j) BadGeneration ∷ []))
+    ∙ ap (λ b. first_fault (fault_if b NotOpen ∷ None ∷ None ∷ [])) is_open
 
-pub list_applies : (n : Namespace) (p : Path) (x : FileRow) (bs : List Block) → HasFile n p x → x.closed ≡ false → not (keeps_ids x.blocks bs) ≡ false → not (keeps_stamps n.issued.last_stamp x.blocks bs) ≡ false → first (list_checks n p bs) ≡ None
+pub list_applies : (n : Namespace) (p : Path) (x : FileRow) (bs : List Block) → HasFile n p x → x.closed ≡ false → not (keeps_ids x.blocks bs) ≡ false → not (keeps_stamps n.issued.last_stamp x.blocks bs) ≡ false → first_fault (list_checks n p bs) ≡ None
 list_applies n p x bs h is_open ids stamps =
-    (λ j. first (h.root j ∷ h.walked j ∷ missing (h.stands j) ∷ not_file (h.stands j) ∷ not_open (h.stands j)
-    ∷ when (not (keeps_ids (file_or_none (h.stands j)).blocks bs)) WrongBlocks ∷ when (not (keeps_stamps n.issued.last_stamp (file_or_none (h.stands j)).blocks bs)) BadGeneration ∷ []))
-    ∙ (λ j. first (when (is_open j) NotOpen ∷ when (ids j) WrongBlocks ∷ when (stamps j) BadGeneration ∷ []))
+    (λ j. first_fault (h.root j ∷ h.walked j ∷ missing (h.stands j) ∷ not_file (h.stands j) ∷ not_open (h.stands j)
+    ∷ fault_if (not (keeps_ids (file_or_none (h.stands j)).blocks bs)) WrongBlocks ∷ fault_if (not (keeps_stamps n.issued.last_stamp (file_or_none (h.stands j)).blocks bs)) BadGeneration ∷ []))
+    ∙ (λ j. first_fault (fault_if (is_open j) NotOpen ∷ fault_if (ids j) WrongBlocks ∷ fault_if (stamps j) BadGeneration ∷ []))
 
 pub append_applies : (n : Namespace) (p : Path) (x : FileRow) → HasFile n p x → x.closed ≡ true → refusal n (edit.Append p) ≡ None
 append_applies n p x h closed =
-    (λ j. first (h.root j ∷ h.walked j ∷ missing (h.stands j) ∷ not_file (h.stands j) ∷ not_closed (h.stands j) ∷ []))
-    ∙ ap (λ b. first (when (not b) NotClosed ∷ [])) closed
+    (λ j. first_fault (h.root j ∷ h.walked j ∷ missing (h.stands j) ∷ not_file (h.stands j) ∷ not_closed (h.stands j) ∷ []))
+    ∙ ap (λ b. first_fault (fault_if (not b) NotClosed ∷ [])) closed
 
 pub set_replication_applies : (n : Namespace) (p : Path) (x : FileRow) (r : ℕ) → HasFile n p x → (nat_lt r 1 || nat_lt 512 r) ≡ false → refusal n (edit.SetReplication p r) ≡ None
-set_replication_applies n p x r h range = λ j. first (h.root j ∷ when (range j) BadReplication ∷ h.walked j ∷ missing (h.stands j) ∷ not_file (h.stands j) ∷ [])
+set_replication_applies n p x r h range = λ j. first_fault (h.root j ∷ fault_if (range j) BadReplication ∷ h.walked j ∷ missing (h.stands j) ∷ not_file (h.stands j) ∷ [])

@@ -12,31 +12,31 @@ use Rattle.nn_model.specs.declared.form.BlockRow.{BlockRow}
 use Rattle.nn_model.specs.declared.form.Form.{Form}
 use Rattle.nn_model.specs.declared.form.Form.TheVariants.{Dir, File}
 use Rattle.nn_model.specs.Namespace.{Path, Namespace, lookup}
-use Rattle.nn_model.specs.Blocks.{block_row, block_rows, block_row_at, rows_of}
-use Rattle.nn_model.specs.WellFormed.{Has}
+use Rattle.nn_model.specs.Blocks.{block_row, block_rows, block_row_at, block_rows_of}
+use Rattle.nn_model.specs.WellFormed.{Includes}
 use Rattle.nn_model.proofs.InRows.{at_path}
 use Rattle.nn_model.proofs.Members.{rows_at, row_found, of_block, row_of_file, some_path}
-use Rattle.nn_tree.specs.Blocks.{AreBlocks}
-use Rattle.nn_tree.specs.View.{InRow, Stands, IsKept}
+use Rattle.nn_tree.specs.Blocks.{AreBlockRows}
+use Rattle.nn_tree.specs.View.{InRow, IsInSomeFile, IsKept}
 use Rattle.nn_tree.proofs.Waiting.{tied}
 
 -- ---- the index tells each block row
 
 -- what stands in a file is a block row
-in_rows : (form : Form) (b : BlockRow) → InRow b form → Has (rows_of form) b
+in_rows : (form : Form) (b : BlockRow) → InRow b form → Includes (block_rows_of form) b
 in_rows Dir b h = h.1
-in_rows (File file) b h = subst (λ c. Has (rows_of (File file)) (block_row c b.block)) (sym h.0) (of_block file.closed file.blocks b.block h.1)
+in_rows (File file) b h = subst (λ c. Includes (block_rows_of (File file)) (block_row c b.block)) (sym h.0) (of_block file.closed file.blocks b.block h.1)
 
-stands_in_rows : (n : Namespace) (b : BlockRow) → Stands (lookup n) b → Has (block_rows n) b
-stands_in_rows n b s = at_path rows_of s.0 n.rows b (subst (λ (o : Option Form). Has (rows_at o) b) (sym s.2) (in_rows s.1 b s.3))
+stands_in_rows : (n : Namespace) (b : BlockRow) → IsInSomeFile (lookup n) b → Includes (block_rows n) b
+stands_in_rows n b s = at_path block_rows_of s.0 n.rows b (subst (λ (o : Option Form). Includes (rows_at o) b) (sym s.2) (in_rows s.1 b s.3))
 
 -- and a block row stands in a file
-row_stands : (n : Namespace) (p : Path) (o : Option Form) (r : BlockRow) → lookup n p ≡ o → Has (rows_at o) r → Stands (lookup n) r
+row_stands : (n : Namespace) (p : Path) (o : Option Form) (r : BlockRow) → lookup n p ≡ o → Includes (rows_at o) r → IsInSomeFile (lookup n) r
 row_stands n p None r e h = absurd h
 row_stands n p (Some Dir) r e h = absurd h
 row_stands n p (Some (File file)) r e h = let f = row_of_file file.closed file.blocks r h in (p, File file, e, (f.1, f.0))
 
-none_known : (rs : List BlockRow) (id : ℕ) (r : BlockRow) → find (λ x. x.block.id == id) rs ≡ None → Has rs r → r.block.id ≡ id → ⊥
+none_known : (rs : List BlockRow) (id : ℕ) (r : BlockRow) → find (λ x. x.block.id == id) rs ≡ None → Includes rs r → r.block.id ≡ id → ⊥
 none_known [] id r none here is = here
 none_known (x ∷ rs) id r none here is =
     elim (cases_Bool (x.block.id == id)) [
@@ -92,7 +92,7 @@ find_values (e ∷ es) id own =
     (λ j. cond (head j == id) (Some e.1) (find_values es id rest j))
     ∙ ap (λ t. cond t (Some e.1) (lookup_at (is_at (nat_cmp id)) es)) (sym (tied id e.0))
 
-pub are_blocks : (n : Namespace) (es : List (ℕ × BlockRow)) → IsStrictlySortedBy nat_cmp (keys_of es) → IsKept n (λ id. lookup_at (is_at (nat_cmp id)) es) → AreBlocks n (values_of es)
+pub are_blocks : (n : Namespace) (es : List (ℕ × BlockRow)) → IsStrictlySortedBy nat_cmp (keys_of es) → IsKept n (λ id. lookup_at (is_at (nat_cmp id)) es) → AreBlockRows n (values_of es)
 are_blocks n es sorted k =
     let own = own_ids es sorted (λ id b h. (k.index.sound id b h).0) in
     record {

@@ -5,7 +5,7 @@ use Rattle.nn_model.specs.declared.form.Form.TheVariants.{Dir}
 use Rattle.nn_model.specs.Namespace.{Path, begins_with}
 use Rattle.nn_tree.specs.At.{at, rows, grafted, IsSame}
 use Rattle.nn_tree.specs.Changes.{IsMade}
-use Rattle.nn_model.specs.Apply.{first, when, in_directory, is_root, walk, exists, missing}
+use Rattle.nn_model.specs.Apply.{first_fault, fault_if, in_directory, is_root, walk, exists, missing}
 use Rattle.nn_tree.specs.Walks.{mkdir_fault, delete_fault, rename_fault}
 use Rattle.nn_model.proofs.Dues.{all_none}
 use Rattle.nn_model.proofs.Prefixes.{name_same, begins_split, begins_append}
@@ -24,7 +24,7 @@ none_at None h = refl
 none_at (Some t) h = absurd (both_ways _ refl h)
 
 pub made_fault : (f : Path → Option Form) (p : Path) → is_root p ≡ None → walk f p ≡ None → f p ≡ None → mkdir_fault f p ≡ None
-made_fault f p r w a = λ j. first (r j ∷ w j ∷ exists (a j) ∷ [])
+made_fault f p r w a = λ j. first_fault (r j ∷ w j ∷ exists (a j) ∷ [])
 
 -- in the directory es itself, under a name that no child has
 pub made_here : (es : List (Path × Form)) (m k : Children) (n : List ℕ) (ps : Path) (t : Tree) → ps ≡ n ∷ [] → IsDir es m → child m n ≡ None → Becomes m k n (Some t) → IsMade es ps t (dir_rows k)
@@ -49,7 +49,7 @@ rename_lawful : (f : Path → Option Form) (s d : Path) → delete_fault f s ≡
 rename_lawful f s d gone outside made =
     let source = all_none (is_root s ∷ walk f s ∷ missing (f s) ∷ []) gone in
     let target = all_none (is_root d ∷ walk f d ∷ exists (f d) ∷ []) made in
-    λ j. first (source.0 j ∷ target.0 j ∷ source.1.0 j ∷ source.1.1.0 j ∷ when (outside j && nat_lt (length s) (length d)) IntoItself ∷ target.1.0 j ∷ target.1.1.0 j ∷ [])
+    λ j. first_fault (source.0 j ∷ target.0 j ∷ source.1.0 j ∷ source.1.1.0 j ∷ fault_if (outside j && nat_lt (length s) (length d)) IntoItself ∷ target.1.0 j ∷ target.1.1.0 j ∷ [])
 
 -- the walk to s is the same after something was made at d, which is no part of s
 walk_same : (f g h : Path → Option Form) (d s : Path) → begins_with d s ≡ false → ((q : Path) → g q ≡ grafted f d h q) → walk g s ≡ walk f s

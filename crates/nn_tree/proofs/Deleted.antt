@@ -14,13 +14,13 @@ use Rattle.nn_model.proofs.Utf8Names.{names_stay_utf8}
 use Rattle.nn_model.proofs.Trees.{stays_well_formed}
 use Rattle.nn_model.specs.Namespace.{Namespace, path_cmp, lookup, blocks_of, begins_with}
 use Rattle.nn_model.specs.Apply.{refusal, effect, has_id}
-use Rattle.nn_model.specs.WellFormed.{Has, HasWellFormedBlocks, IsWellFormed, HasUtf8Names}
+use Rattle.nn_model.specs.WellFormed.{Includes, HasWellFormedBlocks, IsWellFormed, HasUtf8Names}
 use Rattle.nn_model.proofs.Wells.{blocks_of_found, not_below}
 use Rattle.nn_model.proofs.Lookups.{find_in_order}
 use Rattle.nn_model.specs.declared.form.Form.{Form}
 use Rattle.nn_model.specs.Namespace.{Path, Issued}
 use Rattle.nn_tree.specs.At.{at, IsSubtree, IsGrafted}
-use Rattle.nn_tree.specs.Ids.{ids_of, row_ids}
+use Rattle.nn_tree.specs.Ids.{ids_of_rows, row_ids}
 use Rattle.nn_model.specs.declared.form.BlockRow.{BlockRow}
 use Rattle.nn_tree.specs.View.{seen, IsIndex, IsKept}
 use Rattle.nn_model.proofs.Prefixes.{equal, same, same_true, same_self, begins_append, begins_split}
@@ -38,12 +38,12 @@ pub any_append : (p : ℕ → Bool) (xs ys : List ℕ) → list_any p (xs ++ ys)
 any_append p [] ys = refl
 any_append p (x ∷ xs) ys = elim (p x) as (λ b. (b || list_any p (xs ++ ys)) ≡ ((b || list_any p xs) || list_any p ys)) [ true ↦ refl | false ↦ any_append p xs ys ]
 
-id_here : (bs : List Block) (x : Block) → Has bs x → has_id (map (λ b. b.id) bs) x.id ≡ true
+id_here : (bs : List Block) (x : Block) → Includes bs x → has_id (map (λ b. b.id) bs) x.id ≡ true
 id_here [] x h = absurd h
 id_here (b ∷ bs) x (inl e) = or_left (b.id == x.id) (has_id (map (λ c. c.id) bs) x.id) (eq-eqb b.id x.id (ap (λ c. c.id) e))
 id_here (b ∷ bs) x (inr h) = or_right (b.id == x.id) (has_id (map (λ c. c.id) bs) x.id) (id_here bs x h)
 
-here_id : (bs : List Block) (id : ℕ) → has_id (map (λ b. b.id) bs) id ≡ true → (x : Block) × Has bs x × (x.id ≡ id)
+here_id : (bs : List Block) (id : ℕ) → has_id (map (λ b. b.id) bs) id ≡ true → (x : Block) × Includes bs x × (x.id ≡ id)
 here_id [] id h = absurd (both_ways _ refl h)
 here_id (b ∷ bs) id h =
     elim (cases_Bool (b.id == id)) [
@@ -52,26 +52,26 @@ here_id (b ∷ bs) id h =
     ]
 
 -- the ids of the blocks in a list of rows
-pub of_ids : (es : List (Path × Form)) (q : Path) (r : Form) (x : Block) → at es q ≡ Some r → Has (blocks_of r) x → has_id (ids_of es) x.id ≡ true
+pub of_ids : (es : List (Path × Form)) (q : Path) (r : Form) (x : Block) → at es q ≡ Some r → Includes (blocks_of r) x → has_id (ids_of_rows es) x.id ≡ true
 of_ids [] q r x e h = absurd (cc)
 of_ids (c ∷ es) q r x e h =
-    any_append (λ i. i == x.id) (row_ids c.1) (ids_of es)
+    any_append (λ i. i == x.id) (row_ids c.1) (ids_of_rows es)
     ∙ elim (cases_Bool (same q c.0)) [
       | inl at_c ↦
           (let v : Some c.1 ≡ Some r = sym (ap (λ b. cond b (Some c.1) (at es q)) at_c) ∙ e in
           let w : c.1 ≡ r = cc in
-          or_left (has_id (row_ids c.1) x.id) (has_id (ids_of es) x.id) (id_here (blocks_of c.1) x (subst (λ s. Has (blocks_of s) x) (sym w) h)))
-      | inr later ↦ or_right (has_id (row_ids c.1) x.id) (has_id (ids_of es) x.id) (of_ids es q r x (sym (ap (λ b. cond b (Some c.1) (at es q)) later) ∙ e) h)
+          or_left (has_id (row_ids c.1) x.id) (has_id (ids_of_rows es) x.id) (id_here (blocks_of c.1) x (subst (λ s. Includes (blocks_of s) x) (sym w) h)))
+      | inr later ↦ or_right (has_id (row_ids c.1) x.id) (has_id (ids_of_rows es) x.id) (of_ids es q r x (sym (ap (λ b. cond b (Some c.1) (at es q)) later) ∙ e) h)
     ]
 
-pub in_ids : (es : List (Path × Form)) (id : ℕ) → is_sorted path_cmp es ≡ true → has_id (ids_of es) id ≡ true → (q : Path) × (r : Form) × (x : Block) × (at es q ≡ Some r) × Has (blocks_of r) x × (x.id ≡ id)
+pub in_ids : (es : List (Path × Form)) (id : ℕ) → is_sorted path_cmp es ≡ true → has_id (ids_of_rows es) id ≡ true → (q : Path) × (r : Form) × (x : Block) × (at es q ≡ Some r) × Includes (blocks_of r) x × (x.id ≡ id)
 in_ids [] id s h = absurd (both_ways _ refl h)
 in_ids (c ∷ es) id s h =
     let parts = and_parts (below_all path_cmp c.0 es) (is_sorted path_cmp es) s in
     elim (cases_Bool (has_id (row_ids c.1) id)) [
       | inl first ↦ (let x = here_id (blocks_of c.1) id first in (c.0, c.1, x.0, ap (λ b. cond b (Some c.1) (at es c.0)) (same_self c.0), x.1, x.2))
       | inr other ↦
-          (let w = in_ids es id parts.1 (sym (ap (λ b. b || has_id (ids_of es) id) other) ∙ sym (any_append (λ i. i == id) (row_ids c.1) (ids_of es)) ∙ h) in
+          (let w = in_ids es id parts.1 (sym (ap (λ b. b || has_id (ids_of_rows es) id) other) ∙ sym (any_append (λ i. i == id) (row_ids c.1) (ids_of_rows es)) ∙ h) in
           let off : same w.0 c.0 ≡ false = false_from_ne_true (same w.0 c.0) (λ e. let n : at es w.0 ≡ None = ap (at es) (same_true w.0 c.0 e) ∙ not_below c.0 es parts.0 in (cc (n, w.3))) in
           (w.0, w.1, w.2, ap (λ b. cond b (Some c.1) (at es w.0)) off ∙ w.3, w.4, w.5))
     ]
@@ -81,10 +81,10 @@ kept_row true o r h = cc
 kept_row false o r h = (refl, h)
 
 pub index_deleted : (n : Namespace) (g : Path → Option Form) (p : Path) (t : List (Path × Form)) (look next : ℕ → Option BlockRow) → HasWellFormedBlocks n → ((q : Path) → g q ≡ cond (not (begins_with p q)) (lookup n q) None) → ((q : Path) → lookup n (p ++ q) ≡ at t q) →
-    is_sorted path_cmp t ≡ true → ((id : ℕ) → next id ≡ cond (has_id (ids_of t) id) None (look id)) → IsIndex (lookup n) look → IsIndex g next
+    is_sorted path_cmp t ≡ true → ((id : ℕ) → next id ≡ cond (has_id (ids_of_rows t) id) None (look id)) → IsIndex (lookup n) look → IsIndex g next
 index_deleted n g p t look next w e sub sorted goes x = record {
   sound = λ id b h.
-      elim (cases_Bool (has_id (ids_of t) id)) [
+      elim (cases_Bool (has_id (ids_of_rows t) id)) [
         | inl out ↦ absurd (let none : next id ≡ None = goes id ∙ ap (λ k. cond k None (look id)) out in (cc (none, h)))
         | inr stays ↦
             (let s = x.sound id b (sym (goes id ∙ ap (λ k. cond k None (look id)) stays) ∙ h) in
@@ -93,7 +93,7 @@ index_deleted n g p t look next w e sub sorted goes x = record {
               (
                 q,
                 s.1.1,
-                e q ∙ ap (λ k. cond (not k) (lookup n q) None) (false_from_ne_true (begins_with p q) (λ below. both_ways _ stays (subst (λ i. has_id (ids_of t) i ≡ true) s.0
+                e q ∙ ap (λ k. cond (not k) (lookup n q) None) (false_from_ne_true (begins_with p q) (λ below. both_ways _ stays (subst (λ i. has_id (ids_of_rows t) i ≡ true) s.0
                     (of_ids t (drop (length p) q) s.1.1 b.block (sym (sub (drop (length p) q)) ∙ ap (lookup n) (sym (begins_split p q below)) ∙ s.1.2) s.1.3.1)))) ∙ s.1.2,
                 s.1.3,
               ),
@@ -102,10 +102,10 @@ index_deleted n g p t look next w e sub sorted goes x = record {
   complete = λ b s.
       let k = kept_row (begins_with p s.0) (lookup n s.0) s.1 (sym (e s.0) ∙ s.2) in
       goes b.block.id
-      ∙ ap (λ o. cond o None (look b.block.id)) (false_from_ne_true (has_id (ids_of t) b.block.id) (λ out.
+      ∙ ap (λ o. cond o None (look b.block.id)) (false_from_ne_true (has_id (ids_of_rows t) b.block.id) (λ out.
       let v = in_ids t b.block.id sorted out in
       let at_p : lookup n (p ++ v.0) ≡ Some v.1 = sub v.0 ∙ v.3 in
-      let one = apart n (p ++ v.0) s.0 v.2 s.1 b.block w (subst (λ o. Has (old_blocks o) v.2) (sym at_p) (subst (λ bs. Has bs v.2) (sym (blocks_of_found v.1)) v.4)) k.1 s.3.1 (sym v.5) in
+      let one = apart n (p ++ v.0) s.0 v.2 s.1 b.block w (subst (λ o. Includes (old_blocks o) v.2) (sym at_p) (subst (λ bs. Includes bs v.2) (sym (blocks_of_found v.1)) v.4)) k.1 s.3.1 (sym v.5) in
       both_ways _ k.0 (ap (begins_with p) (same_true s.0 (p ++ v.0) one) ∙ begins_append p v.0)))
       ∙ x.complete b (s.0, s.1, k.1, s.3);
 }
@@ -113,7 +113,7 @@ index_deleted n g p t look next w e sub sorted goes x = record {
 pub deleted_seen : (es new : List (Path × Form)) (issued : Issued) (p ns : Path) → ns ≡ p → IsGrafted es ns None new → seen new issued ≡ effect (seen es issued) (edit.Delete p)
 deleted_seen es new issued p ns e h = ap (λ x. record { rows = x; issued = issued }) (gone_there es new p (λ q. subst (λ (s : Path). at new q ≡ Rattle.nn_tree.specs.At.grafted (at es) s (Rattle.nn_tree.specs.At.rows None) q) e (h q)))
 
-pub delete_kept : (es new t : List (Path × Form)) (issued : Issued) (ids : List ℕ) (look next : ℕ → Option BlockRow) (p ns : Path) → ns ≡ p → IsTypedEdit (edit.Delete p) → refusal (seen es issued) (edit.Delete p) ≡ None → IsGrafted es ns None new → IsSubtree es ns (Some t) → is_sorted path_cmp t ≡ true → ids ≡ ids_of t →
+pub delete_kept : (es new t : List (Path × Form)) (issued : Issued) (ids : List ℕ) (look next : ℕ → Option BlockRow) (p ns : Path) → ns ≡ p → IsTypedEdit (edit.Delete p) → refusal (seen es issued) (edit.Delete p) ≡ None → IsGrafted es ns None new → IsSubtree es ns (Some t) → is_sorted path_cmp t ≡ true → ids ≡ ids_of_rows t →
     ((id : ℕ) → next id ≡ cond (has_id ids id) None (look id)) → IsKept (seen es issued) look → IsKept (seen new issued) next
 delete_kept es new t issued ids look next p ns e l lawful h sub sorted is goes k =
     let n = seen es issued in

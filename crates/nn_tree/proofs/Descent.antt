@@ -23,7 +23,7 @@ use Rattle.nn_tree.proofs.Walk.{walk_below}
 use Rattle.nn_tree.proofs.Changed.{made_fault}
 use Rattle.nn_tree.proofs.Maps.{mkdir_lawful}
 use Rattle.nn_model.proofs.Dues.{all_none}
-use Rattle.nn_tree.specs.Walks.{is_file}
+use Rattle.nn_tree.specs.Walks.{is_some_file}
 
 abbrev pub Rows : Type 0
 Rows = List (Path × Form)
@@ -107,11 +107,11 @@ narrow_step es node k b a n t w v o e s c same =
     let called = is_called k a n s c in
     dir_step es ((k, b.value) ∷ []) ((k, w) ∷ []) n t w d (one_written k n b.value w called) (one_found es k n b.value t d called same) (ap (is_sorted path_cmp) (sym v) ∙ o)
 
-reaches_further : (es new t w u : Rows) (n : List ℕ) (ns ps front rest : Path) → ps ≡ n ∷ ns → IsStep es new n t w → Reaches t ns front rest u → Reaches es ps (n ∷ front) rest u
-reaches_further es new t w u n ns ps front rest e s r = record {
+reaches_further : (es new t w u : Rows) (n : List ℕ) (ns ps prefix rest : Path) → ps ≡ n ∷ ns → IsStep es new n t w → Reaches t ns prefix rest u → Reaches es ps (n ∷ prefix) rest u
+reaches_further es new t w u n ns ps prefix rest e s r = record {
   path = e ∙ ap (λ p. n ∷ p) r.path;
   walked = walk_below es t n ns ps e s.top s.stands ∙ r.walked;
-  stands = λ q. s.stands (front ++ q) ∙ r.stands q;
+  stands = λ q. s.stands (prefix ++ q) ∙ r.stands q;
 }
 
 pub changed_further : (es new t w : Rows) (n : List ℕ) (ns ps : Path) (R : Path → Rows → Rows → Type 0) → ps ≡ n ∷ ns → IsStep es new n t w → IsChangedAt t ns w R → IsChangedAt es ps new R
@@ -127,8 +127,8 @@ refused_further es new t w n ns ps Q e s h =
 -- ---- in the end
 
 -- what stands at the path
-pub at_end : (es t : Rows) (p front rest : Path) → Reaches es p front rest t → (q : Path) → at es (p ++ q) ≡ at t (rest ++ q)
-at_end es t p front rest r q = ap (λ s. at es (s ++ q)) r.path ∙ ap (at es) (append_assoc front rest q) ∙ r.stands (rest ++ q)
+pub at_end : (es t : Rows) (p prefix rest : Path) → Reaches es p prefix rest t → (q : Path) → at es (p ++ q) ≡ at t (rest ++ q)
+at_end es t p prefix rest r q = ap (λ s. at es (s ++ q)) r.path ∙ ap (at es) (append_assoc prefix rest q) ∙ r.stands (rest ++ q)
 
 graft_append : (f : Path → Option Form) (p s : Path) (g : Path → Option Form) (q : Path) → grafted f (p ++ s) g q ≡ grafted f p (grafted (λ r. f (p ++ r)) s g) q
 graft_append f [] s g q = refl
@@ -136,49 +136,49 @@ graft_append f (n ∷ p) s g [] = refl
 graft_append f (n ∷ p) s g (x ∷ q) = ap (λ r. cond (bytes_eq n x) r (f (x ∷ q))) (graft_append (λ r. f (n ∷ r)) p s g q)
 
 -- what is put or taken at the path
-pub graft_end : (es new t w : Rows) (p front rest : Path) (o : Option Rows) → Reaches es p front rest t → IsGrafted es front (Some w) new → IsGrafted t rest o w → IsGrafted es p o new
-graft_end es new t w p front rest o r g h q =
-    g q ∙ (λ j. grafted (at es) front (λ s. h s j) q)
-    ∙ (λ j. grafted (at es) front (grafted (λ s. sym (r.stands s) j) rest (rows o)) q)
-    ∙ sym (graft_append (at es) front rest (rows o) q)
+pub graft_end : (es new t w : Rows) (p prefix rest : Path) (o : Option Rows) → Reaches es p prefix rest t → IsGrafted es prefix (Some w) new → IsGrafted t rest o w → IsGrafted es p o new
+graft_end es new t w p prefix rest o r g h q =
+    g q ∙ (λ j. grafted (at es) prefix (λ s. h s j) q)
+    ∙ (λ j. grafted (at es) prefix (grafted (λ s. sym (r.stands s) j) rest (rows o)) q)
+    ∙ sym (graft_append (at es) prefix rest (rows o) q)
     ∙ (λ j. grafted (at es) (sym r.path j) (rows o) q)
 
 pub file_changed : (es new : Rows) (p : Path) (R : FileRow → FileRow → Type 0) → IsChangedAt es p new (FileBecomes R) → IsFileChanged es p new R
-file_changed es new p R (front, rest, t, w, r, g, (x, y, none, was, is, c)) = (
+file_changed es new p R (prefix, rest, t, w, r, g, (x, y, none, was, is, c)) = (
   x,
   y,
   r.walked ∙ ap (walk (at t)) none,
-  (λ q. at_end es t p front rest r q ∙ ap (λ s. at t (s ++ q)) none ∙ ap (λ u. at u q) was),
-  graft_end es new t w p front rest (Some (([], File y) ∷ [])) r g (subst (λ (s : Path). IsGrafted t s (Some (([], File y) ∷ [])) w) (sym none) (λ q. ap (λ u. at u q) is)),
+  (λ q. at_end es t p prefix rest r q ∙ ap (λ s. at t (s ++ q)) none ∙ ap (λ u. at u q) was),
+  graft_end es new t w p prefix rest (Some (([], File y) ∷ [])) r g (subst (λ (s : Path). IsGrafted t s (Some (([], File y) ∷ [])) w) (sym none) (λ q. ap (λ u. at u q) is)),
   c,
 )
 
 -- a path that ends in names is not the root
-below_root : (front rest : Path) → is_root rest ≡ None → is_root (front ++ rest) ≡ None
+below_root : (prefix rest : Path) → is_root rest ≡ None → is_root (prefix ++ rest) ≡ None
 below_root [] rest h = h
-below_root (n ∷ front) rest h = refl
+below_root (n ∷ prefix) rest h = refl
 
 pub made_end : (es new x : Rows) (p : Path) → IsChangedAt es p new (λ rest t w. IsMade t rest x w) → IsMade es p x new
-made_end es new x p (front, rest, t, w, r, g, m) =
+made_end es new x p (prefix, rest, t, w, r, g, m) =
     let named = (all_none (is_root rest ∷ walk (at t) rest ∷ exists (at t rest) ∷ []) m.0).0 in
     let was = mkdir_lawful (at t) rest m.0 in
-    let here : at es p ≡ at t rest = ap (at es) (sym (append-nil p)) ∙ at_end es t p front rest r [] ∙ ap (at t) (append-nil rest) in (
-      made_fault (at es) p (ap is_root r.path ∙ below_root front rest named) (r.walked ∙ was.0) (here ∙ was.1),
-      (λ q. at_end es t p front rest r q ∙ m.1 q),
-      graft_end es new t w p front rest (Some x) r g m.2,
+    let here : at es p ≡ at t rest = ap (at es) (sym (append-nil p)) ∙ at_end es t p prefix rest r [] ∙ ap (at t) (append-nil rest) in (
+      made_fault (at es) p (ap is_root r.path ∙ below_root prefix rest named) (r.walked ∙ was.0) (here ∙ was.1),
+      (λ q. at_end es t p prefix rest r q ∙ m.1 q),
+      graft_end es new t w p prefix rest (Some x) r g m.2,
     )
 
 pub taken_end : (es new x : Rows) (p : Path) → IsChangedAt es p new (λ rest t w. IsTaken t rest x w) → IsTaken es p x new
-taken_end es new x p (front, rest, t, w, r, g, m) = (
+taken_end es new x p (prefix, rest, t, w, r, g, m) = (
   r.walked ∙ m.0,
-  (λ q. at_end es t p front rest r q ∙ m.1 q),
-  graft_end es new t w p front rest None r g m.2,
+  (λ q. at_end es t p prefix rest r q ∙ m.1 q),
+  graft_end es new t w p prefix rest None r g m.2,
 )
 
 pub put_end : (es new x y : Rows) (p : Path) → IsChangedAt es p new (λ rest t w. (rest ≡ []) × (y ≡ t) × (w ≡ x)) → IsSubtree es p (Some y) × IsGrafted es p (Some x) new
-put_end es new x y p (front, rest, t, w, r, g, (none, was, is)) = (
-  (λ q. at_end es t p front rest r q ∙ ap (λ s. at t (s ++ q)) none ∙ ap (λ u. at u q) (sym was)),
-  graft_end es new t w p front rest (Some x) r g (subst (λ (s : Path). IsGrafted t s (Some x) w) (sym none) (λ q. ap (λ u. at u q) is)),
+put_end es new x y p (prefix, rest, t, w, r, g, (none, was, is)) = (
+  (λ q. at_end es t p prefix rest r q ∙ ap (λ s. at t (s ++ q)) none ∙ ap (λ u. at u q) (sym was)),
+  graft_end es new t w p prefix rest (Some x) r g (subst (λ (s : Path). IsGrafted t s (Some x) w) (sym none) (λ q. ap (λ u. at u q) is)),
 )
 
 -- ---- where nothing was changed
@@ -191,11 +191,11 @@ free_end es p h =
       | inr r ↦ λ q. at_end es r.2 p r.0 r.1 r.3 q ∙ r.4 q
     ]
 
-pub no_file_end : (es : Rows) (p : Path) → IsRefusedAt es p (λ rest t. is_file (at t rest) ≡ false) → is_file (at es p) ≡ false
+pub no_file_end : (es : Rows) (p : Path) → IsRefusedAt es p (λ rest t. is_some_file (at t rest) ≡ false) → is_some_file (at es p) ≡ false
 no_file_end es p h =
     elim h [
-      | inl none ↦ ap is_file (ap (at es) (sym (append-nil p)) ∙ none [])
-      | inr r ↦ ap is_file (ap (at es) (sym (append-nil p)) ∙ at_end es r.2 p r.0 r.1 r.3 [] ∙ ap (at r.2) (append-nil r.1)) ∙ r.4
+      | inl none ↦ ap is_some_file (ap (at es) (sym (append-nil p)) ∙ none [])
+      | inr r ↦ ap is_some_file (ap (at es) (sym (append-nil p)) ∙ at_end es r.2 p r.0 r.1 r.3 [] ∙ ap (at r.2) (append-nil r.1)) ∙ r.4
     ]
 
 -- what stands is not refused

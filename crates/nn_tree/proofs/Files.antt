@@ -7,14 +7,14 @@ use Rattle.nn_model.specs.declared.form.FileRow.{FileRow}
 use Rattle.nn_model.specs.declared.form.Form.TheVariants.{Dir}
 use Rattle.nn_tree.specs.At.{at, IsSubtree}
 use Rattle.nn_tree.specs.Flat.{flat}
-use Rattle.nn_model.specs.Apply.{first, walk, is_root, missing, not_file}
+use Rattle.nn_model.specs.Apply.{first_fault, walk, is_root, missing, not_file}
 use Rattle.nn_tree.specs.Walks.{file_fault}
 use Rattle.nn_tree.specs.declared.tree.Tree.{Tree}
 use Rattle.nn_tree.specs.declared.tree.Node.{Node}
 use Rattle.nn_tree.specs.declared.tree.Node.TheVariants.{Folder, Narrow, Leaf}
 
-pub file_by_row : (f : Path → Option Form) (p : Path) (o : Option Form) → is_root p ≡ None → walk f p ≡ None → f p ≡ o → file_fault f p ≡ first (missing o ∷ not_file o ∷ [])
-file_by_row f p o r w s = (λ j. first (r j ∷ w j ∷ missing (s j) ∷ not_file (s j) ∷ []))
+pub file_by_row : (f : Path → Option Form) (p : Path) (o : Option Form) → is_root p ≡ None → walk f p ≡ None → f p ≡ o → file_fault f p ≡ first_fault (missing o ∷ not_file o ∷ [])
+file_by_row f p o r w s = (λ j. first_fault (r j ∷ w j ∷ missing (s j) ∷ not_file (s j) ∷ []))
 
 pub at_found : (es t : List (Path × Form)) (p : Path) (r : Option Form) → IsSubtree es p (Some t) → at t [] ≡ r → at es p ≡ r
 at_found es t p r h e = ap (at es) (sym (append-nil p)) ∙ h [] ∙ e

@@ -6,7 +6,7 @@ use Rattle.std.proofs.lemmas.Bool.{both_ways, cases_Bool, false_from_ne_true}
 use Rattle.nn_types.specs.declared.block.Block.{Block}
 use Rattle.nn_model.specs.declared.form.Form.TheVariants.{Dir}
 use Rattle.nn_model.specs.Namespace.{Namespace, path_cmp, lookup, blocks_of, file_or_none}
-use Rattle.nn_model.specs.WellFormed.{Has, HasWellFormedBlocks}
+use Rattle.nn_model.specs.WellFormed.{Includes, HasWellFormedBlocks}
 use Rattle.nn_model.proofs.Dues.{found_in, none_found, stands_times, file_has, blocks_in}
 use Rattle.nn_model.proofs.Wells.{times_put, blocks_of_found}
 use Rattle.nn_model.proofs.Lookups.{paths_total}
@@ -61,9 +61,9 @@ abbrev pub old_blocks : Option Form → List Block
 old_blocks o = (file_or_none o).blocks
 
 -- the block with this id, if it is in the list
-pub known : (bs : List Block) (id : ℕ) → ((x : Block) × Has bs x × (x.id ≡ id)) ⊎ ((x : Block) → Has bs x → x.id ≡ id → ⊥)
+pub known : (bs : List Block) (id : ℕ) → ((x : Block) × Includes bs x × (x.id ≡ id)) ⊎ ((x : Block) → Includes bs x → x.id ≡ id → ⊥)
 known bs id =
-    elim (find (λ x. x.id == id) bs) as (λ o. find (λ x. x.id == id) bs ≡ o → ((x : Block) × Has bs x × (x.id ≡ id)) ⊎ ((x : Block) → Has bs x → x.id ≡ id → ⊥)) [
+    elim (find (λ x. x.id == id) bs) as (λ o. find (λ x. x.id == id) bs ≡ o → ((x : Block) × Includes bs x × (x.id ≡ id)) ⊎ ((x : Block) → Includes bs x → x.id ≡ id → ⊥)) [
       | Some x ↦ λ e. let h = found_in bs id x e in inl (x, h.0, h.1)
       | None ↦ λ e. inr (λ x here is. none_found bs id x e here is)
     ] refl
@@ -71,10 +71,10 @@ known bs id =
 -- The row y is written at p, and the look-ups become `next`.
 pub record Writes (f : Path → Option Form) (p : Path) (y : Form) (look next : ℕ → Option BlockRow) : Type 0 where
   -- a block of the old or of the new row stands nowhere else
-  pub own : (x : Block) → Has (blocks_of y) x ⊎ Has (old_blocks (f p)) x → (c : BlockRow) (q : Path) (r : Form) → f q ≡ Some r → InRow c r → c.block.id ≡ x.id → same q p ≡ true
+  pub own : (x : Block) → Includes (blocks_of y) x ⊎ Includes (old_blocks (f p)) x → (c : BlockRow) (q : Path) (r : Form) → f q ≡ Some r → InRow c r → c.block.id ≡ x.id → same q p ≡ true
   pub written : (b : BlockRow) → InRow b y → next b.block.id ≡ Some b
-  pub kept : (id : ℕ) → ((x : Block) → Has (blocks_of y) x → x.id ≡ id → ⊥) → ((x : Block) → Has (old_blocks (f p)) x → x.id ≡ id → ⊥) → next id ≡ look id
-  pub gone : (x : Block) → Has (old_blocks (f p)) x → ((z : Block) → Has (blocks_of y) z → z.id ≡ x.id → ⊥) → next x.id ≡ None
+  pub kept : (id : ℕ) → ((x : Block) → Includes (blocks_of y) x → x.id ≡ id → ⊥) → ((x : Block) → Includes (old_blocks (f p)) x → x.id ≡ id → ⊥) → next id ≡ look id
+  pub gone : (x : Block) → Includes (old_blocks (f p)) x → ((z : Block) → Includes (blocks_of y) z → z.id ≡ x.id → ⊥) → next x.id ≡ None
 
 same_some : {X : Type 0} (a b : X) → Some a ≡ Some b → a ≡ b
 same_some a b h = cc
@@ -96,7 +96,7 @@ index_written f g p y look next e self w x = record {
                 (
                   q,
                   t.1.1,
-                  e q ∙ ap (λ k. cond k (Some y) (f q)) (false_from_ne_true (same q p) (λ at_p. before b.block (subst (λ o. Has (old_blocks o) b.block) (sym t.1.2 ∙ ap f (same_true q p at_p)) (subst (λ bs. Has bs b.block) (sym (blocks_of_found t.1.1)) t.1.3.1)) t.0)) ∙ t.1.2,
+                  e q ∙ ap (λ k. cond k (Some y) (f q)) (false_from_ne_true (same q p) (λ at_p. before b.block (subst (λ o. Includes (old_blocks o) b.block) (sym t.1.2 ∙ ap f (same_true q p at_p)) (subst (λ bs. Includes bs b.block) (sym (blocks_of_found t.1.1)) t.1.3.1)) t.0)) ∙ t.1.2,
                   t.1.3,
                 ),
               )
@@ -117,14 +117,14 @@ index_written f g p y look next e self w x = record {
 }
 
 -- no block stands at two paths
-pub apart : (n : Namespace) (p q : Path) (x : Block) (r : Form) (c : Block) → HasWellFormedBlocks n → Has (old_blocks (lookup n p)) x → lookup n q ≡ Some r → Has (blocks_of r) c → c.id ≡ x.id → same q p ≡ true
+pub apart : (n : Namespace) (p q : Path) (x : Block) (r : Form) (c : Block) → HasWellFormedBlocks n → Includes (old_blocks (lookup n p)) x → lookup n q ≡ Some r → Includes (blocks_of r) c → c.id ≡ x.id → same q p ≡ true
 apart n p q x r c w here there also is =
     elim (cases_Bool (same q p)) [
       | inl at_p ↦ at_p
       | inr other ↦
           let without = put path_cmp p Dir n.rows in
           let still : find_entry path_cmp q without ≡ Some r = find-put path_cmp paths_total q p Dir n.rows ∙ ap (λ k. cond k (Some Dir) (lookup n q)) other ∙ there in
-          let has : Has (old_blocks (find_entry path_cmp q without)) c = subst (λ o. Has (old_blocks o) c) (sym still) (subst (λ bs. Has bs c) (sym (blocks_of_found r)) also) in
+          let has : Includes (old_blocks (find_entry path_cmp q without)) c = subst (λ o. Includes (old_blocks o) c) (sym still) (subst (λ bs. Includes bs c) (sym (blocks_of_found r)) also) in
           let one = stands_times (blocks_in without) c x.id (file_has q without c has) is in
           let two = stands_times (old_blocks (lookup n p)) x x.id here refl in
           absurd (omega (arith, one, two, times_put x.id p Dir n.rows w.in_order, w.once x.id))

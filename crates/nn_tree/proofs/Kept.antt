@@ -12,8 +12,8 @@ use Rattle.nn_model.specs.declared.form.Form.TheVariants.{Dir, File}
 use Rattle.nn_model.specs.declared.form.FileRow.{FileRow}
 use Rattle.nn_model.proofs.Equals.{root_alone_is_well_formed}
 use Rattle.nn_model.specs.Namespace.{Namespace, root_alone, lookup, with_row, blocks_of, file_at, file_or_none}
-use Rattle.nn_model.specs.Apply.{refusal, effect, checks, first}
-use Rattle.nn_model.specs.WellFormed.{Has, HasWellFormedBlocks, IsWellFormed, HasUtf8Names}
+use Rattle.nn_model.specs.Apply.{refusal, effect, checks, first_fault}
+use Rattle.nn_model.specs.WellFormed.{Includes, HasWellFormedBlocks, IsWellFormed, HasUtf8Names}
 use Rattle.nn_model.proofs.Dues.{all_none, when_none}
 use Rattle.nn_model.proofs.Lookups.{lookup_put, find_in_order}
 use Rattle.nn_model.specs.declared.form.Form.{Form}
@@ -22,7 +22,7 @@ use Rattle.nn_tree.specs.At.{at, IsSubtree, IsGrafted, IsSame}
 use Rattle.nn_tree.specs.Walks.{rename_fault, moved_rows, IsRenamed}
 use Rattle.nn_model.specs.declared.form.BlockRow.{BlockRow}
 use Rattle.nn_tree.specs.Issued.{AreBelow}
-use Rattle.nn_tree.specs.View.{seen, InRow, Stands, IsIndex, IsKept, Holds}
+use Rattle.nn_tree.specs.View.{seen, InRow, IsInSomeFile, IsIndex, IsKept, Holds}
 use Rattle.nn_tree.specs.declared.sizes.Sizes.{Sizes}
 use Rattle.nn_model.proofs.Prefixes.{same, same_self}
 use Rattle.nn_tree.proofs.Prefix.{can_move}
@@ -36,8 +36,8 @@ pub mkdir_free : (n : Namespace) (p : Path) → refusal n (edit.Mkdir p) ≡ Non
 mkdir_free n p applies = absent (lookup n p) (all_none (checks n (edit.Mkdir p)) applies).1.1.0
 
 -- ---- the namespace before the first edit
-no_block_stands : (b : BlockRow) → Stands (lookup root_alone) b → ⊥
-no_block_stands b ([], r, e, here) = let is : Dir ≡ r = cc in subst (λ form. Has (blocks_of form) b.block) (sym is) here.1
+no_block_stands : (b : BlockRow) → IsInSomeFile (lookup root_alone) b → ⊥
+no_block_stands b ([], r, e, here) = let is : Dir ≡ r = cc in subst (λ form. Includes (blocks_of form) b.block) (sym is) here.1
 no_block_stands b (name ∷ p, r, e, here) = absurd (cc)
 
 root_utf8 : HasUtf8Names root_alone
@@ -50,7 +50,7 @@ new_kept n look e none = record {
   utf8 = subst HasUtf8Names (sym e) root_utf8;
   index = record {
     sound = λ id b h. absurd (let m = none id in (cc (m, h)));
-    complete = λ b stands. absurd (no_block_stands b (subst (λ m. Stands (lookup m) b) e stands));
+    complete = λ b stands. absurd (no_block_stands b (subst (λ m. IsInSomeFile (lookup m) b) e stands));
   };
 }
 
@@ -71,10 +71,10 @@ put_index n p r look next w x = index_written (lookup n) (lookup (with_row n p r
 -- a row without blocks where nothing stood
 pub fresh_writes : (f : Path → Option Form) (p : Path) (r : Form) (look : ℕ → Option BlockRow) → f p ≡ None → blocks_of r ≡ [] → Writes f p r look look
 fresh_writes f p r look e z = record {
-  own = λ x h c q s at_q in_row is. elim h [ inl a ↦ absurd (subst (λ bs. Has bs x) z a) | inr b ↦ absurd (subst (λ o. Has (old_blocks o) x) e b) ];
-  written = λ b h. absurd (subst (λ bs. Has bs b.block) z h.1);
+  own = λ x h c q s at_q in_row is. elim h [ inl a ↦ absurd (subst (λ bs. Includes bs x) z a) | inr b ↦ absurd (subst (λ o. Includes (old_blocks o) x) e b) ];
+  written = λ b h. absurd (subst (λ bs. Includes bs b.block) z h.1);
   kept = λ id a b. refl;
-  gone = λ x b a. absurd (subst (λ o. Has (old_blocks o) x) e b);
+  gone = λ x b a. absurd (subst (λ o. Includes (old_blocks o) x) e b);
 }
 
 pub made : (es new : List (Path × Form)) (issued : Issued) (p ns : Path) (r : Form) → ns ≡ p → IsSubtree es ns None → IsGrafted es ns (Some (([], r) ∷ [])) new → seen new issued ≡ with_row (seen es issued) p r
@@ -92,7 +92,7 @@ mkdir_kept n p look l lawful k = record {
 pub add_mkdir : (n : Namespace) (p : Path) (r : ℕ) → refusal n (edit.Add p r) ≡ None → refusal n (edit.Mkdir p) ≡ None
 add_mkdir n p r h =
     let a = all_none (checks n (edit.Add p r)) h in
-    λ j. first (a.0 j ∷ a.1.1.0 j ∷ a.1.1.1.0 j ∷ [])
+    λ j. first_fault (a.0 j ∷ a.1.1.0 j ∷ a.1.1.1.0 j ∷ [])
 
 pub add_kept : (n : Namespace) (p : Path) (r : ℕ) (look : ℕ → Option BlockRow) → IsTypedEdit (edit.Add p r) → refusal n (edit.Add p r) ≡ None → IsKept n look → IsKept (effect n (edit.Add p r)) look
 add_kept n p r look l lawful k =
@@ -131,8 +131,8 @@ pub file_seen : (es new : List (Path × Form)) (issued : Issued) (p ns : Path) (
 file_seen es new issued p ns x y e h k = put_seen es new issued p (File y) (λ q. set_once es new ns (File x) (File y) h k q ∙ ap (λ s. cond (same q s) (Some (File y)) (at es q)) e)
 
 -- the blocks of a file that is written stand nowhere else, if they are old ones
-pub old_own : (n : Namespace) (p : Path) (y : Form) → HasWellFormedBlocks n → ((x : Block) → Has (blocks_of y) x → (o : Block) × Has (old_blocks (lookup n p)) o × (o.id ≡ x.id)) →
-    (x : Block) → Has (blocks_of y) x ⊎ Has (old_blocks (lookup n p)) x → (c : BlockRow) (q : Path) (r : Form) → lookup n q ≡ Some r → InRow c r → c.block.id ≡ x.id → same q p ≡ true
+pub old_own : (n : Namespace) (p : Path) (y : Form) → HasWellFormedBlocks n → ((x : Block) → Includes (blocks_of y) x → (o : Block) × Includes (old_blocks (lookup n p)) o × (o.id ≡ x.id)) →
+    (x : Block) → Includes (blocks_of y) x ⊎ Includes (old_blocks (lookup n p)) x → (c : BlockRow) (q : Path) (r : Form) → lookup n q ≡ Some r → InRow c r → c.block.id ≡ x.id → same q p ≡ true
 old_own n p y w old x here c q r at_q in_row is =
     elim here [
       | inl new ↦ (let o = old x new in apart n p q o.0 r c.block w o.1 at_q in_row.1 (is ∙ sym o.2))
@@ -148,7 +148,7 @@ set_replication_kept n p r x look l lawful was k =
       utf8 = names_stay_utf8 n (edit.SetReplication p r) l.1 lawful k.well k.utf8;
       index = put_index n p row look look (record {
         own = old_own n p row k.well.blocks (λ b here. (b, here, refl));
-        written = λ b h. k.index.complete b (p, File x, was, (h.0 ∙ ap (λ f. f.closed) old, subst (λ f. Has f.blocks b.block) old h.1));
+        written = λ b h. k.index.complete b (p, File x, was, (h.0 ∙ ap (λ f. f.closed) old, subst (λ f. Includes f.blocks b.block) old h.1));
         kept = λ id a b. refl;
         gone = λ b here away. absurd (away b here refl);
       }) k.index;

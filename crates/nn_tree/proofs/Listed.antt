@@ -11,10 +11,10 @@ use Rattle.nn_model.proofs.Trees.{stays_well_formed}
 use Rattle.nn_model.specs.declared.form.Form.TheVariants.{Dir, File}
 use Rattle.nn_model.specs.declared.form.FileRow.{FileRow}
 use Rattle.nn_model.specs.Namespace.{Namespace, lookup, file_at, file_or_none}
-use Rattle.nn_model.specs.Apply.{first, refusal, effect, list_checks, with_blocks, keeps_ids}
+use Rattle.nn_model.specs.Apply.{first_fault, refusal, effect, list_checks, with_blocks, keeps_ids}
 use Rattle.nn_model.specs.Blocks.{block_row}
 use Rattle.nn_model.specs.Touched.{listed, ids_of}
-use Rattle.nn_model.specs.WellFormed.{Has, times, IsWellFormed}
+use Rattle.nn_model.specs.WellFormed.{Includes, times, IsWellFormed}
 use Rattle.nn_model.proofs.Dues.{all_none, when_none, stands_times}
 use Rattle.nn_model.proofs.Wells.{times_put}
 use Rattle.nn_model.specs.Namespace.{Path}
@@ -29,13 +29,13 @@ head_id a y old new ids = eqb-true a.id y.id (and_parts (a.id == y.id) (keeps_id
 tail_ids : (a y : Block) (old new : List Block) → keeps_ids (a ∷ old) (y ∷ new) ≡ true → keeps_ids old new ≡ true
 tail_ids a y old new ids = (and_parts (a.id == y.id) (keeps_ids old new) ids).1
 
-old_one : (old new : List Block) (b : Block) → keeps_ids old new ≡ true → Has new b → (o : Block) × Has old o × (o.id ≡ b.id)
+old_one : (old new : List Block) (b : Block) → keeps_ids old new ≡ true → Includes new b → (o : Block) × Includes old o × (o.id ≡ b.id)
 old_one old [] b ids here = absurd here
 old_one [] (y ∷ new) b ids here = absurd (both_ways _ refl ids)
 old_one (a ∷ old) (y ∷ new) b ids (inl e) = (a, inl refl, head_id a y old new ids ∙ ap (λ z. z.id) e)
 old_one (a ∷ old) (y ∷ new) b ids (inr later) = let o = old_one old new b (tail_ids a y old new ids) later in (o.0, inr o.1, o.2)
 
-renewed_away : (look : ℕ → Option BlockRow) (closed : Bool) (old new : List Block) (id : ℕ) → keeps_ids old new ≡ true → ((x : Block) → Has old x → x.id ≡ id → ⊥) → renewed look old new closed id ≡ look id
+renewed_away : (look : ℕ → Option BlockRow) (closed : Bool) (old new : List Block) (id : ℕ) → keeps_ids old new ≡ true → ((x : Block) → Includes old x → x.id ≡ id → ⊥) → renewed look old new closed id ≡ look id
 renewed_away look closed [] new id ids away = refl
 renewed_away look closed (a ∷ old) [] id ids away = ap (λ b. cond b None (look id)) (ne_eqb a.id id (away a (inl refl)))
 renewed_away look closed (a ∷ old) (y ∷ new) id ids away =
@@ -53,7 +53,7 @@ one_more a old id e h = let t : cond (a.id == id) 1 0 + times id old ≤ 1 = h i
 fewer : (a : Block) (old : List Block) (id : ℕ) → times id (a ∷ old) ≤ 1 → times id old ≤ 1
 fewer a old id h = omega (arith, h)
 
-renewed_has : (look : ℕ → Option BlockRow) (closed : Bool) (old new : List Block) (b : Block) → keeps_ids old new ≡ true → times b.id old ≤ 1 → is_some (look b.id) ≡ true → Has new b → renewed look old new closed b.id ≡ Some (record { block = b; closed = closed })
+renewed_has : (look : ℕ → Option BlockRow) (closed : Bool) (old new : List Block) (b : Block) → keeps_ids old new ≡ true → times b.id old ≤ 1 → is_some (look b.id) ≡ true → Includes new b → renewed look old new closed b.id ≡ Some (record { block = b; closed = closed })
 renewed_has look closed old [] b ids once there here = absurd here
 renewed_has look closed [] (y ∷ new) b ids once there here = absurd (both_ways _ refl ids)
 renewed_has look closed (a ∷ old) (y ∷ new) b ids once there (inl e) =
@@ -70,7 +70,7 @@ renewed_has look closed (a ∷ old) (y ∷ new) b ids once there (inr later) =
     ap (λ t. cond t (option_map (λ _. row) rest) rest) (ne_eqb y.id b.id (λ e. let m = stands_times old o.0 b.id o.1 o.2 in let z = one_more a old b.id (head_id a y old new ids ∙ e) once in omega (arith, m, z)))
     ∙ renewed_has look closed old new b (tail_ids a y old new ids) (fewer a old b.id once) there later
 
-renewed_gone : (look : ℕ → Option BlockRow) (closed : Bool) (old new : List Block) (a : Block) → keeps_ids old new ≡ true → Has old a → ((z : Block) → Has new z → z.id ≡ a.id → ⊥) → renewed look old new closed a.id ≡ None
+renewed_gone : (look : ℕ → Option BlockRow) (closed : Bool) (old new : List Block) (a : Block) → keeps_ids old new ≡ true → Includes old a → ((z : Block) → Includes new z → z.id ≡ a.id → ⊥) → renewed look old new closed a.id ≡ None
 renewed_gone look closed [] new a ids here away = absurd here
 renewed_gone look closed (x ∷ []) [] a ids (inl e) away = ap (λ b. cond b None (look a.id)) (eq-eqb x.id a.id (ap (λ z. z.id) e))
 renewed_gone look closed (x ∷ []) [] a ids (inr h) away = absurd h
@@ -81,7 +81,7 @@ renewed_gone look closed (x ∷ old) (y ∷ new) a ids (inr h) away =
     ap (λ t. cond t (option_map (λ _. record { block = y; closed = closed }) rest) rest) (ne_eqb y.id a.id (away y (inl refl)))
     ∙ renewed_gone look closed old new a (tail_ids x y old new ids) h (λ z k. away z (inr k))
 
-list_stays : (n : Namespace) (p : Path) (bs : List Block) (closed : Bool) → IsTypedEdit (edit.Close p bs) → first (list_checks n p bs) ≡ None → IsWellFormed n → IsWellFormed (with_blocks n p bs closed)
+list_stays : (n : Namespace) (p : Path) (bs : List Block) (closed : Bool) → IsTypedEdit (edit.Close p bs) → first_fault (list_checks n p bs) ≡ None → IsWellFormed n → IsWellFormed (with_blocks n p bs closed)
 list_stays n p bs true l lawful w = stays_well_formed n (edit.Close p bs) l.0 lawful w
 list_stays n p bs false l lawful w = stays_well_formed n (edit.UpdateBlocks p bs) l.0 lawful w
 
@@ -90,7 +90,7 @@ written_kept : (n : Namespace) (p : Path) (bs : List Block) (closed : Bool) (x :
 written_kept n p bs closed x look next ids names well was goes k =
     let f = file_at n p in
     let y : FileRow = record { replication = f.replication; closed = closed; blocks = bs } in
-    let stood : (o : Block) → Has f.blocks o → look o.id ≡ Some (record { block = o; closed = x.closed }) = λ o h. k.index.complete (record { block = o; closed = x.closed }) (p, File x, was, (refl, subst (λ r. Has (old_blocks r) o) was h)) in
+    let stood : (o : Block) → Includes f.blocks o → look o.id ≡ Some (record { block = o; closed = x.closed }) = λ o h. k.index.complete (record { block = o; closed = x.closed }) (p, File x, was, (refl, subst (λ r. Includes (old_blocks r) o) was h)) in
     let once : (id : ℕ) → times id f.blocks ≤ 1 = λ id. omega (arith, times_put id p Dir n.rows k.well.blocks.in_order, k.well.blocks.once id) in
     record {
       well = well;
@@ -105,7 +105,7 @@ written_kept n p bs closed x look next ids names well was goes k =
       }) k.index;
     }
 
-pub list_kept : (n : Namespace) (p : Path) (bs : List Block) (closed : Bool) (x : FileRow) (look next : ℕ → Option BlockRow) → IsTypedEdit (edit.Close p bs) → first (list_checks n p bs) ≡ None → lookup n p ≡ Some (File x) → ((q : ℕ) → next q ≡ renewed look (file_at n p).blocks bs closed q) → IsKept n look → IsKept (with_blocks n p bs closed) next
+pub list_kept : (n : Namespace) (p : Path) (bs : List Block) (closed : Bool) (x : FileRow) (look next : ℕ → Option BlockRow) → IsTypedEdit (edit.Close p bs) → first_fault (list_checks n p bs) ≡ None → lookup n p ≡ Some (File x) → ((q : ℕ) → next q ≡ renewed look (file_at n p).blocks bs closed q) → IsKept n look → IsKept (with_blocks n p bs closed) next
 list_kept n p bs closed x look next l lawful was goes k =
     let found = all_none (list_checks n p bs) lawful in
     written_kept n p bs closed x look next (not-false _ (when_none _ _ found.1.1.1.1.1.0)) l.1 (list_stays n p bs closed l lawful k.well) was goes k

@@ -8,7 +8,7 @@ use Rattle.nn_model.specs.declared.form.Form.TheVariants.{Dir, File}
 use Rattle.nn_types.specs.declared.edit_fault.EditFault.{EditFault}
 use Rattle.nn_types.specs.declared.edit_fault.EditFault.TheVariants.{Exists, Missing, NotFile, NotOpen, IntoItself, WrongBlocks, BadGeneration, BadBlockId, BadReplication, NotClosed, LowerProfile, OutOfMemory}
 use Rattle.nn_model.specs.Namespace.{Path, Namespace, lookup}
-use Rattle.nn_model.specs.Apply.{first, when, is_root, in_directory, walk, checks, list_checks, refusal}
+use Rattle.nn_model.specs.Apply.{first_fault, fault_if, is_root, in_directory, walk, checks, list_checks, refusal}
 
 -- a check that does not find that memory ran out
 abbrev IsOther : Option EditFault → Type 0
@@ -18,12 +18,12 @@ abbrev AreOthers : List (Option EditFault) → Type 0
 AreOthers [] = Unit {0}
 AreOthers (o ∷ os) = IsOther o × AreOthers os
 
-other_first : (os : List (Option EditFault)) → AreOthers os → IsOther (first os)
+other_first : (os : List (Option EditFault)) → AreOthers os → IsOther (first_fault os)
 other_first [] h e = absurd (cc)
 other_first (None ∷ os) h e = other_first os h.1 e
 other_first (Some fault ∷ os) h e = h.0 e
 
-other_when : (b : Bool) (fault : EditFault) → IsOther (Some fault) → IsOther (when b fault)
+other_when : (b : Bool) (fault : EditFault) → IsOther (Some fault) → IsOther (fault_if b fault)
 other_when true fault h e = h e
 other_when false fault h e = absurd (cc)
 

@@ -7,7 +7,7 @@ use Rattle.nn_types.specs.declared.block.Block.{Block}
 use Rattle.nn_types.specs.declared.status.Status.TheVariants.{Named}
 use Rattle.nn_model.specs.Namespace.{Namespace, path_cmp, lookup, blocks_of, all_blocks}
 use Rattle.nn_model.specs.Status.{block_at, status_of, status_from, status_unheld}
-use Rattle.nn_model.specs.WellFormed.{Has}
+use Rattle.nn_model.specs.WellFormed.{Includes}
 use Rattle.nn_model.proofs.Dues.{found_in, none_found, once_same, blocks_in, has_either}
 use Rattle.nn_model.proofs.Wells.{not_below}
 use Rattle.nn_model.specs.declared.form.Form.{Form}
@@ -20,7 +20,7 @@ use Rattle.nn_model.proofs.Prefixes.{same, same_true, same_self}
 use Rattle.nn_tree.proofs.Added.{stands_in}
 
 -- the row of a block
-row_of : (rows : List (Path × Form)) (b : Block) → is_sorted path_cmp rows ≡ true → Has (blocks_in rows) b → (q : Path) × (r : Form) × (find_entry path_cmp q rows ≡ Some r) × Has (blocks_of r) b
+row_of : (rows : List (Path × Form)) (b : Block) → is_sorted path_cmp rows ≡ true → Includes (blocks_in rows) b → (q : Path) × (r : Form) × (find_entry path_cmp q rows ≡ Some r) × Includes (blocks_of r) b
 row_of [] b s h = absurd h
 row_of (c ∷ rows) b s h =
     let parts = and_parts (below_all path_cmp c.0 rows) (is_sorted path_cmp rows) s in

@@ -6,7 +6,7 @@ use Rattle.std.specs.Cmp.Lexicographic.{slice_cmp, nat_list_cmp_total}
 use Rattle.std.specs.Prelude.{◌==◌}
 use Rattle.std.proofs.lemmas.Bool.{cases_Bool, ltb-false, eq-eqb}
 use Rattle.std.proofs.Math.Nat.{mul-le-mul_right}
-use Rattle.nn_tree.specs.Name.{byte_of, front_of}
+use Rattle.nn_tree.specs.Name.{byte_of, prefix_of}
 
 -- each is below 256
 abbrev pub AreBytes : List ℕ → Type 0
@@ -58,12 +58,12 @@ by_number (suc k) (x ∷ xs) (y ∷ ys) a b h =
     ]
 
 -- the numbers differ as the texts do
-below : (xs ys : List ℕ) → AreBytes xs → AreBytes ys → front_of xs < front_of ys → slice_cmp nat_cmp xs ys ≡ Less
+below : (xs ys : List ℕ) → AreBytes xs → AreBytes ys → prefix_of xs < prefix_of ys → slice_cmp nat_cmp xs ys ≡ Less
 below xs ys a b h = by_number 8 xs ys a b (omega (arith, h))
 
-module _ (f g : ℕ) (xs ys : List ℕ) (a : AreBytes xs) (b : AreBytes ys) (e : f ≡ front_of xs) (d : g ≡ front_of ys) where
+module _ (f g : ℕ) (xs ys : List ℕ) (a : AreBytes xs) (b : AreBytes ys) (e : f ≡ prefix_of xs) (d : g ≡ prefix_of ys) where
   pub is_below : f < g → slice_cmp nat_cmp xs ys ≡ Less
-  is_below h = below xs ys a b (subst (λ n. n < front_of ys) e (subst (λ n. f < n) d h))
+  is_below h = below xs ys a b (subst (λ n. n < prefix_of ys) e (subst (λ n. f < n) d h))
 
   pub is_above : g < f → slice_cmp nat_cmp xs ys ≡ Greater
-  is_above h = nat_list_cmp_total.antisymm xs ys ∙ ap ordering_reverse (below ys xs b a (subst (λ n. n < front_of xs) d (subst (λ n. g < n) e h)))
+  is_above h = nat_list_cmp_total.antisymm xs ys ∙ ap ordering_reverse (below ys xs b a (subst (λ n. n < prefix_of xs) d (subst (λ n. g < n) e h)))

@@ -20,10 +20,10 @@ Rows = List (Path × Form)
 
 -- ---- Names that stay.
 
-take_front : (d high : ℕ) (names more : Path) → d ≤ high → high ≤ length names → take d (take high names ++ more) ≡ take d names
-take_front d high names more h k =
-    let front : d ≤ length (take high names) = omega (arith, h, length-take-le high names k) in
-    take-append-le d (take high names) more front ∙ sym (take-append-le d (take high names) (drop high names) front) ∙ ap (take d) (take-append-drop high names)
+take_prefix : (d high : ℕ) (names more : Path) → d ≤ high → high ≤ length names → take d (take high names ++ more) ≡ take d names
+take_prefix d high names more h k =
+    let prefix : d ≤ length (take high names) = omega (arith, h, length-take-le high names k) in
+    take-append-le d (take high names) more prefix ∙ sym (take-append-le d (take high names) (drop high names) prefix) ∙ ap (take d) (take-append-drop high names)
 
 nest_bound : (names : Path) (low high : ℕ) (dirs : List OpenDir) → Nest names low high dirs → low ≤ high
 nest_bound names low high [] n = n
@@ -60,7 +60,7 @@ pub rows_kept : (names more : Path) (low high : ℕ) (dirs : List OpenDir) → N
 rows_kept names more low high [] n h = refl
 rows_kept names more low high (o ∷ dirs) n h =
     let deep = nest_bound names (o.depth + 1) high dirs n.1 in
-    (λ j. rows_kept names more (o.depth + 1) high dirs n.1 h j ++ under_all (take_front o.depth high names more (omega (arith, deep)) h j) (below (entries_of o.children)))
+    (λ j. rows_kept names more (o.depth + 1) high dirs n.1 h j ++ under_all (take_prefix o.depth high names more (omega (arith, deep)) h j) (below (entries_of o.children)))
 
 -- ---- The innermost directory comes first.
 
@@ -107,7 +107,7 @@ module _ (names : Path) (all rest : List OpenDir) (dir : OpenDir) (form : Form) 
   own_taken = take_all (length own) own (omega arith)
 
   parent_taken : dir.depth ≤ length names → take dir.depth own ≡ parent
-  parent_taken h = take_front dir.depth dir.depth names (dir.children.name.now ∷ []) (omega arith) h
+  parent_taken h = take_prefix dir.depth dir.depth names (dir.children.name.now ∷ []) (omega arith) h
 
   module _ (behind : Option Children) (is : all ≡ rest ++ dir ∷ []) (nest : Nest names 0 (length names + 1) all) (later : all_entries behind ≡ later_of dir.children.later) where
     abbrev after : List OpenDir
@@ -138,39 +138,39 @@ last_split (y ∷ z ∷ xs) x h =
 pub looked_at : {X : Type 0} (all slice : List X) (x : X) → slice ≡ all → Some x ≡ slice_get slice (length slice - 1) → all ≡ take (length all - 1) all ++ x ∷ []
 looked_at all slice x e h = last_split all x (h ∙ ap (λ xs. slice_get xs (length xs - 1)) e)
 
-get_last : {X : Type 0} (front : List X) (x other : X) → slice_index_or (front ++ x ∷ []) (length front) other ≡ x
+get_last : {X : Type 0} (prefix : List X) (x other : X) → slice_index_or (prefix ++ x ∷ []) (length prefix) other ≡ x
 get_last [] x other = refl
-get_last (y ∷ front) x other = get_last front x other
+get_last (y ∷ prefix) x other = get_last prefix x other
 
-set_last : {X : Type 0} (front : List X) (x new : X) → slice_set (front ++ x ∷ []) (length front) new ≡ front ++ new ∷ []
+set_last : {X : Type 0} (prefix : List X) (x new : X) → slice_set (prefix ++ x ∷ []) (length prefix) new ≡ prefix ++ new ∷ []
 set_last [] x new = refl
-set_last (y ∷ front) x new = ap (λ r. y ∷ r) (set_last front x new)
+set_last (y ∷ prefix) x new = ap (λ r. y ∷ r) (set_last prefix x new)
 
-module _ (all front : List OpenDir) (len : ℕ) (last dir : OpenDir) (value : last ≡ slice_index_or all (len - 1) last) (counted : len ≡ length all) (split : all ≡ front ++ dir ∷ []) where
-  place : len - 1 ≡ length front
-  place = omega (arith, counted, ap length split, length-append front (dir ∷ []))
+module _ (all prefix : List OpenDir) (len : ℕ) (last dir : OpenDir) (value : last ≡ slice_index_or all (len - 1) last) (counted : len ≡ length all) (split : all ≡ prefix ++ dir ∷ []) where
+  place : len - 1 ≡ length prefix
+  place = omega (arith, counted, ap length split, length-append prefix (dir ∷ []))
 
   same_dir : last ≡ dir
-  same_dir = value ∙ (λ j. slice_index_or (split j) (place j) last) ∙ get_last front dir last
+  same_dir = value ∙ (λ j. slice_index_or (split j) (place j) last) ∙ get_last prefix dir last
 
-  written : (new : OpenDir) → slice_set all (len - 1) new ≡ front ++ new ∷ []
-  written new = (λ j. slice_set (split j) (place j) new) ∙ set_last front dir new
+  written : (new : OpenDir) → slice_set all (len - 1) new ≡ prefix ++ new ∷ []
+  written new = (λ j. slice_set (split j) (place j) new) ∙ set_last prefix dir new
 
   -- the innermost directory has other children
-  pub past_first : (others : Children) → entries_of others ≡ later_of last.children.later → Past front dir (slice_set all (len - 1) (record { depth = last.depth; children = others }))
+  pub past_first : (others : Children) → entries_of others ≡ later_of last.children.later → Past prefix dir (slice_set all (len - 1) (record { depth = last.depth; children = others }))
   past_first others more = (
     Some others,
     more ∙ ap (λ (d : OpenDir). later_of d.children.later) same_dir,
-    written (record { depth = last.depth; children = others }) ∙ ap (λ (d : OpenDir). front ++ opened d.depth (Some others)) same_dir,
+    written (record { depth = last.depth; children = others }) ∙ ap (λ (d : OpenDir). prefix ++ opened d.depth (Some others)) same_dir,
   )
 
   -- it has none, and leaves
-  pub past_last : (new : OpenDir) (after : List OpenDir) → later_of last.children.later ≡ [] → after ≡ take (len - 1) (slice_set all (len - 1) new) → Past front dir after
+  pub past_last : (new : OpenDir) (after : List OpenDir) → later_of last.children.later ≡ [] → after ≡ take (len - 1) (slice_set all (len - 1) new) → Past prefix dir after
   past_last new after ended left =
-      let kept : take (length front) (front ++ new ∷ []) ≡ front = take-append-le (length front) front (new ∷ []) (omega arith) ∙ take_all (length front) front (omega arith) in (
+      let kept : take (length prefix) (prefix ++ new ∷ []) ≡ prefix = take-append-le (length prefix) prefix (new ∷ []) (omega arith) ∙ take_all (length prefix) prefix (omega arith) in (
         None,
         sym ended ∙ ap (λ (d : OpenDir). later_of d.children.later) same_dir,
-        left ∙ (λ j. take (place j) (written new j)) ∙ kept ∙ sym (append-nil front),
+        left ∙ (λ j. take (place j) (written new j)) ∙ kept ∙ sym (append-nil prefix),
       )
 
 -- the names after a step

@@ -4,7 +4,7 @@ use Rattle.std.specs.Prelude.{bytes_eq}
 use Rattle.nn_model.specs.declared.form.Form.{Form}
 use Rattle.nn_model.specs.Namespace.{Path, begins_with}
 use Rattle.nn_types.specs.declared.edit_fault.EditFault.TheVariants.{IntoItself}
-use Rattle.nn_model.specs.Apply.{when, walk, is_root, exists, missing}
+use Rattle.nn_model.specs.Apply.{fault_if, walk, is_root, exists, missing}
 use Rattle.nn_tree.specs.At.{rows, grafted}
 use Rattle.nn_tree.specs.Walks.{moved_rows, rename_fault}
 use Rattle.nn_model.proofs.Dues.{all_none, when_none}
@@ -45,7 +45,7 @@ free_top f p h = ap f (sym (append-nil p)) ∙ h []
 
 pub can_move : (f : Path → Option Form) (s d : Path) → rename_fault f s d ≡ None → ((q : Path) → f (d ++ q) ≡ None) → CanMove f s d
 can_move f s d h free =
-    let found = all_none (is_root s ∷ is_root d ∷ walk f s ∷ missing (f s) ∷ when (begins_with s d && nat_lt (length s) (length d)) IntoItself ∷ walk f d ∷ exists (f d) ∷ []) h in
+    let found = all_none (is_root s ∷ is_root d ∷ walk f s ∷ missing (f s) ∷ fault_if (begins_with s d && nat_lt (length s) (length d)) IntoItself ∷ walk f d ∷ exists (f d) ∷ []) h in
     let some = stands (f s) found.1.1.1.0 in
     record { stands = some; free = free; outside = not_below f s d (free_top f d free) some (when_none _ _ found.1.1.1.1.0) }
 

@@ -15,9 +15,9 @@ use Rattle.nn_model.specs.declared.form.Form.TheVariants.{Dir, File}
 use Rattle.nn_model.specs.declared.form.FileRow.{FileRow}
 use Rattle.nn_model.specs.Namespace.{Path, Issued, Namespace, lookup, blocks_of, no_block, no_stamp}
 use Rattle.nn_model.specs.Apply.{refusal, checks, walk, has_id, is_dir}
-use Rattle.nn_model.specs.WellFormed.{Has, IsWellFormed, HasUtf8Names}
+use Rattle.nn_model.specs.WellFormed.{Includes, IsWellFormed, HasUtf8Names}
 use Rattle.nn_tree.specs.Restore.{bare, parent_of, rises, is_issued, awaiting_fits, can_restore}
-use Rattle.nn_tree.specs.View.{IsKept, Stands}
+use Rattle.nn_tree.specs.View.{IsKept, IsInSomeFile}
 use Rattle.nn_model.specs.declared.form.BlockRow.{BlockRow}
 use Rattle.nn_model.proofs.Dues.{all_none}
 use Rattle.nn_model.proofs.Moves.{HasParents, is_directory}
@@ -162,8 +162,8 @@ bare_is_well_formed issued low small old short fits =
       last_stamp_to = short;
     }
 
-no_block_stands : (issued : Issued) (b : BlockRow) → Stands (lookup (bare issued)) b → ⊥
-no_block_stands issued b ([], r, e, here) = let is : Dir ≡ r = cc in subst (λ form. Has (blocks_of form) b.block) (sym is) here.1
+no_block_stands : (issued : Issued) (b : BlockRow) → IsInSomeFile (lookup (bare issued)) b → ⊥
+no_block_stands issued b ([], r, e, here) = let is : Dir ≡ r = cc in subst (λ form. Includes (blocks_of form) b.block) (sym is) here.1
 no_block_stands issued b (name ∷ p, r, e, here) = absurd (cc)
 
 bare_utf8 : (issued : Issued) → HasUtf8Names (bare issued)
@@ -176,6 +176,6 @@ bare_kept n look issued e w none = record {
   utf8 = subst HasUtf8Names (sym e) (bare_utf8 issued);
   index = record {
     sound = λ id b h. absurd (let m = none id in (cc (m, h)));
-    complete = λ b stands. absurd (no_block_stands issued b (subst (λ m. Stands (lookup m) b) e stands));
+    complete = λ b stands. absurd (no_block_stands issued b (subst (λ m. IsInSomeFile (lookup m) b) e stands));
   };
 }

@@ -18,8 +18,8 @@ use Rattle.nn_model.specs.Namespace.{Path, Namespace, path_cmp, lookup, with_row
 use Rattle.std.specs.Prelude.{◌⊎◌}
 use Rattle.nn_types.specs.declared.edit_fault.EditFault.TheVariants.{BadReplication}
 use Rattle.nn_model.specs.Apply as apply
-use Rattle.nn_model.specs.Apply.{refusal, checks, first, has_id, is_dir, replication_range}
-use Rattle.nn_model.specs.WellFormed.{Has, times, IsIssued, IsWellFormed}
+use Rattle.nn_model.specs.Apply.{refusal, checks, first_fault, has_id, is_dir, replication_range}
+use Rattle.nn_model.specs.WellFormed.{Includes, times, IsIssued, IsWellFormed}
 use Rattle.nn_model.proofs.Dues.{all_none, when_none}
 use Rattle.nn_model.proofs.InRows.{put_from}
 use Rattle.nn_model.proofs.Lookups.{paths_total, lookup_put}
@@ -231,8 +231,8 @@ add_fits n p r h = let a = all_none (checks n (edit.Add p r)) h in range_fits r 
 add_none : (n : Namespace) (p : Path) (r : ℕ) → refusal n (edit.Mkdir p) ≡ None → replication_fits r ≡ true → refusal n (edit.Add p r) ≡ None
 add_none n p r h fits =
     let a = all_none (checks n (edit.Mkdir p)) h in
-    let range : replication_range r ≡ None = ap (λ t. apply.when t BadReplication) (fits_range r fits) in
-    (λ j. first (a.0 j ∷ range j ∷ a.1.0 j ∷ a.1.1.0 j ∷ []))
+    let range : replication_range r ≡ None = ap (λ t. apply.fault_if t BadReplication) (fits_range r fits) in
+    (λ j. first_fault (a.0 j ∷ range j ∷ a.1.0 j ∷ a.1.1.0 j ∷ []))
 
 dir_applies : (n : Namespace) (p : Path) → IsWellFormed n → can_restore n p Dir ≡ true → refusal n (edit.Mkdir p) ≡ None
 dir_applies n p w e = elim (cases_Bool (is_some (refusal n (edit.Mkdir p)))) [
@@ -297,7 +297,7 @@ module _ (n : Namespace) (p : Path) (x : FileRow) (lawful : IsLawfulEdit (edit.A
   ]
 
   module _ (fit : list_all (block_fits n.issued) x.blocks ≡ true) (lengths : AreBlocks x.blocks) (once_all : once (all_blocks n ++ x.blocks) ≡ true) where
-    new_issued : (bs : List Block) (b : Block) → list_all (block_fits n.issued) bs ≡ true → AreBlocks bs → Has bs b → IsIssued n.issued b
+    new_issued : (bs : List Block) (b : Block) → list_all (block_fits n.issued) bs ≡ true → AreBlocks bs → Includes bs b → IsIssued n.issued b
     new_issued [] b e are here = absurd here
     new_issued (y ∷ bs) b e are (inl is) =
         let parts = and_parts (block_fits n.issued y) (list_all (block_fits n.issued) bs) e in
@@ -352,12 +352,12 @@ restored_well n p (File x) path lawful may w =
 
 -- ---- The index with the blocks of the file.
 
-id_in : (bs : List Block) (b : Block) → Has bs b → has_id (ids bs) b.id ≡ true
+id_in : (bs : List Block) (b : Block) → Includes bs b → has_id (ids bs) b.id ≡ true
 id_in [] b here = absurd here
 id_in (y ∷ bs) b (inl is) = ap (λ t. t || has_id (ids bs) b.id) (eq-eqb y.id b.id (ap (λ z. z.id) is))
 id_in (y ∷ bs) b (inr here) = or_right (y.id == b.id) (has_id (ids bs) b.id) (id_in bs b here)
 
-entered_there : (look : ℕ → Option BlockRow) (bs : List Block) (closed : Bool) (b : BlockRow) → once bs ≡ true → b.closed ≡ closed → Has bs b.block → entered look bs closed b.block.id ≡ Some b
+entered_there : (look : ℕ → Option BlockRow) (bs : List Block) (closed : Bool) (b : BlockRow) → once bs ≡ true → b.closed ≡ closed → Includes bs b.block → entered look bs closed b.block.id ≡ Some b
 entered_there look [] closed b e is here = absurd here
 entered_there look (y ∷ bs) closed b e is (inl same_block) =
     let shown : record { block = y; closed = closed } ≡ b = (λ j. record { block = same_block j; closed = sym is j }) in
@@ -369,7 +369,7 @@ entered_there look (y ∷ bs) closed b e is (inr here) =
       | inr other ↦ ap (λ t. cond t (Some (record { block = y; closed = closed })) (entered look bs closed b.block.id)) other ∙ entered_there look bs closed b parts.1 is here
     ]
 
-entered_apart : (look : ℕ → Option BlockRow) (bs : List Block) (closed : Bool) (id : ℕ) → ((b : Block) → Has bs b → b.id ≡ id → ⊥) → entered look bs closed id ≡ look id
+entered_apart : (look : ℕ → Option BlockRow) (bs : List Block) (closed : Bool) (id : ℕ) → ((b : Block) → Includes bs b → b.id ≡ id → ⊥) → entered look bs closed id ≡ look id
 entered_apart look [] closed id away = refl
 entered_apart look (y ∷ bs) closed id away =
     ap (λ t. cond t (Some (record { block = y; closed = closed })) (entered look bs closed id)) (ne_eqb y.id id (away y (inl refl))) ∙ entered_apart look bs closed id (λ b here. away b (inr here))
@@ -385,11 +385,11 @@ file_kept n p x look next lawful applies fit lengths new goes k = record {
           let known : look c.block.id ≡ Some c = k.index.complete c (q, s, at_q, in_row) in
           let none : look z.id ≡ None = new_free look x.blocks z.id new (id_in x.blocks z own) in
           absurd (let same_id = ap look is in (cc (known, none, same_id)))
-      | inr old ↦ absurd (subst (λ o. Has (old_blocks o) z) gone old)
+      | inr old ↦ absurd (subst (λ o. Includes (old_blocks o) z) gone old)
     ];
     written = λ b h. goes b.block.id ∙ entered_there look x.blocks x.closed b (new_once look x.blocks new) h.0 h.1;
     kept = λ id away before. goes id ∙ entered_apart look x.blocks x.closed id away;
-    gone = λ z old away. absurd (subst (λ o. Has (old_blocks o) z) gone old);
+    gone = λ z old away. absurd (subst (λ o. Includes (old_blocks o) z) gone old);
   }) k.index;
 }
   where

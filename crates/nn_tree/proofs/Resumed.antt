@@ -58,13 +58,13 @@ all_from p (x ∷ rows) =
       | false ↦ λ e. all_from p rows
     ] refl
 
-at_later : (p : Path) (front : Rows) (row : Path × Form) (back : Rows) → AllFrom p (front ++ row ∷ back) → is_le (path_cmp p row.0) ≡ true
+at_later : (p : Path) (prefix : Rows) (row : Path × Form) (back : Rows) → AllFrom p (prefix ++ row ∷ back) → is_le (path_cmp p row.0) ≡ true
 at_later p [] row back h = h.0
-at_later p (x ∷ front) row back h = at_later p front row back h.1
+at_later p (x ∷ prefix) row back h = at_later p prefix row back h.1
 
-below_at : (p : Path) (front : Rows) (row : Path × Form) (back : Rows) → below_all path_cmp p (front ++ row ∷ back) ≡ true → is_lt (path_cmp p row.0) ≡ true
+below_at : (p : Path) (prefix : Rows) (row : Path × Form) (back : Rows) → below_all path_cmp p (prefix ++ row ∷ back) ≡ true → is_lt (path_cmp p row.0) ≡ true
 below_at p [] row back h = (and_parts (is_lt (path_cmp p row.0)) (below_all path_cmp p back) h).0
-below_at p (x ∷ front) row back h = below_at p front row back (and_parts (is_lt (path_cmp p x.0)) (below_all path_cmp p (front ++ row ∷ back)) h).1
+below_at p (x ∷ prefix) row back h = below_at p prefix row back (and_parts (is_lt (path_cmp p x.0)) (below_all path_cmp p (prefix ++ row ∷ back)) h).1
 
 less_of : (o : Ordering) → is_lt o ≡ true → o ≡ Less
 less_of Less h = refl
@@ -78,15 +78,15 @@ all_behind q (x ∷ rows) h =
     (λ j. cond (is_le (less_of (path_cmp q x.0) both.0 j)) (x ∷ all_behind q rows both.1 j) (all_behind q rows both.1 j))
 
 -- of rows in order, those from one of them on
-from_one : (front : Rows) (row : Path × Form) (back : Rows) → is_sorted path_cmp (front ++ row ∷ back) ≡ true → rows_from row.0 (front ++ row ∷ back) ≡ row ∷ back
+from_one : (prefix : Rows) (row : Path × Form) (back : Rows) → is_sorted path_cmp (prefix ++ row ∷ back) ≡ true → rows_from row.0 (prefix ++ row ∷ back) ≡ row ∷ back
 from_one [] row back s =
     let both = and_parts (below_all path_cmp row.0 back) (is_sorted path_cmp back) s in
     (λ j. cond (is_le (tied_itself paths_total row.0 j)) (row ∷ all_behind row.0 back both.0 j) (all_behind row.0 back both.0 j))
-from_one (x ∷ front) row back s =
-    let both = and_parts (below_all path_cmp x.0 (front ++ row ∷ back)) (is_sorted path_cmp (front ++ row ∷ back)) s in
-    let less = less_of (path_cmp x.0 row.0) (below_at x.0 front row back both.0) in
+from_one (x ∷ prefix) row back s =
+    let both = and_parts (below_all path_cmp x.0 (prefix ++ row ∷ back)) (is_sorted path_cmp (prefix ++ row ∷ back)) s in
+    let less = less_of (path_cmp x.0 row.0) (below_at x.0 prefix row back both.0) in
     let later : path_cmp row.0 x.0 ≡ Greater = paths_total.antisymm row.0 x.0 ∙ ap ordering_reverse less in
-    ap (λ o. cond (is_le o) (x ∷ rows_from row.0 (front ++ row ∷ back)) (rows_from row.0 (front ++ row ∷ back))) later ∙ from_one front row back both.1
+    ap (λ o. cond (is_le o) (x ∷ rows_from row.0 (prefix ++ row ∷ back)) (rows_from row.0 (prefix ++ row ∷ back))) later ∙ from_one prefix row back both.1
 
 sorted_from : (p : Path) (rows : Rows) → is_sorted path_cmp rows ≡ true → is_sorted path_cmp (rows_from p rows) ≡ true
 sorted_from p rows s = from_T _ (is_sorted-where_key path_cmp (λ q. is_le (path_cmp p q)) rows (to_T _ s))
@@ -96,6 +96,6 @@ sorted_from p rows s = from_T _ (is_sorted-where_key path_cmp (λ q. is_le (path
     from_T false h = absurd h
 
 pub resumes : (rows : Rows) → is_sorted path_cmp rows ≡ true → Resumes rows
-resumes rows s p front row back is =
-    let later = at_later p front row back (subst (AllFrom p) is (all_from p rows)) in
-    sym (from_later p row.0 rows later) ∙ ap (rows_from row.0) is ∙ from_one front row back (subst (λ rs. is_sorted path_cmp rs ≡ true) is (sorted_from p rows s))
+resumes rows s p prefix row back is =
+    let later = at_later p prefix row back (subst (AllFrom p) is (all_from p rows)) in
+    sym (from_later p row.0 rows later) ∙ ap (rows_from row.0) is ∙ from_one prefix row back (subst (λ rs. is_sorted path_cmp rs ≡ true) is (sorted_from p rows s))

@@ -16,7 +16,7 @@ use Rattle.nn_model.specs.declared.form.Form.{Form}
 use Rattle.nn_model.specs.Namespace.{Path}
 use Rattle.nn_tree.specs.Flat.{under, under_all}
 use Rattle.nn_tree.specs.At.{at}
-use Rattle.nn_tree.specs.Ids.{ids_of, row_ids}
+use Rattle.nn_tree.specs.Ids.{ids_of_rows, row_ids}
 use Rattle.nn_tree.proofs.Below.{at-under-same, at-under-other}
 use Rattle.nn_tree.proofs.Ids.{ids_under}
 use Rattle.nn_model.proofs.Prefixes.{name_same, begins_split}
@@ -49,11 +49,11 @@ sorted_under_all : (p : Path) (t : List (Path × Form)) → is_sorted path_cmp (
 sorted_under_all [] t = refl
 sorted_under_all (n ∷ p) t = sorted_under n (under_all p t) ∙ sorted_under_all p t
 
-ids_under_all : (p : Path) (t : List (Path × Form)) → ids_of (under_all p t) ≡ ids_of t
+ids_under_all : (p : Path) (t : List (Path × Form)) → ids_of_rows (under_all p t) ≡ ids_of_rows t
 ids_under_all [] t = refl
 ids_under_all (n ∷ p) t = ids_under n (under_all p t) ∙ ids_under_all p t
 
-ids_are : (es : List (Path × Form)) → touched.ids_of (flat_map (λ row. blocks_of row.1) es) ≡ ids_of es
+ids_are : (es : List (Path × Form)) → touched.ids_of (flat_map (λ row. blocks_of row.1) es) ≡ ids_of_rows es
 ids_are [] = refl
 ids_are (e ∷ es) = map-append (λ b. b.id) (blocks_of e.1) (flat_map (λ row. blocks_of row.1) es) ∙ ap (λ ids. row_ids e.1 ++ ids) (ids_are es)
 
@@ -69,6 +69,6 @@ rows_below n p t rows_sorted sorted sub =
     ]
     ∙ sym (at_under_all p q t))
 
-pub ids_collected : (n : Namespace) (p : Path) (t : List (Path × Form)) → is_sorted path_cmp n.rows ≡ true → is_sorted path_cmp t ≡ true → ((q : Path) → lookup n (p ++ q) ≡ at t q) → ids_of t ≡ ids_below n p
+pub ids_collected : (n : Namespace) (p : Path) (t : List (Path × Form)) → is_sorted path_cmp n.rows ≡ true → is_sorted path_cmp t ≡ true → ((q : Path) → lookup n (p ++ q) ≡ at t q) → ids_of_rows t ≡ ids_below n p
 ids_collected n p t rows_sorted sorted sub =
     sym (ap (λ rows. touched.ids_of (flat_map (λ row. blocks_of row.1) rows)) (rows_below n p t rows_sorted sorted sub) ∙ ids_are (under_all p t) ∙ ids_under_all p t)

@@ -88,13 +88,13 @@ moved_apart s d row rows free none =
     lookup_rename rows s d (moved s d row.0) (λ rest. tail_off (same (d ++ rest) row.0) row.1 (f (d ++ rest)) (free rest))
     ∙ elim (begins_with s row.0) as (λ b. begins_with s row.0 ≡ b → after_rename f s d (cond b (d ++ drop (length s) row.0) row.0) ≡ None) [
       | true ↦ λ e. at_target f s d (d ++ drop (length s) row.0) (begins_append d (drop (length s) row.0))
-          ∙ ap (λ rest. f (s ++ rest)) (drop_front d (drop (length s) row.0)) ∙ ap f (sym (begins_split s row.0 e)) ∙ none
+          ∙ ap (λ rest. f (s ++ rest)) (drop_prefix d (drop (length s) row.0)) ∙ ap f (sym (begins_split s row.0 e)) ∙ none
       | false ↦ λ e. elsewhere f s d row.0 (false_from_ne_true (begins_with d row.0) (λ h. taken (begins_split d row.0 h))) e ∙ none
     ] refl
   where
-    drop_front : (p q : Path) → drop (length p) (p ++ q) ≡ q
-    drop_front [] q = refl
-    drop_front (n ∷ p) q = drop_front p q
+    drop_prefix : (p q : Path) → drop (length p) (p ++ q) ≡ q
+    drop_prefix [] q = refl
+    drop_prefix (n ∷ p) q = drop_prefix p q
 
     taken : row.0 ≡ d ++ drop (length d) row.0 → ⊥
     taken is =

@@ -60,14 +60,14 @@ module _ (place : Path) (root : Rows) (names : Path) (dirs : List OpenDir) (name
     down_on is same later deep pushed more next others e =
         let k = children.name.now in
         let mine = names ++ k ∷ [] in
-        let front : take (length names) mine ≡ names = take-append-le (length names) names (k ∷ []) (omega arith) ∙ own_taken in
+        let prefix : take (length names) mine ≡ names = take-append-le (length names) names (k ∷ []) (omega arith) ∙ own_taken in
         let kept : take (length names) names ++ k ∷ [] ≡ mine = ap (λ p. p ++ k ∷ []) own_taken in
         let child = rows_from rest children.tree.now in
         let split : after ≡ dirs ++ opened (length names) behind = more ∙ ap (λ n. dirs ++ opened n behind) deep in
         let here : rows_from (name ∷ rest) tree ≡ under k child ++ below (later_of children.later) = is ∙ ap (λ b. under k (cond b child children.tree.now) ++ below (later_of children.later)) same in
         let opened_rows : rows_open mine after ≡ under_all names (below (later_of children.later)) ++ rows_open names dirs =
         ap (rows_open mine) split ∙ rows_opened mine dirs (length names) behind
-        ∙ (λ j. under_all (front j) (below (later j)) ++ (ap (λ p. rows_open p dirs) (sym kept) ∙ rows_kept names (k ∷ []) 0 (length names) dirs d.nest (omega arith)) j) in
+        ∙ (λ j. under_all (prefix j) (below (later j)) ++ (ap (λ p. rows_open p dirs) (sym kept) ∙ rows_kept names (k ∷ []) 0 (length names) dirs d.nest (omega arith)) j) in
         let all : rows_from place root ≡ under_all mine child ++ rows_open mine after =
         d.rows ∙ ap (λ r. under_all names r ++ rows_open names dirs) here ∙ ap (λ r. r ++ rows_open names dirs) (under_all-append names (under k child) (below (later_of children.later)))
         ∙ append_assoc (under_all names (under k child)) (under_all names (below (later_of children.later))) (rows_open names dirs)

@@ -11,7 +11,7 @@ use Rattle.nn_model.specs.declared.form.BlockRow.{BlockRow}
 use Rattle.nn_model.specs.Namespace.{Issued, Namespace, with_row}
 use Rattle.nn_model.specs.Blocks.{block_row as row}
 use Rattle.nn_tree.specs.Restore.{bare}
-use Rattle.nn_tree.specs.Blocks.{AreBlocks}
+use Rattle.nn_tree.specs.Blocks.{AreBlockRows}
 
 abbrev first : Block
 first = record { id = 1073741825; stamp = 1001; len = 0 }
@@ -38,26 +38,26 @@ either id true false h k = refl
 either id false true h k = refl
 either id false false h k = refl
 
-by_id : AreBlocks files (row false first ∷ row true second ∷ [])
+by_id : AreBlockRows files (row false first ∷ row true second ∷ [])
 unfolding IsStrictlySortedBy
 by_id = record {
   ascending = ((refl, tt), (tt, tt));
   all = λ id. either id (1073741825 == id) (1073741826 == id) refl refl;
 }
 
-by_path : AreBlocks files (row true second ∷ row false first ∷ []) → ⊥
+by_path : AreBlockRows files (row true second ∷ row false first ∷ []) → ⊥
 unfolding IsStrictlySortedBy
 by_path r = let order = r.ascending.0.0 in cc
 
-one_left_out : AreBlocks files (row false first ∷ []) → ⊥
+one_left_out : AreBlockRows files (row false first ∷ []) → ⊥
 one_left_out r = let found = r.all 1073741826 in cc
 
 abbrev is_closed : Option BlockRow → Bool
 is_closed None = false
 is_closed (Some r) = r.closed
 
-closed_told_as_open : AreBlocks files (row false first ∷ row false second ∷ []) → ⊥
+closed_told_as_open : AreBlockRows files (row false first ∷ row false second ∷ []) → ⊥
 closed_told_as_open r = both_ways false refl (ap is_closed (r.all 1073741826))
 
-one_too_many : AreBlocks (bare issued) (row false first ∷ []) → ⊥
+one_too_many : AreBlockRows (bare issued) (row false first ∷ []) → ⊥
 one_too_many r = let found = r.all 1073741825 in cc

@@ -9,7 +9,7 @@ use Rattle.nn_model.specs.Apply.{walk, keeps_ids, keeps_stamps}
 use Rattle.nn_model.specs.Blocks.{block_row}
 use Rattle.nn_tree.specs.declared.touched.Touched.{Touched as Told}
 use Rattle.nn_tree.specs.At.{at, IsSubtree, IsGrafted}
-use Rattle.nn_tree.specs.Touched.{seen}
+use Rattle.nn_tree.specs.Touched.{touched_of}
 use Rattle.nn_tree.specs.Walks.{mkdir_fault}
 
 -- nothing stood at the path p or below it, and now t does
@@ -38,14 +38,14 @@ abbrev pub GetsList : List Block → Bool → ℕ → Told × List Block → Fil
 GetsList bs closed last told x y =
     (x.closed ≡ false) × (keeps_ids x.blocks bs ≡ true) × (keeps_stamps last x.blocks bs ≡ true)
     × (y ≡ record { replication = x.replication; closed = closed; blocks = bs })
-    × (seen told.0 ≡ record { changed = map (λ b. block_row closed b) bs; retired = map (λ b. b.id) (drop (length bs) x.blocks); skipped = None })
+    × (touched_of told.0 ≡ record { changed = map (λ b. block_row closed b) bs; retired = map (λ b. b.id) (drop (length bs) x.blocks); skipped = None })
     × (told.0.replication ≡ x.replication) × (told.1 ≡ x.blocks)
 
 -- The closed file x was opened. Told are what that touched, its replication with it, and its blocks.
 abbrev pub Opens : Told × List Block → FileRow → FileRow → Type 0
 Opens told x y =
     (x.closed ≡ true) × (y ≡ record { replication = x.replication; closed = false; blocks = x.blocks })
-    × (seen told.0 ≡ record { changed = map (λ b. block_row false b) x.blocks; retired = []; skipped = None })
+    × (touched_of told.0 ≡ record { changed = map (λ b. block_row false b) x.blocks; retired = []; skipped = None })
     × (told.0.replication ≡ x.replication) × (told.1 ≡ x.blocks)
 
 -- the file x got another replication

@@ -8,6 +8,6 @@ abbrev pub row_ids : Form → List ℕ
 row_ids r = map (λ b. b.id) (blocks_of r)
 
 -- the ids of all its files' blocks
-abbrev pub ids_of : List (Path × Form) → List ℕ
-ids_of [] = []
-ids_of (e ∷ es) = row_ids e.1 ++ ids_of es
+abbrev pub ids_of_rows : List (Path × Form) → List ℕ
+ids_of_rows [] = []
+ids_of_rows (e ∷ es) = row_ids e.1 ++ ids_of_rows es

@@ -8,8 +8,8 @@ use Rattle.nn_tree.specs.At.{names_of}
 use Rattle.nn_tree.specs.declared.listing.PathRow.{PathRow}
 
 -- each path with what stands there
-abbrev pub rows_of : List PathRow → List (Path × Form)
-rows_of rows = map (λ row. (names_of row.names.items, row.form)) rows
+abbrev pub path_rows : List PathRow → List (Path × Form)
+path_rows rows = map (λ row. (names_of row.names.items, row.form)) rows
 
 -- the names that are lent, as bytes
 abbrev pub lent_names : List (Bor (List ℕ)) → Path

@@ -22,5 +22,5 @@ abbrev pub byte_of : List ℕ → ℕ → ℕ
 byte_of bs place = slice_index_or bs place 0
 
 -- the first eight bytes as a number, the first one highest
-abbrev pub front_of : List ℕ → ℕ
-front_of bs = from_be_bytes w64 (byte_of bs 0 ∷ byte_of bs 1 ∷ byte_of bs 2 ∷ byte_of bs 3 ∷ byte_of bs 4 ∷ byte_of bs 5 ∷ byte_of bs 6 ∷ byte_of bs 7 ∷ [])
+abbrev pub prefix_of : List ℕ → ℕ
+prefix_of bs = from_be_bytes w64 (byte_of bs 0 ∷ byte_of bs 1 ∷ byte_of bs 2 ∷ byte_of bs 3 ∷ byte_of bs 4 ∷ byte_of bs 5 ∷ byte_of bs 6 ∷ byte_of bs 7 ∷ [])

@@ -2,6 +2,7 @@
 use Rattle.std.specs.Prelude.{ℕ, ◌+◌, Bool, true, not, ◌&&◌, List, [], ◌∷◌, ◌++◌, map, is_some, nat_le, nat_lt}
 use Rattle.std.specs.List.{list_all}
 use Rattle.nn_types.specs.declared.block.Block.{Block}
+use Rattle.nn_types.specs.Limits.{max_replication}
 use Rattle.nn_model.specs.declared.form.Form.{Form}
 use Rattle.nn_model.specs.declared.form.Form.TheVariants.{Dir, File}
 use Rattle.nn_model.specs.Namespace.{Path, Issued, Namespace, lookup, all_blocks, no_block, no_stamp}
@@ -35,7 +36,7 @@ awaiting_fits last_block ids = list_all (is_issued last_block) ids && rises ids
 -- ---- Which path may be restored.
 
 abbrev pub replication_fits : ℕ → Bool
-replication_fits r = nat_le 1 r && nat_le r 512
+replication_fits r = nat_le 1 r && nat_le r max_replication
 
 -- a block's id was issued and awaits no more, and its generation stamp was issued
 abbrev pub block_fits : Issued → Block → Bool

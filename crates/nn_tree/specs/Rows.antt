@@ -31,7 +31,7 @@ rows_from p rows = filter (λ row. is_le (path_cmp p row.0)) rows
 
 -- where the rows from a path on come to a row, those from its own path on are that row and all behind it
 abbrev pub Resumes : List (Path × Form) → Type 0
-Resumes rows = (p : Path) (front : List (Path × Form)) (row : Path × Form) (back : List (Path × Form)) → rows_from p rows ≡ front ++ row ∷ back → rows_from row.0 rows ≡ row ∷ back
+Resumes rows = (p : Path) (prefix : List (Path × Form)) (row : Path × Form) (back : List (Path × Form)) → rows_from p rows ≡ prefix ++ row ∷ back → rows_from row.0 rows ≡ row ∷ back
 
 -- ---- What is left of a directory.
 
@@ -74,10 +74,10 @@ opened depth (Some children) = record { depth = depth; children = children } ∷
 
 -- what is left past the first child of the last directory, which is gone where it has no others
 abbrev pub Past : List OpenDir → OpenDir → List OpenDir → Type 0
-Past front dir after = (others : Option Children) × (all_entries others ≡ later_of dir.children.later) × (after ≡ front ++ opened dir.depth others)
+Past prefix dir after = (others : Option Children) × (all_entries others ≡ later_of dir.children.later) × (after ≡ prefix ++ opened dir.depth others)
 
 abbrev pub IsPast : List OpenDir → List OpenDir → Type 0
-IsPast dirs after = (front : List OpenDir) (dir : OpenDir) → dirs ≡ front ++ dir ∷ [] → Past front dir after
+IsPast dirs after = (prefix : List OpenDir) (dir : OpenDir) → dirs ≡ prefix ++ dir ∷ [] → Past prefix dir after
 
 -- the rows of the root, where none was given
 abbrev pub root_rows : Option (Bor (List (Path × Form))) → List (Path × Form)

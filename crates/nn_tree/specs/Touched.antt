@@ -8,8 +8,8 @@ use Rattle.nn_model.specs.Touched.{Touched}
 use Rattle.nn_tree.specs.declared.touched.Touched.{Touched as Told}
 
 -- the fields of the code's record, as those of the definition's
-abbrev pub seen : Told → Touched
-seen t = record { changed = t.changed.items; retired = t.retired.items; skipped = t.skipped }
+abbrev pub touched_of : Told → Touched
+touched_of t = record { changed = t.changed.items; retired = t.retired.items; skipped = t.skipped }
 
 -- the replication of the file whose blocks an edit writes, 0 where it writes none
 abbrev pub file_replication : Namespace → Edit → ℕ

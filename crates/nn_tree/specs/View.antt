@@ -5,7 +5,7 @@ use Rattle.nn_model.specs.declared.form.Form.{Form}
 use Rattle.nn_model.specs.declared.form.Form.TheVariants.{Dir, File}
 use Rattle.nn_model.specs.Namespace.{Path, Issued, Namespace, lookup, blocks_of}
 use Rattle.nn_model.specs.Apply.{in_path_order}
-use Rattle.nn_model.specs.WellFormed.{Has, IsWellFormed, HasUtf8Names}
+use Rattle.nn_model.specs.WellFormed.{Includes, IsWellFormed, HasUtf8Names}
 use Rattle.nn_model.specs.declared.form.BlockRow.{BlockRow}
 use Rattle.nn_tree.specs.declared.sizes.Sizes.{Sizes}
 use Rattle.nn_tree.specs.Sizes.{sizes_of}
@@ -21,16 +21,16 @@ closed_of (File x) = x.closed
 
 -- it is a file with the block, closed or open as the index says
 abbrev pub InRow : BlockRow → Form → Type 0
-InRow b r = (b.closed ≡ closed_of r) × Has (blocks_of r) b.block
+InRow b r = (b.closed ≡ closed_of r) × Includes (blocks_of r) b.block
 
 -- the block stands in some file
-abbrev pub Stands : (Path → Option Form) → BlockRow → Type 0
-Stands f b = (p : Path) × (r : Form) × (f p ≡ Some r) × InRow b r
+abbrev pub IsInSomeFile : (Path → Option Form) → BlockRow → Type 0
+IsInSomeFile f b = (p : Path) × (r : Form) × (f p ≡ Some r) × InRow b r
 
 -- the index has the blocks of the files, and no others
 pub record IsIndex (f : Path → Option Form) (look : ℕ → Option BlockRow) : Type 0 where
-  pub sound : (id : ℕ) (b : BlockRow) → look id ≡ Some b → (b.block.id ≡ id) × Stands f b
-  pub complete : (b : BlockRow) → Stands f b → look b.block.id ≡ Some b
+  pub sound : (id : ℕ) (b : BlockRow) → look id ≡ Some b → (b.block.id ≡ id) × IsInSomeFile f b
+  pub complete : (b : BlockRow) → IsInSomeFile f b → look b.block.id ≡ Some b
 
 -- what each edit keeps: the namespace is well formed, its names are UTF-8, and the index is its own
 pub record IsKept (n : Namespace) (look : ℕ → Option BlockRow) : Type 0 where

@@ -2,7 +2,7 @@
 use nn_model::FileRow;
 
 /// What stands at a path.
-#[derive(Clone, Copy)]
+#[derive(Clone, Copy, Debug)]
 pub enum Found<'a> {
     Dir,
     File(&'a FileRow),

@@ -7,16 +7,11 @@ ghost use Rattle.nn_model.specs.Apply.{has_id};
 ghost use Rattle.nn_tree.specs.Restore.{awaiting_fits, is_issued, block_fits};
 ghost use Rattle.nn_tree.specs.Issued.{AreBelow};
 
+use nn_types::limits::{LAST_RESERVED_BLOCK, LAST_RESERVED_STAMP};
 use nn_types::{Block, BlockId, GenerationStamp, Profile};
 use std::alloc::{AllocError, Global};
 use std::collections::BTreeSet;
 use std::marker::Model;
-
-/// The last id before the first one that a log issues.
-const NO_BLOCK: u64 = 1_073_741_824;
-
-/// The last generation stamp before the first one that a log issues.
-const NO_STAMP: u64 = 1000;
 
 /// What the log has issued. Contracts see it as the definition's own record.
 #[derive(Drop)]
@@ -42,8 +37,8 @@ impl Issued {
         ensures { result ≡ root_alone.issued }
     {
         Issued {
-            last_block: BlockId::new(NO_BLOCK).unwrap(),
-            last_stamp: GenerationStamp::new(NO_STAMP).unwrap(),
+            last_block: BlockId::new(LAST_RESERVED_BLOCK).unwrap(),
+            last_stamp: GenerationStamp::new(LAST_RESERVED_STAMP).unwrap(),
             awaiting: BTreeSet::new(alloc),
             profile: Profile::One,
         }
@@ -113,7 +108,7 @@ impl Issued {
     pub(crate) fn has_stamp(&self, stamp: GenerationStamp) -> bool
         ensures { (nat_le stamp no_stamp || nat_lt self.now.last_stamp stamp) ≡ not result }
     {
-        NO_STAMP < stamp.get() && stamp <= self.last_stamp
+        LAST_RESERVED_STAMP < stamp.get() && stamp <= self.last_stamp
     }
 
     /// Whether a file may hold the block: its id was issued and awaits no more, and its generation stamp was issued.
@@ -176,7 +171,7 @@ impl Issued {
 fn was_given(last: BlockId, id: BlockId) -> bool
     ensures { result ≡ is_issued last id }
 {
-    NO_BLOCK < id.get() && id <= last
+    LAST_RESERVED_BLOCK < id.get() && id <= last
 }
 
 // The ids as a set.

@@ -3,7 +3,7 @@ ghost use Rattle.std.specs.Prelude.{◌≡◌, ◌++◌, string_bytes, OnOk, IfO
 ghost use Rattle.nn_types.specs.Path.{joined, path_text};
 ghost use Rattle.nn_tree.specs.At.{names_of};
 ghost use Rattle.nn_tree.specs.Found.{form_of};
-ghost use Rattle.nn_tree.specs.Listing.{rows_of, lent_names};
+ghost use Rattle.nn_tree.specs.Listing.{path_rows, lent_names};
 
 use crate::found::Found;
 use crate::rows::Rows;
@@ -11,7 +11,7 @@ use nn_model::{FileRow, Form};
 use std::alloc::{AllocError, Global};
 
 /// A path and what stands there.
-#[derive(Drop)]
+#[derive(Debug, Drop)]
 pub struct PathRow {
     /// The names from the root down. A rename can make more of them than a `Path` may have.
     pub names: Vec<String>,
@@ -32,11 +32,11 @@ impl PathRow {
 
 /// A copy of the rows that are left.
 pub(crate) fn copies(alloc: Global, mut rows: Rows<'_>) -> Result<Vec<PathRow>, AllocError>
-    ensures { IfOk result (λ copies. rows_of copies.items ≡ rows.entry.left) }
+    ensures { IfOk result (λ copies. path_rows copies.items ≡ rows.entry.left) }
 {
     let mut copies = Vec::new(alloc);
     'rows: loop {
-        let Ok(found) = rows.next() else {
+        let Ok(found) = rows.next_row() else {
             return Err(AllocError);
         };
         let Some(found) = found else {

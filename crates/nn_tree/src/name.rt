@@ -1,6 +1,6 @@
 //! The name of a child.
 ghost use Rattle.std.specs.Prelude.{◌≡◌, [], IfOk, slice_index_or, Some};
-ghost use Rattle.nn_tree.specs.Name.{front_of, name_cmp};
+ghost use Rattle.nn_tree.specs.Name.{prefix_of, name_cmp};
 
 use arrayvec::ArrayString;
 use nn_sorted::Seek;
@@ -63,18 +63,18 @@ impl Name {
 
 // The first eight bytes of a text as a number, the first one highest. A shorter text has zeros behind it.
 #[inline(always)]
-fn front_of(text: &str) -> u64
-    ensures { result ≡ front_of text.now }
+fn prefix_of(text: &str) -> u64
+    ensures { result ≡ prefix_of text.now }
 {
     let bytes = text.as_bytes();
-    if let Some(front) = bytes.first_chunk() {
-        return u64::from_be_bytes(*front);
+    if let Some(prefix) = bytes.first_chunk() {
+        return u64::from_be_bytes(*prefix);
     }
-    short_front_of(bytes)
+    short_prefix_of(bytes)
 }
 
-fn short_front_of(bytes: &[u8]) -> u64
-    ensures { result ≡ front_of bytes.now }
+fn short_prefix_of(bytes: &[u8]) -> u64
+    ensures { result ≡ prefix_of bytes.now }
 {
     u64::from_be_bytes([
         byte(bytes, 0),
@@ -98,15 +98,15 @@ fn byte(bytes: &[u8], place: usize) -> u8
 
 // How two texts compare, of which these are the first bytes.
 #[inline(always)]
-fn compare(front: u64, text: &str, other_front: u64, other: &str) -> Ordering
-    requires front { front ≡ front_of text.now }
-    requires other { other_front ≡ front_of other.now }
+fn compare(prefix: u64, text: &str, other_prefix: u64, other: &str) -> Ordering
+    requires prefix { prefix ≡ prefix_of text.now }
+    requires other { other_prefix ≡ prefix_of other.now }
     ensures { result ≡ name_cmp text.now other.now }
 {
-    if front < other_front {
+    if prefix < other_prefix {
         return Ordering::Less;
     }
-    if front > other_front {
+    if prefix > other_prefix {
         return Ordering::Greater;
     }
     text.cmp(other)
@@ -166,19 +166,19 @@ impl Ord for Name {
 /// A text that a name is looked for by.
 #[derive(Drop)]
 pub(crate) struct Wanted<'a> {
-    front: u64,
+    prefix: u64,
     text: &'a str,
 }
 
 impl<'a> Model for Wanted<'a> {
     ghost use Rattle.std.specs.Prelude.{◌≡◌, ℕ, List};
-    ghost use Rattle.nn_tree.specs.Name.{front_of};
+    ghost use Rattle.nn_tree.specs.Name.{prefix_of};
 
     ghost Value = { List ℕ };
 
     ghost view = { λ w. w.text.now };
 
-    ghost invariant = { λ w. w.front ≡ front_of w.text.now };
+    ghost invariant = { λ w. w.prefix ≡ prefix_of w.text.now };
 }
 
 impl<'a> Wanted<'a> {
@@ -187,7 +187,7 @@ impl<'a> Wanted<'a> {
         ensures { result ≡ text.entry.now }
     {
         Wanted {
-            front: front_of(text),
+            prefix: prefix_of(text),
             text,
         }
     }
@@ -197,7 +197,7 @@ impl<'a> Wanted<'a> {
         ensures { result ≡ name_cmp self.now name.now }
     {
         let text = name.as_str();
-        compare(self.front, self.text, front_of(text), text)
+        compare(self.prefix, self.text, prefix_of(text), text)
     }
 }
 

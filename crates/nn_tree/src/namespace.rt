@@ -1,7 +1,7 @@
 //! The namespace: a directory tree, seen as its rows in path order, and an index of the blocks in its files.
 ghost use Rattle.std.specs.Prelude.{◌≡◌, ◌≤◌, OnOk, OnErr, IfOk, IfErr, IfSome, IsErrOf, None, Ok, true, option_map, length, []};
 ghost use Rattle.nn_types.specs.LawfulEdit.{IsLawfulEdit, IsTypedEdit};
-ghost use Rattle.nn_types.specs.Profile.{number_of};
+ghost use Rattle.nn_types.specs.Profile.{profile_number};
 ghost use Rattle.nn_model.specs.Namespace.{root_alone, lookup};
 ghost use Rattle.nn_model.specs.Apply.{applied, refusal};
 ghost use Rattle.nn_types.specs.EditFault.{IsFault};
@@ -9,13 +9,13 @@ ghost use Rattle.nn_model.specs.Status.{block_at, status_of, status_unheld};
 ghost use Rattle.nn_model.specs.Touched.{touched};
 ghost use Rattle.nn_tree.specs.Found.{form_of};
 ghost use Rattle.nn_tree.specs.At.{names_of};
-ghost use Rattle.nn_tree.specs.Listing.{rows_of};
+ghost use Rattle.nn_tree.specs.Listing.{path_rows};
 ghost use Rattle.nn_tree.specs.Rows.{extent_of, rows_from, Resumes};
 ghost use Rattle.nn_tree.specs.Sizes.{files_of, directories_of};
 ghost use Rattle.nn_model.specs.WellFormed.{IsWellFormed, HasUtf8Names};
 ghost use Rattle.nn_tree.specs.Blocks.{IsInFile};
 ghost use Rattle.nn_tree.specs.Memory.{takes_memory};
-ghost use Rattle.nn_tree.specs.Touched.{seen, file_replication};
+ghost use Rattle.nn_tree.specs.Touched.{touched_of, file_replication};
 
 mod blocks;
 mod checks;
@@ -34,6 +34,7 @@ use nn_model::BlockRow;
 use nn_sorted::SortedMap;
 use nn_types::{BlockId, Edit, EditFault, GenerationStamp, Path, Status};
 use std::alloc::{AllocError, Global};
+use std::fmt;
 use std::marker::Model;
 
 /// A namespace. Contracts see it as the definition's own record.
@@ -61,6 +62,15 @@ impl Model for Namespace {
     ghost invariant = { λ a. Holds (seen a.root a.issued) (λ id. value_at nat_cmp a.index id) a.sizes };
 }
 
+// How much there is, and not the rows: they nest deeper than a recursion may go.
+impl fmt::Debug for Namespace {
+    fn fmt<W: fmt::Write>(&self, f: &mut fmt::Formatter<W>) -> fmt::Result {
+        f.debug_struct("Namespace")
+            .field("sizes", &self.sizes)
+            .finish_non_exhaustive()
+    }
+}
+
 impl Namespace {
     /// The namespace before the first edit: the root alone. It takes no memory.
     pub fn new(alloc: Global) -> Namespace
@@ -79,7 +89,7 @@ impl Namespace {
     /// OP_SET_REPLICATION and OP_SET_GENSTAMP_V2 never want memory.
     pub fn apply(&mut self, edit: &Edit) -> Result<Touched, EditFault>
         ensures ok { OnOk result (applied self.old edit.now ≡ Ok self.new) }
-        ensures touched { IfOk result (λ t. seen t ≡ touched self.old edit.now) }
+        ensures touched { IfOk result (λ t. touched_of t ≡ touched self.old edit.now) }
         ensures replication { IfOk result (λ t. t.replication ≡ file_replication self.new edit.now) }
         ensures fault { IfErr result (λ fault. IsFault fault (refusal self.old edit.now)) }
         ensures memory { IsErrOf result EditFault.OutOfMemory → refusal self.old edit.now ≡ None }
@@ -88,12 +98,12 @@ impl Namespace {
         ensures well_formed { IsWellFormed self.old × IsWellFormed self.new }
         ensures lawful { IsLawfulEdit edit.now }
     {
-        self.well_formed();
-        lawful(edit);
+        self.recall_invariant();
+        recall_invariant(edit);
         let Ok(touched) = self.change(edit) else {
             return Err(self.why_not(edit));
         };
-        self.well_formed();
+        self.recall_invariant();
         Ok(touched)
     }
 
@@ -108,8 +118,8 @@ impl Namespace {
         fault
     }
 
-    /// Every namespace is well formed, and its names are UTF-8. This does nothing: it is there for the proofs of callers.
-    pub fn well_formed(&self)
+    /// Recalls to the prover that a namespace is well formed, and its names are UTF-8. It does nothing when it runs.
+    pub fn recall_invariant(&self)
         ensures well_formed { IsWellFormed self.now }
         ensures utf8 { HasUtf8Names self.now }
     {
@@ -155,7 +165,7 @@ impl Namespace {
         ensures left { result.left ≡ self.now.rows }
         ensures names { result.names ≡ [] }
     {
-        self.root.in_order();
+        self.root.recall_invariant();
         Rows::new(self.alloc, &self.root)
     }
 
@@ -181,7 +191,7 @@ impl Namespace {
         self.sizes.directories
     }
 
-    /// All rows in path order, with memory for paths of so many names: where none is deeper, their `next` is not refused any.
+    /// All rows in path order, with memory for paths of so many names: where none is deeper, their `next_row` is not refused any.
     pub fn ready_rows(&self, depth: usize) -> Result<Rows<'_>, AllocError>
         ensures left { IfOk result (λ rows. rows.left ≡ self.now.rows) }
         ensures room { IfOk result (λ rows. depth ≤ rows.room) }
@@ -198,13 +208,13 @@ impl Namespace {
         ensures left { IfOk result (λ rows. rows.left ≡ rows_from (names_of place.now) self.now.rows) }
         ensures resumes { Resumes self.now.rows }
     {
-        self.root.in_order();
+        self.root.recall_invariant();
         Rows::from(self.alloc, &self.root, place)
     }
 
     /// A copy of all rows in path order, the root first.
     pub fn list(&self) -> Result<Vec<PathRow>, AllocError>
-        ensures { IfOk result (λ rows. rows_of rows.items ≡ self.now.rows) }
+        ensures { IfOk result (λ rows. path_rows rows.items ≡ self.now.rows) }
     {
         copies(self.alloc, self.rows())
     }
@@ -256,7 +266,7 @@ impl Namespace {
 
     /// The profile of the last start mark that was applied, 1 or 2; at first 1. It never falls.
     pub fn profile(&self) -> u64
-        ensures { result ≡ number_of self.now.issued.profile }
+        ensures { result ≡ profile_number self.now.issued.profile }
     {
         self.issued.profile().number()
     }
@@ -269,8 +279,9 @@ impl Namespace {
     }
 }
 
-// The paths and numbers of an edit keep their limits, and its names are UTF-8. This does nothing.
-fn lawful(edit: &Edit)
+// Recalls to the prover that the paths and numbers of an edit keep their limits, and its names are UTF-8. It does nothing
+// when it runs.
+fn recall_invariant(edit: &Edit)
     ensures { IsTypedEdit edit.now }
 {
     match edit {
@@ -289,7 +300,7 @@ fn lawful(edit: &Edit)
         }
         Edit::UpdateBlocks { path, blocks } | Edit::Close { path, blocks } => {
             path.names();
-            blocks.lawful();
+            blocks.recall_invariant();
         }
         Edit::Rename { src, dst } => {
             src.names();

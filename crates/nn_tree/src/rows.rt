@@ -12,6 +12,7 @@ use crate::found::Found;
 use crate::tree::Tree;
 use crate::tree::children::Children;
 use std::alloc::{AllocError, Global};
+use std::fmt;
 use std::marker::Model;
 
 /// The rows of a namespace in path order, one after another. A walk holds an entry for each directory on its
@@ -54,6 +55,15 @@ impl<'a> Model for Rows<'a> {
     ghost view = { λ a. record { names = lent_names a.names.items; left = root_rows a.root ++ rows_open (lent_names a.names.items) a.dirs.items; room = min (vec_capacity a.names) (vec_capacity a.dirs) } };
 
     ghost invariant = { λ a. IsNested a.root (lent_names a.names.items) a.dirs.items };
+}
+
+// The way to the row that was given last, and not the rows: they nest deeper than a recursion may go.
+impl<'a> fmt::Debug for Rows<'a> {
+    fn fmt<W: fmt::Write>(&self, f: &mut fmt::Formatter<W>) -> fmt::Result {
+        f.debug_struct("Rows")
+            .field("names", &self.names)
+            .finish_non_exhaustive()
+    }
 }
 
 impl<'a> Rows<'a> {
@@ -147,7 +157,7 @@ impl<'a> Rows<'a> {
     }
 
     /// The next row: its names are in `names` then. It is no `Iterator`, since names are lent until the next call.
-    pub fn next(&mut self) -> Result<Option<Found<'a>>, AllocError>
+    pub fn next_row(&mut self) -> Result<Option<Found<'a>>, AllocError>
         ensures row { IfOk result (λ o. IfSome o (λ found. self.old.left ≡ (self.new.names, form_of found) ∷ self.new.left)) }
         ensures end { IfOk result (λ o. o ≡ None → (self.old.left ≡ []) × (self.new.left ≡ [])) }
         ensures err { OnErr result ((self.new.left ≡ self.old.left) × (self.new.names ≡ self.old.names)) }
@@ -190,7 +200,7 @@ impl<'a> Rows<'a> {
     {
         let mut extent = Extent { paths: 0, depth: 0 };
         'rows: loop {
-            let Ok(found) = self.next() else {
+            let Ok(found) = self.next_row() else {
                 return Err(AllocError);
             };
             let Some(_) = found else {
@@ -204,7 +214,7 @@ impl<'a> Rows<'a> {
         }
     }
 
-    /// The names of the row that `next` gave last, from the root down. None at first.
+    /// The names of the row that `next_row` gave last, from the root down. None at first.
     pub fn names(&self) -> &[&'a str]
         ensures { lent_names result.now ≡ self.now.names }
     {

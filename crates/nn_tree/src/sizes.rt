@@ -3,7 +3,7 @@ ghost use Rattle.std.specs.Prelude.{◌≡◌, ◌+◌, IfSome};
 ghost use Rattle.nn_tree.specs.Sizes.{plus};
 
 /// How many files there are, and how many directories.
-#[derive(Clone, Copy)]
+#[derive(Clone, Copy, Debug)]
 pub(crate) struct Sizes {
     pub(crate) files: u64,
     pub(crate) directories: u64,

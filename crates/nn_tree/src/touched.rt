@@ -3,14 +3,14 @@ ghost use Rattle.std.specs.Prelude.{◌≡◌, ◌+◌, ◌-◌, ◌++◌, ◌�
 ghost use Rattle.nn_model.specs.Apply.{new_block};
 ghost use Rattle.nn_model.specs.Blocks.{block_row};
 ghost use Rattle.nn_model.specs.Touched.{nothing};
-ghost use Rattle.nn_tree.specs.Touched.{seen};
+ghost use Rattle.nn_tree.specs.Touched.{touched_of};
 
 use nn_model::BlockRow;
 use nn_types::{Block, BlockId, GenerationStamp, Length, Replication};
 use std::alloc::{AllocError, Global};
 
 /// What an edit touched: all that a table of replicas has to follow.
-#[derive(Drop)]
+#[derive(Debug, Drop)]
 pub struct Touched {
     /// The blocks that the edit added or wrote anew, in file order, each with whether its file is closed now.
     pub changed: Vec<BlockRow>,
@@ -25,7 +25,7 @@ pub struct Touched {
 impl Touched {
     /// Nothing, which takes no memory.
     pub(crate) fn nothing(alloc: Global) -> Touched
-        ensures touched { seen result ≡ nothing }
+        ensures touched { touched_of result ≡ nothing }
         ensures replication { result.replication ≡ 0 }
     {
         Touched {
@@ -42,7 +42,7 @@ impl Touched {
         id: BlockId,
         stamp: GenerationStamp,
     ) -> Result<Touched, AllocError>
-        ensures { IfOk result (λ t. seen t ≡ record nothing { changed = block_row false (new_block id stamp) ∷ [] }) }
+        ensures { IfOk result (λ t. touched_of t ≡ record nothing { changed = block_row false (new_block id stamp) ∷ [] }) }
     {
         let mut changed = Vec::new(alloc);
         changed.push(BlockRow {
@@ -63,7 +63,7 @@ impl Touched {
         closed: bool,
         replication: Replication,
     ) -> Result<Touched, AllocError>
-        ensures touched { IfOk result (λ t. seen t
+        ensures touched { IfOk result (λ t. touched_of t
             ≡ record { changed = map (λ b. block_row closed b) new.now; retired = map (λ b. b.id) (drop (length new.now) old.now); skipped = None }) }
         ensures replication { IfOk result (λ t. t.replication ≡ replication) }
     {
@@ -85,7 +85,7 @@ impl Touched {
         blocks: &[Block],
         replication: Replication,
     ) -> Result<Touched, AllocError>
-        ensures touched { IfOk result (λ t. seen t ≡ record nothing { changed = map (λ b. block_row false b) blocks.now }) }
+        ensures touched { IfOk result (λ t. touched_of t ≡ record nothing { changed = map (λ b. block_row false b) blocks.now }) }
         ensures replication { IfOk result (λ t. t.replication ≡ replication) }
     {
         let mut changed = Vec::with_capacity(alloc, blocks.len())?;
@@ -99,7 +99,7 @@ impl Touched {
 
     /// Ids that left the namespace.
     pub(crate) fn deleted(alloc: Global, retired: Vec<BlockId>) -> Touched
-        ensures touched { seen result ≡ record nothing { retired = retired.items } }
+        ensures touched { touched_of result ≡ record nothing { retired = retired.items } }
         ensures replication { result.replication ≡ 0 }
     {
         Touched {
@@ -110,7 +110,7 @@ impl Touched {
 
     /// The ids between the last one that was issued and a higher one.
     pub(crate) fn issued(alloc: Global, last: BlockId, id: BlockId) -> Touched
-        ensures touched { seen result ≡ record nothing { skipped = if nat_lt (last + 1) id then Some (last + 1, id - 1) else None } }
+        ensures touched { touched_of result ≡ record nothing { skipped = if nat_lt (last + 1) id then Some (last + 1, id - 1) else None } }
         ensures replication { result.replication ≡ 0 }
     {
         Touched {

@@ -4,7 +4,7 @@ ghost use Rattle.nn_tree.specs.Walks.{file_fault, mkdir_fault, delete_fault, ren
 ghost use Rattle.nn_model.specs.Apply.{walk};
 ghost use Rattle.std.specs.Option.{option_copied};
 ghost use Rattle.nn_model.specs.declared.form.Form.TheVariants.{Dir, File};
-ghost use Rattle.nn_tree.specs.Ids.{ids_of};
+ghost use Rattle.nn_tree.specs.Ids.{ids_of_rows};
 ghost use Rattle.nn_tree.specs.Flat.{flat, below};
 ghost use Rattle.nn_tree.specs.Work.{work, rows_left};
 ghost use Rattle.nn_tree.specs.Found.{form_of};
@@ -105,8 +105,8 @@ impl Tree {
         }
     }
 
-    /// The rows of every tree are in path order. This does nothing: it is there for the proofs of callers.
-    pub(crate) fn in_order(&self)
+    /// Recalls to the prover that the rows of a tree are in path order. It does nothing when it runs.
+    pub(crate) fn recall_invariant(&self)
         ensures { is_sorted path_cmp self.now ≡ true }
     {
         let _ = &self.node;
@@ -278,12 +278,12 @@ impl Tree {
     ) -> Result<Sizes, AllocError>
         requires files { (sizes_of self.now).files ≤ all.files }
         requires directories { (sizes_of self.now).directories ≤ all.directories }
-        ensures ids { OnOk result (out.new.items ≡ out.old.items ++ ids_of self.now) }
+        ensures ids { OnOk result (out.new.items ≡ out.old.items ++ ids_of_rows self.now) }
         ensures sizes { IfOk result (λ others. all ≡ plus (sizes_of self.now) others) }
     {
         let mut others = all;
         let mut rows = Rows::new(alloc, self);
-        'rows: while let Some(found) = rows.next()? {
+        'rows: while let Some(found) = rows.next_row()? {
             match found {
                 Found::Dir => others.directories -= 1,
                 Found::File(file) => {
@@ -355,7 +355,7 @@ fn hang_below(
     ensures less { IfSome result (λ p. work (length p.0) (length (rows_left p.1)) < work (1 + length (below children)) (length (below rest))) }
     ensures order { IfSome result (λ p. is_sorted path_cmp (rows_left p.1) ≡ true) }
 {
-    rest.in_order();
+    rest.recall_invariant();
     let own = Tree {
         node: Node::Folder(rest),
     };

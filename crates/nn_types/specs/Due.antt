@@ -1,4 +1,4 @@
--- When a message about a block is due.
+-- When an item about a block is due.
 use Rattle.std.specs.Prelude.{ℕ, Bool, true, false, nat_le}
 use Rattle.nn_types.specs.declared.status.Status.{Status}
 use Rattle.nn_types.specs.declared.status.Status.TheVariants.{Unnamed, Awaiting, Named, Retired}

@@ -14,8 +14,8 @@ number_of BadPath = BAD_PATH
 number_of OutOfMemory = MEMORY
 
 -- the name of the fault with this number
-unfoldable pub name_of : ℕ → Option (List ℕ)
-name_of number =
+unfoldable pub fault_name : ℕ → Option (List ℕ)
+fault_name number =
     if number == NOT_JSON then Some (codes "NotJson") else (
     if number == MISSING_FIELD then Some (codes "MissingField") else (
     if number == BAD_NUMBER then Some (codes "BadNumber") else (

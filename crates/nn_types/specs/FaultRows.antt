@@ -1,7 +1,7 @@
 -- The number of each fault, by its digits, and its name.
 use Rattle.std.specs.Prelude.{◌≡◌, [], ◌∷◌, map, codes, decimal, Some, None, refl}
 use Rattle.std.specs.Fmt.{digits}
-use Rattle.nn_types.specs.Fault.{name_in, name_of}
+use Rattle.nn_types.specs.Fault.{name_in, fault_name}
 use Rattle.nn_types.specs.declared.fault.TheConstants.{NOT_JSON, MISSING_FIELD, BAD_NUMBER, UNKNOWN_OP, BAD_PATH, LINE_TOO_LONG, UNKNOWN_KIND, INPUT_FAULT}
 use Rattle.nn_types.specs.declared.fault.TheConstants.{BAD_NAME, NO_START, NO_END, GAP, TORN_LINE, NAME_MISMATCH, TOO_LONG, BAD_LINE, WRONG_PROFILE}
 use Rattle.nn_types.specs.declared.fault.TheConstants.{EXISTS, MISSING, NOT_DIRECTORY, NOT_FILE, IS_ROOT, INTO_ITSELF, NOT_OPEN, WRONG_BLOCKS, BAD_GENERATION, BAD_BLOCK_ID, BAD_REPLICATION, NOT_CLOSED, LOWER_PROFILE}
@@ -33,34 +33,34 @@ of_images : map decimal (NOT_HEADER ∷ BAD_IMAGE_LINE ∷ WRONG_ORDER ∷ COUNT
 unfolding digits
 of_images = refl
 
-names_of_lines : map name_of (1 ∷ 2 ∷ 3 ∷ 4 ∷ 5 ∷ 6 ∷ 7 ∷ 8 ∷ [])
+names_of_lines : map fault_name (1 ∷ 2 ∷ 3 ∷ 4 ∷ 5 ∷ 6 ∷ 7 ∷ 8 ∷ [])
     ≡ map Some (codes "NotJson" ∷ codes "MissingField" ∷ codes "BadNumber" ∷ codes "UnknownOp" ∷ codes "BadPath" ∷ codes "LineTooLong" ∷ codes "UnknownKind" ∷ codes "InputFault" ∷ [])
-unfolding name_of
+unfolding fault_name
 names_of_lines = refl
 
-names_of_segments : map name_of (11 ∷ 12 ∷ 13 ∷ 14 ∷ 15 ∷ 16 ∷ 17 ∷ 18 ∷ 19 ∷ [])
+names_of_segments : map fault_name (11 ∷ 12 ∷ 13 ∷ 14 ∷ 15 ∷ 16 ∷ 17 ∷ 18 ∷ 19 ∷ [])
     ≡ map Some (codes "BadName" ∷ codes "NoStart" ∷ codes "NoEnd" ∷ codes "Gap" ∷ codes "TornLine" ∷ codes "NameMismatch" ∷ codes "TooLong" ∷ codes "BadLine" ∷ codes "WrongProfile" ∷ [])
-unfolding name_of
+unfolding fault_name
 names_of_segments = refl
 
-names_of_edits : map name_of (21 ∷ 22 ∷ 23 ∷ 24 ∷ 25 ∷ 26 ∷ 27 ∷ 28 ∷ 29 ∷ 30 ∷ 31 ∷ 32 ∷ 33 ∷ [])
+names_of_edits : map fault_name (21 ∷ 22 ∷ 23 ∷ 24 ∷ 25 ∷ 26 ∷ 27 ∷ 28 ∷ 29 ∷ 30 ∷ 31 ∷ 32 ∷ 33 ∷ [])
     ≡ map Some (codes "Exists" ∷ codes "Missing" ∷ codes "NotDirectory" ∷ codes "NotFile" ∷ codes "IsRoot" ∷ codes "IntoItself" ∷ codes "NotOpen" ∷ codes "WrongBlocks" ∷ codes "BadGeneration" ∷ codes "BadBlockId" ∷ codes "BadReplication" ∷ codes "NotClosed" ∷ codes "LowerProfile" ∷ [])
-unfolding name_of
+unfolding fault_name
 names_of_edits = refl
 
-names_of_lanes_and_standbys : map name_of (41 ∷ 42 ∷ 43 ∷ 45 ∷ 46 ∷ 47 ∷ 51 ∷ 52 ∷ 53 ∷ 54 ∷ 55 ∷ 56 ∷ 57 ∷ 58 ∷ [])
+names_of_lanes_and_standbys : map fault_name (41 ∷ 42 ∷ 43 ∷ 45 ∷ 46 ∷ 47 ∷ 51 ∷ 52 ∷ 53 ∷ 54 ∷ 55 ∷ 56 ∷ 57 ∷ 58 ∷ [])
     ≡ map Some (codes "Full" ∷ codes "Closed" ∷ codes "Exhausted" ∷ codes "Ended" ∷ codes "Gone" ∷ codes "SourceFailed" ∷ codes "Stopped" ∷ codes "IntakeOpen" ∷ codes "AlreadyActive" ∷ codes "LogNotEnded" ∷ codes "Memory" ∷ codes "BadLane" ∷ codes "Disorder" ∷ codes "WrongNumber" ∷ [])
-unfolding name_of
+unfolding fault_name
 names_of_lanes_and_standbys = refl
 
-names_of_images : map name_of (61 ∷ 62 ∷ 63 ∷ 64 ∷ 65 ∷ 66 ∷ 67 ∷ 68 ∷ [])
+names_of_images : map fault_name (61 ∷ 62 ∷ 63 ∷ 64 ∷ 65 ∷ 66 ∷ 67 ∷ 68 ∷ [])
     ≡ map Some (codes "NotHeader" ∷ codes "BadLine" ∷ codes "WrongOrder" ∷ codes "CountMismatch" ∷ codes "Truncated" ∷ codes "BadVersion" ∷ codes "ReadFault" ∷ codes "WriteFault" ∷ [])
-unfolding name_of
+unfolding fault_name
 names_of_images = refl
 
-names_of_no_faults : map name_of (0 ∷ 9 ∷ 10 ∷ 20 ∷ 34 ∷ 35 ∷ 36 ∷ 37 ∷ 38 ∷ 39 ∷ 40 ∷ 44 ∷ 48 ∷ 49 ∷ 50 ∷ 59 ∷ 60 ∷ 69 ∷ 70 ∷ 255 ∷ [])
+names_of_no_faults : map fault_name (0 ∷ 9 ∷ 10 ∷ 20 ∷ 34 ∷ 35 ∷ 36 ∷ 37 ∷ 38 ∷ 39 ∷ 40 ∷ 44 ∷ 48 ∷ 49 ∷ 50 ∷ 59 ∷ 60 ∷ 69 ∷ 70 ∷ 255 ∷ [])
     ≡ None ∷ None ∷ None ∷ None ∷ None ∷ None ∷ None ∷ None ∷ None ∷ None ∷ None ∷ None ∷ None ∷ None ∷ None ∷ None ∷ None ∷ None ∷ None ∷ None ∷ []
-unfolding name_of
+unfolding fault_name
 names_of_no_faults = refl
 
 names_in_texts : map name_in (codes "Gap: a txid: missing" ∷ codes "Gap" ∷ codes ": a txid" ∷ [])

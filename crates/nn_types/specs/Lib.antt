@@ -1,3 +1,4 @@
+pub mod Limits
 pub mod Number
 pub mod Block
 pub mod Due
@@ -8,6 +9,7 @@ pub mod Profile
 pub mod LawfulEdit
 pub mod EditFault
 pub mod Words
+pub mod LimitRows
 pub mod PathRows
 pub mod FaultRows
 pub mod ProfileRows

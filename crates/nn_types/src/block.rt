@@ -15,8 +15,8 @@ pub struct Block {
 }
 
 impl Block {
-    // Its numbers keep their limits. This does nothing: it is there for the proofs of callers.
-    fn lawful(&self)
+    // Recalls to the prover that its numbers keep their limits. It does nothing when it runs.
+    fn recall_invariant(&self)
         ensures { IsBlock self.now }
     {
         self.id.get();
@@ -26,7 +26,7 @@ impl Block {
 }
 
 /// Blocks in file order.
-#[derive(Drop)]
+#[derive(Debug, Drop)]
 pub struct Blocks {
     items: Vec<Block>,
 }
@@ -60,8 +60,8 @@ impl Blocks {
         &self.items
     }
 
-    /// The numbers of all blocks keep their limits. This does nothing: it is there for the proofs of callers.
-    pub fn lawful(&self)
+    /// Recalls to the prover that the numbers of all blocks keep their limits. It does nothing when it runs.
+    pub fn recall_invariant(&self)
         ensures { AreBlocks self.now }
     {
         let _ = &self.items;
@@ -72,7 +72,7 @@ impl Blocks {
         ensures ok { OnOk result (self.new ≡ self.old ++ block ∷ []) }
         ensures err { OnErr result (self.new ≡ self.old) }
     {
-        block.lawful();
+        block.recall_invariant();
         push_block(&mut self.items, block)?;
         Ok(())
     }

@@ -1,7 +1,7 @@
 //! The number of every fault, in one table. A fault's `number()` and the definitions cite these names; `explanation` says
 //! what each means.
 ghost use Rattle.std.specs.Prelude.{◌≡◌, ◌<◌, ◌≤◌, option_map};
-ghost use Rattle.nn_types.specs.Fault.{name_in, name_of};
+ghost use Rattle.nn_types.specs.Fault.{name_in, fault_name};
 ghost use Rattle.nn_types.specs.declared.fault.TheConstants.{FULL};
 
 /// A line is no JSON object.
@@ -118,7 +118,7 @@ pub const WRITE_FAULT: u8 = 68;
 /// What the fault of this number means, for whoever meets it: its name and a colon, what was wrong with which line,
 /// transaction or segment, and what can be done. `None` where no fault has the number.
 pub fn explanation(number: u8) -> Option<&'static str>
-    ensures { option_map (λ text. name_in text.now) result ≡ name_of number }
+    ensures { option_map (λ text. name_in text.now) result ≡ fault_name number }
 {
     if number < FULL {
         of_input(number)
@@ -128,10 +128,10 @@ pub fn explanation(number: u8) -> Option<&'static str>
 }
 
 // Of a line, a segment or an edit, which are numbered below the others.
-#[tactic(auto, unfolding(crate::specs::Fault::name_of))]
+#[tactic(auto, unfolding(crate::specs::Fault::fault_name))]
 fn of_input(number: u8) -> Option<&'static str>
     requires { number < FULL }
-    ensures { option_map (λ text. name_in text.now) result ≡ name_of number }
+    ensures { option_map (λ text. name_in text.now) result ≡ fault_name number }
 {
     match number {
         NOT_JSON => Some(
@@ -261,10 +261,10 @@ fn of_input(number: u8) -> Option<&'static str>
 }
 
 // Of a lane, a feed, a source, a standby or an image.
-#[tactic(auto, unfolding(crate::specs::Fault::name_of))]
+#[tactic(auto, unfolding(crate::specs::Fault::fault_name))]
 fn of_call(number: u8) -> Option<&'static str>
     requires { FULL ≤ number }
-    ensures { option_map (λ text. name_in text.now) result ≡ name_of number }
+    ensures { option_map (λ text. name_in text.now) result ≡ fault_name number }
 {
     match number {
         FULL => Some(

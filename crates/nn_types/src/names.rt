@@ -8,7 +8,7 @@ use std::marker::Model;
 
 /// Names from the root, or from a directory on the way, down. They are lent by the text of a path:
 /// walking over them takes no memory.
-#[derive(Drop)]
+#[derive(Debug, Drop)]
 pub struct Names<'a> {
     // The names with a slash between each two.
     text: &'a str,

@@ -5,22 +5,14 @@ ghost use Rattle.nn_types.specs.Fault.{number_of};
 ghost use Rattle.nn_types.specs.Path.{is_name, is_name_byte, parts, path_of, path_text, IsPath, AreUtf8};
 
 use crate::fault;
+use crate::limits::{MAX_NAME_LEN, MAX_NAMES, MAX_PATH_LEN};
 use crate::names::{Names, name_len};
 use std::alloc::{AllocError, AllocFailed, Global};
 use std::marker::Model;
 use thiserror::Error;
 
-/// The bytes that a name may have.
-const MAX_NAME_LEN: usize = 255;
-
-/// The names that a path may have.
-const MAX_NAMES: usize = 1000;
-
-/// The bytes that a path's text may have.
-const MAX_PATH_LEN: usize = 8000;
-
 /// An absolute path, kept as its text. Its names go from the root down; the root has none.
-#[derive(Drop)]
+#[derive(Debug, Drop)]
 pub struct Path {
     text: String,
 }
@@ -37,7 +29,7 @@ impl Model for Path {
 }
 
 /// Why a text is not read as a path.
-#[derive(Debug, Drop, Error)]
+#[derive(Clone, Copy, Debug, PartialEq, Eq, Error)]
 pub enum PathFault {
     #[error("not a path")]
     BadPath,
@@ -47,8 +39,8 @@ pub enum PathFault {
 
 impl PathFault {
     /// The fault's number.
-    pub fn number(&self) -> u8
-        ensures { result ≡ number_of self.now }
+    pub fn number(self) -> u8
+        ensures { result ≡ number_of self }
     {
         match self {
             PathFault::BadPath => fault::BAD_PATH,

@@ -1,6 +1,6 @@
 //! Profiles of the log.
 ghost use Rattle.std.specs.Prelude.{◌≡◌};
-ghost use Rattle.nn_types.specs.Profile.{number_of, profile_of, is_lower};
+ghost use Rattle.nn_types.specs.Profile.{profile_number, profile_of, is_lower};
 
 /// Which edits a segment of the log may have. Its start mark names the profile.
 #[derive(Clone, Copy, Debug, PartialEq, Eq)]
@@ -25,7 +25,7 @@ impl Profile {
 
     /// The profile's number, as start marks name it.
     pub fn number(self) -> u64
-        ensures { result ≡ number_of self }
+        ensures { result ≡ profile_number self }
     {
         match self {
             Profile::One => 1,

@@ -4,9 +4,6 @@ ghost use Rattle.nn_types.specs.Words.{kind_text};
 
 use crate::number::{BlockId, GenerationStamp, Length};
 
-/// The greatest number of a DataNode. The least is 1.
-pub const DATANODES: u16 = 256;
-
 /// What happened to a replica at its DataNode, or where a full report of all that it has begins and ends.
 #[derive(Clone, Copy, Debug, PartialEq, Eq)]
 pub enum Kind {
@@ -43,7 +40,7 @@ impl Kind {
 /// A DataNode's report about one block, as a message line gives it.
 #[derive(Clone, Copy, Debug, PartialEq, Eq)]
 pub struct Report {
-    /// The DataNode, from 1 to `DATANODES`.
+    /// The DataNode, from 1 to `MAX_DATANODES`.
     pub dn: u16,
     pub block: BlockId,
     pub stamp: GenerationStamp,
@@ -54,7 +51,7 @@ pub struct Report {
 /// A report as its lane carries it: with its number, counted from 1 for each DataNode.
 #[derive(Clone, Copy, Debug, PartialEq, Eq)]
 pub struct Message {
-    /// The DataNode, from 1 to `DATANODES`.
+    /// The DataNode, from 1 to `MAX_DATANODES`.
     pub dn: u16,
     pub number: u64,
     pub block: BlockId,

@@ -2,6 +2,7 @@
 ghost use Rattle.std.specs.Prelude.{◌≡◌, SomeIff};
 ghost use Rattle.nn_types.specs.Settings.{AreSettings, needed_of};
 
+use crate::limits::MAX_REPLICATION;
 use std::marker::Model;
 
 /// What the administrator asks of the blocks of closed files before safe mode ends: `permille` of each
@@ -13,9 +14,9 @@ pub struct Settings {
 }
 
 impl Model for Settings {
-    ghost use Rattle.nn_types.specs.Settings.{Threshold, AreSettings};
+    ghost use Rattle.nn_types.specs.Settings.{Settings, AreSettings};
 
-    ghost Value = { Threshold };
+    ghost Value = { Settings };
 
     ghost view = { λ s. record { permille = s.permille; min = s.min } };
 
@@ -29,7 +30,7 @@ impl Settings {
     pub fn new(permille: u16, min: u16) -> Option<Settings>
         ensures { SomeIff result (AreSettings permille min) (record { permille = permille; min = min }) }
     {
-        if permille <= 1000 && 1 <= min && min <= 512 {
+        if permille <= 1000 && 1 <= min && min <= MAX_REPLICATION {
             Some(Settings { permille, min })
         } else {
             None

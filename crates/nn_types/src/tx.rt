@@ -3,7 +3,7 @@ use crate::edit::Edit;
 use crate::number::Txid;
 
 /// One transaction of the log.
-#[derive(Drop)]
+#[derive(Debug, Drop)]
 pub struct Tx {
     pub txid: Txid,
     pub edit: Edit,

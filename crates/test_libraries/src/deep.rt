@@ -47,7 +47,7 @@ fn has(rt: &impl Abort, namespace: &Namespace, paths: u64, depth: usize) -> Resu
 // The first rows go down the chain.
 fn begins(rt: &impl Abort, rows: &mut Rows<'_>) -> Result<(), Fail> {
     for depth in 0..1_000 {
-        let Some(_) = rows.next()? else {
+        let Some(_) = rows.next_row()? else {
             return Err(Fail::new("no row"));
         };
         assert_eq!(rt; rows.names().len(), depth);

@@ -19,7 +19,7 @@ mod tailer;
 mod trial;
 
 use crate::full_heap::lines::Lines;
-use crate::full_heap::scenario::{Halt, Scenario};
+use crate::full_heap::scenario::{EndFault, Scenario};
 use nn_types::Settings;
 use std::alloc::Global;
 use std::io::Write;
@@ -37,9 +37,9 @@ pub fn play(rt: &HostRuntime, names: &[String], is_ample: bool) -> io::Result<()
     Ok(())
 }
 
-fn lines_of(alloc: Global, is_ample: bool, text: &[u8]) -> Result<Lines, Halt> {
+fn lines_of(alloc: Global, is_ample: bool, text: &[u8]) -> Result<Lines, EndFault> {
     let Some(settings) = Settings::new(999, 1) else {
-        return Err(Halt::BadScenario);
+        return Err(EndFault::BadScenario);
     };
     let scenario = Scenario::read(alloc, text)?;
     let mut lines = Lines::new(alloc, is_ample);
@@ -57,7 +57,7 @@ fn make_calls(
     settings: Settings,
     scenario: &Scenario,
     lines: &mut Lines,
-) -> Result<(), Halt> {
+) -> Result<(), EndFault> {
     namespace::apply_log(alloc, is_ample, scenario, lines)?;
     restore::restore_paths(alloc, is_ample, scenario, lines)?;
     table::change_table(alloc, is_ample, settings, lines)?;

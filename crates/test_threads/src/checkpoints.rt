@@ -2,10 +2,10 @@
 use crate::serve::{AT_ONCE, ENDLESS, Service, Until, operator_of, served};
 use crate::values::Shared;
 use nn_drive::{
-    CheckpointOperator, CheckpointOutcome, Checkpointing, EndedCheckpoint, Operator, Wish,
+    CheckpointOperator, CheckpointOutcome, Checkpointing, EndedCheckpoint, Operator, Request,
 };
 use nn_image::SaveFault;
-use nn_tailer::Standby;
+use nn_lane_standby::Standby;
 use std::alloc::Global;
 use std::io;
 use std::io::Write;
@@ -46,10 +46,10 @@ impl Write for Device {
     }
 }
 
-// How a checkpoint ended: its transaction, how many bytes were written, and whether these are a front of the image.
+// How a checkpoint ended: its transaction, how many bytes were written, and whether these are a prefix of the image.
 type End = (u64, CheckpointOutcome, u64, bool);
 
-// Wants a checkpoint for each of these devices, in turn. Wishes what another operator does, but no promotion before so many
+// Wants a checkpoint for each of these devices, in turn. Requests what another operator does, but no promotion before so many
 // rotations with a checkpoint in hand.
 #[derive(Drop)]
 struct Wanting {
@@ -66,12 +66,12 @@ impl Operator for Wanting {
 
     ghost asks = { λ o x n w p. ⊤ };
 
-    fn ask(&mut self, standby: &Standby, running: usize) -> Wish {
+    fn ask(&mut self, standby: &Standby, running: usize) -> Request {
         if self.wanted > self.ends.len() {
             self.rotations = self.rotations.saturating_sub(1);
         }
         if self.rotations > 0 {
-            return Wish::GoOn;
+            return Request::GoOn;
         }
         self.until.ask(standby, running)
     }
@@ -94,13 +94,13 @@ impl CheckpointOperator<Device> for Wanting {
     }
 
     fn ended(&mut self, device: Device, checkpoint: EndedCheckpoint) {
-        let is_front = IMAGE.as_bytes().starts_with(device.got.as_slice());
+        let is_prefix = IMAGE.as_bytes().starts_with(device.got.as_slice());
         let EndedCheckpoint {
             txid,
             bytes,
             outcome,
         } = checkpoint;
-        let _is_told = self.ends.push((txid.get(), outcome, bytes, is_front));
+        let _is_told = self.ends.push((txid.get(), outcome, bytes, is_prefix));
     }
 }
 

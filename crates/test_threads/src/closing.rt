@@ -2,9 +2,9 @@
 use crate::drive::laned;
 use crate::sources::{Endless, FailsOnce};
 use crate::values::{FIRST, TWO_MARKS, log_of, report_of};
-use nn_drive::{Operator, Unserved, Wish, report_all, serve};
+use nn_drive::{Operator, Request, Unserved, report_all, serve};
 use nn_lane::{LaneEnd, Reporter, lane};
-use nn_tailer::Standby;
+use nn_lane_standby::Standby;
 use std::alloc::Global;
 use std::sync::Wait;
 use std::thread;
@@ -89,7 +89,7 @@ fn ended_late<R: Threads + Wait + Clock>(
     start.elapsed(rt).ok()
 }
 
-// Never wishes a promotion.
+// Never requests a promotion.
 #[derive(Clone, Copy)]
 struct GoesOn;
 
@@ -98,8 +98,8 @@ impl Operator for GoesOn {
 
     ghost asks = { λ o x n w p. ⊤ };
 
-    fn ask(&mut self, _standby: &Standby, _running: usize) -> Wish {
-        Wish::GoOn
+    fn ask(&mut self, _standby: &Standby, _running: usize) -> Request {
+        Request::GoOn
     }
 }
 
@@ -108,11 +108,11 @@ impl Operator for GoesOn {
 // A worker of a standby whose operator does something else for so many milliseconds sleeps for 80 then, since 10 of these.
 const ELSEWHERE: u64 = 240;
 
-// Wishes a promotion once that has passed. It notes when that was, and how much processor time all threads took meanwhile.
+// Requests a promotion once that has passed. It notes when that was, and how much processor time all threads took meanwhile.
 #[derive(Drop)]
 struct Elsewhere<'a, R: Clock + CpuClock> {
     rt: &'a R,
-    wished: Option<Instant>,
+    requested: Option<Instant>,
     used: Option<Duration>,
 }
 
@@ -121,14 +121,14 @@ impl<R: Clock + CpuClock> Operator for Elsewhere<'_, R> {
 
     ghost asks = { λ o x n w p. ⊤ };
 
-    fn ask(&mut self, _standby: &Standby, _running: usize) -> Wish {
+    fn ask(&mut self, _standby: &Standby, _running: usize) -> Request {
         let before = self.rt.process_cpu_time().unwrap_or(Duration::from_secs(0));
         thread::sleep(self.rt, Duration::from_millis(ELSEWHERE));
         if let Ok(used) = self.rt.process_cpu_time() {
             self.used = Some(used.saturating_sub(before));
         }
-        self.wished = Instant::now(self.rt).ok();
-        Wish::Promote
+        self.requested = Instant::now(self.rt).ok();
+        Request::Promote
     }
 }
 
@@ -149,7 +149,7 @@ fn closed_by_a_promotion(rt: HostRuntime) {
     assert!(rt; has_slept, "a worker does not sleep");
 }
 
-// How long after the wish the worker ended, and the processor time before it.
+// How long after the request the worker ended, and the processor time before it.
 fn promoted_late<R: Threads + Wait + Clock + CpuClock + Copy + Send + Drop + 'static>(
     rt: &R,
     alloc: Global,
@@ -158,7 +158,7 @@ fn promoted_late<R: Threads + Wait + Clock + CpuClock + Copy + Send + Drop + 'st
     let (workers, standby) = laned(alloc, a_node(alloc)?, 1, None, &[])?;
     let mut operator = Elsewhere {
         rt,
-        wished: None,
+        requested: None,
         used: None,
     };
     match serve(rt, alloc, standby, log, workers, &mut operator) {
@@ -166,7 +166,7 @@ fn promoted_late<R: Threads + Wait + Clock + CpuClock + Copy + Send + Drop + 'st
             for worker in promoted.workers {
                 drop(worker.join(rt));
             }
-            let passed = operator.wished?.elapsed(rt).ok();
+            let passed = operator.requested?.elapsed(rt).ok();
             drop(promoted.shadow);
             Some((passed, operator.used))
         }

@@ -6,9 +6,9 @@ ghost use Rattle.std.specs.Vec.Iter.{into_iter_items};
 use crate::drive::laned;
 use crate::sources::FailsOnce;
 use crate::values::{Dice, FIRST, marks, report_of};
-use nn_drive::{Left, Operator, ReportSource, Served, Wish, drive, serve};
+use nn_drive::{Left, Operator, ReportSource, Request, Served, drive, serve};
+use nn_lane_standby::Standby;
 use nn_segment::{Item, SegmentSource, SourceFault};
-use nn_tailer::Standby;
 use nn_types::Report;
 use std::alloc::Global;
 use std::sync::Wait;
@@ -85,7 +85,7 @@ impl<R: Clock + Drop> SegmentSource for SlowLog<R> {
     }
 }
 
-// Wishes a promotion once all workers have ended and the log was applied. Sees whether a number ever falls.
+// Requests a promotion once all workers have ended and the log was applied. Sees whether a number ever falls.
 #[derive(Drop)]
 struct SlowOperator<'a, R: Clock> {
     rt: &'a R,
@@ -99,15 +99,15 @@ impl<R: Clock> Operator for SlowOperator<'_, R> {
 
     ghost asks = { λ o x n w p. ⊤ };
 
-    fn ask(&mut self, standby: &Standby, running: usize) -> Wish {
+    fn ask(&mut self, standby: &Standby, running: usize) -> Request {
         delay(self.rt, &mut self.dice);
         let last = standby.shadow().last_txid();
         self.has_fallen = self.has_fallen || last < self.last;
         self.last = last;
         if running == 0 && last >= SEGMENTS * 2 {
-            return Wish::Promote;
+            return Request::Promote;
         }
-        Wish::GoOn
+        Request::GoOn
     }
 }
 

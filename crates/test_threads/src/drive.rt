@@ -1,7 +1,7 @@
 //! Drives over logs of marks alone: all reports are of a block that they do not name, and wait for the flush.
 ghost use Rattle.std.specs.Prelude.{◌≡◌, IfSome};
-ghost use Rattle.nn_tailer.specs.Public.{AreNew};
-ghost use Rattle.nn_drive.specs.Driven.{AreLanes};
+ghost use Rattle.nn_lane_standby.specs.Public.{AreNew};
+ghost use Rattle.nn_drive.specs.Driven.{HaveReporters};
 
 use crate::sources::{AT_ANY_TIME, FailsOnce, Pace, Waiting, Watched, new_watched};
 use crate::values::{
@@ -10,8 +10,8 @@ use crate::values::{
 use nn_device::Reader;
 use nn_drive::{ReportSource, drive, with_lanes};
 use nn_lane::{LaneEnd, Reporter};
+use nn_lane_standby::Standby;
 use nn_segment::Parsed;
-use nn_tailer::Standby;
 use nn_types::Settings;
 use std::alloc::Global;
 use std::process::Abort;
@@ -300,7 +300,7 @@ fn end_over<R: Threads + Wait + Sync>(
     standby: Standby,
     log: Watched,
 ) -> Result<(u64, u64), u8>
-    requires { AreLanes workers.items standby.ends }
+    requires { HaveReporters workers.items standby.ends }
 {
     match drive(rt, alloc, standby, log, workers) {
         Ok((shadow, active)) => {
@@ -336,8 +336,8 @@ fn sources_of(
 
 // Closes the lanes of these workers, or leaves them open.
 fn begin(workers: &Vec<(Waiting, Reporter)>, standby: &mut Standby, closed: bool)
-    requires { AreLanes workers.now.items standby.old.ends }
-    ensures { AreLanes workers.now.items standby.new.ends }
+    requires { HaveReporters workers.now.items standby.old.ends }
+    ensures { HaveReporters workers.now.items standby.new.ends }
 {
     let _ = workers;
     if !closed {
@@ -383,7 +383,7 @@ pub fn laned<S: ReportSource + Drop>(
     image: Option<&[u8]>,
     before: &[Text],
 ) -> Option<(Vec<(S, Reporter)>, Standby)>
-    ensures { IfSome result (λ r. AreLanes r.0.items r.1.ends) }
+    ensures { IfSome result (λ r. HaveReporters r.0.items r.1.ends) }
 {
     if sources.len() > 256 || capacity == 0 || capacity > 1024 {
         return None;
@@ -415,8 +415,8 @@ fn standby_over(alloc: Global, ends: Vec<LaneEnd>, image: Option<&[u8]>) -> Opti
 // Closes the lanes of these workers, and promotes their standby over this log, unless the log stops it. For a log of no
 // segment it does nothing.
 fn promote<S: ReportSource>(workers: &Vec<(S, Reporter)>, standby: &mut Standby, log: Vec<Parsed>)
-    requires { AreLanes workers.now.items standby.old.ends }
-    ensures { AreLanes workers.now.items standby.new.ends }
+    requires { HaveReporters workers.now.items standby.old.ends }
+    ensures { HaveReporters workers.now.items standby.new.ends }
 {
     let _ = workers;
     if log.is_empty() {

@@ -5,9 +5,9 @@ ghost use Rattle.std.specs.Vec.Iter.{into_iter_items};
 use crate::drive::laned;
 use crate::sources::FailsOnce;
 use crate::values::{Dice, FIRST, marks, micros_since, report_of};
-use nn_drive::{Operator, ReportSource, Wish, serve};
+use nn_drive::{Operator, ReportSource, Request, serve};
+use nn_lane_standby::Standby;
 use nn_segment::{Item, SegmentSource, SourceFault};
-use nn_tailer::Standby;
 use nn_types::Report;
 use std::alloc::Global;
 use std::process::Abort;
@@ -165,7 +165,7 @@ impl<R: Clock + Drop> SegmentSource for HandingLog<R> {
 }
 
 // Shows how many reports of a DataNode were processed, or how far the log has come, which is number 0; and counts what was late.
-// It passes some time when it is asked, and wishes a promotion in the end.
+// It passes some time when it is asked, and requests a promotion in the end.
 #[derive(Drop)]
 struct Showing<'a, R: Clock> {
     rt: &'a R,
@@ -183,7 +183,7 @@ impl<R: Clock> Operator for Showing<'_, R> {
 
     ghost asks = { λ o x n w p. ⊤ };
 
-    fn ask(&mut self, standby: &Standby, _running: usize) -> Wish {
+    fn ask(&mut self, standby: &Standby, _running: usize) -> Request {
         let processed = if self.dn == 0 {
             standby.shadow().last_txid()
         } else {
@@ -198,7 +198,7 @@ impl<R: Clock> Operator for Showing<'_, R> {
         if processed >= self.most || now > LONGEST {
             // Nobody waits any more.
             self.noted.processed.store(u64::MAX, Ordering::SeqCst);
-            return Wish::Promote;
+            return Request::Promote;
         }
         self.noted.processed.store(processed, Ordering::SeqCst);
         if self.dice.roll() % 4 == 0 {
@@ -206,7 +206,7 @@ impl<R: Clock> Operator for Showing<'_, R> {
             thread::sleep(self.rt, Duration::from_micros(50));
         }
         dawdle(&self.noted.processed, &mut self.dice);
-        Wish::GoOn
+        Request::GoOn
     }
 }
 

@@ -1,8 +1,8 @@
 //! A service whose operator holds the log: messages are processed meanwhile, and no transaction is applied.
 use crate::serve::{ENDLESS, Until, least_sent, operator_of, served};
 use crate::values::Shared;
-use nn_drive::{Operator, Wish};
-use nn_tailer::Standby;
+use nn_drive::{Operator, Request};
+use nn_lane_standby::Standby;
 use std::alloc::Global;
 use std::sync::{Arc, Wait};
 use std::thread::Threads;
@@ -13,7 +13,7 @@ const MESSAGES: u64 = 50;
 // After so many rotations it is held in vain.
 const MOST_ROTATIONS: u64 = 1_000_000;
 
-// Holds the log from its first segment on, while the next one is at hand, until each DataNode has sent more messages. Wishes then
+// Holds the log from its first segment on, while the next one is at hand, until each DataNode has sent more messages. Requests then
 // what another operator does.
 #[derive(Drop)]
 struct Holding {
@@ -30,11 +30,11 @@ impl Operator for Holding {
 
     ghost asks = { λ o x n w p. ⊤ };
 
-    fn ask(&mut self, standby: &Standby, running: usize) -> Wish {
-        let wish = self.until.ask(standby, running);
+    fn ask(&mut self, standby: &Standby, running: usize) -> Request {
+        let request = self.until.ask(standby, running);
         let last = standby.shadow().last_txid();
         if self.ended || last == 0 {
-            return wish;
+            return request;
         }
         let sent = least_sent(standby, self.until.nodes);
         let (at, before) = self.begun.unwrap_or((last, sent));
@@ -42,7 +42,7 @@ impl Operator for Holding {
         self.rotations = self.rotations.saturating_add(1);
         self.moved = self.moved || last != at;
         self.ended = sent >= before.saturating_add(MESSAGES) || self.rotations >= MOST_ROTATIONS;
-        Wish::Hold
+        Request::Hold
     }
 }
 

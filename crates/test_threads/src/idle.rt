@@ -2,8 +2,8 @@
 use crate::drive::laned;
 use crate::sources::FailsOnce;
 use crate::values::{FIRST, Shared, TWO_MARKS, log_of, report_of};
-use nn_drive::{Operator, ReportSource, Served, Wish, drive, serve};
-use nn_tailer::Standby;
+use nn_drive::{Operator, ReportSource, Request, Served, drive, serve};
+use nn_lane_standby::Standby;
 use nn_types::Report;
 use std::alloc::Global;
 use std::sync::atomic::Ordering;
@@ -88,7 +88,7 @@ const END: u64 = 600;
 // The most that a thread that sleeps may take of 300 milliseconds. One that does not sleep takes them all.
 const USED: u64 = 30;
 
-// Counts how often it is asked from the begin to the end, and the processor time of the standby's thread. Then it wishes a
+// Counts how often it is asked from the begin to the end, and the processor time of the standby's thread. Then it requests a
 // promotion.
 #[derive(Drop)]
 struct Counting<'a, R: Clock + CpuClock> {
@@ -110,15 +110,15 @@ impl<R: Clock + CpuClock> Operator for Counting<'_, R> {
 
     ghost asks = { λ o x n w p. ⊤ };
 
-    fn ask(&mut self, _standby: &Standby, _running: usize) -> Wish {
+    fn ask(&mut self, _standby: &Standby, _running: usize) -> Request {
         let Ok(since) = self.start.elapsed(self.rt) else {
-            return Wish::Promote;
+            return Request::Promote;
         };
         if since >= Duration::from_millis(END) {
             if let Some(begun) = self.begun {
                 self.used = used_since(self.rt, begun);
             }
-            return Wish::Promote;
+            return Request::Promote;
         }
         if since >= Duration::from_millis(BEGIN) {
             if self.begun.is_none() {
@@ -126,7 +126,7 @@ impl<R: Clock + CpuClock> Operator for Counting<'_, R> {
             }
             self.count = self.count.saturating_add(1);
         }
-        Wish::GoOn
+        Request::GoOn
     }
 }
 
@@ -195,7 +195,7 @@ const HELD: u64 = 500;
 // Within so many milliseconds it is asked as often as that. With the sleeps of a log that is not held it would take 5,000.
 const HELD_FOR: u64 = 2000;
 
-// Holds the log so often, and then wishes a promotion.
+// Holds the log so often, and then requests a promotion.
 #[derive(Clone, Copy)]
 struct Holds {
     left: u64,
@@ -206,12 +206,12 @@ impl Operator for Holds {
 
     ghost asks = { λ o x n w p. ⊤ };
 
-    fn ask(&mut self, _standby: &Standby, _running: usize) -> Wish {
+    fn ask(&mut self, _standby: &Standby, _running: usize) -> Request {
         if self.left == 0 {
-            return Wish::Promote;
+            return Request::Promote;
         }
         self.left -= 1;
-        Wish::Hold
+        Request::Hold
     }
 }
 
@@ -260,7 +260,7 @@ const SOON_ASKED: u64 = 20;
 // A machine that is busy may be late a few times.
 const TRIES: u8 = 5;
 
-// Wishes a promotion once the DataNode spoke and so many messages of it were processed, and notes when that was.
+// Requests a promotion once the DataNode spoke and so many messages of it were processed, and notes when that was.
 #[derive(Drop)]
 struct OnceHeard<'a, R: Clock> {
     rt: &'a R,
@@ -274,24 +274,24 @@ impl<R: Clock> Operator for OnceHeard<'_, R> {
 
     ghost asks = { λ o x n w p. ⊤ };
 
-    fn ask(&mut self, standby: &Standby, _running: usize) -> Wish {
+    fn ask(&mut self, standby: &Standby, _running: usize) -> Request {
         let spoke = self.shared.came.load(Ordering::SeqCst) > 0;
         if spoke && standby.shadow().last_number(1) >= self.messages {
             self.heard = Instant::now(self.rt).ok();
-            return Wish::Promote;
+            return Request::Promote;
         }
-        Wish::GoOn
+        Request::GoOn
     }
 }
 
-// After an idle second a report is processed, or a promotion is begun that is wished then.
+// After an idle second a report is processed, or a promotion is begun that is requested then.
 #[test]
 fn finds_soon_what_comes(rt: HostRuntime) {
     assert!(rt; finds_soon(&rt, rt.alloc(), 1, SOON), "a report");
-    assert!(rt; finds_soon(&rt, rt.alloc(), 0, SOON_ASKED), "a wish");
+    assert!(rt; finds_soon(&rt, rt.alloc(), 0, SOON_ASKED), "a request");
 }
 
-// Whether the promotion was wished so many milliseconds after the silence at most, in one try at least.
+// Whether the promotion was requested so many milliseconds after the silence at most, in one try at least.
 fn finds_soon<R: Threads + Wait + Clock + Copy + Send + Drop + 'static>(
     rt: &R,
     alloc: Global,
@@ -307,7 +307,7 @@ fn finds_soon<R: Threads + Wait + Clock + Copy + Send + Drop + 'static>(
     false
 }
 
-// How long after the silence it was wished: by an operator that waits for so many messages, 1 or none.
+// How long after the silence it was requested: by an operator that waits for so many messages, 1 or none.
 fn late_by<R: Threads + Wait + Clock + Copy + Send + Drop + 'static>(
     rt: &R,
     alloc: Global,

@@ -1,6 +1,6 @@
 //! The program on readers and writers that fail, without arguments, on large inputs, and with threads that wait for one another.
 use crate::values::{Shared, push_edit};
-use nn_command::{NoArguments, serve};
+use nn_command::{ArgumentsFault, serve};
 use nn_device::{Reader, Writer};
 use nn_engine::{Gate, Open, Options, RunFault, ThreadOptions, run, run_threads};
 use nn_front::MAX_PASSED;
@@ -263,7 +263,7 @@ fn stops_at<R: Abort + Threads + Wait + Sync>(
     } else {
         run_to(alloc, &mut writer)
     };
-    is_front(rt, &writer.into_inner().got, written);
+    is_prefix(rt, &writer.into_inner().got, written);
     status
 }
 
@@ -275,7 +275,7 @@ fn run_to(alloc: Global, writer: &mut Writer<Stopping>) -> (Option<u8>, Option<u
     }
 }
 
-fn is_front(rt: &impl Abort, got: &[u8], written: Option<u64>) {
+fn is_prefix(rt: &impl Abort, got: &[u8], written: Option<u64>) {
     assert!(rt; LISTING.starts_with(got));
     if let Some(written) = written {
         assert_eq!(rt; got.len() as u64, written);
@@ -321,7 +321,7 @@ fn longest_input(rt: HostRuntime) {
 }
 
 #[test]
-fn longest_front(rt: HostRuntime) {
+fn longest_prefix(rt: HostRuntime) {
     let mut options = usual_options();
     options.from_image = true;
     for (left, want) in [
@@ -477,8 +477,8 @@ fn a_listing_of_many_parts(rt: HostRuntime) {
     let written = Ok((4_157, 272_382_053));
     assert_eq!(rt; counted(rt.alloc(), &input, u64::MAX), written);
     // 100 parts of 65,536 bytes, 61 of them with a byte more.
-    let front = Err((100, 6_553_661));
-    assert_eq!(rt; counted(rt.alloc(), &input, 100), front);
+    let prefix = Err((100, 6_553_661));
+    assert_eq!(rt; counted(rt.alloc(), &input, 100), prefix);
 }
 
 // How many writes a run took and how many bytes it wrote, to its end or to a write that failed.
@@ -570,7 +570,7 @@ fn arguments(alloc: Global, line: &str) -> Option<Vec<String>> {
 fn served<W: Write, G: Gate + Send + Sync + Drop, R: Threads + Wait + Sync>(
     rt: &R,
     alloc: Global,
-    arguments: Result<&[String], NoArguments>,
+    arguments: Result<&[String], ArgumentsFault>,
     bytes: &[u8],
     output: &mut Writer<W>,
     errors: &mut Writer<Vec<u8>>,
@@ -587,12 +587,12 @@ fn served<W: Write, G: Gate + Send + Sync + Drop, R: Threads + Wait + Sync>(
 fn no_arguments_to_be_had(rt: HostRuntime) {
     for (why, want, told, status) in [
         (
-            NoArguments::NotText,
+            ArgumentsFault::NotText,
             "",
             "error: an argument is not UTF-8\n",
             2,
         ),
-        (NoArguments::OutOfMemory, "fault 55\n", "", 1),
+        (ArgumentsFault::OutOfMemory, "fault 55\n", "", 1),
     ] {
         let mut output = Writer::new(Vec::new(rt.alloc()));
         let mut errors = Writer::new(Vec::new(rt.alloc()));

@@ -7,12 +7,12 @@ use crate::values::{
 };
 use nn_device::{Page, Writer};
 use nn_drive::{
-    Left, Operator, ReportSource, Running, Served, Unattended, Unfed, Unserved, Wish, serve,
+    Left, Operator, ReportSource, Request, Running, Served, Unattended, Unfed, Unserved, serve,
 };
 use nn_lane::Refusal;
+use nn_lane_standby::Standby;
 use nn_listing::{ReadyListing, ReadyTables};
 use nn_shadow::Shadow;
-use nn_tailer::Standby;
 use nn_types::Report;
 use std::alloc::Global;
 use std::process::Abort;
@@ -90,9 +90,9 @@ impl ReportSource for DataNode {
     }
 }
 
-// Wishes a promotion once each of so many DataNodes has sent so many messages, and the log has come so far; or once a
+// Requests a promotion once each of so many DataNodes has sent so many messages, and the log has come so far; or once a
 // thread waited in vain. It shows the sources how far the log has come, or how many messages each DataNode has sent, and in
-// the end that it wished.
+// the end that it requested.
 #[derive(Drop)]
 pub struct Until {
     shared: Arc<Shared, Global>,
@@ -107,21 +107,21 @@ impl Operator for Until {
 
     ghost asks = { λ o x n w p. ⊤ };
 
-    fn ask(&mut self, standby: &Standby, _running: usize) -> Wish {
+    fn ask(&mut self, standby: &Standby, _running: usize) -> Request {
         let last = standby.shadow().last_txid();
         let sent = least_sent(standby, self.nodes);
         let vain = self.shared.vain.load(Ordering::SeqCst);
         if vain > 0 || (last >= self.txid && sent >= self.messages) {
             self.shared.asked.store(u64::MAX, Ordering::SeqCst);
-            return Wish::Promote;
+            return Request::Promote;
         }
         let shown = if self.shows_messages { sent } else { last };
         self.shared.asked.store(shown, Ordering::SeqCst);
-        Wish::GoOn
+        Request::GoOn
     }
 }
 
-// Writes a checkpoint each time it is asked, and wishes what another operator does.
+// Writes a checkpoint each time it is asked, and requests what another operator does.
 #[derive(Drop)]
 struct Saving {
     alloc: Global,
@@ -134,7 +134,7 @@ impl Operator for Saving {
 
     ghost asks = { λ o x n w p. ⊤ };
 
-    fn ask(&mut self, standby: &Standby, running: usize) -> Wish {
+    fn ask(&mut self, standby: &Standby, running: usize) -> Request {
         let mut image = Writer::new(Vec::new(self.alloc));
         if standby.checkpoint(self.alloc, &mut image).is_ok() {
             self.image = image.into_inner();
@@ -152,7 +152,7 @@ pub fn least_sent(standby: &Standby, nodes: u16) -> u64 {
     least
 }
 
-// Wishes a promotion once at most so many workers run. It lets those DataNodes go that stay once it saw more of them run.
+// Requests a promotion once at most so many workers run. It lets those DataNodes go that stay once it saw more of them run.
 #[derive(Drop)]
 struct UntilFewRun {
     shared: Arc<Shared, Global>,
@@ -165,13 +165,13 @@ impl Operator for UntilFewRun {
 
     ghost asks = { λ o x n w p. ⊤ };
 
-    fn ask(&mut self, _standby: &Standby, running: usize) -> Wish {
+    fn ask(&mut self, _standby: &Standby, running: usize) -> Request {
         if running <= self.most {
-            return Wish::Promote;
+            return Request::Promote;
         }
         self.saw_more = true;
         self.shared.came.store(1, Ordering::SeqCst);
-        Wish::GoOn
+        Request::GoOn
     }
 }
 
@@ -188,7 +188,7 @@ impl Operator for Hoarding {
 
     ghost asks = { λ o x n w p. ⊤ };
 
-    fn ask(&mut self, _standby: &Standby, _running: usize) -> Wish {
+    fn ask(&mut self, _standby: &Standby, _running: usize) -> Request {
         let mut size = if self.blocks.is_empty() {
             LARGEST_BLOCK
         } else {
@@ -196,14 +196,14 @@ impl Operator for Hoarding {
         };
         for _ in 0..MOST_BLOCKS {
             if size == 0 || self.blocks.len() >= MOST_BLOCKS {
-                return Wish::GoOn;
+                return Request::GoOn;
             }
             match Vec::with_capacity(self.alloc, size) {
                 Ok(block) => self.keep(block),
                 Err(_) => size /= 2,
             }
         }
-        Wish::GoOn
+        Request::GoOn
     }
 }
 

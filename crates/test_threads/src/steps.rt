@@ -2,7 +2,7 @@
 use crate::drive::laned;
 use crate::sources::{Endless, FailsOnce};
 use crate::values::{FIRST, directories, report_of};
-use nn_tailer::{Choice, Standby, Stepped};
+use nn_lane_standby::{Choice, Standby, Stepped};
 use std::alloc::Global;
 
 const TRANSACTIONS: u64 = 25_000;

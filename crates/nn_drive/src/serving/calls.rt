@@ -2,11 +2,11 @@
 ghost use Rattle.std.specs.Prelude.{◌≡◌, ◌≤◌, [], false, length, reverse, vec_capacity, Some, None, IfOk, IfErr, IfSome};
 ghost use Rattle.std.specs.List.{AllZip};
 ghost use Rattle.nn_feed.specs.Ends.{got_by, IsSameEnd};
-ghost use Rattle.nn_tailer.specs.Tailing.{has_begun, Tailer};
-ghost use Rattle.nn_drive.specs.Driven.{HasReported, AreLanes, NotDriven};
+ghost use Rattle.nn_lane_standby.specs.Tailing.{has_begun, Standby};
+ghost use Rattle.nn_drive.specs.Driven.{HasReported, HaveReporters, NotDriven};
 ghost use Rattle.nn_drive.specs.Feeding.{FailsOver};
 ghost use Rattle.nn_drive.specs.Refusals.{drive_refusal};
-ghost use Rattle.nn_drive.specs.Served.{HasLeft, ArePaired, AreStarted, PromotesOver, IsServed, ComesBack, IsUntouched, IsStopped, IsUnserved, IsRefused};
+ghost use Rattle.nn_drive.specs.Served.{HasLeft, ArePaired, AreStarted, PromotesOver, IsServed, ComesBack, IsUntouched, IsStopped, IsUnserved, IsRefusedAtStart};
 ghost use Rattle.nn_drive.specs.Serving.{IsOf};
 ghost use Rattle.nn_drive.specs.declared.driving.DriveFault.{DriveFault as Why};
 
@@ -19,8 +19,8 @@ use crate::reporting::ReportSource;
 use crate::rotation::rotate;
 use nn_feed::{Bell, FeedEnd};
 use nn_lane::{LaneEnd, Reporter, meet};
+use nn_lane_standby::{Active, Standby};
 use nn_segment::SegmentSource;
-use nn_tailer::{Active, Standby};
 use std::alloc::{AllocError, Global};
 use std::snapshot::Snapshot;
 use std::sync::{Arc, Wait};
@@ -143,7 +143,7 @@ fn pair<S: ReportSource + Drop>(
     paired
 }
 
-// Steps of the standby over the end of a feed, up to its operator's wish, and then its promotion. So many of the workers
+// Steps of the standby over the end of a feed, up to its operator's request, and then its promotion. So many of the workers
 // run.
 fn serve_over<'a, O: Operator, R: Wait>(
     rt: &R,
@@ -195,7 +195,7 @@ fn serve_with<
     operator: &mut O,
 ) -> Result<Served<S>, Unserved<'a, T, S, R>>
     requires serving { has_begun standby ≡ false }
-    requires lanes { AreLanes workers.items standby.ends }
+    requires lanes { HaveReporters workers.items standby.ends }
     requires new { got_by feeding.end ≡ [] }
     requires none { room.items ≡ [] }
     requires room { length workers.items ≤ vec_capacity room }
@@ -242,12 +242,12 @@ fn serve_with<
 
 impl<'a, T: SegmentSource + Drop, S: ReportSource, R: Threads + Wait> Unserved<'a, T, S, R> {
     /// Drops what the feed still brings, and joins the source's thread: for as long as the source gives segments or waits.
-    /// All else comes back as it is. The fault is then known as `drive` knows one: with what its source gave; or it is 55,
+    /// All else comes back as it is. The fault is then known as `drive` knows one: with what its source gave; or it is `OutOfMemory`,
     /// where the feed failed while both its ends were there.
     pub fn join(self, rt: &R) -> Unfed<T, S>
         ensures rest { (result.standby ≡ self.entry.standby) × (result.workers ≡ self.entry.workers) }
         ensures back { (result.source ≡ self.entry.source) × (result.unstarted ≡ self.entry.unstarted) }
-        ensures fault { (old : Tailer) (source : T) → IsStopped T.gives T.failures old source self.entry → NotDriven T.gives T.failures old source result.fault }
+        ensures fault { (old : Standby) (source : T) → IsStopped T.gives T.failures old source self.entry → NotDriven T.gives T.failures old source result.fault }
     {
         let Unserved {
             fault,
@@ -320,16 +320,19 @@ fn shared_bells(
 }
 
 /// Runs the source of segments and each worker on a thread of its own, and the standby on this one, until the operator
-/// wishes a promotion. Then it closes its lanes, reads the log to its end, and promotes itself. It waits for no worker:
+/// requests a promotion. Then it closes its lanes, reads the log to its end, and promotes itself. It waits for no worker:
 /// those that still run are told by their next report, and come back to be joined. It waits for the source to give its
-/// End, so an operator that wishes a promotion has its own source end.
+/// End, so an operator that requests a promotion has its own source end.
 ///
 /// The source is asked up to its End or its first fault, at most five segments ahead of the one that the standby has in
 /// hand. While it is slow, messages are taken and the operator is asked; once the promotion has begun, it is waited for.
-/// The first cause of refusal is answered: 53 where the flush had begun before and 51 where the standby was stopped, both
-/// before any thread is started; then 55 where memory or a thread is refused, and while it works 51, 54, 55. A fault is
-/// answered at once, and the standby comes back; so do the source and the workers, as far as no thread was asked for them. 55
-/// would also come if the feed failed while both its ends were there, which no channel does and no contract excludes.
+/// Where nothing is to do the standby sleeps until it is woken, 10 milliseconds at most: so often the operator is asked.
+///
+/// The first cause of refusal is answered: `AlreadyActive` where the flush had begun before and `Stopped` where the standby
+/// was stopped, both before any thread is started; then `OutOfMemory` where memory or a thread is refused; and while it works
+/// `Stopped`, `LogNotEnded`, `OutOfMemory`. A fault is answered at once, and the standby comes back; so do the source and the
+/// workers, as far as no thread was asked for them. `OutOfMemory` would also come if the feed failed while both its ends were
+/// there, which no channel does and no contract excludes.
 pub fn serve<
     'a,
     O: Operator,
@@ -344,8 +347,8 @@ pub fn serve<
     workers: Vec<(S, Reporter)>,
     operator: &mut O,
 ) -> Result<Served<S>, Unserved<'a, T, S, R>>
-    requires { AreLanes workers.items standby.ends }
-    ensures refused { (fault : Why) → drive_refusal standby ≡ Some fault → IsRefused standby source workers.items fault result }
+    requires { HaveReporters workers.items standby.ends }
+    ensures refused { (fault : Why) → drive_refusal standby ≡ Some fault → IsRefusedAtStart standby source workers.items fault result }
     ensures ok { IfOk result (λ r. IsServed O.asks T.gives T.failures standby source workers.items operator.old operator.new r) }
     ensures err { IfErr result (λ u. IsUnserved O.asks T.gives T.failures standby source workers.items operator.old operator.new u) }
 {

@@ -1,6 +1,6 @@
 // The calls of the two ends.
 ghost use Rattle.std.specs.Prelude.{◌≡◌, ◌+◌, [], length, Ok, Err, IfOk, IfErr, OnOk};
-ghost use Rattle.nn_feed.specs.Ends.{put_by, got_by, IsSameFeeder, AreOfOneFeed, Puts, Refuses, GivesWhatIsFed, IsMet};
+ghost use Rattle.nn_feed.specs.Ends.{put_by, got_by, IsSameFeeder, AreOfOneFeed, PutsAnswer, RefusesAnswer, GivesWhatIsFed, IsMet};
 ghost use Rattle.nn_feed.specs.Feeds.{has_last, is_last};
 ghost use Rattle.nn_feed.specs.Passes.{ended_by, as_answer};
 
@@ -91,12 +91,13 @@ impl Feeder {
     /// Puts one item behind the others. Where the feed holds four answers, it waits until one is got, or the other end is
     /// gone.
     ///
-    /// 45 once End or a fault was put, and for a segment behind 2^60 of them; then 46 where the other end is gone. After a
-    /// refusal what was put is as it was, and the item comes back. An item that was put may still never be got.
+    /// `Refusal::Ended` once End or a fault was put, and for a segment behind 2^60 of them; then `Refusal::Gone` where the
+    /// other end is gone. After a refusal what was put is as it was, and the item comes back. An item that was put may still
+    /// never be got.
     pub fn put<R: Wait>(&mut self, rt: &R, item: Item) -> Result<(), Refusal>
         ensures same { IsSameFeeder self.old self.new }
-        ensures ok { OnOk result (Puts (put_by self.old) (Ok item) (put_by self.new)) }
-        ensures refused { IfErr result (λ e. (put_by self.new ≡ put_by self.old) × Refuses (put_by self.old) (Ok item) e) }
+        ensures ok { OnOk result (PutsAnswer (put_by self.old) (Ok item) (put_by self.new)) }
+        ensures refused { IfErr result (λ e. (put_by self.new ≡ put_by self.old) × RefusesAnswer (put_by self.old) (Ok item) e) }
     {
         self.place(rt, Ok(item))
     }
@@ -105,8 +106,8 @@ impl Feeder {
     /// is, except for the number of segments.
     pub fn fail<R: Wait>(&mut self, rt: &R, fault: SourceFault) -> Result<(), Refusal>
         ensures same { IsSameFeeder self.old self.new }
-        ensures ok { OnOk result (Puts (put_by self.old) (Err fault) (put_by self.new)) }
-        ensures refused { IfErr result (λ e. (put_by self.new ≡ put_by self.old) × Refuses (put_by self.old) (Err fault) e) }
+        ensures ok { OnOk result (PutsAnswer (put_by self.old) (Err fault) (put_by self.new)) }
+        ensures refused { IfErr result (λ e. (put_by self.new ≡ put_by self.old) × RefusesAnswer (put_by self.old) (Err fault) e) }
     {
         self.place(rt, Err(fault))
     }
@@ -114,8 +115,8 @@ impl Feeder {
     // Puts one answer.
     fn place<R: Wait>(&mut self, rt: &R, answer: Result<Item, SourceFault>) -> Result<(), Refusal>
         ensures same { IsSameFeeder self.old self.new }
-        ensures ok { OnOk result (Puts (put_by self.old) answer (put_by self.new)) }
-        ensures refused { IfErr result (λ e. (put_by self.new ≡ put_by self.old) × Refuses (put_by self.old) answer e) }
+        ensures ok { OnOk result (PutsAnswer (put_by self.old) answer (put_by self.new)) }
+        ensures refused { IfErr result (λ e. (put_by self.new ≡ put_by self.old) × RefusesAnswer (put_by self.old) answer e) }
     {
         let last = is_last(&answer);
         if self.ended || (!last && self.count >= MAX_SEGMENTS) {
@@ -222,7 +223,7 @@ impl<'a, R: Wait> SegmentSource for FeedEnd<'a, R> {
     }
 }
 
-/// Ends a feed, with both ends in one thread: what was got is the front of what was put, and all of it once its last
+/// Ends a feed, with both ends in one thread: what was got is the prefix of what was put, and all of it once its last
 /// answer was got. It waits for nothing.
 pub fn meet<'a, R: Wait>(feeder: Feeder, end: FeedEnd<'a, R>)
     requires { AreOfOneFeed feeder end }

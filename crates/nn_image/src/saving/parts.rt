@@ -1,17 +1,17 @@
 //! An image that is written in parts, with time for something else between two of them.
 ghost use Rattle.std.specs.Prelude.{◌≡◌, ◌<◌, ◌≤◌, ◌+◌, ◌-◌, ◌++◌, ◌↔◌, [], ℕ, List, None, IsTrue, false, length, IfOk, IfErr, IfSome};
-ghost use Rattle.nn_device.specs.Device.{Writing};
-ghost use Rattle.nn_device.specs.Page.{HasPut, Puts};
-ghost use Rattle.nn_device.specs.Parts.{TookFront};
+ghost use Rattle.nn_device.specs.Device.{Writer as WriterView};
+ghost use Rattle.nn_device.specs.Page.{HasPut, PutsPiece};
+ghost use Rattle.nn_device.specs.Parts.{TookPrefix};
 ghost use Rattle.nn_tree.specs.At.{names_of};
-ghost use Rattle.nn_image.specs.InParts.{Begins, IsPart, IsRest, IsSaving, IsSavedBy, Resumes, WrotePart, fault_of, last_line, part_of, paths_from, rest_text};
-ghost use Rattle.nn_image.specs.Saving.{WroteFront};
+ghost use Rattle.nn_image.specs.InParts.{WroteHeader, IsPart, IsRest, IsSaving, IsSavedBy, Resumes, WrotePart, fault_of, last_line, part_of, paths_from, rest_text};
+ghost use Rattle.nn_image.specs.Saving.{WrotePrefix};
 ghost use Rattle.nn_image.specs.Text.{image_text, row_lines};
 
 use super::{head_line, put_end};
 use crate::fault::SaveFault;
 use crate::row_text::put_row;
-use nn_device::{Page, Unwritten, Writer};
+use nn_device::{OutputFault, Page, Writer};
 use nn_tree::{Namespace, Rows, copied_names};
 use nn_types::Txid;
 use std::alloc::{AllocError, Global};
@@ -25,7 +25,7 @@ const PART_BYTES: u64 = 262_144;
 ///
 /// It lends no namespace and no writer. Each call is handed both, and where they are the same ones each time, the parts are the
 /// image. Dropping it calls the image off: the writer has a prefix then, which `load` refuses.
-#[derive(Drop)]
+#[derive(Debug, Drop)]
 pub struct Saving {
     // the names of the next path, and none at first: the root has no line
     place: Vec<String>,
@@ -50,9 +50,9 @@ impl Saving {
         txid: Txid,
         writer: &mut Writer<W>,
     ) -> Result<Saving, SaveFault>
-        ensures ok { IfOk result (Begins namespace.now txid writer.old writer.new) }
+        ensures ok { IfOk result (WroteHeader namespace.now txid writer.old writer.new) }
         ensures saving { IfOk result (IsSaving namespace.now txid writer.old writer.new) }
-        ensures front { IfErr result (WroteFront writer.old writer.new (image_text namespace.now txid)) }
+        ensures prefix { IfErr result (WrotePrefix writer.old writer.new (image_text namespace.now txid)) }
     {
         let Ok(head) = head_line(alloc, namespace, txid) else {
             return Err(SaveFault::OutOfMemory);
@@ -85,10 +85,10 @@ impl Saving {
     ) -> Result<Option<Saving>, SaveFault>
         ensures part { IfOk result (λ next. IfSome next (WrotePart namespace.now rows self writer.old writer.new)) }
         ensures rest { IfOk result (λ next. next ≡ None → IsRest namespace.now rows self writer.old writer.new) }
-        ensures front { IfErr result (WroteFront writer.old writer.new (rest_text self namespace.now)) }
+        ensures prefix { IfErr result (WrotePrefix writer.old writer.new (rest_text self namespace.now)) }
 
         // Where the same namespace is handed to each call, the parts are the image.
-        ensures saved { (txid : ℕ) (start : Writing) → IsSaving namespace.now txid start writer.old self → IsSavedBy namespace.now txid start writer.new result }
+        ensures saved { (txid : ℕ) (start : WriterView) → IsSaving namespace.now txid start writer.old self → IsSavedBy namespace.now txid start writer.new result }
     {
         let before = writer.taken();
         match self.write_on(alloc, namespace, writer, rows) {
@@ -103,20 +103,20 @@ impl Saving {
         namespace: &Namespace,
         writer: &mut Writer<W>,
         rows: usize,
-    ) -> Result<Option<Saving>, Unwritten>
+    ) -> Result<Option<Saving>, OutputFault>
         ensures part { IfOk result (λ next. IfSome next (WrotePart namespace.now rows self writer.old writer.new)) }
         ensures rest { IfOk result (λ next. next ≡ None → IsRest namespace.now rows self writer.old writer.new) }
-        ensures front { IfErr result (TookFront writer.old writer.new (rest_text self namespace.now)) }
+        ensures prefix { IfErr result (TookPrefix writer.old writer.new (rest_text self namespace.now)) }
     {
         let Saving { place, count } = self;
         let Ok(walk) = paths_from(namespace, &place) else {
-            return Err(Unwritten::OutOfMemory);
+            return Err(OutputFault::OutOfMemory);
         };
         let mut page = Page::new(alloc);
         let part = put_part(alloc, &mut page, writer, walk, rows, PART_BYTES)?;
         // No writer takes 2^64 lines.
         let Some(count) = count.checked_add(part.lines as u64) else {
-            return Err(Unwritten::OutOfMemory);
+            return Err(OutputFault::OutOfMemory);
         };
         put_last(&mut page, writer, &part, count);
         page.end(writer)?;
@@ -128,14 +128,14 @@ impl Saving {
 }
 
 // The fault of a call before which the writer had taken so many bytes.
-fn fault_of<W: Write>(cause: Unwritten, before: u64, writer: &Writer<W>) -> SaveFault
+fn fault_of<W: Write>(cause: OutputFault, before: u64, writer: &Writer<W>) -> SaveFault
     ensures { result ≡ fault_of cause (writer.now.taken - before) }
 {
     match cause {
-        Unwritten::WriteFailed => SaveFault::WriteFault {
+        OutputFault::WriteFailed => SaveFault::WriteFault {
             written: writer.taken().saturating_sub(before),
         },
-        Unwritten::OutOfMemory => SaveFault::OutOfMemory,
+        OutputFault::OutOfMemory => SaveFault::OutOfMemory,
     }
 }
 
@@ -144,10 +144,10 @@ fn paths_from<'a>(namespace: &'a Namespace, place: &[String]) -> Result<Rows<'a>
     ensures left { IfOk result (λ rows. rows.left ≡ paths_from (names_of place.now) namespace.now) }
     ensures resumes { Resumes namespace.now }
 {
-    namespace.well_formed();
+    namespace.recall_invariant();
     let mut rows = namespace.rows_from(place)?;
     if place.is_empty() {
-        rows.next()?;
+        rows.next_row()?;
     }
     Ok(rows)
 }
@@ -170,28 +170,28 @@ fn put_part<W: Write>(
     mut walk: Rows<'_>,
     rows: usize,
     bytes: u64,
-) -> Result<Part, Unwritten>
+) -> Result<Part, OutputFault>
     requires { HasPut writer.old [] page.old writer.old }
     ensures put { IfOk result (λ _. HasPut writer.old (row_lines (part_of rows bytes walk.entry.left)) page.new writer.new) }
     ensures part { IfOk result (IsPart rows bytes walk.entry.left) }
     ensures well { IfOk result (λ _. page.new.lost ≡ false) }
-    ensures front { IfErr result (λ cause. (tail : List ℕ) → 0 < length tail → TookFront writer.old writer.new (row_lines walk.entry.left ++ tail) cause) }
+    ensures prefix { IfErr result (λ cause. (tail : List ℕ) → 0 < length tail → TookPrefix writer.old writer.new (row_lines walk.entry.left ++ tail) cause) }
 {
     let before = writer.taken();
     let mut lines = 0;
     'rows: loop {
         if page.has_failed() {
-            return Err(Unwritten::WriteFailed);
+            return Err(OutputFault::WriteFailed);
         }
-        let Ok(next) = walk.next() else {
-            return Err(Unwritten::OutOfMemory);
+        let Ok(next) = walk.next_row() else {
+            return Err(OutputFault::OutOfMemory);
         };
         let Some(found) = next else {
             return Ok(Part { lines, next: None });
         };
         if lines >= rows || has_put(page, writer, before, bytes) {
             let Ok(place) = copied_names(alloc, walk.names()) else {
-                return Err(Unwritten::OutOfMemory);
+                return Err(OutputFault::OutOfMemory);
             };
             return Ok(Part {
                 lines,
@@ -205,7 +205,7 @@ fn put_part<W: Write>(
 
 // Puts the last line of an image of so many paths, if none is left behind the part.
 fn put_last<W: Write>(page: &mut Page, writer: &mut Writer<W>, part: &Part, paths: u64)
-    ensures { Puts (last_line part.now.next paths) page.old writer.old page.new writer.new }
+    ensures { PutsPiece (last_line part.now.next paths) page.old writer.old page.new writer.new }
 {
     if part.next.is_none() {
         put_end(page, writer, paths);

@@ -1,6 +1,6 @@
 //! What a service answers.
 ghost use Rattle.std.specs.Prelude.{◌≡◌, ◌≤◌, ◌^◌, ◌++◌, [], flat_map, map, take, IfErr, IfOk, IsErrOf, OnOk, if◌then◌else◌, nat_le};
-ghost use Rattle.nn_device.specs.Page.{Puts};
+ghost use Rattle.nn_device.specs.Page.{PutsPiece};
 ghost use Rattle.nn_image.specs.Text.{image_text};
 ghost use Rattle.nn_listing.specs.Listing.{listing_text};
 ghost use Rattle.nn_listing.specs.Tables.{IsOfSaid};
@@ -8,10 +8,11 @@ ghost use Rattle.nn_model.specs.Lanes.{Lanes};
 ghost use Rattle.nn_model.specs.Namespace.{Namespace};
 ghost use Rattle.nn_tree.specs.Listing.{lent_names};
 ghost use Rattle.nn_tree.specs.Rows.{greatest_depth};
-ghost use Rattle.nn_live.specs.Answers.{held_line, shown, status_lines};
+ghost use Rattle.nn_live.specs.Answers.{held_line, first_lines, status_lines};
 ghost use Rattle.nn_live.specs.Live.{answers, does};
-ghost use Rattle.nn_live.specs.Serving.{BreaksOff, IsAtEnd, Steps, figures_seen, tables_seen};
+ghost use Rattle.nn_live.specs.Serving.{BreaksOff, IsAtEnd, ServiceSteps, figures_seen, tables_seen};
 ghost use Rattle.nn_live.specs.declared.word.Word.TheVariants as word;
+ghost use Rattle.nn_types.specs.Limits.{max_datanodes};
 
 use super::{Service, ServiceFault};
 use crate::one_block::{put_held_of, put_holder, put_orders_of, put_replicas_of};
@@ -23,7 +24,8 @@ use nn_listing::{ReadyListing, ReadyTables, put_count, put_row, put_summary, put
 use nn_postponed::Held;
 use nn_replicas::SafeMode;
 use nn_tree::Rows;
-use nn_types::{BlockId, DATANODES, Path, Txid};
+use nn_types::limits::MAX_DATANODES;
+use nn_types::{BlockId, Path, Txid};
 use std::alloc::{AllocError, Global};
 use std::io::Write;
 
@@ -36,9 +38,9 @@ impl Service {
         writer: &mut Writer<W>,
         word: &Word,
     ) -> Result<(), ServiceFault>
-        ensures ok { OnOk result (Steps (λ asked s. answers asked word.now s) self.old self.new (λ text. Puts text page.old writer.old page.new writer.new)) }
+        ensures ok { OnOk result (ServiceSteps (λ asked s. answers asked word.now s) self.old self.new (λ text. PutsPiece text page.old writer.old page.new writer.new)) }
         ensures exhausted { IsErrOf result ServiceFault.Exhausted → IsAtEnd self.old }
-        ensures front { IfErr result (λ _. BreaksOff (λ asked s. answers asked word.now s) self.old (λ told. Puts told page.old writer.old page.new writer.new)) }
+        ensures prefix { IfErr result (λ _. BreaksOff (λ asked s. answers asked word.now s) self.old (λ told. PutsPiece told page.old writer.old page.new writer.new)) }
     {
         self.does(page, writer, word)?;
         put_count(page, writer, "done", self.lines);
@@ -51,9 +53,9 @@ impl Service {
         writer: &mut Writer<W>,
         word: &Word,
     ) -> Result<(), ServiceFault>
-        ensures ok { OnOk result (Steps (λ asked s. does asked word.now s) self.old self.new (λ text. Puts text page.old writer.old page.new writer.new)) }
+        ensures ok { OnOk result (ServiceSteps (λ asked s. does asked word.now s) self.old self.new (λ text. PutsPiece text page.old writer.old page.new writer.new)) }
         ensures exhausted { IsErrOf result ServiceFault.Exhausted → IsAtEnd self.old }
-        ensures front { IfErr result (λ _. BreaksOff (λ asked s. does asked word.now s) self.old (λ told. Puts told page.old writer.old page.new writer.new)) }
+        ensures prefix { IfErr result (λ _. BreaksOff (λ asked s. does asked word.now s) self.old (λ told. PutsPiece told page.old writer.old page.new writer.new)) }
     {
         match word {
             Word::Sync => return Ok(()),
@@ -73,16 +75,16 @@ impl Service {
 
     // Answers with the state, the counts, and the standby's summary.
     fn status<W: Write>(&self, page: &mut Page, writer: &mut Writer<W>)
-        ensures { Steps (λ asked s. does asked Word.Status s) self.now self.now (λ text. Puts text page.old writer.old page.new writer.new) }
+        ensures { ServiceSteps (λ asked s. does asked Word.Status s) self.now self.now (λ text. PutsPiece text page.old writer.old page.new writer.new) }
     {
-        self.shadow.consistent();
+        self.shadow.recall_invariant();
         self.put_status(page, writer);
     }
 
     // Answers with what waits, by block and then in the order of arrival: at most so many lines, and then how many more there
     // are.
     fn held<W: Write>(&self, page: &mut Page, writer: &mut Writer<W>, most: Option<u64>)
-        ensures { Steps (λ asked s. does asked (word.Held most) s) self.now self.now (λ text. Puts text page.old writer.old page.new writer.new) }
+        ensures { ServiceSteps (λ asked s. does asked (word.Held most) s) self.now self.now (λ text. PutsPiece text page.old writer.old page.new writer.new) }
     {
         self.put_waiting(page, writer, most);
     }
@@ -90,10 +92,10 @@ impl Service {
     // Answers with the listing of the namespace, and all replicas, orders and counts. What takes memory is done before the first
     // byte.
     fn tables<W: Write>(&self, page: &mut Page, writer: &mut Writer<W>) -> Result<(), ServiceFault>
-        ensures ok { OnOk result (Steps (λ asked s. does asked Word.Tables s) self.now self.now (λ text. Puts text page.old writer.old page.new writer.new)) }
-        ensures left { IfErr result (λ fault. (fault ≡ ServiceFault.OutOfMemory) × Puts [] page.old writer.old page.new writer.new) }
+        ensures ok { OnOk result (ServiceSteps (λ asked s. does asked Word.Tables s) self.now self.now (λ text. PutsPiece text page.old writer.old page.new writer.new)) }
+        ensures left { IfErr result (λ fault. (fault ≡ ServiceFault.OutOfMemory) × PutsPiece [] page.old writer.old page.new writer.new) }
     {
-        self.shadow.consistent();
+        self.shadow.recall_invariant();
         let (Ok(listing), Ok(tables)) = (self.listing(), self.table_lines()) else {
             return Err(ServiceFault::OutOfMemory);
         };
@@ -124,10 +126,10 @@ impl Service {
         writer: &mut Writer<W>,
         most: Option<u64>,
     ) -> Result<(), ServiceFault>
-        ensures ok { OnOk result (Steps (λ asked s. does asked (word.Unsafe most) s) self.now self.now (λ text. Puts text page.old writer.old page.new writer.new)) }
-        ensures left { IfErr result (λ fault. (fault ≡ ServiceFault.OutOfMemory) × Puts [] page.old writer.old page.new writer.new) }
+        ensures ok { OnOk result (ServiceSteps (λ asked s. does asked (word.Unsafe most) s) self.now self.now (λ text. PutsPiece text page.old writer.old page.new writer.new)) }
+        ensures left { IfErr result (λ fault. (fault ≡ ServiceFault.OutOfMemory) × PutsPiece [] page.old writer.old page.new writer.new) }
     {
-        self.shadow.consistent();
+        self.shadow.recall_invariant();
         let Ok(rows) = self.rows() else {
             return Err(ServiceFault::OutOfMemory);
         };
@@ -159,10 +161,10 @@ impl Service {
         writer: &mut Writer<W>,
         id: BlockId,
     ) -> Result<(), ServiceFault>
-        ensures ok { OnOk result (Steps (λ asked s. does asked (word.Block id) s) self.now self.now (λ text. Puts text page.old writer.old page.new writer.new)) }
-        ensures left { IfErr result (λ fault. (fault ≡ ServiceFault.OutOfMemory) × Puts [] page.old writer.old page.new writer.new) }
+        ensures ok { OnOk result (ServiceSteps (λ asked s. does asked (word.Block id) s) self.now self.now (λ text. PutsPiece text page.old writer.old page.new writer.new)) }
+        ensures left { IfErr result (λ fault. (fault ≡ ServiceFault.OutOfMemory) × PutsPiece [] page.old writer.old page.new writer.new) }
     {
-        self.shadow.consistent();
+        self.shadow.recall_invariant();
         let Ok(rows) = self.rows() else {
             return Err(ServiceFault::OutOfMemory);
         };
@@ -182,8 +184,8 @@ impl Service {
         writer: &mut Writer<W>,
         path: &Path,
     ) -> Result<(), ServiceFault>
-        ensures ok { OnOk result (Steps (λ asked s. does asked (word.Path path.now) s) self.now self.now (λ text. Puts text page.old writer.old page.new writer.new)) }
-        ensures left { IfErr result (λ fault. (fault ≡ ServiceFault.OutOfMemory) × Puts [] page.old writer.old page.new writer.new) }
+        ensures ok { OnOk result (ServiceSteps (λ asked s. does asked (word.Path path.now) s) self.now self.now (λ text. PutsPiece text page.old writer.old page.new writer.new)) }
+        ensures left { IfErr result (λ fault. (fault ≡ ServiceFault.OutOfMemory) × PutsPiece [] page.old writer.old page.new writer.new) }
     {
         let Some(found) = self.shadow.namespace().lookup(path) else {
             return Ok(());
@@ -197,7 +199,7 @@ impl Service {
 
     // Puts the state, the counts of the service, and the standby's summary.
     fn put_status<W: Write>(&self, page: &mut Page, writer: &mut Writer<W>)
-        ensures { Puts (status_lines (figures_seen self.now)) page.old writer.old page.new writer.new }
+        ensures { PutsPiece (status_lines (figures_seen self.now)) page.old writer.old page.new writer.new }
     {
         put_state(page, writer, self.shadow.stop(), self.shadow.is_active());
         put_text(page, writer, "version", self.version);
@@ -216,7 +218,7 @@ impl Service {
 
     // Puts what waits, at most so many lines, and then how many more there are.
     fn put_waiting<W: Write>(&self, page: &mut Page, writer: &mut Writer<W>, most: Option<u64>)
-        ensures { Puts (shown most (map held_line self.now.shadow.held)) page.old writer.old page.new writer.new }
+        ensures { PutsPiece (first_lines most (map held_line self.now.shadow.held)) page.old writer.old page.new writer.new }
     {
         let count = self.shadow.held_count() as u64;
         put_first(page, writer, self.shadow.held(), most.unwrap_or(count));
@@ -232,8 +234,8 @@ impl Service {
         page: &mut Page,
         writer: &mut Writer<W>,
     ) -> Result<(), ServiceFault>
-        ensures ok { OnOk result (Steps (λ asked s. does asked Word.Checkpoint s) self.now self.now (λ text. Puts text page.old writer.old page.new writer.new)) }
-        ensures left { IfErr result (λ fault. (fault ≡ ServiceFault.OutOfMemory) × Puts [] page.old writer.old page.new writer.new) }
+        ensures ok { OnOk result (ServiceSteps (λ asked s. does asked Word.Checkpoint s) self.now self.now (λ text. PutsPiece text page.old writer.old page.new writer.new)) }
+        ensures left { IfErr result (λ fault. (fault ≡ ServiceFault.OutOfMemory) × PutsPiece [] page.old writer.old page.new writer.new) }
     {
         let Ok(image) = self.image() else {
             return Err(ServiceFault::OutOfMemory);
@@ -256,9 +258,9 @@ impl Service {
 
 // A DataNode that there can be, or 0, which is none.
 fn lane_of(dn: u64) -> u16
-    ensures { result ≡ (if nat_le dn 256 then dn else 0) }
+    ensures { result ≡ (if nat_le dn max_datanodes then dn else 0) }
 {
-    if dn <= u64::from(DATANODES) {
+    if dn <= u64::from(MAX_DATANODES) {
         dn as u16
     } else {
         0
@@ -280,7 +282,7 @@ fn names_of(alloc: Global, path: &Path) -> Result<Vec<&str>, AllocError>
 
 // Puts so many of these items.
 fn put_first<W: Write>(page: &mut Page, writer: &mut Writer<W>, mut held: Held<'_>, most: u64)
-    ensures { Puts (flat_map (λ l. l) (take most (map held_line held.entry))) page.old writer.old page.new writer.new }
+    ensures { PutsPiece (flat_map (λ l. l) (take most (map held_line held.entry))) page.old writer.old page.new writer.new }
 {
     let mut left = most;
     'held: while left > 0 {

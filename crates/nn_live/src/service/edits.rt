@@ -1,6 +1,6 @@
 //! Edits are kept until their segment ends. Then it is judged, and followed.
 ghost use Rattle.std.specs.Prelude.{◌≡◌, ◌≤◌, ◌^◌, ◌+◌, ◌++◌, ◌∷◌, [], true, List, ℕ, drop, Ok, IfOk, IfErr, IsErrOf, OnOk, is_none, ◌⊎◌};
-ghost use Rattle.nn_device.specs.Page.{Puts};
+ghost use Rattle.nn_device.specs.Page.{PutsPiece};
 ghost use Rattle.nn_edits.specs.Reading.{edit_of_line};
 ghost use Rattle.nn_segment.specs.Lines.{is_unbroken};
 ghost use Rattle.nn_segment.specs.Segment.{Segment, IsSegment, first_txid};
@@ -9,7 +9,7 @@ ghost use Rattle.nn_scenario.specs.Reading.{Reading};
 ghost use Rattle.nn_shadow.specs.Contents.{standby_of};
 ghost use Rattle.nn_shadow.specs.Refusals.{apply_refusal};
 ghost use Rattle.nn_live.specs.Live.{ends, follows, follows_txs, takes_edit};
-ghost use Rattle.nn_live.specs.Serving.{Breaks, BreaksOff, HasRead, IsAllOf, IsNearEnd, Keeps, Makes, Steps, keeps_edit, takes_segment, takes_tx};
+ghost use Rattle.nn_live.specs.Serving.{Breaks, BreaksOff, HasRead, IsAllOf, IsNearEnd, HasPart, FollowsStep, ServiceSteps, keeps_edit, takes_segment, takes_tx};
 
 use super::{Service, ServiceFault};
 use crate::in_hand::InHand;
@@ -34,9 +34,9 @@ impl Service {
         requires unbroken { is_unbroken text.now ≡ true }
         requires read { edit_of_line text.now ≡ Ok tx }
         requires from_one { 1 ≤ tx.txid }
-        ensures ok { OnOk result (Steps (λ asked s. takes_edit asked (record { text = text.now; tx = tx }) s) self.old self.new (λ told. Puts told page.old writer.old page.new writer.new)) }
+        ensures ok { OnOk result (ServiceSteps (λ asked s. takes_edit asked (record { text = text.now; tx = tx }) s) self.old self.new (λ told. PutsPiece told page.old writer.old page.new writer.new)) }
         ensures exhausted { IsErrOf result ServiceFault.Exhausted → IsNearEnd self.old }
-        ensures front { IfErr result (λ _. BreaksOff (λ asked s. takes_edit asked (record { text = text.now; tx = tx }) s) self.old (λ told. Puts told page.old writer.old page.new writer.new)) }
+        ensures prefix { IfErr result (λ _. BreaksOff (λ asked s. takes_edit asked (record { text = text.now; tx = tx }) s) self.old (λ told. PutsPiece told page.old writer.old page.new writer.new)) }
     {
         if !is_start(&tx.edit) {
             return self.keep_edit(page, writer, text, tx);
@@ -51,12 +51,12 @@ impl Service {
         page: &mut Page,
         writer: &mut Writer<W>,
     ) -> Result<(), ServiceFault>
-        ensures ok { OnOk result (Steps (λ asked s. ends asked s) self.old self.new (λ told. Puts told page.old writer.old page.new writer.new)) }
+        ensures ok { OnOk result (ServiceSteps (λ asked s. ends asked s) self.old self.new (λ told. PutsPiece told page.old writer.old page.new writer.new)) }
         ensures none { OnOk result (self.new.in_hand.edits ≡ 0) }
         ensures counts { OnOk result ((self.new.segments ≤ self.old.segments + 1) × (self.new.passed ≡ self.old.passed)) }
         ensures exhausted { IfErr result (λ fault. (fault ≡ ServiceFault.Exhausted) × (2 ^ 63 ≤ self.old.segments)) }
         ensures left { IfErr result (λ _. self.new ≡ self.old) }
-        ensures put { IfErr result (λ _. Puts [] page.old writer.old page.new writer.new) }
+        ensures put { IfErr result (λ _. PutsPiece [] page.old writer.old page.new writer.new) }
     {
         if self.in_hand.is_empty() {
             return Ok(());
@@ -79,9 +79,9 @@ impl Service {
         requires unbroken { is_unbroken text.now ≡ true }
         requires read { edit_of_line text.now ≡ Ok tx }
         requires from_one { 1 ≤ tx.txid }
-        ensures ok { OnOk result (Steps (keeps_edit (record { text = text.now; tx = tx })) self.old self.new (λ told. Puts told page.old writer.old page.new writer.new)) }
+        ensures ok { OnOk result (ServiceSteps (keeps_edit (record { text = text.now; tx = tx })) self.old self.new (λ told. PutsPiece told page.old writer.old page.new writer.new)) }
         ensures exhausted { IsErrOf result ServiceFault.Exhausted → (2 ^ 62 ≤ self.old.in_hand.edits + 1) ⊎ (2 ^ 63 ≤ self.old.segments) ⊎ (2 ^ 63 ≤ self.old.passed) }
-        ensures front { IfErr result (λ _. BreaksOff (keeps_edit (record { text = text.now; tx = tx })) self.old (λ told. Puts told page.old writer.old page.new writer.new)) }
+        ensures prefix { IfErr result (λ _. BreaksOff (keeps_edit (record { text = text.now; tx = tx })) self.old (λ told. PutsPiece told page.old writer.old page.new writer.new)) }
     {
         let txid = tx.txid.get();
         let ends = is_end(&tx.edit);
@@ -102,11 +102,11 @@ impl Service {
         in_hand: InHand,
     ) -> Result<(), ServiceFault>
         requires edits { (read : Reading) × (part : Part) × HasRead read part in_hand × IsAllOf part read }
-        requires none { Keeps no_lines self.old.in_hand }
-        ensures ok { OnOk result ((told : List ℕ) × Puts told page.old writer.old page.new writer.new
-            × ((read : Reading) (part : Part) → HasRead read part in_hand → IsAllOf part read → Makes (takes_segment part) self.old self.new told)) }
+        requires none { HasPart no_lines self.old.in_hand }
+        ensures ok { OnOk result ((told : List ℕ) × PutsPiece told page.old writer.old page.new writer.new
+            × ((read : Reading) (part : Part) → HasRead read part in_hand → IsAllOf part read → FollowsStep (takes_segment part) self.old self.new told)) }
         ensures exhausted { IsErrOf result ServiceFault.Exhausted → (2 ^ 63 ≤ self.old.segments) ⊎ (2 ^ 63 ≤ self.old.passed) }
-        ensures front { IfErr result (λ _. (told : List ℕ) × Puts told page.old writer.old page.new writer.new
+        ensures prefix { IfErr result (λ _. (told : List ℕ) × PutsPiece told page.old writer.old page.new writer.new
             × ((read : Reading) (part : Part) → HasRead read part in_hand → IsAllOf part read → Breaks (takes_segment part) self.old told)) }
     {
         self.count_segment()?;
@@ -140,11 +140,11 @@ impl Service {
         txs: &[Tx],
     ) -> Result<(), ServiceFault>
         requires { (g : Segment) × IsSegment g × (g.txs ≡ txs.now) }
-        ensures ok { OnOk result (Steps (λ asked s. follows_txs asked txs.now s) self.old self.new (λ told. Puts told page.old writer.old page.new writer.new)) }
+        ensures ok { OnOk result (ServiceSteps (λ asked s. follows_txs asked txs.now s) self.old self.new (λ told. PutsPiece told page.old writer.old page.new writer.new)) }
         ensures exhausted { IsErrOf result ServiceFault.Exhausted → 2 ^ 63 ≤ self.old.passed }
-        ensures front { IfErr result (λ _. BreaksOff (λ asked s. follows_txs asked txs.now s) self.old (λ told. Puts told page.old writer.old page.new writer.new)) }
+        ensures prefix { IfErr result (λ _. BreaksOff (λ asked s. follows_txs asked txs.now s) self.old (λ told. PutsPiece told page.old writer.old page.new writer.new)) }
     {
-        self.shadow.consistent();
+        self.shadow.recall_invariant();
         let Some(first) = txs.first() else {
             unreachable!();
         };
@@ -170,9 +170,9 @@ impl Service {
         writer: &mut Writer<W>,
         tx: &Tx,
     ) -> Result<bool, ServiceFault>
-        ensures ok { IfOk result (λ _. Steps (takes_tx tx.now) self.old self.new (λ text. Puts text page.old writer.old page.new writer.new)) }
+        ensures ok { IfOk result (λ _. ServiceSteps (takes_tx tx.now) self.old self.new (λ text. PutsPiece text page.old writer.old page.new writer.new)) }
         ensures memory { IfErr result (λ fault. fault ≡ ServiceFault.OutOfMemory) }
-        ensures put { IfErr result (λ _. Puts [] page.old writer.old page.new writer.new) }
+        ensures put { IfErr result (λ _. PutsPiece [] page.old writer.old page.new writer.new) }
         ensures applied { IfOk result (λ applied. applied ≡ is_none (apply_refusal self.old.shadow.phase (standby_of self.old.shadow) tx.now)) }
     {
         match self.shadow.apply(tx) {
@@ -197,9 +197,9 @@ impl Service {
         writer: &mut Writer<W>,
         txs: &[Tx],
     ) -> Result<(), ServiceFault>
-        ensures ok { IfOk result (λ _. Steps (λ asked s. follows asked txs.now s) self.old self.new (λ text. Puts text page.old writer.old page.new writer.new)) }
+        ensures ok { IfOk result (λ _. ServiceSteps (λ asked s. follows asked txs.now s) self.old self.new (λ text. PutsPiece text page.old writer.old page.new writer.new)) }
         ensures memory { IfErr result (λ fault. fault ≡ ServiceFault.OutOfMemory) }
-        ensures front { IfErr result (λ _. BreaksOff (λ asked s. follows asked txs.now s) self.old (λ told. Puts told page.old writer.old page.new writer.new)) }
+        ensures prefix { IfErr result (λ _. BreaksOff (λ asked s. follows asked txs.now s) self.old (λ told. PutsPiece told page.old writer.old page.new writer.new)) }
     {
         let mut rest = txs;
         'txs: while let Some((tx, later)) = rest.split_first() {

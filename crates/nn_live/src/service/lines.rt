@@ -1,11 +1,11 @@
 //! Lines are taken as they come: words, edits and reports.
 ghost use Rattle.std.specs.Prelude.{◌≡◌, List, ℕ, [], true, IfErr, IsErrOf, OnOk};
-ghost use Rattle.nn_device.specs.Page.{Puts};
+ghost use Rattle.nn_device.specs.Page.{PutsPiece};
 ghost use Rattle.nn_edits.specs.Reading.{either_of_line};
 ghost use Rattle.nn_segment.specs.Lines.{is_unbroken};
 ghost use Rattle.nn_scenario.specs.Scenario.{is_blank};
 ghost use Rattle.nn_live.specs.Live.{ends, takes, takes_read, takes_torn};
-ghost use Rattle.nn_live.specs.Serving.{Breaks, BreaksOff, HasRunOut, IsAtEnd, Makes, RunsOutBehind, Steps};
+ghost use Rattle.nn_live.specs.Serving.{Breaks, BreaksOff, HasRunOut, IsAtEnd, FollowsStep, RunsOutBehind, ServiceSteps};
 ghost use Rattle.nn_live.specs.Taking.{IsLong};
 
 use super::{Service, ServiceFault};
@@ -28,9 +28,9 @@ impl Service {
         text: &[u8],
     ) -> Result<(), ServiceFault>
         requires { is_unbroken text.now ≡ true }
-        ensures ok { OnOk result (Steps (λ asked s. takes asked text.now s) self.old self.new (λ told. Puts told page.old writer.old page.new writer.new)) }
+        ensures ok { OnOk result (ServiceSteps (λ asked s. takes asked text.now s) self.old self.new (λ told. PutsPiece told page.old writer.old page.new writer.new)) }
         ensures exhausted { IsErrOf result ServiceFault.Exhausted → HasRunOut self.old }
-        ensures front { IfErr result (λ _. BreaksOff (λ asked s. takes asked text.now s) self.old (λ told. Puts told page.old writer.old page.new writer.new)) }
+        ensures prefix { IfErr result (λ _. BreaksOff (λ asked s. takes asked text.now s) self.old (λ told. PutsPiece told page.old writer.old page.new writer.new)) }
     {
         self.next_line()?;
         if is_blank(text) {
@@ -55,9 +55,9 @@ impl Service {
         torn: &[u8],
     ) -> Result<(), ServiceFault>
         requires { is_unbroken torn.now ≡ true }
-        ensures ok { OnOk result (Steps (λ asked s. ends asked (takes_torn asked torn.now s)) self.old self.new (λ told. Puts told page.old writer.old page.new writer.new)) }
+        ensures ok { OnOk result (ServiceSteps (λ asked s. ends asked (takes_torn asked torn.now s)) self.old self.new (λ told. PutsPiece told page.old writer.old page.new writer.new)) }
         ensures exhausted { IsErrOf result ServiceFault.Exhausted → RunsOutBehind torn.now self.old }
-        ensures front { IfErr result (λ _. BreaksOff (λ asked s. ends asked (takes_torn asked torn.now s)) self.old (λ told. Puts told page.old writer.old page.new writer.new)) }
+        ensures prefix { IfErr result (λ _. BreaksOff (λ asked s. ends asked (takes_torn asked torn.now s)) self.old (λ told. PutsPiece told page.old writer.old page.new writer.new)) }
     {
         self.torn_line(scratch, page, writer, torn)?;
         self.end_edits(page, writer)
@@ -70,10 +70,10 @@ impl Service {
         writer: &mut Writer<W>,
         blank: bool,
     ) -> Result<(), ServiceFault>
-        ensures ok { OnOk result ((told : List ℕ) × Puts told page.old writer.old page.new writer.new
-            × ((text : List ℕ) → IsLong text blank → Makes (λ asked s. takes asked text s) self.old self.new told)) }
+        ensures ok { OnOk result ((told : List ℕ) × PutsPiece told page.old writer.old page.new writer.new
+            × ((text : List ℕ) → IsLong text blank → FollowsStep (λ asked s. takes asked text s) self.old self.new told)) }
         ensures exhausted { IsErrOf result ServiceFault.Exhausted → HasRunOut self.old }
-        ensures put { IfErr result (λ _. Puts [] page.old writer.old page.new writer.new) }
+        ensures put { IfErr result (λ _. PutsPiece [] page.old writer.old page.new writer.new) }
     {
         self.next_line()?;
         if blank {
@@ -90,10 +90,10 @@ impl Service {
         writer: &mut Writer<W>,
         blank: bool,
     ) -> Result<(), ServiceFault>
-        ensures ok { OnOk result ((told : List ℕ) × Puts told page.old writer.old page.new writer.new
-            × ((torn : List ℕ) → IsLong torn blank → Makes (λ asked s. ends asked (takes_torn asked torn s)) self.old self.new told)) }
+        ensures ok { OnOk result ((told : List ℕ) × PutsPiece told page.old writer.old page.new writer.new
+            × ((torn : List ℕ) → IsLong torn blank → FollowsStep (λ asked s. ends asked (takes_torn asked torn s)) self.old self.new told)) }
         ensures exhausted { IsErrOf result ServiceFault.Exhausted → (torn : List ℕ) → IsLong torn blank → RunsOutBehind torn self.old }
-        ensures front { IfErr result (λ _. (told : List ℕ) × Puts told page.old writer.old page.new writer.new
+        ensures prefix { IfErr result (λ _. (told : List ℕ) × PutsPiece told page.old writer.old page.new writer.new
             × ((torn : List ℕ) → IsLong torn blank → Breaks (λ asked s. ends asked (takes_torn asked torn s)) self.old told)) }
     {
         self.long_line(page, writer, blank)?;
@@ -109,9 +109,9 @@ impl Service {
         text: &[u8],
     ) -> Result<(), ServiceFault>
         requires { is_unbroken text.now ≡ true }
-        ensures ok { OnOk result (Steps (λ asked s. takes_torn asked text.now s) self.old self.new (λ told. Puts told page.old writer.old page.new writer.new)) }
+        ensures ok { OnOk result (ServiceSteps (λ asked s. takes_torn asked text.now s) self.old self.new (λ told. PutsPiece told page.old writer.old page.new writer.new)) }
         ensures exhausted { IsErrOf result ServiceFault.Exhausted → HasRunOut self.old }
-        ensures front { IfErr result (λ _. BreaksOff (λ asked s. takes_torn asked text.now s) self.old (λ told. Puts told page.old writer.old page.new writer.new)) }
+        ensures prefix { IfErr result (λ _. BreaksOff (λ asked s. takes_torn asked text.now s) self.old (λ told. PutsPiece told page.old writer.old page.new writer.new)) }
     {
         if text.is_empty() {
             return Ok(());
@@ -139,9 +139,9 @@ impl Service {
         text: &[u8],
     ) -> Result<(), ServiceFault>
         requires { is_unbroken text.now ≡ true }
-        ensures ok { OnOk result (Steps (λ asked s. takes_read asked text.now (either_of_line text.now) s) self.old self.new (λ told. Puts told page.old writer.old page.new writer.new)) }
+        ensures ok { OnOk result (ServiceSteps (λ asked s. takes_read asked text.now (either_of_line text.now) s) self.old self.new (λ told. PutsPiece told page.old writer.old page.new writer.new)) }
         ensures exhausted { IsErrOf result ServiceFault.Exhausted → IsAtEnd self.old }
-        ensures front { IfErr result (λ _. BreaksOff (λ asked s. takes_read asked text.now (either_of_line text.now) s) self.old (λ told. Puts told page.old writer.old page.new writer.new)) }
+        ensures prefix { IfErr result (λ _. BreaksOff (λ asked s. takes_read asked text.now (either_of_line text.now) s) self.old (λ told. PutsPiece told page.old writer.old page.new writer.new)) }
     {
         match read_line(self.alloc, scratch, text) {
             Ok(Line::Edit(tx)) => self.edit(page, writer, text, tx),

@@ -1,7 +1,7 @@
 //! A promotion: the log has ended.
 ghost use Rattle.std.specs.Prelude.{◌≡◌, ◌==◌, ◌≤◌, ◌^◌, ◌||◌, not, [], IfErr, IsErrOf, OnOk};
-ghost use Rattle.nn_device.specs.Page.{Puts};
-ghost use Rattle.nn_live.specs.Serving.{Steps, closed, log_ends, takes_promotion};
+ghost use Rattle.nn_device.specs.Page.{PutsPiece};
+ghost use Rattle.nn_live.specs.Serving.{ServiceSteps, closed, log_ends, takes_promotion};
 
 use super::{Service, ServiceFault};
 use crate::in_hand::InHand;
@@ -23,10 +23,10 @@ impl Service {
         txid: u64,
         losing: bool,
     ) -> Result<(), ServiceFault>
-        ensures ok { OnOk result (Steps (takes_promotion txid losing) self.old self.new (λ told. Puts told page.old writer.old page.new writer.new)) }
+        ensures ok { OnOk result (ServiceSteps (takes_promotion txid losing) self.old self.new (λ told. PutsPiece told page.old writer.old page.new writer.new)) }
         ensures exhausted { IsErrOf result ServiceFault.Exhausted → 2 ^ 63 ≤ self.old.segments }
         ensures left { IsErrOf result ServiceFault.OutOfMemory → self.new ≡ closed self.old }
-        ensures put { IfErr result (λ _. Puts [] page.old writer.old page.new writer.new) }
+        ensures put { IfErr result (λ _. PutsPiece [] page.old writer.old page.new writer.new) }
     {
         if self.shadow.stop().is_some() {
             put_fault(page, writer, fault::STOPPED, " line ", self.lines);

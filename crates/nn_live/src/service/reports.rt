@@ -1,10 +1,11 @@
 //! Reports are handed as they come.
 ghost use Rattle.std.specs.Prelude.{◌≡◌, ◌≤◌, ◌^◌, ◌+◌, ℕ, [], ◌∷◌, IfOk, IfSome, IfErr, IsErrOf, IsTrue, None, is_none, ◌⊎◌};
-ghost use Rattle.nn_device.specs.Page.{Puts};
-ghost use Rattle.nn_shadow.specs.Contents.{number_in, standby_of};
+ghost use Rattle.nn_device.specs.Page.{PutsPiece};
+ghost use Rattle.nn_shadow.specs.Contents.{last_number_in, standby_of};
 ghost use Rattle.nn_shadow.specs.Refusals.{hand_refusal};
 ghost use Rattle.nn_live.specs.Live.{empty_report, hands, mark_of};
-ghost use Rattle.nn_live.specs.Serving.{Steps, next_of};
+ghost use Rattle.nn_live.specs.Serving.{ServiceSteps, next_of};
+ghost use Rattle.nn_types.specs.Limits.{max_datanodes};
 
 use super::{Service, ServiceFault};
 use crate::texts::put_fault;
@@ -23,9 +24,9 @@ impl Service {
         writer: &mut Writer<W>,
         report: Report,
     ) -> Result<(), ServiceFault>
-        ensures ok { IfOk result (λ _. Steps (λ asked s. hands asked (report ∷ []) s) self.old self.new (λ text. Puts text page.old writer.old page.new writer.new)) }
-        ensures exhausted { IsErrOf result ServiceFault.Exhausted → 2 ^ 63 ≤ number_in self.old.shadow.numbers report.dn + 1 }
-        ensures left { IfErr result (λ _. Steps (λ _ s. s) self.old self.new (λ text. Puts text page.old writer.old page.new writer.new)) }
+        ensures ok { IfOk result (λ _. ServiceSteps (λ asked s. hands asked (report ∷ []) s) self.old self.new (λ text. PutsPiece text page.old writer.old page.new writer.new)) }
+        ensures exhausted { IsErrOf result ServiceFault.Exhausted → 2 ^ 63 ≤ last_number_in self.old.shadow.numbers report.dn + 1 }
+        ensures left { IfErr result (λ _. ServiceSteps (λ _ s. s) self.old self.new (λ text. PutsPiece text page.old writer.old page.new writer.new)) }
     {
         self.hand(page, writer, report)?;
         Ok(())
@@ -39,10 +40,10 @@ impl Service {
         writer: &mut Writer<W>,
         dn: u16,
     ) -> Result<(), ServiceFault>
-        ensures ok { IfOk result (λ _. Steps (λ asked s. hands asked (empty_report dn) s) self.old self.new (λ text. Puts text page.old writer.old page.new writer.new)) }
-        ensures exhausted { IsErrOf result ServiceFault.Exhausted → 2 ^ 63 ≤ number_in self.old.shadow.numbers dn + 2 }
-        ensures cut { IfErr result (λ _. Steps (λ _ s. s) self.old self.new (λ text. Puts text page.old writer.old page.new writer.new)
-            ⊎ Steps (λ asked s. hands asked (mark_of dn Kind.Begin ∷ []) s) self.old self.new (λ text. Puts text page.old writer.old page.new writer.new)) }
+        ensures ok { IfOk result (λ _. ServiceSteps (λ asked s. hands asked (empty_report dn) s) self.old self.new (λ text. PutsPiece text page.old writer.old page.new writer.new)) }
+        ensures exhausted { IsErrOf result ServiceFault.Exhausted → 2 ^ 63 ≤ last_number_in self.old.shadow.numbers dn + 2 }
+        ensures cut { IfErr result (λ _. ServiceSteps (λ _ s. s) self.old self.new (λ text. PutsPiece text page.old writer.old page.new writer.new)
+            ⊎ ServiceSteps (λ asked s. hands asked (mark_of dn Kind.Begin ∷ []) s) self.old self.new (λ text. PutsPiece text page.old writer.old page.new writer.new)) }
     {
         if self.hand(page, writer, mark_of(dn, Kind::Begin))? {
             self.hand(page, writer, mark_of(dn, Kind::Finish))?;
@@ -57,11 +58,11 @@ impl Service {
         writer: &mut Writer<W>,
         report: Report,
     ) -> Result<bool, ServiceFault>
-        ensures ok { IfOk result (λ _. Steps (λ asked s. hands asked (report ∷ []) s) self.old self.new (λ text. Puts text page.old writer.old page.new writer.new)) }
-        ensures taken { IfOk result (λ taken. taken ≡ is_none (hand_refusal 256 self.old.shadow.phase (standby_of self.old.shadow) (next_of self.old.shadow report))) }
-        ensures numbers { IfOk result (λ taken. IsTrue taken → (dn : ℕ) → number_in self.new.shadow.numbers dn ≤ number_in self.old.shadow.numbers dn + 1) }
-        ensures exhausted { IsErrOf result ServiceFault.Exhausted → 2 ^ 63 ≤ number_in self.old.shadow.numbers report.dn + 1 }
-        ensures left { IfErr result (λ _. Steps (λ _ s. s) self.old self.new (λ text. Puts text page.old writer.old page.new writer.new)) }
+        ensures ok { IfOk result (λ _. ServiceSteps (λ asked s. hands asked (report ∷ []) s) self.old self.new (λ text. PutsPiece text page.old writer.old page.new writer.new)) }
+        ensures taken { IfOk result (λ taken. taken ≡ is_none (hand_refusal max_datanodes self.old.shadow.phase (standby_of self.old.shadow) (next_of self.old.shadow report))) }
+        ensures numbers { IfOk result (λ taken. IsTrue taken → (dn : ℕ) → last_number_in self.new.shadow.numbers dn ≤ last_number_in self.old.shadow.numbers dn + 1) }
+        ensures exhausted { IsErrOf result ServiceFault.Exhausted → 2 ^ 63 ≤ last_number_in self.old.shadow.numbers report.dn + 1 }
+        ensures left { IfErr result (λ _. ServiceSteps (λ _ s. s) self.old self.new (λ text. PutsPiece text page.old writer.old page.new writer.new)) }
     {
         let Some(message) = self.next_message(report) else {
             return Err(ServiceFault::Exhausted);
@@ -84,7 +85,7 @@ impl Service {
     // The report under the number after the last one of its DataNode.
     fn next_message(&self, report: Report) -> Option<Message>
         ensures some { IfSome result (λ m. m ≡ next_of self.now.shadow report) }
-        ensures none { result ≡ None → 2 ^ 63 ≤ number_in self.now.shadow.numbers report.dn + 1 }
+        ensures none { result ≡ None → 2 ^ 63 ≤ last_number_in self.now.shadow.numbers report.dn + 1 }
     {
         let last = self.shadow.last_number(report.dn);
         if last >= NUMBERS - 1 {

@@ -1,12 +1,13 @@
 //! How a standby starts.
 ghost use Rattle.std.specs.Prelude.{◌≡◌, ◌≤◌, ◌<◌, ◌^◌, [], length, map, replicate, false, None, IfOk, IfErr};
-ghost use Rattle.nn_model.specs.Items.{nothing_had};
+ghost use Rattle.nn_model.specs.Items.{nothing_known};
 ghost use Rattle.nn_model.specs.Lanes.{no_messages};
 ghost use Rattle.nn_model.specs.Stands.{fresh};
 ghost use Rattle.nn_replicas.specs.Agreement.{Shows, HasCounts};
 ghost use Rattle.nn_shadow.specs.Contents.{standby_of};
 ghost use Rattle.nn_shadow.specs.Laws.{StandsBy};
-ghost use Rattle.nn_shadow.specs.Notes.{having_of};
+ghost use Rattle.nn_shadow.specs.Notes.{node_state_of};
+ghost use Rattle.nn_types.specs.Limits.{max_datanodes};
 
 use super::Shadow;
 use crate::fault::FromFault;
@@ -28,7 +29,7 @@ impl Shadow {
         datanodes: u16,
         settings: Settings,
     ) -> Result<Shadow, FromFault>
-        requires datanodes { (1 ≤ datanodes) × (datanodes ≤ 256) }
+        requires datanodes { (1 ≤ datanodes) × (datanodes ≤ max_datanodes) }
         requires txid { txid < 2 ^ 63 }
         ensures fresh { IfOk result (λ s. standby_of s ≡ fresh namespace txid) }
         ensures stands { IfOk result (λ s. StandsBy namespace txid [] no_messages (standby_of s)) }
@@ -47,7 +48,7 @@ impl Shadow {
         let Ok(table) = blank_table(alloc, &namespace, settings) else {
             return Err(FromFault { namespace });
         };
-        namespace.well_formed();
+        namespace.recall_invariant();
         Ok(Shadow {
             namespace,
             last: txid,
@@ -65,7 +66,7 @@ impl Shadow {
 
 // So many DataNodes have nothing.
 fn nothing_had(alloc: Global, datanodes: u16) -> Result<Vec<Had>, AllocError>
-    ensures { IfOk result (λ had. map having_of had.items ≡ replicate datanodes nothing_had) }
+    ensures { IfOk result (λ had. map node_state_of had.items ≡ replicate datanodes nothing_known) }
 {
     let mut had = Vec::new(alloc);
     for _ in 0..datanodes {

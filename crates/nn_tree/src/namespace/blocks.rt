@@ -1,6 +1,6 @@
 //! The blocks of all files, one after another.
 ghost use Rattle.std.specs.Iterator.{YieldsFirst, item_count};
-ghost use Rattle.nn_tree.specs.Blocks.{AreBlocks};
+ghost use Rattle.nn_tree.specs.Blocks.{AreBlockRows};
 
 use super::Namespace;
 use nn_model::BlockRow;
@@ -9,7 +9,7 @@ use nn_types::BlockId;
 use std::marker::Model;
 
 /// The blocks that files have, each with whether its file is closed, by ascending id.
-#[derive(Drop)]
+#[derive(Debug, Drop)]
 pub struct BlockRows<'a> {
     rows: Entries<'a, BlockId, BlockRow>,
 }
@@ -42,7 +42,7 @@ impl<'a> Iterator for BlockRows<'a> {
 impl Namespace {
     /// The blocks of all files, by ascending id. It looks at no path.
     pub fn blocks(&self) -> BlockRows<'_>
-        ensures { AreBlocks self.now result }
+        ensures { AreBlockRows self.now result }
     {
         BlockRows {
             rows: self.index.iter(),

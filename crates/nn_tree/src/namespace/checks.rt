@@ -1,10 +1,12 @@
 //! Why an edit is refused: the checks of each edit in order, with no memory taken.
 ghost use Rattle.std.specs.Prelude.{◌≡◌, not, ◌||◌, nat_lt};
 ghost use Rattle.nn_types.specs.declared.edit.Edit.TheVariants as edit;
-ghost use Rattle.nn_model.specs.Apply.{refusal, first, list_checks, keeps_ids, keeps_stamps};
+ghost use Rattle.nn_types.specs.Limits.{max_replication};
+ghost use Rattle.nn_model.specs.Apply.{refusal, first_fault, list_checks, keeps_ids, keeps_stamps};
 
 use super::Namespace;
 use crate::tree::files::{keeps_ids, keeps_stamps};
+use nn_types::limits::MAX_REPLICATION;
 use nn_types::{BlockId, Blocks, EditFault, GenerationStamp, Path, Profile, Replication};
 
 impl Namespace {
@@ -61,7 +63,7 @@ impl Namespace {
     }
 
     pub(super) fn list_refusal(&self, path: &Path, blocks: &Blocks) -> Option<EditFault>
-        ensures { result ≡ first (list_checks self.now path.now blocks.now) }
+        ensures { result ≡ first_fault (list_checks self.now path.now blocks.now) }
     {
         let file = match self.root.file(&path.names()) {
             Err(fault) => return Some(fault),
@@ -147,8 +149,8 @@ impl Namespace {
 
 // Whether a file may have this replication.
 pub(super) fn is_replication(replication: Replication) -> bool
-    ensures { (nat_lt replication 1 || nat_lt 512 replication) ≡ not result }
+    ensures { (nat_lt replication 1 || nat_lt max_replication replication) ≡ not result }
 {
     let replicas = replication.get();
-    1 <= replicas && replicas <= 512
+    1 <= replicas && replicas <= u64::from(MAX_REPLICATION)
 }

@@ -4,11 +4,11 @@ ghost use Rattle.std.specs.Prelude.{◌≡◌, ◌≢◌, None, OnOk, OnErr, IfO
 ghost use Rattle.nn_types.specs.declared.edit.Edit.TheVariants as edit;
 ghost use Rattle.nn_types.specs.LawfulEdit.{IsTypedEdit};
 ghost use Rattle.nn_model.specs.Namespace.{file_at};
-ghost use Rattle.nn_model.specs.Apply.{refusal, first, list_checks, with_blocks};
+ghost use Rattle.nn_model.specs.Apply.{refusal, first_fault, list_checks, with_blocks};
 ghost use Rattle.nn_model.specs.Touched.{listed};
 ghost use Rattle.nn_tree.specs.Does.{Does};
 ghost use Rattle.nn_tree.specs.Memory.{takes_memory};
-ghost use Rattle.nn_tree.specs.Touched.{seen};
+ghost use Rattle.nn_tree.specs.Touched.{touched_of};
 
 use super::Namespace;
 use super::checks::is_replication;
@@ -153,9 +153,9 @@ impl Namespace {
         closed: bool,
     ) -> Result<Touched, Unchanged>
         requires lawful { IsTypedEdit (edit.Close path.now blocks.now) }
-        ensures applies { OnOk result (first (list_checks self.old path.now blocks.now) ≡ None) }
+        ensures applies { OnOk result (first_fault (list_checks self.old path.now blocks.now) ≡ None) }
         ensures ok { OnOk result (self.new ≡ with_blocks self.old path.now blocks.now closed) }
-        ensures touched { IfOk result (λ t. seen t ≡ listed self.old path.now blocks.now closed) }
+        ensures touched { IfOk result (λ t. touched_of t ≡ listed self.old path.now blocks.now closed) }
         ensures replication { IfOk result (λ t. t.replication ≡ (file_at self.new path.now).replication) }
         ensures err { OnErr result (self.new ≡ self.old) }
     {
@@ -212,7 +212,7 @@ impl Namespace {
         let Ok(Some(tree)) = self.root.reach(&names) else {
             return Err(Unchanged);
         };
-        tree.in_order();
+        tree.recall_invariant();
         let mut ids = Vec::new(self.alloc);
         let Ok(others) = tree.collect_ids(self.alloc, &mut ids, self.sizes) else {
             return Err(Unchanged);

@@ -33,8 +33,8 @@ impl Namespace {
         requires awaits { awaiting_fits last_block awaiting.now ≡ true }
         ensures { IfOk result (λ n. n ≡ bare (record { last_block = last_block; last_stamp = last_stamp; awaiting = awaiting.now; profile = profile })) }
     {
-        last_block.get();
-        last_stamp.get();
+        // Recalls to the prover that both numbers keep their limits.
+        let _recalled = (last_block.get(), last_stamp.get());
         let issued = Issued::of(alloc, last_block, last_stamp, awaiting, profile)?;
         Ok(Namespace {
             root: Tree::new_dir(alloc),
@@ -64,8 +64,9 @@ impl Namespace {
         ensures refused { IsErrOf result RestoreFault.Refused → can_restore self.old path.now form.Dir ≡ false }
         ensures err { OnErr result (self.new ≡ self.old) }
     {
-        self.well_formed();
-        path.names();
+        self.recall_invariant();
+        // Recalls to the prover that the names of a path keep their limits.
+        let _recalled = path.names();
         if self.mkdir_refusal(path).is_some() {
             return Err(RestoreFault::Refused);
         }
@@ -82,9 +83,10 @@ impl Namespace {
         ensures refused { IsErrOf result RestoreFault.Refused → can_restore self.old path.now (form.File file) ≡ false }
         ensures err { OnErr result (self.new ≡ self.old) }
     {
-        self.well_formed();
-        path.names();
-        file.replication.get();
+        self.recall_invariant();
+        // Recalls to the prover that the path and the replication keep their limits.
+        let _recalled = path.names();
+        let _recalled = file.replication.get();
         if self.add_refusal(path, file.replication).is_some() {
             return Err(RestoreFault::Refused);
         }
@@ -109,8 +111,9 @@ impl Namespace {
         ensures err { OnErr result (self.new ≡ self.old) }
     {
         let names = path.names();
-        file.replication.get();
-        file.blocks.lawful();
+        // Recalls to the prover that the replication keeps its limits.
+        let _recalled = file.replication.get();
+        file.blocks.recall_invariant();
         let Some(sizes) = self.sizes.with_file() else {
             return Err(RestoreFault::OutOfMemory);
         };

@@ -2,7 +2,7 @@
 ghost use Rattle.std.specs.Prelude.{◌≡◌, ⊤, false, IfOk, OnOk, OnErr};
 ghost use Rattle.nn_model.specs.Apply.{keeps_ids, keeps_stamps};
 ghost use Rattle.nn_tree.specs.At.{at, IsSame};
-ghost use Rattle.nn_tree.specs.Walks.{is_file};
+ghost use Rattle.nn_tree.specs.Walks.{is_some_file};
 ghost use Rattle.nn_tree.specs.Changes.{IsFileChanged, FileBecomes, GetsBlock, GetsList, GetsReplication, Opens};
 
 use super::descent::Change;
@@ -67,7 +67,7 @@ impl Tree {
     ) -> Result<(), Unchanged>
         ensures ok { IfOk result (λ done. IsFileChanged self.old names.now self.new (GetsReplication replication)) }
         ensures err { OnErr result (IsSame self.old self.new) }
-        ensures no_file { OnErr result (is_file (at self.old names.now) ≡ false) }
+        ensures no_file { OnErr result (is_some_file (at self.old names.now) ≡ false) }
     {
         self.change_at(names, SetReplication { replication })
     }
@@ -172,7 +172,7 @@ impl Change for SetReplication {
 
     ghost changes = { λ c rest t w given. FileBecomes (GetsReplication c.replication) rest t w };
 
-    ghost refuses = { λ c rest t. is_file (at t rest) ≡ false };
+    ghost refuses = { λ c rest t. is_some_file (at t rest) ≡ false };
 
     fn is_in_parent() -> bool {
         false

@@ -59,7 +59,7 @@ impl Tree {
         ensures ok { OnOk result (IsMade self.old (name.now ∷ []) tree self.new) }
         ensures err { OnErr result (IsSame self.old self.new) }
     {
-        tree.in_order();
+        tree.recall_invariant();
         let Ok(()) = self.widen(alloc) else {
             return Err(Unchanged);
         };
@@ -159,7 +159,7 @@ impl Change for Make {
     fn change(self, dir: &mut Tree, last: Option<&str>) -> Result<(), Unchanged> {
         let Some(name) = last else { unreachable!() };
         let made = dir.add(self.alloc, name, self.tree);
-        dir.in_order();
+        dir.recall_invariant();
         made
     }
 }
@@ -186,7 +186,7 @@ impl Change for Take {
     fn change(self, dir: &mut Tree, last: Option<&str>) -> Result<Tree, Unchanged> {
         let Some(name) = last else { unreachable!() };
         let taken = dir.take_child(self.alloc, name);
-        dir.in_order();
+        dir.recall_invariant();
         taken
     }
 }
@@ -211,7 +211,7 @@ impl Change for Put {
     }
 
     fn change(self, tree: &mut Tree, _last: Option<&str>) -> Result<Tree, Unchanged> {
-        self.tree.in_order();
+        self.tree.recall_invariant();
         Ok(mem::replace(tree, self.tree))
     }
 }

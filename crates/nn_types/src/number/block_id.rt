@@ -5,7 +5,7 @@ use super::in_range;
 use std::cmp::Ordering;
 use std::marker::Model;
 
-/// The id of a block. The first id that a log issues is 1073741825.
+/// The id of a block. The first id that a log issues is `FIRST_BLOCK`.
 #[derive(Clone, Copy, Debug, PartialEq, Eq, Hash)]
 pub struct BlockId {
     value: u64,

@@ -2,16 +2,17 @@
 //!
 //! A number that a text shows is 7, or 9 where it counts bytes.
 use crate::calls::call::Call;
-use nn_device::{ReadFailed, Unwritten, WriteFailed};
+use nn_device::{OutputFault, ReadFailed, WriteFailed};
 use nn_drive::DriveFault;
 use nn_edits::{LineFault, WriteFault};
-use nn_engine::{InputFault, RunFault};
+use nn_engine::{InputFault, RunFault, ScenarioInputFault};
 use nn_image::{ImageFault, RewriteFault, SaveFault};
 use nn_lane::Refusal;
-use nn_postponed::Refused;
+use nn_lane_standby::{PromoteFault, StepFault};
+use nn_postponed::HoldRefusal;
+use nn_scenario::ScenarioFault;
 use nn_segment::{SegmentFault, SourceFault};
 use nn_shadow::{ApplyFault, FlushFault, HandCause, HandFault, Stop};
-use nn_tailer::{PromoteFault, StepFault};
 use nn_tree::RestoreFault;
 use nn_types::{
     BlockId, EditFault, GenerationStamp, Kind, Length, Message, PathFault, Txid, fault,
@@ -48,22 +49,23 @@ fn show_texts(call: &mut Call<'_>) {
         "FlushFault" => flush_faults(call),
         "HandCause" => hand_causes(call),
         "HandFault" => hand_faults(call),
+        "HoldRefusal" => hold_refusal(call),
         "ImageFault" => image_faults(call),
         "InputFault" => input_faults(call),
         "LineFault" => line_faults(call),
+        "OutputFault" => output_faults(call),
         "PathFault" => path_faults(call),
         "PromoteFault" => promote_faults(call),
         "ReadFailed" => unnumbered(call, &ReadFailed),
         "Refusal" => refusals(call),
-        "Refused" => refused(call),
         "RestoreFault" => restore_faults(call),
         "RewriteFault" => rewrite_faults(call),
         "RunFault" => run_faults(call),
         "SaveFault" => save_faults(call),
+        "ScenarioInputFault" => scenario_input_faults(call),
         "SegmentFault" => segment_faults(call),
         "SourceFault" => source_faults(call),
         "StepFault" => step_faults(call),
-        "Unwritten" => unwritten(call),
         "WriteFailed" => unnumbered(call, &WriteFailed { written: 9 }),
         "WriteFault" => write_faults(call),
         _ => call.failed = true,
@@ -212,8 +214,8 @@ fn refusals(call: &mut Call<'_>) {
     }
 }
 
-fn refused(call: &mut Call<'_>) {
-    let fault = Refused { message: message() };
+fn hold_refusal(call: &mut Call<'_>) {
+    let fault = HoldRefusal { message: message() };
     call.fault(fault.number(), &fault);
 }
 
@@ -292,10 +294,19 @@ fn drive_faults(call: &mut Call<'_>) {
 
 // ---- Of devices and of a run.
 
-fn unwritten(call: &mut Call<'_>) {
-    for fault in [Unwritten::WriteFailed, Unwritten::OutOfMemory] {
+fn output_faults(call: &mut Call<'_>) {
+    for fault in [OutputFault::WriteFailed, OutputFault::OutOfMemory] {
         unnumbered(call, &fault);
     }
+}
+
+fn scenario_input_faults(call: &mut Call<'_>) {
+    let line = ScenarioFault {
+        fault: LineFault::NotJson,
+        line: 7,
+    };
+    unnumbered(call, &ScenarioInputFault::Input(InputFault::ReadFailed));
+    unnumbered(call, &ScenarioInputFault::Line(line));
 }
 
 fn input_faults(call: &mut Call<'_>) {

@@ -2,7 +2,7 @@
 ghost use Rattle.std.specs.Prelude.{◌≡◌};
 
 use crate::calls::call::Call;
-use nn_lane::{LaneEnd, Refusal, Reporter, Taken, lane, meet};
+use nn_lane::{LaneEnd, Published, Refusal, Reporter, Taken, lane, meet};
 use nn_types::Kind;
 
 /// A lane with both ends, or the end that is left of one.
@@ -107,8 +107,9 @@ fn report(reporter: &mut Reporter, call: &mut Call<'_>)
     }
     if call.is("publish") {
         match reporter.publish() {
-            Some(sent) => show_sent(sent, call),
-            None => call.say("none"),
+            Published::Sent(number) => call.show(&number),
+            Published::Refused(refusal) => show_refusal(refusal, call),
+            Published::Nothing => call.say("none"),
         }
         return;
     }

@@ -3,12 +3,12 @@ ghost use Rattle.std.specs.Prelude.{◌≡◌, [], ◌∷◌, IfOk};
 
 use crate::full_heap::image::{image_of, write_again};
 use crate::full_heap::lines::Lines;
-use crate::full_heap::scenario::{Halt, Scenario};
+use crate::full_heap::scenario::{EndFault, Scenario};
 use crate::full_heap::trial::{Answer, Changing};
 use nn_device::{Reader, Writer};
 use nn_image::SaveFault;
 use nn_lane::{LaneEnd, lane};
-use nn_tailer::Standby;
+use nn_lane_standby::Standby;
 use nn_types::Settings;
 use std::alloc::Global;
 use std::mem;
@@ -47,7 +47,7 @@ pub fn write_checkpoint(
     settings: Settings,
     scenario: &Scenario,
     lines: &mut Lines,
-) -> Result<(), Halt> {
+) -> Result<(), EndFault> {
     let whole = image_of(alloc, scenario)?;
     let standby = standby_from(alloc, settings, &whole)?;
     let call = Checkpoint {
@@ -60,21 +60,21 @@ pub fn write_checkpoint(
 }
 
 // A standby over a lane that carries nothing.
-fn standby_from(alloc: Global, settings: Settings, image: &[u8]) -> Result<Standby, Halt> {
+fn standby_from(alloc: Global, settings: Settings, image: &[u8]) -> Result<Standby, EndFault> {
     let (_reporter, end) = lane(alloc, 1, 1)?;
     let ends = ends_of(alloc, end)?;
     match Standby::from_image(alloc, ends, settings, &mut Reader::new(image)) {
         Ok(standby) => Ok(standby),
-        Err(_) => Err(Halt::OutOfMemory),
+        Err(_) => Err(EndFault::OutOfMemory),
     }
 }
 
-fn ends_of(alloc: Global, end: LaneEnd) -> Result<Vec<LaneEnd>, Halt>
+fn ends_of(alloc: Global, end: LaneEnd) -> Result<Vec<LaneEnd>, EndFault>
     ensures { IfOk result (λ ends. ends.items ≡ end ∷ []) }
 {
     let mut ends = Vec::new(alloc);
     let Ok(()) = ends.push(end) else {
-        return Err(Halt::OutOfMemory);
+        return Err(EndFault::OutOfMemory);
     };
     Ok(ends)
 }

@@ -1,7 +1,7 @@
 //! `run`, with a history and an image, and from an image.
 use crate::full_heap::heap::Heap;
 use crate::full_heap::lines::Lines;
-use crate::full_heap::scenario::Halt;
+use crate::full_heap::scenario::EndFault;
 use crate::full_heap::trial::{Answer, Changing, Fate, change};
 use nn_device::{Reader, Writer};
 use nn_engine::{Options, run};
@@ -85,7 +85,7 @@ pub fn run_scenario(
     is_ample: bool,
     settings: Settings,
     lines: &mut Lines,
-) -> Result<(), Halt> {
+) -> Result<(), EndFault> {
     let mut run = Run {
         alloc,
         lines: LINES,
@@ -107,13 +107,13 @@ pub fn run_scenario(
     lines.push(&["run, from an image"], &[fate])
 }
 
-fn fate_of(alloc: Global, is_ample: bool, run: &Run) -> Result<Fate, Halt> {
+fn fate_of(alloc: Global, is_ample: bool, run: &Run) -> Result<Fate, EndFault> {
     let (output, fate) = play(alloc, is_ample, run)?;
     let (undisturbed, other) = play(alloc, true, run)?;
     Ok(fate.and(other).if_same(output == undisturbed))
 }
 
-fn play(alloc: Global, is_ample: bool, run: &Run) -> Result<(Vec<u8>, Fate), Halt> {
+fn play(alloc: Global, is_ample: bool, run: &Run) -> Result<(Vec<u8>, Fate), EndFault> {
     let mut output = Vec::with_capacity(alloc, ROOM)?;
     let mut heap = Heap::new(alloc, is_ample)?;
     let fate = change(&mut heap, run, &mut output, &Vec::new(alloc));

@@ -3,7 +3,7 @@ ghost use Rattle.std.specs.Prelude.{◌<◌, ◌≤◌};
 
 use crate::full_heap::heap::Heap;
 use crate::full_heap::lines::Lines;
-use crate::full_heap::scenario::Halt;
+use crate::full_heap::scenario::EndFault;
 use crate::full_heap::trial::{Answer, Changing, Fate, both, change_both};
 use nn_postponed::Postponed;
 use nn_types::{BlockId, GenerationStamp, Kind, Length, Message};
@@ -68,7 +68,7 @@ const NAMES: [&str; 4] = [
 
 /// Holds messages: the first about a block, a DataNode's first about a block, and more of the same DataNode about it;
 /// and then three such messages at once.
-pub fn hold_messages(alloc: Global, is_ample: bool, lines: &mut Lines) -> Result<(), Halt> {
+pub fn hold_messages(alloc: Global, is_ample: bool, lines: &mut Lines) -> Result<(), EndFault> {
     let messages = if is_ample { FEW_MESSAGES } else { MESSAGES };
     let (held, fates) = play(alloc, is_ample, messages)?;
     let (undisturbed, others) = play(alloc, true, messages)?;
@@ -76,7 +76,7 @@ pub fn hold_messages(alloc: Global, is_ample: bool, lines: &mut Lines) -> Result
     lines.push(&NAMES, &both(fates, others, is_same))
 }
 
-fn play(alloc: Global, is_ample: bool, messages: u64) -> Result<(Postponed, [Fate; 4]), Halt>
+fn play(alloc: Global, is_ample: bool, messages: u64) -> Result<(Postponed, [Fate; 4]), EndFault>
     requires { messages ≤ 100 }
 {
     let mut heap = Heap::new(alloc, is_ample)?;

@@ -2,7 +2,7 @@
 use crate::full_heap::heap::Heap;
 use crate::full_heap::lines::Lines;
 use crate::full_heap::namespace;
-use crate::full_heap::scenario::{Halt, Scenario};
+use crate::full_heap::scenario::{EndFault, Scenario};
 use crate::full_heap::trial::{Answer, Changing, Fate, change};
 use nn_device::{Reader, Writer};
 use nn_image::{ImageFault, RewriteFault, SaveFault, Saving, load, rewrite, save};
@@ -158,13 +158,13 @@ impl Changing for Rewrite<'_> {
 }
 
 /// The image of the namespace after the scenario's first segment.
-pub fn image_of(alloc: Global, scenario: &Scenario) -> Result<Vec<u8>, Halt> {
+pub fn image_of(alloc: Global, scenario: &Scenario) -> Result<Vec<u8>, EndFault> {
     let mut image = Vec::with_capacity(alloc, ROOM)?;
     write_image(alloc, scenario, &mut image)?;
     Ok(image)
 }
 
-fn write_image(alloc: Global, scenario: &Scenario, image: &mut Vec<u8>) -> Result<(), Halt> {
+fn write_image(alloc: Global, scenario: &Scenario, image: &mut Vec<u8>) -> Result<(), EndFault> {
     let namespace = scenario.after_the_first(alloc)?;
     let save = Save {
         alloc,
@@ -175,7 +175,7 @@ fn write_image(alloc: Global, scenario: &Scenario, image: &mut Vec<u8>) -> Resul
     drop(namespace);
     match answer {
         Answer::Done => Ok(()),
-        _ => Err(Halt::OutOfMemory),
+        _ => Err(EndFault::OutOfMemory),
     }
 }
 
@@ -185,7 +185,7 @@ pub fn save_and_load(
     is_ample: bool,
     scenario: &Scenario,
     lines: &mut Lines,
-) -> Result<(), Halt> {
+) -> Result<(), EndFault> {
     let whole = image_of(alloc, scenario)?;
     let (saved, in_parts) = save_again(alloc, is_ample, scenario, &whole)?;
     let loaded = load_whole(alloc, is_ample, scenario, &whole)?;
@@ -202,7 +202,7 @@ fn save_again(
     is_ample: bool,
     scenario: &Scenario,
     whole: &Vec<u8>,
-) -> Result<(Fate, Fate), Halt> {
+) -> Result<(Fate, Fate), EndFault> {
     let namespace = scenario.after_the_first(alloc)?;
     let save = Save {
         alloc,
@@ -221,7 +221,7 @@ pub fn write_again<C: Changing<Subject = Vec<u8>>>(
     is_ample: bool,
     call: &C,
     whole: &Vec<u8>,
-) -> Result<Fate, Halt> {
+) -> Result<Fate, EndFault> {
     let mut image = Vec::with_capacity(alloc, ROOM)?;
     let mut heap = Heap::new(alloc, is_ample)?;
     let fate = change(&mut heap, call, &mut image, whole);
@@ -233,7 +233,7 @@ fn load_whole(
     is_ample: bool,
     scenario: &Scenario,
     whole: &[u8],
-) -> Result<Fate, Halt> {
+) -> Result<Fate, EndFault> {
     let mut heap = Heap::new(alloc, is_ample)?;
     let namespace = scenario.after_the_first(alloc)?;
     let load = Load {

@@ -3,7 +3,7 @@ ghost use Rattle.std.specs.Prelude.{◌<◌};
 
 use crate::full_heap::heap::Heap;
 use crate::full_heap::lines::Lines;
-use crate::full_heap::scenario::{Halt, Scenario};
+use crate::full_heap::scenario::{EndFault, Scenario};
 use crate::full_heap::trial::{Answer, Changing, Fate, both, change_both};
 use crate::shown::have_the_same_listing;
 use nn_tree::{Found, Namespace};
@@ -80,7 +80,7 @@ pub fn apply_log(
     is_ample: bool,
     scenario: &Scenario,
     lines: &mut Lines,
-) -> Result<(), Halt> {
+) -> Result<(), EndFault> {
     let fates = fates_of_log(alloc, is_ample, scenario)?;
     lines.push(&NAMES, &fates)
 }
@@ -90,7 +90,7 @@ fn fates_of_log(
     alloc: Global,
     is_ample: bool,
     scenario: &Scenario,
-) -> Result<[Fate; OPERATIONS], Halt> {
+) -> Result<[Fate; OPERATIONS], EndFault> {
     let (namespace, fates) = play(alloc, is_ample, scenario)?;
     let undisturbed = play_undisturbed(alloc, scenario, &namespace);
     drop(namespace);
@@ -103,7 +103,7 @@ fn play_undisturbed(
     alloc: Global,
     scenario: &Scenario,
     namespace: &Namespace,
-) -> Result<([Fate; OPERATIONS], bool), Halt> {
+) -> Result<([Fate; OPERATIONS], bool), EndFault> {
     let (undisturbed, fates) = play(alloc, true, scenario)?;
     let is_same = are_equal(alloc, namespace, &undisturbed, scenario);
     drop(undisturbed);
@@ -124,7 +124,7 @@ fn play(
     alloc: Global,
     is_ample: bool,
     scenario: &Scenario,
-) -> Result<(Namespace, [Fate; OPERATIONS]), Halt> {
+) -> Result<(Namespace, [Fate; OPERATIONS]), EndFault> {
     let mut heap = Heap::new(alloc, is_ample)?;
     let mut namespace = Namespace::new(alloc);
     let mut twin = Namespace::new(alloc);

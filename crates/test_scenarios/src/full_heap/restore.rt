@@ -2,7 +2,7 @@
 use crate::full_heap::heap::Heap;
 use crate::full_heap::lines::Lines;
 use crate::full_heap::namespace::are_alike;
-use crate::full_heap::scenario::{Halt, Scenario};
+use crate::full_heap::scenario::{EndFault, Scenario};
 use crate::full_heap::trial::{Answer, Changing, Fate, Pair};
 use crate::shown::have_the_same_listing;
 use nn_tree::{FileRow, Form, Found, Namespace, RestoreFault};
@@ -68,7 +68,7 @@ pub fn restore_paths(
     is_ample: bool,
     scenario: &Scenario,
     lines: &mut Lines,
-) -> Result<(), Halt> {
+) -> Result<(), EndFault> {
     let source = scenario.after_the_first(alloc)?;
     let fates = fates_of_paths(alloc, is_ample, scenario, &source);
     drop(source);
@@ -81,7 +81,7 @@ fn fates_of_paths(
     is_ample: bool,
     scenario: &Scenario,
     source: &Namespace,
-) -> Result<[Fate; 2], Halt> {
+) -> Result<[Fate; 2], EndFault> {
     let mut heap = Heap::new(alloc, is_ample)?;
     let mut pair = begin(alloc)?;
     let (directories, files) = restore_all(&mut heap, scenario, source, &mut pair);

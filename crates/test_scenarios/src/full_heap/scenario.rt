@@ -1,7 +1,7 @@
 //! The scenario that the trials play.
 use nn_edits::LineFault;
 use nn_scenario::{
-    BadLine, BadSegment, MAX_INPUT, Part, Step, StepList, read_lines, read_segments,
+    MAX_INPUT, Part, PartFault, ScenarioFault, Step, StepList, read_lines, read_segments,
 };
 use nn_segment::{Parsed, SegmentFault};
 use nn_tree::Namespace;
@@ -11,24 +11,24 @@ use std::io;
 
 /// Why the calls are not played to their end.
 #[derive(Clone, Copy)]
-pub enum Halt {
+pub enum EndFault {
     OutOfMemory,
     /// The file is no scenario.
     BadScenario,
 }
 
-impl From<Halt> for io::Error {
-    fn from(halt: Halt) -> io::Error {
+impl From<EndFault> for io::Error {
+    fn from(halt: EndFault) -> io::Error {
         match halt {
-            Halt::OutOfMemory => io::Error::from(io::ErrorKind::OutOfMemory),
-            Halt::BadScenario => io::Error::from(io::ErrorKind::InvalidData),
+            EndFault::OutOfMemory => io::Error::from(io::ErrorKind::OutOfMemory),
+            EndFault::BadScenario => io::Error::from(io::ErrorKind::InvalidData),
         }
     }
 }
 
-impl From<AllocError> for Halt {
-    fn from(_error: AllocError) -> Halt {
-        Halt::OutOfMemory
+impl From<AllocError> for EndFault {
+    fn from(_error: AllocError) -> EndFault {
+        EndFault::OutOfMemory
     }
 }
 
@@ -43,9 +43,9 @@ pub struct Scenario {
 
 impl Scenario {
     /// Reads a text.
-    pub fn read(alloc: Global, text: &[u8]) -> Result<Scenario, Halt> {
+    pub fn read(alloc: Global, text: &[u8]) -> Result<Scenario, EndFault> {
         if text.len() > MAX_INPUT {
-            return Err(Halt::BadScenario);
+            return Err(EndFault::BadScenario);
         }
         let lines = match read_lines(alloc, text) {
             Ok(lines) => lines,
@@ -70,33 +70,33 @@ impl Scenario {
     }
 
     /// The last txid of the first segment.
-    pub fn image_txid(&self) -> Result<Txid, Halt> {
+    pub fn image_txid(&self) -> Result<Txid, EndFault> {
         match self.txs(0).last() {
             Some(tx) => Ok(tx.txid),
-            None => Err(Halt::BadScenario),
+            None => Err(EndFault::BadScenario),
         }
     }
 
     /// The namespace after the first segment.
-    pub fn after_the_first(&self, alloc: Global) -> Result<Namespace, Halt> {
+    pub fn after_the_first(&self, alloc: Global) -> Result<Namespace, EndFault> {
         let mut namespace = Namespace::new(alloc);
         for tx in self.txs(0) {
             if namespace.apply(&tx.edit).is_err() {
-                return Err(Halt::OutOfMemory);
+                return Err(EndFault::OutOfMemory);
             }
         }
         Ok(namespace)
     }
 }
 
-fn segments_of(alloc: Global, parts: Vec<Part>) -> Result<Vec<Parsed>, Halt> {
+fn segments_of(alloc: Global, parts: Vec<Part>) -> Result<Vec<Parsed>, EndFault> {
     match read_segments(alloc, parts) {
         Ok(segments) => Ok(segments),
         Err(bad) => Err(halt_of_segment(&bad)),
     }
 }
 
-fn steps_of(alloc: Global, list: StepList) -> Result<Vec<Step>, Halt> {
+fn steps_of(alloc: Global, list: StepList) -> Result<Vec<Step>, EndFault> {
     let count = list.len();
     let mut left = list.into_steps();
     let mut steps = Vec::new(alloc);
@@ -105,13 +105,13 @@ fn steps_of(alloc: Global, list: StepList) -> Result<Vec<Step>, Halt> {
             return Ok(steps);
         };
         if steps.push(step).is_err() {
-            return Err(Halt::OutOfMemory);
+            return Err(EndFault::OutOfMemory);
         }
     }
     Ok(steps)
 }
 
-fn blocks_of(alloc: Global, steps: &[Step]) -> Result<Vec<BlockId>, Halt> {
+fn blocks_of(alloc: Global, steps: &[Step]) -> Result<Vec<BlockId>, EndFault> {
     let mut blocks = Vec::new(alloc);
     for step in steps {
         if let Step::Message(message) = step {
@@ -122,26 +122,26 @@ fn blocks_of(alloc: Global, steps: &[Step]) -> Result<Vec<BlockId>, Halt> {
 }
 
 // Adds the block of a message, unless the message before is about the same.
-fn note_block(blocks: &mut Vec<BlockId>, block: BlockId) -> Result<(), Halt> {
+fn note_block(blocks: &mut Vec<BlockId>, block: BlockId) -> Result<(), EndFault> {
     if blocks.last() == Some(&block) {
         return Ok(());
     }
     if blocks.push(block).is_err() {
-        return Err(Halt::OutOfMemory);
+        return Err(EndFault::OutOfMemory);
     }
     Ok(())
 }
 
-fn halt_of_line(bad: &BadLine) -> Halt {
+fn halt_of_line(bad: &ScenarioFault) -> EndFault {
     match bad.fault {
-        LineFault::OutOfMemory => Halt::OutOfMemory,
-        _ => Halt::BadScenario,
+        LineFault::OutOfMemory => EndFault::OutOfMemory,
+        _ => EndFault::BadScenario,
     }
 }
 
-fn halt_of_segment(bad: &BadSegment) -> Halt {
+fn halt_of_segment(bad: &PartFault) -> EndFault {
     match bad.fault {
-        SegmentFault::OutOfMemory => Halt::OutOfMemory,
-        _ => Halt::BadScenario,
+        SegmentFault::OutOfMemory => EndFault::OutOfMemory,
+        _ => EndFault::BadScenario,
     }
 }

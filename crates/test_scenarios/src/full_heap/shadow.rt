@@ -1,7 +1,7 @@
 //! `Shadow::from`, `apply`, `hand` and `flush`.
 use crate::full_heap::heap::Heap;
 use crate::full_heap::lines::Lines;
-use crate::full_heap::scenario::{Halt, Scenario};
+use crate::full_heap::scenario::{EndFault, Scenario};
 use crate::full_heap::trial::{Answer, Changing, Fate, Making, Pair, compared, make_both};
 use crate::full_heap::{namespace, table};
 use crate::shown::text_of;
@@ -108,7 +108,7 @@ struct Start<'a> {
 }
 
 impl Start<'_> {
-    fn new(alloc: Global, settings: Settings, scenario: &Scenario) -> Result<Start<'_>, Halt> {
+    fn new(alloc: Global, settings: Settings, scenario: &Scenario) -> Result<Start<'_>, EndFault> {
         Ok(Start {
             alloc,
             settings,
@@ -150,7 +150,7 @@ pub fn follow_log(
     settings: Settings,
     scenario: &Scenario,
     lines: &mut Lines,
-) -> Result<(), Halt> {
+) -> Result<(), EndFault> {
     let fates = fates_of_log(alloc, is_ample, settings, scenario)?;
     lines.push(&NAMES, &fates)
 }
@@ -160,7 +160,7 @@ fn fates_of_log(
     is_ample: bool,
     settings: Settings,
     scenario: &Scenario,
-) -> Result<[Fate; 5], Halt> {
+) -> Result<[Fate; 5], EndFault> {
     let played = text_of_play(alloc, is_ample, settings, scenario)?;
     let undisturbed = text_of_play(alloc, true, settings, scenario)?;
     Ok(compared(played, undisturbed))
@@ -173,7 +173,7 @@ fn text_of_play(
     is_ample: bool,
     settings: Settings,
     scenario: &Scenario,
-) -> Result<(Option<String>, [Fate; 5]), Halt> {
+) -> Result<(Option<String>, [Fate; 5]), EndFault> {
     let start = Start::new(alloc, settings, scenario)?;
     let played = play(alloc, is_ample, &start);
     drop(start);
@@ -194,7 +194,7 @@ fn play(
     alloc: Global,
     is_ample: bool,
     start: &Start<'_>,
-) -> Result<(Option<Pair<Shadow>>, [Fate; 5]), Halt> {
+) -> Result<(Option<Pair<Shadow>>, [Fate; 5]), EndFault> {
     let mut heap = Heap::new(alloc, is_ample)?;
     let (made, mut pair) = begin(&mut heap, start)?;
     let fates = follow(&mut heap, start.scenario, made, &mut pair);
@@ -219,7 +219,7 @@ fn follow(
 }
 
 // Two standbys are made. What they are made of is there before the heap is full.
-fn begin(heap: &mut Heap, start: &Start<'_>) -> Result<(Fate, Option<Pair<Shadow>>), Halt> {
+fn begin(heap: &mut Heap, start: &Start<'_>) -> Result<(Fate, Option<Pair<Shadow>>), EndFault> {
     let namespace = start.scenario.after_the_first(start.alloc)?;
     let other = start.scenario.after_the_first(start.alloc)?;
     Ok(make_both(heap, start, namespace, other))

@@ -3,7 +3,7 @@ ghost use Rattle.std.specs.Prelude.{◌<◌, ◌≤◌};
 
 use crate::full_heap::heap::Heap;
 use crate::full_heap::lines::Lines;
-use crate::full_heap::scenario::Halt;
+use crate::full_heap::scenario::EndFault;
 use crate::full_heap::trial::{Answer, Changing, Fate, Pair, both};
 use nn_replicas::Replicas;
 use nn_types::{Block, BlockId, GenerationStamp, Kind, Length, Replica, Settings};
@@ -90,7 +90,7 @@ pub fn change_table(
     is_ample: bool,
     settings: Settings,
     lines: &mut Lines,
-) -> Result<(), Halt> {
+) -> Result<(), EndFault> {
     let blocks = if is_ample { FEW_BLOCKS } else { BLOCKS };
     let (table, fates) = play(alloc, is_ample, blocks, settings)?;
     let (undisturbed, others) = play(alloc, true, blocks, settings)?;
@@ -103,7 +103,7 @@ fn play(
     is_ample: bool,
     blocks: u64,
     settings: Settings,
-) -> Result<(Replicas, [Fate; 3]), Halt>
+) -> Result<(Replicas, [Fate; 3]), EndFault>
     requires { blocks ≤ 100 }
 {
     let mut heap = Heap::new(alloc, is_ample)?;

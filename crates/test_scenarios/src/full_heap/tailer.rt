@@ -4,16 +4,16 @@ ghost use Rattle.std.specs.Prelude.{◌≡◌, ◌≤◌, [], IfOk, length};
 use crate::full_heap::heap::Heap;
 use crate::full_heap::image::image_of;
 use crate::full_heap::lines::Lines;
-use crate::full_heap::scenario::{Halt, Scenario};
+use crate::full_heap::scenario::{EndFault, Scenario};
 use crate::full_heap::shadow::are_alike;
 use crate::full_heap::trial::{Answer, Changing, Fate, Making, Pair, compared, make};
 use crate::shown::text_of;
 use nn_device::Reader;
 use nn_image::ImageFault;
 use nn_lane::{LaneEnd, Reporter, lane};
+use nn_lane_standby::{Choice, ImageRefusal, NewFault, PromoteFault, Standby, StepFault};
 use nn_scenario::Step;
 use nn_segment::MemorySource;
-use nn_tailer::{Choice, ImageRefused, NewFault, PromoteFault, Standby, StepFault};
 use nn_types::{Message, Settings};
 use std::alloc::{AllocError, Global};
 use std::marker::Model;
@@ -41,10 +41,10 @@ struct NewEnds {
 
 impl Model for NewEnds {
     ghost use Rattle.std.specs.Prelude.{List, ◌≤◌, length};
-    ghost use Rattle.nn_lane.specs.Ends.{Taking};
-    ghost use Rattle.nn_tailer.specs.Public.{AreNew};
+    ghost use Rattle.nn_lane.specs.Ends.{LaneEnd};
+    ghost use Rattle.nn_lane_standby.specs.Public.{AreNew};
 
-    ghost Value = { List Taking };
+    ghost Value = { List LaneEnd };
 
     ghost view = { λ s. s.ends.items };
 
@@ -52,18 +52,18 @@ impl Model for NewEnds {
 }
 
 // Lanes that hold all messages of their DataNodes.
-fn lanes(alloc: Global, scenario: &Scenario) -> Result<NewEnds, Halt> {
+fn lanes(alloc: Global, scenario: &Scenario) -> Result<NewEnds, EndFault> {
     let first = filled_lane(alloc, 1, scenario)?;
     let second = filled_lane(alloc, 2, scenario)?;
     let mut ends = Vec::new(alloc);
     if ends.push(first).is_err() || ends.push(second).is_err() {
-        return Err(Halt::OutOfMemory);
+        return Err(EndFault::OutOfMemory);
     }
     Ok(NewEnds { ends })
 }
 
 // The end of a new lane that holds all messages of its DataNode.
-fn filled_lane(alloc: Global, dn: u16, scenario: &Scenario) -> Result<LaneEnd, Halt>
+fn filled_lane(alloc: Global, dn: u16, scenario: &Scenario) -> Result<LaneEnd, EndFault>
     requires { (1 ≤ dn) × (dn ≤ 256) }
     ensures { IfOk result (λ end. (end.lane.node ≡ dn) × (end.got ≡ [])) }
 {
@@ -72,7 +72,7 @@ fn filled_lane(alloc: Global, dn: u16, scenario: &Scenario) -> Result<LaneEnd, H
     Ok(end)
 }
 
-fn send_all(reporter: &mut Reporter, dn: u16, scenario: &Scenario) -> Result<(), Halt> {
+fn send_all(reporter: &mut Reporter, dn: u16, scenario: &Scenario) -> Result<(), EndFault> {
     for step in &scenario.steps {
         if let Step::Message(message) = step
             && message.dn == dn
@@ -83,10 +83,10 @@ fn send_all(reporter: &mut Reporter, dn: u16, scenario: &Scenario) -> Result<(),
     Ok(())
 }
 
-fn send(reporter: &mut Reporter, message: &Message) -> Result<(), Halt> {
+fn send(reporter: &mut Reporter, message: &Message) -> Result<(), EndFault> {
     match reporter.report(message.block, message.stamp, message.len, message.kind) {
         Ok(_) => Ok(()),
-        Err(_) => Err(Halt::BadScenario),
+        Err(_) => Err(EndFault::BadScenario),
     }
 }
 
@@ -132,7 +132,7 @@ impl Making for FromImage<'_> {
         let mut reader = Reader::new(self.image);
         match Standby::from_image(self.alloc, given.ends, self.settings, &mut reader) {
             Ok(standby) => Ok(standby),
-            Err(ImageRefused { ends, fault }) => {
+            Err(ImageRefusal { ends, fault }) => {
                 let answer = match fault {
                     ImageFault::OutOfMemory => Answer::OutOfMemory,
                     _ => Answer::Other,
@@ -211,7 +211,7 @@ struct Given {
 }
 
 impl Given {
-    fn new(alloc: Global, text: &[u8]) -> Result<Given, Halt> {
+    fn new(alloc: Global, text: &[u8]) -> Result<Given, EndFault> {
         let scenario = Scenario::read(alloc, text)?;
         let ends = lanes(alloc, &scenario)?;
         Ok(Given {
@@ -227,7 +227,7 @@ fn begin<M: Making<Given = NewEnds, Made = Standby>>(
     heap: &mut Heap,
     call: &M,
     text: &[u8],
-) -> Result<(Fate, Option<Pair<Tailing>>), Halt> {
+) -> Result<(Fate, Option<Pair<Tailing>>), EndFault> {
     let given = Given::new(alloc, text)?;
     let other = Given::new(alloc, text)?;
     let (fate, tailing) = begin_one(heap, call, given);
@@ -283,7 +283,7 @@ pub fn follow_lanes(
     settings: Settings,
     text: &[u8],
     lines: &mut Lines,
-) -> Result<(), Halt> {
+) -> Result<(), EndFault> {
     let steps = fates_of_steps(alloc, is_ample, settings, text)?;
     let restart = fates_of_restart(alloc, is_ample, settings, text)?;
     let fates = [
@@ -297,7 +297,7 @@ fn fates_of_steps(
     is_ample: bool,
     settings: Settings,
     text: &[u8],
-) -> Result<[Fate; 4], Halt> {
+) -> Result<[Fate; 4], EndFault> {
     let played = text_of_steps(alloc, is_ample, settings, text)?;
     let undisturbed = text_of_steps(alloc, true, settings, text)?;
     Ok(compared(played, undisturbed))
@@ -308,7 +308,7 @@ fn fates_of_restart(
     is_ample: bool,
     settings: Settings,
     text: &[u8],
-) -> Result<[Fate; 2], Halt> {
+) -> Result<[Fate; 2], EndFault> {
     let played = text_of_restart(alloc, is_ample, settings, text)?;
     let undisturbed = text_of_restart(alloc, true, settings, text)?;
     Ok(compared(played, undisturbed))
@@ -321,7 +321,7 @@ fn text_of_steps(
     is_ample: bool,
     settings: Settings,
     text: &[u8],
-) -> Result<(Option<String>, [Fate; 4]), Halt> {
+) -> Result<(Option<String>, [Fate; 4]), EndFault> {
     let (pair, fates) = play_steps(alloc, is_ample, settings, text)?;
     let shown = text_of_pair(alloc, &pair);
     drop(pair);
@@ -334,7 +334,7 @@ fn text_of_restart(
     is_ample: bool,
     settings: Settings,
     text: &[u8],
-) -> Result<(Option<String>, [Fate; 2]), Halt> {
+) -> Result<(Option<String>, [Fate; 2]), EndFault> {
     let (pair, fates) = play_restart(alloc, is_ample, settings, text)?;
     let shown = text_of_pair(alloc, &pair);
     drop(pair);
@@ -353,7 +353,7 @@ fn play_steps(
     is_ample: bool,
     settings: Settings,
     text: &[u8],
-) -> Result<(Option<Pair<Tailing>>, [Fate; 4]), Halt> {
+) -> Result<(Option<Pair<Tailing>>, [Fate; 4]), EndFault> {
     let mut heap = Heap::new(alloc, is_ample)?;
     let scenario = Scenario::read(alloc, text)?;
     let (made, mut pair) = begin(alloc, &mut heap, &New { alloc, settings }, text)?;
@@ -381,7 +381,7 @@ fn play_restart(
     is_ample: bool,
     settings: Settings,
     text: &[u8],
-) -> Result<(Option<Pair<Tailing>>, [Fate; 2]), Halt> {
+) -> Result<(Option<Pair<Tailing>>, [Fate; 2]), EndFault> {
     let mut heap = Heap::new(alloc, is_ample)?;
     let image = image_of(alloc, &Scenario::read(alloc, text)?)?;
     let call = FromImage {

@@ -1,7 +1,7 @@
 use Rattle.std.specs.Prelude.{◌≡◌, ◌+◌, ◌<◌, ◌∷◌, [], true, false, get_or, length, vec_items}
 use Rattle.std.specs.Vec.Iter.{into_iter_items}
 use Rattle.std.proofs.Common.{rules, arith, subst, sym, ap, ◌∙◌, length-append}
-use Rattle.nn_tailer.proofs.Fetched.{any_default}
+use Rattle.nn_lane_standby.proofs.Fetched.{any_default}
 use Rattle.nn_drive.specs.Driven.{IsJoined}
 use Rattle.nn_drive.proofs.Joins.{TellsOn, joined_more, told_more}
 use Rattle.nn_drive.proofs.driving.join_all.Goals as goal

@@ -1,4 +1,4 @@
-use Rattle.nn_drive.specs.Driven.{AreOneLane, Agrees}
+use Rattle.nn_drive.specs.Driven.{AreOneLane, EndsAgree}
 use Rattle.nn_drive.proofs.Meets.{both_last, both_again}
 use Rattle.nn_drive.proofs.driving.meet_all.Goals as goal
 
@@ -7,4 +7,4 @@ meet-met-requires c = (both_last AreOneLane _ _ _ _ _ _ c.in-Some.ensures.items 
 
 pub loop-end-preserved : goal.loop-end-preserved
 loop-end-preserved c = let a = c.in-Some.ensures.items in let b = c.in-Some-pop.ensures.items in let m = c.meet-met.ensures in
-    ((both_last AreOneLane _ _ _ _ _ _ a b c.loop-end.invariant.0).0, (λ h. c.loop-end.invariant.1 (both_again Agrees _ _ _ _ _ _ a b h (m.front, m.closed, m.told))))
+    ((both_last AreOneLane _ _ _ _ _ _ a b c.loop-end.invariant.0).0, (λ h. c.loop-end.invariant.1 (both_again EndsAgree _ _ _ _ _ _ a b h (m.prefix, m.closed, m.told))))

@@ -1,6 +1,6 @@
 use Rattle.std.proofs.Common.{◌≡◌, ◌<◌, true, false, Err, sym, ◌∙◌, subst}
-use Rattle.nn_tailer.specs.Promotion.{NotPromoted, OnPromoteLogFault}
-use Rattle.nn_tailer.specs.declared.fault.PromoteFault.{PromoteFault}
+use Rattle.nn_lane_standby.specs.Promotion.{NotPromoted, OnPromoteLogFault}
+use Rattle.nn_lane_standby.specs.declared.fault.PromoteFault.{PromoteFault}
 use Rattle.nn_drive.proofs.Steps.{begun_or_not, promotion_may_come, ends_as}
 use Rattle.nn_drive.proofs.driving.promote.Goals as goal
 

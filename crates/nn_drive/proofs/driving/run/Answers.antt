@@ -3,18 +3,18 @@ use Rattle.std.specs.List.{AllZip}
 use Rattle.std.proofs.Common.{◌≡◌, ◌≤◌, false, [], List, arith, ap, sym, ◌∙◌, subst, append-nil}
 use Rattle.nn_model.specs.History.{is_flush}
 use Rattle.nn_segment.proofs.Asks.{asked_append}
-use Rattle.nn_lane.specs.Ends.{Taking}
-use Rattle.nn_shadow.specs.Contents.{Contents, KeepsSettings}
-use Rattle.nn_tailer.specs.Tailing.{has_begun, Carries}
-use Rattle.nn_tailer.proofs.Carried.{carries_then}
-use Rattle.nn_tailer.proofs.Logs.{ends_behind}
-use Rattle.nn_tailer.proofs.Shadowing.{settings_then}
+use Rattle.nn_lane.specs.Ends.{LaneEnd}
+use Rattle.nn_shadow.specs.Contents.{Shadow, KeepsSettings}
+use Rattle.nn_lane_standby.specs.Tailing.{has_begun, Carries}
+use Rattle.nn_lane_standby.proofs.Carried.{carries_then}
+use Rattle.nn_lane_standby.proofs.Logs.{ends_behind}
+use Rattle.nn_lane_standby.proofs.Shadowing.{settings_then}
 use Rattle.nn_feed.specs.Ends.{got_by, GivesWhatIsFed}
 use Rattle.nn_feed.specs.Feeds.{has_last}
-use Rattle.nn_drive.specs.Driven.{JoinsAll, AreOneLane, Agrees, IsPromoted}
+use Rattle.nn_drive.specs.Driven.{JoinsAll, AreOneLane, EndsAgree, IsPromotedAtEnd}
 use Rattle.nn_drive.proofs.Drives.{fit, lanes_now, none_closed, one_lanes, is_promoted}
 use Rattle.nn_drive.proofs.Fed.{same_then, same_asked, nothing_begun, fails_over}
-use Rattle.nn_tailer.specs.Shadows.{shadow_after}
+use Rattle.nn_lane_standby.specs.Shadows.{shadow_with_past}
 use Rattle.nn_drive.proofs.InTurn.{went_whole}
 use Rattle.nn_drive.proofs.Steps.{until_then}
 use Rattle.nn_drive.proofs.driving.run.Goals as goal
@@ -35,19 +35,19 @@ returns-in-Err-clause-err g c =
 pub join_all-reporters-requires-clause-fit : goal.join_all-reporters-requires-clause-fit
 join_all-reporters-requires-clause-fit g c =
     let all : length c.args.workers.items ≤ length (vec_items c.start_all-handles.result) = omega (arith, c.if-not-all_started.ensures, c.len-count.ensures, c.len-started.ensures, c.args.workers.ok.0, c.start_all-handles.result.ok.0) in
-    let f = fit g.S.ReportSource.gives c.args.workers.items (vec_items c.start_all-handles.result) c.start_all-handles.ensures all c.args.standby c.rotate.new.standby c.requires.lanes (went_whole c.len-started.result c.args.end.now c.rotate.new.end c.args.standby c.rotate.new.standby _ _ c.in_default.ensures.wished).0 (went_whole c.len-started.result c.args.end.now c.rotate.new.end c.args.standby c.rotate.new.standby _ _ c.in_default.ensures.wished).2 in
-    subst (λ (es : List Taking). length (vec_items c.start_all-handles.result) ≤ length es) (sym c.ends.ensures) f
+    let f = fit g.S.ReportSource.gives c.args.workers.items (vec_items c.start_all-handles.result) c.start_all-handles.ensures all c.args.standby c.rotate.new.standby c.requires.lanes (went_whole c.len-started.result c.args.end.now c.rotate.new.end c.args.standby c.rotate.new.standby _ _ c.in_default.ensures.requested).0 (went_whole c.len-started.result c.args.end.now c.rotate.new.end c.args.standby c.rotate.new.standby _ _ c.in_default.ensures.requested).2 in
+    subst (λ (es : List LaneEnd). length (vec_items c.start_all-handles.result) ≤ length es) (sym c.ends.ensures) f
 
 pub returns-in-Err-promote-clause-same : goal.returns-in-Err-promote-clause-same
 returns-in-Err-promote-clause-same g c =
-    let e = went_whole c.len-started.result c.args.end.now c.rotate.new.end c.args.standby c.rotate.new.standby _ _ c.in_default.ensures.wished in let p = c.in-Err-promote.ensures.err in
+    let e = went_whole c.len-started.result c.args.end.now c.rotate.new.end c.args.standby c.rotate.new.standby _ _ c.in_default.ensures.requested in let p = c.in-Err-promote.ensures.err in
     same_then c.args.end.now c.promote.new.source c.give_up-in-Err-promote.new.end
     (same_then c.args.end.now c.rotate.new.end c.promote.new.source (same_asked c.args.end.now c.rotate.new.end e.0 e.1) (same_asked c.rotate.new.end c.promote.new.source p.0 p.1))
     c.give_up-in-Err-promote.ensures.same
 
 pub returns-in-Err-promote-clause-err : goal.returns-in-Err-promote-clause-err
 returns-in-Err-promote-clause-err g c =
-    let e = went_whole c.len-started.result c.args.end.now c.rotate.new.end c.args.standby c.rotate.new.standby _ _ c.in_default.ensures.wished in
+    let e = went_whole c.len-started.result c.args.end.now c.rotate.new.end c.args.standby c.rotate.new.standby _ _ c.in_default.ensures.requested in
     let x0 = c.args.standby in
     let x2 = c.close_intake.new.self in
     let carries : Carries x0 e.0 x2 = subst (λ rs. Carries x0 rs x2) (append-nil e.0) (carries_then x0 c.rotate.new.standby x2 e.0 [] e.2.carries c.close_intake.ensures.carries) in
@@ -60,11 +60,11 @@ pub meet_all-requires : goal.meet_all-requires
 meet_all-requires g c =
     let gives = g.S.ReportSource.gives in let workers = c.args.workers.items in let handles = vec_items c.start_all-handles.result in
     let x0 = c.args.standby in let x1 = c.rotate.new.standby in
-    let e = went_whole c.len-started.result c.args.end.now c.rotate.new.end c.args.standby c.rotate.new.standby _ _ c.in_default.ensures.wished in let parts = c.into_parts-shadow.ensures in
+    let e = went_whole c.len-started.result c.args.end.now c.rotate.new.end c.args.standby c.rotate.new.standby _ _ c.in_default.ensures.requested in let parts = c.into_parts-shadow.ensures in
     let reporters = c.join_all-reporters.result.0.items in let told = c.join_all-reporters.result.1 in
     let all : length c.args.workers.items ≤ length (vec_items c.start_all-handles.result) = omega (arith, c.if-not-all_started.ensures, c.len-count.ensures, c.len-started.ensures, c.args.workers.ok.0, c.start_all-handles.result.ok.0) in
-    let joins : JoinsAll gives handles x1.ends reporters told = subst (λ (es : List Taking). JoinsAll gives handles es reporters told) c.ends.ensures c.join_all-reporters.ensures in
-    subst (λ (es : List Taking). AllZip AreOneLane es reporters) (sym parts.1)
+    let joins : JoinsAll gives handles x1.ends reporters told = subst (λ (es : List LaneEnd). JoinsAll gives handles es reporters told) c.ends.ensures c.join_all-reporters.ensures in
+    subst (λ (es : List LaneEnd). AllZip AreOneLane es reporters) (sym parts.1)
     (lanes_now gives workers handles c.start_all-handles.ensures all x0 x1 c.requires.lanes e.0 e.2 reporters told joins)
 
 -- where they met, no reporter was told of a close
@@ -72,48 +72,48 @@ pub unreachable-requires : goal.unreachable-requires
 unreachable-requires g c =
     let gives = g.S.ReportSource.gives in let workers = c.args.workers.items in let handles = vec_items c.start_all-handles.result in
     let x0 = c.args.standby in let x1 = c.rotate.new.standby in
-    let e = went_whole c.len-started.result c.args.end.now c.rotate.new.end c.args.standby c.rotate.new.standby _ _ c.in_default.ensures.wished in let parts = c.into_parts-shadow.ensures in
+    let e = went_whole c.len-started.result c.args.end.now c.rotate.new.end c.args.standby c.rotate.new.standby _ _ c.in_default.ensures.requested in let parts = c.into_parts-shadow.ensures in
     let reporters = c.join_all-reporters.result.0.items in let told = c.join_all-reporters.result.1 in
     let all : length c.args.workers.items ≤ length (vec_items c.start_all-handles.result) = omega (arith, c.if-not-all_started.ensures, c.len-count.ensures, c.len-started.ensures, c.args.workers.ok.0, c.start_all-handles.result.ok.0) in
-    let joins : JoinsAll gives handles x1.ends reporters told = subst (λ (es : List Taking). JoinsAll gives handles es reporters told) c.ends.ensures c.join_all-reporters.ensures in
+    let joins : JoinsAll gives handles x1.ends reporters told = subst (λ (es : List LaneEnd). JoinsAll gives handles es reporters told) c.ends.ensures c.join_all-reporters.ensures in
     none_closed gives workers handles c.start_all-handles.ensures all x0 x1 c.requires.lanes e.0 e.2 reporters told joins
-    (subst (λ (es : List Taking). AllZip Agrees es reporters) parts.1 c.meet_all.ensures) c.if-told.true
+    (subst (λ (es : List LaneEnd). AllZip EndsAgree es reporters) parts.1 c.meet_all.ensures) c.if-told.true
 
 pub meet_all-requires-2 : goal.meet_all-requires-2
 meet_all-requires-2 g c =
     let gives = g.S.ReportSource.gives in let workers = c.args.workers.items in let handles = vec_items c.start_all-handles.result in
     let x0 = c.args.standby in let x1 = c.rotate.new.standby in let x2 = c.close_intake.new.self in let x3 = c.promote.new.standby in
-    let e = went_whole c.len-started.result c.args.end.now c.rotate.new.end c.args.standby c.rotate.new.standby _ _ c.in_default.ensures.wished in let p = c.in-Ok.ensures.ok in let parts = c.into_parts-shadow-2.ensures in
+    let e = went_whole c.len-started.result c.args.end.now c.rotate.new.end c.args.standby c.rotate.new.standby _ _ c.in_default.ensures.requested in let p = c.in-Ok.ensures.ok in let parts = c.into_parts-shadow-2.ensures in
     let reporters = c.join_all-reporters.result.0.items in let told = c.join_all-reporters.result.1 in
     let all : length c.args.workers.items ≤ length (vec_items c.start_all-handles.result) = omega (arith, c.if-not-all_started.ensures, c.len-count.ensures, c.len-started.ensures, c.args.workers.ok.0, c.start_all-handles.result.ok.0) in
-    let joins : JoinsAll gives handles x1.ends reporters told = subst (λ (es : List Taking). JoinsAll gives handles es reporters told) c.ends.ensures c.join_all-reporters.ensures in
-    subst (λ (es : List Taking). AllZip AreOneLane es reporters) (sym parts.1)
+    let joins : JoinsAll gives handles x1.ends reporters told = subst (λ (es : List LaneEnd). JoinsAll gives handles es reporters told) c.ends.ensures c.join_all-reporters.ensures in
+    subst (λ (es : List LaneEnd). AllZip AreOneLane es reporters) (sym parts.1)
     (one_lanes gives workers handles c.start_all-handles.ensures all x0 x1 c.requires.lanes e.0 e.2 reporters told joins x2 x3 c.close_intake.ensures.ends c.close_intake.ensures.carries p.2)
 
 pub returns-clause-same : goal.returns-clause-same
 returns-clause-same g c =
-    let e = went_whole c.len-started.result c.args.end.now c.rotate.new.end c.args.standby c.rotate.new.standby _ _ c.in_default.ensures.wished in let p = c.in-Ok.ensures.ok in
+    let e = went_whole c.len-started.result c.args.end.now c.rotate.new.end c.args.standby c.rotate.new.standby _ _ c.in_default.ensures.requested in let p = c.in-Ok.ensures.ok in
     same_then c.args.end.now c.rotate.new.end c.promote.new.source (same_asked c.args.end.now c.rotate.new.end e.0 e.1) (same_asked c.rotate.new.end c.promote.new.source p.0 p.1)
 
 pub returns-clause-ok : goal.returns-clause-ok
 returns-clause-ok g c =
     let gives = g.S.ReportSource.gives in let workers = c.args.workers.items in let handles = vec_items c.start_all-handles.result in
     let x0 = c.args.standby in let x1 = c.rotate.new.standby in let x2 = c.close_intake.new.self in let x3 = c.promote.new.standby in
-    let e = went_whole c.len-started.result c.args.end.now c.rotate.new.end c.args.standby c.rotate.new.standby _ _ c.in_default.ensures.wished in let p = c.in-Ok.ensures.ok in let parts = c.into_parts-shadow-2.ensures in
+    let e = went_whole c.len-started.result c.args.end.now c.rotate.new.end c.args.standby c.rotate.new.standby _ _ c.in_default.ensures.requested in let p = c.in-Ok.ensures.ok in let parts = c.into_parts-shadow-2.ensures in
     let reporters = c.join_all-reporters.result.0.items in let told = c.join_all-reporters.result.1 in
     let all : length c.args.workers.items ≤ length (vec_items c.start_all-handles.result) = omega (arith, c.if-not-all_started.ensures, c.len-count.ensures, c.len-started.ensures, c.args.workers.ok.0, c.start_all-handles.result.ok.0) in
-    let joins : JoinsAll gives handles x1.ends reporters told = subst (λ (es : List Taking). JoinsAll gives handles es reporters told) c.ends.ensures c.join_all-reporters.ensures in
-    let agree = subst (λ (es : List Taking). AllZip Agrees es reporters) parts.1 c.meet_all-2.ensures in
+    let joins : JoinsAll gives handles x1.ends reporters told = subst (λ (es : List LaneEnd). JoinsAll gives handles es reporters told) c.ends.ensures c.join_all-reporters.ensures in
+    let agree = subst (λ (es : List LaneEnd). AllZip EndsAgree es reporters) parts.1 c.meet_all-2.ensures in
     record {
       answers = e.0 ++ p.0;
       asked = asked_append GivesWhatIsFed c.args.end.now c.rotate.new.end c.promote.new.source e.0 p.0 e.1 p.1;
       ended = ends_behind e.0 p.0 p.7;
-      last = p.3.0 ∙ ap (λ (z : Contents). z.last) (sym parts.0);
-      flushed = p.3.1 ∙ ap (λ (z : Contents). count_by is_flush z.history) (sym parts.0);
-      settings = subst (λ (z : Contents). KeepsSettings x0.shadow z) (sym parts.0)
-          (settings_then x0.shadow x1.shadow x3.shadow e.2.settings (subst (λ (z : Contents). KeepsSettings z x3.shadow) (ap (λ z. z.shadow) c.close_intake.ensures.rest) p.6));
+      last = p.3.0 ∙ ap (λ (z : Shadow). z.last) (sym parts.0);
+      flushed = p.3.1 ∙ ap (λ (z : Shadow). count_by is_flush z.history) (sym parts.0);
+      settings = subst (λ (z : Shadow). KeepsSettings x0.shadow z) (sym parts.0)
+          (settings_then x0.shadow x1.shadow x3.shadow e.2.settings (subst (λ (z : Shadow). KeepsSettings z x3.shadow) (ap (λ z. z.shadow) c.close_intake.ensures.rest) p.6));
       ends = x3.ends;
       promoted = λ past start base given h.
-          subst (λ (z : Contents). IsPromoted gives start base (given ++ (e.0 ++ p.0)) workers x0.ends x3.ends (shadow_after past z)) (sym parts.0)
+          subst (λ (z : Shadow). IsPromotedAtEnd gives start base (given ++ (e.0 ++ p.0)) workers x0.ends x3.ends (shadow_with_past past z)) (sym parts.0)
           (is_promoted gives workers handles c.start_all-handles.ensures all x0 x1 c.requires.lanes e.0 e.2 reporters told joins x2 x3 c.close_intake.ensures.ends c.close_intake.ensures.carries p.2 p.0 p.4 agree c.if-told.false past start base given h);
     }

@@ -1,6 +1,6 @@
 use Rattle.std.specs.Vec.Iter.{into_iter_items}
 use Rattle.std.proofs.Common.{◌≡◌, ◌≤◌, ◌+◌, length, refl, sym, ap, ◌∙◌, subst, arith, rules}
-use Rattle.nn_drive.specs.NewLanes.{HasLane, HavePlaces}
+use Rattle.nn_drive.specs.NewLanes.{HasLane, HaveCapacity}
 use Rattle.nn_drive.proofs.Laned.{Laning, room, one_lane, places_more, all_laned, are_lanes, are_new}
 use Rattle.nn_drive.proofs.lanes.with_lanes.Goals as goal
 
@@ -26,7 +26,7 @@ loop-source-preserved g c =
     record {
       laning = one_lane c.args.sources.items (into_iter_items c.next.new.self) c.in-Some.source c.loop-source.workers.items c.push.new.self.items c.loop-source.ends.items c.push-in-loop-source.new.self.items
           (c.in-Some.source, c.in_ok-reporter.reporter) c.in_ok-reporter.end here lane c.in_ok-push.ensures.items c.in_ok-push-2.ensures.items;
-      places = subst (HavePlaces c.args.capacity) (sym c.in_ok-push-2.ensures.items)
+      places = subst (HaveCapacity c.args.capacity) (sym c.in_ok-push-2.ensures.items)
           (places_more c.args.capacity c.loop-source.ends.items c.in_ok-reporter.end c.loop-source.invariant.places (ap (λ z. z.table.slots) (sym e.one_lane.0) ∙ e.one_lane.2));
     }
 

@@ -7,4 +7,4 @@ use Rattle.nn_drive.specs.Serving.{KeepsNamespace, holds}
 use Rattle.nn_drive.proofs.rotation.take_lanes.Given as goal
 
 abbrev pub invariant-loop-i : goal.invariant-loop-i
-invariant-loop-i g l = Went GivesWhatIsFed failures_of l.initial.end l.initial.standby l.end l.standby × HasVisited l.initial.standby l.i l.standby × (holds l.wish ≡ true → KeepsNamespace l.initial.standby l.standby)
+invariant-loop-i g l = Went GivesWhatIsFed failures_of l.initial.end l.initial.standby l.end l.standby × HasVisited l.initial.standby l.i l.standby × (holds l.request ≡ true → KeepsNamespace l.initial.standby l.standby)

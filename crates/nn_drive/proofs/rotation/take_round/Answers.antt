@@ -3,7 +3,7 @@ use Rattle.std.proofs.lemmas.Result.{IfOk-weaker, IfErr-weaker}
 use Rattle.nn_feed.specs.Ends.{GivesWhatIsFed}
 use Rattle.nn_drive.specs.Feeding.{failures_of}
 use Rattle.nn_drive.specs.Rounds.{IsRound}
-use Rattle.nn_tailer.proofs.Drained.{same_length}
+use Rattle.nn_lane_standby.proofs.Drained.{same_length}
 use Rattle.nn_drive.proofs.Rounds.{keeps_then, visited_then}
 use Rattle.nn_drive.proofs.Steps.{went_on, went_until}
 use Rattle.nn_drive.proofs.rotation.take_round.Goals as goal

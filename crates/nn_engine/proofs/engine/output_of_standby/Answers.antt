@@ -6,4 +6,4 @@ pub returns : goal.returns
 returns c =
     let flush = c.in_default.ensures in
     λ options past start base txs lanes h.
-    flushed_told options c.args.standby c.flush.new.self (shown options c.output_of_flushed.result) flush.ok flush.settings flush.stands (c.output_of_flushed.ensures options) past start base txs lanes h
+    flushed_told options c.args.shadow c.flush.new.self (shown options c.output_of_flushed.result) flush.ok flush.settings flush.stands (c.output_of_flushed.ensures options) past start base txs lanes h

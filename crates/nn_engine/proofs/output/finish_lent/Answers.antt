@@ -6,5 +6,5 @@ use Rattle.nn_engine.proofs.output.finish_lent.Goals as goal
 pub returns-in-Err-clause-written : goal.returns-in-Err-clause-written
 returns-in-Err-clause-written g c = IfOk-weaker c.no_memory.result _ _ (λ end e. record { output = fault_alone (codes "55"); right = inr refl; took = e.0; ends = e.1 }) c.no_memory.ensures.ok
 
-pub returns-in-Err-clause-front : goal.returns-in-Err-clause-front
-returns-in-Err-clause-front g c = IfErr-weaker c.no_memory.result _ _ (λ fault front. record { output = fault_alone (codes "55"); right = inr refl; front = front }) c.no_memory.ensures.front
+pub returns-in-Err-clause-prefix : goal.returns-in-Err-clause-prefix
+returns-in-Err-clause-prefix g c = IfErr-weaker c.no_memory.result _ _ (λ fault prefix. record { output = fault_alone (codes "55"); right = inr refl; prefix = prefix }) c.no_memory.ensures.prefix

@@ -1,5 +1,5 @@
 use Rattle.std.proofs.Common.{true, Ok, map, refl, arith}
-use Rattle.nn_scenario.specs.Steps.{lanes_of}
+use Rattle.nn_scenario.specs.Steps.{lanes_of_steps}
 use Rattle.nn_segment.specs.Segment.{Segment}
 use Rattle.nn_engine.specs.Input.{start_of}
 use Rattle.nn_engine.specs.Output.{IsHistoryOf}
@@ -25,7 +25,7 @@ pub returns-in-Ok : goal.returns-in-Ok
 returns-in-Ok g c =
     let options = c.args.asked.now.options in
     let settings = options.settings in
-    let lanes = lanes_of c.args.steps in
+    let lanes = lanes_of_steps c.args.steps in
     let segments = c.args.segments.items in
     let start = start_of c.args.begin in
     let p = shown options c.output_of_flushed.result in
@@ -43,7 +43,7 @@ pub returns-in_ok-line_of_drive-in-Err : goal.returns-in_ok-line_of_drive-in-Err
 returns-in_ok-line_of_drive-in-Err g c =
     let options = c.args.asked.now.options in
     let settings = options.settings in
-    let lanes = lanes_of c.args.steps in
+    let lanes = lanes_of_steps c.args.steps in
     let segments = c.args.segments.items in
     let line = faulted c.in_ok-line_of_drive-in-Err.field-0 in
     let start = start_of c.args.begin in

@@ -1,5 +1,5 @@
 use Rattle.std.proofs.Common.{Some, sym, ap, ◌∙◌}
-use Rattle.nn_image.specs.Arrays.{blocks_in}
+use Rattle.nn_image.specs.Arrays.{block_list}
 use Rattle.nn_image.specs.Reading.{block_of, gathered}
 use Rattle.nn_image.proofs.ItemReads.{no_items_in}
 use Rattle.nn_image.proofs.arrays.read_blocks.Goals as goal
@@ -18,4 +18,4 @@ pub returns-clause-ok : goal.returns-clause-ok
 returns-clause-ok c =
     let found = c.in_ok-read_array.ensures.ok in
     let items = rw c.if-not-branch.false at found.2 in
-    (found.0, found.1, items.2 ∙ ap blocks_in (sym items.1))
+    (found.0, found.1, items.2 ∙ ap block_list (sym items.1))

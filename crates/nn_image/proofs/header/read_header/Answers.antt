@@ -2,7 +2,7 @@ use Rattle.std.proofs.Common.{sym, ap, ◌∙◌, arith, subst}
 use Rattle.std.proofs.lemmas.Result.{IfOk-weaker, IfErr-weaker}
 use Rattle.serde_json.specs.Read.{read}
 use Rattle.nn_plain.specs.Ahead.{LacksObject}
-use Rattle.nn_image.specs.Outcome.{Fails}
+use Rattle.nn_image.specs.Outcome.{ImageFails}
 use Rattle.nn_image.proofs.HeaderReads.{header_says, none_says}
 use Rattle.nn_image.proofs.RowReads.{no_object_there, no_text_there}
 use Rattle.nn_image.proofs.header.read_header.Goals as goal
@@ -22,7 +22,7 @@ returns-in-Ok-read_line-clause-fault c =
     let text = c.in-Ok.ensures in
     let found = c.in-Ok-read_line.ensures.ok in
     let says = header_says c.args.line.now found.0 _ text.1 (ap read (sym text.0) ∙ found.1) found.2 in
-    IfErr-weaker c.header.result _ _ (λ e fails. subst (Fails e) says fails) c.header.ensures.fault
+    IfErr-weaker c.header.result _ _ (λ e fails. subst (ImageFails e) says fails) c.header.ensures.fault
 
 pub returns-in-Err-Invalid-clause-fault : goal.returns-in-Err-Invalid-clause-fault
 returns-in-Err-Invalid-clause-fault c =

@@ -44,7 +44,7 @@ pub returns-in-Some-clause-noted : goal.returns-in-Some-clause-noted
 returns-in-Some-clause-noted g c = noted_by_none c.in-Some.fault _ _ c.in-Some.ensures.own (c.in_ok-next_line.ensures.unfailed ∙ c.lines.invariant.unfailed)
 
 pub lines-smaller : goal.lines-smaller
-lines-smaller g c = omega (arith, c.given.ensures.bounded, c.given.ensures.given, c.in_ok-next_line.ensures.taken c.if-not-line.false)
+lines-smaller g c = omega (arith, c.given-recalled.ensures.bounded, c.given-recalled.ensures.given, c.in_ok-next_line.ensures.taken c.if-not-line.false)
 
 pub lines-preserved : goal.lines-preserved
 lines-preserved g c =

@@ -1,7 +1,7 @@
 use Rattle.std.proofs.Common.{rules, ◌≡◌, ◌∷◌, true, false}
 use Rattle.serde_json.specs.Written.{compact_text, items_text}
 use Rattle.nn_device.proofs.Pages.{none_of, one_more, puts_both}
-use Rattle.nn_image.specs.Text.{block_data, block_items}
+use Rattle.nn_image.specs.Text.{block_value, block_items}
 use Rattle.nn_image.proofs.Putting.{next_block, last_bracket}
 use Rattle.nn_image.proofs.row_text.put_blocks.Goals as goal
 
@@ -10,7 +10,7 @@ loop-block-init g c =
     let first = c.in-Some.first.now in
     let others = c.in-Some.others.now in
     let is : c.args.blocks.now ≡ first ∷ others = search rules in
-    rw is (one_more (items_text false (block_items (first ∷ others))) (compact_text (block_data first)) (items_text true (block_items others))
+    rw is (one_more (items_text false (block_items (first ∷ others))) (compact_text (block_value first)) (items_text true (block_items others))
     c.args.page.now c.args.page.now c.put_block.new.page c.args.writer.now c.args.writer.now c.put_block.new.writer
     (none_of (items_text false (block_items (first ∷ others))) c.args.page.now c.args.writer.now) c.put_block.ensures)
 

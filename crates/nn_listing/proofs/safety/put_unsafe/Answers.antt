@@ -1,11 +1,11 @@
 use Rattle.std.proofs.Common.{subst}
-use Rattle.nn_device.specs.Page.{Puts}
+use Rattle.nn_device.specs.Page.{PutsPiece}
 use Rattle.nn_device.proofs.Pages.{puts_both}
 use Rattle.nn_listing.proofs.Pieces.{unsafe_pieces}
 use Rattle.nn_listing.proofs.safety.put_unsafe.Goals as goal
 
 pub returns : goal.returns
 returns g c =
-    subst (λ text. Puts text c.args.page.now c.args.writer.now c.put_byte-2.new.self c.put_byte-2.new.writer) (unsafe_pieces _ _ _)
+    subst (λ text. PutsPiece text c.args.page.now c.args.writer.now c.put_byte-2.new.self c.put_byte-2.new.writer) (unsafe_pieces _ _ _)
     (puts_both _ _ _ _ _ _ _ _ c.put.ensures (puts_both _ _ _ _ _ _ _ _ (rw c.get.ensures.value at c.put_field.ensures) (puts_both _ _ _ _ _ _ _ _ c.put_field-2.ensures
     (puts_both _ _ _ _ _ _ _ _ c.put_byte.ensures (puts_both _ _ _ _ _ _ _ _ c.put_path.ensures c.put_byte-2.ensures)))))

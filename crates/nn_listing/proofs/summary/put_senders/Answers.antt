@@ -1,9 +1,9 @@
 use Rattle.std.proofs.Common.{◌≡◌, ◌+◌, ◌-◌, List, ℕ, subst, ap, arith}
 use Rattle.std.specs.Prelude.{flat_map}
 use Rattle.std.specs.List.{range_with_len}
-use Rattle.nn_device.specs.Page.{PutsAllBut, Puts}
+use Rattle.nn_device.specs.Page.{PutsAllBut, PutsPiece}
 use Rattle.nn_device.proofs.Pages.{none_of, one_more}
-use Rattle.nn_shadow.specs.Contents.{Contents}
+use Rattle.nn_shadow.specs.Contents.{Shadow}
 use Rattle.nn_listing.specs.Counted.{sender_seen}
 use Rattle.nn_listing.specs.Summary.{Sender, sender_text}
 use Rattle.nn_listing.specs.Tables.{datanodes}
@@ -11,7 +11,7 @@ use Rattle.nn_listing.proofs.Summaries.{all_datanodes, one_datanode}
 use Rattle.nn_listing.proofs.summary.put_senders.Goals as goal
 
 -- the lines of these DataNodes
-abbrev lines : Contents → List ℕ → List ℕ
+abbrev lines : Shadow → List ℕ → List ℕ
 lines x dns = flat_map (λ dn. sender_text dn (sender_seen x dn)) dns
 
 pub datanodes-init : goal.datanodes-init
@@ -28,7 +28,7 @@ datanodes-preserved g c =
     let left = ap (lines x) (one_datanode 256 dn c.datanodes-test.true) in
     let sender : ◌≡◌ {A = Sender} (record { messages = c.last_number-messages.result; waiting = c.held_from-waiting.result; report = c.open_report.result }) (sender_seen x (dn + 1)) =
     λ i. record { messages = c.last_number-messages.ensures i; waiting = c.held_from-waiting.ensures i; report = c.open_report.ensures i } in
-    let put = subst (λ s. Puts (sender_text (dn + 1) s) c.datanodes.page c.datanodes.writer c.put_sender.new.page c.put_sender.new.writer) sender c.put_sender.ensures in (
+    let put = subst (λ s. PutsPiece (sender_text (dn + 1) s) c.datanodes.page c.datanodes.writer c.put_sender.new.page c.put_sender.new.writer) sender c.put_sender.ensures in (
       omega (arith, c.datanodes-test.true),
       one_more (lines x datanodes) (sender_text (dn + 1) (sender_seen x (dn + 1))) (lines x (range_with_len (dn + 1 + 1) (256 - (dn + 1)))) c.args.page.now c.datanodes.page c.put_sender.new.page
           c.args.writer.now c.datanodes.writer c.put_sender.new.writer

@@ -1,5 +1,5 @@
 use Rattle.std.proofs.Common.{◌≡◌, subst}
-use Rattle.nn_device.specs.Page.{Puts}
+use Rattle.nn_device.specs.Page.{PutsPiece}
 use Rattle.nn_device.proofs.Pages.{puts_both}
 use Rattle.nn_replicas.specs.SafeMode.{counts_of}
 use Rattle.nn_listing.specs.Counted.{counts_told, sender_seen, summary_seen}
@@ -28,13 +28,13 @@ returns-clause-seen g c =
       counts = counts_told (files i) (directories i) (c.figures.ensures i);
       mode = c.safe_mode.ensures i;
     } in
-    let put : Puts (summary_text told) c.args.page.now c.args.writer.now c.put_counts.new.page c.put_counts.new.writer =
-    subst (λ text. Puts text c.args.page.now c.args.writer.now c.put_counts.new.page c.put_counts.new.writer) (summary_lines told)
+    let put : PutsPiece (summary_text told) c.args.page.now c.args.writer.now c.put_counts.new.page c.put_counts.new.writer =
+    subst (λ text. PutsPiece text c.args.page.now c.args.writer.now c.put_counts.new.page c.put_counts.new.writer) (summary_lines told)
     (puts_both _ _ _ _ _ _ _ _ c.put_count.ensures (puts_both _ _ _ _ _ _ _ _ c.put_count-2.ensures (puts_both _ _ _ _ _ _ _ _ c.put_senders.ensures
     (puts_both _ _ _ _ _ _ _ _ c.put_figures.ensures c.put_counts.ensures)))) in
-    subst (λ s. Puts (summary_text s) c.args.page.now c.args.writer.now c.put_counts.new.page c.put_counts.new.writer) same put
+    subst (λ s. PutsPiece (summary_text s) c.args.page.now c.args.writer.now c.put_counts.new.page c.put_counts.new.writer) same put
 
 pub returns-clause-said : goal.returns-clause-said
 returns-clause-said g c lanes said =
-    subst (λ s. Puts (summary_text s) c.args.page.now c.args.writer.now c.put_counts.new.page c.put_counts.new.writer) (summary_is c.args.shadow.now lanes c.consistent.ensures said)
+    subst (λ s. PutsPiece (summary_text s) c.args.page.now c.args.writer.now c.put_counts.new.page c.put_counts.new.writer) (summary_is c.args.shadow.now lanes c.recall_invariant.ensures said)
     (returns-clause-seen g c)

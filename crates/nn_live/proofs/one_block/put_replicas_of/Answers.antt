@@ -1,7 +1,7 @@
 use Rattle.std.proofs.Common.{List, ℕ, Option, subst, ap, ◌∙◌}
 use Rattle.std.specs.Prelude.{flat_map}
 use Rattle.nn_types.specs.declared.block.Block.{Block}
-use Rattle.nn_device.specs.Page.{Puts}
+use Rattle.nn_device.specs.Page.{PutsPiece}
 use Rattle.nn_device.proofs.Pages.{puts_nothing}
 use Rattle.nn_replicas.specs.Calls.{replica_at}
 use Rattle.nn_listing.specs.Tables.{datanodes, lines_of_block, replica_text}
@@ -13,10 +13,10 @@ returns-in-Some g c =
     let t = c.args.table.now in
     let text : Option Block → List ℕ = λ o. flat_map (λ dn. replica_text c.args.id o dn (replica_at t dn c.args.id)) datanodes in
     let is = ap (lines_of_block c.args.id c.in-Some.row.block) c.replicas_of.ensures.all ∙ of_held_block c.args.namespace.now t c.args.id c.in-Some.row.block c.requires ∙ ap text c.in-Some.ensures.block in
-    subst (λ l. Puts l c.args.page.now c.args.writer.now c.put_block_replicas.new.page c.put_block_replicas.new.writer) is c.put_block_replicas.ensures
+    subst (λ l. PutsPiece l c.args.page.now c.args.writer.now c.put_block_replicas.new.page c.put_block_replicas.new.writer) is c.put_block_replicas.ensures
 
 pub returns-in_default : goal.returns-in_default
 returns-in_default g c =
     let t = c.args.table.now in
     let text : Option Block → List ℕ = λ o. flat_map (λ dn. replica_text c.args.id o dn (replica_at t dn c.args.id)) datanodes in
-    subst (λ l. Puts l c.args.page.now c.args.writer.now c.args.page.now c.args.writer.now) (of_no_block t c.args.id ∙ ap text c.in_default.ensures.block) (puts_nothing c.args.page.now c.args.writer.now)
+    subst (λ l. PutsPiece l c.args.page.now c.args.writer.now c.args.page.now c.args.writer.now) (of_no_block t c.args.id ∙ ap text c.in_default.ensures.block) (puts_nothing c.args.page.now c.args.writer.now)

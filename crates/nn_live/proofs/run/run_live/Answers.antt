@@ -1,23 +1,23 @@
 use Rattle.std.proofs.Common.{◌++◌, [], Some, None, refl, subst, arith, inl, inr}
 use Rattle.std.proofs.lemmas.Result.{IfOk-weaker, IfErr-weaker}
 use Rattle.nn_live.specs.Running.{IsEnd, halt_text, serving_by}
-use Rattle.nn_live.proofs.Serves.{end_output, halt_output, lost_front, nothing_left}
+use Rattle.nn_live.proofs.Serves.{end_output, halt_output, lost_prefix, nothing_left}
 use Rattle.nn_live.proofs.run.run_live.Goals as goal
 
 pub serve-requires : goal.serve-requires
 serve-requires g c = nothing_left c.new-page.result c.args.writer.now (c.new-page.ensures c.args.writer.now)
 
-pub returns-in-Ok-None-clause-front : goal.returns-in-Ok-None-clause-front
-returns-in-Ok-None-clause-front g c =
+pub returns-in-Ok-None-clause-prefix : goal.returns-in-Ok-None-clause-prefix
+returns-in-Ok-None-clause-prefix g c =
     let w = c.args.writer.now in
     let run = serving_by c.args.options.now c.args.input.now c.serve.new.input in
     let end = c.in-Ok-None.ensures.ended in
     let none : IsEnd run end.0 c.serve.new.page.lost None = subst (IsEnd run end.0 c.serve.new.page.lost) c.in-Ok-None.field-0-is end.2 in
-    let took = lost_front c.serve.new.page w c.serve.new.writer end.0 none.0 (end.1 w [] (c.new-page.ensures w)) in
+    let took = lost_prefix c.serve.new.page w c.serve.new.writer end.0 none.0 (end.1 w [] (c.new-page.ensures w)) in
     record {
       text = end.0;
       right = inr none.1;
-      front = record { took = took; told = omega (arith, c.taken-before.ensures, c.unwritten.ensures, took.counted) };
+      prefix = record { took = took; told = omega (arith, c.taken-before.ensures, c.unwritten.ensures, took.counted) };
     }
 
 pub returns-in-Ok-Some-clause-written : goal.returns-in-Ok-Some-clause-written
@@ -35,19 +35,19 @@ returns-in-Ok-Some-clause-written g c =
       ends = done_so.0;
     }) c.finish.ensures.written
 
-pub returns-in-Ok-Some-clause-front : goal.returns-in-Ok-Some-clause-front
-returns-in-Ok-Some-clause-front g c =
+pub returns-in-Ok-Some-clause-prefix : goal.returns-in-Ok-Some-clause-prefix
+returns-in-Ok-Some-clause-prefix g c =
     let w = c.args.writer.now in
     let run = serving_by c.args.options.now c.args.input.now c.serve.new.input in
     let end = c.in-Ok-Some.ensures.ended in
     let status = c.in-Ok-Some.status in
     let some : IsEnd run end.0 c.serve.new.page.lost (Some status) = subst (IsEnd run end.0 c.serve.new.page.lost) c.in-Ok-Some.field-0-is end.2 in
     let put = end.1 w [] (c.new-page.ensures w) in
-    IfErr-weaker c.finish.result _ _ (λ fault front. record {
+    IfErr-weaker c.finish.result _ _ (λ fault prefix. record {
       text = end.0;
       right = inl (record { text = end.0; status = status }, end_output run end.0 status some, refl);
-      front = front w end.0 put c.taken-before.ensures;
-    }) c.finish.ensures.front
+      prefix = prefix w end.0 put c.taken-before.ensures;
+    }) c.finish.ensures.prefix
 
 pub returns-in-Err-clause-written : goal.returns-in-Err-clause-written
 returns-in-Err-clause-written g c =
@@ -64,16 +64,16 @@ returns-in-Err-clause-written g c =
       ends = done_so.0;
     }) c.finish-in-Err.ensures.written
 
-pub returns-in-Err-clause-front : goal.returns-in-Err-clause-front
-returns-in-Err-clause-front g c =
+pub returns-in-Err-clause-prefix : goal.returns-in-Err-clause-prefix
+returns-in-Err-clause-prefix g c =
     let w = c.args.writer.now in
     let run = serving_by c.args.options.now c.args.input.now c.serve.new.input in
     let why = c.in-Err.halt in
     let halted = c.in-Err.ensures.halted in
     let text = halted.0 ++ halt_text why in
     let put = c.put.ensures w halted.0 (halted.1 w [] (c.new-page.ensures w)) in
-    IfErr-weaker c.finish-in-Err.result _ _ (λ fault front. record {
+    IfErr-weaker c.finish-in-Err.result _ _ (λ fault prefix. record {
       text = text;
       right = inl (record { text = text; status = 1 }, halt_output run halted.0 why halted.2, refl);
-      front = front w text put c.taken-before.ensures;
-    }) c.finish-in-Err.ensures.front
+      prefix = prefix w text put c.taken-before.ensures;
+    }) c.finish-in-Err.ensures.prefix

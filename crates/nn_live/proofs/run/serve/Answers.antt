@@ -1,9 +1,9 @@
 use Rattle.std.proofs.Common.{◌≡◌, ◌<◌, ◌++◌, ◌∙◌, [], length, take, drop, sym, ap, subst, append-nil}
-use Rattle.nn_device.specs.Page.{Puts}
+use Rattle.nn_device.specs.Page.{PutsPiece}
 use Rattle.std.proofs.Math.Seq.{take-append_seam}
 use Rattle.nn_device.proofs.Pages.{puts_both, puts_nothing}
 use Rattle.nn_live.specs.Running.{IsHalt, IsOfLines, IsStage}
-use Rattle.nn_live.specs.declared.run.Halt.TheVariants as halt
+use Rattle.nn_live.specs.declared.run.EndFault.TheVariants as halt
 use Rattle.nn_live.proofs.Running.{at_err, at_same}
 use Rattle.nn_live.proofs.Serves.{given_all, given_more, given_still, lines_reader, nothing_served, stage_told}
 use Rattle.nn_live.proofs.run.serve.Goals as goal
@@ -141,7 +141,7 @@ reads-preserved g c =
       bytes,
       told,
       now,
-      subst (λ t. Puts t c.args.page.now c.args.writer.now c.flush.new.self c.flush.new.writer) (append-nil told)
+      subst (λ t. PutsPiece t c.args.page.now c.args.writer.now c.flush.new.self c.flush.new.writer) (append-nil told)
           (puts_both told [] _ _ _ _ _ _ (puts_both was.1 more.0 _ _ _ _ _ _ was.3 more.1) c.flush.ensures.same),
       there,
       c.flush.ensures.none,

@@ -1,12 +1,12 @@
 use Rattle.std.proofs.Common.{◌≡◌, ◌<◌, ◌-◌, ◌^◌, ℕ, List, [], length}
-use Rattle.nn_device.specs.Page.{Puts}
-use Rattle.nn_live.specs.Running.{Gave, IsStage}
+use Rattle.nn_device.specs.Page.{PutsPiece}
+use Rattle.nn_live.specs.Running.{GaveBytes, IsStage}
 use Rattle.nn_live.proofs.run.serve.Given as goal
 
 -- the reader gave some bytes, what their lines say was told, and nothing of that waits to be written
 abbrev pub invariant-reads : goal.invariant-reads
 invariant-reads g l =
-    (bytes : List ℕ) × (told : List ℕ) × Gave l.fn.input l.input bytes × Puts told l.fn.page l.fn.writer l.page l.writer × IsStage l.options bytes told l.stage
+    (bytes : List ℕ) × (told : List ℕ) × GaveBytes l.fn.input l.input bytes × PutsPiece told l.fn.page l.fn.writer l.page l.writer × IsStage l.options bytes told l.stage
     × (l.page.left ≡ []) × (0 < length l.buffer.items) × (l.input.failed ≡ l.fn.input.failed)
 
 abbrev pub decreases-reads : goal.decreases-reads

@@ -9,7 +9,7 @@ use Rattle.nn_plain.proofs.Turns.{item_read, items_over}
 use Rattle.nn_plain.proofs.blocks.plain_items.Goals as goal
 
 pub items-init : goal.items-init
-items-init c = record { rest = (length c.args.tokens.now, omega arith, λ ds r e. (ds, e, subst (λ front. GoesOn ds front ds) (sym c.new-blocks.ensures) (λ bs all. all))); left = omega arith }
+items-init c = record { rest = (length c.args.tokens.now, omega arith, λ ds r e. (ds, e, subst (λ prefix. GoesOn ds prefix ds) (sym c.new-blocks.ensures) (λ bs all. all))); left = omega arith }
 
 pub items-preserved : goal.items-preserved
 items-preserved c =
@@ -30,7 +30,7 @@ items-preserved c =
         omega (arith, rest.1, less),
         λ ds after e.
             let all = rest.2 (item d ds) after (turn ∙ ap (parse_map (item d)) e) in
-            (all.0, all.1, subst (λ front. GoesOn all.0 front ds) (sym c.in-Ok.ensures.ok) (item_more all.0 c.items.blocks d ds b done.ok.2 all.2)),
+            (all.0, all.1, subst (λ prefix. GoesOn all.0 prefix ds) (sym c.in-Ok.ensures.ok) (item_more all.0 c.items.blocks d ds b done.ok.2 all.2)),
       );
       left = omega (arith, c.items.invariant.left, less);
     }

@@ -1,7 +1,7 @@
 use Rattle.std.proofs.Common.{◌≡◌, ◌-◌, ◌<◌, length, Some, None, ap, ◌∙◌, arith}
 use Rattle.json.specs.Json.{parse_map, after_end_array, value}
 use Rattle.serde_json.specs.Data.{no_items}
-use Rattle.nn_plain.specs.Ahead.{items_at, with_item}
+use Rattle.nn_plain.specs.Ahead.{items_at, with_last_item}
 use Rattle.nn_plain.proofs.ItemLists.{item_done, none_done, onto, onto_none}
 use Rattle.nn_plain.proofs.Turns.{item_read, item_refused, items_over}
 use Rattle.nn_plain.proofs.object.read_items.Goals as goal
@@ -31,7 +31,7 @@ items-preserved g c =
     record {
       rest = (
         rest.0 - 1,
-        with_item rest.1 d,
+        with_last_item rest.1 d,
         omega (arith, rest.2, less),
         rest.3 ∙ ap (parse_map (onto rest.1)) turn ∙ item_done rest.1 d (items_at c.args.depth (rest.0 - 1) r),
         done.ok.2 rest.1 rest.4,

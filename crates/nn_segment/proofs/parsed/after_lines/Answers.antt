@@ -3,7 +3,7 @@ use Rattle.std.specs.Prelude.{string_bytes}
 use Rattle.nn_segment.specs.declared.fault.SegmentFault.TheVariants.{NoEnd, NameMismatch}
 use Rattle.nn_segment.specs.Lines.{reads_of}
 use Rattle.nn_segment.specs.Segment.{ends_once}
-use Rattle.nn_segment.specs.Reading.{lines_fault, is_named, fault_of_line, read_segment}
+use Rattle.nn_segment.specs.Reading.{lines_fault, names_txids, fault_of_line, read_segment}
 use Rattle.nn_segment.specs.Outcome.{StopsAt}
 use Rattle.nn_segment.proofs.ReadingLemmas.{by_lines, refused, accepted, order_refuses, bad_refuses, end_refuses, name_refuses, none_refuses}
 use Rattle.nn_segment.proofs.SegmentLemmas.{read_is_segment}
@@ -50,7 +50,7 @@ returns-then-not-is_named c =
     let order = ap (λ ts. lines_fault (map Ok ts)) (sym c.deref.ensures.value) ∙ sym c.in_default.ensures in
     let stops = subst (λ b. StopsAt (reads_of bytes) txs b) c.in_default-bad.is c.requires.read in
     let ends = ap (λ ts. ends_once (drop 1 ts)) (sym c.deref-2.ensures.value) ∙ ap ends_once (sym c.later.ensures) ∙ sym c.ends_once.ensures ∙ c.if-not-ends_once.false in
-    let named = ap (is_named (Some c.args.txids)) (sym c.deref-3.ensures.value) ∙ sym c.is_named.ensures ∙ c.if-not-is_named.true in
+    let named = ap (names_txids (Some c.args.txids)) (sym c.deref-3.ensures.value) ∙ sym c.is_named.ensures ∙ c.if-not-is_named.true in
     inl (sym (refused name bytes NameMismatch (by_lines name bytes c.args.txids c.requires.named c.requires.bytes ∙ name_refuses c.args.txids (reads_of bytes) txs stops order ends named)))
 
 read : (c : goal.Else-not-is_named) → read_segment (string_bytes c.args.name) c.args.bytes.items ≡ Ok (record { name = string_bytes c.args.name; bytes = c.args.bytes.items; txs = c.args.txs.items })
@@ -61,7 +61,7 @@ read c =
     let order = ap (λ ts. lines_fault (map Ok ts)) (sym c.deref.ensures.value) ∙ sym c.in_default.ensures in
     let stops = subst (λ b. StopsAt (reads_of bytes) txs b) c.in_default-bad.is c.requires.read in
     let ends = ap (λ ts. ends_once (drop 1 ts)) (sym c.deref-2.ensures.value) ∙ ap ends_once (sym c.later.ensures) ∙ sym c.ends_once.ensures ∙ c.if-not-ends_once.false in
-    let named = ap (is_named (Some c.args.txids)) (sym c.deref-3.ensures.value) ∙ sym c.is_named.ensures ∙ c.if-not-is_named.false in
+    let named = ap (names_txids (Some c.args.txids)) (sym c.deref-3.ensures.value) ∙ sym c.is_named.ensures ∙ c.if-not-is_named.false in
     accepted name bytes txs (by_lines name bytes c.args.txids c.requires.named c.requires.bytes ∙ none_refuses c.args.txids (reads_of bytes) txs stops order ends named) stops
 
 pub invariant_of-result : goal.invariant_of-result

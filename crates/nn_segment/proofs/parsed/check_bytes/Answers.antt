@@ -13,10 +13,10 @@ pub returns-then-bytes-ne10 : goal.returns-then-bytes-ne10
 returns-then-bytes-ne10 c =
     let bytes = c.args.bytes.now in
     let torn = ended_last bytes (some_bytes bytes c.is_empty.result c.is_empty.ensures c.if-is_empty.false) ∙ ne_eqb _ _ c.if-bytes-ne10.true in
-    bytes_torn bytes c.if-bytes-gt-MAX_BYTES.false (sym c.is_empty.ensures ∙ c.if-is_empty.false) torn ∙ ap Some (sym c.torn_line.ensures)
+    bytes_torn bytes c.if-bytes-gt-MAX_INPUT.false (sym c.is_empty.ensures ∙ c.if-is_empty.false) torn ∙ ap Some (sym c.torn_line.ensures)
 
 pub returns : goal.returns
 returns c =
     let bytes = c.args.bytes.now in
     let ended = ended_last bytes (some_bytes bytes c.is_empty.result c.is_empty.ensures c.if-is_empty.false) ∙ eq-eqb _ _ c.if-bytes-ne10.false in
-    bytes_good bytes c.if-bytes-gt-MAX_BYTES.false (sym c.is_empty.ensures ∙ c.if-is_empty.false) ended
+    bytes_good bytes c.if-bytes-gt-MAX_INPUT.false (sym c.is_empty.ensures ∙ c.if-is_empty.false) ended

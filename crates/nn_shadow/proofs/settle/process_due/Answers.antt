@@ -1,6 +1,6 @@
 use Rattle.std.proofs.Common.{◌≡◌, true, ◌+◌, ◌∷◌, [], ◌++◌, map, length, drop, sym, ap, subst, ◌∙◌, append_assoc, arith}
 use Rattle.nn_types.specs.declared.event.Cause.TheVariants.{Due}
-use Rattle.nn_model.specs.WellFormed.{Has}
+use Rattle.nn_model.specs.WellFormed.{Includes}
 use Rattle.nn_model.specs.History.{processed}
 use Rattle.nn_replicas.specs.Calls.{is_placed}
 use Rattle.nn_shadow.specs.Steps.{messages_taken, not_held}
@@ -10,13 +10,13 @@ use Rattle.nn_shadow.proofs.settle.process_due.Goals as goal
 
 pub process-requires : goal.process-requires
 process-requires c = c.loop-item.invariant.placed c.item-item.result
-    (subst (Has c.args.items.now) (sym c.item-item.is) (has_at c.args.items.now c.loop-item.item-index c.item-item.result c.loop-item-test.true))
+    (subst (Includes c.args.items.now) (sym c.item-item.is) (has_at c.args.items.now c.loop-item.item-index c.item-item.result c.loop-item-test.true))
 
 pub loop-item-preserved : goal.loop-item-preserved
 loop-item-preserved c =
     let x = c.item-item.result in
     let here : is_placed c.loop-item.table x.dn x.block ≡ true = c.loop-item.invariant.placed x
-    (subst (Has c.args.items.now) (sym c.item-item.is) (has_at c.args.items.now c.loop-item.item-index x c.loop-item-test.true)) in
+    (subst (Includes c.args.items.now) (sym c.item-item.is) (has_at c.args.items.now c.loop-item.item-index x c.loop-item-test.true)) in
     let takes : not_held c.args.held.now (drop c.loop-item.item-index c.args.items.now) ≡ x ∷ not_held c.args.held.now (drop (c.loop-item.item-index + 1) c.args.items.now) =
     rest_takes c.args.held.now c.args.items.now c.loop-item.item-index x c.loop-item-test.true c.item-item.is (sym c.holds.ensures ∙ c.if-holds.false) in
     let left = not_held c.args.held.now (drop (c.loop-item.item-index + 1) c.args.items.now) in

@@ -3,7 +3,7 @@ use Rattle.std.proofs.Math.Seq.{take-length}
 use Rattle.std.proofs.lemmas.Bool.{both_ways}
 use Rattle.nn_types.specs.declared.block.Block.{Block}
 use Rattle.nn_model.specs.Blocks.{block_row}
-use Rattle.nn_model.specs.WellFormed.{Has}
+use Rattle.nn_model.specs.WellFormed.{Includes}
 use Rattle.nn_model.proofs.Members.{of_block}
 use Rattle.nn_replicas.specs.Calls.{has_entry, block_set}
 use Rattle.nn_shadow.specs.Steps.{rows_set, file_rows}
@@ -24,9 +24,9 @@ loop-block-init c = record { done = refl; entries = c.requires.entries }
 
 pub returns-in_default : goal.returns-in_default
 returns-in_default c =
-    let there = subst (Has c.as_slice-block-items.result.now) (sym c.block-item.is) (has_item c.as_slice-block-items.result.now c.loop-block.block-index c.block-item.result c.loop-block-test.true) in
+    let there = subst (Includes c.as_slice-block-items.result.now) (sym c.block-item.is) (has_item c.as_slice-block-items.result.now c.loop-block.block-index c.block-item.result c.loop-block-test.true) in
     let here = c.loop-block.invariant.entries (block_row c.args.file.now.closed c.block-item.result)
-    (of_block c.args.file.now.closed c.args.file.now.blocks c.block-item.result (subst (λ bs. Has bs c.block-item.result) c.as_slice-block-items.ensures there)) in
+    (of_block c.args.file.now.closed c.args.file.now.blocks c.block-item.result (subst (λ bs. Includes bs c.block-item.result) c.as_slice-block-items.ensures there)) in
     absurd (both_ways _ refl (c.in_default.ensures.room here))
 
 pub returns : goal.returns

@@ -1,7 +1,7 @@
 use Rattle.std.proofs.Common.{◌∷◌, [], ◌++◌, take, refl, sym, ap, subst, ◌∙◌}
 use Rattle.std.proofs.lemmas.List.{take_more}
 use Rattle.std.proofs.lemmas.Bool.{both_ways}
-use Rattle.nn_model.specs.WellFormed.{Has}
+use Rattle.nn_model.specs.WellFormed.{Includes}
 use Rattle.nn_replicas.specs.Calls.{has_entry, block_set}
 use Rattle.nn_shadow.specs.Steps.{rows_set}
 use Rattle.nn_shadow.proofs.Filling.{set_more, entry_stays, has_item}
@@ -21,5 +21,5 @@ loop-row-preserved c = record {
 pub returns-in_default : goal.returns-in_default
 returns-in_default c =
     let here = c.loop-row.invariant.entries c.row-item.result
-    (subst (Has c.args.rows.now) (sym c.row-item.is) (has_item c.args.rows.now c.loop-row.row-index c.row-item.result c.loop-row-test.true)) in
+    (subst (Includes c.args.rows.now) (sym c.row-item.is) (has_item c.args.rows.now c.loop-row.row-index c.row-item.result c.loop-row-test.true)) in
     absurd (both_ways _ refl (c.in_default.ensures.room here))

@@ -14,7 +14,7 @@ use Rattle.nn_shadow.proofs.ItemsTaken.{all_have_room, on_err}
 use Rattle.nn_shadow.proofs.Rest.{parts_length}
 use Rattle.std.specs.Prelude.{take}
 use Rattle.std.proofs.Math.Seq.{take-length}
-use Rattle.nn_replicas.specs.Table.{Table}
+use Rattle.nn_replicas.specs.Table.{Replicas}
 use Rattle.nn_shadow.proofs.taking.process_or_hold_all.Goals as goal
 
 module _ (n : Namespace) (was items : List Message) where
@@ -68,7 +68,7 @@ returns-clause-handed c =
     λ j. record { processed = count j; held = (c.len-2.ensures ∙ c.in_ok-waiting.waiting.ok.0 ∙ ap length c.in_ok-waiting.ensures) j }
 
 -- out of memory, all have their room
-all_of : (t new : Table) (items : List Message) → new ≡ all_placed t items → (count : ℕ) × (new ≡ all_placed t (take count items))
+all_of : (t new : Replicas) (items : List Message) → new ≡ all_placed t items → (count : ℕ) × (new ≡ all_placed t (take count items))
 all_of t new items is = (length items, is ∙ ap (all_placed t) (sym (take-length items)))
 
 pub returns-in_err-waiting-clause-placed : goal.returns-in_err-waiting-clause-placed

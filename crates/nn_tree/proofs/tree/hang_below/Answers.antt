@@ -10,4 +10,4 @@ pub returns-clause-order : goal.returns-clause-order
 returns-clause-order c = order_hung c.args.children c.replace_first-next.new.self c.replace_first-next.result _ c.replace_first-next.ensures.value c.replace_first-next.ensures.ordered c.requires.children (sorted_whole c.args.rest c.requires.rest)
 
 pub invariant_of-own : goal.invariant_of-own
-invariant_of-own c = (c.in_order.ensures, sorted_whole c.args.rest c.requires.rest)
+invariant_of-own c = (c.recall_invariant.ensures, sorted_whole c.args.rest c.requires.rest)

@@ -1,12 +1,12 @@
 use Rattle.std.proofs.Common.{rules, refl}
 use borrow.Author.Tests.{tests}
-use Rattle.nn_types.specs.Fault.{name_of}
+use Rattle.nn_types.specs.Fault.{fault_name}
 use Rattle.nn_types.proofs.fault.of_input.Goals as goal
 
 pub returns-in-29 : goal.returns-in-29
-unfolding name_of
+unfolding fault_name
 returns-in-29 c = rw c.in-29.is refl
 
 pub returns-in_default : goal.returns-in_default
-unfolding name_of
+unfolding fault_name
 returns-in_default c = search (tests, rules)

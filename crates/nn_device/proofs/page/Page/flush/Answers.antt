@@ -1,5 +1,5 @@
 use Rattle.std.proofs.Common.{◌≡◌, false, sym, ap, ◌∙◌, subst}
-use Rattle.nn_device.specs.Parts.{TookFront}
+use Rattle.nn_device.specs.Parts.{TookPrefix}
 use Rattle.nn_device.proofs.Pages.{part_lost}
 use Rattle.nn_device.proofs.page.Page.flush.Goals as goal
 
@@ -10,4 +10,4 @@ returns-in-Err-clause-same g c =
     let well : p.lost ≡ false = ap (λ p. p.lost) (sym c.self.view_is) ∙ c.if-self.false in
     let is : p.left ≡ left = ap (λ p. p.left) (sym c.self.view_is) ∙ sym c.deref.ensures.value in
     part_lost p left c.args.writer.now c.write_part-written.new.self well is
-    (subst (TookFront c.args.writer.now c.write_part-written.new.self left) c.in-Err.ensures.cause c.in-Err.ensures.front)
+    (subst (TookPrefix c.args.writer.now c.write_part-written.new.self left) c.in-Err.ensures.cause c.in-Err.ensures.prefix)

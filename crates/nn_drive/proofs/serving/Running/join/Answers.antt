@@ -8,9 +8,9 @@ returns g c =
     record {
       worked = w;
       reported = c.join-source.ensures;
-      front = m.front;
+      prefix = m.prefix;
       counts = m.closed own.1;
-      all = λ dry. all_got c.args.self.end w.reporter (m.front, m.closed, m.told) dry;
+      all = λ dry. all_got c.args.self.end w.reporter (m.prefix, m.closed, m.told) dry;
       source = refl;
       outcome = refl;
       accepted = m.counts.0;

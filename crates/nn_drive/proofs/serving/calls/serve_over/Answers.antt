@@ -1,6 +1,6 @@
 use Rattle.std.proofs.Common.{ap, ◌∙◌, false, inl, refl}
 use Rattle.nn_feed.specs.Ends.{got_by}
-use Rattle.nn_tailer.specs.Tailing.{has_begun}
+use Rattle.nn_lane_standby.specs.Tailing.{has_begun}
 use Rattle.nn_drive.specs.Feeding.{failures_of}
 use Rattle.nn_drive.specs.declared.driving.DriveFault.TheVariants as drive
 use Rattle.nn_drive.proofs.Fed.{same_then, same_asked, nothing_begun, fails_over, got_none}
@@ -28,31 +28,31 @@ returns-in-Err-clause-back g c =
 
 pub returns-in-Ok-clause-same : goal.returns-in-Ok-clause-same
 returns-in-Ok-clause-same g c =
-    let e = c.in_default.ensures.wished.went in let p = c.in-Ok.ensures.ok in
+    let e = c.in_default.ensures.requested.went in let p = c.in-Ok.ensures.ok in
     same_then c.args.end.now c.rotate.new.end c.promote.new.source (same_asked c.args.end.now c.rotate.new.end e.0 e.1) (same_asked c.rotate.new.end c.promote.new.source p.0 p.1)
 
 pub returns-in-Ok-clause-ok : goal.returns-in-Ok-clause-ok
 returns-in-Ok-clause-ok g c =
-    let e = c.in_default.ensures.wished.went in let k = c.close_intake.ensures in
-    promotes_over g.O.Operator.asks c.args.started c.args.workers c.requires.few c.args.standby.now c.args.end.now c.args.operator.now c.rotate.new.operator c.rotate.new.standby c.rotate.new.end c.in_default.ensures.wished.shown e.0 e.1 e.2 c.in_default.ensures.wished.was c.close_intake.new.self c.promote.new.standby c.promote.new.source
+    let e = c.in_default.ensures.requested.went in let k = c.close_intake.ensures in
+    promotes_over g.O.Operator.asks c.args.started c.args.workers c.requires.few c.args.standby.now c.args.end.now c.args.operator.now c.rotate.new.operator c.rotate.new.standby c.rotate.new.end c.in_default.ensures.requested.shown e.0 e.1 e.2 c.in_default.ensures.requested.was c.close_intake.new.self c.promote.new.standby c.promote.new.source
     k.ends k.closed k.rest k.carries c.in-Ok.active c.in-Ok.ensures.ok
 
 pub returns-in-Err-promote-clause-same : goal.returns-in-Err-promote-clause-same
 returns-in-Err-promote-clause-same g c =
-    let e = c.in_default.ensures.wished.went in let p = c.in-Err-promote.ensures.err in
+    let e = c.in_default.ensures.requested.went in let p = c.in-Err-promote.ensures.err in
     same_then c.args.end.now c.rotate.new.end c.promote.new.source (same_asked c.args.end.now c.rotate.new.end e.0 e.1) (same_asked c.rotate.new.end c.promote.new.source p.0 p.1)
 
 pub returns-in-Err-promote-clause-err : goal.returns-in-Err-promote-clause-err
 returns-in-Err-promote-clause-err g c =
-    let e = c.in_default.ensures.wished.went in let k = c.close_intake.ensures in
-    fails_closed g.O.Operator.asks c.args.started c.args.workers c.requires.few c.args.standby.now c.args.end.now c.args.operator.now c.rotate.new.operator c.rotate.new.standby c.rotate.new.end c.in_default.ensures.wished.shown e.0 e.1 e.2 c.in_default.ensures.wished.was c.close_intake.new.self c.promote.new.standby c.promote.new.source
+    let e = c.in_default.ensures.requested.went in let k = c.close_intake.ensures in
+    fails_closed g.O.Operator.asks c.args.started c.args.workers c.requires.few c.args.standby.now c.args.end.now c.args.operator.now c.rotate.new.operator c.rotate.new.standby c.rotate.new.end c.in_default.ensures.requested.shown e.0 e.1 e.2 c.in_default.ensures.requested.was c.close_intake.new.self c.promote.new.standby c.promote.new.source
     k.ends k.closed k.rest k.carries c.in-Err-promote.fault c.told_fault-in-Err-promote.result c.requires.serving e.3 c.in-Err-promote.ensures.err c.told_fault-in-Err-promote.ensures
 
 pub returns-in-Err-promote-clause-back : goal.returns-in-Err-promote-clause-back
 returns-in-Err-promote-clause-back g c =
-    let e = c.in_default.ensures.wished.went in let k = c.close_intake.ensures in
-    comes_back_closed g.O.Operator.asks c.args.started c.args.workers c.requires.few c.args.standby.now c.args.end.now c.args.operator.now c.rotate.new.operator c.rotate.new.standby c.rotate.new.end c.in_default.ensures.wished.shown e.0 e.1 e.2 c.in_default.ensures.wished.was c.close_intake.new.self c.promote.new.standby c.promote.new.source
+    let e = c.in_default.ensures.requested.went in let k = c.close_intake.ensures in
+    comes_back_closed g.O.Operator.asks c.args.started c.args.workers c.requires.few c.args.standby.now c.args.end.now c.args.operator.now c.rotate.new.operator c.rotate.new.standby c.rotate.new.end c.in_default.ensures.requested.shown e.0 e.1 e.2 c.in_default.ensures.requested.was c.close_intake.new.self c.promote.new.standby c.promote.new.source
     k.ends k.closed k.rest k.carries c.in-Err-promote.ensures.stayed
 
 pub promote-requires-clause-serving : goal.promote-requires-clause-serving
-promote-requires-clause-serving g c = ap has_begun c.close_intake.ensures.rest ∙ c.in_default.ensures.wished.went.2.begun ∙ c.requires.serving
+promote-requires-clause-serving g c = ap has_begun c.close_intake.ensures.rest ∙ c.in_default.ensures.requested.went.2.begun ∙ c.requires.serving

@@ -2,7 +2,7 @@ use Rattle.std.specs.Prelude.{vec_items, length}
 use Rattle.std.specs.List.{AllZip}
 use Rattle.std.proofs.Common.{◌≡◌, ℕ, ◌≤◌, List, arith, inr, refl, sym, ◌∙◌, subst}
 use Rattle.nn_feed.specs.Ends.{got_by}
-use Rattle.nn_lane.specs.Ends.{Taking}
+use Rattle.nn_lane.specs.Ends.{LaneEnd}
 use Rattle.nn_drive.specs.Served.{PromotesOver, ComesBack}
 use Rattle.nn_drive.specs.Serving.{IsOf}
 use Rattle.nn_drive.proofs.Fed.{not_met}
@@ -35,7 +35,7 @@ returns-then-not-end_feed-clause-err g c =
       started = c.start_all_alone-handles.ensures;
       source_back = tt;
       why = not_met g.T.SegmentSource.gives g.T.SegmentSource.failures c.args.feeding.handle.promise.0.value c.args.standby (got_by c.serve_over.new.end) c.end_feed.result c.end_feed.ensures;
-      back = inr (record { fault = refl; answers = d.answers; shown = d.shown; wished = d.wished; ended = d.ended; promoted = d.promoted; lanes = d.lanes; closed = d.closed });
+      back = inr (record { fault = refl; answers = d.answers; shown = d.shown; requested = d.requested; ended = d.ended; promoted = d.promoted; lanes = d.lanes; closed = d.closed });
     }
 
 pub pair-workers-requires-clause-own : goal.pair-workers-requires-clause-own
@@ -43,7 +43,7 @@ pair-workers-requires-clause-own g c =
     let workers = c.args.workers.items in let handles = vec_items c.start_all_alone-handles.result in
     let d = c.in-Ok.ensures.ok in
     let all : length workers ≤ length handles = omega (arith, c.in-Ok.ensures.started, c.len-count.ensures, c.len-started.ensures, c.args.workers.ok.0, c.start_all_alone-handles.result.ok.0) in
-    subst (λ (es : List Taking). AllZip IsOf es handles) (sym c.into_parts-shadow.ensures.1)
+    subst (λ (es : List LaneEnd). AllZip IsOf es handles) (sym c.into_parts-shadow.ensures.1)
     (are_of workers handles c.start_all_alone-handles.ensures.0 all c.args.standby.ends c.serve_over.new.standby.ends c.requires.lanes d.lanes d.closed)
 
 pub pair-workers-requires-clause-room : goal.pair-workers-requires-clause-room

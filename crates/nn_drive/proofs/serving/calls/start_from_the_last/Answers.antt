@@ -1,7 +1,7 @@
 use Rattle.std.specs.Prelude.{◌++◌, ◌∷◌, [], reverse, vec_items}
 use Rattle.std.specs.List.{AllZip}
 use Rattle.std.proofs.Common.{sym, ap, ◌∙◌, subst, arith, append_assoc, append-nil}
-use Rattle.nn_lane.specs.Ends.{Reporting}
+use Rattle.nn_lane.specs.Ends.{Reporter}
 use Rattle.nn_drive.specs.Driven.{IsPromised}
 use Rattle.nn_drive.proofs.Meets.{zip_push}
 use Rattle.nn_drive.proofs.Starts.{popped, others_back, one_refused}
@@ -14,14 +14,14 @@ returns-in_default-pop g c =
 
 pub returns-in_default-start_alone : goal.returns-in_default-start_alone
 returns-in_default-start_alone g c =
-    let was = c.loop-own.invariant.0 in let worker : g.row.S.Denot × Reporting = (c.in-Some.source, c.in-Some.reporter) in
+    let was = c.loop-own.invariant.0 in let worker : g.row.S.Denot × Reporter = (c.in-Some.source, c.in-Some.reporter) in
     let last = popped (vec_items c.loop-own.workers) (vec_items c.pop.new.self) worker c.in-Some.ensures.items in
     one_refused (reverse (vec_items c.args.workers.now)) was.0 (vec_items c.loop-own.handles) was.2 worker (reverse (vec_items c.pop.new.self)) (was.1 ∙ ap (λ ws. was.0 ++ ws) last)
 
 -- The worker that is started stood last, so its handle is at the next place.
 pub loop-own-preserved : goal.loop-own-preserved
 loop-own-preserved g c =
-    let was = c.loop-own.invariant.0 in let worker : g.row.S.Denot × Reporting = (c.in-Some.source, c.in-Some.reporter) in
+    let was = c.loop-own.invariant.0 in let worker : g.row.S.Denot × Reporter = (c.in-Some.source, c.in-Some.reporter) in
     let last = popped (vec_items c.loop-own.workers) (vec_items c.pop.new.self) worker c.in-Some.ensures.items in (
       (
         was.0 ++ worker ∷ [],

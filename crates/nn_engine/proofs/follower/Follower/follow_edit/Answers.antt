@@ -2,15 +2,15 @@ use Rattle.std.proofs.Common.{◌≡◌, ◌+◌, None, Some, refl, sym, ap, ◌
 use Rattle.std.specs.Prelude.{◌&&◌, nat_lt, option_map}
 use Rattle.std.proofs.option.Match.{None-if_not_some}
 use Rattle.nn_segment.specs.LogEnd.{refused, disorder}
-use Rattle.nn_engine.specs.Following.{Following, FollowsEdit, stop_of}
+use Rattle.nn_engine.specs.Following.{Follower, FollowsEdit, stop_of}
 use Rattle.nn_engine.proofs.FollowerLemmas.{edit_applied, edit_refused, gap_found, passed_over}
 use Rattle.nn_engine.proofs.follower.Follower.follow_edit.Goals as goal
 
 pub returns-then-is_gap-clause-ok : goal.returns-then-is_gap-clause-ok
 returns-then-is_gap-clause-ok c =
     let tx = c.args.tx.now in
-    let f : Following = record { standby = c.self.inside.shadow; messages = c.self.inside.messages; stop = option_map stop_of c.self.inside.stop } in
-    let g : Following = record f { stop = Some (record { cause = disorder; txid = c.last_txid-last.result + 1 }) } in
+    let f : Follower = record { standby = c.self.inside.shadow; messages = c.self.inside.messages; stop = option_map stop_of c.self.inside.stop } in
+    let g : Follower = record f { stop = Some (record { cause = disorder; txid = c.last_txid-last.result + 1 }) } in
     let none : f.stop ≡ None = ap (option_map stop_of) (None-if_not_some c.self.inside.stop (sym c.is_some.ensures ∙ c.if-is_some.false)) in
     let same : (c.args.begins && nat_lt (c.last_txid-last.result + 1) c.get-txid.result) ≡ (c.args.begins && nat_lt (f.standby.last + 1) tx.txid) =
     (λ j. c.args.begins && nat_lt (c.last_txid-last.ensures.last j + 1) (c.get-txid.ensures.value j)) in
@@ -21,7 +21,7 @@ returns-then-is_gap-clause-ok c =
 pub returns-then-txid-last-clause-ok : goal.returns-then-txid-last-clause-ok
 returns-then-txid-last-clause-ok c =
     let tx = c.args.tx.now in
-    let f : Following = record { standby = c.self.inside.shadow; messages = c.self.inside.messages; stop = option_map stop_of c.self.inside.stop } in
+    let f : Follower = record { standby = c.self.inside.shadow; messages = c.self.inside.messages; stop = option_map stop_of c.self.inside.stop } in
     let none : f.stop ≡ None = ap (option_map stop_of) (None-if_not_some c.self.inside.stop (sym c.is_some.ensures ∙ c.if-is_some.false)) in
     let same : (c.args.begins && nat_lt (c.last_txid-last.result + 1) c.get-txid.result) ≡ (c.args.begins && nat_lt (f.standby.last + 1) tx.txid) =
     (λ j. c.args.begins && nat_lt (c.last_txid-last.ensures.last j + 1) (c.get-txid.ensures.value j)) in
@@ -32,8 +32,8 @@ returns-then-txid-last-clause-ok c =
 pub returns-in-Err-clause-ok : goal.returns-in-Err-clause-ok
 returns-in-Err-clause-ok c =
     let tx = c.args.tx.now in
-    let f : Following = record { standby = c.self.inside.shadow; messages = c.self.inside.messages; stop = option_map stop_of c.self.inside.stop } in
-    let g : Following = record { standby = c.apply.new.shadow; messages = c.self.inside.messages; stop = Some (record { cause = refused c.in-Err.fault; txid = c.get-txid.result }) } in
+    let f : Follower = record { standby = c.self.inside.shadow; messages = c.self.inside.messages; stop = option_map stop_of c.self.inside.stop } in
+    let g : Follower = record { standby = c.apply.new.shadow; messages = c.self.inside.messages; stop = Some (record { cause = refused c.in-Err.fault; txid = c.get-txid.result }) } in
     let none : f.stop ≡ None = ap (option_map stop_of) (None-if_not_some c.self.inside.stop (sym c.is_some.ensures ∙ c.if-is_some.false)) in
     let same : (c.args.begins && nat_lt (c.last_txid-last.result + 1) c.get-txid.result) ≡ (c.args.begins && nat_lt (f.standby.last + 1) tx.txid) =
     (λ j. c.args.begins && nat_lt (c.last_txid-last.ensures.last j + 1) (c.get-txid.ensures.value j)) in
@@ -45,8 +45,8 @@ returns-in-Err-clause-ok c =
 pub returns-in_default-clause-ok : goal.returns-in_default-clause-ok
 returns-in_default-clause-ok c =
     let tx = c.args.tx.now in
-    let f : Following = record { standby = c.self.inside.shadow; messages = c.self.inside.messages; stop = option_map stop_of c.self.inside.stop } in
-    let g : Following = record f { standby = c.apply.new.shadow } in
+    let f : Follower = record { standby = c.self.inside.shadow; messages = c.self.inside.messages; stop = option_map stop_of c.self.inside.stop } in
+    let g : Follower = record f { standby = c.apply.new.shadow } in
     let none : f.stop ≡ None = ap (option_map stop_of) (None-if_not_some c.self.inside.stop (sym c.is_some.ensures ∙ c.if-is_some.false)) in
     let same : (c.args.begins && nat_lt (c.last_txid-last.result + 1) c.get-txid.result) ≡ (c.args.begins && nat_lt (f.standby.last + 1) tx.txid) =
     (λ j. c.args.begins && nat_lt (c.last_txid-last.ensures.last j + 1) (c.get-txid.ensures.value j)) in

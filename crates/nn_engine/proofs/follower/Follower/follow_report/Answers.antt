@@ -2,7 +2,7 @@ use Rattle.std.proofs.Common.{◌≡◌, ◌≤◌, ◌+◌, None, sym, ap, ◌�
 use Rattle.std.specs.Prelude.{option_map}
 use Rattle.std.proofs.option.Match.{None-if_not_some}
 use Rattle.nn_model.specs.Stands.{StandbyState}
-use Rattle.nn_engine.specs.Following.{Following, FollowsReport, stop_of}
+use Rattle.nn_engine.specs.Following.{Follower, FollowsReport, stop_of}
 use Rattle.nn_engine.proofs.FollowerLemmas.{numbers_grow, report_followed}
 use Rattle.nn_engine.proofs.follower.Follower.follow_report.Goals as goal
 
@@ -23,8 +23,8 @@ pub returns-clause-ok : goal.returns-clause-ok
 returns-clause-ok c =
     let r = c.args.report.now in
     let stop = option_map stop_of c.self.inside.stop in
-    let f : Following = record { standby = c.self.inside.shadow; messages = c.self.inside.messages; stop = stop } in
-    let g : Following = record { standby = c.hand.new.shadow; messages = c.self.inside.messages + 1; stop = stop } in
+    let f : Follower = record { standby = c.self.inside.shadow; messages = c.self.inside.messages; stop = stop } in
+    let g : Follower = record { standby = c.hand.new.shadow; messages = c.self.inside.messages + 1; stop = stop } in
     let none : stop ≡ None = ap (option_map stop_of) (None-if_not_some c.self.inside.stop (sym c.is_some.ensures ∙ c.if-is_some.false)) in
     subst (λ x. FollowsReport r x g) c.self.view_is
     (report_followed r (c.last_number.result + 1) f g none none (ap (λ n. n + 1) c.last_number.ensures) c.hand.ensures.same c.in_ok-hand.ensures.stands c.in_ok-hand.ensures.turn c.hand.ensures.settings)

@@ -1,5 +1,5 @@
 use Rattle.std.proofs.Common.{◌<◌, ◌++◌, inr, length, drop, subst, ap, arith, length-drop}
-use Rattle.nn_scenario.specs.Scenario.{max_input}
+use Rattle.nn_types.specs.Limits.{max_input}
 use Rattle.nn_engine.specs.Start.{scenario_in}
 use Rattle.nn_engine.proofs.PassLemmas.{passed_long}
 use Rattle.nn_engine.proofs.pass.PassByteSink.push.Goals as goal

@@ -22,5 +22,5 @@ returns-clause-loaded c =
 pub returns-clause-again : goal.returns-clause-again
 returns-clause-again c =
     let b = c.args.self in
-    reads_back b.namespace b.txid c.well_formed-2.ensures.well_formed c.well_formed-2.ensures.utf8 c.requires.paths
-    (rows_counted b.namespace b.number c.requires.loading.at (c.requires.counted (not-false _ c.if-not-self.false))) c.get.ensures.limit
+    reads_back b.namespace b.txid c.recall_invariant.ensures.well_formed c.recall_invariant.ensures.utf8 c.requires.paths
+    (rows_counted b.namespace b.number c.requires.loading.at (c.requires.counted (not-false _ c.if-not-self.false))) c.get-recalled.ensures.limit

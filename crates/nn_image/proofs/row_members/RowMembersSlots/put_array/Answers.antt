@@ -6,7 +6,7 @@ use Rattle.nn_image.proofs.RowReads.{key_put, no_key_put, blocks_read}
 use Rattle.nn_image.proofs.row_members.RowMembersSlots.put_array.Goals as goal
 
 pub returns-in-Some-Blocks : goal.returns-in-Some-Blocks
-returns-in-Some-Blocks c = λ ms ds spelled old. rw (blocks_read ds c.args.blocks spelled c.lawful.ensures) at (key_put c.args.key.now (array ds) ms key.Blocks _ (grind arith) old)
+returns-in-Some-Blocks c = λ ms ds spelled old. rw (blocks_read ds c.args.blocks spelled c.recall_invariant.ensures) at (key_put c.args.key.now (array ds) ms key.Blocks _ (grind arith) old)
 
 pub returns-in-Some : goal.returns-in-Some
 returns-in-Some c = λ ms ds spelled old.

@@ -16,6 +16,6 @@ invariant_of-result c =
     let count : c.saturating_sub.result ≡ length (unsafe_in x.table.min (replica_at x.table) x.namespace.rows) =
     c.saturating_sub.ensures ∙ unsafe_count x.permille x.table.min x.namespace (replica_at x.table) (counts_of c.safe_mode-total.result) c.safe_mode-total.ensures in (
       room,
-      (x.namespace, subst (Shows x.namespace) (sym c.replicas.ensures) c.consistent.ensures.shows),
+      (x.namespace, subst (Shows x.namespace) (sym c.replicas.ensures) c.recall_invariant.ensures.shows),
       count ∙ (λ j. length (unsafe_in (sym c.replicas.ensures j).min (replica_at (sym c.replicas.ensures j)) (sym rows j))),
     )

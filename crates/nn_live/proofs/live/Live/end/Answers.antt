@@ -1,8 +1,8 @@
 use Rattle.std.proofs.Common.{subst, sym, ◌∙◌}
 use Rattle.std.proofs.lemmas.Result.{IfOk-weaker, IfErr-weaker}
 use Rattle.nn_live.specs.Live.{ends, takes_torn}
-use Rattle.nn_live.specs.Serving.{Breaks, Makes, RunsOutBehind}
-use Rattle.nn_live.specs.Taking.{BreaksEnd, Taking, Finishes, RunsOutAtEnd}
+use Rattle.nn_live.specs.Serving.{Breaks, FollowsStep, RunsOutBehind}
+use Rattle.nn_live.specs.Taking.{BreaksEnd, Live, EndsInput, RunsOutAtEnd}
 use Rattle.nn_live.proofs.Cutting.{finishes, is_long, is_whole}
 use Rattle.nn_live.proofs.live.Live.end.Goals as goal
 
@@ -12,24 +12,24 @@ returns-then-is_too_long-clause-ok g c =
     IfOk-weaker c.end_long.result _ _ (λ _ step. (
       step.0,
       step.1,
-      subst (λ (x : Taking). Finishes x (record { service = c.end_long.new.self; torn = old.torn }) step.0) c.self.view_is
+      subst (λ (x : Live). EndsInput x (record { service = c.end_long.new.self; torn = old.torn }) step.0) c.self.view_is
           (finishes old.service c.end_long.new.self old.torn old.torn step.0 (λ torn there. step.2 torn (is_long torn old.torn c.is_blank.result there (sym c.if-is_too_long.ensures) c.is_blank.ensures))),
     )) c.end_long.ensures.ok
 
 pub returns-then-is_too_long-clause-exhausted : goal.returns-then-is_too_long-clause-exhausted
 returns-then-is_too_long-clause-exhausted g c is =
     let old = c.self.inside in
-    subst (λ (x : Taking). RunsOutAtEnd x) c.self.view_is (λ torn there. c.end_long.ensures.exhausted is torn (is_long torn old.torn c.is_blank.result there (sym c.if-is_too_long.ensures) c.is_blank.ensures))
+    subst (λ (x : Live). RunsOutAtEnd x) c.self.view_is (λ torn there. c.end_long.ensures.exhausted is torn (is_long torn old.torn c.is_blank.result there (sym c.if-is_too_long.ensures) c.is_blank.ensures))
 
-pub returns-then-is_too_long-clause-front : goal.returns-then-is_too_long-clause-front
-returns-then-is_too_long-clause-front g c =
+pub returns-then-is_too_long-clause-prefix : goal.returns-then-is_too_long-clause-prefix
+returns-then-is_too_long-clause-prefix g c =
     let old = c.self.inside in
-    IfErr-weaker c.end_long.result _ _ (λ _ front. (
-      front.0,
-      front.1,
-      subst (λ (x : Taking). BreaksEnd x front.0) c.self.view_is
-          (λ asked s torn at there. front.2 torn (is_long torn old.torn c.is_blank.result there (sym c.if-is_too_long.ensures) c.is_blank.ensures) asked s at),
-    )) c.end_long.ensures.front
+    IfErr-weaker c.end_long.result _ _ (λ _ prefix. (
+      prefix.0,
+      prefix.1,
+      subst (λ (x : Live). BreaksEnd x prefix.0) c.self.view_is
+          (λ asked s torn at there. prefix.2 torn (is_long torn old.torn c.is_blank.result there (sym c.if-is_too_long.ensures) c.is_blank.ensures) asked s at),
+    )) c.end_long.ensures.prefix
 
 pub returns-clause-ok : goal.returns-clause-ok
 returns-clause-ok g c =
@@ -37,24 +37,24 @@ returns-clause-ok g c =
     IfOk-weaker c.end.result _ _ (λ _ step. (
       step.0,
       step.1,
-      subst (λ (x : Taking). Finishes x (record { service = c.end.new.self; torn = old.torn }) step.0) c.self.view_is
+      subst (λ (x : Live). EndsInput x (record { service = c.end.new.self; torn = old.torn }) step.0) c.self.view_is
           (finishes old.service c.end.new.self old.torn old.torn step.0 (λ torn there.
-          subst (λ t. Makes (λ asked s. ends asked (takes_torn asked t s)) old.service c.end.new.self step.0) (c.as_slice-torn.ensures.kept ∙ is_whole torn old.torn there (sym c.if-is_too_long.ensures)) step.2)),
+          subst (λ t. FollowsStep (λ asked s. ends asked (takes_torn asked t s)) old.service c.end.new.self step.0) (c.as_slice-torn.ensures.kept ∙ is_whole torn old.torn there (sym c.if-is_too_long.ensures)) step.2)),
     )) c.end.ensures.ok
 
 pub returns-clause-exhausted : goal.returns-clause-exhausted
 returns-clause-exhausted g c is =
     let old = c.self.inside in
-    subst (λ (x : Taking). RunsOutAtEnd x) c.self.view_is
+    subst (λ (x : Live). RunsOutAtEnd x) c.self.view_is
     (λ torn there. subst (λ t. RunsOutBehind t old.service) (c.as_slice-torn.ensures.kept ∙ is_whole torn old.torn there (sym c.if-is_too_long.ensures)) (c.end.ensures.exhausted is))
 
-pub returns-clause-front : goal.returns-clause-front
-returns-clause-front g c =
+pub returns-clause-prefix : goal.returns-clause-prefix
+returns-clause-prefix g c =
     let old = c.self.inside in
-    IfErr-weaker c.end.result _ _ (λ _ front. (
-      front.0,
-      front.1,
-      subst (λ (x : Taking). BreaksEnd x front.0) c.self.view_is
+    IfErr-weaker c.end.result _ _ (λ _ prefix. (
+      prefix.0,
+      prefix.1,
+      subst (λ (x : Live). BreaksEnd x prefix.0) c.self.view_is
           (λ asked s torn at there.
-          subst (λ t. Breaks (λ asked s. ends asked (takes_torn asked t s)) old.service front.0) (c.as_slice-torn.ensures.kept ∙ is_whole torn old.torn there (sym c.if-is_too_long.ensures)) front.2 asked s at),
-    )) c.end.ensures.front
+          subst (λ t. Breaks (λ asked s. ends asked (takes_torn asked t s)) old.service prefix.0) (c.as_slice-torn.ensures.kept ∙ is_whole torn old.torn there (sym c.if-is_too_long.ensures)) prefix.2 asked s at),
+    )) c.end.ensures.prefix

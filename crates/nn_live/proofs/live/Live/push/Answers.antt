@@ -1,11 +1,13 @@
 use Rattle.std.proofs.Common.{◌≡◌, arith, Err, ◌++◌, ◌∷◌, [], true, ap, ◌∙◌, subst, sym, refl, append-nil}
 use Rattle.std.proofs.lemmas.Result.{IfOk-weaker}
+use Rattle.nn_bytes.specs.Lines.{line_feed}
 use Rattle.nn_device.proofs.Pages.{puts_both, puts_nothing}
-use Rattle.nn_segment.specs.Lines.{is_unbroken, newline}
-use Rattle.nn_live.specs.Taking.{Taking, Takes, Pushes}
+use Rattle.nn_segment.specs.Lines.{is_unbroken}
+use Rattle.nn_live.specs.Taking.{Live, TakesBytes, Pushes}
 use Rattle.nn_live.proofs.BrokenPushes.{rest_untaken, then_line_broke}
 use Rattle.nn_live.proofs.Places.{not_memory, on_err}
-use Rattle.nn_live.proofs.Cutting.{front_cut, none_cut, kept, none_taken, then_takes}
+use Rattle.nn_live.proofs.Cutting.{prefix_cut, none_cut, kept, none_taken, then_takes}
+use Rattle.nn_segment.proofs.LineLemmas.{unbroken_to}
 use Rattle.nn_live.proofs.live.Live.push.Goals as goal
 
 pub lines-init : goal.lines-init
@@ -17,11 +19,11 @@ returns-in_default-clause-ok g c =
     let bytes = c.args.bytes.now in
     let text = c.split_at.result.0.now in
     let old = c.args.self.now in
-    let mid : Taking = record { service = c.self.inside.service; torn = c.self.inside.torn } in
-    let new : Taking = record { service = c.self.inside.service; torn = c.push.new.self } in
+    let mid : Live = record { service = c.self.inside.service; torn = c.self.inside.torn } in
+    let new : Live = record { service = c.self.inside.service; torn = c.push.new.self } in
     let cut = none_cut c.lines.rest.now text c.split_at.result.1.now c.line_end.result c.split_at.ensures.front c.split_at.ensures.back c.in_default.ensures.cases in
-    let first : Takes bytes (text ++ []) old mid was.0 =
-    subst (λ (x : Taking). Takes bytes (text ++ []) old x was.0) (sym c.self.view_is) (subst (λ r. Takes bytes r old c.lines.self was.0) cut was.2) in
+    let first : TakesBytes bytes (text ++ []) old mid was.0 =
+    subst (λ (x : Live). TakesBytes bytes (text ++ []) old x was.0) (sym c.self.view_is) (subst (λ r. TakesBytes bytes r old c.lines.self was.0) cut was.2) in
     IfOk-weaker c.push.result _ _ (λ _ has. (
       was.0,
       was.1,
@@ -31,8 +33,8 @@ returns-in_default-clause-ok g c =
 pub returns-in_default-clause-exhausted : goal.returns-in_default-clause-exhausted
 returns-in_default-clause-exhausted g c is = absurd (not_memory _ is c.push.ensures.left)
 
-pub returns-in_default-clause-front : goal.returns-in_default-clause-front
-returns-in_default-clause-front g c =
+pub returns-in_default-clause-prefix : goal.returns-in_default-clause-prefix
+returns-in_default-clause-prefix g c =
     let was = c.lines.invariant in
     on_err _ c.push.result (was.0, was.1, rest_untaken c.args.bytes.now c.lines.rest.now was.0 c.args.self.now c.lines.self was.2)
 
@@ -50,22 +52,28 @@ lines-preserved g c =
     let text = c.split_at.result.0.now in
     let after = c.in-Some.after.now in
     let old = c.args.self.now in
-    let cut = front_cut c.lines.rest.now text c.split_at.result.1.now after c.in-Some.field-0-0.now c.line_end.result c.split_at.ensures.front c.split_at.ensures.back c.in-Some.ensures.cases.0 c.line_end.ensures.there in (
+    let cut = prefix_cut c.lines.rest.now text c.split_at.result.1.now after c.in-Some.field-0-0.now c.line_end.result c.split_at.ensures.front c.split_at.ensures.back c.in-Some.ensures.cases.0 c.line_end.ensures.there in (
       was.0 ++ line.0,
       puts_both was.0 line.0 _ _ _ _ _ _ was.1 line.1,
-      then_takes bytes (text ++ newline ∷ []) after was.0 line.0 old c.lines.self c.end_line.new.self (subst (λ r. Takes bytes r old c.lines.self was.0) cut was.2) line.2,
+      then_takes bytes (text ++ line_feed ∷ []) after was.0 line.0 old c.lines.self c.end_line.new.self (subst (λ r. TakesBytes bytes r old c.lines.self was.0) cut was.2) line.2,
     )
 
-pub returns-in_err-end_line-clause-front : goal.returns-in_err-end_line-clause-front
-returns-in_err-end_line-clause-front g c =
+pub returns-in_err-end_line-clause-prefix : goal.returns-in_err-end_line-clause-prefix
+returns-in_err-end_line-clause-prefix g c =
     let was = c.lines.invariant in
-    let front = c.in_err-end_line.ensures.front in
+    let prefix = c.in_err-end_line.ensures.prefix in
     let text = c.split_at.result.0.now in
     let after = c.in-Some.after.now in
-    let whole : is_unbroken text ≡ true = ap is_unbroken c.split_at.ensures.front ∙ c.line_end.ensures.unbroken in
-    let cut = front_cut c.lines.rest.now text c.split_at.result.1.now after c.in-Some.field-0-0.now c.line_end.result c.split_at.ensures.front c.split_at.ensures.back c.in-Some.ensures.cases.0 c.line_end.ensures.there in
+    let whole : is_unbroken text ≡ true = ap is_unbroken c.split_at.ensures.front ∙ unbroken_to _ _ c.line_end.ensures.end in
+    let cut = prefix_cut c.lines.rest.now text c.split_at.result.1.now after c.in-Some.field-0-0.now c.line_end.result c.split_at.ensures.front c.split_at.ensures.back c.in-Some.ensures.cases.0 c.line_end.ensures.there in
     on_err _ c.from_residual.result (
-      was.0 ++ front.0,
-      puts_both was.0 front.0 _ _ _ _ _ _ was.1 front.1,
-      then_line_broke c.args.bytes.now text after was.0 front.0 c.args.self.now c.lines.self whole (subst (λ r. Takes c.args.bytes.now r c.args.self.now c.lines.self was.0) cut was.2) front.2,
+      was.0 ++ prefix.0,
+      puts_both was.0 prefix.0 _ _ _ _ _ _ was.1 prefix.1,
+      then_line_broke c.args.bytes.now text after was.0 prefix.0 c.args.self.now c.lines.self whole (subst (λ r. TakesBytes c.args.bytes.now r c.args.self.now c.lines.self was.0) cut was.2) prefix.2,
     )
+
+pub push-requires : goal.push-requires
+push-requires g c = ap is_unbroken c.split_at.ensures.front ∙ unbroken_to _ _ c.line_end.ensures.end
+
+pub end_line-requires : goal.end_line-requires
+end_line-requires g c = ap is_unbroken c.split_at.ensures.front ∙ unbroken_to _ _ c.line_end.ensures.end

@@ -2,7 +2,7 @@ use Rattle.std.proofs.Common.{refl, subst}
 use Rattle.nn_engine.specs.Output.{image_fault}
 use Rattle.nn_image.specs.declared.fault.ImageFault.TheVariants.{Truncated}
 use Rattle.nn_live.specs.Running.{IsStage}
-use Rattle.nn_live.specs.declared.run.Halt.TheVariants as halt
+use Rattle.nn_live.specs.declared.run.EndFault.TheVariants as halt
 use Rattle.nn_live.specs.declared.run.Stage.{Stage}
 use Rattle.nn_live.proofs.Running.{at_err, end_broke, image_torn, service_ended}
 use Rattle.nn_live.proofs.run.Stage.end.Goals as goal
@@ -18,9 +18,9 @@ returns-in-Loading-clause-ok g c = (
 
 pub returns-in_err-end-in-Serving-clause-err : goal.returns-in_err-end-in-Serving-clause-err
 returns-in_err-end-in-Serving-clause-err g c =
-    let front = c.in_err-end-in-Serving.ensures.front in
+    let prefix = c.in_err-end-in-Serving.ensures.prefix in
     at_err c.from_residual.result _ halt.OutOfMemory c.from_residual.ensures.1
-    (refl, (front.0, front.1, λ o input told is. end_broke o input told front.0 c.in-Serving.live front.2 (subst (λ (s : Stage). IsStage o input told s) c.in-Serving.is is)))
+    (refl, (prefix.0, prefix.1, λ o input told is. end_broke o input told prefix.0 c.in-Serving.live prefix.2 (subst (λ (s : Stage). IsStage o input told s) c.in-Serving.is is)))
 
 pub returns-clause-ok : goal.returns-clause-ok
 returns-clause-ok g c =

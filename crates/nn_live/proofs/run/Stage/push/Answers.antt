@@ -1,20 +1,20 @@
 use Rattle.std.proofs.Common.{◌++◌, [], sym, subst, ap, ◌∙◌, append-nil}
 use Rattle.nn_device.proofs.Pages.{puts_nothing}
-use Rattle.nn_live.specs.Live.{begun, live_text, so_far}
+use Rattle.nn_live.specs.Live.{new_service, live_text, so_far}
 use Rattle.nn_live.specs.Opening.{OpensTo}
 use Rattle.nn_live.specs.Running.{IsServing, IsStage, asked_by}
-use Rattle.nn_live.specs.Serving.{IsAt, IsFrontOf}
-use Rattle.nn_live.specs.declared.run.Halt.TheVariants as halt
+use Rattle.nn_live.specs.Serving.{IsAtService, IsPrefixOf}
+use Rattle.nn_live.specs.declared.run.EndFault.TheVariants as halt
 use Rattle.nn_live.specs.declared.run.Stage.{Stage}
 use Rattle.nn_live.specs.declared.opening.Opened.{Opened}
-use Rattle.nn_live.proofs.Running.{at_err, at_same, image_broke, image_served, more_served, nothing_front, push_broke}
+use Rattle.nn_live.proofs.Running.{at_err, at_same, image_broke, image_served, more_served, nothing_prefix, push_broke}
 use Rattle.nn_live.proofs.run.Stage.push.Goals as goal
 
 pub returns-in_err-push-in-Loading-clause-err : goal.returns-in_err-push-in-Loading-clause-err
 returns-in_err-push-in-Loading-clause-err g c = at_err c.from_residual.result _ halt.OutOfMemory c.from_residual.ensures.1 (
   [],
   puts_nothing c.args.page.now c.args.writer.now,
-  λ before told is. nothing_front told _ (subst (λ (s : Stage). IsStage c.args.options.now before told s) c.in-Loading.is is).1,
+  λ before told is. nothing_prefix told _ (subst (λ (s : Stage). IsStage c.args.options.now before told s) c.in-Loading.is is).1,
 )
 
 pub returns-in_err-live-in-Loaded-clause-err : goal.returns-in_err-live-in-Loaded-clause-err
@@ -23,7 +23,7 @@ returns-in_err-live-in-Loaded-clause-err g c =
     at_same c.from_residual-in_err-live-in-Loaded.result _ c.in_err-live-in-Loaded.field-0.0 halt.OutOfMemory c.in_err-live-in-Loaded.ensures.memory c.from_residual-in_err-live-in-Loaded.ensures.1 (
       [],
       puts_nothing c.args.page.now c.args.writer.now,
-      λ before told is. nothing_front told (live_text (asked_by o) o.from_image (before ++ c.args.bytes.now)) (subst (λ (s : Stage). IsStage o before told s) c.in-Loading.is is).1,
+      λ before told is. nothing_prefix told (live_text (asked_by o) o.from_image (before ++ c.args.bytes.now)) (subst (λ (s : Stage). IsStage o before told s) c.in-Loading.is is).1,
     )
 
 pub returns-in_err-push-in-Loaded-clause-err : goal.returns-in_err-push-in-Loaded-clause-err
@@ -33,26 +33,26 @@ returns-in_err-push-in-Loaded-clause-err g c =
     let n = c.in-Loaded.namespace in
     let rest = c.in-Loaded.rest.now in
     let live = c.in_ok-live-in-Loaded.live in
-    let at : IsAt (asked_by o) live.service (begun n c.in-Loaded.txid) = subst (λ t. IsAt (asked_by o) live.service (begun n t)) c.get.ensures.value c.in_ok-live-in-Loaded.ensures.at in
-    let front = c.in_err-push-in-Loaded.ensures.front in
+    let at : IsAtService (asked_by o) live.service (new_service n c.in-Loaded.txid) = subst (λ t. IsAtService (asked_by o) live.service (new_service n t)) c.get.ensures.value c.in_ok-live-in-Loaded.ensures.at in
+    let prefix = c.in_err-push-in-Loaded.ensures.prefix in
     at_err c.from_residual-in_err-push-in-Loaded.result _ halt.OutOfMemory c.from_residual-in_err-push-in-Loaded.ensures.1 (
-      front.0,
-      front.1,
+      prefix.0,
+      prefix.1,
       λ before told is.
           let s = subst (λ (s : Stage). IsStage o before told s) c.in-Loading.is is in
           let opens = subst (λ (x : Opened). OpensTo (before ++ bytes) c.push.new.self x) c.in-Loaded.is (c.in_ok-push-in-Loading.ensures before s.2) in
-          subst (λ t. IsFrontOf (t ++ front.0) (live_text (asked_by o) o.from_image (before ++ bytes))) (sym s.1)
-          (image_broke o s.0 (before ++ bytes) rest n c.in-Loaded.txid (opens.1 (asked_by o)) live at c.in_ok-live-in-Loaded.ensures.torn front.0 front.2),
+          subst (λ t. IsPrefixOf (t ++ prefix.0) (live_text (asked_by o) o.from_image (before ++ bytes))) (sym s.1)
+          (image_broke o s.0 (before ++ bytes) rest n c.in-Loaded.txid (opens.1 (asked_by o)) live at c.in_ok-live-in-Loaded.ensures.torn prefix.0 prefix.2),
     )
 
 pub returns-in_err-push-in-Serving-clause-err : goal.returns-in_err-push-in-Serving-clause-err
 returns-in_err-push-in-Serving-clause-err g c =
     let o = c.args.options.now in
-    let front = c.in_err-push-in-Serving.ensures.front in
+    let prefix = c.in_err-push-in-Serving.ensures.prefix in
     at_err c.from_residual-in_err-push-in-Serving.result _ halt.OutOfMemory c.from_residual-in_err-push-in-Serving.ensures.1 (
-      front.0,
-      front.1,
-      λ before told is. push_broke o before told c.args.bytes.now front.0 c.in-Serving.live front.2 (subst (λ (s : Stage). IsStage o before told s) c.in-Serving.is is),
+      prefix.0,
+      prefix.1,
+      λ before told is. push_broke o before told c.args.bytes.now prefix.0 c.in-Serving.live prefix.2 (subst (λ (s : Stage). IsStage o before told s) c.in-Serving.is is),
     )
 
 pub returns-in-Loading-2-clause-ok : goal.returns-in-Loading-2-clause-ok
@@ -83,7 +83,7 @@ returns-in_ok-push-in-Loaded-clause-ok g c =
     let n = c.in-Loaded.namespace in
     let rest = c.in-Loaded.rest.now in
     let live = c.in_ok-live-in-Loaded.live in
-    let at : IsAt (asked_by o) live.service (begun n c.in-Loaded.txid) = subst (λ t. IsAt (asked_by o) live.service (begun n t)) c.get.ensures.value c.in_ok-live-in-Loaded.ensures.at in
+    let at : IsAtService (asked_by o) live.service (new_service n c.in-Loaded.txid) = subst (λ t. IsAtService (asked_by o) live.service (new_service n t)) c.get.ensures.value c.in_ok-live-in-Loaded.ensures.at in
     let pushed = c.in_ok-push-in-Loaded.ensures.ok in (
       pushed.0,
       pushed.1,

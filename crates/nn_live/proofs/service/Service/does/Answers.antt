@@ -1,9 +1,9 @@
 use Rattle.std.proofs.Common.{[], inl, inr, sym, subst, ap, ◌∙◌}
 use Rattle.std.specs.Prelude.{OnOk}
 use Rattle.std.proofs.lemmas.Result.{IfOk-weaker, IfErr-weaker}
-use Rattle.nn_device.specs.Page.{Puts}
-use Rattle.nn_live.specs.Live.{Asked, Service, does, empty_report, hands}
-use Rattle.nn_live.specs.Serving.{Breaks, Makes, Steps}
+use Rattle.nn_device.specs.Page.{PutsPiece}
+use Rattle.nn_live.specs.Live.{LiveSetup, ServiceState, does, empty_report, hands}
+use Rattle.nn_live.specs.Serving.{Breaks, FollowsStep, ServiceSteps}
 use Rattle.nn_live.specs.declared.word.Word.{Word}
 use Rattle.nn_live.specs.declared.word.Word.TheVariants as word
 use Rattle.nn_live.proofs.Breaking.{begin_handed, none_done, none_told, same_breaks}
@@ -13,61 +13,61 @@ use Rattle.nn_live.proofs.Places.{same_makes}
 use Rattle.nn_live.proofs.service.Service.does.Goals as goal
 
 -- what a word does
-abbrev doing : Word → Asked → Service → Service
+abbrev doing : Word → LiveSetup → ServiceState → ServiceState
 doing w asked s = does asked w s
 
 pub returns-in-Block-clause-ok : goal.returns-in-Block-clause-ok
 returns-in-Block-clause-ok g c =
-    subst (λ (w : Word). OnOk c.block.result (Steps (λ asked s. does asked w s) c.args.self.now c.args.self.now (λ text. Puts text c.args.page.now c.args.writer.now c.block.new.page c.block.new.writer))) (sym c.in-Block.is) c.block.ensures.ok
+    subst (λ (w : Word). OnOk c.block.result (ServiceSteps (λ asked s. does asked w s) c.args.self.now c.args.self.now (λ text. PutsPiece text c.args.page.now c.args.writer.now c.block.new.page c.block.new.writer))) (sym c.in-Block.is) c.block.ensures.ok
 
 pub returns-in-Path-clause-ok : goal.returns-in-Path-clause-ok
 returns-in-Path-clause-ok g c =
-    subst (λ (w : Word). OnOk c.path.result (Steps (λ asked s. does asked w s) c.args.self.now c.args.self.now (λ text. Puts text c.args.page.now c.args.writer.now c.path.new.page c.path.new.writer))) (sym c.in-Path.is) c.path.ensures.ok
+    subst (λ (w : Word). OnOk c.path.result (ServiceSteps (λ asked s. does asked w s) c.args.self.now c.args.self.now (λ text. PutsPiece text c.args.page.now c.args.writer.now c.path.new.page c.path.new.writer))) (sym c.in-Path.is) c.path.ensures.ok
 
 pub returns-in-Tables-clause-ok : goal.returns-in-Tables-clause-ok
 returns-in-Tables-clause-ok g c =
-    subst (λ (w : Word). OnOk c.tables.result (Steps (λ asked s. does asked w s) c.args.self.now c.args.self.now (λ text. Puts text c.args.page.now c.args.writer.now c.tables.new.page c.tables.new.writer))) (sym c.in-Tables.is) c.tables.ensures.ok
+    subst (λ (w : Word). OnOk c.tables.result (ServiceSteps (λ asked s. does asked w s) c.args.self.now c.args.self.now (λ text. PutsPiece text c.args.page.now c.args.writer.now c.tables.new.page c.tables.new.writer))) (sym c.in-Tables.is) c.tables.ensures.ok
 
 pub returns-in-Checkpoint-clause-ok : goal.returns-in-Checkpoint-clause-ok
 returns-in-Checkpoint-clause-ok g c =
-    subst (λ (w : Word). OnOk c.checkpoint.result (Steps (λ asked s. does asked w s) c.args.self.now c.args.self.now (λ text. Puts text c.args.page.now c.args.writer.now c.checkpoint.new.page c.checkpoint.new.writer))) (sym c.in-Checkpoint.is) c.checkpoint.ensures.ok
+    subst (λ (w : Word). OnOk c.checkpoint.result (ServiceSteps (λ asked s. does asked w s) c.args.self.now c.args.self.now (λ text. PutsPiece text c.args.page.now c.args.writer.now c.checkpoint.new.page c.checkpoint.new.writer))) (sym c.in-Checkpoint.is) c.checkpoint.ensures.ok
 
 pub returns-in-Held-clause-ok : goal.returns-in-Held-clause-ok
 returns-in-Held-clause-ok g c =
-    subst (λ (w : Word). Steps (λ asked s. does asked w s) c.args.self.now c.args.self.now (λ text. Puts text c.args.page.now c.args.writer.now c.held.new.page c.held.new.writer)) (sym c.in-Held.is) c.held.ensures
+    subst (λ (w : Word). ServiceSteps (λ asked s. does asked w s) c.args.self.now c.args.self.now (λ text. PutsPiece text c.args.page.now c.args.writer.now c.held.new.page c.held.new.writer)) (sym c.in-Held.is) c.held.ensures
 
 pub returns-in-Gone-clause-ok : goal.returns-in-Gone-clause-ok
 returns-in-Gone-clause-ok g c = IfOk-weaker c.gone.result _ _ (λ _ step. (
   step.0,
   step.1,
-  subst (λ (w : Word). Makes (λ asked s. does asked w s) c.args.self.now c.gone.new.self step.0) (sym c.in-Gone.is)
+  subst (λ (w : Word). FollowsStep (λ asked s. does asked w s) c.args.self.now c.gone.new.self step.0) (sym c.in-Gone.is)
       (same_makes (λ asked s. does asked (word.Gone c.in-Gone.dn) s) (λ asked s. hands asked (empty_report c.lane_of.result) s) c.args.self.now c.gone.new.self step.0
       (λ asked s i. (same_gone asked s c.in-Gone.dn ∙ ap (λ dn. hands asked (empty_report dn) s) (sym c.lane_of.ensures))) step.2),
 )) c.gone.ensures.ok
 
-pub returns-in-Unsafe-clause-front : goal.returns-in-Unsafe-clause-front
-returns-in-Unsafe-clause-front g c = IfErr-weaker c.unsafe_blocks.result _ _ (λ _ left. ([], left.1, none_told (doing c.args.word.now) c.args.self.now (λ asked s. does_grow asked c.args.word.now s))) c.unsafe_blocks.ensures.left
+pub returns-in-Unsafe-clause-prefix : goal.returns-in-Unsafe-clause-prefix
+returns-in-Unsafe-clause-prefix g c = IfErr-weaker c.unsafe_blocks.result _ _ (λ _ left. ([], left.1, none_told (doing c.args.word.now) c.args.self.now (λ asked s. does_grow asked c.args.word.now s))) c.unsafe_blocks.ensures.left
 
-pub returns-in-Block-clause-front : goal.returns-in-Block-clause-front
-returns-in-Block-clause-front g c = IfErr-weaker c.block.result _ _ (λ _ left. ([], left.1, none_told (doing c.args.word.now) c.args.self.now (λ asked s. does_grow asked c.args.word.now s))) c.block.ensures.left
+pub returns-in-Block-clause-prefix : goal.returns-in-Block-clause-prefix
+returns-in-Block-clause-prefix g c = IfErr-weaker c.block.result _ _ (λ _ left. ([], left.1, none_told (doing c.args.word.now) c.args.self.now (λ asked s. does_grow asked c.args.word.now s))) c.block.ensures.left
 
-pub returns-in-Path-clause-front : goal.returns-in-Path-clause-front
-returns-in-Path-clause-front g c = IfErr-weaker c.path.result _ _ (λ _ left. ([], left.1, none_told (doing c.args.word.now) c.args.self.now (λ asked s. does_grow asked c.args.word.now s))) c.path.ensures.left
+pub returns-in-Path-clause-prefix : goal.returns-in-Path-clause-prefix
+returns-in-Path-clause-prefix g c = IfErr-weaker c.path.result _ _ (λ _ left. ([], left.1, none_told (doing c.args.word.now) c.args.self.now (λ asked s. does_grow asked c.args.word.now s))) c.path.ensures.left
 
-pub returns-in-Tables-clause-front : goal.returns-in-Tables-clause-front
-returns-in-Tables-clause-front g c = IfErr-weaker c.tables.result _ _ (λ _ left. ([], left.1, none_told (doing c.args.word.now) c.args.self.now (λ asked s. does_grow asked c.args.word.now s))) c.tables.ensures.left
+pub returns-in-Tables-clause-prefix : goal.returns-in-Tables-clause-prefix
+returns-in-Tables-clause-prefix g c = IfErr-weaker c.tables.result _ _ (λ _ left. ([], left.1, none_told (doing c.args.word.now) c.args.self.now (λ asked s. does_grow asked c.args.word.now s))) c.tables.ensures.left
 
-pub returns-in-Checkpoint-clause-front : goal.returns-in-Checkpoint-clause-front
-returns-in-Checkpoint-clause-front g c = IfErr-weaker c.checkpoint.result _ _ (λ _ left. ([], left.1, none_told (doing c.args.word.now) c.args.self.now (λ asked s. does_grow asked c.args.word.now s))) c.checkpoint.ensures.left
+pub returns-in-Checkpoint-clause-prefix : goal.returns-in-Checkpoint-clause-prefix
+returns-in-Checkpoint-clause-prefix g c = IfErr-weaker c.checkpoint.result _ _ (λ _ left. ([], left.1, none_told (doing c.args.word.now) c.args.self.now (λ asked s. does_grow asked c.args.word.now s))) c.checkpoint.ensures.left
 
-pub returns-in-Promote-clause-front : goal.returns-in-Promote-clause-front
-returns-in-Promote-clause-front g c = IfErr-weaker c.promote.result _ _ (λ _ put. ([], put, none_told (doing c.args.word.now) c.args.self.now (λ asked s. does_grow asked c.args.word.now s))) c.promote.ensures.put
+pub returns-in-Promote-clause-prefix : goal.returns-in-Promote-clause-prefix
+returns-in-Promote-clause-prefix g c = IfErr-weaker c.promote.result _ _ (λ _ put. ([], put, none_told (doing c.args.word.now) c.args.self.now (λ asked s. does_grow asked c.args.word.now s))) c.promote.ensures.put
 
-pub returns-in-PromoteLosing-clause-front : goal.returns-in-PromoteLosing-clause-front
-returns-in-PromoteLosing-clause-front g c = IfErr-weaker c.promote-in-PromoteLosing.result _ _ (λ _ put. ([], put, none_told (doing c.args.word.now) c.args.self.now (λ asked s. does_grow asked c.args.word.now s))) c.promote-in-PromoteLosing.ensures.put
+pub returns-in-PromoteLosing-clause-prefix : goal.returns-in-PromoteLosing-clause-prefix
+returns-in-PromoteLosing-clause-prefix g c = IfErr-weaker c.promote-in-PromoteLosing.result _ _ (λ _ put. ([], put, none_told (doing c.args.word.now) c.args.self.now (λ asked s. does_grow asked c.args.word.now s))) c.promote-in-PromoteLosing.ensures.put
 
-pub returns-in-Gone-clause-front : goal.returns-in-Gone-clause-front
-returns-in-Gone-clause-front g c = IfErr-weaker c.gone.result _ _ (λ _ cut. elim cut [
+pub returns-in-Gone-clause-prefix : goal.returns-in-Gone-clause-prefix
+returns-in-Gone-clause-prefix g c = IfErr-weaker c.gone.result _ _ (λ _ cut. elim cut [
   | inl none ↦ (none.0, none.1, none_done (doing c.args.word.now) c.args.self.now c.gone.new.self none.0 (λ asked s. does_grow asked c.args.word.now s) none.2)
   | inr begun ↦ (
     begun.0,

@@ -33,21 +33,21 @@ returns-clause-exhausted g c = λ is. elim (c.keep_edit-2.ensures.exhausted is) 
   ]
 ]
 
-pub returns-then-not-is_start-clause-front : goal.returns-then-not-is_start-clause-front
-returns-then-not-is_start-clause-front g c = IfErr-weaker c.keep_edit.result _ _ (λ _ front.
+pub returns-then-not-is_start-clause-prefix : goal.returns-then-not-is_start-clause-prefix
+returns-then-not-is_start-clause-prefix g c = IfErr-weaker c.keep_edit.result _ _ (λ _ prefix.
     (let line : EditLine = record { text = c.args.text.now; tx = c.args.tx } in
-    (front.0, front.1, going_on_breaks line c.args.self.now front.0 (sym c.if-not-is_start.ensures) front.2))) c.keep_edit.ensures.front
+    (prefix.0, prefix.1, going_on_breaks line c.args.self.now prefix.0 (sym c.if-not-is_start.ensures) prefix.2))) c.keep_edit.ensures.prefix
 
-pub returns-in_err-end_edits-clause-front : goal.returns-in_err-end_edits-clause-front
-returns-in_err-end_edits-clause-front g c =
+pub returns-in_err-end_edits-clause-prefix : goal.returns-in_err-end_edits-clause-prefix
+returns-in_err-end_edits-clause-prefix g c =
     let line : EditLine = record { text = c.args.text.now; tx = c.args.tx } in
     on_err _ c.from_residual.result ([], c.in_err-end_edits.ensures.put, none_told (λ asked s. takes_edit asked line s) c.args.self.now (λ asked s. edit_grows asked line s))
 
-pub returns-clause-front : goal.returns-clause-front
-returns-clause-front g c = IfErr-weaker c.keep_edit-2.result _ _ (λ _ front.
+pub returns-clause-prefix : goal.returns-clause-prefix
+returns-clause-prefix g c = IfErr-weaker c.keep_edit-2.result _ _ (λ _ prefix.
     (let line : EditLine = record { text = c.args.text.now; tx = c.args.tx } in
     let first = c.in_ok-end_edits.ensures.ok in (
-      first.0 ++ front.0,
-      puts_both first.0 front.0 _ _ _ _ _ _ first.1 front.1,
-      begun_breaks line c.args.self.now c.end_edits.new.self first.0 front.0 (sym c.if-not-is_start.ensures) first.2 c.in_ok-end_edits.ensures.none front.2,
-    ))) c.keep_edit-2.ensures.front
+      first.0 ++ prefix.0,
+      puts_both first.0 prefix.0 _ _ _ _ _ _ first.1 prefix.1,
+      begun_breaks line c.args.self.now c.end_edits.new.self first.0 prefix.0 (sym c.if-not-is_start.ensures) first.2 c.in_ok-end_edits.ensures.none prefix.2,
+    ))) c.keep_edit-2.ensures.prefix

@@ -22,8 +22,8 @@ returns-clause-exhausted g c is =
     let one = c.in_ok-torn_line.ensures.ok in
     inr (c.torn_line.new.self, one.0, one.2, (of_err c.end_edits.result _ Exhausted is c.end_edits.ensures.exhausted).1)
 
-pub returns-clause-front : goal.returns-clause-front
-returns-clause-front g c =
+pub returns-clause-prefix : goal.returns-clause-prefix
+returns-clause-prefix g c =
     let one = c.in_ok-torn_line.ensures.ok in
     IfErr-weaker c.end_edits.result _ _ (λ _ put. (
       one.0 ++ [],
@@ -36,7 +36,7 @@ returns-in_err-torn_line-clause-exhausted g c is =
     let told : c.from_residual.result ≡ Err c.in_err-torn_line.field-0.0 = grind arith in
     inl (c.torn_line.ensures.exhausted (c.in_err-torn_line.was ∙ sym told ∙ is))
 
-pub returns-in_err-torn_line-clause-front : goal.returns-in_err-torn_line-clause-front
-returns-in_err-torn_line-clause-front g c =
-    let front = c.in_err-torn_line.ensures.front in
-    on_err _ c.from_residual.result (front.0, front.1, first_breaks (λ asked s. takes_torn asked c.args.torn.now s) (λ asked s. ends asked s) c.args.self.now front.0 ends_grow front.2)
+pub returns-in_err-torn_line-clause-prefix : goal.returns-in_err-torn_line-clause-prefix
+returns-in_err-torn_line-clause-prefix g c =
+    let prefix = c.in_err-torn_line.ensures.prefix in
+    on_err _ c.from_residual.result (prefix.0, prefix.1, first_breaks (λ asked s. takes_torn asked c.args.torn.now s) (λ asked s. ends asked s) c.args.self.now prefix.0 ends_grow prefix.2)

@@ -29,8 +29,8 @@ returns-clause-exhausted g c fault torn is =
     let made = same_makes (λ asked s. takes_torn asked torn s) (λ asked s. takes asked torn s) x y one.0 (λ asked s i. torn_as_line torn is.long asked s) (one.2 torn is) in
     inr (y, one.0, made, (of_err c.end_edits.result _ Exhausted fault c.end_edits.ensures.exhausted).1)
 
-pub returns-clause-front : goal.returns-clause-front
-returns-clause-front g c =
+pub returns-clause-prefix : goal.returns-clause-prefix
+returns-clause-prefix g c =
     let one = c.in_ok-long_line.ensures.ok in
     let x = c.args.self.now in
     let y = c.long_line.new.self in
@@ -46,6 +46,6 @@ returns-in_err-long_line-clause-exhausted g c fault torn is =
     let told : c.from_residual.result ≡ Err c.in_err-long_line.field-0.0 = grind arith in
     inl (c.long_line.ensures.exhausted (c.in_err-long_line.was ∙ sym told ∙ fault))
 
-pub returns-in_err-long_line-clause-front : goal.returns-in_err-long_line-clause-front
-returns-in_err-long_line-clause-front g c =
+pub returns-in_err-long_line-clause-prefix : goal.returns-in_err-long_line-clause-prefix
+returns-in_err-long_line-clause-prefix g c =
     on_err _ c.from_residual.result ([], c.in_err-long_line.ensures.put, λ torn is. none_told (λ asked s. ends asked (takes_torn asked torn s)) c.args.self.now (λ asked s. end_grows asked torn s))

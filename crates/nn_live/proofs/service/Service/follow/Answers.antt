@@ -28,7 +28,7 @@ returns-then-not-branch g c =
         last_one c.args.self.now c.txs.self c.apply.new.self c.args.txs.now c.in-Some.later.now c.in-Some.tx.now held.0 step.0 step.2 came refused,
       );
       memory = tt;
-      front = tt;
+      prefix = tt;
     }
 
 pub txs-preserved : goal.txs-preserved
@@ -50,11 +50,11 @@ returns g c =
     record {
       ok = (held.0, held.1, all_came c.args.self.now c.txs.self c.args.txs.now held.0 (subst (λ rest. Came c.args.self.now c.txs.self c.args.txs.now rest held.0) over held.2));
       memory = tt;
-      front = tt;
+      prefix = tt;
     }
 
-pub returns-in_err-apply-clause-front : goal.returns-in_err-apply-clause-front
-returns-in_err-apply-clause-front g c =
+pub returns-in_err-apply-clause-prefix : goal.returns-in_err-apply-clause-prefix
+returns-in_err-apply-clause-prefix g c =
     let held = c.txs.invariant in
     let some = some_followed c.args.self.now c.txs.self c.args.txs.now c.txs.rest.now held.0 held.2 in
     let more = none_more (λ asked s. follows asked c.args.txs.now s) c.args.self.now held.0 some in

@@ -7,7 +7,7 @@ use Rattle.nn_model.specs.Log.{counted}
 use Rattle.nn_segment.specs.Segment.{first_txid}
 use Rattle.nn_live.specs.Live.{follows, follows_txs}
 use Rattle.nn_live.specs.contracts.service.Service.{the_view as seen_of}
-use Rattle.nn_live.specs.Serving.{Breaks, Seen, Makes, fault_text}
+use Rattle.nn_live.specs.Serving.{Breaks, Service, FollowsStep, fault_text}
 use Rattle.nn_device.proofs.Pages.{puts_nothing}
 use Rattle.nn_live.proofs.Breaking.{none_told}
 use Rattle.nn_live.proofs.BrokenEdits.{some_new}
@@ -29,8 +29,8 @@ returns-then-next-first g c =
     let high : x.shadow.last + 1 < first_txid txs = omega (arith, sym first, last, c.if-next-first.true) in
     let text = fault_text DISORDER (codes " txid " ++ decimal (c.last_txid-next.result + 1) ++ codes " segment ") x.segments in
     let spelled : gap_text x ≡ text = ap (λ l. fault_text DISORDER (codes " txid " ++ decimal (l + 1) ++ codes " segment ") x.segments) (sym last) in
-    let made = subst (λ t. Makes (λ asked s. follows_txs asked txs s) x x t) spelled (behind_a_gap x txs high) in
-    record { ok = (text, c.put_gap.ensures, subst (λ (v : Seen). Makes (λ asked s. follows_txs asked txs s) v v text) here made); exhausted = λ never. absurd (cc); front = tt }
+    let made = subst (λ t. FollowsStep (λ asked s. follows_txs asked txs s) x x t) spelled (behind_a_gap x txs high) in
+    record { ok = (text, c.put_gap.ensures, subst (λ (v : Service). FollowsStep (λ asked s. follows_txs asked txs s) v v text) here made); exhausted = λ never. absurd (cc); prefix = tt }
 
 pub returns : goal.returns
 returns g c =
@@ -47,20 +47,20 @@ returns g c =
       ok = IfOk-weaker c.follow.result _ _ (λ _ step. (
         step.0,
         step.1,
-        subst (λ (v : Seen). Makes (λ asked s. follows_txs asked txs s) v c.follow.new.self step.0) here
+        subst (λ (v : Service). FollowsStep (λ asked s. follows_txs asked txs s) v c.follow.new.self step.0) here
             (now_followed x txs new c.follow.new.self step.0 low is
-            (subst (λ p. Makes (λ asked s. follows asked new s) (record x { passed = p }) c.follow.new.self step.0) c.in-Some-checked_add.ensures.1 step.2)),
+            (subst (λ p. FollowsStep (λ asked s. follows asked new s) (record x { passed = p }) c.follow.new.self step.0) c.in-Some-checked_add.ensures.1 step.2)),
       )) c.follow.ensures.ok;
       exhausted = λ is. absurd (no_memory_there c.follow.result c.follow.ensures.memory is);
-      front = IfErr-weaker c.follow.result _ _ (λ _ part. (
+      prefix = IfErr-weaker c.follow.result _ _ (λ _ part. (
         part.0,
         part.1,
-        subst (λ (v : Seen). Breaks (λ asked s. follows_txs asked txs s) v part.0) here
+        subst (λ (v : Service). Breaks (λ asked s. follows_txs asked txs s) v part.0) here
             (some_new x txs new part.0 low is (subst (λ p. Breaks (λ asked s. follows asked new s) (record x { passed = p }) part.0) c.in-Some-checked_add.ensures.1 part.2)),
-      )) c.follow.ensures.front;
+      )) c.follow.ensures.prefix;
     }
 
-pub returns-in_default-checked_add-clause-front : goal.returns-in_default-checked_add-clause-front
-returns-in_default-checked_add-clause-front g c =
+pub returns-in_default-checked_add-clause-prefix : goal.returns-in_default-checked_add-clause-prefix
+returns-in_default-checked_add-clause-prefix g c =
     let txs = c.args.txs.now in
     ([], puts_nothing c.args.page.now c.args.writer.now, none_told (λ asked s. follows_txs asked txs s) c.args.self.now (λ asked s. follows_txs_grow asked txs s))

@@ -27,26 +27,26 @@ returns-in-None-clause-ok g c = IfOk-weaker c.data.result _ _ (λ _ step. (
   data_line c.args.text.now c.args.self.now c.next_line.new.self c.data.new.self step.0 (sym c.if-is_blank.ensures) (sym c.in-Ok.ensures ∙ c.in-None.is) c.in_ok-next_line.ensures.ok step.2,
 )) c.data.ensures.ok
 
-pub returns-in_err-next_line-clause-front : goal.returns-in_err-next_line-clause-front
-returns-in_err-next_line-clause-front g c =
+pub returns-in_err-next_line-clause-prefix : goal.returns-in_err-next_line-clause-prefix
+returns-in_err-next_line-clause-prefix g c =
     let text = c.args.text.now in
     on_err _ c.from_residual.result ([], puts_nothing c.args.page.now c.args.writer.now, none_told (λ asked s. takes asked text s) c.args.self.now (λ asked s. line_grows asked text s))
 
-pub returns-in_default-clause-front : goal.returns-in_default-clause-front
-returns-in_default-clause-front g c =
+pub returns-in_default-clause-prefix : goal.returns-in_default-clause-prefix
+returns-in_default-clause-prefix g c =
     let text = c.args.text.now in
     ([], puts_nothing c.args.page.now c.args.writer.now, none_told (λ asked s. takes asked text s) c.args.self.now (λ asked s. line_grows asked text s))
 
-pub returns-in-Some-clause-front : goal.returns-in-Some-clause-front
-returns-in-Some-clause-front g c = IfErr-weaker c.answer.result _ _ (λ _ front. (
-  front.0,
-  front.1,
-  word_breaks c.args.text.now c.args.self.now c.next_line.new.self front.0 (sym c.if-is_blank.ensures) c.in_ok-next_line.ensures.ok c.in-Some.word (sym c.in-Ok.ensures ∙ c.in-Some.is) front.2,
-)) c.answer.ensures.front
+pub returns-in-Some-clause-prefix : goal.returns-in-Some-clause-prefix
+returns-in-Some-clause-prefix g c = IfErr-weaker c.answer.result _ _ (λ _ prefix. (
+  prefix.0,
+  prefix.1,
+  word_breaks c.args.text.now c.args.self.now c.next_line.new.self prefix.0 (sym c.if-is_blank.ensures) c.in_ok-next_line.ensures.ok c.in-Some.word (sym c.in-Ok.ensures ∙ c.in-Some.is) prefix.2,
+)) c.answer.ensures.prefix
 
-pub returns-in-None-clause-front : goal.returns-in-None-clause-front
-returns-in-None-clause-front g c = IfErr-weaker c.data.result _ _ (λ _ front. (
-  front.0,
-  front.1,
-  data_breaks c.args.text.now c.args.self.now c.next_line.new.self front.0 (sym c.if-is_blank.ensures) c.in_ok-next_line.ensures.ok (sym c.in-Ok.ensures ∙ c.in-None.is) front.2,
-)) c.data.ensures.front
+pub returns-in-None-clause-prefix : goal.returns-in-None-clause-prefix
+returns-in-None-clause-prefix g c = IfErr-weaker c.data.result _ _ (λ _ prefix. (
+  prefix.0,
+  prefix.1,
+  data_breaks c.args.text.now c.args.self.now c.next_line.new.self prefix.0 (sym c.if-is_blank.ensures) c.in_ok-next_line.ensures.ok (sym c.in-Ok.ensures ∙ c.in-None.is) prefix.2,
+)) c.data.ensures.prefix

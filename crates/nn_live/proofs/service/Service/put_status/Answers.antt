@@ -1,10 +1,10 @@
 use Rattle.std.proofs.Common.{◌≡◌, subst, ◌∙◌, ap}
 use Rattle.std.specs.Prelude.{codes, decimal}
-use Rattle.nn_device.specs.Page.{Puts}
+use Rattle.nn_device.specs.Page.{PutsPiece}
 use Rattle.nn_device.proofs.Pages.{puts_both}
 use Rattle.nn_listing.specs.Summary.{line, summary_text}
-use Rattle.nn_live.specs.Answers.{Figures, and_number, state_of, status_lines}
-use Rattle.nn_live.specs.Serving.{Seen, figures_seen}
+use Rattle.nn_live.specs.Answers.{Figures, and_number, state_answer, status_lines}
+use Rattle.nn_live.specs.Serving.{Service, figures_seen}
 use Rattle.nn_live.specs.contracts.service.Service.{the_view as seen_of}
 use Rattle.nn_live.proofs.Pieces.{status_pieces}
 use Rattle.nn_live.proofs.service.Service.put_status.Goals as goal
@@ -23,22 +23,22 @@ returns g c =
       last_edit = c.last_txid.result;
       standby = (figures_seen x).standby;
     } in
-    let put : Puts (status_lines told) c.args.page.now c.args.writer.now c.put_summary.new.page c.put_summary.new.writer =
-    subst (λ text. Puts text c.args.page.now c.args.writer.now c.put_summary.new.page c.put_summary.new.writer) (status_pieces
-    (line (codes "state") (state_of told.stopped told.active)) (line (codes "version") told.version)
+    let put : PutsPiece (status_lines told) c.args.page.now c.args.writer.now c.put_summary.new.page c.put_summary.new.writer =
+    subst (λ text. PutsPiece text c.args.page.now c.args.writer.now c.put_summary.new.page c.put_summary.new.writer) (status_pieces
+    (line (codes "state") (state_answer told.stopped told.active)) (line (codes "version") told.version)
     (line (codes "known") (decimal told.known)) (line (codes "passed") (decimal told.passed)) (line (codes "segments") (decimal told.segments))
     (line (codes "edits") (and_number (decimal told.edits) told.last_edit)) (summary_text told.standby))
     (puts_both _ _ _ _ _ _ _ _ c.put_state.ensures (puts_both _ _ _ _ _ _ _ _ c.put_text.ensures (puts_both _ _ _ _ _ _ _ _ c.put_count.ensures (puts_both _ _ _ _ _ _ _ _ c.put_count-2.ensures
     (puts_both _ _ _ _ _ _ _ _ c.put_count-3.ensures (puts_both _ _ _ _ _ _ _ _ c.put_counts_of.ensures c.put_summary.ensures.seen)))))) in
     let same : told ≡ figures_seen c.args.self.now = λ i. record {
-      stopped = (c.stop.ensures ∙ ap (λ (v : Seen). v.shadow.phase.stopped) c.self.view_is) i;
-      active = (c.is_active.ensures ∙ ap (λ (v : Seen). v.shadow.phase.active) c.self.view_is) i;
+      stopped = (c.stop.ensures ∙ ap (λ (v : Service). v.shadow.phase.stopped) c.self.view_is) i;
+      active = (c.is_active.ensures ∙ ap (λ (v : Service). v.shadow.phase.active) c.self.view_is) i;
       version = (c.self.view_is i).version;
       known = (c.self.view_is i).known;
       passed = (c.self.view_is i).passed;
       segments = (c.self.view_is i).segments;
-      edits = (c.len.ensures ∙ ap (λ (v : Seen). v.in_hand.edits) c.self.view_is) i;
-      last_edit = (c.last_txid.ensures ∙ ap (λ (v : Seen). v.in_hand.last) c.self.view_is) i;
+      edits = (c.len.ensures ∙ ap (λ (v : Service). v.in_hand.edits) c.self.view_is) i;
+      last_edit = (c.last_txid.ensures ∙ ap (λ (v : Service). v.in_hand.last) c.self.view_is) i;
       standby = (figures_seen (c.self.view_is i)).standby;
     } in
-    subst (λ f. Puts (status_lines f) c.args.page.now c.args.writer.now c.put_summary.new.page c.put_summary.new.writer) same put
+    subst (λ f. PutsPiece (status_lines f) c.args.page.now c.args.writer.now c.put_summary.new.page c.put_summary.new.writer) same put

@@ -9,7 +9,7 @@ invariant_of-self-2 c =
     let bytes = c.args.bytes.now in
     let len : c.len-room.result ≡ length old = search rules in
     kept_invariant old bytes c.extend_from_slice.new.self.items c.self.invariant.0 c.self.invariant.1 c.requires
-    (c.in_default.ensures.items ∙ ap (λ t. old ++ t) (c.front.ensures ∙ ap (λ k. take (65537 - k) bytes) len))
+    (c.in_default.ensures.items ∙ ap (λ t. old ++ t) (c.prefix.ensures ∙ ap (λ k. take (65537 - k) bytes) len))
 
 pub returns-clause-ok : goal.returns-clause-ok
 returns-clause-ok c torn there =
@@ -17,4 +17,4 @@ returns-clause-ok c torn there =
     let bytes = c.args.bytes.now in
     let len : c.len-room.result ≡ length old = search rules in
     kept_more torn bytes (record { kept = old; blank = c.self.inside.blank }) _ (subst (HasTorn torn) (sym c.self.view_is) there) c.requires
-    (c.in_default.ensures.items ∙ ap (λ t. old ++ t) (c.front.ensures ∙ ap (λ k. take (65537 - k) bytes) len)) (ap (λ b. c.self.inside.blank && b) c.is_blank.ensures)
+    (c.in_default.ensures.items ∙ ap (λ t. old ++ t) (c.prefix.ensures ∙ ap (λ k. take (65537 - k) bytes) len)) (ap (λ b. c.self.inside.blank && b) c.is_blank.ensures)

@@ -8,4 +8,4 @@ loop-i-preserved c = c.in-Ok.ensures.ok ∙ ap (queued c.index-messages-i.result
     ∙ sym (all_more c.args.self.now c.args.messages.now c.loop-i.i c.index-messages-i.result (omega (arith, c.loop-i-test.true)) c.index-messages-i.is)
 
 pub returns-in_default-clause-err : goal.returns-in_default-clause-err
-returns-in_default-clause-err c = c.take_back.ensures c.args.self.now (c.in_default.ensures.err ∙ c.loop-i.invariant)
+returns-in_default-clause-err c = c.revoke.ensures c.args.self.now (c.in_default.ensures.err ∙ c.loop-i.invariant)

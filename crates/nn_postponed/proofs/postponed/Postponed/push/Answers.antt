@@ -67,7 +67,7 @@ added : (c : goal.In-Ok-insert) → Now c.insert.new.self.entries (queued c.args
 added c = added_now c.self.inside.queues.entries c.insert.new.self.entries c.args.message.now c.push.new.self (good_of c.self.inside.queues.entries c.self.invariant.0 c.self.invariant.1)
     c.insert.ensures.ordered
     (λ q. c.in-Ok-insert.ensures.updates.0 q ∙ ap (λ m. cond (is_at (nat_cmp c.args.message.now.block) q) (Some c.push.new.self) (lookup (is_at (nat_cmp q)) m.entries)) c.get_mut.follows.holds-at-none)
-    (sym (ap option_copied_mut c.in_default-get_mut.is) ∙ c.get_mut.ensures.value) c.get-id.ensures.limit (c.in-Ok-push.ensures.ok ∙ ap (λ l. l ++ c.args.message.now ∷ []) c.new-queue.ensures)
+    (sym (ap option_copied_mut c.in_default-get_mut.is) ∙ c.get_mut.ensures.value) c.get-recalled.ensures.limit (c.in-Ok-push.ensures.ok ∙ ap (λ l. l ++ c.args.message.now ∷ []) c.new-queue.ensures)
 
 pub invariant_of-self-in_default-get_mut : goal.invariant_of-self-in_default-get_mut
 invariant_of-self-in_default-get_mut c =

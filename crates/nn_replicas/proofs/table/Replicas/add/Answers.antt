@@ -14,7 +14,7 @@ replaced-self-inside-requires c =
     let none = sym (lookup_is_find c.args.block c.self.inside.entries ∙ ap (λ t. entry_at t c.args.block) c.self.view_is ∙ c.requires.none) in
     let h = added c.self.inside.entries c.insert.new.self c.args.block c.args.entry none c.self.invariant.1 c.in_ok-insert.ensures.entries in
     may_set h c.self.inside.min c.self.inside.figures c.none.result c.figures-is.result c.self.invariant.0 c.none.ensures c.figures-is.ensures
-    (let n = c.len-count.ensures.len in omega (arith, n, c.len-count.ensures.small))
+    (let n = c.len-recalled.ensures.len in omega (arith, n, c.len-recalled.ensures.small))
     (let was = ap (λ f. f.places) c.none.ensures in let is = ap (λ f. f.places) c.figures-is.ensures in omega (arith, was, is, c.requires.cells, c.if-self.false))
 
 pub invariant_of-self-2 : goal.invariant_of-self-2

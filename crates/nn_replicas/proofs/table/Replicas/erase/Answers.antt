@@ -14,7 +14,7 @@ pub replaced-self-inside-requires : goal.replaced-self-inside-requires
 replaced-self-inside-requires c =
     let h = written c.self.inside.entries (set_at c.args.block c.self.inside.entries c.erase.new.self) c.args.block c.in-Some.entry.now c.erase.new.self c.in-Some.ensures.value c.self.invariant.1 refl in
     may_set h c.self.inside.min c.self.inside.figures c.figures-was.result c.figures-is.result c.self.invariant.0 c.figures-was.ensures c.figures-is.ensures
-    (let n = c.len-count.ensures.len in omega (arith, n, c.len-count.ensures.small))
+    (let n = c.len-recalled.ensures.len in omega (arith, n, c.len-recalled.ensures.small))
     (let was = ap (λ f. f.places) c.figures-was.ensures in let is = ap (λ f. f.places) c.figures-is.ensures in omega (arith, was, is, c.erase.ensures.places))
 
 pub invariant_of-self-2 : goal.invariant_of-self-2

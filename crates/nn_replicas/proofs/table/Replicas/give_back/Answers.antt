@@ -15,7 +15,7 @@ replaced-self-inside-requires c =
     let l = leaves c.args.self.now c.self.inside.min c.args.block c.self.inside.entries c.remove-room.new.self c.in-Some.entry.now c.self.view_is c.in-Some.ensures.value (sym c.is_idle.ensures ∙ c.if-not-is_idle.false) c.remove-room.ensures.entries in
     may_replace c.self.inside.min c.self.inside.entries c.remove-room.new.self (Some c.in-Some.entry.now) None (went l) c.self.inside.figures c.figures-was.result c.none.result
     c.self.invariant.0 c.figures-was.ensures c.none.ensures
-    (let n = c.len-count.ensures.len in omega (arith, n, c.len-count.ensures.small))
+    (let n = c.len-recalled.ensures.len in omega (arith, n, c.len-recalled.ensures.small))
     (let is = ap (λ f. f.places) c.none.ensures in omega (arith, is))
 
 pub invariant_of-self : goal.invariant_of-self

@@ -1,6 +1,6 @@
 use Rattle.std.proofs.Common.{refl, sym, ap, ◌∙◌, arith, length}
 use Rattle.std.specs.Option.{option_copied_mut}
-use Rattle.nn_replicas.specs.Entry.{with_row}
+use Rattle.nn_replicas.specs.Entry.{entry_with_row}
 use Rattle.nn_replicas.specs.Calls.{with_entry}
 use Rattle.nn_replicas.proofs.Tables.{set_at, sorted_set, written, table, with_new, no_entry_there, none_there, add_new}
 use Rattle.nn_replicas.proofs.Figured.{figures_set, may_set}
@@ -9,7 +9,7 @@ use Rattle.nn_replicas.proofs.table.Replicas.set_block.Goals as goal
 pub add-requires : goal.add-requires
 add-requires c = record {
   none = none_there (table c.self.inside.min c.self.inside.entries) c.self.inside.min c.args.block.id c.self.inside.entries refl (sym (ap option_copied_mut c.in_default.is) ∙ c.get_mut.ensures.value);
-  cells = (let new = ap (λ e. length e.cells) (c.set_row.ensures ∙ ap (λ e. with_row e (record { block = c.args.block; closed = c.args.closed }) c.args.replication) c.new-entry.ensures) in omega (arith, new));
+  cells = (let new = ap (λ e. length e.cells) (c.set_row.ensures ∙ ap (λ e. entry_with_row e (record { block = c.args.block; closed = c.args.closed }) c.args.replication) c.new-entry.ensures) in omega (arith, new));
 }
 
 pub returns-in_err-add-clause-room : goal.returns-in_err-add-clause-room
@@ -20,13 +20,13 @@ returns-in_err-add-clause-room c =
 pub returns-in_default-clause-ok : goal.returns-in_default-clause-ok
 returns-in_default-clause-ok c =
     let none = none_there c.args.self.now c.self.inside.min c.args.block.id c.self.inside.entries c.self.view_is (sym (ap option_copied_mut c.in_default.is) ∙ c.get_mut.ensures.value) in
-    c.in_ok-add.ensures.ok ∙ ap (λ t. with_entry t c.args.block.id c.set_row.new.self) c.self.view_is ∙ add_new c.args.self.now c.args.block.id (λ e. with_row e (record { block = c.args.block; closed = c.args.closed }) c.args.replication) c.set_row.new.self none (c.set_row.ensures ∙ ap (λ e. with_row e (record { block = c.args.block; closed = c.args.closed }) c.args.replication) c.new-entry.ensures)
+    c.in_ok-add.ensures.ok ∙ ap (λ t. with_entry t c.args.block.id c.set_row.new.self) c.self.view_is ∙ add_new c.args.self.now c.args.block.id (λ e. entry_with_row e (record { block = c.args.block; closed = c.args.closed }) c.args.replication) c.set_row.new.self none (c.set_row.ensures ∙ ap (λ e. entry_with_row e (record { block = c.args.block; closed = c.args.closed }) c.args.replication) c.new-entry.ensures)
 
 pub replaced-self-inside-requires : goal.replaced-self-inside-requires
 replaced-self-inside-requires c =
     let h = written c.self.inside.entries (set_at c.args.block.id c.self.inside.entries c.set_row-2.new.self) c.args.block.id c.in-Some.entry.now c.set_row-2.new.self c.in-Some.ensures.value c.self.invariant.1 refl in
     may_set h c.self.inside.min c.self.inside.figures c.figures-was.result c.figures-is.result c.self.invariant.0 c.figures-was.ensures c.figures-is.ensures
-    (let n = c.len-count.ensures.len in omega (arith, n, c.len-count.ensures.small))
+    (let n = c.len-recalled.ensures.len in omega (arith, n, c.len-recalled.ensures.small))
     (let cells = ap (λ e. length e.cells) c.set_row-2.ensures in (let was = ap (λ f. f.places) c.figures-was.ensures in let is = ap (λ f. f.places) c.figures-is.ensures in omega (arith, was, is, cells)))
 
 pub invariant_of-self-2 : goal.invariant_of-self-2
@@ -39,4 +39,4 @@ invariant_of-self-2 c =
 pub returns-clause-ok : goal.returns-clause-ok
 returns-clause-ok c =
     let h = written c.self.inside.entries (set_at c.args.block.id c.self.inside.entries c.set_row-2.new.self) c.args.block.id c.in-Some.entry.now c.set_row-2.new.self c.in-Some.ensures.value c.self.invariant.1 refl in
-    with_new h c.args.self.now c.self.inside.min (λ e. with_row e (record { block = c.args.block; closed = c.args.closed }) c.args.replication) c.self.view_is c.set_row-2.ensures
+    with_new h c.args.self.now c.self.inside.min (λ e. entry_with_row e (record { block = c.args.block; closed = c.args.closed }) c.args.replication) c.self.view_is c.set_row-2.ensures

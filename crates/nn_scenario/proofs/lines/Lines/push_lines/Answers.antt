@@ -1,7 +1,9 @@
-use Rattle.std.proofs.Common.{◌≡◌, ◌+◌, ◌-◌, ◌<◌, ◌≤◌, ◌++◌, ◌∷◌, [], length, take, drop, subst, sym, arith, length-drop}
+use Rattle.std.proofs.Common.{◌≡◌, true, take_all, ◌+◌, ◌-◌, ◌<◌, ◌≤◌, ◌++◌, ◌∷◌, [], length, take, drop, subst, sym, arith, length-drop}
 use Rattle.std.proofs.lemmas.List.{take_rest}
 use Rattle.std.proofs.lemmas.Result.{err_from_is_err_and}
-use Rattle.nn_segment.specs.Lines.{newline}
+use Rattle.nn_bytes.specs.Lines.{line_feed}
+use Rattle.nn_segment.specs.Lines.{is_unbroken}
+use Rattle.nn_segment.proofs.LineLemmas.{unbroken_to}
 use Rattle.nn_scenario.specs.Chunks.{GoesOnAs}
 use Rattle.nn_scenario.proofs.ChunkLemmas.{cut_there, then_takes, then_refuses}
 use Rattle.nn_scenario.proofs.lines.Lines.push_lines.Goals as goal
@@ -12,7 +14,7 @@ returns-in_err-end_line-clause-bad g c =
     let end = c.line_end-end.result in
     let less : end < length rest = omega (arith, c.line_end-end.ensures.within) in
     let p = err_from_is_err_and c.from_residual.result c.from_residual.ensures.1 in rw (p.1, p.2)
-    (then_refuses g.S.LineSink.has_read c.args.self.now c.lines.self c.args.bytes.now (take end rest ++ newline ∷ []) (drop (end + 1) rest) c.in_err-end_line.field-0.0
+    (then_refuses g.S.LineSink.has_read c.args.self.now c.lines.self c.args.bytes.now (take end rest ++ line_feed ∷ []) (drop (end + 1) rest) c.in_err-end_line.field-0.0
     (subst (GoesOnAs g.S.LineSink.has_read c.args.self.now c.args.bytes.now c.lines.self) (cut_there rest end less (c.line_end-end.ensures.there less)) c.lines.invariant.same)
     c.in_err-end_line.ensures.bad)
 
@@ -29,7 +31,15 @@ lines-preserved g c =
       count = c.in_ok-end_line.ensures.count;
       good = c.in_ok-end_line.ensures.ok.0;
       same = subst (GoesOnAs g.S.LineSink.has_read c.args.self.now c.args.bytes.now c.end_line.new.self) (sym left)
-          (then_takes g.S.LineSink.has_read c.args.self.now c.lines.self c.end_line.new.self c.args.bytes.now (take end rest ++ newline ∷ []) (drop (end + 1) rest)
+          (then_takes g.S.LineSink.has_read c.args.self.now c.lines.self c.end_line.new.self c.args.bytes.now (take end rest ++ line_feed ∷ []) (drop (end + 1) rest)
           (subst (GoesOnAs g.S.LineSink.has_read c.args.self.now c.args.bytes.now c.lines.self) (cut_there rest end less (c.line_end-end.ensures.there less)) c.lines.invariant.same)
           c.in_ok-end_line.ensures.ok.1);
     }
+
+pub keep-requires-clause-unbroken : goal.keep-requires-clause-unbroken
+keep-requires-clause-unbroken g c =
+    let rest = c.lines.rest.now in
+    subst (λ text. is_unbroken text ≡ true) (take_all c.line_end-end.result rest (omega (arith, c.if-end-rest.true))) (unbroken_to rest c.line_end-end.result c.line_end-end.ensures.end)
+
+pub end_line-requires-clause-unbroken : goal.end_line-requires-clause-unbroken
+end_line-requires-clause-unbroken g c = unbroken_to _ _ c.line_end-end.ensures.end

@@ -9,7 +9,7 @@ overflow_add-number c =
     let s = c.self.inside in
     let few = number_fits s.items s.sent.items s.datanodes c.args.report.dn c.from.result c.index.result.now
     c.requires c.self.invariant c.from.ensures c.index.ensures in
-    omega (arith, few, c.len-steps.ensures.bound)
+    omega (arith, few, c.len-recalled.ensures.bound)
 
 pub invariant_of-self-2 : goal.invariant_of-self-2
 invariant_of-self-2 c =

@@ -4,7 +4,7 @@ use Rattle.std.specs.FinMap.Entries.{is_sorted}
 use Rattle.std.specs.Ordering.{nat_cmp}
 use Rattle.std.proofs.lemmas.Bool.{eqb-true}
 use Rattle.std.proofs.lemmas.Fn.{filter_same}
-use Rattle.nn_shadow.specs.Notes.{Notes, having_of, most_told}
+use Rattle.nn_shadow.specs.Notes.{Notes, node_state_of, most_told}
 use Rattle.nn_shadow.proofs.Forgetting.{sorted_filter, none_waits, forgotten}
 use Rattle.nn_shadow.proofs.had.Had.forget_left_out.Goals as goal
 
@@ -22,4 +22,4 @@ invariant_of-self c = record {
 
 pub returns : goal.returns
 returns c = λ finish. forgotten c.in-Some.begin finish c.self.inside.has.items c.self.inside.told.items c.retain.new.self.items c.self.inside.begun c.args.self.now.having
-    c.in-Some.is c.self.invariant.sorted (none_waits c.self.inside.told.items (sym c.self.inside.told.ok.0 ∙ no_notes c)) (kept_is c) (ap having_of c.self.view_is)
+    c.in-Some.is c.self.invariant.sorted (none_waits c.self.inside.told.items (sym c.self.inside.told.ok.0 ∙ no_notes c)) (kept_is c) (ap node_state_of c.self.view_is)

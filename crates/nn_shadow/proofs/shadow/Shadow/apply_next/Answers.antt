@@ -5,14 +5,14 @@ use Rattle.nn_types.specs.declared.event.Event.TheVariants.{Applied}
 use Rattle.nn_shadow.specs.contracts.shadow.Shadow.{the_view}
 use Rattle.nn_replicas.specs.Calls.{is_placed}
 use Rattle.nn_shadow.specs.Calls.{is_due_in, applied_to}
-use Rattle.nn_shadow.specs.Contents.{Contents, standby_of, IsConsistent, Becomes}
+use Rattle.nn_shadow.specs.Contents.{Shadow, standby_of, IsConsistent, Becomes}
 use Rattle.nn_shadow.specs.Refusals.{turn_refusal}
 use Rattle.nn_shadow.proofs.Consistent.{Leaves, left_consistent, edit_applied, edit_failed, edit_room}
 use Rattle.nn_shadow.proofs.Sound.{sound_of}
 use Rattle.nn_model.specs.Namespace.{Namespace}
 use Rattle.nn_model.specs.Apply.{effect}
 use Rattle.nn_model.specs.Touched.{Touched, ascending, changed_ids}
-use Rattle.nn_tree.specs.Touched.{seen}
+use Rattle.nn_tree.specs.Touched.{touched_of}
 use Rattle.nn_shadow.specs.Touching.{IsQuiet}
 use Rattle.nn_shadow.proofs.Quiet.{begins_quiet}
 use Rattle.nn_shadow.proofs.Refusing.{fits_if, turn_serves}
@@ -25,7 +25,7 @@ pub change-requires-clause-tight : goal.change-requires-clause-tight
 change-requires-clause-tight c =
     let x = the_view c.self.inside in
     c.self.invariant.tight (turn_serves x.phase (standby_of x) c.args.tx.now
-    (subst (λ (y : Contents). turn_refusal y.phase (standby_of y) c.args.tx.now ≡ None) (sym c.self.view_is) c.requires))
+    (subst (λ (y : Shadow). turn_refusal y.phase (standby_of y) c.args.tx.now ≡ None) (sym c.self.view_is) c.requires))
 
 failed : (c : goal.After-drop-written) → record (the_view c.self.inside) { namespace = c.change.new.namespace; history = c.reserve.new.self.items; table = c.change.new.table }
     ≡ the_view c.self.inside
@@ -56,7 +56,7 @@ made c =
     edit_applied (the_view c.self.inside) c.args.tx.now c.change.new.namespace c.get-self-inside.result c.push.new.self.items
     c.settle.new.history.items c.change.new.table c.settle.new.table c.give_back_touched.new.table c.settle.new.held c.self.invariant c.in-Ok-change.ensures.lawful
     (fits_if (the_view c.self.inside).phase (standby_of (the_view c.self.inside)) c.args.tx.now
-    (subst (λ (x : Contents). turn_refusal x.phase (standby_of x) c.args.tx.now ≡ None) (sym c.self.view_is) c.requires) c.in-Ok-change.ensures.applies)
+    (subst (λ (x : Shadow). turn_refusal x.phase (standby_of x) c.args.tx.now ≡ None) (sym c.self.view_is) c.requires) c.in-Ok-change.ensures.applies)
     c.get-self-inside.ensures.limit c.in-Ok-change.ensures.namespace c.get-self-inside.ensures.value
     (c.in-Ok-push.ensures.items ∙ ap (λ h. h ++ Applied c.args.tx.now.txid ∷ []) c.in-Ok.ensures.items)
     c.in-Ok-change.ensures.table c.settle.ensures.told c.settle.ensures.left c.settle.ensures.table
@@ -68,7 +68,7 @@ invariant_of-self-2 c = left_consistent (made c)
 
 pub returns-clause-ok : goal.returns-clause-ok
 returns-clause-ok c =
-    subst (λ (x : Contents). Becomes x (applied_to (standby_of x) c.args.tx.now)
+    subst (λ (x : Shadow). Becomes x (applied_to (standby_of x) c.args.tx.now)
     (record (the_view c.self.inside) {
       namespace = c.change.new.namespace;
       last = c.get-self-inside.result;
@@ -89,7 +89,7 @@ settle-requires-clause-written c =
 pub settle-requires-clause-quiet : goal.settle-requires-clause-quiet
 settle-requires-clause-quiet c =
     let x = the_view c.self.inside in
-    subst (λ (n : Namespace). IsQuiet (seen c.in-Ok-change.touched) (is_due_in n) x.held) (sym c.in-Ok-change.ensures.namespace)
+    subst (λ (n : Namespace). IsQuiet (touched_of c.in-Ok-change.touched) (is_due_in n) x.held) (sym c.in-Ok-change.ensures.namespace)
     (subst (λ (t : Touched). IsQuiet t (is_due_in (effect x.namespace c.args.tx.now.edit)) x.held) (sym c.in-Ok-change.ensures.touched)
     (begins_quiet x.namespace c.args.tx.now.edit x.held c.in-Ok-change.ensures.lawful c.in-Ok-change.ensures.applies
     c.self.invariant.well_formed c.self.invariant.settled))

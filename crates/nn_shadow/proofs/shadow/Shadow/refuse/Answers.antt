@@ -1,6 +1,6 @@
 use Rattle.std.proofs.Common.{◌≡◌, Some, None, subst, sym, ◌∙◌}
 use Rattle.nn_shadow.specs.contracts.shadow.Shadow.{the_view}
-use Rattle.nn_shadow.specs.Contents.{Contents, standby_of, IsConsistent}
+use Rattle.nn_shadow.specs.Contents.{Shadow, standby_of, IsConsistent}
 use Rattle.nn_shadow.specs.Refusals.{turn_refusal}
 use Rattle.nn_shadow.proofs.Consistent.{stopped_at}
 use Rattle.nn_shadow.proofs.shadow.Shadow.refuse.Goals as goal
@@ -10,5 +10,5 @@ invariant_of-self c =
     let x = the_view c.self.inside in
     subst (λ k. IsConsistent (record x { phase = record x.phase { stopped = Some (record { txid = c.args.tx.now.txid; number = k }) } })) (sym c.number.ensures)
     (stopped_at x c.args.tx.now c.in-Some.fault c.self.invariant
-    (subst (λ (y : Contents). turn_refusal y.phase (standby_of y) c.args.tx.now ≡ None) (sym c.self.view_is) c.requires)
+    (subst (λ (y : Shadow). turn_refusal y.phase (standby_of y) c.args.tx.now ≡ None) (sym c.self.view_is) c.requires)
     (sym c.refusal.ensures ∙ c.in-Some.is))

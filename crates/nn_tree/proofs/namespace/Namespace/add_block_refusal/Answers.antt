@@ -1,7 +1,7 @@
 use Rattle.std.proofs.Common.{◌≡◌, not, ◌||◌, Some, None, sym, ap, subst, ◌∙◌, refl, nat_lt, nat_le}
 use Rattle.nn_types.specs.declared.edit.Edit.TheVariants as edit
 use Rattle.nn_model.specs.Namespace.{Namespace, lookup, no_stamp}
-use Rattle.nn_model.specs.Apply.{refusal, when, has_id, not_open}
+use Rattle.nn_model.specs.Apply.{refusal, fault_if, has_id, not_open}
 use Rattle.nn_types.specs.declared.edit_fault.EditFault.TheVariants.{NotOpen, BadBlockId, BadGeneration}
 use Rattle.nn_tree.specs.View.{seen}
 use Rattle.std.proofs.Common.{[], ◌∷◌}
@@ -15,7 +15,7 @@ returns-in-Err c =
     let p = c.args.path.now in
     let ns = c.names.result in
     subst (λ (n : Namespace). Some c.in-Err.fault ≡ refusal n (edit.AddBlock c.args.path.now c.args.id c.args.stamp)) c.self.view_is
-    (file_refused i.root s p ns (not_open (lookup s p) ∷ when (not (has_id s.issued.awaiting c.args.id)) BadBlockId ∷ when (nat_le c.args.stamp no_stamp || nat_lt s.issued.last_stamp c.args.stamp) BadGeneration ∷ []) c.in-Err.fault refl c.names.ensures.names c.in-Err.ensures.found)
+    (file_refused i.root s p ns (not_open (lookup s p) ∷ fault_if (not (has_id s.issued.awaiting c.args.id)) BadBlockId ∷ fault_if (nat_le c.args.stamp no_stamp || nat_lt s.issued.last_stamp c.args.stamp) BadGeneration ∷ []) c.in-Err.fault refl c.names.ensures.names c.in-Err.ensures.found)
 
 pub returns-then-file : goal.returns-then-file
 returns-then-file c =

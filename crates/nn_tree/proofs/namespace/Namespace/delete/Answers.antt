@@ -4,7 +4,7 @@ use Rattle.std.specs.Ordering.{nat_cmp}
 use Rattle.std.specs.Option.{option_copied}
 use Rattle.nn_types.specs.declared.edit.Edit.TheVariants as edit
 use Rattle.nn_model.specs.Apply.{refusal, effect, has_id}
-use Rattle.nn_tree.specs.Ids.{ids_of}
+use Rattle.nn_tree.specs.Ids.{ids_of_rows}
 use Rattle.nn_tree.specs.At.{IsSubtree}
 use Rattle.nn_tree.specs.View.{seen}
 use Rattle.nn_model.specs.Touched.{ids_below, ascending}
@@ -31,9 +31,9 @@ invariant_of-self c =
     let lawful : refusal s (edit.Delete p) ≡ None = delete_applies i.root s p ns refl c.names-names.ensures.names (not_root c.names-names.result c.if-is_empty.ensures) c.in-Ok-Some.ensures.walked (c.in-Ok-Some.ensures.present ∙ ap is_some c.in-Ok-Some.field-0-is) in
     let is : seen c.take-gone.new.self i.issued ≡ effect s (edit.Delete p) = deleted_seen i.root c.take-gone.new.self i.issued p ns c.names-names.ensures.names c.take-gone.ensures.gone in
     let taken : sizes_of s.rows ≡ plus (sizes_of tree) (sizes_of (effect s (edit.Delete p)).rows) =
-    sizes_taken s p tree c.self.invariant.0.well.blocks.in_order c.in_order.ensures (λ q. sym (λ j. looks i.root s refl j (c.names-names.ensures.names j ++ q)) ∙ sub q) in (
+    sizes_taken s p tree c.self.invariant.0.well.blocks.in_order c.recall_invariant.ensures (λ q. sym (λ j. looks i.root s refl j (c.names-names.ensures.names j ++ q)) ∙ sub q) in (
       delete_kept i.root c.take-gone.new.self tree i.issued c.collect_ids.new.out.items (λ id. value_at nat_cmp i.index id) (λ id. value_at nat_cmp c.forget.new.index id) p ns c.names-names.ensures.names c.requires.lawful
-          lawful c.take-gone.ensures.gone sub c.in_order.ensures (c.in-Ok.ensures.ids ∙ ap (λ (xs : List ℕ). xs ++ ids_of tree) c.new-ids.ensures.items)
+          lawful c.take-gone.ensures.gone sub c.recall_invariant.ensures (c.in-Ok.ensures.ids ∙ ap (λ (xs : List ℕ). xs ++ ids_of_rows tree) c.new-ids.ensures.items)
           (λ id. c.forget.ensures id ∙ ap (λ (xs : List ℕ). cond (has_id xs id) None (value_at nat_cmp i.index id)) c.deref.ensures.value) c.self.invariant.0,
       rest_is (sizes_of tree) c.in-Ok.others (sizes_of (effect s (edit.Delete p)).rows) (sym c.in-Ok.ensures.sizes ∙ c.self.invariant.1 ∙ taken) ∙ ap (λ (n : Namespace). sizes_of n.rows) (sym is),
     )
@@ -49,8 +49,8 @@ returns c =
     let is : seen c.take-gone.new.self i.issued ≡ effect s (edit.Delete p) = deleted_seen i.root c.take-gone.new.self i.issued p ns c.names-names.ensures.names c.take-gone.ensures.gone in
     let sub : IsSubtree i.root ns (Some tree) = subst (λ o. IsSubtree i.root ns (option_copied o)) c.in-Ok-Some.field-0-is c.in-Ok-Some.ensures.found in
     let ids : c.collect_ids.new.out.items ≡ ids_below s p =
-    c.in-Ok.ensures.ids ∙ ap (λ (xs : List ℕ). xs ++ ids_of tree) c.new-ids.ensures.items
-    ∙ ids_collected s p tree c.self.invariant.0.well.blocks.in_order c.in_order.ensures (λ q. sym (λ j. looks i.root s refl j (c.names-names.ensures.names j ++ q)) ∙ sub q) in
+    c.in-Ok.ensures.ids ∙ ap (λ (xs : List ℕ). xs ++ ids_of_rows tree) c.new-ids.ensures.items
+    ∙ ids_collected s p tree c.self.invariant.0.well.blocks.in_order c.recall_invariant.ensures (λ q. sym (λ j. looks i.root s refl j (c.names-names.ensures.names j ++ q)) ∙ sub q) in
     done (edit.Delete p) c.self.view_is lawful is (c.deleted.ensures.touched
     ∙ (λ j. record { changed = []; retired = (sorted_is c.collect_ids.new.out.items c.sort_unstable.new.self.items c.sort_unstable.ensures.permutation c.sort_unstable.ensures.sorted ∙ ap ascending ids) j; skipped = None }))
     c.deleted.ensures.replication
@@ -64,7 +64,7 @@ collect_ids-requires-clause-files c =
     let tree = c.in-Ok-Some.tree.now in
     let sub : IsSubtree i.root ns (Some tree) = subst (λ o. IsSubtree i.root ns (option_copied o)) c.in-Ok-Some.field-0-is c.in-Ok-Some.ensures.found in
     let taken : sizes_of s.rows ≡ plus (sizes_of tree) (sizes_of (effect s (edit.Delete p)).rows) =
-    sizes_taken s p tree c.self.invariant.0.well.blocks.in_order c.in_order.ensures (λ q. sym (λ j. looks i.root s refl j (c.names-names.ensures.names j ++ q)) ∙ sub q) in
+    sizes_taken s p tree c.self.invariant.0.well.blocks.in_order c.recall_invariant.ensures (λ q. sym (λ j. looks i.root s refl j (c.names-names.ensures.names j ++ q)) ∙ sub q) in
     part_files i.sizes (sizes_of tree) (sizes_of (effect s (edit.Delete p)).rows) (c.self.invariant.1 ∙ taken)
 
 pub collect_ids-requires-clause-directories : goal.collect_ids-requires-clause-directories
@@ -76,5 +76,5 @@ collect_ids-requires-clause-directories c =
     let tree = c.in-Ok-Some.tree.now in
     let sub : IsSubtree i.root ns (Some tree) = subst (λ o. IsSubtree i.root ns (option_copied o)) c.in-Ok-Some.field-0-is c.in-Ok-Some.ensures.found in
     let taken : sizes_of s.rows ≡ plus (sizes_of tree) (sizes_of (effect s (edit.Delete p)).rows) =
-    sizes_taken s p tree c.self.invariant.0.well.blocks.in_order c.in_order.ensures (λ q. sym (λ j. looks i.root s refl j (c.names-names.ensures.names j ++ q)) ∙ sub q) in
+    sizes_taken s p tree c.self.invariant.0.well.blocks.in_order c.recall_invariant.ensures (λ q. sym (λ j. looks i.root s refl j (c.names-names.ensures.names j ++ q)) ∙ sub q) in
     part_directories i.sizes (sizes_of tree) (sizes_of (effect s (edit.Delete p)).rows) (c.self.invariant.1 ∙ taken)

@@ -1,6 +1,6 @@
 use Rattle.std.proofs.Common.{◌≡◌, not, Some, None, sym, ap, subst, ◌∙◌, refl}
 use Rattle.nn_model.specs.Namespace.{Namespace, lookup}
-use Rattle.nn_model.specs.Apply.{first, list_checks, when, keeps_ids, keeps_stamps, not_open}
+use Rattle.nn_model.specs.Apply.{first_fault, list_checks, fault_if, keeps_ids, keeps_stamps, not_open}
 use Rattle.nn_types.specs.declared.edit_fault.EditFault.TheVariants.{NotOpen, BadGeneration, WrongBlocks}
 use Rattle.nn_tree.specs.View.{seen}
 use Rattle.nn_model.specs.Namespace.{file_at}
@@ -14,8 +14,8 @@ returns-in-Err c =
     let s = seen i.root i.issued in
     let p = c.args.path.now in
     let ns = c.names.result in
-    subst (λ (n : Namespace). Some c.in-Err.fault ≡ first (list_checks n c.args.path.now c.args.blocks.now)) c.self.view_is
-    (file_refused i.root s p ns (not_open (lookup s p) ∷ when (not (keeps_ids (file_at s p).blocks c.args.blocks.now)) WrongBlocks ∷ when (not (keeps_stamps s.issued.last_stamp (file_at s p).blocks c.args.blocks.now)) BadGeneration ∷ []) c.in-Err.fault refl c.names.ensures.names c.in-Err.ensures.found)
+    subst (λ (n : Namespace). Some c.in-Err.fault ≡ first_fault (list_checks n c.args.path.now c.args.blocks.now)) c.self.view_is
+    (file_refused i.root s p ns (not_open (lookup s p) ∷ fault_if (not (keeps_ids (file_at s p).blocks c.args.blocks.now)) WrongBlocks ∷ fault_if (not (keeps_stamps s.issued.last_stamp (file_at s p).blocks c.args.blocks.now)) BadGeneration ∷ []) c.in-Err.fault refl c.names.ensures.names c.in-Err.ensures.found)
 
 pub returns-then-file : goal.returns-then-file
 returns-then-file c =
@@ -23,7 +23,7 @@ returns-then-file c =
     let s = seen i.root i.issued in
     let p = c.args.path.now in
     let ns = c.names.result in
-    subst (λ (n : Namespace). Some NotOpen ≡ first (list_checks n c.args.path.now c.args.blocks.now)) c.self.view_is (at_first c.in-Ok.file.now.closed (not (keeps_ids c.in-Ok.file.now.blocks c.args.blocks.now)) (not (keeps_stamps s.issued.last_stamp c.in-Ok.file.now.blocks c.args.blocks.now)) NotOpen WrongBlocks BadGeneration c.if-file.true ∙ list_at i.root s p ns c.in-Ok.file.now c.args.blocks.now refl c.names.ensures.names c.in-Ok.ensures.found c.in-Ok.ensures.file)
+    subst (λ (n : Namespace). Some NotOpen ≡ first_fault (list_checks n c.args.path.now c.args.blocks.now)) c.self.view_is (at_first c.in-Ok.file.now.closed (not (keeps_ids c.in-Ok.file.now.blocks c.args.blocks.now)) (not (keeps_stamps s.issued.last_stamp c.in-Ok.file.now.blocks c.args.blocks.now)) NotOpen WrongBlocks BadGeneration c.if-file.true ∙ list_at i.root s p ns c.in-Ok.file.now c.args.blocks.now refl c.names.ensures.names c.in-Ok.ensures.found c.in-Ok.ensures.file)
 
 pub returns-then-not-keeps_ids : goal.returns-then-not-keeps_ids
 returns-then-not-keeps_ids c =
@@ -31,7 +31,7 @@ returns-then-not-keeps_ids c =
     let s = seen i.root i.issued in
     let p = c.args.path.now in
     let ns = c.names.result in
-    subst (λ (n : Namespace). Some WrongBlocks ≡ first (list_checks n c.args.path.now c.args.blocks.now)) c.self.view_is (at_second c.in-Ok.file.now.closed (not (keeps_ids c.in-Ok.file.now.blocks c.args.blocks.now)) (not (keeps_stamps s.issued.last_stamp c.in-Ok.file.now.blocks c.args.blocks.now)) NotOpen WrongBlocks BadGeneration c.if-file.false (ap not (sym (c.keeps_ids.ensures ∙ (λ j. keeps_ids (c.as_slice-old.ensures j) (c.as_slice-new.ensures j))) ∙ c.if-not-keeps_ids.true)) ∙ list_at i.root s p ns c.in-Ok.file.now c.args.blocks.now refl c.names.ensures.names c.in-Ok.ensures.found c.in-Ok.ensures.file)
+    subst (λ (n : Namespace). Some WrongBlocks ≡ first_fault (list_checks n c.args.path.now c.args.blocks.now)) c.self.view_is (at_second c.in-Ok.file.now.closed (not (keeps_ids c.in-Ok.file.now.blocks c.args.blocks.now)) (not (keeps_stamps s.issued.last_stamp c.in-Ok.file.now.blocks c.args.blocks.now)) NotOpen WrongBlocks BadGeneration c.if-file.false (ap not (sym (c.keeps_ids.ensures ∙ (λ j. keeps_ids (c.as_slice-old.ensures j) (c.as_slice-new.ensures j))) ∙ c.if-not-keeps_ids.true)) ∙ list_at i.root s p ns c.in-Ok.file.now c.args.blocks.now refl c.names.ensures.names c.in-Ok.ensures.found c.in-Ok.ensures.file)
 
 pub returns-then-not-keeps_stamps : goal.returns-then-not-keeps_stamps
 returns-then-not-keeps_stamps c =
@@ -39,7 +39,7 @@ returns-then-not-keeps_stamps c =
     let s = seen i.root i.issued in
     let p = c.args.path.now in
     let ns = c.names.result in
-    subst (λ (n : Namespace). Some BadGeneration ≡ first (list_checks n c.args.path.now c.args.blocks.now)) c.self.view_is (at_third c.in-Ok.file.now.closed (not (keeps_ids c.in-Ok.file.now.blocks c.args.blocks.now)) (not (keeps_stamps s.issued.last_stamp c.in-Ok.file.now.blocks c.args.blocks.now)) NotOpen WrongBlocks BadGeneration c.if-file.false (ap not (sym (c.keeps_ids.ensures ∙ (λ j. keeps_ids (c.as_slice-old.ensures j) (c.as_slice-new.ensures j))) ∙ c.if-not-keeps_ids.false)) (ap not (sym (c.keeps_stamps.ensures ∙ (λ j. keeps_stamps (c.last_stamp.ensures j) (c.as_slice-old.ensures j) (c.as_slice-new.ensures j))) ∙ c.if-not-keeps_stamps.true)) ∙ list_at i.root s p ns c.in-Ok.file.now c.args.blocks.now refl c.names.ensures.names c.in-Ok.ensures.found c.in-Ok.ensures.file)
+    subst (λ (n : Namespace). Some BadGeneration ≡ first_fault (list_checks n c.args.path.now c.args.blocks.now)) c.self.view_is (at_third c.in-Ok.file.now.closed (not (keeps_ids c.in-Ok.file.now.blocks c.args.blocks.now)) (not (keeps_stamps s.issued.last_stamp c.in-Ok.file.now.blocks c.args.blocks.now)) NotOpen WrongBlocks BadGeneration c.if-file.false (ap not (sym (c.keeps_ids.ensures ∙ (λ j. keeps_ids (c.as_slice-old.ensures j) (c.as_slice-new.ensures j))) ∙ c.if-not-keeps_ids.false)) (ap not (sym (c.keeps_stamps.ensures ∙ (λ j. keeps_stamps (c.last_stamp.ensures j) (c.as_slice-old.ensures j) (c.as_slice-new.ensures j))) ∙ c.if-not-keeps_stamps.true)) ∙ list_at i.root s p ns c.in-Ok.file.now c.args.blocks.now refl c.names.ensures.names c.in-Ok.ensures.found c.in-Ok.ensures.file)
 
 pub returns : goal.returns
 returns c =
@@ -47,4 +47,4 @@ returns c =
     let s = seen i.root i.issued in
     let p = c.args.path.now in
     let ns = c.names.result in
-    subst (λ (n : Namespace). None ≡ first (list_checks n c.args.path.now c.args.blocks.now)) c.self.view_is (at_none c.in-Ok.file.now.closed (not (keeps_ids c.in-Ok.file.now.blocks c.args.blocks.now)) (not (keeps_stamps s.issued.last_stamp c.in-Ok.file.now.blocks c.args.blocks.now)) NotOpen WrongBlocks BadGeneration c.if-file.false (ap not (sym (c.keeps_ids.ensures ∙ (λ j. keeps_ids (c.as_slice-old.ensures j) (c.as_slice-new.ensures j))) ∙ c.if-not-keeps_ids.false)) (ap not (sym (c.keeps_stamps.ensures ∙ (λ j. keeps_stamps (c.last_stamp.ensures j) (c.as_slice-old.ensures j) (c.as_slice-new.ensures j))) ∙ c.if-not-keeps_stamps.false)) ∙ list_at i.root s p ns c.in-Ok.file.now c.args.blocks.now refl c.names.ensures.names c.in-Ok.ensures.found c.in-Ok.ensures.file)
+    subst (λ (n : Namespace). None ≡ first_fault (list_checks n c.args.path.now c.args.blocks.now)) c.self.view_is (at_none c.in-Ok.file.now.closed (not (keeps_ids c.in-Ok.file.now.blocks c.args.blocks.now)) (not (keeps_stamps s.issued.last_stamp c.in-Ok.file.now.blocks c.args.blocks.now)) NotOpen WrongBlocks BadGeneration c.if-file.false (ap not (sym (c.keeps_ids.ensures ∙ (λ j. keeps_ids (c.as_slice-old.ensures j) (c.as_slice-new.ensures j))) ∙ c.if-not-keeps_ids.false)) (ap not (sym (c.keeps_stamps.ensures ∙ (λ j. keeps_stamps (c.last_stamp.ensures j) (c.as_slice-old.ensures j) (c.as_slice-new.ensures j))) ∙ c.if-not-keeps_stamps.false)) ∙ list_at i.root s p ns c.in-Ok.file.now c.args.blocks.now refl c.names.ensures.names c.in-Ok.ensures.found c.in-Ok.ensures.file)

@@ -61,8 +61,8 @@ invariant_of-self-2 c =
     let applies : refusal s (edit.Add p x.replication) ≡ None = subst (λ (n : Namespace). refusal n (edit.Add p x.replication) ≡ None) (sym c.self.view_is) c.requires.applies in
     let fit : list_all (block_fits s.issued) x.blocks ≡ true = subst (λ (n : Namespace). list_all (block_fits n.issued) x.blocks ≡ true) (sym c.self.view_is) c.requires.fit in
     subst (λ (n : Namespace). Holds n (λ id. value_at nat_cmp c.enter.new.index id) c.in-Some.sizes) (sym is) (
-      file_kept s p x look (λ id. value_at nat_cmp c.enter.new.index id) ((c.names-names.ensures.lawful, c.get.ensures.limit), c.names-names.ensures.utf8) applies fit
-          c.lawful.ensures (ap (are_new look) (sym listed) ∙ c.in_default-enter.ensures.lawful)
+      file_kept s p x look (λ id. value_at nat_cmp c.enter.new.index id) ((c.names-names.ensures.lawful, c.get-recalled.ensures.limit), c.names-names.ensures.utf8) applies fit
+          c.recall_invariant.ensures (ap (are_new look) (sym listed) ∙ c.in_default-enter.ensures.lawful)
           (λ q. c.in_default-enter.ensures.ok q ∙ (λ j. entered look (listed j) x.closed q)) c.self.invariant.0,
       c.in-Some.ensures ∙ ap (plus (size_of (File x))) c.self.invariant.1 ∙ sizes_made s p (File x) (mkdir_free s p (add_mkdir s p x.replication applies)),
     )

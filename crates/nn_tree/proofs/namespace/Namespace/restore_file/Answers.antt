@@ -7,7 +7,7 @@ use Rattle.nn_tree.proofs.namespace.Namespace.restore_file.Goals as goal
 
 pub returns-then-is_some-clause-refused : goal.returns-then-is_some-clause-refused
 returns-then-is_some-clause-refused c =
-    λ refused. file_refused c.args.self.now c.args.path.now c.args.file c.well_formed-2.ensures.well_formed (ap is_some (sym c.add_refusal.ensures) ∙ sym c.if-is_some.ensures)
+    λ refused. file_refused c.args.self.now c.args.path.now c.args.file c.recall_invariant.ensures.well_formed (ap is_some (sym c.add_refusal.ensures) ∙ sym c.if-is_some.ensures)
 
 pub returns-then-not-may_hold-clause-refused : goal.returns-then-not-may_hold-clause-refused
 returns-then-not-may_hold-clause-refused c =

@@ -10,8 +10,8 @@ use Rattle.nn_tree.proofs.namespace.Namespace.rows_from.Goals as goal
 pub returns : goal.returns
 returns c =
     let place = names_of c.args.place.now in
-    let rows : c.self.inside.root ≡ c.args.self.now.rows = sym (in_order_already c.self.inside.root c.in_order.ensures) ∙ ap (λ n. n.rows) c.self.view_is in
+    let rows : c.self.inside.root ≡ c.args.self.now.rows = sym (in_order_already c.self.inside.root c.recall_invariant.ensures) ∙ ap (λ n. n.rows) c.self.view_is in
     record {
       left = subst (λ all. IfOk c.from.result (λ walk. walk.left ≡ rows_from place all)) rows c.from.ensures;
-      resumes = resumes c.args.self.now.rows (subst (λ all. is_sorted path_cmp all ≡ true) rows c.in_order.ensures);
+      resumes = resumes c.args.self.now.rows (subst (λ all. is_sorted path_cmp all ≡ true) rows c.recall_invariant.ensures);
     }

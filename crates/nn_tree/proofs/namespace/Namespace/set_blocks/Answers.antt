@@ -4,7 +4,7 @@ use Rattle.std.specs.Ordering.{nat_cmp}
 use Rattle.nn_model.specs.declared.form.Form.TheVariants.{File}
 use Rattle.nn_model.specs.declared.form.FileRow.{FileRow}
 use Rattle.nn_model.specs.Namespace.{Namespace, lookup, with_row, file_or_none, file_at}
-use Rattle.nn_model.specs.Apply.{first, keeps_stamps, list_checks, with_blocks}
+use Rattle.nn_model.specs.Apply.{first_fault, keeps_stamps, list_checks, with_blocks}
 use Rattle.nn_model.specs.Touched.{listed}
 use Rattle.nn_model.specs.declared.form.BlockRow.{BlockRow}
 use Rattle.nn_tree.specs.View.{seen, Holds, renewed}
@@ -35,7 +35,7 @@ invariant_of-self-2 c =
     let bs = c.args.blocks.now in
     let done = c.in-Ok.ensures.ok in
     let has : HasFile s p done.0 = has_file i.root s p ns done.0 refl c.names-names.ensures.names (not_root c.names-names.result c.if-is_empty.ensures) done.2 done.3 in
-    let lawful : first (list_checks s p bs) ≡ None = list_applies s p done.0 bs has done.5.0 (ap not done.5.1) (ap (λ t. not (keeps_stamps t done.0.blocks bs)) (sym c.last_stamp-last_stamp.ensures) ∙ ap not done.5.2) in
+    let lawful : first_fault (list_checks s p bs) ≡ None = list_applies s p done.0 bs has done.5.0 (ap not done.5.1) (ap (λ t. not (keeps_stamps t done.0.blocks bs)) (sym c.last_stamp-last_stamp.ensures) ∙ ap not done.5.2) in
     let was : lookup s p ≡ Some (File done.0) = file_was i.root i.issued p ns done.0 c.names-names.ensures.names done.3 in
     let old : done.0 ≡ file_at s p = sym (ap file_or_none was) in
     let is : seen c.set_blocks-told.new.self i.issued ≡ with_blocks s p bs c.args.closed =
@@ -58,8 +58,8 @@ returns-clause-applies c =
     let bs = c.args.blocks.now in
     let done = c.in-Ok.ensures.ok in
     let has : HasFile s p done.0 = has_file i.root s p ns done.0 refl c.names-names.ensures.names (not_root c.names-names.result c.if-is_empty.ensures) done.2 done.3 in
-    let lawful : first (list_checks s p bs) ≡ None = list_applies s p done.0 bs has done.5.0 (ap not done.5.1) (ap (λ t. not (keeps_stamps t done.0.blocks bs)) (sym c.last_stamp-last_stamp.ensures) ∙ ap not done.5.2) in
-    subst (λ (n : Namespace). first (list_checks n p bs) ≡ None) c.self.view_is lawful
+    let lawful : first_fault (list_checks s p bs) ≡ None = list_applies s p done.0 bs has done.5.0 (ap not done.5.1) (ap (λ t. not (keeps_stamps t done.0.blocks bs)) (sym c.last_stamp-last_stamp.ensures) ∙ ap not done.5.2) in
+    subst (λ (n : Namespace). first_fault (list_checks n p bs) ≡ None) c.self.view_is lawful
 
 pub returns-clause-ok : goal.returns-clause-ok
 returns-clause-ok c =

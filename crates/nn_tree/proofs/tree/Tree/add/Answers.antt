@@ -48,7 +48,7 @@ returns-clause-err c =
 pub invariant_of-self-then-is_empty : goal.invariant_of-self-then-is_empty
 invariant_of-self-then-is_empty c =
     let k = c.in-Ok-of.key in
-    (tt, sorted_rows ((k, c.in-Ok-new.child.value) ∷ []) (one_in_order k) (ap (is_sorted path_cmp) c.in-Ok-new.ensures.ok ∙ c.in_order.ensures, tt))
+    (tt, sorted_rows ((k, c.in-Ok-new.child.value) ∷ []) (one_in_order k) (ap (is_sorted path_cmp) c.in-Ok-new.ensures.ok ∙ c.recall_invariant.ensures, tt))
 
 pub invariant_of-self-in_default-before : goal.invariant_of-self-in_default-before
 invariant_of-self-in_default-before c =
@@ -56,7 +56,7 @@ invariant_of-self-in_default-before c =
     let d = opened c.args.self.now c.self.inside.node c.in-Folder.children seen c.self.invariant.0 c.in-Folder.is in
     let n = c.in-Ok-of.key in
     let b = put_in c.in-Folder.children c.insert.new.self c.in-Ok-of.key c.args.tree c.in-Ok-insert.ensures.entries c.in-Ok-insert.ensures.ordered in
-    (c.in-Ok-insert.ensures.ordered, stays_sorted c.args.self.now c.in-Folder.children c.insert.new.self n (Some c.args.tree) d b (ap (is_sorted path_cmp) (sym seen) ∙ c.self.invariant.1) c.in_order.ensures)
+    (c.in-Ok-insert.ensures.ordered, stays_sorted c.args.self.now c.in-Folder.children c.insert.new.self n (Some c.args.tree) d b (ap (is_sorted path_cmp) (sym seen) ∙ c.self.invariant.1) c.recall_invariant.ensures)
 
 pub invariant_of-self-2 : goal.invariant_of-self-2
 invariant_of-self-2 c =
@@ -69,7 +69,7 @@ invariant_of-self-2 c =
     let was : Some w ≡ child c.in-Folder.children n = sym c.in-Some.is ∙ c.in-Ok-insert.ensures.old in
     let b = put_in c.in-Folder.children c.insert.new.self c.in-Ok-of.key c.args.tree c.in-Ok-insert.ensures.entries c.in-Ok-insert.ensures.ordered in
     let back = written c.insert.new.self c.by.result c.in-Some-get_mut.place.now w c.in-Some-get_mut.ensures.value c.in-Ok-insert.ensures.ordered in
-    let between = stays_sorted c.args.self.now c.in-Folder.children c.insert.new.self n (Some c.args.tree) d b whole c.in_order.ensures in (
+    let between = stays_sorted c.args.self.now c.in-Folder.children c.insert.new.self n (Some c.args.tree) d b whole c.recall_invariant.ensures in (
       back.ordered,
       stays_sorted (dir_rows c.insert.new.self) c.insert.new.self l c.by.result (Some w) (record { is = refl; ordered = b.ordered }) back between
           (child_sorted c.args.self.now c.in-Folder.children n w d whole was),

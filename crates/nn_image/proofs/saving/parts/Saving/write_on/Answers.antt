@@ -1,27 +1,27 @@
 use Rattle.std.proofs.Common.{◌≡◌, ◌+◌, ◌++◌, ◌∙◌, ap, append-nil, arith, subst, sym, Global, String, Vec}
 use Rattle.nn_device.specs.Device.{Took}
-use Rattle.nn_device.specs.Parts.{TookFront}
+use Rattle.nn_device.specs.Parts.{TookPrefix}
 use Rattle.nn_tree.specs.At.{names_of}
 use Rattle.nn_image.specs.InParts.{WrotePart, last_line, part_at, paths_from, rest_text}
 use Rattle.nn_image.specs.Text.{row_lines}
-use Rattle.nn_image.proofs.InParts.{at_err, end_front, none_written, part_there, part_unwritten, part_written, put_there, rest_written, walk_front}
+use Rattle.nn_image.proofs.InParts.{at_err, end_prefix, none_written, part_there, part_unwritten, part_written, put_there, rest_written, walk_prefix}
 use Rattle.nn_image.proofs.saving.parts.Saving.write_on.Goals as goal
 
-pub returns-in_default-clause-front : goal.returns-in_default-clause-front
-returns-in_default-clause-front g c = none_written c.args.namespace.now c.args.rows c.args.self c.args.writer.now
+pub returns-in_default-clause-prefix : goal.returns-in_default-clause-prefix
+returns-in_default-clause-prefix g c = none_written c.args.namespace.now c.args.rows c.args.self c.args.writer.now
 
-pub returns-in_err-part-clause-front : goal.returns-in_err-part-clause-front
-returns-in_err-part-clause-front g c =
+pub returns-in_err-part-clause-prefix : goal.returns-in_err-part-clause-prefix
+returns-in_err-part-clause-prefix g c =
     let n = c.args.namespace.now in
     let s = c.args.self in
     let start = c.args.writer.now in
     let now = c.put_part.new.writer in
     let left : c.in-Ok.walk.left ≡ paths_from s.path n = c.in-Ok.ensures.left ∙ ap (λ p. paths_from p n) (ap names_of c.deref.ensures.value ∙ ap (λ s. s.path) c.self.view_is) in
     let cause = c.in_err-part.field-0.0 in
-    at_err c.from_residual.result (TookFront start now (rest_text s n)) cause c.from_residual.ensures.1 (walk_front n c.args.rows s c.in-Ok.walk.left left start now cause c.in_err-part.ensures.front)
+    at_err c.from_residual.result (TookPrefix start now (rest_text s n)) cause c.from_residual.ensures.1 (walk_prefix n c.args.rows s c.in-Ok.walk.left left start now cause c.in_err-part.ensures.prefix)
 
-pub returns-in_default-checked_add-clause-front : goal.returns-in_default-checked_add-clause-front
-returns-in_default-checked_add-clause-front g c =
+pub returns-in_default-checked_add-clause-prefix : goal.returns-in_default-checked_add-clause-prefix
+returns-in_default-checked_add-clause-prefix g c =
     let n = c.args.namespace.now in
     let s = c.args.self in
     let start = c.args.writer.now in
@@ -30,8 +30,8 @@ returns-in_default-checked_add-clause-front g c =
     let left : c.in-Ok.walk.left ≡ paths_from s.path n = c.in-Ok.ensures.left ∙ ap (λ p. paths_from p n) (ap names_of c.deref.ensures.value ∙ ap (λ s. s.path) c.self.view_is) in
     part_unwritten n c.args.rows s start now page c.in_ok-part.ensures.well (put_there n c.args.rows s c.in-Ok.walk.left left start now page c.in_ok-part.ensures.put)
 
-pub returns-in_err-end-clause-front : goal.returns-in_err-end-clause-front
-returns-in_err-end-clause-front g c =
+pub returns-in_err-end-clause-prefix : goal.returns-in_err-end-clause-prefix
+returns-in_err-end-clause-prefix g c =
     let n = c.args.namespace.now in
     let s = c.args.self in
     let start = c.args.writer.now in
@@ -44,9 +44,9 @@ returns-in_err-end-clause-front g c =
     let is_part = part_there n c.args.rows s c.in-Ok.walk.left left part c.in_ok-part.ensures.part in
     let now = c.end.new.writer in
     let cause = c.in_err-end.field-0.0 in
-    at_err c.from_residual-in_err-end.result (TookFront start now (rest_text s n)) cause c.from_residual-in_err-end.ensures.1
-    (end_front n c.args.rows s part is_part count counted start now cause
-    (c.in_err-end.ensures.front start (lines ++ last_line part.next count) (c.put_last.ensures start lines put)))
+    at_err c.from_residual-in_err-end.result (TookPrefix start now (rest_text s n)) cause c.from_residual-in_err-end.ensures.1
+    (end_prefix n c.args.rows s part is_part count counted start now cause
+    (c.in_err-end.ensures.prefix start (lines ++ last_line part.next count) (c.put_last.ensures start lines put)))
 
 pub returns-in_default-next-clause-rest : goal.returns-in_default-next-clause-rest
 returns-in_default-next-clause-rest g c =

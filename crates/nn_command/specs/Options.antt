@@ -10,17 +10,17 @@ use Rattle.nn_types.specs.Settings.{Settings, AreSettings}
 use Rattle.nn_types.specs.Limits.{max_replication, max_capacity}
 use Rattle.nn_command.specs.declared.options.Request.{Request}
 
--- `--NAME VALUE`, and the value where the name is not there
+-- `--NAME N`, and the value where the name is not there
 abbrev pub value_rule : Text → ValueParser → Text → Rule
-value_rule name parser default = record (new_rule name) { long = Some name; action = Some Set; defaults = default ∷ []; parser = Some parser }
+value_rule name parser default = record (new_rule name) { long = Some name; action = Some Set; value_names = 1; defaults = default ∷ []; parser = Some parser }
 
 -- `--NAME`, with no value
 abbrev pub flag_rule : Text → Rule
 flag_rule name = record (new_rule name) { long = Some name; action = Some SetTrue }
 
--- `--NAME VALUE`, which may be left out
+-- `--NAME N`, which may be left out
 abbrev pub optional_rule : Text → ValueParser → Rule
-optional_rule name parser = record (new_rule name) { long = Some name; action = Some Set; parser = Some parser }
+optional_rule name parser = record (new_rule name) { long = Some name; action = Some Set; value_names = 1; parser = Some parser }
 
 -- the program, which has a version
 abbrev pub the_program : App

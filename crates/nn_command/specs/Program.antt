@@ -66,7 +66,7 @@ streams before after output output' errors errors' = record {
 
 -- a reader of which nothing is known, for what is done without one
 abbrev pub no_reader : Reader
-no_reader = record { left = None; reads = 0; given = 0; failed = false }
+no_reader = record { left = None; reads = 0; given = 0; failed = false; refused = false }
 
 -- the writer got the text, and the status is this one; or a write failed before it got all, and the status is 1
 abbrev pub WritesText : Writer → Writer → List ℕ → ℕ → ℕ → Type 0

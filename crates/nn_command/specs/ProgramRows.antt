@@ -159,7 +159,7 @@ a_run_with_all_three = refl
 
 -- a reader with so many bytes given, of three
 abbrev reader : ℕ → Reader
-reader given = record { left = None; reads = 0; given = given; failed = false }
+reader given = record { left = None; reads = 0; given = given; failed = false; refused = false }
 
 abbrev writer : List ℕ → Bool → Writer
 writer got failed = record { contents = Some got; taken = length got; failed = failed }
@@ -314,7 +314,7 @@ unfolding scenario_of lines_from parts_from
 nothing_read scenario e = let same : scenario_with [] [] ≡ scenario = cc in subst (λ (s : Scenario). AreEventsOf from_root false s.steps (segments_from 1 s.parts) []) same nothing_happens
 
 abbrev at_its_end : Reader
-at_its_end = record { left = Some []; reads = 0; given = 0; failed = false }
+at_its_end = record { left = Some []; reads = 0; given = 0; failed = false; refused = false }
 
 abbrev run_over_nothing : Streams
 run_over_nothing = record {

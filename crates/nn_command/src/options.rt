@@ -24,11 +24,14 @@ const GREATEST_CAPACITY: i64 = MAX_CAPACITY as i64;
 const GREATEST_MIN: i64 = MAX_REPLICATION as i64;
 
 const ABOUT: &str =
-    "Reads a scenario of edit lines and messages, one JSON object a line, from standard input, and \
+    "Reads a scenario of edit lines and reports, one JSON object a line, from standard input, and \
 prints the namespace that it leaves, the replicas and orders, and the counts of safe mode.";
 
 // A scenario is no argument: its file is standard input.
 const USAGE: &str = "nn_standby [OPTIONS] < SCENARIO";
+
+// What help calls a value.
+const NUMBER: &str = "N";
 
 const PERMILLE: &str =
     "How many blocks of each thousand have to be safe before safe mode ends, 0 to 1000.";
@@ -39,20 +42,22 @@ const THREADS: &str =
     "Lets each DataNode report from a thread of its own. What is printed is the same, except for a history.";
 
 const HISTORY: &str =
-    "Prints the history of the standby first: each transaction and each message, as it was taken.";
+    "Prints the history of the standby first: each transaction and each report, as it was taken.";
 
 const SUMMARY: &str =
     "Prints what an operator reads of the standby too, after the tables: a line for each figure.";
 
 const UNSAFE: &str = "Prints the blocks that keep safe mode on too, after the tables.";
 
-const IMAGE: &str = "Prints the image of the namespace too, at the end.";
+const IMAGE: &str =
+    "Prints the image of the namespace too, at the end: a checkpoint, from which --from-image goes on.";
 
 const FROM_IMAGE: &str =
-    "Goes on from the image that standard input begins with, or that stands there after a line image (not with --live).";
+    "Goes on from the image that standard input begins with, and the scenario follows it. Without --live, other output \
+may stand before the image, with a line image between.";
 
 const CAPACITY: &str =
-    "How many reports of a DataNode wait at a time with --threads, 1 to 1024; 64 where it is left out.";
+    "With --threads: how many reports of a DataNode wait at a time, 1 to 1024; 64 where it is left out.";
 
 const LIVE: &str =
     "Serves: takes lines and answers words as they come, until the input ends. Not with --threads, --capacity, --summary, --unsafe or --image.";
@@ -61,7 +66,7 @@ const CONTRADICTORY: &str =
     "--live goes with neither --threads, --capacity, --summary, --unsafe nor --image";
 
 const EXPLAIN: &str =
-    "Prints what the fault with this number means and what can be done, and reads no input.";
+    "Prints what the fault with this number means and what can be done. It needs no input, and reads none.";
 
 /// What the command line asks for.
 #[derive(Clone, Copy, Debug, PartialEq, Eq)]
@@ -191,7 +196,7 @@ fn flag<'a>(alloc: Global, name: &'a str, help: &'a str) -> Arg<'a>
         .help(help)
 }
 
-// `--NAME VALUE`.
+// `--NAME N`.
 fn valued<'a>(
     alloc: Global,
     name: &'a str,
@@ -205,12 +210,13 @@ fn valued<'a>(
     Arg::new(alloc, name)
         .long(name)
         .action(ArgAction::Set)
+        .value_name(NUMBER)
         .value_parser(parser)
         .default_value(default)
         .help(help)
 }
 
-// `--NAME VALUE`, which may be left out.
+// `--NAME N`, which may be left out.
 fn optional<'a>(alloc: Global, name: &'a str, parser: ValueParser<'a>, help: &'a str) -> Arg<'a>
     ensures rule { rule_of result ≡ optional_rule name.entry.now parser.entry }
     ensures own { result.global ≡ false }
@@ -218,6 +224,7 @@ fn optional<'a>(alloc: Global, name: &'a str, parser: ValueParser<'a>, help: &'a
     Arg::new(alloc, name)
         .long(name)
         .action(ArgAction::Set)
+        .value_name(NUMBER)
         .value_parser(parser)
         .help(help)
 }

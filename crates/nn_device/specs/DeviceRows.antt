@@ -1,16 +1,16 @@
 -- Reads and writes of devices whose bytes are known.
-use Rattle.std.specs.Prelude.{◌≡◌, ◌<◌, ◌⊎◌, ℕ, true, false, Some, codes, refl}
+use Rattle.std.specs.Prelude.{◌≡◌, ◌<◌, ◌≤◌, ◌⊎◌, ◌^◌, ℕ, true, false, Some, codes, refl}
 use Rattle.std.proofs.Common.{sym, inl, inr, true≢false, arith}
 use Rattle.nn_device.specs.Device.{Reader, Writer, Gave, FailedToRead, GaveOn, FailedToReadOn, Took, FailedToWrite}
 
 abbrev unread : Reader
-unread = record { left = Some (codes "abc"); reads = 0; given = 0; failed = false }
+unread = record { left = Some (codes "abc"); reads = 0; given = 0; failed = false; refused = false }
 
 abbrev half_read : Reader
-half_read = record { left = Some (codes "c"); reads = 1; given = 2; failed = false }
+half_read = record { left = Some (codes "c"); reads = 1; given = 2; failed = false; refused = false }
 
 abbrev failed_reader : Reader
-failed_reader = record { left = Some (codes "c"); reads = 1; given = 2; failed = true }
+failed_reader = record { left = Some (codes "c"); reads = 1; given = 2; failed = true; refused = true }
 
 abbrev unwritten : Writer
 unwritten = record { contents = Some (codes "x"); taken = 7; failed = false }
@@ -23,7 +23,7 @@ torn = record { contents = Some (codes "xab"); taken = 9; failed = true }
 
 -- two bytes were given
 gave_two : Gave unread half_read 2
-gave_two = record { open_before = refl; open_after = refl; read = refl; counted = refl; bounded = omega arith }
+gave_two = record { open_before = refl; open_after = refl; unrefused = refl; read = refl; counted = refl; bounded = omega arith }
 
 -- no read that gave bytes notes a failure
 no_failure_noted : Gave unread failed_reader 2 → ⊥
@@ -43,11 +43,39 @@ not_read h = let e : 0 ≡ 1 = h.read in omega (arith, e)
 
 -- a failed read gives nothing, and is counted
 failed_read : FailedToRead half_read (record failed_reader { reads = 2 })
-failed_read = record { noted = refl; read = inr (refl, refl); counted = refl }
+failed_read = record { noted = refl; read = inr (refl, refl); counted = refl; why = inl (inl refl) }
 
 -- a reader that was given up is not read
-given_up : FailedToRead half_read failed_reader
-given_up = record { noted = refl; read = inl refl; counted = refl }
+abbrev read_so_often : Reader
+read_so_often = record half_read { reads = 2 ^ 24 }
+
+given_up : FailedToRead read_so_often (record read_so_often { failed = true })
+given_up = record { noted = refl; read = inl refl; counted = refl; why = inr (omega arith) }
+
+-- no read fails of itself: the device refused one, or the reader had failed, or had given all that it may
+not_of_itself : FailedToRead half_read (record failed_reader { refused = false }) → ⊥
+not_of_itself h = by h.why
+  where
+    by : ((false ≡ true) ⊎ ((false ≡ true) ⊎ (2 ^ 62 ≤ 2))) ⊎ (2 ^ 24 ≤ 1) → ⊥
+    by (inl (inl e)) = true≢false (sym e)
+    by (inl (inr (inl e))) = true≢false (sym e)
+    by (inl (inr (inr more))) = omega (arith, more)
+    by (inr more) = omega (arith, more)
+
+not_of_itself_on : FailedToReadOn half_read (record failed_reader { refused = false }) → ⊥
+not_of_itself_on h = by h.why
+  where
+    by : (false ≡ true) ⊎ ((false ≡ true) ⊎ (2 ^ 62 ≤ 2)) → ⊥
+    by (inl e) = true≢false (sym e)
+    by (inr (inl e)) = true≢false (sym e)
+    by (inr (inr more)) = omega (arith, more)
+
+-- a read that gave bytes was not refused
+not_refused : Gave unread (record half_read { refused = true }) 2 → ⊥
+not_refused h = true≢false h.unrefused
+
+not_refused_on : GaveOn unread (record half_read { reads = 0; refused = true }) 2 → ⊥
+not_refused_on h = true≢false h.unrefused
 
 -- a failed read is not made again
 read_again : FailedToRead failed_reader (record failed_reader { reads = 2 }) → ⊥
@@ -62,10 +90,10 @@ end_is_no_failure h = true≢false (sym h.noted)
 
 -- a read that is not counted gave two bytes, or failed
 gave_two_on : GaveOn unread (record half_read { reads = 0 }) 2
-gave_two_on = record { open_before = refl; open_after = refl; read = refl; counted = refl; bounded = omega arith }
+gave_two_on = record { open_before = refl; open_after = refl; unrefused = refl; read = refl; counted = refl; bounded = omega arith }
 
 failed_on : FailedToReadOn half_read failed_reader
-failed_on = record { noted = refl; read = refl; counted = refl }
+failed_on = record { noted = refl; read = refl; counted = refl; why = inl refl }
 
 -- however many there are, they give no reader up
 none_is_counted : GaveOn unread half_read 2 → ⊥

@@ -12,14 +12,15 @@ use thiserror::Error;
 /// The reads after which a reader is given up that has not ended: 2^24.
 const MAX_READS: u32 = 16_777_216;
 
-/// A reader, how many reads of it were counted, how many bytes it gave, and whether one of its reads failed. Only its own reads
-/// note that, so no user of a reader can make a failed read up.
+/// A reader, how many reads of it were counted, how many bytes it gave, whether one of its reads failed, and whether the device
+/// refused it. Only its own reads note that, so no user of a reader can make a failed read up.
 #[derive(Debug, Drop)]
 pub struct Reader<R: Read> {
     reader: R,
     reads: u32,
     given: u64,
     failed: bool,
+    refused: bool,
 }
 
 impl<R: Read> Model for Reader<R> {
@@ -28,7 +29,7 @@ impl<R: Read> Model for Reader<R> {
 
     ghost Value = { Reader };
 
-    ghost view = { λ i. record { left = R.remaining i.reader; reads = i.reads; given = i.given; failed = i.failed } };
+    ghost view = { λ i. record { left = R.remaining i.reader; reads = i.reads; given = i.given; failed = i.failed; refused = i.refused } };
 
     ghost invariant = { λ i. (i.reads ≤ 2 ^ 24) × (i.given < 2 ^ 62 + 2 ^ 63) };
 }
@@ -41,13 +42,14 @@ pub struct ReadFailed;
 impl<R: Read> Reader<R> {
     /// This reader, of which nothing was read.
     pub fn new(reader: R) -> Reader<R>
-        ensures { result ≡ record { left = R.remaining reader; reads = 0; given = 0; failed = false } }
+        ensures { result ≡ record { left = R.remaining reader; reads = 0; given = 0; failed = false; refused = false } }
     {
         Reader {
             reader,
             reads: 0,
             given: 0,
             failed: false,
+            refused: false,
         }
     }
 
@@ -82,6 +84,7 @@ impl<R: Read> Reader<R> {
         }
         let Ok(n) = self.reader.read(buffer) else {
             self.failed = true;
+            self.refused = true;
             return Err(ReadFailed);
         };
         self.given += n as u64;

@@ -6,7 +6,7 @@ use Rattle.nn_device.specs.Device.{Writer}
 use Rattle.nn_image.specs.InParts.{Place, behind_part}
 use Rattle.nn_image.specs.Text.{image_text}
 use Rattle.nn_lane_standby.specs.Tailing.{Standby}
-use Rattle.nn_drive.specs.Checkpoints.{Begun, Checkpointing, Heard, held, request_with, IsCalledOff, EndsAs, IsCheckpointPart, BeganCheckpoint, CallsOff, BeginsIn, Continues, Turns, IsImageOf, HearsTruth}
+use Rattle.nn_drive.specs.Checkpoints.{Begun, Checkpointing, Heard, held, request_with, IsCalledOff, EndsAs, IsCheckpointPart, BeganCheckpoint, IsLeftWith, HasNone, CallsOff, BeginsIn, Continues, Turns, IsImageOf, HearsTruth}
 use Rattle.nn_drive.specs.declared.checkpointing.EndedCheckpoint.{EndedCheckpoint}
 use Rattle.nn_drive.specs.declared.checkpointing.CheckpointOutcome.TheVariants.{Written, CalledOff, Failed}
 use Rattle.nn_drive.specs.declared.operator.Request.{Request}
@@ -121,6 +121,13 @@ not_begun_behind_the_first_path x w b one h = let e : 1 ≡ 0 = sym one ∙ ap (
 
 not_written_at_once : (x : Standby) (w : ℕ) (e : Heard ℕ) → e.1.outcome ≡ Written → BeganCheckpoint contents x w (Break e) → ⊥
 not_written_at_once x w e written h = let no : Written ≡ Failed h.1.1 = sym written ∙ h.1.3 in cc
+
+-- in a rotation in which no checkpoint ended, the operator hears nothing and is not asked again
+not_told_of_what_is_in_hand : (q : ℕ) (b : Begun) (heard : Option (Heard ℕ)) (p : Checkpointing ℕ) → p.operator ≡ q + 10 → IsLeftWith hears q (Continue b) heard p → ⊥
+not_told_of_what_is_in_hand q b heard p ten h = omega (arith, ten, h.2)
+
+not_asked_twice : (q : ℕ) (heard : Option (Heard ℕ)) (p : Checkpointing ℕ) → p.operator ≡ q + 1 → HasNone hears q heard p → ⊥
+not_asked_twice q heard p twice h = omega (arith, twice, h.2)
 
 -- none is begun that was not wanted
 not_begun_unwanted : (x : Standby) (q : ℕ) (heard : Option (Heard ℕ)) (p : Checkpointing ℕ) → Continues contents hears (λ o y due r. (due ≡ None) × (r ≡ o)) None 2 x q heard p → p.in_hand ≡ None

@@ -126,7 +126,7 @@ pub record JoinsAll {S : Type 0} (gives : S → Option Report → S → Type 0) 
       → IsJoined gives told (slice_index_or handles i h) (slice_index_or ends i e) (slice_index_or reporters i r)
   pub one : told ≡ true → ToldOne ends reporters
 
--- what the meeting of the two ends of a lane says: what was taken is the prefix of what was sent, a close counted all of that, and only
+-- what the meeting of the two ends of a lane says: what was taken is a prefix of what was sent, a close counted all of that, and only
 -- the reporter of a closed lane was told of a close
 abbrev pub EndsAgree : LaneEnd → Reporter → Type 0
 EndsAgree e r = StartsWith r.sent (got_of e) × (e.closed ≡ true → known_count e ≡ length r.sent) × (r.told ≡ true → e.closed ≡ true)

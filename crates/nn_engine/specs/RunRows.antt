@@ -21,7 +21,7 @@ status = refl
 
 -- a reader that has three bytes left
 abbrev reader : Bool → Reader
-reader failed = record { left = Some (codes "abc"); reads = 0; given = 0; failed = failed }
+reader failed = record { left = Some (codes "abc"); reads = 0; given = 0; failed = failed; refused = false }
 
 read_failed : IsUnread false (reader false) (reader true) ReadFailed
 read_failed = refl
@@ -31,7 +31,7 @@ not_made_up : IsUnread false (reader false) (reader false) ReadFailed → ⊥
 not_made_up h = true≢false (sym h)
 
 -- three bytes are not too many
-not_too_long : IsUnread false (reader false) (record { left = Some []; reads = 1; given = 3; failed = false }) TooLong → ⊥
+not_too_long : IsUnread false (reader false) (record { left = Some []; reads = 1; given = 3; failed = false; refused = false }) TooLong → ⊥
 not_too_long h = let more = h.0.1 in let many = h.0.3 in omega (arith, more, many)
 
 -- ---- What is too long.
@@ -149,12 +149,12 @@ unreadable : (options : Options) → IsUnreadable (running options false (reader
 unreadable options = inl refl
 
 -- three bytes that were read are not too many
-not_unreadable : (options : Options) → IsUnreadable (running (record options { from_image = false }) false (reader false) (record { left = Some []; reads = 1; given = 3; failed = false })) → ⊥
+not_unreadable : (options : Options) → IsUnreadable (running (record options { from_image = false }) false (reader false) (record { left = Some []; reads = 1; given = 3; failed = false; refused = false })) → ⊥
 not_unreadable options h = ⊎_elim (λ (e : false ≡ true). true≢false (sym e)) (λ k. let more = k.1 in let many = k.3 in omega (arith, more, many)) h
 
 -- the output of all is of what was given, up to the end, and of no more than an input may have
-not_of_a_part : (given : Given) (p : Printed) → IsOutputOfAll (record given { after = record { left = Some (codes "c"); reads = 1; given = 2; failed = false } }) p → ⊥
+not_of_a_part : (given : Given) (p : Printed) → IsOutputOfAll (record given { after = record { left = Some (codes "c"); reads = 1; given = 2; failed = false; refused = false } }) p → ⊥
 not_of_a_part given p h = let e : codes "c" ≡ [] = h.whole in cc
 
-not_of_other_bytes : (options : Options) (p : Printed) (o : IsOutputOfAll (running options false (reader false) (record { left = Some []; reads = 1; given = 3; failed = false })) p) → length o.input ≡ 2 → ⊥
+not_of_other_bytes : (options : Options) (p : Printed) (o : IsOutputOfAll (running options false (reader false) (record { left = Some []; reads = 1; given = 3; failed = false; refused = false })) p) → length o.input ≡ 2 → ⊥
 not_of_other_bytes options p o two = let e : 3 ≡ 0 + length o.input = o.counted in omega (arith, e, two)

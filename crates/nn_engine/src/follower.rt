@@ -83,8 +83,8 @@ impl Follower {
     }
 
     /// The next transaction, which is the first of its segment or not. What is not the next one of the log does nothing; a
-    /// segment that begins above that, or an edit that doesn't apply, stops the log. Where memory is refused the standby is as
-    /// before.
+    /// segment that begins above that, or an edit that doesn't apply, stops the log. Where memory is refused the follower is
+    /// to be discarded.
     pub fn follow_edit(&mut self, begins: bool, tx: &Tx) -> Result<(), AllocError>
         ensures ok { OnOk result (FollowsEdit begins tx.now self.old self.new) }
         ensures messages { self.new.messages ≡ self.old.messages }
@@ -107,7 +107,7 @@ impl Follower {
         Ok(())
     }
 
-    /// The next report of its DataNode. Where memory is refused the standby is as before.
+    /// The next report of its DataNode. Where memory is refused the follower is to be discarded.
     pub fn follow_report(&mut self, report: &Report) -> Result<(), AllocError>
         requires known { (1 ≤ report.now.dn) × (report.now.dn ≤ max_datanodes) }
         requires few { self.old.messages < 2 ^ 32 }

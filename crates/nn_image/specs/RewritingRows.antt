@@ -84,10 +84,10 @@ limit_is_not_read = refl
 -- ---- Rewritten whole.
 
 abbrev unread : Reader
-unread = record { left = Some old_image; reads = 0; given = 0; failed = false }
+unread = record { left = Some old_image; reads = 0; given = 0; failed = false; refused = false }
 
 abbrev all_read : Reader
-all_read = record { left = Some []; reads = 1; given = 112; failed = false }
+all_read = record { left = Some []; reads = 1; given = 112; failed = false; refused = false }
 
 abbrev failed_reader : Reader
 failed_reader = record all_read { failed = true }

@@ -3,7 +3,7 @@ use Rattle.std.proofs.Common.{◌≡◌, ℕ, ◌+◌, ◌≤◌, Bool, true, fa
 use Rattle.std.specs.Io.KnownBytes.{Consumes, Keeps}
 use Rattle.std.proofs.KnownBytes.{Consumes-nil, Consumes-trans}
 use Rattle.std.proofs.lemmas.List.{length-take}
-use Rattle.nn_device.specs.Device.{Reader, Writer}
+use Rattle.nn_device.specs.Device.{IsRefusal, Reader, Writer}
 use Rattle.nn_device.specs.Page.{Page, HasGone, HasPut}
 use Rattle.nn_device.specs.Parts.{TookPrefix}
 use Rattle.nn_device.specs.declared.writer.OutputFault.{OutputFault}
@@ -11,7 +11,7 @@ use Rattle.nn_device.specs.declared.writer.OutputFault.TheVariants.{WriteFailed}
 use Rattle.nn_engine.specs.Output.{image_fault}
 use Rattle.nn_image.specs.declared.fault.ImageFault.{ImageFault}
 use Rattle.nn_live.specs.Live.{ended, refused, so_far, exit_status, told_so_far, written_of}
-use Rattle.nn_live.specs.Running.{EndsRun, GaveBytes, Halts, IsOfLines, IsLiveOutput, IsReader, IsStage, Run, asked_by, halt_text, live_output, serving_by}
+use Rattle.nn_live.specs.Running.{EndsRun, GaveBytes, Halts, IsOfLines, IsCutOff, IsLiveOutput, IsReader, IsStage, Run, asked_by, halt_text, live_output, serving_by}
 use Rattle.nn_live.specs.declared.run.EndFault.{EndFault}
 use Rattle.nn_live.specs.declared.run.EndFault.TheVariants as halt
 use Rattle.nn_live.specs.declared.run.LiveOptions.{LiveOptions}
@@ -55,7 +55,7 @@ module _ (a b c : Reader) (bytes : List ℕ) (gave : GaveBytes a b bytes) where
 pub nothing_served : (o : LiveOptions) (r : Reader) → Halts (serving_by o r r) [] halt.OutOfMemory
 nothing_served o r = record { bytes = []; gave = given_none r; reader = refl; is = no_prefix _ }
 
-pub lines_reader : (why : EndFault) (before after : Bool) → IsOfLines why → after ≡ before → IsReader why before after
+pub lines_reader : (why : EndFault) (before after : Reader) → IsOfLines why → after.failed ≡ before.failed → IsReader why before after
 lines_reader (halt.Refused fault) before after of same = same
 lines_reader halt.Unreadable before after of same = absurd of
 lines_reader halt.OutOfMemory before after of same = same
@@ -77,6 +77,20 @@ nothing_left p w put = at p.lost p.left put
         none [] e = sym e
         none (x ∷ prefix) e = absurd (cc)
     at true left put = absurd (omega (arith, put.short, ap length put.whole, length-append put.prefix put.rest))
+
+-- and no write of it failed
+pub nothing_lost : (p : Page) (w : Writer) → HasPut w [] p w → p.lost ≡ false
+nothing_lost p w put = at p.lost refl put
+  where
+    at : (lost : Bool) → p.lost ≡ lost → HasGone lost w [] p.left w → p.lost ≡ false
+    at false is put = is
+    at true is put = absurd (omega (arith, put.short, ap length put.whole, length-append put.prefix put.rest))
+
+-- a read that failed was refused, or was not made
+pub cut_off : (before old new : Reader) → old.failed ≡ before.failed → new.given ≡ old.given → IsRefusal old new → IsCutOff before new
+cut_off before old new same counted (inl noted) = inl noted
+cut_off before old new same counted (inr (inl failed)) = inr (inl (sym same ∙ failed))
+cut_off before old new same counted (inr (inr all)) = inr (inr (omega (arith, all, counted)))
 
 -- behind a failed write it has a prefix
 pub lost_prefix : (p : Page) (start now : Writer) (text : List ℕ) → p.lost ≡ true → HasPut start text p now → TookPrefix start now text WriteFailed
@@ -100,7 +114,7 @@ refused_output o input told fault none is =
 pub halt_output : (run : Run) (told : List ℕ) (why : EndFault) → Halts run told why → IsLiveOutput run (record { text = told ++ halt_text why; status = 1 })
 halt_output run told (halt.Refused fault) h =
     inr (inl (record { bytes = h.bytes; gave = h.gave; none_failed = h.reader; is = λ more. refused_output run.options (h.bytes ++ more) told fault h.is.0 (h.is.1 more) }))
-halt_output run told halt.Unreadable h = inr (inr (inl (record { bytes = h.bytes; gave = h.gave; failed = h.reader; is = ap (λ t. record { text = t ++ halt_text halt.Unreadable; status = 1 }) h.is })))
+halt_output run told halt.Unreadable h = inr (inr (inl (record { bytes = h.bytes; gave = h.gave; failed = h.reader.0; why = h.reader.1; is = ap (λ t. record { text = t ++ halt_text halt.Unreadable; status = 1 }) h.is })))
 halt_output run told halt.OutOfMemory h = inr (inr (inr (record { bytes = h.bytes; gave = h.gave; none_failed = h.reader; told = told; prefix = h.is; is = refl })))
 
 pub end_output : (run : Run) (told : List ℕ) (status : ℕ) → EndsRun run told status → IsLiveOutput run (record { text = told; status = status })

@@ -2,6 +2,7 @@ pub mod Words
 pub mod Answers
 pub mod Live
 pub mod LiveRows
+pub mod EdgeRows
 pub mod Laws
 pub mod Serving
 pub mod Taking

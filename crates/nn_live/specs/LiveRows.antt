@@ -24,14 +24,14 @@ use Rattle.nn_live.specs.Live.{LiveSetup, live_text, takes, takes_all, takes_tor
 use Rattle.nn_live.specs.Words.{word_alone, word_in}
 
 -- lines, each with its line feed
-abbrev lines : List (List ℕ) → List ℕ
+abbrev pub lines : List (List ℕ) → List ℕ
 lines each = flat_map (λ l. l ++ line_feed ∷ []) each
 
-abbrev asks : Bool → LiveSetup
+abbrev pub asks : Bool → LiveSetup
 asks history = record { permille = 999; min = 1; history = history; version = codes "1.2.3" }
 
 -- all that is written for these lines by a service that began with the root alone
-abbrev live : List (List ℕ) → List ℕ
+abbrev pub live : List (List ℕ) → List ℕ
 live each = live_text (asks false) false (lines each)
 
 -- and with the history
@@ -166,7 +166,7 @@ unfolding takes takes_all takes_torn takes_pieces word_in word_alone read_segmen
 behind_what_it_knows = refl
 
 -- what is counted of the root alone
-abbrev counts_of_the_root : List (List ℕ)
+abbrev pub counts_of_the_root : List (List ℕ)
 counts_of_the_root =
     codes "files 0" ∷ codes "directories 1" ∷ codes "file_blocks 0" ∷ codes "missing 0" ∷ codes "missing_of_one 0" ∷ codes "under_replicated 0" ∷ codes "over_replicated 0"
     ∷ codes "stale 0" ∷ codes "ahead 0" ∷ codes "wrong_length 0" ∷ codes "orders 0" ∷ []

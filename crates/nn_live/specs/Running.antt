@@ -1,5 +1,5 @@
 -- What a service wrote, beside what its reader gave.
-use Rattle.std.specs.Prelude.{◌≡◌, ◌⊎◌, ◌+◌, ◌++◌, [], ℕ, Bool, true, List, length, Option, Some, None}
+use Rattle.std.specs.Prelude.{◌≡◌, ◌⊎◌, ◌+◌, ◌^◌, ◌≤◌, ◌++◌, [], ℕ, Bool, true, List, length, Option, Some, None}
 use Rattle.std.specs.Io.KnownBytes.{Consumes, IsAtEnd}
 use Rattle.nn_device.specs.Device.{Reader, Writer, Took}
 use Rattle.nn_engine.specs.Output.{Printed, image_fault}
@@ -59,11 +59,16 @@ pub record IsOfRefused (run : Run) (p : Printed) : Type 0 where
   pub none_failed : NoReadFailed run
   pub is : (more : List ℕ) → p ≡ live_output run.options (bytes ++ more)
 
+-- the device refused a read; or the reader had failed before it was served, or gave 2^62 bytes
+abbrev pub IsCutOff : Reader → Reader → Type 0
+IsCutOff before after = (after.refused ≡ true) ⊎ ((before.failed ≡ true) ⊎ (2 ^ 62 ≤ after.given))
+
 -- A read failed. What the lines so far say was told, and then that.
 pub record IsOfFailedRead (run : Run) (p : Printed) : Type 0 where
   pub bytes : List ℕ
   pub gave : GaveBytes run.before run.after bytes
   pub failed : run.after.failed ≡ true
+  pub why : IsCutOff run.before run.after
   pub is : p ≡ record { text = told_so_far (asked_by run.options) run.options.from_image bytes ++ unread_line ReadFailed; status = 1 }
 
 -- Memory was refused, or a count had come to its end. A prefix of what the bytes so far say was told, and then that.
@@ -125,10 +130,10 @@ halt_text halt.Unreadable = unread_line ReadFailed
 halt_text halt.OutOfMemory = unread_line OutOfMemory
 
 -- and what it says of the reader
-abbrev pub IsReader : EndFault → Bool → Bool → Type 0
-IsReader (halt.Refused fault) before after = after ≡ before
-IsReader halt.Unreadable before after = after ≡ true
-IsReader halt.OutOfMemory before after = after ≡ before
+abbrev pub IsReader : EndFault → Reader → Reader → Type 0
+IsReader (halt.Refused fault) before after = after.failed ≡ before.failed
+IsReader halt.Unreadable before after = (after.failed ≡ true) × IsCutOff before after
+IsReader halt.OutOfMemory before after = after.failed ≡ before.failed
 
 -- a reason that lines give
 abbrev pub IsOfLines : EndFault → Type 0
@@ -140,7 +145,7 @@ IsOfLines halt.OutOfMemory = Unit {0}
 pub record Halts (run : Run) (told : List ℕ) (why : EndFault) : Type 0 where
   pub bytes : List ℕ
   pub gave : GaveBytes run.before run.after bytes
-  pub reader : IsReader why run.before.failed run.after.failed
+  pub reader : IsReader why run.before run.after
   pub is : IsHalt run.options bytes told why
 
 -- it gave an input to its end, of which this is the text, and the status

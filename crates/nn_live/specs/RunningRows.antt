@@ -1,5 +1,5 @@
 -- What a service wrote beside what its reader gave, on small examples.
-use Rattle.std.specs.Prelude.{◌≡◌, ℕ, ◌+◌, Bool, true, false, List, [], ◌∷◌, ◌++◌, length, Some, codes, refl}
+use Rattle.std.specs.Prelude.{◌≡◌, ◌⊎◌, ◌≤◌, ◌^◌, ℕ, ◌+◌, Bool, true, false, List, [], ◌∷◌, ◌++◌, length, Some, codes, refl}
 use Rattle.std.proofs.Common.{arith, ap, append-nil, get_or, inl, inr, sym, true≢false, ◌∙◌}
 use Rattle.std.specs.Fmt.{digits}
 use Rattle.std.specs.Str.{is_utf8, chars}
@@ -21,7 +21,7 @@ done = codes "done 1" ++ line_feed ∷ []
 
 -- a reader that has these bytes, of five
 abbrev reader : List ℕ → ℕ → Bool → Reader
-reader left given failed = record { left = Some left; reads = 0; given = given; failed = failed }
+reader left given failed = record { left = Some left; reads = 0; given = given; failed = failed; refused = failed }
 
 abbrev unread : Reader
 unread = reader sync 0 false
@@ -91,10 +91,19 @@ module _ (o : LiveOptions) where
 
   -- behind a failed read comes what was told, and that
   failed_read : IsOfFailedRead (serving_by root unread (reader [] 5 true)) (printed (done ++ (codes "fault 8" ++ line_feed ∷ [])) 1)
-  failed_read = record { bytes = sync; gave = record { taken = refl; counted = refl }; failed = refl; is = ap (λ t. printed (t ++ (codes "fault 8" ++ line_feed ∷ [])) 1) (sym told_yet) }
+  failed_read = record { bytes = sync; gave = record { taken = refl; counted = refl }; failed = refl; why = inl refl; is = ap (λ t. printed (t ++ (codes "fault 8" ++ line_feed ∷ [])) 1) (sym told_yet) }
 
   not_where_none_failed : (p : Printed) → IsOfFailedRead (serving_by root unread at_its_end) p → ⊥
   not_where_none_failed p h = true≢false (sym h.failed)
+
+  -- no read fails of itself
+  not_of_itself : (p : Printed) → IsOfFailedRead (serving_by root unread (record (reader [] 5 true) { refused = false })) p → ⊥
+  not_of_itself p h = by h.why
+    where
+      by : (false ≡ true) ⊎ ((false ≡ true) ⊎ (2 ^ 62 ≤ 5)) → ⊥
+      by (inl e) = true≢false (sym e)
+      by (inr (inl e)) = true≢false (sym e)
+      by (inr (inr more)) = omega (arith, more)
 
   -- where memory is refused, a prefix of it
   nothing_told : IsOfNoMemory (serving_by root unread at_its_end) (printed (codes "fault 55" ++ line_feed ∷ []) 1)

@@ -73,13 +73,15 @@ impl InHand {
         self.last
     }
 
-    /// One more edit: the text of its line, and its transaction. No end mark came before it.
+    /// One more edit: the text of its line, and its transaction. No end mark came before it. Where they are more bytes than a
+    /// segment may have, no transaction is kept.
     pub(crate) fn push(&mut self, text: &[u8], tx: Tx) -> Result<(), ServiceFault>
         requires unbroken { is_unbroken text.now ≡ true }
         requires read { edit_of_line text.now ≡ Ok tx }
         requires from_one { 1 ≤ tx.txid }
         ensures ok { OnOk result ((part : Part) → HasPart part self.old
             → HasRead (with_edit_line (part_alone part) (record { text = text.now; tx = tx })) (with_line part (record { text = text.now; tx = tx })) self.new) }
+        ensures forgotten { OnOk result (self.new.check.room ≡ 0 → self.new.txs ≡ []) }
         ensures exhausted { IsErrOf result ServiceFault.Exhausted → 2 ^ 62 ≤ self.old.edits + 1 }
         ensures left { IfErr result (λ _. self.new ≡ self.old) }
     {

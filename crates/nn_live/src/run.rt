@@ -1,5 +1,5 @@
 //! A standby in service: from a reader's bytes to a writer's.
-ghost use Rattle.std.specs.Prelude.{◌≡◌, ◌<◌, ◌-◌, ◌^◌, ◌++◌, [], List, ℕ, IfOk, IfErr, OnErr, OnOk};
+ghost use Rattle.std.specs.Prelude.{◌≡◌, ◌<◌, ◌-◌, ◌^◌, ◌++◌, [], List, ℕ, false, IfOk, IfErr, OnErr, OnOk};
 ghost use Rattle.std.specs.Io.{ReadsAtMost};
 ghost use Rattle.std.specs.Io.KnownBytes.{ReadConsumes};
 ghost use Rattle.nn_device.specs.Device.{FailedToReadOn, GaveOn, Took, Writer as WriterView};
@@ -120,7 +120,8 @@ fn serve<R: Read, W: Write>(
     page: &mut Page,
     writer: &mut Writer<W>,
 ) -> Result<Option<u8>, EndFault>
-    requires { page.old.left ≡ [] }
+    requires empty { page.old.left ≡ [] }
+    requires open { page.old.lost ≡ false }
     ensures ended { IfOk result (λ end. (told : List ℕ) × PutsPiece told page.old writer.old page.new writer.new × IsEnd (serving_by options.now input.old input.new) told page.new.lost end) }
     ensures halted { IfErr result (λ why. (told : List ℕ) × PutsPiece told page.old writer.old page.new writer.new × Halts (serving_by options.now input.old input.new) told why) }
 {
@@ -142,13 +143,15 @@ fn serve<R: Read, W: Write>(
     }
 }
 
-// The next bytes, for which it may wait for long. Nothing that was told is kept back then.
+// The next bytes, for which it may wait for long. Nothing that was told is kept back then, and no write has failed: who serves
+// behind one would follow a log that nobody sees.
 fn read_next<R: Read>(
     input: &mut Reader<R>,
     _page: &Page,
     buffer: &mut [u8],
 ) -> Result<usize, ReadFailed>
-    requires { _page.now.left ≡ [] }
+    requires written { _page.now.left ≡ [] }
+    requires open { _page.now.lost ≡ false }
     ensures bound { ReadsAtMost result buffer.new }
     ensures bytes { ReadConsumes input.old.left input.new.left result buffer.new }
     ensures ok { IfOk result (GaveOn input.old input.new) }

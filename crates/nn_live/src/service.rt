@@ -22,7 +22,8 @@ use std::alloc::Global;
 use std::io::Write;
 use std::marker::Model;
 
-/// Why a line was not taken, and was not told either.
+/// Why a service ends. A part of the line may have been followed and told: no clause speaks of what comes behind it, so the
+/// service is to be discarded.
 #[derive(Clone, Copy, Debug, PartialEq, Eq)]
 pub enum ServiceFault {
     OutOfMemory,

@@ -38,6 +38,11 @@ changed : map of_blocks (block_set (two_of 3) (block_b 1001) true 1 ∷ block_se
     ≡ (1 ∷ 1 ∷ 1 ∷ 0 ∷ 0 ∷ 0 ∷ 1 ∷ []) ∷ (1 ∷ 0 ∷ 0 ∷ 0 ∷ 0 ∷ 0 ∷ 0 ∷ []) ∷ (1 ∷ 1 ∷ 0 ∷ 1 ∷ 0 ∷ 1 ∷ 0 ∷ []) ∷ (0 ∷ 0 ∷ 0 ∷ 0 ∷ 0 ∷ 0 ∷ 0 ∷ []) ∷ []
 changed = refl
 
+-- a block of an open file is neither missing nor over-replicated, with no replica of it and with two
+open_files : map of_blocks (block_set (held 1) (block_b 1001) false 1 ∷ block_set (two_of 1) (block_b 1001) false 1 ∷ [])
+    ≡ (1 ∷ 0 ∷ 0 ∷ 0 ∷ 0 ∷ 0 ∷ 0 ∷ []) ∷ (1 ∷ 0 ∷ 0 ∷ 0 ∷ 0 ∷ 0 ∷ 0 ∷ []) ∷ []
+open_files = refl
+
 -- ---- Replicas, orders and places.
 
 classes : map of_replicas (named ∷ raised ∷ reported 4 ∷ replica_put named 2 b (replica Received 1002 5) ∷ replica_put named 2 b (replica Receiving 1001 0) ∷ [])

@@ -320,6 +320,20 @@ impl Replicas {
         self.min
     }
 
+    /// How many blocks of closed files there are, which safe mode counts. O(1).
+    pub fn total(&self) -> u64
+        ensures { result ≡ (figures_of self.now).total }
+    {
+        self.figures.total
+    }
+
+    /// How many blocks of closed files have `min` live replicas or more. O(1).
+    pub fn safe_count(&self) -> u64
+        ensures { result ≡ (figures_of self.now).safe }
+    {
+        self.figures.safe
+    }
+
     /// How many blocks, replicas and orders of each kind there are. O(1).
     pub fn figures(&self) -> Figures
         ensures { result ≡ figures_of self.now }

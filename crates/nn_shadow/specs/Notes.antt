@@ -46,7 +46,7 @@ pub record IsTidy (has : List (ℕ × ℕ)) (blocks notes : ℕ) : Type 0 where
   pub sorted : T (is_sorted nat_cmp has)
   pub few : notes ≤ most_told blocks
 
--- ---- The notes in the order of their blocks are taken in from the prefix.
+-- ---- The notes in the order of their blocks are taken in from the front.
 
 -- the blocks before this one, and the others
 abbrev pub before : ℕ → List (ℕ × ℕ) → List (ℕ × ℕ)

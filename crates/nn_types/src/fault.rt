@@ -135,8 +135,8 @@ fn of_input(number: u8) -> Option<&'static str>
 {
     match number {
         NOT_JSON => Some(
-            "NotJson: the line is not one JSON object in UTF-8, or it nests more than 127 deep. Look at that line \
-             of the input, and write it as one object.",
+            "NotJson: the line is not one JSON object in UTF-8, or it nests more than 127 deep; in a service it is no \
+             word either. Write it as one object, or as a word of docs/LIVE.md.",
         ),
         MISSING_FIELD => Some(
             "MissingField: the line lacks a key that it needs, or its blocks are no array of objects. Add what is \

@@ -223,7 +223,7 @@ impl<'a, R: Wait> SegmentSource for FeedEnd<'a, R> {
     }
 }
 
-/// Ends a feed, with both ends in one thread: what was got is the prefix of what was put, and all of it once its last
+/// Ends a feed, with both ends in one thread: what was got is a prefix of what was put, and all of it once its last
 /// answer was got. It waits for nothing.
 pub fn meet<'a, R: Wait>(feeder: Feeder, end: FeedEnd<'a, R>)
     requires { AreOfOneFeed feeder end }

@@ -69,10 +69,13 @@ fn replica(call: &mut Call<'_>) -> Replica
 // Calls that change nothing.
 fn read(table: &Replicas, call: &mut Call<'_>) -> bool {
     if call.is("safe") {
-        let figures = table.figures();
-        call.show(&figures.safe);
+        call.show(&table.safe_count());
         call.say("of");
-        call.show(&figures.total);
+        call.show(&table.total());
+    } else if call.is("safe_count") {
+        call.show(&table.safe_count());
+    } else if call.is("total") {
+        call.show(&table.total());
     } else if call.is("figures") {
         show_figures(&table.figures(), call);
     } else if call.is("unsafe") {

@@ -1,11 +1,14 @@
 use Rattle.std.proofs.Common.{◌++◌, [], Some, None, refl, subst, arith, inl, inr}
 use Rattle.std.proofs.lemmas.Result.{IfOk-weaker, IfErr-weaker}
 use Rattle.nn_live.specs.Running.{IsEnd, halt_text, serving_by}
-use Rattle.nn_live.proofs.Serves.{end_output, halt_output, lost_prefix, nothing_left}
+use Rattle.nn_live.proofs.Serves.{end_output, halt_output, lost_prefix, nothing_left, nothing_lost}
 use Rattle.nn_live.proofs.run.run_live.Goals as goal
 
-pub serve-requires : goal.serve-requires
-serve-requires g c = nothing_left c.new-page.result c.args.writer.now (c.new-page.ensures c.args.writer.now)
+pub serve-requires-clause-empty : goal.serve-requires-clause-empty
+serve-requires-clause-empty g c = nothing_left c.new-page.result c.args.writer.now (c.new-page.ensures c.args.writer.now)
+
+pub serve-requires-clause-open : goal.serve-requires-clause-open
+serve-requires-clause-open g c = nothing_lost c.new-page.result c.args.writer.now (c.new-page.ensures c.args.writer.now)
 
 pub returns-in-Ok-None-clause-prefix : goal.returns-in-Ok-None-clause-prefix
 returns-in-Ok-None-clause-prefix g c =

@@ -5,7 +5,7 @@ use Rattle.nn_device.proofs.Pages.{puts_both, puts_nothing}
 use Rattle.nn_live.specs.Running.{IsHalt, IsOfLines, IsStage}
 use Rattle.nn_live.specs.declared.run.EndFault.TheVariants as halt
 use Rattle.nn_live.proofs.Running.{at_err, at_same}
-use Rattle.nn_live.proofs.Serves.{given_all, given_more, given_still, lines_reader, nothing_served, stage_told}
+use Rattle.nn_live.proofs.Serves.{cut_off, given_all, given_more, given_still, lines_reader, nothing_served, stage_told}
 use Rattle.nn_live.proofs.run.serve.Goals as goal
 
 pub returns-in_err-stage-clause-halted : goal.returns-in_err-stage-clause-halted
@@ -27,7 +27,7 @@ returns-in_default-clause-halted g c =
       record {
         bytes = was.0;
         gave = given_still c.args.input.now c.reads.input c.read_next.new.input was.0 was.2 c.in_default.ensures.bytes failed.counted;
-        reader = failed.noted;
+        reader = (failed.noted, cut_off c.args.input.now c.reads.input c.read_next.new.input was.7 failed.counted failed.why);
         is = stage_told c.args.options.now was.0 was.1 c.reads.stage was.4;
       },
     )
@@ -68,7 +68,7 @@ returns-in_err-status-clause-halted g c =
       record {
         bytes = was.0;
         gave = given_all c.args.input.now c.reads.input c.read_next.new.input was.0 was.2 n new c.if-n-eq0.true c.in-Ok.ensures.bytes.0 gave.counted;
-        reader = lines_reader c.in_err-status.field-0.0 _ _ (subst IsOfLines (sym ends.0) tt) same;
+        reader = lines_reader c.in_err-status.field-0.0 c.args.input.now c.read_next.new.input (subst IsOfLines (sym ends.0) tt) same;
         is = ends.1.2 o was.0 was.1 was.4;
       },
     )
@@ -94,7 +94,7 @@ returns-in_err-push-clause-halted g c =
       record {
         bytes = bytes;
         gave = now;
-        reader = lines_reader c.in_err-push.field-0.0 _ _ c.in_err-push.ensures.why same;
+        reader = lines_reader c.in_err-push.field-0.0 c.args.input.now c.read_next.new.input c.in_err-push.ensures.why same;
         is = subst (λ b. IsHalt o (was.0 ++ take n b) (was.1 ++ broke.0) c.in_err-push.field-0.0) given (broke.2 was.0 was.1 was.4);
       },
     )
@@ -147,4 +147,5 @@ reads-preserved g c =
       c.flush.ensures.none,
       subst (λ b. 0 < length b) (sym back) some,
       same,
+      sym c.has_failed.ensures ∙ c.if-has_failed.false,
     )

@@ -1,6 +1,6 @@
 """What is defined in the crates, read as text: definitions of specs/, types, models and functions of src/, and what names what.
 
-Reach follows the names of contracts through the definitions. bench/believe and bench/names use it.
+Reach follows the names of contracts through the definitions. bench/believe, bench/names and .ci/documents use it.
 """
 import collections
 import functools
@@ -231,6 +231,7 @@ class Source:
             definition.end = self.text.count("\n", 0, stop) + 1
             definition.lines = [line for line in inside.split("\n") if re.search(r"\w", line) and not re.match(r"\s*(#\[|ghost )", line)]
             definition.types = field_types(inside if self.text[start] == "{" else inside.partition("(")[2], found.group(1))
+            definition.variants = variants(inside) if found.group(1) == "enum" else []
             yield definition
 
     def constants(self):
@@ -238,6 +239,13 @@ class Source:
             definition = Definition(self.crate, self.file, found.group(1), self, self.text.count("\n", 0, found.start()) + 1)
             definition.lines, definition.types = [found.group()], set()
             yield definition
+
+    def owned(self):
+        """The public constants of types, what types do for traits, and the ghost members of traits: the owner and the name."""
+        for kind, owner, start, end, _ in self.blocks:
+            member = {"": r"pub const (\w+):", "trait": r"ghost (\w+):"}.get(kind, r"fn (\w+)")
+            for name in re.findall(rf"^    {member}", self.text[start:end], re.M):
+                yield owner, name
 
     def functions(self):
         """The public functions, and those of public traits."""
@@ -254,6 +262,12 @@ def field_types(inside, kind):
     if kind == "enum":
         text = ",".join(re.sub(r"^\s*\w+", "", part) for part in at_commas(text))
     return set(re.findall(r"\b[A-Z]\w*", text))
+
+
+def variants(inside):
+    """The names of the variants in the body of an enum."""
+    text = re.sub(r"^\s*(#\[|ghost ).*$", "", inside, flags=re.M)
+    return [found.group(1) for found in map(re.compile(r"\s*(\w+)").match, at_commas(text)) if found]
 
 
 def at_commas(text):
@@ -328,15 +342,44 @@ def exported(crate):
     return rust_uses(source(crate, "src/lib.rt").text, only="pub ")
 
 
+def module_of(file):
+    return os.path.basename(file)[:-3]
+
+
+@functools.cache
+def public_modules(crate):
+    return re.findall(r"^pub mod (\w+);", source(crate, "src/lib.rt").text, re.M) if "src/lib.rt" in sources(crate) else []
+
+
 @functools.cache
 def public_functions(crate):
     """The functions that a library gives to others, in the order of its files."""
-    modules = re.findall(r"^pub mod (\w+);", source(crate, "src/lib.rt").text, re.M) if "src/lib.rt" in sources(crate) else []
     found = []
     for file in sources(crate):
         for function in source(crate, file).functions():
-            if (function.owner or function.name) in exported(crate) or os.path.basename(file)[:-3] in modules:
+            if (function.owner or function.name) in exported(crate) or module_of(file) in public_modules(crate):
                 found.append(function)
+    return found
+
+
+@functools.cache
+def offered(crate):
+    """Each name that a library gives to others, with the names inside it: of a type its calls, variants and constants."""
+    found = {name: set() for name in [*exported(crate), *public_modules(crate)]}
+    for file in sources(crate):
+        here, module = source(crate, file), module_of(file)
+        if module in public_modules(crate):
+            found[module] |= {it.name for it in [*here.types(), *here.constants()]}
+        for definition in here.types():
+            if definition.name in exported(crate) or definition.name in found.get(module, ()):
+                found.setdefault(definition.name, set()).update(definition.variants)
+        for owner, name in here.owned():
+            found.get(owner, set()).add(name)
+    for function in public_functions(crate):
+        found.get(function.owner or module_of(function.source.file), set()).add(function.name)
+    for name, (home, own) in exported(crate).items():
+        if home in crates():
+            found[name] = offered(home).get(own, set())
     return found
 
 

@@ -6,7 +6,7 @@ use Rattle.nn_types.specs.declared.path.PathFault.TheVariants.{BadPath, OutOfMem
 use Rattle.nn_types.specs.declared.fault.TheConstants.{NOT_JSON, MISSING_FIELD, BAD_NUMBER, UNKNOWN_OP, BAD_PATH, LINE_TOO_LONG, UNKNOWN_KIND, INPUT_FAULT}
 use Rattle.nn_types.specs.declared.fault.TheConstants.{BAD_NAME, NO_START, NO_END, GAP, TORN_LINE, NAME_MISMATCH, TOO_LONG, BAD_LINE, WRONG_PROFILE}
 use Rattle.nn_types.specs.declared.fault.TheConstants.{EXISTS, MISSING, NOT_DIRECTORY, NOT_FILE, IS_ROOT, INTO_ITSELF, NOT_OPEN, WRONG_BLOCKS, BAD_GENERATION, BAD_BLOCK_ID, BAD_REPLICATION, NOT_CLOSED, LOWER_PROFILE}
-use Rattle.nn_types.specs.declared.fault.TheConstants.{FULL, CLOSED, EXHAUSTED, ENDED, GONE, SOURCE_FAILED, STOPPED, INTAKE_OPEN, ALREADY_ACTIVE, LOG_NOT_ENDED, MEMORY, BAD_LANE, DISORDER, WRONG_NUMBER}
+use Rattle.nn_types.specs.declared.fault.TheConstants.{FULL, CLOSED, EXHAUSTED, ENDED, GONE, SOURCE_FAILED, STOPPED, INTAKE_OPEN, ALREADY_ACTIVE, LOG_NOT_ENDED, MEMORY, BAD_LANE, DISORDER, WRONG_NUMBER, STALE_EPOCH}
 use Rattle.nn_types.specs.declared.fault.TheConstants.{NOT_HEADER, BAD_IMAGE_LINE, WRONG_ORDER, COUNT_MISMATCH, TRUNCATED, BAD_VERSION, READ_FAULT, WRITE_FAULT}
 
 abbrev pub number_of : PathFault → ℕ
@@ -60,6 +60,7 @@ fault_name number =
     if number == BAD_LANE then Some (codes "BadLane") else (
     if number == DISORDER then Some (codes "Disorder") else (
     if number == WRONG_NUMBER then Some (codes "WrongNumber") else (
+    if number == STALE_EPOCH then Some (codes "StaleEpoch") else (
     if number == NOT_HEADER then Some (codes "NotHeader") else (
     if number == BAD_IMAGE_LINE then Some (codes "BadLine") else (
     if number == WRONG_ORDER then Some (codes "WrongOrder") else (
@@ -68,7 +69,7 @@ fault_name number =
     if number == BAD_VERSION then Some (codes "BadVersion") else (
     if number == READ_FAULT then Some (codes "ReadFault") else (
     if number == WRITE_FAULT then Some (codes "WriteFault") else (
-    None))))))))))))))))))))))))))))))))))))))))))))))))))))
+    None)))))))))))))))))))))))))))))))))))))))))))))))))))))
 
 abbrev pub is_colon : ℕ → Bool
 is_colon c = c == 58

@@ -5,7 +5,7 @@ use Rattle.nn_types.specs.Fault.{name_in, fault_name}
 use Rattle.nn_types.specs.declared.fault.TheConstants.{NOT_JSON, MISSING_FIELD, BAD_NUMBER, UNKNOWN_OP, BAD_PATH, LINE_TOO_LONG, UNKNOWN_KIND, INPUT_FAULT}
 use Rattle.nn_types.specs.declared.fault.TheConstants.{BAD_NAME, NO_START, NO_END, GAP, TORN_LINE, NAME_MISMATCH, TOO_LONG, BAD_LINE, WRONG_PROFILE}
 use Rattle.nn_types.specs.declared.fault.TheConstants.{EXISTS, MISSING, NOT_DIRECTORY, NOT_FILE, IS_ROOT, INTO_ITSELF, NOT_OPEN, WRONG_BLOCKS, BAD_GENERATION, BAD_BLOCK_ID, BAD_REPLICATION, NOT_CLOSED, LOWER_PROFILE}
-use Rattle.nn_types.specs.declared.fault.TheConstants.{FULL, CLOSED, EXHAUSTED, ENDED, GONE, SOURCE_FAILED, STOPPED, INTAKE_OPEN, ALREADY_ACTIVE, LOG_NOT_ENDED, MEMORY, BAD_LANE, DISORDER, WRONG_NUMBER}
+use Rattle.nn_types.specs.declared.fault.TheConstants.{FULL, CLOSED, EXHAUSTED, ENDED, GONE, SOURCE_FAILED, STOPPED, INTAKE_OPEN, ALREADY_ACTIVE, LOG_NOT_ENDED, MEMORY, BAD_LANE, DISORDER, WRONG_NUMBER, STALE_EPOCH}
 use Rattle.nn_types.specs.declared.fault.TheConstants.{NOT_HEADER, BAD_IMAGE_LINE, WRONG_ORDER, COUNT_MISMATCH, TRUNCATED, BAD_VERSION, READ_FAULT, WRITE_FAULT}
 
 of_lines : map decimal (NOT_JSON ∷ MISSING_FIELD ∷ BAD_NUMBER ∷ UNKNOWN_OP ∷ BAD_PATH ∷ LINE_TOO_LONG ∷ UNKNOWN_KIND ∷ INPUT_FAULT ∷ [])
@@ -23,8 +23,8 @@ of_edits : map decimal (EXISTS ∷ MISSING ∷ NOT_DIRECTORY ∷ NOT_FILE ∷ IS
 unfolding digits
 of_edits = refl
 
-of_lanes_and_standbys : map decimal (FULL ∷ CLOSED ∷ EXHAUSTED ∷ ENDED ∷ GONE ∷ SOURCE_FAILED ∷ STOPPED ∷ INTAKE_OPEN ∷ ALREADY_ACTIVE ∷ LOG_NOT_ENDED ∷ MEMORY ∷ BAD_LANE ∷ DISORDER ∷ WRONG_NUMBER ∷ [])
-    ≡ codes "41" ∷ codes "42" ∷ codes "43" ∷ codes "45" ∷ codes "46" ∷ codes "47" ∷ codes "51" ∷ codes "52" ∷ codes "53" ∷ codes "54" ∷ codes "55" ∷ codes "56" ∷ codes "57" ∷ codes "58" ∷ []
+of_lanes_and_standbys : map decimal (FULL ∷ CLOSED ∷ EXHAUSTED ∷ ENDED ∷ GONE ∷ SOURCE_FAILED ∷ STOPPED ∷ INTAKE_OPEN ∷ ALREADY_ACTIVE ∷ LOG_NOT_ENDED ∷ MEMORY ∷ BAD_LANE ∷ DISORDER ∷ WRONG_NUMBER ∷ STALE_EPOCH ∷ [])
+    ≡ codes "41" ∷ codes "42" ∷ codes "43" ∷ codes "45" ∷ codes "46" ∷ codes "47" ∷ codes "51" ∷ codes "52" ∷ codes "53" ∷ codes "54" ∷ codes "55" ∷ codes "56" ∷ codes "57" ∷ codes "58" ∷ codes "59" ∷ []
 unfolding digits
 of_lanes_and_standbys = refl
 
@@ -48,8 +48,8 @@ names_of_edits : map fault_name (21 ∷ 22 ∷ 23 ∷ 24 ∷ 25 ∷ 26 ∷ 27 �
 unfolding fault_name
 names_of_edits = refl
 
-names_of_lanes_and_standbys : map fault_name (41 ∷ 42 ∷ 43 ∷ 45 ∷ 46 ∷ 47 ∷ 51 ∷ 52 ∷ 53 ∷ 54 ∷ 55 ∷ 56 ∷ 57 ∷ 58 ∷ [])
-    ≡ map Some (codes "Full" ∷ codes "Closed" ∷ codes "Exhausted" ∷ codes "Ended" ∷ codes "Gone" ∷ codes "SourceFailed" ∷ codes "Stopped" ∷ codes "IntakeOpen" ∷ codes "AlreadyActive" ∷ codes "LogNotEnded" ∷ codes "Memory" ∷ codes "BadLane" ∷ codes "Disorder" ∷ codes "WrongNumber" ∷ [])
+names_of_lanes_and_standbys : map fault_name (41 ∷ 42 ∷ 43 ∷ 45 ∷ 46 ∷ 47 ∷ 51 ∷ 52 ∷ 53 ∷ 54 ∷ 55 ∷ 56 ∷ 57 ∷ 58 ∷ 59 ∷ [])
+    ≡ map Some (codes "Full" ∷ codes "Closed" ∷ codes "Exhausted" ∷ codes "Ended" ∷ codes "Gone" ∷ codes "SourceFailed" ∷ codes "Stopped" ∷ codes "IntakeOpen" ∷ codes "AlreadyActive" ∷ codes "LogNotEnded" ∷ codes "Memory" ∷ codes "BadLane" ∷ codes "Disorder" ∷ codes "WrongNumber" ∷ codes "StaleEpoch" ∷ [])
 unfolding fault_name
 names_of_lanes_and_standbys = refl
 
@@ -58,8 +58,8 @@ names_of_images : map fault_name (61 ∷ 62 ∷ 63 ∷ 64 ∷ 65 ∷ 66 ∷ 67 �
 unfolding fault_name
 names_of_images = refl
 
-names_of_no_faults : map fault_name (0 ∷ 9 ∷ 10 ∷ 20 ∷ 34 ∷ 35 ∷ 36 ∷ 37 ∷ 38 ∷ 39 ∷ 40 ∷ 44 ∷ 48 ∷ 49 ∷ 50 ∷ 59 ∷ 60 ∷ 69 ∷ 70 ∷ 255 ∷ [])
-    ≡ None ∷ None ∷ None ∷ None ∷ None ∷ None ∷ None ∷ None ∷ None ∷ None ∷ None ∷ None ∷ None ∷ None ∷ None ∷ None ∷ None ∷ None ∷ None ∷ None ∷ []
+names_of_no_faults : map fault_name (0 ∷ 9 ∷ 10 ∷ 20 ∷ 34 ∷ 35 ∷ 36 ∷ 37 ∷ 38 ∷ 39 ∷ 40 ∷ 44 ∷ 48 ∷ 49 ∷ 50 ∷ 60 ∷ 69 ∷ 70 ∷ 255 ∷ [])
+    ≡ None ∷ None ∷ None ∷ None ∷ None ∷ None ∷ None ∷ None ∷ None ∷ None ∷ None ∷ None ∷ None ∷ None ∷ None ∷ None ∷ None ∷ None ∷ None ∷ []
 unfolding fault_name
 names_of_no_faults = refl
 

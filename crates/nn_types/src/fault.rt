@@ -97,6 +97,8 @@ pub const BAD_LANE: u8 = 56;
 pub const DISORDER: u8 = 57;
 /// A message is not the next one of its DataNode.
 pub const WRONG_NUMBER: u8 = 58;
+/// A promotion is in a lower epoch than one that was named before.
+pub const STALE_EPOCH: u8 = 59;
 
 /// The first line of an image is no header.
 pub const NOT_HEADER: u8 = 61;
@@ -135,8 +137,8 @@ fn of_input(number: u8) -> Option<&'static str>
 {
     match number {
         NOT_JSON => Some(
-            "NotJson: the line is not one JSON object in UTF-8, or it nests more than 127 deep; in a service it is no \
-             word either. Write it as one object, or as a word of docs/LIVE.md.",
+            "NotJson: the line is not one JSON object in UTF-8, or it nests more than 127 deep. Write it as one \
+             object. A service takes words too: each begins with a letter from a to z and ends with a line feed.",
         ),
         MISSING_FIELD => Some(
             "MissingField: the line lacks a key that it needs, or its blocks are no array of objects. Add what is \
@@ -318,6 +320,10 @@ fn of_call(number: u8) -> Option<&'static str>
         WRONG_NUMBER => Some(
             "WrongNumber: the report is not its DataNode's next one. Hand over each report once, in the order in \
              which it was sent.",
+        ),
+        STALE_EPOCH => Some(
+            "StaleEpoch: a greater epoch was named before, so another standby may have been promoted since. Find \
+             out which one is active, and promote this one only in an epoch that is given to it alone.",
         ),
         NOT_HEADER => Some(
             "NotHeader: the first line of the image is no header, or the input has no image. Hand over what \

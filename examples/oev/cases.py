@@ -72,8 +72,25 @@ def ended(*lines):
     return START + "".join(lines) + line("OP_END_LOG_SEGMENT", len(lines) + 2)
 
 
-# A path of 7,936 bytes, each of which takes six in a line.
-LONG = ("/" + "\\0001;" * 247) * 32
+# A name of 247 bytes, each of which takes six in a line, and a path of 7,936 bytes.
+LONG_NAME = "/" + "\\0001;" * 247
+LONG = LONG_NAME * 32
+
+
+def renamed(source):
+    """The line of a rename from this path to the long one."""
+    as_json = [f'"{text}"'.replace("\\0001;", "\\u0001") for text in (LONG, source)]
+    return line("OP_RENAME", 2, dst=as_json[0], src=as_json[1])
+
+
+def source_of(size):
+    """A path of which a rename to the long one makes a line of so many bytes, without its line feed."""
+    shorter = LONG_NAME * 11
+    names, last = divmod(size + 1 - len(renamed(shorter)), 201)
+    return shorter + ("/" + "n" * 200) * names + "/" + "n" * (last - 1)
+
+
+AT_THE_LIMIT, TOO_LONG = source_of(65_536), source_of(65_537)
 ADDED = line("OP_ADD", 2, path='"/f"', replication=3)
 BLOCK_ADDED = line("OP_ADD_BLOCK", 3, gen=1001, id=FIRST_ID, path='"/f"')
 ADD_BLOCK = record("OP_ADD_BLOCK", 3, path("/f"), block(FIRST_ID))
@@ -202,6 +219,7 @@ CONVERTED = [
     ("two halves of a character", [mkdir(2, "/\\d83d;\\de00;")], ended(made("OP_MKDIR", 2, "/\U0001f600"))),
     ("a name in a section of CDATA", [mkdir(2, "/<![CDATA[<x>]]>")], ended(made("OP_MKDIR", 2, "/<x>"))),
     ("a name of 255 bytes", [mkdir(2, "/" + "n" * 255)], ended(made("OP_MKDIR", 2, "/" + "n" * 255))),
+    ("a line of 65,536 bytes", [rename(2, AT_THE_LIMIT, LONG)], ended(renamed(AT_THE_LIMIT))),
     (
         "the greatest number",
         [record("OP_SET_GENSTAMP_V2", 2, member("GENSTAMPV2", 2**63 - 1))],
@@ -279,6 +297,7 @@ REFUSED = [
     ("a target that no path can be", [rename(2, "/a", "/b:c")], 'OP_RENAME_OLD, TXID 2: the name "b:c"'),
     ("a file of 1,500 blocks", [close(2, "/f", *[block(FIRST_ID, 1001, 134217728)] * 1500)], '"/f" has 1,500 blocks'),
     ("two paths of characters that JSON escapes", [rename(2, LONG, f"{LONG}a")], "its line would have 9"),
+    ("a line of 65,537 bytes", [rename(2, TOO_LONG, LONG)], "its line would have 65,537 bytes, and 65,536 are allowed"),
     ("a gap", [mkdir(2, "/a"), mkdir(4, "/b")], "OP_MKDIR, TXID 4: a gap, since TXID 3 is next"),
     (
         "a record without TXID",

@@ -1,5 +1,5 @@
 -- What the program does for its arguments, and the status that it ends with.
-use Rattle.std.specs.Prelude.{◌≡◌, ◌≢◌, ◌⊎◌, ◌∷◌, [], ◌++◌, ℕ, Bool, true, false, List, codes, decimal, Some, None, MatchOption}
+use Rattle.std.specs.Prelude.{◌≡◌, ◌≢◌, ◌≤◌, ◌^◌, ◌⊎◌, ◌∷◌, [], ◌++◌, ℕ, Bool, true, false, List, codes, decimal, Some, None, MatchOption}
 use Rattle.nn_device.specs.Device.{Reader, Writer, Took, FailedToWrite}
 use Rattle.clap.specs.Words.{Text, IsAmong, fault_of}
 use Rattle.clap.specs.declared.error.kind.ErrorKind.{ErrorKind}
@@ -93,10 +93,14 @@ EndsServing o before after output output' ended =
 abbrev pub EndsService : RunOptions → Reader → Reader → Writer → Writer → ℕ → Type 0
 EndsService options before after output output' ended = (o : LiveOptions) × AsksFor options o × EndsServing o before after output output' ended
 
--- a service where one is asked for, else a run, with threads or without
+-- a run, with threads or without: its output, and a reader that was not asked without end
+abbrev pub EndsRun : RunOptions → Bool → Reader → Reader → Writer → Writer → ℕ → Type 0
+EndsRun options threads before after output output' ended = WritesOutput (running options threads before after) output output' ended × (after.reads ≤ 2 ^ 24)
+
+-- a service where one is asked for, else a run
 abbrev pub EndsSo : Bool → RunOptions → Bool → Reader → Reader → Writer → Writer → ℕ → Type 0
 EndsSo true options threads before after output output' ended = EndsService options before after output output' ended
-EndsSo false options threads before after output output' ended = WritesOutput (running options threads before after) output output' ended
+EndsSo false options threads before after output output' ended = EndsRun options threads before after output output' ended
 
 abbrev pub EndsAsAsked : Request → Reader → Reader → Writer → Writer → ℕ → Type 0
 EndsAsAsked r before after output output' ended = EndsSo r.live r.options r.threads before after output output' ended

@@ -12,10 +12,11 @@ use Rattle.nn_scenario.specs.Cut.{segments_from, parts_from}
 use Rattle.nn_scenario.specs.Scenario.{Scenario, scenario_of, scenario_with, lines_from}
 use Rattle.nn_engine.specs.Output.{Printed, AreEventsOf, output_of, with_history}
 use Rattle.nn_engine.specs.Start.{from_root}
+use Rattle.nn_engine.specs.declared.engine.Options.{Options as RunOptions}
 use Rattle.nn_command.specs.declared.program.ArgumentsFault.TheVariants.{NotText, OutOfMemory}
 use Rattle.nn_command.specs.declared.options.Request.{Request}
 use Rattle.nn_command.specs.Options.{settings_line, lanes_line, command_line, ReadsAs, IsNumberOf, IsCapacity, AreReadAs, IsFlag, IsRequest, AskAs, is_contradictory}
-use Rattle.nn_command.specs.Program.{Streams, Serves, AreTaken, WritesText, RunsAsAsked, Helps, RefusesCommand, Explains, LacksMemory, ServesNone, TellsOf, explanation_line, memory_line, version_line}
+use Rattle.nn_command.specs.Program.{Streams, Serves, AreTaken, WritesText, RunsAsAsked, EndsRun, Helps, RefusesCommand, Explains, LacksMemory, ServesNone, TellsOf, explanation_line, memory_line, version_line}
 
 -- ---- Texts as numbers and flags.
 
@@ -233,6 +234,11 @@ not_told_after_a_read output h = let e : 3 ≡ 0 = ap (λ (r : Reader). r.given)
 -- a run tells nothing on errors
 not_run_with_errors : (r : Request) (output : Writer) (ended : ℕ) → RunsAsAsked r (all 0 output (writer text false)) ended → ⊥
 not_run_with_errors r output ended h = let e : 3 ≡ 0 = ap (λ (w : Writer). w.taken) h.1 in omega (arith, e)
+
+-- nor does it ask its reader without end
+not_run_without_end : (options : RunOptions) (threads : Bool) (before : Reader) (output output' : Writer) (ended : ℕ)
+    → EndsRun options threads before (record before { reads = 16777217 }) output output' ended → ⊥
+not_run_without_end options threads before output output' ended h = omega (arith, h.1)
 
 -- ---- Where there are no arguments, and where they ask for none.
 

@@ -10,6 +10,7 @@ mod heap;
 mod held;
 mod image;
 mod lines;
+mod live;
 mod namespace;
 mod restore;
 mod scenario;
@@ -47,6 +48,7 @@ fn lines_of(alloc: Global, is_ample: bool, text: &[u8]) -> Result<Lines, EndFaul
     tailer::follow_lanes(alloc, is_ample, settings, text, &mut lines)?;
     checkpoint::write_checkpoint(alloc, is_ample, settings, &scenario, &mut lines)?;
     engine::run_scenario(alloc, is_ample, settings, &mut lines)?;
+    live::serve_lines(alloc, is_ample, settings, &mut lines)?;
     Ok(lines)
 }
 

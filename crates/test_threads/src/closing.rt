@@ -105,8 +105,8 @@ impl Operator for GoesOn {
 
 // ---- By a promotion.
 
-// A worker of a standby whose operator does something else for so many milliseconds sleeps for 80 then, since 10 of these.
-const ELSEWHERE: u64 = 240;
+// A worker of a standby whose operator does something else for so many milliseconds sleeps for 80 at a time in the end.
+const ELSEWHERE: u64 = 500;
 
 // Requests a promotion once that has passed. It notes when that was, and how much processor time all threads took meanwhile.
 #[derive(Drop)]

@@ -9,8 +9,8 @@ use nn_types::Settings;
 use std::alloc::Global;
 use std::mem;
 
-// A report that comes before its block is named.
-const LINES: &[u8] = br#"{"op":"OP_START_LOG_SEGMENT","txid":1}
+/// A report that comes before its block is named.
+pub const LINES: &[u8] = br#"{"op":"OP_START_LOG_SEGMENT","txid":1}
 {"op":"OP_SET_GENSTAMP_V2","gen":1001,"txid":2}
 {"op":"OP_ALLOCATE_BLOCK_ID","id":1073741825,"txid":3}
 {"op":"OP_ADD","path":"/f","replication":3,"txid":4}

@@ -74,11 +74,15 @@ impl Heap {
         let _ = self.taken.push(block);
     }
 
-    /// Gives back one piece, or answers that none is left. An ample heap has nothing to give: there a call is made again a
-    /// few times.
+    /// Whether a call that was refused so often may be made again as the heap is: a few times, if it is ample.
+    pub fn may_suffice(&self, refusals: u64) -> bool {
+        self.is_ample && refusals < TRIES
+    }
+
+    /// Gives back one piece, or answers that none is left. An ample heap has nothing to give.
     pub fn give(&mut self, refusals: u64) -> bool {
         if self.is_ample {
-            return refusals < TRIES;
+            return self.may_suffice(refusals);
         }
         self.pieces.pop().is_some()
     }

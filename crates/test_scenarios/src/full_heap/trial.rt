@@ -145,6 +145,21 @@ fn follow<C: Changing>(heap: &mut Heap, call: &C, twin: &mut C::Subject) -> Fate
     Fate::StillRefused
 }
 
+/// Makes a call again, with the memory that an equal one gave back.
+pub fn repeat<C: Changing>(heap: &Heap, call: &C, subject: &mut C::Subject) -> Fate {
+    for refusals in 0..MOST_REFUSALS {
+        match call.call(subject) {
+            Answer::Done => return Fate::Done,
+            Answer::Other => return Fate::OtherAnswer,
+            Answer::OutOfMemory => {}
+        }
+        if !heap.may_suffice(refusals) {
+            return Fate::StillRefused;
+        }
+    }
+    Fate::StillRefused
+}
+
 /// Makes something under a full heap, with one piece of memory more each time.
 pub fn make<M: Making>(heap: &mut Heap, call: &M, given: M::Given) -> (Fate, Option<M::Made>) {
     heap.fill();

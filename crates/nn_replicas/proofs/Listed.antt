@@ -5,16 +5,17 @@ use Rattle.std.specs.Prelude.{◌&&◌, ◌||◌, ◌==◌}
 use Rattle.std.specs.declared.cmp.Ordering.TheVariants.{Less, Equal, Greater}
 use Rattle.std.proofs.lemmas.Grind.{flat_map-append}
 use Rattle.std.specs.Option.{option_map}
-use Rattle.std.specs.List.{cons_option, filter_map, flat_map, list_all}
+use Rattle.std.specs.List.{AllByRecursion, cons_option, filter_map, flat_map, list_all}
+use Rattle.std.specs.List.Sorted.{IsStrictlySortedBy}
 use Rattle.std.specs.Ordering.{is_lt}
 use Rattle.std.proofs.Math.Seq.{take-suc}
 use Rattle.std.proofs.lemmas.List.Elements.{filter_map-append}
 use Rattle.std.specs.FinMap.Entries.{below_all, is_sorted}
 use Rattle.nn_replicas.specs.declared.entry.Cell.{Cell}
-use Rattle.nn_replicas.specs.Entry.{rows_in, replicas_in, orders_in, order_in}
+use Rattle.nn_replicas.specs.Entry.{rows_in, replicas_in, ordered_in, orders_in, order_in}
 use Rattle.nn_replicas.specs.Table.{BlockEntry}
 use Rattle.nn_replicas.specs.Calls.{comes_first, AreAscending}
-use Rattle.nn_replicas.proofs.Entries.{halves}
+use Rattle.nn_replicas.proofs.Entries.{halves, is_less}
 
 -- ---- what f finds under each key, with the key
 
@@ -49,6 +50,31 @@ replicas_sorted xs h = found_sorted (λ c. c.replica) xs h
 
 pub rows_sorted : (es : List (ℕ × BlockEntry)) → is_sorted nat_cmp es ≡ true → is_sorted nat_cmp (rows_in es) ≡ true
 rows_sorted es h = found_sorted (λ e. e.row) es h
+
+-- ---- the DataNodes of one block's orders
+
+below_ordered : (k : ℕ) (xs : List (ℕ × Cell)) → below_all nat_cmp k xs ≡ true → AllByRecursion (λ j. nat_cmp k j ≡ Less) (ordered_in xs)
+below_ordered k [] h = tt
+below_ordered k (x ∷ xs) h =
+    let parts = halves (is_lt (nat_cmp k x.0)) (below_all nat_cmp k xs) h in
+    cases x.1.ordered (is_less (nat_cmp k x.0) parts.0) (below_ordered k xs parts.1)
+  where
+    cases : (o : Bool) → nat_cmp k x.0 ≡ Less → AllByRecursion (λ j. nat_cmp k j ≡ Less) (ordered_in xs)
+        → AllByRecursion (λ j. nat_cmp k j ≡ Less) (cons_option (cond o (Some x.0) None) (ordered_in xs))
+    cases true l r = (l, r)
+    cases false l r = r
+
+pub ordered_ascend : (xs : List (ℕ × Cell)) → is_sorted nat_cmp xs ≡ true → IsStrictlySortedBy nat_cmp (ordered_in xs)
+unfolding IsStrictlySortedBy
+ordered_ascend [] h = tt
+ordered_ascend (x ∷ xs) h =
+    let parts = halves (below_all nat_cmp x.0 xs) (is_sorted nat_cmp xs) h in
+    cases x.1.ordered (below_ordered x.0 xs parts.0) (ordered_ascend xs parts.1)
+  where
+    cases : (o : Bool) → AllByRecursion (λ j. nat_cmp x.0 j ≡ Less) (ordered_in xs) → IsStrictlySortedBy nat_cmp (ordered_in xs)
+        → IsStrictlySortedBy nat_cmp (cons_option (cond o (Some x.0) None) (ordered_in xs))
+    cases true b r = (b, r)
+    cases false b r = r
 
 take_more : (xs : List (ℕ × Cell)) (i : ℕ) (x : ℕ × Cell) → i < length xs → x ≡ get_or xs i x → take (i + 1) xs ≡ take i xs ++ x ∷ []
 take_more xs i x l g = ap (λ n. take n xs) (add-one i) ∙ take-suc xs i x l ∙ ap (λ y. take i xs ++ y ∷ []) (sym g)

@@ -13,7 +13,7 @@ use Rattle.nn_types.specs.declared.replica.Replica.{Replica}
 use Rattle.nn_model.specs.declared.form.BlockRow.{BlockRow}
 use Rattle.nn_replicas.specs.declared.entry.Cell.{Cell}
 use Rattle.nn_replicas.specs.Table.{BlockEntry, Replicas}
-use Rattle.nn_replicas.specs.Entry.{is_ordered, no_entry, entry_with_row, with_place, with_put, with_erased, with_told, retired, stamp_in, replication_in, rows_in, replicas_in, orders_in}
+use Rattle.nn_replicas.specs.Entry.{is_ordered, no_entry, entry_with_row, with_place, with_put, with_erased, with_told, retired, stamp_in, replication_in, rows_in, replicas_in, ordered_in, orders_in}
 use Rattle.nn_replicas.specs.Entry.{is_closed, is_safe, is_idle}
 
 -- ---- What it answers.
@@ -72,6 +72,10 @@ is_idle_at t id = is_idle (entry_or_none t id)
 -- the DataNodes with a replica of the block, and the replicas
 abbrev pub replicas_at : Replicas → ℕ → List (ℕ × Replica)
 replicas_at t id = replicas_in (entry_or_none t id).cells
+
+-- the DataNodes that are to delete what they have of the block
+abbrev pub orders_at : Replicas → ℕ → List ℕ
+orders_at t id = ordered_in (entry_or_none t id).cells
 
 -- all orders, as block ids and DataNodes
 abbrev pub orders_of : Replicas → List (ℕ × ℕ)

@@ -127,6 +127,13 @@ order_in id c = if c.1.ordered then Some (id, c.0) else None
 abbrev pub orders_in : ℕ → List (ℕ × Cell) → List (ℕ × ℕ)
 orders_in id cells = filter_map (order_in id) cells
 
+abbrev datanode_in : ℕ × Cell → Option ℕ
+datanode_in c = if c.1.ordered then Some c.0 else None
+
+-- the DataNodes that are to delete what they have of the block
+abbrev pub ordered_in : List (ℕ × Cell) → List ℕ
+ordered_in cells = filter_map datanode_in cells
+
 -- ---- How it counts.
 
 abbrev pub is_closed_row : Option BlockRow → Bool

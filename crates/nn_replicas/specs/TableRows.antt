@@ -5,7 +5,7 @@ use Rattle.nn_types.specs.declared.report.Kind.{Kind}
 use Rattle.nn_types.specs.declared.report.Kind.TheVariants.{Receiving, Received}
 use Rattle.nn_types.specs.declared.replica.Replica.{Replica}
 use Rattle.nn_replicas.specs.Table.{Replicas}
-use Rattle.nn_replicas.specs.Calls.{row_at, table_rows, replica_at, has_order, is_placed, replicas_at, orders_of, total_in, safe_in, empty_table, room_made}
+use Rattle.nn_replicas.specs.Calls.{row_at, table_rows, replica_at, has_order, is_placed, replicas_at, orders_at, orders_of, total_in, safe_in, empty_table, room_made}
 use Rattle.nn_replicas.specs.Calls.{stamp_at, block_set, pair_placed, replica_put, replica_erased, due_told, block_retired, has_entry, is_idle_at, room_given_back}
 
 -- ---- The blocks b and c, and reports of b by DataNodes 1, 2 and 3.
@@ -64,6 +64,15 @@ placed = pair_placed gone 4 b
 
 rooms : (orders_of placed ≡ orders_of gone) × (map (λ t. is_placed t 4 b) (gone ∷ placed ∷ replica_erased placed 4 b ∷ block_retired placed b ∷ []) ≡ false ∷ true ∷ true ∷ true ∷ [])
 rooms = (refl, refl)
+
+-- the orders at one block: those of a block that was deleted, of one that no file ever held, and of one that a file holds
+orders_of_one_block : (orders_at gone b ≡ 1 ∷ 2 ∷ 3 ∷ []) × (map (orders_at stray) (b ∷ c ∷ []) ≡ (1 ∷ 2 ∷ 3 ∷ []) ∷ (3 ∷ []) ∷ [])
+    × (map (λ t. orders_at t b) (empty_table 1 ∷ raised ∷ []) ≡ [] ∷ [] ∷ [])
+orders_of_one_block = (refl, refl, refl)
+
+-- room alone is no order, and an order that is done is none any more
+orders_that_are_left : (orders_at placed b ≡ 1 ∷ 2 ∷ 3 ∷ []) × (orders_at (replica_erased placed 2 b) b ≡ 1 ∷ 3 ∷ [])
+orders_that_are_left = (refl, refl)
 
 -- room is given back, and with it the entry, once there is no row, no replica and no order: here the orders are done, one
 -- after another

@@ -1,17 +1,19 @@
 //! What is known of one block id: its row, and a cell for each DataNode that was placed.
 ghost use Rattle.std.specs.Prelude.{◌≡◌, IsOk, OnOk, OnErr, is_some, true, map, ◌++◌, IsTrue, length, count_by};
 ghost use Rattle.std.specs.List.{list_all};
+ghost use Rattle.std.specs.List.Sorted.{IsStrictlySortedBy};
 ghost use Rattle.std.specs.FinMap.Entries.{find, is_sorted};
 ghost use Rattle.std.specs.Ordering.{nat_cmp};
 ghost use Rattle.std.specs.Option.{option_map};
 ghost use Rattle.nn_model.specs.Counts.{class_of};
 ghost use Rattle.nn_replicas.specs.Scan.{place, is_here};
-ghost use Rattle.nn_replicas.specs.Entry.{replicas_in, orders_in, is_ordered, cell_retired, no_entry, is_idle, is_idle_cell, has_cell, entry_with_row, with_place, with_put, with_erased, with_told, retired, stamp_in};
+ghost use Rattle.nn_replicas.specs.Entry.{replicas_in, orders_in, is_ordered, ordered_in, cell_retired, no_entry, is_idle, is_idle_cell, has_cell, entry_with_row, with_place, with_put, with_erased, with_told, retired, stamp_in};
 ghost use Rattle.nn_replicas.specs.Calls.{reaches, with_due};
 ghost use Rattle.nn_replicas.specs.Figures.{classes_in, no_classes, with_class, HaveRoom, figures_in, too_few, one_if, grown};
 
 use crate::classes::class;
 use crate::figures::Figures;
+use crate::orders_of::OrdersOf;
 use crate::replicas_of::ReplicasOf;
 use crate::slot::Slot;
 use nn_model::BlockRow;
@@ -273,6 +275,14 @@ impl Entry {
         ensures order { IsTrue (is_sorted nat_cmp result) }
     {
         ReplicasOf::new(self.cells.as_slice())
+    }
+
+    // The DataNodes that are to delete what they have, in order.
+    pub fn orders(&self) -> OrdersOf<'_>
+        ensures all { result ≡ ordered_in self.now.cells }
+        ensures order { IsStrictlySortedBy nat_cmp result }
+    {
+        OrdersOf::new(self.cells.as_slice())
     }
 
     // Adds the orders of this block, in order of DataNode.

@@ -1,13 +1,15 @@
 //! The replica table.
 ghost use Rattle.std.specs.Prelude.{◌≡◌, ◌≤◌, ◌<◌, ◌+◌, ◌^◌, length, None, true, IsOk, OnOk, OnErr, IfOk, IfSome, IsTrue};
 ghost use Rattle.std.specs.FinMap.Entries.{is_sorted};
+ghost use Rattle.std.specs.List.Sorted.{IsStrictlySortedBy};
 ghost use Rattle.std.specs.Ordering.{nat_cmp};
-ghost use Rattle.nn_replicas.specs.Calls.{table_rows, replicas_at, orders_of, AreAscending, has_order, is_placed, entry_at, has_entry, is_kept, with_entry, empty_table, room_made, block_set, pair_placed, replica_put, replica_erased, stamp_at, due_told, block_retired, room_given_back};
+ghost use Rattle.nn_replicas.specs.Calls.{table_rows, replicas_at, orders_at, orders_of, AreAscending, has_order, is_placed, entry_at, has_entry, is_kept, with_entry, empty_table, room_made, block_set, pair_placed, replica_put, replica_erased, stamp_at, due_told, block_retired, room_given_back};
 ghost use Rattle.nn_replicas.specs.Entry.{has_cell};
 ghost use Rattle.nn_replicas.specs.Figures.{figures_of, unsafe_from, grown};
 
 use crate::entry::Entry;
 use crate::figures::Figures;
+use crate::orders_of::OrdersOf;
 use crate::replicas_of::ReplicasOf;
 use crate::rows::Rows;
 use crate::unsafe_blocks::UnsafeBlocks;
@@ -272,6 +274,18 @@ impl Replicas {
             return false;
         };
         entry.has_order(dn)
+    }
+
+    /// The DataNodes that are to delete what they have of a block, in order. O(log blocks), and then O(DataNodes that were placed at
+    /// the block) to the end.
+    pub fn orders_of(&self, block: BlockId) -> OrdersOf<'_>
+        ensures all { result ≡ orders_at self.now block }
+        ensures order { IsStrictlySortedBy nat_cmp result }
+    {
+        let Some(entry) = self.entries.get(&block) else {
+            return OrdersOf::new(&[]);
+        };
+        entry.orders()
     }
 
     /// The replicas of a block, in order of DataNode.

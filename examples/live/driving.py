@@ -97,7 +97,7 @@ class Feed:
 
     def ask(self, method, path, body=None, **headers):
         """The status and the body of an answer. `Content_Type` is that of JSON unless it is said."""
-        headers = {"Content_Type": "application/json"} | headers
+        headers = {"Content_Type": "application/json", **headers}
         headers = {name.replace("_", "-"): text for name, text in headers.items()}
         connection = http.client.HTTPConnection("127.0.0.1", self.port, timeout=SECONDS)
         try:

@@ -56,7 +56,7 @@ def other_members(text):
 def other_values(good):
     """A report with a member that is none of its values."""
     return [
-        (f"{name} {json.dumps(value)[:20]}", json.dumps(good | {name: value}))
+        (f"{name} {json.dumps(value)[:20]}", json.dumps({**good, name: value}))
         for name, value in (
             ("dn", 0),
             ("dn", 257),

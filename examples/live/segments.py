@@ -72,7 +72,7 @@ def scan(folder, suffix):
         for entry in entries:
             if not entry.name.endswith(suffix):
                 continue
-            stem = entry.name.removesuffix(suffix)
+            stem = entry.name[: len(entry.name) - len(suffix)]
             if begun := IN_PROGRESS.fullmatch(stem):
                 in_progress = max(in_progress, int(begun[1]))
             if (named := NAME.fullmatch(stem)) and (segment := segment_of(entry, *map(int, named.groups()))):

@@ -56,7 +56,7 @@ def end(txid):
 
 def line(op, txid, **members):
     """A line, whose other members are given as JSON texts."""
-    members |= {"op": f'"{op}"', "txid": txid}
+    members.update(op=f'"{op}"', txid=txid)
     return "{" + ",".join(f'"{name}":{members[name]}' for name in sorted(members)) + "}\n"
 
 

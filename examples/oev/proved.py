@@ -8,10 +8,10 @@ import os
 import subprocess
 from typing import NamedTuple, Optional
 
+from finding import HOW, find_program, is_program
 from formats import Refused
 
-HERE = os.path.dirname(os.path.realpath(__file__))
-PROGRAM = os.path.join(HERE, "..", "..", "crates", "nn_standby", "out", "nn_standby")
+PROGRAM = find_program()
 
 ANSWER_BYTES = 65_536
 CHUNK_BYTES = 1 << 20
@@ -35,8 +35,8 @@ class Program:
 
     def __init__(self, name):
         self.name = os.path.abspath(name)
-        if not os.access(self.name, os.X_OK):
-            raise Refused(f"there is no program {name}: build it by `rt run < /dev/null` in crates/nn_standby")
+        if not is_program(self.name):
+            raise Refused(f"there is no program {name}: {HOW}")
 
     def image_after(self, pieces, printed):
         """Gives the program these files, each from where it is read, and prints its image to a file.

@@ -1,18 +1,11 @@
 """What an archive has for who doubts it: NOTICE and the licences, HOW-TO-REBUILD, the gate's log and the object."""
 import os
-from typing import NamedTuple
 
 from evidence import ROOT, read, sum_of
+from packing import File
 
 TEXTS = os.path.join(ROOT, "dist", "archive")
 START_FILES = "Scrt1.o, crti.o, crtn.o and libc_nonshared.a of the GNU C Library"
-
-
-class File(NamedTuple):
-    """A file of the archive."""
-
-    data: bytes
-    is_executable: bool = False
 
 
 def texts(source, kit, is_old):

@@ -1,7 +1,7 @@
 """What the trials of audits plant: a story of a cluster, damages of its image, and edits that its log loses."""
 import re
 
-from cases import document
+from cases import document, member
 from cluster import FIRST_ID, Cluster
 
 
@@ -106,6 +106,64 @@ SPARE_IN_OLD = f"<directory><parent>{OLD}</parent>{CHILD_SPARE}</directory>{LAST
 ROOT = "<inode><id>16385<"
 Z = "<inode><id>99999</id><type>DIRECTORY</type><name>z</name></inode>"
 
+REFERENCE = "<ref><referredId>{}</referredId></ref>"
+FIRST_REFERENCE = member("refChild", 0)
+SNAPSHOTTABLE = "<SnapshotSection><snapshottableDir><dir>{}</dir></snapshottableDir></SnapshotSection>"
+CHANGED_DIRECTORY = (
+    "<SnapshotDiffSection><dirDiffEntry><inodeId>{}</inodeId><count>1</count><dirDiff><snapshotId>0</snapshotId>"
+    "<deletedInode>{}</deletedInode></dirDiff></dirDiffEntry></SnapshotDiffSection>"
+)
+CHANGED_FILE = (
+    "<SnapshotDiffSection><fileDiffEntry><inodeId>{}</inodeId><count>0</count></fileDiffEntry></SnapshotDiffSection>"
+)
+OPEN_FILE = (
+    "<FileUnderConstructionSection><inode><id>{}</id><path>/data/draft</path></inode></FileUnderConstructionSection>"
+)
+LOW_INODE = "inconsistent lastInodeId is 16391, and there is an inode 16395\n"
+
+
+def section(name, text):
+    """A change that puts something into a section that is empty."""
+    return replaced(f"<{name}></{name}>", f"<{name}>{text}</{name}>")
+
+
+def sections(text):
+    """A change that puts further sections behind all others."""
+    return replaced("</fsimage>", f"{text}</fsimage>")
+
+
+def away(below, other):
+    """A change that puts two directories away from the root, with what each lists, and a snapshot that may hold them."""
+    inodes = "".join(Z.replace("99999", str(inode_id)) for inode_id in (99998, 99999))
+    listed = f"<directory><parent>99998</parent>{below}</directory><directory><parent>99999</parent>{other}</directory>"
+    return several(
+        replaced(ROOT, inodes + ROOT),
+        replaced("<numInodes>10<", "<numInodes>12<"),
+        replaced("lastInodeId>16396<", "lastInodeId>99999<"),
+        replaced("<numSnapshots>0<", "<numSnapshots>1<"),
+        replaced(LAST, listed + LAST),
+    )
+
+
+def missing(called):
+    return f"inconsistent inode 99 is missing, {called}"
+
+
+# A name, and a change of the second image that is none of what is compared. The status is 0.
+HARMLESS = [
+    ("a last inode that is higher", replaced("lastInodeId>16396<", "lastInodeId>99999<")),
+    ("a reference to an inode", section("INodeReferenceSection", REFERENCE.format(NEW))),
+    ("a snapshottable directory", sections(SNAPSHOTTABLE.format(NEW))),
+    ("a changed directory and a child of it", sections(CHANGED_DIRECTORY.format(NEW, SPARE))),
+    ("a changed file", sections(CHANGED_FILE.format(SPARE))),
+    ("an open file", sections(OPEN_FILE.format(DRAFT))),
+    ("directories away from the root", away(member("child", 99999), "")),
+    (
+        "a directory that two others away from the root have",
+        several(section("INodeReferenceSection", REFERENCE.format(99999)), away(FIRST_REFERENCE, "")),
+    ),
+]
+
 # A name, a damage of the second image, and how the first line begins. The status is 1.
 DAMAGES = [
     (
@@ -172,7 +230,29 @@ DAMAGES = [
     (
         "a striped file that should not be one",
         in_inode("spare", "<replication>", "<blockType>STRIPED</blockType><replication>"),
-        'replication "/data/spare" 2 1',
+        'kind "/data/spare" file striped',
+    ),
+    (
+        "a file of an old layout that should not be one",
+        replaced(f"<id>{BLOCKS[2]}<", "<id>77<"),
+        'kind "/data/draft" file old',
+    ),
+    ("a last inode that is too low", replaced("lastInodeId>16396<", "lastInodeId>16391<"), LOW_INODE),
+    ("a reference to no inode", section("INodeReferenceSection", REFERENCE.format(99)), missing("what a reference ")),
+    ("a snapshottable directory that is none", sections(SNAPSHOTTABLE.format(99)), missing("a snapshottable")),
+    ("a changed directory that is none", sections(CHANGED_DIRECTORY.format(99, NEW)), missing("a directory that")),
+    ("a changed file that is none", sections(CHANGED_FILE.format(99)), missing("a file that a snap")),
+    ("a deleted child that is none", sections(CHANGED_DIRECTORY.format(NEW, 99)), missing("a child that only")),
+    ("an open file that is none", sections(OPEN_FILE.format(99)), missing("a file under")),
+    (
+        "directories in themselves, away from the root",
+        away(member("child", 99999), member("child", 99998)),
+        "inconsistent inode 9999",
+    ),
+    (
+        "directories in themselves by a reference, away from the root",
+        several(section("INodeReferenceSection", REFERENCE.format(99998)), away(FIRST_REFERENCE, "<child>99999</child>")),
+        "inconsistent inode 9999",
     ),
     ("an inode that is missing", without_inode("spare"), f"inconsistent inode {SPARE} is missing"),
     (

@@ -1,7 +1,7 @@
 """Forms of real clusters that the trials of audits try one by one. Each is a cluster, and the TXIDs of two images."""
 from typing import NamedTuple
 
-from cases import member
+from cases import member, record
 from cluster import FIRST_ID, FULL, Cluster, block_member, named
 
 
@@ -100,6 +100,15 @@ def old_layouts():
         yield Form(name, cluster, first, ONE_BARE)
 
 
+def outgrown():
+    """A cluster with an open file that has more blocks than a line."""
+    cluster, _, (_, opened) = begun()
+    ids = range(cluster.last_block + 1, cluster.last_block + 1501)
+    opened.blocks = [*opened.blocks, *([block_id, 1002, FULL] for block_id in ids)]
+    cluster.last_block = ids[-1]
+    return cluster, opened
+
+
 def bare_files():
     """Other files whose blocks can't be held here."""
     cluster, directory, _ = begun()
@@ -111,10 +120,7 @@ def bare_files():
     cluster.create(directory, "closed", policy=1)
     yield Form("a striped file, and one over another file", cluster, first, ONE_BARE.replace("1", "2"))
 
-    cluster, _, (_, opened) = begun()
-    ids = range(cluster.last_block + 1, cluster.last_block + 1501)
-    opened.blocks = [*opened.blocks, *([block_id, 1002, FULL] for block_id in ids)]
-    cluster.last_block = ids[-1]
+    cluster, opened = outgrown()
     first = cluster.txid
     for _ in range(20):
         cluster.add_block(opened, FULL - 1)
@@ -129,6 +135,93 @@ def bare_files():
     cluster.concat(closed, [other])
     cluster.set_replication(closed, 2)
     yield Form("a concat", cluster, first, ONE_BARE)
+
+
+def kinds():
+    """Files of some kind in the log and of another one in the second image, each beside one of the same kind."""
+    for name, policy, there, blocks, said in (
+        ("a striped file that is replicated in the second image", 1, 0, [], "striped file\n"),
+        ("a striped file that is of an old layout there", 1, 0, [[77, 5, 7]], "striped old\n"),
+        ("a replicated file that is striped there", 0, 1, [[-16, 1003, 7]], "file striped\n"),
+    ):
+        cluster, directory, _ = begun()
+        first = cluster.txid
+        file = cluster.create(directory, "f", policy=policy)
+        cluster.add_block(file)
+        cluster.close(file, 7)
+        file.policy, file.blocks = there, blocks
+        yield Form(name, cluster, first, f'kind "/d/f" {said}', is_same=False)
+
+    for name, change, said in (
+        ("a concat, to a file that is striped there", lambda file: setattr(file, "policy", 1), "replicated striped\n"),
+        ("a concat, to a file with a block of an old layout", lambda file: file.blocks.append([77, 5, 7]), None),
+    ):
+        cluster, directory, (closed, _) = begun()
+        other = cluster.create(directory, "other")
+        cluster.add_block(other)
+        cluster.close(other, 5)
+        first = cluster.txid
+        cluster.concat(closed, [other])
+        change(closed)
+        yield Form(name, cluster, first, f'kind "/d/closed" {said}' if said else ONE_BARE, is_same=not said)
+
+    for name, count, said in (
+        ("a file that outgrows a line, of few blocks there", 9, 'kind "/d/open" long file\n'),
+        ("a file that outgrows a line, with other blocks there", 1300, ONE_BARE),
+    ):
+        cluster, opened = outgrown()
+        first = cluster.txid
+        cluster.add_block(opened, FULL - 1)
+        cluster.close(opened, 9)
+        opened.blocks = opened.blocks[:count]
+        yield Form(name, cluster, first, said, is_same=said is ONE_BARE)
+
+
+def given_ids():
+    """Records that give a file an id that no block of its kind has."""
+    for name, block_id, is_same in (
+        ("an id of an old layout", 77, False),
+        ("a negative id", -77, False),
+        ("another id of this layout, with another length", FIRST_ID, True),
+    ):
+        cluster, _, (closed, _) = begun()
+        first = cluster.txid
+        cluster.append(closed)
+        closed.blocks = [[block_id, closed.blocks[0][1], 100]]
+        cluster.close(closed, 12345)
+        said = "alike: " if is_same else f"fault OP_CLOSE, TXID {cluster.txid}: " + TOLD_OLD.format(block_id)
+        yield Form(f"{name} in an OP_CLOSE", cluster, first, said, is_same)
+
+    cluster, opened = outgrown()
+    first = cluster.txid
+    cluster.add_block(opened, FULL - 1)
+    cluster.log_path("OP_ADD_BLOCK", opened, block_member([-16, 1003, 0]))
+    said = f"fault OP_ADD_BLOCK, TXID {cluster.txid}: "
+    yield Form("a negative id for a file that outgrew a line", cluster, first, said, is_same=False)
+
+    cluster, _, (closed, _) = begun()
+    closed.blocks, cluster.last_stamp = [[77, 5, 10]], 3000
+    first = cluster.txid
+    cluster.truncate(closed, 0)
+    yield Form("a truncate of a file of an old layout to nothing", cluster, first, ONE_BARE)
+
+
+TOLD_OLD = '"/d/closed" has no block of an old layout and is not striped, and is given {}\n'
+
+
+def before_new():
+    """What an OP_ADD_BLOCK has of the block before the new one."""
+    for is_lost in (False, True):
+        cluster, _, (closed, _) = begun()
+        first = cluster.txid
+        cluster.append(closed)
+        txid = cluster.txid
+        cluster.add_block(closed, 200)
+        if is_lost:
+            cluster.records[txid - 1] = txid, record("OP_TIMES", txid)
+        said = f'fault OP_ADD_BLOCK, TXID {cluster.txid}: "/d/closed": the block before the new one, {FIRST_ID}, has '
+        name = "an append, and a new block" + ", where the new stamp is lost" * is_lost
+        yield Form(name, cluster, first, said if is_lost else "alike: ", not is_lost)
 
 
 def no_files():
@@ -177,4 +270,4 @@ def issued():
     yield Form("an image between an id and its block", cluster, first)
 
 
-FORMS = (stamps, truncates, old_layouts, bare_files, no_files, names, snapshots, issued)
+FORMS = (stamps, truncates, old_layouts, bare_files, kinds, given_ids, before_new, no_files, names, snapshots, issued)

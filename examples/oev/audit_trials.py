@@ -1,15 +1,17 @@
 """Trials of `audit`: damages, lost edits, forms of real clusters, programs that fail, chains, clusters at random."""
 import contextlib
 import io
+import json
 import os
 import random
 import re
+import shutil
 import subprocess
 import tempfile
 from types import SimpleNamespace
 
 from at_random import cluster_at_random
-from audit_damages import BLOCKS, DAMAGES, LOST, in_inode, replaced, several, story
+from audit_damages import BLOCKS, DAMAGES, HARMLESS, LOST, in_inode, replaced, several, story
 from audit_forms import FORMS
 from auditing import Audit
 from cases import document, record
@@ -106,6 +108,8 @@ def check_damages(trials):
     for name, damage, begin in DAMAGES:
         second = trials.image(trials.last, damage)
         trials.audited(name, 1, begin, "--from", first, "--to", second, trials.whole)
+    for name, change in HARMLESS:
+        trials.audited(name, 0, "alike: ", "--from", first, "--to", trials.image(trials.last, change), trials.whole)
     length = replaced("<numBytes>41<", "<numBytes>40<")
     damage = several(length, in_inode("spare", "<replication>2<", "<replication>3<"))
     arguments = "--most", "1", "--from", first, "--to", trials.image(trials.last, damage), trials.whole
@@ -206,25 +210,54 @@ def check_chain(trials):
     damaged = trials.image(trials.last, in_inode("spare", "<replication>2<", "<replication>3<"))
     copy = os.path.join(trials.check.folder, "copy")
     os.makedirs(copy)
-    with open(os.path.join(state, "state"), "rb") as one, open(os.path.join(copy, "state"), "wb") as other:
-        other.write(one.read())
+    for name in (os.path.join(copy, "state"), os.path.join(trials.check.folder, "chain-34")):
+        shutil.copy(os.path.join(state, "state"), name)
     trials.audited("a chain in which an image stays wrong", 1, begin, "--state", copy, "--to", damaged, later)
     output = trials.audited("a chain that goes on", 0, "alike: ", "--state", state, "--to", last, later)
     stands = f"chain: TXID {trials.first} (first image) .. {trials.last}, 2 audits\n"
     trials.check.contains("where it stands then", output, stands)
-    with open(os.path.join(copy, "state"), "w") as file:
-        file.write("{}")
-    trials.refused("a chain that is torn", "is no state of an audit", "--state", copy, "--to", last, later)
+    check_state(trials, copy, last)
+
+
+def check_state(trials, folder, last):
+    """A state that was changed is refused, and one of the form before is taken once, and said to be such."""
+    name = os.path.join(folder, "state")
+    words = "--state", folder, "--to", last, trials.log(*trials.records[trials.second :])
+    with open(os.path.join(trials.check.folder, "chain-34"), "rb") as file:
+        whole = file.read()
+    damaged = "is damaged, since its SHA-256 is not that of its first line: bring it back from a copy"
+    for what, old, new, reason in (
+        ("with another digit in its image", b'"len":200', b'"len":201', damaged),
+        ("with another digit in its first line", b'"audits":1', b'"audits":2', damaged),
+        ("with another end", b'{"end":', b'{"enf":', damaged),
+        ("of another form", b"hdfs-audit-2", b"hdfs-audit-3", "is no state of an audit"),
+        ("with a kind that there is not", b'"bare":{}', b'"bare":{"/data/notes":"no"}', "is no state of an audit"),
+        ("that is torn", whole, b"{}", "is no state of an audit"),
+    ):
+        put(name, whole.replace(old, new, 1))
+        trials.refused(f"a state {what}", reason, *words)
+    head, rest = whole.split(b"\n", 1)
+    members = {name: it for name, it in json.loads(head).items() if name != "sha256"}
+    put(name, json.dumps({**members, "form": "hdfs-audit", "bare": []}).encode() + b"\n" + rest)
+    output = trials.audited("a state of the form before", 0, "alike: ", *words)
+    trials.check.contains("that it is", output, f"{name} has no sum yet, and is taken as it is: ")
+    with open(name) as file:
+        trials.check.contains("the state behind it", file.readline(), '"form":"hdfs-audit-2","sha256":"')
+
+
+def put(name, content):
+    with open(name, "wb") as file:
+        file.write(content)
 
 
 def check_kept(trials, first):
     """A file is bare in a chain only if the log or the first image has it so, and not because a wrong image has."""
     state = os.path.join(trials.check.folder, "kept")
     striped = in_inode("spare", "<replication>", "<blockType>STRIPED</blockType><replication>")
-    second, begin = trials.image(trials.second, striped), 'replication "/data/spare" 2 1'
+    second, begin = trials.image(trials.second, striped), 'kind "/data/spare" file striped'
     trials.audited("a chain", 1, begin, "--state", state, "--from", first, "--to", second, trials.whole)
     with open(os.path.join(state, "state")) as file:
-        trials.check.contains("the bare files of a chain", file.readline(), '"bare":[]')
+        trials.check.contains("the bare files of a chain", file.readline(), '"bare":{}')
 
 
 def check_random(trials):

@@ -8,7 +8,19 @@ import re
 from collections import Counter
 
 import edits
-from bare import has_old_block, is_bare, made_bare, new_bare
+from bare import (
+    FEW_BLOCKS,
+    LONG,
+    MOST_REPLICATION,
+    OLD,
+    REPLICATED,
+    STRIPED,
+    UNKNOWN,
+    is_bare,
+    made_bare,
+    new_bare,
+    old_id,
+)
 from dumps import Element
 from edits import blocks_in, path_in
 from formats import GREATEST_NUMBER, Block, DoesNotApply, Refused, line_of, to_json
@@ -34,9 +46,6 @@ NUMBERS = {"TXID", "BLOCK", "BLOCK_ID", "ERASURE_CODING_POLICY_ID", "GENSTAMPV2"
 TAKEN = NAMES | NUMBERS | {"OPTIONS", "OVERWRITE"}
 
 CARRIAGE_RETURN = re.compile(r"(?:\r|\\000[dD];)\n?")
-
-# A line has room for so many blocks, whatever its path.
-FEW_BLOCKS = 100
 
 
 class Audited:
@@ -64,8 +73,9 @@ class Audited:
     def converted(self, record, tree):
         if record.opcode in SNAPSHOTS:
             return []
+        check_replication(record)
         if record.opcode in OF_FILES:
-            return self.of_file(record, tree)
+            return of_file(record, tree)
         if record.opcode == "OP_ADD":
             return add(record, tree)
         if record.opcode == "OP_CONCAT_DELETE":
@@ -73,19 +83,6 @@ class Audited:
         if record.opcode == "OP_ALLOCATE_BLOCK_ID" and record.data.string("BLOCK_ID").startswith("-"):
             return []
         return edits.edits_of(record, tree)
-
-    def of_file(self, record, tree):
-        path = path_in(record.data, OF_FILES[record.opcode])
-        node = tree.find(path)
-        # A packed file is not bare.
-        if isinstance(node, File) and is_bare(node):
-            return []
-        if not has_old_block(record.data.all("BLOCK"), "BLOCK_ID", "GENSTAMP"):
-            is_truncate = record.opcode == "OP_TRUNCATE"
-            made = truncate(record.data, tree.find_file(path)) if is_truncate else edits.edits_of(record, tree)
-            if all(map(fits_a_line, made)):
-                return made
-        return no_file(path) if node is None or is_directory(node) else made_bare(path)
 
     def without_returns(self, record):
         """The record as an image has its names: a dump of an image has a line feed for a carriage return in a name."""
@@ -128,6 +125,36 @@ def places_of_names(shape):
     return [part.first for part in parts if not part.tags]
 
 
+def check_replication(record):
+    if record.opcode in ("OP_ADD", "OP_SET_REPLICATION") and record.data.number("REPLICATION") > MOST_REPLICATION:
+        said = record.data.number("REPLICATION")
+        raise Refused(f"the replication {said}, and {MOST_REPLICATION} is the most here")
+
+
+def of_file(record, tree):
+    """The edits of a record of one file."""
+    path = path_in(record.data, OF_FILES[record.opcode])
+    node = tree.find(path)
+    # A packed file is not bare.
+    kind = node.blocks.kind if isinstance(node, File) and is_bare(node) else None
+    is_file, is_truncate = not (node is None or is_directory(node)), record.opcode == "OP_TRUNCATE"
+    old = old_id(record.data.all("BLOCK")) if kind in (None, LONG.kind) else None
+    if old is not None and is_file:
+        raise DoesNotApply(f"{to_json(path)} has no block of an old layout and is not striped, and is given {old}")
+    if kind is not None:
+        return cut_bare(path, kind) if is_truncate else []
+    if old is None:
+        made = truncate(record.data, tree.find_file(path)) if is_truncate else edits.edits_of(record, tree)
+        if all(map(fits_a_line, made)):
+            return made
+    return made_bare(path, LONG.kind) if is_file else no_file(path)
+
+
+def cut_bare(path, kind):
+    """A truncate of a bare file: which blocks are left is not known, unless it is striped."""
+    return made_bare(path, REPLICATED.kind) if kind in (OLD.kind, LONG.kind) else []
+
+
 def fits_a_line(edit):
     """Whether a line has room for an edit's blocks."""
     if len(edit.get("blocks", ())) <= FEW_BLOCKS:
@@ -146,14 +173,17 @@ def add(record, tree):
         return edits.edits_of(record, tree)
     path = path_in(record.data, "PATH")
     if not tree.find_file(path):
-        return new_bare(path)
+        return new_bare(path, STRIPED.kind)
     if not record.data.boolean("OVERWRITE"):
         raise Refused(f"the file {path} exists and is not overwritten: an append of old layouts")
-    return made_bare(path)
+    return made_bare(path, STRIPED.kind)
 
 
 def concat(data, tree):
-    """Blocks move from other files, which are deleted, to the end of a file, which is bare from then on."""
+    """Blocks move from other files, which are deleted, to the end of a file, which is bare from then on.
+
+    A striped file stays striped, and one of an old layout has blocks of it still.
+    """
     sources, target = data.get("SOURCES"), path_in(data, "TRG")
     made = []
     for path in (path_in(sources, source.name) for source in sources.children):
@@ -161,7 +191,8 @@ def concat(data, tree):
     file = tree.find_file(target)
     if file is None:
         return made + no_file(target)
-    return made if is_bare(file) else made + made_bare(target)
+    has_kept = is_bare(file) and file.blocks.kind in (STRIPED.kind, OLD.kind, REPLICATED.kind, UNKNOWN.kind)
+    return made if has_kept else made + made_bare(target, REPLICATED.kind)
 
 
 def no_file(path):

@@ -31,7 +31,7 @@ class Audit:
         theirs, contradiction = read_image(self.options.to)
         self.check_pair(start.link, theirs, contradiction)
         log = Converted(start, theirs.txid, self.options.files, self.folder)
-        theirs.bare_paths = set(log.bare)
+        theirs.told_kinds = log.bare
         if contradiction is None:
             contradiction = write_image(theirs, self.options.to, self.file("theirs.given"))
         applies = self.apply(start, log)
@@ -42,6 +42,8 @@ class Audit:
             self.differences.tell("inconsistent", contradiction)
         elif applies:
             alike = self.compare(theirs)
+            if theirs.low_inode is not None:
+                self.differences.tell("inconsistent", theirs.low_inode)
         self.tell_rest(alike, theirs, log)
         if chain is not None:
             print(self.advance(chain, start.link, theirs, log) if applies else start.link)
@@ -56,15 +58,17 @@ class Audit:
         if link is not None:
             if self.options.start:
                 raise Refused(f"{chain.name} goes on from TXID {link.txid}, and --from is for the first audit alone")
+            if link.is_old:
+                self.notes.append(f"{chain.name} has no sum yet, and is taken as it is: the next one has its SHA-256")
             return Start(link, chain.name, place)
         if not self.options.start:
             raise Refused("--from FROM has to name the image that the log goes on from")
         name = self.file("ours.given")
         dump, contradiction = read_image(self.options.start)
-        contradiction = contradiction or low_number(dump) or write_image(dump, self.options.start, name)
+        contradiction = contradiction or dump.low_inode or low_number(dump) or write_image(dump, self.options.start, name)
         if contradiction is not None:
             raise Refused(f"{self.options.start} contradicts itself: {contradiction}")
-        return Start(Link(dump.txid, dump.txid, 0, dump.cluster, sorted(dump.bare_paths)), name, 0)
+        return Start(Link(dump.txid, dump.txid, 0, dump.cluster, in_order(dump.bare_kinds)), name, 0)
 
     def check_pair(self, link, theirs, contradiction):
         """Refuses a second image of another cluster, and one that is not behind the first."""
@@ -146,7 +150,7 @@ class Audit:
         print(counted("not compared, members of other records", log.edits.passed))
         for what, number in (
             ("inodes that only snapshots hold", theirs.only_in_snapshots),
-            ("files whose blocks can't be held here", len(theirs.bare_paths)),
+            ("files whose blocks can't be held here", len(theirs.told_kinds.keys() | theirs.bare_kinds.keys())),
             ("records with a carriage return in a name, taken as a line feed", log.edits.carriage_returns),
             ("names of the image with a line feed, which may be a carriage return", theirs.with_line_feeds),
         ):
@@ -157,7 +161,7 @@ class Audit:
 
     def advance(self, chain, link, theirs, log):
         """Keeps what the program has at the second image's TXID, be that image right or wrong."""
-        link = Link(link.first, theirs.txid, link.audits + 1, link.cluster, sorted(log.bare))
+        link = Link(link.first, theirs.txid, link.audits + 1, link.cluster, in_order(log.bare))
         with open(self.file("ours"), "rb") as image:
             chain.keep(link, image)
         return link
@@ -171,6 +175,10 @@ class Audit:
         else:
             print(f"differs: the image of TXID {txid} is not what the log makes of the image of TXID {before}: {found}")
         return not found
+
+
+def in_order(kinds):
+    return dict(sorted(kinds.items()))
 
 
 def told_of(fault, image):

@@ -1,48 +1,88 @@
 """Bare files: files whose blocks can't be held here, and that an audit takes as closed files without blocks.
 
-They are striped, of an old layout, of more blocks than a line holds, or were joined by a concat. All else is as it is:
-their names, and that they are files. Their paths are kept, so that they are bare in both images and in the log.
+All else is as it is: their names, and that they are files. Their paths are kept with their kinds, so that they are bare
+in both images and in the log. An image shows which files are striped, and which have blocks of an old layout. The log
+makes a striped file, one of more blocks than a line holds, and one of which it can't say which blocks it has.
 """
-from formats import FIRST_BLOCK_ID, NO_BLOCKS
+from formats import FIRST_BLOCK_ID, NoBlocks
 from inodes import File
 
-BARE = File(1, True, NO_BLOCKS)
+STRIPED, OLD, LONG, REPLICATED = map(NoBlocks, ("striped", "old", "long", "replicated"))
+# What a chain of before kinds were kept has.
+UNKNOWN = NoBlocks("unknown")
+
+BLOCKS_OF = {blocks.kind: blocks for blocks in (STRIPED, OLD, LONG, REPLICATED, UNKNOWN)}
+
+# The program has a number in place of a bare file's replication, so that files of two kinds differ for it.
+NUMBERS = {"unknown": 1, "replicated": 509, "long": 510, "old": 511, "striped": 512}
+KINDS = {number: kind for kind, number in NUMBERS.items() if kind != "unknown"}
+# The greatest replication that is no such number.
+MOST_REPLICATION = min(KINDS) - 1
+
+# A line has room for so many blocks, whatever its path. A file that is longer has more.
+FEW_BLOCKS = 100
 
 
 def is_bare(file):
-    return file.blocks == NO_BLOCKS
+    return isinstance(file.blocks, NoBlocks)
 
 
-def has_old_block(blocks, id_name, stamp_name, first_gen=0):
-    """Whether one of these blocks is of a striped file or of an old layout, by its id or by a stamp below the first."""
+def bare_file(kind):
+    return File(NUMBERS[kind], True, BLOCKS_OF[kind])
+
+
+def old_id(blocks):
+    """The first id of a record's blocks that no block of a replicated file of this layout has, as a text; or None."""
     for block in blocks:
-        if block.text_of(id_name).startswith("-") or block.number(id_name) < FIRST_BLOCK_ID:
+        if block.text_of("BLOCK_ID").startswith("-") or block.number("BLOCK_ID") < FIRST_BLOCK_ID:
+            return block.text_of("BLOCK_ID")
+    return None
+
+
+def has_old_block(blocks, first_gen):
+    """Whether one of an inode's blocks is of an old layout, by its id or by a stamp below the first of this layout."""
+    for block in blocks:
+        if block.text_of("id").startswith("-") or block.number("id") < FIRST_BLOCK_ID:
             return True
-        if block.number(stamp_name) < first_gen:
+        if block.number("genstamp") < first_gen:
             return True
     return False
 
 
-def new_bare(path):
+def kind_in_image(file, told):
+    """The kind of a file of an image that is bare or that the log tells to be of a kind; None if it is not bare.
+
+    A long file, and one whose blocks the log can't say, look in an image as all do.
+    """
+    found = file.blocks.kind if is_bare(file) else None
+    is_as_told = {
+        "unknown": True,
+        "replicated": found in (None, OLD.kind),
+        "long": found is None and len(file.blocks) >= FEW_BLOCKS,
+    }
+    return told if is_as_told.get(told) else found
+
+
+def new_bare(path, kind):
     """The edits that make a bare file."""
-    made = {"op": "OP_ADD", "path": path, "replication": BARE.replication}
-    return [made, {"op": "OP_CLOSE", "path": path, "blocks": NO_BLOCKS}]
+    made = {"op": "OP_ADD", "path": path, "replication": NUMBERS[kind]}
+    return [made, {"op": "OP_CLOSE", "path": path, "blocks": BLOCKS_OF[kind]}]
 
 
-def made_bare(path):
+def made_bare(path, kind):
     """The edits by which a file that exists is bare from then on."""
-    return [{"op": "OP_DELETE", "path": path}, *new_bare(path)]
+    return [{"op": "OP_DELETE", "path": path}, *new_bare(path, kind)]
 
 
 def bare_paths(tree):
-    """The paths of all bare files in a tree. A packed file is not one."""
+    """The paths of all bare files in a tree, each with its kind. A packed file is not bare."""
     ahead = [("", tree.root)]
-    found = set()
+    found = {}
     while ahead:
         path, directory = ahead.pop()
         for name, node in directory.items():
             if isinstance(node, dict):
                 ahead.append((f"{path}/{name}", node))
             elif not isinstance(node, bytes) and is_bare(node):
-                found.add(f"{path}/{name}")
+                found[f"{path}/{name}"] = node.blocks.kind
     return found

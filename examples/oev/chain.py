@@ -4,16 +4,23 @@ So only the first image of a cluster is taken on trust. What was wrong in a late
 an image is right.
 """
 import fcntl
+import hashlib
 import json
 import os
 from typing import NamedTuple
 
-from formats import NO_BLOCKS, Image, Refused, to_json
+from bare import BLOCKS_OF, UNKNOWN
+from formats import Image, Refused, to_json
 from tree import tree_of
 
 STATE = "state"
-FORM = "hdfs-audit"
-END = b'{"end":'
+FORM = "hdfs-audit-2"
+# The form before, whose first line has no sum, and no kinds of bare files.
+OLD_FORM = "hdfs-audit"
+END = b'\n{"end":'
+# The end of an image has fewer bytes.
+END_BYTES = 200
+CHUNK_BYTES = 1 << 20
 
 
 class Link(NamedTuple):
@@ -25,8 +32,14 @@ class Link(NamedTuple):
     audits: int
     # The namespaceId of the cluster.
     cluster: int
-    # The files that are taken without blocks.
-    bare: list
+    # The files that are taken without blocks, each with its kind.
+    bare: dict
+    # Whether it was read from a state of the form before.
+    is_old: bool = False
+
+    def members(self):
+        """What the first line of a state has of it."""
+        return {name: value for name, value in self._asdict().items() if name != "is_old"}
 
     def __str__(self):
         return f"chain: TXID {self.first} (first image) .. {self.txid}, {self.audits:,} audits"
@@ -51,8 +64,8 @@ class Start(NamedTuple):
     def tree(self):
         with self.open() as file:
             tree = tree_of(Image(file))
-        for path in self.link.bare:
-            tree.find_file(path).blocks = NO_BLOCKS
+        for path, kind in self.link.bare.items():
+            tree.find_file(path).blocks = BLOCKS_OF[kind]
         return tree
 
 
@@ -76,21 +89,58 @@ class Chain:
         with open(self.name, "rb") as file:
             try:
                 members = json.loads(file.readline())
-                if members.pop("form") != FORM:
-                    raise ValueError
-                return Link(**members), file.tell()
+                form, told = members.pop("form"), members.pop("sha256", None)
+                link = link_of(form, members)
             except (ValueError, TypeError, KeyError, AttributeError):
                 raise Refused(f"{self.name} is no state of an audit") from None
+            place = file.tell()
+            if not link.is_old and told != sum_of(link, file):
+                advice = "bring it back from a copy, or begin another chain in an empty folder"
+                raise Refused(f"{self.name} is damaged, since its SHA-256 is not that of its first line: {advice}")
+            return link, place
 
     def keep(self, link, image):
         """Keeps the image that a file has, or leaves all as it was."""
-        new = f"{self.name}.new"
+        new, size = f"{self.name}.new", size_of_image(image)
         with open(new, "wb") as output:
-            output.write(to_json({"form": FORM, **link._asdict()}).encode() + b"\n")
-            for line in image:
-                output.write(line)
-                if line.startswith(END):
-                    break
+            members = {"form": FORM, "sha256": sum_of(link, image, size), **link.members()}
+            output.write(to_json(members).encode() + b"\n")
+            image.seek(0)
+            output.writelines(chunks_of(image, size))
             output.flush()
             os.fsync(output.fileno())
         os.replace(new, self.name)
+
+
+def link_of(form, members):
+    """The link that the first line of a state has."""
+    if form == OLD_FORM:
+        return Link(**{**members, "bare": dict.fromkeys(members["bare"], UNKNOWN.kind)}, is_old=True)
+    if form != FORM or not set(members["bare"].values()) <= BLOCKS_OF.keys():
+        raise ValueError
+    return Link(**members)
+
+
+def sum_of(link, image, size=None):
+    """The SHA-256 of a link and of its image, from where a file is read: to the file's end, or so many bytes."""
+    found = hashlib.sha256(to_json(link.members()).encode())
+    for chunk in chunks_of(image, size):
+        found.update(chunk)
+    return found.hexdigest()
+
+
+def chunks_of(file, size=None):
+    """The bytes of a file, from where it is read: to its end, or so many."""
+    while chunk := file.read(CHUNK_BYTES if size is None else min(size, CHUNK_BYTES)):
+        yield chunk
+        size = None if size is None else size - len(chunk)
+
+
+def size_of_image(file):
+    """The bytes of the image that the program printed to a file, which begins there and which an answer ends."""
+    begin = max(0, file.seek(0, os.SEEK_END) - END_BYTES)
+    file.seek(begin)
+    tail = file.read()
+    end = tail.rindex(END) + 1
+    file.seek(0)
+    return begin + tail.index(b"\n", end) + 1

@@ -3,16 +3,13 @@
 Snapshots change no live name. What only they hold is counted, and so is every element that nothing here stands for, by
 the name that it has in the dump: an element of a later Hadoop shows itself.
 """
-from array import array
-
-from bare import BARE, has_old_block, is_bare
-
+from bare import MOST_REPLICATION, OLD, STRIPED, bare_file, has_old_block, is_bare, kind_in_image
 from formats import FIRST_BLOCK_ID, FIRST_GEN, Refused
 from fsimage import Dump, Inconsistent, blocks_in, blocks_of, image_lines, is_striped
 from inodes import NONE, Lists
+from loops import row_in_loop
+from mentions import REFERENCE, Mentions
 from shapes import children_of, named
-
-REFERENCE = ("INodeReferenceSection", "ref")
 
 # What is taken of each element.
 TAKEN = {
@@ -27,21 +24,26 @@ TAKEN = {
 
 
 class Checkpoint(Dump):
-    """An image of a real cluster. `bare_paths` are the files that are bare in the log, to which it adds its own."""
+    """An image of a real cluster."""
 
     def __init__(self):
         super().__init__()
         self.cluster = None
-        self.bare_paths = set()
-        # The inode that each reference stands for, in the order of the dump, and the references of each directory.
-        self.references = array("q")
+        # The kinds of bare files by their paths: those that the log tells, and those that were found here.
+        self.told_kinds = {}
+        self.bare_kinds = {}
+        # What other sections say of inodes, which inode each reference stands for, and the references of directories.
+        self.mentions = Mentions()
+        self.references = self.mentions.ids[REFERENCE]
         self.referring = Lists()
+        # How the last inode's id contradicts the inodes, or None.
+        self.low_inode = None
         self.snapshots_count = 0
         self.only_in_snapshots = 0
         self.with_line_feeds = 0
 
     def readers(self):
-        return {**super().readers(), REFERENCE: self.reference}
+        return {**super().readers(), **self.mentions.readers(), REFERENCE: self.reference}
 
     def take_numbers(self, section):
         super().take_numbers(section)
@@ -75,15 +77,15 @@ class Checkpoint(Dump):
         blocks = blocks_in(inode)
         for element in (*inode.all("blocks"), *inode.all("file-under-construction"), *blocks):
             self.pass_over(element)
-        if is_striped(inode) or has_old_block(blocks, "id", "genstamp", self.first_gen):
-            return BARE
-        return super().file_with_blocks(inode)
+        if is_striped(inode):
+            return bare_file(STRIPED.kind)
+        return bare_file(OLD.kind) if has_old_block(blocks, self.first_gen) else super().file_with_blocks(inode)
 
     def snapshots(self, count):
         self.snapshots_count = count.value()
 
     def reference(self, element):
-        self.references.append(element.number("referredId"))
+        self.mentions.take(REFERENCE, element.number("referredId"))
         self.pass_over(element)
 
     def list(self, element):
@@ -95,6 +97,8 @@ class Checkpoint(Dump):
             self.referring.add(owner, places)
 
     def finish(self):
+        self.mentions.check(self.inodes)
+        self.low_inode = self.mentions.low_last(self.inodes)
         self.referring.finish(self.inodes)
         self.reference_rows = self.inodes.rows_of(self.references)
         super().finish()
@@ -104,28 +108,45 @@ class Checkpoint(Dump):
 
     def referred(self, row):
         children = []
+        for place in self.references_of(row):
+            child = self.known(self.reference_rows[place], self.references[place])
+            children.append((self.inodes.name(child).decode(), child))
+        return children
+
+    def references_of(self, row):
+        """The places of the references that a directory has."""
         for at in self.referring.places(row):
             place = self.referring.numbers[at]
             if place >= len(self.references):
                 told = f"inode {self.inodes.ids[row]} has the refChild {place}"
                 raise Inconsistent(f"{told}, and the references are {len(self.references)}")
-            child = self.known(self.reference_rows[place], self.references[place])
-            children.append((self.inodes.name(child).decode(), child))
-        return children
+            yield place
 
     def check_all_taken(self):
         """What the root does not lead to is held by snapshots alone, if there are any."""
         if not self.snapshots_count:
             super().check_all_taken()
-        self.only_in_snapshots = self.is_taken.count(False)
+        held = [row for row, is_taken in enumerate(self.is_taken) if not is_taken] if not all(self.is_taken) else []
+        self.only_in_snapshots = len(held)
+        looped = row_in_loop(held, self.all_below)
+        if looped is not None:
+            raise Inconsistent(f"inode {self.inodes.ids[looped]}, away from the root, is below itself")
         for lists in (self.children, self.referring):
             if lists.missing is not None:
                 raise Inconsistent(f"inode {lists.missing} is missing")
 
+    def all_below(self, row):
+        """The rows of all that a directory lists."""
+        below = [self.child_rows[at] for at in self.children.places(row)]
+        return below + [self.reference_rows[place] for place in self.references_of(row)]
+
     def row(self, path, file):
-        if is_bare(file) or path in self.bare_paths:
-            self.bare_paths.add(path)
-            return BARE
+        kind = kind_in_image(file, self.told_kinds.get(path))
+        if kind is not None:
+            self.bare_kinds[path] = kind
+            return bare_file(kind)
+        if file.replication > MOST_REPLICATION:
+            raise Refused(f"{path} has the replication {file.replication}, and {MOST_REPLICATION} is the most here")
         return super().row(path, file)
 
 

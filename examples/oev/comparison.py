@@ -8,6 +8,7 @@ from collections import Counter
 from functools import cached_property
 from itertools import zip_longest
 
+from bare import KINDS
 from formats import row_of, to_json
 
 END = b'{"end":'
@@ -164,7 +165,8 @@ def tell_row(one, other, differences):
 
 
 def kind_of(row):
-    return "directory" if row.blocks is None else "file"
+    """What a row is: a directory, a file, or a bare file of some kind."""
+    return "directory" if row.blocks is None else KINDS.get(row.replication, "file")
 
 
 def words_of_blocks(row):

@@ -3,7 +3,7 @@
 docs/HDFS.md has the same as a table. What a record means depends on what exists, so each function here is given the
 tree beside the record. It answers edits as dictionaries of a line's members, and changes nothing.
 """
-from formats import Refused, check_path
+from formats import DoesNotApply, Refused, check_path, to_json
 from tree import is_directory
 
 # A standby holds nothing of these here.
@@ -96,7 +96,7 @@ def add(data, tree):
 
 
 def add_block(data, tree):
-    """A new block. Where there are two, the first is the block before it, with the length that it has got."""
+    """A new block. Where there are two, the first is the block before it, of which only the length may differ."""
     path = path_in(data, "PATH")
     blocks = blocks_in(data)
     if len(blocks) not in (1, 2):
@@ -105,8 +105,17 @@ def add_block(data, tree):
     edits = [{"op": "OP_ADD_BLOCK", "path": path, "id": new.id, "gen": new.gen}]
     file = tree.find_file(path)
     if file and before and file.blocks[-1:] != before:
+        check_stamp(path, file.blocks[-1:], before)
         edits.insert(0, {"op": "OP_UPDATE_BLOCKS", "path": path, "blocks": file.blocks[:-1] + before})
     return edits
+
+
+def check_stamp(path, last, before):
+    """Refuses another stamp of a file's last block. Another block is for the program to refuse."""
+    for block, told in zip(last, before):
+        if block.id == told.id and block.gen != told.gen:
+            stamps = f"the stamp {told.gen}, and the file has it with {block.gen}"
+            raise DoesNotApply(f"{to_json(path)}: the block before the new one, {block.id}, has {stamps}")
 
 
 def append(data, tree):

@@ -13,8 +13,7 @@ PATH_NAMES = 1_000
 FIRST_BLOCK_ID = 1_073_741_825
 FIRST_GEN = 1_001
 
-# The blocks of a file that is taken without them, because they can't be held here.
-NO_BLOCKS = ()
+GREATEST_REPLICATION = 512
 
 DIGITS = re.compile("[0-9]{1,19}")
 
@@ -31,6 +30,15 @@ class Refused(Exception):
 
 class DoesNotApply(Refused):
     """A record that can't be followed, because of what the log before it made."""
+
+
+class NoBlocks(tuple):
+    """The blocks of a file that is taken without them: none, and the kind of bare files that it is of."""
+
+    def __new__(cls, kind):
+        made = super().__new__(cls)
+        made.kind = kind
+        return made
 
 
 class Block(NamedTuple):

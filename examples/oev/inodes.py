@@ -6,9 +6,9 @@ from array import array
 from itertools import chain, repeat
 from typing import NamedTuple
 
-from formats import NO_BLOCKS, Block
+from formats import Block, NoBlocks
 
-# What an inode is: a directory, a file that is open or closed, or a closed one that is taken without its blocks.
+# What an inode is: a directory, a file that is open or closed, or one that is taken without its blocks.
 DIRECTORY, OPEN, CLOSED, BARE = range(4)
 
 # The row of an inode that is missing, and what stands behind the last list of a directory.
@@ -33,6 +33,8 @@ class Inodes:
         self.block_ends = array("Q", [0])
         self.kinds = bytearray()
         self.replications = array("q")
+        # The blocks of each bare file, which are none of some kind, by its row.
+        self.bare = {}
         # The row of each id, until `finish`.
         self.rows = {}
 
@@ -54,7 +56,9 @@ class Inodes:
         self.block_ends.append(len(self.blocks))
 
     def add_file(self, inode_id, name, file):
-        kind = BARE if file.blocks == NO_BLOCKS else CLOSED if file.closed else OPEN
+        kind = CLOSED if file.closed else OPEN
+        if isinstance(file.blocks, NoBlocks):
+            kind, self.bare[len(self)] = BARE, file.blocks
         self.add(inode_id, name, kind, file.replication, chain.from_iterable(file.blocks))
 
     def finish(self):
@@ -76,7 +80,7 @@ class Inodes:
         if kind == DIRECTORY:
             return None
         if kind == BARE:
-            return File(self.replications[row], True, NO_BLOCKS)
+            return File(self.replications[row], True, self.bare[row])
         numbers = iter(self.blocks[self.block_ends[row] : self.block_ends[row + 1]])
         return File(self.replications[row], kind == CLOSED, list(map(Block, numbers, numbers, numbers)))
 

@@ -57,16 +57,18 @@ class DumpReader:
     # The tree is that between two segments.
     goes_on_inside = False
 
-    def __init__(self, tree, skipped_opcodes):
+    def __init__(self, tree, skipped_opcodes, edits_of):
         self.tree = tree
         self.skipped_opcodes = skipped_opcodes
+        self.edits_of = edits_of
         self.keep = tree.keep
         self.undo = tree.undo
 
     def pieces(self, file, segment, reached):
         """The pieces that a file has behind what was reached, and where the log is behind them."""
         pieces = Pieces(reached)
-        conversion = Conversion(self.tree, Log(pieces, reached.number, PROFILE, pieces), self.skipped_opcodes)
+        log = Log(pieces, reached.number, PROFILE, pieces)
+        conversion = Conversion(self.tree, log, self.skipped_opcodes, self.edits_of)
         conversion.begin_after(reached.txid)
         first = last = None
         for record in records_of(file):

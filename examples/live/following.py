@@ -11,8 +11,9 @@ class Follower:
         self.standby = standby
         self.reader = reader
         self.behind_piece = behind_piece
-        # The keys of files that were not taken. They are read again once they have others.
+        # The keys of files that were not taken, which are read again once they have others; and why, if that is known.
         self.bad = {}
+        self.reasons = {}
 
     def follow(self):
         """Feeds the segments that are there."""
@@ -36,7 +37,7 @@ class Follower:
             if self.bad.get(segment.path) != segment.key:
                 self.feed(segment)
             if segment.path in self.bad:
-                waits = f"{segment.name} was not taken"
+                waits = f"{segment.name} was not taken{self.reasons.get(segment.path, '')}"
         self.wait_for(waits)
 
     def wait_for(self, reason):
@@ -48,6 +49,7 @@ class Follower:
     def feed(self, segment):
         """Feeds one segment. Where it is not taken, it is fed again once its file has changed."""
         self.bad.pop(segment.path, None)
+        self.reasons.pop(segment.path, None)
         key, taken, before = segment.key, False, self.standby.pairs.reached
         try:
             key, pieces, end = read_pieces(self.reader, segment, before)
@@ -56,6 +58,7 @@ class Follower:
                 self.standby.advance(end)
         except BadSegment as fault:
             key = fault.key
+            self.reasons[segment.path] = f": {fault}"
             self.standby.tell(f"{segment.name}: {fault}")
         except FileNotFoundError:
             return

@@ -20,7 +20,7 @@ def metrics(figures):
         ("held_items", "gauge", "How many items of reports wait for the log.", figures["held"]),
         ("blocks", "gauge", "How many blocks closed files have.", figures["blocks"]["total"]),
         ("safe_blocks", "gauge", "How many of them have enough live replicas to be safe.", figures["blocks"]["safe"]),
-        *((name, "gauge", meaning, figures[name]) for name, meaning in COUNTS.items()),
+        *((name, "gauge", meaning, figures[name]) for name, meaning in COUNTS.items() if name in figures),
         ("safe_mode", "gauge", "Whether safe mode is on.", int(figures["safe_mode"])),
         ("datanodes", "gauge", "How many DataNodes sent reports and are not gone.", len(figures["datanodes"]) - gone),
         ("gone_datanodes", "gauge", "How many DataNodes are called gone.", gone),
@@ -51,6 +51,7 @@ def page(figures):
         ("Held", f"{figures['held']:,}"),
         ("Last checkpoint", f"TXID {figures['checkpoint']:,}"),
         ("The log waits", figures["waits"] or "no"),
+        *[("Left out", figures["left_out"])] * bool(figures["left_out"]),
     ]
     datanodes = [table_row(str(datanode["datanode"]), *datanode_cells(datanode)) for datanode in figures["datanodes"]]
     told = "".join(f"<li>{escape(line)}</li>" for line in figures["told"])

@@ -14,6 +14,10 @@ from service import Ended
 TOLD_LINES = 20
 STANDBY = "standby"
 
+NO_ORDERS = "no delete order is shown: snapshots are passed over, and one may hold its block"
+# How the line of a delete order begins.
+ORDER = b"order "
+
 
 class Refusal(Exception):
     """What is not done. The text is the reason."""
@@ -35,12 +39,14 @@ class Teller:
 class Standby:
     """The program in service, and how far it has followed the segments of its source."""
 
-    def __init__(self, service, source, pairs, teller):
+    def __init__(self, service, source, pairs, teller, hides_orders=False):
         self.service = service
         self.source = source
         self.pairs = pairs
         self.teller = teller
         self.tell = teller.tell
+        # Whether snapshots are passed over.
+        self.hides_orders = hides_orders
         self.lock = threading.RLock()
         self.state = STANDBY
         # The fault that stopped the log, and its TXID.
@@ -121,7 +127,8 @@ class Standby:
                 "segments": int(words["segments"][0]),
                 "held": int(words["held"][0]),
                 "blocks": {"total": total, "safe": safe, "needed": needed},
-                **{name: int(words[name][0]) for name in COUNTS},
+                **{name: int(words[name][0]) for name in COUNTS if not (self.hides_orders and name == "orders")},
+                "left_out": NO_ORDERS if self.hides_orders else None,
                 "safe_mode": words["blocks"][6] == "on",
                 "datanodes": [self.datanodes.figures(int(line[1]), int(line[2]), int(line[4])) for line in senders],
                 "faults": dict(sorted(self.faults.items(), key=lambda item: int(item[0]))),
@@ -134,7 +141,8 @@ class Standby:
             txid = self.pairs.reached.txid
 
             def translated(line):
-                give(b"txid %d" % txid if line.startswith(b"txid ") else line)
+                if not (self.hides_orders and line.startswith(ORDER)):
+                    give(b"txid %d" % txid if line.startswith(b"txid ") else line)
 
             self.service.ask(b"", 0, "tables", translated)
 

@@ -1,7 +1,7 @@
 """What becomes of each record in an audit, where only namespaces are compared.
 
 Real clusters do more than a standby here can follow. Records of snapshots change no live name, and are left out. A
-truncate becomes edits of the file. A file whose blocks can't be held here is bare from then on. Nothing of this is for
+file whose blocks can't be held here is bare from then on. Nothing of this is for
 a standby that has reports: it would order blocks to be deleted that a snapshot holds.
 """
 import re
@@ -22,12 +22,10 @@ from bare import (
     old_id,
 )
 from dumps import Element
-from edits import blocks_in, path_in
-from formats import GREATEST_NUMBER, Block, DoesNotApply, Refused, line_of, to_json
+from edits import path_in
+from formats import GREATEST_NUMBER, DoesNotApply, Refused, line_of, to_json
 from shapes import children_of
 from tree import File, is_directory
-
-SNAPSHOTS = {"OP_CREATE_SNAPSHOT", "OP_DELETE_SNAPSHOT", "OP_RENAME_SNAPSHOT"}
 
 # The records of one file, with the member that names it.
 OF_FILES = {
@@ -71,8 +69,6 @@ class Audited:
         return made
 
     def converted(self, record, tree):
-        if record.opcode in SNAPSHOTS:
-            return []
         check_replication(record)
         if record.opcode in OF_FILES:
             return of_file(record, tree)
@@ -82,7 +78,7 @@ class Audited:
             return concat(record.data, tree)
         if record.opcode == "OP_ALLOCATE_BLOCK_ID" and record.data.string("BLOCK_ID").startswith("-"):
             return []
-        return edits.edits_of(record, tree)
+        return edits.edits_beside_snapshots(record, tree)
 
     def without_returns(self, record):
         """The record as an image has its names: a dump of an image has a line feed for a carriage return in a name."""
@@ -137,14 +133,14 @@ def of_file(record, tree):
     node = tree.find(path)
     # A packed file is not bare.
     kind = node.blocks.kind if isinstance(node, File) and is_bare(node) else None
-    is_file, is_truncate = not (node is None or is_directory(node)), record.opcode == "OP_TRUNCATE"
+    is_file = not (node is None or is_directory(node))
     old = old_id(record.data.all("BLOCK")) if kind in (None, LONG.kind) else None
     if old is not None and is_file:
         raise DoesNotApply(f"{to_json(path)} has no block of an old layout and is not striped, and is given {old}")
     if kind is not None:
-        return cut_bare(path, kind) if is_truncate else []
+        return cut_bare(path, kind) if record.opcode == "OP_TRUNCATE" else []
     if old is None:
-        made = truncate(record.data, tree.find_file(path)) if is_truncate else edits.edits_of(record, tree)
+        made = edits.edits_of(record, tree)
         if all(map(fits_a_line, made)):
             return made
     return made_bare(path, LONG.kind) if is_file else no_file(path)
@@ -198,43 +194,3 @@ def concat(data, tree):
 def no_file(path):
     """An edit of a file where there is none. The program says why not."""
     return [{"op": "OP_APPEND", "path": path}]
-
-
-def truncate(data, file):
-    """A file loses bytes from its end. Its blocks behind the new end leave it, one after another.
-
-    Where the new end lies inside a block, the file stays open until an OP_CLOSE has the block's new stamp and length. A
-    block that a snapshot has too is copied: the record's BLOCK has another id, and the length behind the cut.
-    """
-    path, length = path_in(data, "SRC"), data.number("NEWLENGTH")
-    opened = {"op": "OP_APPEND", "path": path}
-    if file is None or not file.closed:
-        # The program says why it can't be opened.
-        return [opened]
-    kept, size = 0, 0
-    while kept < len(file.blocks) and size < length:
-        size += file.blocks[kept].len
-        kept += 1
-    if size < length:
-        raise DoesNotApply(f"the file {to_json(path)} has {size} bytes, and is cut to {length}")
-    last = new_last(blocks_in(data), file.blocks[:kept], size - length)
-    left = kept - len(last)
-    lists = [file.blocks[:count] for count in range(len(file.blocks) - 1, left - 1, -1)]
-    made = [opened, *(update(path, blocks) for blocks in lists)]
-    if size == length:
-        return [*made, {"op": "OP_CLOSE", "path": path, "blocks": file.blocks[:kept]}]
-    for block in last:
-        made.append({"op": "OP_ADD_BLOCK", "path": path, "id": block.id, "gen": block.gen})
-        made.append(update(path, [*file.blocks[:left], block]))
-    return made
-
-
-def new_last(named_blocks, blocks, cut):
-    """In a list of one, the block that takes the last one's place. There is none where that is cut in place."""
-    if not cut or not named_blocks or named_blocks[0].id == blocks[-1].id:
-        return []
-    return [Block(named_blocks[0].gen, named_blocks[0].id, blocks[-1].len - cut)]
-
-
-def update(path, blocks):
-    return {"op": "OP_UPDATE_BLOCKS", "path": path, "blocks": blocks}

@@ -95,8 +95,53 @@ ADDED = line("OP_ADD", 2, path='"/f"', replication=3)
 BLOCK_ADDED = line("OP_ADD_BLOCK", 3, gen=1001, id=FIRST_ID, path='"/f"')
 ADD_BLOCK = record("OP_ADD_BLOCK", 3, path("/f"), block(FIRST_ID))
 
+
+
+def cut(txid, length, *blocks):
+    return record("OP_TRUNCATE", txid, member("SRC", "/f"), member("NEWLENGTH", length), *blocks)
+
+
+def listed(*blocks):
+    """The JSON of blocks, of each its id and its length."""
+    texts = (f'{{"gen":1001,"id":{block_id},"len":{length}}}' for block_id, length in blocks)
+    return f"[{','.join(texts)}]"
+
+
+def of_blocks(op, txid, *blocks):
+    return line(op, txid, blocks=listed(*blocks), path='"/f"')
+
+
+# A file of two blocks, of 5 and 7 bytes, and its lines.
+TWO_BLOCKS = [add(2, "/f"), close(3, "/f", block(FIRST_ID, length=5), block(FIRST_ID + 1, length=7))]
+TWO_LINES = ADDED, of_blocks("OP_CLOSE", 3, (FIRST_ID, 5), (FIRST_ID + 1, 7))
+APPENDED = made("OP_APPEND", 4, "/f")
+
 # A name, the records behind a start mark with TXID 1, and the lines.
 CONVERTED = [
+    (
+        "a truncate between two blocks",
+        [*TWO_BLOCKS, cut(4, 5)],
+        ended(
+            *TWO_LINES,
+            APPENDED,
+            of_blocks("OP_UPDATE_BLOCKS", 5, (FIRST_ID, 5)),
+            of_blocks("OP_CLOSE", 6, (FIRST_ID, 5)),
+        ),
+    ),
+    ("a truncate to the same length", [*TWO_BLOCKS, cut(4, 12)], ended(*TWO_LINES, APPENDED, of_blocks("OP_CLOSE", 5, (FIRST_ID, 5), (FIRST_ID + 1, 7)))),
+    ("a truncate inside a block", [*TWO_BLOCKS, cut(4, 8, block(FIRST_ID + 1, 1002, 7))], ended(*TWO_LINES, APPENDED)),
+    (
+        "a truncate inside a block that a snapshot has",
+        [*TWO_BLOCKS, cut(4, 8, block(FIRST_ID + 2))],
+        ended(
+            *TWO_LINES,
+            APPENDED,
+            of_blocks("OP_UPDATE_BLOCKS", 5, (FIRST_ID, 5)),
+            line("OP_ADD_BLOCK", 6, gen=1001, id=FIRST_ID + 2, path='"/f"'),
+            of_blocks("OP_UPDATE_BLOCKS", 7, (FIRST_ID, 5), (FIRST_ID + 2, 3)),
+        ),
+    ),
+    ("a truncate of nothing is for the program to refuse", [cut(2, 5)], ended(made("OP_APPEND", 2, "/f"))),
     ("an overwrite of nothing", [add(2, "/f")], ended(ADDED)),
     ("an OP_ADD without OVERWRITE", [record("OP_ADD", 2, path("/f"), member("REPLICATION", 3))], ended(ADDED)),
     (
@@ -230,6 +275,13 @@ CONVERTED = [
 
 # A name, the records behind a start mark with TXID 1, and what the reason has in it. The start mark's line is written.
 REFUSED = [
+    ("a truncate of no length", [record("OP_TRUNCATE", 2, member("SRC", "/f"))], "OP_TRUNCATE, TXID 2: NEWLENGTH is"),
+    ("a truncate beyond the end", [*TWO_BLOCKS, cut(4, 13)], 'the file "/f" has 12 bytes, and is cut to 13'),
+    (
+        "another stamp of the block before the new one",
+        [*TWO_BLOCKS, record("OP_ADD_BLOCK", 4, path("/f"), block(FIRST_ID + 1, 1002), block(FIRST_ID + 2))],
+        f'"/f": the block before the new one, {FIRST_ID + 1}, has the stamp 1002, and the file has it with 1001',
+    ),
     ("an append of old layouts", [add(2, "/f"), add(3, "/f", "false")], "OP_ADD, TXID 3: the file /f exists"),
     (
         "a file that begins with blocks",

@@ -3,7 +3,7 @@
 docs/HDFS.md has the same as a table. What a record means depends on what exists, so each function here is given the
 tree beside the record. It answers edits as dictionaries of a line's members, and changes nothing.
 """
-from formats import DoesNotApply, Refused, check_path, to_json
+from formats import Block, DoesNotApply, Refused, check_path, to_json
 from tree import is_directory
 
 # A standby holds nothing of these here.
@@ -22,14 +22,15 @@ LEFT_OUT = frozenset(
     """.split()
 )
 
+# A file that is deleted behind a snapshot keeps its blocks in HDFS.
+OF_SNAPSHOTS = "there are no snapshots here, and blocks that one holds would be ordered deleted"
+SNAPSHOTS = {"OP_CREATE_SNAPSHOT", "OP_DELETE_SNAPSHOT", "OP_RENAME_SNAPSHOT"}
+
 # A standby would have to hold something that this project has no edit for.
 REFUSED = {
     "OP_CONCAT_DELETE": "blocks would move from one file to another",
-    "OP_TRUNCATE": "a file would lose bytes from its end",
     "OP_SYMLINK": "there are no symbolic links here",
-    "OP_CREATE_SNAPSHOT": "there are no snapshots here",
-    "OP_DELETE_SNAPSHOT": "there are no snapshots here",
-    "OP_RENAME_SNAPSHOT": "there are no snapshots here",
+    **dict.fromkeys(sorted(SNAPSHOTS), OF_SNAPSHOTS),
 }
 
 
@@ -42,6 +43,15 @@ def edits_of(record, tree):
     if record.opcode not in KEPT:
         raise Refused("no such opcode is known")
     return KEPT[record.opcode](record.data, tree)
+
+
+def edits_beside_snapshots(record, tree):
+    """The same, where snapshots are passed over: then no delete order of the standby is to be trusted."""
+    return [] if record.opcode in SNAPSHOTS else edits_of(record, tree)
+
+
+# What an operator may say of snapshots, and what makes the edits then.
+EDITS_OF = {"refuse": edits_of, "pass": edits_beside_snapshots}
 
 
 def start_mark(_data=None, _tree=None):
@@ -166,7 +176,49 @@ def blocks_in(data):
     return [block.block("BLOCK_ID", "GENSTAMP", "NUM_BYTES") for block in data.all("BLOCK")]
 
 
+def truncate(data, tree):
+    """A file loses bytes from its end. Its blocks behind the new end leave it, one after another.
+
+    Where the new end lies inside a block, the file stays open until an OP_CLOSE has the block's new stamp and length. A
+    block that a snapshot has too is copied: the record's BLOCK has another id, and the length behind the cut.
+    """
+    path, length = path_in(data, "SRC"), data.number("NEWLENGTH")
+    file = tree.find_file(path)
+    opened = {"op": "OP_APPEND", "path": path}
+    if file is None or not file.closed:
+        # The program says why it can't be opened.
+        return [opened]
+    kept, size = 0, 0
+    while kept < len(file.blocks) and size < length:
+        size += file.blocks[kept].len
+        kept += 1
+    if size < length:
+        raise DoesNotApply(f"the file {to_json(path)} has {size} bytes, and is cut to {length}")
+    last = new_last(blocks_in(data), file.blocks[:kept], size - length)
+    left = kept - len(last)
+    lists = [file.blocks[:count] for count in range(len(file.blocks) - 1, left - 1, -1)]
+    made = [opened, *(update(path, blocks) for blocks in lists)]
+    if size == length:
+        return [*made, {"op": "OP_CLOSE", "path": path, "blocks": file.blocks[:kept]}]
+    for block in last:
+        made.append({"op": "OP_ADD_BLOCK", "path": path, "id": block.id, "gen": block.gen})
+        made.append(update(path, [*file.blocks[:left], block]))
+    return made
+
+
+def new_last(named_blocks, blocks, cut):
+    """In a list of one, the block that takes the last one's place. There is none where that is cut in place."""
+    if not cut or not named_blocks or named_blocks[0].id == blocks[-1].id:
+        return []
+    return [Block(named_blocks[0].gen, named_blocks[0].id, blocks[-1].len - cut)]
+
+
+def update(path, blocks):
+    return {"op": "OP_UPDATE_BLOCKS", "path": path, "blocks": blocks}
+
+
 KEPT = {
+    "OP_TRUNCATE": truncate,
     "OP_START_LOG_SEGMENT": start_mark,
     "OP_END_LOG_SEGMENT": end_mark,
     "OP_MKDIR": make_directory,

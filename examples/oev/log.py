@@ -148,7 +148,8 @@ def words_for_parts(options, image, before, folder, numbers):
     # A later part of a log, applied to nothing, would give another namespace.
     begin = ["--image", image, "--after", str(before)] if image else ["--first", "1"]
     skipped = [word for opcode in options.skip for word in ("--skip", opcode)]
-    return ["--split", folder, "--map", numbers, *begin, *skipped, "--", *options.files]
+    passed = ["--snapshots", options.snapshots]
+    return ["--split", folder, "--map", numbers, *begin, *skipped, *passed, "--", *options.files]
 
 
 def parts_in(folder):

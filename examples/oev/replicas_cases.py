@@ -122,7 +122,7 @@ def judged(program, namespace, folder, said):
 
 
 def options(**said):
-    default = {"fsimage": None, "files": [], "disk": [], "fsck": None, "pool": None, "most": 100, "skip": []}
+    default = {"fsimage": None, "files": [], "disk": [], "fsck": None, "pool": None, "most": 100, "skip": [], "snapshots": "refuse"}
     return SimpleNamespace(**{**default, "permille": 999, "min": 1, **said})
 
 

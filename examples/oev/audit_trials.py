@@ -15,6 +15,7 @@ from audit_damages import BLOCKS, DAMAGES, HARMLESS, LOST, in_inode, replaced, s
 from audit_forms import FORMS
 from auditing import Audit
 from cases import document, record
+from cluster import Cluster
 from formats import Refused
 from proved import Program
 
@@ -87,8 +88,9 @@ def check_same(trials):
     """The images of the story are what its log makes."""
     between = trials.image(trials.first), trials.image(trials.last)
     output = trials.audited("the story", 0, "alike: ", "--from", between[0], "--to", between[1], trials.whole)
-    ended = f"the same: the image of TXID {trials.last} is what the log makes of the image of TXID {trials.first}\n"
-    trials.check.holds("the verdict on the story", output.endswith(ended), output)
+    makes = f"the image of TXID {trials.last} is what the log makes of the image of TXID {trials.first}\n"
+    same = "the same in names, kinds, replication, blocks, open files; not compared: 43 items of 15 kinds\n"
+    trials.check.holds("the verdict on the story", output.endswith(makes + same), output)
     members = "4 (INODEID 1, NEWBLOCK 2, TIMESTAMP 1)"
     for said in ("inode/mtime 10", "1 (OP_TIMES 1)", members, "files whose blocks can't be held here: 1\n"):
         trials.check.contains("what is not compared", output, said)
@@ -116,6 +118,48 @@ def check_damages(trials):
     output = trials.audited("two damages, of which one is told", 1, 'block "/data/notes"', *arguments)
     trials.check.contains("how many are left", output, "\n.. and 1 more\nalike: ")
     trials.check.contains("how many there are", output, "image of TXID 18: block 1, replication 1\n")
+
+
+def check_scope(trials):
+    """The last line says what was compared in this run, and `--json` prints the same as one object."""
+    for name, policy, compared in (
+        ("a file", 0, "names, kinds, replication, blocks, open files"),
+        ("a striped file", 1, "names, kinds"),
+        ("a file without blocks", None, "names, kinds, replication, open files"),
+        ("no path", ..., "the last id and stamp"),
+    ):
+        cluster = Cluster()
+        cluster.begin_segment()
+        first = cluster.txid
+        if policy is not ...:
+            file = cluster.create(cluster.root, "f", policy=policy or 0)
+            if policy is not None:
+                cluster.add_block(file)
+        cluster.end_segment()
+        cluster.keep_image()
+        images = [trials.check.file(cluster.images[txid]) for txid in (first, cluster.txid)]
+        words = "--from", images[0], "--to", images[1], trials.log(*(text for _, text in cluster.records))
+        last = trials.audited(f"the scope of {name}", 0, "alike: ", *words).splitlines()[-1]
+        trials.check.same(f"the words of {name}", last.partition("; ")[0], f"the same in {compared}")
+        found = object_of(trials, 0, *words)
+        trials.check.same(f"the object of {name}", found["verdict"], last)
+        left = found["not_compared"]
+        told = f"not compared: {sum(left.values()):,} items of {len(left):,} kinds"
+        trials.check.same(f"what is left of {name}", last.partition("; ")[2], told)
+    wrong = trials.image(trials.last, in_inode("spare", "<replication>2<", "<replication>3<"))
+    words = "--from", trials.image(trials.first), "--to", wrong, trials.whole
+    found = object_of(trials, 1, *words)
+    got = found["status"], found["differences"], found["alike"]["files"], found["from"], found["to"]
+    wanted = "differs", ['replication "/data/spare" 2 3'], 4, trials.first, trials.last
+    trials.check.same("the object of a difference", got, wanted)
+    trials.refused("no object where nothing can be said", "No such file", "--json", "--from", "nothing", *words[2:])
+
+
+def object_of(trials, status, *words):
+    """The object that an audit prints, which ends with this status."""
+    got, output, errors = trials.run("--json", *words)
+    trials.check.same("an audit with --json", (got, output.count("\n"), errors), (status, 1, ""))
+    return json.loads(output)
 
 
 def check_lost(trials):
@@ -288,7 +332,7 @@ def at_once(check, program, cluster, first, last, name, state=None):
         with open(path, "w", encoding="utf-8", newline="") as file:
             file.write(text)
     start = None if state and os.path.exists(state) else names[0]
-    options = SimpleNamespace(start=start, to=names[1], files=names[2:], state=state, most=20)
+    options = SimpleNamespace(start=start, to=names[1], files=names[2:], state=state, most=20, json=False)
     output = io.StringIO()
     with contextlib.redirect_stdout(output), tempfile.TemporaryDirectory() as folder:
         try:
@@ -302,6 +346,7 @@ PARTS = (
     check_same,
     check_unwritten,
     check_damages,
+    check_scope,
     check_lost,
     check_forms,
     check_layouts,

@@ -5,13 +5,14 @@ What can't be read leaves nothing to be said, and is Refused. A second image tha
 import io
 import json
 import os
+from collections import Counter
 
 from between import Converted
 from chain import Chain, Link, Start
 from checkpoint import low_number, read_image, write_image
 from comparison import Differences, alike_texts, compare
-from conversion import counted
 from formats import Refused, image_line
+from verdict import AsObject, Printed, Scope, Verdict
 
 
 class Audit:
@@ -21,8 +22,11 @@ class Audit:
         self.program = program
         self.folder = folder
         self.options = options
-        self.differences = Differences(options.most)
+        self.output = AsObject() if options.json else Printed()
+        self.differences = Differences(options.most, self.output.tell)
         self.notes = []
+        # Whether the log issued a later stamp than the image has.
+        self.has_later_stamp = False
 
     def run(self):
         """Tells what is found. Answers whether the second image is what the log makes of the first."""
@@ -44,10 +48,15 @@ class Audit:
             alike = self.compare(theirs)
             if theirs.low_inode is not None:
                 self.differences.tell("inconsistent", theirs.low_inode)
-        self.tell_rest(alike, theirs, log)
+        behind = self.notes
+        if self.differences.left():
+            self.output.tell(f".. and {self.differences.left():,} more")
         if chain is not None:
-            print(self.advance(chain, start.link, theirs, log) if applies else start.link)
-        return self.verdict(start.link.txid, theirs.txid, applies)
+            behind.append(str(self.advance(chain, start.link, theirs, log) if applies else start.link))
+        scope = None if alike is None else self.scope(alike, theirs, log)
+        verdict = Verdict(start.link.txid, theirs.txid, applies, self.differences.summary(), scope)
+        self.output.end(verdict, behind)
+        return verdict.is_same
 
     def file(self, name):
         return os.path.join(self.folder, name)
@@ -136,28 +145,24 @@ class Audit:
         elif theirs.last_gen != header["last_gen"]:
             note = f"{theirs.last_gen} in the image, {header['last_gen']} in the log"
             self.notes.append(f"not compared, the last stamp: {note}, with which no block has come")
+            self.has_later_stamp = True
 
-    def tell_rest(self, alike, theirs, log):
-        """Tells what is alike, and what was not compared."""
-        if self.differences.left():
-            print(f".. and {self.differences.left():,} more")
-        if alike is None:
-            return
-        count = {name: f"{alike[name]:,}" for name in ("directories", "files", "blocks")}
-        print(f"alike: {count['directories']} directories, {count['files']} files with {count['blocks']} blocks")
-        print(counted("not compared, of the image", theirs.passed))
-        print(counted("not compared, records of the log", log.left_out))
-        print(counted("not compared, members of other records", log.edits.passed))
-        for what, number in (
-            ("inodes that only snapshots hold", theirs.only_in_snapshots),
-            ("files whose blocks can't be held here", len(theirs.told_kinds.keys() | theirs.bare_kinds.keys())),
-            ("records with a carriage return in a name, taken as a line feed", log.edits.carriage_returns),
-            ("names of the image with a line feed, which may be a carriage return", theirs.with_line_feeds),
-        ):
-            if number:
-                print(f"not compared, {what}: {number:,}")
-        for note in self.notes:
-            print(note)
+    def scope(self, alike, theirs, log):
+        """What was compared, and what was not."""
+        bare = theirs.told_kinds.keys() | theirs.bare_kinds.keys()
+        others = {
+            "inodes that only snapshots hold": theirs.only_in_snapshots,
+            "files whose blocks can't be held here": len(bare),
+            "records with a carriage return in a name, taken as a line feed": log.edits.carriage_returns,
+            "names of the image with a line feed, which may be a carriage return": theirs.with_line_feeds,
+            "last stamp, with which no block has come": self.has_later_stamp,
+        }
+        left = {
+            "of the image": theirs.passed,
+            "records of the log": log.left_out,
+            "members of other records": log.edits.passed,
+        }
+        return Scope(alike, len(bare), left, Counter({what: int(count) for what, count in others.items() if count}))
 
     def advance(self, chain, link, theirs, log):
         """Keeps what the program has at the second image's TXID, be that image right or wrong."""
@@ -165,16 +170,6 @@ class Audit:
         with open(self.file("ours"), "rb") as image:
             chain.keep(link, image)
         return link
-
-    def verdict(self, before, txid, applies):
-        found = self.differences.summary()
-        if not found:
-            print(f"the same: the image of TXID {txid} is what the log makes of the image of TXID {before}")
-        elif not applies:
-            print(f"differs: the log does not apply to the image of TXID {before}")
-        else:
-            print(f"differs: the image of TXID {txid} is not what the log makes of the image of TXID {before}: {found}")
-        return not found
 
 
 def in_order(kinds):

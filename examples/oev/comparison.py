@@ -34,15 +34,16 @@ class Line:
 
 
 class Differences:
-    """Prints differences, the first of them, and counts all."""
+    """Tells differences, the first of them, and counts all."""
 
-    def __init__(self, most):
+    def __init__(self, most, output=print):
         self.most = most
+        self.output = output
         self.count = Counter()
 
     def tell(self, kind, *words):
         if sum(self.count.values()) < self.most:
-            print(kind, *words)
+            self.output(kind, *words)
         self.count[kind] += 1
 
     def left(self):

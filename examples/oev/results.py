@@ -92,6 +92,7 @@ def metrics(results, status, now):
         ("seconds", "gauge", "How long the last audit took.", last and last["seconds"]),
     ]
     lines = [line for row in rows for line in metric(*row)]
+    lines += not_compared((judged or {}).get("not_compared", {}))
     lines += head("runs_total", "counter", "How many audits there were, by what they said.")
     lines += [f'hdfs_audit_runs_total{{verdict="{word}"}} {count}' for word, count in results.counts.items()]
     return "".join(f"{line}\n" for line in lines)
@@ -100,6 +101,19 @@ def metrics(results, status, now):
 def metric(name, kind, meaning, value):
     """The lines of a metric. There are none before it has a value."""
     return [] if value is None else [*head(name, kind, meaning), f"hdfs_audit_{name} {value}"]
+
+
+def not_compared(counts):
+    """A gauge for each kind of what the last judged audit did not compare."""
+    if not counts:
+        return []
+    lines = head("not_compared", "gauge", "How many items of a kind the last audit that said something did not compare.")
+    return lines + [f'hdfs_audit_not_compared{{kind="{escaped(kind)}"}} {count}' for kind, count in counts.items()]
+
+
+def escaped(text):
+    """A label's value as Prometheus reads it."""
+    return text.replace("\\", "\\\\").replace('"', '\\"').replace("\n", "\\n")
 
 
 def head(name, kind, meaning):

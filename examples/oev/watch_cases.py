@@ -35,8 +35,9 @@ ASKED = """oiv -p XML fsimage_0000000000000000018
 oiv -p XML fsimage_0000000000000000034
 oev -p XML edits_0000000000000000019-0000000000000000034
 """
-MEMBERS = ["time", "from", "to", "status", "verdict", "seconds", "differences", "files"]
-METRIC = re.compile(r'(hdfs_audit_[a-z_]+)(\{verdict="[a-z]+"\})? ([0-9.]+)')
+FROM_AUDIT = ["verdict", "differences", "compared", "not_compared"]
+MEMBERS = ["time", "from", "to", "status", *FROM_AUDIT, "seconds", "files"]
+METRIC = re.compile(r'(hdfs_audit_[a-z_]+)(\{(?:verdict|kind)="(?:[^"\\\n]|\\["\\n])*"\})? ([0-9.]+)')
 
 THREE_TIMES = in_inode("spare", "<replication>2<", "<replication>3<")
 DIFFERENCE = 'replication "/data/spare" 2 3'
@@ -162,14 +163,14 @@ def check_begin(place):
     place.put(place.images, "fsimage_0000000000000000034.md5", "no image")
     place.segment(59, 61)
     before = contents(place)
-    place.tells("two images", 0, "the same: the image of TXID 34 is what the log makes of", *hdfs)
+    place.tells("two images", 0, "the image of TXID 34 is the same in names, kinds, ", *hdfs)
     place.check.same("no file of the operator is changed", contents(place), before)
     with open(f"{hdfs[1]}.asked") as file:
         place.check.same("what hdfs was asked", file.read(), ASKED)
     place.tells("nothing new", 0, "nothing new: no image is newer than that of TXID 34")
     place.up_to(64)
-    output = place.tells("three images", 0, "the same: the image of TXID 64")
-    place.check.contains("the first of three images", output, "Z the same: the image of TXID 58 ")
+    output = place.tells("three images", 0, "the image of TXID 64 is the same in ")
+    place.check.contains("the first of three images", output, "Z the image of TXID 58 is the same in ")
     place.stands("five images", 64, "same", "same", "same", "same")
     check_told(place)
 
@@ -199,7 +200,13 @@ def check_told(place):
     place.check.holds("the time of the last success", are_now, figures)
     got = {name: value for name, value in figures.items() if "seconds" not in name}
     counts = {'runs_total{verdict="same"}': 4, 'runs_total{verdict="differs"}': 0, 'runs_total{verdict="unknown"}': 0}
-    place.check.same("the metrics", got, {"last_txid": 64, "last_status": 0, **counts})
+    kinds = {f'not_compared{{kind="{kind}"}}': count for kind, count in last["not_compared"].items()}
+    place.check.same("the metrics", got, {"last_txid": 64, "last_status": 0, **counts, **kinds})
+    left = last["not_compared"]
+    place.check.same("what a result did not compare", (left["inode/mtime"], left["INODEID"], len(left)), (12, 1, 13))
+    end = f"not compared: {sum(left.values())} items of {len(left)} kinds"
+    place.check.contains("the verdict in a result", last["verdict"], end)
+    place.check.contains("its gauge", kinds, 'not_compared{kind="inode/mtime"}')
 
 
 def check_age(place):
@@ -217,7 +224,7 @@ def check_difference(place):
     place.up_to(18)
     place.up_to(34)
     place.segment(35, 58)
-    place.tells("the first audit", 0, "the same: the image of TXID 34")
+    place.tells("the first audit", 0, "the image of TXID 34 is the same in ")
     place.image(58, THREE_TIMES)
     output = place.tells("a wrong image", 2, "differs: the image of TXID 58 is not what the log makes of")
     place.check.same("the difference", output.splitlines()[1:], [DIFFERENCE])
@@ -229,7 +236,7 @@ def check_difference(place):
     place.image(61)
     place.tells("a wrong image, and a gap", 2, "Z differs: the image of TXID 58 is not what")
     place.segment(59, 61)
-    place.tells("a newer image is the same", 0, "the same: the image of TXID 61 is what the log makes of")
+    place.tells("a newer image is the same", 0, "the image of TXID 61 is the same in ")
     place.check.same("the metric then", place.figures()["last_status"], 0)
     place.stands("a difference", 61, "same", "differs", "unknown", "same")
 
@@ -240,7 +247,7 @@ def check_among(place):
     place.image(34, in_inode("spare", "<name>spare<", "<name>sp|re<"))
     output = place.tells("a wrong image among others", 2, "differs: the image of TXID 34 is not")
     place.check.contains("a path with a bar", output, 'extra "/data/sp\\u007cre" file')
-    place.check.contains("an image behind a wrong one", output, "the same: the image of TXID 61")
+    place.check.contains("an image behind a wrong one", output, "the image of TXID 61 is the same in ")
     place.stands("a wrong image among others", 61, "differs", "same", "same")
     place.tells("the run behind that", 0, "nothing new: ")
 
@@ -263,7 +270,7 @@ def check_segments(place):
     place.tells("a gap", 3, "no finalized segment in")
     place.stands("a gap", 34, "same", "unknown", "unknown")
     place.segment(35, 41)
-    place.tells("a gap that is filled", 0, "the same: the image of TXID 58")
+    place.tells("a gap that is filled", 0, "the image of TXID 58 is the same in ")
     place.stands("a gap that is filled", 58, "same", "unknown", "unknown", "same")
 
 
@@ -277,7 +284,7 @@ def check_no_apply(place):
         place.check.contains("where it does not", output, "\nfault TXID 19: ")
     place.stands("a log that does not apply", None, "differs", "differs")
     place.up_to(58)
-    place.tells("a log that was put right", 0, "the same: the image of TXID 58")
+    place.tells("a log that was put right", 0, "the image of TXID 58 is the same in ")
 
 
 def check_unknown(place):
@@ -297,7 +304,7 @@ def check_unknown(place):
     os.replace(place.image(58, suffix=".other"), os.path.join(place.images, "fsimage_0000000000000000061.xml"))
     place.tells("an image of another TXID", 3, "0000000000000000061.xml is of another TXID")
     place.image(61)
-    place.tells("a torn image that is taken away", 0, "the same: the image of TXID 61")
+    place.tells("a torn image that is taken away", 0, "the image of TXID 61 is the same in ")
     place.stands("that image", 61, "unknown", "unknown", "same", *["unknown"] * 3, "same")
 
 
@@ -389,10 +396,10 @@ def check_results(place):
         shutil.copy(os.path.join(place.folder, "state-34"), os.path.join(place.state, "state"))
         with open(place.results, "wb") as file:
             file.write(torn)
-        place.tells(f"a result that is {name}", 0, "the same: the image of TXID 58")
+        place.tells(f"a result that is {name}", 0, "the image of TXID 58 is the same in ")
         place.stands(f"a result that is {name}", 58, "same", "same")
     shutil.copy(os.path.join(place.folder, "state-34"), os.path.join(place.state, "state"))
-    place.tells("a crash before the chain moves", 0, "the same: the image of TXID 58")
+    place.tells("a crash before the chain moves", 0, "the image of TXID 58 is the same in ")
     place.stands("a crash before the chain moves", 58, "same", "same", "same")
     for text in ("a letter to a friend\n", "a note", '{"status":"same"}\n', "[]\n"):
         other = place.put(place.folder, "other", text)

@@ -4,7 +4,7 @@ An audit runs beside the chain. Its result is written first, and then the chain 
 anywhere does the audit again, and no result is lost.
 """
 import contextlib
-import itertools
+import json
 import os
 import shutil
 import sys
@@ -25,10 +25,10 @@ STATUS_OF = {SAME: OK, DIFFERS: CRITICAL, UNKNOWN: NOTHING_SAID}
 
 # So many differences are kept of each audit.
 MOST = 20
-# What an audit's status means, and how its last line begins then.
-VERDICTS = {0: (SAME, "the same: "), 1: (DIFFERS, "differs: ")}
-# How the lines begin that stand behind the differences.
-BEHIND = ("alike: ", ".. and ", "chain: ", "differs: ")
+# What an audit's status means.
+WORDS = {0: SAME, 1: DIFFERS}
+# The members of an audit's object that a result has too.
+FROM_AUDIT = ("verdict", "differences", "compared", "not_compared")
 NOTHING = "audit: nothing can be said: "
 
 
@@ -100,47 +100,46 @@ class Watch:
     def audit(self, before, txid, image, first):
         """The result of an audit. The first one has no chain, and goes on from the first image."""
         begun = time.time()
-        paths, differences = [path for path in (first, image) if path], []
+        paths = [path for path in (first, image) if path]
         try:
             segments = segments_between(self.options.edits, before, txid)
             paths += [segment.path for segment in segments]
-            word, verdict, differences = self.ask(txid, image, first, segments)
+            audited = self.ask(txid, image, first, segments)
         except Waits:
             raise
         except (Refused, OSError) as reason:
             self.clear()
-            word, verdict = UNKNOWN, f"nothing can be said of the image of TXID {txid}: {reason}"
+            told = f"nothing can be said of the image of TXID {txid}: {reason}"
+            audited = {"status": UNKNOWN, "verdict": told, "differences": [], "compared": [], "not_compared": {}}
         ended = time.time()
         return {
             "time": time_text(ended),
             "from": before,
             "to": txid,
-            "status": word,
-            "verdict": verdict,
+            "status": audited["status"],
+            **{name: audited[name] for name in FROM_AUDIT},
             "seconds": round(ended - begun, 3),
-            "differences": differences,
             "files": list(map(os.path.basename, paths)),
         }
 
     def ask(self, txid, image, first, segments):
-        """Audits an image beside the chain. Answers the word for it, the verdict and the differences."""
+        """Audits an image beside the chain. Answers the object that the audit prints."""
         self.clear()
         os.makedirs(self.beside)
         if first is None:
             os.symlink(os.path.abspath(self.chain.name), os.path.join(self.beside, STATE))
         words = [sys.executable, os.path.join(HERE, "audit"), "--program", os.path.abspath(self.options.program)]
-        words += ["--state", self.beside, "--most", str(MOST)]
+        words += ["--state", self.beside, "--most", str(MOST), "--json"]
         words += ["--from", self.commands.dump("oiv", first)] if first else []
         words += ["--to", self.commands.dump("oiv", image), "--"]
         words += [self.commands.dump("oev", segment.path) for segment in segments]
         status, output, errors = self.commands.run(words)
-        lines = output.splitlines()
-        word, begin = VERDICTS.get(status, (UNKNOWN, ""))
-        if word == UNKNOWN or not lines or not lines[-1].startswith(begin):
+        audited = object_in(output) if status in WORDS else {}
+        if audited.get("status") != WORDS.get(status):
             raise Refused(reason_in(errors) or f"the audit ended with status {status}: {last_line(errors)}")
         if self.has_moved() and Chain(self.beside).found()[0].txid != txid:
             raise Refused(f"{image} is of another TXID")
-        return word, lines[-1], list(itertools.takewhile(lambda line: not line.startswith(BEHIND), lines))
+        return audited
 
     def has_moved(self):
         """Whether the chain beside has a new end. It has none where the log does not apply."""
@@ -151,7 +150,7 @@ class Watch:
         """The worst status that there is, and what is told of it."""
         judged = self.results.last_judged
         told = [told_again(judged)] if judged and judged["status"] == DIFFERS else []
-        told += [(STATUS_OF[result["status"]], result["verdict"]) for result in self.done]
+        told += [(STATUS_OF[result["status"]], told_of(result)) for result in self.done]
         if self.failed:
             told.append((NOTHING_SAID, f"nothing can be said: {self.failed}"))
         return max(reversed(told or [self.told_idle(judged)]), key=lambda row: RANKS.index(row[0]))
@@ -167,7 +166,13 @@ class Watch:
         silent = int(time.time()) - seconds_of(judged)
         if silent > self.options.warn_after:
             return WARNING, f"nothing new for {silent:,} seconds: {self.stopped}"
-        return OK, f"nothing new: {self.stopped}; {judged['time']} {judged['verdict']}"
+        return OK, f"nothing new: {self.stopped}; {judged['time']} {told_of(judged)}"
+
+
+def told_of(result):
+    """A result in a sentence, with the TXID of its image."""
+    is_same = result["status"] == SAME and result["verdict"].startswith("the same in ")
+    return f"the image of TXID {result['to']} is {result['verdict']}" if is_same else result["verdict"]
 
 
 def told_again(judged):
@@ -176,7 +181,16 @@ def told_again(judged):
 
 def lines_of(result, with_verdict):
     """What is told of an audit behind the first line."""
-    return [f"{result['time']} {result['verdict']}"] * with_verdict + result["differences"]
+    return [f"{result['time']} {told_of(result)}"] * with_verdict + result["differences"]
+
+
+def object_in(output):
+    """The object that an audit printed. There is nothing in it if it printed another thing."""
+    try:
+        found = json.loads(output)
+    except ValueError:
+        found = None
+    return found if type(found) is dict else {}
 
 
 def reason_in(errors):

@@ -1,11 +1,13 @@
-"""Finds the program: in bin/ of a release, in out/ of a checkout, or on the PATH."""
+"""Finds the program: in bin/ of a release, in out/ of a checkout, or on the PATH. Else it is the unproved one of dist/try."""
 import os
 import shutil
+import sys
 
 ROOT = os.path.realpath(os.path.join(os.path.dirname(os.path.realpath(__file__)), "..", ".."))
 RELEASED = os.path.join(ROOT, "bin", "nn_standby")
 BUILT = os.path.join(ROOT, "crates", "nn_standby", "out", "nn_standby")
-HOW = "a release has it in bin/; or build it by `rt run < /dev/null` in crates/nn_standby"
+UNPROVED = os.path.join(ROOT, "out", "nn_standby-unproved")
+HOW = "a release has it in bin/; or build it by `rt run < /dev/null` in crates/nn_standby, or unproved by dist/try"
 
 
 def is_program(path):
@@ -14,5 +16,11 @@ def is_program(path):
 
 def find_program():
     """The path of the program, or the place where a build puts it."""
-    found = (path for path in (RELEASED, BUILT) if is_program(path))
-    return next(found, None) or shutil.which("nn_standby") or BUILT
+    found = next((path for path in (RELEASED, BUILT) if is_program(path)), None) or shutil.which("nn_standby")
+    return found or (UNPROVED if is_program(UNPROVED) else BUILT)
+
+
+def tell_if_unproved(path):
+    """Says on standard error that a program is unproved, where its name says so."""
+    if os.path.basename(os.path.realpath(path)).endswith("-unproved"):
+        print(f"{os.path.basename(sys.argv[0])}: the program {path} is unproved", file=sys.stderr)

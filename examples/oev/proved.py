@@ -8,7 +8,7 @@ import os
 import subprocess
 from typing import NamedTuple, Optional
 
-from finding import HOW, find_program, is_program
+from finding import HOW, find_program, is_program, tell_if_unproved
 from formats import Refused
 
 PROGRAM = find_program()
@@ -37,6 +37,7 @@ class Program:
         self.name = os.path.abspath(name)
         if not is_program(self.name):
             raise Refused(f"there is no program {name}: {HOW}")
+        tell_if_unproved(self.name)
 
     def image_after(self, pieces, printed):
         """Gives the program these files, each from where it is read, and prints its image to a file.

@@ -1,5 +1,8 @@
-"""What an archive has for who doubts it: NOTICE and the licences, HOW-TO-REBUILD, the gate's log and the object."""
+"""What an archive has beside the files of its commit: its README, and for who doubts it NOTICE and the licences,
+HOW-TO-REBUILD, the gate's log and the object.
+"""
 import os
+import re
 
 from evidence import ROOT, read, sum_of
 from packing import File
@@ -8,8 +11,20 @@ TEXTS = os.path.join(ROOT, "dist", "archive")
 START_FILES = "Scrt1.o, crti.o, crtn.o and libc_nonshared.a of the GNU C Library"
 
 
+def recipe():
+    """How README.md makes dumps of a cluster and audits them."""
+    section = read(os.path.join(ROOT, "README.md")).decode().partition("\n## Audit ")[2]
+    return re.search(r"^```sh\n(.*?)^```$", section, re.M | re.S)[1]
+
+
+def readme(version, needs):
+    """The README of an archive."""
+    text = read(os.path.join(TEXTS, "README")).decode()
+    return File(text.format(version=version.split()[1], needs=needs, recipe=recipe()).encode())
+
+
 def texts(source, kit, is_old):
-    """These files, by their names in the archive."""
+    """What is for who doubts it, by its names in the archive."""
     toolchain = source.log.toolchain if source.log else "unknown"
     taken = {name: kit.licences(name) for name in kit.libraries()}
     rows = [f"- {name}: {', '.join(files) or 'the toolchain names no licence of it'}" for name, files in taken.items()]

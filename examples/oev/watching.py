@@ -134,8 +134,8 @@ class Watch:
         words += ["--to", self.commands.dump("oiv", image), "--"]
         words += [self.commands.dump("oev", segment.path) for segment in segments]
         status, output, errors = self.commands.run(words)
-        audited = object_in(output) if status in WORDS else {}
-        if audited.get("status") != WORDS.get(status):
+        audited = object_in(output)
+        if status not in WORDS or audited.get("status") != WORDS[status]:
             raise Refused(reason_in(errors) or f"the audit ended with status {status}: {last_line(errors)}")
         if self.has_moved() and Chain(self.beside).found()[0].txid != txid:
             raise Refused(f"{image} is of another TXID")

@@ -1,0 +1,90 @@
+"""How far an audit is, in a line that moves on a terminal, and in a file for who waits for it.
+
+The line comes after two seconds: what is read, how much of it, how fast, and how long the rest takes.
+"""
+import contextlib
+import os
+import time
+
+FIRST_SECONDS = 2
+STEP_SECONDS = 0.5
+
+
+class Progress:
+    """Shows how files are read. Nothing is shown without a stream, and nothing written without a name."""
+
+    def __init__(self, stream=None, note=None, clock=time.monotonic):
+        self.stream = stream
+        self.note = note
+        self.clock = clock
+        self.begun = self.next = clock() + FIRST_SECONDS
+        self.width = 0
+        self.count = 0
+
+    @contextlib.contextmanager
+    def open(self, name, what="reading"):
+        """A file to be read, whose reading is shown."""
+        with open(name, "rb") as file:
+            yield self.watched(file, f"{what} {os.path.basename(name)}")
+
+    def watched(self, file, what):
+        """A file from where it is read, whose reading is shown."""
+        return Watched(file, what, self)
+
+    def show(self, watched):
+        """Shows how far a file is read, if it is time."""
+        now = self.clock()
+        if now < self.next:
+            return
+        self.next = now + STEP_SECONDS
+        if self.note:
+            self.count += 1
+            with open(self.note, "w") as file:
+                file.write(f"{self.count} {watched.line(now)}\n")
+        if self.stream:
+            line = watched.line(now)
+            self.stream.write(f"\r{line.ljust(self.width)}")
+            self.stream.flush()
+            self.width = len(line)
+
+    def clear(self):
+        """Takes the line away."""
+        if self.stream and self.width:
+            self.stream.write(f"\r{' ' * self.width}\r")
+            self.stream.flush()
+            self.width = 0
+
+
+class Watched:
+    """A file that is read, and how much of it was read since when."""
+
+    def __init__(self, file, what, progress):
+        self.file = file
+        self.name = file.name
+        self.what = what
+        self.progress = progress
+        self.done = 0
+        place = file.tell()
+        self.size = file.seek(0, os.SEEK_END) - place
+        file.seek(place)
+        self.begun = progress.clock()
+
+    def read(self, size):
+        data = self.file.read(size)
+        self.done += len(data)
+        self.progress.show(self)
+        return data
+
+    def line(self, now):
+        rate = self.done / max(now - self.begun, 1e-3)
+        left = time_words((self.size - self.done) / max(rate, 1))
+        done = f"{self.done / 1e6:,.0f} of {self.size / 1e6:,.0f} MB"
+        return f"{self.what}: {done}, {rate / 1e6:,.1f} MB/s, {left} left"
+
+
+def time_words(seconds):
+    minutes, seconds = divmod(int(seconds), 60)
+    hours, minutes = divmod(minutes, 60)
+    if hours:
+        return f"{hours} h {minutes:02} min"
+    return f"{minutes} min {seconds:02} s" if minutes else f"{seconds} s"

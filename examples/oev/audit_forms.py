@@ -250,6 +250,83 @@ def names():
     yield Form("a carriage return in a name", cluster, first, "in a name, taken as a line feed: 2\n")
 
 
+def own_settings():
+    """What an operator's own settings allow, and this project's limits do not."""
+    long, wide = "n" * 300, "\u4e2d" * 85
+    cluster, directory, (closed, opened) = begun()
+    named_long = cluster.create(cluster.make_directory(directory, long), f"\x7f{long}", 600)
+    first = cluster.txid
+    cluster.set_replication(closed, 1000)
+    cluster.rename(named_long, directory, f"{long}x")
+    cluster.rename(closed, directory, f"{long}/".strip("/") + "y")
+    cluster.close(opened, 9)
+    yield Form("names that are too long, and high replications", cluster, first)
+    opened.replication, named_long.replication = 700, 600
+    yield Form("a high replication that no record gave", cluster, first, 'replication "/d/open" 3 700\n', is_same=False)
+    opened.replication, named_long.name = 3, f"{long}z"
+    directory.children[f"{long}z"] = directory.children.pop(f"{long}x")
+    said = f'missing "/d/{long}x" file\nextra "/d/{long}z" file\n'
+    yield Form("a long name that is another one", cluster, first, said, is_same=False)
+
+    for depth, name in ((33, wide), (1000, "e")):
+        for is_same in (True, False):
+            cluster, directory, (closed, _) = begun()
+            cluster.keep_image()
+            first, place = cluster.txid, cluster.make_directories(cluster.root, name, depth - 1)
+            cluster.rename(closed, place, "f")
+            cluster.set_replication(closed, 9)
+            moved = cluster.make_directory(directory, wide)
+            cluster.rename(moved, place.parent, f"{wide}2")
+            closed.replication += not is_same
+            path = closed.path()
+            said = "alike: " if is_same else f'replication "{path}" 9 10\n'
+            yield Form(f"a path of {len(path.encode()):,} bytes, {is_same}", cluster, first, said, is_same)
+
+    cluster, _, (closed, _) = begun()
+    place = cluster.make_directories(cluster.root, wide, 40)
+    first = cluster.txid
+    cluster.rename(place.parent, cluster.root, "up")
+    yield Form("an image with a path that is too long", cluster, first)
+
+    cluster, _, (closed, _) = begun()
+    inside = place = cluster.make_directory(cluster.root, "x")
+    place = cluster.make_directories(inside, "d", 998)
+    cluster.make_directory(place, "e")
+    first = cluster.txid
+    cluster.make_directory(place.children["e"], "f")
+    cluster.touch(inside)
+    deepest = place.children["e"].path()
+    yield Form("a path of too many names", cluster, first, f"not compared, below {deepest}: 1 paths of too many names\n")
+
+
+def own_settings_in_chain():
+    """A cluster, and TXIDs of images: a long name and a high replication come, then another one and too long a path."""
+    cluster, directory, (closed, _) = begun()
+    txids = [cluster.txid]
+    cluster.rename(closed, directory, "n" * 300)
+    cluster.set_replication(closed, 600)
+    cluster.create(directory, "\u4e2d" * 85, 5)
+    txids.append(cluster.txid)
+    cluster.create(directory, "more", 700)
+    cluster.keep_image()
+    txids.append(cluster.txid)
+    place = cluster.make_directories(cluster.root, "\u4e2d" * 85, 35)
+    cluster.create(place, "f", 600)
+    cluster.keep_image()
+    txids.append(cluster.txid)
+    return cluster, txids
+
+
+def many_replications():
+    """So many different replications."""
+    for count in (512, 513):
+        cluster, directory, (closed, _) = begun()
+        first = cluster.txid
+        for replication in range(1000, 1000 + count - 1):
+            cluster.set_replication(closed, replication)
+        yield cluster, first, count
+
+
 def snapshots():
     cluster, directory, (closed, opened) = begun()
     first = cluster.txid
@@ -270,4 +347,4 @@ def issued():
     yield Form("an image between an id and its block", cluster, first)
 
 
-FORMS = (stamps, truncates, old_layouts, bare_files, kinds, given_ids, before_new, no_files, names, snapshots, issued)
+FORMS = (stamps, truncates, old_layouts, bare_files, kinds, given_ids, before_new, no_files, names, own_settings, snapshots, issued)

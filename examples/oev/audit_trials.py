@@ -12,7 +12,7 @@ from types import SimpleNamespace
 
 from at_random import cluster_at_random
 from audit_damages import BLOCKS, DAMAGES, HARMLESS, LOST, in_inode, replaced, several, story
-from audit_forms import FORMS
+from audit_forms import FORMS, many_replications, own_settings_in_chain
 from auditing import Audit
 from cases import document, record
 from cluster import Cluster
@@ -184,6 +184,41 @@ def check_forms(trials):
         trials.check.contains(f"what is said of {form.name}", output, form.said)
 
 
+def check_replications(trials):
+    """512 different replications have numbers, and one more has none."""
+    for cluster, first, count in many_replications():
+        cluster.keep_image()
+        images = [trials.check.file(cluster.images[txid]) for txid in (first, cluster.txid)]
+        words = "--from", images[0], "--to", images[1], trials.log(*(text for _, text in cluster.records))
+        if count == 512:
+            trials.audited("512 replications", 0, "alike: ", *words)
+        else:
+            trials.refused("513 replications", "more than 512 different replications and kinds of files: 1511", *words)
+
+
+def check_table(trials):
+    """A name or a number means the same at each link of a chain, also where the table has grown."""
+    cluster, txids = own_settings_in_chain()
+    log = trials.log(*(text for _, text in cluster.records))
+    images = [trials.check.file(cluster.images[txid]) for txid in txids]
+    state = os.path.join(trials.check.folder, "table")
+    words = ["--state", state, "--from", images[0]]
+    for place, image in enumerate(images[1:], 1):
+        if place == 2:
+            other = cluster.images[txids[2]].replace("<replication>600<", "<replication>601<")
+            copy = shutil.copytree(state, f"{state}-{place}")
+            begin = 'replication "/d/' + "n" * 300 + '" 600 601\n'
+            damaged = trials.check.file(other)
+            trials.audited("a chain with a table, and a damage", 1, begin, "--state", copy, "--to", damaged, log)
+        trials.audited(f"a chain with a table, {place}", 0, "alike: ", *words, "--to", image, log)
+        words = ["--state", state]
+    with open(os.path.join(state, "state")) as file:
+        found = json.loads(file.readline())
+    numbers = found["replications"]
+    trials.check.same("its replications", (numbers["3"], numbers["600"], numbers["700"]), (3, 512, 511))
+    trials.check.same("its names", (found["names"][0], "\u4e2d" * 85 in found["names"]), ("n" * 300, True))
+
+
 def check_layouts(trials):
     """The images and the log may have different layouts, and an image of an older oiv is named as such."""
     layouts = replaced("layoutVersion>-66<", "layoutVersion>-63<"), replaced("layoutVersion>-66<", "layoutVersion>-67<")
@@ -281,12 +316,12 @@ def check_state(trials, folder, last):
         put(name, whole.replace(old, new, 1))
         trials.refused(f"a state {what}", reason, *words)
     head, rest = whole.split(b"\n", 1)
-    members = {name: it for name, it in json.loads(head).items() if name != "sha256"}
+    members = {name: it for name, it in json.loads(head).items() if name not in ("sha256", "names", "replications")}
     put(name, json.dumps({**members, "form": "hdfs-audit", "bare": []}).encode() + b"\n" + rest)
     output = trials.audited("a state of the form before", 0, "alike: ", *words)
     trials.check.contains("that it is", output, f"{name} has no sum yet, and is taken as it is: ")
     with open(name) as file:
-        trials.check.contains("the state behind it", file.readline(), '"form":"hdfs-audit-2","sha256":"')
+        trials.check.contains("the state behind it", file.readline(), '"sha256":"')
 
 
 def put(name, content):
@@ -349,6 +384,8 @@ PARTS = (
     check_scope,
     check_lost,
     check_forms,
+    check_replications,
+    check_table,
     check_layouts,
     check_nothing_said,
     check_failing,

@@ -11,7 +11,6 @@ import edits
 from bare import (
     FEW_BLOCKS,
     LONG,
-    MOST_REPLICATION,
     OLD,
     REPLICATED,
     STRIPED,
@@ -21,9 +20,18 @@ from bare import (
     new_bare,
     old_id,
 )
-from dumps import Element
+from dumps import Element, unescaped
 from edits import path_in
-from formats import GREATEST_NUMBER, DoesNotApply, Refused, line_of, to_json
+from formats import (
+    GREATEST_NUMBER,
+    NAME_BYTES,
+    PATH_BYTES,
+    PATH_NAMES,
+    DoesNotApply,
+    Refused,
+    line_of,
+    to_json,
+)
 from shapes import children_of
 from tree import File, is_directory
 
@@ -43,13 +51,20 @@ NAMES = {"PATH", "SRC", "DST", "TRG", "SOURCES"}
 NUMBERS = {"TXID", "BLOCK", "BLOCK_ID", "ERASURE_CODING_POLICY_ID", "GENSTAMPV2", "NEWLENGTH", "REPLICATION"}
 TAKEN = NAMES | NUMBERS | {"OPTIONS", "OVERWRITE"}
 
+# A path of so few characters, all of them such, is the same in an image and for the program.
+FEW_BYTES = NAME_BYTES // 4
+PLAIN = re.compile(r"[^\r\\\x7f]*")
+
 CARRIAGE_RETURN = re.compile(r"(?:\r|\\000[dD];)\n?")
 
 
 class Audited:
     """Makes edits of records, and keeps what is to be said of them."""
 
-    def __init__(self, last_gen):
+    def __init__(self, last_gen, table):
+        self.table = table
+        # Whether the table got a name of a path that is too long. Then what is made by it is of no use.
+        self.has_grown = False
         # The last stamp of the image, the first that the log issues, and those that it gives before that.
         self.last_gen = last_gen
         self.first_issued = None
@@ -61,7 +76,10 @@ class Audited:
 
     def edits_of(self, record, tree):
         """The edits that a record stands for. There are none where it is left out."""
-        made = self.converted(self.without_returns(record), tree)
+        record = self.as_held(record)
+        if record is None or self.has_grown:
+            return []
+        made = self.numbered(self.converted(record, tree))
         self.note_stamps(record)
         if made:
             for name in record.data.shape.of(names_passed):
@@ -69,7 +87,6 @@ class Audited:
         return made
 
     def converted(self, record, tree):
-        check_replication(record)
         if record.opcode in OF_FILES:
             return of_file(record, tree)
         if record.opcode == "OP_ADD":
@@ -80,17 +97,39 @@ class Audited:
             return []
         return edits.edits_beside_snapshots(record, tree)
 
-    def without_returns(self, record):
-        """The record as an image has its names: a dump of an image has a line feed for a carriage return in a name."""
+    def numbered(self, made):
+        """Edits with the number that the table has for a replication."""
+        for edit in made:
+            if "replication" in edit:
+                edit["replication"] = self.table.number(str(edit["replication"]))
+        return made
+
+    def as_held(self, record):
+        """The record with the names that an image and the program have, or None where its paths have too many names."""
         shape, texts = record.data.shape, record.data.texts
-        places = [place for place in shape.of(places_of_names) if CARRIAGE_RETURN.search(texts[place])]
+        places = [place for place in shape.of(places_of_names) if self.is_otherwise(texts[place])]
         if not places:
             return record
-        self.carriage_returns += 1
         texts = list(texts)
+        self.carriage_returns += any(CARRIAGE_RETURN.search(texts[place]) for place in places)
         for place in places:
-            texts[place] = CARRIAGE_RETURN.sub("\n", texts[place])
-        return record._replace(data=Element(shape, texts))
+            texts[place] = self.held(texts[place])
+        deep = [text.count("/") > PATH_NAMES for text in map(texts.__getitem__, shape.of(places_of_names))]
+        if any(deep) and not all(deep):
+            raise Refused(f"a path of more than {PATH_NAMES:,} names, and one that is none: what moves is not known")
+        return None if any(deep) else record._replace(data=Element(shape, texts))
+
+    def is_otherwise(self, text):
+        """Whether a path may have other names here than in the log."""
+        return bool(self.table.names) or len(text) > FEW_BYTES or not PLAIN.fullmatch(text)
+
+    def held(self, text):
+        """A path as an image and the program have it: an image has a line feed for a carriage return in a name."""
+        path = self.table.short_path(unescaped("a path", CARRIAGE_RETURN.sub("\n", text)))
+        if len(path) > PATH_BYTES // 4 and len(path.encode()) > PATH_BYTES and path.count("/") <= PATH_NAMES:
+            self.table.shorten(path)
+            self.has_grown = True
+        return path.replace("\\", "\\005c;")
 
     def note_stamps(self, record):
         """Notes which stamps a record issues or gives to blocks, bare files' blocks among them."""
@@ -119,12 +158,6 @@ def places_of_names(shape):
     members = [child for child in shape.of(children_of) if child.name in NAMES]
     parts = [part for member in members for part in member.of(children_of) or [member]]
     return [part.first for part in parts if not part.tags]
-
-
-def check_replication(record):
-    if record.opcode in ("OP_ADD", "OP_SET_REPLICATION") and record.data.number("REPLICATION") > MOST_REPLICATION:
-        said = record.data.number("REPLICATION")
-        raise Refused(f"the replication {said}, and {MOST_REPLICATION} is the most here")
 
 
 def of_file(record, tree):

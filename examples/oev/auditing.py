@@ -2,6 +2,7 @@
 
 What can't be read leaves nothing to be said, and is Refused. A second image that contradicts itself is a finding.
 """
+import contextlib
 import io
 import json
 import os
@@ -12,6 +13,7 @@ from chain import Chain, Link, Start
 from checkpoint import low_number, read_image, write_image
 from comparison import Differences, alike_texts, compare
 from formats import Refused, image_line
+from table import Grew, Table
 from verdict import AsObject, Printed, Scope, Verdict
 
 
@@ -23,21 +25,23 @@ class Audit:
         self.folder = folder
         self.options = options
         self.output = AsObject() if options.json else Printed()
-        self.differences = Differences(options.most, self.output.tell)
+        self.chain = Chain(options.state) if options.state else None
+        link, self.place = self.chain.found() if self.chain else (None, 0)
+        self.table = Table(link.names, link.replications) if link else Table()
+        self.link = link
+        self.differences = Differences(options.most, self.output.tell, self.table)
         self.notes = []
+        if link and link.is_old:
+            self.notes.append(f"{self.chain.name} has no sum yet, and is taken as it is: the next one has its SHA-256")
         # Whether the log issued a later stamp than the image has.
         self.has_later_stamp = False
 
     def run(self):
         """Tells what is found. Answers whether the second image is what the log makes of the first."""
-        chain = Chain(self.options.state) if self.options.state else None
-        start = self.start(chain)
-        theirs, contradiction = read_image(self.options.to)
-        self.check_pair(start.link, theirs, contradiction)
-        log = Converted(start, theirs.txid, self.options.files, self.folder)
-        theirs.told_kinds = log.bare
-        if contradiction is None:
-            contradiction = write_image(theirs, self.options.to, self.file("theirs.given"))
+        try:
+            start, theirs, contradiction, log = self.prepared()
+        except Refused as reason:
+            raise Refused(self.table.in_words(str(reason))) from None
         applies = self.apply(start, log)
         if contradiction is None and applies:
             contradiction = self.judge(theirs)
@@ -51,8 +55,8 @@ class Audit:
         behind = self.notes
         if self.differences.left():
             self.output.tell(f".. and {self.differences.left():,} more")
-        if chain is not None:
-            behind.append(str(self.advance(chain, start.link, theirs, log) if applies else start.link))
+        if self.chain is not None:
+            behind.append(str(self.advance(start.link, theirs, log) if applies else start.link))
         scope = None if alike is None else self.scope(alike, theirs, log)
         verdict = Verdict(start.link.txid, theirs.txid, applies, self.differences.summary(), scope)
         self.output.end(verdict, behind)
@@ -61,20 +65,38 @@ class Audit:
     def file(self, name):
         return os.path.join(self.folder, name)
 
-    def start(self, chain):
+    def prepared(self):
+        """Where the log goes on, the second image with its contradiction or None, and the log, all by one table."""
+        start = self.start()
+        theirs, contradiction = read_image(self.options.to, self.table)
+        self.check_pair(start.link, theirs, contradiction)
+        while True:
+            known = len(self.table.names)
+            with contextlib.suppress(Grew):
+                log = Converted(start, theirs.txid, self.options.files, self.folder, self.table)
+                theirs.told_kinds = log.bare
+                if contradiction is None:
+                    contradiction = write_image(theirs, self.options.to, self.file("theirs.given"))
+                if known == len(self.table.names):
+                    return start, theirs, contradiction, log
+            start = self.start()
+
+    def start(self):
         """The end of the chain, or else the first image."""
-        link, place = chain.found() if chain else (None, 0)
+        link = self.link
         if link is not None:
             if self.options.start:
-                raise Refused(f"{chain.name} goes on from TXID {link.txid}, and --from is for the first audit alone")
-            if link.is_old:
-                self.notes.append(f"{chain.name} has no sum yet, and is taken as it is: the next one has its SHA-256")
-            return Start(link, chain.name, place)
+                raise Refused(f"{self.chain.name} goes on from TXID {link.txid}, and --from is for the first audit alone")
+            start = Start(link, self.chain.name, self.place)
+            return start if len(link.names) == len(self.table.names) else start.again(self.table, self.file("ours.given"))
         if not self.options.start:
             raise Refused("--from FROM has to name the image that the log goes on from")
         name = self.file("ours.given")
-        dump, contradiction = read_image(self.options.start)
-        contradiction = contradiction or dump.low_inode or low_number(dump) or write_image(dump, self.options.start, name)
+        known, (dump, contradiction) = None, read_image(self.options.start, self.table)
+        contradiction = contradiction or dump.low_inode or low_number(dump)
+        while contradiction is None and known != len(self.table.names):
+            known = len(self.table.names)
+            contradiction = write_image(dump, self.options.start, name)
         if contradiction is not None:
             raise Refused(f"{self.options.start} contradicts itself: {contradiction}")
         return Start(Link(dump.txid, dump.txid, 0, dump.cluster, in_order(dump.bare_kinds)), name, 0)
@@ -106,7 +128,8 @@ class Audit:
             return True
         if fault.line is not None:
             with start.open() as image:
-                raise Refused(f"the image of TXID {start.link.txid} contradicts itself: {told_of(fault, image)}")
+                told = self.table.in_words(told_of(fault, image))
+                raise Refused(f"the image of TXID {start.link.txid} contradicts itself: {told}")
         self.differences.tell("fault", f"TXID {log.txid_of(fault)}: {fault.meaning}")
         return False
 
@@ -150,11 +173,14 @@ class Audit:
     def scope(self, alike, theirs, log):
         """What was compared, and what was not."""
         bare = theirs.told_kinds.keys() | theirs.bare_kinds.keys()
+        for path, count in theirs.too_deep.items():
+            self.notes.append(f"not compared, below {self.table.in_words(path)}: {count:,} paths of too many names")
         others = {
             "inodes that only snapshots hold": theirs.only_in_snapshots,
             "files whose blocks can't be held here": len(bare),
             "records with a carriage return in a name, taken as a line feed": log.edits.carriage_returns,
             "names of the image with a line feed, which may be a carriage return": theirs.with_line_feeds,
+            "paths of more than 1,000 names": sum(theirs.too_deep.values()),
             "last stamp, with which no block has come": self.has_later_stamp,
         }
         left = {
@@ -164,11 +190,11 @@ class Audit:
         }
         return Scope(alike, len(bare), left, Counter({what: int(count) for what, count in others.items() if count}))
 
-    def advance(self, chain, link, theirs, log):
+    def advance(self, link, theirs, log):
         """Keeps what the program has at the second image's TXID, be that image right or wrong."""
-        link = Link(link.first, theirs.txid, link.audits + 1, link.cluster, in_order(log.bare))
+        link = Link(link.first, theirs.txid, link.audits + 1, link.cluster, in_order(log.bare), **self.table.members())
         with open(self.file("ours"), "rb") as image:
-            chain.keep(link, image)
+            self.chain.keep(link, image)
         return link
 
 

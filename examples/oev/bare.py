@@ -13,12 +13,6 @@ UNKNOWN = NoBlocks("unknown")
 
 BLOCKS_OF = {blocks.kind: blocks for blocks in (STRIPED, OLD, LONG, REPLICATED, UNKNOWN)}
 
-# The program has a number in place of a bare file's replication, so that files of two kinds differ for it.
-NUMBERS = {"unknown": 1, "replicated": 509, "long": 510, "old": 511, "striped": 512}
-KINDS = {number: kind for kind, number in NUMBERS.items() if kind != "unknown"}
-# The greatest replication that is no such number.
-MOST_REPLICATION = min(KINDS) - 1
-
 # A line has room for so many blocks, whatever its path. A file that is longer has more.
 FEW_BLOCKS = 100
 
@@ -28,7 +22,13 @@ def is_bare(file):
 
 
 def bare_file(kind):
-    return File(NUMBERS[kind], True, BLOCKS_OF[kind])
+    """A bare file. Its replication is not known."""
+    return File(0, True, BLOCKS_OF[kind])
+
+
+def word_of(kind):
+    """What stands for a bare file's replication, so that files of two kinds differ for the program."""
+    return "1" if kind == UNKNOWN.kind else kind
 
 
 def old_id(blocks):
@@ -65,7 +65,7 @@ def kind_in_image(file, told):
 
 def new_bare(path, kind):
     """The edits that make a bare file."""
-    made = {"op": "OP_ADD", "path": path, "replication": NUMBERS[kind]}
+    made = {"op": "OP_ADD", "path": path, "replication": word_of(kind)}
     return [made, {"op": "OP_CLOSE", "path": path, "blocks": BLOCKS_OF[kind]}]
 
 

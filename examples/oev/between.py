@@ -9,6 +9,7 @@ from conversion import Conversion
 from formats import DoesNotApply, Refused
 from log import Log, Map, Whole, pairs_in
 from overlap import merged
+from table import Grew
 
 # The program holds a segment until it has ended.
 SEGMENT_BYTES = 4_000_000
@@ -17,11 +18,11 @@ SEGMENT_BYTES = 4_000_000
 class Converted:
     """The lines, in a file, with what is to be said of them."""
 
-    def __init__(self, start, until, files, folder):
+    def __init__(self, start, until, files, folder, table):
         self.name = os.path.join(folder, "lines")
         self.map = os.path.join(folder, "map")
         header = start.header()
-        self.edits = Audited(header["last_gen"])
+        self.edits = Audited(header["last_gen"], table)
         # How the log can't be followed, or None.
         self.fault = None
         with open(self.name, "wb") as lines, open(self.map, "w") as numbers:
@@ -32,7 +33,9 @@ class Converted:
             try:
                 take(conversion, files, until)
             except DoesNotApply as found:
-                self.fault = str(found)
+                self.fault = table.in_words(str(found))
+        if self.edits.has_grown:
+            raise Grew
         # The tree takes much memory, and is let go here.
         self.bare = bare_paths(conversion.tree)
         self.left_out = conversion.left_out

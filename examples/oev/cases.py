@@ -273,6 +273,9 @@ CONVERTED = [
     ("comments and instructions", ["<!-- c --><?p i?>", mkdir(2, "/d")], ended(made("OP_MKDIR", 2, "/d"))),
 ]
 
+# More blocks than a line holds, and more than a record has in one piece.
+MANY_BLOCKS = [block(FIRST_ID + place) for place in range(7_000)]
+
 # A name, the records behind a start mark with TXID 1, and what the reason has in it. The start mark's line is written.
 REFUSED = [
     ("a truncate of no length", [record("OP_TRUNCATE", 2, member("SRC", "/f"))], "OP_TRUNCATE, TXID 2: NEWLENGTH is"),
@@ -368,10 +371,8 @@ REFUSED = [
     ("tags that do not match", ["<RECORD></DATA>"], "mismatched tag"),
     ("bytes that are no UTF-8", [mkdir(2, "/\udcff")], "not well-formed"),
     ("a deep nest of tags", ["<A>" * 1_000_000], "nest deeper than 32"),
-    ("a tag without an end", ["<" + "A" * 6_000_000], "more than 4,194,304 bytes"),
-    ("a comment without an end", ["<!--" + "A" * 6_000_000], "more than 4,194,304 bytes"),
-    ("a text without an end", ["<RECORD>" + "A" * 6_000_000], "more than 4,194,304 bytes"),
-    ("members without an end", ["<RECORD>" + "<A/>" * 1_500_000], "more than 4,194,304 bytes"),
+    ("an id that is none, far behind", [close(2, "/f", *MANY_BLOCKS, block("x"))], "OP_CLOSE, TXID 2: BLOCK_ID: 'x'"),
+    ("a block far behind without an id", [close(2, "/f", *MANY_BLOCKS, "<BLOCK/>")], "TXID 2: BLOCK_ID is missing"),
 ]
 
 ENTITIES = "".join(f'<!ENTITY a{n} "{f"&a{n - 1};" * 10}">' for n in range(1, 10))

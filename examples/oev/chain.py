@@ -7,10 +7,11 @@ import fcntl
 import hashlib
 import json
 import os
+import re
 from typing import NamedTuple
 
 from bare import BLOCKS_OF, UNKNOWN
-from formats import Image, Refused, to_json
+from formats import Image, Refused, image_directory, image_end, image_file, to_json
 from tree import tree_of
 
 STATE = "state"
@@ -18,6 +19,7 @@ FORM = "hdfs-audit-2"
 # The form before, whose first line has no sum, and no kinds of bare files.
 OLD_FORM = "hdfs-audit"
 END = b'\n{"end":'
+REPLICATION = re.compile(rb'"replication":([0-9]{1,3})\b')
 # The end of an image has fewer bytes.
 END_BYTES = 200
 CHUNK_BYTES = 1 << 20
@@ -34,6 +36,9 @@ class Link(NamedTuple):
     cluster: int
     # The files that are taken without blocks, each with its kind.
     bare: dict
+    # What a table has to begin with.
+    names: list = ()
+    replications: dict = ()
     # Whether it was read from a state of the form before.
     is_old: bool = False
 
@@ -69,6 +74,23 @@ class Start(NamedTuple):
         return tree
 
 
+    def again(self, table, name):
+        """The same by a table that has got names, in a file."""
+        with self.open() as file, open(name, "wb") as output:
+            output.write(file.readline())
+            file.seek(self.place)
+            rows = [row._replace(path=table.short_again(row.path)) for row in Image(file).rows()]
+            for row in sorted(rows, key=lambda row: row.path.encode().split(b"/")):
+                output.write(image_directory(row.path) if row.blocks is None else image_file(*in_order(row)))
+            output.write(image_end(len(rows)))
+        bare = {table.short_again(path): kind for path, kind in self.link.bare.items()}
+        return Start(self.link._replace(bare=bare), name, 0)
+
+
+def in_order(row):
+    return row.path, row.replication, row.closed, row.blocks
+
+
 class Chain:
     """A directory with a chain. One audit at a time uses it."""
 
@@ -97,6 +119,10 @@ class Chain:
             if not link.is_old and told != sum_of(link, file):
                 advice = "bring it back from a copy, or begin another chain in an empty folder"
                 raise Refused(f"{self.name} is damaged, since its SHA-256 is not that of its first line: {advice}")
+            if link.is_old:
+                # Its replications are as they are.
+                numbers = {int(number) for line in file for number in REPLICATION.findall(line)}
+                link = link._replace(replications={str(number): number for number in sorted(numbers)})
             return link, place
 
     def keep(self, link, image):

@@ -3,8 +3,8 @@
 Snapshots change no live name. What only they hold is counted, and so is every element that nothing here stands for, by
 the name that it has in the dump: an element of a later Hadoop shows itself.
 """
-from bare import MOST_REPLICATION, OLD, STRIPED, bare_file, has_old_block, is_bare, kind_in_image
-from formats import FIRST_BLOCK_ID, FIRST_GEN, Refused
+from bare import OLD, STRIPED, bare_file, has_old_block, kind_in_image, word_of
+from formats import FIRST_BLOCK_ID, FIRST_GEN, PATH_BYTES, Refused
 from fsimage import Dump, Inconsistent, blocks_in, blocks_of, image_lines, is_striped
 from inodes import NONE, Lists
 from loops import row_in_loop
@@ -26,8 +26,10 @@ TAKEN = {
 class Checkpoint(Dump):
     """An image of a real cluster."""
 
-    def __init__(self):
+    def __init__(self, table):
         super().__init__()
+        self.table = table
+        self.check_name = table.check_name
         self.cluster = None
         # The kinds of bare files by their paths: those that the log tells, and those that were found here.
         self.told_kinds = {}
@@ -41,6 +43,8 @@ class Checkpoint(Dump):
         self.snapshots_count = 0
         self.only_in_snapshots = 0
         self.with_line_feeds = 0
+        # How many paths lie below those of as many names as there may be. They are left out.
+        self.too_deep = {}
 
     def readers(self):
         return {**super().readers(), **self.mentions.readers(), REFERENCE: self.reference}
@@ -88,8 +92,8 @@ class Checkpoint(Dump):
         self.mentions.take(REFERENCE, element.number("referredId"))
         self.pass_over(element)
 
-    def list(self, element):
-        owner = element.number("parent")
+    def list(self, element, owner=None):
+        owner = element.number("parent") if owner is None else owner
         self.children.add(owner, element.numbers("child"))
         self.pass_over(element)
         places = element.numbers("refChild")
@@ -144,10 +148,41 @@ class Checkpoint(Dump):
         kind = kind_in_image(file, self.told_kinds.get(path))
         if kind is not None:
             self.bare_kinds[path] = kind
-            return bare_file(kind)
-        if file.replication > MOST_REPLICATION:
-            raise Refused(f"{path} has the replication {file.replication}, and {MOST_REPLICATION} is the most here")
+            return bare_file(kind)._replace(replication=self.table.number(word_of(kind)))
+        number = self.table.number(str(file.replication))
+        if number != file.replication:
+            file = file._replace(replication=number)
         return super().row(path, file)
+
+    # ---- Names that the program has otherwise.
+
+    def name_of(self, row):
+        name = super().name_of(row)
+        return self.table.names.get(name, name)
+
+    def rows_below(self, path, row):
+        """They are looked at as the cluster has them, and are in the order of the names that the program has."""
+        rows = super().rows_below(path, row)
+        if not self.table.names:
+            return rows
+        return iter(sorted(rows, key=lambda row: self.name_of(row).encode()))
+
+    def check_path(self, path):
+        if len(path.encode()) > PATH_BYTES:
+            self.table.shorten(path)
+
+    def leave_below(self, path, row):
+        ahead, count = [row], 0
+        while ahead:
+            above = ahead.pop()
+            below = [(self.child_rows[at], self.children.numbers[at]) for at in self.children.places(above)]
+            below += [(self.reference_rows[at], self.references[at]) for at in self.references_of(above)]
+            for found in below:
+                self.take(*found)
+            count += len(below)
+            ahead += [found for found, _ in below]
+        if count:
+            self.too_deep[path] = count
 
 
 def keys_beside(shape):
@@ -162,9 +197,9 @@ def keys_in_file(shape):
     return [key for part in parts for key in keys_beside(part)]
 
 
-def read_image(name):
+def read_image(name, table):
     """An image, and how it contradicts itself, or None."""
-    dump = Checkpoint()
+    dump = Checkpoint(table)
     try:
         with open(name, "rb") as file:
             dump.read(file)
@@ -189,6 +224,7 @@ def write_image(dump, name, output):
     # The program takes no image with such a last id or stamp. What is wrong with it is told beside what else differs.
     last_block = max(dump.last_block, FIRST_BLOCK_ID - 1)
     last_gen = max(dump.last_gen, dump.greatest_gen, FIRST_GEN - 1)
+    dump.bare_kinds, dump.too_deep = {}, {}
     try:
         with open(output, "wb") as file:
             file.writelines(image_lines(dump, last_block, last_gen, dump.txid))

@@ -23,7 +23,11 @@ class Inode:
         self.is_referred = False
 
     def path(self):
-        return "" if self.parent is None else f"{self.parent.path()}/{self.name}"
+        names, node = [], self
+        while node.parent is not None:
+            names.append(node.name)
+            node = node.parent
+        return "".join(f"/{name}" for name in reversed(names))
 
 
 class Directory(Inode):
@@ -101,6 +105,14 @@ class Cluster:
         self.log_path("OP_MKDIR", node, member("TIMESTAMP", 1), member("INODEID", node.id))
         parent.children[name] = node
         return node
+
+    def make_directories(self, parent, name, count):
+        """Directories of a name, one in another. Answers the last one. No image is kept of the TXIDs between."""
+        self.keep_image = lambda: None
+        for _ in range(count):
+            parent = self.make_directory(parent, name)
+        del self.keep_image
+        return parent
 
     def create(self, parent, name, replication=3, policy=0):
         node = File(self.new_id(), name, parent)
@@ -295,9 +307,12 @@ class Dump:
 
 def below(directory):
     """All that lies below a directory, each behind the directory that has it."""
-    for child in getattr(directory, "children", {}).values():
-        yield child
-        yield from below(child)
+    ahead = [directory]
+    while ahead:
+        node = ahead.pop()
+        if node is not directory:
+            yield node
+        ahead += reversed(list(getattr(node, "children", {}).values()))
 
 
 def block_member(block):

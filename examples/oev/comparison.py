@@ -8,7 +8,6 @@ from collections import Counter
 from functools import cached_property
 from itertools import zip_longest
 
-from bare import KINDS
 from formats import row_of, to_json
 
 END = b'{"end":'
@@ -36,14 +35,15 @@ class Line:
 class Differences:
     """Tells differences, the first of them, and counts all."""
 
-    def __init__(self, most, output=print):
+    def __init__(self, most, output, table):
         self.most = most
         self.output = output
+        self.table = table
         self.count = Counter()
 
     def tell(self, kind, *words):
         if sum(self.count.values()) < self.most:
-            self.output(kind, *words)
+            self.output(kind, self.table.in_words(" ".join(map(str, words))))
         self.count[kind] += 1
 
     def left(self):
@@ -122,7 +122,7 @@ class Alone:
     def flush(self):
         if self.top is not None:
             words = [f"and {self.below:,} below"] if self.below else []
-            self.differences.tell(self.kind, to_json(self.top.path), kind_of(self.top), *words)
+            self.differences.tell(self.kind, to_json(self.top.path), kind_of(self.top, self.differences.table), *words)
         self.top, self.below = None, 0
 
 
@@ -152,11 +152,13 @@ def compare(ours, theirs, differences):
 def tell_row(one, other, differences):
     """Tells how what both have at a path differs: first what the log makes of it, then what the image has."""
     path = to_json(one.path)
-    if kind_of(one) != kind_of(other):
-        differences.tell("kind", path, kind_of(one), kind_of(other))
+    words = differences.table.words
+    kinds = [kind_of(row, differences.table) for row in (one, other)]
+    if kinds[0] != kinds[1]:
+        differences.tell("kind", path, *kinds)
         return
     if one.replication != other.replication:
-        differences.tell("replication", path, one.replication, other.replication)
+        differences.tell("replication", path, words[one.replication], words[other.replication])
     if one.closed != other.closed:
         differences.tell("state", path, *("closed" if row.closed else "open" for row in (one, other)))
     blocks = map(words_of_blocks, (one, other))
@@ -165,9 +167,10 @@ def tell_row(one, other, differences):
             differences.tell("block", path, place, block, found)
 
 
-def kind_of(row):
+def kind_of(row, table):
     """What a row is: a directory, a file, or a bare file of some kind."""
-    return "directory" if row.blocks is None else KINDS.get(row.replication, "file")
+    word = "directory" if row.blocks is None else table.words[row.replication]
+    return "file" if word.isdigit() else word
 
 
 def words_of_blocks(row):

@@ -5,12 +5,15 @@ from typing import NamedTuple
 from dumps import Element, check_layout, elements, is_same
 from edits import edits_of, start_mark
 from formats import Refused
+from longrecords import LongRecord
+from reading import MORE, PIECE_TEXTS
 
-# A file has 10,000 blocks at most, unless a NameNode is told otherwise. Its record has some 2,000,000 bytes.
-RECORD_BYTES = 4_194_304
+# What HDFS allows for a record, enough for a file of 1,048,576 blocks. One of so many is read in pieces.
+RECORD_BYTES = 134_217_728
 
 LAYOUT = ("EDITS_VERSION",)
 RECORD = ("RECORD",)
+MORE_OF_RECORD = ("RECORD", MORE)
 
 
 class Record(NamedTuple):
@@ -132,17 +135,27 @@ def counted(title, counter):
 
 def records_of(file):
     """The records of a dump, in its order."""
-    has_layout = False
-    for place, element in elements(file, "EDITS", {LAYOUT, RECORD}, RECORD_BYTES):
+    has_layout, held = False, None
+    for place, element in elements(file, "EDITS", {LAYOUT, RECORD}, RECORD_BYTES, pieces={RECORD: 1}):
+        if place == MORE_OF_RECORD:
+            held.take(element)
+            continue
+        if held is not None:
+            yield record_of(file, held.element())
+            held = None
         if place == LAYOUT:
             check_layout_of(file, element)
             has_layout = True
-        elif has_layout:
+        elif not has_layout:
+            break
+        elif len(element.texts) < PIECE_TEXTS:
             yield record_of(file, element)
         else:
-            break
+            held = LongRecord(element)
     if not has_layout:
         raise Refused(f"{file.name}: no EDITS_VERSION before its first RECORD")
+    if held is not None:
+        yield record_of(file, held.element())
 
 
 def check_layout_of(file, element):

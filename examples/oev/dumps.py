@@ -148,13 +148,14 @@ def unescaped(name, text):
         raise Refused(f"{name} has half of a surrogate pair, which no path may have") from None
 
 
-def elements(file, root, wanted, most, passed=None):
+def elements(file, root, wanted, most, passed=None, pieces=()):
     """Yields the elements of a document whose place is wanted, one after another, each with its place.
 
     A place is the tuple of the names that lead to an element, without that of the root. No element may have more than
     `most` bytes in the document. `passed` counts what stands beside the wanted elements, by the two names of its place.
+    `pieces` has those that may come in pieces, as `Reading` has it.
     """
-    reading = Reading(root, wanted, most, Counter() if passed is None else passed)
+    reading = Reading(root, wanted, most, Counter() if passed is None else passed, dict(pieces))
     ended = False
     while not ended:
         chunk = file.read(CHUNK_BYTES)

@@ -19,7 +19,7 @@ DIGITS = re.compile("[0-9]{1,19}")
 
 # A path, if its characters are bytes, and if there are few enough; and a name, if its characters are bytes.
 PLAIN_PATH = re.compile(rf"(?:/(?!\.\.?(?:/|\Z))[^/:]{{1,{NAME_BYTES}}})+")
-PLAIN_NAME = re.compile(rf"(?!\.\.?\Z)[^/:\\\n]{{1,{NAME_BYTES}}}")
+PLAIN_NAME = re.compile(rf"(?!\.\.?\Z|\x7f)[^/:\\\n]{{1,{NAME_BYTES}}}")
 
 to_json = json.JSONEncoder(ensure_ascii=False, separators=(",", ":"), sort_keys=True).encode
 
@@ -64,6 +64,11 @@ def check_name(name):
     size = len(name) if name.isascii() else len(name.encode())
     if not 1 <= size <= NAME_BYTES:
         raise Refused(f"a name of {size} bytes, where 1 to {NAME_BYTES} are allowed")
+    check_characters(name)
+
+
+def check_characters(name):
+    """Refuses a name that no path may have, whatever its length."""
     if "/" in name or ":" in name or name in (".", ".."):
         raise Refused(f"the name {to_json(name)}, which no path may have")
 

@@ -12,6 +12,7 @@ import formats
 from dumps import check_layout, elements, plain_numbers
 from formats import Refused, is_plain_name, to_json
 from inodes import CLOSED, DIRECTORY, NONE, OPEN, File, Inodes, Lists
+from reading import MORE
 from shapes import named, only_places
 
 ROOT = 16385
@@ -23,7 +24,9 @@ INODE = ("INodeSection", "inode")
 LIST = ("INodeDirectorySection", "directory")
 SNAPSHOTS = ("SnapshotSection", "numSnapshots")
 
-# A directory has 1,048,576 children at most, unless a NameNode is told otherwise. They have some 26,000,000 bytes.
+MORE_CHILDREN = (*LIST, MORE)
+
+# So many bytes an element may have. A directory has 6,400,000 children at most, and is read in pieces.
 SECTION_BYTES = 67_108_864
 
 # What only files have, and how often it comes in the form of an inode.
@@ -104,23 +107,23 @@ class Dump:
             COUNT: self.take_count,
             INODE: self.inode,
             LIST: self.directory,
+            MORE_CHILDREN: self.more_children,
             SNAPSHOTS: self.snapshots,
         }
 
     def read(self, file):
         """Reads a dump, and answers this."""
         readers = self.readers()
-        for place, element in elements(file, "fsimage", set(readers), SECTION_BYTES, self.passed):
+        for place, element in elements(file, "fsimage", set(readers), SECTION_BYTES, self.passed, {LIST: 0}):
             readers[place](element)
         self.check_whole()
         self.finish()
         return self
 
     def finish(self):
-        """Finds the inodes of all ids. An inode is taken once a directory has it."""
+        """Finds the inodes of all ids."""
         self.children.finish(self.inodes)
         self.child_rows = self.inodes.rows_of(self.children.numbers)
-        self.is_taken = bytearray(len(self.inodes))
         self.root = self.inodes.rows_of([ROOT])[0]
         self.inodes.finish()
 
@@ -169,7 +172,7 @@ class Dump:
         try:
             name, file = element.string("name"), self.file_of(element)
             if inode_id != ROOT:
-                formats.check_name(name)
+                self.check_name(name)
         except Refused as refused:
             raise Refused(f"inode {inode_id}: {refused}") from None
         # No path has the name of the root.
@@ -201,6 +204,10 @@ class Dump:
         if not self.list_plain(element):
             self.list(element)
 
+    def more_children(self, element):
+        """Takes further children of the last directory."""
+        self.list(element, self.children.owners[-1])
+
     def list_plain(self, element):
         """Takes the children of a directory that lists nothing else. Answers whether that was seen at once."""
         names = element.leaves()
@@ -210,10 +217,11 @@ class Dump:
             self.children.add(numbers[0], numbers[1:])
         return numbers is not None
 
-    def list(self, element):
+    def list(self, element, owner=None):
+        """Takes the children of a directory, or further ones of that which has this id."""
         if element.all("refChild"):
             raise Refused("a directory has a refChild, and there are no snapshots here")
-        self.children.add(element.number("parent"), element.numbers("child"))
+        self.children.add(element.number("parent") if owner is None else owner, element.numbers("child"))
 
     @staticmethod
     def snapshots(count):
@@ -241,7 +249,9 @@ class Dump:
         return [self.last_block] if is_issued and self.greatest_block < self.last_block else []
 
     def paths(self):
-        """Each path except the root, in path order, with its file, or None for a directory. To be asked once."""
+        """Each path except the root, in path order, with its file, or None for a directory."""
+        # An inode is taken once a directory has it.
+        self.is_taken = bytearray(len(self.inodes))
         self.take(self.root, ROOT)
         # For each directory that is open: its path, and the rows in it that are ahead.
         ahead = [("", self.rows_below("", self.root))] if self.children.first[self.root] != NONE else []
@@ -252,14 +262,28 @@ class Dump:
                 ahead.pop()
                 continue
             self.take(row, self.inodes.ids[row])
-            path = f"{above}/{self.inodes.name(row).decode()}"
+            path = f"{above}/{self.name_of(row)}"
             # Its names were looked at, so that a shorter path is one: a character has four bytes at most.
             if len(path) > SHORT_PATH:
-                formats.check_path(path)
+                self.check_path(path)
             yield path, self.inodes.file(row)
-            if self.children.first[row] != NONE:
+            if self.children.first[row] != NONE and len(ahead) == formats.PATH_NAMES:
+                self.leave_below(path, row)
+            elif self.children.first[row] != NONE:
                 ahead.append((path, self.rows_below(path, row)))
         self.check_all_taken()
+
+    check_name = staticmethod(formats.check_name)
+    check_path = staticmethod(formats.check_path)
+
+    def name_of(self, row):
+        """The name of an inode as its path has it."""
+        return self.inodes.name(row).decode()
+
+    def leave_below(self, path, row):
+        """What is below a path of as many names as there may be."""
+        if self.children.places(row):
+            formats.check_path(f"{path}/-")
 
     def rows_below(self, path, row):
         """The rows of what a directory has, in path order."""

@@ -7,15 +7,16 @@ from checkpoint import Checkpoint, low_number, write_image
 from formats import FIRST_BLOCK_ID, Refused
 from fsimage import blocks_in
 from log import pairs_in, parts_in, words_for_parts
+from table import Exact
 
 HERE = os.path.dirname(os.path.realpath(__file__))
 
 
 class Held(Checkpoint):
-    """An image of a real cluster. Bare files have no blocks here, and nothing is said of the replicas of theirs."""
+    """An image of a real cluster, as it is. Bare files have no blocks here, and nothing is said of the replicas of theirs."""
 
     def __init__(self):
-        super().__init__()
+        super().__init__(Exact())
         self.bare_blocks = set()
 
     def file_with_blocks(self, inode):

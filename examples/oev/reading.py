@@ -10,6 +10,8 @@ from formats import Refused
 from shapes import Shape
 
 DEPTH = 32
+# What stands behind the place of a piece that is not the first of its element.
+MORE = "more"
 TOO_DEEP = f"elements nest deeper than {DEPTH}"
 
 # So many shapes are kept for the elements that are to come, and only those with so few tags.
@@ -19,18 +21,29 @@ SHAPE_TAGS = 500
 # So many bytes of an element that has not ended wait for the rest.
 HELD_BYTES = 65_536
 
+# An element that may be very long is given in pieces of so many texts.
+PIECE_TEXTS = 20_000
+
 # What the short way takes beside the signs of tags. Such characters mean what they are.
 PLAIN = b"\n" + bytes(set(range(0x20, 0x7F)) - set(b"&<>"))
 
 
 class Reading:
-    """Notes the wanted elements of a document while expat reads it."""
+    """Notes the wanted elements of a document while expat reads it.
 
-    def __init__(self, root, wanted, most, passed):
+    `pieces` has the places of those that come in pieces if they are long, each with how many elements are open in it
+    where it is cut. Where none is, each piece may have the most bytes. The place of a later piece ends with MORE.
+    """
+
+    def __init__(self, root, wanted, most, passed, pieces):
         self.root = root
         self.wanted = wanted
         self.most = most
         self.passed = passed
+        self.pieces = pieces
+        # How many elements are open where the wanted one is cut, or None; and the first texts of one that was cut.
+        self.cut_inside = None
+        self.first_texts = None
         # The names of the open elements outside of a wanted one and of that itself, and how many elements are open.
         self.place = []
         self.depth = 0
@@ -78,7 +91,7 @@ class Reading:
         except expat.ExpatError as error:
             return f"this is no XML ({expat.ErrorString(error.code)})"
         if self.fed - (self.parser.CurrentByteIndex if self.begun is None else self.begun) > self.most:
-            return f"an element, a tag or a comment has more than {self.most:,} bytes"
+            return self.too_long()
         if self.begun is None:
             self.text.clear()
         return None
@@ -167,6 +180,8 @@ class Reading:
         self.wanted_place = place
         self.tags = []
         self.texts = []
+        self.first_texts = None
+        self.cut_inside = self.pieces.get(place)
         self.text.clear()
         self.parser.StartElementHandler = self.start
         self.parser.EndElementHandler = self.end
@@ -187,15 +202,41 @@ class Reading:
         self.depth -= 1
         if self.depth >= len(self.place):
             tags.append(None)
+            if len(self.texts) >= PIECE_TEXTS and self.depth - len(self.place) == self.cut_inside:
+                self.cut()
         else:
             self.finish()
 
+    def cut(self):
+        """Gives what was read of the wanted element. The next piece begins with the elements that are open."""
+        tags, texts = self.tags, self.texts
+        inside = open_in(tags)
+        self.done.append((self.piece_place(), Shape(self.place[-1], tags + [None] * len(inside)), texts))
+        self.first_texts = self.first_texts or texts[:2]
+        self.tags, self.texts = inside, []
+        if not inside:
+            self.begun = self.parser.CurrentByteIndex
+
+    def too_long(self):
+        return f"an element, a tag or a comment has more than {self.most:,} bytes{self.named()}"
+
+    def piece_place(self):
+        return self.wanted_place if self.first_texts is None else (*self.wanted_place, MORE)
+
+    def named(self):
+        """The opcode and the TXID of the record that is read, or nothing."""
+        texts = self.first_texts or self.texts
+        is_record = self.begun is not None and self.wanted_place[-1] == "RECORD" and len(texts) > 1
+        return f": {texts[0][:40]}, TXID {texts[1][:40]}" if is_record else ""
+
     def finish(self):
         """A wanted element ends."""
-        name, shape = self.place.pop(), self.shape()
-        self.done.append((self.wanted_place, shape, self.texts))
         ends = self.parser.CurrentByteIndex
-        if self.begun >= self.fed:
+        if ends + len(f"</{self.place[-1]}>") - self.begun > self.most:
+            raise Refused(self.too_long())
+        name, shape = self.place.pop(), self.shape()
+        self.done.append((self.piece_place(), shape, self.texts))
+        if self.begun >= self.fed and self.first_texts is None:
             self.repeats.learn(self.piece[self.begun - self.fed : ends - self.fed], shape)
         self.start_tag, self.end_tag = f"<{name}>".encode(), f"</{name}>".encode()
         self.is_between = ends + len(self.end_tag) == self.fed + len(self.piece)
@@ -209,6 +250,17 @@ class Reading:
         if len(tags) > SHAPE_TAGS:
             return Shape(name, tags)
         return kept(self.shapes, (name, *tags), lambda: Shape(name, tags))
+
+
+def open_in(tags):
+    """The names of the elements that began and have not ended."""
+    names = []
+    for tag in tags:
+        if tag is None:
+            names.pop()
+        else:
+            names.append(tag)
+    return names
 
 
 def kept(shapes, key, make):

@@ -1,6 +1,6 @@
 -- What a service does to its standby does not depend on what it counted and wrote before.
 use Rattle.std.proofs.Common.{◌≡◌, ℕ, Bool, List, [], ◌∷◌, cond, true, false, None, Some, Option, Result, Ok, Err, refl, sym, ap, ◌∙◌, ltb, ◌+◌, not, ◌||◌, ◌&&◌, codes}
-use Rattle.nn_types.specs.declared.fault.TheConstants.{NO_END, DISORDER}
+use Rattle.nn_types.specs.declared.fault.TheConstants.{NO_END, DISORDER, STALE_EPOCH}
 use Rattle.nn_types.specs.declared.report.Message.{Message}
 use Rattle.nn_types.specs.declared.report.Report.{Report}
 use Rattle.nn_types.specs.declared.tx.Tx.{Tx}
@@ -18,7 +18,7 @@ use Rattle.nn_shadow.specs.declared.fault.ApplyFault.{ApplyFault}
 use Rattle.nn_shadow.specs.declared.fault.FlushFault.{FlushFault}
 use Rattle.nn_shadow.specs.declared.fault.HandCause.{HandCause}
 use Rattle.nn_shadow.specs.Refusals.{apply_refusal, hand_refusal, flush_refusal}
-use Rattle.nn_live.specs.Live.{LiveSetup, ServiceState, takes_message, hands, applies, follows, follows_segment, follows_new, ends_segment, tells_fault, tells_gap, is_between, becomes_active, before_edit, behind_edit, with_edit, takes_edit, ends_at, promotes, empty_report, does, takes_read, takes_word, takes, takes_all, counts_line}
+use Rattle.nn_live.specs.Live.{LiveSetup, ServiceState, takes_message, hands, applies, follows, follows_segment, follows_new, ends_segment, tells_fault, tells_gap, is_between, becomes_active, before_edit, behind_edit, with_edit, takes_edit, ends_at, promotes, promotes_in, names, empty_report, does, takes_read, takes_word, takes, takes_all, counts_line}
 use Rattle.nn_live.specs.Words.{word_in}
 use Rattle.nn_live.specs.declared.word.Word.{Word}
 use Rattle.nn_live.specs.declared.word.Word.TheVariants as kind
@@ -40,13 +40,13 @@ module _ (asked : LiveSetup) where
   one_of true f g blind more = blind
   one_of false f g blind more = more
 
-  one_report : (m : Message) (r : Option HandCause) (rest : ServiceState → ServiceState) → IsBlind rest → IsBlind (takes_message asked m r rest)
-  one_report m None rest blind s = alike rest blind _ _ refl
-  one_report m (Some cause) rest blind s = refl
+  one_report : (own : Bool) (m : Message) (r : Option HandCause) (rest : ServiceState → ServiceState) → IsBlind rest → IsBlind (takes_message asked own m r rest)
+  one_report own m None rest blind s = alike rest blind _ _ refl
+  one_report own m (Some cause) rest blind s = refl
 
-  all_reports : (reports : List Report) → IsBlind (hands asked reports)
-  all_reports [] s = refl
-  all_reports (r ∷ reports) s = one_report (message_in_turn s.sent r) (hand_refusal 256 s.phase s.standby (message_in_turn s.sent r)) (λ t. hands asked reports t) (all_reports reports) s
+  all_reports : (own : Bool) (reports : List Report) → IsBlind (hands asked own reports)
+  all_reports own [] s = refl
+  all_reports own (r ∷ reports) s = one_report own (message_in_turn s.sent r) (hand_refusal 256 s.phase s.standby (message_in_turn s.sent r)) (λ t. hands asked own reports t) (all_reports own reports) s
 
   one_tx : (tx : Tx) (r : Option ApplyFault) (rest : ServiceState → ServiceState) → IsBlind rest → IsBlind (applies asked tx r rest)
   one_tx tx None rest blind s = alike rest blind _ _ refl
@@ -103,6 +103,19 @@ module _ (asked : LiveSetup) where
       at false true = refl
       at false false = refl
 
+  promoted_in : (txid epoch : ℕ) (lost : Bool) → IsBlind (promotes_in asked txid epoch lost)
+  promoted_in txid epoch lost s = at (ltb epoch s.epoch)
+    where
+      late : ServiceState → ServiceState
+      late t = tells_fault STALE_EPOCH (codes " epoch ") t.epoch t
+
+      asks : ServiceState → ServiceState
+      asks t = promotes asked txid lost (flush_refusal t.phase) (names epoch t)
+
+      at : (b : Bool) → bare (cond b (late s) (asks s)) ≡ bare (cond b (late (bare s)) (asks (bare s)))
+      at true = refl
+      at false = alike (promotes asked txid lost (flush_refusal s.phase)) (promoted txid lost (flush_refusal s.phase)) (names epoch s) (names epoch (bare s)) refl
+
   word : (w : Word) → IsBlind (does asked w)
   word kind.Sync s = refl
   word kind.Status s = refl
@@ -112,13 +125,14 @@ module _ (asked : LiveSetup) where
   word (kind.Path p) s = refl
   word kind.Tables s = refl
   word kind.Checkpoint s = refl
-  word (kind.Gone dn) s = all_reports (empty_report dn) s
-  word (kind.Promote txid) s = promoted txid false (flush_refusal s.phase) s
-  word (kind.PromoteLosing txid) s = promoted txid true (flush_refusal s.phase) s
+  word (kind.Gone dn) s = all_reports false (empty_report dn) s
+  word (kind.Seen txid) s = refl
+  word (kind.Epoch epoch) s = refl
+  word (kind.Promote txid epoch lost) s = promoted_in txid epoch lost s
 
   read : (text : List ℕ) (r : Result Line LineFault) → IsBlind (takes_read asked text r)
   read text (Ok (either.Edit tx)) s = edit (record { text = text; tx = tx }) s
-  read text (Ok (either.Report r)) s = all_reports (r ∷ []) s
+  read text (Ok (either.Report r)) s = all_reports true (r ∷ []) s
   read text (Err fault) s = refl
 
   word_or_read : (text : List ℕ) (w : Option Word) → IsBlind (takes_word asked text w)

@@ -24,6 +24,9 @@ module _ (x : Service) where
     active = (i.phase j).active;
     version = (sym i.asks j).version;
     known = i.known j;
+    epoch = i.epoch j;
+    promoted = i.promoted j;
+    full = λ dn. i.full dn j;
     passed = i.passed j;
     segments = i.segments j;
     edits = i.in_hand.edits j;

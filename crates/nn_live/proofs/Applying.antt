@@ -36,6 +36,9 @@ module _ (x : Service) (z : Shadow) (tx : Tx)
       sent = λ dn. ap (λ (ns : List ℕ). last_number_in ns dn) numbers ∙ i.sent dn;
       in_hand = i.in_hand;
       known = i.known;
+      epoch = i.epoch;
+      promoted = i.promoted;
+      full = i.full;
       passed = i.passed;
       segments = i.segments;
       lines = i.lines;
@@ -61,6 +64,9 @@ module _ (x : Service) (tx : Tx) (fault : ApplyFault) (is : apply_refusal x.shad
       sent = i.sent;
       in_hand = i.in_hand;
       known = i.known;
+      epoch = i.epoch;
+      promoted = i.promoted;
+      full = i.full;
       passed = i.passed;
       segments = i.segments;
       lines = i.lines;

@@ -1,5 +1,5 @@
 -- What was told before a step broke off.
-use Rattle.std.proofs.Common.{◌≡◌, List, ℕ, [], ◌∷◌, ◌++◌, sym, subst, ap, ◌∙◌, append-nil, append_assoc}
+use Rattle.std.proofs.Common.{◌≡◌, false, List, ℕ, [], ◌∷◌, ◌++◌, sym, subst, ap, ◌∙◌, append-nil, append_assoc}
 use Rattle.nn_types.specs.declared.report.Kind.TheVariants.{Begin, Finish}
 use Rattle.nn_live.specs.Live.{LiveSetup, ServiceState, empty_report, hands, mark_of}
 use Rattle.nn_live.specs.Serving.{Breaks, IsAtService, IsPrefixOf, FollowsStep, Service}
@@ -40,6 +40,6 @@ pub same_breaks : (f g : LiveSetup → ServiceState → ServiceState) (x : Servi
 same_breaks f g x told same breaks asked s i = subst (λ (t : ServiceState). IsPrefixOf (s.written ++ told) t.written) (sym (same asked s i)) (breaks asked s i)
 
 -- of a DataNode that is gone the begin alone was handed
-pub begin_handed : (x y : Service) (dn : ℕ) (told : List ℕ) → FollowsStep (λ asked s. hands asked (mark_of dn Begin ∷ []) s) x y told → Breaks (λ asked s. hands asked (empty_report dn) s) x told
+pub begin_handed : (x y : Service) (dn : ℕ) (told : List ℕ) → FollowsStep (λ asked s. hands asked false (mark_of dn Begin ∷ []) s) x y told → Breaks (λ asked s. hands asked false (empty_report dn) s) x told
 begin_handed x y dn told made asked s i =
-    subst (λ w. IsPrefixOf w (hands asked (empty_report dn) s).written) (made.written asked s i) (first_handed asked (mark_of dn Begin) (mark_of dn Finish ∷ []) s)
+    subst (λ w. IsPrefixOf w (hands asked false (empty_report dn) s).written) (made.written asked s i) (first_handed asked false (mark_of dn Begin) (mark_of dn Finish ∷ []) s)

@@ -26,6 +26,9 @@ with_counts asked x s h part known known' passed passed' segments segments' i ke
   sent = i.sent;
   in_hand = keeps;
   known = k;
+  epoch = i.epoch;
+  promoted = i.promoted;
+  full = i.full;
   passed = p;
   segments = n;
   lines = i.lines;

@@ -18,7 +18,7 @@ use Rattle.nn_shadow.specs.declared.fault.ApplyFault.{ApplyFault}
 use Rattle.nn_shadow.specs.declared.fault.FlushFault.{FlushFault}
 use Rattle.nn_shadow.specs.declared.fault.HandCause.{HandCause}
 use Rattle.nn_shadow.specs.Refusals.{apply_refusal, hand_refusal, flush_refusal}
-use Rattle.nn_live.specs.Live.{LiveSetup, ServiceState, answers, applies, before_edit, behind_edit, does, empty_report, ends, ends_at, ends_segment, follows, follows_segment, follows_txs, takes_message, hands, is_between, promotes, serving, takes, takes_edit, takes_pieces, takes_read, takes_torn, takes_word, tears_word, with_edit, written_of}
+use Rattle.nn_live.specs.Live.{LiveSetup, ServiceState, answers, applies, before_edit, behind_edit, does, empty_report, ends, ends_at, ends_segment, follows, follows_segment, follows_txs, takes_message, hands, is_between, names, promotes, serving, takes, takes_edit, takes_pieces, takes_read, takes_torn, takes_word, tears_word, with_edit, written_of}
 use Rattle.nn_live.specs.Serving.{IsPrefixOf, keeps_edit, one_more_segment, puts_edit, takes_segment}
 use Rattle.nn_live.specs.Words.{word_in}
 use Rattle.nn_live.specs.declared.word.Word.{Word}
@@ -44,22 +44,22 @@ either_prefix w false x y first other = other
 abbrev Grows : (ServiceState → ServiceState) → Type 0
 Grows f = (s : ServiceState) → IsPrefixOf s.written (f s).written
 
-handed_grows : (asked : LiveSetup) (m : Message) (o : Option HandCause) (rest : ServiceState → ServiceState) → Grows rest → Grows (λ s. takes_message asked m o rest s)
-handed_grows asked m None rest grows s = then_prefix _ _ _ (prefix_and s.written _) (grows _)
-handed_grows asked m (Some cause) rest grows s = prefix_and s.written _
+handed_grows : (asked : LiveSetup) (own : Bool) (m : Message) (o : Option HandCause) (rest : ServiceState → ServiceState) → Grows rest → Grows (λ s. takes_message asked own m o rest s)
+handed_grows asked own m None rest grows s = then_prefix _ _ _ (prefix_and s.written _) (grows _)
+handed_grows asked own m (Some cause) rest grows s = prefix_and s.written _
 
-pub hands_grow : (asked : LiveSetup) (reports : List Report) → Grows (λ s. hands asked reports s)
-hands_grow asked [] s = whole_prefix s.written
-hands_grow asked (r ∷ reports) s =
-    handed_grows asked (message_in_turn s.sent r) (hand_refusal 256 s.phase s.standby (message_in_turn s.sent r)) (λ t. hands asked reports t) (hands_grow asked reports) s
+pub hands_grow : (asked : LiveSetup) (own : Bool) (reports : List Report) → Grows (λ s. hands asked own reports s)
+hands_grow asked own [] s = whole_prefix s.written
+hands_grow asked own (r ∷ reports) s =
+    handed_grows asked own (message_in_turn s.sent r) (hand_refusal 256 s.phase s.standby (message_in_turn s.sent r)) (λ t. hands asked own reports t) (hands_grow asked own reports) s
 
 -- a message alone is handed, and then others behind it
-handed_first : (asked : LiveSetup) (m : Message) (o : Option HandCause) (rest : ServiceState → ServiceState) → Grows rest → (s : ServiceState) → IsPrefixOf (takes_message asked m o (λ t. t) s).written (takes_message asked m o rest s).written
-handed_first asked m None rest grows s = grows _
-handed_first asked m (Some cause) rest grows s = whole_prefix (takes_message asked m (Some cause) (λ t. t) s).written
+handed_first : (asked : LiveSetup) (own : Bool) (m : Message) (o : Option HandCause) (rest : ServiceState → ServiceState) → Grows rest → (s : ServiceState) → IsPrefixOf (takes_message asked own m o (λ t. t) s).written (takes_message asked own m o rest s).written
+handed_first asked own m None rest grows s = grows _
+handed_first asked own m (Some cause) rest grows s = whole_prefix (takes_message asked own m (Some cause) (λ t. t) s).written
 
-pub first_handed : (asked : LiveSetup) (r : Report) (reports : List Report) (s : ServiceState) → IsPrefixOf (hands asked (r ∷ []) s).written (hands asked (r ∷ reports) s).written
-first_handed asked r reports s = handed_first asked (message_in_turn s.sent r) (hand_refusal 256 s.phase s.standby (message_in_turn s.sent r)) (λ t. hands asked reports t) (hands_grow asked reports) s
+pub first_handed : (asked : LiveSetup) (own : Bool) (r : Report) (reports : List Report) (s : ServiceState) → IsPrefixOf (hands asked own (r ∷ []) s).written (hands asked own (r ∷ reports) s).written
+first_handed asked own r reports s = handed_first asked own (message_in_turn s.sent r) (hand_refusal 256 s.phase s.standby (message_in_turn s.sent r)) (λ t. hands asked own reports t) (hands_grow asked own reports) s
 
 applies_grows : (asked : LiveSetup) (tx : Tx) (o : Option ApplyFault) (rest : ServiceState → ServiceState) → Grows rest → Grows (λ s. applies asked tx o rest s)
 applies_grows asked tx None rest grows s = then_prefix _ _ _ (prefix_and s.written _) (grows _)
@@ -112,16 +112,18 @@ does_grow asked (word.Block id) s = prefix_and s.written _
 does_grow asked (word.Path p) s = prefix_and s.written _
 does_grow asked word.Tables s = prefix_and s.written _
 does_grow asked word.Checkpoint s = prefix_and s.written _
-does_grow asked (word.Gone dn) s = hands_grow asked (empty_report dn) s
-does_grow asked (word.Promote txid) s = promotes_grow asked txid false (flush_refusal s.phase) s
-does_grow asked (word.PromoteLosing txid) s = promotes_grow asked txid true (flush_refusal s.phase) s
+does_grow asked (word.Gone dn) s = hands_grow asked false (empty_report dn) s
+does_grow asked (word.Seen txid) s = whole_prefix s.written
+does_grow asked (word.Epoch epoch) s = whole_prefix s.written
+does_grow asked (word.Promote txid epoch lost) s =
+    either_prefix s.written (nat_lt epoch s.epoch) _ _ (prefix_and s.written _) (promotes_grow asked txid lost (flush_refusal s.phase) (names epoch s))
 
 pub answers_grow : (asked : LiveSetup) (w : Word) → Grows (λ s. answers asked w s)
 answers_grow asked w s = then_prefix _ _ _ (does_grow asked w s) (prefix_and _ _)
 
 read_grows : (asked : LiveSetup) (text : List ℕ) (r : Result Line LineFault) → Grows (λ s. takes_read asked text r s)
 read_grows asked text (Ok (either.Edit tx)) s = edit_grows asked (record { text = text; tx = tx }) s
-read_grows asked text (Ok (either.Report r)) s = hands_grow asked (r ∷ []) s
+read_grows asked text (Ok (either.Report r)) s = hands_grow asked true (r ∷ []) s
 read_grows asked text (Err fault) s = prefix_and s.written _
 
 pub data_grows : (asked : LiveSetup) (text : List ℕ) → Grows (λ s. takes_read asked text (either_of_line text) s)

@@ -1,5 +1,7 @@
 pub mod Standing
 pub mod Known
+pub mod Sending
+pub mod Came
 pub mod Options
 pub mod Alike
 pub mod Twice
@@ -10,6 +12,7 @@ pub mod Breaking
 pub mod Pieces
 pub mod InHand
 pub mod Handing
+pub mod Filling
 pub mod Applying
 pub mod Following
 pub mod Segments

@@ -19,8 +19,8 @@ pub block_pieces : (block stamp len path : List ℕ)
     ≡ codes "block " ++ block ++ codes " " ++ stamp ++ codes " " ++ len ++ codes " " ++ path ++ line_feed ∷ []
 block_pieces block stamp len path = simp append_assoc
 
-pub status_pieces : (a b c d e f g : List ℕ) → a ++ (b ++ (c ++ (d ++ (e ++ (f ++ g))))) ≡ a ++ b ++ c ++ d ++ e ++ f ++ g
-status_pieces a b c d e f g = simp append_assoc
+pub status_pieces : (a b c d e f g h i : List ℕ) → a ++ (b ++ (c ++ (d ++ (e ++ (f ++ (g ++ (h ++ i))))))) ≡ a ++ b ++ c ++ d ++ e ++ f ++ g ++ h ++ i
+status_pieces a b c d e f g h i = simp append_assoc
 
 -- the first of the lines that are left
 pub one_line : (left : ℕ) (m : Message) (messages : List Message) → 0 < left

@@ -1,8 +1,8 @@
 -- A promotion of the code is one of the definition's service.
-use Rattle.std.proofs.Common.{◌≡◌, ℕ, ◌+◌, Bool, List, [], ◌++◌, cond, true, false, not, ◌||◌, None, Some, Option, codes, sym, subst, ap, ap₂, ◌∙◌, refl}
+use Rattle.std.proofs.Common.{◌≡◌, ℕ, ◌+◌, Bool, List, [], ◌++◌, cond, true, false, not, ◌||◌, None, Some, Option, codes, sym, subst, ap, ap₂, ◌∙◌, refl, ltb, max, append-nil}
 use Rattle.std.specs.Prelude.{◌==◌}
 use Rattle.nn_listing.specs.Trail.{history_text}
-use Rattle.nn_types.specs.declared.fault.TheConstants.{NO_END, DISORDER, STOPPED}
+use Rattle.nn_types.specs.declared.fault.TheConstants.{NO_END, DISORDER, STALE_EPOCH, STOPPED}
 use Rattle.nn_model.specs.Stands.{StandbyState}
 use Rattle.nn_scenario.specs.Cut.{no_lines}
 use Rattle.nn_shadow.specs.declared.fault.Stop.{Stop}
@@ -11,10 +11,10 @@ use Rattle.nn_shadow.specs.declared.fault.FlushFault.TheVariants as flush
 use Rattle.nn_shadow.specs.Calls.{flushed}
 use Rattle.nn_shadow.specs.Contents.{Shadow, KeepsSettings, standby_of, last_number_in}
 use Rattle.nn_shadow.specs.Refusals.{Phase, flush_refusal}
-use Rattle.nn_live.specs.Live.{LiveSetup, ServiceState, says, tells_fault, ends_at, becomes_active, promotes}
-use Rattle.nn_live.specs.Serving.{Service, InHand, HasPart, IsAtService, FollowsStep, forgetful, fault_text, log_ends, takes_promotion}
+use Rattle.nn_live.specs.Live.{LiveSetup, ServiceState, says, tells_fault, ends_at, becomes_active, names, promotes, sees}
+use Rattle.nn_live.specs.Serving.{Service, InHand, HasPart, IsAtService, FollowsStep, forgetful, fault_text, in_epoch, log_ends, takes_promotion, takes_promotion_in}
 use Rattle.nn_live.proofs.Handing.{told}
-use Rattle.nn_live.proofs.Places.{asks_still, only_tells}
+use Rattle.nn_live.proofs.Places.{asks_still, only_tells, same_makes, then_makes}
 use Rattle.nn_live.proofs.Standing.{promotion}
 
 module _ (x : Service) (txid : ℕ) (losing : Bool) where
@@ -71,15 +71,18 @@ module _ (x : Service) (txid : ℕ) (losing : Bool) where
 
       pub promoted : (z : Shadow) (h : InHand) → log_ends x.shadow.last x.known txid losing ≡ true
           → standby_of z ≡ flushed (standby_of x.shadow) → z.phase ≡ record x.shadow.phase { active = true } → z.numbers ≡ x.shadow.numbers → KeepsSettings x.shadow z → HasPart no_lines h
-          → FollowsStep step x (forgetful (record x { shadow = z; in_hand = h })) (told x.history z)
+          → FollowsStep step x (forgetful (record x { shadow = z; in_hand = h; promoted = x.epoch })) (told x.history z)
       promoted z h ends done phase numbers settings none = record {
-        at = λ asked s i. subst (IsAtService asked (forgetful (record x { shadow = z; in_hand = h }))) (sym (becomes asked s i)) (record {
+        at = λ asked s i. subst (IsAtService asked (forgetful (record x { shadow = z; in_hand = h; promoted = x.epoch }))) (sym (becomes asked s i)) (record {
           asks = asks_still asked x z settings i.asks;
           standby = ap (λ (c : StandbyState). record c { history = [] }) (comes asked s i);
           phase = phase ∙ ap (λ (p : Phase). record p { active = true }) i.phase;
           sent = λ dn. ap (λ (ns : List ℕ). last_number_in ns dn) numbers ∙ i.sent dn;
           in_hand = none;
           known = i.known;
+          epoch = i.epoch;
+          promoted = i.epoch;
+          full = i.full;
           passed = i.passed;
           segments = i.segments;
           lines = i.lines;
@@ -94,3 +97,60 @@ module _ (x : Service) (txid : ℕ) (losing : Bool) where
 
           becomes : (asked : LiveSetup) (s : ServiceState) → IsAtService asked x s → step asked s ≡ becomes_active asked s
           becomes asked s i = between asked s i ∙ ap (λ b. cond b (becomes_active asked s) (tells_fault DISORDER (codes " txid ") (s.standby.last + 1) s)) ends
+
+-- ---- Epochs.
+
+pub seen_there : (x : Service) (txid : ℕ) → FollowsStep (λ _ s. sees txid s) x (record x { known = max x.known txid }) []
+seen_there x txid = record {
+  at = λ asked s i. record {
+    asks = i.asks;
+    standby = i.standby;
+    phase = i.phase;
+    sent = i.sent;
+    in_hand = i.in_hand;
+    known = ap (λ k. max k txid) i.known;
+    epoch = i.epoch;
+    promoted = i.promoted;
+    full = i.full;
+    passed = i.passed;
+    segments = i.segments;
+    lines = i.lines;
+    log = i.log;
+  };
+  written = λ asked s i. sym (append-nil s.written);
+}
+
+pub named_there : (x : Service) (epoch : ℕ) → FollowsStep (λ _ s. names epoch s) x (in_epoch epoch x) []
+named_there x epoch = record {
+  at = λ asked s i. record {
+    asks = i.asks;
+    standby = i.standby;
+    phase = i.phase;
+    sent = i.sent;
+    in_hand = i.in_hand;
+    known = i.known;
+    epoch = ap (λ k. max k epoch) i.epoch;
+    promoted = i.promoted;
+    full = i.full;
+    passed = i.passed;
+    segments = i.segments;
+    lines = i.lines;
+    log = i.log;
+  };
+  written = λ asked s i. sym (append-nil s.written);
+}
+
+module _ (x : Service) (txid epoch : ℕ) (losing : Bool) where
+  -- as the code sees it
+  by_epoch : (asked : LiveSetup) (s : ServiceState) → IsAtService asked x s → (b : Bool) → ltb epoch x.epoch ≡ b
+      → takes_promotion_in txid epoch losing asked s ≡ cond b (tells_fault STALE_EPOCH (codes " epoch ") s.epoch s) (takes_promotion txid losing asked (names epoch s))
+  by_epoch asked s i b e = ap (λ c. cond c (tells_fault STALE_EPOCH (codes " epoch ") s.epoch s) (takes_promotion txid losing asked (names epoch s))) (ap (λ k. ltb epoch k) (sym i.epoch) ∙ e)
+
+  pub too_late : ltb epoch x.epoch ≡ true → FollowsStep (takes_promotion_in txid epoch losing) x x (fault_text STALE_EPOCH (codes " epoch ") x.epoch)
+  too_late e = only_tells (takes_promotion_in txid epoch losing) x _ (λ asked s i.
+      (by_epoch asked s i true e ∙ ap (λ k. says (fault_text STALE_EPOCH (codes " epoch ") k) s) (sym i.epoch)))
+
+  pub in_time : (y z : Service) (told : List ℕ) → ltb epoch x.epoch ≡ false → FollowsStep (λ _ s. names epoch s) x y [] → FollowsStep (takes_promotion txid losing) y z told
+      → FollowsStep (takes_promotion_in txid epoch losing) x z told
+  in_time y z told e named made = same_makes (takes_promotion_in txid epoch losing) (λ asked s. takes_promotion txid losing asked (names epoch s)) x z told (λ asked s i. by_epoch asked s i false e)
+      (then_makes (λ _ s. names epoch s) (takes_promotion txid losing) x y z [] told named made)

@@ -41,8 +41,8 @@ module _ (text : List ℕ) (x : Service) where
   pub edit_read : (tx : Tx) (z : Service) (told : List ℕ) → either_of_line text ≡ Ok (either.Edit tx) → FollowsStep (λ asked s. takes_edit asked (record { text = text; tx = tx }) s) x z told → FollowsStep step x z told
   edit_read tx z told is made = same_makes step (λ asked s. takes_edit asked (record { text = text; tx = tx }) s) x z told (λ asked s i. ap (λ r. takes_read asked text r s) is) made
 
-  pub report_read : (r : Report) (z : Service) (told : List ℕ) → either_of_line text ≡ Ok (either.Report r) → FollowsStep (λ asked s. hands asked (r ∷ []) s) x z told → FollowsStep step x z told
-  report_read r z told is made = same_makes step (λ asked s. hands asked (r ∷ []) s) x z told (λ asked s i. ap (λ o. takes_read asked text o s) is) made
+  pub report_read : (r : Report) (z : Service) (told : List ℕ) → either_of_line text ≡ Ok (either.Report r) → FollowsStep (λ asked s. hands asked true (r ∷ []) s) x z told → FollowsStep step x z told
+  report_read r z told is made = same_makes step (λ asked s. hands asked true (r ∷ []) s) x z told (λ asked s i. ap (λ o. takes_read asked text o s) is) made
 
   pub fault_read : (e : LineFault) → either_of_line text ≡ Err e → FollowsStep step x x (fault_text (number_of e) (codes " line ") x.lines)
   fault_read e is = only_tells step x _ (λ asked s i. (ap (λ r. takes_read asked text r s) is ∙ ap (λ l. says (fault_text (number_of e) (codes " line ") l) s) (sym i.lines)))

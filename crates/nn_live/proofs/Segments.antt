@@ -38,7 +38,7 @@ module _ (x : Service) (txs : List Tx) where
       let new_is : counted s.standby.last txs ≡ new = ap (λ l. counted l txs) (sym (last_is asked s i)) ∙ is in
       ap₂ (λ b ts. cond b (tells_gap s) (follows_new asked txs ts s)) below new_is))
       (then_makes (passes new) (λ asked s. follows asked new s) x (record x { passed = x.passed + (length txs - length new) }) y [] text (record {
-        at = λ asked s i. record { asks = i.asks; standby = i.standby; phase = i.phase; sent = i.sent; in_hand = i.in_hand; known = i.known; passed = ap (λ p. p + (length txs - length new)) i.passed; segments = i.segments; lines = i.lines; log = i.log };
+        at = λ asked s i. record { asks = i.asks; standby = i.standby; phase = i.phase; sent = i.sent; in_hand = i.in_hand; known = i.known; epoch = i.epoch; promoted = i.promoted; full = i.full; passed = ap (λ p. p + (length txs - length new)) i.passed; segments = i.segments; lines = i.lines; log = i.log };
         written = λ asked s i. sym (append-nil s.written);
       }) made)
 

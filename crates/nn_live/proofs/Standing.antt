@@ -1,5 +1,5 @@
 -- Whatever lines came, a service stands at a log and at the messages that it took; and once it is active it shows their picture.
-use Rattle.std.proofs.Common.{◌≡◌, ℕ, Bool, List, [], ◌∷◌, ◌++◌, cond, true, false, None, Some, Option, Result, Ok, Err, refl, sym, subst, ap}
+use Rattle.std.proofs.Common.{◌≡◌, ℕ, Bool, List, [], ◌∷◌, ◌++◌, cond, true, false, None, Some, Option, Result, Ok, Err, refl, sym, subst, ap, ltb, ◌∙◌, append-nil}
 use Rattle.nn_types.specs.declared.event.Cause.TheVariants.{Flush}
 use Rattle.nn_types.specs.declared.report.Message.{Message}
 use Rattle.nn_types.specs.declared.report.Report.{Report}
@@ -16,7 +16,8 @@ use Rattle.nn_model.specs.Lanes.{Lanes, no_messages, followed_by}
 use Rattle.nn_model.specs.Log.{counted}
 use Rattle.nn_model.specs.Namespace.{Namespace}
 use Rattle.nn_model.specs.Picture.{ShowsPicture}
-use Rattle.nn_model.specs.Stands.{StandbyState, fresh, tables_of}
+use Rattle.nn_model.specs.Lawful.{IsWhole}
+use Rattle.nn_model.specs.Stands.{StandbyState, Stands, fresh, tables_of}
 use Rattle.nn_model.specs.Status.{block_at}
 use Rattle.nn_model.specs.WellFormed.{HasWellFormedBlocks}
 use Rattle.nn_listing.specs.Listing.{listing_text}
@@ -34,11 +35,11 @@ use Rattle.nn_shadow.specs.Calls.{applied_to, received, flushed, processing, wit
 use Rattle.nn_shadow.specs.Laws.{StandsBy}
 use Rattle.nn_shadow.specs.Refusals.{Phase, apply_refusal, hand_refusal, flush_refusal, phase_after_apply}
 use Rattle.nn_shadow.proofs.Refusing.{no_refusal_applies, no_refusal_hands}
-use Rattle.nn_shadow.proofs.Standings.{begins_standing, applies as applies_standing, receives, flush_shows_picture}
-use Rattle.nn_shadow.proofs.Taken.{applies_after, receives_after, takes_after}
+use Rattle.nn_shadow.proofs.Standings.{begins_standing, applies as applies_standing, receives, flushes, flushes_whole, flush_shows_picture}
+use Rattle.nn_shadow.proofs.Taken.{applies_after, receives_after, flushes_after, takes_after}
 use Rattle.nn_live.specs.Answers.{tables_now}
 use Rattle.nn_live.specs.Laws.{ServiceStandsAt, HasLog, StandsAtItsLog, AnswersThePicture, served}
-use Rattle.nn_live.specs.Live.{LiveSetup, ServiceState, new_service, takes_message, hands, applies, follows, follows_segment, ends_segment, before_edit, with_edit, takes_edit, ends_at, promotes, empty_report, does, takes_read, takes_word, takes, takes_all}
+use Rattle.nn_live.specs.Live.{LiveSetup, ServiceState, new_service, takes_message, hands, applies, follows, follows_segment, ends_segment, before_edit, with_edit, takes_edit, ends_at, promotes, names, empty_report, does, takes_read, takes_word, takes, takes_all}
 use Rattle.nn_live.specs.Words.{word_in}
 use Rattle.nn_live.specs.declared.word.Word.{Word}
 use Rattle.nn_live.specs.declared.word.Word.TheVariants as kind
@@ -56,6 +57,13 @@ shows_again : (x : StandbyState) (sent : Lanes) (l : List Message) → l ≡ [] 
 shows_again x sent [] e p = p
 shows_again x sent (m ∷ l) e p = absurd (cc)
 
+-- and where nothing is held, it is no change at all
+flush_of_nothing : (x : StandbyState) → x.held ≡ [] → flushed x ≡ x
+flush_of_nothing x e = at x.held e ∙ ap (λ h. record x { history = h; held = [] }) (append-nil x.history) ∙ ap (λ l. record x { held = l }) (sym e)
+  where
+    at : (l : List Message) → l ≡ [] → record (processing Flush l x) { held = [] } ≡ record x { history = x.history ++ []; held = [] }
+    at l e = ap (λ k. record (processing Flush k x) { held = [] }) e
+
 module _ (n : Namespace) (base : ℕ) where
   pub begins : StandsBy n base [] no_messages (fresh n base) → ServiceStandsAt n base [] (fresh n base) false no_messages
   begins first = record {
@@ -66,6 +74,7 @@ module _ (n : Namespace) (base : ℕ) where
     stands = λ a. first;
     shows = λ a. absurd (cc);
     flushed = λ a. absurd (cc);
+    whole = λ a. absurd (cc);
   }
 
   -- a standby that stands, and was not promoted, once its history was taken
@@ -79,6 +88,7 @@ module _ (n : Namespace) (base : ℕ) where
     stands = λ a. subst (StandsBy n base txs sent) (sym (takes_after told x)) by;
     shows = λ a. absurd (cc);
     flushed = λ a. absurd (cc);
+    whole = λ a. absurd (cc);
   }
 
   message : (txs : List Tx) (x : StandbyState) (phase : Phase) (sent : Lanes) (m : Message) → ServiceStandsAt n base txs x phase.active sent → hand_refusal 256 phase x m ≡ None
@@ -97,15 +107,28 @@ module _ (n : Namespace) (base : ℕ) where
       let by = applies_standing n base txs sent (with_past i.told x) tx (i.stands a) r.0 r.1 in
       now_at (txs ++ tx ∷ []) sent i.told (applied_to x tx) phase.active a (subst (StandsBy n base (txs ++ tx ∷ []) sent) (applies_after i.told x tx) by)
 
+  -- with what was told before, the flush stands at the same log, and what was told is whole
+  abbrev IsWholeAt : List Tx → Lanes → StandbyState → Type 0
+  IsWholeAt txs sent x = Stands n base txs sent x × IsWhole n txs (items sent) x.history
+
+  flushed_whole : (txs : List Tx) (x : StandbyState) (active : Bool) (sent : Lanes) → ServiceStandsAt n base txs x active sent → (told : History) → (b : Bool) → active ≡ b
+      → (b ≡ true → IsWholeAt txs sent (with_past told x)) → (b ≡ false → StandsBy n base txs sent (with_past told x)) → IsWholeAt txs sent (with_past told (flushed x))
+  flushed_whole txs x active sent i told false e whole stands =
+      let by = stands refl in
+      subst (IsWholeAt txs sent) (flushes_after told x) (flushes n base txs sent (with_past told x) by, flushes_whole n base txs sent (with_past told x) by)
+  flushed_whole txs x active sent i told true e whole stands =
+      subst (λ y. IsWholeAt txs sent (with_past told y)) (sym (flush_of_nothing x (i.flushed e))) (whole refl)
+
   pub promotion : (txs : List Tx) (x : StandbyState) (active : Bool) (sent : Lanes) → ServiceStandsAt n base txs x active sent → ServiceStandsAt n base txs (without_history (flushed x)) true sent
   promotion txs x active sent i = record {
     log = i.log;
     last = i.last;
     namespace = i.namespace;
-    told = [];
+    told = i.told ++ (flushed x).history;
     stands = λ a. absurd (cc);
     shows = λ a. at active refl;
     flushed = λ a. refl;
+    whole = λ a. subst (IsWholeAt txs sent) (sym (takes_after i.told (flushed x))) (flushed_whole txs x active sent i i.told active refl i.whole i.stands);
   }
     where
       at : (b : Bool) → active ≡ b → ShowsPicture x.namespace (items sent) (tables_of (flushed x))
@@ -120,14 +143,14 @@ module _ (asked : LiveSetup) (n : Namespace) (base : ℕ) where
   either_way true s t i j = i
   either_way false s t i j = j
 
-  pub one_report : (m : Message) (rest : ServiceState → ServiceState) → ((t : ServiceState) → Is t → Is (rest t)) → (s : ServiceState) → Is s
-      → (r : Option HandCause) → hand_refusal 256 s.phase s.standby m ≡ r → Is (takes_message asked m r rest s)
-  one_report m rest later s i None e = later _ (message n base s.log s.standby s.phase s.sent m i e)
-  one_report m rest later s i (Some cause) e = i
+  pub one_report : (own : Bool) (m : Message) (rest : ServiceState → ServiceState) → ((t : ServiceState) → Is t → Is (rest t)) → (s : ServiceState) → Is s
+      → (r : Option HandCause) → hand_refusal 256 s.phase s.standby m ≡ r → Is (takes_message asked own m r rest s)
+  one_report own m rest later s i None e = later _ (message n base s.log s.standby s.phase s.sent m i e)
+  one_report own m rest later s i (Some cause) e = i
 
-  pub all_reports : (reports : List Report) (s : ServiceState) → Is s → Is (hands asked reports s)
-  all_reports [] s i = i
-  all_reports (r ∷ reports) s i = one_report (message_in_turn s.sent r) (λ t. hands asked reports t) (all_reports reports) s i (hand_refusal 256 s.phase s.standby (message_in_turn s.sent r)) refl
+  pub all_reports : (own : Bool) (reports : List Report) (s : ServiceState) → Is s → Is (hands asked own reports s)
+  all_reports own [] s i = i
+  all_reports own (r ∷ reports) s i = one_report own (message_in_turn s.sent r) (λ t. hands asked own reports t) (all_reports own reports) s i (hand_refusal 256 s.phase s.standby (message_in_turn s.sent r)) refl
 
   pub one_tx : (tx : Tx) (rest : ServiceState → ServiceState) → ((t : ServiceState) → Is t → Is (rest t)) → (s : ServiceState) → Is s
       → (r : Option ApplyFault) → apply_refusal s.phase s.standby tx ≡ r → Is (applies asked tx r rest s)
@@ -164,13 +187,14 @@ module _ (asked : LiveSetup) (n : Namespace) (base : ℕ) where
   word (kind.Path p) s i = i
   word kind.Tables s i = i
   word kind.Checkpoint s i = i
-  word (kind.Gone dn) s i = all_reports (empty_report dn) s i
-  word (kind.Promote txid) s i = promoted txid false (flush_refusal s.phase) s i
-  word (kind.PromoteLosing txid) s i = promoted txid true (flush_refusal s.phase) s i
+  word (kind.Gone dn) s i = all_reports false (empty_report dn) s i
+  word (kind.Seen txid) s i = i
+  word (kind.Epoch epoch) s i = i
+  word (kind.Promote txid epoch lost) s i = either_way (ltb epoch s.epoch) _ _ i (promoted txid lost (flush_refusal s.phase) (names epoch s) i)
 
   read : (text : List ℕ) (r : Result Line LineFault) (s : ServiceState) → Is s → Is (takes_read asked text r s)
   read text (Ok (either.Edit tx)) s i = edit (record { text = text; tx = tx }) s i
-  read text (Ok (either.Report r)) s i = all_reports (r ∷ []) s i
+  read text (Ok (either.Report r)) s i = all_reports true (r ∷ []) s i
   read text (Err fault) s i = i
 
   word_or_read : (text : List ℕ) (w : Option Word) (s : ServiceState) → Is s → Is (takes_word asked text w s)

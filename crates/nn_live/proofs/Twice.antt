@@ -324,7 +324,7 @@ module _ (asked : LiveSetup) (l : EditLine) (lines : List EditLine) (starts : is
       let once : bare (run asked (l ∷ lines) s) ≡ bare y = comes s in
       let empty : y.in_hand ≡ no_lines = hand_kept asked (segment_of part) x in
       let between : before_edit asked l.tx y ≡ y = ap (λ (p : Part). cond (is_start l.tx.edit && not (length p.txs == 0)) (ends_segment asked y) y) empty ∙ stays (is_start l.tx.edit) (ends_segment asked y) y in
-      let known : most (l ∷ lines) y.known ≡ y.known = ap (most (l ∷ lines)) (knows asked (segment_of part) x) ∙ most_stays (l ∷ lines) x.known (most_within (l ∷ lines) (before_edit asked l.tx s).known) ∙ sym (knows asked (segment_of part) x) in
+      let known : most (l ∷ lines) y.known ≡ y.known = ap (most (l ∷ lines)) (knows asked true (segment_of part) x) ∙ most_stays (l ∷ lines) x.known (most_within (l ∷ lines) (before_edit asked l.tx s).known) ∙ sym (knows asked true (segment_of part) x) in
       let same : judged (before_edit asked l.tx y) ≡ bare y = ap judged between ∙ ap₂ (λ p k. record (bare y) { in_hand = p; known = k }) (sym empty) known in
       alike asked (run asked (l ∷ lines)) (run_blind asked (l ∷ lines)) _ y once ∙ comes y ∙ ap (λ u. bare (follows_segment asked (segment_of part) u)) same
       ∙ sym (segment_blind asked (segment_of part) y) ∙ followed_again asked (segment_of part) count_up x ∙ sym once
@@ -378,4 +378,7 @@ may_be_sent_twice asked n base all are =
       sent = ap (λ (s : ServiceState). s.sent) e;
       in_hand = ap (λ (s : ServiceState). s.in_hand) e;
       known = ap (λ (s : ServiceState). s.known) e;
+      epoch = ap (λ (s : ServiceState). s.epoch) e;
+      promoted = ap (λ (s : ServiceState). s.promoted) e;
+      full = ap (λ (s : ServiceState). s.full) e;
     }

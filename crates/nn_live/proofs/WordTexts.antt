@@ -98,7 +98,7 @@ no_word line b rest is above = ap (λ l. cond (is_text l) (or_else (word_alone l
     isnt x low = ne_eqb b x (λ same. absurd (omega (arith, same, low, above)))
 
     none : (t : Bool) → cond t (or_else (word_alone (b ∷ rest)) (behind_prefix (b ∷ rest))) None ≡ None
-    none true = rw (isnt 115 (omega arith), isnt 104 (omega arith), isnt 117 (omega arith), isnt 116 (omega arith), isnt 99 (omega arith), isnt 112 (omega arith), isnt 98 (omega arith), isnt 103 (omega arith)) refl
+    none true = rw (isnt 115 (omega arith), isnt 104 (omega arith), isnt 117 (omega arith), isnt 116 (omega arith), isnt 99 (omega arith), isnt 112 (omega arith), isnt 98 (omega arith), isnt 103 (omega arith), isnt 101 (omega arith)) refl
     none false = refl
 
 pub no_text : (line : List ℕ) → (IsUtf8 line → ⊥) → word_in line ≡ None

@@ -1,5 +1,5 @@
 -- What a standby in service answers: lines of words, each with one space between two words.
-use Rattle.std.specs.Prelude.{ℕ, ◌-◌, Bool, true, false, ◌==◌, List, [], ◌∷◌, ◌++◌, length, take, filter, flat_map, Option, Some, None, codes, decimal}
+use Rattle.std.specs.Prelude.{ℕ, ◌-◌, Bool, true, false, ◌==◌, List, [], ◌∷◌, ◌++◌, length, take, filter, flat_map, Option, Some, None, codes, decimal, nat_lt, if◌then◌else◌}
 use Rattle.nn_bytes.specs.Lines.{line_feed}
 use Rattle.nn_types.specs.declared.block.Block.{Block}
 use Rattle.nn_types.specs.declared.report.Message.{Message}
@@ -35,19 +35,29 @@ pub record Figures : Type 0 where
   pub segments : ℕ  -- how many have ended
   pub edits : ℕ  -- how many edits are in hand
   pub last_edit : ℕ  -- the txid of the last of them, 0 where there is none
+  pub epoch : ℕ  -- the greatest that was named
+  pub promoted : ℕ  -- the one of its promotion
+  pub full : ℕ → Bool  -- whether this DataNode's full report is there
   pub standby : Summary
 
-abbrev pub state_answer : Option Stop → Bool → List ℕ
-state_answer (Some stop) active = and_number (and_number (codes "stopped") stop.number) stop.txid
-state_answer None true = codes "active"
-state_answer None false = codes "standby"
+-- an active service is deposed once a greater epoch was named than that of its promotion
+abbrev pub state_answer : Option Stop → Bool → Bool → List ℕ
+state_answer (Some stop) active deposed = and_number (and_number (codes "stopped") stop.number) stop.txid
+state_answer None true true = codes "deposed"
+state_answer None true false = codes "active"
+state_answer None false deposed = codes "standby"
+
+-- `full D`, where the DataNode's full report is there
+abbrev pub full_line : (ℕ → Bool) → ℕ → List ℕ
+full_line full dn = if full dn then line (codes "full") (decimal dn) else []
 
 -- the last lines are the standby's summary
 abbrev pub status_lines : Figures → List ℕ
 status_lines f =
-    line (codes "state") (state_answer f.stopped f.active) ++ line (codes "version") f.version
+    line (codes "state") (state_answer f.stopped f.active (nat_lt f.promoted f.epoch)) ++ line (codes "version") f.version
     ++ line (codes "known") (decimal f.known) ++ line (codes "passed") (decimal f.passed) ++ line (codes "segments") (decimal f.segments)
-    ++ line (codes "edits") (and_number (decimal f.edits) f.last_edit) ++ summary_text f.standby
+    ++ line (codes "edits") (and_number (decimal f.edits) f.last_edit) ++ line (codes "epoch") (and_number (decimal f.epoch) f.promoted)
+    ++ flat_map (full_line f.full) datanodes ++ summary_text f.standby
 
 -- ---- What waits.
 

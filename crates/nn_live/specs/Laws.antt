@@ -1,6 +1,7 @@
 -- What holds of every service, whatever lines came. The functions of the crate prove it.
-use Rattle.std.specs.Prelude.{◌≡◌, ◌≤◌, ℕ, ◌+◌, Bool, true, false, List, [], ◌∷◌, ◌++◌, length, drop, flat_map, map, None, Ok}
-use Rattle.std.specs.List.{All}
+use Rattle.std.specs.Prelude.{◌≡◌, ◌≤◌, ℕ, ◌+◌, Bool, true, false, List, [], ◌∷◌, ◌++◌, length, drop, flat_map, map, None, Some, Ok, ◌⊎◌, ◌&&◌, ◌==◌, codes, decimal, if◌then◌else◌}
+use Rattle.std.specs.List.{All, list_all}
+use Rattle.nn_types.specs.declared.report.Report.{Report}
 use Rattle.nn_types.specs.declared.tx.Tx.{Tx}
 use Rattle.nn_edits.specs.Reading.{either_of_line}
 use Rattle.nn_edits.specs.declared.line.Line.TheVariants as either
@@ -9,18 +10,24 @@ use Rattle.nn_model.specs.Items.{items}
 use Rattle.nn_model.specs.Log.{IsLog, namespace_after}
 use Rattle.nn_model.specs.Namespace.{Namespace}
 use Rattle.nn_model.specs.Picture.{ShowsPicture}
-use Rattle.nn_model.specs.Lanes.{Lanes}
-use Rattle.nn_model.specs.Stands.{StandbyState, tables_of}
+use Rattle.nn_model.specs.Lanes.{Lanes, followed_by}
+use Rattle.nn_model.specs.Lawful.{IsWhole}
+use Rattle.nn_model.specs.Stands.{StandbyState, Stands, tables_of}
 use Rattle.nn_model.specs.WellFormed.{HasWellFormedBlocks}
 use Rattle.nn_listing.specs.Listing.{listing_text}
+use Rattle.nn_listing.specs.Summary.{line}
 use Rattle.nn_listing.specs.Tables.{tables_text}
+use Rattle.nn_listing.specs.Trail.{history_text}
 use Rattle.nn_scenario.specs.Cut.{EditLine}
 use Rattle.nn_scenario.specs.Scenario.{is_blank}
+use Rattle.nn_segment.specs.Lines.{is_unbroken}
 use Rattle.nn_segment.specs.Segment.{starts, ends_once}
-use Rattle.nn_shadow.specs.Calls.{with_past}
+use Rattle.nn_scenario.specs.Steps.{message_in_turn}
+use Rattle.nn_shadow.specs.declared.fault.HandCause.{HandCause}
+use Rattle.nn_shadow.specs.Calls.{with_past, received}
+use Rattle.nn_shadow.specs.Numbers.{number_of_hand}
 use Rattle.nn_shadow.specs.Laws.{StandsBy}
-use Rattle.nn_shadow.specs.Refusals.{flush_refusal}
-use Rattle.nn_live.specs.Live.{LiveSetup, ServiceState, new_service, takes_all, does, promotes, is_between}
+use Rattle.nn_live.specs.Live.{LiveSetup, ServiceState, new_service, takes, takes_all, does, names, promotes_in, is_between}
 use Rattle.nn_live.specs.Words.{word_in}
 use Rattle.nn_live.specs.declared.word.Word.TheVariants as word
 
@@ -32,7 +39,7 @@ served asked n base texts = takes_all asked texts (new_service n base)
 
 -- The transactions that were applied are a log, and the namespace is what that log makes of the start. Until the service is promoted, its
 -- standby stands at this log and at the messages that were taken, if what it told is counted as kept. From then on its tables show the
--- picture of both, and nothing is held.
+-- picture of both, nothing is held, and what it told is lawful and whole: each item that was held at the end of the log was processed.
 pub record ServiceStandsAt (n : Namespace) (base : ℕ) (txs : List Tx) (x : StandbyState) (active : Bool) (sent : Lanes) : Type 0 where
   pub log : IsLog n base txs
   pub last : x.last ≡ base + length txs
@@ -41,6 +48,7 @@ pub record ServiceStandsAt (n : Namespace) (base : ℕ) (txs : List Tx) (x : Sta
   pub stands : active ≡ false → StandsBy n base txs sent (with_past told x)
   pub shows : active ≡ true → ShowsPicture x.namespace (items sent) (tables_of x)
   pub flushed : active ≡ true → x.held ≡ []
+  pub whole : active ≡ true → Stands n base txs sent (with_past told x) × IsWhole n txs (items sent) (with_past told x).history
 
 abbrev pub HasLog : Namespace → ℕ → ServiceState → Type 0
 HasLog n base s = ServiceStandsAt n base s.log s.standby s.phase.active s.sent
@@ -57,29 +65,67 @@ AnswersThePicture =
     ++ (listing_text (served asked n base texts).standby.last (served asked n base texts).standby.namespace
     ++ tables_text asked.permille asked.min (served asked n base texts).standby.namespace (items (served asked n base texts).sent))
 
--- ---- A promotion.
-
 -- the line is neither blank nor a word, and is read as this edit
 pub record IsEdit (text : List ℕ) (tx : Tx) : Type 0 where
   pub not_blank : is_blank text ≡ false
   pub no_word : word_in text ≡ None
   pub read : either_of_line text ≡ Ok (either.Edit tx)
 
--- a line that is an edit has no higher txid
-abbrev pub IsUpTo : ℕ → List ℕ → Type 0
-IsUpTo txid text = (tx : Tx) → IsEdit text tx → tx.txid ≤ txid
+-- one of the lines is read as this edit
+abbrev pub IsReadIn : List (List ℕ) → Tx → Type 0
+IsReadIn [] tx = ⊥
+IsReadIn (text ∷ texts) tx = IsEdit text tx ⊎ IsReadIn texts tx
 
--- a promotion without `lost` gives up no edit: the txid is the last of the log, no edit is in hand, and none of a higher txid was read
+-- each transaction of the log is an edit of the lines that came
+abbrev pub FollowsWhatCame : Type 0
+FollowsWhatCame =
+    (asked : LiveSetup) (n : Namespace) (base : ℕ) (texts : List (List ℕ)) → list_all is_unbroken texts ≡ true → All (IsReadIn texts) (served asked n base texts).log
+
+-- ---- A promotion.
+
+-- the line says that the log has this transaction: it is its edit, or the word `seen` of it
+abbrev pub Names : List ℕ → ℕ → Type 0
+Names text txid = ((tx : Tx) × IsEdit text tx × (tx.txid ≡ txid)) ⊎ ((is_blank text ≡ false) × (word_in text ≡ Some (word.Seen txid)))
+
+-- a line names no higher one
+abbrev pub IsUpTo : ℕ → List ℕ → Type 0
+IsUpTo txid text = (other : ℕ) → Names text other → other ≤ txid
+
+-- the line names this epoch: by `epoch`, or by a promotion, refused or not
+abbrev pub NamesEpoch : List ℕ → ℕ → Type 0
+NamesEpoch text epoch =
+    (is_blank text ≡ false) × ((word_in text ≡ Some (word.Epoch epoch)) ⊎ ((txid : ℕ) × (lost : Bool) × (word_in text ≡ Some (word.Promote txid epoch lost))))
+
+-- a line names no later one
+abbrev pub IsInEpoch : ℕ → List ℕ → Type 0
+IsInEpoch epoch text = (other : ℕ) → NamesEpoch text other → other ≤ epoch
+
+-- a promotion without `lost` gives up no edit: the txid is the last of the log, no edit is in hand, and none of a higher txid was read or
+-- seen
 pub record GivesUpNone (txid : ℕ) (texts : List (List ℕ)) (s : ServiceState) : Type 0 where
   pub last : s.standby.last ≡ txid
   pub between : is_between s ≡ true
   pub read : All (IsUpTo txid) texts
 
+-- active, and in the greatest epoch that was named: not deposed
+abbrev pub in_charge : ServiceState → Bool
+in_charge s = s.phase.active && (s.promoted == s.epoch)
+
+-- a promotion in this epoch has put the service in charge, which it was not, once its epoch was named
+pub record PutsInCharge (asked : LiveSetup) (txid epoch : ℕ) (lost : Bool) (s : ServiceState) : Type 0 where
+  pub before : in_charge (names epoch s) ≡ false
+  pub behind : in_charge (promotes_in asked txid epoch lost s) ≡ true
+
 abbrev pub PromotesAtTheEnd : Type 0
 PromotesAtTheEnd =
-    (asked : LiveSetup) (n : Namespace) (base : ℕ) (texts : List (List ℕ)) (txid : ℕ) → (served asked n base texts).phase.active ≡ false
-    → (promotes asked txid false (flush_refusal (served asked n base texts).phase) (served asked n base texts)).phase.active ≡ true
+    (asked : LiveSetup) (n : Namespace) (base : ℕ) (texts : List (List ℕ)) (txid epoch : ℕ) → PutsInCharge asked txid epoch false (served asked n base texts)
     → GivesUpNone txid texts (served asked n base texts)
+
+-- and none is promoted, with `lost` or without, in a lower epoch than any that was named
+abbrev pub PromotesInNoLowerEpoch : Type 0
+PromotesInNoLowerEpoch =
+    (asked : LiveSetup) (n : Namespace) (base : ℕ) (texts : List (List ℕ)) (txid epoch : ℕ) (lost : Bool) → PutsInCharge asked txid epoch lost (served asked n base texts)
+    → All (IsInEpoch epoch) texts
 
 -- ---- Segments that are sent again.
 
@@ -120,9 +166,41 @@ pub record IsAlike (s t : ServiceState) : Type 0 where
   pub sent : s.sent ≡ t.sent
   pub in_hand : s.in_hand ≡ t.in_hand
   pub known : s.known ≡ t.known
+  pub epoch : s.epoch ≡ t.epoch
+  pub promoted : s.promoted ≡ t.promoted
+  pub full : s.full ≡ t.full
 
 -- who sends each segment twice has the service of who sends each once
 abbrev pub MayBeSentTwice : Type 0
 MayBeSentTwice =
     (asked : LiveSetup) (n : Namespace) (base : ℕ) (all : List Sending) → All IsSending all
     → IsAlike (served asked n base (flat_map sent_once all)) (served asked n base (flat_map sent_twice all))
+
+-- ---- Reports.
+
+-- the line is neither blank nor a word, and is read as this report
+pub record IsReport (text : List ℕ) (r : Report) : Type 0 where
+  pub not_blank : is_blank text ≡ false
+  pub no_word : word_in text ≡ None
+  pub read : either_of_line text ≡ Ok (either.Report r)
+
+-- what was done with a message where it was taken, told where that is asked for
+abbrev pub told_of : LiveSetup → StandbyState → List ℕ
+told_of asked x = if asked.history then history_text x.history else []
+
+-- a report is its DataNode's next message, or one line says that it is not taken, and why
+abbrev pub IsTakenOrTold : LiveSetup → Report → ServiceState → ServiceState → Type 0
+IsTakenOrTold asked r s t =
+    (t.sent ≡ followed_by s.sent (message_in_turn s.sent r)) × (t.written ≡ s.written ++ told_of asked (received s.standby (message_in_turn s.sent r)))
+    ⊎ (t.sent ≡ s.sent) × ((cause : HandCause) × (t.written ≡ s.written ++ line (codes "fault") (decimal (number_of_hand cause) ++ codes " line " ++ decimal t.lines)))
+
+abbrev pub TakesOrTellsEachReport : Type 0
+TakesOrTellsEachReport = (asked : LiveSetup) (s : ServiceState) (text : List ℕ) (r : Report) → IsReport text r → IsTakenOrTold asked r s (takes asked text s)
+
+-- and no other line than `gone` sends anything
+pub record SendsNothing (text : List ℕ) : Type 0 where
+  pub no_report : (r : Report) → IsReport text r → ⊥
+  pub no_gone : (dn : ℕ) → word_in text ≡ Some (word.Gone dn) → ⊥
+
+abbrev pub NothingElseIsSent : Type 0
+NothingElseIsSent = (asked : LiveSetup) (s : ServiceState) (text : List ℕ) → SendsNothing text → (takes asked text s).sent ≡ s.sent

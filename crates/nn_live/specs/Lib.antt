@@ -3,6 +3,7 @@ pub mod Answers
 pub mod Live
 pub mod LiveRows
 pub mod EdgeRows
+pub mod SeenRows
 pub mod Laws
 pub mod Serving
 pub mod Taking

@@ -2,7 +2,7 @@
 use Rattle.std.specs.Prelude.{ℕ, ◌+◌, ◌-◌, Bool, true, false, not, ◌==◌, ◌&&◌, ◌||◌, nat_lt, if◌then◌else◌, List, [], ◌∷◌, ◌++◌, length, map, max, Option, Some, None, Result, Ok, Err, codes, decimal, is_some}
 use Rattle.std.specs.List.{slice_split}
 use Rattle.nn_bytes.specs.Lines.{line_feed}
-use Rattle.nn_types.specs.declared.fault.TheConstants.{NOT_JSON, NO_END, DISORDER}
+use Rattle.nn_types.specs.declared.fault.TheConstants.{NOT_JSON, NO_END, DISORDER, STALE_EPOCH}
 use Rattle.nn_types.specs.declared.report.Kind.{Kind}
 use Rattle.nn_types.specs.declared.report.Kind.TheVariants.{Begin, Finish}
 use Rattle.nn_types.specs.declared.report.Message.{Message}
@@ -60,7 +60,10 @@ pub record ServiceState : Type 0 where
   pub log : List Tx  -- the transactions that were applied
   pub sent : Lanes  -- the messages that were taken
   pub in_hand : Part  -- the edits of the segment that has not ended
-  pub known : ℕ  -- the greatest txid of any edit line, and no less than that of its start
+  pub known : ℕ  -- the greatest txid of any edit line and of any that was seen, and no less than that of its start
+  pub epoch : ℕ  -- the greatest that was named
+  pub promoted : ℕ  -- the one of its promotion, 0 before it
+  pub full : ℕ → Bool  -- whether a full report of this DataNode began and ended since the start, and since it was gone
   pub passed : ℕ  -- how many transactions were passed over: they were there already
   pub segments : ℕ  -- how many have ended
   pub lines : ℕ  -- how many lines were read
@@ -75,6 +78,9 @@ new_service n txid = record {
   sent = no_messages;
   in_hand = no_lines;
   known = txid;
+  epoch = 0;
+  promoted = 0;
+  full = λ dn. false;
   passed = 0;
   segments = 0;
   lines = 0;
@@ -96,16 +102,26 @@ comes_to asked x s = says (if asked.history then history_text x.history else [])
 
 -- ---- Reports.
 
+-- Whether a DataNode's full report is there behind a message of it. `own`: the message is its own, and not one of `gone`. `begun`: a full
+-- report is open.
+abbrev pub full_behind : Bool → Kind → Bool → Bool → Bool
+full_behind own Finish begun full = own && (begun || full)
+full_behind own other begun full = full
+
+-- of all DataNodes, where this message is taken
+abbrev pub full_after : Bool → ServiceState → Message → ℕ → Bool
+full_after own s m dn = if dn == m.dn then full_behind own m.kind (is_some (s.standby.had m.dn).begun) (s.full dn) else s.full dn
+
 -- a message is taken, and the rest follows; or it is refused, and nothing does
-abbrev pub takes_message : LiveSetup → Message → Option HandCause → (ServiceState → ServiceState) → ServiceState → ServiceState
-takes_message asked m None rest s = rest (comes_to asked (received s.standby m) (record s { sent = followed_by s.sent m }))
-takes_message asked m (Some cause) rest s = tells_fault (number_of_hand cause) (codes " line ") s.lines s
+abbrev pub takes_message : LiveSetup → Bool → Message → Option HandCause → (ServiceState → ServiceState) → ServiceState → ServiceState
+takes_message asked own m None rest s = rest (comes_to asked (received s.standby m) (record s { sent = followed_by s.sent m; full = full_after own s m }))
+takes_message asked own m (Some cause) rest s = tells_fault (number_of_hand cause) (codes " line ") s.lines s
 
 -- reports, each the next message of its DataNode, up to the first that is refused
-abbrev pub hands : LiveSetup → List Report → ServiceState → ServiceState
-hands asked [] s = s
-hands asked (r ∷ reports) s =
-    takes_message asked (message_in_turn s.sent r) (hand_refusal max_datanodes s.phase s.standby (message_in_turn s.sent r)) (λ t. hands asked reports t) s
+abbrev pub hands : LiveSetup → Bool → List Report → ServiceState → ServiceState
+hands asked own [] s = s
+hands asked own (r ∷ reports) s =
+    takes_message asked own (message_in_turn s.sent r) (hand_refusal max_datanodes s.phase s.standby (message_in_turn s.sent r)) (λ t. hands asked own reports t) s
 
 -- ---- Segments.
 
@@ -159,9 +175,18 @@ takes_edit asked l s = behind_edit asked l.tx (with_edit l (before_edit asked l.
 
 -- ---- A promotion.
 
+-- the log has this transaction
+abbrev pub sees : ℕ → ServiceState → ServiceState
+sees txid s = record s { known = max s.known txid }
+
+-- someone may have been promoted in this epoch
+abbrev pub names : ℕ → ServiceState → ServiceState
+names epoch s = record s { epoch = max s.epoch epoch }
+
 -- what is held is flushed, and edits in hand are given up
 abbrev pub becomes_active : LiveSetup → ServiceState → ServiceState
-becomes_active asked s = comes_to asked (flushed s.standby) (record s { phase = record s.phase { active = true }; in_hand = no_lines })
+becomes_active asked s =
+    comes_to asked (flushed s.standby) (record s { phase = record s.phase { active = true }; in_hand = no_lines; promoted = s.epoch })
 
 -- whether the log ends at this txid as far as the service knows, or what it knows above it is given up
 abbrev pub ends_at : ℕ → Bool → ServiceState → Bool
@@ -175,6 +200,11 @@ promotes asked txid lost None s =
     then tells_fault NO_END (codes " segment ") (s.segments + 1) s
     else if ends_at txid lost s then becomes_active asked s else tells_fault DISORDER (codes " txid ") (s.standby.last + 1) s
 
+-- it is refused in a lower epoch than was named, and that epoch told; else its epoch is named, whatever becomes of it
+abbrev pub promotes_in : LiveSetup → ℕ → ℕ → Bool → ServiceState → ServiceState
+promotes_in asked txid epoch lost s =
+    if nat_lt epoch s.epoch then tells_fault STALE_EPOCH (codes " epoch ") s.epoch s else promotes asked txid lost (flush_refusal s.phase) (names epoch s)
+
 -- ---- Words.
 
 abbrev pub live_figures : LiveSetup → ServiceState → Figures
@@ -187,6 +217,9 @@ live_figures asked s = record {
   segments = s.segments;
   edits = length s.in_hand.txs;
   last_edit = last_txid s.in_hand.txs;
+  epoch = s.epoch;
+  promoted = s.promoted;
+  full = s.full;
   standby = summary_of asked.permille asked.min (items s.sent) s.standby;
 }
 
@@ -206,9 +239,10 @@ does asked (word.Block id) s = says (block_answer s.standby id) s
 does asked (word.Path p) s = says (path_answer p (lookup s.standby.namespace p)) s
 does asked word.Tables s = says (listing_text s.standby.last s.standby.namespace ++ tables_now asked.permille asked.min (items s.sent) s.standby) s
 does asked word.Checkpoint s = says (image_text s.standby.namespace s.standby.last) s
-does asked (word.Gone dn) s = hands asked (empty_report dn) s
-does asked (word.Promote txid) s = promotes asked txid false (flush_refusal s.phase) s
-does asked (word.PromoteLosing txid) s = promotes asked txid true (flush_refusal s.phase) s
+does asked (word.Gone dn) s = hands asked false (empty_report dn) s
+does asked (word.Seen txid) s = sees txid s
+does asked (word.Epoch epoch) s = names epoch s
+does asked (word.Promote txid epoch lost) s = promotes_in asked txid epoch lost s
 
 -- `done LINE` ends an answer
 abbrev pub says_done : ServiceState → ServiceState
@@ -222,7 +256,7 @@ answers asked w s = says_done (does asked w s)
 
 abbrev pub takes_read : LiveSetup → List ℕ → Result Line LineFault → ServiceState → ServiceState
 takes_read asked text (Ok (either.Edit tx)) s = takes_edit asked (record { text = text; tx = tx }) s
-takes_read asked text (Ok (either.Report r)) s = hands asked (r ∷ []) s
+takes_read asked text (Ok (either.Report r)) s = hands asked true (r ∷ []) s
 takes_read asked text (Err fault) s = tells_fault (line_number_of fault) (codes " line ") s.lines s
 
 abbrev pub takes_word : LiveSetup → List ℕ → Option Word → ServiceState → ServiceState

@@ -176,7 +176,7 @@ given_up_in_hand : live (
     codes "{\"op\":\"OP_START_LOG_SEGMENT\",\"txid\":1}"
     ∷ codes "promote 0 lost"
     ∷ codes "status" ∷ [])
-    ≡ lines ((codes "done 2" ∷ codes "state active" ∷ codes "version 1.2.3" ∷ codes "known 1" ∷ codes "passed 0" ∷ codes "segments 0" ∷ codes "edits 0 0" ∷ codes "txid 0" ∷ codes "held 0" ∷ [])
+    ≡ lines ((codes "done 2" ∷ codes "state active" ∷ codes "version 1.2.3" ∷ codes "known 1" ∷ codes "passed 0" ∷ codes "segments 0" ∷ codes "edits 0 0" ∷ codes "epoch 0 0" ∷ codes "txid 0" ∷ codes "held 0" ∷ [])
     ++ counts_of_the_root ++ codes "blocks 0 safe 0 needed 0 mode off" ∷ codes "done 3" ∷ [])
 unfolding counts_text summary_text takes takes_all takes_torn takes_pieces word_in word_alone read_segment fault_of_segment txids_of segment_file_name name_digits reads_of edit_of_line digits escape_byte datanodes either_of_line either_in report_in dn_in kind_in kind_of object_in value_of tx_in op_in op_of txid_in whole_in number_in path_in profile_in edit_in blocks_in items_in block_in is_utf8 chars encode value punctuate lex content word after_number number_of scan_numeral image_text head_data form_data end_data
 given_up_in_hand = refl
@@ -192,7 +192,7 @@ status_of_a_service : live (
     ∷ codes "{\"op\":\"OP_START_LOG_SEGMENT\",\"txid\":1}"
     ∷ codes "{\"dn\":3,\"block\":1073741825,\"gen\":1001,\"len\":0,\"kind\":\"received\"}"
     ∷ codes "status" ∷ [])
-    ≡ lines ((codes "state standby" ∷ codes "version 1.2.3" ∷ codes "known 2" ∷ codes "passed 2" ∷ codes "segments 2" ∷ codes "edits 1 1" ∷ codes "txid 2" ∷ codes "held 1" ∷ codes "datanode 3 1 held 1" ∷ [])
+    ≡ lines ((codes "state standby" ∷ codes "version 1.2.3" ∷ codes "known 2" ∷ codes "passed 2" ∷ codes "segments 2" ∷ codes "edits 1 1" ∷ codes "epoch 0 0" ∷ codes "txid 2" ∷ codes "held 1" ∷ codes "datanode 3 1 held 1" ∷ [])
     ++ counts_of_the_root ++ codes "blocks 0 safe 0 needed 0 mode off" ∷ codes "done 7" ∷ codes "fault 13 segment 3" ∷ [])
 unfolding counts_text summary_text takes takes_all takes_torn takes_pieces word_in word_alone read_segment fault_of_segment txids_of segment_file_name name_digits reads_of edit_of_line digits escape_byte datanodes either_of_line either_in report_in dn_in kind_in kind_of object_in value_of tx_in op_in op_of txid_in whole_in number_in path_in profile_in edit_in blocks_in items_in block_in is_utf8 chars encode value punctuate lex content word after_number number_of scan_numeral image_text head_data form_data end_data
 status_of_a_service = refl
@@ -292,7 +292,7 @@ ends_inside_a_segment = refl
 
 -- ---- From an image.
 
-abbrev from_image : List (List ℕ) → List ℕ
+abbrev pub from_image : List (List ℕ) → List ℕ
 from_image each = live_text (asks false) true (lines each)
 
 -- the service goes on from it, and lines count from the first behind it

@@ -1,5 +1,5 @@
 -- A service of the code, and the service of the definition that it stands for.
-use Rattle.std.specs.Prelude.{◌≡◌, ◌≤◌, ◌⊎◌, ℕ, ◌+◌, ◌^◌, true, ◌==◌, ◌&&◌, ◌||◌, not, nat_lt, Bool, List, [], ◌∷◌, ◌++◌, max, length, codes, decimal}
+use Rattle.std.specs.Prelude.{◌≡◌, ◌≤◌, ◌⊎◌, ℕ, ◌+◌, ◌^◌, true, false, get_or, ◌==◌, ◌&&◌, ◌||◌, not, nat_lt, Bool, List, [], ◌∷◌, ◌++◌, max, length, codes, decimal}
 use Rattle.nn_types.specs.declared.report.Message.{Message}
 use Rattle.nn_types.specs.declared.report.Report.{Report}
 use Rattle.nn_types.specs.declared.tx.Tx.{Tx}
@@ -19,7 +19,7 @@ use Rattle.nn_listing.specs.Summary.{line}
 use Rattle.nn_live.specs.Answers.{Figures}
 use Rattle.nn_shadow.specs.Refusals.{apply_refusal, flush_refusal}
 use Rattle.nn_live.specs.Laws.{HasLog}
-use Rattle.nn_live.specs.Live.{LiveSetup, ServiceState, applies, behind_edit, follows_segment, promotes, takes_torn}
+use Rattle.nn_live.specs.Live.{LiveSetup, ServiceState, applies, behind_edit, follows_segment, promotes, promotes_in, takes_torn}
 
 -- ---- What the code has.
 
@@ -36,6 +36,9 @@ pub record Service : Type 0 where
   pub history : Bool  -- whether events are told
   pub version : List ℕ
   pub known : ℕ
+  pub epoch : ℕ
+  pub promoted : ℕ
+  pub full : List Bool
   pub passed : ℕ
   pub segments : ℕ
   pub lines : ℕ
@@ -43,6 +46,14 @@ pub record Service : Type 0 where
 -- what the command line asked for
 abbrev pub asked_of : Service → LiveSetup
 asked_of x = record { permille = x.shadow.permille; min = x.shadow.table.min; history = x.history; version = x.version }
+
+-- whether a DataNode's full report is there, by the DataNode's number; beyond the end none is
+abbrev pub full_in : List Bool → ℕ → Bool
+full_in full dn = get_or full dn false
+
+-- of each DataNode the same
+abbrev pub IsSameFull : List Bool → List Bool → Type 0
+IsSameFull old new = (dn : ℕ) → full_in new dn ≡ full_in old dn
 
 -- what it answers first
 abbrev pub figures_seen : Service → Figures
@@ -55,6 +66,9 @@ figures_seen x = record {
   segments = x.segments;
   edits = x.in_hand.edits;
   last_edit = x.in_hand.last;
+  epoch = x.epoch;
+  promoted = x.promoted;
+  full = full_in x.full;
   standby = summary_seen x.shadow;
 }
 
@@ -97,6 +111,9 @@ pub record IsAtService (asked : LiveSetup) (x : Service) (s : ServiceState) : Ty
   pub sent : (dn : ℕ) → last_number_in x.shadow.numbers dn ≡ length (s.sent dn)
   pub in_hand : HasPart s.in_hand x.in_hand
   pub known : x.known ≡ s.known
+  pub epoch : x.epoch ≡ s.epoch
+  pub promoted : x.promoted ≡ s.promoted
+  pub full : (dn : ℕ) → full_in x.full dn ≡ s.full dn
   pub passed : x.passed ≡ s.passed
   pub segments : x.segments ≡ s.segments
   pub lines : x.lines ≡ s.lines
@@ -161,6 +178,14 @@ log_ends last known txid losing = last == txid && (losing || not (nat_lt txid kn
 
 abbrev pub takes_promotion : ℕ → Bool → LiveSetup → ServiceState → ServiceState
 takes_promotion txid losing asked s = promotes asked txid losing (flush_refusal s.phase) s
+
+-- and in this epoch
+abbrev pub takes_promotion_in : ℕ → ℕ → Bool → LiveSetup → ServiceState → ServiceState
+takes_promotion_in txid epoch losing asked s = promotes_in asked txid epoch losing s
+
+-- once its epoch was named
+abbrev pub in_epoch : ℕ → Service → Service
+in_epoch epoch x = record x { epoch = max x.epoch epoch }
 
 -- ---- Where a call is refused.
 

@@ -1,8 +1,10 @@
 -- The words by which a caller asks something of a standby in service.
-use Rattle.std.specs.Prelude.{ℕ, ◌-◌, ◌^◌, Bool, ◌&&◌, nat_lt, nat_le, if◌then◌else◌, List, [], ◌∷◌, length, drop, take, Option, Some, None, option_and_then, option_map, codes, decimal}
+use Rattle.std.specs.Prelude.{ℕ, ◌-◌, ◌^◌, Bool, true, false, ◌==◌, ◌&&◌, nat_lt, nat_le, if◌then◌else◌, List, [], ◌∷◌, length, drop, take, Option, Some, None, option_and_then, option_map, codes, decimal}
+use Rattle.std.specs.List.{prefix_len}
 use Rattle.std.specs.Str.{bytes_eq, is_utf8}
 use Rattle.std.specs.Str.Parse.{digits_value}
 use Rattle.serde_json.specs.Find.{as_str}
+use Rattle.nn_bytes.specs.Runs.{is_other}
 use Rattle.nn_types.specs.Path.{path_of}
 use Rattle.nn_types.specs.Limits.{max_line}
 use Rattle.nn_edits.specs.Reading.{value_of}
@@ -30,13 +32,27 @@ word_alone line = named line (
     ∷ (codes "tables", word.Tables) ∷ (codes "checkpoint", word.Checkpoint) ∷ []
     )
 
--- `T`, or `T lost` where what lies above it is given up
+-- a txid, and behind ` epoch ` the epoch in which it is asked; without one it is asked in epoch 0
+abbrev pub promotion_at : Bool → ℕ → Option ℕ → List ℕ → Option Word
+promotion_at losing space (Some txid) text =
+    if space == length text then Some (word.Promote txid 0 losing)
+    else if bytes_eq (take 7 (drop space text)) (codes " epoch ") then option_map (λ epoch. word.Promote txid epoch losing) (number_word (drop 7 (drop space text)))
+    else None
+promotion_at losing space None text = None
+
+-- where the first space of a text stands, or its length
+abbrev pub first_space : List ℕ → ℕ
+first_space text = prefix_len (is_other 32) text
+
+abbrev pub promotion_of : Bool → List ℕ → Option Word
+promotion_of losing text = promotion_at losing (first_space text) (number_word (take (first_space text) text)) text
+
+-- `T` or `T epoch E`, and ` lost` behind it where what lies above T is given up
 abbrev pub gives_up : List ℕ → Bool
 gives_up text = bytes_eq (drop (length text - 5) text) (codes " lost")
 
 abbrev pub promotion_in : List ℕ → Option Word
-promotion_in text =
-    if gives_up text then option_map (λ n. word.PromoteLosing n) (number_word (take (length text - 5) text)) else option_map (λ n. word.Promote n) (number_word text)
+promotion_in text = if gives_up text then promotion_of true (take (length text - 5) text) else promotion_of false text
 
 -- a prefix of a line, and what the text behind it makes of it
 abbrev pub prefixed : List (List ℕ × (List ℕ → Option Word)) → List ℕ → Option Word
@@ -50,6 +66,8 @@ asking =
     ∷ (codes "unsafe ", λ text. option_map (λ n. word.Unsafe (Some n)) (number_word text))
     ∷ (codes "block ", λ text. option_map (λ n. word.Block n) (number_word text))
     ∷ (codes "gone ", λ text. option_map (λ n. word.Gone n) (number_word text))
+    ∷ (codes "seen ", λ text. option_map (λ n. word.Seen n) (number_word text))
+    ∷ (codes "epoch ", λ text. option_map (λ n. word.Epoch n) (number_word text))
     ∷ (codes "promote ", promotion_in) ∷ []
 
 -- and the one before a path

@@ -1,5 +1,5 @@
 //! What holds of every service, whatever lines came.
-ghost use Rattle.nn_live.specs.Laws.{StandsAtItsLog, AnswersThePicture, PromotesAtTheEnd, MayBeSentTwice};
+ghost use Rattle.nn_live.specs.Laws.{StandsAtItsLog, FollowsWhatCame, AnswersThePicture, PromotesAtTheEnd, PromotesInNoLowerEpoch, TakesOrTellsEachReport, NothingElseIsSent, MayBeSentTwice};
 ghost use Rattle.nn_live.specs.Taking.{MayBeCut};
 
 /// Whatever lines came, there is a log at which, with the messages that were taken, the standby stands.
@@ -13,8 +13,8 @@ pub fn a_promotion_shows_the_picture()
     ensures { AnswersThePicture }
 {}
 
-/// Where `promote T` without `lost` has made the service active, every edit line that was read is at most T, and T is the last
-/// transaction of the log.
+/// Where a promotion without `lost` has put the service in charge, every transaction that came as an edit line or was seen is at
+/// most its txid, and that is the last transaction of the log. In charge is a service that is active in the greatest epoch named.
 pub fn a_promotion_gives_up_no_edit()
     ensures { PromotesAtTheEnd }
 {}
@@ -27,4 +27,24 @@ pub fn a_segment_may_be_sent_twice()
 /// However an input is cut into chunks, what is told of them and at its end is what the definition tells of the whole.
 pub fn an_input_may_be_cut()
     ensures { MayBeCut }
+{}
+
+/// Where a promotion, with `lost` or without, has put the service in charge, no line named a greater epoch than its own.
+pub fn a_promotion_is_in_no_lower_epoch()
+    ensures { PromotesInNoLowerEpoch }
+{}
+
+/// Each line that is a report is its DataNode's next message, or one line says that it is not taken and why.
+pub fn each_report_is_taken_or_told()
+    ensures { TakesOrTellsEachReport }
+{}
+
+/// No other line than a report and `gone` sends a message.
+pub fn nothing_else_is_sent()
+    ensures { NothingElseIsSent }
+{}
+
+/// Each transaction of the log is an edit of the lines that came.
+pub fn a_service_follows_what_came()
+    ensures { FollowsWhatCame }
 {}

@@ -10,6 +10,7 @@
 //! `run_live` serves a reader's bytes to their end, behind an image where one is asked for.
 #![tactic(auto)]
 
+mod full;
 mod in_hand;
 mod laws;
 mod live;

@@ -11,6 +11,7 @@ mod lines;
 mod promotion;
 mod reports;
 
+use crate::full::FullReports;
 use crate::in_hand::InHand;
 use nn_device::{Page, Writer};
 use nn_listing::put_history;
@@ -22,8 +23,8 @@ use std::alloc::Global;
 use std::io::Write;
 use std::marker::Model;
 
-/// Why a service ends. A part of the line may have been followed and told: no clause speaks of what comes behind it, so the
-/// service is to be discarded.
+/// Why a service ends. Discard it then: a part of the line may have been followed and told, edits in hand may be gone, and some of
+/// them may have been applied. No clause speaks of what a further call does.
 #[derive(Clone, Copy, Debug, PartialEq, Eq)]
 pub enum ServiceFault {
     OutOfMemory,
@@ -41,8 +42,12 @@ pub struct Service {
     version: &'static str,
     // how many live replicas make a block safe
     min: u16,
-    // the greatest txid of any edit line
+    // the greatest txid of any edit line, and of any that was seen
     known: u64,
+    // the greatest epoch that was named, and that of its promotion
+    epoch: u64,
+    promoted: u64,
+    full: FullReports,
     // how many transactions were passed over, how many segments have ended, how many lines were read
     passed: u64,
     segments: u64,
@@ -58,7 +63,7 @@ impl Model for Service {
 
     ghost Value = { Service };
 
-    ghost view = { λ s. record { shadow = s.shadow; in_hand = s.in_hand; history = s.history; version = s.version.now; known = s.known; passed = s.passed; segments = s.segments; lines = s.lines } };
+    ghost view = { λ s. record { shadow = s.shadow; in_hand = s.in_hand; history = s.history; version = s.version.now; known = s.known; epoch = s.epoch; promoted = s.promoted; full = s.full; passed = s.passed; segments = s.segments; lines = s.lines } };
 
     ghost invariant = { λ s. (length s.shadow.numbers ≡ max_datanodes) × ((part : Part) × HasPart part s.in_hand) × (s.min ≡ s.shadow.table.min) };
 }
@@ -87,6 +92,9 @@ impl Service {
             version,
             min: settings.min(),
             known: txid,
+            epoch: 0,
+            promoted: 0,
+            full: FullReports::none(alloc),
             passed: 0,
             segments: 0,
             lines: 0,

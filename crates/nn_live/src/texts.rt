@@ -1,5 +1,5 @@
 //! The lines that a service writes: words and numbers with one space between two of them.
-ghost use Rattle.std.specs.Prelude.{◌≡◌, ◌++◌, ◌==◌, ◌∷◌, [], if◌then◌else◌, codes, decimal};
+ghost use Rattle.std.specs.Prelude.{◌≡◌, ◌++◌, ◌==◌, ◌∷◌, [], if◌then◌else◌, codes, decimal, None};
 ghost use Rattle.nn_bytes.specs.Lines.{line_feed};
 ghost use Rattle.nn_types.specs.declared.fault.TheConstants.{DISORDER};
 ghost use Rattle.nn_device.specs.Page.{PutsPiece};
@@ -72,14 +72,15 @@ pub(crate) fn put_text<W: Write>(page: &mut Page, writer: &mut Writer<W>, key: &
     page.put_byte(writer, b'\n');
 }
 
-/// Puts `state standby`, `state active`, or `state stopped N T`.
+/// Puts `state standby`, `state active`, `state deposed`, or `state stopped N T`.
 pub(crate) fn put_state<W: Write>(
     page: &mut Page,
     writer: &mut Writer<W>,
     stop: Option<Stop>,
     active: bool,
+    deposed: bool,
 )
-    ensures { PutsPiece (line (codes "state") (state_answer stop active)) page.old writer.old page.new writer.new }
+    ensures { PutsPiece (line (codes "state") (state_answer stop active deposed)) page.old writer.old page.new writer.new }
 {
     match stop {
         Some(stop) => put_counts_of(
@@ -89,12 +90,7 @@ pub(crate) fn put_state<W: Write>(
             u64::from(stop.number),
             stop.txid.get(),
         ),
-        None => put_text(
-            page,
-            writer,
-            "state",
-            if active { "active" } else { "standby" },
-        ),
+        None => put_text(page, writer, "state", state_word(active, deposed)),
     }
 }
 
@@ -128,4 +124,14 @@ pub(crate) fn put_block<W: Write>(
     page.put_byte(writer, b' ');
     put_path(page, writer, names);
     page.put_byte(writer, b'\n');
+}
+
+// The state of a service that was not stopped.
+fn state_word(active: bool, deposed: bool) -> &'static str
+    ensures { result.now ≡ state_answer None active deposed }
+{
+    if !active {
+        return "standby";
+    }
+    if deposed { "deposed" } else { "active" }
 }

@@ -3,10 +3,11 @@ ghost use Rattle.std.specs.Prelude.{◌≡◌, ◌<◌, ◌^◌, None, IfOk, IfS
 ghost use Rattle.serde_json.specs.Data.{Data};
 ghost use Rattle.serde_json.specs.Find.{as_str};
 ghost use Rattle.nn_plain.specs.Spelling.{plain_of, spelled_or};
-ghost use Rattle.nn_live.specs.Words.{prefixed, word_alone, asking, number_word, path_word, promotion_in, word_in};
+ghost use Rattle.nn_live.specs.Words.{prefixed, word_alone, asking, number_word, path_word, promotion_in, promotion_of, word_in};
 
 use itoa::Buffer;
 use json::{Reader, Scratch};
+use nn_bytes::run_before;
 use nn_plain::{Plain, read_value};
 use nn_types::limits::MAX_LINE_LEN;
 use nn_types::{BlockId, Path, PathFault};
@@ -35,10 +36,13 @@ pub enum Word {
     Checkpoint,
     /// The DataNode has nothing any more.
     Gone(u64),
-    /// The log has ended at this txid.
-    Promote(u64),
-    /// It has ended there, and what was read above it is given up.
-    PromoteLosing(u64),
+    /// The log has a transaction of this txid.
+    Seen(u64),
+    /// Someone may have been promoted in this epoch.
+    Epoch(u64),
+    /// The log has ended at this txid, says a caller in this epoch, which is 0 where none is said. With `losing`, what was read or
+    /// seen above it is given up.
+    Promote { txid: u64, epoch: u64, losing: bool },
 }
 
 impl Word {
@@ -116,6 +120,12 @@ fn before_number(line: &[u8]) -> Option<Word>
     if let Some(text) = line.strip_prefix(b"gone ") {
         return Some(Word::Gone(number_in(text)?));
     }
+    if let Some(text) = line.strip_prefix(b"seen ") {
+        return Some(Word::Seen(number_in(text)?));
+    }
+    if let Some(text) = line.strip_prefix(b"epoch ") {
+        return Some(Word::Epoch(number_in(text)?));
+    }
     let text = line.strip_prefix(b"promote ")?;
     promotion_in(text)
 }
@@ -124,9 +134,30 @@ fn promotion_in(text: &[u8]) -> Option<Word>
     ensures { result ≡ promotion_in text.now }
 {
     match text.strip_suffix(b" lost") {
-        Some(txid) => Some(Word::PromoteLosing(number_in(txid)?)),
-        None => Some(Word::Promote(number_in(text)?)),
+        Some(text) => promotion_of(text, true),
+        None => promotion_of(text, false),
     }
+}
+
+// `T`, or `T epoch E`.
+fn promotion_of(text: &[u8], losing: bool) -> Option<Word>
+    ensures { result ≡ promotion_of losing text.now }
+{
+    let (first, rest) = text.split_at(run_before(text, b' '));
+    let txid = number_in(first)?;
+    if rest.is_empty() {
+        return Some(Word::Promote {
+            txid,
+            epoch: 0,
+            losing,
+        });
+    }
+    let epoch = number_in(rest.strip_prefix(b" epoch ")?)?;
+    Some(Word::Promote {
+        txid,
+        epoch,
+        losing,
+    })
 }
 
 // The block id that a text is.

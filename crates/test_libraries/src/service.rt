@@ -62,6 +62,7 @@ known 7
 passed 3
 segments 4
 edits 1 4
+epoch 0 0
 txid 3
 held 2
 datanode 1 3 held 2

@@ -18,8 +18,22 @@ fn number_of(word: Option<Word>) -> u64 {
         Some(Word::Unsafe(Some(n))) => 200 + n % 50,
         Some(Word::Block(_)) => 300,
         Some(Word::Gone(n)) => 400 + n % 50,
-        Some(Word::Promote(n)) => 500 + n % 50,
-        Some(Word::PromoteLosing(n)) => 600 + n % 50,
+        Some(
+            Word::Promote {
+                txid,
+                epoch,
+                losing: false,
+            },
+        ) => 500 + txid % 50 + 1_000 * (epoch % 50),
+        Some(
+            Word::Promote {
+                txid,
+                epoch,
+                losing: true,
+            },
+        ) => 600 + txid % 50 + 1_000 * (epoch % 50),
+        Some(Word::Seen(n)) => 700 + n % 50,
+        Some(Word::Epoch(n)) => 800 + n % 50,
     }
 }
 
@@ -40,8 +54,16 @@ fn each_word_is_read(rt: HostRuntime) -> Result<(), Fail> {
         ("gone 3", 403),
         ("promote 9223372036854775807", 507),
         ("promote 4 lost", 604),
+        ("promote 4 epoch 3", 3_504),
+        ("promote 4 epoch 9223372036854775807 lost", 7_604),
+        ("seen 5", 705),
+        ("epoch 6", 806),
         ("promote 9223372036854775808", 0),
         ("promote 04", 0),
+        ("promote 4 epoch 03", 0),
+        ("promote 4 epoch", 0),
+        ("promote 4 lost epoch 3", 0),
+        ("epoch", 0),
         ("path /a", 0),
         ("", 0),
     ] {

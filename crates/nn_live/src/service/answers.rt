@@ -67,8 +67,13 @@ impl Service {
             Word::Tables => return self.tables(page, writer),
             Word::Checkpoint => return self.checkpoint(page, writer),
             Word::Gone(dn) => return self.gone(page, writer, lane_of(*dn)),
-            Word::Promote(txid) => return self.promote(page, writer, *txid, false),
-            Word::PromoteLosing(txid) => return self.promote(page, writer, *txid, true),
+            Word::Seen(txid) => self.see(*txid),
+            Word::Epoch(epoch) => self.name_epoch(*epoch),
+            Word::Promote {
+                txid,
+                epoch,
+                losing,
+            } => return self.promote_in(page, writer, *txid, *epoch, *losing),
         }
         Ok(())
     }
@@ -201,7 +206,13 @@ impl Service {
     fn put_status<W: Write>(&self, page: &mut Page, writer: &mut Writer<W>)
         ensures { PutsPiece (status_lines (figures_seen self.now)) page.old writer.old page.new writer.new }
     {
-        put_state(page, writer, self.shadow.stop(), self.shadow.is_active());
+        put_state(
+            page,
+            writer,
+            self.shadow.stop(),
+            self.shadow.is_active(),
+            self.promoted < self.epoch,
+        );
         put_text(page, writer, "version", self.version);
         put_count(page, writer, "known", self.known);
         put_count(page, writer, "passed", self.passed);
@@ -213,6 +224,8 @@ impl Service {
             self.in_hand.len(),
             self.in_hand.last_txid(),
         );
+        put_counts_of(page, writer, "epoch", self.epoch, self.promoted);
+        self.full.put(page, writer);
         put_summary(page, writer, &self.shadow);
     }
 

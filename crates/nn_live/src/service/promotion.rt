@@ -1,7 +1,8 @@
-//! A promotion: the log has ended.
+//! A promotion: the log has ended. What was seen of the log, and the epochs that were named.
 ghost use Rattle.std.specs.Prelude.{◌≡◌, ◌==◌, ◌≤◌, ◌^◌, ◌||◌, not, [], IfErr, IsErrOf, OnOk};
 ghost use Rattle.nn_device.specs.Page.{PutsPiece};
-ghost use Rattle.nn_live.specs.Serving.{ServiceSteps, closed, log_ends, takes_promotion};
+ghost use Rattle.nn_live.specs.Live.{names, sees};
+ghost use Rattle.nn_live.specs.Serving.{FollowsStep, ServiceSteps, closed, in_epoch, log_ends, takes_promotion, takes_promotion_in};
 
 use super::{Service, ServiceFault};
 use crate::in_hand::InHand;
@@ -11,12 +12,53 @@ use nn_types::fault;
 use std::io::Write;
 
 impl Service {
-    /// The log has ended at this txid: what is held is flushed, and nothing comes in any more. It is refused, and told why, where
-    /// the standby was stopped, where a segment is in hand, where its last transaction is another one, and where one above was
-    /// read, unless what lies above the txid is given up. A promotion of an active standby flushes nothing.
+    /// The log has a transaction of this txid.
+    pub(super) fn see(&mut self, txid: u64)
+        ensures { FollowsStep (λ _ s. sees txid s) self.old self.new [] }
+    {
+        self.known = self.known.max(txid);
+    }
+
+    /// Someone may have been promoted in this epoch.
+    pub(super) fn name_epoch(&mut self, epoch: u64)
+        ensures step { FollowsStep (λ _ s. names epoch s) self.old self.new [] }
+        ensures named { self.new ≡ in_epoch epoch self.old }
+    {
+        self.epoch = self.epoch.max(epoch);
+    }
+
+    /// A promotion in this epoch. In a lower one than was named it is refused, and that epoch told. Else its epoch is named,
+    /// whatever becomes of it.
     ///
-    /// Where memory is refused nothing comes in any more either, and the call may be made again.
-    pub(super) fn promote<W: Write>(
+    /// Where memory is refused its epoch is named too, nothing comes in any more, and the call may be made again.
+    pub(super) fn promote_in<W: Write>(
+        &mut self,
+        page: &mut Page,
+        writer: &mut Writer<W>,
+        txid: u64,
+        epoch: u64,
+        losing: bool,
+    ) -> Result<(), ServiceFault>
+        ensures ok { OnOk result (ServiceSteps (takes_promotion_in txid epoch losing) self.old self.new (λ told. PutsPiece told page.old writer.old page.new writer.new)) }
+        ensures exhausted { IsErrOf result ServiceFault.Exhausted → 2 ^ 63 ≤ self.old.segments }
+        ensures left { IsErrOf result ServiceFault.OutOfMemory → self.new ≡ closed (in_epoch epoch self.old) }
+        ensures put { IfErr result (λ _. PutsPiece [] page.old writer.old page.new writer.new) }
+    {
+        if epoch < self.epoch {
+            put_fault(page, writer, fault::STALE_EPOCH, " epoch ", self.epoch);
+            return Ok(());
+        }
+        self.name_epoch(epoch);
+        self.promote(page, writer, txid, losing)
+    }
+
+    // The log has ended at this txid: what is held is flushed, and nothing comes in any more. It is refused, and told why, where
+    // the standby was stopped, where a segment is in hand, where its last transaction is another one, and where one above was
+    // read or seen, unless what lies above the txid is given up. A promotion of an active standby flushes nothing. It is active in
+    // the epoch that was named last.
+    //
+    // Where memory is refused nothing comes in any more either, and the call may be made again.
+    fn promote<W: Write>(
         &mut self,
         page: &mut Page,
         writer: &mut Writer<W>,
@@ -48,6 +90,7 @@ impl Service {
             return Err(ServiceFault::OutOfMemory);
         };
         self.in_hand = InHand::none(self.alloc);
+        self.promoted = self.epoch;
         self.tell_events(page, writer);
         Ok(())
     }

@@ -1,9 +1,9 @@
 //! Reports are handed as they come.
-ghost use Rattle.std.specs.Prelude.{◌≡◌, ◌≤◌, ◌^◌, ◌+◌, ℕ, [], ◌∷◌, IfOk, IfSome, IfErr, IsErrOf, IsTrue, None, is_none, ◌⊎◌};
+ghost use Rattle.std.specs.Prelude.{◌≡◌, ◌≤◌, ◌^◌, ◌+◌, ℕ, [], ◌∷◌, IfOk, IfSome, IfErr, IsErrOf, IsTrue, None, is_none, is_some, ◌⊎◌, Bool, true, false};
 ghost use Rattle.nn_device.specs.Page.{PutsPiece};
-ghost use Rattle.nn_shadow.specs.Contents.{last_number_in, standby_of};
+ghost use Rattle.nn_shadow.specs.Contents.{last_number_in, node_state_in, standby_of};
 ghost use Rattle.nn_shadow.specs.Refusals.{hand_refusal};
-ghost use Rattle.nn_live.specs.Live.{empty_report, hands, mark_of};
+ghost use Rattle.nn_live.specs.Live.{empty_report, full_behind, hands, mark_of};
 ghost use Rattle.nn_live.specs.Serving.{ServiceSteps, next_of};
 ghost use Rattle.nn_types.specs.Limits.{max_datanodes};
 
@@ -24,11 +24,11 @@ impl Service {
         writer: &mut Writer<W>,
         report: Report,
     ) -> Result<(), ServiceFault>
-        ensures ok { IfOk result (λ _. ServiceSteps (λ asked s. hands asked (report ∷ []) s) self.old self.new (λ text. PutsPiece text page.old writer.old page.new writer.new)) }
+        ensures ok { IfOk result (λ _. ServiceSteps (λ asked s. hands asked true (report ∷ []) s) self.old self.new (λ text. PutsPiece text page.old writer.old page.new writer.new)) }
         ensures exhausted { IsErrOf result ServiceFault.Exhausted → 2 ^ 63 ≤ last_number_in self.old.shadow.numbers report.dn + 1 }
         ensures left { IfErr result (λ _. ServiceSteps (λ _ s. s) self.old self.new (λ text. PutsPiece text page.old writer.old page.new writer.new)) }
     {
-        self.hand(page, writer, report)?;
+        self.hand(page, writer, report, true)?;
         Ok(())
     }
 
@@ -40,25 +40,26 @@ impl Service {
         writer: &mut Writer<W>,
         dn: u16,
     ) -> Result<(), ServiceFault>
-        ensures ok { IfOk result (λ _. ServiceSteps (λ asked s. hands asked (empty_report dn) s) self.old self.new (λ text. PutsPiece text page.old writer.old page.new writer.new)) }
+        ensures ok { IfOk result (λ _. ServiceSteps (λ asked s. hands asked false (empty_report dn) s) self.old self.new (λ text. PutsPiece text page.old writer.old page.new writer.new)) }
         ensures exhausted { IsErrOf result ServiceFault.Exhausted → 2 ^ 63 ≤ last_number_in self.old.shadow.numbers dn + 2 }
         ensures cut { IfErr result (λ _. ServiceSteps (λ _ s. s) self.old self.new (λ text. PutsPiece text page.old writer.old page.new writer.new)
-            ⊎ ServiceSteps (λ asked s. hands asked (mark_of dn Kind.Begin ∷ []) s) self.old self.new (λ text. PutsPiece text page.old writer.old page.new writer.new)) }
+            ⊎ ServiceSteps (λ asked s. hands asked false (mark_of dn Kind.Begin ∷ []) s) self.old self.new (λ text. PutsPiece text page.old writer.old page.new writer.new)) }
     {
-        if self.hand(page, writer, mark_of(dn, Kind::Begin))? {
-            self.hand(page, writer, mark_of(dn, Kind::Finish))?;
+        if self.hand(page, writer, mark_of(dn, Kind::Begin), false)? {
+            self.hand(page, writer, mark_of(dn, Kind::Finish), false)?;
         }
         Ok(())
     }
 
-    // Hands a report, and says whether it was taken.
+    // Hands a report, and says whether it was taken. `own`: it is its DataNode's own, and not one of `gone`.
     fn hand<W: Write>(
         &mut self,
         page: &mut Page,
         writer: &mut Writer<W>,
         report: Report,
+        own: bool,
     ) -> Result<bool, ServiceFault>
-        ensures ok { IfOk result (λ _. ServiceSteps (λ asked s. hands asked (report ∷ []) s) self.old self.new (λ text. PutsPiece text page.old writer.old page.new writer.new)) }
+        ensures ok { IfOk result (λ _. ServiceSteps (λ asked s. hands asked own (report ∷ []) s) self.old self.new (λ text. PutsPiece text page.old writer.old page.new writer.new)) }
         ensures taken { IfOk result (λ taken. taken ≡ is_none (hand_refusal max_datanodes self.old.shadow.phase (standby_of self.old.shadow) (next_of self.old.shadow report))) }
         ensures numbers { IfOk result (λ taken. IsTrue taken → (dn : ℕ) → last_number_in self.new.shadow.numbers dn ≤ last_number_in self.old.shadow.numbers dn + 1) }
         ensures exhausted { IsErrOf result ServiceFault.Exhausted → 2 ^ 63 ≤ last_number_in self.old.shadow.numbers report.dn + 1 }
@@ -67,8 +68,13 @@ impl Service {
         let Some(message) = self.next_message(report) else {
             return Err(ServiceFault::Exhausted);
         };
+        let fills = self.fills(&report, own);
+        let Ok(()) = self.full.reserve(report.dn, fills) else {
+            return Err(ServiceFault::OutOfMemory);
+        };
         match self.shadow.hand(message) {
             Ok(_) => {
+                self.full.note(&report, own, fills);
                 self.tell_events(page, writer);
                 Ok(true)
             }
@@ -80,6 +86,16 @@ impl Service {
                 Ok(false)
             }
         }
+    }
+
+    // Whether this report, if it is taken, ends a full report of its DataNode that began.
+    fn fills(&self, report: &Report, own: bool) -> bool
+        ensures { (full : Bool) → full_behind own report.now.kind (is_some (node_state_in self.now.shadow.had report.now.dn).begun) full ≡ full_behind own report.now.kind result full }
+    {
+        let Kind::Finish = report.kind else {
+            return false;
+        };
+        own && self.shadow.open_report(report.dn).is_some()
     }
 
     // The report under the number after the last one of its DataNode.

@@ -1,7 +1,8 @@
-use Rattle.std.proofs.Common.{[], inl, inr, sym, subst, ap, ◌∙◌}
+use Rattle.std.proofs.Common.{false, [], inl, inr, sym, subst, ap, ◌∙◌}
 use Rattle.std.specs.Prelude.{OnOk}
 use Rattle.std.proofs.lemmas.Result.{IfOk-weaker, IfErr-weaker}
 use Rattle.nn_device.specs.Page.{PutsPiece}
+use Rattle.nn_device.proofs.Pages.{puts_nothing}
 use Rattle.nn_live.specs.Live.{LiveSetup, ServiceState, does, empty_report, hands}
 use Rattle.nn_live.specs.Serving.{Breaks, FollowsStep, ServiceSteps}
 use Rattle.nn_live.specs.declared.word.Word.{Word}
@@ -36,13 +37,27 @@ pub returns-in-Held-clause-ok : goal.returns-in-Held-clause-ok
 returns-in-Held-clause-ok g c =
     subst (λ (w : Word). ServiceSteps (λ asked s. does asked w s) c.args.self.now c.args.self.now (λ text. PutsPiece text c.args.page.now c.args.writer.now c.held.new.page c.held.new.writer)) (sym c.in-Held.is) c.held.ensures
 
+pub returns-in-Seen-clause-ok : goal.returns-in-Seen-clause-ok
+returns-in-Seen-clause-ok g c = (
+  [],
+  puts_nothing c.args.page.now c.args.writer.now,
+  subst (λ (w : Word). FollowsStep (λ asked s. does asked w s) c.args.self.now c.see.new.self []) (sym c.in-Seen.is) c.see.ensures,
+)
+
+pub returns-in-Epoch-clause-ok : goal.returns-in-Epoch-clause-ok
+returns-in-Epoch-clause-ok g c = (
+  [],
+  puts_nothing c.args.page.now c.args.writer.now,
+  subst (λ (w : Word). FollowsStep (λ asked s. does asked w s) c.args.self.now c.name_epoch.new.self []) (sym c.in-Epoch.is) c.name_epoch.ensures.step,
+)
+
 pub returns-in-Gone-clause-ok : goal.returns-in-Gone-clause-ok
 returns-in-Gone-clause-ok g c = IfOk-weaker c.gone.result _ _ (λ _ step. (
   step.0,
   step.1,
   subst (λ (w : Word). FollowsStep (λ asked s. does asked w s) c.args.self.now c.gone.new.self step.0) (sym c.in-Gone.is)
-      (same_makes (λ asked s. does asked (word.Gone c.in-Gone.dn) s) (λ asked s. hands asked (empty_report c.lane_of.result) s) c.args.self.now c.gone.new.self step.0
-      (λ asked s i. (same_gone asked s c.in-Gone.dn ∙ ap (λ dn. hands asked (empty_report dn) s) (sym c.lane_of.ensures))) step.2),
+      (same_makes (λ asked s. does asked (word.Gone c.in-Gone.dn) s) (λ asked s. hands asked false (empty_report c.lane_of.result) s) c.args.self.now c.gone.new.self step.0
+      (λ asked s i. (same_gone asked s c.in-Gone.dn ∙ ap (λ dn. hands asked false (empty_report dn) s) (sym c.lane_of.ensures))) step.2),
 )) c.gone.ensures.ok
 
 pub returns-in-Unsafe-clause-prefix : goal.returns-in-Unsafe-clause-prefix
@@ -61,10 +76,7 @@ pub returns-in-Checkpoint-clause-prefix : goal.returns-in-Checkpoint-clause-pref
 returns-in-Checkpoint-clause-prefix g c = IfErr-weaker c.checkpoint.result _ _ (λ _ left. ([], left.1, none_told (doing c.args.word.now) c.args.self.now (λ asked s. does_grow asked c.args.word.now s))) c.checkpoint.ensures.left
 
 pub returns-in-Promote-clause-prefix : goal.returns-in-Promote-clause-prefix
-returns-in-Promote-clause-prefix g c = IfErr-weaker c.promote.result _ _ (λ _ put. ([], put, none_told (doing c.args.word.now) c.args.self.now (λ asked s. does_grow asked c.args.word.now s))) c.promote.ensures.put
-
-pub returns-in-PromoteLosing-clause-prefix : goal.returns-in-PromoteLosing-clause-prefix
-returns-in-PromoteLosing-clause-prefix g c = IfErr-weaker c.promote-in-PromoteLosing.result _ _ (λ _ put. ([], put, none_told (doing c.args.word.now) c.args.self.now (λ asked s. does_grow asked c.args.word.now s))) c.promote-in-PromoteLosing.ensures.put
+returns-in-Promote-clause-prefix g c = IfErr-weaker c.promote_in.result _ _ (λ _ put. ([], put, none_told (doing c.args.word.now) c.args.self.now (λ asked s. does_grow asked c.args.word.now s))) c.promote_in.ensures.put
 
 pub returns-in-Gone-clause-prefix : goal.returns-in-Gone-clause-prefix
 returns-in-Gone-clause-prefix g c = IfErr-weaker c.gone.result _ _ (λ _ cut. elim cut [
@@ -73,7 +85,7 @@ returns-in-Gone-clause-prefix g c = IfErr-weaker c.gone.result _ _ (λ _ cut. el
     begun.0,
     begun.1,
     subst (λ (w : Word). Breaks (doing w) c.args.self.now begun.0) (sym c.in-Gone.is)
-        (same_breaks (doing (word.Gone c.in-Gone.dn)) (λ asked s. hands asked (empty_report c.lane_of.result) s) c.args.self.now begun.0
-        (λ asked s i. (same_gone asked s c.in-Gone.dn ∙ ap (λ dn. hands asked (empty_report dn) s) (sym c.lane_of.ensures))) (begin_handed c.args.self.now c.gone.new.self c.lane_of.result begun.0 begun.2)),
+        (same_breaks (doing (word.Gone c.in-Gone.dn)) (λ asked s. hands asked false (empty_report c.lane_of.result) s) c.args.self.now begun.0
+        (λ asked s i. (same_gone asked s c.in-Gone.dn ∙ ap (λ dn. hands asked false (empty_report dn) s) (sym c.lane_of.ensures))) (begin_handed c.args.self.now c.gone.new.self c.lane_of.result begun.0 begun.2)),
   )
 ]) c.gone.ensures.cut

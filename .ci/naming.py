@@ -223,6 +223,8 @@ class Naming:
         if self.name == "docs/LIVE.md":
             there = {f"{word} .." if behind else word for word, behind in repo.words_of_service()}
             self.compare("word", set().union(*map(ways, first["Word"])), there)
+            if first["Word"] != repo.words_of_help():
+                self.fault(f"`help` has other words than the table: {', '.join(repo.words_of_help())}")
         if self.name == "docs/GUIDE.md":
             self.compare("option", {span.split()[0] for span in first["Option"]}, repo.options_of(PROGRAM))
 

@@ -214,12 +214,20 @@ def words_of_service():
 
 
 @functools.cache
+def words_of_help():
+    """The words as the service's `help` tells them, in its order."""
+    text = read("crates/nn_live/specs/Help.antt")
+    lines = re.search(r"^help_lines =(.*?)^$", text, re.M | re.S)[1]
+    return [line.replace('\\"', '"') for line in re.findall(r'codes "((?:\\.|[^"\\])*)"', lines)]
+
+
+@functools.cache
 def words_of_answers():
     """The words in the texts of which the definitions of output are made, without the worked examples."""
     found = set()
     for crate in ("nn_live", "nn_listing", "nn_engine", "nn_types"):
         for name in specs_of(crate):
-            if not definitions.is_rows(name) and (crate, name) != ("nn_live", "Words"):
+            if not definitions.is_rows(name) and (crate, name) not in {("nn_live", "Words"), ("nn_live", "Help")}:
                 for text in re.findall(r'\bcodes "([^"]*)"', read(f"crates/{crate}/specs/{name}.antt")):
                     found.update(text.split())
     return found

@@ -93,15 +93,22 @@ class Service:
 
     def take(self, answer, done, give):
         """Takes an answer up to its end. Answers what went wrong where it was given, or None."""
-        failure = None
+        failure, is_unknown = None, False
         while (lines := self.answers.get()) is not None:
             for line in lines:
                 if line.startswith(b"fault "):
                     answer.faults.append(line.decode().split())
-                elif line == done:
-                    return failure
+                elif line == b"unknown":
+                    is_unknown = True
                 elif line.startswith(b"done "):
-                    raise Ended(f"the program answers {line.decode()!r}, where {done.decode()!r} is next")
+                    if is_unknown:
+                        # That line is nothing, as one of which `fault 1` is told.
+                        answer.faults.append(["fault", "1", "line", line.decode().split()[1]])
+                    if line == done:
+                        return failure
+                    if not is_unknown:
+                        raise Ended(f"the program answers {line.decode()!r}, where {done.decode()!r} is next")
+                    is_unknown = False
                 elif failure is None:
                     failure = failure_of(give, line)
         told = "".join(f", and told {' '.join(fault)!r}" for fault in answer.faults)

@@ -129,6 +129,9 @@ module _ (asked : LiveSetup) where
   word (kind.Seen txid) s = refl
   word (kind.Epoch epoch) s = refl
   word (kind.Promote txid epoch lost) s = promoted_in txid epoch lost s
+  word (kind.Replicas id) s = refl
+  word kind.Help s = refl
+  word kind.Unknown s = refl
 
   read : (text : List ℕ) (r : Result Line LineFault) → IsBlind (takes_read asked text r)
   read text (Ok (either.Edit tx)) s = edit (record { text = text; tx = tx }) s

@@ -10,7 +10,7 @@ use Rattle.nn_shadow.specs.Contents.{IsConsistent}
 use Rattle.nn_listing.specs.Summary.{summary_of}
 use Rattle.nn_listing.proofs.Summaries.{summary_is}
 use Rattle.nn_live.proofs.Tabling.{of_said}
-use Rattle.nn_live.specs.Answers.{block_answer, held_line, path_answer, first_lines, status_lines}
+use Rattle.nn_live.specs.Answers.{block_answer, replicas_answer, held_line, path_answer, first_lines, status_lines}
 use Rattle.nn_listing.specs.Safety.{unsafe_in}
 use Rattle.nn_live.specs.Live.{LiveSetup, ServiceState, does, live_figures, says}
 use Rattle.nn_live.specs.Serving.{Service, IsAtService, FollowsStep, figures_seen}
@@ -51,3 +51,6 @@ module _ (x : Service) where
 
   pub block_told : (id : ℕ) → FollowsStep (λ asked s. does asked (word.Block id) s) x x (block_answer (standby_of x.shadow) id)
   block_told id = only_tells (λ asked s. does asked (word.Block id) s) x _ (λ asked s i. ap (λ (y : StandbyState). says (block_answer y id) s) (sym i.standby))
+
+  pub replicas_told : (id : ℕ) → FollowsStep (λ asked s. does asked (word.Replicas id) s) x x (replicas_answer (standby_of x.shadow) id)
+  replicas_told id = only_tells (λ asked s. does asked (word.Replicas id) s) x _ (λ asked s i. ap (λ (y : StandbyState). says (replicas_answer y id) s) (sym i.standby))

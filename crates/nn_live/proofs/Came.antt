@@ -123,6 +123,9 @@ module _ (asked : LiveSetup) (P : Tx → Type 0) where
   word (kind.Seen txid) s i = i
   word (kind.Epoch epoch) s i = i
   word (kind.Promote txid epoch lost) s i = either_way (ltb epoch s.epoch) _ _ i (promoted txid lost (flush_refusal s.phase) (names epoch s) i)
+  word (kind.Replicas id) s i = i
+  word kind.Help s i = i
+  word kind.Unknown s i = i
 
   read : (text : List ℕ) → is_unbroken text ≡ true → (r : Result Line LineFault) → either_of_line text ≡ r → ((tx : Tx) → r ≡ Ok (either.Edit tx) → P tx)
       → (s : ServiceState) → Is s → Is (takes_read asked text r s)

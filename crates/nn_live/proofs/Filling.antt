@@ -32,4 +32,4 @@ pub one_full : (full : List Bool) (dn : ℕ) (p q r : Page) (w x y : Writer) →
     → PutsAllBut (flat_map (full_line (full_in full)) datanodes) (flat_map (full_line (full_in full)) (range_with_len (dn + 1 + 1) (256 - (dn + 1)))) p w r y
 one_full full dn p q r w x y some put piece =
     one_more (flat_map (full_line (full_in full)) datanodes) (full_line (full_in full) (dn + 1)) (flat_map (full_line (full_in full)) (range_with_len (dn + 1 + 1) (256 - (dn + 1)))) p q r w x y
-        (subst (λ t. PutsAllBut (flat_map (full_line (full_in full)) datanodes) t p w q x) (ap (flat_map (full_line (full_in full))) (one_datanode 256 dn some)) put) piece
+    (subst (λ t. PutsAllBut (flat_map (full_line (full_in full)) datanodes) t p w q x) (ap (flat_map (full_line (full_in full))) (one_datanode 256 dn some)) put) piece

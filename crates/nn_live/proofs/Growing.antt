@@ -117,6 +117,9 @@ does_grow asked (word.Seen txid) s = whole_prefix s.written
 does_grow asked (word.Epoch epoch) s = whole_prefix s.written
 does_grow asked (word.Promote txid epoch lost) s =
     either_prefix s.written (nat_lt epoch s.epoch) _ _ (prefix_and s.written _) (promotes_grow asked txid lost (flush_refusal s.phase) (names epoch s))
+does_grow asked (word.Replicas id) s = prefix_and s.written _
+does_grow asked word.Help s = prefix_and s.written _
+does_grow asked word.Unknown s = prefix_and s.written _
 
 pub answers_grow : (asked : LiveSetup) (w : Word) → Grows (λ s. answers asked w s)
 answers_grow asked w s = then_prefix _ _ _ (does_grow asked w s) (prefix_and _ _)

@@ -110,6 +110,9 @@ module _ (asked : LiveSetup) (which : Bool) where
   word (kind.Seen txid) s = seen_more which txid s
   word (kind.Epoch epoch) s = named_more which epoch s
   word (kind.Promote txid epoch lost) s = promoted_more txid epoch lost s
+  word (kind.Replicas id) s = no_less _ _ refl
+  word kind.Help s = no_less _ _ refl
+  word kind.Unknown s = no_less _ _ refl
 
   edit_grows : (l : EditLine) (s : ServiceState) → mark which s ≤ mark which (takes_edit asked l s)
   edit_grows l s =

@@ -30,3 +30,6 @@ pub mod Running
 pub mod Serves
 pub mod Promoting
 pub mod Answering
+pub mod Came
+pub mod Holders
+pub mod Mistyped

@@ -14,10 +14,13 @@ pub held_pieces : (block dn number stamp kind : List ℕ)
     ≡ codes "held " ++ block ++ codes " " ++ dn ++ codes " " ++ number ++ codes " " ++ stamp ++ codes " " ++ kind ++ line_feed ∷ []
 held_pieces block dn number stamp kind = simp append_assoc
 
-pub block_pieces : (block stamp len path : List ℕ)
-    → codes "block" ++ (field block ++ (field stamp ++ (field len ++ (codes " " ++ (path ++ line_feed ∷ [])))))
-    ≡ codes "block " ++ block ++ codes " " ++ stamp ++ codes " " ++ len ++ codes " " ++ path ++ line_feed ∷ []
-block_pieces block stamp len path = simp append_assoc
+pub head_pieces : (block stamp len : List ℕ)
+    → codes "block" ++ (field block ++ (field stamp ++ field len))
+    ≡ codes "block " ++ block ++ codes " " ++ stamp ++ codes " " ++ len
+head_pieces block stamp len = simp append_assoc
+
+pub path_pieces : (head path : List ℕ) → head ++ (codes " " ++ (path ++ line_feed ∷ [])) ≡ head ++ codes " " ++ path ++ line_feed ∷ []
+path_pieces head path = simp append_assoc
 
 pub status_pieces : (a b c d e f g h i : List ℕ) → a ++ (b ++ (c ++ (d ++ (e ++ (f ++ (g ++ (h ++ i))))))) ≡ a ++ b ++ c ++ d ++ e ++ f ++ g ++ h ++ i
 status_pieces a b c d e f g h i = simp append_assoc

@@ -1,5 +1,5 @@
 -- A line of data that the code took, or told, is one that the definition's service took or told.
-use Rattle.std.proofs.Common.{◌≡◌, List, ℕ, Bool, true, false, cond, length, ◌==◌, [], ◌∷◌, Option, Some, None, Ok, Err, Result, codes, refl, sym, ap, ap₂, ◌∙◌, ◌<◌, ◌&&◌, arith}
+use Rattle.std.proofs.Common.{◌≡◌, List, ℕ, Bool, true, false, cond, length, ◌==◌, [], ◌∷◌, Option, Some, None, Ok, Err, Result, codes, refl, sym, ap, ap₂, ◌∙◌, ◌<◌, arith}
 use Rattle.nn_types.specs.declared.report.Report.{Report}
 use Rattle.nn_types.specs.declared.tx.Tx.{Tx}
 use Rattle.nn_edits.specs.Fault.{number_of}
@@ -11,13 +11,12 @@ use Rattle.nn_edits.specs.declared.line.Line.{Line}
 use Rattle.nn_edits.specs.declared.line.Line.TheVariants as either
 use Rattle.nn_live.specs.Live.{LiveSetup, ServiceState, answers, counts_line, hands, says, takes, takes_edit, takes_read, takes_torn, takes_word, tears_word}
 use Rattle.nn_types.specs.declared.fault.TheConstants.{LINE_TOO_LONG, NOT_JSON}
-use Rattle.std.specs.Str.{is_utf8}
 use Rattle.std.specs.Prelude.{option_and_then}
 use Rattle.std.specs.Option.{ok_or}
 use Rattle.std.proofs.lemmas.Bool.{lt-leb, lt-ltb, ne_eqb}
 use Rattle.nn_edits.specs.Outcome.{◌>>=◌}
 use Rattle.nn_edits.specs.Reading.{either_in, object_in, object_only, value_of}
-use Rattle.nn_live.specs.Words.{word_alone, behind_prefix, or_else, word_in}
+use Rattle.nn_live.specs.Words.{or_else, known_word, unknown_word, word_in}
 use Rattle.nn_live.specs.declared.word.Word.{Word}
 use Rattle.nn_scenario.specs.Scenario.{is_blank}
 use Rattle.nn_live.specs.Serving.{Service, FollowsStep, fault_text}
@@ -107,7 +106,7 @@ module _ (text : List ℕ) where
 
 pub no_long_word : (text : List ℕ) → 65536 < length text → word_in text ≡ None
 unfolding word_in
-no_long_word text long = ap (λ b. cond (b && is_utf8 text) (or_else (word_alone text) (behind_prefix text)) None) (lt-leb (length text) 65536 long)
+no_long_word text long = ap (λ b. cond b (or_else (known_word text) (unknown_word text)) None) (lt-leb (length text) 65536 long)
 
 pub long_fault : (text : List ℕ) → 65536 < length text → either_of_line text ≡ Err fault.LineTooLong
 unfolding either_of_line object_in

@@ -1,5 +1,5 @@
--- The replicas of one block.
-use Rattle.std.proofs.Common.{◌≡◌, ℕ, List, [], Option, Some, None, refl, sym, ap, ◌∙◌, arith}
+-- The replicas and the orders of one block.
+use Rattle.std.proofs.Common.{◌≡◌, ℕ, Bool, true, false, cond, List, [], Option, Some, None, refl, sym, ap, ◌∙◌, arith}
 use Rattle.std.specs.Prelude.{flat_map, option_and_then}
 use Rattle.std.specs.List.{range_with_len}
 use Rattle.std.specs.Option.{option_map}
@@ -7,11 +7,11 @@ use Rattle.nn_types.specs.declared.block.Block.{Block}
 use Rattle.nn_types.specs.declared.replica.Replica.{Replica}
 use Rattle.nn_model.specs.Namespace.{Namespace}
 use Rattle.nn_replicas.specs.Agreement.{Shows}
-use Rattle.nn_replicas.specs.Calls.{entry_or_none, replica_at, replicas_at}
-use Rattle.nn_replicas.specs.Entry.{replica_in}
+use Rattle.nn_replicas.specs.Calls.{entry_or_none, has_order, orders_at, replica_at, replicas_at}
+use Rattle.nn_replicas.specs.Entry.{is_ordered, replica_in}
 use Rattle.nn_replicas.specs.Table.{Replicas}
 use Rattle.nn_replicas.specs.declared.entry.Cell.{Cell}
-use Rattle.nn_listing.specs.Tables.{datanodes, lines_of_block, replica_line, replica_text}
+use Rattle.nn_listing.specs.Tables.{datanodes, lines_of_block, order_line, order_text, replica_line, replica_text}
 use Rattle.nn_listing.proofs.KeyTexts.{given, gathered, no_texts, same_texts, texts_of_some, Within}
 use Rattle.nn_listing.proofs.Summaries.{all_datanodes}
 
@@ -35,6 +35,20 @@ module _ (n : Namespace) (t : Replicas) (shows : Shows n t) (count : ℕ) (count
       cases : (dn : ℕ) (o : Option Replica) → given here (option_map (λ r. (dn, r)) o) ≡ replica_text id (Some b) dn o
       cases dn None = refl
       cases dn (Some r) = refl
+
+  ordered : flat_map (order_line id) (orders_at t id) ≡ flat_map (λ dn. order_text id dn (has_order t dn id)) datanodes
+  ordered =
+      texts_of_some (order_line id) (λ (c : ℕ × Cell). cond c.1.ordered (Some c.0) None) cells
+      ∙ same_texts _ _ cells (λ c. cases c.0 c.1.ordered)
+      ∙ gathered (λ dn (o : Option Cell). order_text id dn (is_ordered o)) (λ dn. refl) count 1 cells (shows.in_order.datanodes id) within
+      ∙ ap (flat_map (λ dn. order_text id dn (has_order t dn id))) (sym all)
+    where
+      cases : (dn : ℕ) (o : Bool) → given (order_line id) (cond o (Some dn) None) ≡ order_text id dn o
+      cases dn true = refl
+      cases dn false = refl
+
+pub of_orders : (n : Namespace) (t : Replicas) (id : ℕ) → Shows n t → flat_map (order_line id) (orders_at t id) ≡ flat_map (λ dn. order_text id dn (has_order t dn id)) datanodes
+of_orders n t id shows = ordered n t shows 256 refl all_datanodes id (record { id = id; stamp = 0; len = 0 })
 
 pub of_held_block : (n : Namespace) (t : Replicas) (id : ℕ) (b : Block) → Shows n t → lines_of_block id b (replicas_at t id) ≡ flat_map (λ dn. replica_text id (Some b) dn (replica_at t dn id)) datanodes
 of_held_block n t id b shows = in_turn n t shows 256 refl all_datanodes id b

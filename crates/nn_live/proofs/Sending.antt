@@ -78,6 +78,9 @@ module _ (asked : LiveSetup) where
   word (kind.Seen txid) none s = refl
   word (kind.Epoch epoch) none s = refl
   word (kind.Promote txid epoch lost) none s = both_ways (ltb epoch s.epoch) s _ _ refl (promoted txid lost (flush_refusal s.phase) (names epoch s))
+  word (kind.Replicas id) none s = refl
+  word kind.Help none s = refl
+  word kind.Unknown none s = refl
 
   read : (text : List ℕ) (r : Result Line LineFault) → ((report : Report) → r ≡ Ok (either.Report report) → ⊥) → (s : ServiceState) → Same s (takes_read asked text r s)
   read text (Ok (either.Edit tx)) none s = edit (record { text = text; tx = tx }) s

@@ -191,6 +191,9 @@ module _ (asked : LiveSetup) (n : Namespace) (base : ℕ) where
   word (kind.Seen txid) s i = i
   word (kind.Epoch epoch) s i = i
   word (kind.Promote txid epoch lost) s i = either_way (ltb epoch s.epoch) _ _ i (promoted txid lost (flush_refusal s.phase) (names epoch s) i)
+  word (kind.Replicas id) s i = i
+  word kind.Help s i = i
+  word kind.Unknown s i = i
 
   read : (text : List ℕ) (r : Result Line LineFault) (s : ServiceState) → Is s → Is (takes_read asked text r s)
   read text (Ok (either.Edit tx)) s i = edit (record { text = text; tx = tx }) s i

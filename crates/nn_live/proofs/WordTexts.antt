@@ -22,7 +22,8 @@ use Rattle.nn_plain.specs.Ahead.{data_at}
 use Rattle.nn_plain.proofs.Turns.{whole_read, whole_and_more, whole_refused}
 use Rattle.nn_edits.specs.Reading.{value_of}
 use Rattle.nn_edits.proofs.JsonLines.{value_of_text}
-use Rattle.nn_live.specs.Words.{number_word, path_word, word_alone, behind_prefix, is_text, or_else, word_in}
+use Rattle.nn_live.specs.declared.word.Word.TheVariants as word
+use Rattle.nn_live.specs.Words.{number_word, path_word, word_alone, behind_prefix, or_else, known_word, unknown_word, word_in}
 
 pub written : (text : List ℕ) (n : ℕ) → n < 2 ^ 63 → text ≡ decimal n → number_word text ≡ Some n
 written text n small is =
@@ -92,24 +93,38 @@ begins (x ∷ line) b is = let same : b ≡ x = cc in (line, ap (λ y. y ∷ lin
 -- a line that begins above all letters
 pub no_word : (line : List ℕ) (b : ℕ) (rest : List ℕ) → line ≡ b ∷ rest → 122 < b → word_in line ≡ None
 unfolding word_in word_alone
-no_word line b rest is above = ap (λ l. cond (is_text l) (or_else (word_alone l) (behind_prefix l)) None) is ∙ none (is_text (b ∷ rest))
+no_word line b rest is above =
+    ap (λ l. cond (leb (length l) 65536) (or_else (cond (is_utf8 l) (or_else (word_alone l) (behind_prefix l)) None) (unknown_word l)) None) is
+    ∙ none (leb (length (b ∷ rest)) 65536) (is_utf8 (b ∷ rest))
   where
     isnt : (x : ℕ) → x ≤ 122 → (b == x) ≡ false
     isnt x low = ne_eqb b x (λ same. absurd (omega (arith, same, low, above)))
 
-    none : (t : Bool) → cond t (or_else (word_alone (b ∷ rest)) (behind_prefix (b ∷ rest))) None ≡ None
-    none true = rw (isnt 115 (omega arith), isnt 104 (omega arith), isnt 117 (omega arith), isnt 116 (omega arith), isnt 99 (omega arith), isnt 112 (omega arith), isnt 98 (omega arith), isnt 103 (omega arith), isnt 101 (omega arith)) refl
-    none false = refl
+    no_letter : (a c : Bool) → c ≡ false → cond (a && c) (Some word.Unknown) None ≡ None
+    no_letter true c e = ap (λ t. cond t (Some word.Unknown) None) e
+    no_letter false c e = refl
 
-pub no_text : (line : List ℕ) → (IsUtf8 line → ⊥) → word_in line ≡ None
-unfolding word_in
-no_text line never = at (leb (length line) 65536) (is_utf8 line) refl
+    unknown : unknown_word (b ∷ rest) ≡ None
+    unknown = no_letter (leb 97 b) (leb b 122) (lt-leb b 122 above)
+
+    known : (u : Bool) → cond u (or_else (word_alone (b ∷ rest)) (behind_prefix (b ∷ rest))) None ≡ None
+    known true = rw (isnt 115 (omega arith), isnt 104 (omega arith), isnt 117 (omega arith), isnt 116 (omega arith), isnt 99 (omega arith), isnt 112 (omega arith), isnt 98 (omega arith), isnt 103 (omega arith), isnt 101 (omega arith), isnt 114 (omega arith)) refl
+    known false = refl
+
+    none : (s u : Bool) → cond s (or_else (cond u (or_else (word_alone (b ∷ rest)) (behind_prefix (b ∷ rest))) None) (unknown_word (b ∷ rest))) None ≡ None
+    none true u = ap (λ o. or_else o (unknown_word (b ∷ rest))) (known u) ∙ unknown
+    none false u = refl
+
+pub no_text : (line : List ℕ) → (IsUtf8 line → ⊥) → known_word line ≡ None
+no_text line never = at (is_utf8 line) refl
   where
-    at : (a b : Bool) → is_utf8 line ≡ b → cond (a && b) (or_else (word_alone line) (behind_prefix line)) None ≡ None
-    at true true e = absurd (never (IsUtf8-from_is_utf8 line e))
-    at true false e = refl
-    at false b e = refl
+    at : (u : Bool) → is_utf8 line ≡ u → cond u (or_else (word_alone line) (behind_prefix line)) None ≡ None
+    at true e = absurd (never (IsUtf8-from_is_utf8 line e))
+    at false e = refl
 
-pub text_line : (line : List ℕ) → length line ≤ 65536 → IsUtf8 line → word_in line ≡ or_else (word_alone line) (behind_prefix line)
+pub text_line : (line : List ℕ) → IsUtf8 line → known_word line ≡ or_else (word_alone line) (behind_prefix line)
+text_line line utf8 = rw (is_utf8-from_IsUtf8 line utf8) refl
+
+pub short_line : (line : List ℕ) → length line ≤ 65536 → word_in line ≡ or_else (known_word line) (unknown_word line)
 unfolding word_in
-text_line line short utf8 = rw (le-leb (length line) 65536 short, is_utf8-from_IsUtf8 line utf8) refl
+short_line line short = rw (le-leb (length line) 65536 short) refl

@@ -69,10 +69,13 @@ held_line m =
 
 -- ---- One block, one path.
 
--- `block BLOCK STAMP LEN PATH`
+-- `block BLOCK STAMP LEN`
+abbrev pub block_head : Block → List ℕ
+block_head b = codes "block " ++ decimal b.id ++ codes " " ++ decimal b.stamp ++ codes " " ++ decimal b.len
+
+-- and a path behind it
 abbrev pub block_line : Path → Block → List ℕ
-block_line p b =
-    codes "block " ++ decimal b.id ++ codes " " ++ decimal b.stamp ++ codes " " ++ decimal b.len ++ codes " " ++ path_json p ++ line_feed ∷ []
+block_line p b = block_head b ++ codes " " ++ path_json p ++ line_feed ∷ []
 
 -- of the blocks with this id at a path
 abbrev pub holder_lines : ℕ → Path × Form → List ℕ
@@ -88,9 +91,22 @@ replicas_text x id = flat_map (λ dn. replica_text id (block_at x.namespace id) 
 abbrev pub orders_text : StandbyState → ℕ → List ℕ
 orders_text x id = flat_map (λ dn. order_text id dn (x.has_order dn id)) datanodes
 
--- its file, its replicas, its orders, and what waits for it
+-- a block's replicas, its orders, and what waits for it
+abbrev pub about_block : StandbyState → ℕ → List ℕ
+about_block x id = replicas_text x id ++ (orders_text x id ++ flat_map held_line (filter (λ m. m.block == id) x.held))
+
+-- behind the line of its file
 abbrev pub block_answer : StandbyState → ℕ → List ℕ
-block_answer x id = holder_text x.namespace id ++ (replicas_text x id ++ (orders_text x id ++ flat_map held_line (filter (λ m. m.block == id) x.held)))
+block_answer x id = holder_text x.namespace id ++ about_block x id
+
+-- the line without the path, of a block that a file holds
+abbrev pub head_text : Option Block → List ℕ
+head_text None = []
+head_text (Some b) = block_head b ++ line_feed ∷ []
+
+-- and the same behind it
+abbrev pub replicas_answer : StandbyState → ℕ → List ℕ
+replicas_answer x id = head_text (block_at x.namespace id) ++ about_block x id
 
 -- the line of a path in the tables, if anything is there
 abbrev pub path_answer : Path → Option Form → List ℕ

@@ -65,6 +65,8 @@ AnswersThePicture =
     ++ (listing_text (served asked n base texts).standby.last (served asked n base texts).standby.namespace
     ++ tables_text asked.permille asked.min (served asked n base texts).standby.namespace (items (served asked n base texts).sent))
 
+-- ---- Which log.
+
 -- the line is neither blank nor a word, and is read as this edit
 pub record IsEdit (text : List ℕ) (tx : Tx) : Type 0 where
   pub not_blank : is_blank text ≡ false

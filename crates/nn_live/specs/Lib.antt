@@ -1,10 +1,13 @@
 pub mod Words
 pub mod Answers
+pub mod Help
 pub mod Live
 pub mod LiveRows
 pub mod EdgeRows
 pub mod SeenRows
+pub mod WordRows
 pub mod Laws
+pub mod WordLaws
 pub mod Serving
 pub mod Taking
 pub mod Opening

@@ -41,7 +41,8 @@ use Rattle.nn_shadow.specs.Refusals.{Phase, apply_refusal, hand_refusal, flush_r
 use Rattle.nn_engine.specs.Output.{image_fault}
 use Rattle.nn_listing.specs.Summary.{line, summary_of}
 use Rattle.nn_listing.specs.Safety.{unsafe_in}
-use Rattle.nn_live.specs.Answers.{Figures, status_lines, first_lines, held_line, block_answer, path_answer, tables_now}
+use Rattle.nn_live.specs.Answers.{Figures, status_lines, first_lines, held_line, block_answer, replicas_answer, path_answer, tables_now}
+use Rattle.nn_live.specs.Help.{help_text, unknown_text}
 use Rattle.nn_live.specs.Words.{word_in}
 use Rattle.nn_live.specs.declared.word.Word.{Word}
 use Rattle.nn_live.specs.declared.word.Word.TheVariants as word
@@ -243,6 +244,9 @@ does asked (word.Gone dn) s = hands asked false (empty_report dn) s
 does asked (word.Seen txid) s = sees txid s
 does asked (word.Epoch epoch) s = names epoch s
 does asked (word.Promote txid epoch lost) s = promotes_in asked txid epoch lost s
+does asked (word.Replicas id) s = says (replicas_answer s.standby id) s
+does asked word.Help s = says help_text s
+does asked word.Unknown s = says unknown_text s
 
 -- `done LINE` ends an answer
 abbrev pub says_done : ServiceState → ServiceState
@@ -277,7 +281,7 @@ takes_all asked (text ∷ texts) s = takes_all asked texts (takes asked text s)
 
 -- ---- The end of the input.
 
--- a word whose line feed never came may be a part of another one, and asks for nothing
+-- a word whose line feed never came, known or not, may be a part of another one, and asks for nothing
 abbrev pub tears_word : List ℕ → Option Word → LiveSetup → ServiceState → ServiceState
 tears_word text (Some w) asked s = tells_fault NOT_JSON (codes " line ") s.lines s
 tears_word text None asked s = takes_read asked text (either_of_line text) s

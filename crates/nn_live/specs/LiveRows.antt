@@ -53,13 +53,13 @@ barrier : live (
 unfolding takes takes_all takes_torn takes_pieces word_in word_alone read_segment fault_of_segment txids_of segment_file_name name_digits reads_of edit_of_line digits escape_byte datanodes either_of_line either_in report_in dn_in kind_in kind_of object_in value_of tx_in op_in op_of txid_in whole_in number_in path_in profile_in edit_in blocks_in items_in block_in is_utf8 chars encode value punctuate lex content word after_number number_of scan_numeral image_text head_data form_data end_data
 barrier = refl
 
--- a line that is nothing is told, and the service goes on
+-- a line that is nothing is told or answered, and the service goes on
 bad_line : live (
     codes "{\"op\":\"OP_MKDIR\"}"
     ∷ codes "statu"
     ∷ codes "sync now"
     ∷ codes "sync" ∷ [])
-    ≡ lines (codes "fault 2 line 1" ∷ codes "fault 1 line 2" ∷ codes "fault 1 line 3" ∷ codes "done 4" ∷ [])
+    ≡ lines (codes "fault 2 line 1" ∷ codes "unknown" ∷ codes "done 2" ∷ codes "unknown" ∷ codes "done 3" ∷ codes "done 4" ∷ [])
 unfolding takes takes_all takes_torn takes_pieces word_in word_alone read_segment fault_of_segment txids_of segment_file_name name_digits reads_of edit_of_line digits escape_byte datanodes either_of_line either_in report_in dn_in kind_in kind_of object_in value_of tx_in op_in op_of txid_in whole_in number_in path_in profile_in edit_in blocks_in items_in block_in is_utf8 chars encode value punctuate lex content word after_number number_of scan_numeral image_text head_data form_data end_data
 bad_line = refl
 
@@ -250,11 +250,11 @@ no_words : live (
     ∷ codes "path /"
     ∷ codes "sync "
     ∷ codes "gone 0" ∷ [])
-    ≡ lines (codes "fault 1 line 1" ∷ codes "fault 1 line 2" ∷ codes "fault 1 line 3" ∷ codes "fault 1 line 4" ∷ codes "fault 1 line 5" ∷ codes "fault 56 line 6" ∷ codes "done 6" ∷ [])
+    ≡ lines (codes "unknown" ∷ codes "done 1" ∷ codes "unknown" ∷ codes "done 2" ∷ codes "unknown" ∷ codes "done 3" ∷ codes "unknown" ∷ codes "done 4" ∷ codes "unknown" ∷ codes "done 5" ∷ codes "fault 56 line 6" ∷ codes "done 6" ∷ [])
 unfolding takes takes_all takes_torn takes_pieces word_in word_alone read_segment fault_of_segment txids_of segment_file_name name_digits reads_of edit_of_line digits escape_byte datanodes either_of_line either_in report_in dn_in kind_in kind_of object_in value_of tx_in op_in op_of txid_in whole_in number_in path_in profile_in edit_in blocks_in items_in block_in is_utf8 chars encode value punctuate lex content word after_number number_of scan_numeral image_text head_data form_data end_data
 no_words = refl
 
--- nor is a line that is too long, whatever its first bytes are
+-- nor is a line that is too long, whatever its first bytes are, and it begins as none
 too_long : (line : List ℕ) → 65536 < length line → word_in line ≡ None
 unfolding word_in
 too_long line h = rw (lt-leb (length line) 65536 h) refl

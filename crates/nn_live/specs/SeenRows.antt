@@ -211,7 +211,7 @@ refused_reports_change_none = refl
 
 -- ---- Words that are none.
 
--- a number of a word is below 2^63, has one space before it, and nothing else stands behind it
+-- a number of a word is below 2^63, has one space before it, and nothing else stands behind it: else the line is no word
 no_numbers : live (
     codes "seen 9223372036854775808"
     ∷ codes "promote 0 epoch"
@@ -221,7 +221,7 @@ no_numbers : live (
     ∷ codes "promote 0 lost epoch 1"
     ∷ codes "promote  0"
     ∷ codes "seen" ∷ [])
-    ≡ lines (codes "fault 1 line 1" ∷ codes "fault 1 line 2" ∷ codes "fault 1 line 3" ∷ codes "fault 1 line 4" ∷ codes "fault 1 line 5" ∷ codes "fault 1 line 6" ∷ codes "fault 1 line 7" ∷ codes "fault 1 line 8" ∷ [])
+    ≡ lines (codes "unknown" ∷ codes "done 1" ∷ codes "unknown" ∷ codes "done 2" ∷ codes "unknown" ∷ codes "done 3" ∷ codes "unknown" ∷ codes "done 4" ∷ codes "unknown" ∷ codes "done 5" ∷ codes "unknown" ∷ codes "done 6" ∷ codes "unknown" ∷ codes "done 7" ∷ codes "unknown" ∷ codes "done 8" ∷ [])
 unfolding takes takes_all takes_torn takes_pieces word_in word_alone read_segment fault_of_segment txids_of segment_file_name name_digits reads_of edit_of_line digits escape_byte datanodes either_of_line either_in report_in dn_in kind_in kind_of object_in value_of tx_in op_in op_of txid_in whole_in number_in path_in profile_in edit_in blocks_in items_in block_in is_utf8 chars encode value punctuate lex content word after_number number_of scan_numeral image_text head_data form_data end_data
 no_numbers = refl
 

@@ -29,7 +29,7 @@ named line (row ∷ rows) = if bytes_eq line row.0 then Some row.1 else named li
 unfoldable pub word_alone : List ℕ → Option Word
 word_alone line = named line (
     (codes "sync", word.Sync) ∷ (codes "status", word.Status) ∷ (codes "held", word.Held None) ∷ (codes "unsafe", word.Unsafe None)
-    ∷ (codes "tables", word.Tables) ∷ (codes "checkpoint", word.Checkpoint) ∷ []
+    ∷ (codes "tables", word.Tables) ∷ (codes "checkpoint", word.Checkpoint) ∷ (codes "help", word.Help) ∷ []
     )
 
 -- a txid, and behind ` epoch ` the epoch in which it is asked; without one it is asked in epoch 0
@@ -65,6 +65,7 @@ asking =
     (codes "held ", λ text. option_map (λ n. word.Held (Some n)) (number_word text))
     ∷ (codes "unsafe ", λ text. option_map (λ n. word.Unsafe (Some n)) (number_word text))
     ∷ (codes "block ", λ text. option_map (λ n. word.Block n) (number_word text))
+    ∷ (codes "replicas ", λ text. option_map (λ n. word.Replicas n) (number_word text))
     ∷ (codes "gone ", λ text. option_map (λ n. word.Gone n) (number_word text))
     ∷ (codes "seen ", λ text. option_map (λ n. word.Seen n) (number_word text))
     ∷ (codes "epoch ", λ text. option_map (λ n. word.Epoch n) (number_word text))
@@ -78,10 +79,20 @@ abbrev pub or_else : Option Word → Option Word → Option Word
 or_else None other = other
 or_else (Some w) other = Some w
 
--- a line has at most 65,536 bytes, of UTF-8
-abbrev pub is_text : List ℕ → Bool
-is_text line = nat_le (length line) max_line && is_utf8 line
+-- the word that a line of UTF-8 is, with nothing before or behind it, and one space between two parts of it
+abbrev pub known_word : List ℕ → Option Word
+known_word line = if is_utf8 line then or_else (word_alone line) (behind_prefix line) else None
 
--- the word that a line is, with nothing before or behind it, and one space between two parts of it
+-- the first byte is a letter from a to z
+abbrev pub begins_as_word : List ℕ → Bool
+begins_as_word [] = false
+begins_as_word (first ∷ rest) = nat_le 97 first && nat_le first 122
+
+-- what a line is that is no word
+abbrev pub unknown_word : List ℕ → Option Word
+unknown_word line = if begins_as_word line then Some word.Unknown else None
+
+-- The word that a line of at most 65,536 bytes is, or that it begins as, whatever bytes follow. Each word begins with a letter, and no line
+-- of data does.
 unfoldable pub word_in : List ℕ → Option Word
-word_in line = if is_text line then or_else (word_alone line) (behind_prefix line) else None
+word_in line = if nat_le (length line) max_line then or_else (known_word line) (unknown_word line) else None

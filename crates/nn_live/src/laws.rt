@@ -1,6 +1,7 @@
 //! What holds of every service, whatever lines came.
 ghost use Rattle.nn_live.specs.Laws.{StandsAtItsLog, FollowsWhatCame, AnswersThePicture, PromotesAtTheEnd, PromotesInNoLowerEpoch, TakesOrTellsEachReport, NothingElseIsSent, MayBeSentTwice};
 ghost use Rattle.nn_live.specs.Taking.{MayBeCut};
+ghost use Rattle.nn_live.specs.WordLaws.{BlockTellsThePath, MistypedChangesNothing, NothingChangesNothing, TornWordChangesNothing};
 
 /// Whatever lines came, there is a log at which, with the messages that were taken, the standby stands.
 pub fn a_service_stands_at_its_log()
@@ -47,4 +48,18 @@ pub fn nothing_else_is_sent()
 /// Each transaction of the log is an edit of the lines that came.
 pub fn a_service_follows_what_came()
     ensures { FollowsWhatCame }
+{}
+
+/// What `block` tells of a block is what `replicas` tells of it, with the path of its file behind the first line; of a block that no
+/// file holds both tell the same.
+pub fn block_tells_the_path()
+    ensures { BlockTellsThePath }
+{}
+
+/// A line that begins as words do and is none changes nothing of what the service holds: it is counted, and answered. So does a line
+/// that is neither word nor data, and what begins as a word where its line feed never came: these are told.
+pub fn a_mistyped_word_changes_nothing()
+    ensures word { MistypedChangesNothing }
+    ensures other { NothingChangesNothing }
+    ensures torn { TornWordChangesNothing }
 {}

@@ -23,8 +23,9 @@ mod torn;
 mod word;
 
 pub use laws::{
-    a_promotion_gives_up_no_edit, a_promotion_shows_the_picture, a_segment_may_be_sent_twice,
-    a_service_stands_at_its_log, an_input_may_be_cut,
+    a_mistyped_word_changes_nothing, a_promotion_gives_up_no_edit, a_promotion_shows_the_picture,
+    a_segment_may_be_sent_twice, a_service_stands_at_its_log, an_input_may_be_cut,
+    block_tells_the_path,
 };
 pub use live::Live;
 pub use run::{LiveOptions, run_live};

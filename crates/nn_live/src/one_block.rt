@@ -1,23 +1,23 @@
 //! What a service answers of one block.
 ghost use Rattle.std.specs.Prelude.{◌≡◌, ◌≤◌, ◌==◌, filter, flat_map};
 ghost use Rattle.nn_device.specs.Page.{PutsPiece};
-ghost use Rattle.nn_types.specs.declared.report.Message.{Message};
 ghost use Rattle.nn_model.specs.Status.{block_at};
-ghost use Rattle.nn_listing.specs.Tables.{datanodes, order_text, replica_text};
+ghost use Rattle.nn_listing.specs.Tables.{datanodes, order_line, replica_text};
 ghost use Rattle.nn_replicas.specs.Agreement.{Shows};
-ghost use Rattle.nn_replicas.specs.Calls.{has_order, replica_at};
+ghost use Rattle.nn_replicas.specs.Calls.{orders_at, replica_at};
+ghost use Rattle.nn_shadow.specs.Contents.{standby_of};
 ghost use Rattle.nn_tree.specs.Found.{form_of};
 ghost use Rattle.nn_tree.specs.Listing.{lent_names};
 ghost use Rattle.nn_tree.specs.Rows.{greatest_depth};
-ghost use Rattle.nn_live.specs.Answers.{block_line, held_line, holder_lines};
+ghost use Rattle.nn_live.specs.Answers.{about_block, block_line, head_text, held_line, holder_lines};
 
-use crate::texts::{put_block, put_held};
+use crate::texts::{put_block, put_block_head, put_held};
 use nn_device::{Page, Writer};
 use nn_listing::{put_block_replicas, put_order};
-use nn_postponed::Held;
+use nn_postponed::Waiting;
 use nn_replicas::Replicas;
+use nn_shadow::Shadow;
 use nn_tree::{Found, Namespace, Rows};
-use nn_types::limits::MAX_DATANODES;
 use nn_types::{Block, BlockId};
 use std::io::Write;
 
@@ -99,29 +99,51 @@ pub(crate) fn put_orders_of<W: Write>(
     table: &Replicas,
     id: BlockId,
 )
-    ensures { PutsPiece (flat_map (λ dn. order_text id dn (has_order table.now dn id)) datanodes) page.old writer.old page.new writer.new }
+    ensures { PutsPiece (flat_map (order_line id) (orders_at table.now id)) page.old writer.old page.new writer.new }
 {
-    let mut dn = 0;
-    'datanodes: while dn < MAX_DATANODES {
-        dn += 1;
-        if table.has_order(dn, id) {
-            put_order(page, writer, id, dn);
-        }
+    for dn in table.orders_of(id) {
+        put_order(page, writer, id, dn);
     }
 }
 
-/// Puts what waits for a block.
-pub(crate) fn put_held_of<W: Write>(
+/// Puts these messages that wait.
+pub(crate) fn put_waiting<W: Write>(page: &mut Page, writer: &mut Writer<W>, waiting: Waiting<'_>)
+    ensures { PutsPiece (flat_map held_line waiting.entry) page.old writer.old page.new writer.new }
+{
+    for message in waiting {
+        put_held(page, writer, &message);
+    }
+}
+
+/// Puts the line of a block that a file holds, without the path.
+pub(crate) fn put_head_of<W: Write>(
     page: &mut Page,
     writer: &mut Writer<W>,
-    mut held: Held<'_>,
+    namespace: &Namespace,
     id: BlockId,
 )
-    ensures { PutsPiece (flat_map held_line (filter (λ (m : Message). m.block == id) held.entry)) page.old writer.old page.new writer.new }
+    ensures { PutsPiece (head_text (block_at namespace.now id)) page.old writer.old page.new writer.new }
 {
-    'held: while let Some(message) = held.next() {
-        if message.block == id {
-            put_held(page, writer, &message);
-        }
+    if let Some(row) = namespace.block(id) {
+        put_block_head(page, writer, &row.block);
+        page.put_byte(writer, b'\n');
+    }
+}
+
+/// Puts the replicas of a block, its orders, and what waits for it: in time for the logarithm of all blocks, and for what is put.
+pub(crate) fn put_about<W: Write>(
+    page: &mut Page,
+    writer: &mut Writer<W>,
+    shadow: &Shadow,
+    id: BlockId,
+)
+    requires { Shows shadow.now.namespace shadow.now.table }
+    ensures { PutsPiece (about_block (standby_of shadow.now) id) page.old writer.old page.new writer.new }
+{
+    let table = shadow.replicas();
+    put_replicas_of(page, writer, shadow.namespace(), table, id);
+    put_orders_of(page, writer, table, id);
+    if let Some(waiting) = shadow.held_about(id) {
+        put_waiting(page, writer, waiting);
     }
 }

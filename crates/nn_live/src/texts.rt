@@ -6,7 +6,8 @@ ghost use Rattle.nn_device.specs.Page.{PutsPiece};
 ghost use Rattle.nn_tree.specs.Listing.{lent_names};
 ghost use Rattle.nn_listing.specs.Listing.{path_json};
 ghost use Rattle.nn_listing.specs.Summary.{line};
-ghost use Rattle.nn_live.specs.Answers.{and_number, block_line, held_line, state_answer};
+ghost use Rattle.nn_live.specs.Answers.{and_number, block_head, block_line, held_line, state_answer};
+ghost use Rattle.nn_live.specs.Help.{help_text, unknown_text};
 ghost use Rattle.nn_live.specs.Serving.{fault_text};
 
 use nn_device::{Page, Writer};
@@ -15,6 +16,23 @@ use nn_shadow::Stop;
 use nn_text::{put_number, put_path};
 use nn_types::{Block, BlockId, Message, fault};
 use std::io::Write;
+
+// The words, as docs/LIVE.md has them.
+const HELP: &[u8] = b"sync
+status
+held [N]
+unsafe [N]
+block ID
+replicas ID
+path \"TEXT\"
+tables
+checkpoint
+gone D
+seen T
+epoch E
+promote T [epoch E] [lost]
+help
+";
 
 /// Puts `fault N line L`, or with another place.
 pub(crate) fn put_fault<W: Write>(
@@ -117,13 +135,34 @@ pub(crate) fn put_block<W: Write>(
 )
     ensures { PutsPiece (block_line (lent_names names.now) block.now) page.old writer.old page.new writer.new }
 {
+    put_block_head(page, writer, block);
+    page.put_byte(writer, b' ');
+    put_path(page, writer, names);
+    page.put_byte(writer, b'\n');
+}
+
+/// Puts `block BLOCK STAMP LEN`, without a line feed.
+pub(crate) fn put_block_head<W: Write>(page: &mut Page, writer: &mut Writer<W>, block: &Block)
+    ensures { PutsPiece (block_head block.now) page.old writer.old page.new writer.new }
+{
     page.put(writer, b"block");
     put_field(page, writer, block.id.get());
     put_field(page, writer, block.stamp.get());
     put_field(page, writer, block.len.get());
-    page.put_byte(writer, b' ');
-    put_path(page, writer, names);
-    page.put_byte(writer, b'\n');
+}
+
+/// Puts the words, a line each.
+pub(crate) fn put_help<W: Write>(page: &mut Page, writer: &mut Writer<W>)
+    ensures { PutsPiece help_text page.old writer.old page.new writer.new }
+{
+    page.put(writer, HELP);
+}
+
+/// Puts `unknown`.
+pub(crate) fn put_unknown<W: Write>(page: &mut Page, writer: &mut Writer<W>)
+    ensures { PutsPiece unknown_text page.old writer.old page.new writer.new }
+{
+    page.put(writer, b"unknown\n");
 }
 
 // The state of a service that was not stopped.

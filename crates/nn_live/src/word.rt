@@ -3,7 +3,7 @@ ghost use Rattle.std.specs.Prelude.{◌≡◌, ◌<◌, ◌^◌, None, IfOk, IfS
 ghost use Rattle.serde_json.specs.Data.{Data};
 ghost use Rattle.serde_json.specs.Find.{as_str};
 ghost use Rattle.nn_plain.specs.Spelling.{plain_of, spelled_or};
-ghost use Rattle.nn_live.specs.Words.{prefixed, word_alone, asking, number_word, path_word, promotion_in, promotion_of, word_in};
+ghost use Rattle.nn_live.specs.Words.{prefixed, word_alone, asking, number_word, path_word, promotion_in, promotion_of, known_word, unknown_word, word_in};
 
 use itoa::Buffer;
 use json::{Reader, Scratch};
@@ -43,10 +43,17 @@ pub enum Word {
     /// The log has ended at this txid, says a caller in this epoch, which is 0 where none is said. With `losing`, what was read or
     /// seen above it is given up.
     Promote { txid: u64, epoch: u64, losing: bool },
+    /// What `Block` asks for without the path, which takes no walk of the namespace.
+    Replicas(BlockId),
+    /// What words there are.
+    Help,
+    /// A line that begins with a letter from a to z, as words do, and is none of them.
+    Unknown,
 }
 
 impl Word {
-    /// The word that a line is, if it is one. A line of JSON is none.
+    /// The word that a line is, or begins as: `Unknown` where it begins with a letter from a to z and is no word. A line of JSON's
+    /// objects is none, and neither is one of more than 65,536 bytes.
     ///
     /// `scratch` is the reader's room, which a caller keeps over its lines; what a line left in it has no part in the next.
     pub fn read(
@@ -62,18 +69,9 @@ impl Word {
         if line.len() > MAX_LINE_LEN {
             return Ok(None);
         }
-        let Ok(text) = from_utf8(line) else {
-            return Ok(None);
-        };
-        if let Some(word) = alone(text) {
-            return Ok(Some(word));
-        }
-        let Some(text) = line.strip_prefix(b"path ") else {
-            return Ok(before_number(line));
-        };
-        match path_in(alloc, scratch, text)? {
-            Some(path) => Ok(Some(Word::Path(path))),
-            None => Ok(None),
+        match known(alloc, scratch, line)? {
+            Some(word) => Ok(Some(word)),
+            None => Ok(unknown(line)),
         }
     }
 }
@@ -85,6 +83,35 @@ fn is_object(line: &[u8]) -> bool
     match line.first() {
         Some(first) => *first > b'z',
         None => false,
+    }
+}
+
+// The word that a line of at most 65,536 bytes is, if it is one.
+fn known(alloc: Global, scratch: &mut Scratch, line: &[u8]) -> Result<Option<Word>, AllocError>
+    ensures { IfOk result (λ word. word ≡ known_word line.now) }
+{
+    let Ok(text) = from_utf8(line) else {
+        return Ok(None);
+    };
+    if let Some(word) = alone(text) {
+        return Ok(Some(word));
+    }
+    let Some(text) = line.strip_prefix(b"path ") else {
+        return Ok(before_number(line));
+    };
+    match path_in(alloc, scratch, text)? {
+        Some(path) => Ok(Some(Word::Path(path))),
+        None => Ok(None),
+    }
+}
+
+// What a line is that is no word: unknown, if it begins as words do.
+fn unknown(line: &[u8]) -> Option<Word>
+    ensures { result ≡ unknown_word line.now }
+{
+    match line.first() {
+        Some(first) if *first >= b'a' && *first <= b'z' => Some(Word::Unknown),
+        _ => None,
     }
 }
 
@@ -100,6 +127,7 @@ fn alone(line: &str) -> Option<Word>
         "unsafe" => Some(Word::Unsafe(None)),
         "tables" => Some(Word::Tables),
         "checkpoint" => Some(Word::Checkpoint),
+        "help" => Some(Word::Help),
         _ => None,
     }
 }
@@ -116,6 +144,9 @@ fn before_number(line: &[u8]) -> Option<Word>
     }
     if let Some(text) = line.strip_prefix(b"block ") {
         return Some(Word::Block(id_in(text)?));
+    }
+    if let Some(text) = line.strip_prefix(b"replicas ") {
+        return Some(Word::Replicas(id_in(text)?));
     }
     if let Some(text) = line.strip_prefix(b"gone ") {
         return Some(Word::Gone(number_in(text)?));

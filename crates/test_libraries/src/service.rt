@@ -9,7 +9,7 @@ use std::alloc::Global;
 use std::test::Fail;
 
 // A report, and its DataNode that is gone. A segment with a gap, one that a second start mark ends, that one whole, and a third
-// time, and a line that is nothing. An image, a promotion that would lose an edit, and questions in the midst of a segment. A
+// time, and a word that is unknown. An image, a promotion that would lose an edit, and questions in the midst of a segment. A
 // promotion inside it, and one that gives it up. Then nothing comes in any more; the last bytes are a word without a line feed.
 const INPUT: &str = "  
 {\"dn\":1,\"block\":1073741825,\"gen\":1001,\"len\":5,\"kind\":\"received\"}
@@ -32,6 +32,8 @@ held 1
 status
 path \"/a\"
 block 1073741825
+replicas 1073741825
+help
 unsafe 5
 promote 3
 promote 3 lost
@@ -46,7 +48,8 @@ fault 13 segment 2
 applied 1
 applied 2
 applied 3
-fault 1 line 14
+unknown
+done 14
 {\"awaiting\":[],\"image\":\"hdfs-standby\",\"last_block\":1073741824,\"last_gen\":1000,\"profile\":1,\"txid\":3,\"version\":2}
 {\"path\":\"/a\",\"type\":\"dir\"}
 {\"end\":1}
@@ -84,22 +87,40 @@ done 20
 held 1073741825 1 1 1001 received
 held 1073741825 1 3 0 deleted
 done 21
-more 0
+held 1073741825 1 1 1001 received
+held 1073741825 1 3 0 deleted
 done 22
-fault 13 segment 5
+sync
+status
+held [N]
+unsafe [N]
+block ID
+replicas ID
+path \"TEXT\"
+tables
+checkpoint
+gone D
+seen T
+epoch E
+promote T [epoch E] [lost]
+help
 done 23
+more 0
+done 24
+fault 13 segment 5
+done 25
 processed 1 1 1073741825 flush
 processed 1 3 1073741825 flush
-done 24
-fault 53 line 25
+done 26
+fault 53 line 27
 txid 3
 dir \"/\"
 dir \"/a\"
 blocks 0 safe 0 needed 0 mode off
-done 26
-fault 53 line 27
-done 27
-fault 1 line 28
+done 28
+fault 53 line 29
+done 29
+fault 1 line 30
 ";
 
 type Out = Writer<Vec<u8>>;

@@ -3,7 +3,7 @@ use json::Scratch;
 use nn_live::Word;
 use std::test::Fail;
 
-// The words that stand alone in turn, and 100 and more with a number or a block; 0 is no word.
+// The words that stand alone in turn, and 100 and more with a number or a block; 0 is no word, and 9 one that is unknown.
 fn number_of(word: Option<Word>) -> u64 {
     match word {
         None => 0,
@@ -14,9 +14,12 @@ fn number_of(word: Option<Word>) -> u64 {
         Some(Word::Tables) => 5,
         Some(Word::Checkpoint) => 6,
         Some(Word::Path(_)) => 7,
+        Some(Word::Help) => 8,
+        Some(Word::Unknown) => 9,
         Some(Word::Held(Some(n))) => 100 + n % 50,
         Some(Word::Unsafe(Some(n))) => 200 + n % 50,
         Some(Word::Block(_)) => 300,
+        Some(Word::Replicas(_)) => 350,
         Some(Word::Gone(n)) => 400 + n % 50,
         Some(
             Word::Promote {
@@ -51,6 +54,8 @@ fn each_word_is_read(rt: HostRuntime) -> Result<(), Fail> {
         ("held 0", 100),
         ("unsafe 1", 201),
         ("block 1073741825", 300),
+        ("replicas 1073741825", 350),
+        ("help", 8),
         ("gone 3", 403),
         ("promote 9223372036854775807", 507),
         ("promote 4 lost", 604),
@@ -58,13 +63,18 @@ fn each_word_is_read(rt: HostRuntime) -> Result<(), Fail> {
         ("promote 4 epoch 9223372036854775807 lost", 7_604),
         ("seen 5", 705),
         ("epoch 6", 806),
-        ("promote 9223372036854775808", 0),
-        ("promote 04", 0),
-        ("promote 4 epoch 03", 0),
-        ("promote 4 epoch", 0),
-        ("promote 4 lost epoch 3", 0),
-        ("epoch", 0),
-        ("path /a", 0),
+        ("promote 9223372036854775808", 9),
+        ("promote 04", 9),
+        ("promote 4 epoch 03", 9),
+        ("promote 4 epoch", 9),
+        ("promote 4 lost epoch 3", 9),
+        ("epoch", 9),
+        ("path /a", 9),
+        ("replicas", 9),
+        ("help ", 9),
+        ("Help", 0),
+        (" help", 0),
+        ("{help}", 0),
         ("", 0),
     ] {
         let word = Word::read(rt.alloc(), &mut scratch, line.as_bytes())?;

@@ -15,8 +15,8 @@ ghost use Rattle.nn_live.specs.declared.word.Word.TheVariants as word;
 ghost use Rattle.nn_types.specs.Limits.{max_datanodes};
 
 use super::{Service, ServiceFault};
-use crate::one_block::{put_held_of, put_holder, put_orders_of, put_replicas_of};
-use crate::texts::{put_counts_of, put_held, put_state, put_text};
+use crate::one_block::{put_about, put_head_of, put_holder};
+use crate::texts::{put_counts_of, put_held, put_help, put_state, put_text, put_unknown};
 use crate::word::Word;
 use nn_device::{Page, Writer};
 use nn_image::ReadyImage;
@@ -74,6 +74,9 @@ impl Service {
                 epoch,
                 losing,
             } => return self.promote_in(page, writer, *txid, *epoch, *losing),
+            Word::Replicas(id) => self.replicas(page, writer, *id),
+            Word::Help => put_help(page, writer),
+            Word::Unknown => put_unknown(page, writer),
         }
         Ok(())
     }
@@ -173,12 +176,18 @@ impl Service {
         let Ok(rows) = self.rows() else {
             return Err(ServiceFault::OutOfMemory);
         };
-        let table = self.shadow.replicas();
         put_holder(page, writer, rows, id);
-        put_replicas_of(page, writer, self.shadow.namespace(), table, id);
-        put_orders_of(page, writer, table, id);
-        put_held_of(page, writer, self.shadow.held(), id);
+        put_about(page, writer, &self.shadow, id);
         Ok(())
+    }
+
+    // Answers the same without the path of the file: by look-ups of the block alone.
+    fn replicas<W: Write>(&self, page: &mut Page, writer: &mut Writer<W>, id: BlockId)
+        ensures { ServiceSteps (λ asked s. does asked (word.Replicas id) s) self.now self.now (λ text. PutsPiece text page.old writer.old page.new writer.new) }
+    {
+        self.shadow.recall_invariant();
+        put_head_of(page, writer, self.shadow.namespace(), id);
+        put_about(page, writer, &self.shadow, id);
     }
 
     // Answers with the line of what stands at a path, if anything does. To come there takes time in its depth times the logarithm

@@ -87,6 +87,10 @@ fn read(table: &Replicas, call: &mut Call<'_>) -> bool {
         show_replicas(table, call);
     } else if call.is("orders") {
         show_orders(table, call);
+    } else if call.is("orders_of") {
+        for dn in table.orders_of(call.id(1)) {
+            call.show(&dn);
+        }
     } else if call.is("rows") {
         for (_, row) in table.rows() {
             call.show_row(&row);

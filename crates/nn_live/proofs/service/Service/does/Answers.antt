@@ -1,8 +1,9 @@
-use Rattle.std.proofs.Common.{false, [], inl, inr, sym, subst, ap, ◌∙◌}
+use Rattle.std.proofs.Common.{false, [], inl, inr, refl, sym, subst, ap, ◌∙◌}
 use Rattle.std.specs.Prelude.{OnOk}
 use Rattle.std.proofs.lemmas.Result.{IfOk-weaker, IfErr-weaker}
 use Rattle.nn_device.specs.Page.{PutsPiece}
 use Rattle.nn_device.proofs.Pages.{puts_nothing}
+use Rattle.nn_live.specs.Help.{help_text, unknown_text}
 use Rattle.nn_live.specs.Live.{LiveSetup, ServiceState, does, empty_report, hands}
 use Rattle.nn_live.specs.Serving.{Breaks, FollowsStep, ServiceSteps}
 use Rattle.nn_live.specs.declared.word.Word.{Word}
@@ -10,7 +11,7 @@ use Rattle.nn_live.specs.declared.word.Word.TheVariants as word
 use Rattle.nn_live.proofs.Breaking.{begin_handed, none_done, none_told, same_breaks}
 use Rattle.nn_live.proofs.Growing.{does_grow}
 use Rattle.nn_live.proofs.Gone.{same_gone}
-use Rattle.nn_live.proofs.Places.{same_makes}
+use Rattle.nn_live.proofs.Places.{only_tells, same_makes}
 use Rattle.nn_live.proofs.service.Service.does.Goals as goal
 
 -- what a word does
@@ -50,6 +51,22 @@ returns-in-Epoch-clause-ok g c = (
   puts_nothing c.args.page.now c.args.writer.now,
   subst (λ (w : Word). FollowsStep (λ asked s. does asked w s) c.args.self.now c.name_epoch.new.self []) (sym c.in-Epoch.is) c.name_epoch.ensures.step,
 )
+
+pub returns-in-Replicas-clause-ok : goal.returns-in-Replicas-clause-ok
+returns-in-Replicas-clause-ok g c =
+    subst (λ (w : Word). ServiceSteps (λ asked s. does asked w s) c.args.self.now c.args.self.now (λ text. PutsPiece text c.args.page.now c.args.writer.now c.replicas.new.page c.replicas.new.writer)) (sym c.in-Replicas.is) c.replicas.ensures
+
+pub returns-in-Help-clause-ok : goal.returns-in-Help-clause-ok
+returns-in-Help-clause-ok g c =
+    let told = only_tells (λ asked s. does asked word.Help s) c.args.self.now help_text (λ asked s i. refl) in
+    subst (λ (w : Word). ServiceSteps (λ asked s. does asked w s) c.args.self.now c.args.self.now (λ text. PutsPiece text c.args.page.now c.args.writer.now c.put_help.new.page c.put_help.new.writer)) (sym c.in-Help.is)
+    (help_text, c.put_help.ensures, told)
+
+pub returns-in-Unknown-clause-ok : goal.returns-in-Unknown-clause-ok
+returns-in-Unknown-clause-ok g c =
+    let told = only_tells (λ asked s. does asked word.Unknown s) c.args.self.now unknown_text (λ asked s i. refl) in
+    subst (λ (w : Word). ServiceSteps (λ asked s. does asked w s) c.args.self.now c.args.self.now (λ text. PutsPiece text c.args.page.now c.args.writer.now c.put_unknown.new.page c.put_unknown.new.writer)) (sym c.in-Unknown.is)
+    (unknown_text, c.put_unknown.ensures, told)
 
 pub returns-in-Gone-clause-ok : goal.returns-in-Gone-clause-ok
 returns-in-Gone-clause-ok g c = IfOk-weaker c.gone.result _ _ (λ _ step. (

@@ -94,13 +94,13 @@ abbrev pub EndsService : RunOptions → Reader → Reader → Writer → Writer 
 EndsService options before after output output' ended = (o : LiveOptions) × AsksFor options o × EndsServing o before after output output' ended
 
 -- a run, with threads or without: its output, and a reader that was not asked without end
-abbrev pub EndsRun : RunOptions → Bool → Reader → Reader → Writer → Writer → ℕ → Type 0
-EndsRun options threads before after output output' ended = WritesOutput (running options threads before after) output output' ended × (after.reads ≤ 2 ^ 24)
+abbrev pub WritesRun : RunOptions → Bool → Reader → Reader → Writer → Writer → ℕ → Type 0
+WritesRun options threads before after output output' ended = WritesOutput (running options threads before after) output output' ended × (after.reads ≤ 2 ^ 24)
 
 -- a service where one is asked for, else a run
 abbrev pub EndsSo : Bool → RunOptions → Bool → Reader → Reader → Writer → Writer → ℕ → Type 0
 EndsSo true options threads before after output output' ended = EndsService options before after output output' ended
-EndsSo false options threads before after output output' ended = EndsRun options threads before after output output' ended
+EndsSo false options threads before after output output' ended = WritesRun options threads before after output output' ended
 
 abbrev pub EndsAsAsked : Request → Reader → Reader → Writer → Writer → ℕ → Type 0
 EndsAsAsked r before after output output' ended = EndsSo r.live r.options r.threads before after output output' ended

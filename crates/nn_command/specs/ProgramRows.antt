@@ -16,7 +16,7 @@ use Rattle.nn_engine.specs.declared.engine.Options.{Options as RunOptions}
 use Rattle.nn_command.specs.declared.program.ArgumentsFault.TheVariants.{NotText, OutOfMemory}
 use Rattle.nn_command.specs.declared.options.Request.{Request}
 use Rattle.nn_command.specs.Options.{settings_line, lanes_line, command_line, ReadsAs, IsNumberOf, IsCapacity, AreReadAs, IsFlag, IsRequest, AskAs, is_contradictory}
-use Rattle.nn_command.specs.Program.{Streams, Serves, AreTaken, WritesText, RunsAsAsked, EndsRun, Helps, RefusesCommand, Explains, LacksMemory, ServesNone, TellsOf, explanation_line, memory_line, version_line}
+use Rattle.nn_command.specs.Program.{Streams, Serves, AreTaken, WritesText, RunsAsAsked, WritesRun, Helps, RefusesCommand, Explains, LacksMemory, ServesNone, TellsOf, explanation_line, memory_line, version_line}
 
 -- ---- Texts as numbers and flags.
 
@@ -237,7 +237,7 @@ not_run_with_errors r output ended h = let e : 3 ≡ 0 = ap (λ (w : Writer). w.
 
 -- nor does it ask its reader without end
 not_run_without_end : (options : RunOptions) (threads : Bool) (before : Reader) (output output' : Writer) (ended : ℕ)
-    → EndsRun options threads before (record before { reads = 16777217 }) output output' ended → ⊥
+    → WritesRun options threads before (record before { reads = 16777217 }) output output' ended → ⊥
 not_run_without_end options threads before output output' ended h = omega (arith, h.1)
 
 -- ---- Where there are no arguments, and where they ask for none.

@@ -3,7 +3,7 @@ ghost use Rattle.std.specs.Prelude.{◌≡◌, ◌≤◌, ◌⊎◌, ℕ, List, 
 ghost use Rattle.nn_device.specs.Device.{Took, FailedToWrite};
 ghost use Rattle.clap.specs.Words.{kind_of};
 ghost use Rattle.nn_engine.specs.Run.{running};
-ghost use Rattle.nn_command.specs.Program.{EndsAsAsked, EndsRun, EndsService, Explains, LacksMemory, Serves, ServesNone, TellsOf, WritesText, explanation_line, memory_line, no_reader, streams, version_line};
+ghost use Rattle.nn_command.specs.Program.{EndsAsAsked, WritesRun, EndsService, Explains, LacksMemory, Serves, ServesNone, TellsOf, WritesText, explanation_line, memory_line, no_reader, streams, version_line};
 ghost use Rattle.nn_types.specs.Limits.{max_capacity};
 
 use crate::options;
@@ -160,7 +160,7 @@ fn run_plain<R: Read, W: Write>(
     input: &mut Reader<R>,
     output: &mut Writer<W>,
 ) -> u8
-    ensures { EndsRun options.now false input.old input.new output.old output.new result }
+    ensures { WritesRun options.now false input.old input.new output.old output.new result }
 {
     match run(alloc, options, input, output) {
         Ok(run_end) => run_end.status,

@@ -86,12 +86,12 @@ FollowsWhatCame =
 -- ---- A promotion.
 
 -- the line says that the log has this transaction: it is its edit, or the word `seen` of it
-abbrev pub Names : List ℕ → ℕ → Type 0
-Names text txid = ((tx : Tx) × IsEdit text tx × (tx.txid ≡ txid)) ⊎ ((is_blank text ≡ false) × (word_in text ≡ Some (word.Seen txid)))
+abbrev pub NamesTxid : List ℕ → ℕ → Type 0
+NamesTxid text txid = ((tx : Tx) × IsEdit text tx × (tx.txid ≡ txid)) ⊎ ((is_blank text ≡ false) × (word_in text ≡ Some (word.Seen txid)))
 
 -- a line names no higher one
 abbrev pub IsUpTo : ℕ → List ℕ → Type 0
-IsUpTo txid text = (other : ℕ) → Names text other → other ≤ txid
+IsUpTo txid text = (other : ℕ) → NamesTxid text other → other ≤ txid
 
 -- the line names this epoch: by `epoch`, or by a promotion, refused or not
 abbrev pub NamesEpoch : List ℕ → ℕ → Type 0

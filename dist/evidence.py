@@ -56,9 +56,13 @@ def sum_of_folder(top):
 
 
 def libraries():
-    """The sum of each proved library that lies in out/, by its place."""
-    places = [f"crates/{name}/out/rlib/{name}.rlib" for name in chain()[0]]
-    return {place: sum_of_folder(os.path.join(ROOT, place)) for place in places if os.path.isdir(os.path.join(ROOT, place))}
+    """The sum of each library in out/ that a gate proved, by its place. One with a stamp is what an earlier check kept."""
+    sums = {}
+    for name in chain()[0]:
+        folder, place = os.path.join(ROOT, "crates", name, "out", "rlib"), f"crates/{name}/out/rlib/{name}.rlib"
+        if os.path.isdir(os.path.join(ROOT, place)) and not os.path.exists(os.path.join(folder, "stamp")):
+            sums[place] = sum_of_folder(os.path.join(ROOT, place))
+    return sums
 
 
 def files():

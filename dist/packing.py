@@ -32,7 +32,7 @@ def unpacked(path):
     """The folder of an archive and its files by name. It has plain files alone, all in that folder."""
     files = {}
     try:
-        with tarfile.open(path) as tar:
+        with tarfile.open(path, "r:gz") as tar:
             for entry in tar:
                 folder, _, name = entry.name.partition("/")
                 if not entry.isreg() or not name or name.startswith("/") or ".." in name.split("/"):

@@ -1,6 +1,7 @@
 """Tries .ci/releases on a release of a clone, and on archives that were changed with all their sums.
 
-The clone's release is of a gate that never ran, and of a program that may be unproved: `rt run` has a stand-in there.
+The clone's release is of a gate that never ran, and of a program that may be unproved: made-up folders stand for what the
+gate proved, and `rt run` would fail there.
 """
 import glob
 import os
@@ -13,8 +14,8 @@ from packing import File, pack, unpacked
 
 PLACE, LINK = "bin/nn_standby", "link/nn_standby.o"
 SOMEBODY = ["-c", "user.name=nobody", "-c", "user.email=nobody@example.invalid"]
-# What stands for the toolchain: it proves nothing, and says that it did.
-STAND_IN = 'case "$1" in run) exit 0;; *) exec {rt} "$@";; esac'
+# What stands for the toolchain: it proves nothing.
+STAND_IN = 'case "$1" in run) exit 1;; *) exec {rt} "$@";; esac'
 
 
 class Swaps:
@@ -28,6 +29,11 @@ class Swaps:
         for place, name in ((PROGRAM, trials.program), (OBJECT, f"{trials.program}.o")):
             os.makedirs(os.path.dirname(os.path.join(top, place)), exist_ok=True)
             shutil.copy(name, os.path.join(top, place))
+        for name in chain()[0]:
+            library = os.path.join(top, "crates", name, "out", "rlib", f"{name}.rlib")
+            os.makedirs(library)
+            with open(os.path.join(library, "format"), "w") as file:
+                file.write(name)
 
     def git(self, *words):
         return subprocess.run(["git", *SOMEBODY, *words], cwd=self.top, check=True, capture_output=True, text=True).stdout.strip()
@@ -35,7 +41,9 @@ class Swaps:
     def make(self):
         """Makes the release and commits it, as whoever has one to make does."""
         version = subprocess.run(["rt", "version"], check=True, capture_output=True, text=True).stdout.strip()
-        sums = [f"{sum_of(read(os.path.join(self.top, place)))}  {place}" for place in (PROGRAM, OBJECT)]
+        told = subprocess.run([os.path.join(self.top, "dist", "evidence.py")], check=True, capture_output=True, text=True).stdout
+        sums = told.splitlines()
+        self.tally.holds("the sums of what a gate made", len(sums) == 2 + len(chain()[0]), told)
         lines = [f"commit {self.git('rev-parse', 'HEAD')}", f"toolchain {version}", "1 passed, 0 failed", *sums, "the gate passed"]
         log = os.path.join(self.top, "out", "gate.log")
         os.makedirs(os.path.dirname(log), exist_ok=True)

@@ -100,9 +100,13 @@ def check_unwritten(trials):
     """An output that can't be written is one of which nothing was said, also where nobody hears why."""
     words = [os.path.join(HERE, "audit"), "--program", trials.check.program, "--from", trials.image(trials.first)]
     words += ["--to", trials.image(trials.last), trials.whole]
+    # Python may hold back what it writes to standard error.
+    held_back = {name: value for name, value in os.environ.items() if name != "PYTHONUNBUFFERED"}
     with open("/dev/full", "wb") as full:
         for errors in (subprocess.PIPE, full):
-            trials.check.same("an output that is full", subprocess.run(words, stdout=full, stderr=errors).returncode, 2)
+            for how in (os.environ, held_back):
+                status = subprocess.run(words, stdout=full, stderr=errors, env=how).returncode
+                trials.check.same("an output that is full", status, 2)
 
 
 def check_damages(trials):

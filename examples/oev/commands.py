@@ -37,8 +37,10 @@ def judged(name, judge):
         told = f"{name}: nothing can be said: {reason}"
     except Exception:
         told = f"{name}: nothing can be said, because of a defect of this script:\n{traceback.format_exc()}"
-    # The status is the same where nobody reads what is told, or what is left of the output.
+    # The status is the same where nobody reads what is told, or what is left of either stream.
     with contextlib.suppress(OSError):
-        print(told.rstrip("\n"), file=sys.stderr)
-    os.dup2(os.open(os.devnull, os.O_WRONLY), sys.stdout.fileno())
+        print(told.rstrip("\n"), file=sys.stderr, flush=True)
+    nowhere = os.open(os.devnull, os.O_WRONLY)
+    for stream in (sys.stdout, sys.stderr):
+        os.dup2(nowhere, stream.fileno())
     return NOTHING_SAID

@@ -280,7 +280,7 @@ DAMAGES = [
     (
         "a block in two files",
         replaced(f"<id>{BLOCKS[2]}<", f"<id>{BLOCKS[3]}<"),
-        'inconsistent {"blocks":[{"gen":1001,',
+        f'inconsistent block {BLOCKS[3]} is in two files, "/data/draft" and "/data/notes"',
     ),
     (
         "a block above the last id",

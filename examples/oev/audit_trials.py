@@ -1,13 +1,16 @@
 """Trials of `audit`: damages, lost edits, forms of real clusters, programs that fail, chains, clusters at random."""
 import contextlib
+import gzip
 import io
 import json
 import os
+import pty
 import random
 import re
 import shutil
 import subprocess
 import tempfile
+import time
 from types import SimpleNamespace
 
 from at_random import cluster_at_random
@@ -17,6 +20,7 @@ from auditing import Audit
 from cases import document, record
 from cluster import Cluster
 from formats import Refused
+from progress import Progress
 from proved import Program
 
 HERE = os.path.dirname(os.path.realpath(__file__))
@@ -156,7 +160,7 @@ def check_scope(trials):
     got = found["status"], found["differences"], found["alike"]["files"], found["from"], found["to"]
     wanted = "differs", ['replication "/data/spare" 2 3'], 4, trials.first, trials.last
     trials.check.same("the object of a difference", got, wanted)
-    trials.refused("no object where nothing can be said", "No such file", "--json", "--from", "nothing", *words[2:])
+    trials.refused("no object where nothing can be said", "there is no file or folder nothing", "--json", "--from", "nothing", *words[2:])
 
 
 def object_of(trials, status, *words):
@@ -239,6 +243,7 @@ def check_nothing_said(trials):
     other = trials.image(trials.last, replaced("<namespaceId>1523048716<", "<namespaceId>7<"))
     twice = trials.image(trials.first, in_inode("spare", ">spare<", ">old<"))
     block = trials.image(trials.first, replaced(f"<id>{BLOCKS[2]}<", f"<id>{BLOCKS[1]}<"))
+    in_two = f'block {BLOCKS[1]} is in two files, "/data/draft" and "/data/notes"'
     low = trials.image(trials.first, replaced("V2>1003<", "V2>1002<"))
     ends = trials.log(*trials.records[:-1])
     gap = trials.log(*trials.records[:30], *trials.records[31:])
@@ -252,18 +257,91 @@ def check_nothing_said(trials):
         ("an image before the first", "log goes on behind TXID 58", ["--from", last, "--to", first, whole]),
         ("an image twice", "the log goes on behind TXID 18", ["--from", first, "--to", first, whole]),
         ("a first image with a name twice", 'itself: "/data": two', ["--from", twice, "--to", last, whole]),
-        ("a first image with a block in two files", "itself: {", ["--from", block, "--to", last, whole]),
+        ("a first image with a block in two files", f"itself: {in_two}", ["--from", block, "--to", last, whole]),
         ("a first image with a low stamp", "1002, below that of a block, 1003", ["--from", low, "--to", last, whole]),
         ("a gap", "TXID 32: a gap, since TXID 31 is next", ["--from", first, "--to", last, gap]),
         ("a gap behind the image", "TXID 21: a gap, since TXID 19 is next", ["--from", first, "--to", last, later]),
         ("a log that ends too soon", "the log ends at TXID 57, and", ["--from", first, "--to", last, ends]),
         ("a record that is refused", "OP_SYMLINK, TXID 33: ", ["--from", first, "--to", last, symlink]),
         ("no first image", "--from FROM has to name", ["--to", last, whole]),
-        ("no file", "No such file", ["--from", "nothing", "--to", last, whole]),
+        ("no file", "there is no file or folder nothing", ["--from", "nothing", "--to", last, whole]),
         ("no program", "there is no program", ["--from", first, "--to", last, whole, "--program", "nothing"]),
     ):
         trials.refused(name, reason, *arguments)
     trials.check.same("an audit without arguments", trials.check.run("audit")[0], 2)
+
+
+def check_texts(trials):
+    """What is no dump is told as what it is, a file's name comes once, and what is missing is told in words."""
+    first, last, whole = trials.image(trials.first), trials.image(trials.last), trials.whole
+    binary = trials.check.file("HDFSIMG1\0\0\0")
+    segment = os.path.join(trials.check.folder, "segment")
+    put(segment, b"\xff\xff\xff\xbe\x00\x00")
+    packed = os.path.join(trials.check.folder, "packed")
+    put(packed, gzip.compress(b"<fsimage/>"))
+    nowhere = os.path.join(trials.check.folder, "no", "program")
+    for name, reason, words in (
+        ("a binary image", f"{binary} is a binary image: run `hdfs oiv -p XML` on it", ["--to", binary, whole]),
+        ("a binary log", f"{segment} is a binary edit log: run `hdfs oev -p XML` on", ["--to", last, segment]),
+        ("an image that is compressed", f"{packed} is compressed by gzip: run `gunzip` on it", ["--to", packed, whole]),
+        ("a missing image", "said: there is no file or folder no image\n", ["--to", "no image", whole]),
+        ("a folder as an image", f"said: this is a folder: {trials.check.folder}\n", ["--to", trials.check.folder, whole]),
+        ("a missing program", f"there is no program {nowhere}: take that of a", ["--to", last, whole, "--program", nowhere]),
+    ):
+        trials.refused(name, reason, "--from", first, *words)
+    torn = trials.image(trials.last, lambda text: text[: len(text) // 2])
+    errors = trials.run("--from", first, "--to", torn, whole)[2]
+    trials.check.same("how often a file is named", errors.count(torn), 1)
+
+
+def check_progress(trials):
+    """How far an audit is comes after two seconds, once in half a second, and is taken away in the end."""
+    now, stream, note = [100.0], io.StringIO(), os.path.join(trials.check.folder, "note")
+    progress = Progress(stream, note, lambda: now[0])
+    name = os.path.join(trials.check.folder, "large")
+    put(name, bytes(10_000_000))
+    with progress.open(name) as file:
+        for seconds in (1.9, 0.2, 0.1, 0.5):
+            file.read(1_000_000)
+            now[0] += seconds
+        file.read(1_000_000)
+    progress.clear()
+    shown = stream.getvalue().split("\r")
+    wanted = ["", "reading large: 3 of 10 MB, 1.4 MB/s, 4 s left", "reading large: 5 of 10 MB, 1.9 MB/s, 2 s left"]
+    trials.check.same("what is shown", shown[:3], wanted)
+    trials.check.same("what is left of it", (shown[3].strip(), shown[4:]), ("", [""]))
+    with open(note) as file:
+        trials.check.same("what who waits reads", file.read(), f"2 {wanted[2]}\n")
+    silent = Progress(None, None, lambda: now[0])
+    with silent.open(name) as file:
+        now[0] += 10
+        trials.check.same("a file that is read in silence", len(file.read(10)), 10)
+    for words, is_shown in ((["--quiet"], False), ([], True)):
+        text = on_terminal(trials, *words)
+        trials.check.same(f"an audit on a terminal, {words}", ("MB/s" in text, "nothing can be said" in text), (is_shown, True))
+
+
+def on_terminal(trials, *words):
+    """What an audit of an image that comes slowly through a pipe tells on a terminal."""
+    master, terminal = pty.openpty()
+    slow = os.path.join(trials.check.folder, f"slow-{len(words)}")
+    os.mkfifo(slow)
+    words = [os.path.join(HERE, "audit"), "--program", trials.check.program, "--from", slow, "--to", slow, slow, *words]
+    child = subprocess.Popen(words, stdout=subprocess.DEVNULL, stderr=terminal)
+    os.close(terminal)
+    with open(slow, "wb") as pipe:
+        pipe.write(b"<fsimage>" + b" " * 70_000)
+        pipe.flush()
+        time.sleep(2.2)
+        with contextlib.suppress(BrokenPipeError):
+            pipe.write(b" " * 200_000)
+    told = b""
+    with contextlib.suppress(OSError):
+        while piece := os.read(master, 65_536):
+            told += piece
+    os.close(master)
+    child.wait()
+    return told.decode()
 
 
 def check_failing(trials):
@@ -371,7 +449,8 @@ def at_once(check, program, cluster, first, last, name, state=None):
         with open(path, "w", encoding="utf-8", newline="") as file:
             file.write(text)
     start = None if state and os.path.exists(state) else names[0]
-    options = SimpleNamespace(start=start, to=names[1], files=names[2:], state=state, most=20, json=False)
+    options = SimpleNamespace(start=start, to=names[1], files=names[2:], state=state, most=20)
+    options.__dict__.update(json=False, quiet=True, progress=None)
     output = io.StringIO()
     with contextlib.redirect_stdout(output), tempfile.TemporaryDirectory() as folder:
         try:
@@ -392,6 +471,8 @@ PARTS = (
     check_table,
     check_layouts,
     check_nothing_said,
+    check_texts,
+    check_progress,
     check_failing,
     check_chain,
     check_random,

@@ -4,15 +4,18 @@ What can't be read leaves nothing to be said, and is Refused. A second image tha
 """
 import contextlib
 import io
+import itertools
 import json
 import os
+import sys
 from collections import Counter
 
 from between import Converted
 from chain import Chain, Link, Start
 from checkpoint import low_number, read_image, write_image
 from comparison import Differences, alike_texts, compare
-from formats import Refused, image_line
+from formats import Refused, image_line, to_json
+from progress import Progress
 from table import Grew, Table
 from verdict import AsObject, Printed, Scope, Verdict
 
@@ -30,6 +33,8 @@ class Audit:
         self.table = Table(link.names, link.replications) if link else Table()
         self.link = link
         self.differences = Differences(options.most, self.output.tell, self.table)
+        is_shown = not options.quiet and sys.stderr is not None and sys.stderr.isatty()
+        self.progress = Progress(sys.stderr if is_shown else None, options.progress)
         self.notes = []
         if link and link.is_old:
             self.notes.append(f"{self.chain.name} has no sum yet, and is taken as it is: the next one has its SHA-256")
@@ -38,6 +43,12 @@ class Audit:
 
     def run(self):
         """Tells what is found. Answers whether the second image is what the log makes of the first."""
+        try:
+            return self.judged()
+        finally:
+            self.progress.clear()
+
+    def judged(self):
         try:
             start, theirs, contradiction, log = self.prepared()
         except Refused as reason:
@@ -68,12 +79,12 @@ class Audit:
     def prepared(self):
         """Where the log goes on, the second image with its contradiction or None, and the log, all by one table."""
         start = self.start()
-        theirs, contradiction = read_image(self.options.to, self.table)
+        theirs, contradiction = read_image(self.options.to, self.table, self.progress.open)
         self.check_pair(start.link, theirs, contradiction)
         while True:
             known = len(self.table.names)
             with contextlib.suppress(Grew):
-                log = Converted(start, theirs.txid, self.options.files, self.folder, self.table)
+                log = Converted(start, theirs.txid, self.options.files, self.folder, self.table, self.progress.open)
                 theirs.told_kinds = log.bare
                 if contradiction is None:
                     contradiction = write_image(theirs, self.options.to, self.file("theirs.given"))
@@ -92,7 +103,7 @@ class Audit:
         if not self.options.start:
             raise Refused("--from FROM has to name the image that the log goes on from")
         name = self.file("ours.given")
-        known, (dump, contradiction) = None, read_image(self.options.start, self.table)
+        known, (dump, contradiction) = None, read_image(self.options.start, self.table, self.progress.open)
         contradiction = contradiction or dump.low_inode or low_number(dump)
         while contradiction is None and known != len(self.table.names):
             known = len(self.table.names)
@@ -123,7 +134,8 @@ class Audit:
             header["last_gen"] = raised
         with start.open() as image, open(log.name, "rb") as lines:
             image.readline()
-            fault = self.program.image_after([io.BytesIO(image_line(header)), image, lines], self.file("ours"))
+            pieces = self.progress.watched(image, "applying the log to the image"), self.progress.watched(lines, "applying the log")
+            fault = self.program.image_after([io.BytesIO(image_line(header)), *pieces], self.file("ours"))
         if fault is None:
             return True
         if fault.line is not None:
@@ -136,7 +148,7 @@ class Audit:
     def judge(self, theirs):
         """Lets the program read and print the second image. Answers how that contradicts itself, or None."""
         with open(self.file("theirs.given"), "rb") as image:
-            fault = self.program.image_after([image], self.file("theirs"))
+            fault = self.program.image_after([self.progress.watched(image, "reading the second image back")], self.file("theirs"))
             if fault is None:
                 return None
             image.seek(0)
@@ -206,5 +218,19 @@ def told_of(fault, image):
     """The line of an image that a fault is about, and what the fault means."""
     for number, line in enumerate(image, 1):
         if number == fault.line:
-            return f"{line[:300].decode('utf-8', 'replace').strip()}: {fault.meaning}"
+            twice = block_above(line, number, image)
+            return twice or f"{line[:300].decode('utf-8', 'replace').strip()}: {fault.meaning}"
     return fault.meaning
+
+
+def block_above(line, number, image):
+    """That a line has a block that one above it has too, with the paths of both; or None."""
+    row = json.loads(line)
+    ids = [b'"id":%d,' % block["id"] for block in row.get("blocks", ())]
+    image.seek(0)
+    for above in itertools.islice(image, number - 1) if ids else ():
+        for at, text in enumerate(ids):
+            if text in above:
+                paths = to_json(json.loads(above)["path"]), to_json(row["path"])
+                return f"block {row['blocks'][at]['id']} is in two files, {paths[0]} and {paths[1]}"
+    return None

@@ -18,7 +18,7 @@ SEGMENT_BYTES = 4_000_000
 class Converted:
     """The lines, in a file, with what is to be said of them."""
 
-    def __init__(self, start, until, files, folder, table):
+    def __init__(self, start, until, files, folder, table, opened):
         self.name = os.path.join(folder, "lines")
         self.map = os.path.join(folder, "map")
         header = start.header()
@@ -31,7 +31,7 @@ class Converted:
             conversion = Conversion(start.tree(), log, (), self.edits.edits_of)
             conversion.begin_after(start.link.txid)
             try:
-                take(conversion, files, until)
+                take(conversion, files, until, opened)
             except DoesNotApply as found:
                 self.fault = table.in_words(str(found))
         if self.edits.has_grown:
@@ -56,9 +56,9 @@ class Converted:
         return None
 
 
-def take(conversion, files, until):
+def take(conversion, files, until, opened):
     """Converts the records up to a TXID, which the log has to reach."""
-    with contextlib.closing(merged(files)) as records:
+    with contextlib.closing(merged(files, opened)) as records:
         for record in records:
             if record.txid > until:
                 break

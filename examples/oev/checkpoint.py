@@ -197,17 +197,22 @@ def keys_in_file(shape):
     return [key for part in parts for key in keys_beside(part)]
 
 
-def read_image(name, table):
-    """An image, and how it contradicts itself, or None."""
+def read_image(name, table, opened):
+    """An image, and how it contradicts itself, or None. `opened` opens its file."""
     dump = Checkpoint(table)
     try:
-        with open(name, "rb") as file:
+        with opened(name) as file:
             dump.read(file)
     except Inconsistent as found:
         return dump, str(found)
     except Refused as refused:
-        raise Refused(f"{name}: {refused}") from None
+        raise Refused(with_name(name, refused)) from None
     return dump, None
+
+
+def with_name(name, refused):
+    """A reason with the name of its file, which it may have already."""
+    return str(refused) if str(refused).startswith(name) else f"{name}: {refused}"
 
 
 def low_number(dump):
@@ -231,5 +236,5 @@ def write_image(dump, name, output):
     except Inconsistent as found:
         return str(found)
     except Refused as refused:
-        raise Refused(f"{name}: {refused}") from None
+        raise Refused(with_name(name, refused)) from None
     return None

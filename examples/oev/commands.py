@@ -22,6 +22,15 @@ class Parser(argparse.ArgumentParser):
         return f"{self.about}\n\n{super().format_help()}"
 
 
+def in_words(reason):
+    """A reason as a sentence, also where the system has it."""
+    if not isinstance(reason, OSError) or reason.filename is None:
+        return str(reason)
+    words = {FileNotFoundError: "there is no file or folder", NotADirectoryError: "this is no folder:"}
+    words |= {PermissionError: "this may not be read or written:", IsADirectoryError: "this is a folder:"}
+    return f"{words.get(type(reason), f'{reason.strerror}:')} {reason.filename}"
+
+
 def judged(name, judge):
     """Runs a command that judges something, and answers its status: 0 where `judge` answers that all is the same, else 1.
 
@@ -34,7 +43,7 @@ def judged(name, judge):
         sys.stdout.flush()
         return 0 if is_same else 1
     except (Refused, OSError) as reason:
-        told = f"{name}: nothing can be said: {reason}"
+        told = f"{name}: nothing can be said: {in_words(reason)}"
     except Exception:
         told = f"{name}: nothing can be said, because of a defect of this script:\n{traceback.format_exc()}"
     # The status is the same where nobody reads what is told, or what is left of either stream.

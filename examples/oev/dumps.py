@@ -148,6 +148,21 @@ def unescaped(name, text):
         raise Refused(f"{name} has half of a surrogate pair, which no path may have") from None
 
 
+# How files begin that are no dumps, what they are, and what makes one of them.
+BEGINNINGS = {
+    b"HDFSIMG1": ("a binary image", "run `hdfs oiv -p XML` on it first"),
+    b"\xff\xff\xff": ("a binary edit log", "run `hdfs oev -p XML` on it first"),
+    b"\x1f\x8b": ("compressed by gzip", "run `gunzip` on it first"),
+}
+
+
+def check_beginning(name, chunk):
+    """Refuses what is seen at once to be no dump."""
+    for begin, (what, advice) in BEGINNINGS.items():
+        if chunk.startswith(begin):
+            raise Refused(f"{name} is {what}: {advice}")
+
+
 def elements(file, root, wanted, most, passed=None, pieces=()):
     """Yields the elements of a document whose place is wanted, one after another, each with its place.
 
@@ -159,6 +174,8 @@ def elements(file, root, wanted, most, passed=None, pieces=()):
     ended = False
     while not ended:
         chunk = file.read(CHUNK_BYTES)
+        if reading.fed == 0:
+            check_beginning(file.name, chunk)
         ended = not chunk
         fault = reading.end_document() if ended else reading.feed(chunk)
         for place, shape, texts in reading.taken():

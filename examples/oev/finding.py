@@ -14,6 +14,11 @@ def is_program(path):
     return os.path.isfile(path) and os.access(path, os.X_OK)
 
 
+def no_program(path):
+    """That there is no program at a place, and how to get one."""
+    return f"there is no program {path}: {HOW}"
+
+
 def find_program():
     """The path of the program, or the place where a build puts it."""
     found = next((path for path in (RELEASED, BUILT) if is_program(path)), None) or shutil.which("nn_standby")

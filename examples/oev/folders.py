@@ -85,8 +85,11 @@ class Commands:
             raise Refused(f"hdfs {tool} makes no dump of {path}: status {status}: {last_line(errors)}")
         return made
 
-    def run(self, words):
-        """The status of a command, its output and its errors. What it starts ends with it."""
+    def run(self, words, shown=None):
+        """The status of a command, its output and its errors. What it starts ends with it.
+
+        It may take so many seconds, or be silent so long if it writes to the file `shown` how far it is.
+        """
         given = {"stdin": subprocess.DEVNULL, "stdout": subprocess.PIPE, "stderr": subprocess.PIPE}
         surroundings = {**os.environ, "TMPDIR": self.folder}
         try:
@@ -94,14 +97,35 @@ class Commands:
         except FileNotFoundError:
             raise Refused(f"there is no command {words[0]}") from None
         try:
-            output, errors = child.communicate(timeout=self.seconds)
+            output, errors = self.waited(child, shown)
         except subprocess.TimeoutExpired:
             end_group(child)
-            raise Refused(f"{' '.join(words[:2])} took more than {self.seconds} seconds, and was ended") from None
+            told = "took" if shown is None else "did nothing for"
+            raise Refused(f"{' '.join(words[:2])} {told} more than {self.seconds} seconds, and was ended") from None
         except BaseException:
             end_group(child)
             raise
         return child.returncode, output.decode("utf-8", "replace"), errors.decode("utf-8", "replace")
+
+
+    def waited(self, child, shown):
+        """What a command prints until it ends. As long as it goes on with what is left, it has time for that."""
+        seen = None
+        while True:
+            try:
+                return child.communicate(timeout=self.seconds)
+            except subprocess.TimeoutExpired:
+                now = text_of(shown)
+                if now == seen:
+                    raise
+                seen = now
+
+
+def text_of(name):
+    """What a file has, or None where there is none."""
+    with contextlib.suppress(FileNotFoundError, TypeError), open(name) as file:
+        return file.read()
+    return None
 
 
 def end_group(child):

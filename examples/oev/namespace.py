@@ -3,7 +3,7 @@ import os
 import subprocess
 
 from bare import is_bare
-from checkpoint import Checkpoint, low_number, write_image
+from checkpoint import Checkpoint, low_number, with_name, write_image
 from formats import FIRST_BLOCK_ID, Refused
 from fsimage import blocks_in
 from log import pairs_in, parts_in, words_for_parts
@@ -53,7 +53,7 @@ class Namespace:
             with open(name, "rb") as file:
                 dump.read(file)
         except Refused as reason:
-            raise Refused(f"{name}: {reason}") from None
+            raise Refused(with_name(name, reason)) from None
         contradiction = low_number(dump) or write_image(dump, name, output)
         if contradiction is not None:
             raise Refused(f"{name} contradicts itself: {contradiction}")

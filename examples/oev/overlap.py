@@ -8,16 +8,23 @@ import heapq
 from conversion import records_of
 
 
-def records_in(name):
+def opened(name):
+    return open(name, "rb")
+
+
+def records_in(name, opened=opened):
     """The records of a dump, in its order."""
-    with open(name, "rb") as file:
+    with opened(name) as file:
         yield from records_of(file)
 
 
-def merged(names):
-    """The records of all dumps. A dump is open only from its first TXID on, and one record of it is held."""
+def merged(names, opened=opened):
+    """The records of all dumps. A dump is open only from its first TXID on, and one record of it is held.
+
+    `opened` opens a dump.
+    """
     if len(names) == 1:
-        yield from records_in(names[0])
+        yield from records_in(names[0], opened)
         return
     waiting = in_order(names)
     # For each open dump: the TXID of its next record, its place among the dumps, the record, and the rest.
@@ -25,7 +32,7 @@ def merged(names):
     place = 0
     while heads or place < len(waiting):
         while place < len(waiting) and (not heads or waiting[place][0] <= heads[0][0]):
-            push(heads, place, records_in(waiting[place][1]))
+            push(heads, place, records_in(waiting[place][1], opened))
             place += 1
         _, at, record, rest = heapq.heappop(heads)
         yield record

@@ -64,9 +64,7 @@ class Watched:
         self.what = what
         self.progress = progress
         self.done = 0
-        place = file.tell()
-        self.size = file.seek(0, os.SEEK_END) - place
-        file.seek(place)
+        self.size = size_of(file)
         self.begun = progress.clock()
 
     def read(self, size):
@@ -77,9 +75,21 @@ class Watched:
 
     def line(self, now):
         rate = self.done / max(now - self.begun, 1e-3)
+        if self.size is None:
+            return f"{self.what}: {self.done / 1e6:,.0f} MB, {rate / 1e6:,.1f} MB/s"
         left = time_words((self.size - self.done) / max(rate, 1))
         done = f"{self.done / 1e6:,.0f} of {self.size / 1e6:,.0f} MB"
         return f"{self.what}: {done}, {rate / 1e6:,.1f} MB/s, {left} left"
+
+
+def size_of(file):
+    """The bytes from where a file is read to its end, or None where that is not known."""
+    if not file.seekable():
+        return None
+    place = file.tell()
+    size = file.seek(0, os.SEEK_END) - place
+    file.seek(place)
+    return size
 
 
 def time_words(seconds):

@@ -8,7 +8,7 @@ import os
 import subprocess
 from typing import NamedTuple, Optional
 
-from finding import HOW, find_program, is_program, tell_if_unproved
+from finding import find_program, is_program, no_program, tell_if_unproved
 from formats import Refused
 
 PROGRAM = find_program()
@@ -36,7 +36,7 @@ class Program:
     def __init__(self, name):
         self.name = os.path.abspath(name)
         if not is_program(self.name):
-            raise Refused(f"there is no program {name}: {HOW}")
+            raise Refused(no_program(name))
         tell_if_unproved(self.name)
 
     def image_after(self, pieces, printed):

@@ -153,7 +153,7 @@ def check_command(trials):
     for name, reason, words in (
         ("a program that is killed", "program was killed by signal 9", ["--program", failing(trials, "kill -9 $$")]),
         ("no program", "there is no program", ["--program", "nothing"]),
-        ("no file", "No such file", ["--disk", "dn5=nothing"]),
+        ("no file", "there is no file or folder nothing", ["--disk", "dn5=nothing"]),
         ("a program that prints other lines", "because of a defect", ["--program", failing(trials, OTHER_LINES)]),
     ):
         status, output, errors = run(*image, *disks, *words)

@@ -10,6 +10,8 @@ import time
 
 from audit_damages import in_inode, story
 from cases import document, record
+from folders import Commands
+from formats import Refused
 
 HERE = os.path.dirname(os.path.realpath(__file__))
 WATCH = os.path.join(HERE, "watch")
@@ -92,6 +94,10 @@ class Place:
             if image <= txid:
                 self.image(image, suffix=suffix)
                 self.segment(*segment, suffix=suffix)
+
+    def lock(self):
+        """A file that a command may hold."""
+        return os.open(self.folder, os.O_RDONLY)
 
     def tool(self, name, text):
         path = self.put(self.folder, name, text)
@@ -329,6 +335,24 @@ def check_hdfs(place):
     place.tells("dumps beside their files", 0, "the same", "--hdfs", fails)
 
 
+def check_left(place):
+    """An audit that goes on with what is left of it has time for that, and one that does nothing is ended."""
+    commands, shown = Commands("hdfs", 1, place.lock(), place.folder), os.path.join(place.folder, "shown")
+    goes_on = f"for i in 1 2 3 4 5 6; do echo $i > {shown}; sleep 0.4; done; echo done"
+    place.check.same("a command that goes on", commands.run(["sh", "-c", goes_on], shown), (0, "done\n", ""))
+    for name, text in (("stops", f"echo 1 > {shown}; sleep 600"), ("shows nothing", "sleep 600")):
+        begun = time.monotonic()
+        told = None
+        with contextlib.suppress(FileNotFoundError):
+            os.remove(shown)
+        try:
+            commands.run(["sh", "-c", text], shown)
+        except Refused as reason:
+            told = str(reason)
+        place.check.same(f"a command that {name}", told, "sh -c did nothing for more than 1 seconds, and was ended")
+        place.check.holds(f"when a command that {name} is ended", time.monotonic() - begun < SECONDS)
+
+
 def has_ended(process):
     """Whether a process has ended, though nobody may have asked for its status."""
     try:
@@ -409,7 +433,7 @@ def check_results(place):
     os.remove(place.results)
     place.tells("no results of a chain", 3, "the chain stands at TXID 58, of which")
     place.tells("no folder for the metrics", 3, "no", "--metrics", os.path.join(place.folder, "no", "a.prom"))
-    place.tells("no folder of images", 3, "No such file", "--images", os.path.join(place.folder, "no"))
+    place.tells("no folder of images", 3, "there is no file or folder ", "--images", os.path.join(place.folder, "no"))
     place.check.same("its metric", place.figures()["last_status"], 3)
     place.tells("a bad argument", 3, "--warn-after", "--warn-after", "-1")
 
@@ -423,6 +447,7 @@ PARTS = (
     check_no_apply,
     check_unknown,
     check_hdfs,
+    check_left,
     check_at_once,
     check_results,
 )

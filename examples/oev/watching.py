@@ -11,6 +11,7 @@ import sys
 import time
 
 from chain import STATE, Chain
+from commands import in_words
 from folders import Commands, Waits, images_in, last_line, segments_between
 from formats import Refused
 from results import DIFFERS, SAME, UNKNOWN, Results, metrics, put, seconds_of, time_text
@@ -62,7 +63,7 @@ class Watch:
             try:
                 put(self.options.metrics, metrics(self.results, status, int(time.time())))
             except OSError as reason:
-                lines.append(f"no metrics were written: {reason}")
+                lines.append(f"no metrics were written: {in_words(reason)}")
                 if status in (OK, WARNING):
                     status, text = NOTHING_SAID, lines[-1]
         return status, [f"{NAMES[status]}: {text}", *lines]
@@ -109,7 +110,7 @@ class Watch:
             raise
         except (Refused, OSError) as reason:
             self.clear()
-            told = f"nothing can be said of the image of TXID {txid}: {reason}"
+            told = f"nothing can be said of the image of TXID {txid}: {in_words(reason)}"
             audited = {"status": UNKNOWN, "verdict": told, "differences": [], "compared": [], "not_compared": {}}
         ended = time.time()
         return {
@@ -129,11 +130,12 @@ class Watch:
         if first is None:
             os.symlink(os.path.abspath(self.chain.name), os.path.join(self.beside, STATE))
         words = [sys.executable, os.path.join(HERE, "audit"), "--program", os.path.abspath(self.options.program)]
-        words += ["--state", self.beside, "--most", str(MOST), "--json"]
+        shown = os.path.join(self.work, "progress")
+        words += ["--state", self.beside, "--most", str(MOST), "--json", "--progress", shown]
         words += ["--from", self.commands.dump("oiv", first)] if first else []
         words += ["--to", self.commands.dump("oiv", image), "--"]
         words += [self.commands.dump("oev", segment.path) for segment in segments]
-        status, output, errors = self.commands.run(words)
+        status, output, errors = self.commands.run(words, shown)
         audited = object_in(output)
         if status not in WORDS or audited.get("status") != WORDS[status]:
             raise Refused(reason_in(errors) or f"the audit ended with status {status}: {last_line(errors)}")
@@ -152,7 +154,7 @@ class Watch:
         told = [told_again(judged)] if judged and judged["status"] == DIFFERS else []
         told += [(STATUS_OF[result["status"]], told_of(result)) for result in self.done]
         if self.failed:
-            told.append((NOTHING_SAID, f"nothing can be said: {self.failed}"))
+            told.append((NOTHING_SAID, f"nothing can be said: {in_words(self.failed)}"))
         return max(reversed(told or [self.told_idle(judged)]), key=lambda row: RANKS.index(row[0]))
 
     def told_idle(self, judged):

@@ -12,9 +12,10 @@ from collections import Counter
 
 from between import Converted
 from chain import Chain, Link, Start
-from checkpoint import low_number, read_image, write_image
+from checkpoint import low_number, name_section, read_image, write_image
 from comparison import Differences, alike_texts, compare
 from formats import Refused, image_line, to_json
+from overlap import opened
 from progress import Progress
 from table import Grew, Table
 from verdict import AsObject, Printed, Scope, Verdict
@@ -78,19 +79,31 @@ class Audit:
 
     def prepared(self):
         """Where the log goes on, the second image with its contradiction or None, and the log, all by one table."""
-        start = self.start()
-        theirs, contradiction = read_image(self.options.to, self.table, self.progress.open)
-        self.check_pair(start.link, theirs, contradiction)
+        start, theirs = self.start(), None
+        section = name_section(self.options.to, opened)
+        if section is None or section.find("txid") is None:
+            theirs = self.second_image(start)
         while True:
             known = len(self.table.names)
             with contextlib.suppress(Grew):
-                log = Converted(start, theirs.txid, self.options.files, self.folder, self.table, self.progress.open)
-                theirs.told_kinds = log.bare
+                until = theirs[0].txid if theirs else section.number("txid")
+                self.check_txid(start.link, until)
+                log = Converted(start, until, self.options.files, self.folder, self.table, self.progress.open)
+                # Its tree has been let go.
+                start = start._replace(dump=None)
+                dump, contradiction = theirs = theirs or self.second_image(start)
+                dump.told_kinds = log.bare
                 if contradiction is None:
-                    contradiction = write_image(theirs, self.options.to, self.file("theirs.given"))
+                    contradiction = write_image(dump, self.options.to, self.file("theirs.given"))
                 if known == len(self.table.names):
-                    return start, theirs, contradiction, log
+                    return start, dump, contradiction, log
             start = self.start()
+
+    def second_image(self, start):
+        """The second image, with its contradiction or None."""
+        theirs, contradiction = read_image(self.options.to, self.table, self.progress.open)
+        self.check_pair(start.link, theirs, contradiction)
+        return theirs, contradiction
 
     def start(self):
         """The end of the chain, or else the first image."""
@@ -110,7 +123,9 @@ class Audit:
             contradiction = write_image(dump, self.options.start, name)
         if contradiction is not None:
             raise Refused(f"{self.options.start} contradicts itself: {contradiction}")
-        return Start(Link(dump.txid, dump.txid, 0, dump.cluster, in_order(dump.bare_kinds)), name, 0)
+        # A tree of other names than the dump has is made of the image.
+        held = None if self.table.names or dump.too_deep else dump
+        return Start(Link(dump.txid, dump.txid, 0, dump.cluster, in_order(dump.bare_kinds)), name, 0, held)
 
     def check_pair(self, link, theirs, contradiction):
         """Refuses a second image of another cluster, and one that is not behind the first."""
@@ -118,8 +133,11 @@ class Audit:
             raise Refused(f"{self.options.to} contradicts itself: {contradiction}")
         if theirs.cluster != link.cluster:
             raise Refused(f"two clusters: namespaceId {link.cluster}, and {theirs.cluster} in {self.options.to}")
-        if theirs.txid <= link.txid:
-            raise Refused(f"{self.options.to} is of TXID {theirs.txid}, and the log goes on behind TXID {link.txid}")
+        self.check_txid(link, theirs.txid)
+
+    def check_txid(self, link, txid):
+        if txid <= link.txid:
+            raise Refused(f"{self.options.to} is of TXID {txid}, and the log goes on behind TXID {link.txid}")
 
     def apply(self, start, log):
         """Lets the program follow the log. Answers whether it applies to the image that it goes on from."""

@@ -6,6 +6,7 @@ makes a striped file, one of more blocks than a line holds, and one of which it 
 """
 from formats import FIRST_BLOCK_ID, NoBlocks
 from inodes import File
+from tree import is_packed
 
 STRIPED, OLD, LONG, REPLICATED = map(NoBlocks, ("striped", "old", "long", "replicated"))
 # What a chain of before kinds were kept has.
@@ -83,6 +84,6 @@ def bare_paths(tree):
         for name, node in directory.items():
             if isinstance(node, dict):
                 ahead.append((f"{path}/{name}", node))
-            elif not isinstance(node, bytes) and is_bare(node):
+            elif not is_packed(node) and is_bare(node):
                 found[f"{path}/{name}"] = node.blocks.kind
     return found

@@ -8,11 +8,11 @@ import hashlib
 import json
 import os
 import re
-from typing import NamedTuple
+from typing import NamedTuple, Optional
 
 from bare import BLOCKS_OF, UNKNOWN
 from formats import Image, Refused, image_directory, image_end, image_file, to_json
-from tree import tree_of
+from tree import tree_of, tree_of_dump
 
 STATE = "state"
 FORM = "hdfs-audit-2"
@@ -56,6 +56,8 @@ class Start(NamedTuple):
     link: Link
     name: str
     place: int
+    # The dump of its image, if that is held.
+    dump: Optional[object] = None
 
     def open(self):
         file = open(self.name, "rb")
@@ -67,8 +69,13 @@ class Start(NamedTuple):
             return json.loads(file.readline())
 
     def tree(self):
-        with self.open() as file:
-            tree = tree_of(Image(file))
+        if self.dump is not None:
+            tree = tree_of_dump(self.dump)
+            # Its names are in the tree.
+            self.dump.let_go()
+        else:
+            with self.open() as file:
+                tree = tree_of(Image(file))
         for path, kind in self.link.bare.items():
             tree.find_file(path).blocks = BLOCKS_OF[kind]
         return tree

@@ -3,9 +3,10 @@
 Snapshots change no live name. What only they hold is counted, and so is every element that nothing here stands for, by
 the name that it has in the dump: an element of a later Hadoop shows itself.
 """
-from bare import OLD, STRIPED, bare_file, has_old_block, kind_in_image, word_of
+from bare import OLD, STRIPED, bare_file, has_old_block, is_bare, kind_in_image, word_of
 from formats import FIRST_BLOCK_ID, FIRST_GEN, PATH_BYTES, Refused
-from fsimage import Dump, Inconsistent, blocks_in, blocks_of, image_lines, is_striped
+from dumps import elements
+from fsimage import NUMBERS, SECTION_BYTES, Dump, Inconsistent, blocks_in, blocks_of, image_lines, is_striped
 from inodes import NONE, Lists
 from loops import row_in_loop
 from mentions import REFERENCE, Mentions
@@ -43,6 +44,8 @@ class Checkpoint(Dump):
         self.snapshots_count = 0
         self.only_in_snapshots = 0
         self.with_line_feeds = 0
+        # The numbers that the table has for replications.
+        self.replication_numbers = {}
         # How many paths lie below those of as many names as there may be. They are left out.
         self.too_deep = {}
 
@@ -145,14 +148,22 @@ class Checkpoint(Dump):
         return below + [self.reference_rows[place] for place in self.references_of(row)]
 
     def row(self, path, file):
-        kind = kind_in_image(file, self.told_kinds.get(path))
+        told = self.told_kinds.get(path)
+        kind = kind_in_image(file, told) if told is not None or is_bare(file) else None
         if kind is not None:
             self.bare_kinds[path] = kind
             return bare_file(kind)._replace(replication=self.table.number(word_of(kind)))
-        number = self.table.number(str(file.replication))
+        number = self.replication_numbers.get(file.replication)
+        if number is None:
+            number = self.replication_numbers[file.replication] = self.table.number(str(file.replication))
         if number != file.replication:
             file = file._replace(replication=number)
         return super().row(path, file)
+
+    def let_go(self):
+        """Keeps what the files are, and nothing of their names and places."""
+        self.children = self.referring = self.child_rows = self.references = self.mentions = None
+        self.inodes.let_go()
 
     # ---- Names that the program has otherwise.
 
@@ -195,6 +206,18 @@ def keys_in_file(shape):
     members = shape.of(named)
     parts = [shape, *members.get("blocks", ()), *members.get("file-under-construction", ()), *blocks_of(shape)]
     return [key for part in parts for key in keys_beside(part)]
+
+
+def name_section(name, opened):
+    """The NameSection of an image, or None where there is none, or where its file can be read only once."""
+    with opened(name) as file:
+        if not file.seekable():
+            return None
+        try:
+            found = elements(file, "fsimage", {NUMBERS}, SECTION_BYTES)
+            return next((element for _, element in found), None)
+        except Refused:
+            return None
 
 
 def read_image(name, table, opened):

@@ -163,14 +163,14 @@ def check_beginning(name, chunk):
             raise Refused(f"{name} is {what}: {advice}")
 
 
-def elements(file, root, wanted, most, passed=None, pieces=()):
+def elements(file, root, wanted, most, passed=None, pieces=(), quick=()):
     """Yields the elements of a document whose place is wanted, one after another, each with its place.
 
     A place is the tuple of the names that lead to an element, without that of the root. No element may have more than
     `most` bytes in the document. `passed` counts what stands beside the wanted elements, by the two names of its place.
-    `pieces` has those that may come in pieces, as `Reading` has it.
+    `pieces` has those that may come in pieces, and `quick` what takes common forms, as `Reading` has both.
     """
-    reading = Reading(root, wanted, most, Counter() if passed is None else passed, dict(pieces))
+    reading = Reading(root, wanted, most, Counter() if passed is None else passed, dict(pieces), dict(quick))
     ended = False
     while not ended:
         chunk = file.read(CHUNK_BYTES)

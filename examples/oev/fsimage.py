@@ -5,6 +5,7 @@ contradicts itself, which an image of a sound NameNode never does.
 """
 from array import array
 from collections import Counter
+from functools import partial
 from operator import lt
 from typing import NamedTuple
 
@@ -12,6 +13,7 @@ import formats
 from dumps import check_layout, elements, plain_numbers
 from formats import Refused, is_plain_name, to_json
 from inodes import CLOSED, DIRECTORY, NONE, OPEN, File, Inodes, Lists
+from quick import read_inodes, read_lists
 from reading import MORE
 from shapes import named, only_places
 
@@ -83,6 +85,9 @@ def blocks_of(shape):
 class Dump:
     """What a dump says. Inodes are known by their ids, which tie its sections together."""
 
+    # Whether common forms are read by regular expressions, and not by expat.
+    is_quick = True
+
     def __init__(self):
         self.numbers = None
         self.has_layout = False
@@ -114,7 +119,8 @@ class Dump:
     def read(self, file):
         """Reads a dump, and answers this."""
         readers = self.readers()
-        for place, element in elements(file, "fsimage", set(readers), SECTION_BYTES, self.passed, {LIST: 0}):
+        quick = {INODE: partial(read_inodes, self), LIST: partial(read_lists, self)} if self.is_quick else {}
+        for place, element in elements(file, "fsimage", set(readers), SECTION_BYTES, self.passed, {LIST: 0}, quick):
             readers[place](element)
         self.check_whole()
         self.finish()

@@ -66,6 +66,10 @@ class Inodes:
         self.rows = None
         self.names = bytes(self.names)
 
+    def let_go(self):
+        """Keeps what each row is, and lets go of names and ids."""
+        self.ids = self.names = self.name_ends = None
+
     def rows_of(self, ids):
         """The row of each id, or NONE."""
         return array("i", map(self.rows.get, ids, repeat(NONE)))

@@ -33,14 +33,17 @@ class Reading:
 
     `pieces` has the places of those that come in pieces if they are long, each with how many elements are open in it
     where it is cut. Where none is, each piece may have the most bytes. The place of a later piece ends with MORE.
+    `quick` has a function for the elements of a place: it takes those of common forms that follow one which expat read
+    there, from data and a place in it, and answers the place behind them. None of them is noted here.
     """
 
-    def __init__(self, root, wanted, most, passed, pieces):
+    def __init__(self, root, wanted, most, passed, pieces, quick):
         self.root = root
         self.wanted = wanted
         self.most = most
         self.passed = passed
         self.pieces = pieces
+        self.quick = quick
         # How many elements are open where the wanted one is cut, or None; and the first texts of one that was cut.
         self.cut_inside = None
         self.first_texts = None
@@ -144,6 +147,12 @@ class Reading:
 
     def read_repeats(self, data, at):
         """Reads the elements that repeat others. Answers the place behind them."""
+        quick = self.quick.get(self.wanted_place)
+        # What was noted comes before what is taken now.
+        if quick and not self.done:
+            behind = quick(data, at)
+            self.lines_passed += data.count(b"\n", at, behind)
+            at = behind
         while True:
             begin = data.find(b"<", at)
             if not data.startswith(self.start_tag, begin) or data[at:begin].strip(b"\n "):

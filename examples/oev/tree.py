@@ -3,6 +3,7 @@ from array import array
 from itertools import chain
 
 from formats import Block
+from inodes import DIRECTORY
 
 CHANGES_OF_FILES = {"OP_ADD_BLOCK", "OP_UPDATE_BLOCKS", "OP_CLOSE", "OP_APPEND"}
 
@@ -20,12 +21,14 @@ class File:
 class Tree:
     """A directory is a dictionary from names to what they name, and anything else is a file.
 
-    A file of an image is packed into bytes until it is looked for, since a log names few of them. The tree follows
+    A file of an image is packed until it is looked for, since a log names few of them: into bytes, or it is the number
+    of its row among an image's inodes. The tree follows
     edits and judges none: one that does not apply leaves it as it is, and the program refuses it.
     """
 
-    def __init__(self):
+    def __init__(self, inodes=None):
         self.root = {}
+        self.inodes = inodes
 
     def find(self, path):
         """The directory or file at a path, which may be packed, or None."""
@@ -37,10 +40,15 @@ class Tree:
     def find_file(self, path):
         """The file at a path, or None."""
         node = self.find(path)
-        if isinstance(node, bytes):
+        if is_packed(node):
             directory, name = self.place(path)
-            node = directory[name] = unpacked(node)
+            node = directory[name] = unpacked(node) if isinstance(node, bytes) else self.file_of(node)
         return node if isinstance(node, File) else None
+
+    def file_of(self, row):
+        """The file in a row of the inodes."""
+        _, closed, blocks = self.inodes.file(row)
+        return File(closed, blocks)
 
     def place(self, path):
         """The directory that a path lies in, and the path's last name. The directory is None where there is none."""
@@ -106,6 +114,22 @@ def unpacked(file):
     numbers.frombytes(file[1:])
     numbers = iter(numbers)
     return File(file[0] == 1, list(map(Block, numbers, numbers, numbers)))
+
+
+def is_packed(node):
+    return isinstance(node, (bytes, int))
+
+
+def tree_of_dump(dump):
+    """The tree of the names in a dump of an image, whose files are the rows of its inodes."""
+    inodes = dump.inodes
+    tree = Tree(inodes)
+    directories = {row: {} for row, kind in enumerate(inodes.kinds) if kind == DIRECTORY}
+    directories[dump.root] = tree.root
+    for row, directory in directories.items():
+        for child in dump.all_below(row):
+            directory[inodes.name(child).decode()] = directories.get(child, child)
+    return tree
 
 
 def is_directory(node):

@@ -286,7 +286,7 @@ def check_texts(trials):
         ("an image that is compressed", f"{packed} is compressed by gzip: run `gunzip` on it", ["--to", packed, whole]),
         ("a missing image", "said: there is no file or folder no image\n", ["--to", "no image", whole]),
         ("a folder as an image", f"said: this is a folder: {trials.check.folder}\n", ["--to", trials.check.folder, whole]),
-        ("a missing program", f"there is no program {nowhere}: take that of a", ["--to", last, whole, "--program", nowhere]),
+        ("a missing program", f"there is no program {nowhere}: a release has it in bin/", ["--to", last, whole, "--program", nowhere]),
     ):
         trials.refused(name, reason, "--from", first, *words)
     torn = trials.image(trials.last, lambda text: text[: len(text) // 2])

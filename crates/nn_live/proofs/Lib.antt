@@ -30,6 +30,5 @@ pub mod Running
 pub mod Serves
 pub mod Promoting
 pub mod Answering
-pub mod Came
 pub mod Holders
 pub mod Mistyped

@@ -100,46 +100,6 @@ module _ (x : Service) (txid : ℕ) (losing : Bool) where
 
 -- ---- Epochs.
 
-pub seen_there : (x : Service) (txid : ℕ) → FollowsStep (λ _ s. sees txid s) x (record x { known = max x.known txid }) []
-seen_there x txid = record {
-  at = λ asked s i. record {
-    asks = i.asks;
-    standby = i.standby;
-    phase = i.phase;
-    sent = i.sent;
-    in_hand = i.in_hand;
-    known = ap (λ k. max k txid) i.known;
-    epoch = i.epoch;
-    promoted = i.promoted;
-    full = i.full;
-    passed = i.passed;
-    segments = i.segments;
-    lines = i.lines;
-    log = i.log;
-  };
-  written = λ asked s i. sym (append-nil s.written);
-}
-
-pub named_there : (x : Service) (epoch : ℕ) → FollowsStep (λ _ s. names epoch s) x (in_epoch epoch x) []
-named_there x epoch = record {
-  at = λ asked s i. record {
-    asks = i.asks;
-    standby = i.standby;
-    phase = i.phase;
-    sent = i.sent;
-    in_hand = i.in_hand;
-    known = i.known;
-    epoch = ap (λ k. max k epoch) i.epoch;
-    promoted = i.promoted;
-    full = i.full;
-    passed = i.passed;
-    segments = i.segments;
-    lines = i.lines;
-    log = i.log;
-  };
-  written = λ asked s i. sym (append-nil s.written);
-}
-
 module _ (x : Service) (txid epoch : ℕ) (losing : Bool) where
   -- as the code sees it
   by_epoch : (asked : LiveSetup) (s : ServiceState) → IsAtService asked x s → (b : Bool) → ltb epoch x.epoch ≡ b

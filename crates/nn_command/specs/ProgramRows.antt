@@ -339,12 +339,15 @@ serves_a_run = inl (
   usual_asked,
   refl,
   (
-    inl (record {
-      output = printed_for_nothing;
-      right = inl (record { input = []; taken = refl; counted = refl; whole = refl; fits = omega arith; is = record { events = []; happened = nothing_read; is = refl } }, refl);
-      took = record { bytes = refl; counted = omega arith; unfailed = refl };
-      ends = refl;
-    }),
+    (
+      inl (record {
+        output = printed_for_nothing;
+        right = inl (record { input = []; taken = refl; counted = refl; whole = refl; fits = omega arith; is = record { events = []; happened = nothing_read; is = refl } }, refl);
+        took = record { bytes = refl; counted = omega arith; unfailed = refl };
+        ends = refl;
+      }),
+      omega arith,
+    ),
     refl,
   ),
 )

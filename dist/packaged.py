@@ -57,7 +57,7 @@ class Packaged:
         first, last, log = (f"{STORY}/{it}" for it in ("fsimage_18.xml", "fsimage_58.xml", "edits_1-58.xml"))
         for words, given, wanted in (
             (["nn_standby"], "early_report.jsonl", read(os.path.join(ROOT, "examples", "early_report.out")).decode()),
-            (["zulurowan-audit", "--from", first, "--to", last, log], None, "the same: "),
+            (["zulurowan-audit", "--from", first, "--to", last, log], None, "the same in "),
         ):
             with open(os.path.join(ROOT, "examples", given) if given else os.devnull) as file:
                 done = self.call(self.path(f"usr/bin/{words[0]}"), *words[1:], stdin=file, cwd=self.top)

@@ -27,7 +27,7 @@ def in_words(reason):
     if not isinstance(reason, OSError) or reason.filename is None:
         return str(reason)
     words = {FileNotFoundError: "there is no file or folder", NotADirectoryError: "this is no folder:"}
-    words |= {PermissionError: "this may not be read or written:", IsADirectoryError: "this is a folder:"}
+    words.update({PermissionError: "this may not be read or written:", IsADirectoryError: "this is a folder:"})
     return f"{words.get(type(reason), f'{reason.strerror}:')} {reason.filename}"
 
 

@@ -44,7 +44,7 @@ PASSED = {
     name: f"inode/{name.decode()}".encode()
     for name in (b"mtime", b"atime", b"preferredBlockSize", b"permission", b"storagePolicyId", b"nsquota", b"dsquota")
 }
-PASSED |= {name: b"file-under-construction/" + name for name in (b"clientName", b"clientMachine")}
+PASSED.update((name, b"file-under-construction/" + name) for name in (b"clientName", b"clientMachine"))
 
 
 def read_inodes(dump, data, at):

@@ -15,7 +15,7 @@ const OUT_OF_MEMORY: &[u8] = b"fault 55\n";
 // Room for the output.
 const ROOM: usize = 65_536;
 
-// How often it is run again. What one run would keep is small.
+// How often it is run again under a full heap. What one run would keep is small.
 const TURNS: u64 = 200;
 
 #[derive(Clone, Copy)]
@@ -88,7 +88,8 @@ fn play(
     let mut heap = Heap::new(alloc, is_ample)?;
     let first = change(&mut heap, serving, &mut output, &Vec::new(alloc));
     let mut again = Fate::Untried;
-    for _ in 0..TURNS {
+    let turns = if is_ample { 1 } else { TURNS };
+    for _ in 0..turns {
         again = again.and(repeat(&heap, serving, &mut output));
     }
     Ok((output, [first, again]))

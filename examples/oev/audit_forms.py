@@ -109,6 +109,15 @@ def outgrown():
     return cluster, opened
 
 
+def two_closed():
+    """A cluster with two closed files in a directory."""
+    cluster, directory, (closed, _) = begun()
+    other = cluster.create(directory, "other")
+    cluster.add_block(other)
+    cluster.close(other, 5)
+    return cluster, closed, other
+
+
 def bare_files():
     """Other files whose blocks can't be held here."""
     cluster, directory, _ = begun()
@@ -127,10 +136,7 @@ def bare_files():
     cluster.close(opened, 9)
     yield Form("a file that outgrows a line", cluster, first, ONE_BARE)
 
-    cluster, directory, (closed, _) = begun()
-    other = cluster.create(directory, "other")
-    cluster.add_block(other)
-    cluster.close(other, 5)
+    cluster, closed, other = two_closed()
     first = cluster.txid
     cluster.concat(closed, [other])
     cluster.set_replication(closed, 2)
@@ -156,10 +162,7 @@ def kinds():
         ("a concat, to a file that is striped there", lambda file: setattr(file, "policy", 1), "replicated striped\n"),
         ("a concat, to a file with a block of an old layout", lambda file: file.blocks.append([77, 5, 7]), None),
     ):
-        cluster, directory, (closed, _) = begun()
-        other = cluster.create(directory, "other")
-        cluster.add_block(other)
-        cluster.close(other, 5)
+        cluster, closed, other = two_closed()
         first = cluster.txid
         cluster.concat(closed, [other])
         change(closed)

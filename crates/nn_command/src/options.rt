@@ -15,7 +15,7 @@ use nn_types::limits::{MAX_CAPACITY, MAX_REPLICATION};
 use std::alloc::{AllocError, Global};
 
 /// The version of the program, which README.md names too.
-pub const VERSION: &str = "0.3.0";
+pub const VERSION: &str = "0.4.0";
 
 /// The greatest value of `--capacity`, as clap takes it.
 const GREATEST_CAPACITY: i64 = MAX_CAPACITY as i64;

@@ -9,3 +9,4 @@ pub mod Agreement
 pub mod SafeMode
 pub mod TableRows
 pub mod FiguresRows
+pub mod SafeModeRows

@@ -32,3 +32,4 @@ pub mod Promoting
 pub mod Answering
 pub mod Holders
 pub mod Mistyped
+pub mod Telling

@@ -86,7 +86,7 @@ module _ (x : Service) (txid : ℕ) (losing : Bool) where
           passed = i.passed;
           segments = i.segments;
           lines = i.lines;
-          log = (i.log.0, i.log.1, promotion i.log.0 i.log.1 s.log s.standby s.phase.active s.sent i.log.2);
+          log = (i.log.0, i.log.1, promotion i.log.0 i.log.1 s.log s.standby s.phase.active s.sent s.told i.log.2);
         });
         written = λ asked s i. ap (λ (t : ServiceState). t.written) (becomes asked s i)
             ∙ ap₂ (λ c h. s.written ++ cond c (history_text h) []) (ap (λ (a : LiveSetup). a.history) i.asks) (sym (ap (λ (c : StandbyState). c.history) (comes asked s i)));

@@ -65,12 +65,11 @@ flush_of_nothing x e = at x.held e ∙ ap (λ h. record x { history = h; held = 
     at l e = ap (λ k. record (processing Flush k x) { held = [] }) e
 
 module _ (n : Namespace) (base : ℕ) where
-  pub begins : StandsBy n base [] no_messages (fresh n base) → ServiceStandsAt n base [] (fresh n base) false no_messages
+  pub begins : StandsBy n base [] no_messages (fresh n base) → ServiceStandsAt n base [] (fresh n base) false no_messages []
   begins first = record {
     log = first.stands.log;
     last = first.stands.last;
     namespace = refl;
-    told = [];
     stands = λ a. first;
     shows = λ a. absurd (cc);
     flushed = λ a. absurd (cc);
@@ -79,60 +78,59 @@ module _ (n : Namespace) (base : ℕ) where
 
   -- a standby that stands, and was not promoted, once its history was taken
   now_at : (txs : List Tx) (sent : Lanes) (told : History) (x : StandbyState) (active : Bool) → active ≡ false → StandsBy n base txs sent (with_past told x)
-      → ServiceStandsAt n base txs (without_history x) active sent
+      → ServiceStandsAt n base txs (without_history x) active sent (told ++ x.history)
   now_at txs sent told x active not_active by = record {
     log = by.stands.log;
     last = by.stands.last;
     namespace = by.stands.namespace;
-    told = told ++ x.history;
     stands = λ a. subst (StandsBy n base txs sent) (sym (takes_after told x)) by;
     shows = λ a. absurd (cc);
     flushed = λ a. absurd (cc);
     whole = λ a. absurd (cc);
   }
 
-  message : (txs : List Tx) (x : StandbyState) (phase : Phase) (sent : Lanes) (m : Message) → ServiceStandsAt n base txs x phase.active sent → hand_refusal 256 phase x m ≡ None
-      → ServiceStandsAt n base txs (without_history (received x m)) phase.active (followed_by sent m)
-  message txs x phase sent m i e =
+  message : (txs : List Tx) (x : StandbyState) (phase : Phase) (sent : Lanes) (told : History) (m : Message) → ServiceStandsAt n base txs x phase.active sent told
+      → hand_refusal 256 phase x m ≡ None → ServiceStandsAt n base txs (without_history (received x m)) phase.active (followed_by sent m) (told ++ (received x m).history)
+  message txs x phase sent told m i e =
       let r = no_refusal_hands 256 phase x m e in
       let a : phase.active ≡ false = r.2.not_active in
-      let by = receives n base txs sent (with_past i.told x) m (i.stands a) r.1 in
-      now_at txs (followed_by sent m) i.told (received x m) phase.active a (subst (StandsBy n base txs (followed_by sent m)) (receives_after i.told x m) by)
+      let by = receives n base txs sent (with_past told x) m (i.stands a) r.1 in
+      now_at txs (followed_by sent m) told (received x m) phase.active a (subst (StandsBy n base txs (followed_by sent m)) (receives_after told x m) by)
 
-  transaction : (txs : List Tx) (x : StandbyState) (phase : Phase) (sent : Lanes) (tx : Tx) → ServiceStandsAt n base txs x phase.active sent → apply_refusal phase x tx ≡ None
-      → ServiceStandsAt n base (txs ++ tx ∷ []) (without_history (applied_to x tx)) phase.active sent
-  transaction txs x phase sent tx i e =
+  transaction : (txs : List Tx) (x : StandbyState) (phase : Phase) (sent : Lanes) (told : History) (tx : Tx) → ServiceStandsAt n base txs x phase.active sent told
+      → apply_refusal phase x tx ≡ None → ServiceStandsAt n base (txs ++ tx ∷ []) (without_history (applied_to x tx)) phase.active sent (told ++ (applied_to x tx).history)
+  transaction txs x phase sent told tx i e =
       let r = no_refusal_applies phase x tx e in
       let a : phase.active ≡ false = r.2.not_active in
-      let by = applies_standing n base txs sent (with_past i.told x) tx (i.stands a) r.0 r.1 in
-      now_at (txs ++ tx ∷ []) sent i.told (applied_to x tx) phase.active a (subst (StandsBy n base (txs ++ tx ∷ []) sent) (applies_after i.told x tx) by)
+      let by = applies_standing n base txs sent (with_past told x) tx (i.stands a) r.0 r.1 in
+      now_at (txs ++ tx ∷ []) sent told (applied_to x tx) phase.active a (subst (StandsBy n base (txs ++ tx ∷ []) sent) (applies_after told x tx) by)
 
   -- with what was told before, the flush stands at the same log, and what was told is whole
   abbrev IsWholeAt : List Tx → Lanes → StandbyState → Type 0
   IsWholeAt txs sent x = Stands n base txs sent x × IsWhole n txs (items sent) x.history
 
-  flushed_whole : (txs : List Tx) (x : StandbyState) (active : Bool) (sent : Lanes) → ServiceStandsAt n base txs x active sent → (told : History) → (b : Bool) → active ≡ b
+  flushed_whole : (txs : List Tx) (x : StandbyState) (active : Bool) (sent : Lanes) (told : History) → ServiceStandsAt n base txs x active sent told → (b : Bool) → active ≡ b
       → (b ≡ true → IsWholeAt txs sent (with_past told x)) → (b ≡ false → StandsBy n base txs sent (with_past told x)) → IsWholeAt txs sent (with_past told (flushed x))
-  flushed_whole txs x active sent i told false e whole stands =
+  flushed_whole txs x active sent told i false e whole stands =
       let by = stands refl in
       subst (IsWholeAt txs sent) (flushes_after told x) (flushes n base txs sent (with_past told x) by, flushes_whole n base txs sent (with_past told x) by)
-  flushed_whole txs x active sent i told true e whole stands =
+  flushed_whole txs x active sent told i true e whole stands =
       subst (λ y. IsWholeAt txs sent (with_past told y)) (sym (flush_of_nothing x (i.flushed e))) (whole refl)
 
-  pub promotion : (txs : List Tx) (x : StandbyState) (active : Bool) (sent : Lanes) → ServiceStandsAt n base txs x active sent → ServiceStandsAt n base txs (without_history (flushed x)) true sent
-  promotion txs x active sent i = record {
+  pub promotion : (txs : List Tx) (x : StandbyState) (active : Bool) (sent : Lanes) (told : History) → ServiceStandsAt n base txs x active sent told
+      → ServiceStandsAt n base txs (without_history (flushed x)) true sent (told ++ (flushed x).history)
+  promotion txs x active sent told i = record {
     log = i.log;
     last = i.last;
     namespace = i.namespace;
-    told = i.told ++ (flushed x).history;
     stands = λ a. absurd (cc);
     shows = λ a. at active refl;
     flushed = λ a. refl;
-    whole = λ a. subst (IsWholeAt txs sent) (sym (takes_after i.told (flushed x))) (flushed_whole txs x active sent i i.told active refl i.whole i.stands);
+    whole = λ a. subst (IsWholeAt txs sent) (sym (takes_after told (flushed x))) (flushed_whole txs x active sent told i active refl i.whole i.stands);
   }
     where
       at : (b : Bool) → active ≡ b → ShowsPicture x.namespace (items sent) (tables_of (flushed x))
-      at false e = flush_shows_picture n base txs sent (with_past i.told x) (i.stands e)
+      at false e = flush_shows_picture n base txs sent (with_past told x) (i.stands e)
       at true e = shows_again x sent x.held (i.flushed e) (i.shows e)
 
 module _ (asked : LiveSetup) (n : Namespace) (base : ℕ) where
@@ -145,7 +143,7 @@ module _ (asked : LiveSetup) (n : Namespace) (base : ℕ) where
 
   pub one_report : (own : Bool) (m : Message) (rest : ServiceState → ServiceState) → ((t : ServiceState) → Is t → Is (rest t)) → (s : ServiceState) → Is s
       → (r : Option HandCause) → hand_refusal 256 s.phase s.standby m ≡ r → Is (takes_message asked own m r rest s)
-  one_report own m rest later s i None e = later _ (message n base s.log s.standby s.phase s.sent m i e)
+  one_report own m rest later s i None e = later _ (message n base s.log s.standby s.phase s.sent s.told m i e)
   one_report own m rest later s i (Some cause) e = i
 
   pub all_reports : (own : Bool) (reports : List Report) (s : ServiceState) → Is s → Is (hands asked own reports s)
@@ -154,8 +152,8 @@ module _ (asked : LiveSetup) (n : Namespace) (base : ℕ) where
 
   pub one_tx : (tx : Tx) (rest : ServiceState → ServiceState) → ((t : ServiceState) → Is t → Is (rest t)) → (s : ServiceState) → Is s
       → (r : Option ApplyFault) → apply_refusal s.phase s.standby tx ≡ r → Is (applies asked tx r rest s)
-  one_tx tx rest later s i None e = later _ (transaction n base s.log s.standby s.phase s.sent tx i e)
-  one_tx tx rest later s i (Some fault) e = subst (λ a. ServiceStandsAt n base s.log s.standby a s.sent) (sym (active_stays s.phase tx fault)) i
+  one_tx tx rest later s i None e = later _ (transaction n base s.log s.standby s.phase s.sent s.told tx i e)
+  one_tx tx rest later s i (Some fault) e = subst (λ a. ServiceStandsAt n base s.log s.standby a s.sent s.told) (sym (active_stays s.phase tx fault)) i
 
   all_txs : (txs : List Tx) (s : ServiceState) → Is s → Is (follows asked txs s)
   all_txs [] s i = i
@@ -176,7 +174,7 @@ module _ (asked : LiveSetup) (n : Namespace) (base : ℕ) where
 
   pub promoted : (txid : ℕ) (lost : Bool) (r : Option FlushFault) (s : ServiceState) → Is s → Is (promotes asked txid lost r s)
   promoted txid lost (Some fault) s i = i
-  promoted txid lost None s i = either_way _ _ _ i (either_way (ends_at txid lost s) _ _ (promotion n base s.log s.standby s.phase.active s.sent i) i)
+  promoted txid lost None s i = either_way _ _ _ i (either_way (ends_at txid lost s) _ _ (promotion n base s.log s.standby s.phase.active s.sent s.told i) i)
 
   word : (w : Word) (s : ServiceState) → Is s → Is (does asked w s)
   word kind.Sync s i = i

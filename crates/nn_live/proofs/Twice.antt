@@ -381,4 +381,5 @@ may_be_sent_twice asked n base all are =
       epoch = ap (λ (s : ServiceState). s.epoch) e;
       promoted = ap (λ (s : ServiceState). s.promoted) e;
       full = ap (λ (s : ServiceState). s.full) e;
+      told = ap (λ (s : ServiceState). s.told) e;
     }

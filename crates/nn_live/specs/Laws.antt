@@ -40,18 +40,17 @@ served asked n base texts = takes_all asked texts (new_service n base)
 -- The transactions that were applied are a log, and the namespace is what that log makes of the start. Until the service is promoted, its
 -- standby stands at this log and at the messages that were taken, if what it told is counted as kept. From then on its tables show the
 -- picture of both, nothing is held, and what it told is lawful and whole: each item that was held at the end of the log was processed.
-pub record ServiceStandsAt (n : Namespace) (base : ℕ) (txs : List Tx) (x : StandbyState) (active : Bool) (sent : Lanes) : Type 0 where
+pub record ServiceStandsAt (n : Namespace) (base : ℕ) (txs : List Tx) (x : StandbyState) (active : Bool) (sent : Lanes) (told : History) : Type 0 where
   pub log : IsLog n base txs
   pub last : x.last ≡ base + length txs
   pub namespace : x.namespace ≡ namespace_after n txs
-  pub told : History
   pub stands : active ≡ false → StandsBy n base txs sent (with_past told x)
   pub shows : active ≡ true → ShowsPicture x.namespace (items sent) (tables_of x)
   pub flushed : active ≡ true → x.held ≡ []
   pub whole : active ≡ true → Stands n base txs sent (with_past told x) × IsWhole n txs (items sent) (with_past told x).history
 
 abbrev pub HasLog : Namespace → ℕ → ServiceState → Type 0
-HasLog n base s = ServiceStandsAt n base s.log s.standby s.phase.active s.sent
+HasLog n base s = ServiceStandsAt n base s.log s.standby s.phase.active s.sent s.told
 
 abbrev pub StandsAtItsLog : Type 0
 StandsAtItsLog = (asked : LiveSetup) (n : Namespace) (base : ℕ) (texts : List (List ℕ)) → HasWellFormedBlocks n → HasLog n base (served asked n base texts)
@@ -160,7 +159,7 @@ abbrev pub sent_twice : Sending → List (List ℕ)
 sent_twice (segment lines) = texts_of lines ++ texts_of lines
 sent_twice (other text) = text ∷ []
 
--- the same standby, which holds the same and takes the same further
+-- the same standby, which did the same, holds the same and takes the same further
 pub record IsAlike (s t : ServiceState) : Type 0 where
   pub standby : s.standby ≡ t.standby
   pub phase : s.phase ≡ t.phase
@@ -171,6 +170,7 @@ pub record IsAlike (s t : ServiceState) : Type 0 where
   pub epoch : s.epoch ≡ t.epoch
   pub promoted : s.promoted ≡ t.promoted
   pub full : s.full ≡ t.full
+  pub told : s.told ≡ t.told
 
 -- who sends each segment twice has the service of who sends each once
 abbrev pub MayBeSentTwice : Type 0

@@ -8,6 +8,8 @@ pub mod SeenRows
 pub mod WordRows
 pub mod Laws
 pub mod WordLaws
+pub mod TellingLaws
+pub mod TellingRows
 pub mod Serving
 pub mod Taking
 pub mod Opening

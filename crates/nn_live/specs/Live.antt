@@ -14,6 +14,7 @@ use Rattle.nn_edits.specs.Reading.{either_of_line}
 use Rattle.nn_edits.specs.declared.fault.LineFault.{LineFault}
 use Rattle.nn_edits.specs.declared.line.Line.{Line}
 use Rattle.nn_edits.specs.declared.line.Line.TheVariants as either
+use Rattle.nn_model.specs.History.{History}
 use Rattle.nn_model.specs.Items.{items}
 use Rattle.nn_model.specs.Lanes.{Lanes, no_messages, followed_by}
 use Rattle.nn_model.specs.Log.{counted}
@@ -56,7 +57,7 @@ pub record LiveSetup : Type 0 where
 
 -- a service between two lines
 pub record ServiceState : Type 0 where
-  pub standby : StandbyState  -- its history is empty: what it does is told at once, and not kept
+  pub standby : StandbyState  -- its history is empty: what it does is told at once
   pub phase : Phase
   pub log : List Tx  -- the transactions that were applied
   pub sent : Lanes  -- the messages that were taken
@@ -68,6 +69,7 @@ pub record ServiceState : Type 0 where
   pub passed : ℕ  -- how many transactions were passed over: they were there already
   pub segments : ℕ  -- how many have ended
   pub lines : ℕ  -- how many lines were read
+  pub told : History  -- all that its standby did, in order
   pub written : List ℕ  -- all that was written
 
 -- before the first line
@@ -85,6 +87,7 @@ new_service n txid = record {
   passed = 0;
   segments = 0;
   lines = 0;
+  told = [];
   written = [];
 }
 
@@ -97,9 +100,10 @@ says text s = record s { written = s.written ++ text }
 abbrev pub tells_fault : ℕ → List ℕ → ℕ → ServiceState → ServiceState
 tells_fault number place n s = says (line (codes "fault") (decimal number ++ place ++ decimal n)) s
 
--- the standby has come to this: what it did is told where it is asked for, and is not kept
+-- the standby has come to this: what it did is told, and written where that is asked for
 abbrev pub comes_to : LiveSetup → StandbyState → ServiceState → ServiceState
-comes_to asked x s = says (if asked.history then history_text x.history else []) (record s { standby = without_history x })
+comes_to asked x s =
+    says (if asked.history then history_text x.history else []) (record s { standby = without_history x; told = s.told ++ x.history })
 
 -- ---- Reports.
 

@@ -1,6 +1,7 @@
 //! What holds of every service, whatever lines came.
 ghost use Rattle.nn_live.specs.Laws.{StandsAtItsLog, FollowsWhatCame, AnswersThePicture, PromotesAtTheEnd, PromotesInNoLowerEpoch, TakesOrTellsEachReport, NothingElseIsSent, MayBeSentTwice};
 ghost use Rattle.nn_live.specs.Taking.{MayBeCut};
+ghost use Rattle.nn_live.specs.TellingLaws.{HistoryTellsAll, HistoryTellsAllAtEnd};
 ghost use Rattle.nn_live.specs.WordLaws.{BlockTellsThePath, MistypedChangesNothing, NothingChangesNothing, TornWordChangesNothing};
 
 /// Whatever lines came, there is a log at which, with the messages that were taken, the standby stands.
@@ -62,4 +63,11 @@ pub fn a_mistyped_word_changes_nothing()
     ensures word { MistypedChangesNothing }
     ensures other { NothingChangesNothing }
     ensures torn { TornWordChangesNothing }
+{}
+
+/// With its history told a service writes what it writes without, and puts in a line for each thing that its standby did: in order,
+/// once, and only where a line has ended. These are the things of the history that is whole behind a promotion.
+pub fn a_history_tells_all()
+    ensures so_far { HistoryTellsAll }
+    ensures at_end { HistoryTellsAllAtEnd }
 {}

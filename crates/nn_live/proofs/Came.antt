@@ -1,5 +1,5 @@
 -- Each transaction of a service's log is an edit of the lines that came.
-use Rattle.std.proofs.Common.{◌≡◌, ◌≤◌, ℕ, Bool, List, [], ◌∷◌, ◌++◌, cond, true, false, not, ◌||◌, ◌&&◌, None, Some, Option, Result, Ok, Err, refl, sym, subst, ap, ◌∙◌, inl, inr, ltb, ◌+◌, ◌==◌}
+use Rattle.std.proofs.Common.{◌≡◌, ◌≤◌, ℕ, Bool, List, [], ◌∷◌, cond, true, false, None, Some, Option, Result, Ok, Err, refl, sym, subst, ap, ◌∙◌, inl, inr, ltb, ◌+◌, ◌==◌}
 use Rattle.std.specs.List.{All, list_all}
 use Rattle.std.proofs.lemmas.Bool.{and_parts}
 use Rattle.std.proofs.lemmas.List.Elements.{All-nil, All-cons, All-head, All-tail, All-append}
@@ -12,7 +12,6 @@ use Rattle.nn_edits.specs.declared.line.Line.{Line}
 use Rattle.nn_edits.specs.declared.line.Line.TheVariants as either
 use Rattle.nn_edits.proofs.LineGrammar.{either_line_ok, edit_line_has}
 use Rattle.nn_model.specs.Log.{counted}
-use Rattle.nn_model.specs.Namespace.{Namespace}
 use Rattle.nn_segment.specs.Lines.{is_unbroken, reads_of}
 use Rattle.nn_segment.specs.Reading.{read_segment, fault_of_segment, txs_in, unless}
 use Rattle.nn_segment.specs.Segment.{Segment, is_start, is_end}
@@ -26,18 +25,18 @@ use Rattle.nn_shadow.specs.declared.fault.ApplyFault.{ApplyFault}
 use Rattle.nn_shadow.specs.declared.fault.FlushFault.{FlushFault}
 use Rattle.nn_shadow.specs.declared.fault.HandCause.{HandCause}
 use Rattle.nn_shadow.specs.Refusals.{apply_refusal, hand_refusal, flush_refusal}
-use Rattle.nn_live.specs.Laws.{IsEdit, IsReadIn, FollowsWhatCame, served}
-use Rattle.nn_live.specs.Live.{LiveSetup, ServiceState, new_service, takes_message, hands, applies, follows, follows_segment, ends_segment, is_between, before_edit, with_edit, takes_edit, ends_at, promotes, names, empty_report, does, takes_read, takes_word, takes, takes_all, counts_line}
+use Rattle.nn_live.specs.Laws.{IsEdit, IsReadIn, FollowsWhatCame}
+use Rattle.nn_live.specs.Live.{LiveSetup, ServiceState, new_service, takes_message, hands, applies, follows, follows_segment, ends_segment, before_edit, with_edit, takes_edit, ends_at, promotes, names, empty_report, does, takes_read, takes_word, takes, takes_all, counts_line}
 use Rattle.nn_live.specs.Words.{word_in}
 use Rattle.nn_live.specs.declared.word.Word.{Word}
 use Rattle.nn_live.specs.declared.word.Word.TheVariants as kind
 
 -- a line that is read as an edit in either sort of input is read as that edit, whose txid is from 1 on
-edit_read : (text : List ℕ) (tx : Tx) → either_of_line text ≡ Ok (either.Edit tx) → (edit_of_line text ≡ Ok tx) × (1 ≤ tx.txid)
+pub edit_read : (text : List ℕ) (tx : Tx) → either_of_line text ≡ Ok (either.Edit tx) → (edit_of_line text ≡ Ok tx) × (1 ≤ tx.txid)
 edit_read text tx e = let is = either_line_ok text (either.Edit tx) e in (edit_line_has text tx is, is.2.from_one)
 
 -- the segment that a part is has the part's transactions
-same_txs : (part : Part) (g : Segment) → AreRead part → segment_of part ≡ Ok g → g.txs ≡ part.txs
+pub same_txs : (part : Part) (g : Segment) → AreRead part → segment_of part ≡ Ok g → g.txs ≡ part.txs
 unfolding read_segment
 same_txs part g read is = at (fault_of_segment (part_name part.txs) part.bytes) is
   where
@@ -52,7 +51,7 @@ same_txs part g read is = at (fault_of_segment (part_name part.txs) part.bytes) 
     at None e = ap (λ (x : Segment). x.txs) (same _ _ g refl e) ∙ ap txs_in (read_back part read) ∙ txs_back part.txs
 
 module _ (asked : LiveSetup) (P : Tx → Type 0) where
-  counted_all : (txs : List Tx) → All P txs → (l : ℕ) → All P (counted l txs)
+  pub counted_all : (txs : List Tx) → All P txs → (l : ℕ) → All P (counted l txs)
   counted_all [] all l = All-nil P
   counted_all (tx ∷ txs) all l = at (counted_all txs (All-tail P tx txs all)) (tx.txid == l + 1)
     where
@@ -151,7 +150,7 @@ module _ (asked : LiveSetup) (P : Tx → Type 0) where
       let both = and_parts (is_unbroken text) (list_all is_unbroken texts) unbroken in
       all_lines texts both.1 (All-tail Gives text texts all) (takes asked text s) (line text both.0 (All-head Gives text texts all) s i (is_blank text) refl (word_in text) refl)
 
-weaker : {A : Type 0} (Q R : A → Type 0) → ((x : A) → Q x → R x) → (xs : List A) → All Q xs → All R xs
+pub weaker : {A : Type 0} (Q R : A → Type 0) → ((x : A) → Q x → R x) → (xs : List A) → All Q xs → All R xs
 weaker Q R f [] all = All-nil R
 weaker Q R f (x ∷ xs) all = All-cons R x xs (f x (All-head Q x xs all)) (weaker Q R f xs (All-tail Q x xs all))
 

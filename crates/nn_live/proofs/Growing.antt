@@ -86,7 +86,7 @@ ends_segment_grows asked s = part_grows s.in_hand asked s
 pub ends_grow : (asked : LiveSetup) → Grows (λ s. ends asked s)
 ends_grow asked s = either_prefix s.written (is_between s) _ _ (whole_prefix s.written) (ends_segment_grows asked s)
 
-before_edit_grows : (asked : LiveSetup) (tx : Tx) → Grows (λ s. before_edit asked tx s)
+pub before_edit_grows : (asked : LiveSetup) (tx : Tx) → Grows (λ s. before_edit asked tx s)
 before_edit_grows asked tx s = either_prefix s.written (is_start tx.edit && not (is_between s)) _ _ (ends_segment_grows asked s) (whole_prefix s.written)
 
 behind_edit_grows : (asked : LiveSetup) (tx : Tx) → Grows (λ s. behind_edit asked tx s)

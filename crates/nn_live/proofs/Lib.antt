@@ -33,3 +33,4 @@ pub mod Answering
 pub mod Holders
 pub mod Mistyped
 pub mod Telling
+pub mod Silence

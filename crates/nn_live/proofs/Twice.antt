@@ -45,7 +45,7 @@ below b (tx ∷ txs) up l h =
     passes l tx txs (λ e. omega (arith, up.0, h, e)) ∙ below tx.txid txs up.1 l (omega (arith, up.0, h))
 
 -- those that count reach the last
-reach : (b : ℕ) (txs : List Tx) → CountsUp b txs → (l : ℕ) → b ≤ l → b + length txs ≤ l + length (counted l txs)
+pub reach : (b : ℕ) (txs : List Tx) → CountsUp b txs → (l : ℕ) → b ≤ l → b + length txs ≤ l + length (counted l txs)
 reach b [] up l h = omega (arith, h)
 reach b (tx ∷ txs) up l h = elim (eq-or-lt_of_le h) [
   | inl e ↦
@@ -178,7 +178,7 @@ module _ (asked : LiveSetup) where
 
 -- ---- The lines of a segment.
 
-not_both : (e : Edit) → is_start e ≡ true → is_end e ≡ true → ⊥
+pub not_both : (e : Edit) → is_start e ≡ true → is_end e ≡ true → ⊥
 not_both (StartSegment p) s e = absurd (cc)
 not_both EndSegment s e = absurd (cc)
 not_both (Mkdir p) s e = absurd (cc)
@@ -193,12 +193,12 @@ not_both (SetReplication p r) s e = absurd (cc)
 not_both (AllocateBlockId i) s e = absurd (cc)
 not_both (SetGenstamp g) s e = absurd (cc)
 
-abbrev adds : List EditLine → ServiceState → ServiceState
+abbrev pub adds : List EditLine → ServiceState → ServiceState
 adds [] s = s
-adds (l ∷ lines) s = adds lines (with_edit l s)
+adds (l ∷ lines) s = adds lines (with_edit l (counts_line s))
 
 -- what is then in hand, and known
-abbrev hand : List EditLine → Part → Part
+abbrev pub hand : List EditLine → Part → Part
 hand [] part = part
 hand (l ∷ lines) part = hand lines (with_line (cond (is_start l.tx.edit) no_lines part) l)
 
@@ -208,7 +208,7 @@ most (l ∷ lines) k = most lines (max k l.tx.txid)
 
 added : (lines : List EditLine) (s : ServiceState) → bare (adds lines s) ≡ record (bare s) { in_hand = hand lines s.in_hand; known = most lines s.known }
 added [] s = refl
-added (l ∷ lines) s = added lines (with_edit l s)
+added (l ∷ lines) s = added lines (with_edit l (counts_line s))
 
 most_grows : (lines : List EditLine) (k : ℕ) → k ≤ most lines k
 most_grows [] k = omega arith
@@ -227,13 +227,13 @@ most_stays [] k within = refl
 most_stays (l ∷ lines) k within = ap (most lines) (max-eq_left within.0) ∙ most_stays lines k within.1
 
 module _ (asked : LiveSetup) where
-  abbrev run : List EditLine → ServiceState → ServiceState
+  abbrev pub run : List EditLine → ServiceState → ServiceState
   run [] s = s
-  run (l ∷ lines) s = run lines (takes_edit asked l s)
+  run (l ∷ lines) s = run lines (takes_edit asked l (counts_line s))
 
   run_blind : (lines : List EditLine) → IsBlind (run lines)
   run_blind [] s = refl
-  run_blind (l ∷ lines) s = alike asked (run lines) (run_blind lines) _ _ (edit_blind asked l s)
+  run_blind (l ∷ lines) s = alike asked (run lines) (run_blind lines) _ _ (alike asked (takes_edit asked l) (edit_blind asked l) (counts_line s) (counts_line (bare s)) refl)
 
   one_line : (l : EditLine) → IsEdit l.text l.tx → (s : ServiceState) → takes asked l.text s ≡ takes_edit asked l (counts_line s)
   unfolding takes
@@ -242,12 +242,11 @@ module _ (asked : LiveSetup) where
   abbrev Read : EditLine → Type 0
   Read l = IsEdit l.text l.tx
 
-  all_run : (lines : List EditLine) → All Read lines → (s : ServiceState) → bare (takes_all asked (texts_of lines) s) ≡ bare (run lines s)
+  pub all_run : (lines : List EditLine) → All Read lines → (s : ServiceState) → takes_all asked (texts_of lines) s ≡ run lines s
   unfolding takes_all
   all_run [] are s = refl
   all_run (l ∷ lines) are s =
-      ap (λ t. bare (takes_all asked (texts_of lines) t)) (one_line l (All-head Read l lines are) s) ∙ all_run lines (All-tail Read l lines are) (takes_edit asked l (counts_line s))
-      ∙ alike asked (run lines) (run_blind lines) _ _ (alike asked (takes_edit asked l) (edit_blind asked l) (counts_line s) s refl)
+      ap (λ t. takes_all asked (texts_of lines) t) (one_line l (All-head Read l lines are) s) ∙ all_run lines (All-tail Read l lines are) (takes_edit asked l (counts_line s))
 
   -- an edit as its marks say
   abbrev by_marks : EditLine → ServiceState → Bool → Bool → ServiceState
@@ -263,22 +262,29 @@ module _ (asked : LiveSetup) where
   rest_run [] e s = absurd (cc)
   rest_run (l ∷ lines) e s = at (rest_run lines) (is_start l.tx.edit) refl (is_end l.tx.edit) refl e
     where
+      u : ServiceState
+      u = counts_line s
+
       at : (ends_once (edits lines) ≡ true → (t : ServiceState) → run lines t ≡ ends_segment asked (adds lines t)) → (a : Bool) → is_start l.tx.edit ≡ a → (b : Bool) → is_end l.tx.edit ≡ b
-          → cond (a || b) (b && (length (edits lines) == 0)) (ends_once (edits lines)) ≡ true → run lines (takes_edit asked l s) ≡ ends_segment asked (adds lines (with_edit l s))
+          → cond (a || b) (b && (length (edits lines) == 0)) (ends_once (edits lines)) ≡ true → run lines (takes_edit asked l u) ≡ ends_segment asked (adds lines (with_edit l u))
       at more true starts true ends e = absurd (not_both l.tx.edit starts ends)
       at more true starts false ends e = absurd (cc)
-      at more false starts true ends e = ap (run lines) (ap₂ (by_marks l s) starts ends) ∙ over lines (with_edit l s) e
-      at more false starts false ends e = ap (run lines) (ap₂ (by_marks l s) starts ends) ∙ more e (with_edit l s)
+      at more false starts true ends e = ap (run lines) (ap₂ (by_marks l u) starts ends) ∙ over lines (with_edit l u) e
+      at more false starts false ends e = ap (run lines) (ap₂ (by_marks l u) starts ends) ∙ more e (with_edit l u)
+
+-- the transactions of a segment count up
+pub counts_up_in : (part : Part) (g : Segment) → segment_of part ≡ Ok g → CountsUp (first_txid g.txs - 1) g.txs
+counts_up_in part g e = (read_is_segment (part_name part.txs) part.bytes g e).0.counts_up
 
 -- the lines of a segment behind its start mark
-record HasStart (lines : List EditLine) : Type 0 where
-  first : EditLine
-  rest : List EditLine
-  are : lines ≡ first ∷ rest
-  starts : is_start first.tx.edit ≡ true
-  ends : ends_once (edits rest) ≡ true
+pub record HasStart (lines : List EditLine) : Type 0 where
+  pub first : EditLine
+  pub rest : List EditLine
+  pub are : lines ≡ first ∷ rest
+  pub starts : is_start first.tx.edit ≡ true
+  pub ends : ends_once (edits rest) ≡ true
 
-has_start : (lines : List EditLine) → AreSegmentLines lines → HasStart lines
+pub has_start : (lines : List EditLine) → AreSegmentLines lines → HasStart lines
 has_start [] are = absurd (never are.starts)
   where
     never : starts (edits []) ≡ true → ⊥
@@ -287,15 +293,26 @@ has_start (l ∷ lines) are = record { first = l; rest = lines; are = refl; star
 
 module _ (asked : LiveSetup) (l : EditLine) (lines : List EditLine) (starts : is_start l.tx.edit ≡ true) (ends : ends_once (edits lines) ≡ true) where
   -- the segment's part
-  abbrev part : Part
+  abbrev pub part : Part
   part = hand lines (with_line no_lines l)
+
+  -- once what was in hand has ended
+  abbrev pub begun : ServiceState → ServiceState
+  begun s = before_edit asked l.tx (counts_line s)
+
+  -- and the segment's lines are in hand
+  abbrev pub gathered : ServiceState → ServiceState
+  gathered s = adds lines (with_edit l (begun s))
 
   -- where the segment is judged
   abbrev judged : ServiceState → ServiceState
   judged b = record (bare b) { in_hand = no_lines; known = most (l ∷ lines) b.known }
 
-  adds_part : (b : ServiceState) → bare (adds (l ∷ lines) b) ≡ record (judged b) { in_hand = part }
-  adds_part b = added (l ∷ lines) b ∙ ap (λ c. record (judged b) { in_hand = hand lines (with_line (cond c no_lines b.in_hand) l) }) starts
+  adds_part : (b : ServiceState) → bare (adds lines (with_edit l b)) ≡ record (judged b) { in_hand = part }
+  adds_part b = added lines (with_edit l b) ∙ ap (λ c. record (judged b) { in_hand = hand lines (with_line (cond c no_lines b.in_hand) l) }) starts
+
+  pub part_gathered : (s : ServiceState) → (gathered s).in_hand ≡ part
+  part_gathered s = ap (λ (t : ServiceState). t.in_hand) (adds_part (begun s))
 
   no_end : is_end l.tx.edit ≡ false
   no_end = at (is_end l.tx.edit) refl
@@ -304,30 +321,27 @@ module _ (asked : LiveSetup) (l : EditLine) (lines : List EditLine) (starts : is
       at true e = absurd (not_both l.tx.edit starts e)
       at false e = refl
 
-  runs : (s : ServiceState) → run asked (l ∷ lines) s ≡ ends_segment asked (adds (l ∷ lines) (before_edit asked l.tx s))
-  runs s = ap (λ b. run asked lines (by_marks asked l s (is_start l.tx.edit) b)) no_end ∙ rest_run asked lines ends (with_edit l (before_edit asked l.tx s))
+  pub runs : (s : ServiceState) → run asked (l ∷ lines) s ≡ ends_segment asked (gathered s)
+  runs s = ap (λ b. run asked lines (by_marks asked l (counts_line s) (is_start l.tx.edit) b)) no_end ∙ rest_run asked lines ends (with_edit l (begun s))
 
-  comes : (s : ServiceState) → bare (run asked (l ∷ lines) s) ≡ bare (follows_segment asked (segment_of part) (judged (before_edit asked l.tx s)))
+  comes : (s : ServiceState) → bare (run asked (l ∷ lines) s) ≡ bare (follows_segment asked (segment_of part) (judged (begun s)))
   comes s =
-      let b = before_edit asked l.tx s in
-      ap bare (runs s) ∙ ends_blind asked (adds (l ∷ lines) b) ∙ ap (λ u. bare (ends_segment asked u)) (adds_part b)
-      ∙ alike asked (follows_segment asked (segment_of part)) (segment_blind asked (segment_of part)) _ (judged b) refl
-
-  count_up : CountUp asked (segment_of part)
-  count_up g e = (read_is_segment (part_name part.txs) part.bytes g e).0.counts_up
+      ap bare (runs s) ∙ ends_blind asked (gathered s) ∙ ap (λ u. bare (ends_segment asked u)) (adds_part (begun s))
+      ∙ alike asked (follows_segment asked (segment_of part)) (segment_blind asked (segment_of part)) _ (judged (begun s)) refl
 
   -- sent once, and again
   again : (s : ServiceState) → bare (run asked (l ∷ lines) (run asked (l ∷ lines) s)) ≡ bare (run asked (l ∷ lines) s)
   again s =
-      let x = judged (before_edit asked l.tx s) in
+      let x = judged (begun s) in
       let y = follows_segment asked (segment_of part) x in
+      let z = counts_line y in
       let once : bare (run asked (l ∷ lines) s) ≡ bare y = comes s in
       let empty : y.in_hand ≡ no_lines = hand_kept asked (segment_of part) x in
-      let between : before_edit asked l.tx y ≡ y = ap (λ (p : Part). cond (is_start l.tx.edit && not (length p.txs == 0)) (ends_segment asked y) y) empty ∙ stays (is_start l.tx.edit) (ends_segment asked y) y in
-      let known : most (l ∷ lines) y.known ≡ y.known = ap (most (l ∷ lines)) (knows asked true (segment_of part) x) ∙ most_stays (l ∷ lines) x.known (most_within (l ∷ lines) (before_edit asked l.tx s).known) ∙ sym (knows asked true (segment_of part) x) in
-      let same : judged (before_edit asked l.tx y) ≡ bare y = ap judged between ∙ ap₂ (λ p k. record (bare y) { in_hand = p; known = k }) (sym empty) known in
+      let between : begun y ≡ z = ap (λ (p : Part). cond (is_start l.tx.edit && not (length p.txs == 0)) (ends_segment asked z) z) empty ∙ stays (is_start l.tx.edit) (ends_segment asked z) z in
+      let known : most (l ∷ lines) y.known ≡ y.known = ap (most (l ∷ lines)) (knows asked true (segment_of part) x) ∙ most_stays (l ∷ lines) x.known (most_within (l ∷ lines) (begun s).known) ∙ sym (knows asked true (segment_of part) x) in
+      let same : judged (begun y) ≡ bare y = ap judged between ∙ ap₂ (λ p k. record (bare y) { in_hand = p; known = k }) (sym empty) known in
       alike asked (run asked (l ∷ lines)) (run_blind asked (l ∷ lines)) _ y once ∙ comes y ∙ ap (λ u. bare (follows_segment asked (segment_of part) u)) same
-      ∙ sym (segment_blind asked (segment_of part) y) ∙ followed_again asked (segment_of part) count_up x ∙ sym once
+      ∙ sym (segment_blind asked (segment_of part) y) ∙ followed_again asked (segment_of part) (counts_up_in part) x ∙ sym once
     where
       stays : (b : Bool) (t u : ServiceState) → cond (b && false) t u ≡ u
       stays true t u = refl
@@ -345,8 +359,8 @@ module _ (asked : LiveSetup) where
       → bare (takes_all asked (texts_of lines) (takes_all asked (texts_of lines) s)) ≡ bare (takes_all asked (texts_of lines) s)
   segment_twice lines are s =
       let h = has_start lines are in
-      let once = all_run asked lines are.read s in
-      all_run asked lines are.read (takes_all asked (texts_of lines) s)
+      let once = ap bare (all_run asked lines are.read s) in
+      ap bare (all_run asked lines are.read (takes_all asked (texts_of lines) s))
       ∙ alike asked (run asked lines) (run_blind asked lines) _ _ once
       ∙ subst (λ ls. bare (run asked ls (run asked ls s)) ≡ bare (run asked ls s)) (sym h.are) (again asked h.first h.rest h.starts h.ends s)
       ∙ sym once

@@ -1,7 +1,8 @@
 -- What a service tells, on small examples.
-use Rattle.std.specs.Prelude.{◌≡◌, ℕ, ◌+◌, false, List, [], ◌∷◌, ◌++◌, flat_map, codes, refl}
+use Rattle.std.specs.Prelude.{◌≡◌, ℕ, ◌+◌, false, List, [], ◌∷◌, ◌++◌, flat_map, codes, decimal, refl}
 use Rattle.std.specs.List.{All}
-use Rattle.std.proofs.Common.{ap, append-nil, arith, get_or, inl, inr, sym, ◌∙◌}
+use Rattle.std.proofs.Common.{ap, append-nil, append_assoc, arith, get_or, inl, inr, length, length-append, sym, ◌∙◌}
+use Rattle.std.proofs.Math.Seq.{get_or-append_seam}
 use Rattle.std.proofs.lemmas.Bool.{eqb-true}
 use Rattle.std.proofs.lemmas.Grind.{flat_map-append}
 use Rattle.std.proofs.lemmas.List.Elements.{All-nil, All-cons, All-head, All-tail}
@@ -15,20 +16,31 @@ use Rattle.json.specs.Text.{content}
 use Rattle.json.specs.Word.{word, after_number}
 use Rattle.serde_json.specs.Read.{number_of}
 use Rattle.nn_bytes.specs.Lines.{line_feed}
+use Rattle.nn_types.specs.declared.edit.Edit.{Edit}
+use Rattle.nn_types.specs.declared.edit.Edit.TheVariants.{EndSegment, Mkdir, StartSegment}
+use Rattle.nn_types.specs.declared.edit_fault.EditFault.TheVariants.{Missing}
 use Rattle.nn_types.specs.declared.event.Cause.TheVariants.{Flush}
 use Rattle.nn_types.specs.declared.event.Event.TheVariants.{Applied, Processed}
+use Rattle.nn_types.specs.declared.profile.Profile.TheVariants.{Two}
+use Rattle.nn_types.specs.declared.tx.Tx.{Tx}
 use Rattle.nn_edits.specs.Reading.{edit_of_line, either_of_line, object_in, value_of, either_in, tx_in, op_in, op_of, txid_in, whole_in, number_in, path_in, profile_in, edit_in, block_in, items_in, blocks_in, report_in, dn_in, kind_in, kind_of}
+use Rattle.nn_segment.specs.Fault.{number_of as number_of_segment}
 use Rattle.nn_segment.specs.Lines.{reads_of}
 use Rattle.nn_segment.specs.Name.{txids_of, segment_file_name, digits as name_digits}
 use Rattle.nn_segment.specs.Reading.{read_segment, fault_of_segment}
+use Rattle.nn_segment.specs.declared.fault.SegmentFault.TheVariants.{Gap}
 use Rattle.nn_model.specs.History.{History}
 use Rattle.nn_model.specs.Namespace.{root_alone}
+use Rattle.nn_model.specs.WellFormed.{Includes}
 use Rattle.nn_listing.specs.Tables.{datanodes}
 use Rattle.nn_listing.specs.Trail.{event_line, history_text}
+use Rattle.nn_shadow.specs.declared.fault.ApplyFault.TheVariants.{Refused}
+use Rattle.nn_shadow.specs.Numbers.{number_of_apply}
 use Rattle.nn_live.specs.Laws.{served}
-use Rattle.nn_live.specs.Live.{ServiceState, takes, takes_all}
+use Rattle.nn_live.specs.Live.{ServiceState, new_service, takes, takes_all}
 use Rattle.nn_live.specs.LiveRows.{lines, asks}
-use Rattle.nn_live.specs.TellingLaws.{EndsLine, PutsIn, Stretch, TellsMore}
+use Rattle.nn_live.specs.Serving.{fault_text}
+use Rattle.nn_live.specs.TellingLaws.{EndsLine, IsFollowedOrTold, PutsIn, SaysWhyNot, Stretch, TellsMore}
 use Rattle.nn_live.specs.Words.{word_alone, word_in}
 
 -- ---- The history.
@@ -151,3 +163,85 @@ not_inside_a_line p = none p.stretches (p.of_told, p.of_answered, p.of_written) 
 -- what is told changes nothing else
 not_another_service : (s : ServiceState) → TellsMore s (record s { lines = s.lines + 1 }) → ⊥
 not_another_service s t = let e : s.lines + 1 ≡ s.lines = ap (λ (x : ServiceState). x.lines) t.same in omega (arith, e)
+
+-- ---- Segments.
+
+abbrev at_txid : ℕ → Edit → Tx
+at_txid txid edit = record { txid = txid; edit = edit }
+
+-- a start mark, and edits behind it
+abbrev started : ℕ → List Tx → List Tx
+started txid txs = at_txid txid (StartSegment Two) ∷ txs
+
+abbrev two : List Tx
+two = started 1 (at_txid 2 EndSegment ∷ [])
+
+abbrev fresh : ServiceState
+fresh = new_service root_alone 0
+
+abbrev writes : ℕ → ℕ → List (List ℕ) → ServiceState
+writes last segments texts = record fresh { standby = record fresh.standby { last = last }; segments = segments; written = lines texts }
+
+followed : IsFollowedOrTold two fresh (writes 2 1 [])
+followed = inl (omega arith)
+
+no_segment : IsFollowedOrTold two fresh (writes 0 1 (codes "fault 14 segment 1" ∷ []))
+unfolding digits
+no_segment = inr ([], lines (codes "fault 14 segment 1" ∷ []), inl (Gap 2, refl), refl)
+
+behind_a_gap : IsFollowedOrTold (started 4 (at_txid 5 EndSegment ∷ [])) fresh (writes 2 7 (codes "fault 57 txid 3 segment 7" ∷ []))
+unfolding digits
+behind_a_gap = inr ([], lines (codes "fault 57 txid 3 segment 7" ∷ []), inr (inl (omega arith, refl)), refl)
+
+-- what was applied before it is written, too
+one_refused : IsFollowedOrTold (started 1 (at_txid 2 (Mkdir (codes "a" ∷ codes "b" ∷ [])) ∷ at_txid 3 EndSegment ∷ [])) fresh (writes 1 1 (codes "applied 1" ∷ codes "fault 22 txid 2" ∷ []))
+unfolding digits
+one_refused =
+    inr (lines (codes "applied 1" ∷ []), lines (codes "fault 22 txid 2" ∷ []), inr (inr (at_txid 2 (Mkdir (codes "a" ∷ codes "b" ∷ [])), Refused Missing, inr (inl refl), refl)), refl)
+
+-- no reason is an empty text
+some_reason : (txs : List Tx) (s : ServiceState) (why : List ℕ) → SaysWhyNot txs s why → get_or why 0 0 ≡ 102
+some_reason txs s why (inl x) = ap (λ t. get_or t 0 0) x.1
+some_reason txs s why (inr (inl x)) = ap (λ t. get_or t 0 0) x.1
+some_reason txs s why (inr (inr x)) = ap (λ t. get_or t 0 0) x.3
+
+not_in_silence : IsFollowedOrTold two fresh fresh → ⊥
+not_in_silence (inl last) = omega (arith, last)
+not_in_silence (inr x) =
+    let none = nil_parts x.0 x.1 x.3 in
+    let e : 0 ≡ 102 = ap (λ t. get_or t 0 0) (sym none.1) ∙ some_reason two fresh x.1 x.2 in
+    omega (arith, e)
+
+-- the last digit, before the line feed, is that of the segment, or of one of its transactions
+last_digit : (front : List ℕ) (digit other : ℕ) → codes "fault 14 segment " ++ digit ∷ line_feed ∷ [] ≡ front ++ other ∷ line_feed ∷ [] → other ≡ digit
+last_digit front digit other e =
+    let size : length front ≡ 17 = omega (arith, ap length e, length-append front (other ∷ line_feed ∷ [])) in
+    sym (get_or-append_seam front other (line_feed ∷ []) 0) ∙ ap (λ t. get_or t (length front) 0) (sym e) ∙ ap (λ k. get_or (codes "fault 14 segment " ++ digit ∷ line_feed ∷ []) k 0) size
+
+-- the fault of another segment is no reason
+not_of_another_segment : IsFollowedOrTold two fresh (writes 0 1 (codes "fault 14 segment 7" ∷ [])) → ⊥
+unfolding digits
+not_of_another_segment (inl last) = omega (arith, last)
+not_of_another_segment (inr x) = by x.0 x.1 x.2 x.3
+  where
+    t : ServiceState
+    t = writes 0 1 (codes "fault 14 segment 7" ∷ [])
+
+    ends : (before why front : List ℕ) (digit : ℕ) → why ≡ front ++ digit ∷ line_feed ∷ [] → t.written ≡ before ++ why → digit ≡ 55
+    ends before why front digit is written = last_digit (before ++ front) 55 digit (written ∙ ap (λ w. before ++ w) is ∙ sym (append_assoc before front (digit ∷ line_feed ∷ [])))
+
+    no_other : (number : ℕ) (place : List ℕ) (n digit : ℕ) (before why : List ℕ) → decimal n ≡ digit ∷ [] → why ≡ fault_text number place n → t.written ≡ before ++ why → digit ≡ 55
+    no_other number place n digit before why spelled is written =
+        let front = decimal number ++ place in
+        let shape = ap (λ d. codes "fault " ++ (front ++ d ++ line_feed ∷ [])) spelled ∙ ap (λ w. codes "fault " ++ w) (append_assoc front (digit ∷ []) (line_feed ∷ [])) in
+        ends before why (codes "fault " ++ front) digit (is ∙ shape) written
+
+    by : (before why : List ℕ) → SaysWhyNot two t why → t.written ≡ before ++ why → ⊥
+    by before why (inl x) written = omega (arith, no_other (number_of_segment x.0) (codes " segment ") 1 49 before why refl x.1 written)
+    by before why (inr (inl x)) written = omega (arith, x.0)
+    by before why (inr (inr x)) written = of_either x.2
+      where
+        of_either : Includes two x.0 → ⊥
+        of_either (inl e) = omega (arith, no_other (number_of_apply x.1) (codes " txid ") x.0.txid 49 before why (ap (λ (tx : Tx). decimal tx.txid) (sym e)) x.3 written)
+        of_either (inr (inl e)) = omega (arith, no_other (number_of_apply x.1) (codes " txid ") x.0.txid 50 before why (ap (λ (tx : Tx). decimal tx.txid) (sym e)) x.3 written)
+        of_either (inr (inr e)) = absurd e

@@ -1,7 +1,7 @@
 //! What holds of every service, whatever lines came.
 ghost use Rattle.nn_live.specs.Laws.{StandsAtItsLog, FollowsWhatCame, AnswersThePicture, PromotesAtTheEnd, PromotesInNoLowerEpoch, TakesOrTellsEachReport, NothingElseIsSent, MayBeSentTwice};
 ghost use Rattle.nn_live.specs.Taking.{MayBeCut};
-ghost use Rattle.nn_live.specs.TellingLaws.{HistoryTellsAll, HistoryTellsAllAtEnd};
+ghost use Rattle.nn_live.specs.TellingLaws.{HistoryTellsAll, HistoryTellsAllAtEnd, NoSegmentInSilence};
 ghost use Rattle.nn_live.specs.WordLaws.{BlockTellsThePath, MistypedChangesNothing, NothingChangesNothing, TornWordChangesNothing};
 
 /// Whatever lines came, there is a log at which, with the messages that were taken, the standby stands.
@@ -70,4 +70,10 @@ pub fn a_mistyped_word_changes_nothing()
 pub fn a_history_tells_all()
     ensures so_far { HistoryTellsAll }
     ensures at_end { HistoryTellsAllAtEnd }
+{}
+
+/// Behind the lines of a segment the last of its transactions was applied, now or before, or the last line that was written says why
+/// not: it is no segment, it begins above the next txid, or one of its transactions is refused.
+pub fn no_segment_in_silence()
+    ensures { NoSegmentInSilence }
 {}

@@ -1,0 +1,657 @@
+"""Judges the feeder's core by sessions: a world with faults around it, and laws over what is seen from outside.
+
+A session plays the hands: it carries out what the core asks for, late and in any order between the lanes, and each
+action may fail. It kills the feeder between any two actions, hangs the program, stops all for a while, and hides the
+folder. The laws say nothing of how the core works. `Feeder` has the modules that are judged, as they are or with a
+fault put back.
+"""
+import functools
+import hashlib
+import json
+import random
+import re
+
+from programs import Built, ByDefinition, Listener
+from worlds import END, HEADER, Room, Segments, Trouble, line, progress_name, segment, segment_name
+
+EVERY, KEEP, GONE, PIECE_BYTES = 8, 2, 12, 420
+STEADY = 9
+STEPS = 120
+# How late what the world sees may be: a tick, and what a lane holds back.
+SLACK = 3
+
+
+class Broken(Exception):
+    """A law that does not hold."""
+
+
+@functools.lru_cache(2000)
+def last_of(name, data):
+    """The TXID that a file says is there, or 0."""
+    if not re.fullmatch(r"edits_(inprogress_)?[0-9]{19}(-[0-9]{19})?(\.xml)?", name):
+        return 0
+    stem = name.replace(".xml", "")
+    return int(stem[-19:]) if "inprogress" not in name or is_begun(name, data) else 0
+
+
+def is_begun(name, data):
+    if data.startswith(b"\xff"):
+        return len(data) > 8 and data[8] != 0xFF
+    return b"<RECORD>" in data if name.endswith(".xml") else b"\n" in data
+
+
+class Session:
+    def __init__(self, feeder, seed, program=None):
+        self.feeder = feeder
+        self.program_path = program
+        self.random = random.Random(seed)
+        self.trouble = Trouble(seed + 1)
+        # In some sessions less goes wrong, and nobody asks but a few.
+        self.is_quiet = seed % 5 == 0
+        self.now = 0.0
+        self.segments = Segments(self.trouble, lambda: self.now)
+        self.room = Room(self.trouble)
+        self.trace = []
+        # The log: a path for each transaction, None for a mark. Files that grow: their names, each with what they will have.
+        self.log = []
+        self.growing = {}
+        self.history = 0
+        self.is_spoiled = False
+        # What the outside relies on: known as a healthy feeder said it, and the greatest epoch that was answered.
+        self.sure = self.epoch = 0
+        # The greatest TXID that any listing showed.
+        self.most = 0
+        self.images = set()
+        self.requests = 0
+        self.told_states = {}
+        self.program = None
+        self.start()
+
+    # ---- The feeder's life.
+
+    def start(self):
+        """A new feeder and a new program, from what is on the disk."""
+        self.trouble.is_on = False
+        if self.program is not None:
+            self.program.end()
+        self.ever = self.ever_shown = self.sure
+        self.asked, self.listener = {}, Listener()
+        self.lanes = {"list": [], "read": [], "disk": [], "program": []}
+        self.writing = {}
+        # Since when the program hangs, how much of that all stood still, and when it hung last.
+        self.hung_since, self.hung_paused, self.hung_at, self.is_killed, self.is_ended = None, 0.0, None, False, False
+        self.heard = {}
+        start, image = self.started()
+        self.program = Built(self.program_path, image) if self.program_path else ByDefinition(image)
+        self.trouble.is_on = True
+        self.act()
+
+    def started(self):
+        """What a start does: it clears the disk, reads the state, and takes the newest checkpoint that is whole."""
+        feeder = self.feeder
+        store = feeder.store.Store(self.room, lambda text: self.trace.append(text))
+        store.clear()
+        kept = store.state()
+        start = next(store.starts())
+        image = self.room.files[start.name] if start.name else b""
+        if start.name and hashlib.sha256(image).digest() not in self.images:
+            raise Broken("a changed image is taken")
+        settings = feeder.core.Settings(EVERY, KEEP, GONE, 1, "", True)
+        self.clear_given_up(kept)
+        after = feeder.state.after_restart(kept or feeder.state.Kept(), start.place.txid)
+        self.store = store
+        self.folder = feeder.folder.Folder("folder", self.segments)
+        self.reader = feeder.segments.LineReader(PIECE_BYTES)
+        self.core = feeder.core.Core(settings, after, after == kept, start.place, store.own(), "i", self.now)
+        return start, image
+
+    def clear_given_up(self, kept):
+        """Whoever fenced takes away what a promotion gave up, where the feeder was killed before it could keep that."""
+        for name, data in self.given_up.items():
+            if not kept or name not in kept.given_up:
+                if name in self.segments.files and self.segments.files[name].data == data:
+                    self.segments.drop(name)
+
+    def act(self):
+        """Takes what the core asks for to its lane. Replies and texts are heard at once."""
+        while self.core.out:
+            action = self.core.out.pop(0)
+            self.trace.append((self.now, action))
+            kind = action[0]
+            if kind == "reply":
+                self.judge(*action[1:])
+            elif kind == "send":
+                self.lanes["program"].append(action)
+                self.judge_sent(action[1].decode())
+            elif kind in ("list", "read"):
+                self.lanes[kind].append(action)
+            elif kind in ("save", "finish", "remove"):
+                self.lanes["disk"].append(action)
+            elif kind == "kill":
+                self.is_killed = True
+                if self.hung_since is None or self.now - self.hung_since - self.hung_paused < 60 - 2 * SLACK:
+                    raise Broken("a program is killed that hung for less than a minute")
+            elif kind == "end":
+                self.judge_end(action[1])
+        if len(self.lanes["program"]) > 1:
+            raise Broken("two exchanges at a time")
+
+    def deliver(self, part=1.0):
+        """Carries out some of what waits, lane by lane in order, the lanes in any."""
+        for _ in range(60):
+            ready = [name for name, lane in self.lanes.items() if lane and not (name == "program" and self.hung_since is not None)]
+            if not ready or self.is_ended or (part < 1 and self.random.random() > part):
+                return
+            name = self.random.choice(ready)
+            self.carry_out(name, self.lanes[name].pop(0))
+            self.act()
+
+    def let_program_answer(self):
+        """A program that does not hang answers within the step."""
+        while self.lanes["program"] and self.hung_since is None and not self.is_ended:
+            self.carry_out("program", self.lanes["program"].pop(0))
+            self.act()
+
+    def carry_out(self, lane, action):
+        core = self.core
+        core.now = self.now
+        if lane == "program":
+            self.exchange(*action[1:])
+        elif lane == "list":
+            self.look(action)
+        elif lane == "read":
+            named, reached = action[1:]
+            core.read(named.name, self.feeder.segments.taken(self.reader, self.segments, named.name, named, reached))
+        else:
+            self.write(*action)
+
+    def look(self, action):
+        """A listing that comes late was shown when it was made."""
+        if action[-1] != "made":
+            try:
+                found = self.folder.look(action[1]), None
+            except OSError as fault:
+                found = None, str(fault)
+            action = ("list", found, dict(self.segments.shown), self.segments.listed_at, "made")
+            if self.random.random() < 0.2:
+                self.lanes["list"].insert(0, action)
+                return
+        _, found, shown, listed_at, _ = action
+        if found[1] is None:
+            self.shown, self.looked_at = shown, listed_at
+            self.ever = max(self.ever, self.greatest(shown, self.segments.sums_failed))
+            self.ever_shown = max(self.ever_shown, self.greatest(shown))
+            self.most = max(self.most, self.greatest(shown), *(int(name[17:36]) for name in self.segments.unread), 0)
+        self.core.looked(*found)
+
+    def write(self, kind, name, data=None):
+        fault = None
+        try:
+            if kind == "save":
+                self.store.replace(name, data)
+            elif kind == "finish":
+                self.writing.pop(name).finish(data)
+                self.images.add(hashlib.sha256(self.room.files[name]).digest())
+            else:
+                self.store.remove(name)
+        except OSError as reason:
+            fault = str(reason)
+        except self.feeder.state.Damaged as reason:
+            raise Broken(f"an image is refused that the program gave: {reason}") from None
+        if kind == "remove":
+            self.core.removed(name, fault)
+        else:
+            self.core.saved(name, fault)
+
+    def exchange(self, data, number, file):
+        told = self.program.answer(data)
+        state = self.listener.hear(data, told)
+        self.judge_state(data.decode(), told, state)
+        if STEADY in self.listener.gone:
+            raise Broken("a DataNode is gone that asked every three seconds")
+        told, _, last = told[:-1].rpartition(b"\n")
+        if last != b"done %d" % number:
+            raise Broken(f"the answer ends with {last}, and {number} is due")
+        fault = None
+        if file is not None:
+            fault, told = self.give(file, told + b"\n"), b""
+        self.core.moved(self.now)
+        self.core.answered(told, fault)
+
+    def give(self, name, image):
+        """A long answer goes to its file."""
+        try:
+            self.writing[name] = self.store.begin(name)
+            self.writing[name].write(image)
+        except OSError as reason:
+            return str(reason)
+        return None
+
+    # ---- What is seen of the folder.
+
+    def greatest(self, shown, is_doubtful=False):
+        """The greatest TXID that these files say is there, by the rules of names. Of doubtful ones nothing is known."""
+        given = self.given_up
+        left = ((name, data) for name, data in shown.items() if given.get(name) != data and not (is_doubtful and name in given))
+        return max((last_of(name, data) for name, data in left), default=0)
+
+    given_up = {}
+    shown, looked_at = {}, -1.0
+
+    # ---- Laws.
+
+    def judge_sent(self, text):
+        """A promotion is sent in time."""
+        for words in (row.split() for row in text.splitlines() if row.startswith("promote ")):
+            self.sent = self.matching(int(words[3]), words[4:] == ["lost"])
+            self.sent_seen, self.sent_looked = max(self.ever, self.ever_shown), self.looked_at
+            if not self.sent:
+                raise Broken("a promotion is sent late, or nobody asked for it")
+
+    def matching(self, epoch, is_lost):
+        asked = [(body, then) for kind, body, then in self.asked.values() if kind == "promote"]
+        return [
+            (body, then)
+            for body, then in asked
+            if (body["epoch"], body["lost"]) == (epoch, is_lost) and self.now - then <= max(5, body["within"]) + 0.001
+        ]
+
+    def judge_state(self, text, told, state):
+        """A standby that has become active: not below what was seen, not in a lower epoch, and not without a look."""
+        if state == "active" and not self.listener.is_active:
+            words = next(row.split() for row in text.splitlines() if row.startswith("promote "))
+            epoch, is_lost = int(words[3]), words[4:] == ["lost"]
+            asked = self.sent
+            self.listener.is_active = True
+            if epoch < self.epoch:
+                raise Broken(f"promoted in epoch {epoch}, and {self.epoch} was named")
+            self.listener.promoted = epoch
+            if is_lost:
+                self.give_up(max(body["txid"] for body, _ in asked))
+                return
+            txid = max(body["txid"] for body, _ in asked)
+            if txid < self.sent_seen:
+                raise Broken(f"promoted at {txid}, and {self.sent_seen} was seen")
+            if self.sent_looked < min(then for _, then in asked):
+                raise Broken("promoted without a look")
+
+    def give_up(self, txid):
+        """All above a TXID is given up: another log goes on there. What nobody was shown is taken away."""
+        self.ever = self.ever_shown = self.sure = txid
+        self.history += 1
+        shown = self.shown if self.sent_looked >= min(then for _, then in self.sent) else {}
+        given = dict(self.given_up)
+        for name, file in list(self.segments.files.items()):
+            if self.greatest({name: file.data}) > txid or name in self.growing:
+                if shown.get(name) == file.data and not self.segments.sums_failed and not self.segments.is_hidden:
+                    given[name] = file.data
+                else:
+                    self.segments.drop(name)
+                    self.growing.pop(name, None)
+        self.given_up = given
+        self.growing = {}
+        del self.log[txid:]
+        self.is_spoiled = False
+
+    def judge_end(self, status):
+        self.is_ended = True
+        if status == 1 and not self.is_killed:
+            raise Broken(f"it ended with 1: {self.trace[-3:]}")
+        if status == 3 and not (self.listener.is_active and self.epoch_named > self.listener.promoted):
+            raise Broken("it ended as deposed, and no greater epoch was named")
+
+    def judge(self, who, status, answer):
+        """An answer that went out."""
+        if who not in self.asked:
+            raise Broken("a request is answered twice")
+        kind, body, then = self.asked.pop(who)
+        if kind == "promote":
+            self.judge_promotion(status, answer, body, then)
+        elif kind == "epoch" and status == 200:
+            self.epoch = max(self.epoch, body["epoch"])
+        elif kind == "health":
+            self.judge_health(status, answer)
+        elif kind in ("report", "heartbeat") and "full_report" in answer:
+            self.judge_full(kind, answer, body)
+
+    def judge_promotion(self, status, answer, body, then):
+        if status == 200:
+            if not self.listener.is_active or self.listener.promoted > body["epoch"]:
+                raise Broken("a promotion is answered, and it is not active")
+            self.listener.promoted = body["epoch"]
+        if status == 200 or status == 409:
+            self.epoch = max(self.epoch, body["epoch"])
+        if self.now - then > max(body["within"], 5) + 3 * SLACK + self.paused_since(then) and self.has_answered_since(then):
+            raise Broken(f"a promotion waits {self.now - then:.0f} s for its answer")
+
+    def has_answered_since(self, then):
+        return self.hung_since is None and (self.hung_at is None or self.hung_at < then)
+
+    def paused_since(self, then):
+        return sum(length for at, length in self.pauses if at >= then - SLACK)
+
+    pauses = ()
+
+    def judge_full(self, kind, answer, body):
+        is_full = body["dn"] in self.listener.full
+        if answer["full_report"] == "taken" and not is_full:
+            raise Broken("half a report is called full")
+        if kind == "report" and is_full and answer["full_report"] != "taken" and self.is_in_order():
+            raise Broken("a full report is not known")
+
+    def is_in_order(self):
+        return self.hung_since is None and not self.listener.is_active
+
+    def judge_health(self, status, answer):
+        hung = self.now - self.hung_since if self.hung_since is not None else 0
+        if status == 200:
+            if hung - self.hung_paused > 12 + SLACK:
+                raise Broken("healthy, and the program hangs")
+            file = self.room.files.get("state")
+            kept = self.feeder.judge_state.kept_in(file) if file else self.feeder.judge_state.Kept()
+            if kept.seen < answer["known"] or kept.epoch < self.epoch:
+                raise Broken(f"healthy, and what it relies on is not kept: {kept}, {answer['known']}, {self.epoch}")
+            if answer["state"] not in ("standby", "active"):
+                raise Broken(f"healthy, and {answer['state']}")
+            self.sure = max(self.sure, answer["known"])
+        if answer.get("reason") == "silent" and self.has_answered_since(0):
+            raise Broken("silent, and the program answers")
+        if answer["known"] > self.most:
+            raise Broken(f"it knows {answer['known']}, and no more than {self.most} was ever seen")
+        if answer["known"] < self.ever:
+            raise Broken(f"it knows {answer['known']}, and {self.ever} was seen")
+
+    # ---- What callers do.
+
+    def request(self, kind, **body):
+        self.requests += 1
+        self.asked[self.requests] = (kind, body, self.now)
+        if kind == "health" and self.is_ended:
+            return
+        self.core.now = self.now
+        if kind in ("promote", "epoch"):
+            self.epoch_named = max(self.epoch_named, body["epoch"])
+        self.core.request(self.requests, kind, body)
+        if kind == "health" and not any(action[:2] == ("reply", self.requests) for action in self.core.out):
+            raise Broken("health waits")
+        self.act()
+
+    epoch_named = 0
+
+    def report(self, dn, kind):
+        members = {"dn": dn, "block": 1073741825, "gen": 1001, "len": 5, "kind": kind}
+        self.request("report", dn=dn, data=json.dumps(members, separators=(",", ":"), sort_keys=True).encode() + b"\n", count=1)
+
+    def promote(self):
+        if any(kind == "promote" and body["lost"] for kind, body, _ in self.asked.values()):
+            return
+        reached = self.core.log.reached.txid
+        body = {"txid": max(0, reached + self.random.choice([0, 0, 0, 0, 1, -1, 4])), "within": self.random.choice([0, 0, 0, 8, 20])}
+        body["epoch"] = self.random.choice([0, self.epoch, self.epoch, self.epoch + 1, max(0, self.epoch - 1)])
+        self.request("promote", lost=self.random.random() < 0.2, **body)
+
+    # ---- What the cluster does.
+
+    def grow(self):
+        """The log goes on by a segment: whole at once, or in its place, or torn at first. While it is given up it stands still."""
+        if any(kind == "promote" and body["lost"] for kind, body, _ in self.asked.values()) or self.is_spoiled or self.growing:
+            return
+        first, count = len(self.log) + 1, self.random.randint(1, 6)
+        paths = [f"/h{self.history}-{txid}" for txid in range(first + 1, first + count + 1)]
+        if self.random.random() < 0.01:
+            paths[-1], self.is_spoiled = None, True
+        data = segment(first, paths)
+        self.log += [None, *paths, None]
+        name = segment_name(first, len(self.log))
+        self.segments.drop(progress_name(first))
+        if self.random.random() < 0.25:
+            self.segments.put(name, data[: self.random.randint(0, len(data) - 1)])
+            self.growing[name] = data
+        else:
+            self.segments.put(name, data)
+
+    def ripen(self):
+        """A file that grew in its place is whole."""
+        for name, data in list(self.growing.items()):
+            if self.trouble.is_on and self.random.random() < 0.5:
+                self.segments.grow(name, data[: self.random.randint(0, len(data))])
+            else:
+                self.segments.grow(name, data)
+                del self.growing[name]
+
+    def begin_segment(self):
+        """A segment in progress, of lines, binary or as a dump; and what has such a name and is none."""
+        if self.growing or self.is_spoiled or any(kind == "promote" and body["lost"] for kind, body, _ in self.asked.values()):
+            return
+        first = len(self.log) + 1
+        data, suffix = self.random.choice(
+            [
+                (b"", ""),
+                (line("OP_START_LOG_SEGMENT", first).encode(), ""),
+                (line("OP_START_LOG_SEGMENT", first).encode()[:-1], ""),
+                (HEADER, ""),
+                (HEADER + b"\xff" * 90, ""),
+                (HEADER + b"\x18" + b"\x00" * 30, ""),
+                (b"<EDITS><EDITS_VERSION>-63</EDITS_VERSION><RECORD>", ".xml"),
+                (HEADER + b"\x18" + b"\x00" * 30, random.Random(first).choice([".empty", ".trash", ".corrupt", ".md5"])),
+            ]
+        )
+        self.segments.put(progress_name(first, suffix), data)
+
+    def end_segments(self):
+        """What is in progress is gone: it was thrown away, or gets its name."""
+        for name in [name for name in self.segments.files if "inprogress" in name]:
+            self.segments.drop(name)
+
+    # ---- A step.
+
+    def step(self):
+        length = self.random.choice([0.2, 1, 1, 1, 2.5])
+        self.now += length
+        chosen = self.random.random()
+        if self.is_ended:
+            self.start()
+        elif self.is_quiet and chosen > 0.3:
+            pass
+        else:
+            self.happen(chosen)
+        if self.is_ended:
+            return
+        self.beat()
+        self.tick()
+        self.deliver(0.9)
+        self.let_program_answer()
+        if not self.is_ended:
+            self.request("health")
+        self.look_at_hang()
+
+    def beat(self):
+        """One DataNode asks every three seconds."""
+        if self.now - self.heard.get(STEADY, 0) > 2:
+            self.heard[STEADY] = self.now
+            self.request("heartbeat", dn=STEADY)
+
+    def tick(self):
+        if self.now - self.heard_tick > 5:
+            # A feeder ticks each second, unless it stood still.
+            self.pauses = (*self.pauses, (self.now, self.now - self.heard_tick))
+        self.heard_tick = self.now
+        self.core.now = self.now
+        self.core.tick()
+        self.act()
+
+    heard_tick = 0.0
+
+    def look_at_hang(self):
+        if self.hung_since is not None and self.now - self.hung_since - self.hung_paused > 75 and not self.is_killed and not self.is_ended:
+            raise Broken("a program hangs for more than a minute, and is not killed")
+
+    def happen(self, chosen):
+        if chosen < 0.20:
+            self.grow()
+        elif chosen < 0.26:
+            self.ripen()
+        elif chosen < 0.30:
+            self.segments.hide(not self.segments.is_hidden)
+        elif chosen < 0.33:
+            self.begin_segment()
+        elif chosen < 0.36:
+            self.end_segments()
+        elif chosen < 0.38:
+            self.remove_newest()
+        elif chosen < 0.55:
+            self.report(self.random.randint(1, 3), self.random.choice(["report_begin", "received", "report_end"]))
+        elif chosen < 0.60:
+            self.request("heartbeat", dn=self.random.randint(1, 3))
+        elif chosen < 0.70:
+            self.promote()
+        elif chosen < 0.72:
+            self.request("epoch", epoch=self.epoch + self.random.choice([0, 0, 1]))
+        elif chosen < 0.76:
+            self.die()
+        elif chosen < 0.79:
+            self.hang()
+        elif chosen < 0.82:
+            self.go_on()
+        elif chosen < 0.84:
+            self.pause()
+        elif chosen < 0.87:
+            self.room.bytes = self.random.choice([900, 1500, 4000, 100_000])
+        elif chosen < 0.89:
+            self.flip()
+
+    def remove_newest(self):
+        names = [name for name in self.segments.files if "inprogress" not in name]
+        if names and max(names) not in self.growing:
+            name = max(names)
+            self.removed = (name, self.segments.files[name].data)
+            self.segments.drop(name)
+
+    removed = None
+
+    def die(self):
+        """kill -9, between any two actions. A new one starts at once."""
+        self.tick()
+        self.deliver(0.6)
+        if not self.is_ended:
+            self.start()
+
+    def hang(self):
+        if self.hung_since is None:
+            self.hung_since, self.hung_paused = self.now, 0.0
+
+    def go_on(self):
+        if self.hung_since is not None and not self.is_killed:
+            self.hung_since, self.hung_at = None, self.now
+
+    def pause(self):
+        """All stands still: the feeder, the program and who asks them."""
+        length = self.random.choice([4, 8, 30, 90])
+        self.now += length
+        # A short one can't be told from a late tick.
+        self.hung_paused += length if length > 5 else 0
+        self.heard[STEADY] = self.now
+        self.pauses = (*self.pauses, (self.now, length))
+        self.request("heartbeat", dn=STEADY) if self.random.random() < 0.5 else None
+
+    def flip(self):
+        """A byte of a file on the disk is another one, and the feeder starts again."""
+        names = sorted(name for name in self.room.files if self.room.files[name])
+        if not names:
+            return
+        name = self.random.choice(names)
+        before = self.room.files[name]
+        at = self.random.randrange(len(before))
+        data = bytearray(before)
+        data[at] ^= self.random.choice([1, 2, 4, 16])
+        self.room.files[name] = bytes(data)
+        if name == "state":
+            self.judge_damaged_state(before)
+            return
+        self.start()
+
+    def judge_damaged_state(self, before):
+        """A damaged state is refused. Whoever runs the feeder puts back the one before."""
+        self.trouble.is_on = False
+        try:
+            self.feeder.store.Store(self.room, lambda text: None).state()
+        except self.feeder.state.Damaged:
+            self.room.files["state"] = before
+            self.trouble.is_on = True
+            return
+        raise Broken("a changed state is taken")
+
+    # ---- The end.
+
+    def settle(self):
+        """With no more faults, all that is there is followed, nothing is left on the disk, and who is silent is gone."""
+        self.trouble.is_on = False
+        self.segments.sums_failed = False
+        self.segments.hide(False)
+        self.room.bytes = 10**6
+        self.go_on()
+        self.ripen()
+        if self.removed and self.greatest({self.removed[0]: self.removed[1]}) <= len(self.log):
+            name, data = self.removed
+            if name not in self.segments.files and self.given_up.get(name) != data and f"/h{self.history}-".encode() in data:
+                self.segments.put(name, data)
+        for _ in range(GONE + 20):
+            self.now += 1
+            if self.is_ended:
+                self.start()
+                self.trouble.is_on = False
+            self.beat()
+            self.tick()
+            self.deliver()
+        self.request("health") if not self.is_ended else None
+        self.judge_rest()
+
+    def judge_rest(self):
+        if [kind for kind, body, then in self.asked.values() if kind != "health"] and not self.is_ended:
+            raise Broken(f"requests are not answered: {self.asked}")
+        left = sorted(name for name in self.room.files if name.startswith("writing_") or name.endswith(".pairs"))
+        images = [name for name in self.room.files if re.fullmatch("fsimage_[0-9]+", name)]
+        images = [name for name in images if hashlib.sha256(self.room.files[name]).digest() in self.images]
+        if left or len(images) > KEEP:
+            raise Broken(f"left on the disk: {sorted(self.room.files)}")
+        if self.is_ended or self.listener.is_active:
+            return
+        if self.core.program.state == "standby":
+            self.judge_followed()
+            silent = {dn for dn in self.core.datanodes.heard if dn != STEADY} - self.listener.gone
+            if silent:
+                raise Broken(f"silent, and not gone: {silent}")
+
+    def judge_followed(self):
+        """All segments that are there in a row are followed, and the names are those of the log."""
+        top = self.core.log.reached.txid
+        files = self.segments.files
+        spans = [(int(name[6:25]), int(name[26:45])) for name in files if name[6].isdigit() and self.given_up.get(name) != files[name].data]
+        below = [last for first, last in spans if first <= top + 1 <= last]
+        if self.core.log.doubts:
+            # One that may have been given up is left to whoever fenced.
+            return
+        if below and not self.is_spoiled:
+            raise Broken(f"it stands at {top}, and {max(below)} is there: {self.core.log.waits}")
+        told = self.program.answer(b"tables\n").decode().splitlines()
+        dirs = {row[5:-1] for row in told if row.startswith('dir "') and row != 'dir "/"'}
+        wanted = {path for path in self.log[:top] if path}
+        if dirs != wanted:
+            raise Broken(f"other names than the log has: {sorted(dirs ^ wanted)[:5]}")
+
+    def run(self):
+        """Plays it whole. Answers the law that broke, or None."""
+        try:
+            for _ in range(STEPS):
+                self.step()
+            self.settle()
+        except Broken as broken:
+            return str(broken)
+        except Exception as raised:  # a feeder that raises ends
+            return f"it raises {raised!r}"
+        finally:
+            self.program.end()
+        return None
+
+
+assert END

@@ -1,0 +1,106 @@
+"""Reads what a caller sends as JSON. Values alone; called by the doors.
+
+A report is read and written anew with its five members, so no body brings an edit, a word or a second line.
+"""
+import json
+import re
+
+from place import GREATEST_NUMBER
+
+DATANODES = 256
+KINDS = frozenset(("receiving", "received", "deleted", "report_begin", "listed", "report_end"))
+MEMBERS = 5
+# The quotes of a report: those of its five names and of its kind.
+QUOTES = 12
+GREATEST_EPOCH = 2**31 - 1
+MOST_SECONDS = 600
+# A number of more digits takes longer than its length to read, and no report has one.
+LONG_NUMBER = re.compile(rb"[0-9]{20}")
+
+
+class BadBody(Exception):
+    """A body that is not taken. The text is the reason."""
+
+
+def report_in(body: bytes) -> dict:
+    """The reports of a body, one or a list of them, all of one DataNode. All of them are good, or none is taken."""
+    found = json_in(body)
+    reports = found if type(found) is list else [found]
+    if body.count(b'"') != QUOTES * len(reports):
+        # A member that comes twice has two quotes more.
+        raise BadBody("a body is a report, or a list of reports, with the members dn, block, gen, len and kind")
+    lines = list(map(line_of, reports))
+    datanodes = {report["dn"] for report in reports}
+    if len(datanodes) != 1:
+        raise BadBody("the reports of a body are of one DataNode")
+    return {"dn": datanodes.pop(), "data": "".join(lines).encode(), "count": len(lines)}
+
+
+def line_of(report):
+    try:
+        dn, block, gen, length, kind = report["dn"], report["block"], report["gen"], report["len"], report["kind"]
+    except (KeyError, TypeError, IndexError):
+        raise BadBody("a report has the members dn, block, gen, len and kind, and no other one") from None
+    if not (len(report) == MEMBERS and type(dn) is type(block) is type(gen) is type(length) is int):
+        raise BadBody("dn, block, gen and len are whole numbers")
+    if not (1 <= dn <= DATANODES and block <= GREATEST_NUMBER and gen <= GREATEST_NUMBER and length <= GREATEST_NUMBER):
+        raise BadBody(f"dn is 1 to {DATANODES}, and no number is above {GREATEST_NUMBER}")
+    if type(kind) is not str or kind not in KINDS:
+        raise BadBody(f"kind is one of {', '.join(sorted(KINDS))}")
+    return f'{{"block":{block},"dn":{dn},"gen":{gen},"kind":"{kind}","len":{length}}}\n'
+
+
+def heartbeat_in(body: bytes) -> dict:
+    members = members_in(body, {"dn"}, {})
+    if not is_number(members["dn"], 1, DATANODES):
+        raise BadBody(f"dn is a whole number from 1 to {DATANODES}")
+    return members
+
+
+def promotion_in(body: bytes) -> dict:
+    members = members_in(body, {"txid"}, {"epoch": 0, "lost": False, "within": 0})
+    if not is_number(members["txid"], 0, GREATEST_NUMBER) or type(members["lost"]) is not bool:
+        raise BadBody("txid is a whole number, and lost is true or false")
+    if not is_number(members["within"], 0, MOST_SECONDS):
+        raise BadBody(f"within is a whole number of seconds up to {MOST_SECONDS}")
+    check_epoch(members)
+    return members
+
+
+def epoch_in(body: bytes) -> dict:
+    members = members_in(body, {"epoch"}, {})
+    check_epoch(members)
+    return members
+
+
+def check_epoch(members):
+    if not is_number(members["epoch"], 0, GREATEST_EPOCH):
+        raise BadBody(f"epoch is a whole number up to {GREATEST_EPOCH}")
+
+
+def nothing_in(body: bytes) -> dict:
+    return members_in(body, set(), {})
+
+
+def members_in(body, needed, otherwise):
+    """The members of an object: those that are needed, and others with what they are otherwise."""
+    found = json_in(body or b"{}")
+    if type(found) is not dict or not needed <= found.keys() <= needed | otherwise.keys() or body.count(b":") != len(found):
+        names = ", ".join(sorted(needed)) or "nothing"
+        raise BadBody(f"a body is an object with {names}" + (f", and may have {', '.join(otherwise)}" if otherwise else ""))
+    return {**otherwise, **found}
+
+
+def is_number(value, least, most):
+    # A boolean is an int for isinstance.
+    return type(value) is int and least <= value <= most
+
+
+def json_in(body):
+    """The value that a body is. No body that is taken has a list in a list, a negative number or a long one."""
+    if body.count(b"[") > 1 or b"-" in body or LONG_NUMBER.search(body):
+        raise BadBody("no body has a list in a list, a negative number, or one of more than 19 digits")
+    try:
+        return json.loads(body.decode())
+    except (ValueError, RecursionError):
+        raise BadBody("this is no JSON") from None

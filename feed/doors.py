@@ -1,0 +1,463 @@
+"""The doors: HTTP on TCP for reports, and on a Unix socket or with a token for operators. One thread watches all connections.
+
+It reads a request as it comes, and hands it to the hands when it is whole; they answer, from their thread. So nobody who
+is slow keeps a thread. A place is a request's, from its first byte to its answer; a connection between two requests has none.
+"""
+import hmac
+import json
+import os
+import re
+import select
+import socket
+import threading
+import time
+from collections import Counter
+from typing import NamedTuple
+
+from bodies import BadBody, epoch_in, heartbeat_in, nothing_in, promotion_in, report_in
+
+BODY_BYTES, HEAD_BYTES, HEADERS = 16_777_216, 65_536, 100
+# A longer body is read by a thread of its own.
+LONG_BODY = 262_144
+CHUNK_BYTES = 262_144
+# For a request to come whole, for a connection between requests, and for an answer that waits to be read.
+REQUEST_SECONDS, IDLE_SECONDS, ANSWER_SECONDS = 60, 30, 60
+REPORTS, SCRAPES, OPERATORS = 256, 4, 8
+CONNECTIONS = 4096
+
+JSON, TEXT, HTML = "application/json", "text/plain; charset=utf-8", "text/html; charset=utf-8"
+METRICS = "text/plain; version=0.0.4; charset=utf-8"
+REASONS = {
+    **{200: "OK", 303: "See Other", 400: "Bad Request", 401: "Unauthorized", 403: "Forbidden", 404: "Not Found"},
+    **{405: "Method Not Allowed", 408: "Request Timeout", 409: "Conflict", 411: "Length Required", 413: "Content Too Large"},
+    **{415: "Unsupported Media Type", 431: "Request Header Fields Too Large", 503: "Service Unavailable", 505: "HTTP Version Not Supported"},
+}
+REQUEST = re.compile(rb"([A-Z]{1,16}) (/[!-~]*) HTTP/1\.([0-9])")
+HEADER = re.compile(rb"([!#$%&'*+.^_`|~0-9A-Za-z-]+):[ \t]*([^\x00\r]*?)[ \t]*")
+# A page runs nothing, loads nothing, and stands in no other page.
+SAFE = (
+    "Cache-Control: no-store\r\nX-Content-Type-Options: nosniff\r\nCross-Origin-Resource-Policy: same-origin\r\n"
+    "Content-Security-Policy: default-src 'none'; style-src 'unsafe-inline'; form-action 'self'; frame-ancestors 'none'\r\n"
+)
+READABLE = select.EPOLLIN | select.EPOLLONESHOT
+WRITABLE = select.EPOLLOUT | select.EPOLLONESHOT
+
+clock = time.monotonic
+
+
+class Refused(Exception):
+    """A request that is not taken: a status of HTTP and the reason."""
+
+    def __init__(self, status, reason, code="bad_request"):
+        super().__init__(reason)
+        self.status, self.code = status, code
+
+
+class Route(NamedTuple):
+    kind: str  # the core's name of the request
+    places: str
+    body: object  # reads the body; None: it has none
+    show: object = None  # makes the answer's type and body of the core's value; None: JSON
+
+
+class Places:
+    """How many requests are under way, of how many that may be."""
+
+    def __init__(self, most):
+        self.most, self.taken = most, 0
+
+
+class Door:
+    """A listening socket, and what may be asked behind it."""
+
+    def __init__(self, listener, routes, places, names=None, token=None):
+        self.listener, self.routes = listener, routes
+        self.places = {name: Places(most) for name, most in places.items()}
+        # The hosts that a request may name; None: no browser comes here.
+        self.names = names
+        self.token = token
+
+
+class Doors:
+    """Watches the doors and their connections."""
+
+    def __init__(self, doors, put, worker):
+        self.doors = {door.listener.fileno(): door for door in doors}
+        # Hands an event to the core, from any thread; and what reads long bodies.
+        self.put, self.worker = put, worker
+        self.connections = {}
+        self.refused = Counter()
+        self.lock = threading.Lock()
+        self.epoll = select.epoll()
+        for door in doors:
+            door.listener.setblocking(False)
+            self.epoll.register(door.listener.fileno(), select.EPOLLIN)
+        self.is_open = True
+
+    def begin(self):
+        threading.Thread(target=self.watch, daemon=True).start()
+
+    def watch(self):
+        swept = clock()
+        while self.is_open:
+            for descriptor, _ in self.epoll.poll(1):
+                if descriptor in self.doors:
+                    self.accept(self.doors[descriptor])
+                elif descriptor in self.connections:
+                    self.connections[descriptor].move()
+            if clock() - swept >= 1:
+                swept = clock()
+                self.sweep(swept)
+
+    def accept(self, door):
+        for _ in range(64):
+            try:
+                connection, _ = door.listener.accept()
+            except BlockingIOError:
+                return
+            except OSError:
+                # No descriptor is left, or the caller is gone.
+                self.close_idle()
+                return
+            if len(self.connections) >= CONNECTIONS:
+                self.close_idle()
+            self.connections[connection.fileno()] = Connection(self, door, connection)
+
+    def close_idle(self):
+        """Closes the connection that has been idle for longest."""
+        idle = [it for it in self.connections.values() if it.stage == "idle"]
+        if idle:
+            min(idle, key=lambda it: it.since).close()
+
+    def sweep(self, now):
+        for it in list(self.connections.values()):
+            it.look_at_time(now)
+
+    def close(self):
+        """Lets what is under way be answered for a moment, and ends."""
+        end = clock() + 1
+        while clock() < end and any(it.stage in ("writing", "asked") for it in list(self.connections.values())):
+            time.sleep(0.01)
+        self.is_open = False
+
+
+class Connection:
+    """A caller. Its stages: `idle`, `reading`, `asked`, `writing`; and `closed`."""
+
+    def __init__(self, doors, door, connection):
+        self.doors, self.door, self.socket = doors, door, connection
+        connection.setblocking(False)
+        if connection.family != socket.AF_UNIX:
+            connection.setsockopt(socket.IPPROTO_TCP, socket.TCP_NODELAY, 1)
+        self.descriptor = connection.fileno()
+        self.lock = threading.Lock()
+        self.data = b""
+        self.parts, self.missing = [], 0
+        self.begin_idle()
+        doors.epoll.register(self.descriptor, READABLE)
+
+    def begin_idle(self):
+        self.stage, self.since = "idle", clock()
+        self.route = self.request = None
+        self.places = None
+        self.left = b""
+
+    # ---- Reading. Only the watching thread does.
+
+    def move(self):
+        """Something can be read, or written."""
+        with self.lock:
+            if self.stage == "writing":
+                self.write()
+            elif self.stage in ("idle", "reading"):
+                self.read()
+
+    def read(self):
+        try:
+            chunk = self.socket.recv(CHUNK_BYTES)
+        except BlockingIOError:
+            return self.await_more()
+        except OSError:
+            return self.close()
+        if not chunk:
+            return self.close()
+        if self.stage == "idle":
+            self.stage, self.since = "reading", clock()
+        if self.request is None:
+            self.data += chunk
+            self.take_head()
+        else:
+            self.take_body(chunk)
+
+    def await_more(self):
+        self.doors.epoll.modify(self.descriptor, READABLE)
+
+    def take_head(self):
+        """Takes the head of a request, once it is whole."""
+        end = self.data.find(b"\r\n\r\n")
+        try:
+            if end < 0:
+                if len(self.data) > HEAD_BYTES:
+                    raise Refused(431, "the head is too long")
+                return self.await_more()
+            head, rest = self.data[:end], self.data[end + 4 :]
+            self.data = b""
+            self.request = Request(head)
+            self.route = self.request.route(self.door)
+            self.enter()
+            self.missing = self.request.length(self.route)
+        except Refused as refused:
+            return self.refuse(refused)
+        if self.missing > len(rest) and self.request.only("expect").lower() == "100-continue":
+            self.send_now(b"HTTP/1.1 100 Continue\r\n\r\n")
+        self.take_body(rest)
+
+    def enter(self):
+        """Takes a place, or is sent away."""
+        places = self.door.places[self.route.places]
+        with self.doors.lock:
+            if places.taken >= places.most:
+                self.doors.put("door_was_full") if self.route.places == "reports" else None
+                raise Refused(503, "all places are taken", "busy")
+            places.taken += 1
+        self.places = places
+
+    def take_body(self, chunk):
+        self.parts.append(chunk[: self.missing])
+        self.data = chunk[self.missing :]
+        self.missing -= len(self.parts[-1])
+        if self.missing:
+            return self.await_more()
+        self.stage = "asked"
+        self.since = clock()
+        body, self.parts = b"".join(self.parts), []
+        if len(body) > LONG_BODY:
+            self.doors.worker.do(lambda: self.ask(body))
+        else:
+            self.ask(body)
+
+    def ask(self, body):
+        try:
+            value = self.route.body(body) if self.route.body else {}
+        except BadBody as reason:
+            return self.refuse(Refused(400, str(reason)))
+        self.doors.put("request", self, self.route.kind, value)
+
+    def refuse(self, refused):
+        """Answers who is not heard. What is left of its request is not read: the connection ends."""
+        self.doors.refused[refused.code] += 1
+        value = {"code": refused.code, "refused": str(refused)}
+        self.begin_answer(refused.status, JSON, to_bytes(value), is_last=True)
+
+    # ---- Answers. The hands give them.
+
+    def answer(self, status, value):
+        kind, body = self.route.show(value) if self.route.show and status == 200 else (JSON, to_bytes(value))
+        with self.lock:
+            if self.stage == "asked":
+                self.begin_answer(status, kind, body)
+
+    def begin_answer(self, status, kind, body, is_last=False, more=""):
+        is_last = is_last or self.request is None or not self.request.keeps
+        again = "Retry-After: 1\r\n" if status == 503 else ""
+        head = f"HTTP/1.1 {status} {REASONS.get(status, '')}\r\nContent-Type: {kind}\r\nContent-Length: {len(body)}\r\n{again}{more}{SAFE}"
+        head += "Connection: close\r\n\r\n" if is_last else "\r\n"
+        self.stage, self.since, self.is_last = "writing", clock(), is_last
+        self.left = head.encode() + body
+        self.write()
+
+    def write(self):
+        try:
+            while self.left:
+                self.left = self.left[self.socket.send(self.left) :]
+        except BlockingIOError:
+            self.doors.epoll.modify(self.descriptor, WRITABLE)
+            return
+        except OSError:
+            self.close()
+            return
+        self.leave()
+
+    def leave(self):
+        """The answer is out."""
+        self.give_place_back()
+        if self.is_last:
+            self.close_slowly()
+            return
+        data = self.data
+        self.begin_idle()
+        if data:
+            # The next request came with this one.
+            self.stage = "reading"
+            self.take_head()
+        else:
+            self.await_more()
+
+    def send_now(self, data):
+        try:
+            self.socket.send(data)
+        except OSError:
+            pass
+
+    # ---- The end.
+
+    def give_place_back(self):
+        with self.doors.lock:
+            if self.places is not None:
+                self.places.taken -= 1
+                self.places = None
+
+    def close_slowly(self):
+        """Lets a caller that still sends get its answer: its bytes are thrown away for a moment."""
+        self.stage, self.since = "closing", clock()
+        try:
+            self.socket.shutdown(socket.SHUT_WR)
+        except OSError:
+            self.close()
+
+    def look_at_time(self, now):
+        with self.lock:
+            waited = now - self.since
+            if self.stage == "idle" and waited > IDLE_SECONDS:
+                self.close()
+            elif self.stage == "reading" and waited > REQUEST_SECONDS:
+                self.refuse(Refused(408, "the request did not come whole within a minute"))
+            elif self.stage == "writing" and waited > ANSWER_SECONDS:
+                self.close()
+            elif self.stage == "closing":
+                self.drain(waited)
+
+    def drain(self, waited):
+        try:
+            while self.socket.recv(CHUNK_BYTES):
+                pass
+            self.close()
+        except BlockingIOError:
+            if waited > 2:
+                self.close()
+        except OSError:
+            self.close()
+
+    def close(self):
+        if self.stage == "closed":
+            return
+        self.stage = "closed"
+        self.give_place_back()
+        self.doors.connections.pop(self.descriptor, None)
+        self.socket.close()
+
+
+class Request:
+    """The head of a request."""
+
+    def __init__(self, head):
+        first, *rows = head.split(b"\r\n")
+        line = REQUEST.fullmatch(first)
+        if not line:
+            raise Refused(400, "the first line is that of no request of HTTP/1.1")
+        if len(rows) > HEADERS:
+            raise Refused(431, f"there are more than {HEADERS} headers")
+        self.method, self.path = line[1].decode(), line[2].decode().partition("?")[0]
+        self.headers = {}
+        for row in rows:
+            header = HEADER.fullmatch(row)
+            if not header:
+                raise Refused(400, "a line is no header")
+            self.headers.setdefault(header[1].decode().lower(), []).append(header[2].decode("latin-1"))
+        is_first = line[3] == b"0"
+        named = self.only("connection", "").lower()
+        self.keeps = named != "close" and (not is_first or named == "keep-alive")
+
+    def only(self, name, otherwise=""):
+        found = self.headers.get(name, [otherwise])
+        if len(found) > 1:
+            raise Refused(400, f"{name} comes {len(found)} times")
+        return found[0]
+
+    def route(self, door):
+        """What is asked, by one who may."""
+        if door.names is not None:
+            self.check_host(door)
+        if "origin" in self.headers or self.only("sec-fetch-site", "none") not in ("none", "same-origin"):
+            raise Refused(403, "a page of another origin has nothing to ask here", "forbidden")
+        routes = {method for method, path in door.routes if path == self.path}
+        if not routes:
+            raise Refused(404, "there is nothing here", "not_found")
+        if self.method not in routes:
+            raise Refused(405, f"this is asked by {' or '.join(sorted(routes))}", "method")
+        if door.token is not None and not self.has_token(door.token):
+            raise Refused(401, "this needs the token", "unauthorized")
+        return door.routes[self.method, self.path]
+
+    def check_host(self, door):
+        if self.only("host").lower() not in door.names:
+            raise Refused(403, "the Host is not this port", "forbidden")
+
+    def has_token(self, token):
+        given = self.only("authorization")
+        return given.startswith("Bearer ") and hmac.compare_digest(given[len("Bearer ") :].encode("latin-1"), token)
+
+    def length(self, route):
+        """How many bytes the body has. What has one is JSON, and says so."""
+        length = self.only("content-length", "")
+        if "transfer-encoding" in self.headers:
+            raise Refused(411, "the body needs a Content-Length, and is not sent in chunks", "length_required")
+        if route.body is None or (route.body is nothing_in and not length):
+            if length not in ("", "0"):
+                raise Refused(400, "this has no body")
+            return 0
+        if not re.fullmatch("[0-9]{1,18}", length):
+            raise Refused(411, "the body needs a Content-Length", "length_required")
+        if int(length) > BODY_BYTES:
+            raise Refused(413, f"the body has more than {BODY_BYTES:,} bytes", "too_large")
+        if self.only("content-type").partition(";")[0].strip().lower() != JSON:
+            raise Refused(415, f"the Content-Type has to be {JSON}", "media_type")
+        return int(length)
+
+
+def to_bytes(value):
+    return json.dumps(value).encode() + b"\n"
+
+
+HEALTH = Route("health", "scrapes", None)
+REPORT_ROUTES = {
+    ("POST", "/report"): Route("report", "reports", report_in),
+    ("POST", "/heartbeat"): Route("heartbeat", "reports", heartbeat_in),
+    ("GET", "/health"): HEALTH,
+}
+OPERATOR_ROUTES = {
+    ("POST", "/promote"): Route("promote", "operators", promotion_in),
+    ("POST", "/epoch"): Route("epoch", "operators", epoch_in),
+    ("POST", "/stop"): Route("stop", "operators", nothing_in),
+    ("GET", "/health"): HEALTH._replace(places="operators"),
+}
+
+
+def report_door(address, port):
+    listener = socket.create_server((address, port), backlog=1024, reuse_port=False)
+    port = listener.getsockname()[1]
+    names = {f"{name}:{port}" for name in (address.lower(), "127.0.0.1", "localhost", socket.gethostname().lower())}
+    return Door(listener, REPORT_ROUTES, {"reports": REPORTS, "scrapes": SCRAPES}, names)
+
+
+def operator_door(path):
+    """A Unix socket that its owner alone may open."""
+    try:
+        os.unlink(path)
+    except FileNotFoundError:
+        pass
+    listener = socket.socket(socket.AF_UNIX, socket.SOCK_STREAM)
+    before = os.umask(0o177)
+    try:
+        listener.bind(path)
+    finally:
+        os.umask(before)
+    listener.listen(64)
+    return Door(listener, OPERATOR_ROUTES, {"operators": OPERATORS})
+
+
+def token_door(address, port, token):
+    listener = socket.create_server((address, port), backlog=64, reuse_port=False)
+    port = listener.getsockname()[1]
+    names = {f"{name}:{port}" for name in (address.lower(), "127.0.0.1", "localhost", socket.gethostname().lower())}
+    return Door(listener, OPERATOR_ROUTES, {"operators": OPERATORS}, names, token)

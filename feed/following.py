@@ -1,0 +1,228 @@
+"""How the core looks at the folder and follows its segments. A part of the core: it asks for listings and for pieces."""
+from collections import deque
+from typing import NamedTuple, Optional
+
+from names import Look
+from place import Place
+from program import Exchange, Lines
+
+LOOK_SECONDS = 30
+
+
+class Unreadable(NamedTuple):
+    """A file that could not be read now. It is read again at each look."""
+
+    reason: str
+
+
+class Bad(NamedTuple):
+    """A file that is no segment. It is read again once it has changed."""
+
+    reason: str
+    key: tuple
+
+
+class Taken(NamedTuple):
+    """A file as it is sent."""
+
+    key: tuple
+    sum: str
+    pieces: list
+    end: Place  # where the log is behind the file
+
+
+class Log:
+    """Where the log is, what the folder has of it, and the segment that is being followed."""
+
+    def __init__(self, core, reached: Place):
+        self.core = core
+        self.reached = reached
+        # What the last look found above the place that was reached, by name.
+        self.found = {}
+        # Those whose name was given up, and of which it can't be known whether they are what was given up.
+        self.doubts = []
+        # The keys of files that were not taken, by name, and why; and what can't be read at this look.
+        self.bad, self.reasons, self.unread = {}, {}, {}
+        self.passed_over = set()
+        # Why the log does not go on.
+        self.waits: Optional[str] = None
+        self.begin_looks()
+        # The segment under way, what is left of it to send, and what is known of its file.
+        self.name: Optional[str] = None
+        self.pieces = deque()
+        self.file: Optional[Taken] = None
+        # When there was a new segment last, and a new transaction.
+        self.grown_at = self.applied_at = core.now
+
+    def begin_looks(self):
+        self.fault: Optional[str] = "it was not looked at"
+        self.begun = self.done = 0
+        self.is_looking = self.is_wanted = False
+        self.looked_at = self.begun_at = self.listed_at = self.core.now - LOOK_SECONDS
+
+    # ---- Looks.
+
+    def tick(self):
+        if self.core.is_standby() and not self.is_looking and self.core.now - self.begun_at >= self.core.settings.poll:
+            self.look(self.core.now - self.listed_at >= LOOK_SECONDS)
+        self.follow()
+
+    def look(self, is_fresh):
+        self.is_looking = True
+        self.begun += 1
+        self.begun_at = self.core.now
+        if is_fresh:
+            self.listed_at = self.core.now
+        given_up = frozenset(self.core.keeping.kept.given_up)
+        self.core.act("list", Look(self.reached.txid, is_fresh, given_up, self.core.promotions.gives_up_above()))
+
+    def look_from_now(self) -> int:
+        """Asks for a look that begins now or later. Answers its number."""
+        if not self.is_looking:
+            self.look(True)
+            return self.begun
+        self.is_wanted = True
+        return self.begun + 1
+
+    def looked(self, found, fault):
+        """What a look found, or why it could not look."""
+        self.is_looking = False
+        self.done = self.begun
+        if fault is not None and fault != self.fault:
+            self.core.tell(f"the folder can't be read: {fault}")
+        self.fault = fault
+        self.core.failures["look"] += fault is not None
+        if fault is None:
+            self.looked_at = self.begun_at
+            self.take(found)
+        self.core.promotions.looked()
+        if self.is_wanted:
+            self.is_wanted = False
+            self.look(True)
+        self.follow()
+
+    def take(self, found):
+        given_up = self.core.keeping.kept.given_up
+        doubts = [name for name, it in found.items() if name in given_up and it.is_begun and None in (it.sum, given_up[name])]
+        for name in sorted(set(doubts) - set(self.doubts)):
+            self.core.tell(f"{name} has the name of one that a promotion gave up, and it can't be known whether it is that one")
+        self.doubts = doubts
+        left = {name for name, it in found.items() if name in given_up and name not in doubts and it.sum == given_up[name]}
+        for name in sorted(left - self.passed_over):
+            self.core.tell(f"{name} is passed over: a promotion gave it up")
+        self.passed_over = left
+        self.found = {name: it for name, it in found.items() if name not in left and name not in self.doubts}
+        self.unread = {}
+        self.bad = {name: key for name, key in self.bad.items() if name in found}
+        seen = max((it.named.last for it in self.found.values() if it.is_begun), default=0)
+        if seen > self.core.keeping.kept.seen:
+            self.grown_at = self.core.now
+            self.core.keeping.change(seen=seen)
+
+    # ---- Segments.
+
+    def follow(self):
+        """Reads the segment that is next, if it is there and nothing else is under way."""
+        if self.name is not None or not self.core.is_standby() or self.core.is_stopping:
+            return
+        following = [it for it in self.found.values() if self.is_next(it)]
+        for it in sorted(following, key=lambda found: found.named):
+            if it.named.name not in self.unread and not self.is_bad(it):
+                self.name = it.named.name
+                self.core.act("read", it.named, self.reached)
+                return
+        self.wait_for(self.reason(following))
+
+    def is_next(self, it):
+        named = it.named
+        is_ours = named.is_finalized and named.suffix == self.core.settings.suffix
+        return is_ours and named.first <= self.reached.txid + 1 <= named.last
+
+    def is_bad(self, it):
+        return it.key is not None and self.bad.get(it.named.name) == it.key
+
+    def reason(self, following):
+        """Why no segment is read, or None where all is read that was seen."""
+        if following:
+            name = min(it.named for it in following).name
+            return self.unread.get(name) or f"{name} was not taken{self.reasons.get(name, '')}"
+        if self.doubts:
+            return f"{self.doubts[0]} may be one that a promotion gave up"
+        if self.core.keeping.kept.seen <= self.reached.txid:
+            return None
+        return f"TXID {self.reached.txid + 1} is next and is not there"
+
+    def wait_for(self, reason):
+        """Why the log waits is told once."""
+        if reason and reason != self.waits:
+            self.core.tell(reason)
+        self.waits = reason
+
+    def read(self, name, result):
+        """A file as it is sent, or why it can't be."""
+        if isinstance(result, Unreadable):
+            self.core.failures["read"] += 1
+            self.unread[name] = f"{name} can't be read: {result.reason}"
+            self.leave()
+        elif isinstance(result, Bad):
+            self.refuse(name, result.key, f": {result.reason}")
+        elif name in self.core.keeping.kept.given_up and self.core.keeping.kept.given_up[name] in (None, result.sum):
+            self.found.pop(name, None)
+            self.leave()
+        else:
+            self.file, self.pieces = result, deque(result.pieces)
+            self.send_piece()
+
+    def leave(self):
+        """The segment under way is that no more."""
+        self.name, self.file = None, None
+        self.pieces.clear()
+        self.follow()
+
+    def refuse(self, name, key, reason):
+        self.bad[name], self.reasons[name] = key, reason
+        self.leave()
+
+    def send_piece(self):
+        if self.pieces:
+            self.core.program.ask(Exchange(self.make_piece, self.piece_answered))
+            return
+        self.reach(self.file.end)
+        self.leave()
+
+    def make_piece(self):
+        if not self.core.is_standby():
+            self.leave()
+            return None
+        piece = self.pieces[0]
+        return Lines(piece.data, len(piece.txids))
+
+    def piece_answered(self, answer):
+        piece = self.pieces.popleft()
+        number = self.core.program.status.number
+        for fault in answer.faults:
+            self.core.count_fault(fault, f"in {self.name}: {place_of(fault, piece, answer.first)}")
+        if number == piece.end.number:
+            self.reach(piece.end)
+            self.send_piece()
+            return
+        if number > self.reached.number:
+            # The log is stopped inside the piece.
+            self.reach(Place(number, piece.txid(number - piece.first)))
+        faults = ", ".join(" ".join(fault) for fault in answer.faults)
+        self.refuse(self.name, self.file.key, f": {faults}" if faults else "")
+
+    def reach(self, place):
+        self.reached = place
+        self.applied_at = self.core.now
+        self.waits = None
+        self.core.promotions.advanced()
+        self.core.checkpoints.tick()
+
+
+def place_of(fault, piece, first):
+    """Where a fault is, by the TXID of the line or the transaction that it names."""
+    kind, number = fault[2], int(fault[3])
+    if kind == "line":
+        return f"txid {piece.txid(number - first)}"
+    return f"txid {piece.txid(number - piece.first)}" if kind == "txid" else kind

@@ -1,9 +1,10 @@
 -- Figures through the calls, computed.
-use Rattle.std.specs.Prelude.{◌≡◌, ℕ, true, false, List, [], ◌∷◌, map, Some, None, refl}
+use Rattle.std.specs.Prelude.{◌≡◌, ℕ, ◌*◌, true, false, List, [], ◌∷◌, map, Some, None, refl}
 use Rattle.nn_types.specs.declared.report.Kind.TheVariants.{Receiving, Received}
 use Rattle.nn_replicas.specs.Table.{Replicas}
 use Rattle.nn_replicas.specs.Calls.{empty_table, block_set, replica_put, block_retired, room_given_back}
-use Rattle.nn_replicas.specs.Figures.{figures_of, unsafe_from}
+use Rattle.nn_replicas.specs.Figures.{figures_of, no_figures, replaced, unsafe_from}
+use Rattle.nn_replicas.specs.declared.figures.Figures.{Figures}
 use Rattle.nn_replicas.specs.TableRows.{b, c, block, block_b, replica, named, raised, reported, gone, stray, placed, done}
 
 -- blocks, and of closed files all, safe, missing, missing of one, under- and over-replicated
@@ -70,3 +71,29 @@ looked = refl
 
 too_few_of_two : unsafe_from (record three { min = 2 }) 1073741827 ≡ (1073741827, Some 1) ∷ []
 too_few_of_two = refl
+
+-- ---- Where one block changes.
+
+nothing_counted : no_figures ≡ figures_of (empty_table 1)
+nothing_counted = refl
+
+-- each figure by another number, of so many blocks
+abbrev figures_by : ℕ → Figures
+figures_by n = record {
+  blocks = n;
+  total = 2 * n;
+  safe = 3 * n;
+  missing = 4 * n;
+  missing_of_one = 5 * n;
+  under_replicated = 6 * n;
+  over_replicated = 7 * n;
+  stale = 8 * n;
+  ahead = 9 * n;
+  wrong_length = 10 * n;
+  orders = 11 * n;
+  places = 12 * n;
+}
+
+-- what a block added before is taken out of each figure, and what it adds now comes in
+one_replaced : replaced (figures_by 5) (figures_by 2) (figures_by 4) ≡ figures_by 7
+one_replaced = refl

@@ -5,7 +5,7 @@ use Rattle.nn_types.specs.declared.report.Kind.{Kind}
 use Rattle.nn_types.specs.declared.report.Kind.TheVariants.{Receiving, Received}
 use Rattle.nn_types.specs.declared.replica.Replica.{Replica}
 use Rattle.nn_replicas.specs.Table.{Replicas}
-use Rattle.nn_replicas.specs.Calls.{row_at, table_rows, replica_at, has_order, is_placed, replicas_at, orders_at, orders_of, total_in, safe_in, empty_table, room_made}
+use Rattle.nn_replicas.specs.Calls.{row_at, table_rows, replica_at, has_order, is_placed, replicas_at, orders_at, orders_of, total_in, safe_in, empty_table, room_made, comes_first}
 use Rattle.nn_replicas.specs.Calls.{stamp_at, block_set, pair_placed, replica_put, replica_erased, due_told, block_retired, has_entry, is_idle_at, room_given_back}
 
 -- ---- The blocks b and c, and reports of b by DataNodes 1, 2 and 3.
@@ -133,3 +133,14 @@ rows : let t = block_set (block_set stray (block 1073741828 7) false 1) (block 1
     (table_rows t ≡ (1073741827, record { block = block 1073741827 6; closed = true }) ∷ (1073741828, record { block = block 1073741828 7; closed = false }) ∷ [])
     × (table_rows stray ≡ [])
 rows = (refl, refl)
+
+-- ---- The order of orders, and what a deleted block leaves.
+
+-- the lower block comes first, and of one block the lower DataNode; none comes before itself
+in_turn : comes_first (b, 9) (c, 1) ∷ comes_first (c, 1) (b, 9) ∷ comes_first (b, 1) (b, 2) ∷ comes_first (b, 2) (b, 1) ∷ comes_first (b, 1) (b, 1) ∷ []
+    ≡ true ∷ false ∷ true ∷ false ∷ false ∷ []
+in_turn = refl
+
+-- a block without a file wants no replicas
+no_replication : map (λ e. e.1.replication) gone.entries ≡ 0 ∷ []
+no_replication = refl

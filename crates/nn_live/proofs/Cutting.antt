@@ -13,7 +13,7 @@ use Rattle.nn_live.specs.Live.{LiveSetup, ServiceState, Stage, ends, pieces, ser
 use Rattle.nn_live.specs.Serving.{Service, IsAtService, FollowsStep}
 use Rattle.nn_live.specs.Taking.{IsLong, Torn, Live, HasTorn, stage_after, Comes, MayBeCut, TakesBytes, Pushes, EndsInput}
 
-cut_first : (line more : List ℕ) → is_unbroken line ≡ true → pieces (line ++ line_feed ∷ more) ≡ line ∷ pieces more
+pub cut_first : (line more : List ℕ) → is_unbroken line ≡ true → pieces (line ++ line_feed ∷ more) ≡ line ∷ pieces more
 cut_first [] more whole = refl
 cut_first (b ∷ line) more whole =
     let both = and_parts (not (b == line_feed)) (is_unbroken line) whole in

@@ -34,3 +34,10 @@ pub mod Holders
 pub mod Mistyped
 pub mod Telling
 pub mod Silence
+pub mod Letters
+pub mod Asked
+pub mod Going
+pub mod OpenPart
+pub mod ReadLines
+pub mod InStep
+pub mod SameRun

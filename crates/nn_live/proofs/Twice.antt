@@ -350,7 +350,7 @@ module _ (asked : LiveSetup) (l : EditLine) (lines : List EditLine) (starts : is
 -- ---- All that a caller sends.
 
 module _ (asked : LiveSetup) where
-  all_append : (xs ys : List (List ℕ)) (s : ServiceState) → takes_all asked (xs ++ ys) s ≡ takes_all asked ys (takes_all asked xs s)
+  pub all_append : (xs ys : List (List ℕ)) (s : ServiceState) → takes_all asked (xs ++ ys) s ≡ takes_all asked ys (takes_all asked xs s)
   unfolding takes_all
   all_append [] ys s = refl
   all_append (x ∷ xs) ys s = all_append xs ys (takes asked x s)

@@ -1,5 +1,5 @@
 -- Numbers as they are written, and paths as JSON spells them.
-use Rattle.std.proofs.Common.{◌≡◌, ℕ, ◌<◌, ◌≤◌, ◌==◌, ◌^◌, length, ltb, leb, ◌&&◌, List, [], ◌∷◌, Bool, true, false, cond, bytes_eq, Option, Some, None, Result, Ok, refl, sym, ap, ◌∙◌, ltb-true, arith}
+use Rattle.std.proofs.Common.{◌≡◌, ℕ, ◌<◌, ◌≤◌, ◌==◌, ◌^◌, length, ltb, leb, ◌&&◌, List, [], ◌∷◌, Bool, true, false, cond, bytes_eq, Option, Some, None, Result, Ok, refl, sym, ap, ap₂, ◌∙◌, ltb-true, leb-true, arith}
 use Rattle.std.specs.Prelude.{is_some, MatchOption, option_and_then}
 use Rattle.std.specs.List.{slice_get}
 use Rattle.std.specs.Fmt.{decimal}
@@ -90,30 +90,30 @@ pub begins : (line : List ℕ) (b : ℕ) → Some b ≡ slice_get line 0 → (re
 begins [] b is = absurd (cc)
 begins (x ∷ line) b is = let same : b ≡ x = cc in (line, ap (λ y. y ∷ line) (sym same))
 
--- a line that begins above all letters
-pub no_word : (line : List ℕ) (b : ℕ) (rest : List ℕ) → line ≡ b ∷ rest → 122 < b → word_in line ≡ None
+-- a line that begins with no letter
+pub no_letter : (b : ℕ) (rest : List ℕ) → (97 ≤ b → b ≤ 122 → ⊥) → word_in (b ∷ rest) ≡ None
 unfolding word_in word_alone
-no_word line b rest is above =
-    ap (λ l. cond (leb (length l) 65536) (or_else (cond (is_utf8 l) (or_else (word_alone l) (behind_prefix l)) None) (unknown_word l)) None) is
-    ∙ none (leb (length (b ∷ rest)) 65536) (is_utf8 (b ∷ rest))
+no_letter b rest none = at (leb (length (b ∷ rest)) 65536) (is_utf8 (b ∷ rest))
   where
-    isnt : (x : ℕ) → x ≤ 122 → (b == x) ≡ false
-    isnt x low = ne_eqb b x (λ same. absurd (omega (arith, same, low, above)))
+    isnt : (x : ℕ) → 97 ≤ x → x ≤ 122 → (b == x) ≡ false
+    isnt x low high = ne_eqb b x (λ same. absurd (none (omega (arith, same, low)) (omega (arith, same, high))))
 
-    no_letter : (a c : Bool) → c ≡ false → cond (a && c) (Some word.Unknown) None ≡ None
-    no_letter true c e = ap (λ t. cond t (Some word.Unknown) None) e
-    no_letter false c e = refl
-
-    unknown : unknown_word (b ∷ rest) ≡ None
-    unknown = no_letter (leb 97 b) (leb b 122) (lt-leb b 122 above)
+    unknown : (a c : Bool) → leb 97 b ≡ a → leb b 122 ≡ c → cond (leb 97 b && leb b 122) (Some word.Unknown) None ≡ None
+    unknown true true e f = absurd (none (leb-true 97 b e) (leb-true b 122 f))
+    unknown true false e f = ap₂ (λ a c. cond (a && c) (Some word.Unknown) None) e f
+    unknown false c e f = ap (λ a. cond (a && leb b 122) (Some word.Unknown) None) e
 
     known : (u : Bool) → cond u (or_else (word_alone (b ∷ rest)) (behind_prefix (b ∷ rest))) None ≡ None
-    known true = rw (isnt 115 (omega arith), isnt 104 (omega arith), isnt 117 (omega arith), isnt 116 (omega arith), isnt 99 (omega arith), isnt 112 (omega arith), isnt 98 (omega arith), isnt 103 (omega arith), isnt 101 (omega arith), isnt 114 (omega arith)) refl
+    known true = rw (isnt 115 (omega arith) (omega arith), isnt 104 (omega arith) (omega arith), isnt 117 (omega arith) (omega arith), isnt 116 (omega arith) (omega arith), isnt 99 (omega arith) (omega arith), isnt 112 (omega arith) (omega arith), isnt 98 (omega arith) (omega arith), isnt 103 (omega arith) (omega arith), isnt 101 (omega arith) (omega arith), isnt 114 (omega arith) (omega arith)) refl
     known false = refl
 
-    none : (s u : Bool) → cond s (or_else (cond u (or_else (word_alone (b ∷ rest)) (behind_prefix (b ∷ rest))) None) (unknown_word (b ∷ rest))) None ≡ None
-    none true u = ap (λ o. or_else o (unknown_word (b ∷ rest))) (known u) ∙ unknown
-    none false u = refl
+    at : (s u : Bool) → cond s (or_else (cond u (or_else (word_alone (b ∷ rest)) (behind_prefix (b ∷ rest))) None) (unknown_word (b ∷ rest))) None ≡ None
+    at true u = ap (λ o. or_else o (unknown_word (b ∷ rest))) (known u) ∙ unknown (leb 97 b) (leb b 122) refl refl
+    at false u = refl
+
+-- one that begins above all letters
+pub no_word : (line : List ℕ) (b : ℕ) (rest : List ℕ) → line ≡ b ∷ rest → 122 < b → word_in line ≡ None
+no_word line b rest is above = ap word_in is ∙ no_letter b rest (λ low high. omega (arith, high, above))
 
 pub no_text : (line : List ℕ) → (IsUtf8 line → ⊥) → known_word line ≡ None
 no_text line never = at (is_utf8 line) refl

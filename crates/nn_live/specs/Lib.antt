@@ -14,4 +14,6 @@ pub mod Serving
 pub mod Taking
 pub mod Opening
 pub mod Running
+pub mod SameRun
 pub mod RunningRows
+pub mod SameRunRows

@@ -1,5 +1,6 @@
 //! What holds of every service, whatever lines came.
 ghost use Rattle.nn_live.specs.Laws.{StandsAtItsLog, FollowsWhatCame, AnswersThePicture, PromotesAtTheEnd, PromotesInNoLowerEpoch, TakesOrTellsEachReport, NothingElseIsSent, MayBeSentTwice};
+ghost use Rattle.nn_live.specs.SameRun.{ServesAsARun};
 ghost use Rattle.nn_live.specs.Taking.{MayBeCut};
 ghost use Rattle.nn_live.specs.TellingLaws.{HistoryTellsAll, HistoryTellsAllAtEnd, NoSegmentInSilence};
 ghost use Rattle.nn_live.specs.WordLaws.{BlockTellsThePath, MistypedChangesNothing, NothingChangesNothing, TornWordChangesNothing};
@@ -76,4 +77,10 @@ pub fn a_history_tells_all()
 /// not: it is no segment, it begins above the next txid, or one of its transactions is refused.
 pub fn no_segment_in_silence()
     ensures { NoSegmentInSilence }
+{}
+
+/// Where a run of some lines has no fault, a service that gets these lines, `promote` at the run's txid and `tables` answers with what
+/// the run prints.
+pub fn a_service_answers_as_a_run()
+    ensures { ServesAsARun }
 {}

@@ -25,8 +25,8 @@ mod word;
 pub use laws::{
     a_history_tells_all, a_mistyped_word_changes_nothing, a_promotion_gives_up_no_edit,
     a_promotion_is_in_no_lower_epoch, a_promotion_shows_the_picture, a_segment_may_be_sent_twice,
-    a_service_follows_what_came, a_service_stands_at_its_log, an_input_may_be_cut,
-    block_tells_the_path, each_report_is_taken_or_told, no_segment_in_silence,
+    a_service_answers_as_a_run, a_service_follows_what_came, a_service_stands_at_its_log,
+    an_input_may_be_cut, block_tells_the_path, each_report_is_taken_or_told, no_segment_in_silence,
     nothing_else_is_sent,
 };
 pub use live::Live;

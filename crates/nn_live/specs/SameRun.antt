@@ -23,17 +23,17 @@ tables_alone asked leave_memory = record {
 abbrev pub then_promoted : List (List ℕ) → ℕ → List ℕ
 then_promoted texts txid = joined_lines (texts ++ (codes "promote " ++ decimal txid) ∷ codes "tables" ∷ [])
 
--- what ends the answer at this line
+-- what ends the answer to the word in this line
 abbrev pub done_line : ℕ → List ℕ
 done_line n = line (codes "done") (decimal n)
 
--- A service writes what the run of these lines printed: it is promoted at the txid in the first line of that, and asked for its tables.
--- Before them it told what it did, where that is asked for, and nothing else.
+-- A service that gets these lines, is promoted at the txid in the first line of what the run printed, and is asked for its tables, writes
+-- just that between the two ends of an answer. Before it nothing is written, unless the history is asked for. Both end with status 0.
 pub record IsServedAlike (asked : LiveSetup) (texts : List (List ℕ)) (printed : List ℕ) : Type 0 where
   pub txid : ℕ
   pub rest : List ℕ
   pub first_line : printed ≡ line (codes "txid") (decimal txid) ++ rest
-  pub told : List ℕ
+  pub told : List ℕ  -- before the end of the promotion's answer
   pub silent : asked.history ≡ false → told ≡ []
   pub written : live_text asked false (then_promoted texts txid) ≡ told ++ (done_line (length texts + 1) ++ (printed ++ done_line (length texts + 2)))
   pub status : exit_status (stage_at_end asked false (then_promoted texts txid)) ≡ 0

@@ -41,9 +41,10 @@ FAILING = [
     ("a program that fails", "#!/bin/sh\ncat > /dev/null\nexit 3\n", "status 3 and printed no whole image"),
     (
         "a program that prints another image",
-        "#!/bin/sh\ncat > /dev/null\nprintf '{}\\n{\"end\":0}\\ndone 1\\n'\n",
+        "#!/bin/sh\ncat > /dev/null\nprintf '{\"image\":\"hdfs-standby\"}\\n{\"end\":0}\\ndone 1\\n'\n",
         "because of a defect of this script",
     ),
+    ("a program that prints something", "#!/bin/sh\ncat > /dev/null\nprintf '{}\\n{\"end\":0}\\ndone 1\\n'\n", "no whole image"),
 ]
 
 
@@ -326,7 +327,7 @@ def on_terminal(trials, *words):
     master, terminal = pty.openpty()
     slow = os.path.join(trials.check.folder, f"slow-{len(words)}")
     os.mkfifo(slow)
-    words = [os.path.join(HERE, "audit"), "--program", trials.check.program, "--from", slow, "--to", slow, slow, *words]
+    words = [os.path.join(HERE, "audit"), "--program", trials.check.program, "--from", slow, "--to", trials.image(trials.last), trials.whole, *words]
     child = subprocess.Popen(words, stdout=subprocess.DEVNULL, stderr=terminal)
     os.close(terminal)
     with open(slow, "wb") as pipe:

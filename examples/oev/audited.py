@@ -136,9 +136,11 @@ class Audited:
         if record.opcode == "OP_SET_GENSTAMP_V2" and self.first_issued is None:
             self.first_issued = record.data.number("GENSTAMPV2")
         for block in record.data.all("BLOCK"):
-            gen = block.number("GENSTAMP")
-            if gen > self.last_gen and (self.first_issued is None or gen < self.first_issued):
-                self.given.add(gen)
+            self.note_stamp(block.number("GENSTAMP"))
+
+    def note_stamp(self, gen):
+        if gen > self.last_gen and (self.first_issued is None or gen < self.first_issued):
+            self.given.add(gen)
 
     def issued_before(self):
         """The greatest stamp that was issued before the image, if that is above the image's last one; or else None.

@@ -1,23 +1,28 @@
 """An audit: reads two images and the log between them, runs the proved program on them, and tells what it finds.
 
+The second image is read by a process of its own. What the program is given and prints goes through pipes: only the lines
+of the log lie in a file.
+
 What can't be read leaves nothing to be said, and is Refused. A second image that contradicts itself is a finding.
 """
 import contextlib
-import io
-import itertools
 import json
-import os
 import sys
 from collections import Counter
 
 from between import Converted
-from chain import Chain, Link, Start
-from checkpoint import low_number, name_section, read_image, write_image
-from comparison import Differences, alike_texts, compare
-from formats import Refused, image_line, to_json
+from chain import Chain, Keeping, Link
+from checkpoint import name_section
+from comparison import Differences, compare
+from formats import Refused
 from overlap import opened
 from progress import Progress
+from proved import chunks_of
+from running import Running
+from second import Given, Second
+from starts import FirstImage, KeptImage
 from table import Grew, Table
+from told import told_of
 from verdict import AsObject, Printed, Scope, Verdict
 
 
@@ -41,99 +46,134 @@ class Audit:
             self.notes.append(f"{self.chain.name} has no sum yet, and is taken as it is: the next one has its SHA-256")
         # Whether the log issued a later stamp than the image has.
         self.has_later_stamp = False
+        # The two runs of the program: it has what the log makes in the one, and the second image in the other.
+        self.ours = self.theirs = None
 
     def run(self):
         """Tells what is found. Answers whether the second image is what the log makes of the first."""
+        self.second = Second(self.options.to, self.table, self.chain and self.chain.lock)
         try:
             return self.judged()
-        finally:
-            self.progress.clear()
-
-    def judged(self):
-        try:
-            start, theirs, contradiction, log = self.prepared()
         except Refused as reason:
             raise Refused(self.table.in_words(str(reason))) from None
+        finally:
+            self.end_runs()
+            self.second.end()
+            self.progress.clear()
+
+    def end_runs(self):
+        for running in filter(None, (self.ours, self.theirs)):
+            running.end()
+        self.ours = self.theirs = None
+
+    def judged(self):
+        start, facts, given, log = self.prepared()
+        contradiction = facts.contradiction or given.contradiction
         applies = self.apply(start, log)
         if contradiction is None and applies:
-            contradiction = self.judge(theirs)
+            contradiction = self.judge()
         alike = None
         if contradiction is not None:
             self.differences.tell("inconsistent", contradiction)
-        elif applies:
-            alike = self.compare(theirs)
-            if theirs.low_inode is not None:
-                self.differences.tell("inconsistent", theirs.low_inode)
-        behind = self.notes
+        link = Link(start.link.first, facts.txid, start.link.audits + 1, start.link.cluster, in_order(log.bare), **self.table.members())
+        if applies:
+            alike = self.compare(facts, given, link, contradiction is None)
+        if alike is not None and facts.low_inode is not None:
+            self.differences.tell("inconsistent", facts.low_inode)
         if self.differences.left():
             self.output.tell(f".. and {self.differences.left():,} more")
+        behind = self.notes
         if self.chain is not None:
-            behind.append(str(self.advance(start.link, theirs, log) if applies else start.link))
-        scope = None if alike is None else self.scope(alike, theirs, log)
-        verdict = Verdict(start.link.txid, theirs.txid, applies, self.differences.summary(), scope)
+            behind.append(str(link if applies else start.link))
+        scope = None if alike is None else self.scope(alike, facts, given, log)
+        verdict = Verdict(start.link.txid, facts.txid, applies, self.differences.summary(), scope)
         self.output.end(verdict, behind)
         return verdict.is_same
 
-    def file(self, name):
-        return os.path.join(self.folder, name)
-
     def prepared(self):
-        """Where the log goes on, the second image with its contradiction or None, and the log, all by one table."""
-        start, theirs = self.start(), None
+        """Where the log goes on, what is known of the second image, and the log, all by one table.
+
+        Both runs of the program have been given their images then, but for the second one where that contradicts itself.
+        """
+        start, facts, given, last_gen = self.start(), None, Given(None, [], {}, {}, 0, 0), 0
         section = name_section(self.options.to, opened)
-        if section is None or section.find("txid") is None:
-            theirs = self.second_image(start)
         while True:
             known = len(self.table.names)
+            self.give(start, last_gen)
+            if facts is None and (section is None or section.find("txid") is None):
+                facts = self.facts(start.link)
             with contextlib.suppress(Grew):
-                until = theirs[0].txid if theirs else section.number("txid")
+                until = facts.txid if facts else section.number("txid")
                 self.check_txid(start.link, until)
                 log = Converted(start, until, self.options.files, self.folder, self.table, self.progress.open)
-                # Its tree has been let go.
-                start = start._replace(dump=None)
-                dump, contradiction = theirs = theirs or self.second_image(start)
-                dump.told_kinds = log.bare
-                if contradiction is None:
-                    contradiction = write_image(dump, self.options.to, self.file("theirs.given"))
+                last_gen = log.edits.issued_before() or last_gen
+                facts = facts or self.facts(start.link)
+                if facts.contradiction is None:
+                    given = self.give_second(log)
                 if known == len(self.table.names):
-                    return start, dump, contradiction, log
-            start = self.start()
+                    self.raise_stamp(start, last_gen)
+                    return start, facts, given, log
+            self.end_runs()
 
-    def second_image(self, start):
-        """The second image, with its contradiction or None."""
-        theirs, contradiction = read_image(self.options.to, self.table, self.progress.open)
-        self.check_pair(start.link, theirs, contradiction)
-        return theirs, contradiction
+    def facts(self, link):
+        """What is known of the second image, which has to be one of the same cluster, and behind the first."""
+        facts = self.second.facts(self.progress)
+        if not facts.has_numbers:
+            raise Refused(f"{self.options.to} contradicts itself: {facts.contradiction}")
+        if facts.cluster != link.cluster:
+            raise Refused(f"two clusters: namespaceId {link.cluster}, and {facts.cluster} in {self.options.to}")
+        self.check_txid(link, facts.txid)
+        self.add_names(facts.names)
+        for word in facts.words:
+            self.table.number(word)
+        return facts
+
+    def add_names(self, names):
+        for name in names:
+            self.table.add(name)
 
     def start(self):
         """The end of the chain, or else the first image."""
-        link = self.link
-        if link is not None:
+        if self.link is not None:
             if self.options.start:
-                raise Refused(f"{self.chain.name} goes on from TXID {link.txid}, and --from is for the first audit alone")
-            start = Start(link, self.chain.name, self.place)
-            return start if len(link.names) == len(self.table.names) else start.again(self.table, self.file("ours.given"))
+                raise Refused(f"{self.chain.name} goes on from TXID {self.link.txid}, and --from is for the first audit alone")
+            return KeptImage(self.link, self.chain.name, self.place, self.table)
         if not self.options.start:
             raise Refused("--from FROM has to name the image that the log goes on from")
-        name = self.file("ours.given")
-        known, (dump, contradiction) = None, read_image(self.options.start, self.table, self.progress.open)
-        contradiction = contradiction or dump.low_inode or low_number(dump)
-        while contradiction is None and known != len(self.table.names):
-            known = len(self.table.names)
-            contradiction = write_image(dump, self.options.start, name)
-        if contradiction is not None:
-            raise Refused(f"{self.options.start} contradicts itself: {contradiction}")
-        # A tree of other names than the dump has is made of the image.
-        held = None if self.table.names or dump.too_deep else dump
-        return Start(Link(dump.txid, dump.txid, 0, dump.cluster, in_order(dump.bare_kinds)), name, 0, held)
+        return FirstImage(self.options.start, self.table, self.progress.open)
 
-    def check_pair(self, link, theirs, contradiction):
-        """Refuses a second image of another cluster, and one that is not behind the first."""
-        if theirs.numbers is None:
-            raise Refused(f"{self.options.to} contradicts itself: {contradiction}")
-        if theirs.cluster != link.cluster:
-            raise Refused(f"two clusters: namespaceId {link.cluster}, and {theirs.cluster} in {self.options.to}")
-        self.check_txid(link, theirs.txid)
+    def give(self, start, last_gen):
+        """Gives the program the image that the log goes on from, by a table that has all of its names."""
+        while True:
+            known = len(self.table.names)
+            self.ours = Running(self.program)
+            task = self.progress.task("giving the image to the program")
+
+            def write(piece):
+                self.ours.feed.write(piece)
+                task.add(len(piece))
+
+            start.give(write, last_gen)
+            if known == len(self.table.names):
+                return
+            self.end_runs()
+
+    def raise_stamp(self, start, last_gen):
+        """Gives the image anew if the log gives a stamp that the image does not have, and that it did not issue."""
+        stamp = start.header()["last_gen"]
+        if last_gen > stamp:
+            last = f"the last stamp of the image of TXID {start.link.txid}, {stamp}"
+            self.notes.append(f"{last}, is taken as {last_gen}: the log gives this one, and did not issue it")
+            self.ours.end()
+            self.give(start, last_gen)
+
+    def give_second(self, log):
+        """Lets the program have the second image. Answers what was found then."""
+        self.theirs = Running(self.program)
+        self.second.give(self.table, log.bare, self.theirs.child)
+        given = self.second.given(self.progress)
+        self.add_names(given.names)
+        return given
 
     def check_txid(self, link, txid):
         if txid <= link.txid:
@@ -144,47 +184,66 @@ class Audit:
         if log.fault is not None:
             self.differences.tell("fault", log.fault)
             return False
-        header = start.header()
-        raised = log.edits.issued_before()
-        if raised is not None:
-            last = f"the last stamp of the image of TXID {start.link.txid}, {header['last_gen']}"
-            self.notes.append(f"{last}, is taken as {raised}: the log gives this one, and did not issue it")
-            header["last_gen"] = raised
-        with start.open() as image, open(log.name, "rb") as lines:
-            image.readline()
-            pieces = self.progress.watched(image, "applying the log to the image"), self.progress.watched(lines, "applying the log")
-            fault = self.program.image_after([io.BytesIO(image_line(header)), *pieces], self.file("ours"))
+        with open(log.name, "rb") as lines:
+            for piece in chunks_of(self.progress.watched(lines, "giving the log to the program")):
+                self.ours.feed.write(piece)
+        self.ours.ask()
+        fault = self.ours.fault(self.progress)
         if fault is None:
             return True
         if fault.line is not None:
-            with start.open() as image:
-                told = self.table.in_words(told_of(fault, image))
-                raise Refused(f"the image of TXID {start.link.txid} contradicts itself: {told}")
+            raise Refused(f"the image of TXID {start.link.txid} contradicts itself: {told_of(fault, start.lines)}")
         self.differences.tell("fault", f"TXID {log.txid_of(fault)}: {fault.meaning}")
         return False
 
-    def judge(self, theirs):
-        """Lets the program read and print the second image. Answers how that contradicts itself, or None."""
-        with open(self.file("theirs.given"), "rb") as image:
-            fault = self.program.image_after([self.progress.watched(image, "reading the second image back")], self.file("theirs"))
-            if fault is None:
-                return None
-            image.seek(0)
-            return told_of(fault, image)
+    def judge(self):
+        """Answers how the second image contradicts itself for the program, or None."""
+        fault = self.theirs.fault(self.progress)
+        if fault is None:
+            return None
+        return fault.meaning if fault.line is None else self.second.told_of(fault)
 
-    def compare(self, theirs):
-        """Answers how many directories, files and blocks are alike, and tells what differs."""
-        with open(self.file("ours"), "rb") as ours, open(self.file("theirs"), "rb") as other:
-            header = json.loads(ours.readline())
-            other.readline()
-            self.compare_numbers(header, theirs)
-            places = ours.tell(), other.tell()
-            alike = alike_texts(ours, other)
-            if alike is None:
-                ours.seek(places[0])
-                other.seek(places[1])
-                alike = compare(ours, other, self.differences)
+    def compare(self, facts, given, link, is_whole):
+        """Keeps what the log makes, if there is a chain, be the second image right or wrong.
+
+        Answers how many directories, files and blocks are alike, and tells what differs, if the second image is whole.
+        """
+        keeping = Keeping(self.chain, link) if self.chain else None
+        try:
+            task = self.progress.task("comparing the images", given.size)
+            ours = self.pieces_of_ours(keeping)
+            if is_whole:
+                self.compare_numbers(json.loads(self.ours.first), facts)
+
+                def theirs():
+                    piece = self.theirs.piece(self.progress)
+                    task.add(len(piece))
+                    return piece
+
+                alike = compare(ours, theirs, self.differences)
+            else:
+                alike = None
+                while keeping and ours():
+                    pass
+            if keeping:
+                keeping.end()
             return alike
+        finally:
+            if keeping:
+                keeping.drop()
+
+    def pieces_of_ours(self, keeping):
+        """What answers the next lines of what the log makes, which are kept."""
+        if not keeping:
+            return lambda: self.ours.piece(self.progress)
+        keeping.write(self.ours.first)
+
+        def piece():
+            lines = self.ours.piece(self.progress)
+            keeping.write(lines or self.ours.take_end())
+            return lines
+
+        return piece
 
     def compare_numbers(self, header, theirs):
         """Compares the last block id, and the last stamp.
@@ -200,55 +259,26 @@ class Audit:
             self.notes.append(f"not compared, the last stamp: {note}, with which no block has come")
             self.has_later_stamp = True
 
-    def scope(self, alike, theirs, log):
+    def scope(self, alike, facts, given, log):
         """What was compared, and what was not."""
-        bare = theirs.told_kinds.keys() | theirs.bare_kinds.keys()
-        for path, count in theirs.too_deep.items():
+        bare = log.bare.keys() | given.bare_kinds.keys()
+        for path, count in given.too_deep.items():
             self.notes.append(f"not compared, below {self.table.in_words(path)}: {count:,} paths of too many names")
         others = {
-            "inodes that only snapshots hold": theirs.only_in_snapshots,
+            "inodes that only snapshots hold": given.only_in_snapshots,
             "files whose blocks can't be held here": len(bare),
             "records with a carriage return in a name, taken as a line feed": log.edits.carriage_returns,
-            "names of the image with a line feed, which may be a carriage return": theirs.with_line_feeds,
-            "paths of more than 1,000 names": sum(theirs.too_deep.values()),
+            "names of the image with a line feed, which may be a carriage return": facts.with_line_feeds,
+            "paths of more than 1,000 names": sum(given.too_deep.values()),
             "last stamp, with which no block has come": self.has_later_stamp,
         }
         left = {
-            "of the image": theirs.passed,
+            "of the image": facts.passed,
             "records of the log": log.left_out,
             "members of other records": log.edits.passed,
         }
         return Scope(alike, len(bare), left, Counter({what: int(count) for what, count in others.items() if count}))
 
-    def advance(self, link, theirs, log):
-        """Keeps what the program has at the second image's TXID, be that image right or wrong."""
-        link = Link(link.first, theirs.txid, link.audits + 1, link.cluster, in_order(log.bare), **self.table.members())
-        with open(self.file("ours"), "rb") as image:
-            self.chain.keep(link, image)
-        return link
-
 
 def in_order(kinds):
     return dict(sorted(kinds.items()))
-
-
-def told_of(fault, image):
-    """The line of an image that a fault is about, and what the fault means."""
-    for number, line in enumerate(image, 1):
-        if number == fault.line:
-            twice = block_above(line, number, image)
-            return twice or f"{line[:300].decode('utf-8', 'replace').strip()}: {fault.meaning}"
-    return fault.meaning
-
-
-def block_above(line, number, image):
-    """That a line has a block that one above it has too, with the paths of both; or None."""
-    row = json.loads(line)
-    ids = [b'"id":%d,' % block["id"] for block in row.get("blocks", ())]
-    image.seek(0)
-    for above in itertools.islice(image, number - 1) if ids else ():
-        for at, text in enumerate(ids):
-            if text in above:
-                paths = to_json(json.loads(above)["path"]), to_json(row["path"])
-                return f"block {row['blocks'][at]['id']} is in two files, {paths[0]} and {paths[1]}"
-    return None

@@ -6,7 +6,7 @@ makes a striped file, one of more blocks than a line holds, and one of which it 
 """
 from formats import FIRST_BLOCK_ID, NoBlocks
 from inodes import File
-from tree import is_packed
+from tree import is_directory, is_packed
 
 STRIPED, OLD, LONG, REPLICATED = map(NoBlocks, ("striped", "old", "long", "replicated"))
 # What a chain of before kinds were kept has.
@@ -82,8 +82,8 @@ def bare_paths(tree):
     while ahead:
         path, directory = ahead.pop()
         for name, node in directory.items():
-            if isinstance(node, dict):
+            if is_directory(node):
                 ahead.append((f"{path}/{name}", node))
-            elif not is_packed(node) and is_bare(node):
+            elif not (node is None or is_packed(node)) and is_bare(node):
                 found[f"{path}/{name}"] = node.blocks.kind
     return found

@@ -3,12 +3,13 @@ import contextlib
 import json
 import os
 
-from audited import Audited
+from audited import TAKEN, Audited
 from bare import bare_paths
 from conversion import Conversion
 from formats import DoesNotApply, Refused
 from log import Log, Map, Whole, pairs_in
 from overlap import merged
+from shortways import ShortWays
 from table import Grew
 
 # The program holds a segment until it has ended.
@@ -28,7 +29,8 @@ class Converted:
         with open(self.name, "wb") as lines, open(self.map, "w") as numbers:
             # The program's number of a transaction is not its TXID, once the log has been followed.
             log = Log(Whole(lines, SEGMENT_BYTES), header["txid"], 2, Map(numbers))
-            conversion = Conversion(start.tree(), log, (), self.edits.edits_of)
+            ways = ShortWays(self.edits)
+            conversion = Conversion(start.tree(), log, (), self.edits.edits_of, ways.take)
             conversion.begin_after(start.link.txid)
             try:
                 take(conversion, files, until, opened)
@@ -38,6 +40,7 @@ class Converted:
             raise Grew
         # The tree takes much memory, and is let go here.
         self.bare = bare_paths(conversion.tree)
+        self.edits.passed += ways.passed(TAKEN)
         self.left_out = conversion.left_out
 
     def txid_of(self, fault):
@@ -58,7 +61,7 @@ class Converted:
 
 def take(conversion, files, until, opened):
     """Converts the records up to a TXID, which the log has to reach."""
-    with contextlib.closing(merged(files, opened)) as records:
+    with contextlib.closing(merged(files, opened, is_quick=Conversion.is_quick)) as records:
         for record in records:
             if record.txid > until:
                 break

@@ -3,14 +3,17 @@
 Snapshots change no live name. What only they hold is counted, and so is every element that nothing here stands for, by
 the name that it has in the dump: an element of a later Hadoop shows itself.
 """
+from array import array
+
 from bare import OLD, STRIPED, bare_file, has_old_block, is_bare, kind_in_image, word_of
 from formats import FIRST_BLOCK_ID, FIRST_GEN, PATH_BYTES, Refused
 from dumps import elements
-from fsimage import NUMBERS, SECTION_BYTES, Dump, Inconsistent, blocks_in, blocks_of, image_lines, is_striped
+from fsimage import NUMBERS, SECTION_BYTES, Dump, blocks_in, blocks_of, image_lines, is_striped
 from inodes import NONE, Lists
 from loops import row_in_loop
 from mentions import REFERENCE, Mentions
 from shapes import children_of, named
+from walk import Inconsistent
 
 # What is taken of each element.
 TAKEN = {
@@ -35,6 +38,8 @@ class Checkpoint(Dump):
         # The kinds of bare files by their paths: those that the log tells, and those that were found here.
         self.told_kinds = {}
         self.bare_kinds = {}
+        # The directories that have files of the first sort.
+        self.told_folders = set()
         # What other sections say of inodes, which inode each reference stands for, and the references of directories.
         self.mentions = Mentions()
         self.references = self.mentions.ids[REFERENCE]
@@ -44,8 +49,6 @@ class Checkpoint(Dump):
         self.snapshots_count = 0
         self.only_in_snapshots = 0
         self.with_line_feeds = 0
-        # The numbers that the table has for replications.
-        self.replication_numbers = {}
         # How many paths lie below those of as many names as there may be. They are left out.
         self.too_deep = {}
 
@@ -153,30 +156,43 @@ class Checkpoint(Dump):
         if kind is not None:
             self.bare_kinds[path] = kind
             return bare_file(kind)._replace(replication=self.table.number(word_of(kind)))
-        number = self.replication_numbers.get(file.replication)
-        if number is None:
-            number = self.replication_numbers[file.replication] = self.table.number(str(file.replication))
-        if number != file.replication:
-            file = file._replace(replication=number)
-        return super().row(path, file)
+        return super().row(path, file._replace(replication=self.number_for(file.replication)))
+
+    def number_for(self, replication):
+        return self.table.number(str(replication))
+
+    def is_told(self, above):
+        return above.decode() in self.told_folders
+
+    def use(self, table, told):
+        """Takes a table, and what the log tells of bare files."""
+        self.table = table
+        self.told_kinds = told
+
+    def begin_lines(self):
+        """All lines are made anew."""
+        self.bare_kinds, self.too_deep = {}, {}
+        self.told_folders = {path.rpartition("/")[0] for path in self.told_kinds}
 
     def let_go(self):
         """Keeps what the files are, and nothing of their names and places."""
         self.children = self.referring = self.child_rows = self.references = self.mentions = None
+        self.is_taken = self.in_order = None
         self.inodes.let_go()
 
     # ---- Names that the program has otherwise.
 
-    def name_of(self, row):
-        name = super().name_of(row)
-        return self.table.names.get(name, name)
-
-    def rows_below(self, path, row):
+    def below(self, path, row):
         """They are looked at as the cluster has them, and are in the order of the names that the program has."""
-        rows = super().rows_below(path, row)
+        names, rows = super().below(path, row)
         if not self.table.names:
-            return rows
-        return iter(sorted(rows, key=lambda row: self.name_of(row).encode()))
+            return names, rows
+        short = [self.table.names.get(name, name).encode() for name in map(bytes.decode, names)]
+        pairs = sorted(zip(short, rows))
+        return [name for name, _ in pairs], array("i", [row for _, row in pairs])
+
+    def full_name(self, name):
+        return self.table.full_name(name).encode()
 
     def check_path(self, path):
         if len(path.encode()) > PATH_BYTES:
@@ -193,7 +209,7 @@ class Checkpoint(Dump):
             count += len(below)
             ahead += [found for found, _ in below]
         if count:
-            self.too_deep[path] = count
+            self.too_deep[path.decode()] = count
 
 
 def keys_beside(shape):
@@ -248,16 +264,33 @@ def low_number(dump):
 
 
 def write_image(dump, name, output):
-    """Writes an image as this project has it. Answers how it contradicts itself, or None."""
-    # The program takes no image with such a last id or stamp. What is wrong with it is told beside what else differs.
-    last_block = max(dump.last_block, FIRST_BLOCK_ID - 1)
-    last_gen = max(dump.last_gen, dump.greatest_gen, FIRST_GEN - 1)
-    dump.bare_kinds, dump.too_deep = {}, {}
+    """Writes an image as this project has it to a file. Answers how it contradicts itself, or None."""
+    with open(output, "wb") as file:
+        return give_image(dump, name, file.write)
+
+
+def give_image(dump, name, write, last_gen=0):
+    """Writes an image as this project has it, and its last stamp at least as said. Answers how it contradicts itself."""
     try:
-        with open(output, "wb") as file:
-            file.writelines(image_lines(dump, last_block, last_gen, dump.txid))
+        for piece in pieces_of(dump, last_gen):
+            write(piece)
     except Inconsistent as found:
         return str(found)
     except Refused as refused:
         raise Refused(with_name(name, refused)) from None
     return None
+
+
+def pieces_of(dump, last_gen=0):
+    """The lines of an image as this project has it, many of them at a time.
+
+    The program takes no image with such a last id or stamp. What is wrong with it is told beside what else differs.
+    """
+    dump.begin_lines()
+    return image_lines(dump, *numbers_of(dump, last_gen))
+
+
+def numbers_of(dump, last_gen=0):
+    """The last block's id, the last stamp and the TXID, as an image has them."""
+    last_block = max(dump.last_block, FIRST_BLOCK_ID - 1)
+    return last_block, max(last_gen, dump.last_gen, dump.greatest_gen, FIRST_GEN - 1), dump.txid

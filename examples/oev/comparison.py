@@ -1,7 +1,8 @@
 """Compares two images that the proved program printed.
 
 A namespace has one text. So that two namespaces are the same is that their texts are the same bytes behind the header;
-no other code of this project has to be trusted for it. Only where they differ are they read, to tell how.
+no other code of this project has to be trusted for it. Only where they differ are they read, to tell how. Both come
+through pipes, and are compared as they come.
 """
 import json
 from collections import Counter
@@ -10,7 +11,6 @@ from itertools import zip_longest
 
 from formats import row_of, to_json
 
-END = b'{"end":'
 DIRECTORY_ENDS = b'"type":"dir"}\n'
 FILE_ENDS = b'"type":"file"}\n'
 BLOCK_BEGINS = b'{"gen":'
@@ -54,33 +54,34 @@ class Differences:
         return ", ".join(f"{kind} {count:,}" for kind, count in sorted(self.count.items()))
 
 
-def alike_texts(ours, theirs):
-    """How many directories, files and blocks both texts have, or None if they differ. Their headers have been read."""
-    alike = Counter()
-    for line, other in zip_longest(ours, theirs, fillvalue=b""):
-        if line.startswith(b"done ") and other.startswith(b"done "):
-            return alike
-        if line != other:
-            return None
-        count(line, alike)
-    return None
+def alike_pieces(ours, theirs, alike):
+    """Counts what both texts have alike, and answers what was read of each behind that: it begins with a line.
+
+    Both are functions that answer the next whole lines of a text, and nothing behind all.
+    """
+    one = other = b""
+    while True:
+        one, other = one or ours(), other or theirs()
+        size = min(len(one), len(other))
+        if size == 0 or one[:size] != other[:size]:
+            return one, other
+        count(one[:size], alike)
+        one, other = one[size:], other[size:]
 
 
-def count(line, alike):
-    """Counts a line that both texts have. The line that ends an image counts as nothing."""
-    if line.endswith(DIRECTORY_ENDS):
-        alike["directories"] += 1
-    elif line.endswith(FILE_ENDS):
-        alike["files"] += 1
-        alike["blocks"] += line.count(BLOCK_BEGINS)
+def count(lines, alike):
+    """Counts lines that both texts have. Inside of a text JSON has no quotes like these."""
+    alike["directories"] += lines.count(DIRECTORY_ENDS)
+    alike["files"] += lines.count(FILE_ENDS)
+    alike["blocks"] += lines.count(BLOCK_BEGINS)
 
 
-def lines_of(file):
-    """The lines of an image, whose header has been read."""
-    for line in file:
-        if line.startswith(END):
-            return
-        yield Line(line)
+def lines_of(held, pieces):
+    """The lines of a text, of which some were read."""
+    while held:
+        for line in held.split(b"\n")[:-1]:
+            yield Line(line + b"\n")
+        held = pieces()
 
 
 def merged(ours, theirs):
@@ -127,10 +128,14 @@ class Alone:
 
 
 def compare(ours, theirs, differences):
-    """Tells how two texts differ, path by path. Answers how many directories, files and blocks are alike."""
+    """Tells how two texts differ, path by path. Answers how many directories, files and blocks are alike.
+
+    Both are functions that answer the next whole lines of a text, and nothing behind all.
+    """
     alike = Counter()
+    held, other_held = alike_pieces(ours, theirs, alike)
     missing, extra = Alone("missing", differences), Alone("extra", differences)
-    for one, other in merged(lines_of(ours), lines_of(theirs)):
+    for one, other in merged(lines_of(held, ours), lines_of(other_held, theirs)):
         if other is None:
             missing.take(one.row)
         elif one is None:

@@ -1,12 +1,12 @@
 """Converts the records of a log, one after another. The tree of the names goes along, and the lines go to a log."""
 from collections import Counter
-from typing import NamedTuple
 
-from dumps import Element, check_layout, elements, is_same
+from dumps import check_layout, elements, is_same
 from edits import edits_of, start_mark
 from formats import Refused
+from forms import CommonRecord, CommonRecords, Record
 from longrecords import LongRecord
-from reading import MORE, PIECE_TEXTS
+from reading import COMMON, MORE, PIECE_TEXTS
 
 # What HDFS allows for a record, enough for a file of 1,048,576 blocks. One of so many is read in pieces.
 RECORD_BYTES = 134_217_728
@@ -14,22 +14,20 @@ RECORD_BYTES = 134_217_728
 LAYOUT = ("EDITS_VERSION",)
 RECORD = ("RECORD",)
 MORE_OF_RECORD = ("RECORD", MORE)
-
-
-class Record(NamedTuple):
-    opcode: str
-    txid: int
-    data: Element
-    # The name of its file.
-    dump: str
+COMMON_RECORDS = ("RECORD", COMMON)
 
 
 class Conversion:
     """Takes records one after another. A transaction has a TXID in the dumps and a number in the lines."""
 
-    def __init__(self, tree, log, skipped_opcodes, edits_of=edits_of):
+    # Whether records of common forms are read by regular expressions, and not by expat, where a short way takes them.
+    is_quick = True
+
+    def __init__(self, tree, log, skipped_opcodes, edits_of=edits_of, take_common=None):
         self.tree = tree
         self.edits_of = edits_of
+        # What does at once what becomes of a record of a common form, and answers whether it did.
+        self.take_common = take_common
         self.log = log
         self.skipped_opcodes = skipped_opcodes
         # The TXID that the first record has to have, if any, and what helps where it has another.
@@ -78,6 +76,10 @@ class Conversion:
             self.skipped[record.opcode] += 1
 
     def convert(self, record):
+        if isinstance(record, CommonRecord):
+            if not self.may_be_inside and self.take_common(self, record):
+                return
+            record = record.whole()
         edits = self.edits_of(record, self.tree)
         if not edits:
             self.log.leave_out(record.txid)
@@ -133,10 +135,11 @@ def counted(title, counter):
     return f"{title}: {sum(counter.values()):,}" + (f" ({opcodes})" if opcodes else "")
 
 
-def records_of(file):
-    """The records of a dump, in its order."""
+def records_of(file, is_quick=False):
+    """The records of a dump, in its order. A quick reader takes those of common forms by themselves."""
     has_layout, held = False, None
-    for place, element in elements(file, "EDITS", {LAYOUT, RECORD}, RECORD_BYTES, pieces={RECORD: 1}):
+    quick = {RECORD: CommonRecords(file.name)} if is_quick else {}
+    for place, element in elements(file, "EDITS", {LAYOUT, RECORD}, RECORD_BYTES, pieces={RECORD: 1}, quick=quick):
         if place == MORE_OF_RECORD:
             held.take(element)
             continue
@@ -148,6 +151,8 @@ def records_of(file):
             has_layout = True
         elif not has_layout:
             break
+        elif place == COMMON_RECORDS:
+            yield from element
         elif len(element.texts) < PIECE_TEXTS:
             yield record_of(file, element)
         else:

@@ -10,7 +10,9 @@ from formats import Block, Refused, number
 from reading import Reading
 from shapes import children_of, named, only_places
 
-CHUNK_BYTES = 65_536
+# So many bytes are read at a time, and fewer at the beginning, for who wants the first element alone.
+CHUNK_BYTES = 262_144
+FIRST_BYTES = 8_192
 
 # The layouts of Hadoop 2.7 to 3.4.
 LAYOUTS = range(-67, -62)
@@ -171,14 +173,15 @@ def elements(file, root, wanted, most, passed=None, pieces=(), quick=()):
     `pieces` has those that may come in pieces, and `quick` what takes common forms, as `Reading` has both.
     """
     reading = Reading(root, wanted, most, Counter() if passed is None else passed, dict(pieces), dict(quick))
-    ended = False
+    ended, size = False, FIRST_BYTES
     while not ended:
-        chunk = file.read(CHUNK_BYTES)
+        chunk = file.read(min(size, CHUNK_BYTES))
+        size *= 2
         if reading.fed == 0:
             check_beginning(file.name, chunk)
         ended = not chunk
         fault = reading.end_document() if ended else reading.feed(chunk)
         for place, shape, texts in reading.taken():
-            yield place, Element(shape, texts)
+            yield place, texts if shape is None else Element(shape, texts)
         if fault is not None:
             raise Refused(f"{file.name}, line {reading.line()}: {fault}")

@@ -3,7 +3,10 @@
 Inodes are known by their ids in a dump, and by the numbers of their rows here, which count them in its order.
 """
 from array import array
-from itertools import chain, repeat
+from bisect import bisect_left
+from functools import partial
+from itertools import accumulate, chain, islice
+from operator import lt
 from typing import NamedTuple
 
 from formats import Block, NoBlocks
@@ -13,6 +16,9 @@ DIRECTORY, OPEN, CLOSED, BARE = range(4)
 
 # The row of an inode that is missing, and what stands behind the last list of a directory.
 NONE = -1
+
+# A row has so many bits.
+ROW_BITS = 32
 
 
 class File(NamedTuple):
@@ -35,18 +41,14 @@ class Inodes:
         self.replications = array("q")
         # The blocks of each bare file, which are none of some kind, by its row.
         self.bare = {}
-        # The row of each id, until `finish`.
-        self.rows = {}
+        # What finds the row of an id, behind `finish`.
+        self.rows = None
 
     def __len__(self):
         return len(self.ids)
 
-    def __contains__(self, inode_id):
-        return inode_id in self.rows
-
     def add(self, inode_id, name, kind, replication=0, numbers=()):
         """Adds an inode. The numbers are those of a file's blocks, one block after another."""
-        self.rows[inode_id] = len(self.ids)
         self.ids.append(inode_id)
         self.names += name
         self.name_ends.append(len(self.names))
@@ -55,6 +57,18 @@ class Inodes:
         self.blocks.extend(numbers)
         self.block_ends.append(len(self.blocks))
 
+    def add_columns(self, columns):
+        """Adds many inodes."""
+        begin = len(self.names)
+        self.names += b"".join(columns.names)
+        self.name_ends.extend(islice(accumulate(map(len, columns.names), initial=begin), 1, None))
+        begin = len(self.blocks)
+        self.blocks.extend(columns.blocks)
+        self.block_ends.extend([begin + end for end in columns.block_ends])
+        self.ids.extend(columns.ids)
+        self.kinds += columns.kinds
+        self.replications.extend(columns.replications)
+
     def add_file(self, inode_id, name, file):
         kind = CLOSED if file.closed else OPEN
         if isinstance(file.blocks, NoBlocks):
@@ -62,17 +76,18 @@ class Inodes:
         self.add(inode_id, name, kind, file.replication, chain.from_iterable(file.blocks))
 
     def finish(self):
-        """Lets go of what is needed only while inodes are added."""
-        self.rows = None
+        """Finds out where each id is. Answers the row of an id that came before, or None."""
         self.names = bytes(self.names)
+        self.rows = RowsOfIds(self.ids)
+        return self.rows.repeated
 
     def let_go(self):
         """Keeps what each row is, and lets go of names and ids."""
-        self.ids = self.names = self.name_ends = None
+        self.ids = self.names = self.name_ends = self.rows = None
 
     def rows_of(self, ids):
         """The row of each id, or NONE."""
-        return array("i", map(self.rows.get, ids, repeat(NONE)))
+        return self.rows.of(ids)
 
     def name(self, row):
         """The bytes of a name."""
@@ -87,6 +102,28 @@ class Inodes:
             return File(self.replications[row], True, self.bare[row])
         numbers = iter(self.blocks[self.block_ends[row] : self.block_ends[row + 1]])
         return File(self.replications[row], kind == CLOSED, list(map(Block, numbers, numbers, numbers)))
+
+
+class RowsOfIds:
+    """The row of each id. Where the ids ascend, as in most dumps, they are searched as they are, and take no room."""
+
+    def __init__(self, ids):
+        self.ids, self.rows, self.repeated = ids, None, None
+        if not all(map(lt, ids, islice(ids, 1, None))):
+            self.sort(ids)
+
+    def sort(self, ids):
+        pairs = sorted([inode_id << ROW_BITS | row for row, inode_id in enumerate(ids)])
+        self.ids = array("q", [pair >> ROW_BITS for pair in pairs])
+        self.rows = array("i", [pair & (1 << ROW_BITS) - 1 for pair in pairs])
+        repeated = [self.rows[at + 1] for at, pair in enumerate(zip(self.ids, islice(self.ids, 1, None))) if pair[0] == pair[1]]
+        self.repeated = min(repeated, default=None)
+
+    def of(self, wanted):
+        ids, count = self.ids, len(self.ids)
+        places = map(partial(bisect_left, ids), wanted)
+        found = array("i", [at if at < count and ids[at] == one else NONE for at, one in zip(places, wanted)])
+        return found if self.rows is None else array("i", [at if at == NONE else self.rows[at] for at in found])
 
 
 class Lists:
@@ -106,17 +143,33 @@ class Lists:
         self.numbers.extend(numbers)
         self.ends.append(len(self.numbers))
 
+    def add_columns(self, owners, numbers, ends):
+        """Adds many lists."""
+        begin = len(self.numbers)
+        self.owners.extend(owners)
+        self.numbers.extend(numbers)
+        self.ends.extend([begin + end for end in ends])
+
     def finish(self, inodes):
-        """Finds the lists of each row."""
+        """Finds the lists of each row, and the owner of a list that is no inode."""
         rows = inodes.rows_of(self.owners)
-        self.first = array("i", [NONE]) * len(inodes)
+        self.missing = next((owner for owner, row in zip(self.owners, rows) if row == NONE), None)
+        self.finish_rows(rows, len(inodes))
+
+    def finish_rows(self, rows, count):
+        """Finds the lists of each of so many rows, if the owners have these rows."""
+        self.first = array("i", [NONE]) * count
         self.next = array("i", [NONE]) * len(rows)
         for at in reversed(range(len(rows))):
             row = rows[at]
             if row != NONE:
                 self.next[at] = self.first[row]
                 self.first[row] = at
-        self.missing = next((owner for owner, row in zip(self.owners, rows) if row == NONE), None)
+
+    def only_list(self, row):
+        """Where the only list of a row begins and ends, or None if it has none or several."""
+        at = self.first[row]
+        return None if at == NONE or self.next[at] != NONE else slice(self.ends[at], self.ends[at + 1])
 
     def places(self, row):
         """The places of the numbers that an inode has, in the order of the dump."""

@@ -35,6 +35,18 @@ class Log:
         for edit, line in zip(edits, lines):
             self.put(edit, line, txid)
 
+    def write_line(self, line, values, txid):
+        """Writes an edit that is no mark, and no append, whose line is made of these values and its number."""
+        text = line % (*values, self.number + 1)
+        if self.output.most is not None and self.segment_bytes + len(text) + MARK_BYTES > self.output.most:
+            self.give(end_mark() + start_mark())
+            text = line % (*values, self.number + 1)
+        self.number += 1
+        self.numbers.put(txid, self.number)
+        self.output.write(text)
+        self.segment_bytes += len(text)
+        self.inside = True
+
     def leave_out(self, txid):
         self.numbers.leave_out(txid)
 

@@ -1,8 +1,8 @@
 """What an image says of inodes beside their section: ids that have to be those of inodes, and the last id issued."""
 from array import array
 
-from fsimage import Inconsistent
 from inodes import NONE
+from walk import Inconsistent
 
 LAST = ("INodeSection", "lastInodeId")
 REFERENCE = ("INodeReferenceSection", "ref")

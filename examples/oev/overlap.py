@@ -12,19 +12,19 @@ def opened(name):
     return open(name, "rb")
 
 
-def records_in(name, opened=opened):
+def records_in(name, opened=opened, is_quick=False):
     """The records of a dump, in its order."""
     with opened(name) as file:
-        yield from records_of(file)
+        yield from records_of(file, is_quick)
 
 
-def merged(names, opened=opened):
+def merged(names, opened=opened, is_quick=False):
     """The records of all dumps. A dump is open only from its first TXID on, and one record of it is held.
 
-    `opened` opens a dump.
+    `opened` opens a dump. A quick reader takes those of common forms by themselves.
     """
     if len(names) == 1:
-        yield from records_in(names[0], opened)
+        yield from records_in(names[0], opened, is_quick)
         return
     waiting = in_order(names)
     # For each open dump: the TXID of its next record, its place among the dumps, the record, and the rest.
@@ -32,7 +32,7 @@ def merged(names, opened=opened):
     place = 0
     while heads or place < len(waiting):
         while place < len(waiting) and (not heads or waiting[place][0] <= heads[0][0]):
-            push(heads, place, records_in(waiting[place][1], opened))
+            push(heads, place, records_in(waiting[place][1], opened, is_quick))
             place += 1
         _, at, record, rest = heapq.heappop(heads)
         yield record

@@ -29,23 +29,31 @@ class Progress:
 
     def watched(self, file, what):
         """A file from where it is read, whose reading is shown."""
-        return Watched(file, what, self)
+        return Watched(file, self.task(what, size_of(file)))
 
-    def show(self, watched):
-        """Shows how far a file is read, if it is time."""
+    def task(self, what, size=None):
+        """What is done with so many bytes, if that is known."""
+        return Task(what, size, self)
+
+    def show_work(self, seconds):
+        """Shows that the program works."""
+        self.show(lambda _now: f"the program works: {time_words(seconds)} of a processor")
+
+    def show(self, line):
+        """Shows a line, which is a function of the time, if it is time."""
         now = self.clock()
         if now < self.next:
             return
         self.next = now + STEP_SECONDS
+        text = line(now)
         if self.note:
             self.count += 1
             with open(self.note, "w") as file:
-                file.write(f"{self.count} {watched.line(now)}\n")
+                file.write(f"{self.count} {text}\n")
         if self.stream:
-            line = watched.line(now)
-            self.stream.write(f"\r{line.ljust(self.width)}")
+            self.stream.write(f"\r{text.ljust(self.width)}")
             self.stream.flush()
-            self.width = len(line)
+            self.width = len(text)
 
     def clear(self):
         """Takes the line away."""
@@ -55,31 +63,41 @@ class Progress:
             self.width = 0
 
 
-class Watched:
-    """A file that is read, and how much of it was read since when."""
+class Task:
+    """What is done with bytes, and with how many since when."""
 
-    def __init__(self, file, what, progress):
-        self.file = file
-        self.name = file.name
+    def __init__(self, what, size, progress):
         self.what = what
+        self.size = size
         self.progress = progress
         self.done = 0
-        self.size = size_of(file)
         self.begun = progress.clock()
 
-    def read(self, size):
-        data = self.file.read(size)
-        self.done += len(data)
-        self.progress.show(self)
-        return data
+    def add(self, count):
+        self.done += count
+        self.progress.show(self.line)
 
     def line(self, now):
         rate = self.done / max(now - self.begun, 1e-3)
         if self.size is None:
             return f"{self.what}: {self.done / 1e6:,.0f} MB, {rate / 1e6:,.1f} MB/s"
-        left = time_words((self.size - self.done) / max(rate, 1))
+        left = time_words(max(0, self.size - self.done) / max(rate, 1))
         done = f"{self.done / 1e6:,.0f} of {self.size / 1e6:,.0f} MB"
         return f"{self.what}: {done}, {rate / 1e6:,.1f} MB/s, {left} left"
+
+
+class Watched:
+    """A file that is read, and the task that this is."""
+
+    def __init__(self, file, task):
+        self.file = file
+        self.name = file.name
+        self.task = task
+
+    def read(self, size):
+        data = self.file.read(size)
+        self.task.add(len(data))
+        return data
 
 
 def size_of(file):

@@ -1,7 +1,7 @@
-"""Runs the proved program on an image and the lines of a log, and takes the image that it prints of what it has then.
+"""The proved program, as a service, and what its faults mean.
 
-The program runs once, as a service: it is given the image, the lines and the word `checkpoint`. What it tells may be a
-finding, of an image or of a log. Whatever else keeps it from an image leaves nothing to be said, and is Refused.
+What it tells may be a finding, of an image or of a log. Whatever else keeps it from what it is asked for leaves nothing to
+be said, and is Refused.
 """
 import contextlib
 import os
@@ -13,7 +13,6 @@ from formats import Refused
 
 PROGRAM = find_program()
 
-ANSWER_BYTES = 65_536
 CHUNK_BYTES = 1 << 20
 
 # A line of the image has no JSON, or more than it may have in a namespace: its paths, its blocks, their order.
@@ -38,20 +37,6 @@ class Program:
         if not is_program(self.name):
             raise Refused(no_program(name))
         tell_if_unproved(self.name)
-
-    def image_after(self, pieces, printed):
-        """Gives the program these files, each from where it is read, and prints its image to a file.
-
-        Answers the fault of an image or of a log, or None where the image is whole.
-        """
-        status = self.serve(["--from-image"], pieces_and_checkpoint(pieces), printed)
-        with open(printed, "rb") as answer:
-            first = answer.readline(ANSWER_BYTES)
-            if first.startswith(b"fault "):
-                return self.fault(first.decode("ascii", "replace").split())
-            if status or not first.startswith(b"{") or not is_whole(answer):
-                raise Refused(f"the program ended with status {status} and printed no whole image")
-        return None
 
     def serve(self, arguments, given, printed):
         """Runs the program as a service: writes it these texts, and what it prints to a file. Answers its status.
@@ -84,20 +69,7 @@ class Program:
         return told.stdout.decode().strip() or f"{number}, which it does not explain"
 
 
-def pieces_and_checkpoint(pieces):
-    for piece in pieces:
-        yield from chunks_of(piece)
-    yield b"checkpoint\n"
-
-
 def chunks_of(file):
+    """The bytes of a file from where it is read."""
     while chunk := file.read(CHUNK_BYTES):
         yield chunk
-
-
-def is_whole(answer):
-    """Whether an answer ends with the end of an image and the end of an answer."""
-    size = answer.seek(0, os.SEEK_END)
-    answer.seek(max(0, size - 200))
-    lines = answer.read().split(b"\n")
-    return len(lines) > 2 and lines[-3].startswith(b'{"end":') and lines[-2].startswith(b"done ") and not lines[-1]

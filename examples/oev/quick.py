@@ -1,4 +1,4 @@
-"""Reads the common forms of inodes and of directories by regular expressions, many of them at a time.
+"""Reads the common forms of inodes and of directories' lists by regular expressions, many of them at a time.
 
 What they take is what expat would read there, with the same result: their texts have neither `<`, `>` and `&` nor
 characters that are not plain, their tags no blanks, and each element comes once, in the order in which `hdfs oiv` prints
@@ -6,6 +6,9 @@ it. At anything else they stop, and expat goes on.
 """
 import re
 from array import array
+from collections import Counter
+from itertools import accumulate, chain
+from typing import NamedTuple
 
 from formats import FIRST_BLOCK_ID
 from inodes import CLOSED, DIRECTORY, OPEN
@@ -15,97 +18,148 @@ NUMBER = rb"[0-9]{1,18}"
 # A name that every path may have: without a colon, a slash and a backslash.
 NAME = rb"(?!\.\.?<)([!-%'-.0-9;=?-\[\]-~ ]{1,255})"
 
+# What is passed over of a file and of a directory, and where it lies.
+OF_FILES = b"mtime", b"atime", b"preferredBlockSize", b"permission"
+POLICY = (b"storagePolicyId",)
+OF_FOLDERS = b"mtime", b"permission", b"nsquota", b"dsquota"
+OF_CLIENTS = b"clientName", b"clientMachine"
 
-def maybe(*names):
+
+def maybe(names):
     """Elements that may be there, in this order, each with any plain text."""
     return b"".join(rb"(?:<%b>%b</%b>)?" % (name, TEXT, name) for name in names)
 
 
-HEAD = rb"[\n ]*<inode><id>(%b)</id><type>" % NUMBER
-BLOCK = rb"<block><id>%b</id><genstamp>%b</genstamp><numBytes>%b</numBytes></block>\n?" % (NUMBER, NUMBER, NUMBER)
-OPENED = rb"(<file-under-construction>%b</file-under-construction>\n?)?" % maybe(b"clientName", b"clientMachine")
-FILE = re.compile(
-    HEAD
-    + rb"FILE</type><name>%b</name><replication>(%b)</replication>" % (NAME, NUMBER)
-    + maybe(b"mtime", b"atime", b"preferredBlockSize", b"permission")
-    + rb"(?:<blocks>((?:%b)*)</blocks>\n?)?" % BLOCK
-    + maybe(b"storagePolicyId")
-    + OPENED
-    + rb"</inode>"
-)
-FOLDER = re.compile(
-    HEAD + rb"DIRECTORY</type><name>%b</name>" % NAME + maybe(b"mtime", b"permission", b"nsquota", b"dsquota") + rb"</inode>"
-)
-LIST = re.compile(rb"[\n ]*<directory><parent>(%b)</parent>((?:<child>%b</child>)*)</directory>" % (NUMBER, NUMBER))
+def block(number):
+    return rb"<block><id>%b</id><genstamp>%b</genstamp><numBytes>%b</numBytes></block>\n?" % (number, number, number)
+
+
+# The numbers of two blocks are taken at once, and those of further ones later.
+BLOCK = block(rb"(%b)" % NUMBER)
+BLOCKS = rb"(?:<blocks>%b(?:%b)?((?:%b)*)</blocks>\n?)?" % (BLOCK, BLOCK, block(NUMBER))
+OPENED = rb"(<file-under-construction>%b</file-under-construction>\n?)?" % maybe(OF_CLIENTS)
+FILE = rb"FILE</type><name>%b</name><replication>(%b)</replication>" % (NAME, NUMBER)
+FILE += maybe(OF_FILES) + BLOCKS + maybe(POLICY) + OPENED
+FOLDER = rb"DIRECTORY</type><name>%b</name>" % NAME + maybe(OF_FOLDERS)
+INODE = re.compile(rb"[\n ]*<inode><id>(%b)</id><type>(?:%b|%b)</inode>" % (NUMBER, FILE, FOLDER))
+LIST = re.compile(rb"[\n ]*<directory><parent>(%b)</parent>(?:<child>(%b(?:</child><child>%b)*)</child>)?</directory>" % ((NUMBER,) * 3))
+BETWEEN_CHILDREN = b"</child><child>"
 DIGITS = re.compile(rb"[0-9]+")
 
-# What is passed over of an inode, as it is counted, by the name of its element.
-PASSED = {
-    name: f"inode/{name.decode()}".encode()
-    for name in (b"mtime", b"atime", b"preferredBlockSize", b"permission", b"storagePolicyId", b"nsquota", b"dsquota")
-}
-PASSED.update((name, b"file-under-construction/" + name) for name in (b"clientName", b"clientMachine"))
+# How what is passed over is counted, by the name of its element.
+KEYS = {name: f"inode/{name.decode()}" for name in (*OF_FILES, *POLICY, *OF_FOLDERS)}
+KEYS.update((name, f"file-under-construction/{name.decode()}") for name in OF_CLIENTS)
+# The tags that end an element in a file and in a directory that have all that they may have, but blocks and a client.
+FILE_ENDS, FOLDER_ENDS, BLOCK_ENDS = 10, 8, 4
 
 
-def read_inodes(dump, data, at):
-    """Adds the inodes of common forms that stand in data from a place on. Answers the place behind them."""
-    inodes, begin = dump.inodes, at
-    rows, kinds, blocks = inodes.rows, inodes.kinds, inodes.blocks
-    while True:
-        found = FILE.match(data, at)
-        if found is None:
-            found = FOLDER.match(data, at)
-            if found is None:
-                break
-            inode_id, name = found.groups()
-            kind, replication, numbers = DIRECTORY, 0, ()
-        else:
-            inode_id, name, replication, listed, opened = found.groups()
-            kind, replication = OPEN if opened else CLOSED, int(replication)
-            numbers = numbers_of(dump, listed) if listed else ()
-            if numbers is None:
-                break
-        inode_id = int(inode_id)
-        if inode_id in rows:
-            break
-        rows[inode_id] = len(kinds)
-        inodes.ids.append(inode_id)
-        inodes.names += name
-        inodes.name_ends.append(len(inodes.names))
-        kinds.append(kind)
-        inodes.replications.append(replication)
-        blocks.extend(numbers)
-        inodes.block_ends.append(len(blocks))
+class Columns(NamedTuple):
+    """What many inodes have, by columns."""
+
+    ids: array
+    names: list
+    kinds: bytes
+    replications: array
+    # The stamp, the id and the length of each block, and where those of each inode end.
+    blocks: array
+    block_ends: list
+    passed: Counter
+
+
+class Known:
+    """Takes elements of forms that are known beforehand, by a function as those below."""
+
+    def __init__(self, take):
+        self.take = take
+
+    def learn(self, _element, _shape):
+        pass
+
+
+def matched(pattern, data, at):
+    """What a pattern has in its groups, as often as it follows itself in data from a place on; and the place behind."""
+    match, rows = pattern.match, []
+    found = match(data, at)
+    while found is not None:
+        rows.append(found.groups())
         at = found.end()
-    for name, key in PASSED.items() if at > begin else ():
-        count = data.count(b"<%b>" % name, begin, at)
-        if count:
-            dump.passed[key.decode()] += count
-    return at
+        found = match(data, at)
+    return rows, at
 
 
-def numbers_of(dump, listed):
-    """The stamp, id and length of each block, one after another, or None if one is of an old layout."""
-    numbers = list(map(int, DIGITS.findall(listed)))
-    ids, stamps = numbers[0::3], numbers[1::3]
-    least, most = min(ids), max(ids)
-    if least < FIRST_BLOCK_ID or min(stamps) < dump.first_gen:
-        return None
-    if most > dump.greatest_block:
-        dump.greatest_block = most
-    stamp = max(stamps)
-    if stamp > dump.greatest_gen:
-        dump.greatest_gen = stamp
-    numbers[0::3], numbers[1::3] = stamps, ids
-    return numbers
+def inodes_in(data, at, first_gen):
+    """The inodes of common forms that stand in data from a place on, and the place behind them.
+
+    There are none, None, where a block is of an old layout: it has a stamp below the first one, or a low id.
+    """
+    rows, behind = matched(INODE, data, at)
+    if not rows:
+        return None, at
+    ids, names, replications, one, stamp, length, two, other_stamp, other_length, more, opened, folders = zip(*rows)
+    blocks, counts = blocks_of((stamp, one, length, other_stamp, two, other_length), more, is_id_first=True)
+    if blocks and (min(blocks[1::3]) < FIRST_BLOCK_ID or min(blocks[0::3]) < first_gen):
+        return None, at
+    are_plain = not any(folders) and not any(opened)
+    kinds = bytes((CLOSED,)) * len(rows) if are_plain else bytes(map(kind_of, folders, opened))
+    columns = Columns(
+        array("q", map(int, ids)),
+        list(names) if are_plain else [name or folder for name, folder in zip(names, folders)],
+        kinds,
+        array("q", [int(replication or 0) for replication in replications]),
+        blocks,
+        list(accumulate(counts)),
+        passed_in(data[at:behind], kinds, len(blocks) // 3, sum(map(bool, opened)), sum(map(bool, counts))),
+    )
+    return columns, behind
 
 
-def read_lists(dump, data, at):
-    """Adds the lists of directories that stand in data from a place on. Answers the place behind them."""
-    while True:
-        found = LIST.match(data, at)
-        if found is None:
-            return at
-        owner, listed = found.groups()
-        dump.children.add(int(owner), array("q", map(int, DIGITS.findall(listed))))
-        at = found.end()
+def kind_of(folder, opened):
+    if folder is not None:
+        return DIRECTORY
+    return CLOSED if opened is None else OPEN
+
+
+def blocks_of(numbers, more, is_id_first=False):
+    """The stamp, the id and the length of each block, and how many of these numbers each inode has.
+
+    The numbers of two blocks stand in columns. Those of further ones stand in a text, where the id may come first.
+    """
+    counts = [3 * ((one is not None) + (two is not None)) for one, two in zip(numbers[0], numbers[3])]
+    if not any(more):
+        return array("q", map(int, filter(None, chain.from_iterable(zip(*numbers))))), counts
+    blocks = array("q")
+    for at, (these, rest) in enumerate(zip(zip(*numbers), more)):
+        blocks.extend(map(int, filter(None, these)))
+        found = list(map(int, DIGITS.findall(rest))) if rest else []
+        if is_id_first:
+            found[0::3], found[1::3] = found[1::3], found[0::3]
+        blocks.extend(found)
+        counts[at] += len(found)
+    return blocks, counts
+
+
+def passed_in(piece, kinds, blocks, opened, with_blocks):
+    """How often each element came that is passed over, in a piece that has inodes of these kinds and so many blocks."""
+    folders = kinds.count(DIRECTORY)
+    files = len(kinds) - folders
+    most = FILE_ENDS * files + FOLDER_ENDS * folders + BLOCK_ENDS * blocks + with_blocks
+    passed = Counter()
+    if opened or piece.count(b"</") != most:
+        passed.update({key: piece.count(b"<%b>" % name) for name, key in KEYS.items()})
+        return passed
+    # Each has all that it may have.
+    for names, count in (((*OF_FILES, *POLICY), files), (OF_FOLDERS, folders)):
+        passed.update(dict.fromkeys(map(KEYS.get, names), count))
+    return passed
+
+
+def lists_in(data, at):
+    """The lists of directories that stand in data from a place on: owners, numbers and ends; and the place behind them."""
+    rows, behind = matched(LIST, data, at)
+    if not rows:
+        return None, at
+    owners, listed = zip(*rows)
+    texts = list(filter(None, listed))
+    numbers = array("q", map(int, BETWEEN_CHILDREN.join(texts).split(BETWEEN_CHILDREN))) if texts else ()
+    counts = [text.count(BETWEEN_CHILDREN) + 1 if text else 0 for text in listed]
+    return (array("q", map(int, owners)), numbers, list(accumulate(counts))), behind

@@ -12,6 +12,8 @@ from shapes import Shape
 DEPTH = 32
 # What stands behind the place of a piece that is not the first of its element.
 MORE = "more"
+# What stands behind the place of elements that were taken together.
+COMMON = "common"
 TOO_DEEP = f"elements nest deeper than {DEPTH}"
 
 # So many shapes are kept for the elements that are to come, and only those with so few tags.
@@ -33,8 +35,9 @@ class Reading:
 
     `pieces` has the places of those that come in pieces if they are long, each with how many elements are open in it
     where it is cut. Where none is, each piece may have the most bytes. The place of a later piece ends with MORE.
-    `quick` has a function for the elements of a place: it takes those of common forms that follow one which expat read
-    there, from data and a place in it, and answers the place behind them. None of them is noted here.
+    `quick` has what takes the elements of a place that are of common forms. Its `take` is given data and a place in it,
+    and answers what it took, or None, and the place behind. What it took is noted with COMMON behind its place, and has no
+    shape. Its `learn` is given what expat read there: an element's bytes, up to its end tag, and its shape.
     """
 
     def __init__(self, root, wanted, most, passed, pieces, quick):
@@ -81,7 +84,10 @@ class Reading:
         return self.parser.CurrentLineNumber + self.lines_passed
 
     def taken(self):
-        """The wanted elements that ended since this was asked before: of each its place, its shape and its texts."""
+        """The wanted elements that ended since this was asked before: of each its place, its shape and its texts.
+
+        Those that were taken together have no shape, and are what took them answered.
+        """
         done, self.done = self.done, []
         return done
 
@@ -146,25 +152,30 @@ class Reading:
         self.fed += len(piece)
 
     def read_repeats(self, data, at):
-        """Reads the elements that repeat others. Answers the place behind them."""
+        """Reads the elements of common forms, and those that repeat others. Answers the place behind them."""
         quick = self.quick.get(self.wanted_place)
-        # What was noted comes before what is taken now.
-        if quick and not self.done:
-            behind = quick(data, at)
-            self.lines_passed += data.count(b"\n", at, behind)
-            at = behind
         while True:
-            begin = data.find(b"<", at)
-            if not data.startswith(self.start_tag, begin) or data[at:begin].strip(b"\n "):
+            begin = at
+            if quick is not None:
+                taken, at = quick.take(data, at)
+                if taken is not None:
+                    self.done.append(((*self.wanted_place, COMMON), None, taken))
+            at = self.read_repeat(data, at)
+            if at == begin:
                 return at
-            end = data.find(self.end_tag, begin)
-            found = self.repeats.find(data[begin:end]) if end > 0 else None
-            if found is None:
-                return at
-            self.done.append((self.wanted_place, *found))
-            end += len(self.end_tag)
-            self.lines_passed += data.count(b"\n", at, end)
-            at = end
+            self.lines_passed += data.count(b"\n", begin, at)
+
+    def read_repeat(self, data, at):
+        """Reads an element that repeats another one. Answers the place behind it, or `at` if there is none."""
+        begin = data.find(b"<", at)
+        if not data.startswith(self.start_tag, begin) or data[at:begin].strip(b"\n "):
+            return at
+        end = data.find(self.end_tag, begin)
+        found = self.repeats.find(data[begin:end]) if end > 0 else None
+        if found is None:
+            return at
+        self.done.append((self.wanted_place, *found))
+        return end + len(self.end_tag)
 
     def start_outside(self, name, _attributes):
         if self.depth == DEPTH:
@@ -246,12 +257,18 @@ class Reading:
         name, shape = self.place.pop(), self.shape()
         self.done.append((self.piece_place(), shape, self.texts))
         if self.begun >= self.fed and self.first_texts is None:
-            self.repeats.learn(self.piece[self.begun - self.fed : ends - self.fed], shape)
+            self.learn(self.piece[self.begun - self.fed : ends - self.fed], shape)
         self.start_tag, self.end_tag = f"<{name}>".encode(), f"</{name}>".encode()
         self.is_between = ends + len(self.end_tag) == self.fed + len(self.piece)
         self.begun = None
         self.parser.StartElementHandler = self.start_outside
         self.parser.EndElementHandler = self.end_outside
+
+    def learn(self, element, shape):
+        """Takes the bytes of an element, up to its end tag, with the shape that expat found."""
+        self.repeats.learn(element, shape)
+        if self.wanted_place in self.quick:
+            self.quick[self.wanted_place].learn(element, shape)
 
     def shape(self):
         """The shape of the wanted element. Small ones are kept, but not very many."""

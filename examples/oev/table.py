@@ -58,6 +58,10 @@ class Table:
             self.add(name)
         return self.names.get(name, name)
 
+    def full_name(self, name):
+        """The name of the cluster for one that the program has."""
+        return self.full[number_of(name[len(MARK) :])] if name.startswith(MARK) else name
+
     def short_path(self, path):
         """The path that the program has for a path."""
         return "/".join(map(self.short, path.split("/")))

@@ -3,7 +3,6 @@ from array import array
 from itertools import chain
 
 from formats import Block
-from inodes import DIRECTORY
 
 CHANGES_OF_FILES = {"OP_ADD_BLOCK", "OP_UPDATE_BLOCKS", "OP_CLOSE", "OP_APPEND"}
 
@@ -118,18 +117,6 @@ def unpacked(file):
 
 def is_packed(node):
     return isinstance(node, (bytes, int))
-
-
-def tree_of_dump(dump):
-    """The tree of the names in a dump of an image, whose files are the rows of its inodes."""
-    inodes = dump.inodes
-    tree = Tree(inodes)
-    directories = {row: {} for row, kind in enumerate(inodes.kinds) if kind == DIRECTORY}
-    directories[dump.root] = tree.root
-    for row, directory in directories.items():
-        for child in dump.all_below(row):
-            directory[inodes.name(child).decode()] = directories.get(child, child)
-    return tree
 
 
 def is_directory(node):

@@ -1,0 +1,111 @@
+"""What a log goes on from in an audit: the first image, or the one that a chain keeps."""
+import contextlib
+import json
+from itertools import chain
+
+from bare import BLOCKS_OF
+from chain import Link
+from checkpoint import give_image, low_number, numbers_of, pieces_of, read_image
+from formats import Image, Refused, image_directory, image_end, image_file, image_header, image_line
+from kept import Kept
+from listed import ListedTree
+from proved import chunks_of
+from told import lines_in
+
+
+class FirstImage:
+    """The first image of a chain, which is taken on trust."""
+
+    def __init__(self, name, table, opened):
+        self.name = name
+        self.dump, contradiction = read_image(name, table, opened)
+        self.check(contradiction or self.dump.low_inode or low_number(self.dump))
+        self.link = Link(self.dump.txid, self.dump.txid, 0, self.dump.cluster, {})
+
+    def check(self, contradiction):
+        if contradiction is not None:
+            raise Refused(f"{self.name} contradicts itself: {contradiction}")
+
+    def header(self):
+        last_block, last_gen, txid = numbers_of(self.dump)
+        return json.loads(image_header(last_block, last_gen, self.dump.awaiting(), txid))
+
+    def give(self, write, last_gen):
+        """Writes the image, with a last stamp that is at least this."""
+        self.check(give_image(self.dump, self.name, write, last_gen))
+        self.link = self.link._replace(bare=dict(sorted(self.dump.bare_kinds.items())))
+
+    def lines(self):
+        return lines_in(pieces_of(self.dump))
+
+    def tree(self):
+        return tree_over(self.dump, self.link)
+
+
+class KeptImage:
+    """The image that a chain keeps, in its state: in a file, from a place on."""
+
+    def __init__(self, link, name, place, table):
+        self.link = link
+        self.name = name
+        self.place = place
+        self.table = table
+        # The names that are short in the file. The table may get more.
+        self.names = set(link.names)
+
+    @contextlib.contextmanager
+    def open(self):
+        with open(self.name, "rb") as file:
+            file.seek(self.place)
+            yield file
+
+    def header(self):
+        with self.open() as file:
+            return json.loads(file.readline())
+
+    def give(self, write, last_gen):
+        """Writes the image, with a last stamp that is at least this."""
+        header = self.header()
+        header["last_gen"] = max(last_gen, header["last_gen"])
+        write(image_line(header))
+        for piece in self.pieces():
+            write(piece)
+        if self.has_grown():
+            bare = {self.table.short_again(path): kind for path, kind in self.link.bare.items()}
+            self.link = self.link._replace(bare=bare)
+
+    def has_grown(self):
+        return len(self.names) < len(self.table.names)
+
+    def pieces(self):
+        """The image behind its header, by the names that the table has now."""
+        with self.open() as file:
+            if not self.has_grown():
+                file.readline()
+                yield from chunks_of(file)
+                return
+            rows = [row._replace(path=self.table.short_again(row.path)) for row in Image(file).rows()]
+        for row in sorted(rows, key=lambda row: row.path.encode().split(b"/")):
+            path, replication, closed, blocks = row
+            yield image_directory(path) if blocks is None else image_file(path, replication, closed, blocks)
+        yield image_end(len(rows))
+
+    def lines(self):
+        return lines_in(chain([image_line(self.header())], self.pieces()))
+
+    def tree(self):
+        with self.open() as file:
+            file.readline()
+            return tree_over(Kept(file, self.name_in_file), self.link)
+
+    def name_in_file(self, name):
+        full = self.table.full_name(name)
+        return name if full in self.names else full
+
+
+def tree_over(image, link):
+    """The tree of the names in an image whose inodes lie in arrays, with the bare files of a link."""
+    tree = ListedTree(image)
+    for path, kind in link.bare.items():
+        tree.find_file(path).blocks = BLOCKS_OF[kind]
+    return tree

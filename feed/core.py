@@ -18,6 +18,7 @@ from collections import Counter, deque
 from typing import NamedTuple
 
 from datanodes import DataNodes
+from figures import figures
 from following import Log
 from keeping import Checkpoints, Keeping
 from program import NO_LINES, Exchange, Program, Unknown
@@ -36,6 +37,7 @@ class Settings(NamedTuple):
     poll: float  # the folder is looked at each so many seconds
     suffix: str  # of the segments that are followed
     has_each: bool  # whether each transaction has a line
+    hides_orders: bool = False  # whether snapshots are passed over, so that no delete order is shown
 
 
 class Core:
@@ -165,6 +167,8 @@ class Core:
         is_refused = self.is_stopping or self.ending is not None or self.program.status is None
         if kind == "health":
             self.health(who)
+        elif kind == "figures":
+            self.reply(who, 200, **figures(self))
         elif kind in ("promote", "epoch") and self.ending is None and not self.is_stopping:
             self.name(who, kind, body)
         elif is_refused:
@@ -175,8 +179,23 @@ class Core:
             self.look_at_end()
         elif kind == "report":
             self.datanodes.report(who, body)
+        elif kind == "tables":
+            self.tables(who)
         else:
             self.datanodes.heartbeat(who, body)
+
+    def tables(self, who):
+        """The tables go to a file: the program waits for nobody who reads slowly."""
+
+        def given(answer):
+            if answer.fault is None:
+                self.reply(who, 200, txid=self.log.reached.txid, file="tables", hides_orders=self.settings.hides_orders)
+            else:
+                self.reply(who, 503, code="no_room", fault=answer.fault)
+
+        exchange = Exchange(lambda: NO_LINES, given, b"tables")
+        exchange.file = "tables"
+        self.program.ask(exchange)
 
     def name(self, who, kind, body):
         """An epoch counts from when it is named, also where the image is still loaded."""

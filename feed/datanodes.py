@@ -71,11 +71,12 @@ class DataNodes:
 
     def full_report(self, dn):
         """What the program has of a DataNode's full report, and when another one is asked for."""
-        status = self.core.program.status
-        if dn in status.full:
+        has = self.core.program.full_report(dn)
+        if has == "none":
+            return self.asks(dn)
+        if has == "taken":
             self.asked.pop(dn, None)
-            return {"full_report": "taken"}
-        return {"full_report": "open"} if dn in status.open else self.asks(dn)
+        return {"full_report": has}
 
     def asks(self, dn):
         """Asks for a full report, where not too many are on their way."""

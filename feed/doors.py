@@ -15,6 +15,8 @@ from collections import Counter
 from typing import NamedTuple
 
 from bodies import BadBody, epoch_in, heartbeat_in, nothing_in, promotion_in, report_in
+from metrics import metrics
+from page import page
 
 BODY_BYTES, HEAD_BYTES, HEADERS = 16_777_216, 65_536, 100
 # A longer body is read by a thread of its own.
@@ -57,7 +59,7 @@ class Route(NamedTuple):
     kind: str  # the core's name of the request
     places: str
     body: object  # reads the body; None: it has none
-    show: object = None  # makes the answer's type and body of the core's value; None: JSON
+    show: object = None  # makes the answer's type, its body and the file behind that of the core's value; None: JSON
 
 
 class Places:
@@ -160,7 +162,7 @@ class Connection:
         self.stage, self.since = "idle", clock()
         self.route = self.request = None
         self.places = None
-        self.left = b""
+        self.left, self.source = b"", None
 
     # ---- Reading. Only the watching thread does.
 
@@ -252,23 +254,28 @@ class Connection:
     # ---- Answers. The hands give them.
 
     def answer(self, status, value):
-        kind, body = self.route.show(value) if self.route.show and status == 200 else (JSON, to_bytes(value))
+        if status == 200 and self.route.kind == "figures":
+            value["refused"] = dict(Counter(value["refused"]) + self.doors.refused)
+        kind, body, source = self.route.show(value) if self.route.show and status == 200 else (JSON, to_bytes(value), None)
         with self.lock:
             if self.stage == "asked":
-                self.begin_answer(status, kind, body)
+                self.begin_answer(status, kind, body, source)
+            elif source is not None:
+                source.close()
 
-    def begin_answer(self, status, kind, body, is_last=False, more=""):
+    def begin_answer(self, status, kind, body, source=None, is_last=False):
         is_last = is_last or self.request is None or not self.request.keeps
         again = "Retry-After: 1\r\n" if status == 503 else ""
-        head = f"HTTP/1.1 {status} {REASONS.get(status, '')}\r\nContent-Type: {kind}\r\nContent-Length: {len(body)}\r\n{again}{more}{SAFE}"
+        size = len(body) + (os.fstat(source.fileno()).st_size - source.tell() if source else 0)
+        head = f"HTTP/1.1 {status} {REASONS.get(status, '')}\r\nContent-Type: {kind}\r\nContent-Length: {size}\r\n{again}{SAFE}"
         head += "Connection: close\r\n\r\n" if is_last else "\r\n"
         self.stage, self.since, self.is_last = "writing", clock(), is_last
-        self.left = head.encode() + body
+        self.left, self.source = head.encode() + body, source
         self.write()
 
     def write(self):
         try:
-            while self.left:
+            while self.left or self.fill():
                 self.left = self.left[self.socket.send(self.left) :]
         except BlockingIOError:
             self.doors.epoll.modify(self.descriptor, WRITABLE)
@@ -277,6 +284,11 @@ class Connection:
             self.close()
             return
         self.leave()
+
+    def fill(self):
+        """Takes more of the answer from its file. Answers whether there was more."""
+        self.left = self.source.read(CHUNK_BYTES) if self.source else b""
+        return bool(self.left)
 
     def leave(self):
         """The answer is out."""
@@ -342,6 +354,8 @@ class Connection:
         if self.stage == "closed":
             return
         self.stage = "closed"
+        if self.source is not None:
+            self.source.close()
         self.give_place_back()
         self.doors.connections.pop(self.descriptor, None)
         self.socket.close()
@@ -419,17 +433,35 @@ def to_bytes(value):
     return json.dumps(value).encode() + b"\n"
 
 
+def show_tables(value):
+    """The program's tables, with the cluster's TXID in their first line, and without orders where none is shown."""
+    source = value["file"]
+    source.seek(0)
+    source.readline()
+    body = b"txid %d\n" % value["txid"]
+    if not value["hides_orders"]:
+        return TEXT, body, source
+    with source:
+        return TEXT, body + b"".join(line for line in source if not line.startswith(b"order ")), None
+
+
 HEALTH = Route("health", "scrapes", None)
+FIGURES = Route("figures", "scrapes", None, lambda value: (METRICS, metrics(value), None))
 REPORT_ROUTES = {
     ("POST", "/report"): Route("report", "reports", report_in),
     ("POST", "/heartbeat"): Route("heartbeat", "reports", heartbeat_in),
     ("GET", "/health"): HEALTH,
+    ("GET", "/metrics"): FIGURES,
 }
 OPERATOR_ROUTES = {
     ("POST", "/promote"): Route("promote", "operators", promotion_in),
     ("POST", "/epoch"): Route("epoch", "operators", epoch_in),
     ("POST", "/stop"): Route("stop", "operators", nothing_in),
     ("GET", "/health"): HEALTH._replace(places="operators"),
+    ("GET", "/metrics"): FIGURES._replace(places="operators"),
+    ("GET", "/status"): Route("figures", "operators", None),
+    ("GET", "/tables"): Route("tables", "operators", None, show_tables),
+    ("GET", "/"): Route("figures", "operators", None, lambda value: (HTML, page(value), None)),
 }
 
 

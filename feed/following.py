@@ -51,8 +51,11 @@ class Log:
         self.name: Optional[str] = None
         self.pieces = deque()
         self.file: Optional[Taken] = None
-        # When there was a new segment last, and a new transaction.
+        # When there was a new segment last, and a new transaction; and since when the log is behind what was seen.
         self.grown_at = self.applied_at = core.now
+        self.behind_at: Optional[float] = None
+        # The TXID at which the log is stopped.
+        self.stop: Optional[int] = None
 
     def begin_looks(self):
         self.fault: Optional[str] = "it was not looked at"
@@ -117,6 +120,7 @@ class Log:
         seen = max((it.named.last for it in self.found.values() if it.is_begun), default=0)
         if seen > self.core.keeping.kept.seen:
             self.grown_at = self.core.now
+            self.behind_at = self.core.now if self.behind_at is None else self.behind_at
             self.core.keeping.change(seen=seen)
 
     # ---- Segments.
@@ -206,6 +210,9 @@ class Log:
             self.reach(piece.end)
             self.send_piece()
             return
+        stop = self.core.program.status.stop
+        if stop:
+            self.stop = piece.txid(stop[1] - piece.first)
         if number > self.reached.number:
             # The log is stopped inside the piece.
             self.reach(Place(number, piece.txid(number - piece.first)))
@@ -216,8 +223,14 @@ class Log:
         self.reached = place
         self.applied_at = self.core.now
         self.waits = None
+        if place.txid >= self.core.keeping.kept.seen:
+            self.behind_at = None
         self.core.promotions.advanced()
         self.core.checkpoints.tick()
+
+    def stopped_txid(self, number):
+        """The TXID of the transaction that stopped the log."""
+        return self.reached.txid + number - self.reached.number if self.stop is None else self.stop
 
 
 def place_of(fault, piece, first):

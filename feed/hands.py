@@ -173,8 +173,9 @@ class Hands:
         self.is_watching = False
         self.exchanges = queue.SimpleQueue()
         self.looks, self.reads, self.files = Worker(), Worker(), Worker()
-        # The images that are being written, by name. When a byte moved last.
+        # The images that are being written, by name; the file of another long answer. When a byte moved last.
         self.writing = {}
+        self.long = None
         self.moved_at = now
         self.status = None
         self.actions = {
@@ -184,7 +185,7 @@ class Hands:
             "save": self.save,
             "finish": self.finish,
             "remove": self.remove,
-            "reply": lambda who, status, value: who.answer(status, value),
+            "reply": self.reply,
             "tell": teller.tell,
             "kill": process.kill,
             "end": self.end,
@@ -277,6 +278,11 @@ class Hands:
     def remove(self, name):
         self.files.do(lambda: self.put("removed", name, fault_of(lambda: self.store.remove(name))))
 
+    def reply(self, who, status, value):
+        if "file" in value:
+            value["file"], self.long = self.long, None
+        who.answer(status, value)
+
     def end(self, status):
         self.status = status
 
@@ -311,7 +317,8 @@ class Hands:
         if name.startswith("fsimage_"):
             self.writing[name] = self.store.begin(name)
             return self.writing[name]
-        return tempfile.TemporaryFile()
+        self.long = tempfile.TemporaryFile()
+        return self.long
 
 
 class Answer:
@@ -372,25 +379,6 @@ def fault_of(work):
     except Damaged as fault:
         return str(fault)
     return None
-
-
-class Waiter:
-    """A request that waits for its answer, in a thread of its own."""
-
-    __slots__ = ("lock", "status", "value")
-
-    def __init__(self):
-        self.lock = threading.Lock()
-        self.lock.acquire()
-        self.status = self.value = None
-
-    def answer(self, status, value):
-        self.status, self.value = status, value
-        self.lock.release()
-
-    def wait(self, seconds):
-        """Answers whether there is an answer."""
-        return self.lock.acquire(timeout=seconds)
 
 
 def new_instance():

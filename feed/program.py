@@ -133,6 +133,10 @@ class Program:
             self.status = status_of(answer.lines)
         exchange.then(answer)
 
+    def full_report(self, dn):
+        """What the program has of a DataNode's full report."""
+        return "taken" if dn in self.status.full else "open" if dn in self.status.open else "none"
+
     def forget_full(self, dn):
         """What is being asked takes the full report of a DataNode."""
         self.status = self.status._replace(full=self.status.full - {dn}, open=self.status.open - {dn})

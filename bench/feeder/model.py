@@ -129,7 +129,8 @@ class Session:
                 self.lanes["disk"].append(action)
             elif kind == "kill":
                 self.is_killed = True
-                if self.hung_since is None or self.now - self.hung_since - self.hung_paused < 60 - 2 * SLACK:
+                # One that goes on at this moment has hung until now.
+                if self.hung_at != self.now and (self.hung_since is None or self.now - self.hung_since - self.hung_paused < 60 - 2 * SLACK):
                     raise Broken("a program is killed that hung for less than a minute")
             elif kind == "end":
                 self.judge_end(action[1])

@@ -3,6 +3,7 @@
 A fault has a name (`== NAME`), a file, lines that stand there once (`-`), and what stands there with the fault (`+`).
 """
 import os
+import re
 from typing import Iterator, NamedTuple
 
 from modules import source
@@ -30,7 +31,7 @@ class Fault(NamedTuple):
 
 def faults() -> Iterator[Fault]:
     with open(FAULTS, encoding="utf-8") as file:
-        blocks = file.read().split("== ")[1:]
+        blocks = re.split(r"^== ", file.read(), flags=re.M)[1:]
     for block in blocks:
         name, path, *rows = block.rstrip("\n").split("\n")
         old, new = ("".join(f"{row[1:]}\n" for row in rows if row.startswith(sign)) for sign in "-+")

@@ -18,7 +18,7 @@ from collections import Counter, deque
 from typing import NamedTuple
 
 from datanodes import DataNodes
-from figures import figures
+from figures import NO_ORDERS, figures
 from following import Log
 from keeping import Checkpoints, Keeping
 from program import NO_LINES, Exchange, Program, Unknown
@@ -66,6 +66,8 @@ class Core:
         if self.program.status.number != self.log.reached.number:
             self.end(1, f"the program begins at number {self.program.status.number}, and {self.log.reached.number} is due")
         self.tell(f"goes on from TXID {self.log.reached.txid}")
+        if self.settings.hides_orders:
+            self.tell(NO_ORDERS)
         self.checkpoints.remove_old()
         self.log.tick()
 

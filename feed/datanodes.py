@@ -58,7 +58,7 @@ class DataNodes:
 
     def gone_answered(self, answer, dn):
         for fault in answer.faults:
-            self.core.count_fault(fault, f"DataNode {dn}")
+            self.core.count_fault(fault, f"(DataNode {dn})")
 
     def door_was_full(self):
         """A request was sent away: that second counts for nobody."""

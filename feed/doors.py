@@ -24,6 +24,8 @@ LONG_BODY = 262_144
 CHUNK_BYTES = 262_144
 # For a request to come whole, for a connection between requests, and for an answer that waits to be read.
 REQUEST_SECONDS, IDLE_SECONDS, ANSWER_SECONDS = 60, 30, 60
+# A caller that was sent away may send so much longer.
+DRAIN_SECONDS = 5
 REPORTS, SCRAPES, OPERATORS = 256, 4, 8
 CONNECTIONS = 4096
 
@@ -152,7 +154,8 @@ class Connection:
         if connection.family != socket.AF_UNIX:
             connection.setsockopt(socket.IPPROTO_TCP, socket.TCP_NODELAY, 1)
         self.descriptor = connection.fileno()
-        self.lock = threading.Lock()
+        # It may be answered while it is read.
+        self.lock = threading.RLock()
         self.data = b""
         self.parts, self.missing = [], 0
         self.begin_idle()
@@ -171,6 +174,8 @@ class Connection:
         with self.lock:
             if self.stage == "writing":
                 self.write()
+            elif self.stage == "closing":
+                self.drain()
             elif self.stage in ("idle", "reading"):
                 self.read()
 
@@ -324,6 +329,7 @@ class Connection:
         self.stage, self.since = "closing", clock()
         try:
             self.socket.shutdown(socket.SHUT_WR)
+            self.await_more()
         except OSError:
             self.close()
 
@@ -336,16 +342,14 @@ class Connection:
                 self.refuse(Refused(408, "the request did not come whole within a minute"))
             elif self.stage == "writing" and waited > ANSWER_SECONDS:
                 self.close()
-            elif self.stage == "closing":
-                self.drain(waited)
+            elif self.stage == "closing" and waited > DRAIN_SECONDS:
+                self.close()
 
-    def drain(self, waited):
+    def drain(self):
         try:
-            while self.socket.recv(CHUNK_BYTES):
-                pass
-            self.close()
-        except BlockingIOError:
-            if waited > 2:
+            if self.socket.recv(CHUNK_BYTES):
+                self.await_more()
+            else:
                 self.close()
         except OSError:
             self.close()

@@ -68,6 +68,7 @@ def of_program(core):
     return {
         "version": words["version"][0],
         "stopped": stopped(core, status.stop),
+        "segments": int(words["segments"][0]),
         "held": int(words["held"][0]),
         "blocks": {"total": total, "safe": safe, "needed": needed},
         "safe_mode": words.get("blocks", ["off"])[-1] == "on",

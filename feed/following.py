@@ -127,7 +127,7 @@ class Log:
 
     def follow(self):
         """Reads the segment that is next, if it is there and nothing else is under way."""
-        if self.name is not None or not self.core.is_standby() or self.core.is_stopping:
+        if self.name is not None or self.done == 0 or not self.core.is_standby() or self.core.is_stopping:
             return
         following = [it for it in self.found.values() if self.is_next(it)]
         for it in sorted(following, key=lambda found: found.named):
@@ -204,8 +204,9 @@ class Log:
     def piece_answered(self, answer):
         piece = self.pieces.popleft()
         number = self.core.program.status.number
-        for fault in answer.faults:
-            self.core.count_fault(fault, f"in {self.name}: {place_of(fault, piece, answer.first)}")
+        places = [place_of(fault, piece, answer.first) for fault in answer.faults]
+        for fault, place in zip(answer.faults, places):
+            self.core.count_fault(fault, f"{place} ({self.name})")
         if number == piece.end.number:
             self.reach(piece.end)
             self.send_piece()
@@ -216,7 +217,7 @@ class Log:
         if number > self.reached.number:
             # The log is stopped inside the piece.
             self.reach(Place(number, piece.txid(number - piece.first)))
-        faults = ", ".join(" ".join(fault) for fault in answer.faults)
+        faults = ", ".join(f"fault {fault[1]} {place}" for fault, place in zip(answer.faults, places))
         self.refuse(self.name, self.file.key, f": {faults}" if faults else "")
 
     def reach(self, place):

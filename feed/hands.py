@@ -242,7 +242,8 @@ class Hands:
         self.core.loaded(self.process.loaded())
         self.core.tick()
         self.act()
-        if self.process.process.poll() is not None:
+        if self.process.process.poll() is not None and self.core.program.under_way is None:
+            # Else its reader tells what it said last.
             self.core.end(1, f"the program ended with status {self.process.process.returncode}")
             self.act()
 

@@ -134,7 +134,7 @@ class Promotions:
     def answered(self, answer):
         wanted = self.current
         for fault in answer.faults:
-            self.core.count_fault(fault, f"the promotion at TXID {wanted.txid}")
+            self.core.count_fault(fault, f"(the promotion at TXID {wanted.txid})")
         if answer.faults:
             self.refuse(409, self.code(answer.faults[0]), fault=int(answer.faults[0][1]))
         else:

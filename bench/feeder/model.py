@@ -16,6 +16,8 @@ from worlds import END, HEADER, Room, Segments, Trouble, line, progress_name, se
 
 EVERY, KEEP, GONE, PIECE_BYTES = 8, 2, 12, 420
 STEADY = 9
+# So many seconds behind the last fault all is known that is there.
+KNOWN_WITHIN = 9
 STEPS = 120
 # How late what the world sees may be: a tick, and what a lane holds back.
 SLACK = 3
@@ -81,6 +83,8 @@ class Session:
         # Since when the program hangs, how much of that all stood still, and when it hung last.
         self.hung_since, self.hung_paused, self.hung_at, self.is_killed, self.is_ended = None, 0.0, None, False, False
         self.heard = {}
+        # Until when a mount hangs, by its lane.
+        self.stuck = {}
         start, image = self.started()
         self.program = Built(self.program_path, image) if self.program_path else ByDefinition(image)
         self.trouble.is_on = True
@@ -140,12 +144,16 @@ class Session:
     def deliver(self, part=1.0):
         """Carries out some of what waits, lane by lane in order, the lanes in any."""
         for _ in range(60):
-            ready = [name for name, lane in self.lanes.items() if lane and not (name == "program" and self.hung_since is not None)]
+            ready = [name for name, lane in self.lanes.items() if lane and self.is_moving(name)]
             if not ready or self.is_ended or (part < 1 and self.random.random() > part):
                 return
             name = self.random.choice(ready)
             self.carry_out(name, self.lanes[name].pop(0))
             self.act()
+
+    def is_moving(self, lane):
+        """Whether a lane does not hang: the program, or a mount."""
+        return self.hung_since is None if lane == "program" else self.now >= self.stuck.get(lane, 0)
 
     def let_program_answer(self):
         """A program that does not hang answers within the step."""
@@ -389,7 +397,7 @@ class Session:
         reached = self.core.log.reached.txid
         body = {"txid": max(0, reached + self.random.choice([0, 0, 0, 0, 1, -1, 4])), "within": self.random.choice([0, 0, 0, 8, 20])}
         body["epoch"] = self.random.choice([0, self.epoch, self.epoch, self.epoch + 1, max(0, self.epoch - 1)])
-        self.request("promote", lost=self.random.random() < 0.2, **body)
+        self.request("promote", lost=self.random.random() < 0.3, **body)
 
     # ---- What the cluster does.
 
@@ -454,6 +462,8 @@ class Session:
             self.start()
         elif self.is_quiet and chosen > 0.3:
             pass
+        elif self.listener.is_active and self.random.random() < 0.1:
+            self.die()
         else:
             self.happen(chosen)
         if self.is_ended:
@@ -520,6 +530,8 @@ class Session:
             self.room.bytes = self.random.choice([900, 1500, 4000, 100_000])
         elif chosen < 0.89:
             self.flip()
+        elif chosen < 0.91:
+            self.stuck[self.random.choice(["list", "read", "disk"])] = self.now + self.random.choice([3, 9, 20])
 
     def remove_newest(self):
         names = [name for name in self.segments.files if "inprogress" not in name]
@@ -551,9 +563,10 @@ class Session:
         self.now += length
         # A short one can't be told from a late tick.
         self.hung_paused += length if length > 5 else 0
-        self.heard[STEADY] = self.now
         self.pauses = (*self.pauses, (self.now, length))
-        self.request("heartbeat", dn=STEADY) if self.random.random() < 0.5 else None
+        if self.random.random() < 0.5:
+            self.heard[STEADY] = self.now
+            self.request("heartbeat", dn=STEADY)
 
     def flip(self):
         """A byte of a file on the disk is another one, and the feeder starts again."""
@@ -596,7 +609,8 @@ class Session:
             name, data = self.removed
             if name not in self.segments.files and self.given_up.get(name) != data and f"/h{self.history}-".encode() in data:
                 self.segments.put(name, data)
-        for _ in range(GONE + 20):
+        self.stuck = {}
+        for at in range(GONE + 20):
             self.now += 1
             if self.is_ended:
                 self.start()
@@ -604,8 +618,14 @@ class Session:
             self.beat()
             self.tick()
             self.deliver()
+            if at == KNOWN_WITHIN and not self.is_ended:
+                self.ever = max(self.ever, self.is_in_order() * self.greatest(self.visible(), True))
+                self.request("health")
         self.request("health") if not self.is_ended else None
         self.judge_rest()
+
+    def visible(self):
+        return {name: file.data for name, file in self.segments.files.items()}
 
     def judge_rest(self):
         if [kind for kind, body, then in self.asked.values() if kind != "health"] and not self.is_ended:

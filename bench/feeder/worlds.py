@@ -53,8 +53,12 @@ class Segments:
     def put(self, name, data):
         """A new file under a name. A file that is there is replaced."""
         self.inode += 1
-        self.changed = self.clock()
+        self.touch()
         self.files[name] = File(data, self.inode, self.clock())
+
+    def touch(self):
+        """The folder's time is of whole seconds, so two changes may have one."""
+        self.changed = float(int(self.clock()))
 
     def grow(self, name, data):
         """The same file has more: its folder does not change."""
@@ -62,7 +66,7 @@ class Segments:
 
     def drop(self, name):
         if self.files.pop(name, None):
-            self.changed = self.clock()
+            self.touch()
 
     def hide(self, is_hidden):
         """Another file system is mounted over the folder, or no more."""

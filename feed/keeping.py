@@ -53,10 +53,9 @@ class Keeping:
     # ---- Epochs.
 
     def name_epoch(self, epoch):
-        """Someone may be promoted in it. It is never lower again, and the program hears it, whatever becomes of who asked."""
+        """Someone may be promoted in it. It is never lower again, and the program hears it before all else that it is asked."""
         if epoch > self.kept.epoch:
             self.change(epoch=epoch)
-        self.core.program.say()
 
     def has_epoch(self, epoch):
         return self.safe is not None and self.safe.epoch >= epoch or epoch == 0

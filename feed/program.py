@@ -114,14 +114,6 @@ class Program:
         self.said_epoch, self.said_seen = max(self.said_epoch, epoch), max(self.said_seen, seen)
         return words
 
-    def say(self):
-        """Says at once what the program has to know."""
-
-        def make():
-            return NO_LINES if self.core.keeping.kept.epoch > self.said_epoch else None
-
-        self.ask(Exchange(make, lambda answer: None), is_first=True)
-
     # ---- What it answers.
 
     def answered(self, data, fault):

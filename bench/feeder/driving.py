@@ -98,7 +98,7 @@ class Feed:
     """A feeder on the loopback, whose port is a free one."""
 
     def __init__(self, place, *arguments):
-        self.place = place
+        self.place, self.child = place, None
         self.errors = open(os.path.join(place.folder, f"errors-{place.started}"), "w+")
         place.started += 1
         command = [sys.executable, FEED, place.edits, place.checkpoints]
@@ -111,7 +111,6 @@ class Feed:
         self.address = self.process.stdout.readline().strip()
         timer.cancel()
         self.port = int(self.address.rpartition(":")[2].strip("/")) if self.address else None
-        self.child = None
         if self.address:
             until("it is loaded", self.is_loaded)
             self.child = child_of(self.process.pid)

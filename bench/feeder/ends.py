@@ -149,7 +149,7 @@ def check_stop(tally, place):
     tally.same("the log is stopped", got, ("stopped", {"fault": 22, "txid": 10}, 9, 9))
     tally.same("a report is refused", feed.report(report(1, 0)), (409, 0, [51]))
     tally.same("so is a promotion", feed.promote(9, lost=True), (409, "stopped"))
-    tally.same("and it is not healthy", json.loads(feed.ask("GET", "/health")[1])["reason"], "stopped")
+    until("it is not healthy", lambda: json.loads(feed.ask("GET", "/health")[1]).get("reason") == "stopped")
     tally.contains("the tables are there", feed.tables(), 'txid 9\ndir "/"\ndir "/a"\n')
 
 
@@ -415,7 +415,7 @@ def check_arguments(tally, place):
 
 
 # An idle machine takes a tenth of it.
-LIMIT_SECONDS = 150
+LIMIT_SECONDS = 300
 
 PARTS = [
     check_arguments,

@@ -200,7 +200,6 @@ class Session:
                 self.store.replace(name, data)
             elif kind == "finish":
                 self.writing.pop(name).finish(data)
-                self.images.add(hashlib.sha256(self.room.files[name]).digest())
             else:
                 self.store.remove(name)
         except OSError as reason:
@@ -229,6 +228,7 @@ class Session:
 
     def give(self, name, image):
         """A long answer goes to its file."""
+        self.images.add(hashlib.sha256(image).digest())
         try:
             self.writing[name] = self.store.begin(name)
             self.writing[name].write(image)

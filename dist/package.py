@@ -27,7 +27,7 @@ COMMANDS = {
     "zulurowan-watch": "examples/oev/watch",
     "zulurowan-replicas": "examples/oev/replicas",
     "zulurowan-follow": "examples/oev/follow",
-    "zulurowan-feed": "examples/live/feed",
+    "zulurowan-feed": "feed/zulurowan-feed",
 }
 OPTION = re.compile(r" +(?:(-\w), )?(--[\w-]+)(?: <?([^\s<>]+)>?)?(?: {2,}(.*))?")
 ARGUMENT = re.compile(r"  ([A-Z]+)(?: {2,}(.*))?")

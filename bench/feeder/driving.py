@@ -97,13 +97,15 @@ OF_REPORTS = ("/report", "/heartbeat", "/health")
 class Feed:
     """A feeder on the loopback, whose port is a free one."""
 
+    # Another feeder than that of this repository, and other surroundings.
+    program_of_feed = environment = None
+
     def __init__(self, place, *arguments):
         self.place, self.child = place, None
         self.errors = open(os.path.join(place.folder, f"errors-{place.started}"), "w+")
         place.started += 1
-        command = [sys.executable, FEED, place.edits, place.checkpoints]
-        command += ["--program", place.program, "--poll", str(PAUSE), *arguments]
-        self.process = subprocess.Popen(command, stdout=subprocess.PIPE, stderr=self.errors, text=True)
+        command = self.command(place, *arguments)
+        self.process = subprocess.Popen(command, stdout=subprocess.PIPE, stderr=self.errors, text=True, env=self.environment)
         place.running.append(self)
         # A feed that says nothing is ended, and then its output ends.
         timer = threading.Timer(SECONDS, self.process.kill)
@@ -114,6 +116,10 @@ class Feed:
         if self.address:
             until("it is loaded", self.is_loaded)
             self.child = child_of(self.process.pid)
+
+    def command(self, place, *arguments):
+        words = [sys.executable, self.program_of_feed or FEED, place.edits, place.checkpoints]
+        return [*words, "--program", place.program, "--poll", str(PAUSE), *arguments]
 
     def is_loaded(self):
         try:

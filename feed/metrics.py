@@ -20,8 +20,10 @@ SINCE = {
 
 
 def metrics(figures: dict) -> bytes:
+    start = labels(version=figures.get("version", ""), instance=figures["instance"])
+    failures = {of: figures["failures"].get(of, 0) for of in ("look", "read", "checkpoint")}
     rows = [
-        ("info", "gauge", "The program's version, and the name of this start.", [(labels(version=figures.get("version", ""), instance=figures["instance"]), 1)]),
+        ("info", "gauge", "The program's version, and the name of this start.", [(start, 1)]),
         ("state", "gauge", "Whether the standby is in this state.", each("state", {state: int(figures["state"] == state) for state in STATES})),
         ("ill", "gauge", "Whether it can't be relied on for this reason.", each("reason", {ill: int(figures["ill"] == ill) for ill in ILLS})),
         ("txid", "gauge", "The TXID that was reached.", figures["txid"]),
@@ -32,7 +34,7 @@ def metrics(figures: dict) -> bytes:
         ("epoch", "gauge", "The greatest epoch that was named.", figures["epoch"]),
         ("checkpoint_txid", "gauge", "The TXID of the last checkpoint.", figures["checkpoint"]),
         *(row for name, about in SINCE.items() for row in since(name, about, figures["seconds"][name])),
-        ("failures_total", "counter", "Looks, reads and checkpoints that failed.", each("of", {of: figures["failures"].get(of, 0) for of in ("look", "read", "checkpoint")})),
+        ("failures_total", "counter", "Looks, reads and checkpoints that failed.", each("of", failures)),
         ("refused_total", "counter", "Requests that were refused, by their code.", each("code", {code: figures["refused"].get(code, 0) for code in CODES})),
         ("faults_total", "counter", "Fault lines that the program told.", each("fault", {fault: figures["faults"].get(str(fault), 0) for fault in FAULTS})),
         ("reports_total", "counter", "Reports that were taken.", figures["reports"]),

@@ -27,6 +27,8 @@ class Wanted:
         # The promotion that is kept beside the epoch, where something is given up.
         self.promotion: Optional[Promotion] = None
         self.before: Optional[Promotion] = None
+        # Whether it was sent to a standby, and not to a service that was active already.
+        self.is_first = True
 
 
 class Promotions:
@@ -122,6 +124,7 @@ class Promotions:
         if self.is_blind():
             self.refuse(409, "folder_unreadable")
             return None
+        wanted.is_first = self.core.is_standby()
         number = number_of_promotion(self.core.log.reached, wanted.txid)
         return Lines(b"promote %d epoch %d%s\n" % (number, wanted.epoch, b" lost" * wanted.is_lost), 1)
 
@@ -150,8 +153,8 @@ class Promotions:
         wanted, kept = self.current, self.core.keeping.kept
         given_up = wanted.promotion.given_up if wanted.promotion else {}
         promotion = Promotion(wanted.txid, wanted.epoch, True, given_up)
-        if kept.promotion is None or kept.promotion[:3] != promotion[:3]:
-            seen = wanted.txid if wanted.is_lost else kept.seen
+        if wanted.is_first or kept.promotion is None or kept.promotion[:3] != promotion[:3]:
+            seen = wanted.txid if wanted.is_lost and wanted.is_first else kept.seen
             self.core.keeping.change(promotion=promotion, seen=seen, given_up={**kept.given_up, **given_up})
             self.core.tell(f"promoted at TXID {wanted.txid} in epoch {wanted.epoch}")
         self.core.reply(wanted.who, 200, state=self.core.program.state, txid=wanted.txid, epoch=wanted.epoch)

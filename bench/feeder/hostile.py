@@ -221,7 +221,8 @@ def check_crowd(tally, feed):
 def check_kept_connection(tally, feed):
     """Several requests on one connection, and two at once."""
     text = json.dumps({"dn": 1}).encode()
-    one = f"POST /heartbeat HTTP/1.1\r\nHost: localhost:{feed.port}\r\nContent-Type: application/json\r\nContent-Length: {len(text)}\r\n\r\n".encode() + text
+    head = f"POST /heartbeat HTTP/1.1\r\nHost: localhost:{feed.port}\r\nContent-Type: application/json\r\n"
+    one = f"{head}Content-Length: {len(text)}\r\n\r\n".encode() + text
     with socket.create_connection(("127.0.0.1", feed.port), SECONDS) as connection:
         answers = connection.makefile("rb")
         for given, count in ((one, 1), (one + one, 2), (one[:30], 0), (one[30:] + one[:80], 1), (one[80:], 1)):

@@ -14,7 +14,7 @@ import re
 from programs import Built, ByDefinition, Listener
 from worlds import END, HEADER, Room, Segments, Trouble, line, progress_name, segment, segment_name
 
-EVERY, KEEP, GONE, PIECE_BYTES = 8, 2, 12, 420
+EVERY, KEEP, GONE, PIECE_BYTES = 8, 2, 15, 420
 STEADY = 9
 # So many seconds behind the last fault all is known that is there.
 KNOWN_WITHIN = 9
@@ -102,6 +102,7 @@ class Session:
             raise Broken("a changed image is taken")
         settings = feeder.core.Settings(EVERY, KEEP, GONE, 1, "", True)
         self.clear_given_up(kept)
+        self.most = max(self.most, kept.seen if kept else 0)
         after = feeder.state.after_restart(kept or feeder.state.Kept(), start.place.txid)
         self.store = store
         self.folder = feeder.folder.Folder("folder", self.segments)
@@ -286,7 +287,7 @@ class Session:
 
     def give_up(self, txid):
         """All above a TXID is given up: another log goes on there. What nobody was shown is taken away."""
-        self.ever = self.ever_shown = self.sure = txid
+        self.ever = self.ever_shown = self.sure = self.most = txid
         self.history += 1
         shown = self.shown if self.sent_looked >= min(then for _, then in self.sent) else {}
         given = dict(self.given_up)
@@ -468,8 +469,8 @@ class Session:
             self.happen(chosen)
         if self.is_ended:
             return
-        self.beat()
-        self.tick()
+        for work in self.random.choice([(self.beat, self.tick), (self.tick, self.beat)]):
+            work()
         self.deliver(0.9)
         self.let_program_answer()
         if not self.is_ended:
@@ -604,6 +605,7 @@ class Session:
         self.segments.hide(False)
         self.room.bytes = 10**6
         self.go_on()
+        self.let_program_answer()
         self.ripen()
         if self.removed and self.greatest({self.removed[0]: self.removed[1]}) <= len(self.log):
             name, data = self.removed

@@ -10,6 +10,7 @@ import re
 import shutil
 import subprocess
 import tempfile
+import threading
 import time
 from types import SimpleNamespace
 
@@ -17,11 +18,14 @@ from at_random import cluster_at_random
 from audit_damages import BLOCKS, DAMAGES, HARMLESS, LOST, in_inode, replaced, several, story
 from audit_forms import FORMS, many_replications, own_settings_in_chain
 from auditing import Audit
-from cases import document, record
+from cases import document, record, rename
+from chain import Chain
 from cluster import Cluster
 from formats import Refused
 from progress import Progress
 from proved import Program
+from running import Running
+from second import Side
 
 HERE = os.path.dirname(os.path.realpath(__file__))
 
@@ -43,6 +47,11 @@ FAILING = [
         "a program that prints another image",
         "#!/bin/sh\ncat > /dev/null\nprintf '{\"image\":\"hdfs-standby\"}\\n{\"end\":0}\\ndone 1\\n'\n",
         "because of a defect of this script",
+    ),
+    (
+        "a program that prints a line of an image, and another one than the second image has",
+        "#!/bin/sh\ncat > /dev/null\nprintf '{\"image\":\"hdfs-standby\",\"last_block\":1,\"last_gen\":1}\\n{\"path\":\"/$$\",\"type\":\"dir\"}\\n'\n",
+        "printed no whole image",
     ),
     ("a program that prints something", "#!/bin/sh\ncat > /dev/null\nprintf '{}\\n{\"end\":0}\\ndone 1\\n'\n", "no whole image"),
 ]
@@ -295,6 +304,19 @@ def check_texts(trials):
     trials.check.same("how often a file is named", errors.count(torn), 1)
 
 
+def check_deep_moves(trials):
+    """A rename between a path of more than 1,000 names and a shorter one leaves nothing to be said: what moves is not held."""
+    first, last, deep = trials.image(trials.first), trials.image(trials.last), "/a" * 1001
+    for name, source, target in (("down", "/data/spare", deep), ("up", deep, "/data/other"), ("below", f"{deep}/x", f"{deep}/y")):
+        log = trials.log(*trials.records[:-1], rename(trials.last, source, target))
+        words = "--from", first, "--to", last, log
+        if name == "below":
+            trials.audited("a move of what is deep on both sides", 0, "alike: ", *words)
+        else:
+            reason = f"OP_RENAME_OLD, TXID {trials.last}: a path of more than 1,000 names, and one that is none: what moves is not known"
+            trials.refused(f"a move {name}", reason, *words)
+
+
 def check_progress(trials):
     """How far an audit is comes after two seconds, once in half a second, and is taken away in the end."""
     now, stream, note = [100.0], io.StringIO(), os.path.join(trials.check.folder, "note")
@@ -320,6 +342,64 @@ def check_progress(trials):
     for words, is_shown in ((["--quiet"], False), ([], True)):
         text = on_terminal(trials, *words)
         trials.check.same(f"an audit on a terminal, {words}", ("MB/s" in text, "nothing can be said" in text), (is_shown, True))
+
+
+class Jumping:
+    """A clock that goes on by three seconds each time it is asked."""
+
+    def __init__(self):
+        self.now = 0
+
+    def __call__(self):
+        self.now += 3
+        return self.now
+
+
+def check_steps(trials):
+    """What is shown of each step of an audit, and while the program works; and nothing where it stands still."""
+    stream = io.StringIO()
+    audit = audit_in_process(trials, trials.image(trials.first), trials.image(trials.last))
+    audit.progress = Progress(stream, None, Jumping())
+    with contextlib.redirect_stdout(io.StringIO()):
+        audit.run()
+    for what in ("reading 0", "giving the image to the program", "giving the log to the program", "comparing the images"):
+        trials.check.contains("a step of an audit", stream.getvalue(), what)
+    slow = trials.check.file("#!/bin/sh\ncat > /dev/null\nsleep 1.3\nprintf 'fault 62 image line 2\\n'\n")
+    os.chmod(slow, 0o755)
+    for name, moves, wanted in (("works", 1, "the program works: "), ("stands still", 0, "")):
+        stream, seconds = io.StringIO(), iter(range(0, 1000 * moves + 1, moves or 1))
+        running = Running(Program(slow))
+        running.seconds = lambda seconds=seconds: next(seconds, 0)
+        running.program = SimpleNamespace(fault=lambda words: words[1])
+        running.ask()
+        trials.check.same(f"a program that {name}", running.fault(Progress(stream, None, Jumping())), "62")
+        running.end()
+        trials.check.holds(f"what is shown while it {name}", (wanted in stream.getvalue()) and bool(stream.getvalue()) == bool(wanted), stream.getvalue())
+
+
+def audit_in_process(trials, first, last):
+    """An audit of two images of the story, in this process."""
+    options = SimpleNamespace(start=first, to=last, files=[trials.whole], state=None, most=20, json=False, quiet=True, progress=None)
+    return Audit(Program(trials.check.program), tempfile.mkdtemp(dir=trials.check.folder), options)
+
+
+def check_second(trials):
+    """The second image may come through a pipe, and the process that reads it may be killed."""
+    first, pipe = trials.image(trials.first), os.path.join(trials.check.folder, "pipe")
+    os.mkfifo(pipe)
+    giver = threading.Thread(target=put, args=(pipe, trials.images[trials.last].encode()))
+    giver.start()
+    trials.audited("a second image through a pipe", 0, "alike: ", "--from", first, "--to", pipe, trials.whole)
+    giver.join()
+    read, Side.read = Side.read, lambda _side: os._exit(9)
+    try:
+        audit_in_process(trials, first, trials.image(trials.last)).run()
+        told = "nothing"
+    except Refused as reason:
+        told = str(reason)
+    finally:
+        Side.read = read
+    trials.check.contains("the process of the second image is gone", told, " was ended")
 
 
 def on_terminal(trials, *words):
@@ -379,6 +459,29 @@ def check_chain(trials):
     stands = f"chain: TXID {trials.first} (first image) .. {trials.last}, 2 audits\n"
     trials.check.contains("where it stands then", output, stands)
     check_state(trials, copy, last)
+    check_found(trials, state)
+
+
+def check_found(trials, folder):
+    """A state is read once, until another file takes its place or it is changed."""
+    chain, read = Chain(folder), []
+    reads = chain.read_state
+    chain.read_state = lambda file: read.append(1) or reads(file)
+    stands = chain.found()
+    trials.check.same("where a chain stands, asked again", (chain.found(), len(read)), (stands, 1))
+    shutil.copy(chain.name, f"{chain.name}.copy")
+    os.replace(f"{chain.name}.copy", chain.name)
+    trials.check.same("where a chain stands in another file", (chain.found(), len(read)), (stands, 2))
+    with open(chain.name, "r+b") as file:
+        file.seek(-20, os.SEEK_END)
+        file.write(b"x")
+    os.utime(chain.name, ns=(0, 0))
+    try:
+        told = str(chain.found())
+    except Refused as reason:
+        told = str(reason)
+    trials.check.contains("where a chain stands in a file that was changed", told, "is damaged, since its SHA-256")
+    chain.lock.close()
 
 
 def check_state(trials, folder, last):
@@ -473,7 +576,10 @@ PARTS = (
     check_layouts,
     check_nothing_said,
     check_texts,
+    check_deep_moves,
     check_progress,
+    check_steps,
+    check_second,
     check_failing,
     check_chain,
     check_random,

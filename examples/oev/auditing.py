@@ -95,23 +95,22 @@ class Audit:
 
         Both runs of the program have been given their images then, but for the second one where that contradicts itself.
         """
-        start, facts, given, last_gen = self.start(), None, Given(None, [], {}, {}, 0, 0), 0
+        start, facts, given = self.start(), None, Given(None, [], {}, {}, 0, 0)
         section = name_section(self.options.to, opened)
         while True:
             known = len(self.table.names)
-            self.give(start, last_gen)
+            self.give(start)
             if facts is None and (section is None or section.find("txid") is None):
                 facts = self.facts(start.link)
             with contextlib.suppress(Grew):
                 until = facts.txid if facts else section.number("txid")
                 self.check_txid(start.link, until)
                 log = Converted(start, until, self.options.files, self.folder, self.table, self.progress.open)
-                last_gen = log.edits.issued_before() or last_gen
                 facts = facts or self.facts(start.link)
                 if facts.contradiction is None:
                     given = self.give_second(log)
                 if known == len(self.table.names):
-                    self.raise_stamp(start, last_gen)
+                    self.raise_stamp(start, log.edits.issued_before())
                     return start, facts, given, log
             self.end_runs()
 
@@ -142,7 +141,7 @@ class Audit:
             raise Refused("--from FROM has to name the image that the log goes on from")
         return FirstImage(self.options.start, self.table, self.progress.open)
 
-    def give(self, start, last_gen):
+    def give(self, start, last_gen=0):
         """Gives the program the image that the log goes on from, by a table that has all of its names."""
         while True:
             known = len(self.table.names)
@@ -159,10 +158,9 @@ class Audit:
             self.end_runs()
 
     def raise_stamp(self, start, last_gen):
-        """Gives the image anew if the log gives a stamp that the image does not have, and that it did not issue."""
-        stamp = start.header()["last_gen"]
-        if last_gen > stamp:
-            last = f"the last stamp of the image of TXID {start.link.txid}, {stamp}"
+        """Gives the image anew if the log gives a stamp, or None, that the image does not have and that it did not issue."""
+        if last_gen is not None:
+            last = f"the last stamp of the image of TXID {start.link.txid}, {start.header()['last_gen']}"
             self.notes.append(f"{last}, is taken as {last_gen}: the log gives this one, and did not issue it")
             self.ours.end()
             self.give(start, last_gen)

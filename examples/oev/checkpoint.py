@@ -3,6 +3,8 @@
 Snapshots change no live name. What only they hold is counted, and so is every element that nothing here stands for, by
 the name that it has in the dump: an element of a later Hadoop shows itself.
 """
+import os
+import stat
 from array import array
 
 from bare import OLD, STRIPED, bare_file, has_old_block, is_bare, kind_in_image, word_of
@@ -202,7 +204,7 @@ class Checkpoint(Dump):
         ahead, count = [row], 0
         while ahead:
             above = ahead.pop()
-            below = [(self.child_rows[at], self.children.numbers[at]) for at in self.children.places(above)]
+            below = list(map(self.child, self.children.places(above)))
             below += [(self.reference_rows[at], self.references[at]) for at in self.references_of(above)]
             for found in below:
                 self.take(*found)
@@ -226,9 +228,9 @@ def keys_in_file(shape):
 
 def name_section(name, opened):
     """The NameSection of an image, or None where there is none, or where its file can be read only once."""
+    if not stat.S_ISREG(os.stat(name).st_mode):
+        return None
     with opened(name) as file:
-        if not file.seekable():
-            return None
         try:
             found = elements(file, "fsimage", {NUMBERS}, SECTION_BYTES)
             return next((element for _, element in found), None)

@@ -21,6 +21,11 @@ class Parser(argparse.ArgumentParser):
     def format_help(self):
         return f"{self.about}\n\n{super().format_help()}"
 
+    def error(self, message):
+        """Ends with status 2, also where nobody can be told why."""
+        tell_last(f"{self.format_usage()}{self.prog}: error: {message}")
+        sys.exit(NOTHING_SAID)
+
 
 def in_words(reason):
     """A reason as a sentence, also where the system has it."""
@@ -46,10 +51,14 @@ def judged(name, judge):
         told = f"{name}: nothing can be said: {in_words(reason)}"
     except Exception:
         told = f"{name}: nothing can be said, because of a defect of this script:\n{traceback.format_exc()}"
-    # The status is the same where nobody reads what is told, or what is left of either stream.
+    tell_last(told.rstrip("\n"))
+    return NOTHING_SAID
+
+
+def tell_last(text):
+    """Prints a text to standard error. What is left of either stream is written nowhere, so that it changes no status."""
     with contextlib.suppress(OSError):
-        print(told.rstrip("\n"), file=sys.stderr, flush=True)
+        print(text, file=sys.stderr, flush=True)
     nowhere = os.open(os.devnull, os.O_WRONLY)
     for stream in (sys.stdout, sys.stderr):
         os.dup2(nowhere, stream.fileno())
-    return NOTHING_SAID

@@ -28,7 +28,8 @@ PATHS = ("PATH", "SRC", "DST", "TRG")
 PATH = rb"((?:/(?!\.\.?[/<])[!#-%'-.0-9;=?-\[\]-~ ]{1,255})+)"
 PATTERNS = {**dict.fromkeys(PATHS, PATH), "OPTIONS": rb"([A-Z_|]*)"}
 BLANKS = rb"[\n ]*"
-HEAD = re.compile(rb"[\n ]*<RECORD>[\n ]*<OPCODE>(OP_[A-Z0-9_]+)</OPCODE>")
+OPCODE = "OP_[A-Z0-9_]+"
+HEAD = re.compile(rb"[\n ]*<RECORD>[\n ]*<OPCODE>(%b)</OPCODE>" % OPCODE.encode())
 
 BLOCK = {"BLOCK_ID", "GENSTAMP", "NUM_BYTES"}
 BLOCK_TAGS = 8
@@ -165,7 +166,9 @@ class CommonRecords:
         """Takes the bytes of a record, up to its end tag, with the shape that expat found."""
         self.repeats.learn(element, shape)
         parts = parts_of(element) if len(shape.tags) <= FORM_TAGS else None
-        if not parts or parts[1::2][:3] != ["RECORD", "OPCODE", "/OPCODE"] or places_of_texts(parts[3::2], shape.tags) is None:
+        if not parts or parts[1::2][:3] != ["RECORD", "OPCODE", "/OPCODE"] or not re.fullmatch(OPCODE, parts[4]):
+            return
+        if places_of_texts(parts[3::2], shape.tags) is None:
             return
         tags, key = [*parts[1::2], "/RECORD"], (parts[4], *without_repeated_blocks(parts[1::2]))
         forms = self.forms.setdefault(parts[4].encode(), [])

@@ -9,7 +9,7 @@ from typing import NamedTuple
 import formats
 from dumps import check_layout, elements, plain_numbers
 from formats import Refused, is_plain_name
-from inodes import CLOSED, DIRECTORY, OPEN, File, Inodes, Lists
+from inodes import CLOSED, DIRECTORY, NONE, OPEN, File, Inodes, Lists
 from lines import Lines
 from quick import Known, inodes_in, lists_in
 from reading import COMMON, MORE
@@ -117,6 +117,10 @@ class Dump(Walk):
         self.children.finish(self.inodes)
         self.child_rows = self.inodes.rows_of(self.children.numbers)
         self.root = self.inodes.rows_of([ROOT])[0]
+        self.inodes.rows = None
+        if NONE not in self.child_rows:
+            # Each child is known by its row.
+            self.children.numbers = None
 
     def layout(self, element):
         check_layout(element)

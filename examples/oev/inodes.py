@@ -6,7 +6,6 @@ from array import array
 from bisect import bisect_left
 from functools import partial
 from itertools import accumulate, chain, islice
-from operator import lt
 from typing import NamedTuple
 
 from formats import Block, NoBlocks
@@ -19,6 +18,10 @@ NONE = -1
 
 # A row has so many bits.
 ROW_BITS = 32
+# A table has at most so many places for each id.
+SPARSE = 8
+# Ids that are sorted are sorted in so many parts, which are about as long by a sample of so many.
+PARTS, SAMPLES = 8, 4_096
 
 
 class File(NamedTuple):
@@ -105,25 +108,47 @@ class Inodes:
 
 
 class RowsOfIds:
-    """The row of each id. Where the ids ascend, as in most dumps, they are searched as they are, and take no room."""
+    """The row of each id: in a table, or where the ids lie far from one another by a search."""
 
     def __init__(self, ids):
-        self.ids, self.rows, self.repeated = ids, None, None
-        if not all(map(lt, ids, islice(ids, 1, None))):
+        self.low, self.rows = min(ids, default=0), None
+        # The row of an id that came before, if there is one.
+        self.repeated = None
+        if max(ids, default=0) - self.low < SPARSE * len(ids):
+            self.fill(ids)
+        else:
             self.sort(ids)
 
+    def fill(self, ids):
+        """Makes a table, from the least id on."""
+        low, self.table = self.low, array("i", [NONE]) * (max(ids, default=-1) - self.low + 1)
+        table = self.table
+        for row, inode_id in enumerate(ids):
+            if table[inode_id - low] == NONE:
+                table[inode_id - low] = row
+            elif self.repeated is None:
+                self.repeated = row
+
     def sort(self, ids):
-        pairs = sorted([inode_id << ROW_BITS | row for row, inode_id in enumerate(ids)])
-        self.ids = array("q", [pair >> ROW_BITS for pair in pairs])
-        self.rows = array("i", [pair & (1 << ROW_BITS) - 1 for pair in pairs])
+        """Sorts the ids with their rows. Some of them are sorted at a time, so that few numbers are objects at once."""
+        self.ids, self.rows = array("q"), array("i")
+        some = sorted(ids[:: len(ids) // SAMPLES + 1])
+        ends = [*some[:: len(some) // PARTS + 1][1:], max(ids, default=0)]
+        for above, end in zip([-1, *ends], ends):
+            pairs = sorted([inode_id << ROW_BITS | row for row, inode_id in enumerate(ids) if above < inode_id <= end])
+            self.ids.extend([pair >> ROW_BITS for pair in pairs])
+            self.rows.extend([pair & (1 << ROW_BITS) - 1 for pair in pairs])
         repeated = [self.rows[at + 1] for at, pair in enumerate(zip(self.ids, islice(self.ids, 1, None))) if pair[0] == pair[1]]
         self.repeated = min(repeated, default=None)
 
     def of(self, wanted):
-        ids, count = self.ids, len(self.ids)
+        """The row of each of these ids, or NONE."""
+        if self.rows is None:
+            low, table, count = self.low, self.table, len(self.table)
+            return array("i", (table[at - low] if 0 <= at - low < count else NONE for at in wanted))
+        ids, rows, count = self.ids, self.rows, len(self.ids)
         places = map(partial(bisect_left, ids), wanted)
-        found = array("i", [at if at < count and ids[at] == one else NONE for at, one in zip(places, wanted)])
-        return found if self.rows is None else array("i", [at if at == NONE else self.rows[at] for at in found])
+        return array("i", (rows[at] if at < count and ids[at] == one else NONE for at, one in zip(places, wanted)))
 
 
 class Lists:

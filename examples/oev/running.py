@@ -81,7 +81,8 @@ class Running:
         first, line_feed, self.held = self.held.partition(b"\n")
         self.first = bytes(first + line_feed)
         if self.first.startswith(b"fault "):
-            self.child.stdout.close()
+            while self.read(progress):
+                self.held.clear()
             self.wait()
             return self.program.fault(self.first.decode("ascii", "replace").split())
         if HEADER not in self.first:

@@ -3,6 +3,7 @@
 The process has the image in its memory, and gives the program the lines of it once the table has all names. It is asked
 for one thing after another, and answers by a pipe.
 """
+import contextlib
 import mmap
 import os
 import signal
@@ -82,8 +83,9 @@ class Second:
 
     def give(self, table, told, child):
         """Asks that a child of the audit is given the lines of the image, with what the log tells of bare files."""
-        self.channel.send(("give", table.full, table.replications, told))
-        send_handle(self.channel, child.stdin.fileno(), self.process)
+        with self.while_there():
+            self.channel.send(("give", table.full, table.replications, told))
+            send_handle(self.channel, child.stdin.fileno(), self.process)
         child.stdin.close()
 
     def given(self, progress):
@@ -91,21 +93,28 @@ class Second:
         return self.answer(progress, "giving the second image to the program")
 
     def told_of(self, fault):
-        self.channel.send(("tell", fault))
+        """What is told of a line of the image that the program refuses."""
+        with self.while_there():
+            self.channel.send(("tell", fault))
         return self.answer(None, "")
+
+    @contextlib.contextmanager
+    def while_there(self):
+        try:
+            yield
+        except (EOFError, ConnectionError):
+            raise Refused(f"the process that reads {self.name} was ended") from None
 
     def answer(self, progress, what):
         """The next answer. What the process is refused, this is."""
         task = progress.task(what) if progress else None
-        try:
+        with self.while_there():
             while task and not self.channel.poll(STEP_SECONDS):
                 done, size = PLACE.unpack(self.shared[: PLACE.size])
                 task.size = None if size == NOT_KNOWN else size
                 if done != task.done:
                     task.add(done - task.done)
             answer = self.channel.recv()
-        except (EOFError, ConnectionError):
-            raise Refused(f"the process that reads {self.name} was ended") from None
         if isinstance(answer, Exception):
             raise answer
         return answer

@@ -67,13 +67,18 @@ class Verdict(NamedTuple):
 
 
 class Printed:
-    """Prints what an audit says, line by line."""
+    """Prints what an audit says, once it is known that something can be said."""
+
+    def __init__(self):
+        self.told = []
 
     def tell(self, *words):
-        print(*words)
+        self.told.append(" ".join(map(str, words)))
 
     def end(self, verdict, behind):
-        """The end: lines that stand behind the differences, and the verdict."""
+        """The differences, lines that stand behind them, and the verdict."""
+        for line in self.told:
+            print(line)
         for line in verdict.scope.lines() if verdict.scope else ():
             print(line)
         for line in behind:
@@ -83,14 +88,8 @@ class Printed:
         print(verdict.line())
 
 
-class AsObject:
+class AsObject(Printed):
     """Prints one object of JSON."""
-
-    def __init__(self):
-        self.told = []
-
-    def tell(self, *words):
-        self.told.append(" ".join(map(str, words)))
 
     def end(self, verdict, behind):
         scope = verdict.scope

@@ -97,7 +97,12 @@ class Walk(Names):
 
     def tell_unknown(self, row):
         for place in self.children.places(row):
-            self.known(self.child_rows[place], self.children.numbers[place])
+            self.known(*self.child(place))
+
+    def child(self, place):
+        """The row of a child, or NONE, and its id."""
+        row = self.child_rows[place]
+        return row, self.children.numbers[place] if row == NONE else self.inodes.ids[row]
 
     def sorted_below(self, path, row, rows):
         """What a directory has, in path order, where that is not seen at once."""

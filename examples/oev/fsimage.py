@@ -25,6 +25,9 @@ SNAPSHOTS = ("SnapshotSection", "numSnapshots")
 
 MORE_CHILDREN = (*LIST, MORE)
 
+# So many lines are made at a time.
+RUN_ROWS = 10_000
+
 # So many bytes an element may have. A directory has 6,400,000 children at most, and is read in pieces.
 SECTION_BYTES = 67_108_864
 
@@ -269,7 +272,9 @@ class Dump(Walk):
         """Lines of this project's image, those of some paths at a time, with how many these are."""
         lines = Lines(self)
         for above, names, rows in self.runs():
-            yield lines.of(above, names, rows), len(rows)
+            for at in range(0, len(rows), RUN_ROWS):
+                some = rows[at : at + RUN_ROWS]
+                yield lines.of(above, names[at : at + RUN_ROWS], some), len(some)
 
     @staticmethod
     def number_for(replication):

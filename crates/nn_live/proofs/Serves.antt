@@ -10,8 +10,8 @@ use Rattle.nn_device.specs.declared.writer.OutputFault.{OutputFault}
 use Rattle.nn_device.specs.declared.writer.OutputFault.TheVariants.{WriteFailed}
 use Rattle.nn_engine.specs.Output.{image_fault}
 use Rattle.nn_image.specs.declared.fault.ImageFault.{ImageFault}
-use Rattle.nn_live.specs.Live.{ended, refused, so_far, exit_status, told_so_far, written_of}
-use Rattle.nn_live.specs.Running.{EndsRun, GaveBytes, Halts, IsOfLines, IsCutOff, IsLiveOutput, IsReader, IsStage, Run, asked_by, halt_text, live_output, serving_by}
+use Rattle.nn_live.specs.Live.{LiveSetup, ended, refused, so_far, exit_status, takes_pieces, told_so_far, written_of}
+use Rattle.nn_live.specs.Running.{EndsRun, GaveBytes, Halts, IsOfLines, IsCutOff, IsLiveOutput, IsReader, IsStage, IsToldAtOnce, Run, asked_by, halt_text, live_output, serving_by}
 use Rattle.nn_live.specs.declared.run.EndFault.{EndFault}
 use Rattle.nn_live.specs.declared.run.EndFault.TheVariants as halt
 use Rattle.nn_live.specs.declared.run.LiveOptions.{LiveOptions}
@@ -51,9 +51,20 @@ module _ (a b c : Reader) (bytes : List ℕ) (gave : GaveBytes a b bytes) where
 
 -- ---- Why it ends.
 
+nothing_said : (asked : LiveSetup) (from_image : Bool) → told_so_far asked from_image [] ≡ []
+unfolding takes_pieces
+nothing_said asked true = refl
+nothing_said asked false = refl
+
 -- before the first read
 pub nothing_served : (o : LiveOptions) (r : Reader) → Halts (serving_by o r r) [] halt.OutOfMemory
-nothing_served o r = record { bytes = []; gave = given_none r; reader = refl; is = no_prefix _ }
+nothing_served o r = record {
+  bytes = [];
+  gave = given_none r;
+  at_once = record { earlier = []; last = []; are = refl; one_read = omega arith; before = ([], sym (ap (λ t. t ++ []) (nothing_said (asked_by o) o.from_image))) };
+  reader = refl;
+  is = no_prefix _;
+}
 
 pub lines_reader : (why : EndFault) (before after : Reader) → IsOfLines why → after.failed ≡ before.failed → IsReader why before after
 lines_reader (halt.Refused fault) before after of same = same
@@ -63,6 +74,20 @@ lines_reader halt.OutOfMemory before after of same = same
 pub stage_told : (o : LiveOptions) (bytes told : List ℕ) (s : RunStage) → IsStage o bytes told s → told ≡ told_so_far (asked_by o) o.from_image bytes
 stage_told o bytes told (stage.Loading opening) is = opening_told o bytes told opening is.0 is.1 is.2
 stage_told o bytes told (stage.Serving live) is = so_far_told o bytes told live is
+
+-- the lines of the last read say more, or break off
+pub told_at_once : (o : LiveOptions) (earlier last told more : List ℕ) (s : RunStage) → IsStage o earlier told s → length last ≤ 65536 → IsToldAtOnce o (earlier ++ last) (told ++ more)
+told_at_once o earlier last told more s is short =
+    record { earlier = earlier; last = last; are = refl; one_read = short; before = (more, ap (λ t. t ++ more) (stage_told o earlier told s is)) }
+
+-- or the input has ended
+pub told_behind : (o : LiveOptions) (bytes told more : List ℕ) (s : RunStage) → IsStage o bytes told s → IsToldAtOnce o bytes (told ++ more)
+told_behind o bytes told more s is =
+    record { earlier = bytes; last = []; are = sym (append-nil bytes); one_read = omega arith; before = (more, ap (λ t. t ++ more) (stage_told o bytes told s is)) }
+
+-- or no read was made
+pub told_all : (o : LiveOptions) (bytes told : List ℕ) (s : RunStage) → IsStage o bytes told s → IsToldAtOnce o bytes told
+told_all o bytes told s is = subst (IsToldAtOnce o bytes) (append-nil told) (told_behind o bytes told [] s is)
 
 -- ---- What it wrote.
 
@@ -113,9 +138,9 @@ refused_output o input told fault none is =
 
 pub halt_output : (run : Run) (told : List ℕ) (why : EndFault) → Halts run told why → IsLiveOutput run (record { text = told ++ halt_text why; status = 1 })
 halt_output run told (halt.Refused fault) h =
-    inr (inl (record { bytes = h.bytes; gave = h.gave; none_failed = h.reader; is = λ more. refused_output run.options (h.bytes ++ more) told fault h.is.0 (h.is.1 more) }))
+    inr (inl (record { bytes = h.bytes; gave = h.gave; at_once = subst (IsToldAtOnce run.options h.bytes) h.is.0 h.at_once; none_failed = h.reader; is = λ more. refused_output run.options (h.bytes ++ more) told fault h.is.0 (h.is.1 more) }))
 halt_output run told halt.Unreadable h = inr (inr (inl (record { bytes = h.bytes; gave = h.gave; failed = h.reader.0; why = h.reader.1; is = ap (λ t. record { text = t ++ halt_text halt.Unreadable; status = 1 }) h.is })))
-halt_output run told halt.OutOfMemory h = inr (inr (inr (record { bytes = h.bytes; gave = h.gave; none_failed = h.reader; told = told; prefix = h.is; is = refl })))
+halt_output run told halt.OutOfMemory h = inr (inr (inr (record { bytes = h.bytes; gave = h.gave; none_failed = h.reader; told = told; prefix = h.is; at_once = h.at_once; is = refl })))
 
 pub end_output : (run : Run) (told : List ℕ) (status : ℕ) → EndsRun run told status → IsLiveOutput run (record { text = told; status = status })
 end_output run told status e = inl (record { input = e.input; gave = e.gave; whole = e.whole; none_failed = e.none_failed; is = e.is })

@@ -40,6 +40,19 @@ NoReadFailed run = run.after.failed ≡ run.before.failed
 
 -- ---- What it writes.
 
+-- the bytes that one read asks for
+abbrev pub most_read : ℕ
+most_read = 65536
+
+-- These bytes came, and this was told of them before another read was made: all that the lines say which came by the reads before the
+-- last one.
+pub record IsToldAtOnce (o : LiveOptions) (bytes told : List ℕ) : Type 0 where
+  pub earlier : List ℕ
+  pub last : List ℕ
+  pub are : bytes ≡ earlier ++ last
+  pub one_read : length last ≤ most_read
+  pub before : IsPrefixOf (told_so_far (asked_by o) o.from_image earlier) told
+
 -- the text of a whole input, and the status behind it
 abbrev pub live_output : LiveOptions → List ℕ → Printed
 live_output o input = record { text = live_text (asked_by o) o.from_image input; status = exit_status (stage_at_end (asked_by o) o.from_image input) }
@@ -52,10 +65,11 @@ pub record IsOfWhole (run : Run) (p : Printed) : Type 0 where
   pub none_failed : NoReadFailed run
   pub is : p ≡ live_output run.options input
 
--- A line came that no image has: whatever follows it, this is the output.
+-- A line came that no image has, by the last read: whatever follows it, this is the output.
 pub record IsOfRefused (run : Run) (p : Printed) : Type 0 where
   pub bytes : List ℕ
   pub gave : GaveBytes run.before run.after bytes
+  pub at_once : IsToldAtOnce run.options bytes []
   pub none_failed : NoReadFailed run
   pub is : (more : List ℕ) → p ≡ live_output run.options (bytes ++ more)
 
@@ -71,13 +85,15 @@ pub record IsOfFailedRead (run : Run) (p : Printed) : Type 0 where
   pub why : IsCutOff run.before run.after
   pub is : p ≡ record { text = told_so_far (asked_by run.options) run.options.from_image bytes ++ unread_line ReadFailed; status = 1 }
 
--- Memory was refused, or a count had come to its end. A prefix of what the bytes so far say was told, and then that.
+-- Memory was refused, or a count had come to its end. A prefix of what the bytes so far say was told, and then that: with the lines of
+-- the last read, or before the first one.
 pub record IsOfNoMemory (run : Run) (p : Printed) : Type 0 where
   pub bytes : List ℕ
   pub gave : GaveBytes run.before run.after bytes
   pub none_failed : NoReadFailed run
   pub told : List ℕ
   pub prefix : IsPrefixOf told (live_text (asked_by run.options) run.options.from_image bytes)
+  pub at_once : IsToldAtOnce run.options bytes told
   pub is : p ≡ record { text = told ++ unread_line OutOfMemory; status = 1 }
 
 abbrev pub IsLiveOutput : Run → Printed → Type 0
@@ -141,10 +157,11 @@ IsOfLines (halt.Refused fault) = Unit {0}
 IsOfLines halt.Unreadable = ⊥
 IsOfLines halt.OutOfMemory = Unit {0}
 
--- the reader gave some bytes, and it ends for this reason
+-- the reader gave some bytes, and it ends for this reason, before it reads again
 pub record Halts (run : Run) (told : List ℕ) (why : EndFault) : Type 0 where
   pub bytes : List ℕ
   pub gave : GaveBytes run.before run.after bytes
+  pub at_once : IsToldAtOnce run.options bytes told
   pub reader : IsReader why run.before run.after
   pub is : IsHalt run.options bytes told why
 

@@ -1,6 +1,6 @@
 -- What a service wrote beside what its reader gave, on small examples.
 use Rattle.std.specs.Prelude.{◌≡◌, ◌⊎◌, ◌≤◌, ◌^◌, ℕ, ◌+◌, Bool, true, false, List, [], ◌∷◌, ◌++◌, length, Some, codes, refl}
-use Rattle.std.proofs.Common.{arith, ap, append-nil, get_or, inl, inr, sym, true≢false, ◌∙◌}
+use Rattle.std.proofs.Common.{arith, ap, ap₂, append-nil, get_or, inl, inr, sym, true≢false, ◌∙◌}
 use Rattle.std.specs.Fmt.{digits}
 use Rattle.std.specs.Str.{is_utf8, chars}
 use Rattle.nn_bytes.specs.Lines.{line_feed}
@@ -8,7 +8,7 @@ use lib.Utf8.{encode}
 use Rattle.nn_device.specs.Device.{Reader, Writer}
 use Rattle.nn_engine.specs.Output.{Printed}
 use Rattle.nn_live.specs.Live.{takes, takes_pieces, takes_torn, told_so_far}
-use Rattle.nn_live.specs.Running.{IsOfFailedRead, IsOfNoMemory, IsOfRefused, IsOfWhole, IsSoFar, WroteLive, WroteLivePrefix, asked_by, live_output, serving_by}
+use Rattle.nn_live.specs.Running.{IsOfFailedRead, IsOfNoMemory, IsOfRefused, IsOfWhole, IsSoFar, IsToldAtOnce, WroteLive, WroteLivePrefix, asked_by, live_output, serving_by}
 use Rattle.nn_live.specs.Serving.{IsPrefixOf}
 use Rattle.nn_live.specs.Words.{word_alone, word_in}
 use Rattle.nn_live.specs.declared.run.LiveOptions.{LiveOptions}
@@ -47,6 +47,10 @@ module _ (o : LiveOptions) where
   nothing_yet : told_so_far (asked_by root) false (codes "sync") ≡ []
   unfolding takes_pieces
   nothing_yet = refl
+
+  nothing_before : told_so_far (asked_by root) false [] ≡ []
+  unfolding takes_pieces
+  nothing_before = refl
 
   told_yet : told_so_far (asked_by root) false sync ≡ done
   unfolding takes takes_pieces word_in word_alone is_utf8 chars encode digits
@@ -89,6 +93,26 @@ module _ (o : LiveOptions) where
       let e : [] ≡ done = ap (λ (q : Printed). q.text) (sym short ∙ long ∙ one_answer) in
       absurd (cc)
 
+  -- ---- What is told before another read.
+
+  -- the line came by the last read, or by one before it
+  by_one_read : IsToldAtOnce root sync []
+  by_one_read = record { earlier = []; last = sync; are = refl; one_read = omega arith; before = ([], sym (ap (λ t. t ++ []) nothing_before)) }
+
+  by_two_reads : IsToldAtOnce root sync done
+  by_two_reads = record { earlier = sync; last = []; are = sym (append-nil sync); one_read = omega arith; before = ([], sym (append-nil _ ∙ told_yet)) }
+
+  not_a_read_later : (bytes : List ℕ) (h : IsToldAtOnce root bytes []) → h.earlier ≡ sync → ⊥
+  not_a_read_later bytes h e =
+      let told : [] ≡ done ++ h.before.0 = h.before.1 ∙ ap (λ t. t ++ h.before.0) (ap (told_so_far (asked_by root) false) e ∙ told_yet) in
+      absurd (cc)
+
+  not_by_a_longer_read : (bytes told : List ℕ) (h : IsToldAtOnce root bytes told) → length h.last ≡ 65537 → ⊥
+  not_by_a_longer_read bytes told h long = omega (arith, h.one_read, long)
+
+  not_of_more_bytes : (told : List ℕ) (h : IsToldAtOnce root sync told) → h.earlier ≡ sync → h.last ≡ sync → ⊥
+  not_of_more_bytes told h e l = let twice : sync ≡ sync ++ sync = h.are ∙ ap₂ (λ a b. a ++ b) e l in omega (arith, ap length twice)
+
   -- behind a failed read comes what was told, and that
   failed_read : IsOfFailedRead (serving_by root unread (reader [] 5 true)) (printed (done ++ (codes "fault 8" ++ line_feed ∷ [])) 1)
   failed_read = record { bytes = sync; gave = record { taken = refl; counted = refl }; failed = refl; why = inl refl; is = ap (λ t. printed (t ++ (codes "fault 8" ++ line_feed ∷ [])) 1) (sym told_yet) }
@@ -113,6 +137,7 @@ module _ (o : LiveOptions) where
     none_failed = refl;
     told = [];
     prefix = (done, ap (λ (p : Printed). p.text) one_answer);
+    at_once = by_one_read;
     is = refl;
   }
 
@@ -123,6 +148,7 @@ module _ (o : LiveOptions) where
     none_failed = refl;
     told = done;
     prefix = ([], ap (λ (p : Printed). p.text) one_answer ∙ sym (append-nil done));
+    at_once = by_two_reads;
     is = refl;
   }
 

@@ -81,8 +81,11 @@ class Session:
         self.lanes = {"list": [], "read": [], "disk": [], "program": []}
         self.writing = {}
         # Since when the program hangs, how much of that all stood still, and when it hung last.
-        self.hung_since, self.hung_paused, self.hung_at, self.is_killed, self.is_ended = None, 0.0, None, False, False
+        self.hung_since, self.hung_paused, self.hung_late, self.hung_at = None, 0.0, 0.0, None
+        self.is_killed = self.is_ended = False
         self.heard = {}
+        # When each DataNode asked last, or had an answer.
+        self.last_asked = {}
         # Until when a mount hangs, by its lane.
         self.stuck = {}
         start, image = self.started()
@@ -212,12 +215,16 @@ class Session:
         else:
             self.core.saved(name, fault)
 
-    def exchange(self, data, number, file):
-        told = self.program.answer(data)
-        state = self.listener.hear(data, told)
-        self.judge_state(data.decode(), told, state)
-        if STEADY in self.listener.gone:
-            raise Broken("a DataNode is gone that asked every three seconds")
+    def exchange(self, data, number, file, told=None):
+        """The program does what it is asked, and its answer comes at once, or a little later."""
+        if told is None:
+            told = self.program.answer(data)
+            self.judge_state(data.decode(), told, self.listener.hear(data, told))
+            if STEADY in self.listener.gone:
+                raise Broken("a DataNode is gone that asked every three seconds")
+            if self.random.random() < 0.2:
+                self.lanes["program"].append(("send", data, number, file, told))
+                return
         told, _, last = told[:-1].rpartition(b"\n")
         if last != b"done %d" % number:
             raise Broken(f"the answer ends with {last}, and {number} is due")
@@ -251,7 +258,10 @@ class Session:
     # ---- Laws.
 
     def judge_sent(self, text):
-        """A promotion is sent in time."""
+        """A promotion is sent in time, and nobody is gone who asked, or heard an answer, not long ago."""
+        for dn in (int(row.split()[1]) for row in text.splitlines() if row.startswith("gone ")):
+            if self.now - self.last_asked.get(dn, -GONE) < GONE - SLACK:
+                raise Broken(f"DataNode {dn} is gone, and was heard {self.now - self.last_asked[dn]:.0f} seconds ago")
         for words in (row.split() for row in text.splitlines() if row.startswith("promote ")):
             self.sent = self.matching(int(words[3]), words[4:] == ["lost"])
             self.sent_seen, self.sent_looked = max(self.ever, self.ever_shown), self.looked_at
@@ -315,6 +325,8 @@ class Session:
         if who not in self.asked:
             raise Broken("a request is answered twice")
         kind, body, then = self.asked.pop(who)
+        if kind in ("report", "heartbeat"):
+            self.last_asked[body["dn"]] = self.now
         if kind == "promote":
             self.judge_promotion(status, answer, body, then)
         elif kind == "epoch" and status == 200:
@@ -355,7 +367,7 @@ class Session:
     def judge_health(self, status, answer):
         hung = self.now - self.hung_since if self.hung_since is not None else 0
         if status == 200:
-            if hung - self.hung_paused > 12 + SLACK:
+            if hung - self.hung_paused > 12 + SLACK + self.hung_late:
                 raise Broken("healthy, and the program hangs")
             file = self.room.files.get("state")
             kept = self.feeder.judge_state.kept_in(file) if file else self.feeder.judge_state.Kept()
@@ -376,6 +388,8 @@ class Session:
     def request(self, kind, **body):
         self.requests += 1
         self.asked[self.requests] = (kind, body, self.now)
+        if kind in ("report", "heartbeat"):
+            self.last_asked[body["dn"]] = self.now
         if kind == "health" and self.is_ended:
             return
         self.core.now = self.now
@@ -469,13 +483,17 @@ class Session:
             self.happen(chosen)
         if self.is_ended:
             return
-        for work in self.random.choice([(self.beat, self.tick), (self.tick, self.beat)]):
+        for work in self.random.choice(((self.beat, self.tick, self.move), (self.tick, self.beat, self.move), (self.tick, self.move, self.beat))):
             work()
-        self.deliver(0.9)
+            if self.is_ended:
+                return
         self.let_program_answer()
         if not self.is_ended:
             self.request("health")
         self.look_at_hang()
+
+    def move(self):
+        self.deliver(0.9)
 
     def beat(self):
         """One DataNode asks every three seconds."""
@@ -495,7 +513,8 @@ class Session:
     heard_tick = 0.0
 
     def look_at_hang(self):
-        if self.hung_since is not None and self.now - self.hung_since - self.hung_paused > 75 and not self.is_killed and not self.is_ended:
+        hung = self.now - self.hung_since - self.hung_paused - self.hung_late if self.hung_since is not None else 0
+        if hung > 75 and not self.is_killed and not self.is_ended:
             raise Broken("a program hangs for more than a minute, and is not killed")
 
     def happen(self, chosen):
@@ -552,7 +571,7 @@ class Session:
 
     def hang(self):
         if self.hung_since is None:
-            self.hung_since, self.hung_paused = self.now, 0.0
+            self.hung_since, self.hung_paused, self.hung_late = self.now, 0.0, 0.0
 
     def go_on(self):
         if self.hung_since is not None and not self.is_killed:
@@ -562,8 +581,9 @@ class Session:
         """All stands still: the feeder, the program and who asks them."""
         length = self.random.choice([4, 8, 30, 90])
         self.now += length
-        # A short one can't be told from a late tick.
+        # A short one can't be told from a late tick: it may count or not.
         self.hung_paused += length if length > 5 else 0
+        self.hung_late += 7 if length <= 5 else 0
         self.pauses = (*self.pauses, (self.now, length))
         if self.random.random() < 0.5:
             self.heard[STEADY] = self.now
@@ -625,6 +645,10 @@ class Session:
                 self.request("health")
         self.request("health") if not self.is_ended else None
         self.judge_rest()
+        is_standby = not self.is_ended and self.core.program.state == "standby"
+        self.judge_promotable()
+        if is_standby and not self.is_ended and not self.core.log.doubts:
+            self.judge_names()
 
     def visible(self):
         return {name: file.data for name, file in self.segments.files.items()}
@@ -645,6 +669,19 @@ class Session:
             if silent:
                 raise Broken(f"silent, and not gone: {silent}")
 
+    def judge_promotable(self):
+        """Where all that was seen is followed, a promotion there in a new epoch is taken."""
+        log = self.core.log
+        if self.is_ended or self.core.program.state != "standby" or log.doubts or log.reached.txid < self.core.keeping.kept.seen:
+            return
+        self.request("promote", txid=log.reached.txid, epoch=self.epoch_named + 1, lost=False, within=0)
+        for _ in range(3):
+            self.now += 1
+            self.tick()
+            self.deliver()
+        if not self.listener.is_active:
+            raise Broken(f"all is followed up to {log.reached.txid}, and a promotion there is refused")
+
     def judge_followed(self):
         """All segments that are there in a row are followed, and the names are those of the log."""
         top = self.core.log.reached.txid
@@ -656,6 +693,10 @@ class Session:
             return
         if below and not self.is_spoiled:
             raise Broken(f"it stands at {top}, and {max(below)} is there: {self.core.log.waits}")
+
+    def judge_names(self):
+        """The names are those of the log up to where it is."""
+        top = self.core.log.reached.txid
         told = self.program.answer(b"tables\n").decode().splitlines()
         dirs = {row[5:-1] for row in told if row.startswith('dir "') and row != 'dir "/"'}
         wanted = {path for path in self.log[:top] if path}

@@ -3,6 +3,7 @@
 It reads a request as it comes, and hands it to the hands when it is whole; they answer, from their thread. So nobody who
 is slow keeps a thread. A place is a request's, from its first byte to its answer; a connection between two requests has none.
 """
+import hashlib
 import hmac
 import json
 import os
@@ -11,6 +12,7 @@ import select
 import socket
 import threading
 import time
+import urllib.parse
 from collections import Counter
 from typing import NamedTuple
 
@@ -30,6 +32,11 @@ REPORTS, SCRAPES, OPERATORS = 256, 4, 8
 CONNECTIONS = 4096
 
 JSON, TEXT, HTML = "application/json", "text/plain; charset=utf-8", "text/html; charset=utf-8"
+FORM = "application/x-www-form-urlencoded"
+ASKS_FOR_TOKEN = (
+    b'<!doctype html><html lang="en"><head><meta charset="utf-8"><title>Standby</title></head><body><h1>Standby NameNode</h1>'
+    b'<form method="post" action="/enter"><label>Token <input type="password" name="token"></label> <button>Look</button></form></body></html>\n'
+)
 METRICS = "text/plain; version=0.0.4; charset=utf-8"
 REASONS = {
     **{200: "OK", 303: "See Other", 400: "Bad Request", 401: "Unauthorized", 403: "Forbidden", 404: "Not Found"},
@@ -248,11 +255,25 @@ class Connection:
             value = self.route.body(body) if self.route.body else {}
         except BadBody as reason:
             return self.refuse(Refused(400, str(reason)))
-        self.doors.put("request", self, self.route.kind, value)
+        if self.route is ENTER:
+            self.enter_by_form(value["token"])
+        else:
+            self.doors.put("request", self, self.route.kind, value)
+
+    def enter_by_form(self, given):
+        """The page for a browser: a cookie, by which it may look and change nothing."""
+        if not hmac.compare_digest(given, self.door.token):
+            self.refuse(Refused(401, "this is not the token", "unauthorized"))
+            return
+        cookie = f"Set-Cookie: {cookie_of(self.door.token).decode()}; HttpOnly; SameSite=Strict; Path=/\r\nLocation: /\r\n"
+        self.begin_answer(303, TEXT, b"", is_last=True, more=cookie)
 
     def refuse(self, refused):
         """Answers who is not heard. What is left of its request is not read: the connection ends."""
         self.doors.refused[refused.code] += 1
+        if refused.status == 401 and self.request.path == "/":
+            self.begin_answer(401, HTML, ASKS_FOR_TOKEN, is_last=True)
+            return
         value = {"code": refused.code, "refused": str(refused)}
         self.begin_answer(refused.status, JSON, to_bytes(value), is_last=True)
 
@@ -268,11 +289,11 @@ class Connection:
             elif source is not None:
                 source.close()
 
-    def begin_answer(self, status, kind, body, source=None, is_last=False):
+    def begin_answer(self, status, kind, body, source=None, is_last=False, more=""):
         is_last = is_last or self.request is None or not self.request.keeps
         again = "Retry-After: 1\r\n" if status == 503 else ""
         size = len(body) + (os.fstat(source.fileno()).st_size - source.tell() if source else 0)
-        head = f"HTTP/1.1 {status} {REASONS.get(status, '')}\r\nContent-Type: {kind}\r\nContent-Length: {size}\r\n{again}{SAFE}"
+        head = f"HTTP/1.1 {status} {REASONS.get(status, '')}\r\nContent-Type: {kind}\r\nContent-Length: {size}\r\n{again}{more}{SAFE}"
         head += "Connection: close\r\n\r\n" if is_last else "\r\n"
         self.stage, self.since, self.is_last = "writing", clock(), is_last
         self.left, self.source = head.encode() + body, source
@@ -396,24 +417,35 @@ class Request:
         """What is asked, by one who may."""
         if door.names is not None:
             self.check_host(door)
-        if "origin" in self.headers or self.only("sec-fetch-site", "none") not in ("none", "same-origin"):
-            raise Refused(403, "a page of another origin has nothing to ask here", "forbidden")
+        self.check_origin(door)
         routes = {method for method, path in door.routes if path == self.path}
         if not routes:
             raise Refused(404, "there is nothing here", "not_found")
         if self.method not in routes:
             raise Refused(405, f"this is asked by {' or '.join(sorted(routes))}", "method")
-        if door.token is not None and not self.has_token(door.token):
+        route = door.routes[self.method, self.path]
+        if door.token is not None and route is not ENTER and not self.has_token(door.token):
             raise Refused(401, "this needs the token", "unauthorized")
-        return door.routes[self.method, self.path]
+        return route
+
+    def check_origin(self, door):
+        """No page has anything to ask here, but for the form that asks for the token."""
+        origin = self.only("origin")
+        is_own = self.path == "/enter" and door.names is not None and origin.lower() in {f"http://{name}" for name in door.names}
+        if (origin and not is_own) or self.only("sec-fetch-site", "none") not in ("none", "same-origin"):
+            raise Refused(403, "a page of another origin has nothing to ask here", "forbidden")
 
     def check_host(self, door):
         if self.only("host").lower() not in door.names:
             raise Refused(403, "the Host is not this port", "forbidden")
 
     def has_token(self, token):
+        """What changes something needs the token itself. A browser that has shown it once may look."""
         given = self.only("authorization")
-        return given.startswith("Bearer ") and hmac.compare_digest(given[len("Bearer ") :].encode("latin-1"), token)
+        if given.startswith("Bearer ") and hmac.compare_digest(given[len("Bearer ") :].encode("latin-1"), token):
+            return True
+        cookies = [it.strip() for it in self.only("cookie").split(";")]
+        return self.method == "GET" and any(hmac.compare_digest(it.encode("latin-1"), cookie_of(token)) for it in cookies)
 
     def length(self, route):
         """How many bytes the body has. What has one is JSON, and says so."""
@@ -428,8 +460,9 @@ class Request:
             raise Refused(411, "the body needs a Content-Length", "length_required")
         if int(length) > BODY_BYTES:
             raise Refused(413, f"the body has more than {BODY_BYTES:,} bytes", "too_large")
-        if self.only("content-type").partition(";")[0].strip().lower() != JSON:
-            raise Refused(415, f"the Content-Type has to be {JSON}", "media_type")
+        kind = FORM if route is ENTER else JSON
+        if self.only("content-type").partition(";")[0].strip().lower() != kind:
+            raise Refused(415, f"the Content-Type has to be {kind}", "media_type")
         return int(length)
 
 
@@ -449,6 +482,17 @@ def show_tables(value):
         return TEXT, body + b"".join(line for line in source if not line.startswith(b"order ")), None
 
 
+def token_in(body):
+    """The token of a form."""
+    found = urllib.parse.parse_qs(body.decode("latin-1"), max_num_fields=4).get("token", [""])
+    return {"token": found[0].encode("latin-1", "replace")}
+
+
+def cookie_of(token):
+    return b"token=" + hashlib.sha256(b"page " + token).hexdigest().encode()
+
+
+ENTER = Route("enter", "operators", token_in)
 HEALTH = Route("health", "scrapes", None)
 FIGURES = Route("figures", "scrapes", None, lambda value: (METRICS, metrics(value), None))
 REPORT_ROUTES = {
@@ -496,4 +540,4 @@ def token_door(address, port, token):
     listener = socket.create_server((address, port), backlog=64, reuse_port=False)
     port = listener.getsockname()[1]
     names = {f"{name}:{port}" for name in (address.lower(), "127.0.0.1", "localhost", socket.gethostname().lower())}
-    return Door(listener, OPERATOR_ROUTES, {"operators": OPERATORS}, names, token)
+    return Door(listener, {**OPERATOR_ROUTES, ("POST", "/enter"): ENTER}, {"operators": OPERATORS}, names, token)

@@ -3,10 +3,12 @@
 It kills the program and the feeder in the middle of a segment, of a checkpoint and while they wait, sends what no
 DataNode would send, and compares the tables in the end with those of a batch run of the whole log.
 """
+import http.client
 import json
 import os
 import shutil
 import signal
+import socket
 import subprocess
 import sys
 import tempfile
@@ -400,6 +402,94 @@ def check_gone(tally, place):
     tally.same("so is its replica", feed.tables().count("replica "), 2)
 
 
+def check_token(tally, place):
+    """Operators may come by TCP, with the token of a file. A browser shows it once, and may look."""
+    token, port = "t" * 32, free_port()
+    with open(os.path.join(place.folder, "token"), "w") as file:
+        file.write(f"{token}\n")
+    place.put_segment(files(1, 0, 1))
+    feed = Feed(place, "--token", file.name, "--operators", f"127.0.0.1:{port}")
+
+    def ask(method, path, body=None, **headers):
+        connection = http.client.HTTPConnection("127.0.0.1", port, timeout=SECONDS)
+        connection.request(method, path, body, {name.replace("_", "-"): text for name, text in headers.items()})
+        answer = connection.getresponse()
+        return answer.status, answer.read().decode(), answer.headers
+
+    form = {"Content_Type": "application/x-www-form-urlencoded"}
+    tally.same("without the token", ask("GET", "/status")[0], 401)
+    tally.same("with another one", ask("GET", "/status", Authorization="Bearer x")[0], 401)
+    until("TXID 7", lambda: json.loads(ask("GET", "/status", Authorization=f"Bearer {token}")[1])["txid"] == 7)
+    status, page, _ = ask("GET", "/")
+    tally.same("a browser is asked for it", (status, 'name="token"' in page), (401, True))
+    tally.same("a form with another one", ask("POST", "/enter", "token=x", **form)[0], 401)
+    tally.same("a form of another page", ask("POST", "/enter", f"token={token}", Origin="http://standby.example", **form)[0], 403)
+    status, _, headers = ask("POST", "/enter", f"token={token}", Origin=f"http://127.0.0.1:{port}", **form)
+    cookie = headers["Set-Cookie"].partition(";")[0]
+    tally.same("a form with it", (status, headers["Location"], token in cookie), (303, "/", False))
+    status, page, _ = ask("GET", "/", Cookie=cookie)
+    tally.same("who showed it may look", (status, "<td>7, of 7 that were seen</td>" in page), (200, True))
+    promotion = json.dumps({"txid": 7})
+    tally.same("and promote nobody", ask("POST", "/promote", promotion, Cookie=cookie, Content_Type="application/json")[0], 401)
+    told = ask("POST", "/promote", promotion, Authorization=f"Bearer {token}", Content_Type="application/json")
+    tally.same("a promotion with the token", told[0], 200)
+
+
+def free_port():
+    with socket.socket() as found:
+        found.bind(("127.0.0.1", 0))
+        return found.getsockname()[1]
+
+
+def check_epochs(tally, place):
+    """What was seen and named is known over a restart; a deposed service ends with 3, and what was given up is passed over."""
+    log = [files(1, 0, 1), files(8, 1, 1)]
+    place.put_segment(log[0])
+    feed = Feed(place)
+    feed.reaches(7)
+    os.rename(os.path.join(place.edits, name_of(1, 7)), os.path.join(place.folder, "away"))
+    place.put_segment(files(15, 2, 1))
+    until("it is seen", lambda: feed.status()["known"] == 21)
+    os.remove(os.path.join(place.edits, name_of(15, 21)))
+    tally.same("no promotion below what went away", feed.promote(7, epoch=1), (409, "edits_above"))
+    feed.process.kill()
+    feed.ended()
+    os.rename(os.path.join(place.folder, "away"), os.path.join(place.edits, name_of(1, 7)))
+    place.put_segment(log[1])
+    feed = Feed(place)
+    feed.reaches(14)
+    tally.same("nor over a restart", (feed.promote(14, epoch=1), feed.status()["known"]), ((409, "edits_above"), 21))
+    tally.same("in a lower epoch", feed.promote(14), (409, "late_epoch"))
+    place.put_segment(files(15, 2, 1))
+    os.rename(os.path.join(place.edits, name_of(15, 21)), os.path.join(place.edits, name_of(16, 21)))
+    status = json.loads(feed.ask("POST", "/promote", json.dumps({"txid": 14, "epoch": 2, "lost": True}))[1])
+    tally.same("what is above is given up", (status["state"], status["txid"]), ("active", 14))
+    tally.same("a greater epoch is named", feed.ask("POST", "/epoch", json.dumps({"epoch": 3}))[0], 200)
+    tally.same("a deposed service ends with 3", feed.ended(), 3)
+    feed = Feed(place)
+    feed.reaches(14)
+    feed.tells(f"{name_of(16, 21)} is passed over: a promotion gave it up")
+    got = feed.status()
+    tally.same("what was given up forbids nothing", (got["known"], got["epoch"]), (14, 3))
+    begun = time.monotonic()
+    place.put_segment(files(15, 2, 1))
+    told = feed.promote(21, epoch=3, within=SECONDS)
+    tally.same("a promotion waits for the log", (told, time.monotonic() - begun < SECONDS), ((200, "active"), True))
+    tally.same("it is told to stop", (feed.ask("POST", "/stop")[0], feed.ended()), (200, 0))
+
+
+def check_hang(tally, place):
+    """A program that hangs is seen, and goes on."""
+    place.put_segment(files(1, 0, 1))
+    feed = Feed(place)
+    feed.reaches(7)
+    os.kill(feed.child, signal.SIGSTOP)
+    until("it is silent", lambda: json.loads(feed.ask("GET", "/health")[1]).get("reason") == "silent")
+    os.kill(feed.child, signal.SIGCONT)
+    until("it is healthy again", lambda: feed.ask("GET", "/health")[0] == 200)
+    tally.same("and it reports", feed.report(report(1, 0)), (200, 1, []))
+
+
 def check_arguments(tally, place):
     """A feed that can't begin says so."""
     feed = Feed(place.within("missing", os.path.join(place.folder, "no program")))
@@ -419,6 +509,9 @@ LIMIT_SECONDS = 300
 
 PARTS = [
     check_arguments,
+    check_token,
+    check_epochs,
+    check_hang,
     check_following,
     check_bodies,
     check_callers,

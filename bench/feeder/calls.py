@@ -13,8 +13,9 @@ import tempfile
 import time
 from collections import Counter
 
-from driving import Failed, Feed, Place
+from driving import FEED, Failed, Feed, Place
 from logs import files, full_report
+from teeth import faults
 
 HERE = os.path.dirname(os.path.realpath(__file__))
 ERRORS = {
@@ -85,6 +86,8 @@ class Scenario:
     def __init__(self, place, wrap, environment, feed):
         self.place = place
         self.feeds = []
+        # A fault of a call at the start may end it.
+        self.may_end = wrap[:1] == ["strace"]
         self.kind = type("Wrapped", (Traced,), {"wrap": wrap, "environment": environment, "program_of_feed": feed})
         self.plain = type("Plain", (Traced,), {"program_of_feed": feed})
 
@@ -98,7 +101,7 @@ class Scenario:
         feed = self.start(self.kind)
         if feed.process.poll() is None and feed.address:
             return feed
-        if feed.ended() != 1:
+        if feed.ended() != 1 or not self.may_end:
             raise Broken(f"it ended with {feed.process.returncode}")
         return self.start(self.plain)
 
@@ -227,6 +230,44 @@ class Trials:
         if shutil.which("cc"):
             yield from self.short()
         yield from self.full()
+
+
+# Faults of the feeder that calls show, and the calls that do; without one the scenario alone, or with a full standard error.
+SHOWN_BY = {
+    "what is known is the folder of now": (),
+    "a read error is a bad segment": (("read", "EIO", 1), ("read", "EIO", 2)),
+    "what was being written stays": (("write", "ENOSPC", 1), ("write", "ENOSPC", 2)),
+    "what is told may end it": (),
+}
+
+
+def planted(fault, folder):
+    """A copy of the feeder with a fault. Answers the path of its command."""
+    copy = os.path.join(folder, "feed")
+    shutil.copytree(os.path.dirname(FEED), copy, ignore=shutil.ignore_patterns("__pycache__"))
+    os.symlink(os.path.join(os.path.dirname(FEED), "..", "examples"), os.path.join(folder, "examples"))
+    with open(os.path.join(copy, f"{fault.module}.py"), "w", encoding="utf-8") as file:
+        file.write(fault.changed())
+    return os.path.join(copy, os.path.basename(FEED))
+
+
+def shown(program, fault):
+    """What breaks with a fault of the feeder, or None."""
+    with tempfile.TemporaryDirectory() as folder:
+        trials = Trials(program, folder, planted(fault, folder))
+        alone = Scenario(trials.place("alone"), (), None, trials.feed).run()
+        found = [alone, *(trials.one(it)[1] for it in SHOWN_BY[fault.name]), *(why for _, why in trials.full())]
+        return next(filter(None, found), None)
+
+
+def teeth(program):
+    """Puts back each of these faults. Answers how many no call shows."""
+    missed = 0
+    for fault in (it for it in faults() if it.name in SHOWN_BY):
+        why = shown(program, fault)
+        missed += why is None
+        print(f"{fault.name}: {why or 'NOT SEEN'}", flush=True)
+    return missed
 
 
 def can_trace():

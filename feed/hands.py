@@ -79,7 +79,7 @@ def write_all(line):
 class Process:
     """The program, from an image or from nothing, and the two ends of its pipes."""
 
-    def __init__(self, program, arguments, image):
+    def __init__(self, program, arguments, image, check):
         command = [program, "--live", *arguments, *["--from-image"] * (image is not None)]
         # In a group of its own, so that a Ctrl-C goes to the feeder alone.
         self.process = subprocess.Popen(command, stdin=subprocess.PIPE, stdout=subprocess.PIPE, bufsize=0, start_new_session=True)
@@ -92,6 +92,7 @@ class Process:
             except OSError:
                 pass
         self.image = open(image, "rb", buffering=0) if image is not None else None
+        self.check = check
         self.image_bytes = os.fstat(self.image.fileno()).st_size if self.image else 0
         self.given = 0
         self.unsent = deque()
@@ -117,8 +118,14 @@ class Process:
     def next_chunk(self):
         chunk = self.image.read(CHUNK_BYTES)
         if chunk:
+            self.check.take(chunk)
             self.unsent.appendleft(Chunk(memoryview(chunk)))
         else:
+            self.check.finish()
+            self.forget_image()
+
+    def forget_image(self):
+        if self.image is not None:
             self.image.close()
             self.image = None
 
@@ -301,7 +308,14 @@ class Hands:
                 self.moved_at = clock()
         except BrokenPipeError:
             self.process.unsent.clear()
-            self.process.image = None
+            self.process.forget_image()
+        except (Damaged, OSError) as fault:
+            # The image is not what was written, or can't be read: nothing behind it is sent.
+            self.process.unsent.clear()
+            self.process.forget_image()
+            self.process.kill()
+            self.core.end(1, f"the checkpoint can't be taken: {fault}")
+            self.act()
 
     def read_answers(self):
         """Takes one answer after another, in a thread of its own."""

@@ -199,8 +199,15 @@ class Promotions:
         """Refuses what waited too long for the disk, the folder or the log."""
         if self.current is not None and self.stage != "sent" and self.core.now > self.current.until:
             self.refuse(503, "late")
+        for wanted in [it for it in self.queue if self.core.now > it.until]:
+            # It stood behind one that may wait for longer.
+            self.queue.remove(wanted)
+            self.answer_late(wanted, 503, "late")
         late = [it for it in self.aside if self.core.now >= it[0].until]
         self.aside = [it for it in self.aside if self.core.now < it[0].until]
         for wanted, code in late:
-            self.core.refusals[code] += 1
-            self.core.reply(wanted.who, 409, code=code, txid=self.core.log.reached.txid)
+            self.answer_late(wanted, 409, code)
+
+    def answer_late(self, wanted, status, code):
+        self.core.refusals[code] += 1
+        self.core.reply(wanted.who, status, code=code, txid=self.core.log.reached.txid)

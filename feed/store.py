@@ -75,14 +75,35 @@ class Scan:
 
     def number(self):
         """The number of its last transaction. It is whole if its last line counts the lines between first and last."""
-        header = members_of(self.head.partition(b"\n")[0])
-        if header.get("image") != "hdfs-standby" or type(header.get("txid")) is not int:
-            raise Damaged("its first line is that of no image")
+        number = number_in(self.head)
         if not self.tail.endswith(b"\n"):
             raise Damaged("its last line is torn")
         if members_of(self.tail[:-1].rpartition(b"\n")[2]) != {"end": self.lines - 2}:
             raise Damaged("its last line does not count its rows: it is torn")
-        return header["txid"]
+        return number
+
+
+def number_in(head):
+    """The number that the first line of an image has."""
+    header = members_of(head.partition(b"\n")[0])
+    if header.get("image") != "hdfs-standby" or type(header.get("txid")) is not int:
+        raise Damaged("its first line is that of no image")
+    return header["txid"]
+
+
+class Check:
+    """Sees that an image is whole, while it goes to the program: nothing else does before this has ended."""
+
+    def __init__(self, name, wanted):
+        self.name, self.wanted = name, wanted
+        self.scan = Scan()
+        self.take = self.scan.take
+
+    def finish(self):
+        """It raises Damaged where the image is not as it was written."""
+        self.scan.number()
+        if self.wanted is not None and self.wanted != sum_line(self.scan, self.name):
+            raise Damaged("its sum is another one")
 
 
 class Start(NamedTuple):
@@ -90,6 +111,7 @@ class Start(NamedTuple):
 
     name: Optional[str]
     place: Place
+    check: Optional[Check] = None
 
 
 class Store:
@@ -135,7 +157,7 @@ class Store:
         self.tell(f"{name} is passed over: {reason}")
 
     def starts(self) -> Iterator[Start]:
-        """The checkpoints that are whole, the newest first, and last no checkpoint at all."""
+        """The checkpoints, the newest first, and last no checkpoint at all. Whether one is whole its check says, while it is read."""
         names = set(self.disk.names())
         has_sums = any(name.endswith(SUM) for name in names)
         for name in self.images():
@@ -149,20 +171,17 @@ class Store:
         yield Start(None, Place(0, 0))
 
     def start(self, name, has_sum, is_old):
-        scan = Scan()
         with self.disk.open(name) as file:
-            for chunk in iter(lambda: file.read(CHUNK_BYTES), b""):
-                scan.take(chunk)
+            place = Place(number_in(file.read(HEADER_BYTES)), txid_of(name))
+        wanted = None
         if has_sum:
             with self.disk.open(name + SUM) as file:
-                if file.read() != sum_line(scan, name):
-                    raise Damaged("its sum is another one")
+                wanted = file.read()
         else:
             self.tell(f"{name} has no sum")
-        place = Place(scan.number(), txid_of(name))
         if is_old:
             self.check_pairs(name, place)
-        return Start(name, place)
+        return Start(name, place, Check(name, wanted))
 
     def check_pairs(self, name, place):
         """A checkpoint of an earlier feeder has a file beside it, which must not say something else."""

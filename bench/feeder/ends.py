@@ -6,6 +6,7 @@ DataNode would send, and compares the tables in the end with those of a batch ru
 import http.client
 import json
 import os
+import resource
 import shutil
 import signal
 import socket
@@ -166,7 +167,7 @@ def check_cut(tally, place):
     feed = Feed(place, "--checkpoint", "50000")
     status = feed.reaches(60_021)
     tally.same("it is cut into two", (status["segments"], status["lag"], status["faults"]), (4, 0, {}))
-    middle = place.images()
+    middle = until("its checkpoint", place.images)
     tally.same("the next one is not due", len(middle), 1)
     tally.holds("a checkpoint lies between them", 50_000 < int(middle[0][8:]) < 60_009, middle)
     feed.process.kill()
@@ -549,6 +550,7 @@ def run(part, tally, folder, program, seconds):
 def driven(program, names):
     """Runs the parts, or those of these names. Answers how many cases failed."""
     tally = Tally()
+    resource.setrlimit(resource.RLIMIT_NOFILE, (resource.getrlimit(resource.RLIMIT_NOFILE)[1],) * 2)
     signal.signal(signal.SIGALRM, out_of_time)
     end_of_time = time.monotonic() + LIMIT_SECONDS
     with tempfile.TemporaryDirectory() as folder:

@@ -1,9 +1,12 @@
 """Cases of the feeder that is driven: kill -9 of the program and of the feeder, while they wait, inside a segment and a checkpoint."""
+import http.client
 import os
+import random
 import signal
+import tempfile
 import time
 
-from driving import SECONDS, Failed, Feed, has_ended, until
+from driving import SECONDS, Failed, Feed, Place, Tally, has_ended, until
 from logs import directories, files, full_report, lines_of, name_of, report
 
 TRIES = 8
@@ -126,3 +129,62 @@ def check_kills(tally, place):
     tally.same("the promotion in the end", kills.feed.promote(kills.next - 1)[0], 200)
     whole = "".join(kills.log) + lines_of(reports)
     tally.same("the tables are those of the batch", kills.feed.tables(), place.batch(whole))
+
+
+class ManyKills(Kills):
+    """Kills at random moments, while a log grows by small and large segments and three DataNodes report."""
+
+    def __init__(self, tally, place, seed=7):
+        super().__init__(tally, place)
+        self.random = random.Random(seed)
+        self.began = 0
+
+    def work(self):
+        """Some of a log, and reports that may be cut off."""
+        for _ in range(self.random.randint(1, 4)):
+            self.grow(files(self.next, self.began, 4))
+            self.began += 4
+        if self.random.random() < 0.2:
+            self.grow(directories(self.next, 3_000, length=180))
+        try:
+            self.feed.report(*full_report(self.random.randint(1, 3), *range(self.began)[-50:]))
+        except (OSError, http.client.HTTPException):
+            pass
+
+    def one(self):
+        self.work()
+        time.sleep(self.random.random() * 0.3)
+        child, which = self.feed.child, self.random.choice(("feeder", "program", "both"))
+        for process in {"feeder": [self.feed.process.pid], "program": [child], "both": [child, self.feed.process.pid]}[which]:
+            os.kill(process, signal.SIGKILL)
+        self.feed.ended()
+        until("the program's end", lambda: has_ended(child))
+        self.start()
+
+    def play(self, count):
+        self.grow(files(self.next, self.began, 4))
+        self.began += 4
+        self.start()
+        for _ in range(count):
+            self.one()
+        self.feed.reaches(self.next - 1)
+        reports = [line for dn in (1, 2, 3) for line in full_report(dn, *range(dn, self.began, 3))]
+        self.tally.same("full reports in the end", self.feed.report(*reports)[0], 200)
+        self.tally.same("the promotion", self.feed.promote(self.next - 1), (200, "active"))
+        whole = "".join(self.log) + lines_of(reports)
+        self.tally.same(f"the tables behind {count} kills are those of the batch", self.feed.tables(), self.place.batch(whole))
+
+
+def many_kills(program, count):
+    """Answers how many cases failed."""
+    tally = Tally()
+    with tempfile.TemporaryDirectory() as folder:
+        place = Place(folder, program)
+        try:
+            ManyKills(tally, place).play(count)
+        except Failed as fault:
+            tally.holds("it ended early", False, f"{fault}\n{place.running[-1].told()[-2000:]}")
+        finally:
+            place.end()
+    print(f"{tally.passed} passed, {tally.failed} failed")
+    return tally.failed

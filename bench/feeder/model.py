@@ -99,8 +99,7 @@ class Session:
         store = feeder.store.Store(self.room, lambda text: self.trace.append(text))
         store.clear()
         kept = store.state()
-        start = next(store.starts())
-        image = self.room.files[start.name] if start.name else b""
+        start, image = self.whole(store)
         if start.name and hashlib.sha256(image).digest() not in self.images:
             raise Broken("a changed image is taken")
         settings = feeder.core.Settings(EVERY, KEEP, GONE, 1, "", True)
@@ -112,6 +111,19 @@ class Session:
         self.reader = feeder.segments.LineReader(PIECE_BYTES)
         self.core = feeder.core.Core(settings, after, after == kept, start.place, store.own(), "i", self.now)
         return start, image
+
+    def whole(self, store):
+        """The newest checkpoint that is whole while it is read, and its bytes."""
+        for start in store.starts():
+            image = self.room.files[start.name] if start.name else b""
+            try:
+                if start.name:
+                    start.check.take(image)
+                    start.check.finish()
+                return start, image
+            except self.feeder.state.Damaged as fault:
+                store.pass_over(start.name, fault)
+        return None
 
     def clear_given_up(self, kept):
         """Whoever fenced takes away what a promotion gave up, where the feeder was killed before it could keep that."""
@@ -160,8 +172,11 @@ class Session:
         return self.hung_since is None if lane == "program" else self.now >= self.stuck.get(lane, 0)
 
     def let_program_answer(self):
-        """A program that does not hang answers within the step."""
+        """A program that does not hang does what it is asked within the step. Its answer may come with the next one."""
         while self.lanes["program"] and self.hung_since is None and not self.is_ended:
+            is_done = len(self.lanes["program"][0]) > 4
+            if is_done and self.trouble.chance(0.3):
+                return
             self.carry_out("program", self.lanes["program"].pop(0))
             self.act()
 
@@ -641,7 +656,8 @@ class Session:
             self.tick()
             self.deliver()
             if at == KNOWN_WITHIN and not self.is_ended:
-                self.ever = max(self.ever, self.is_in_order() * self.greatest(self.visible(), True))
+                is_followed = self.is_in_order() and not self.core.log.doubts
+                self.ever = max(self.ever, is_followed * self.greatest(self.visible(), True))
                 self.request("health")
         self.request("health") if not self.is_ended else None
         self.judge_rest()

@@ -78,8 +78,8 @@ class Segments:
         return EPOCH + self.clock()
 
     def stat(self, path):
-        self.trouble.fail(0.03)
         name = os.path.basename(path)
+        self.trouble.fail(0.08 if name == "folder" else 0.03)
         if name == "folder":
             return self.times(0 if self.is_hidden else self.changed, 1, 0)
         file = self.file(name)

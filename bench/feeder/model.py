@@ -264,10 +264,11 @@ class Session:
     def greatest(self, shown, is_doubtful=False):
         """The greatest TXID that these files say is there, by the rules of names. Of doubtful ones nothing is known."""
         given = self.given_up
-        left = ((name, data) for name, data in shown.items() if given.get(name) != data and not (is_doubtful and name in given))
+        left = ((name, data) for name, data in shown.items() if given.get(name) != data and not (is_doubtful and name in self.given_names))
         return max((last_of(name, data) for name, data in left), default=0)
 
-    given_up = {}
+    # What was given up, by name; and all names that may have been.
+    given_up, given_names = {}, frozenset()
     shown, looked_at = {}, -1.0
 
     # ---- Laws.
@@ -316,6 +317,7 @@ class Session:
         self.history += 1
         shown = self.shown if self.sent_looked >= min(then for _, then in self.sent) else {}
         given = dict(self.given_up)
+        self.given_names = self.given_names | self.segments.files.keys()
         for name, file in list(self.segments.files.items()):
             if self.greatest({name: file.data}) > txid or name in self.growing:
                 if shown.get(name) == file.data and not self.segments.sums_failed and not self.segments.is_hidden:

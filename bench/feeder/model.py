@@ -2,47 +2,22 @@
 
 A session plays the hands: it carries out what the core asks for, late and in any order between the lanes, and each
 action may fail. It kills the feeder between any two actions, hangs the program, stops all for a while, and hides the
-folder. The laws say nothing of how the core works. `Feeder` has the modules that are judged, as they are or with a
+folder. The feeder has the modules that are judged, as they are or with a
 fault put back.
 """
-import functools
 import hashlib
 import json
 import random
-import re
 
+from cluster import Cluster
+from laws import EVERY, GONE, KEEP, KNOWN_WITHIN, PIECE_BYTES, SLACK, STEADY, STEPS, Broken, Laws
 from programs import Built, ByDefinition, Listener
-from worlds import END, HEADER, Room, Segments, Trouble, line, progress_name, segment, segment_name
-
-EVERY, KEEP, GONE, PIECE_BYTES = 8, 2, 15, 420
-STEADY = 9
-# So many seconds behind the last fault all is known that is there.
-KNOWN_WITHIN = 9
-STEPS = 120
-# How late what the world sees may be: a tick, and what a lane holds back.
-SLACK = 3
+from worlds import Room, Segments, Trouble
 
 
-class Broken(Exception):
-    """A law that does not hold."""
+class Session(Laws, Cluster):
+    """A feeder, its program, its world and its callers."""
 
-
-@functools.lru_cache(2000)
-def last_of(name, data):
-    """The TXID that a file says is there, or 0."""
-    if not re.fullmatch(r"edits_(inprogress_)?[0-9]{19}(-[0-9]{19})?(\.xml)?", name):
-        return 0
-    stem = name.replace(".xml", "")
-    return int(stem[-19:]) if "inprogress" not in name or is_begun(name, data) else 0
-
-
-def is_begun(name, data):
-    if data.startswith(b"\xff"):
-        return len(data) > 8 and data[8] != 0xFF
-    return b"<RECORD>" in data if name.endswith(".xml") else b"\n" in data
-
-
-class Session:
     def __init__(self, feeder, seed, program=None):
         self.feeder = feeder
         self.program_path = program
@@ -65,7 +40,13 @@ class Session:
         self.most = 0
         self.images = set()
         self.requests = 0
-        self.told_states = {}
+        # What was given up, by name, and all names that may have been; the last listing that came, and when it was made.
+        self.given_up, self.given_names = {}, frozenset()
+        self.shown, self.looked_at = {}, -1.0
+        # When all stood still, and for how long; when the last tick was.
+        self.pauses, self.heard_tick = (), 0.0
+        # The greatest epoch that was named, the last answer of health, and the last segment that was removed.
+        self.epoch_named, self.health, self.removed = 0, 0, None
         self.program = None
         self.start()
 
@@ -259,147 +240,6 @@ class Session:
             return str(reason)
         return None
 
-    # ---- What is seen of the folder.
-
-    def greatest(self, shown, is_doubtful=False):
-        """The greatest TXID that these files say is there, by the rules of names. Of doubtful ones nothing is known."""
-        given = self.given_up
-        left = ((name, data) for name, data in shown.items() if given.get(name) != data and not (is_doubtful and name in self.given_names))
-        return max((last_of(name, data) for name, data in left), default=0)
-
-    # What was given up, by name; and all names that may have been.
-    given_up, given_names = {}, frozenset()
-    shown, looked_at = {}, -1.0
-
-    # ---- Laws.
-
-    def judge_sent(self, text):
-        """A promotion is sent in time, and nobody is gone who asked, or heard an answer, not long ago."""
-        for dn in (int(row.split()[1]) for row in text.splitlines() if row.startswith("gone ")):
-            if self.now - self.last_asked.get(dn, -GONE) < GONE - SLACK:
-                raise Broken(f"DataNode {dn} is gone, and was heard {self.now - self.last_asked[dn]:.0f} seconds ago")
-        for words in (row.split() for row in text.splitlines() if row.startswith("promote ")):
-            self.sent = self.matching(int(words[3]), words[4:] == ["lost"])
-            self.sent_seen, self.sent_looked = max(self.ever, self.ever_shown), self.looked_at
-            if not self.sent:
-                raise Broken("a promotion is sent late, or nobody asked for it")
-
-    def matching(self, epoch, is_lost):
-        asked = [(body, then) for kind, body, then in self.asked.values() if kind == "promote"]
-        return [
-            (body, then)
-            for body, then in asked
-            if (body["epoch"], body["lost"]) == (epoch, is_lost) and self.now - then <= max(5, body["within"]) + 0.001
-        ]
-
-    def judge_state(self, text, told, state):
-        """A standby that has become active: not below what was seen, not in a lower epoch, and not without a look."""
-        if state == "active" and not self.listener.is_active:
-            words = next(row.split() for row in text.splitlines() if row.startswith("promote "))
-            epoch, is_lost = int(words[3]), words[4:] == ["lost"]
-            asked = self.sent
-            self.listener.is_active = True
-            if epoch < self.epoch:
-                raise Broken(f"promoted in epoch {epoch}, and {self.epoch} was named")
-            self.listener.promoted = epoch
-            if is_lost:
-                self.give_up(max(body["txid"] for body, _ in asked))
-                return
-            txid = max(body["txid"] for body, _ in asked)
-            if txid < self.sent_seen:
-                raise Broken(f"promoted at {txid}, and {self.sent_seen} was seen")
-            if self.sent_looked < min(then for _, then in asked):
-                raise Broken("promoted without a look")
-
-    def give_up(self, txid):
-        """All above a TXID is given up: another log goes on there. What nobody was shown is taken away."""
-        self.ever = self.ever_shown = self.sure = self.most = txid
-        self.history += 1
-        shown = self.shown if self.sent_looked >= min(then for _, then in self.sent) else {}
-        given = dict(self.given_up)
-        self.given_names = self.given_names | self.segments.files.keys()
-        for name, file in list(self.segments.files.items()):
-            if self.greatest({name: file.data}) > txid or name in self.growing:
-                if shown.get(name) == file.data and not self.segments.sums_failed and not self.segments.is_hidden:
-                    given[name] = file.data
-                else:
-                    self.segments.drop(name)
-                    self.growing.pop(name, None)
-        self.given_up = given
-        self.growing = {}
-        del self.log[txid:]
-        self.is_spoiled = False
-
-    def judge_end(self, status):
-        self.is_ended = True
-        if status == 1 and not self.is_killed:
-            raise Broken(f"it ended with 1: {self.trace[-3:]}")
-        if status == 3 and not (self.listener.is_active and self.epoch_named > self.listener.promoted):
-            raise Broken("it ended as deposed, and no greater epoch was named")
-
-    def judge(self, who, status, answer):
-        """An answer that went out."""
-        if who not in self.asked:
-            raise Broken("a request is answered twice")
-        kind, body, then = self.asked.pop(who)
-        if kind in ("report", "heartbeat"):
-            self.last_asked[body["dn"]] = self.now
-        if kind == "promote":
-            self.judge_promotion(status, answer, body, then)
-        elif kind == "epoch" and status == 200:
-            self.epoch = max(self.epoch, body["epoch"])
-        elif kind == "health":
-            self.judge_health(status, answer)
-        elif kind in ("report", "heartbeat") and "full_report" in answer:
-            self.judge_full(kind, answer, body)
-
-    def judge_promotion(self, status, answer, body, then):
-        if status == 200:
-            if not self.listener.is_active or self.listener.promoted > body["epoch"]:
-                raise Broken("a promotion is answered, and it is not active")
-            self.listener.promoted = body["epoch"]
-        if status == 200 or status == 409:
-            self.epoch = max(self.epoch, body["epoch"])
-        if self.now - then > max(body["within"], 5) + 3 * SLACK + self.paused_since(then) and self.has_answered_since(then):
-            raise Broken(f"a promotion waits {self.now - then:.0f} s for its answer")
-
-    def has_answered_since(self, then):
-        return self.hung_since is None and (self.hung_at is None or self.hung_at < then)
-
-    def paused_since(self, then):
-        return sum(length for at, length in self.pauses if at >= then - SLACK)
-
-    pauses = ()
-
-    def judge_full(self, kind, answer, body):
-        is_full = body["dn"] in self.listener.full
-        if answer["full_report"] == "taken" and not is_full:
-            raise Broken("half a report is called full")
-        if kind == "report" and is_full and answer["full_report"] != "taken" and self.is_in_order():
-            raise Broken("a full report is not known")
-
-    def is_in_order(self):
-        return self.hung_since is None and not self.listener.is_active
-
-    def judge_health(self, status, answer):
-        hung = self.now - self.hung_since if self.hung_since is not None else 0
-        if status == 200:
-            if hung - self.hung_paused > 12 + SLACK + self.hung_late:
-                raise Broken("healthy, and the program hangs")
-            file = self.room.files.get("state")
-            kept = self.feeder.judge_state.kept_in(file) if file else self.feeder.judge_state.Kept()
-            if kept.seen < answer["known"] or kept.epoch < self.epoch:
-                raise Broken(f"healthy, and what it relies on is not kept: {kept}, {answer['known']}, {self.epoch}")
-            if answer["state"] not in ("standby", "active"):
-                raise Broken(f"healthy, and {answer['state']}")
-            self.sure = max(self.sure, answer["known"])
-        if answer.get("reason") == "silent" and self.has_answered_since(0):
-            raise Broken("silent, and the program answers")
-        if answer["known"] > self.most:
-            raise Broken(f"it knows {answer['known']}, and no more than {self.most} was ever seen")
-        if answer["known"] < self.ever:
-            raise Broken(f"it knows {answer['known']}, and {self.ever} was seen")
-
     # ---- What callers do.
 
     def request(self, kind, **body):
@@ -417,8 +257,6 @@ class Session:
             raise Broken("health waits")
         self.act()
 
-    epoch_named = 0
-
     def report(self, dn, kind):
         members = {"dn": dn, "block": 1073741825, "gen": 1001, "len": 5, "kind": kind}
         self.request("report", dn=dn, data=json.dumps(members, separators=(",", ":"), sort_keys=True).encode() + b"\n", count=1)
@@ -430,59 +268,6 @@ class Session:
         body = {"txid": max(0, reached + self.random.choice([0, 0, 0, 0, 1, -1, 4])), "within": self.random.choice([0, 0, 0, 8, 20])}
         body["epoch"] = self.random.choice([0, self.epoch, self.epoch, self.epoch + 1, max(0, self.epoch - 1)])
         self.request("promote", lost=self.random.random() < 0.3, **body)
-
-    # ---- What the cluster does.
-
-    def grow(self):
-        """The log goes on by a segment: whole at once, or in its place, or torn at first. While it is given up it stands still."""
-        if any(kind == "promote" and body["lost"] for kind, body, _ in self.asked.values()) or self.is_spoiled or self.growing:
-            return
-        first, count = len(self.log) + 1, self.random.randint(1, 6)
-        paths = [f"/h{self.history}-{txid}" for txid in range(first + 1, first + count + 1)]
-        if self.random.random() < 0.01:
-            paths[-1], self.is_spoiled = None, True
-        data = segment(first, paths)
-        self.log += [None, *paths, None]
-        name = segment_name(first, len(self.log))
-        self.segments.drop(progress_name(first))
-        if self.random.random() < 0.25:
-            self.segments.put(name, data[: self.random.randint(0, len(data) - 1)])
-            self.growing[name] = data
-        else:
-            self.segments.put(name, data)
-
-    def ripen(self):
-        """A file that grew in its place is whole."""
-        for name, data in list(self.growing.items()):
-            if self.trouble.is_on and self.random.random() < 0.5:
-                self.segments.grow(name, data[: self.random.randint(0, len(data))])
-            else:
-                self.segments.grow(name, data)
-                del self.growing[name]
-
-    def begin_segment(self):
-        """A segment in progress, of lines, binary or as a dump; and what has such a name and is none."""
-        if self.growing or self.is_spoiled or any(kind == "promote" and body["lost"] for kind, body, _ in self.asked.values()):
-            return
-        first = len(self.log) + 1
-        data, suffix = self.random.choice(
-            [
-                (b"", ""),
-                (line("OP_START_LOG_SEGMENT", first).encode(), ""),
-                (line("OP_START_LOG_SEGMENT", first).encode()[:-1], ""),
-                (HEADER, ""),
-                (HEADER + b"\xff" * 90, ""),
-                (HEADER + b"\x18" + b"\x00" * 30, ""),
-                (b"<EDITS><EDITS_VERSION>-63</EDITS_VERSION><RECORD>", ".xml"),
-                (HEADER + b"\x18" + b"\x00" * 30, random.Random(first).choice([".empty", ".trash", ".corrupt", ".md5"])),
-            ]
-        )
-        self.segments.put(progress_name(first, suffix), data)
-
-    def end_segments(self):
-        """What is in progress is gone: it was thrown away, or gets its name."""
-        for name in [name for name in self.segments.files if "inprogress" in name]:
-            self.segments.drop(name)
 
     # ---- A step.
 
@@ -527,13 +312,6 @@ class Session:
         self.core.tick()
         self.act()
 
-    heard_tick = 0.0
-
-    def look_at_hang(self):
-        hung = self.now - self.hung_since - self.hung_paused - self.hung_late if self.hung_since is not None else 0
-        if hung > 75 and not self.is_killed and not self.is_ended:
-            raise Broken("a program hangs for more than a minute, and is not killed")
-
     def happen(self, chosen):
         if chosen < 0.20:
             self.grow()
@@ -570,29 +348,12 @@ class Session:
         elif chosen < 0.91:
             self.stuck[self.random.choice(["list", "read", "disk"])] = self.now + self.random.choice([3, 9, 20])
 
-    def remove_newest(self):
-        names = [name for name in self.segments.files if "inprogress" not in name]
-        if names and max(names) not in self.growing:
-            name = max(names)
-            self.removed = (name, self.segments.files[name].data)
-            self.segments.drop(name)
-
-    removed = None
-
     def die(self):
         """kill -9, between any two actions. A new one starts at once."""
         self.tick()
         self.deliver(0.6)
         if not self.is_ended:
             self.start()
-
-    def hang(self):
-        if self.hung_since is None:
-            self.hung_since, self.hung_paused, self.hung_late = self.now, 0.0, 0.0
-
-    def go_on(self):
-        if self.hung_since is not None and not self.is_killed:
-            self.hung_since, self.hung_at = None, self.now
 
     def pause(self):
         """All stands still: the feeder, the program and who asks them."""
@@ -621,17 +382,6 @@ class Session:
             self.judge_damaged_state(before)
             return
         self.start()
-
-    def judge_damaged_state(self, before):
-        """A damaged state is refused. Whoever runs the feeder puts back the one before."""
-        self.trouble.is_on = False
-        try:
-            self.feeder.store.Store(self.room, lambda text: None).state()
-        except self.feeder.state.Damaged:
-            self.room.files["state"] = before
-            self.trouble.is_on = True
-            return
-        raise Broken("a changed state is taken")
 
     # ---- The end.
 
@@ -668,59 +418,6 @@ class Session:
         if is_standby and not self.is_ended and not self.core.log.doubts:
             self.judge_names()
 
-    def visible(self):
-        return {name: file.data for name, file in self.segments.files.items()}
-
-    def judge_rest(self):
-        if [kind for kind, body, then in self.asked.values() if kind != "health"] and not self.is_ended:
-            raise Broken(f"requests are not answered: {self.asked}")
-        left = sorted(name for name in self.room.files if name.startswith("writing_") or name.endswith(".pairs"))
-        images = [name for name in self.room.files if re.fullmatch("fsimage_[0-9]+", name)]
-        images = [name for name in images if hashlib.sha256(self.room.files[name]).digest() in self.images]
-        if left or len(images) > KEEP:
-            raise Broken(f"left on the disk: {sorted(self.room.files)}")
-        if self.is_ended or self.listener.is_active:
-            return
-        if self.core.program.state == "standby":
-            self.judge_followed()
-            silent = {dn for dn in self.core.datanodes.heard if dn != STEADY} - self.listener.gone
-            if silent:
-                raise Broken(f"silent, and not gone: {silent}")
-
-    def judge_promotable(self):
-        """Where all that was seen is followed, a promotion there in a new epoch is taken."""
-        log = self.core.log
-        if self.is_ended or self.core.program.state != "standby" or log.doubts or log.reached.txid < self.core.keeping.kept.seen:
-            return
-        self.request("promote", txid=log.reached.txid, epoch=self.epoch_named + 1, lost=False, within=0)
-        for _ in range(3):
-            self.now += 1
-            self.tick()
-            self.deliver()
-        if not self.listener.is_active:
-            raise Broken(f"all is followed up to {log.reached.txid}, and a promotion there is refused")
-
-    def judge_followed(self):
-        """All segments that are there in a row are followed, and the names are those of the log."""
-        top = self.core.log.reached.txid
-        files = self.segments.files
-        spans = [(int(name[6:25]), int(name[26:45])) for name in files if name[6].isdigit() and self.given_up.get(name) != files[name].data]
-        below = [last for first, last in spans if first <= top + 1 <= last]
-        if self.core.log.doubts:
-            # One that may have been given up is left to whoever fenced.
-            return
-        if below and not self.is_spoiled:
-            raise Broken(f"it stands at {top}, and {max(below)} is there: {self.core.log.waits}")
-
-    def judge_names(self):
-        """The names are those of the log up to where it is."""
-        top = self.core.log.reached.txid
-        told = self.program.answer(b"tables\n").decode().splitlines()
-        dirs = {row[5:-1] for row in told if row.startswith('dir "') and row != 'dir "/"'}
-        wanted = {path for path in self.log[:top] if path}
-        if dirs != wanted:
-            raise Broken(f"other names than the log has: {sorted(dirs ^ wanted)[:5]}")
-
     def run(self):
         """Plays it whole. Answers the law that broke, or None."""
         try:
@@ -734,6 +431,3 @@ class Session:
         finally:
             self.program.end()
         return None
-
-
-assert END

@@ -115,10 +115,11 @@ class Doors:
                 if descriptor in self.doors:
                     self.accept(self.doors[descriptor])
                 elif descriptor in self.connections:
-                    self.connections[descriptor].move()
+                    self.guard(self.connections[descriptor], Connection.move)
             if clock() - swept >= 1:
                 swept = clock()
-                self.sweep(swept)
+                for it in list(self.connections.values()):
+                    self.guard(it, Connection.look_at_time)
 
     def accept(self, door):
         for _ in range(64):
@@ -140,9 +141,13 @@ class Doors:
         if idle:
             min(idle, key=lambda it: it.since).close()
 
-    def sweep(self, now):
-        for it in list(self.connections.values()):
-            it.look_at_time(now)
+    def guard(self, connection, work):
+        """One caller ends nobody but itself."""
+        try:
+            work(connection)
+        except Exception as fault:
+            self.put("tell", f"a connection is closed: {fault!r}")
+            connection.close()
 
     def close(self):
         """Lets what is under way be answered for a moment, and ends."""
@@ -280,6 +285,10 @@ class Connection:
     # ---- Answers. The hands give them.
 
     def answer(self, status, value):
+        """From the hands' thread, which goes on whatever becomes of the caller."""
+        self.doors.guard(self, lambda it: it.give(status, value))
+
+    def give(self, status, value):
         if status == 200 and self.route.kind == "figures":
             value["refused"] = dict(Counter(value["refused"]) + self.doors.refused)
         kind, body, source = self.route.show(value) if self.route.show and status == 200 else (JSON, to_bytes(value), None)
@@ -354,9 +363,9 @@ class Connection:
         except OSError:
             self.close()
 
-    def look_at_time(self, now):
+    def look_at_time(self):
         with self.lock:
-            waited = now - self.since
+            waited = clock() - self.since
             if self.stage == "idle" and waited > IDLE_SECONDS:
                 self.close()
             elif self.stage == "reading" and waited > REQUEST_SECONDS:

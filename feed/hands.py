@@ -13,6 +13,7 @@ import threading
 import time
 from collections import deque
 
+from following import Unreadable
 from segments import taken
 from state import Damaged
 
@@ -265,17 +266,21 @@ class Hands:
 
     def look(self, look):
         def work():
-            try:
-                found = self.folder.look(look), None
-            except OSError as fault:
-                found = None, fault.strerror or str(fault)
-            self.put("looked", *found)
+            found = []
+            fault = fault_of(lambda: found.append(self.folder.look(look)))
+            self.put("looked", found[0] if found else None, fault)
 
         self.looks.do(work)
 
     def read(self, named, reached):
         path = os.path.join(self.folder.path, named.name)
-        self.reads.do(lambda: self.put("read", named.name, taken(self.reader, self.folder.system, path, named, reached)))
+
+        def work():
+            result = []
+            fault = fault_of(lambda: result.append(taken(self.reader, self.folder.system, path, named, reached)))
+            self.put("read", named.name, result[0] if result else Unreadable(fault))
+
+        self.reads.do(work)
 
     def save(self, name, data):
         self.files.do(lambda: self.put("saved", name, fault_of(lambda: self.store.replace(name, data))))
@@ -393,6 +398,8 @@ def fault_of(work):
         return fault.strerror or str(fault)
     except Damaged as fault:
         return str(fault)
+    except Exception as fault:  # a worker goes on, whatever it meets
+        return repr(fault)
     return None
 
 

@@ -39,8 +39,8 @@ class Log:
         self.reached = reached
         # What the last look found above the place that was reached, by name.
         self.found = {}
-        # Those whose name was given up, and of which it can't be known whether they are what was given up.
-        self.doubts = []
+        # Those whose name was given up, and of which it can't be known whether they are what was given up: names, each with its TXID.
+        self.doubts = {}
         # The keys of files that were not taken, by name, and why; and what can't be read at this look.
         self.bad, self.reasons, self.unread = {}, {}, {}
         self.passed_over = set()
@@ -107,9 +107,11 @@ class Log:
     def take(self, found):
         given_up = self.core.keeping.kept.given_up
         doubts = [name for name, it in found.items() if name in given_up and it.is_begun and None in (it.sum, given_up[name])]
-        for name in sorted(set(doubts) - set(self.doubts)):
+        for name in sorted(set(doubts) - self.doubts.keys()):
             self.core.tell(f"{name} has the name of one that a promotion gave up, and it can't be known whether it is that one")
-        self.doubts = doubts
+        # One that goes away again stays one, until the log is beyond it.
+        stay = {name: last for name, last in self.doubts.items() if name not in found and last > self.reached.txid}
+        self.doubts = {**stay, **{name: found[name].named.last for name in doubts}}
         left = {name for name, it in found.items() if name in given_up and name not in doubts and it.sum == given_up[name]}
         for name in sorted(left - self.passed_over):
             self.core.tell(f"{name} is passed over: a promotion gave it up")
@@ -151,7 +153,7 @@ class Log:
             name = min(it.named for it in following).name
             return self.unread.get(name) or f"{name} was not taken{self.reasons.get(name, '')}"
         if self.doubts:
-            return f"{self.doubts[0]} may be one that a promotion gave up"
+            return f"{min(self.doubts)} may be one that a promotion gave up"
         if self.core.keeping.kept.seen <= self.reached.txid:
             return None
         return f"TXID {self.reached.txid + 1} is next and is not there"

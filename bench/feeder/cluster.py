@@ -9,7 +9,8 @@ class Cluster:
 
     def give_up(self, txid):
         """All above a TXID is given up: another log goes on there. What nobody was shown is taken away."""
-        self.ever = self.ever_shown = self.sure = self.most = txid
+        self.ever = self.ever_shown = self.most = txid
+        self.sure = min(self.sure, txid)
         self.history += 1
         shown = self.shown if self.sent_looked >= min(then for _, then in self.sent) else {}
         given = dict(self.given_up)

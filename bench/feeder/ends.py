@@ -359,6 +359,29 @@ def check_images(tally, place):
     tally.same("a second feeder of the same checkpoints", (second.address, second.ended()), ("", 1))
 
 
+def check_earlier(tally, place):
+    """The checkpoints of an earlier feeder, which have no sums, are taken, and replaced by one that has."""
+    place.put_segment(files(1, 0, 1))
+    feed = Feed(place, "--checkpoint", "7")
+    (name,) = until("its checkpoint", place.images)
+    feed.stop()
+    os.remove(os.path.join(place.checkpoints, f"{name}.sha256"))
+    os.remove(os.path.join(place.checkpoints, "state"))
+    write(place, f"{name}.pairs", '{"number":8,"segments":[],"txid":7}\n')
+    feed = Feed(place)
+    tally.contains("one that says something else is passed over", feed.told(), f"{name} is passed over: the file beside it")
+    feed.stop()
+    write(place, f"{name}.pairs", '{"number":7,"segments":[],"txid":7}\n')
+    feed = Feed(place, "--checkpoint", "7", "--keep", "1")
+    tally.contains("one without a sum is taken, and that is told", feed.told(), f"{name} has no sum\n")
+    tally.contains("it goes on there", feed.told(), "goes on from TXID 7\n")
+    place.put_segment(files(8, 1, 1))
+    until("it is replaced", lambda: place.images() == [f"fsimage_{14:019}"] and f"{name}.pairs" not in os.listdir(place.checkpoints))
+    feed.stop()
+    names = sorted(it for it in os.listdir(place.checkpoints) if it != "operators")
+    tally.same("nothing else is left", names, [f"fsimage_{14:019}", f"fsimage_{14:019}.sha256", "state"])
+
+
 def spoiled(image):
     """What may be left of an image, and images that say something else."""
     header, *rows, last = image.splitlines(keepends=True)
@@ -520,6 +543,7 @@ PARTS = [
     check_stop,
     check_gone,
     check_images,
+    check_earlier,
     check_dumps,
     check_bad_dumps,
     check_snapshots,

@@ -139,10 +139,13 @@ class Laws:
                 raise Broken(f"healthy, and what it relies on is not kept: {kept}, {answer['known']}, {self.epoch}")
             if answer["state"] not in ("standby", "active"):
                 raise Broken(f"healthy, and {answer['state']}")
-            self.sure = max(self.sure, answer["known"])
+            if not (self.listener.is_active and self.lanes["program"]):
+                # Else a promotion may have given up what it does not know yet.
+                self.sure = max(self.sure, answer["known"])
         if answer.get("reason") == "silent" and self.has_answered_since(0):
             raise Broken("silent, and the program answers")
-        if answer["known"] > self.most:
+        # Behind a promotion that gave up, it is not known before the program's answer has come.
+        if answer["known"] > self.most and not self.lanes["program"]:
             raise Broken(f"it knows {answer['known']}, and no more than {self.most} was ever seen")
         if answer["known"] < self.ever:
             raise Broken(f"it knows {answer['known']}, and {self.ever} was seen")

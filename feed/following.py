@@ -97,7 +97,9 @@ class Log:
         self.core.failures["look"] += fault is not None
         if fault is None:
             self.looked_at = self.begun_at
-            self.take(found)
+            if self.core.is_standby():
+                # A listing that comes behind a promotion raises nothing: what it gave up is given up.
+                self.take(found)
         self.core.promotions.looked()
         if self.is_wanted:
             self.is_wanted = False

@@ -14,6 +14,7 @@ class Cluster:
         self.history += 1
         shown = self.shown if self.sent_looked >= min(then for _, then in self.sent) else {}
         given = dict(self.given_up)
+        self.is_unsummed = True
         self.given_names = self.given_names | self.segments.files.keys()
         for name, file in list(self.segments.files.items()):
             if self.greatest({name: file.data}) > txid or name in self.growing:

@@ -42,6 +42,8 @@ class Session(Laws, Cluster):
         self.requests = 0
         # What was given up, by name, and all names that may have been; the last listing that came, and when it was made.
         self.given_up, self.given_names = {}, frozenset()
+        # Whether something was given up: it may be that its sum could not be taken, and then its name is in doubt for good.
+        self.is_unsummed = False
         self.shown, self.looked_at = {}, -1.0
         # When all stood still, and for how long; when the last tick was.
         self.pauses, self.heard_tick = (), 0.0
@@ -188,7 +190,7 @@ class Session(Laws, Cluster):
         _, found, shown, listed_at, _ = action
         if found[1] is None:
             self.shown, self.looked_at = shown, listed_at
-            self.ever = max(self.ever, self.greatest(shown, self.segments.sums_failed))
+            self.ever = max(self.ever, self.greatest(shown, self.segments.sums_failed or self.is_unsummed))
             self.ever_shown = max(self.ever_shown, self.greatest(shown))
             self.most = max(self.most, self.greatest(shown), *(int(name[17:36]) for name in self.segments.unread), 0)
         self.core.looked(*found)

@@ -148,6 +148,10 @@ is_long torn x blank has many is = record {
   all = sym has.blank ∙ sym is;
 }
 
+-- such a line has some bytes
+pub some_long : (torn : List ℕ) → 65536 < length torn → torn ≡ [] → ⊥
+some_long torn long none = omega (arith, long, ap length none)
+
 -- any other it has whole
 pub is_whole : (torn : List ℕ) (x : Torn) → HasTorn torn x → nat_lt 65536 (length x.kept) ≡ false → x.kept ≡ torn
 is_whole torn x has few = whole_line torn x has (ltb-false 65536 (length x.kept) few)
@@ -220,16 +224,20 @@ none_cut rest text more end is_text is_more none =
 -- ---- The whole input.
 
 -- the rest of some bytes, of which the first came
-some_came : (bytes rest told : List ℕ) (x y : Live) → Pushes bytes x y told → TakesBytes (bytes ++ rest) rest x y told
+pub some_came : (bytes rest told : List ℕ) (x y : Live) → Pushes bytes x y told → TakesBytes (bytes ++ rest) rest x y told
 some_came bytes rest told x y one = then_takes (bytes ++ rest) bytes rest [] told x x y (none_taken (bytes ++ rest) x) one
+
+-- some bytes, and then others
+pub then_pushes : (first more told later : List ℕ) (x y z : Live) → Pushes first x y told → Pushes more y z later → Pushes (first ++ more) x z (told ++ later)
+then_pushes first more told later x y z one others =
+    then_takes (first ++ more) more [] told later x y z (subst (λ r. TakesBytes (first ++ more) r x y told) (sym (append-nil more)) (some_came first more told x y one)) others
 
 all_came : (chunks : List (List ℕ)) (x y : Live) (told : List ℕ) → Comes chunks x y told → Pushes (flat_map (λ bytes. bytes) chunks) x y told
 unfolding Comes
 all_came [] x y told (same, none) = subst (λ t. Pushes [] x y t) (sym none) (subst (λ (z : Live). Pushes [] x z []) same (none_taken [] x))
 all_came (bytes ∷ chunks) x y told (mid, first, later, one, others, is) =
     let rest = flat_map (λ b. b) chunks in
-    subst (λ t. Pushes (bytes ++ rest) x y t) (sym is)
-    (then_takes (bytes ++ rest) rest [] first later x mid y (subst (λ r. TakesBytes (bytes ++ rest) r x mid first) (sym (append-nil rest)) (some_came bytes rest first x mid one)) (all_came chunks mid y later others))
+    subst (λ t. Pushes (bytes ++ rest) x y t) (sym is) (then_pushes bytes rest first later x mid y one (all_came chunks mid y later others))
 
 pub one_piece : (torn : List ℕ) → is_unbroken torn ≡ true → pieces torn ≡ torn ∷ []
 one_piece [] whole = refl

@@ -10,6 +10,7 @@ use Rattle.nn_live.specs.Live.{LiveSetup, ServiceState, says, ends, ends_segment
 use Rattle.nn_live.specs.Serving.{Service, InHand, HasRead, IsAllOf, IsAtService, HasPart, FollowsStep, part_alone, fault_text, keeps_edit, one_more_segment, puts_edit, takes_segment}
 use Rattle.nn_live.proofs.InHand.{no_edits, now_ended, still_open}
 use Rattle.nn_live.proofs.Places.{told_there, same_makes, then_makes}
+use Rattle.nn_live.proofs.Twice.{not_both}
 
 -- the same service, with these edits in hand and these counts
 with_hand : (asked : LiveSetup) (x : Service) (s : ServiceState) (h : InHand) (part : Part) (known known' segments segments' : ℕ) → IsAtService asked x s → HasPart part h → known ≡ known' → segments ≡ segments'
@@ -136,15 +137,34 @@ module _ (line : EditLine) where
   pub goes_on : (x z : Service) (told : List ℕ) → is_start line.tx.edit ≡ false → FollowsStep (keeps_edit line) x z told → FollowsStep (λ asked s. takes_edit asked line s) x z told
   goes_on x z told isnt made = same_makes (λ asked s. takes_edit asked line s) (keeps_edit line) x z told (λ asked s i. ap (λ b. by_start asked b s) isnt) made
 
-  pub begins : (x y z : Service) (told more : List ℕ) → is_start line.tx.edit ≡ true → FollowsStep (λ asked s. ends asked s) x y told → y.in_hand.edits ≡ 0 → FollowsStep (keeps_edit line) y z more
-      → FollowsStep (λ asked s. takes_edit asked line s) x z (told ++ more)
-  begins x y z told more starts first none later =
-      same_makes (λ asked s. takes_edit asked line s) (λ asked s. keeps_edit line asked (ends asked s)) x z (told ++ more) (λ asked s i.
+  -- a start mark is no end mark
+  pub starts_only : is_start line.tx.edit ≡ true → is_end line.tx.edit ≡ false
+  starts_only starts = at (is_end line.tx.edit) refl
+    where
+      at : (b : Bool) → is_end line.tx.edit ≡ b → b ≡ false
+      at true e = absurd (not_both line.tx.edit starts e)
+      at false e = refl
+
+  -- it is in hand alone
+  pub taken_up : (none h : InHand) → is_start line.tx.edit ≡ true → HasPart no_lines none
+      → ((part : Part) → HasPart part none → HasRead (with_edit_line (part_alone part) line) (with_line part line) h) → HasPart (with_line no_lines line) h
+  taken_up none h starts empty pushed = still_open no_lines line h (starts_only starts) (pushed no_lines empty)
+
+  -- those in hand ended, and it is in hand
+  pub begins : (x y : Service) (none h : InHand) (told : List ℕ) → is_start line.tx.edit ≡ true → FollowsStep (λ asked s. ends asked s) x y told → y.in_hand.edits ≡ 0 → HasPart no_lines none
+      → ((part : Part) → HasPart part none → HasRead (with_edit_line (part_alone part) line) (with_line part line) h)
+      → FollowsStep (λ asked s. takes_edit asked line s) x (record y { in_hand = h; known = max y.known line.tx.txid }) told
+  begins x y none h told starts first over empty pushed =
+      let z : Service = record y { in_hand = h; known = max y.known line.tx.txid } in
+      let later : FollowsStep (keeps_edit line) y z [] = kept_open y line h (λ part has.
+      (subst (λ p. HasRead (with_edit_line (part_alone p) line) (with_line p line) h) (sym (no_edits part y.in_hand has over)) (pushed no_lines empty))) (starts_only starts) in
+      subst (λ t. FollowsStep (λ asked s. takes_edit asked line s) x z t) (append-nil told)
+      (same_makes (λ asked s. takes_edit asked line s) (λ asked s. keeps_edit line asked (ends asked s)) x z (told ++ []) (λ asked s i.
       (ap (λ b. by_start asked b s) starts
       ∙ ap (λ (t : ServiceState). behind_edit asked line.tx (record t { in_hand = with_line no_lines line; known = max t.known line.tx.txid })) (ended asked s (is_between s))
       ∙ ap (λ (p : Part). behind_edit asked line.tx (record (ends asked s) { in_hand = with_line p line; known = max (ends asked s).known line.tx.txid }))
-      (sym (no_edits (ends asked s).in_hand y.in_hand (first.at asked s i).in_hand none))))
-      (then_makes (λ asked s. ends asked s) (keeps_edit line) x y z told more first later)
+      (sym (no_edits (ends asked s).in_hand y.in_hand (first.at asked s i).in_hand over))))
+      (then_makes (λ asked s. ends asked s) (keeps_edit line) x y z told [] first later))
     where
       ended : (asked : LiveSetup) (s : ServiceState) (b : Bool) → cond (not b) (ends_segment asked s) s ≡ cond b s (ends_segment asked s)
       ended asked s true = refl

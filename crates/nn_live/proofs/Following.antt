@@ -1,6 +1,7 @@
 -- Transactions that were followed one after another.
-use Rattle.std.proofs.Common.{◌≡◌, ℕ, List, [], ◌∷◌, ◌++◌, true, false, None, Some, Option, refl, sym, subst, ap, ◌∙◌, append_assoc, append-nil}
+use Rattle.std.proofs.Common.{◌≡◌, ℕ, List, [], ◌∷◌, ◌++◌, true, false, None, Some, Option, cond, refl, sym, subst, ap, ap₂, ◌∙◌, append_assoc, append-nil}
 use Rattle.std.specs.Prelude.{is_none}
+use Rattle.std.proofs.lemmas.List.{append_cancel_left}
 use Rattle.nn_types.specs.declared.tx.Tx.{Tx}
 use Rattle.nn_shadow.specs.declared.fault.ApplyFault.{ApplyFault}
 use Rattle.nn_shadow.specs.Contents.{standby_of}
@@ -10,17 +11,20 @@ use Rattle.nn_live.specs.Serving.{Service, IsAtService, FollowsStep, takes_tx}
 use Rattle.nn_live.proofs.Applying.{same_apply_refusal}
 use Rattle.nn_live.proofs.Options.{none_if, some_unless}
 
--- it came from there to here, with this text, and of the transactions these are left
+-- it came from there to here, with this text, and of the transactions these are left; where its history is not told, that is no text
 abbrev pub Came : Service → Service → List Tx → List Tx → List ℕ → Type 0
 Came first now txs rest text = (asked : LiveSetup) (s : ServiceState) → IsAtService asked first s
-    → (t : ServiceState) × IsAtService asked now t × (follows asked txs s ≡ follows asked rest t) × (t.written ≡ s.written ++ text)
+    → (t : ServiceState) × IsAtService asked now t × (follows asked txs s ≡ follows asked rest t) × (t.written ≡ s.written ++ text) × (asked.history ≡ false → text ≡ [])
 
 pub none_came : (x : Service) (txs : List Tx) → Came x x txs txs []
-none_came x txs asked s i = (s, i, refl, sym (append-nil s.written))
+none_came x txs asked s i = (s, i, refl, sym (append-nil s.written), λ silent. refl)
 
 module _ (first x y : Service) (txs later : List Tx) (tx : Tx) (text more : List ℕ) (made : FollowsStep (takes_tx tx) x y more) (came : Came first x txs (tx ∷ later) text) where
   at_tx : LiveSetup → ServiceState → (ServiceState → ServiceState) → Option ApplyFault → ServiceState
   at_tx asked t rest o = applies asked tx o rest t
+
+  told_nothing : (asked : LiveSetup) (written told : List ℕ) → asked.history ≡ false → written ++ cond asked.history told [] ≡ written
+  told_nothing asked written told silent = ap (λ b. written ++ cond b told []) silent ∙ append-nil written
 
   written : (asked : LiveSetup) (s t : ServiceState) → IsAtService asked x t → t.written ≡ s.written ++ text → (takes_tx tx asked t).written ≡ s.written ++ (text ++ more)
   written asked s t i e = made.written asked t i ∙ ap (λ w. w ++ more) e ∙ append_assoc s.written text more
@@ -35,6 +39,10 @@ module _ (first x y : Service) (txs later : List Tx) (tx : Tx) (text more : List
         made.at asked t c.1,
         c.2 ∙ ap (at_tx asked t (λ u. follows asked later u)) none ∙ sym (ap (λ o. follows asked later (at_tx asked t (λ u. u) o)) none),
         written asked s t c.1 c.3,
+        λ silent. (
+            let told : t.written ++ [] ≡ t.written ++ more = append-nil t.written ∙ sym (told_nothing asked t.written _ silent) ∙ sym (ap (λ o. (at_tx asked t (λ u. u) o).written) none) ∙ made.written asked t c.1 in
+            ap₂ (λ a b. a ++ b) (c.4 silent) (sym (append_cancel_left t.written [] more told))
+            ),
       )
 
   pub last_one : false ≡ is_none (apply_refusal x.shadow.phase (standby_of x.shadow) tx) → FollowsStep (λ asked s. follows asked txs s) first y (text ++ more)

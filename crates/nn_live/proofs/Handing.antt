@@ -13,6 +13,7 @@ use Rattle.nn_shadow.specs.Calls.{received}
 use Rattle.nn_shadow.specs.Contents.{Shadow, KeepsSettings, standby_of, last_number_in, node_state_in}
 use Rattle.nn_shadow.specs.Numbers.{number_of_hand}
 use Rattle.nn_shadow.specs.Refusals.{Phase, hand_refusal}
+use Rattle.nn_live.specs.declared.full.FullReport.{FullReport}
 use Rattle.nn_live.specs.Live.{LiveSetup, ServiceState, full_after, full_behind, takes_message, hands, says}
 use Rattle.nn_live.specs.Serving.{Service, IsAtService, IsSameFull, FollowsStep, forgetful, full_in, next_of, fault_text}
 use Rattle.nn_live.proofs.Places.{asks_still, only_tells}
@@ -43,11 +44,11 @@ abbrev pub told : Bool → Shadow → List ℕ
 told history z = cond history (history_text z.history) []
 
 -- what the code knows of full reports behind a message of this DataNode
-abbrev pub IsFullAfter : Bool → Report → Shadow → List Bool → List Bool → Type 0
+abbrev pub IsFullAfter : Bool → Report → Shadow → List FullReport → List FullReport → Type 0
 IsFullAfter own r x old new = (dn : ℕ) → full_in new dn ≡ cond (dn == r.dn) (full_behind own r.kind (is_some (node_state_in x.had r.dn).begun) (full_in old dn)) (full_in old dn)
 
 -- room was made, and the message noted
-pub filled : (own : Bool) (r : Report) (x y : Service) (room f : List Bool) (fills : Bool) → x ≡ y → IsSameFull x.full room
+pub filled : (own : Bool) (r : Report) (x y : Service) (room f : List FullReport) (fills : Bool) → x ≡ y → IsSameFull x.full room
     → ((full : Bool) → full_behind own r.kind (is_some (node_state_in y.shadow.had r.dn).begun) full ≡ full_behind own r.kind fills full)
     → ((dn : ℕ) → full_in f dn ≡ cond (dn == r.dn) (full_behind own r.kind fills (full_in room dn)) (full_in room dn)) → IsFullAfter own r x.shadow x.full f
 filled own r x y room f fills here same by noted dn =
@@ -56,7 +57,7 @@ filled own r x y room f fills here same by noted dn =
     ∙ ap (λ b. cond (dn == r.dn) b (full_in x.full dn)) (sym (by (full_in x.full dn)))
     ∙ ap (λ (v : Service). cond (dn == r.dn) (full_behind own r.kind (is_some (node_state_in v.shadow.had r.dn).begun) (full_in x.full dn)) (full_in x.full dn)) (sym here)
 
-module _ (own : Bool) (x : Service) (z : Shadow) (f : List Bool) (r : Report)
+module _ (own : Bool) (x : Service) (z : Shadow) (f : List FullReport) (r : Report)
     (is : standby_of z ≡ received (standby_of x.shadow) (next_of x.shadow r)) (phase : z.phase ≡ x.shadow.phase) (settings : KeepsSettings x.shadow z) (fills : IsFullAfter own r x.shadow x.full f)
     (fits : hand_refusal 256 x.shadow.phase (standby_of x.shadow) (next_of x.shadow r) ≡ None) where
   -- the definition took it, too
@@ -112,7 +113,7 @@ grows x z r is dn = subst (λ n. n ≤ last_number_in x.shadow.numbers dn + 1) (
     at false e = omega arith
 
 -- room for a DataNode's full report changes nothing
-pub with_room : (step : LiveSetup → ServiceState → ServiceState) (x y : Service) (f : List Bool) (text : List ℕ) → IsSameFull y.full f → FollowsStep step x y text → FollowsStep step x (record y { full = f }) text
+pub with_room : (step : LiveSetup → ServiceState → ServiceState) (x y : Service) (f : List FullReport) (text : List ℕ) → IsSameFull y.full f → FollowsStep step x y text → FollowsStep step x (record y { full = f }) text
 with_room step x y f text same made = record {
   at = λ asked s i. let j = made.at asked s i in record {
     asks = j.asks;

@@ -15,9 +15,8 @@ use Rattle.nn_image.specs.Reading.{all_from, at_end_line, by_key, by_value, fiel
 use Rattle.nn_image.specs.declared.fault.ImageFault.{ImageFault}
 use Rattle.nn_image.specs.declared.fault.ImageFault.TheVariants.{NotHeader, BadLine, WrongOrder, CountMismatch, Truncated, BadVersion, ReadFault, OutOfMemory}
 use Rattle.nn_image.proofs.LoadedLines.{piece}
-use Rattle.nn_live.specs.Live.{LiveSetup, Stage, new_service, image_lines, loaded, loading, pieces, refused, so_far, takes_line, takes_pieces}
+use Rattle.nn_live.specs.Live.{LiveSetup, Stage, image_lines, loaded, loading, pieces, refused, so_far, takes_line, takes_pieces}
 use Rattle.nn_live.specs.Opening.{IsEnded, IsOpening, Opening, OpensTo, loads_on}
-use Rattle.nn_live.specs.Taking.{stage_after}
 use Rattle.nn_live.specs.declared.opening.Opened.{Opened}
 use Rattle.nn_live.specs.declared.opening.Opened.TheVariants as opened
 use Rattle.nn_live.proofs.Cutting.{some_piece, unbroken_both}
@@ -287,10 +286,9 @@ module _ (before : List ℕ) (o : Opening) (has : IsOpening before o) (l : Loadi
   line_ends after opened.Loading is ended new = absurd ended
   line_ends after (opened.Loaded n txid rest) is ended new = (
     ended.2,
-    λ asked more.
-        ap (so_far asked true) (append_assoc before (line_feed ∷ after) more ∙ sym (append_assoc before (line_feed ∷ []) (after ++ more))) ∙ line_came asked (after ++ more)
-        ∙ ap (λ r. takes_pieces asked (pieces (after ++ more)) (loaded (has.lines ++ o.line ∷ []) r)) ended.0
-        ∙ ap (λ t. stage_after asked (new_service n txid) (t ++ more)) (sym ended.1),
+    before ++ line_feed ∷ [],
+    sym (append_assoc before (line_feed ∷ []) after) ∙ ap (λ r. (before ++ line_feed ∷ []) ++ r) (sym ended.1),
+    λ asked more. line_came asked more ∙ ap (λ r. takes_pieces asked (pieces more) (loaded (has.lines ++ o.line ∷ []) r)) ended.0,
   )
   line_ends after (opened.Refused fault) is ended new = λ asked more.
       ap (λ t. (so_far asked true t).0) (append_assoc before (line_feed ∷ after) more ∙ sym (append_assoc before (line_feed ∷ []) (after ++ more)))

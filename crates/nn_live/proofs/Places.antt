@@ -74,3 +74,8 @@ not_memory {T} P {r} is h = let memory : service.Exhausted ≡ service.OutOfMemo
 pub on_err : {T E : Type 0} (P : Type 0) (r : Result T E) → P → IfErr r (λ _. P)
 on_err P (Ok x) p = tt
 on_err P (Err fault) p = p
+
+-- two things that hold of each fault
+pub both_err : {T E : Type 0} (r : Result T E) (P Q : E → Type 0) → IfErr r P → IfErr r Q → IfErr r (λ e. P e × Q e)
+both_err (Ok x) P Q p q = tt
+both_err (Err fault) P Q p q = (p, q)

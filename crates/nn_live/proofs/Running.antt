@@ -1,5 +1,5 @@
 -- A service whose input comes from a reader.
-use Rattle.std.proofs.Common.{◌≡◌, ℕ, true, cond, is_some, List, [], ◌++◌, Result, Ok, Err, refl, sym, subst, ap, ap₂, ◌∙◌, append-nil, append_assoc}
+use Rattle.std.proofs.Common.{◌≡◌, ℕ, Bool, true, false, cond, is_some, List, [], ◌∷◌, ◌++◌, Result, Ok, Err, refl, sym, subst, ap, ap₂, ◌∙◌, inl, inr, append-nil, append_assoc}
 use Rattle.std.specs.Prelude.{IfErr}
 use Rattle.std.specs.Result.{IsErrAnd}
 use Rattle.nn_engine.specs.Output.{image_fault}
@@ -7,20 +7,13 @@ use Rattle.nn_image.specs.declared.fault.ImageFault.TheVariants.{Truncated}
 use Rattle.nn_model.specs.Namespace.{Namespace}
 use Rattle.nn_live.specs.Live.{LiveSetup, Stage, stage_at_end, new_service, ends, live_text, loading, pieces, refused, serving, so_far, exit_status, takes_end, takes_pieces, takes_torn, told_so_far, written_of}
 use Rattle.nn_live.specs.Opening.{IsOpening, Opening}
-use Rattle.nn_live.specs.Running.{IsServing, asked_by, live_output}
-use Rattle.nn_live.specs.Serving.{IsAtService, IsPrefixOf}
-use Rattle.nn_live.specs.Taking.{BreaksEnd, BreaksPush, EndsInput, HasTorn, Pushes, Live, stage_after}
+use Rattle.nn_live.specs.Running.{IsHalt, IsServing, LacksEnd, asked_by, live_output, lines_say}
+use Rattle.nn_live.specs.Serving.{IsAtService}
+use Rattle.nn_live.specs.Taking.{BreaksEnd, BreaksPush, EndsInput, HasTorn, LacksLine, Pushes, Live, stage_after}
 use Rattle.nn_live.specs.declared.run.EndFault.{EndFault}
+use Rattle.nn_live.specs.declared.run.EndFault.TheVariants as halt
 use Rattle.nn_live.specs.declared.run.LiveOptions.{LiveOptions}
 use Rattle.nn_live.proofs.Cutting.{ended, one_piece}
-use Rattle.nn_live.proofs.Growing.{end_grows, then_prefix, whole_prefix}
-
--- ---- What is told before the end is a prefix of what is told behind it.
-
-end_told : (asked : LiveSetup) (text : List ℕ) (s : Stage) → IsPrefixOf (written_of s) (written_of (takes_end asked text s))
-end_told asked text (loading lines) = ((image_fault Truncated).text, refl)
-end_told asked text (refused fault) = whole_prefix _
-end_told asked text (serving s) = end_grows asked text s
 
 -- why a call ends
 pub at_err : {T : Type 0} (r : Result T EndFault) (P : EndFault → Type 0) (why : EndFault) → IsErrAnd r (λ e. e ≡ why) → P why → IfErr r P
@@ -30,21 +23,31 @@ at_err (Err e) P why is holds = subst P (sym is) holds
 pub at_same : {T : Type 0} (r : Result T EndFault) (P : EndFault → Type 0) (given why : EndFault) → given ≡ why → IsErrAnd r (λ e. e ≡ given) → P why → IfErr r P
 at_same r P given why same is holds = at_err r P given is (subst P (sym same) holds)
 
-pub no_prefix : (text : List ℕ) → IsPrefixOf [] text
-no_prefix text = (text, refl)
-
-pub nothing_prefix : (told text : List ℕ) → told ≡ [] → IsPrefixOf (told ++ []) text
-nothing_prefix told text none = subst (λ t. IsPrefixOf (t ++ []) text) (sym none) (no_prefix text)
+nothing_told : (asked : LiveSetup) (from_image : Bool) → told_so_far asked from_image [] ≡ []
+unfolding takes_pieces
+nothing_told asked true = refl
+nothing_told asked false = refl
 
 module _ (o : LiveOptions) where
   abbrev asked : LiveSetup
   asked = asked_by o
 
-  abbrev text_of : Stage × List ℕ → List ℕ
-  text_of x = written_of (takes_end asked x.1 x.0)
+  -- what is told of no bytes
+  pub nothing_said : lines_say o [] ≡ []
+  nothing_said = nothing_told asked o.from_image
 
-  told_prefix : (told : List ℕ) (x : Stage × List ℕ) → IsPrefixOf told (written_of x.0) → IsPrefixOf told (text_of x)
-  told_prefix told x prefix = then_prefix told (written_of x.0) (text_of x) prefix (end_told asked x.1 x.0)
+  -- where nothing was told, no byte came, or no line was taken
+  pub none_taken : (bytes told : List ℕ) → told ≡ [] → IsHalt o bytes (told ++ []) halt.OutOfMemory
+  none_taken [] told none = inl (refl, append-nil told ∙ none)
+  none_taken (b ∷ bytes) told none = inr (record {
+    taken = [];
+    left = b ∷ bytes;
+    are = refl;
+    some = λ e. absurd (cc);
+    part = [];
+    begins = ap (λ t. t ++ []) (none ∙ sym nothing_said);
+    cut = record { rest = lines_say o (b ∷ bytes); is = ap (λ t. (t ++ []) ++ lines_say o (b ∷ bytes)) (sym nothing_said); short = λ empty. refl };
+  })
 
   -- ---- Bytes come.
 
@@ -62,27 +65,51 @@ module _ (o : LiveOptions) where
             ∙ ap (stage_after asked is.now) (sym (append_assoc is.torn bytes others)) ∙ a.same others;
       }
 
-  pub push_broke : (before told bytes more : List ℕ) (x : Live) → BreaksPush bytes x more → IsServing o before told x → IsPrefixOf (told ++ more) (live_text asked o.from_image (before ++ bytes))
+  pub push_broke : (before told bytes more : List ℕ) (x : Live) → BreaksPush bytes x more → IsServing o before told x → LacksLine (lines_say o) (before ++ bytes) (told ++ more)
   push_broke before told bytes more x breaks is =
-      let prefix = breaks asked is.now is.torn is.at is.has in
-      subst (λ r. IsPrefixOf (told ++ more) (text_of r)) (sym (is.same bytes))
-      (told_prefix (told ++ more) (stage_after asked is.now (is.torn ++ bytes)) (subst (λ w. IsPrefixOf (w ++ more) (written_of (stage_after asked is.now (is.torn ++ bytes)).0)) is.written prefix))
+      let l = breaks asked is.now is.torn is.at is.has in
+      let says : (some : List ℕ) → lines_say o (before ++ some) ≡ written_of (stage_after asked is.now (is.torn ++ some)).0 = λ some. ap (λ (r : Stage × List ℕ). written_of r.0) (is.same some) in
+      record {
+        taken = before ++ l.taken;
+        left = l.left;
+        are = ap (λ b. before ++ b) l.are ∙ sym (append_assoc before l.taken l.left);
+        some = l.some;
+        part = l.part;
+        begins = ap (λ w. w ++ more) (sym is.written) ∙ l.begins ∙ ap (λ w. w ++ l.part) (sym (says l.taken));
+        cut = record { rest = l.cut.rest; is = says bytes ∙ l.cut.is ∙ ap (λ w. (w ++ l.part) ++ l.cut.rest) (sym (says l.taken)); short = l.cut.short };
+      }
 
   -- behind an image
-  module _ (from : o.from_image ≡ true) (bytes rest : List ℕ) (n : Namespace) (txid : ℕ) (behind : (more : List ℕ) → so_far asked true (bytes ++ more) ≡ stage_after asked (new_service n txid) (rest ++ more)) (x : Live)
-      (at : IsAtService asked x.service (new_service n txid)) (has : HasTorn [] x.torn) where
-    there : (more : List ℕ) → so_far asked o.from_image (bytes ++ more) ≡ stage_after asked (new_service n txid) (rest ++ more)
-    there more = ap (λ b. so_far asked b (bytes ++ more)) from ∙ behind more
+  module _ (from : o.from_image ≡ true) (bytes image rest : List ℕ) (n : Namespace) (txid : ℕ) (cut : bytes ≡ image ++ rest)
+      (behind : (more : List ℕ) → so_far asked true (image ++ more) ≡ stage_after asked (new_service n txid) more) (x : Live) (at : IsAtService asked x.service (new_service n txid)) (has : HasTorn [] x.torn) where
+    there : (more : List ℕ) → so_far asked o.from_image (image ++ more) ≡ stage_after asked (new_service n txid) more
+    there more = ap (λ b. so_far asked b (image ++ more)) from ∙ behind more
 
     pub image_served : (more : List ℕ) (y : Live) → Pushes rest x y more → IsServing o bytes more y
     image_served more y pushes =
         let a = pushes asked (new_service n txid) [] at has in
-        record { now = a.now; torn = a.torn; at = a.at; has = a.has; written = a.written; same = λ others. there others ∙ a.same others }
+        record {
+          now = a.now;
+          torn = a.torn;
+          at = a.at;
+          has = a.has;
+          written = a.written;
+          same = λ others. ap (λ b. so_far asked o.from_image (b ++ others)) cut ∙ ap (so_far asked o.from_image) (append_assoc image rest others) ∙ there (rest ++ others) ∙ a.same others;
+        }
 
-    pub image_broke : (more : List ℕ) → BreaksPush rest x more → IsPrefixOf more (live_text asked o.from_image bytes)
+    pub image_broke : (more : List ℕ) → BreaksPush rest x more → LacksLine (lines_say o) bytes more
     image_broke more breaks =
-        subst (λ r. IsPrefixOf more (text_of r)) (sym (ap (so_far asked o.from_image) (sym (append-nil bytes)) ∙ there [] ∙ ap (stage_after asked (new_service n txid)) (append-nil rest)))
-        (told_prefix more (stage_after asked (new_service n txid) rest) (breaks asked (new_service n txid) [] at has))
+        let l = breaks asked (new_service n txid) [] at has in
+        let says : (some : List ℕ) → lines_say o (image ++ some) ≡ written_of (stage_after asked (new_service n txid) some).0 = λ some. ap (λ (r : Stage × List ℕ). written_of r.0) (there some) in
+        record {
+          taken = image ++ l.taken;
+          left = l.left;
+          are = cut ∙ ap (λ b. image ++ b) l.are ∙ sym (append_assoc image l.taken l.left);
+          some = l.some;
+          part = l.part;
+          begins = l.begins ∙ ap (λ w. w ++ l.part) (sym (says l.taken));
+          cut = record { rest = l.cut.rest; is = ap (lines_say o) cut ∙ says rest ∙ l.cut.is ∙ ap (λ w. (w ++ l.part) ++ l.cut.rest) (sym (says l.taken)); short = l.cut.short };
+        }
 
   -- ---- The input ends.
 
@@ -127,8 +154,15 @@ module _ (o : LiveOptions) where
       ap₂ (λ t k. record { text = t; status = k }) text (is_status ∙ ap (λ p. cond (is_some p.stopped) 1 0) phase)
       ∙ ap (λ s. record { text = written_of s; status = exit_status s }) (sym end)
 
-  pub end_broke : (bytes told more : List ℕ) (x : Live) → BreaksEnd x more → IsServing o bytes told x → IsPrefixOf (told ++ more) (live_text asked o.from_image bytes)
+  pub end_broke : (bytes told more : List ℕ) (x : Live) → BreaksEnd x more → IsServing o bytes told x → LacksEnd o bytes (told ++ more)
   end_broke bytes told more x breaks is =
-      let s = ends asked (takes_torn asked is.torn is.now) in
-      subst (λ r. IsPrefixOf (told ++ more) (text_of r)) (sym (serving_ended bytes told x is))
-      (subst (λ w. IsPrefixOf (w ++ more) s.written) is.written (breaks asked is.now is.torn is.at is.has))
+      let broke = breaks is.torn is.has asked is.now is.at in
+      let there = serving_ended bytes told x is in
+      let same = so_far_told bytes told x is in
+      let text : live_text asked o.from_image bytes ≡ (ends asked (takes_torn asked is.torn is.now)).written = ap (λ (r : Stage × List ℕ). written_of (takes_end asked r.1 r.0)) there in
+      record {
+        part = more;
+        begins = ap (λ w. w ++ more) same;
+        cut = record { rest = broke.0.rest; is = text ∙ broke.0.is ∙ ap (λ w. (w ++ more) ++ broke.0.rest) (is.written ∙ same); short = broke.0.short };
+        torn = λ none empty. broke.1 none (sym (ap (λ (r : Stage × List ℕ). r.1) there) ∙ empty);
+      }

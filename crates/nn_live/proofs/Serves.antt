@@ -1,5 +1,5 @@
 -- A service that is fed by a reader: what it was given, and what it wrote.
-use Rattle.std.proofs.Common.{◌≡◌, ℕ, ◌+◌, ◌≤◌, Bool, true, false, List, [], ◌∷◌, ◌++◌, length, take, Option, Some, None, refl, sym, subst, ap, ◌∙◌, append-nil, arith, inl, inr, length-append}
+use Rattle.std.proofs.Common.{◌≡◌, ◌⊎◌, ℕ, ◌+◌, ◌≤◌, Bool, true, false, List, [], ◌∷◌, ◌++◌, length, take, Option, Some, None, refl, sym, subst, ap, ◌∙◌, append-nil, arith, inl, inr, length-append}
 use Rattle.std.specs.Io.KnownBytes.{Consumes, Keeps}
 use Rattle.std.proofs.KnownBytes.{Consumes-nil, Consumes-trans}
 use Rattle.std.proofs.lemmas.List.{length-take}
@@ -10,14 +10,14 @@ use Rattle.nn_device.specs.declared.writer.OutputFault.{OutputFault}
 use Rattle.nn_device.specs.declared.writer.OutputFault.TheVariants.{WriteFailed}
 use Rattle.nn_engine.specs.Output.{image_fault}
 use Rattle.nn_image.specs.declared.fault.ImageFault.{ImageFault}
-use Rattle.nn_live.specs.Live.{LiveSetup, ended, refused, so_far, exit_status, takes_pieces, told_so_far, written_of}
-use Rattle.nn_live.specs.Running.{EndsRun, GaveBytes, Halts, IsOfLines, IsCutOff, IsLiveOutput, IsReader, IsStage, IsToldAtOnce, Run, asked_by, halt_text, live_output, serving_by}
+use Rattle.nn_live.specs.Live.{ended, refused, so_far, exit_status, told_so_far, written_of}
+use Rattle.nn_live.specs.Running.{EndsRun, GaveBytes, Halts, HaltsAtEnd, IsHalt, IsOfLines, IsCutOff, IsLiveOutput, IsReader, IsStage, IsToldAtOnce, IsUntaken, Run, asked_by, halt_text, live_output, serving_by}
 use Rattle.nn_live.specs.declared.run.EndFault.{EndFault}
 use Rattle.nn_live.specs.declared.run.EndFault.TheVariants as halt
 use Rattle.nn_live.specs.declared.run.LiveOptions.{LiveOptions}
 use Rattle.nn_live.specs.declared.run.Stage.{Stage as RunStage}
 use Rattle.nn_live.specs.declared.run.Stage.TheVariants as stage
-use Rattle.nn_live.proofs.Running.{no_prefix, opening_told, so_far_told}
+use Rattle.nn_live.proofs.Running.{nothing_said, opening_told, so_far_told}
 
 -- ---- What the reader gave.
 
@@ -51,19 +51,14 @@ module _ (a b c : Reader) (bytes : List ℕ) (gave : GaveBytes a b bytes) where
 
 -- ---- Why it ends.
 
-nothing_said : (asked : LiveSetup) (from_image : Bool) → told_so_far asked from_image [] ≡ []
-unfolding takes_pieces
-nothing_said asked true = refl
-nothing_said asked false = refl
-
 -- before the first read
 pub nothing_served : (o : LiveOptions) (r : Reader) → Halts (serving_by o r r) [] halt.OutOfMemory
 nothing_served o r = record {
   bytes = [];
   gave = given_none r;
-  at_once = record { earlier = []; last = []; are = refl; one_read = omega arith; before = ([], sym (ap (λ t. t ++ []) (nothing_said (asked_by o) o.from_image))) };
+  at_once = record { earlier = []; last = []; are = refl; one_read = omega arith; before = ([], sym (ap (λ t. t ++ []) (nothing_said o))) };
   reader = refl;
-  is = no_prefix _;
+  is = inl (inl (refl, refl));
 }
 
 pub lines_reader : (why : EndFault) (before after : Reader) → IsOfLines why → after.failed ≡ before.failed → IsReader why before after
@@ -136,11 +131,22 @@ refused_output o input told fault none is =
     ap (λ t. record { text = t ++ (image_fault fault).text; status = 1 }) none
     ∙ ap (λ s. record { text = written_of (ended (asked_by o) (s, torn)); status = exit_status (ended (asked_by o) (s, torn)) }) (sym is)
 
+-- some line was not taken, or the end was not
+untaken : (run : Run) (bytes told : List ℕ) → IsHalt run.options bytes told halt.OutOfMemory ⊎ HaltsAtEnd run bytes told halt.OutOfMemory → IsUntaken run bytes told
+untaken run bytes told (inl (inl none)) = inl none
+untaken run bytes told (inl (inr lacks)) = inr (inl lacks)
+untaken run bytes told (inr end) = inr (inr (end.1, end.2))
+
 pub halt_output : (run : Run) (told : List ℕ) (why : EndFault) → Halts run told why → IsLiveOutput run (record { text = told ++ halt_text why; status = 1 })
-halt_output run told (halt.Refused fault) h =
-    inr (inl (record { bytes = h.bytes; gave = h.gave; at_once = subst (IsToldAtOnce run.options h.bytes) h.is.0 h.at_once; none_failed = h.reader; is = λ more. refused_output run.options (h.bytes ++ more) told fault h.is.0 (h.is.1 more) }))
-halt_output run told halt.Unreadable h = inr (inr (inl (record { bytes = h.bytes; gave = h.gave; failed = h.reader.0; why = h.reader.1; is = ap (λ t. record { text = t ++ halt_text halt.Unreadable; status = 1 }) h.is })))
-halt_output run told halt.OutOfMemory h = inr (inr (inr (record { bytes = h.bytes; gave = h.gave; none_failed = h.reader; told = told; prefix = h.is; at_once = h.at_once; is = refl })))
+halt_output run told why h = at why h.reader h.is
+  where
+    at : (why : EndFault) → IsReader why run.before run.after → IsHalt run.options h.bytes told why ⊎ HaltsAtEnd run h.bytes told why → IsLiveOutput run (record { text = told ++ halt_text why; status = 1 })
+    at (halt.Refused fault) reader (inl is) =
+        inr (inl (record { bytes = h.bytes; gave = h.gave; at_once = subst (IsToldAtOnce run.options h.bytes) is.0 h.at_once; none_failed = reader; is = λ more. refused_output run.options (h.bytes ++ more) told fault is.0 (is.1 more) }))
+    at (halt.Refused fault) reader (inr end) = let never : halt.Refused fault ≡ halt.OutOfMemory = end.0 in absurd (cc)
+    at halt.Unreadable reader (inl is) = inr (inr (inl (record { bytes = h.bytes; gave = h.gave; failed = reader.0; why = reader.1; is = ap (λ t. record { text = t ++ halt_text halt.Unreadable; status = 1 }) is })))
+    at halt.Unreadable reader (inr end) = let never : halt.Unreadable ≡ halt.OutOfMemory = end.0 in absurd (cc)
+    at halt.OutOfMemory reader is = inr (inr (inr (record { bytes = h.bytes; gave = h.gave; none_failed = reader; told = told; untaken = untaken run h.bytes told is; at_once = h.at_once; is = refl })))
 
 pub end_output : (run : Run) (told : List ℕ) (status : ℕ) → EndsRun run told status → IsLiveOutput run (record { text = told; status = status })
 end_output run told status e = inl (record { input = e.input; gave = e.gave; whole = e.whole; none_failed = e.none_failed; is = e.is })

@@ -24,10 +24,13 @@ pub record IsOpening (bytes : List ℕ) (o : Opening) : Type 0 where
   pub loaded : (more : List ℕ) → read_image (joined_lines lines ++ more) ≡ loaded_from o.loading (pieces_of more)
   pub none_bad : fault_of_loading o.loading ≡ None
 
--- What these bytes came to: they are of the image; or a service begins behind it, whatever follows; or nothing else is told, whatever does.
+-- What these bytes came to: they are of the image; or the first of them are, and a service begins behind them, whatever follows; or nothing
+-- else is told, whatever does.
 abbrev pub OpensTo : List ℕ → Opening → Opened → Type 0
 OpensTo bytes o opened.Loading = IsOpening bytes o
-OpensTo bytes o (opened.Loaded n txid rest) = (txid < 2 ^ 63) × ((asked : LiveSetup) (more : List ℕ) → so_far asked true (bytes ++ more) ≡ stage_after asked (new_service n txid) (rest.now ++ more))
+OpensTo bytes o (opened.Loaded n txid rest) =
+    (txid < 2 ^ 63) × (image : List ℕ) × (bytes ≡ image ++ rest.now)
+    × ((asked : LiveSetup) (more : List ℕ) → so_far asked true (image ++ more) ≡ stage_after asked (new_service n txid) more)
 OpensTo bytes o (opened.Refused fault) = (asked : LiveSetup) (more : List ℕ) → (so_far asked true (bytes ++ more)).0 ≡ refused fault
 
 -- what the image is read as that ended, and these bytes behind it

@@ -8,8 +8,8 @@ use Rattle.nn_engine.specs.declared.device.InputFault.TheVariants.{ReadFailed, O
 use Rattle.nn_engine.specs.declared.output.RunFault.{RunFault}
 use Rattle.nn_live.specs.Live.{LiveSetup, ServiceState, stage_at_end, live_text, refused, so_far, exit_status, told_so_far}
 use Rattle.nn_live.specs.Opening.{IsOpening}
-use Rattle.nn_live.specs.Serving.{IsAtService, IsPrefixOf}
-use Rattle.nn_live.specs.Taking.{Live, HasTorn, stage_after}
+use Rattle.nn_live.specs.Serving.{IsAtService, IsCutShort, IsPrefixOf}
+use Rattle.nn_live.specs.Taking.{LacksLine, Live, HasTorn, stage_after}
 use Rattle.nn_live.specs.declared.run.EndFault.{EndFault}
 use Rattle.nn_live.specs.declared.run.EndFault.TheVariants as halt
 use Rattle.nn_live.specs.declared.run.LiveOptions.{LiveOptions}
@@ -85,14 +85,35 @@ pub record IsOfFailedRead (run : Run) (p : Printed) : Type 0 where
   pub why : IsCutOff run.before run.after
   pub is : p ≡ record { text = told_so_far (asked_by run.options) run.options.from_image bytes ++ unread_line ReadFailed; status = 1 }
 
--- Memory was refused, or a count had come to its end. A prefix of what the bytes so far say was told, and then that: with the lines of
--- the last read, or before the first one.
+-- what the lines say that ended among these bytes
+abbrev pub lines_say : LiveOptions → List ℕ → List ℕ
+lines_say o bytes = told_so_far (asked_by o) o.from_image bytes
+
+-- what stands behind the last line feed of these bytes
+abbrev pub torn_of : LiveOptions → List ℕ → List ℕ
+torn_of o bytes = (so_far (asked_by o) o.from_image bytes).1
+
+-- The input has ended, and not all was told of its end: of the last line, which lacks its line feed, and of the edits in hand. Where
+-- there is no such line, some fault of theirs was not told.
+pub record LacksEnd (o : LiveOptions) (input told : List ℕ) : Type 0 where
+  pub part : List ℕ
+  pub begins : told ≡ lines_say o input ++ part
+  pub cut : IsCutShort (lines_say o input) part (live_text (asked_by o) o.from_image input)
+  pub torn : cut.rest ≡ [] → torn_of o input ≡ [] → ⊥
+
+-- no byte was read; or some line was not taken, of an image or behind it; or the end was not
+abbrev pub IsUntaken : Run → List ℕ → List ℕ → Type 0
+IsUntaken run bytes told =
+    ((bytes ≡ []) × (told ≡ [])) ⊎ (LacksLine (lines_say run.options) bytes told ⊎ (IsAtEnd run.after.left × LacksEnd run.options bytes told))
+
+-- Memory was refused, or a count had come to its end. Some line was not taken. What was told before is with the lines of the last read, or
+-- before the first one; and then that.
 pub record IsOfNoMemory (run : Run) (p : Printed) : Type 0 where
   pub bytes : List ℕ
   pub gave : GaveBytes run.before run.after bytes
   pub none_failed : NoReadFailed run
   pub told : List ℕ
-  pub prefix : IsPrefixOf told (live_text (asked_by run.options) run.options.from_image bytes)
+  pub untaken : IsUntaken run bytes told
   pub at_once : IsToldAtOnce run.options bytes told
   pub is : p ≡ record { text = told ++ unread_line OutOfMemory; status = 1 }
 
@@ -136,8 +157,12 @@ IsStage o bytes told (stage.Serving live) = IsServing o bytes told live
 -- why it ends, where these bytes came, and this text was told
 abbrev pub IsHalt : LiveOptions → List ℕ → List ℕ → EndFault → Type 0
 IsHalt o bytes told (halt.Refused fault) = (told ≡ []) × ((more : List ℕ) → (so_far (asked_by o) o.from_image (bytes ++ more)).0 ≡ refused fault)
-IsHalt o bytes told halt.Unreadable = told ≡ told_so_far (asked_by o) o.from_image bytes
-IsHalt o bytes told halt.OutOfMemory = IsPrefixOf told (live_text (asked_by o) o.from_image bytes)
+IsHalt o bytes told halt.Unreadable = told ≡ lines_say o bytes
+IsHalt o bytes told halt.OutOfMemory = ((bytes ≡ []) × (told ≡ [])) ⊎ LacksLine (lines_say o) bytes told
+
+-- or the input has ended
+abbrev pub HaltsAtEnd : Run → List ℕ → List ℕ → EndFault → Type 0
+HaltsAtEnd run bytes told why = (why ≡ halt.OutOfMemory) × IsAtEnd run.after.left × LacksEnd run.options bytes told
 
 -- the line that tells it
 abbrev pub halt_text : EndFault → List ℕ
@@ -163,7 +188,7 @@ pub record Halts (run : Run) (told : List ℕ) (why : EndFault) : Type 0 where
   pub gave : GaveBytes run.before run.after bytes
   pub at_once : IsToldAtOnce run.options bytes told
   pub reader : IsReader why run.before run.after
-  pub is : IsHalt run.options bytes told why
+  pub is : IsHalt run.options bytes told why ⊎ HaltsAtEnd run bytes told why
 
 -- it gave an input to its end, of which this is the text, and the status
 pub record EndsRun (run : Run) (told : List ℕ) (status : ℕ) : Type 0 where

@@ -1,5 +1,7 @@
 -- A service of the code, and the service of the definition that it stands for.
-use Rattle.std.specs.Prelude.{◌≡◌, ◌≤◌, ◌⊎◌, ℕ, ◌+◌, ◌^◌, true, false, get_or, ◌==◌, ◌&&◌, ◌||◌, not, nat_lt, Bool, List, [], ◌∷◌, ◌++◌, max, length, codes, decimal}
+use Rattle.std.specs.Prelude.{◌≡◌, ◌≤◌, ◌<◌, ◌⊎◌, ℕ, ◌+◌, ◌^◌, true, false, if◌then◌else◌, nat_le, ◌==◌, ◌&&◌, ◌||◌, not, nat_lt, Bool, List, [], ◌∷◌, ◌++◌, max, length, codes, decimal}
+use Rattle.std.specs.List.{All, list_any}
+use Rattle.nn_types.specs.Limits.{max_datanodes}
 use Rattle.nn_types.specs.declared.report.Message.{Message}
 use Rattle.nn_types.specs.declared.report.Report.{Report}
 use Rattle.nn_types.specs.declared.tx.Tx.{Tx}
@@ -18,8 +20,9 @@ use Rattle.nn_listing.specs.Counted.{summary_seen}
 use Rattle.nn_listing.specs.Summary.{line}
 use Rattle.nn_live.specs.Answers.{Figures}
 use Rattle.nn_shadow.specs.Refusals.{apply_refusal, flush_refusal}
+use Rattle.nn_live.specs.declared.full.FullReport.{FullReport}
 use Rattle.nn_live.specs.Laws.{HasLog}
-use Rattle.nn_live.specs.Live.{LiveSetup, ServiceState, applies, behind_edit, follows_segment, promotes, promotes_in, takes_torn}
+use Rattle.nn_live.specs.Live.{LiveSetup, ServiceState, applies, behind_edit, ends, follows_segment, promotes, promotes_in, takes_torn}
 
 -- ---- What the code has.
 
@@ -38,7 +41,7 @@ pub record Service : Type 0 where
   pub known : ℕ
   pub epoch : ℕ
   pub promoted : ℕ
-  pub full : List Bool
+  pub full : List FullReport
   pub passed : ℕ
   pub segments : ℕ
   pub lines : ℕ
@@ -47,13 +50,40 @@ pub record Service : Type 0 where
 abbrev pub asked_of : Service → LiveSetup
 asked_of x = record { permille = x.shadow.permille; min = x.shadow.table.min; history = x.history; version = x.version }
 
--- whether a DataNode's full report is there, by the DataNode's number; beyond the end none is
-abbrev pub full_in : List Bool → ℕ → Bool
-full_in full dn = get_or full dn false
+-- whether a DataNode's full report is there: it has sent one, and that was not ended
+abbrev pub full_in : List FullReport → ℕ → Bool
+full_in reports dn = list_any (λ (x : FullReport). x.dn == dn && x.there) reports
 
 -- of each DataNode the same
-abbrev pub IsSameFull : List Bool → List Bool → Type 0
+abbrev pub IsSameFull : List FullReport → List FullReport → Type 0
 IsSameFull old new = (dn : ℕ) → full_in new dn ≡ full_in old dn
+
+-- whether it has sent one
+abbrev pub has_reported : List FullReport → ℕ → Bool
+has_reported reports dn = list_any (λ (x : FullReport). x.dn == dn) reports
+
+-- they come by number, from this one on, each once
+abbrev pub Ascends : ℕ → List FullReport → Type 0
+Ascends from [] = Unit {0}
+Ascends from (x ∷ reports) = (from ≤ x.dn) × Ascends (x.dn + 1) reports
+
+-- whether the first one is this DataNode's
+abbrev pub starts_with : ℕ → List FullReport → Bool
+starts_with dn [] = false
+starts_with dn (x ∷ reports) = x.dn == dn
+
+-- so many of them are below a number, and the others are not
+pub record IsPlaceOf (dn : ℕ) (reports : List FullReport) (place : ℕ) : Type 0 where
+  pub below : List FullReport
+  pub behind : List FullReport
+  pub are : reports ≡ below ++ behind
+  pub size : length below ≡ place
+  pub small : All (λ (x : FullReport). x.dn < dn) below
+  pub from : Ascends dn behind
+
+-- its line, where it is there
+abbrev pub reported_line : FullReport → List ℕ
+reported_line x = if x.there && nat_le x.dn max_datanodes then line (codes "full") (decimal x.dn) else []
 
 -- what it answers first
 abbrev pub figures_seen : Service → Figures
@@ -136,13 +166,35 @@ ServiceSteps step old new puts = (text : List ℕ) × puts text × FollowsStep s
 abbrev pub IsPrefixOf : List ℕ → List ℕ → Type 0
 IsPrefixOf prefix text = (rest : List ℕ) × (text ≡ prefix ++ rest)
 
--- a step was not made whole, but what was told is a prefix of what it tells
+-- what was told is a prefix of what a step tells
+abbrev pub TellsPrefix : (LiveSetup → ServiceState → ServiceState) → Service → List ℕ → Type 0
+TellsPrefix step old told = (asked : LiveSetup) (s : ServiceState) → IsAtService asked old s → IsPrefixOf (s.written ++ told) (step asked s).written
+
+-- Behind what was written before, this was told of a text: not all of it, unless it says nothing.
+pub record IsCutShort (before told text : List ℕ) : Type 0 where
+  pub rest : List ℕ
+  pub is : text ≡ (before ++ told) ++ rest
+  pub short : rest ≡ [] → told ≡ []
+
+-- a step was not made whole, and of what it tells not all was told
 abbrev pub Breaks : (LiveSetup → ServiceState → ServiceState) → Service → List ℕ → Type 0
-Breaks step old told = (asked : LiveSetup) (s : ServiceState) → IsAtService asked old s → IsPrefixOf (s.written ++ told) (step asked s).written
+Breaks step old told = (asked : LiveSetup) (s : ServiceState) → IsAtService asked old s → IsCutShort s.written told (step asked s).written
 
 -- and that text was put
 abbrev pub BreaksOff : (LiveSetup → ServiceState → ServiceState) → Service → (List ℕ → Type 0) → Type 0
 BreaksOff step old puts = (told : List ℕ) × puts told × Breaks step old told
+
+-- a step tells something
+abbrev pub SaysMore : (LiveSetup → ServiceState → ServiceState) → Service → Type 0
+SaysMore step old =
+    (asked : LiveSetup) (s : ServiceState) → IsAtService asked old s → (more : List ℕ) × ((step asked s).written ≡ s.written ++ more) × (more ≡ [] → ⊥)
+
+-- The input has ended, and the end was not told whole. Behind the last line feed stood these bytes; where none did, the end itself tells
+-- something.
+abbrev pub BreaksAtEnd : List ℕ → Service → List ℕ → Type 0
+BreaksAtEnd torn old told =
+    (asked : LiveSetup) (s : ServiceState) → IsAtService asked old s
+    → (cut : IsCutShort s.written told (ends asked (takes_torn asked torn s)).written) × (cut.rest ≡ [] → torn ≡ [] → ⊥)
 
 -- the message that a report is
 abbrev pub next_of : Shadow → Report → Message

@@ -3,7 +3,7 @@ use Rattle.std.specs.Prelude.{◌≡◌, ◌<◌, ℕ, Bool, true, List, [], ◌
 use Rattle.nn_segment.specs.Lines.{is_unbroken}
 use Rattle.nn_scenario.specs.Scenario.{is_blank}
 use Rattle.nn_live.specs.Live.{LiveSetup, ServiceState, Stage, ended, ends, pieces, serving, takes_pieces, takes_torn, written_of}
-use Rattle.nn_live.specs.Serving.{Service, IsAtService, IsPrefixOf, HasRunOut, RunsOutBehind}
+use Rattle.nn_live.specs.Serving.{Service, BreaksAtEnd, IsAtService, IsCutShort, HasRunOut, RunsOutBehind}
 use Rattle.nn_types.specs.Limits.{max_line}
 
 -- what the code has of the bytes behind the last line feed
@@ -48,16 +48,26 @@ TakesBytes bytes rest old new text =
 abbrev pub Pushes : List ℕ → Live → Live → List ℕ → Type 0
 Pushes bytes old new text = TakesBytes bytes [] old new text
 
--- not all lines of these bytes were taken, but what was told is a prefix of what they say
+-- A line of these bytes was not taken, where this is what lines say that ended among the first of them. All that the lines before it say
+-- was told, and of what is left not all, unless it says nothing.
+pub record LacksLine (says : List ℕ → List ℕ) (bytes told : List ℕ) : Type 0 where
+  pub taken : List ℕ
+  pub left : List ℕ
+  pub are : bytes ≡ taken ++ left
+  pub some : left ≡ [] → ⊥
+  pub part : List ℕ
+  pub begins : told ≡ says taken ++ part
+  pub cut : IsCutShort (says taken) part (says bytes)
+
+-- not all lines of these bytes were taken
 abbrev pub BreaksPush : List ℕ → Live → List ℕ → Type 0
 BreaksPush bytes old told =
     (asked : LiveSetup) (s : ServiceState) (torn : List ℕ) → IsAtService asked old.service s → HasTorn torn old.torn
-    → IsPrefixOf (s.written ++ told) (written_of (stage_after asked s (torn ++ bytes)).0)
+    → LacksLine (λ some. written_of (stage_after asked s (torn ++ some)).0) bytes (s.written ++ told)
 
 -- and so at the end of the input
 abbrev pub BreaksEnd : Live → List ℕ → Type 0
-BreaksEnd old told =
-    (asked : LiveSetup) (s : ServiceState) (torn : List ℕ) → IsAtService asked old.service s → HasTorn torn old.torn → IsPrefixOf (s.written ++ told) (ends asked (takes_torn asked torn s)).written
+BreaksEnd old told = (torn : List ℕ) → HasTorn torn old.torn → BreaksAtEnd torn old.service told
 
 -- a count had reached its end when some of the lines of these bytes were taken
 abbrev pub RunsOut : List ℕ → Live → Type 0

@@ -6,7 +6,7 @@ ghost use Rattle.nn_device.specs.Device.{FailedToReadOn, GaveOn, Took, Writer as
 ghost use Rattle.nn_device.specs.Page.{HasPut, PutsPiece};
 ghost use Rattle.nn_engine.specs.Run.{Unfinished};
 ghost use Rattle.nn_live.specs.Live.{new_service, live_text};
-ghost use Rattle.nn_live.specs.Running.{Halts, IsEnd, IsHalt, IsOfLines, IsStage, WroteLive, WroteLivePrefix, asked_by, halt_text, live_output, serving_by};
+ghost use Rattle.nn_live.specs.Running.{Halts, IsEnd, IsHalt, IsOfLines, IsStage, LacksEnd, WroteLive, WroteLivePrefix, asked_by, halt_text, live_output, serving_by};
 ghost use Rattle.nn_live.specs.Serving.{IsAtService};
 ghost use Rattle.nn_live.specs.Taking.{HasTorn};
 
@@ -234,7 +234,7 @@ impl Stage {
         ensures ok { IfOk result (λ status. (more : List ℕ) × PutsPiece more page.old writer.old page.new writer.new
             × ((options : LiveOptions) (input told : List ℕ) → IsStage options input told self → record { text = told ++ more; status = status } ≡ live_output options input)) }
         ensures err { IfErr result (λ why. (why ≡ EndFault.OutOfMemory) × ((more : List ℕ) × PutsPiece more page.old writer.old page.new writer.new
-            × ((options : LiveOptions) (input told : List ℕ) → IsStage options input told self → IsHalt options input (told ++ more) why))) }
+            × ((options : LiveOptions) (input told : List ℕ) → IsStage options input told self → LacksEnd options input (told ++ more)))) }
     {
         match self {
             Stage::Loading(_) => {

@@ -73,12 +73,16 @@ impl Torn {
         &self.kept
     }
 
-    /// Adds more, among which is no line feed.
+    /// Adds more, among which is no line feed. No bytes take no memory.
     pub(crate) fn push(&mut self, bytes: &[u8]) -> Result<(), ServiceFault>
         requires { is_unbroken bytes.now ≡ true }
         ensures ok { OnOk result ((torn : List ℕ) → HasTorn torn self.old → HasTorn (torn ++ bytes.now) self.new) }
         ensures left { IfErr result (λ fault. (fault ≡ ServiceFault.OutOfMemory) × (self.new ≡ self.old)) }
+        ensures some { IfErr result (λ _. bytes.now ≡ [] → ⊥) }
     {
+        if bytes.is_empty() {
+            return Ok(());
+        }
         let room = MAX_KEPT - self.kept.len();
         if let Err(_) = self.kept.extend_from_slice(prefix(bytes, room)) {
             return Err(ServiceFault::OutOfMemory);

@@ -1,5 +1,5 @@
 //! What a service answers.
-ghost use Rattle.std.specs.Prelude.{◌≡◌, ◌≤◌, ◌^◌, ◌++◌, [], flat_map, map, take, IfErr, IfOk, IsErrOf, OnOk, if◌then◌else◌, nat_le};
+ghost use Rattle.std.specs.Prelude.{◌≡◌, ◌≤◌, ◌^◌, ◌++◌, [], List, ℕ, flat_map, map, take, IfErr, IfOk, IsErrOf, OnOk, if◌then◌else◌, nat_le};
 ghost use Rattle.nn_device.specs.Page.{PutsPiece};
 ghost use Rattle.nn_image.specs.Text.{image_text};
 ghost use Rattle.nn_listing.specs.Listing.{listing_text};
@@ -10,7 +10,7 @@ ghost use Rattle.nn_tree.specs.Listing.{lent_names};
 ghost use Rattle.nn_tree.specs.Rows.{greatest_depth};
 ghost use Rattle.nn_live.specs.Answers.{held_line, first_lines, status_lines};
 ghost use Rattle.nn_live.specs.Live.{answers, does};
-ghost use Rattle.nn_live.specs.Serving.{BreaksOff, IsAtEnd, ServiceSteps, figures_seen, tables_seen};
+ghost use Rattle.nn_live.specs.Serving.{BreaksOff, IsAtEnd, ServiceSteps, TellsPrefix, figures_seen, tables_seen};
 ghost use Rattle.nn_live.specs.declared.word.Word.TheVariants as word;
 ghost use Rattle.nn_types.specs.Limits.{max_datanodes};
 
@@ -55,7 +55,7 @@ impl Service {
     ) -> Result<(), ServiceFault>
         ensures ok { OnOk result (ServiceSteps (λ asked s. does asked word.now s) self.old self.new (λ text. PutsPiece text page.old writer.old page.new writer.new)) }
         ensures exhausted { IsErrOf result ServiceFault.Exhausted → IsAtEnd self.old }
-        ensures prefix { IfErr result (λ _. BreaksOff (λ asked s. does asked word.now s) self.old (λ told. PutsPiece told page.old writer.old page.new writer.new)) }
+        ensures prefix { IfErr result (λ _. (told : List ℕ) × PutsPiece told page.old writer.old page.new writer.new × TellsPrefix (λ asked s. does asked word.now s) self.old told) }
     {
         match word {
             Word::Sync => return Ok(()),

@@ -1,5 +1,5 @@
 //! Edits are kept until their segment ends. Then it is judged, and followed.
-ghost use Rattle.std.specs.Prelude.{◌≡◌, ◌≤◌, ◌^◌, ◌+◌, ◌++◌, ◌∷◌, [], true, List, ℕ, drop, Ok, IfOk, IfErr, IsErrOf, OnOk, is_none, ◌⊎◌};
+ghost use Rattle.std.specs.Prelude.{◌≡◌, ◌≤◌, ◌^◌, ◌+◌, ◌++◌, ◌∷◌, [], true, List, ℕ, drop, max, Ok, IfOk, IfErr, IsErrOf, OnOk, is_none, ◌⊎◌};
 ghost use Rattle.nn_device.specs.Page.{PutsPiece};
 ghost use Rattle.nn_edits.specs.Reading.{edit_of_line};
 ghost use Rattle.nn_segment.specs.Lines.{is_unbroken};
@@ -9,7 +9,7 @@ ghost use Rattle.nn_scenario.specs.Reading.{Reading};
 ghost use Rattle.nn_shadow.specs.Contents.{standby_of};
 ghost use Rattle.nn_shadow.specs.Refusals.{apply_refusal};
 ghost use Rattle.nn_live.specs.Live.{ends, follows, follows_txs, takes_edit};
-ghost use Rattle.nn_live.specs.Serving.{Breaks, BreaksOff, HasRead, IsAllOf, IsNearEnd, HasPart, FollowsStep, ServiceSteps, keeps_edit, takes_segment, takes_tx};
+ghost use Rattle.nn_live.specs.Serving.{Breaks, BreaksOff, HasRead, IsAllOf, IsNearEnd, HasPart, FollowsStep, SaysMore, ServiceSteps, keeps_edit, takes_segment, takes_tx};
 
 use super::{Service, ServiceFault};
 use crate::in_hand::InHand;
@@ -23,7 +23,7 @@ use std::mem;
 
 impl Service {
     /// An edit is put to those in hand. A start mark ends these first, and an end mark ends its segment: it is judged, and its new
-    /// transactions are followed.
+    /// transactions are followed. What room a start mark takes is there before anything is told.
     pub(super) fn edit<W: Write>(
         &mut self,
         page: &mut Page,
@@ -41,8 +41,21 @@ impl Service {
         if !is_start(&tx.edit) {
             return self.keep_edit(page, writer, text, tx);
         }
+        let txid = tx.txid.get();
+        let mut begun = InHand::none(self.alloc);
+        begun.push(text, tx)?;
         self.end_edits(page, writer)?;
-        self.keep_edit(page, writer, text, tx)
+        self.take_up(begun, txid);
+        Ok(())
+    }
+
+    // These edits are in hand from now on, up to this txid.
+    fn take_up(&mut self, begun: InHand, last: u64)
+        requires { (part : Part) × HasPart part begun }
+        ensures { self.new ≡ record self.old { in_hand = begun; known = max self.old.known last } }
+    {
+        self.in_hand = begun;
+        self.known = self.known.max(last);
     }
 
     /// The edits in hand, if there are any, are a segment without an end: its first fault is told.
@@ -57,6 +70,7 @@ impl Service {
         ensures exhausted { IfErr result (λ fault. (fault ≡ ServiceFault.Exhausted) × (2 ^ 63 ≤ self.old.segments)) }
         ensures left { IfErr result (λ _. self.new ≡ self.old) }
         ensures put { IfErr result (λ _. PutsPiece [] page.old writer.old page.new writer.new) }
+        ensures says { IfErr result (λ _. SaysMore (λ asked s. ends asked s) self.old) }
     {
         if self.in_hand.is_empty() {
             return Ok(());
@@ -68,7 +82,7 @@ impl Service {
         Ok(())
     }
 
-    // An edit is put to those in hand, which it begins anew if it is a start mark. An end mark ends them.
+    // An edit is put to those in hand. An end mark ends them.
     fn keep_edit<W: Write>(
         &mut self,
         page: &mut Page,

@@ -5,7 +5,7 @@ ghost use Rattle.nn_edits.specs.Reading.{either_of_line};
 ghost use Rattle.nn_segment.specs.Lines.{is_unbroken};
 ghost use Rattle.nn_scenario.specs.Scenario.{is_blank};
 ghost use Rattle.nn_live.specs.Live.{ends, takes, takes_read, takes_torn};
-ghost use Rattle.nn_live.specs.Serving.{Breaks, BreaksOff, HasRunOut, IsAtEnd, FollowsStep, RunsOutBehind, ServiceSteps};
+ghost use Rattle.nn_live.specs.Serving.{BreaksAtEnd, BreaksOff, HasRunOut, IsAtEnd, FollowsStep, RunsOutBehind, ServiceSteps};
 ghost use Rattle.nn_live.specs.Taking.{IsLong};
 
 use super::{Service, ServiceFault};
@@ -57,7 +57,7 @@ impl Service {
         requires { is_unbroken torn.now ≡ true }
         ensures ok { OnOk result (ServiceSteps (λ asked s. ends asked (takes_torn asked torn.now s)) self.old self.new (λ told. PutsPiece told page.old writer.old page.new writer.new)) }
         ensures exhausted { IsErrOf result ServiceFault.Exhausted → RunsOutBehind torn.now self.old }
-        ensures prefix { IfErr result (λ _. BreaksOff (λ asked s. ends asked (takes_torn asked torn.now s)) self.old (λ told. PutsPiece told page.old writer.old page.new writer.new)) }
+        ensures prefix { IfErr result (λ _. (told : List ℕ) × PutsPiece told page.old writer.old page.new writer.new × BreaksAtEnd torn.now self.old told) }
     {
         self.torn_line(scratch, page, writer, torn)?;
         self.end_edits(page, writer)
@@ -94,7 +94,7 @@ impl Service {
             × ((torn : List ℕ) → IsLong torn blank → FollowsStep (λ asked s. ends asked (takes_torn asked torn s)) self.old self.new told)) }
         ensures exhausted { IsErrOf result ServiceFault.Exhausted → (torn : List ℕ) → IsLong torn blank → RunsOutBehind torn self.old }
         ensures prefix { IfErr result (λ _. (told : List ℕ) × PutsPiece told page.old writer.old page.new writer.new
-            × ((torn : List ℕ) → IsLong torn blank → Breaks (λ asked s. ends asked (takes_torn asked torn s)) self.old told)) }
+            × ((torn : List ℕ) → IsLong torn blank → BreaksAtEnd torn self.old told)) }
     {
         self.long_line(page, writer, blank)?;
         self.end_edits(page, writer)
@@ -112,6 +112,7 @@ impl Service {
         ensures ok { OnOk result (ServiceSteps (λ asked s. takes_torn asked text.now s) self.old self.new (λ told. PutsPiece told page.old writer.old page.new writer.new)) }
         ensures exhausted { IsErrOf result ServiceFault.Exhausted → HasRunOut self.old }
         ensures prefix { IfErr result (λ _. BreaksOff (λ asked s. takes_torn asked text.now s) self.old (λ told. PutsPiece told page.old writer.old page.new writer.new)) }
+        ensures some { IfErr result (λ _. text.now ≡ [] → ⊥) }
     {
         if text.is_empty() {
             return Ok(());

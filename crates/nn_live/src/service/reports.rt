@@ -89,8 +89,10 @@ impl Service {
     }
 
     // Whether this report, if it is taken, ends a full report of its DataNode that began.
+    #[tactic(auto, using(crate::proofs::Filling::begun_lane))]
     fn fills(&self, report: &Report, own: bool) -> bool
-        ensures { (full : Bool) → full_behind own report.now.kind (is_some (node_state_in self.now.shadow.had report.now.dn).begun) full ≡ full_behind own report.now.kind result full }
+        ensures behind { (full : Bool) → full_behind own report.now.kind (is_some (node_state_in self.now.shadow.had report.now.dn).begun) full ≡ full_behind own report.now.kind result full }
+        ensures some { IsTrue result → 1 ≤ report.now.dn }
     {
         let Kind::Finish = report.kind else {
             return false;

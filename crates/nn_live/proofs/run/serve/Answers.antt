@@ -1,4 +1,4 @@
-use Rattle.std.proofs.Common.{◌≡◌, ◌≤◌, ◌++◌, ◌∙◌, [], length, take, drop, sym, ap, subst, append-nil, arith}
+use Rattle.std.proofs.Common.{◌≡◌, ◌≤◌, ◌++◌, ◌∙◌, [], length, take, drop, sym, ap, subst, append-nil, arith, inl, inr}
 use Rattle.std.proofs.lemmas.List.{length-take}
 use Rattle.nn_device.specs.Page.{PutsPiece}
 use Rattle.std.proofs.Math.Seq.{take-append_seam}
@@ -30,7 +30,7 @@ returns-in_default-clause-halted g c =
         gave = given_still c.args.input.now c.reads.input c.read_next.new.input was.0 was.2 c.in_default.ensures.bytes failed.counted;
         at_once = told_all c.args.options.now was.0 was.1 c.reads.stage was.4;
         reader = (failed.noted, cut_off c.args.input.now c.reads.input c.read_next.new.input was.7 failed.counted failed.why);
-        is = stage_told c.args.options.now was.0 was.1 c.reads.stage was.4;
+        is = inl (stage_told c.args.options.now was.0 was.1 c.reads.stage was.4);
       },
     )
 
@@ -63,6 +63,7 @@ returns-in_err-status-clause-halted g c =
     let new = c.read_next.new.buffer in
     let gave = c.in-Ok.ensures.ok in
     let same = gave.open_after ∙ sym gave.open_before ∙ was.7 in
+    let size : length new ≡ 65536 = sym (ap length (sym c.deref_mut.ensures.value) ∙ sym c.read_next.auto.buffer) ∙ was.6 in
     let ends = c.in_err-status.ensures.err in
     at_err c.from_residual-in_err-status.result _ c.in_err-status.field-0.0 c.from_residual-in_err-status.ensures.1 (
       was.1 ++ ends.1.0,
@@ -72,7 +73,7 @@ returns-in_err-status-clause-halted g c =
         gave = given_all c.args.input.now c.reads.input c.read_next.new.input was.0 was.2 n new c.if-n-eq0.true c.in-Ok.ensures.bytes.0 gave.counted;
         at_once = told_behind o was.0 was.1 ends.1.0 c.reads.stage was.4;
         reader = lines_reader c.in_err-status.field-0.0 c.args.input.now c.read_next.new.input (subst IsOfLines (sym ends.0) tt) same;
-        is = ends.1.2 o was.0 was.1 was.4;
+        is = inr (ends.0, c.in-Ok.ensures.bytes.1 c.if-n-eq0.true (omega (arith, size)), ends.1.2 o was.0 was.1 was.4);
       },
     )
 
@@ -101,7 +102,7 @@ returns-in_err-push-clause-halted g c =
         gave = now;
         at_once = told_at_once o was.0 (take n new) was.1 broke.0 c.reads.stage was.4 short;
         reader = lines_reader c.in_err-push.field-0.0 c.args.input.now c.read_next.new.input c.in_err-push.ensures.why same;
-        is = subst (λ b. IsHalt o (was.0 ++ take n b) (was.1 ++ broke.0) c.in_err-push.field-0.0) given (broke.2 was.0 was.1 was.4);
+        is = inl (subst (λ b. IsHalt o (was.0 ++ take n b) (was.1 ++ broke.0) c.in_err-push.field-0.0) given (broke.2 was.0 was.1 was.4));
       },
     )
 

@@ -1,7 +1,7 @@
 use Rattle.std.proofs.Common.{subst, sym, ◌∙◌}
 use Rattle.std.proofs.lemmas.Result.{IfOk-weaker, IfErr-weaker}
 use Rattle.nn_live.specs.Live.{ends, takes_torn}
-use Rattle.nn_live.specs.Serving.{Breaks, FollowsStep, RunsOutBehind}
+use Rattle.nn_live.specs.Serving.{BreaksAtEnd, FollowsStep, RunsOutBehind}
 use Rattle.nn_live.specs.Taking.{BreaksEnd, Live, EndsInput, RunsOutAtEnd}
 use Rattle.nn_live.proofs.Cutting.{finishes, is_long, is_whole}
 use Rattle.nn_live.proofs.live.Live.end.Goals as goal
@@ -28,7 +28,7 @@ returns-then-is_too_long-clause-prefix g c =
       prefix.0,
       prefix.1,
       subst (λ (x : Live). BreaksEnd x prefix.0) c.self.view_is
-          (λ asked s torn at there. prefix.2 torn (is_long torn old.torn c.is_blank.result there (sym c.if-is_too_long.ensures) c.is_blank.ensures) asked s at),
+          (λ torn there. prefix.2 torn (is_long torn old.torn c.is_blank.result there (sym c.if-is_too_long.ensures) c.is_blank.ensures)),
     )) c.end_long.ensures.prefix
 
 pub returns-clause-ok : goal.returns-clause-ok
@@ -55,6 +55,5 @@ returns-clause-prefix g c =
       prefix.0,
       prefix.1,
       subst (λ (x : Live). BreaksEnd x prefix.0) c.self.view_is
-          (λ asked s torn at there.
-          subst (λ t. Breaks (λ asked s. ends asked (takes_torn asked t s)) old.service prefix.0) (c.as_slice-torn.ensures.kept ∙ is_whole torn old.torn there (sym c.if-is_too_long.ensures)) prefix.2 asked s at),
+          (λ torn there. subst (λ t. BreaksAtEnd t old.service prefix.0) (c.as_slice-torn.ensures.kept ∙ is_whole torn old.torn there (sym c.if-is_too_long.ensures)) prefix.2),
     )) c.end.ensures.prefix

@@ -6,7 +6,7 @@ use Rattle.nn_live.specs.Live.{takes}
 use Rattle.nn_device.proofs.Pages.{puts_nothing}
 use Rattle.nn_live.specs.Serving.{Breaks, HasRunOut, FollowsStep}
 use Rattle.nn_live.specs.Taking.{BreaksPush, Live, HasTorn, Pushes}
-use Rattle.nn_live.proofs.BrokenPushes.{alone_broke, line_broke, nothing_pushed}
+use Rattle.nn_live.proofs.BrokenPushes.{alone_broke, line_broke, nothing_pushed, some_line}
 use Rattle.nn_live.proofs.Cutting.{line_alone, line_ended, none_torn}
 use Rattle.nn_live.proofs.Places.{not_memory, on_err}
 use Rattle.nn_live.proofs.live.Live.end_line.Goals as goal
@@ -55,7 +55,7 @@ returns-in_err-kept_line-clause-exhausted g c is =
 
 pub returns-in_err-push-clause-prefix : goal.returns-in_err-push-clause-prefix
 returns-in_err-push-clause-prefix g c =
-    on_err _ c.from_residual.result ([], puts_nothing c.args.page.now c.args.writer.now, nothing_pushed (c.args.text.now ++ line_feed ∷ []) c.args.self.now)
+    on_err _ c.from_residual.result ([], puts_nothing c.args.page.now c.args.writer.now, nothing_pushed (c.args.text.now ++ line_feed ∷ []) c.args.self.now (some_line c.args.text.now))
 
 pub returns-in_err-kept_line-clause-prefix : goal.returns-in_err-kept_line-clause-prefix
 returns-in_err-kept_line-clause-prefix g c =

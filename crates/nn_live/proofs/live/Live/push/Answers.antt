@@ -1,33 +1,32 @@
-use Rattle.std.proofs.Common.{◌≡◌, arith, Err, ◌++◌, ◌∷◌, [], true, ap, ◌∙◌, subst, sym, refl, append-nil}
-use Rattle.std.proofs.lemmas.Result.{IfOk-weaker}
+use Rattle.std.proofs.Common.{◌≡◌, arith, Err, ◌++◌, ◌∷◌, [], true, ap, ◌∙◌, subst, sym, refl, append-nil, append_assoc}
+use Rattle.std.proofs.lemmas.Result.{IfOk-weaker, IfErr-weaker}
 use Rattle.nn_bytes.specs.Lines.{line_feed}
 use Rattle.nn_device.proofs.Pages.{puts_both, puts_nothing}
 use Rattle.nn_segment.specs.Lines.{is_unbroken}
 use Rattle.nn_live.specs.Taking.{Live, TakesBytes, Pushes}
 use Rattle.nn_live.proofs.BrokenPushes.{rest_untaken, then_line_broke}
 use Rattle.nn_live.proofs.Places.{not_memory, on_err}
-use Rattle.nn_live.proofs.Cutting.{prefix_cut, none_cut, kept, none_taken, then_takes}
+use Rattle.nn_live.proofs.Cutting.{prefix_cut, none_cut, kept, none_taken, some_came, then_pushes}
 use Rattle.nn_segment.proofs.LineLemmas.{unbroken_to}
 use Rattle.nn_live.proofs.live.Live.push.Goals as goal
 
 pub lines-init : goal.lines-init
-lines-init g c = ([], puts_nothing c.args.page.now c.args.writer.now, none_taken c.args.bytes.now c.args.self.now)
+lines-init g c = ([], puts_nothing c.args.page.now c.args.writer.now, [], refl, none_taken [] c.args.self.now)
 
 pub returns-in_default-clause-ok : goal.returns-in_default-clause-ok
 returns-in_default-clause-ok g c =
     let was = c.lines.invariant in
-    let bytes = c.args.bytes.now in
     let text = c.split_at.result.0.now in
     let old = c.args.self.now in
     let mid : Live = record { service = c.self.inside.service; torn = c.self.inside.torn } in
     let new : Live = record { service = c.self.inside.service; torn = c.push.new.self } in
     let cut = none_cut c.lines.rest.now text c.split_at.result.1.now c.line_end.result c.split_at.ensures.front c.split_at.ensures.back c.in_default.ensures.cases in
-    let first : TakesBytes bytes (text ++ []) old mid was.0 =
-    subst (λ (x : Live). TakesBytes bytes (text ++ []) old x was.0) (sym c.self.view_is) (subst (λ r. TakesBytes bytes r old c.lines.self was.0) cut was.2) in
+    let all : was.2 ++ text ≡ c.args.bytes.now = ap (λ t. was.2 ++ t) (sym (append-nil text) ∙ sym cut) ∙ sym was.3 in
+    let first : Pushes was.2 old mid was.0 = subst (λ (x : Live). Pushes was.2 old x was.0) (sym c.self.view_is) was.4 in
     IfOk-weaker c.push.result _ _ (λ _ has. (
       was.0,
       was.1,
-      subst (λ t. Pushes bytes old new t) (append-nil was.0) (then_takes bytes text [] was.0 [] old mid new first (kept text mid new refl has)),
+      subst (λ b. Pushes b old new was.0) all (subst (λ t. Pushes (was.2 ++ text) old new t) (append-nil was.0) (then_pushes was.2 text was.0 [] old mid new first (kept text mid new refl has))),
     )) c.push.ensures.ok
 
 pub returns-in_default-clause-exhausted : goal.returns-in_default-clause-exhausted
@@ -36,26 +35,36 @@ returns-in_default-clause-exhausted g c is = absurd (not_memory _ is c.push.ensu
 pub returns-in_default-clause-prefix : goal.returns-in_default-clause-prefix
 returns-in_default-clause-prefix g c =
     let was = c.lines.invariant in
-    on_err _ c.push.result (was.0, was.1, rest_untaken c.args.bytes.now c.lines.rest.now was.0 c.args.self.now c.lines.self was.2)
+    let text = c.split_at.result.0.now in
+    let cut = none_cut c.lines.rest.now text c.split_at.result.1.now c.line_end.result c.split_at.ensures.front c.split_at.ensures.back c.in_default.ensures.cases in
+    IfErr-weaker c.push.result _ _ (λ _ some. (
+      was.0,
+      was.1,
+      rest_untaken c.args.bytes.now was.2 c.lines.rest.now was.0 c.args.self.now c.lines.self was.3 (λ none. some (sym (append-nil text) ∙ sym cut ∙ none)) was.4,
+    )) c.push.ensures.some
 
 pub returns-in_err-end_line-clause-exhausted : goal.returns-in_err-end_line-clause-exhausted
 returns-in_err-end_line-clause-exhausted g c is =
     let was = c.lines.invariant in
     let told : c.from_residual.result ≡ Err c.in_err-end_line.field-0.0 = grind arith in
-    (c.lines.self, c.lines.rest.now, was.0, was.2, c.end_line.ensures.exhausted (c.in_err-end_line.was ∙ sym told ∙ is))
+    let rest = c.lines.rest.now in
+    let taken : TakesBytes c.args.bytes.now rest c.args.self.now c.lines.self was.0 =
+    subst (λ b. TakesBytes b rest c.args.self.now c.lines.self was.0) (sym was.3) (some_came was.2 rest was.0 c.args.self.now c.lines.self was.4) in
+    (c.lines.self, rest, was.0, taken, c.end_line.ensures.exhausted (c.in_err-end_line.was ∙ sym told ∙ is))
 
 pub lines-preserved : goal.lines-preserved
 lines-preserved g c =
     let was = c.lines.invariant in
     let line = c.in_ok-end_line.ensures.ok in
-    let bytes = c.args.bytes.now in
     let text = c.split_at.result.0.now in
     let after = c.in-Some.after.now in
     let old = c.args.self.now in
     let cut = prefix_cut c.lines.rest.now text c.split_at.result.1.now after c.in-Some.field-0-0.now c.line_end.result c.split_at.ensures.front c.split_at.ensures.back c.in-Some.ensures.cases.0 c.line_end.ensures.there in (
       was.0 ++ line.0,
       puts_both was.0 line.0 _ _ _ _ _ _ was.1 line.1,
-      then_takes bytes (text ++ line_feed ∷ []) after was.0 line.0 old c.lines.self c.end_line.new.self (subst (λ r. TakesBytes bytes r old c.lines.self was.0) cut was.2) line.2,
+      was.2 ++ (text ++ line_feed ∷ []),
+      was.3 ∙ ap (λ r. was.2 ++ r) cut ∙ sym (append_assoc was.2 (text ++ line_feed ∷ []) after),
+      then_pushes was.2 (text ++ line_feed ∷ []) was.0 line.0 old c.lines.self c.end_line.new.self was.4 line.2,
     )
 
 pub returns-in_err-end_line-clause-prefix : goal.returns-in_err-end_line-clause-prefix
@@ -69,7 +78,7 @@ returns-in_err-end_line-clause-prefix g c =
     on_err _ c.from_residual.result (
       was.0 ++ prefix.0,
       puts_both was.0 prefix.0 _ _ _ _ _ _ was.1 prefix.1,
-      then_line_broke c.args.bytes.now text after was.0 prefix.0 c.args.self.now c.lines.self whole (subst (λ r. TakesBytes c.args.bytes.now r c.args.self.now c.lines.self was.0) cut was.2) prefix.2,
+      then_line_broke c.args.bytes.now was.2 text after was.0 prefix.0 c.args.self.now c.lines.self (was.3 ∙ ap (λ r. was.2 ++ r) cut) whole was.4 prefix.2,
     )
 
 pub push-requires : goal.push-requires

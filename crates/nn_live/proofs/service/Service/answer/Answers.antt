@@ -1,12 +1,11 @@
-use Rattle.std.proofs.Common.{ℕ, ◌++◌, codes, sym, subst, ap}
+use Rattle.std.proofs.Common.{ℕ, ◌++◌, codes, refl, sym, subst, ap}
 use Rattle.std.specs.Prelude.{decimal}
 use Rattle.nn_device.specs.Page.{PutsPiece}
 use Rattle.nn_device.proofs.Pages.{puts_both}
 use Rattle.nn_listing.specs.Summary.{line}
 use Rattle.nn_live.specs.Live.{ServiceState, does, says, says_done}
 use Rattle.nn_live.specs.Serving.{Service}
-use Rattle.nn_live.proofs.Breaking.{first_breaks}
-use Rattle.nn_live.proofs.Growing.{prefix_and}
+use Rattle.nn_live.proofs.Breaking.{first_tells}
 use Rattle.nn_live.proofs.Places.{on_err, only_tells, then_makes}
 use Rattle.nn_live.proofs.service.Service.answer.Goals as goal
 
@@ -24,5 +23,5 @@ returns-clause-ok g c =
 pub returns-in_err-does-clause-prefix : goal.returns-in_err-does-clause-prefix
 returns-in_err-does-clause-prefix g c =
     let prefix = c.in_err-does.ensures.prefix in
-    let breaks = first_breaks (λ asked s. does asked c.args.word.now s) (λ asked s. says_done s) c.args.self.now prefix.0 (λ asked s. prefix_and s.written (line (codes "done") (decimal s.lines))) prefix.2 in
+    let breaks = first_tells (λ asked s. does asked c.args.word.now s) (λ asked s. says_done s) c.args.self.now prefix.0 (λ asked s. (line (codes "done") (decimal s.lines), refl, λ none. absurd (cc))) prefix.2 in
     on_err _ c.from_residual.result (prefix.0, prefix.1, breaks)

@@ -1,7 +1,8 @@
-use Rattle.std.proofs.Common.{List, Bool, [], refl, subst, ap, sym}
+use Rattle.std.proofs.Common.{List, [], refl, subst, ap, sym}
 use Rattle.nn_model.specs.Lanes.{no_messages}
 use Rattle.nn_model.specs.Stands.{StandbyState}
 use Rattle.nn_shadow.specs.Laws.{StandsBy}
+use Rattle.nn_live.specs.declared.full.FullReport.{FullReport}
 use Rattle.nn_live.specs.Serving.{full_in}
 use Rattle.nn_live.proofs.Standing.{begins}
 use Rattle.nn_live.proofs.service.Service.begin.Goals as goal
@@ -19,7 +20,7 @@ returns-clause-ok c =
       known = refl;
       epoch = refl;
       promoted = refl;
-      full = λ dn. ap (λ (full : List Bool). full_in full dn) c.none-2.ensures;
+      full = λ dn. ap (λ (full : List FullReport). full_in full dn) c.none-2.ensures;
       passed = refl;
       segments = refl;
       lines = refl;

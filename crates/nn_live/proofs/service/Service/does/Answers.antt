@@ -5,10 +5,10 @@ use Rattle.nn_device.specs.Page.{PutsPiece}
 use Rattle.nn_device.proofs.Pages.{puts_nothing}
 use Rattle.nn_live.specs.Help.{help_text, unknown_text}
 use Rattle.nn_live.specs.Live.{LiveSetup, ServiceState, does, empty_report, hands}
-use Rattle.nn_live.specs.Serving.{Breaks, FollowsStep, ServiceSteps}
+use Rattle.nn_live.specs.Serving.{FollowsStep, ServiceSteps, TellsPrefix}
 use Rattle.nn_live.specs.declared.word.Word.{Word}
 use Rattle.nn_live.specs.declared.word.Word.TheVariants as word
-use Rattle.nn_live.proofs.Breaking.{begin_handed, none_done, none_told, same_breaks}
+use Rattle.nn_live.proofs.Breaking.{begin_handed, none_done_of, none_told_of, same_told_of}
 use Rattle.nn_live.proofs.Growing.{does_grow}
 use Rattle.nn_live.proofs.Gone.{same_gone}
 use Rattle.nn_live.proofs.Places.{only_tells, same_makes}
@@ -78,31 +78,31 @@ returns-in-Gone-clause-ok g c = IfOk-weaker c.gone.result _ _ (λ _ step. (
 )) c.gone.ensures.ok
 
 pub returns-in-Unsafe-clause-prefix : goal.returns-in-Unsafe-clause-prefix
-returns-in-Unsafe-clause-prefix g c = IfErr-weaker c.unsafe_blocks.result _ _ (λ _ left. ([], left.1, none_told (doing c.args.word.now) c.args.self.now (λ asked s. does_grow asked c.args.word.now s))) c.unsafe_blocks.ensures.left
+returns-in-Unsafe-clause-prefix g c = IfErr-weaker c.unsafe_blocks.result _ _ (λ _ left. ([], left.1, none_told_of (doing c.args.word.now) c.args.self.now (λ asked s. does_grow asked c.args.word.now s))) c.unsafe_blocks.ensures.left
 
 pub returns-in-Block-clause-prefix : goal.returns-in-Block-clause-prefix
-returns-in-Block-clause-prefix g c = IfErr-weaker c.block.result _ _ (λ _ left. ([], left.1, none_told (doing c.args.word.now) c.args.self.now (λ asked s. does_grow asked c.args.word.now s))) c.block.ensures.left
+returns-in-Block-clause-prefix g c = IfErr-weaker c.block.result _ _ (λ _ left. ([], left.1, none_told_of (doing c.args.word.now) c.args.self.now (λ asked s. does_grow asked c.args.word.now s))) c.block.ensures.left
 
 pub returns-in-Path-clause-prefix : goal.returns-in-Path-clause-prefix
-returns-in-Path-clause-prefix g c = IfErr-weaker c.path.result _ _ (λ _ left. ([], left.1, none_told (doing c.args.word.now) c.args.self.now (λ asked s. does_grow asked c.args.word.now s))) c.path.ensures.left
+returns-in-Path-clause-prefix g c = IfErr-weaker c.path.result _ _ (λ _ left. ([], left.1, none_told_of (doing c.args.word.now) c.args.self.now (λ asked s. does_grow asked c.args.word.now s))) c.path.ensures.left
 
 pub returns-in-Tables-clause-prefix : goal.returns-in-Tables-clause-prefix
-returns-in-Tables-clause-prefix g c = IfErr-weaker c.tables.result _ _ (λ _ left. ([], left.1, none_told (doing c.args.word.now) c.args.self.now (λ asked s. does_grow asked c.args.word.now s))) c.tables.ensures.left
+returns-in-Tables-clause-prefix g c = IfErr-weaker c.tables.result _ _ (λ _ left. ([], left.1, none_told_of (doing c.args.word.now) c.args.self.now (λ asked s. does_grow asked c.args.word.now s))) c.tables.ensures.left
 
 pub returns-in-Checkpoint-clause-prefix : goal.returns-in-Checkpoint-clause-prefix
-returns-in-Checkpoint-clause-prefix g c = IfErr-weaker c.checkpoint.result _ _ (λ _ left. ([], left.1, none_told (doing c.args.word.now) c.args.self.now (λ asked s. does_grow asked c.args.word.now s))) c.checkpoint.ensures.left
+returns-in-Checkpoint-clause-prefix g c = IfErr-weaker c.checkpoint.result _ _ (λ _ left. ([], left.1, none_told_of (doing c.args.word.now) c.args.self.now (λ asked s. does_grow asked c.args.word.now s))) c.checkpoint.ensures.left
 
 pub returns-in-Promote-clause-prefix : goal.returns-in-Promote-clause-prefix
-returns-in-Promote-clause-prefix g c = IfErr-weaker c.promote_in.result _ _ (λ _ put. ([], put, none_told (doing c.args.word.now) c.args.self.now (λ asked s. does_grow asked c.args.word.now s))) c.promote_in.ensures.put
+returns-in-Promote-clause-prefix g c = IfErr-weaker c.promote_in.result _ _ (λ _ put. ([], put, none_told_of (doing c.args.word.now) c.args.self.now (λ asked s. does_grow asked c.args.word.now s))) c.promote_in.ensures.put
 
 pub returns-in-Gone-clause-prefix : goal.returns-in-Gone-clause-prefix
 returns-in-Gone-clause-prefix g c = IfErr-weaker c.gone.result _ _ (λ _ cut. elim cut [
-  | inl none ↦ (none.0, none.1, none_done (doing c.args.word.now) c.args.self.now c.gone.new.self none.0 (λ asked s. does_grow asked c.args.word.now s) none.2)
+  | inl none ↦ (none.0, none.1, none_done_of (doing c.args.word.now) c.args.self.now c.gone.new.self none.0 (λ asked s. does_grow asked c.args.word.now s) none.2)
   | inr begun ↦ (
     begun.0,
     begun.1,
-    subst (λ (w : Word). Breaks (doing w) c.args.self.now begun.0) (sym c.in-Gone.is)
-        (same_breaks (doing (word.Gone c.in-Gone.dn)) (λ asked s. hands asked false (empty_report c.lane_of.result) s) c.args.self.now begun.0
+    subst (λ (w : Word). TellsPrefix (doing w) c.args.self.now begun.0) (sym c.in-Gone.is)
+        (same_told_of (doing (word.Gone c.in-Gone.dn)) (λ asked s. hands asked false (empty_report c.lane_of.result) s) c.args.self.now begun.0
         (λ asked s i. (same_gone asked s c.in-Gone.dn ∙ ap (λ dn. hands asked false (empty_report dn) s) (sym c.lane_of.ensures))) (begin_handed c.args.self.now c.gone.new.self c.lane_of.result begun.0 begun.2)),
   )
 ]) c.gone.ensures.cut

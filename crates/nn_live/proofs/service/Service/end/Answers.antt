@@ -3,9 +3,8 @@ use Rattle.std.proofs.lemmas.Result.{IfOk-weaker, IfErr-weaker}
 use Rattle.nn_device.proofs.Pages.{puts_both}
 use Rattle.nn_live.specs.Live.{ends, takes_torn}
 use Rattle.nn_live.specs.declared.service.ServiceFault.TheVariants.{Exhausted}
-use Rattle.nn_live.proofs.Breaking.{first_breaks, then_none}
-use Rattle.nn_live.proofs.Growing.{ends_grow}
-use Rattle.nn_live.proofs.Places.{of_err, on_err, then_makes}
+use Rattle.nn_live.proofs.Breaking.{edits_at_end, line_at_end}
+use Rattle.nn_live.proofs.Places.{both_err, of_err, on_err, then_makes}
 use Rattle.nn_live.proofs.service.Service.end.Goals as goal
 
 pub returns-clause-ok : goal.returns-clause-ok
@@ -25,11 +24,12 @@ returns-clause-exhausted g c is =
 pub returns-clause-prefix : goal.returns-clause-prefix
 returns-clause-prefix g c =
     let one = c.in_ok-torn_line.ensures.ok in
-    IfErr-weaker c.end_edits.result _ _ (λ _ put. (
+    let put = both_err c.end_edits.result _ _ c.end_edits.ensures.put c.end_edits.ensures.says in
+    IfErr-weaker c.end_edits.result _ _ (λ _ end. (
       one.0 ++ [],
-      puts_both one.0 [] _ _ _ _ _ _ one.1 put,
-      then_none (λ asked s. takes_torn asked c.args.torn.now s) (λ asked s. ends asked s) c.args.self.now c.torn_line.new.self one.0 ends_grow one.2,
-    )) c.end_edits.ensures.put
+      puts_both one.0 [] _ _ _ _ _ _ one.1 end.0,
+      edits_at_end c.args.torn.now c.args.self.now c.torn_line.new.self one.0 one.2 end.1,
+    )) put
 
 pub returns-in_err-torn_line-clause-exhausted : goal.returns-in_err-torn_line-clause-exhausted
 returns-in_err-torn_line-clause-exhausted g c is =
@@ -39,4 +39,4 @@ returns-in_err-torn_line-clause-exhausted g c is =
 pub returns-in_err-torn_line-clause-prefix : goal.returns-in_err-torn_line-clause-prefix
 returns-in_err-torn_line-clause-prefix g c =
     let prefix = c.in_err-torn_line.ensures.prefix in
-    on_err _ c.from_residual.result (prefix.0, prefix.1, first_breaks (λ asked s. takes_torn asked c.args.torn.now s) (λ asked s. ends asked s) c.args.self.now prefix.0 ends_grow prefix.2)
+    on_err _ c.from_residual.result (prefix.0, prefix.1, line_at_end c.args.torn.now c.args.self.now prefix.0 c.in_err-torn_line.ensures.some prefix.2)

@@ -4,8 +4,9 @@ use Rattle.nn_segment.specs.Fault.{number_of}
 use Rattle.nn_live.specs.Live.{ends}
 use Rattle.nn_live.specs.contracts.service.Service.{the_view as seen_of}
 use Rattle.nn_live.specs.Serving.{Service, InHand, HasPart, FollowsStep, fault_text}
+use Rattle.nn_live.proofs.BrokenEdits.{ends_say}
 use Rattle.nn_live.proofs.Editing.{none_in_hand, unfinished}
-use Rattle.nn_live.proofs.Places.{nothing_done}
+use Rattle.nn_live.proofs.Places.{nothing_done, on_err}
 use Rattle.nn_live.proofs.service.Service.end_edits.Goals as goal
 
 pub returns-then-is_empty-clause-ok : goal.returns-then-is_empty-clause-ok
@@ -29,3 +30,7 @@ returns-clause-ok g c =
     ap₂ (λ (v : Service) (h : InHand). record v { in_hand = h }) (sym counted) (sym c.replace-in_hand.ensures.after) in
     let told = subst (λ t. FollowsStep (λ asked s. ends asked s) x (record x { in_hand = c.none.result; segments = x.segments + 1 }) t) spelled made in
     (text, c.put_fault.ensures, subst (λ (v : Service). FollowsStep (λ asked s. ends asked s) x v text) now told)
+
+pub returns-in_err-count_segment-clause-says : goal.returns-in_err-count_segment-clause-says
+returns-in_err-count_segment-clause-says g c =
+    on_err _ c.from_residual.result (ends_say c.args.self.now (ap (λ (v : Service). v.in_hand.edits == 0) (sym c.self.view_is) ∙ sym c.if-is_empty.ensures))

@@ -3,9 +3,9 @@ use Rattle.std.proofs.lemmas.Result.{IfOk-weaker, IfErr-weaker}
 use Rattle.nn_device.proofs.Pages.{puts_both}
 use Rattle.nn_live.specs.Live.{ends, takes, takes_torn}
 use Rattle.nn_live.specs.declared.service.ServiceFault.TheVariants.{Exhausted}
-use Rattle.nn_live.proofs.Breaking.{none_told, then_none}
-use Rattle.nn_live.proofs.Growing.{end_grows, ends_grow}
-use Rattle.nn_live.proofs.Places.{of_err, on_err, same_makes, then_makes}
+use Rattle.nn_live.proofs.Breaking.{edits_at_end, none_at_end}
+use Rattle.nn_live.proofs.Places.{both_err, of_err, on_err, same_makes, then_makes}
+use Rattle.nn_live.proofs.Cutting.{some_long}
 use Rattle.nn_live.proofs.Reading.{torn_as_line}
 use Rattle.nn_live.proofs.service.Service.end_long.Goals as goal
 
@@ -34,12 +34,11 @@ returns-clause-prefix g c =
     let one = c.in_ok-long_line.ensures.ok in
     let x = c.args.self.now in
     let y = c.long_line.new.self in
-    IfErr-weaker c.end_edits.result _ _ (λ _ put. (
+    IfErr-weaker c.end_edits.result _ _ (λ _ end. (
       one.0 ++ [],
-      puts_both one.0 [] _ _ _ _ _ _ one.1 put,
-      λ torn is. then_none (λ asked s. takes_torn asked torn s) (λ asked s. ends asked s) x y one.0 ends_grow
-          (same_makes (λ asked s. takes_torn asked torn s) (λ asked s. takes asked torn s) x y one.0 (λ asked s i. torn_as_line torn is.long asked s) (one.2 torn is)),
-    )) c.end_edits.ensures.put
+      puts_both one.0 [] _ _ _ _ _ _ one.1 end.0,
+      λ torn is. edits_at_end torn x y one.0 (same_makes (λ asked s. takes_torn asked torn s) (λ asked s. takes asked torn s) x y one.0 (λ asked s i. torn_as_line torn is.long asked s) (one.2 torn is)) end.1,
+    )) (both_err c.end_edits.result _ _ c.end_edits.ensures.put c.end_edits.ensures.says)
 
 pub returns-in_err-long_line-clause-exhausted : goal.returns-in_err-long_line-clause-exhausted
 returns-in_err-long_line-clause-exhausted g c fault torn is =
@@ -48,4 +47,4 @@ returns-in_err-long_line-clause-exhausted g c fault torn is =
 
 pub returns-in_err-long_line-clause-prefix : goal.returns-in_err-long_line-clause-prefix
 returns-in_err-long_line-clause-prefix g c =
-    on_err _ c.from_residual.result ([], c.in_err-long_line.ensures.put, λ torn is. none_told (λ asked s. ends asked (takes_torn asked torn s)) c.args.self.now (λ asked s. end_grows asked torn s))
+    on_err _ c.from_residual.result ([], c.in_err-long_line.ensures.put, λ torn is. none_at_end torn c.args.self.now (some_long torn is.long))

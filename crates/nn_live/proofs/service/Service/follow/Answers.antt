@@ -56,6 +56,8 @@ returns g c =
 pub returns-in_err-apply-clause-prefix : goal.returns-in_err-apply-clause-prefix
 returns-in_err-apply-clause-prefix g c =
     let held = c.txs.invariant in
-    let some = some_followed c.args.self.now c.txs.self c.args.txs.now c.txs.rest.now held.0 held.2 in
+    let cut : c.txs.rest.now ≡ c.in-Some.tx.now ∷ c.in-Some.later.now = grind arith in
+    let came = subst (λ rest. Came c.args.self.now c.txs.self c.args.txs.now rest held.0) cut held.2 in
+    let some = some_followed c.args.self.now c.txs.self c.args.txs.now c.in-Some.later.now c.in-Some.tx.now held.0 came in
     let more = none_more (λ asked s. follows asked c.args.txs.now s) c.args.self.now held.0 some in
     on_err _ c.from_residual.result (held.0 ++ [], puts_both held.0 [] _ _ _ _ _ _ held.1 c.in_err-apply.ensures.put, more)

@@ -25,7 +25,7 @@ returns-in-Ok-hand-clause-ok g c =
     let is : standby_of z ≡ received (standby_of x.shadow) (next_of x.shadow r) = c.in-Ok-hand.ensures.ok ∙ ap (received (standby_of x.shadow)) m in
     let fits : hand_refusal 256 x.shadow.phase (standby_of x.shadow) (next_of x.shadow r) ≡ None =
     ap₂ (λ k n. hand_refusal k x.shadow.phase (standby_of x.shadow) n) (sym c.self.invariant.0) (sym m) ∙ c.in-Ok-hand.ensures.fits in
-    let fills : IsFullAfter own r x.shadow x.full f = filled own r x c.args.self.now c.reserve.new.self f c.fills-fills.result here c.reserve.ensures.same c.fills-fills.ensures c.note.ensures in
+    let fills : IsFullAfter own r x.shadow x.full f = filled own r x c.args.self.now c.reserve.new.self f c.fills-fills.result here c.reserve.ensures.same c.fills-fills.ensures.behind c.note.ensures in
     let made = subst (λ (v : Service). FollowsStep (λ asked s. hands asked own (r ∷ []) s) x v (told x.history z)) (sym c.tell_events.ensures.left) (taken own x z f r is c.hand.ensures.phase c.hand.ensures.settings fills fits) in
     (told x.history z, c.tell_events.ensures.put, subst (λ (v : Service). FollowsStep (λ asked s. hands asked own (r ∷ []) s) v y (told x.history z)) here made)
 

@@ -53,6 +53,14 @@ def sources(crate):
     return sorted(found)
 
 
+def modules(crate):
+    """The files of specs/ of a crate, as their paths behind `specs`."""
+    top = os.path.join(TOP, crate, "specs")
+    for folder, _, names in sorted(os.walk(top)):
+        for name in sorted(it for it in names if it.endswith(".antt")):
+            yield os.path.relpath(os.path.join(folder, name[:-5]), top)
+
+
 def imports(text):
     """What each name that `use` lines bring means: a list of targets, since a name may be brought twice."""
     env = collections.defaultdict(list)

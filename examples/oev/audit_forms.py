@@ -168,6 +168,14 @@ def kinds():
         change(closed)
         yield Form(name, cluster, first, f'kind "/d/closed" {said}' if said else ONE_BARE, is_same=not said)
 
+    for name, is_old, said in (("a file of an old layout that is of this one there", False, 'kind "/d/closed" old file\n'), ("one that is of it", True, ONE_BARE)):
+        cluster, _, (closed, _) = begun()
+        blocks, closed.blocks, cluster.last_stamp = closed.blocks, [[77, 5, 10]], 3000
+        first = cluster.txid
+        cluster.set_replication(closed, 2)
+        closed.blocks = closed.blocks if is_old else blocks
+        yield Form(name, cluster, first, said, is_same=is_old)
+
     for name, count, said in (
         ("a file that outgrows a line, of few blocks there", 9, 'kind "/d/open" long file\n'),
         ("a file that outgrows a line, with other blocks there", 1300, ONE_BARE),
@@ -226,6 +234,38 @@ def before_new():
         name = "an append, and a new block" + ", where the new stamp is lost" * is_lost
         yield Form(name, cluster, first, said if is_lost else "alike: ", not is_lost)
 
+    stamp = 1003
+    before = block_member([FIRST_ID, stamp, 200])
+    for name, there, said in (
+        ("another id", block_member([FIRST_ID + 1, stamp, 200]), None),
+        ("another length", block_member([FIRST_ID, stamp, 150]), f'block "/d/closed" 0 {FIRST_ID}:{stamp}:150 {FIRST_ID}:{stamp}:200\n'),
+        ("no block", "", f'"/d/closed": the record lacks the block before the new one, {FIRST_ID}\n'),
+    ):
+        cluster, _, (closed, _) = begun()
+        first = cluster.txid
+        cluster.append(closed)
+        cluster.add_block(closed, 200)
+        changed(cluster, before, there)
+        applies = said is not None and said.startswith("block ")
+        said = said if applies else f"fault OP_ADD_BLOCK, TXID {cluster.txid}: {said}" if said else f"fault TXID {cluster.txid}: "
+        yield Form(f"{name} before the new one", cluster, first, said, is_same=False)
+
+    for name, length, said in (("a new block with a length", 9, None), ("such a block, without it in the image", 0, f'block "/d/f" 0 {FIRST_ID + 2}:1003:9 {FIRST_ID + 2}:1003:0\n')):
+        cluster, directory, _ = begun()
+        first = cluster.txid
+        file = cluster.create(directory, "f")
+        cluster.add_block(file)
+        changed(cluster, block_member(file.blocks[0]), block_member([*file.blocks[0][:2], 9]))
+        file.blocks[0][2] = length
+        yield Form(name, cluster, first, said or "alike: ", is_same=not said)
+
+
+def changed(cluster, old, new):
+    """The last record has another text in the place of one."""
+    txid, text = cluster.records[-1]
+    assert old in text, (old, text)
+    cluster.records[-1] = txid, text.replace(old, new)
+
 
 def no_files():
     """Records that name a directory, or nothing, where a file has to be."""
@@ -271,6 +311,14 @@ def own_settings():
     said = f'missing "/d/{long}x" file\nextra "/d/{long}z" file\n'
     yield Form("a long name that is another one", cluster, first, said, is_same=False)
 
+    for kind, said in (("striped", None), ("replicated", f'kind "/d/{long}" striped file\n')):
+        cluster, directory, (closed, _) = begun()
+        striped = cluster.create(directory, long, policy=1)
+        first = cluster.txid
+        cluster.set_replication(striped, 2)
+        striped.policy *= said is None
+        yield Form(f"a striped file of a long name, {kind} there", cluster, first, said or ONE_BARE, is_same=not said)
+
     for depth, name in ((33, wide), (1000, "e")):
         for is_same in (True, False):
             cluster, directory, (closed, _) = begun()
@@ -302,6 +350,50 @@ def own_settings():
     yield Form("a path of too many names", cluster, first, f"not compared, below {deepest}: 1 paths of too many names\n")
 
 
+def moved_down():
+    """A cluster in which a rename takes paths down so far that some have too many names; and what moves, whither, and a file."""
+    cluster, _, (closed, _) = begun()
+    moved = cluster.make_directory(cluster.root, "u")
+    deep = cluster.make_directories(moved, "d", 600)
+    cluster.rename(closed, deep, "f")
+    cluster.create(deep, "striped", policy=1)
+    place = cluster.make_directories(cluster.make_directory(cluster.root, "v"), "e", 500)
+    cluster.keep_image()
+    first = cluster.txid
+    cluster.rename(moved, place, "u")
+    return cluster, first, moved, closed
+
+
+def deep_by_rename():
+    """Directories that a rename takes below 1,000 names, and up again."""
+    cluster, first, moved, _ = moved_down()
+    fits = "/v" + "/e" * 500 + "/u" + "/d" * 498
+    cluster.touch(moved)
+    yield Form("paths that a rename takes too far down", cluster, first, f"not compared, below {fits}: 104 paths of too many names\n")
+    cluster.rename(moved, cluster.root, "w")
+    yield Form("paths that come up again", cluster, first)
+    cluster, first, moved, _ = moved_down()
+    other = cluster.make_directory(moved, "x")
+    cluster.touch(other)
+    cluster.keep_image()
+    cluster.images[cluster.txid] = cluster.images[cluster.txid].replace("<name>x<", "<name>y<")
+    cluster.image = lambda: cluster.images[cluster.txid]
+    said = f'missing "{other.path()}" directory\nextra "{moved.path()}/y" directory\n'
+    yield Form("another name where paths are too far down", cluster, first, said, is_same=False)
+    cluster, first, moved, closed = moved_down()
+    cluster.touch(moved)
+    cluster.keep_image()
+    deep = moved
+    while deep.path().count("/") < 1000:
+        deep = next(iter(deep.children.values()))
+    deep.children.clear()
+    yield Form("an image that lacks what is too far down", cluster, first, "not compared, paths of more than 1,000 names: 104\n")
+    cluster, first, moved, closed = moved_down()
+    cluster.delete(closed)
+    cluster.delete(moved)
+    yield Form("what is too far down is deleted", cluster, first)
+
+
 def own_settings_in_chain():
     """A cluster, and TXIDs of images: a long name and a high replication come, then another one and too long a path."""
     cluster, directory, (closed, _) = begun()
@@ -317,6 +409,37 @@ def own_settings_in_chain():
     cluster.create(place, "f", 600)
     cluster.keep_image()
     txids.append(cluster.txid)
+    return cluster, txids
+
+
+def marks_in_chain():
+    """A cluster with a long name, then with one that is what this project calls it in short, and the TXIDs of images."""
+    cluster, directory, (closed, opened) = begun()
+    txids = [cluster.txid]
+    for step in (
+        lambda: cluster.rename(closed, directory, "n" * 300),
+        lambda: cluster.rename(opened, directory, "\x7f0"),
+        lambda: cluster.set_replication(opened, 9),
+        lambda: cluster.rename(closed, cluster.root, "\x7f0"),
+    ):
+        step()
+        cluster.keep_image()
+        txids.append(cluster.txid)
+    return cluster, txids
+
+
+def long_in_chain():
+    """A cluster in which a rename makes a path too long, and the TXIDs of images before it, behind it and later."""
+    cluster, _, (closed, opened) = begun()
+    moved = cluster.make_directory(cluster.root, "u")
+    cluster.rename(closed, cluster.make_directories(moved, "\u4e2d" * 85, 20), "f")
+    place = cluster.make_directories(cluster.root, "\u4e2d" * 85, 20)
+    cluster.touch(place)
+    txids = [cluster.txid - 1]
+    for last in (lambda: cluster.rename(moved, place, "u"), lambda: cluster.set_replication(closed, 7), lambda: cluster.close(opened, 9)):
+        last()
+        cluster.touch(place)
+        txids.append(cluster.txid - 1)
     return cluster, txids
 
 
@@ -350,4 +473,4 @@ def issued():
     yield Form("an image between an id and its block", cluster, first)
 
 
-FORMS = (stamps, truncates, old_layouts, bare_files, kinds, given_ids, before_new, no_files, names, own_settings, snapshots, issued)
+FORMS = (stamps, truncates, old_layouts, bare_files, kinds, given_ids, before_new, no_files, names, own_settings, deep_by_rename, snapshots, issued)

@@ -15,8 +15,8 @@ import time
 from types import SimpleNamespace
 
 from at_random import cluster_at_random
-from audit_damages import BLOCKS, DAMAGES, HARMLESS, LOST, in_inode, replaced, several, story
-from audit_forms import FORMS, many_replications, own_settings_in_chain
+from audit_damages import BLOCKS, DAMAGES, HARMLESS, LOST, SPARE, in_inode, replaced, several, story
+from audit_forms import FORMS, long_in_chain, many_replications, marks_in_chain, moved_down, own_settings_in_chain
 from auditing import Audit
 from cases import document, record, rename
 from chain import Chain
@@ -237,6 +237,45 @@ def check_table(trials):
     trials.check.same("its names", (found["names"][0], "\u4e2d" * 85 in found["names"]), ("n" * 300, True))
 
 
+def check_long_in_chain(trials):
+    """A chain goes on behind a rename that makes a path too long, also where the image of then does not show it."""
+    cluster, txids = long_in_chain()
+    log = trials.log(*(text for _, text in cluster.records))
+    images = [cluster.images[txid] for txid in txids]
+    torn = images[1].replace("<numInodes>", "<numInodes>1")
+    state = os.path.join(trials.check.folder, "long")
+    first, second = trials.check.file(images[0]), trials.check.file(torn)
+    trials.audited("a chain with a contradiction", 1, "inconsistent numInodes is ", "--state", state, "--from", first, "--to", second, log)
+    copy = shutil.copytree(state, f"{state}-copy")
+    other = trials.check.file(images[2].replace("<replication>7<", "<replication>8<"))
+    output = trials.audited("a damage of a long path in a chain", 1, "replication ", "--state", copy, "--to", other, log)
+    trials.check.contains("its words", output, '/f" 7 8\n')
+    for txid, image in zip(txids[2:], images[2:]):
+        trials.audited(f"a chain with a long path, {txid}", 0, "alike: ", "--state", state, "--to", trials.check.file(image), log)
+
+
+def check_marks(trials):
+    """A name that is what another one is called in short is not mixed up with that one, in a chain neither."""
+    cluster, txids = marks_in_chain()
+    log = trials.log(*(text for _, text in cluster.records))
+    state = os.path.join(trials.check.folder, "marks")
+    words = ["--state", state, "--from", trials.check.file(cluster.images[txids[0]])]
+    for place, txid in enumerate(txids[1:], 1):
+        if place == 2:
+            text = cluster.images[txid].replace("<name>\x7f0<", "<name>other<").replace(f"<name>{'n' * 300}<", "<name>\x7f0<")
+            swapped = trials.check.file(text.replace("<name>other<", f"<name>{'n' * 300}<").replace(*children_of_marks(text)))
+            copy = shutil.copytree(state, f"{state}-{place}")
+            trials.audited("two names that are swapped", 1, f'state "/d/{"n" * 300}" closed open\n', "--state", copy, "--to", swapped, log)
+        trials.audited(f"a chain with marks in names, {place}", 0, "alike: ", *words, "--to", trials.check.file(cluster.images[txid]), log)
+        words = ["--state", state]
+
+
+def children_of_marks(text):
+    """The children of a directory of two, and these in the other order."""
+    found = re.search("(<child>[0-9]+</child>)(<child>[0-9]+</child>)</directory>", text)
+    return found[0], f"{found[2]}{found[1]}</directory>"
+
+
 def check_layouts(trials):
     """The images and the log may have different layouts, and an image of an older oiv is named as such."""
     layouts = replaced("layoutVersion>-66<", "layoutVersion>-63<"), replaced("layoutVersion>-66<", "layoutVersion>-67<")
@@ -304,6 +343,34 @@ def check_texts(trials):
     trials.check.same("how often a file is named", errors.count(torn), 1)
 
 
+def check_places(trials):
+    """Bad input gets one line, with its file, its line and what was expected. Nothing is written then, also in a chain."""
+    lines = [f"\n{text}" for text in trials.records]
+    last = trials.images[trials.last].replace("<inode>", "\n<inode>")
+    begin = last[: last.index("<name>spare<")].count("\n") + 1
+    stamp = several(replaced(f"<BLOCK_ID>{BLOCKS[3]}</BLOCK_ID><NUM_BYTES>0<", f"<BLOCK_ID>{BLOCKS[3]}</BLOCK_ID><NUM_BYTES>-1<"))
+    for name, log, image, reason in (
+        ("nothing", None, None, None),
+        ("a length that is no number", stamp, None, "{0}, line 25: OP_ADD_BLOCK, TXID 24: NUM_BYTES: '-1' is not a number from 0 to "),
+        ("a record that is refused", replaced(">OP_TIMES<", ">OP_SYMLINK<"), None, "{0}, line 34: OP_SYMLINK, TXID 33: there are no"),
+        ("a record that comes back", replaced("<TXID>32<", "<TXID>30<"), None, "{0}, line 31: OP_DELETE, TXID 30, comes behind"),
+        ("a gap", replaced("<TXID>32<", "<TXID>33<"), None, "{0}, line 33: OP_DELETE, TXID 33: a gap, since TXID 32 is next"),
+        ("a tag that ends nowhere", replaced("<OPCODE>OP_TIMES</OPCODE>", "<OPCODE>OP_TIMES"), None, "{0}, line 34: this is no XML"),
+        ("a replication that is no number", None, in_inode("spare", "<replication>2<", "<replication>x<"), f"{{1}}, line {begin}: inode {SPARE}: replication: 'x' is not"),
+        ("a link", None, in_inode("spare", ">FILE<", ">SYMLINK<"), f"{{1}}, line {begin}: inode {SPARE}: its type is 'SYMLINK', and there are no"),
+        ("another count", None, lambda text: re.sub("<numInodes>[0-9]+", "<numInodes>x", text), "{1}, line 3: numInodes: 'x' is not a number"),
+        ("a tag", None, in_inode("spare", "</name>", ""), f"{{1}}, line {begin}: this is no XML"),
+    ):
+        edits = trials.check.file((log or str)(document(*lines)))
+        second, state = trials.check.file((image or str)(last)), os.path.join(trials.check.folder, f"places-{name}")
+        words = "--from", trials.image(trials.first), "--to", second, edits
+        if reason is None:
+            trials.audited("a dump in lines", 0, "alike: ", *words)
+            continue
+        trials.refused(f"the place of {name}", f"nothing can be said: {reason.format(edits, second)}", "--state", state, *words)
+        trials.check.same(f"what is kept behind {name}", os.listdir(state), ["lock"])
+
+
 def check_deep_moves(trials):
     """A rename between a path of more than 1,000 names and a shorter one leaves nothing to be said: what moves is not held."""
     first, last, deep = trials.image(trials.first), trials.image(trials.last), "/a" * 1001
@@ -315,6 +382,31 @@ def check_deep_moves(trials):
         else:
             reason = f"OP_RENAME_OLD, TXID {trials.last}: a path of more than 1,000 names, and one that is none: what moves is not known"
             trials.refused(f"a move {name}", reason, *words)
+
+
+    cluster, first, moved, closed = moved_down()
+    cluster.touch(moved)
+    cluster.keep_image()
+    down = cluster.txid
+    cluster.touch(cluster.root)
+    cluster.keep_image()
+    later = cluster.txid
+    cluster.delete(closed)
+    cluster.rename(moved, cluster.root, "w")
+    cluster.keep_image()
+    images = {txid: trials.check.file(cluster.images[txid]) for txid in (first, down, later, cluster.txid)}
+    log = trials.log(*(text for _, text in cluster.records))
+    reason = f"OP_RENAME_OLD, TXID {cluster.txid}: " + f'"{"/v" + "/e" * 500}/u" may have paths of more than 1,000 names, which come up: what moves is'
+    state = os.path.join(trials.check.folder, "deep")
+    trials.audited("a chain down", 0, "alike: ", "--state", state, "--from", images[first], "--to", images[down], log)
+    copy = shutil.copytree(state, f"{state}-copy")
+    trials.audited("a chain down that goes on", 0, "alike: ", "--state", copy, "--to", images[later], log)
+    for name, words in (
+        ("behind a record that names it", ["--from", images[first]]),
+        ("that the first image has", ["--from", images[down]]),
+        ("that a chain had", ["--state", state]),
+    ):
+        trials.refused(f"something deep comes up, {name}", reason, *words, "--to", images[cluster.txid], log)
 
 
 def check_progress(trials):
@@ -362,6 +454,7 @@ def check_steps(trials):
     audit.progress = Progress(stream, None, Jumping())
     with contextlib.redirect_stdout(io.StringIO()):
         audit.run()
+    trials.check.same("what lies in TMPDIR behind an audit", sorted(os.listdir(audit.folder)), ["lines", "map"])
     for what in ("reading 0", "giving the image to the program", "giving the log to the program", "comparing the images"):
         trials.check.contains("a step of an audit", stream.getvalue(), what)
     slow = trials.check.file("#!/bin/sh\ncat > /dev/null\nsleep 1.3\nprintf 'fault 62 image line 2\\n'\n")
@@ -496,6 +589,7 @@ def check_state(trials, folder, last):
         ("with another digit in its first line", b'"audits":1', b'"audits":2', damaged),
         ("with another end", b'{"end":', b'{"enf":', damaged),
         ("of another form", b"hdfs-audit-2", b"hdfs-audit-3", "is no state of an audit"),
+        ("that says it is of the form before", b"hdfs-audit-2", b"hdfs-audit", "is no state of an audit"),
         ("with a kind that there is not", b'"bare":{}', b'"bare":{"/data/notes":"no"}', "is no state of an audit"),
         ("that is torn", whole, b"{}", "is no state of an audit"),
     ):
@@ -573,9 +667,12 @@ PARTS = (
     check_forms,
     check_replications,
     check_table,
+    check_long_in_chain,
+    check_marks,
     check_layouts,
     check_nothing_said,
     check_texts,
+    check_places,
     check_deep_moves,
     check_progress,
     check_steps,

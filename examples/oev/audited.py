@@ -51,6 +51,10 @@ NAMES = {"PATH", "SRC", "DST", "TRG", "SOURCES"}
 NUMBERS = {"TXID", "BLOCK", "BLOCK_ID", "ERASURE_CODING_POLICY_ID", "GENSTAMPV2", "NEWLENGTH", "REPLICATION"}
 TAKEN = NAMES | NUMBERS | {"OPTIONS", "OVERWRITE"}
 
+# The edits that move or remove what lies below a path.
+MOVING = {"OP_DELETE", "OP_RENAME"}
+NOT_KNOWN = "what moves is not known"
+
 # A path of so few characters, all of them such, is the same in an image and for the program.
 FEW_BYTES = NAME_BYTES // 4
 PLAIN = re.compile(r"[^\r\\\x7f]*")
@@ -61,8 +65,10 @@ CARRIAGE_RETURN = re.compile(r"(?:\r|\\000[dD];)\n?")
 class Audited:
     """Makes edits of records, and keeps what is to be said of them."""
 
-    def __init__(self, last_gen, table):
+    def __init__(self, last_gen, table, deep=()):
         self.table = table
+        # The directories below which there may be something of too many names, which is not held.
+        self.deep = set(deep)
         # Whether the table got a name of a path that is too long. Then what is made by it is of no use.
         self.has_grown = False
         # The last stamp of the image, the first that the log issues, and those that it gives before that.
@@ -80,6 +86,8 @@ class Audited:
         if record is None or self.has_grown:
             return []
         made = self.numbered(self.converted(record, tree))
+        if self.deep:
+            self.move_deep(made)
         self.note_stamps(record)
         if made:
             for name in record.data.shape.of(names_passed):
@@ -116,8 +124,26 @@ class Audited:
             texts[place] = self.held(texts[place])
         deep = [text.count("/") > PATH_NAMES for text in map(texts.__getitem__, shape.of(places_of_names))]
         if any(deep) and not all(deep):
-            raise Refused(f"a path of more than {PATH_NAMES:,} names, and one that is none: what moves is not known")
-        return None if any(deep) else record._replace(data=Element(shape, texts))
+            raise Refused(f"a path of more than {PATH_NAMES:,} names, and one that is none: {NOT_KNOWN}")
+        if any(deep):
+            paths = [unescaped("a path", texts[place]) for place in shape.of(places_of_names)]
+            self.deep.update(map(deepest, paths))
+            return None
+        return record._replace(data=Element(shape, texts))
+
+    def move_deep(self, made):
+        """Follows the directories below which something is not held. What comes up from there is not known."""
+        for edit in made:
+            source = edit.get("src", edit.get("path"))
+            moved = {path for path in self.deep if edit["op"] in MOVING and f"{path}/".startswith(f"{source}/")}
+            if not moved:
+                continue
+            self.deep -= moved
+            if edit["op"] == "OP_RENAME":
+                new = {edit["dst"] + path[len(source) :] for path in moved}
+                if any(path.count("/") < PATH_NAMES for path in new):
+                    raise Refused(f"{to_json(source)} may have paths of more than {PATH_NAMES:,} names, which come up: {NOT_KNOWN}")
+                self.deep.update(map(deepest, new))
 
     def is_otherwise(self, text):
         """Whether a path may have other names here than in the log."""
@@ -148,6 +174,11 @@ class Audited:
         A standby may learn of a stamp only when a block comes with it, and save a lower one until then.
         """
         return max((gen for gen in self.given if self.first_issued is None or gen < self.first_issued), default=None)
+
+
+def deepest(path):
+    """The deepest directory that fits, of those that lead to a path."""
+    return "/".join(path.split("/")[: PATH_NAMES + 1])
 
 
 def names_passed(shape):

@@ -14,7 +14,7 @@ from between import Converted
 from chain import Chain, Keeping, Link
 from checkpoint import name_section
 from comparison import Differences, compare
-from formats import Refused
+from formats import PATH_NAMES, Refused
 from overlap import opened
 from progress import Progress
 from proved import chunks_of
@@ -267,7 +267,8 @@ class Audit:
             "files whose blocks can't be held here": len(bare),
             "records with a carriage return in a name, taken as a line feed": log.edits.carriage_returns,
             "names of the image with a line feed, which may be a carriage return": facts.with_line_feeds,
-            "paths of more than 1,000 names": sum(given.too_deep.values()),
+            # One of the images may lack some.
+            "paths of more than 1,000 names": max(sum(given.too_deep.values()), self.ours.left_out),
             "last stamp, with which no block has come": self.has_later_stamp,
         }
         left = {
@@ -279,4 +280,5 @@ class Audit:
 
 
 def in_order(kinds):
-    return dict(sorted(kinds.items()))
+    """The kinds of bare files that a state keeps: of those whose paths it has."""
+    return dict(sorted((path, kind) for path, kind in kinds.items() if path.count("/") <= PATH_NAMES))

@@ -9,6 +9,7 @@ from conversion import Conversion
 from formats import DoesNotApply, Refused
 from log import Log, Map, Whole, pairs_in
 from overlap import merged
+from places import taken
 from shortways import ShortWays
 from table import Grew
 
@@ -23,14 +24,15 @@ class Converted:
         self.name = os.path.join(folder, "lines")
         self.map = os.path.join(folder, "map")
         header = start.header()
-        self.edits = Audited(header["last_gen"], table)
+        tree = start.tree()
+        self.edits = Audited(header["last_gen"], table, start.deep)
         # How the log can't be followed, or None.
         self.fault = None
         with open(self.name, "wb") as lines, open(self.map, "w") as numbers:
             # The program's number of a transaction is not its TXID, once the log has been followed.
             log = Log(Whole(lines, SEGMENT_BYTES), header["txid"], 2, Map(numbers))
             ways = ShortWays(self.edits)
-            conversion = Conversion(start.tree(), log, (), self.edits.edits_of, ways.take)
+            conversion = Conversion(tree, log, (), self.edits.edits_of, ways.take)
             conversion.begin_after(start.link.txid)
             try:
                 take(conversion, files, until, opened)
@@ -39,7 +41,7 @@ class Converted:
         if self.edits.has_grown:
             raise Grew
         # The tree takes much memory, and is let go here.
-        self.bare = bare_paths(conversion.tree)
+        self.bare = bare_paths(tree)
         self.edits.passed += ways.passed(TAKEN)
         self.left_out = conversion.left_out
 
@@ -65,7 +67,7 @@ def take(conversion, files, until, opened):
         for record in records:
             if record.txid > until:
                 break
-            conversion.take(record)
+            taken(conversion, record)
     conversion.finish()
     if conversion.last < until:
         raise Refused(f"the log ends at TXID {conversion.last}, and the second image is of TXID {until}")

@@ -170,6 +170,21 @@ CONVERTED = [
         ),
     ),
     (
+        "a new block that has a length",
+        [add(2, "/f"), ADD_BLOCK, record("OP_ADD_BLOCK", 4, path("/f"), block(FIRST_ID), block(FIRST_ID + 1, length=9))],
+        ended(
+            ADDED,
+            BLOCK_ADDED,
+            line("OP_ADD_BLOCK", 4, gen=1001, id=FIRST_ID + 1, path='"/f"'),
+            of_blocks("OP_UPDATE_BLOCKS", 5, (FIRST_ID, 0), (FIRST_ID + 1, 9)),
+        ),
+    ),
+    (
+        "a new block that has a length, of a file that is not there, is for the program to refuse",
+        [record("OP_ADD_BLOCK", 2, path("/f"), block(FIRST_ID, length=9))],
+        ended(line("OP_ADD_BLOCK", 2, gen=1001, id=FIRST_ID, path='"/f"'), of_blocks("OP_UPDATE_BLOCKS", 3, (FIRST_ID, 9))),
+    ),
+    (
         "a block that no OP_ALLOCATE_BLOCK_ID issued is for the program to refuse",
         [add(2, "/f"), close(3, "/f", block(FIRST_ID))],
         ended(ADDED, line("OP_CLOSE", 3, blocks=f'[{{"gen":1001,"id":{FIRST_ID},"len":0}}]', path='"/f"')),
@@ -284,6 +299,11 @@ REFUSED = [
         "another stamp of the block before the new one",
         [*TWO_BLOCKS, record("OP_ADD_BLOCK", 4, path("/f"), block(FIRST_ID + 1, 1002), block(FIRST_ID + 2))],
         f'"/f": the block before the new one, {FIRST_ID + 1}, has the stamp 1002, and the file has it with 1001',
+    ),
+    (
+        "no block before the new one, and the file has one",
+        [*TWO_BLOCKS, record("OP_ADD_BLOCK", 4, path("/f"), block(FIRST_ID + 2))],
+        f'"/f": the record lacks the block before the new one, {FIRST_ID + 1}',
     ),
     ("an append of old layouts", [add(2, "/f"), add(3, "/f", "false")], "OP_ADD, TXID 3: the file /f exists"),
     (

@@ -80,6 +80,8 @@ class Chain:
         try:
             members = json.loads(file.readline())
             form, told = members.pop("form"), members.pop("sha256", None)
+            if form == OLD_FORM and told is not None:
+                raise ValueError
             link = link_of(form, members)
         except (ValueError, TypeError, KeyError, AttributeError):
             raise Refused(f"{self.name} is no state of an audit") from None

@@ -187,11 +187,15 @@ class Checkpoint(Dump):
     def below(self, path, row):
         """They are looked at as the cluster has them, and are in the order of the names that the program has."""
         names, rows = super().below(path, row)
-        if not self.table.names:
+        if self.table.encoded.isdisjoint(names):
             return names, rows
         short = [self.table.names.get(name, name).encode() for name in map(bytes.decode, names)]
         pairs = sorted(zip(short, rows))
         return [name for name, _ in pairs], array("i", [row for _, row in pairs])
+
+    def name_of(self, row):
+        name = super().name_of(row).decode()
+        return self.table.names.get(name, name).encode()
 
     def full_name(self, name):
         return self.table.full_name(name).encode()

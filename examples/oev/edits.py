@@ -112,16 +112,21 @@ def add_block(data, tree):
     if len(blocks) not in (1, 2):
         raise Refused(f"{len(blocks)} blocks, where 1 or 2 are allowed")
     *before, new = blocks
-    edits = [{"op": "OP_ADD_BLOCK", "path": path, "id": new.id, "gen": new.gen}]
+    made = [{"op": "OP_ADD_BLOCK", "path": path, "id": new.id, "gen": new.gen}]
     file = tree.find_file(path)
-    if file and before and file.blocks[-1:] != before:
-        check_stamp(path, file.blocks[-1:], before)
-        edits.insert(0, {"op": "OP_UPDATE_BLOCKS", "path": path, "blocks": file.blocks[:-1] + before})
-    return edits
+    if file and file.blocks[-1:] != before:
+        check_before(path, file.blocks[-1:], before)
+        made.insert(0, update(path, file.blocks[:-1] + before))
+    if new.len:
+        # A line of it has no length.
+        made.append(update(path, [*(file.blocks[:-1] if file else ()), *blocks]))
+    return made
 
 
-def check_stamp(path, last, before):
-    """Refuses another stamp of a file's last block. Another block is for the program to refuse."""
+def check_before(path, last, before):
+    """Refuses another stamp of a file's last block, and a record without it. Another block is for the program to refuse."""
+    if not before:
+        raise DoesNotApply(f"{to_json(path)}: the record lacks the block before the new one, {last[0].id}")
     for block, told in zip(last, before):
         if block.id == told.id and block.gen != told.gen:
             stamps = f"the stamp {told.gen}, and the file has it with {block.gen}"

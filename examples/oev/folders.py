@@ -94,7 +94,9 @@ class Commands:
         surroundings = {**os.environ, "TMPDIR": self.folder}
         try:
             child = subprocess.Popen(words, **given, env=surroundings, start_new_session=True, pass_fds=[self.lock])
-        except FileNotFoundError:
+        except FileNotFoundError as reason:
+            if reason.filename == os.devnull:
+                raise
             raise Refused(f"there is no command {words[0]}") from None
         try:
             output, errors = self.waited(child, shown)

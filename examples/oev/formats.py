@@ -191,13 +191,13 @@ class Image:
             raise Refused(f"line {self.number} of the image is torn, or no object")
         return members
 
-    def rows(self):
-        """The row of each path, which has to be one that a path may be."""
+    def rows(self, check=check_path):
+        """The row of each path. `check` refuses what no path may be."""
         paths = 0
         while "end" not in (members := self.members(self.file.readline())):
             paths += 1
             try:
-                check_path(members["path"])
+                check(members["path"])
                 yield row_of(members)
             except (KeyError, TypeError, AttributeError):
                 raise Refused(f"line {self.number} of the image is no directory and no file") from None

@@ -11,10 +11,11 @@ from dumps import check_layout, elements, plain_numbers
 from formats import Refused, is_plain_name
 from inodes import CLOSED, DIRECTORY, NONE, OPEN, File, Inodes, Lists
 from lines import Lines
+from places import told_in
 from quick import Known, inodes_in, lists_in
 from reading import COMMON, MORE
 from shapes import named, only_places
-from walk import ROOT, Inconsistent, Walk
+from walk import ROOT, RUN_ROWS, Inconsistent, Walk
 
 LAYOUT = ("version", "layoutVersion")
 NUMBERS = ("NameSection",)
@@ -24,9 +25,6 @@ LIST = ("INodeDirectorySection", "directory")
 SNAPSHOTS = ("SnapshotSection", "numSnapshots")
 
 MORE_CHILDREN = (*LIST, MORE)
-
-# So many lines are made at a time.
-RUN_ROWS = 10_000
 
 # So many bytes an element may have. A directory has 6,400,000 children at most, and is read in pieces.
 SECTION_BYTES = 67_108_864
@@ -109,8 +107,14 @@ class Dump(Walk):
         """Reads a dump, and answers this."""
         readers = self.readers()
         quick = {INODE: Known(self.inodes_in), LIST: Known(lists_in)} if self.is_quick else {}
-        for place, element in elements(file, "fsimage", set(readers), SECTION_BYTES, self.passed, {LIST: 0}, quick):
-            readers[place](element)
+        element = None
+        try:
+            for place, element in elements(file, "fsimage", set(readers), SECTION_BYTES, self.passed, {LIST: 0}, quick):
+                readers[place](element)
+        except Inconsistent:
+            raise
+        except Refused as refused:
+            raise Refused(told_in(file.name, element, refused)) from None
         self.check_whole()
         self.finish()
         return self
@@ -280,6 +284,10 @@ class Dump(Walk):
     def number_for(replication):
         """What stands in a line for a replication."""
         return replication
+
+    def name_of(self, row):
+        """The bytes of a name, as it stands in a line."""
+        return self.inodes.name(row)
 
     def is_told(self, _above):
         """Whether the log tells of what kind a file is that this directory has."""

@@ -4,7 +4,7 @@ import re
 from array import array
 from itertools import accumulate
 
-from formats import Refused, row_of
+from formats import PATH_NAMES, Refused, row_of
 from inodes import CLOSED, DIRECTORY, OPEN, Inodes, Lists
 from names import Names
 from quick import NUMBER, Columns, blocks_of, matched
@@ -39,6 +39,8 @@ class Kept(Names):
         # Of each open directory: its path, its row, and the rows in it. And the last directory: its path and its row.
         self.above = [(b"", 0, array("i"))]
         self.last = None, None
+        # The directories that lie as deep as one may.
+        self.deep = []
         self.read()
 
     def full_name(self, name):
@@ -80,6 +82,8 @@ class Kept(Names):
             self.above[-1][2].append(row)
             if kind == DIRECTORY:
                 self.last = b"%b/%b" % (path, name), row
+                if len(self.above) == PATH_NAMES:
+                    self.deep.append(self.last[0].decode())
 
     def go_to(self, path):
         """Goes into the last directory, or back to one above it."""

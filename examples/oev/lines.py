@@ -52,7 +52,7 @@ class Lines:
                 made.append(FOLDER % (path, name))
                 continue
             if kind == BARE:
-                made.append(self.looked_at(above, inodes.name(row), row))
+                made.append(self.looked_at(above, self.dump.name_of(row), row))
                 continue
             numbers, replication = blocks[ends[row] : ends[row + 1]], self.replications[replications[row]]
             if kind == CLOSED and len(numbers) == 3:

@@ -4,11 +4,12 @@ It prints nothing until it has read them all, unless it tells a fault. Two of it
 is compared as it comes.
 """
 import contextlib
+import json
 import os
 import select
 import subprocess
 
-from formats import Refused
+from formats import PATH_NAMES, Refused, image_end
 from progress import STEP_SECONDS
 
 CHUNK_BYTES = 1 << 16
@@ -16,6 +17,8 @@ HEADER = b'"image":"hdfs-standby"'
 END = b'{"end":'
 # The lines that end an image and an answer have fewer bytes.
 END_BYTES = 200
+# The line of a path of too many names has more bytes.
+DEEP_BYTES = 2 * PATH_NAMES
 TICKS = os.sysconf("SC_CLK_TCK")
 
 
@@ -54,6 +57,8 @@ class Running:
         # Whether all of it came, and the line that ends the image.
         self.has_ended = False
         self.line_of_end = b""
+        # How many paths were left out.
+        self.left_out = 0
 
     def ask(self):
         """Asks for the image. Nothing is given any more."""
@@ -90,7 +95,19 @@ class Running:
         return None
 
     def piece(self, progress):
-        """The next lines of paths of the image, or nothing behind all."""
+        """The next lines of paths of the image, or nothing behind all. Paths of too many names are left out."""
+        while True:
+            piece = self.next_piece(progress)
+            if len(piece) > DEEP_BYTES and max(map(len, piece.split(b"\n"))) > DEEP_BYTES:
+                kept = [line + b"\n" for line in piece.split(b"\n")[:-1] if line.count(b"/") <= PATH_NAMES]
+                self.left_out += piece.count(b"\n") - len(kept)
+                piece = b"".join(kept)
+                if not kept:
+                    continue
+            return piece
+
+    def next_piece(self, progress):
+        """The next lines as the program prints them."""
         begin = 0
         while not self.has_ended:
             end = len(self.held) - END_BYTES
@@ -129,7 +146,7 @@ class Running:
     def take_end(self):
         """The line that ends the image, once."""
         line, self.line_of_end = self.line_of_end, b""
-        return line
+        return image_end(json.loads(line)["end"] - self.left_out) if line and self.left_out else line
 
     def wait(self):
         status = self.child.wait()

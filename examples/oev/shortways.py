@@ -46,7 +46,9 @@ class ShortWays:
             conversion.left_out[opcode] += 1
             return True
         way = WAYS.get(opcode)
-        if way is None or self.table.names or self.audited.has_grown or not way(self, record, conversion.tree, conversion.log):
+        if way is None or self.table.names or self.audited.has_grown or self.audited.deep:
+            return False
+        if not way(self, record, conversion.tree, conversion.log):
             return False
         conversion.kept[opcode] += 1
         self.kept[record.form] = self.kept.get(record.form, 0) + 1
@@ -82,9 +84,11 @@ class ShortWays:
     def add_block(self, record, tree, log):
         path, file = record.values[0], file_at(record, tree)
         blocks = record.form.blocks_in(record.blocks) if record.blocks else ()
-        if file is None or not 1 <= len(blocks) <= 2 or are_old(blocks) or len(blocks) == 2 and file.blocks[-1:] != [blocks[0]]:
+        if file is None or not 1 <= len(blocks) <= 2 or are_old(blocks) or file.blocks[-1:] != blocks[:-1]:
             return False
-        gen, block_id, _ = blocks[-1]
+        gen, block_id, length = blocks[-1]
+        if length:
+            return False
         log.write_line(ADD_BLOCK, (gen, block_id, path), record.txid)
         file.blocks.append(Block(gen, block_id, 0))
         self.note_stamps(blocks)

@@ -6,11 +6,15 @@ from itertools import chain
 from bare import BLOCKS_OF
 from chain import Link
 from checkpoint import give_image, low_number, numbers_of, pieces_of, read_image
-from formats import Image, Refused, image_directory, image_end, image_file, image_header, image_line
+from formats import PATH_BYTES, Image, Refused, image_directory, image_end, image_file, image_header, image_line
 from kept import Kept
 from listed import ListedTree
 from proved import chunks_of
+from table import MARK
 from told import lines_in
+
+# A name that no path has.
+NO_NAME = "/"
 
 
 class FirstImage:
@@ -41,6 +45,11 @@ class FirstImage:
     def tree(self):
         return tree_over(self.dump, self.link)
 
+    @property
+    def deep(self):
+        """The directories below which something has too many names."""
+        return self.dump.too_deep.keys()
+
 
 class KeptImage:
     """The image that a chain keeps, in its state: in a file, from a place on."""
@@ -52,6 +61,9 @@ class KeptImage:
         self.table = table
         # The names that are short in the file. The table may get more.
         self.names = set(link.names)
+        # The directories of as many names as there may be: more may have been below them.
+        self.deep = ()
+        self.shorten()
 
     @contextlib.contextmanager
     def open(self):
@@ -74,6 +86,14 @@ class KeptImage:
             bare = {self.table.short_again(path): kind for path, kind in self.link.bare.items()}
             self.link = self.link._replace(bare=bare)
 
+    def shorten(self):
+        """Gives short names in paths that a rename made too long, which the image of then did not have, or was not whole."""
+        with self.open() as file:
+            for line in file:
+                path = json.loads(line).get("path", "") if len(line) > PATH_BYTES else ""
+                if len(path.encode()) > PATH_BYTES:
+                    self.table.shorten(path)
+
     def has_grown(self):
         return len(self.names) < len(self.table.names)
 
@@ -84,7 +104,7 @@ class KeptImage:
                 file.readline()
                 yield from chunks_of(file)
                 return
-            rows = [row._replace(path=self.table.short_again(row.path)) for row in Image(file).rows()]
+            rows = [row._replace(path=self.table.short_again(row.path)) for row in Image(file).rows(check=lambda _path: None)]
         for row in sorted(rows, key=lambda row: row.path.encode().split(b"/")):
             path, replication, closed, blocks = row
             yield image_directory(path) if blocks is None else image_file(path, replication, closed, blocks)
@@ -96,11 +116,16 @@ class KeptImage:
     def tree(self):
         with self.open() as file:
             file.readline()
-            return tree_over(Kept(file, self.name_in_file), self.link)
+            kept = Kept(file, self.name_in_file)
+        self.deep = list(map(self.table.short_again, kept.deep))
+        return tree_over(kept, self.link)
 
     def name_in_file(self, name):
         full = self.table.full_name(name)
-        return name if full in self.names else full
+        if full in self.names:
+            return name
+        # What begins with the mark there is a short name.
+        return NO_NAME if full.startswith(MARK) else full
 
 
 def tree_over(image, link):

@@ -34,6 +34,8 @@ class Table:
 
     def __init__(self, names=(), replications=()):
         self.names = {}
+        # The bytes of each name.
+        self.encoded = set()
         self.full = []
         for name in names:
             self.add(name)
@@ -50,6 +52,7 @@ class Table:
         """Gives a name a short one, if it has none."""
         if name not in self.names:
             self.names[name] = MARK + digits_of(len(self.full))
+            self.encoded.add(name.encode())
             self.full.append(name)
 
     def short(self, name):
@@ -68,7 +71,7 @@ class Table:
 
     def short_again(self, path):
         """The path that the program has, for one that it had when the table was smaller."""
-        return "/".join(self.names.get(name, name) for name in path.split("/"))
+        return "/".join(self.names.get(name, name) for name in map(self.full_name, path.split("/")))
 
     def shorten(self, path):
         """Gives short names to those of a path that is too long. Its names are full or short."""
@@ -110,6 +113,7 @@ class Exact:
     """In place of a table, where replications have to be what they are."""
 
     names = {}
+    encoded = frozenset()
     check_name = staticmethod(check_name)
 
     def number(self, word):

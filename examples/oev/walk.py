@@ -9,6 +9,9 @@ from names import Names
 
 ROOT = 16385
 
+# So many rows are taken at a time.
+RUN_ROWS = 10_000
+
 # A path of so few bytes has room for a name behind it.
 SHORT_PATH = formats.PATH_BYTES - formats.NAME_BYTES - 1
 
@@ -64,7 +67,7 @@ class Walk(Names):
         if len(path) > SHORT_PATH:
             for name in names:
                 self.check_path(f"{path.decode()}/{name.decode()}")
-        lists = list(map(self.children.first.__getitem__, rows))
+        lists = array("i", map(self.children.first.__getitem__, rows))
         deeper = [at for at in reversed(range(len(rows))) if lists[at] != NONE] if any_list(lists) else []
         return names, rows, 0, deeper
 
@@ -81,10 +84,10 @@ class Walk(Names):
         rows = self.rows_in(row)
         if NONE in rows or any(map(self.is_taken.__getitem__, rows)):
             self.tell_unknown(row)
-        names = list(map(self.inodes.name, rows))
-        if not (is_in_any_order(names) and is_ascending(names)) or self.refers(row):
+        names = names_of(self.inodes, rows)
+        if not is_plain(names) or self.refers(row):
             rows = self.in_order[row] = self.sorted_below(path.decode() or "/", row, rows)
-            names = list(map(self.inodes.name, rows))
+            names = names_of(self.inodes, rows)
         elif self.children.only_list(row) is None:
             self.in_order[row] = rows
         return names, rows
@@ -143,6 +146,39 @@ class Walk(Names):
 def any_list(lists):
     """Whether one of the rows has a list."""
     return bool(lists) and max(lists) != NONE
+
+
+class ManyNames:
+    """The names of many rows. Each is made where it is asked for, so that few of them are objects at once."""
+
+    def __init__(self, inodes, rows):
+        self.inodes = inodes
+        self.rows = rows
+
+    def __len__(self):
+        return len(self.rows)
+
+    def __iter__(self):
+        return map(self.inodes.name, self.rows)
+
+    def __getitem__(self, place):
+        found = self.rows[place]
+        return names_of(self.inodes, found) if isinstance(place, slice) else self.inodes.name(found)
+
+
+def names_of(inodes, rows):
+    return ManyNames(inodes, rows) if len(rows) > RUN_ROWS else list(map(inodes.name, rows))
+
+
+def is_plain(names):
+    """Whether names ascend, and have one order only. They are looked at a run at a time."""
+    last = b""
+    for at in range(0, len(names), RUN_ROWS):
+        some = names[at : at + RUN_ROWS]
+        if not (is_in_any_order(some) and (at == 0 or last < some[0]) and is_ascending(some)):
+            return False
+        last = some[-1]
+    return True
 
 
 def is_in_any_order(names):

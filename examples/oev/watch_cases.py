@@ -10,6 +10,7 @@ import time
 
 from audit_damages import in_inode, story
 from cases import document, record
+from commands import in_words
 from folders import Commands
 from formats import Refused
 
@@ -353,6 +354,24 @@ def check_left(place):
         place.check.holds(f"when a command that {name} is ended", time.monotonic() - begun < SECONDS)
 
 
+def check_nothing(place):
+    """A command is not said to be missing where it is something else that is."""
+    commands, before = Commands("hdfs", 1, place.lock(), place.folder), os.devnull
+    for name, devnull, words, told in (
+        ("a missing command", before, ["no-such-command"], "there is no command no-such-command"),
+        ("no /dev/null", os.path.join(place.folder, "null"), ["true"], f"there is no file or folder {place.folder}/null"),
+        ("a command that is there", before, ["true"], (0, "", "")),
+    ):
+        os.devnull = devnull
+        try:
+            got = commands.run(words)
+        except (Refused, OSError) as reason:
+            got = in_words(reason)
+        finally:
+            os.devnull = before
+        place.check.same(name, got, told)
+
+
 def has_ended(process):
     """Whether a process has ended, though nobody may have asked for its status."""
     try:
@@ -448,6 +467,7 @@ PARTS = (
     check_unknown,
     check_hdfs,
     check_left,
+    check_nothing,
     check_at_once,
     check_results,
 )
